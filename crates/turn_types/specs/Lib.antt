@@ -1,0 +1,3 @@
+pub mod Config
+pub mod ErrorCode
+pub mod Limits

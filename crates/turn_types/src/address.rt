@@ -1,0 +1,30 @@
+//! IP addresses and ports. An IPv4 address is the number whose highest byte is its first part.
+
+/// An IP address as a message may name it.
+#[derive(Clone, Copy, Debug, PartialEq, Eq)]
+pub enum Addr {
+    V4(u32),
+    V6(u128),
+}
+
+/// The address and port of a peer, as a request names it (RFC 8656, section 18.3).
+#[derive(Clone, Copy, Debug, PartialEq, Eq)]
+pub struct PeerAddress {
+    pub ip: Addr,
+    pub port: u16,
+}
+
+/// An IPv4 address and a port.
+#[derive(Clone, Copy, Debug, PartialEq, Eq, PartialOrd, Ord, Hash)]
+pub struct Endpoint {
+    pub ip: u32,
+    pub port: u16,
+}
+
+/// The client's and the server's endpoint, which name an allocation (RFC 8656, section 3.2). The transport
+/// is always UDP. The order is that of the twelve bytes: client address and port, server address and port.
+#[derive(Clone, Copy, Debug, PartialEq, Eq, PartialOrd, Ord, Hash)]
+pub struct FiveTuple {
+    pub client: Endpoint,
+    pub server: Endpoint,
+}

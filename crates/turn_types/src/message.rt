@@ -1,0 +1,69 @@
+//! The head of a STUN message (RFC 8489, section 5).
+
+ghost use Rattle.std.specs.Prelude.{◌≡◌, ◌<◌, ◌^◌, ℕ, SomeIff};
+
+use std::marker::Model;
+
+/// The class of a message.
+#[derive(Clone, Copy, Debug, PartialEq, Eq)]
+pub enum Class {
+    Request,
+    Indication,
+    Success,
+    Error,
+}
+
+/// The transaction id of a message.
+#[derive(Clone, Copy, Debug, PartialEq, Eq)]
+pub struct TxId(pub [u8; 12]);
+
+/// The method of a message: a number of 12 bits.
+#[derive(Clone, Copy, Debug, PartialEq, Eq)]
+pub struct Method {
+    number: u16,
+}
+
+impl Model for Method {
+    ghost Value = { ℕ };
+
+    ghost view = { λ m. m.number };
+
+    ghost invariant = { λ m. m.number < 2 ^ 12 };
+
+    ghost inverse = { λ n. record { number = n } };
+}
+
+impl Method {
+    pub const BINDING: Method = Method { number: 0x001 };
+
+    pub const ALLOCATE: Method = Method { number: 0x003 };
+
+    pub const REFRESH: Method = Method { number: 0x004 };
+
+    pub const SEND: Method = Method { number: 0x006 };
+
+    pub const DATA: Method = Method { number: 0x007 };
+
+    pub const CREATE_PERMISSION: Method = Method { number: 0x008 };
+
+    pub const CHANNEL_BIND: Method = Method { number: 0x009 };
+
+    /// The method of a number, if the number has at most 12 bits.
+    pub fn new(number: u16) -> Option<Method>
+        ensures { SomeIff result (number < 2 ^ 12) number }
+    {
+        if number < 0x1000 {
+            Some(Method { number })
+        } else {
+            None
+        }
+    }
+
+    /// The number of a method.
+    pub fn number(self) -> u16
+        ensures value { result ≡ self }
+        ensures range { self < 2 ^ 12 }
+    {
+        self.number
+    }
+}
