@@ -1,0 +1,7 @@
+pub mod Walk
+pub mod TypeNumber
+pub mod Header
+pub mod Finding
+pub mod Views
+pub mod Building
+pub mod AddressAgain

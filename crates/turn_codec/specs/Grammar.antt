@@ -1,0 +1,124 @@
+-- The grammar of STUN messages (RFC 8489, sections 5 and 14), as a relation on whole byte lists.
+use Rattle.std.specs.Prelude.{◌≡◌, ℕ, ◌+◌, ◌-◌, ◌*◌, ◌/◌, ◌%◌, ◌^◌, ◌<◌, ◌≤◌, ◌==◌, Bool, Option, Some, None, sum_by, replicate, flat_map, if◌then◌else◌, List, [], ◌∷◌, ◌++◌, length, take}
+use Rattle.std.specs.Int.{w16, w32, to_be_bytes}
+use Rattle.turn_types.specs.declared.message.Class.{Class}
+use Rattle.turn_types.specs.declared.message.Class.TheVariants.{Request, Indication, Success, Error}
+
+pub record Attribute : Type 0 where
+  pub kind : ℕ
+  pub value : List ℕ
+
+-- what a message says
+pub record Content : Type 0 where
+  pub class : Class
+  pub method : ℕ
+  pub tx : List ℕ
+  pub attributes : List Attribute
+
+-- the two bits C1 C0
+abbrev pub class_number : Class → ℕ
+class_number Request = 0
+class_number Indication = 1
+class_number Success = 2
+class_number Error = 3
+
+-- the bits M11..M7 C1 M6..M4 C0 M3..M0, the highest first
+abbrev pub type_number : Class → ℕ → ℕ
+type_number class method =
+    method / 128 * 512 + class_number class / 2 * 256 + method / 16 % 8 * 32 + class_number class % 2 * 16 + method % 16
+
+abbrev pub cookie : ℕ
+cookie = 0x2112A442
+
+-- type, length, value, and any padding up to a multiple of 4
+pub record SpellsAttribute (bytes : List ℕ) (a : Attribute) : Type 0 where
+  pub padding : List ℕ
+  pub is : bytes ≡ to_be_bytes w16 a.kind ++ to_be_bytes w16 (length a.value) ++ a.value ++ padding
+  pub short : length padding < 4
+  pub aligned : length bytes % 4 ≡ 0
+  pub kind_fits : a.kind < 2 ^ 16
+  pub value_fits : length a.value < 2 ^ 16
+
+-- the attributes one after the other
+abbrev pub SpellsAttributes : List ℕ → List Attribute → Type 0
+SpellsAttributes bytes [] = bytes ≡ []
+SpellsAttributes bytes (a ∷ others) =
+    (front : List ℕ) × (rest : List ℕ) × (bytes ≡ front ++ rest) × SpellsAttribute front a × SpellsAttributes rest others
+
+-- the header and the attributes, whose size is the header's length
+pub record Spells (bytes : List ℕ) (m : Content) : Type 0 where
+  pub body : List ℕ
+  pub is : bytes ≡ to_be_bytes w16 (type_number m.class m.method) ++ to_be_bytes w16 (length body)
+      ++ to_be_bytes w32 cookie ++ m.tx ++ body
+  pub method_fits : m.method < 2 ^ 12
+  pub tx_size : length m.tx ≡ 12
+  pub size_fits : length body < 2 ^ 16
+  pub attributes : SpellsAttributes body m.attributes
+
+-- a datagram and what it says
+pub record Datagram : Type 0 where
+  pub bytes : List ℕ
+  pub content : Content
+
+-- an attribute's size with its padding
+abbrev pub size_of : Attribute → ℕ
+size_of a = 4 + (length a.value + 3) / 4 * 4
+
+-- the attributes before the first of a type, and those from it on
+abbrev pub before : ℕ → List Attribute → List Attribute
+before kind [] = []
+before kind (a ∷ others) = if a.kind == kind then [] else a ∷ before kind others
+
+abbrev pub from : ℕ → List Attribute → List Attribute
+from kind [] = []
+from kind (a ∷ others) = if a.kind == kind then a ∷ others else from kind others
+
+-- the value of the first attribute of a type
+abbrev pub value_of : ℕ → List Attribute → Option (List ℕ)
+value_of kind [] = None
+value_of kind (a ∷ others) = if a.kind == kind then Some a.value else value_of kind others
+
+-- where the first attribute of a type stands in a message: behind the header and the attributes before it
+abbrev pub offset_of : ℕ → List Attribute → ℕ
+offset_of kind attributes = 20 + sum_by size_of (before kind attributes)
+
+-- the first of these attributes has this value, and is the last one or not
+abbrev pub FirstHas : List Attribute → List ℕ → Bool → Type 0
+FirstHas [] value is_last = ⊥
+FirstHas (a ∷ others) value is_last = (a.value ≡ value) × (is_last ≡ (length others == 0))
+
+-- the first attribute of a type: what of the datagram stands in front of it, its value, and whether it is the last one
+abbrev pub IsFirstOf : ℕ → Datagram → List ℕ → List ℕ → Bool → Type 0
+IsFirstOf kind d front value is_last =
+    (front ≡ take (offset_of kind d.content.attributes) d.bytes)
+    × (offset_of kind d.content.attributes + 4 + length value ≤ length d.bytes)
+    × FirstHas (from kind d.content.attributes) value is_last
+
+-- how many bytes of padding a value of n bytes has
+abbrev pub padding_size : ℕ → ℕ
+padding_size n = (4 - n % 4) % 4
+
+-- an attribute with zeros as padding
+abbrev pub canonical_attribute : Attribute → List ℕ
+canonical_attribute a = to_be_bytes w16 a.kind ++ to_be_bytes w16 (length a.value) ++ a.value ++ replicate (padding_size (length a.value)) 0
+
+abbrev pub canonical_attributes : List Attribute → List ℕ
+canonical_attributes attributes = flat_map canonical_attribute attributes
+
+-- the spelling with zeros as padding
+unfoldable pub canonical : Content → List ℕ
+canonical m = to_be_bytes w16 (type_number m.class m.method) ++ to_be_bytes w16 (length (canonical_attributes m.attributes))
+    ++ to_be_bytes w32 cookie ++ m.tx ++ canonical_attributes m.attributes
+
+-- a message with one attribute more, at the end
+abbrev pub with_attribute : Content → ℕ → List ℕ → Content
+with_attribute m kind value = record {
+  class = m.class;
+  method = m.method;
+  tx = m.tx;
+  attributes = m.attributes ++ record { kind = kind; value = value } ∷ [];
+}
+
+-- the size of a message behind its header
+abbrev pub body_size : Content → ℕ
+body_size m = sum_by size_of m.attributes

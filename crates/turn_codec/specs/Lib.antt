@@ -1,0 +1,5 @@
+pub mod Address
+pub mod AttributeTypes
+pub mod Fault
+pub mod Grammar
+pub mod Reading

@@ -1,0 +1,104 @@
+//! The types of attributes.
+
+ghost use Rattle.std.specs.Prelude.{◌≡◌, ◌<◌, ◌^◌, ℕ};
+ghost use Rattle.turn_codec.specs.AttributeTypes.{is_unknown};
+
+use std::marker::Model;
+
+/// The type of an attribute: a number of 16 bits (RFC 8489, section 18.3; RFC 8656, section 18).
+#[derive(Clone, Copy, Debug, PartialEq, Eq)]
+pub struct AttributeType {
+    number: u16,
+}
+
+impl Model for AttributeType {
+    ghost Value = { ℕ };
+
+    ghost view = { λ t. t.number };
+
+    ghost invariant = { λ t. t.number < 2 ^ 16 };
+
+    ghost inverse = { λ n. record { number = n } };
+}
+
+impl AttributeType {
+    pub const MAPPED_ADDRESS: AttributeType = AttributeType { number: 0x0001 };
+
+    pub const USERNAME: AttributeType = AttributeType { number: 0x0006 };
+
+    pub const MESSAGE_INTEGRITY: AttributeType = AttributeType { number: 0x0008 };
+
+    pub const ERROR_CODE: AttributeType = AttributeType { number: 0x0009 };
+
+    pub const UNKNOWN_ATTRIBUTES: AttributeType = AttributeType { number: 0x000A };
+
+    pub const CHANNEL_NUMBER: AttributeType = AttributeType { number: 0x000C };
+
+    pub const LIFETIME: AttributeType = AttributeType { number: 0x000D };
+
+    pub const XOR_PEER_ADDRESS: AttributeType = AttributeType { number: 0x0012 };
+
+    pub const DATA: AttributeType = AttributeType { number: 0x0013 };
+
+    pub const REALM: AttributeType = AttributeType { number: 0x0014 };
+
+    pub const NONCE: AttributeType = AttributeType { number: 0x0015 };
+
+    pub const XOR_RELAYED_ADDRESS: AttributeType = AttributeType { number: 0x0016 };
+
+    pub const REQUESTED_ADDRESS_FAMILY: AttributeType = AttributeType { number: 0x0017 };
+
+    pub const EVEN_PORT: AttributeType = AttributeType { number: 0x0018 };
+
+    pub const REQUESTED_TRANSPORT: AttributeType = AttributeType { number: 0x0019 };
+
+    pub const XOR_MAPPED_ADDRESS: AttributeType = AttributeType { number: 0x0020 };
+
+    pub const RESERVATION_TOKEN: AttributeType = AttributeType { number: 0x0022 };
+
+    pub const SOFTWARE: AttributeType = AttributeType { number: 0x8022 };
+
+    pub const FINGERPRINT: AttributeType = AttributeType { number: 0x8028 };
+
+    /// The type of a number.
+    pub fn new(number: u16) -> AttributeType
+        ensures { result ≡ number }
+    {
+        AttributeType { number }
+    }
+
+    /// The number of a type.
+    pub fn number(self) -> u16
+        ensures value { result ≡ self }
+        ensures range { self < 2 ^ 16 }
+    {
+        self.number
+    }
+
+    /// Whether a receiver has to understand the type and this server doesn't.
+    pub fn is_unknown(self) -> bool
+        ensures { result ≡ is_unknown self }
+    {
+        let known = matches!(
+            self.number,
+            0x0001
+                | 0x0006
+                | 0x0008
+                | 0x0009
+                | 0x000A
+                | 0x000C
+                | 0x000D
+                | 0x0012
+                | 0x0013
+                | 0x0014
+                | 0x0015
+                | 0x0016
+                | 0x0017
+                | 0x0018
+                | 0x0019
+                | 0x0020
+                | 0x0022
+        );
+        self.number < 0x8000 && !known
+    }
+}

@@ -1,0 +1,19 @@
+//! STUN messages as bytes (RFC 8489, sections 5 and 14).
+#![tactic(auto)]
+
+mod address;
+mod attribute;
+mod attribute_type;
+mod builder;
+mod laws;
+mod message;
+
+pub use address::{read_xor_address, xor_address};
+pub use attribute::Attributes;
+pub use attribute_type::AttributeType;
+pub use builder::{Builder, PushError};
+pub use laws::{address_again, one_message};
+pub use message::{COOKIE, Located, Malformed, Message};
+
+#[cfg(test)]
+mod tests;

@@ -1,0 +1,191 @@
+//! A message in a datagram.
+
+ghost use Rattle.std.specs.Prelude.{◌≡◌, ◌≤◌, ◌<◌, ◌^◌, ◌+◌, [], take, length, IfOk, IfErr, MatchOption, option_copied, option_map};
+ghost use Rattle.turn_codec.specs.Grammar.{Content, Spells, before, from, value_of, IsFirstOf};
+ghost use Rattle.turn_codec.specs.Reading.{class_of, method_of};
+ghost use Rattle.turn_codec.specs.Fault.{fault_of};
+ghost use Rattle.turn_codec.specs.AttributeTypes.{message_integrity};
+
+use crate::attribute::{Attributes, are_attributes, find_attribute};
+use crate::attribute_type::AttributeType;
+use std::marker::Model;
+use turn_types::{Class, Method, TxId};
+
+/// Why bytes are no message: the first that applies.
+#[derive(Clone, Copy, Debug, PartialEq, Eq)]
+pub enum Malformed {
+    /// Fewer than 20 bytes.
+    Short,
+    /// The first two bits are not zero.
+    NotStun,
+    /// The cookie is not RFC 8489's.
+    BadCookie,
+    /// The length is no multiple of 4, or another one than the bytes have behind the header.
+    BadLength,
+    /// An attribute passes the end.
+    AttributeOverruns,
+}
+
+/// A STUN message in a datagram.
+#[derive(Drop)]
+pub struct Message<'a> {
+    bytes: &'a [u8],
+}
+
+impl<'a> Model for Message<'a> {
+    ghost use Rattle.turn_codec.specs.Grammar.{Datagram};
+    ghost use Rattle.turn_codec.specs.Reading.{datagram_of, IsDatagram};
+
+    ghost Value = { Datagram };
+
+    ghost view = { λ m. datagram_of m.bytes.now };
+
+    ghost invariant = { λ m. IsDatagram m.bytes.now };
+}
+
+pub const COOKIE: u32 = 0x2112_A442;
+
+impl<'a> Message<'a> {
+    /// The message that a datagram spells.
+    pub fn parse(bytes: &'a [u8]) -> Result<Message<'a>, Malformed>
+        // What is read is what the datagram spells.
+        ensures found { IfOk result (λ m. (m.bytes ≡ bytes.now) × Spells bytes.now m.content) }
+        // What a datagram spells is read.
+        ensures only { (m : Content) → Spells bytes.now m → result ≡ Ok (record { bytes = bytes.now; content = m }) }
+        ensures refused { IfErr result (λ e. e ≡ fault_of bytes.now) }
+    {
+        if bytes.len() < 20 {
+            return Err(Malformed::Short);
+        }
+        if bytes[0] >= 64 {
+            return Err(Malformed::NotStun);
+        }
+        if u32::from_be_bytes([bytes[4], bytes[5], bytes[6], bytes[7]]) != COOKIE {
+            return Err(Malformed::BadCookie);
+        }
+        let length = u16::from_be_bytes([bytes[2], bytes[3]]) as usize;
+        if length % 4 != 0 || length + 20 != bytes.len() {
+            return Err(Malformed::BadLength);
+        }
+        if !are_attributes(&bytes[20..]) {
+            return Err(Malformed::AttributeOverruns);
+        }
+        Ok(Message { bytes })
+    }
+
+    /// The datagram.
+    #[tactic(auto, unfolding(crate::specs::Reading::datagram_of))]
+    pub fn as_bytes(&self) -> &'a [u8]
+        ensures bytes { result.now ≡ self.now.bytes }
+        ensures spelled { Spells self.now.bytes self.now.content }
+        ensures size { (20 ≤ length self.now.bytes) × (length self.now.bytes < 2 ^ 16 + 20) }
+    {
+        self.bytes
+    }
+
+    #[tactic(auto, unfolding(crate::specs::Reading::datagram_of, crate::specs::Reading::content_of))]
+    fn type_number(&self) -> u16
+        ensures class { class_of result ≡ self.now.content.class }
+        ensures method { method_of result ≡ self.now.content.method }
+        ensures small { result < 2 ^ 14 }
+    {
+        u16::from_be_bytes([self.bytes[0], self.bytes[1]])
+    }
+
+    /// The class.
+    pub fn class(&self) -> Class
+        ensures { result ≡ self.now.content.class }
+    {
+        let number = self.type_number();
+        match (number / 256 % 2, number / 16 % 2) {
+            (0, 0) => Class::Request,
+            (0, _) => Class::Indication,
+            (_, 0) => Class::Success,
+            (_, _) => Class::Error,
+        }
+    }
+
+    /// The method.
+    pub fn method(&self) -> Method
+        ensures { result ≡ self.now.content.method }
+    {
+        let number = self.type_number();
+        Method::new(number / 512 * 128 + number / 32 % 8 * 16 + number % 16).unwrap()
+    }
+
+    #[tactic(auto, unfolding(crate::specs::Reading::datagram_of, crate::specs::Reading::content_of))]
+    pub fn tx(&self) -> TxId
+        ensures { result.0 ≡ self.now.content.tx }
+    {
+        let mut tx = [0; 12];
+        tx.copy_from_slice(&self.bytes[8..20]);
+        TxId(tx)
+    }
+
+    /// All attributes.
+    #[tactic(auto, unfolding(crate::specs::Reading::datagram_of, crate::specs::Reading::content_of))]
+    pub fn attributes(&self) -> Attributes<'a>
+        ensures value { result ≡ self.now.content.attributes }
+        ensures few { length result < 2 ^ 14 }
+    {
+        Attributes::new(&self.bytes[20..])
+    }
+
+    /// The value of the first attribute of a type, among all.
+    pub fn find(&self, kind: AttributeType) -> Option<&'a [u8]>
+        ensures { option_copied result ≡ value_of kind self.now.content.attributes }
+    {
+        self.attributes().value_of(kind)
+    }
+
+    /// Where the first attribute of a type stands.
+    #[tactic(auto, unfolding(crate::specs::Reading::datagram_of, crate::specs::Reading::content_of))]
+    pub fn locate(&self, kind: AttributeType) -> Option<Located<'a>>
+        ensures size { length self.now.bytes < 2 ^ 16 + 20 }
+        ensures value { option_map (λ found. found.value.now) result ≡ value_of kind self.now.content.attributes }
+        ensures found { MatchOption result (from kind self.now.content.attributes ≡ []) (λ found.
+            IsFirstOf kind self.now found.front.now found.value.now found.is_last) }
+    {
+        let bytes = self.bytes;
+        match find_attribute(&bytes[20..], kind) {
+            Some((offset, value, is_last)) => Some(Located {
+                front: &bytes[..20 + offset],
+                value,
+                is_last,
+            }),
+            None => None,
+        }
+    }
+
+    /// Where MESSAGE-INTEGRITY stands, if there is one.
+    pub fn before_integrity(&self) -> Option<Located<'a>>
+        ensures size { length self.now.bytes < 2 ^ 16 + 20 }
+        ensures value { option_map (λ found. found.value.now) result ≡ value_of message_integrity self.now.content.attributes }
+        ensures found { MatchOption result (from message_integrity self.now.content.attributes ≡ []) (λ found.
+            IsFirstOf message_integrity self.now found.front.now found.value.now found.is_last) }
+    {
+        self.locate(AttributeType::MESSAGE_INTEGRITY)
+    }
+
+    /// The attributes before the first MESSAGE-INTEGRITY, or all where there is none.
+    #[tactic(auto, unfolding(crate::specs::Reading::datagram_of, crate::specs::Reading::content_of))]
+    pub fn seen(&self) -> Attributes<'a>
+        ensures value { result ≡ before message_integrity self.now.content.attributes }
+        ensures few { length result < 2 ^ 14 }
+    {
+        let body = &self.bytes[20..];
+        match find_attribute(body, AttributeType::MESSAGE_INTEGRITY) {
+            Some((offset, _, _)) => Attributes::new(&body[..offset]),
+            None => Attributes::new(body),
+        }
+    }
+}
+
+/// Where the first attribute of a type stands in a message.
+#[derive(Drop)]
+pub struct Located<'a> {
+    /// The message up to the attribute.
+    pub front: &'a [u8],
+    pub value: &'a [u8],
+    pub is_last: bool,
+}
