@@ -22,7 +22,7 @@ address : ℕ → ℕ → Option PeerAddress
 address ip port = Some (record { ip = V4 ip; port = port })
 
 pub address_again : (e : Endpoint) (tx : List ℕ) → e.ip < 2 ^ 32 → e.port < 2 ^ 16 → address_of (xor_value e) tx ≡ Some (record { ip = V4 e.ip; port = e.port })
-unfolding address
+unfolding address xor_value
 address_again e tx h k =
     let port : bit_xor (from_be_bytes w16 (to_be_bytes w16 (bit_xor e.port 0x2112))) 0x2112 ≡ e.port =
     ap (λ (x : ℕ). bit_xor x 0x2112) (from_be_bytes-to_be_bytes_2 (bit_xor e.port 0x2112) (xor_lt 16 e.port 0x2112 k (omega arith))) ∙ unmasked e.port 0x2112 in

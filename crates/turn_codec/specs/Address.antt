@@ -11,7 +11,7 @@ abbrev pub port_mask : ℕ
 port_mask = 0x2112
 
 -- the value of an IPv4 address: zero, family 1, the port and the address masked
-abbrev pub xor_value : Endpoint → List ℕ
+unfoldable pub xor_value : Endpoint → List ℕ
 xor_value e = 0 ∷ 1 ∷ to_be_bytes w16 (bit_xor e.port port_mask) ++ to_be_bytes w32 (bit_xor e.ip cookie)
 
 -- the address that a value names, by its length and family; the first byte is ignored, and an IPv6 address is

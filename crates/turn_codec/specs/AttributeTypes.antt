@@ -67,5 +67,5 @@ known_types =
     ∷ requested_transport ∷ xor_mapped_address ∷ reservation_token ∷ []
 
 -- a type that a receiver has to understand (RFC 8489, section 14) and that is not known
-abbrev pub is_unknown : ℕ → Bool
+unfoldable pub is_unknown : ℕ → Bool
 is_unknown kind = nat_lt kind 0x8000 && not (list_any (λ known. known == kind) known_types)

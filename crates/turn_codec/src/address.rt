@@ -7,7 +7,8 @@ use crate::message::COOKIE;
 use byteorder::{BigEndian, ByteOrder};
 use turn_types::{Addr, Endpoint, PeerAddress, TxId};
 
-/// The value of an XOR address attribute.
+/// The value of an XOR address attribute (RFC 8489, section 14.2).
+#[tactic(auto, unfolding(crate::specs::Address::xor_value))]
 pub fn xor_address(endpoint: Endpoint) -> [u8; 8]
     ensures { result ≡ xor_value endpoint }
 {

@@ -76,11 +76,13 @@ impl AttributeType {
     }
 
     /// Whether a receiver has to understand the type and this server doesn't.
+    #[tactic(auto, unfolding(crate::specs::AttributeTypes::is_unknown))]
     pub fn is_unknown(self) -> bool
         ensures { result ≡ is_unknown self }
     {
+        let number = self.number;
         let known = matches!(
-            self.number,
+            number,
             0x0001
                 | 0x0006
                 | 0x0008
@@ -99,6 +101,6 @@ impl AttributeType {
                 | 0x0020
                 | 0x0022
         );
-        self.number < 0x8000 && !known
+        number < 0x8000 && !known
     }
 }

@@ -1,3 +1,4 @@
 pub mod Config
 pub mod ErrorCode
 pub mod Limits
+pub mod Methods

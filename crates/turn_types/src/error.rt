@@ -1,6 +1,6 @@
 //! Error codes (RFC 8489, section 14.8; RFC 8656, section 19).
 
-ghost use Rattle.std.specs.Prelude.{◌≡◌};
+ghost use Rattle.std.specs.Prelude.{◌≡◌, ◌≤◌, length};
 ghost use Rattle.turn_types.specs.ErrorCode.{number_of, reason_of};
 
 /// An error code that the server answers.
@@ -21,9 +21,10 @@ pub enum ErrorCode {
 }
 
 impl ErrorCode {
-    /// The number of the code, from 400 to 508.
+    /// The number of the code.
     pub fn number(self) -> u16
-        ensures { result ≡ number_of self }
+        ensures value { result ≡ number_of self }
+        ensures range { (400 ≤ result) × (result ≤ 508) }
     {
         match self {
             ErrorCode::BadRequest => 400,
@@ -43,7 +44,8 @@ impl ErrorCode {
 
     /// The reason text that goes with the code.
     pub fn reason(self) -> &'static str
-        ensures { result.now ≡ reason_of self }
+        ensures text { result.now ≡ reason_of self }
+        ensures short { length result.now ≤ 30 }
     {
         match self {
             ErrorCode::BadRequest => "Bad Request",

@@ -1,0 +1,7 @@
+pub mod Answer
+pub mod Examples
+pub mod Line
+pub mod Response
+pub mod Rows
+pub mod Unknown
+pub mod Written

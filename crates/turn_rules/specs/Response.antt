@@ -1,0 +1,21 @@
+-- Responses (RFC 8489, sections 6.3.3 and 6.3.4).
+use Rattle.std.specs.Prelude.{ℕ, ◌/◌, ◌%◌, List, [], ◌∷◌, ◌++◌}
+use Rattle.turn_types.specs.declared.error.ErrorCode.{ErrorCode}
+use Rattle.turn_types.specs.declared.message.Class.{Class}
+use Rattle.turn_types.specs.ErrorCode.{number_of, reason_of}
+use Rattle.turn_codec.specs.Grammar.{Attribute, Content}
+use Rattle.turn_codec.specs.AttributeTypes.{error_code}
+
+abbrev pub attribute : ℕ → List ℕ → Attribute
+attribute kind value = record { kind = kind; value = value }
+
+-- the response to a request: its method and transaction id, and attributes of its own
+abbrev pub response : Content → Class → List Attribute → Content
+response m class own = record { class = class; method = m.method; tx = m.tx; attributes = own }
+
+-- the hundreds, the rest, and the reason text (RFC 8489, section 14.8)
+abbrev pub error_value : ErrorCode → List ℕ
+error_value code = 0 ∷ 0 ∷ number_of code / 100 ∷ number_of code % 100 ∷ reason_of code
+
+abbrev pub error_attribute : ErrorCode → Attribute
+error_attribute code = attribute error_code (error_value code)

@@ -1,0 +1,15 @@
+//! What a TURN server answers to requests (RFC 8489, RFC 8656).
+#![tactic(auto)]
+
+mod decision;
+mod laws;
+mod line;
+mod response;
+mod unknown;
+mod value;
+
+pub use decision::{Decision, Request, decide};
+pub use laws::worked_examples;
+
+#[cfg(test)]
+mod tests;
