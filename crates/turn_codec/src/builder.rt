@@ -118,10 +118,24 @@ impl<A: Allocator + Copy> Builder<A> {
     pub fn new(alloc: A, class: Class, method: Method, tx: TxId) -> Result<Builder<A>, AllocError>
         ensures { IfOk result (λ b. b ≡ record { class = class; method = method; tx = tx.0; attributes = [] }) }
     {
+        Builder::with_capacity(alloc, class, method, tx, 0)
+    }
+
+    /// A message with no attribute yet. Attributes of as many bytes as the capacity, their types, lengths and padding
+    /// counted, are then pushed without a further growth.
+    pub fn with_capacity(
+        alloc: A,
+        class: Class,
+        method: Method,
+        tx: TxId,
+        capacity: u16,
+    ) -> Result<Builder<A>, AllocError>
+        ensures { IfOk result (λ b. b ≡ record { class = class; method = method; tx = tx.0; attributes = [] }) }
+    {
         let _ = method.number();
-        Ok(Builder {
-            bytes: Vec::from_slice(alloc, &header(class, method, tx))?,
-        })
+        let mut bytes = Vec::with_capacity(alloc, 20 + usize::from(capacity))?;
+        bytes.extend_from_slice(&header(class, method, tx))?;
+        Ok(Builder { bytes })
     }
 
     /// Adds an attribute at the end. After an `Err` the message is as before.

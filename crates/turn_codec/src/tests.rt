@@ -234,3 +234,17 @@ fn each_growth_refused(rt: HostRuntime) -> Result<(), Fail> {
     }
     Err("some growth is always refused")?
 }
+
+#[test]
+fn takes_memory_once(rt: HostRuntime) -> Result<(), Fail> {
+    let refusing = Refusing::new(rt.alloc(), 1);
+    let mut builder = Builder::with_capacity(&refusing, Class::Request, Method::ALLOCATE, ID, 24)?;
+    builder.push(AttributeType::REALM, b"example.org")?;
+    builder.push(AttributeType::LIFETIME, &[0, 0, 2, 88])?;
+    assert!(rt; !refusing.has_refused());
+    assert!(rt; builder.push(AttributeType::EVEN_PORT, &[0]) == Err(PushError::Memory));
+    assert_eq!(rt; builder.as_bytes().len(), 44);
+    builder.push(AttributeType::EVEN_PORT, &[0])?;
+    assert_eq!(rt; builder.finish().len(), 52);
+    Ok(())
+}

@@ -6,12 +6,12 @@ use Rattle.std.proofs.lemmas.List.Sums.{sum_by_push, sum_by_more_le}
 use Rattle.turn_codec.specs.Grammar.{Attribute, Content, body_size, size_of, with_attribute}
 use Rattle.turn_types.specs.declared.message.Class.{Class}
 use Rattle.turn_rules.specs.declared.response.OwnAttribute.{OwnAttribute}
-use Rattle.turn_rules.specs.Response.{response}
+use Rattle.turn_rules.specs.Response.{plain_response}
 use Rattle.turn_rules.specs.Written.{attribute_of}
 
 -- what is written so far and the next attribute are no longer than all of them
 pub next_fits : (m : Content) (class : Class) (own : List OwnAttribute) (i : ℕ) (a : OwnAttribute) (b : Content) → i < length own → a ≡ get_or own i a
-    → b ≡ response m class (map attribute_of (take i own)) → body_size (with_attribute b a.kind a.value.now) ≤ sum_by size_of (map attribute_of own)
+    → b ≡ plain_response m class (map attribute_of (take i own)) → body_size (with_attribute b a.kind a.value.now) ≤ sum_by size_of (map attribute_of own)
 next_fits m class own i a b i-lt a-is b-is =
     let more = sum_by_more_le size_of (map attribute_of own) i (attribute_of a) (omega (arith, length-map own attribute_of)) in
     let front : sum_by size_of (take i (map attribute_of own)) ≡ sum_by size_of b.attributes = ap (sum_by size_of) (take-map attribute_of i own) ∙ sym (ap body_size b-is) in

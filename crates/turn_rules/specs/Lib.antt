@@ -1,5 +1,6 @@
 pub mod Answer
 pub mod Examples
+pub mod Fingerprint
 pub mod Line
 pub mod Response
 pub mod Rows

@@ -6,13 +6,14 @@ ghost use Rattle.turn_rules.specs.Answer.{binding_line, line, reply};
 ghost use Rattle.turn_rules.specs.Line.{refuse_unknown, response_of};
 ghost use Rattle.turn_rules.specs.Written.{line_of};
 
+use crate::fingerprint::has_wrong_fingerprint;
 use crate::line::Line;
 use crate::response::{OwnAttribute, respond};
 use crate::unknown::{has_unknown, unknown_types};
 use crate::value::error_value;
 use std::alloc::{AllocError, Allocator, Global};
 use turn_codec::{AttributeType, Message, xor_address};
-use turn_types::{Class, Endpoint, ErrorCode, FiveTuple, Method};
+use turn_types::{Class, ErrorCode, FiveTuple, Method};
 
 /// A message from a client.
 #[derive(Drop)]
@@ -45,7 +46,7 @@ fn choose(message: &Message<'_>, five_tuple: FiveTuple) -> Line
     if message.class() != Class::Request {
         return Line::Drop;
     }
-    if message.find(AttributeType::FINGERPRINT).is_some() {
+    if has_wrong_fingerprint(message) {
         return Line::Drop;
     }
     if message.method() == Method::BINDING {

@@ -2,6 +2,7 @@
 #![tactic(auto)]
 
 mod decision;
+mod fingerprint;
 mod laws;
 mod line;
 mod response;

@@ -49,7 +49,7 @@ fn refuses_unknown_types(rt: HostRuntime) -> Result<(), Fail> {
     Ok(())
 }
 
-// Each class and method but a Binding request, and a FINGERPRINT.
+// Each class and method but a Binding request.
 #[test]
 fn drops(rt: HostRuntime) -> Result<(), Fail> {
     for (first, second) in [
@@ -72,9 +72,55 @@ fn drops(rt: HostRuntime) -> Result<(), Fail> {
         bytes[1] = second;
         assert!(rt; reply(rt.alloc(), &bytes)?.is_none(), "{first} {second}");
     }
-    let signed = b"\x00\x01\x00\x08\x21\x12\xa4\x42\x01\x02\x03\x04\x05\x06\x07\x08\x09\x0a\x0b\x0c\
-        \x80\x28\x00\x04\x00\x00\x00\x00";
-    assert!(rt; reply(rt.alloc(), signed)?.is_none());
+    Ok(())
+}
+
+// The checksum is that of zlib.
+const FINGERPRINTED: [u8; 28] =
+    *b"\x00\x01\x00\x08\x21\x12\xa4\x42\x01\x02\x03\x04\x05\x06\x07\x08\x09\x0a\x0b\x0c\
+    \x80\x28\x00\x04\x5b\x20\xf9\xcc";
+
+#[test]
+fn answers_a_fingerprint_with_one(rt: HostRuntime) -> Result<(), Fail> {
+    let success =
+        b"\x01\x01\x00\x14\x21\x12\xa4\x42\x01\x02\x03\x04\x05\x06\x07\x08\x09\x0a\x0b\x0c\
+        \x00\x20\x00\x08\x00\x01\xa1\x47\xe1\x12\xa6\x43\x80\x28\x00\x04\x50\x89\xd8\x98";
+    let found = reply(rt.alloc(), &FINGERPRINTED)?.ok_or("a reply")?;
+    assert_eq!(rt; found.as_slice(), success.as_slice());
+    Ok(())
+}
+
+/// The class of the reply and whether it has a FINGERPRINT, or `None` where nothing is answered.
+fn kind_of_reply(rt: &HostRuntime, bytes: &[u8]) -> Result<Option<(Class, bool)>, Fail> {
+    if Message::parse(bytes).is_err() {
+        return Ok(None);
+    }
+    let Some(found) = reply(rt.alloc(), bytes)? else {
+        return Ok(None);
+    };
+    let message = Message::parse(&found)?;
+    Ok(Some((
+        message.class(),
+        message.find(AttributeType::FINGERPRINT).is_some(),
+    )))
+}
+
+// A bit of the type of FINGERPRINT makes another attribute of it, of a type that has to be understood where the bit is
+// the first one.
+#[test]
+fn drops_flipped_bits(rt: HostRuntime) -> Result<(), Fail> {
+    for place in 0..28usize {
+        for bit in 0..8u32 {
+            let mut bytes = FINGERPRINTED;
+            bytes[place] ^= 1 << bit;
+            let want = match (place, bit) {
+                (20, 7) => Some((Class::Error, false)),
+                (20 | 21, _) => Some((Class::Success, false)),
+                _ => None,
+            };
+            assert!(rt; kind_of_reply(&rt, &bytes)? == want, "{place} {bit}");
+        }
+    }
     Ok(())
 }
 
@@ -140,7 +186,7 @@ fn names_the_first_64(rt: HostRuntime) -> Result<(), Fail> {
 #[test]
 fn each_growth_refused(rt: HostRuntime) -> Result<(), Fail> {
     let unknown = request_with(rt.alloc(), &[0x0003])?;
-    for bytes in [BINDING, unknown.as_slice()] {
+    for bytes in [BINDING, unknown.as_slice(), FINGERPRINTED.as_slice()] {
         let request = Request {
             message: Message::parse(bytes)?,
             five_tuple: FIVE_TUPLE,

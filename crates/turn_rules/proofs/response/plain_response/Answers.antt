@@ -1,6 +1,6 @@
 use Rattle.std.proofs.Common.{Err, ap, ◌∙◌, arith}
 use Rattle.turn_rules.proofs.Sizes.{next_fits}
-use Rattle.turn_rules.proofs.response.respond.Goals as goal
+use Rattle.turn_rules.proofs.response.plain_response.Goals as goal
 
 pub unreachable-requires : goal.unreachable-requires
 unreachable-requires g c =

@@ -1,0 +1,7 @@
+pub mod Values
+pub mod Bits
+pub mod Division
+pub mod Table
+pub mod Appended
+pub mod FrontBytes
+pub mod Remainder

@@ -1,0 +1,8 @@
+use Rattle.std.proofs.Common.{◌∙◌, ap, length, arith}
+use Rattle.turn_mac.proofs.Values.{length-hmac, some_same}
+use Rattle.turn_mac.proofs.integrity.integrity_holds.Goals as goal
+
+pub returns-else-found-eq20 : goal.returns-else-found-eq20
+returns-else-found-eq20 c =
+    let another_length = c.if-found-eq20.false in
+    (λ e. absurd (another_length (grind (arith, e))), λ h. absurd (another_length (ap length (some_same _ _ (c.in-Some.ensures.value ∙ h)) ∙ length-hmac _ _)))

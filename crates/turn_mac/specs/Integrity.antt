@@ -1,0 +1,36 @@
+-- MESSAGE-INTEGRITY and FINGERPRINT (RFC 8489, sections 14.5 and 14.7).
+use Rattle.std.specs.Prelude.{◌≡◌, ℕ, ◌+◌, ◌-◌, true, bit_xor, Some, List, ◌++◌, length, take, drop}
+use Rattle.std.specs.Int.{w16, w32, to_be_bytes}
+use Rattle.sha1.specs.Sha1.{sha1}
+use Rattle.turn_codec.specs.AttributeTypes.{message_integrity, fingerprint}
+use Rattle.turn_codec.specs.Grammar.{Content, Datagram, offset_of, value_of, from, FirstHas, canonical}
+use Rattle.turn_mac.specs.Hmac.{hmac}
+use Rattle.turn_mac.specs.Crc.{crc}
+
+-- the front of a message, with this number in the header's length
+abbrev pub with_length : List ℕ → ℕ → List ℕ
+with_length front size = take 2 front ++ to_be_bytes w16 size ++ drop 4 front
+
+-- what of a datagram stands in front of the first attribute of a type
+abbrev pub front_of : ℕ → Datagram → List ℕ
+front_of kind d = take (offset_of kind d.content.attributes) d.bytes
+
+-- the MESSAGE-INTEGRITY behind a front: 20 bytes, and the header's length counts up to their end
+abbrev pub integrity_of : List ℕ → List ℕ → List ℕ
+integrity_of key front = hmac sha1 key (with_length front (length front + 4))
+
+-- the first MESSAGE-INTEGRITY has the value that its place asks for
+abbrev pub IntegrityHolds : List ℕ → Datagram → Type 0
+IntegrityHolds key d = value_of message_integrity d.content.attributes ≡ Some (integrity_of key (front_of message_integrity d))
+
+-- the FINGERPRINT behind a front: 4 bytes, and the header's length counts up to their end
+abbrev pub fingerprint_of : List ℕ → List ℕ
+fingerprint_of front = to_be_bytes w32 (bit_xor (crc (with_length front (length front - 12))) 0x5354554E)
+
+-- the first FINGERPRINT has the value that its place asks for, and is the last attribute
+abbrev pub FingerprintHolds : Datagram → Type 0
+FingerprintHolds d = FirstHas (from fingerprint d.content.attributes) (fingerprint_of (front_of fingerprint d)) true
+
+-- a message that is written, with its canonical spelling
+abbrev pub canonical_datagram : Content → Datagram
+canonical_datagram m = record { bytes = canonical m; content = m }

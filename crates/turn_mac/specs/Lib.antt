@@ -1,0 +1,6 @@
+pub mod Hmac
+pub mod HmacState
+pub mod Crc
+pub mod Integrity
+pub mod Register
+pub mod CrcState

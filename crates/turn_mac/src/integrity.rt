@@ -1,0 +1,116 @@
+//! MESSAGE-INTEGRITY and FINGERPRINT (RFC 8489, sections 14.5 and 14.7).
+
+ghost use Rattle.std.specs.Prelude.{◌≡◌, ◌≤◌, ◌<◌, ◌+◌, ◌^◌, ◌↔◌, [], IsTrue, List, ℕ, OnOk, OnErr, length};
+ghost use Rattle.turn_codec.specs.AttributeTypes.{message_integrity, fingerprint};
+ghost use Rattle.turn_codec.specs.Grammar.{from, canonical, with_attribute, body_size};
+ghost use Rattle.turn_mac.specs.Integrity.{integrity_of, IntegrityHolds, fingerprint_of, FingerprintHolds, canonical_datagram};
+
+use crate::crc::Checksum;
+use crate::hmac::HmacSha1;
+use std::alloc::Allocator;
+use turn_codec::{AttributeType, Builder, Message, PushError};
+
+// The most bytes that a message has: its header, and 65,532 bytes of attributes.
+const MESSAGE_LIMIT: usize = 65_552;
+
+// What CRC-32 is masked with, so that a FINGERPRINT is no CRC-32 of another protocol (section 14.7).
+const FINGERPRINT_MASK: u32 = 0x5354_554E;
+
+fn integrity_value(key: &[u8], front: &[u8]) -> [u8; 20]
+    requires header { 4 ≤ length front.now }
+    requires size { length front.now + 4 < 2 ^ 16 }
+    ensures { result ≡ integrity_of key.now front.now }
+{
+    let size = (front.len() + 4) as u16;
+    let mut mac = HmacSha1::new(key);
+    mac.update(&front[..2]);
+    mac.update(&size.to_be_bytes());
+    mac.update(&front[4..]);
+    mac.finalize()
+}
+
+fn fingerprint_value(front: &[u8]) -> [u8; 4]
+    requires header { 20 ≤ length front.now }
+    requires size { length front.now < 2 ^ 16 + 12 }
+    ensures { result ≡ fingerprint_of front.now }
+{
+    let size = (front.len() - 12) as u16;
+    let mut checksum = Checksum::new();
+    checksum.update(&front[..2]);
+    checksum.update(&size.to_be_bytes());
+    checksum.update(&front[4..]);
+    (checksum.finalize() ^ FINGERPRINT_MASK).to_be_bytes()
+}
+
+/// Whether the first MESSAGE-INTEGRITY of a message is right under the key (RFC 8489, section 14.5).
+///
+/// The key is the user's long-term key, 16 bytes (section 9.2.2), or any other. The answer is no for a message
+/// without MESSAGE-INTEGRITY, and for one whose value has another length than 20 bytes.
+pub fn integrity_holds(message: &Message<'_>, key: &[u8]) -> bool
+    ensures { IsTrue result ↔ IntegrityHolds key.now message.now }
+{
+    let Some(found) = message.before_integrity() else {
+        return false;
+    };
+    found.value.len() == 20 && found.value == integrity_value(key, found.front).as_slice()
+}
+
+/// Whether the first FINGERPRINT of a message is its last attribute and right (RFC 8489, section 14.7).
+///
+/// The answer is no for a message without FINGERPRINT, and for one whose value has another length than 4 bytes.
+pub fn fingerprint_holds(message: &Message<'_>) -> bool
+    ensures { IsTrue result ↔ FingerprintHolds message.now }
+{
+    let Some(found) = message.locate(AttributeType::FINGERPRINT) else {
+        return false;
+    };
+    found.is_last
+        && found.value.len() == 4
+        && found.value == fingerprint_value(found.front).as_slice()
+}
+
+/// Adds the MESSAGE-INTEGRITY that holds under the key to a message that has none (RFC 8489, section 14.5).
+///
+/// After an `Err` the message is as before.
+pub fn append_integrity<A: Allocator + Copy>(
+    builder: &mut Builder<A>,
+    key: &[u8],
+) -> Result<(), PushError>
+    requires { from message_integrity builder.old.attributes ≡ [] }
+    ensures ok { OnOk result (builder.new ≡ with_attribute builder.old message_integrity
+        (integrity_of key.now (canonical builder.old))) }
+    ensures holds { OnOk result (IntegrityHolds key.now (canonical_datagram builder.new)) }
+    // Whether it is too long is judged before memory is asked for.
+    ensures too_long { (result ≡ Err PushError.TooLong) ↔ (65532 < body_size builder.old + 24) }
+    ensures err { OnErr result (builder.new ≡ builder.old) }
+{
+    let front = builder.as_bytes();
+    if front.len() + 24 > MESSAGE_LIMIT {
+        return Err(PushError::TooLong);
+    }
+    let value = integrity_value(key, front);
+    builder.push(AttributeType::MESSAGE_INTEGRITY, &value)
+}
+
+/// Adds the FINGERPRINT that holds to a message that has none (RFC 8489, section 14.7).
+///
+/// After an `Err` the message is as before.
+pub fn append_fingerprint<A: Allocator + Copy>(builder: &mut Builder<A>) -> Result<(), PushError>
+    requires { from fingerprint builder.old.attributes ≡ [] }
+    ensures ok { OnOk result (builder.new ≡ with_attribute builder.old fingerprint
+        (fingerprint_of (canonical builder.old))) }
+    ensures holds { OnOk result (FingerprintHolds (canonical_datagram builder.new)) }
+    // A MESSAGE-INTEGRITY that held goes on to hold.
+    ensures integrity { (key : List ℕ) → IntegrityHolds key (canonical_datagram builder.old) →
+        OnOk result (IntegrityHolds key (canonical_datagram builder.new)) }
+    // Whether it is too long is judged before memory is asked for.
+    ensures too_long { (result ≡ Err PushError.TooLong) ↔ (65532 < body_size builder.old + 8) }
+    ensures err { OnErr result (builder.new ≡ builder.old) }
+{
+    let front = builder.as_bytes();
+    if front.len() + 8 > MESSAGE_LIMIT {
+        return Err(PushError::TooLong);
+    }
+    let value = fingerprint_value(front);
+    builder.push(AttributeType::FINGERPRINT, &value)
+}

@@ -1,0 +1,16 @@
+//! HMAC (RFC 2104), CRC-32, and MESSAGE-INTEGRITY and FINGERPRINT of STUN messages (RFC 8489, sections 14.5 and 14.7).
+#![tactic(auto)]
+
+mod crc;
+mod crc_table;
+mod hmac;
+mod integrity;
+mod laws;
+
+pub use crc::crc32;
+pub use hmac::{generate_auth_key, hmac_sha1, hmac_sha256};
+pub use integrity::{append_fingerprint, append_integrity, fingerprint_holds, integrity_holds};
+pub use laws::long_division;
+
+#[cfg(test)]
+mod tests;

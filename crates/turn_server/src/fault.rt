@@ -1,0 +1,46 @@
+//! Why a command ended without its answer.
+
+ghost use Rattle.std.specs.Prelude.{◌≡◌};
+ghost use Rattle.turn_server.specs.Status.{status_of};
+
+use std::alloc::AllocError;
+use thiserror::Error;
+
+/// Why a command ended without its answer: shown as the line that is printed on standard error.
+#[derive(Clone, Copy, Debug, PartialEq, Eq, Error)]
+pub enum Fault {
+    /// Words that make no command, or a value out of form or range.
+    #[error("turn: usage")]
+    Usage,
+    /// A datagram that isn't written as pairs of hex digits.
+    #[error("turn: bad datagram")]
+    BadDatagram,
+    /// Standard output took no more.
+    #[error("turn: device")]
+    Device,
+    #[error("turn: memory")]
+    Memory,
+}
+
+impl From<AllocError> for Fault {
+    ghost use Rattle.turn_server.specs.declared.fault.Fault.TheVariants.{Memory};
+
+    ghost from_gives = { λ _ f. f ≡ Memory };
+
+    fn from(_error: AllocError) -> Fault {
+        Fault::Memory
+    }
+}
+
+impl Fault {
+    /// The exit status that goes with the fault.
+    pub fn status(self) -> u8
+        ensures { result ≡ status_of self }
+    {
+        match self {
+            Fault::Usage | Fault::BadDatagram => 1,
+            Fault::Device => 3,
+            Fault::Memory => 5,
+        }
+    }
+}

@@ -1,0 +1,36 @@
+//! The program `turn`: the words of a command line to a line of text and an exit status.
+#![tactic(auto)]
+
+mod command;
+mod fault;
+mod program;
+mod reply;
+mod values;
+
+use fault::Fault;
+use program::{report, run_words};
+use std::io::ErrorKind;
+use std::process::ExitCode;
+use std::{env, io};
+
+/// The words of the command line, the program's name first. A word that isn't UTF-8 is a usage fault.
+fn words_of(rt: &HostRuntime) -> Result<Vec<String>, Fault> {
+    match env::args(rt) {
+        Ok(words) => Ok(words.collect(rt.alloc())?),
+        Err(error) if error.kind() == ErrorKind::OutOfMemory => Err(Fault::Memory),
+        Err(_) => Err(Fault::Usage),
+    }
+}
+
+fn main(rt: HostRuntime) -> ExitCode {
+    let mut out = io::writer(&rt);
+    let mut err = rt.stderr();
+    let status = match words_of(&rt) {
+        Ok(words) => run_words(&rt, &rt, words.as_slice(), &mut out, &mut err),
+        Err(fault) => report(fault, &mut err),
+    };
+    ExitCode::from(status)
+}
+
+#[cfg(test)]
+mod tests;

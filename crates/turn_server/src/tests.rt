@@ -1,0 +1,83 @@
+mod memory;
+mod values;
+mod words;
+mod writers;
+
+use super::*;
+use std::process::Abort;
+use std::rt::Clock;
+use std::test::Fail;
+
+const FROM: &str = "192.0.2.1:32853";
+
+const BINDING: &str = "000100002112a4420102030405060708090a0b0c";
+
+const SUCCESS: &str = "0101000c2112a4420102030405060708090a0b0c002000080001a147e112a643\n";
+
+/// Runs the program on words behind its name, and compares the status and what it wrote.
+fn expect(
+    rt: &(impl AllocGlobal + Clock + Abort),
+    words: &[&str],
+    status: u8,
+    out: &str,
+    err: &str,
+) -> Result<(), Fail> {
+    let mut line = vec![in rt.alloc(); "turn"]?;
+    line.extend_from_slice(words)?;
+    let (mut written, mut said) = (Vec::new(rt.alloc()), Vec::new(rt.alloc()));
+    let got = run_words(rt, rt, line.as_slice(), &mut written, &mut said);
+    assert!(rt; got == status, "{words:?}: status {got}");
+    assert!(rt;
+        written.as_slice() == out.as_bytes(),
+        "{words:?}: standard output"
+    );
+    assert!(rt;
+        said.as_slice() == err.as_bytes(),
+        "{words:?}: standard error"
+    );
+    Ok(())
+}
+
+fn expect_usage(rt: &(impl AllocGlobal + Clock + Abort), words: &[&str]) -> Result<(), Fail> {
+    expect(rt, words, 1, "", "turn: usage\n")
+}
+
+#[test]
+fn binding_requests(rt: HostRuntime) -> Result<(), Fail> {
+    for (datagram, out) in [
+        (BINDING, SUCCESS),
+        // A comprehension-required attribute of type 3, which isn't known.
+        (
+            "000100082112a4420102030405060708090a0b0c0003000400000000",
+            "011100242112a4420102030405060708090a0b0c0009001500000414556e6b6e6f776e20417474726962757465000000000a000200030000\n",
+        ),
+    ] {
+        expect(&rt, &["answer", "--from", FROM, datagram], 0, out, "")?;
+    }
+    Ok(())
+}
+
+#[test]
+fn dropped(rt: HostRuntime) -> Result<(), Fail> {
+    for datagram in [
+        "",
+        "000100002112a4420102030405060708090a0b",
+        "000100022112a4420102030405060708090a0b0c",
+        "000100002112a4420102030405060708090a0b0c00",
+        // A wrong cookie, a ChannelData number, an indication, a success, and an attribute that overruns.
+        "000100002112a4430102030405060708090a0b0c",
+        "400100002112a4420102030405060708090a0b0c",
+        "001100002112a4420102030405060708090a0b0c",
+        "010100002112a4420102030405060708090a0b0c",
+        "000100042112a4420102030405060708090a0b0c80220001",
+    ] {
+        expect(
+            &rt,
+            &["answer", "--from", FROM, datagram],
+            0,
+            "dropped\n",
+            "",
+        )?;
+    }
+    Ok(())
+}
