@@ -1,15 +1,16 @@
 -- The register, fed byte by byte, holds the remainder of the long division.
-use Rattle.std.proofs.Common.{◌≡◌, ℕ, zero, suc, ◌+◌, ◌-◌, ◌*◌, ◌/◌, ◌%◌, ◌^◌, ◌<◌, Bool, true, false, not, cond, eqb, List, [], ◌∷◌, ◌++◌, length, get_or, refl, sym, ap, ◌∙◌, arith}
+use Rattle.std.proofs.Common.{◌≡◌, ℕ, zero, suc, ◌+◌, ◌-◌, ◌*◌, ◌/◌, ◌%◌, ◌^◌, ◌<◌, Bool, true, false, not, cond, eqb, List, [], ◌∷◌, ◌++◌, length, refl, sym, ap, ◌∙◌, arith}
 use Rattle.std.specs.Prelude.{bit_xor, map, reverse, replicate}
 use Rattle.std.proofs.Math.Nat.{pow-suc}
 use Rattle.std.proofs.lemmas.Nat.{xor_of_32}
 use Rattle.std.proofs.lemmas.List.{length-append, reverse-append}
 use Rattle.turn_mac.specs.Crc.{bits_of, number_from, lower_terms, bool_xor, aligned_sum, remainder, message_bits, dividend, crc, byte_remainder}
-use Rattle.turn_mac.specs.Register.{shift, shifts, register_after}
+use Rattle.turn_mac.specs.Register.{shift, shifts, register_after, IsBytes}
 use Rattle.turn_mac.proofs.Bits.{xor_swap, xor_comm, xor_zero, xor_half, xor_odd, length-bits_of, bits_of-xor, bits_more, bool_xor_comm, aligned_sum_false, aligned_sum_twice, length-aligned_sum, zeros_plus, aligned_sum_zeros}
 
 -- ---- on lists of bits
 
+-- the register without its first bit, and with a zero at the end; the generator taken off
 shifted : Bool → List Bool → List Bool
 shifted c u = cond c (aligned_sum (u ++ false ∷ []) lower_terms) (u ++ false ∷ [])
 
@@ -18,11 +19,11 @@ unfolding shifted
 length-shifted true u = length-aligned_sum (u ++ false ∷ []) lower_terms ∙ (let e = length-append u (false ∷ []) in omega arith)
 length-shifted false u = let e = length-append u (false ∷ []) in omega arith
 
--- the message's bits, one after the other
-direct : List Bool → List Bool → List Bool
-direct u [] = u
-direct [] (b ∷ m) = []
-direct (h ∷ u) (b ∷ m) = direct (shifted (bool_xor b h) u) m
+-- the bits of the register behind those of a message, taken one after the other
+bits_after : List Bool → List Bool → List Bool
+bits_after u [] = u
+bits_after [] (b ∷ m) = []
+bits_after (h ∷ u) (b ∷ m) = bits_after (shifted (bool_xor b h) u) m
 
 one_step : (p u : List Bool) (c : Bool) → length u ≡ 31 → cond c (aligned_sum (aligned_sum p u) lower_terms) (aligned_sum p u) ≡ aligned_sum p (shifted c u)
 unfolding shifted
@@ -31,8 +32,9 @@ one_step p u true h =
     ∙ aligned_sum_twice p (u ++ false ∷ []) lower_terms (let e = length-append u (false ∷ []) in omega arith)
 one_step p u false h = sym (aligned_sum_false p u)
 
-divides : (m u : List Bool) → length u ≡ 32 → remainder (length m) (aligned_sum (m ++ replicate 32 false) u) ≡ direct u m
-unfolding remainder direct
+-- long division is the register, fed bit by bit
+divides : (m u : List Bool) → length u ≡ 32 → remainder (length m) (aligned_sum (m ++ replicate 32 false) u) ≡ bits_after u m
+unfolding remainder bits_after
 divides [] u h = zeros_plus 32 u h
 divides (b ∷ m) [] h = absurd (omega arith)
 divides (b ∷ m) (h ∷ u) len =
@@ -56,6 +58,7 @@ unfolding shifts
 shifts_fit zero c h = h
 shifts_fit (suc n) c h = shifts_fit n (shift c) (shift_fits c h)
 
+-- the generator taken off a number
 next : Bool → ℕ → ℕ
 next t x = cond t (bit_xor x 0xEDB88320) x
 
@@ -75,24 +78,21 @@ next_xor true x y = xor_swap x y 0xEDB88320
 next_xor false x y = refl
 
 -- n bits of a number, fed into the register
-fed : (n c y : ℕ) (m : List Bool) → c < 2 ^ 32 → y < 2 ^ n → direct (bits_of 32 c) (bits_of n y ++ m) ≡ direct (bits_of 32 (shifts n (bit_xor c y))) m
-unfolding shifts direct next
-fed zero c y m h k = let e : y ≡ 0 = omega arith in ap (λ (x : ℕ). direct (bits_of 32 x) m) (sym (xor_zero c) ∙ ap (bit_xor c) (sym e))
+fed : (n c y : ℕ) (m : List Bool) → c < 2 ^ 32 → y < 2 ^ n → bits_after (bits_of 32 c) (bits_of n y ++ m) ≡ bits_after (bits_of 32 (shifts n (bit_xor c y))) m
+unfolding shifts bits_after next
+fed zero c y m h k = let e : y ≡ 0 = omega arith in ap (λ (x : ℕ). bits_after (bits_of 32 x) m) (sym (xor_zero c) ∙ ap (bit_xor c) (sym e))
 fed (suc n) c y m h k =
     let t = bool_xor (eqb (y % 2) 1) (eqb (c % 2) 1) in
     let t-is : t ≡ eqb (bit_xor c y % 2) 1 = bool_xor_comm (eqb (y % 2) 1) (eqb (c % 2) 1) ∙ sym (xor_odd c y) in
     let c' = next t (c / 2) in
     let step : bit_xor c' (y / 2) ≡ shift (bit_xor c y) =
     sym (next_xor t (c / 2) (y / 2)) ∙ ap (next t) (sym (xor_half c y)) ∙ ap (λ (b : Bool). next b (bit_xor c y / 2)) t-is in
-    ap (λ (u : List Bool). direct u (bits_of n (y / 2) ++ m)) (shifted_bits t (c / 2) (omega arith))
+    ap (λ (u : List Bool). bits_after u (bits_of n (y / 2) ++ m)) (shifted_bits t (c / 2) (omega arith))
     ∙ fed n c' (y / 2) m (next_fits t (c / 2) (omega arith)) (omega (arith, pow-suc 2 n))
-    ∙ ap (λ (x : ℕ). direct (bits_of 32 (shifts n x)) m) step
+    ∙ ap (λ (x : ℕ). bits_after (bits_of 32 (shifts n x)) m) step
 
-abbrev IsBytes : List ℕ → Type 0
-IsBytes bytes = (i : ℕ) → get_or bytes i 0 < 256
-
-register_bits : (bytes : List ℕ) (c : ℕ) → c < 2 ^ 32 → IsBytes bytes → direct (bits_of 32 c) (message_bits bytes) ≡ bits_of 32 (register_after c bytes)
-unfolding register_after direct
+register_bits : (bytes : List ℕ) (c : ℕ) → c < 2 ^ 32 → IsBytes bytes → bits_after (bits_of 32 c) (message_bits bytes) ≡ bits_of 32 (register_after c bytes)
+unfolding register_after bits_after
 register_bits [] c h fits = refl
 register_bits (b ∷ bytes) c h fits =
     fed 8 c b (message_bits bytes) h (omega (arith, fits 0))
@@ -105,6 +105,7 @@ register_fits (b ∷ bytes) c h fits = register_fits bytes (shifts 8 (bit_xor c 
 
 -- ---- the bits as a number again
 
+-- the number of some bits, the lowest first
 low_first : List Bool → ℕ
 low_first [] = 0
 low_first (b ∷ bits) = cond b 1 0 + 2 * low_first bits
@@ -121,6 +122,7 @@ reversed (b ∷ bits) =
     ∙ number_from-append 0 (reverse bits) (b ∷ [])
     ∙ ap (λ (k : ℕ). cond b 1 0 + 2 * k) (reversed bits)
 
+-- the bits complemented are what is missing to the greatest number
 complement : (n x : ℕ) → x < 2 ^ n → low_first (map not (bits_of n x)) + x + 1 ≡ 2 ^ n
 unfolding low_first
 complement zero x h = let e : x ≡ 0 = omega arith in rw e refl
@@ -141,13 +143,14 @@ message_size (b ∷ bytes) = let e = message_size bytes in length-append (bits_o
 ones : replicate 32 true ≡ bits_of 32 0xFFFF_FFFF
 ones = refl
 
+-- CRC-32 is the register's complement
 pub crc_is : (bytes : List ℕ) → IsBytes bytes → crc bytes ≡ 0xFFFF_FFFF - register_after 0xFFFF_FFFF bytes
 unfolding crc
 crc_is bytes fits =
     let divided : remainder (8 * length bytes) (dividend bytes) ≡ bits_of 32 (register_after 0xFFFF_FFFF bytes) =
     ap (λ (n : ℕ). remainder n (dividend bytes)) (sym (message_size bytes))
     ∙ divides (message_bits bytes) (replicate 32 true) refl
-    ∙ ap (λ (u : List Bool). direct u (message_bits bytes)) ones
+    ∙ ap (λ (u : List Bool). bits_after u (message_bits bytes)) ones
     ∙ register_bits bytes 0xFFFF_FFFF (omega arith) fits in
     let whole = complement 32 (register_after 0xFFFF_FFFF bytes) (register_fits bytes 0xFFFF_FFFF (omega arith) fits) in
     ap (λ (r : List Bool). number_from 0 (reverse (map not r))) divided
@@ -172,10 +175,11 @@ number_of_bits (suc n) x h =
 zeros : replicate 32 false ≡ bits_of 32 0
 zeros = refl
 
-direct_nil : (u : List Bool) → direct u [] ≡ u
-unfolding direct
-direct_nil u = refl
+bits_after_none : (u : List Bool) → bits_after u [] ≡ u
+unfolding bits_after
+bits_after_none u = refl
 
+-- the remainder of a byte is its register behind eight steps
 pub byte_remainder_is : (byte : ℕ) → byte < 256 → byte_remainder byte ≡ shifts 8 byte
 unfolding byte_remainder
 byte_remainder_is byte fits =
@@ -184,9 +188,9 @@ byte_remainder_is byte fits =
     let divided : remainder 8 (bits ++ replicate 32 false) ≡ bits_of 32 (shifts 8 (bit_xor 0 byte)) =
     ap (remainder 8) (sym (aligned_sum_zeros 32 (bits ++ replicate 32 false)))
     ∙ divides bits (replicate 32 false) refl
-    ∙ ap (λ (u : List Bool). direct u bits) zeros
+    ∙ ap (λ (u : List Bool). bits_after u bits) zeros
     ∙ fed 8 0 byte none (omega arith) fits
-    ∙ direct_nil (bits_of 32 (shifts 8 (bit_xor 0 byte))) in
+    ∙ bits_after_none (bits_of 32 (shifts 8 (bit_xor 0 byte))) in
     let alone : bit_xor 0 byte ≡ byte = xor_comm 0 byte ∙ xor_zero byte in
     ap (λ (r : List Bool). number_from 0 (reverse r)) divided
     ∙ reversed (bits_of 32 (shifts 8 (bit_xor 0 byte)))

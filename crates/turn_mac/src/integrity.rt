@@ -80,6 +80,7 @@ pub fn append_integrity<A: Allocator + Copy>(
     ensures ok { OnOk result (builder.new ≡ with_attribute builder.old message_integrity
         (integrity_of key.now (canonical builder.old))) }
     ensures holds { OnOk result (IntegrityHolds key.now (canonical_datagram builder.new)) }
+    ensures size { OnOk result (body_size builder.new ≡ body_size builder.old + 24) }
     // Whether it is too long is judged before memory is asked for.
     ensures too_long { (result ≡ Err PushError.TooLong) ↔ (65532 < body_size builder.old + 24) }
     ensures err { OnErr result (builder.new ≡ builder.old) }

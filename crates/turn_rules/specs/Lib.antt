@@ -3,6 +3,5 @@ pub mod Examples
 pub mod Fingerprint
 pub mod Line
 pub mod Response
-pub mod Rows
 pub mod Unknown
 pub mod Written

@@ -1,5 +1,5 @@
 -- What a line of a table answers, and the response that it makes.
-use Rattle.std.specs.Prelude.{List, [], ◌∷◌, Option, Some, None}
+use Rattle.std.specs.Prelude.{ℕ, List, [], ◌∷◌, Option, Some, None}
 use Rattle.std.specs.List.{flat_map}
 use Rattle.std.specs.Int.{w16, to_be_bytes}
 use Rattle.turn_types.specs.declared.error.ErrorCode.{ErrorCode}
@@ -18,12 +18,15 @@ pub data Line : Type 0 where
   -- a success, with attributes of its own
   Succeed : (own : List Attribute) → Line
 
+abbrev pub refuse : ErrorCode → Line
+refuse code = Refuse code []
+
 -- 420, with the types that aren't understood (RFC 8489, section 6.3.1)
 abbrev pub refuse_unknown : Content → Line
 refuse_unknown m = Refuse UnknownAttribute (attribute unknown_attributes (flat_map (to_be_bytes w16) (unknown_types m)) ∷ [])
 
--- the response to a request that a line makes, if it makes one
-abbrev pub response_of : Content → Line → Option Content
-response_of m Drop = None
-response_of m (Refuse code more) = Some (response m Error (error_attribute code ∷ more))
-response_of m (Succeed own) = Some (response m Success own)
+-- the response to a request that a line makes, if it makes one, signed under the key, if there is one
+abbrev pub response_of : Content → Option (List ℕ) → Line → Option Content
+response_of m key Drop = None
+response_of m key (Refuse code more) = Some (response m Error key (error_attribute code ∷ more))
+response_of m key (Succeed own) = Some (response m Success key own)

@@ -1,10 +1,12 @@
 -- Responses (RFC 8489, sections 6.3.3 and 6.3.4).
-use Rattle.std.specs.Prelude.{ℕ, ◌/◌, ◌%◌, if◌then◌else◌, List, [], ◌∷◌, ◌++◌}
+use Rattle.std.specs.Prelude.{ℕ, ◌/◌, ◌%◌, if◌then◌else◌, Option, List, [], ◌∷◌, ◌++◌}
 use Rattle.turn_types.specs.declared.error.ErrorCode.{ErrorCode}
 use Rattle.turn_types.specs.declared.message.Class.{Class}
 use Rattle.turn_types.specs.ErrorCode.{number_of, reason_of}
-use Rattle.turn_codec.specs.Grammar.{Attribute, Content}
-use Rattle.turn_codec.specs.AttributeTypes.{error_code}
+use Rattle.std.specs.Option.{option_map_or}
+use Rattle.turn_codec.specs.Grammar.{Attribute, Content, canonical, with_attribute}
+use Rattle.turn_codec.specs.AttributeTypes.{error_code, message_integrity}
+use Rattle.turn_mac.specs.Integrity.{integrity_of}
 use Rattle.turn_rules.specs.Fingerprint.{has_fingerprint, with_fingerprint}
 
 abbrev pub attribute : ℕ → List ℕ → Attribute
@@ -14,9 +16,19 @@ attribute kind value = record { kind = kind; value = value }
 abbrev pub plain_response : Content → Class → List Attribute → Content
 plain_response m class own = record { class = class; method = m.method; tx = m.tx; attributes = own }
 
--- the response to a request: with a FINGERPRINT exactly where the request has one
-abbrev pub response : Content → Class → List Attribute → Content
-response m class own = if has_fingerprint m then with_fingerprint (plain_response m class own) else plain_response m class own
+-- a message with the MESSAGE-INTEGRITY that holds under a key (RFC 8489, section 14.5)
+unfoldable pub with_integrity : List ℕ → Content → Content
+with_integrity key m = with_attribute m message_integrity (integrity_of key (canonical m))
+
+-- a response with its MESSAGE-INTEGRITY, where there is a key
+unfoldable pub signed : Option (List ℕ) → Content → Content
+signed key m = option_map_or (λ k. with_integrity k m) key m
+
+-- the response to a request: signed under the key, if there is one, and with a FINGERPRINT exactly where the request has one
+unfoldable pub response : Content → Class → Option (List ℕ) → List Attribute → Content
+response m class key own =
+    let plain = signed key (plain_response m class own) in
+    if has_fingerprint m then with_fingerprint plain else plain
 
 -- the hundreds, the rest, and the reason text (RFC 8489, section 14.8)
 abbrev pub error_value : ErrorCode → List ℕ

@@ -1,25 +1,25 @@
 //! What a client's message is answered.
 
-ghost use Rattle.std.specs.Prelude.{◌≡◌, IfOk, Some, option_map};
-ghost use Rattle.turn_codec.specs.Grammar.{canonical};
-ghost use Rattle.turn_rules.specs.Answer.{binding_line, line, reply};
-ghost use Rattle.turn_rules.specs.Line.{refuse_unknown, response_of};
-ghost use Rattle.turn_rules.specs.Written.{line_of};
+ghost use Rattle.std.specs.Prelude.{◌≡◌, IfOk, option_map};
+ghost use Rattle.turn_rules.specs.Answer.{binding_line, is_protected, passed_line, reply, said};
+ghost use Rattle.turn_rules.specs.Written.{line_of, said_of, verdict_in};
 
 use crate::fingerprint::has_wrong_fingerprint;
-use crate::line::Line;
-use crate::response::{OwnAttribute, respond};
-use crate::unknown::{has_unknown, unknown_types};
-use crate::value::error_value;
+use crate::line::{Chosen, Line, unsigned};
+use crate::unknown::has_unknown;
+use crate::write::write;
 use std::alloc::{AllocError, Allocator, Global};
-use turn_codec::{AttributeType, Message, xor_address};
-use turn_types::{Class, ErrorCode, FiveTuple, Method};
+use turn_codec::Message;
+use turn_cred::Verdict;
+use turn_types::{Class, ErrorCode, FiveTuple, Method, Moment, ServerConfig};
 
 /// A message from a client.
 #[derive(Drop)]
 pub struct Request<'a> {
     pub message: Message<'a>,
     pub five_tuple: FiveTuple,
+    /// What the credentials are worth, or `None` for Binding, which asks for none.
+    pub verdict: Option<Verdict<'a>>,
 }
 
 /// What the server does about a message.
@@ -29,80 +29,89 @@ pub struct Decision<A: Allocator = Global> {
     pub reply: Option<Vec<u8, A>>,
 }
 
-fn binding_line(message: &Message<'_>, five_tuple: FiveTuple) -> Line
-    ensures { line_of five_tuple message.now.content result ≡ binding_line five_tuple message.now.content }
+/// Whether a method asks for credentials: those of Allocate, Refresh, CreatePermission and ChannelBind do.
+pub fn is_protected(method: Method) -> bool
+    ensures { result ≡ is_protected method }
 {
-    if has_unknown(message) {
+    matches!(method.number(), 0x003 | 0x004 | 0x008 | 0x009)
+}
+
+fn binding_line<A: Allocator>(
+    config: &ServerConfig<A>,
+    request: &Request<'_>,
+    moment: Moment,
+) -> Line
+    ensures { line_of config.now request.now.five_tuple moment request.now.message.content result
+        ≡ binding_line request.now.five_tuple request.now.message.content }
+{
+    if has_unknown(&request.message) {
         return Line::RefuseUnknown;
     }
     Line::Mapped
 }
 
-/// The line that counts for a message.
-#[tactic(auto, unfolding(crate::specs::Answer::line))]
-fn choose(message: &Message<'_>, five_tuple: FiveTuple) -> Line
-    ensures { line_of five_tuple message.now.content result ≡ line five_tuple message.now }
-{
-    if message.class() != Class::Request {
-        return Line::Drop;
-    }
-    if has_wrong_fingerprint(message) {
-        return Line::Drop;
-    }
-    if message.method() == Method::BINDING {
-        return binding_line(message, five_tuple);
-    }
-    Line::Drop
-}
-
-fn write_unknown<A: Allocator + Copy>(
-    alloc: A,
-    message: &Message<'_>,
-) -> Result<Vec<u8, A>, AllocError>
-    ensures { IfOk result (λ v. Some v.items ≡ option_map canonical (response_of message.now.content (refuse_unknown message.now.content))) }
-{
-    let error = error_value(ErrorCode::UnknownAttribute);
-    let types = unknown_types(message).to_value();
-    let own = [
-        OwnAttribute {
-            kind: AttributeType::ERROR_CODE,
-            value: error.as_slice(),
-        },
-        OwnAttribute {
-            kind: AttributeType::UNKNOWN_ATTRIBUTES,
-            value: types.as_slice(),
-        },
-    ];
-    respond(alloc, message, Class::Error, &own)
-}
-
-fn write_mapped<A: Allocator + Copy>(
-    alloc: A,
-    message: &Message<'_>,
-    five_tuple: FiveTuple,
-) -> Result<Vec<u8, A>, AllocError>
-    ensures { IfOk result (λ v. Some v.items ≡ option_map canonical (response_of message.now.content (line_of five_tuple message.now.content Line.Mapped))) }
-{
-    let mapped = xor_address(five_tuple.client);
-    let own = [OwnAttribute {
-        kind: AttributeType::XOR_MAPPED_ADDRESS,
-        value: &mapped,
-    }];
-    respond(alloc, message, Class::Success, &own)
-}
-
-/// The answer to a client's message. It takes the memory of the reply and no other.
-pub fn decide<A: Allocator + Copy>(
-    alloc: A,
+fn passed_line<A: Allocator>(
+    config: &ServerConfig<A>,
     request: &Request<'_>,
-) -> Result<Decision<A>, AllocError>
-    ensures { IfOk result (λ d. option_map (λ v. v.items) d.reply ≡ reply request.now.five_tuple request.now.message) }
+    moment: Moment,
+) -> Line
+    ensures { line_of config.now request.now.five_tuple moment request.now.message.content result
+        ≡ passed_line request.now.message.content }
+{
+    if request.message.method() == Method::ALLOCATE {
+        return Line::Drop;
+    }
+    if has_unknown(&request.message) {
+        return Line::RefuseUnknown;
+    }
+    Line::Refuse(ErrorCode::AllocationMismatch)
+}
+
+/// The line that counts for a message.
+#[tactic(auto, unfolding(crate::specs::Answer::said))]
+fn choose<A: Allocator>(config: &ServerConfig<A>, request: &Request<'_>, moment: Moment) -> Chosen
+    ensures { said_of config.now request.now.five_tuple moment request.now.message.content result
+        ≡ said config.now request.now.five_tuple moment request.now.message (verdict_in request.now) }
 {
     let message = &request.message;
-    let reply = match choose(message, request.five_tuple) {
-        Line::Drop => None,
-        Line::RefuseUnknown => Some(write_unknown(alloc, message)?),
-        Line::Mapped => Some(write_mapped(alloc, message, request.five_tuple)?),
+    if message.class() != Class::Request || has_wrong_fingerprint(message) {
+        return unsigned(Line::Drop);
+    }
+    let method = message.method();
+    if method == Method::BINDING {
+        return unsigned(binding_line(config, request, moment));
+    }
+    if !is_protected(method) {
+        return unsigned(Line::Drop);
+    }
+    let key = match request.verdict {
+        None => return unsigned(Line::Drop),
+        Some(Verdict::Challenge401) => {
+            return unsigned(Line::Challenge(ErrorCode::Unauthenticated));
+        }
+        Some(Verdict::Bad400) => return unsigned(Line::Refuse(ErrorCode::BadRequest)),
+        Some(Verdict::Stale438) => return unsigned(Line::Challenge(ErrorCode::StaleNonce)),
+        Some(Verdict::Passed { user: _, key }) => key,
     };
-    Ok(Decision { reply })
+    Chosen {
+        line: passed_line(config, request, moment),
+        key: Some(key),
+    }
+}
+
+/// The answer to a client's message at a moment. It takes the memory of the reply and no other.
+#[tactic(auto, unfolding(crate::specs::Answer::reply))]
+pub fn decide<A: Allocator + Copy, C: Allocator>(
+    alloc: A,
+    config: &ServerConfig<C>,
+    request: &Request<'_>,
+    moment: Moment,
+) -> Result<Decision<A>, AllocError>
+    ensures { IfOk result (λ d. option_map (λ v. v.items) d.reply
+        ≡ reply config.now request.now.five_tuple moment request.now.message (verdict_in request.now)) }
+{
+    let Chosen { line, key } = choose(config, request, moment);
+    Ok(Decision {
+        reply: write(alloc, config, request, moment, line, key)?,
+    })
 }

@@ -8,8 +8,9 @@ mod line;
 mod response;
 mod unknown;
 mod value;
+mod write;
 
-pub use decision::{Decision, Request, decide};
+pub use decision::{Decision, Request, decide, is_protected};
 pub use laws::worked_examples;
 
 #[cfg(test)]

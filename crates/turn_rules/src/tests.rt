@@ -1,10 +1,15 @@
 use super::*;
-use refusing::Refusing;
 use std::alloc::Allocator;
 use std::test::Fail;
-use turn_codec::{AttributeType, Builder, Message};
-use turn_types::{Class, Endpoint, FiveTuple, Method, TxId};
+use turn_codec::Message;
+use turn_cred::{Checker, Users};
+use turn_mac::generate_auth_key;
+use turn_types::{Endpoint, FiveTuple, Limits, Moment, ServerConfig};
 
+mod binding;
+mod credentials;
+
+/// From 192.0.2.1:32853 to 192.0.2.100:3478.
 const FIVE_TUPLE: FiveTuple = FiveTuple {
     client: Endpoint {
         ip: 0xC000_0201,
@@ -16,193 +21,56 @@ const FIVE_TUPLE: FiveTuple = FiveTuple {
     },
 };
 
-fn reply<A: Allocator + Copy>(alloc: A, bytes: &[u8]) -> Result<Option<Vec<u8, A>>, Fail> {
+const REALM: &[u8] = b"example.org";
+
+fn key_of(name: &[u8], password: &[u8]) -> [u8; 16] {
+    generate_auth_key(name, REALM, password)
+}
+
+fn config<A: Allocator + Copy>(alloc: A) -> Result<ServerConfig<A>, Fail> {
+    let greatest = Limits::GREATEST;
+    Ok(ServerConfig::new(alloc, REALM, [0; 32], 0xC633_6401, 2, &[], greatest)?)
+}
+
+fn checker<A: Allocator + Copy>(
+    alloc: A,
+    config: &ServerConfig<A>,
+) -> Result<Checker<Users<A>, A>, Fail> {
+    let mut users = Users::new(alloc);
+    users.add(b"alice", key_of(b"alice", b"wonder"))?;
+    users.add(b"bob", key_of(b"bob", b"builder"))?;
+    Ok(Checker::new(alloc, config, users).map_err(|_| "memory")?)
+}
+
+/// The reply to a datagram from a client at a second.
+fn reply_at<A: Allocator + Copy>(
+    alloc: A,
+    bytes: &[u8],
+    client: Endpoint,
+    second: u64,
+) -> Result<Option<Vec<u8, A>>, Fail> {
+    let config = config(alloc)?;
+    let mut checker = checker(alloc, &config)?;
+    let moment = Moment::new(second).ok_or("a moment")?;
+    let message = Message::parse(bytes)?;
+    let verdict = if is_protected(message.method()) {
+        Some(checker.check(&message, client, moment))
+    } else {
+        None
+    };
+    let five_tuple = FiveTuple {
+        client,
+        server: FIVE_TUPLE.server,
+    };
     let request = Request {
-        message: Message::parse(bytes)?,
-        five_tuple: FIVE_TUPLE,
+        message,
+        five_tuple,
+        verdict,
     };
-    Ok(decide(alloc, &request)?.reply)
+    Ok(decide(alloc, &config, &request, moment)?.reply)
 }
 
-const BINDING: &[u8] =
-    b"\x00\x01\x00\x00\x21\x12\xa4\x42\x01\x02\x03\x04\x05\x06\x07\x08\x09\x0a\x0b\x0c";
-
-#[test]
-fn answers_a_binding(rt: HostRuntime) -> Result<(), Fail> {
-    let success =
-        b"\x01\x01\x00\x0c\x21\x12\xa4\x42\x01\x02\x03\x04\x05\x06\x07\x08\x09\x0a\x0b\x0c\
-        \x00\x20\x00\x08\x00\x01\xa1\x47\xe1\x12\xa6\x43";
-    let found = reply(rt.alloc(), BINDING)?.ok_or("a reply")?;
-    assert_eq!(rt; found.as_slice(), success.as_slice());
-    Ok(())
-}
-
-#[test]
-fn refuses_unknown_types(rt: HostRuntime) -> Result<(), Fail> {
-    let request =
-        b"\x00\x01\x00\x08\x21\x12\xa4\x42\x01\x02\x03\x04\x05\x06\x07\x08\x09\x0a\x0b\x0c\
-        \x00\x03\x00\x04\x00\x00\x00\x00";
-    let error = b"\x01\x11\x00\x24\x21\x12\xa4\x42\x01\x02\x03\x04\x05\x06\x07\x08\x09\x0a\x0b\x0c\
-        \x00\x09\x00\x15\x00\x00\x04\x14Unknown Attribute\x00\x00\x00\x00\x0a\x00\x02\x00\x03\x00\x00";
-    let found = reply(rt.alloc(), request)?.ok_or("a reply")?;
-    assert_eq!(rt; found.as_slice(), error.as_slice());
-    Ok(())
-}
-
-// Each class and method but a Binding request.
-#[test]
-fn drops(rt: HostRuntime) -> Result<(), Fail> {
-    for (first, second) in [
-        (0x00, 0x11),
-        (0x01, 0x01),
-        (0x01, 0x11),
-        (0x00, 0x03),
-        (0x00, 0x04),
-        (0x00, 0x06),
-        (0x00, 0x16),
-        (0x00, 0x07),
-        (0x00, 0x08),
-        (0x00, 0x09),
-        (0x00, 0x02),
-        (0x3E, 0xEF),
-    ] {
-        let mut bytes = [0; 20];
-        bytes.copy_from_slice(BINDING);
-        bytes[0] = first;
-        bytes[1] = second;
-        assert!(rt; reply(rt.alloc(), &bytes)?.is_none(), "{first} {second}");
-    }
-    Ok(())
-}
-
-// The checksum is that of zlib.
-const FINGERPRINTED: [u8; 28] =
-    *b"\x00\x01\x00\x08\x21\x12\xa4\x42\x01\x02\x03\x04\x05\x06\x07\x08\x09\x0a\x0b\x0c\
-    \x80\x28\x00\x04\x5b\x20\xf9\xcc";
-
-#[test]
-fn answers_a_fingerprint_with_one(rt: HostRuntime) -> Result<(), Fail> {
-    let success =
-        b"\x01\x01\x00\x14\x21\x12\xa4\x42\x01\x02\x03\x04\x05\x06\x07\x08\x09\x0a\x0b\x0c\
-        \x00\x20\x00\x08\x00\x01\xa1\x47\xe1\x12\xa6\x43\x80\x28\x00\x04\x50\x89\xd8\x98";
-    let found = reply(rt.alloc(), &FINGERPRINTED)?.ok_or("a reply")?;
-    assert_eq!(rt; found.as_slice(), success.as_slice());
-    Ok(())
-}
-
-/// The class of the reply and whether it has a FINGERPRINT, or `None` where nothing is answered.
-fn kind_of_reply(rt: &HostRuntime, bytes: &[u8]) -> Result<Option<(Class, bool)>, Fail> {
-    if Message::parse(bytes).is_err() {
-        return Ok(None);
-    }
-    let Some(found) = reply(rt.alloc(), bytes)? else {
-        return Ok(None);
-    };
-    let message = Message::parse(&found)?;
-    Ok(Some((
-        message.class(),
-        message.find(AttributeType::FINGERPRINT).is_some(),
-    )))
-}
-
-// A bit of the type of FINGERPRINT makes another attribute of it, of a type that has to be understood where the bit is
-// the first one.
-#[test]
-fn drops_flipped_bits(rt: HostRuntime) -> Result<(), Fail> {
-    for place in 0..28usize {
-        for bit in 0..8u32 {
-            let mut bytes = FINGERPRINTED;
-            bytes[place] ^= 1 << bit;
-            let want = match (place, bit) {
-                (20, 7) => Some((Class::Error, false)),
-                (20 | 21, _) => Some((Class::Success, false)),
-                _ => None,
-            };
-            assert!(rt; kind_of_reply(&rt, &bytes)? == want, "{place} {bit}");
-        }
-    }
-    Ok(())
-}
-
-/// A Binding request with an empty attribute of each type.
-fn request_with<A: Allocator + Copy>(alloc: A, types: &[u16]) -> Result<Vec<u8, A>, Fail> {
-    let mut builder = Builder::new(alloc, Class::Request, Method::BINDING, TxId([9; 12]))?;
-    for kind in types {
-        builder.push(AttributeType::new(*kind), &[])?;
-    }
-    Ok(builder.finish())
-}
-
-#[test]
-fn names_each_unknown_type_once(rt: HostRuntime) -> Result<(), Fail> {
-    for (types, named) in [
-        (
-            [0x7FFF, 0x0003, 0x7FFF, 0x8000, 0x0006],
-            [0x7F, 0xFF, 0x00, 0x03].as_slice(),
-        ),
-        (
-            [0x001A, 0x001C, 0x001A, 0x0008, 0x0002],
-            [0x00, 0x1A, 0x00, 0x1C].as_slice(),
-        ),
-        (
-            [0x0000, 0x0008, 0x0003, 0x0004, 0x0005],
-            [0x00, 0x00].as_slice(),
-        ),
-    ] {
-        let bytes = request_with(rt.alloc(), &types)?;
-        let found = reply(rt.alloc(), &bytes)?.ok_or("a reply")?;
-        let message = Message::parse(&found)?;
-        assert_eq!(rt; message.class(), Class::Error);
-        assert!(rt; message.find(AttributeType::UNKNOWN_ATTRIBUTES) == Some(named));
-    }
-    let known = request_with(
-        rt.alloc(),
-        &[0x8000, 0x0024 | 0x8000, 0x0006, 0x0014, 0x0008, 0x0003],
-    )?;
-    let found = reply(rt.alloc(), &known)?.ok_or("a reply")?;
-    assert_eq!(rt; Message::parse(&found)?.class(), Class::Success);
-    Ok(())
-}
-
-#[test]
-fn names_the_first_64(rt: HostRuntime) -> Result<(), Fail> {
-    let mut types = Vec::new(rt.alloc());
-    for kind in 0x4000..0x4050u16 {
-        types.push(kind)?;
-        types.push(0x4000)?;
-    }
-    let bytes = request_with(rt.alloc(), &types)?;
-    let found = reply(rt.alloc(), &bytes)?.ok_or("a reply")?;
-    let message = Message::parse(&found)?;
-    let named = message
-        .find(AttributeType::UNKNOWN_ATTRIBUTES)
-        .ok_or("the types")?;
-    assert_eq!(rt; named.len(), 128);
-    assert_eq!(rt; &named[..4], [0x40, 0x00, 0x40, 0x01].as_slice());
-    assert_eq!(rt; &named[126..], [0x40, 0x3F].as_slice());
-    Ok(())
-}
-
-#[test]
-fn each_growth_refused(rt: HostRuntime) -> Result<(), Fail> {
-    let unknown = request_with(rt.alloc(), &[0x0003])?;
-    for bytes in [BINDING, unknown.as_slice(), FINGERPRINTED.as_slice()] {
-        let request = Request {
-            message: Message::parse(bytes)?,
-            five_tuple: FIVE_TUPLE,
-        };
-        let mut served = 0u64;
-        for _ in 0..8 {
-            let refusing = Refusing::new(rt.alloc(), served);
-            let outcome = decide(&refusing, &request);
-            assert_eq!(rt; outcome.is_err(), refusing.has_refused());
-            if outcome.is_ok() {
-                break;
-            }
-            assert!(rt; decide(&refusing, &request)?.reply.is_some());
-            served = served.wrapping_add(1);
-        }
-        assert!(rt; 1 <= served && served < 8, "{served}");
-    }
-    Ok(())
+/// The reply to a datagram from 192.0.2.1:32853 at second 0.
+fn reply<A: Allocator + Copy>(alloc: A, bytes: &[u8]) -> Result<Option<Vec<u8, A>>, Fail> {
+    reply_at(alloc, bytes, FIVE_TUPLE.client, 0)
 }

@@ -1,3 +1,4 @@
 pub mod Command
+pub mod Profile
 pub mod Status
 pub mod Values

@@ -10,7 +10,7 @@ use std::alloc::Global;
 use std::convert::AsStr;
 use std::io::Write;
 use std::rt::Clock;
-use turn_types::Endpoint;
+use turn_types::{Endpoint, FiveTuple};
 
 /// The server that `turn answer` answers as: 192.0.2.100:3478.
 const SERVER: Endpoint = Endpoint {
@@ -27,13 +27,12 @@ fn print_line<W: Write>(line: &str, out: &mut W) -> Result<(), Fault>
 
 fn run_command<W: Write>(alloc: Global, command: &Command, out: &mut W) -> Result<(), Fault> {
     match command {
-        // No answer that is given today depends on the moment.
-        Command::Answer {
-            from,
-            at: _,
-            datagram,
-        } => {
-            match reply_to(alloc, *from, SERVER, datagram)? {
+        Command::Answer { from, at, datagram } => {
+            let five_tuple = FiveTuple {
+                client: *from,
+                server: SERVER,
+            };
+            match reply_to(alloc, five_tuple, *at, datagram)? {
                 Some(reply) => print_line(&hex::encode(alloc, reply.as_slice())?, out),
                 None => print_line("dropped", out),
             }

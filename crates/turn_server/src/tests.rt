@@ -42,6 +42,40 @@ fn expect_usage(rt: &(impl AllocGlobal + Clock + Abort), words: &[&str]) -> Resu
     expect(rt, words, 1, "", "turn: usage\n")
 }
 
+// The nonce by HMAC-SHA256 of another program.
+#[test]
+fn challenges(rt: HostRuntime) -> Result<(), Fail> {
+    let words = [
+        "answer",
+        "--from",
+        FROM,
+        "--at",
+        "1000",
+        "000300002112a4420102030405060708090a0b0c",
+    ];
+    let challenge =
+        "0113007c2112a4420102030405060708090a0b0c0009001300000401556e61757468656e74696361746564000014000b6578616d706c652e6f726700001500503030303030303030303030303033653836376234363161613630393434666632643533616132333762363430376331616236373739633534386532393739373662336265643037383430353639343839\n";
+    expect(&rt, &words, 0, challenge, "")
+}
+
+// The checksums are zlib's.
+#[test]
+fn fingerprints(rt: HostRuntime) -> Result<(), Fail> {
+    for (datagram, out) in [
+        (
+            "000100082112a4420102030405060708090a0b0c802800045b20f9cc",
+            "010100142112a4420102030405060708090a0b0c002000080001a147e112a643802800045089d898\n",
+        ),
+        (
+            "000100082112a4420102030405060708090a0b0c802800045b20f9cd",
+            "dropped\n",
+        ),
+    ] {
+        expect(&rt, &["answer", "--from", FROM, datagram], 0, out, "")?;
+    }
+    Ok(())
+}
+
 #[test]
 fn binding_requests(rt: HostRuntime) -> Result<(), Fail> {
     for (datagram, out) in [

@@ -8,6 +8,7 @@ use crate::values::{bytes, endpoint};
 use refusing::Refusing;
 use std::alloc::AllocError;
 use std::test::Fail;
+use turn_types::{FiveTuple, Moment};
 
 #[test]
 fn memory_fault(rt: HostRuntime) {
@@ -36,10 +37,15 @@ fn bytes_refused(rt: HostRuntime) -> Result<(), Fail> {
 #[test]
 fn reply_refused(rt: HostRuntime) -> Result<(), Fail> {
     let client = endpoint(FROM.as_bytes()).ok_or("an endpoint")?;
+    let five_tuple = FiveTuple {
+        client,
+        server: client,
+    };
+    let moment = Moment::new(0).ok_or("a moment")?;
     let datagram = bytes(rt.alloc(), BINDING.as_bytes())?.ok_or("a datagram")?;
     for served in 0..16u64 {
         let refusing = Refusing::new(rt.alloc(), served);
-        let outcome = reply_to(&refusing, client, client, &datagram);
+        let outcome = reply_to(&refusing, five_tuple, moment, &datagram);
         if !refusing.has_refused() {
             assert!(rt; 0 < served);
             let text = hex::encode(rt.alloc(), outcome?.ok_or("a reply")?.as_slice())?;
@@ -47,7 +53,7 @@ fn reply_refused(rt: HostRuntime) -> Result<(), Fail> {
             return Ok(());
         }
         assert!(rt; outcome.is_err());
-        assert!(rt; reply_to(&refusing, client, client, &datagram)?.is_some());
+        assert!(rt; reply_to(&refusing, five_tuple, moment, &datagram)?.is_some());
     }
     Err("some growth is always refused")?
 }

@@ -1,0 +1,5 @@
+pub mod CheckerState
+pub mod Credential
+pub mod Found
+pub mod Nonce
+pub mod Users

@@ -1,0 +1,140 @@
+//! Who sent a request (RFC 8489, section 9.2.4).
+
+ghost use Rattle.std.specs.Prelude.{◌≡◌, IfOk, IfErr};
+ghost use Rattle.turn_cred.specs.Credential.{has_right_integrity, user_key, verdict, policy_of};
+ghost use Rattle.turn_cred.specs.Found.{verdict_of};
+
+use crate::handler::AuthHandler;
+use crate::nonce::Nonces;
+use std::alloc::{AllocFailed, Allocator, Global};
+use std::marker::Model;
+use turn_codec::{AttributeType, Message};
+use turn_mac::integrity_holds;
+use turn_types::{Endpoint, Moment, ServerConfig};
+
+/// What a request's credentials are worth.
+#[derive(Clone, Copy)]
+pub enum Verdict<'a> {
+    /// The user who sent the request, and the user's key.
+    Passed { user: &'a [u8], key: [u8; 16] },
+    /// The sender hasn't shown a key: 401, with a realm and a nonce.
+    Challenge401,
+    /// The request is integrity protected, but hasn't all the attributes that this takes: 400.
+    Bad400,
+    /// The nonce doesn't hold for the client: 438, with a realm and a new nonce.
+    Stale438,
+}
+
+/// Judges the credentials of requests, under one realm.
+#[derive(Drop)]
+pub struct Checker<H: AuthHandler, A: Allocator = Global> {
+    handler: H,
+    realm: Vec<u8, A>,
+    nonces: Nonces,
+    name_bytes: u16,
+}
+
+impl<H: AuthHandler, A: Allocator> Model for Checker<H, A> {
+    ghost use Rattle.turn_cred.specs.Credential.{Policy};
+    ghost use Rattle.turn_cred.specs.CheckerState.{CheckerState};
+
+    ghost Value = { CheckerState H };
+
+    ghost view = { λ c. record {
+      policy = record { realm = c.realm.items; secret = c.nonces; name_bytes = c.name_bytes };
+      handler = c.handler;
+    } };
+}
+
+/// Whether the first MESSAGE-INTEGRITY is right under the key.
+fn has_right_integrity(message: &Message<'_>, key: &[u8; 16]) -> bool
+    ensures { result ≡ has_right_integrity key.now message.now }
+{
+    integrity_holds(message, key)
+}
+
+impl<H: AuthHandler, A: Allocator + Copy> Checker<H, A> {
+    /// Copies the realm, the secret and the name limit. Where memory is refused the error has the handler as its value.
+    pub fn new<C: Allocator>(
+        alloc: A,
+        config: &ServerConfig<C>,
+        handler: H,
+    ) -> Result<Checker<H, A>, AllocFailed<H>>
+        ensures ok { IfOk result (λ c. c ≡ record { policy = policy_of config.now; handler = handler }) }
+        ensures err { IfErr result (λ e. e.value ≡ handler) }
+    {
+        let Ok(realm) = Vec::from_slice(alloc, config.realm()) else {
+            return Err(AllocFailed { value: handler });
+        };
+        Ok(Checker {
+            handler,
+            realm,
+            nonces: Nonces::new(*config.secret()),
+            name_bytes: config.limits().name_bytes(),
+        })
+    }
+}
+
+impl<H: AuthHandler, A: Allocator> Checker<H, A> {
+    /// The handler that the checker was made with.
+    pub fn into_handler(self) -> H
+        ensures { result ≡ self.handler }
+    {
+        let Checker { handler, .. } = self;
+        handler
+    }
+
+    /// The key of the user whom a request names, if that is a known user of the realm.
+    #[tactic(auto, unfolding(crate::specs::Credential::user_key))]
+    fn key_of(&self, user: &[u8], realm: &[u8]) -> Option<[u8; 16]>
+        ensures { result ≡ user_key self.now.policy (H.key_of self.now.handler) user.now realm.now }
+    {
+        if realm != self.realm.as_slice() {
+            return None;
+        }
+        if user.is_empty() || user.len() > usize::from(self.name_bytes) {
+            return None;
+        }
+        self.handler.key(user, realm)
+    }
+
+    /// Judges the credentials of a request from a client at a moment.
+    ///
+    /// The first line that applies counts. No MESSAGE-INTEGRITY: `Challenge401`. No USERNAME, REALM or NONCE
+    /// before it: `Bad400`. Another realm, an empty user name or one above the limit, or a user without a
+    /// key: `Challenge401`. A MESSAGE-INTEGRITY that is wrong under the user's key: `Challenge401`. A nonce
+    /// that doesn't hold for the client: `Stale438`. Else `Passed`. Of repeated attributes the first counts;
+    /// MESSAGE-INTEGRITY-SHA256 counts for nothing. Nothing is claimed of the time that it takes.
+    #[tactic(auto, unfolding(crate::specs::Credential::verdict))]
+    pub fn check<'a>(
+        &mut self,
+        message: &Message<'a>,
+        client: Endpoint,
+        moment: Moment,
+    ) -> Verdict<'a>
+        ensures value { verdict_of result ≡ verdict self.old.policy (H.key_of self.old.handler) message.now client moment }
+        ensures same { self.new ≡ self.old }
+    {
+        if message.before_integrity().is_none() {
+            return Verdict::Challenge401;
+        }
+        let seen = message.seen();
+        let (Some(user), Some(realm), Some(nonce)) = (
+            seen.value_of(AttributeType::USERNAME),
+            seen.value_of(AttributeType::REALM),
+            seen.value_of(AttributeType::NONCE),
+        ) else {
+            return Verdict::Bad400;
+        };
+        let Some(key) = self.key_of(user, realm) else {
+            return Verdict::Challenge401;
+        };
+        if !has_right_integrity(message, &key) {
+            return Verdict::Challenge401;
+        }
+        if !self.nonces.holds(nonce, client, moment) {
+            return Verdict::Stale438;
+        }
+        Verdict::Passed { user, key }
+    }
+}

@@ -1,0 +1,17 @@
+//! Long-term credentials (RFC 8489, section 9.2): users' keys, nonces, and the check of who sent a request.
+#![tactic(auto)]
+
+mod checker;
+mod handler;
+mod laws;
+mod nonce;
+mod users;
+
+pub use checker::{Checker, Verdict};
+pub use handler::AuthHandler;
+pub use laws::{holds_for_an_hour, integrity_is_decided};
+pub use nonce::Nonces;
+pub use users::Users;
+
+#[cfg(test)]
+mod tests;

@@ -1,0 +1,199 @@
+//! Requests that ask for credentials.
+
+use super::*;
+use refusing::Refusing;
+use std::alloc::Global;
+use turn_codec::{AttributeType, Builder};
+use turn_cred::Nonces;
+use turn_mac::{append_fingerprint, append_integrity, integrity_holds};
+use turn_types::{Class, Method, TxId};
+
+const ID: TxId = TxId([1, 2, 3, 4, 5, 6, 7, 8, 9, 10, 11, 12]);
+
+/// By HMAC-SHA256 of another program: the nonce of second 1000 for 192.0.2.1:32853 under a secret of 32 zero bytes.
+const NONCE: &[u8; 80] =
+    b"00000000000003e867b461aa60944ff2d53aa237b6407c1ab6779c548e297976b3bed07840569489";
+
+fn nonce_of(second: u64, client: Endpoint) -> Result<[u8; 80], Fail> {
+    Ok(Nonces::new([0; 32]).issue(client, Moment::new(second).ok_or("a moment")?))
+}
+
+/// A request of a user under a key, with the nonce, and with an attribute of the type that is given.
+fn signed(
+    alloc: Global,
+    method: Method,
+    name: &[u8],
+    key: &[u8; 16],
+    nonce: &[u8],
+    extra: Option<AttributeType>,
+) -> Result<Vec<u8>, Fail> {
+    let mut builder = Builder::new(alloc, Class::Request, method, ID)?;
+    if let Some(kind) = extra {
+        builder.push(kind, &[])?;
+    }
+    builder.push(AttributeType::USERNAME, name)?;
+    builder.push(AttributeType::REALM, REALM)?;
+    if !nonce.is_empty() {
+        builder.push(AttributeType::NONCE, nonce)?;
+    }
+    append_integrity(&mut builder, key).map_err(|_| "an integrity")?;
+    Ok(builder.finish())
+}
+
+/// The code of an error response, 0 for a success.
+fn code_of(message: &Message<'_>) -> Result<u16, Fail> {
+    match message.find(AttributeType::ERROR_CODE) {
+        Some([_, _, hundreds, rest, ..]) => Ok(u16::from(*hundreds) * 100 + u16::from(*rest)),
+        Some(_) => Err("an error code")?,
+        None => Ok(0),
+    }
+}
+
+#[test]
+fn challenges(rt: HostRuntime) -> Result<(), Fail> {
+    let allocate =
+        b"\x00\x03\x00\x00\x21\x12\xa4\x42\x01\x02\x03\x04\x05\x06\x07\x08\x09\x0a\x0b\x0c";
+    let found = reply_at(rt.alloc(), allocate, FIVE_TUPLE.client, 1000)?.ok_or("a reply")?;
+    let mut challenge = Vec::from_slice(
+        rt.alloc(),
+        b"\x01\x13\x00\x7c\x21\x12\xa4\x42\x01\x02\x03\x04\x05\x06\x07\x08\x09\x0a\x0b\x0c\
+            \x00\x09\x00\x13\x00\x00\x04\x01Unauthenticated\x00\x00\x14\x00\x0bexample.org\x00\x00\x15\x00\x50",
+    )?;
+    challenge.extend_from_slice(NONCE)?;
+    assert_eq!(rt; found.as_slice(), challenge.as_slice());
+    Ok(())
+}
+
+// A nonce of second 1000, from its second on for an hour, and from other clients.
+#[test]
+fn judges_the_nonce(rt: HostRuntime) -> Result<(), Fail> {
+    let key = key_of(b"alice", b"wonder");
+    let client = FIVE_TUPLE.client;
+    let bytes = signed(rt.alloc(), Method::REFRESH, b"alice", &key, NONCE, None)?;
+    for (ip, port, second, code) in [
+        (client.ip, client.port, 999, 438),
+        (client.ip, client.port, 1000, 437),
+        (client.ip, client.port, 4599, 437),
+        (client.ip, client.port, 4600, 438),
+        (0xC000_0202, 40000, 1000, 438),
+        (client.ip, 40000, 1000, 438),
+        (0xC000_0202, client.port, 1000, 438),
+    ] {
+        let from = Endpoint { ip, port };
+        let found = reply_at(rt.alloc(), &bytes, from, second)?.ok_or("a reply")?;
+        let message = Message::parse(&found)?;
+        assert_eq!(rt; code_of(&message)?, code, "{second} {port}");
+        let given = message.find(AttributeType::NONCE);
+        if code == 438 {
+            assert!(rt;
+                given == Some(nonce_of(second, from)?.as_slice()),
+                "{second} {port}"
+            );
+            assert!(rt; message.find(AttributeType::REALM) == Some(REALM));
+            assert!(rt; message.before_integrity().is_none());
+        } else {
+            assert!(rt; given.is_none());
+            assert!(rt; integrity_holds(&message, &key), "{second}");
+        }
+    }
+    Ok(())
+}
+
+#[test]
+fn refuses_a_wrong_password(rt: HostRuntime) -> Result<(), Fail> {
+    let wrong = key_of(b"alice", b"wonderful");
+    let bytes = signed(
+        rt.alloc(),
+        Method::CREATE_PERMISSION,
+        b"alice",
+        &wrong,
+        NONCE,
+        None,
+    )?;
+    let found = reply_at(rt.alloc(), &bytes, FIVE_TUPLE.client, 1000)?.ok_or("a reply")?;
+    let message = Message::parse(&found)?;
+    assert_eq!(rt; code_of(&message)?, 401);
+    assert!(rt; message.find(AttributeType::NONCE) == Some(NONCE.as_slice()));
+    assert!(rt; message.before_integrity().is_none());
+    Ok(())
+}
+
+#[test]
+fn refuses_a_request_without_nonce(rt: HostRuntime) -> Result<(), Fail> {
+    let key = key_of(b"alice", b"wonder");
+    let bytes = signed(rt.alloc(), Method::REFRESH, b"alice", &key, &[], None)?;
+    let found = reply_at(rt.alloc(), &bytes, FIVE_TUPLE.client, 1000)?.ok_or("a reply")?;
+    let message = Message::parse(&found)?;
+    assert_eq!(rt; code_of(&message)?, 400);
+    assert_eq!(rt; message.attributes().count(), 1);
+    Ok(())
+}
+
+// What passes is answered as where there is no allocation, under the key of the user who asked.
+#[test]
+fn answers_who_passed(rt: HostRuntime) -> Result<(), Fail> {
+    let key = key_of(b"bob", b"builder");
+    for (method, extra, code) in [
+        (Method::REFRESH, None, 437),
+        (Method::CREATE_PERMISSION, None, 437),
+        (Method::CHANNEL_BIND, None, 437),
+        (Method::CHANNEL_BIND, Some(AttributeType::new(0x001A)), 420),
+    ] {
+        let bytes = signed(rt.alloc(), method, b"bob", &key, NONCE, extra)?;
+        let found = reply_at(rt.alloc(), &bytes, FIVE_TUPLE.client, 1000)?.ok_or("a reply")?;
+        let message = Message::parse(&found)?;
+        assert_eq!(rt; code_of(&message)?, code);
+        assert!(rt; message.class() == Class::Error && message.method() == method);
+        assert!(rt; integrity_holds(&message, &key));
+    }
+    let bytes = signed(rt.alloc(), Method::ALLOCATE, b"bob", &key, NONCE, None)?;
+    assert!(rt; reply_at(rt.alloc(), &bytes, FIVE_TUPLE.client, 1000)?.is_none());
+    Ok(())
+}
+
+/// A Refresh of alice with the nonce of second 1000, a MESSAGE-INTEGRITY and a FINGERPRINT.
+fn fingerprinted(alloc: Global) -> Result<Vec<u8>, Fail> {
+    let mut builder = Builder::new(alloc, Class::Request, Method::REFRESH, ID)?;
+    builder.push(AttributeType::USERNAME, b"alice")?;
+    builder.push(AttributeType::REALM, REALM)?;
+    builder.push(AttributeType::NONCE, NONCE)?;
+    append_integrity(&mut builder, &key_of(b"alice", b"wonder")).map_err(|_| "an integrity")?;
+    append_fingerprint(&mut builder).map_err(|_| "a fingerprint")?;
+    Ok(builder.finish())
+}
+
+#[test]
+fn each_growth_refused(rt: HostRuntime) -> Result<(), Fail> {
+    let config = config(rt.alloc())?;
+    let mut checker = checker(rt.alloc(), &config)?;
+    let moment = Moment::new(1000).ok_or("a moment")?;
+    let bytes = fingerprinted(rt.alloc())?;
+    let message = Message::parse(&bytes)?;
+    let verdict = Some(checker.check(&message, FIVE_TUPLE.client, moment));
+    let request = Request {
+        message,
+        five_tuple: FIVE_TUPLE,
+        verdict,
+    };
+    for served in 0..8u64 {
+        let refusing = Refusing::new(rt.alloc(), served);
+        let outcome = decide(&refusing, &config, &request, moment);
+        if !refusing.has_refused() {
+            assert_eq!(rt; served, 1);
+            let found = outcome?.reply.ok_or("a reply")?;
+            assert!(rt;
+                Message::parse(&found)?
+                    .find(AttributeType::FINGERPRINT)
+                    .is_some()
+            );
+            return Ok(());
+        }
+        assert!(rt; outcome.is_err());
+        assert!(rt;
+            decide(&refusing, &config, &request, moment)?
+                .reply
+                .is_some()
+        );
+    }
+    Err("some growth is always refused")?
+}
