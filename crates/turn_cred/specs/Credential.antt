@@ -1,5 +1,5 @@
 -- Long-term credentials (RFC 8489, section 9.2.4, in this project's profile).
-use Rattle.std.specs.Prelude.{◌≡◌, ℕ, ◌==◌, nat_lt, not, ◌&&◌, Bool, true, false, List, [], ◌∷◌, length, Option, Some, None, is_some, is_none, unwrap_or, if◌then◌else◌}
+use Rattle.std.specs.Prelude.{ℕ, ◌==◌, nat_lt, not, ◌&&◌, Bool, false, List, [], ◌∷◌, length, Option, None, is_some, is_none, unwrap_or, if◌then◌else◌}
 use Rattle.std.specs.Str.{bytes_eq}
 use Rattle.std.specs.Option.{option_map_or}
 use Rattle.turn_types.specs.declared.address.Endpoint.{Endpoint}

@@ -1,13 +1,11 @@
 //! Nonces (RFC 8489, sections 9.2 and 14.10).
 
 ghost use Rattle.std.specs.Prelude.{◌≡◌, ◌↔◌, IsTrue, ◌<◌, ◌^◌, ℕ, List, length};
-ghost use Rattle.sha2.specs.Sha256.{sha256};
 ghost use Rattle.turn_types.specs.declared.address.Endpoint.{Endpoint as Client};
-ghost use Rattle.turn_mac.specs.Hmac.{hmac};
 ghost use Rattle.turn_cred.specs.Nonce.{nonce_input, nonce_of, Holds, is_fresh};
 
 use std::marker::Model;
-use turn_mac::hmac_sha256;
+use turn_mac::{digests_agree, hmac_sha256};
 use turn_types::{Endpoint, Moment};
 
 /// For how many seconds a nonce holds.
@@ -61,13 +59,6 @@ fn second_of(nonce: &[u8]) -> Option<u64>
     let mut second = [0; 8];
     hex::decode_to_slice(&nonce[..16], &mut second).ok()?;
     Some(u64::from_be_bytes(second))
-}
-
-/// Whether two texts with digests are equal. Nothing is claimed of the time that it takes.
-fn digests_agree(found: &[u8], expected: &[u8]) -> bool
-    ensures { IsTrue result ↔ (found.now ≡ expected.now) }
-{
-    found == expected
 }
 
 impl Nonces {

@@ -42,6 +42,14 @@ fn fingerprint_value(front: &[u8]) -> [u8; 4]
     (checksum.finalize() ^ FINGERPRINT_MASK).to_be_bytes()
 }
 
+/// Whether a digest that was received is the expected one. Every digest that depends on a secret is compared here.
+/// Nothing is claimed of the time that it takes.
+pub fn digests_agree(found: &[u8], expected: &[u8]) -> bool
+    ensures { IsTrue result ↔ (found.now ≡ expected.now) }
+{
+    found == expected
+}
+
 /// Whether the first MESSAGE-INTEGRITY of a message is right under the key (RFC 8489, section 14.5).
 ///
 /// The key is the user's long-term key, 16 bytes (section 9.2.2), or any other. The answer is no for a message
@@ -52,7 +60,7 @@ pub fn integrity_holds(message: &Message<'_>, key: &[u8]) -> bool
     let Some(found) = message.before_integrity() else {
         return false;
     };
-    found.value.len() == 20 && found.value == integrity_value(key, found.front).as_slice()
+    found.value.len() == 20 && digests_agree(found.value, &integrity_value(key, found.front))
 }
 
 /// Whether the first FINGERPRINT of a message is its last attribute and right (RFC 8489, section 14.7).

@@ -9,7 +9,9 @@ mod laws;
 
 pub use crc::crc32;
 pub use hmac::{generate_auth_key, hmac_sha1, hmac_sha256};
-pub use integrity::{append_fingerprint, append_integrity, fingerprint_holds, integrity_holds};
+pub use integrity::{
+    append_fingerprint, append_integrity, digests_agree, fingerprint_holds, integrity_holds,
+};
 pub use laws::long_division;
 
 #[cfg(test)]

@@ -1,5 +1,5 @@
-use Rattle.std.proofs.Common.{◌≡◌, ◌<◌, ◌^◌, length, take, ap, arith, sym, ◌∙◌, Some}
-use Rattle.turn_cred.specs.Nonce.{Holds, nonce_of}
+use Rattle.std.proofs.Common.{◌≡◌, ◌<◌, ◌^◌, ap, arith, sym, ◌∙◌}
+use Rattle.turn_cred.specs.Nonce.{nonce_of}
 use Rattle.turn_cred.proofs.Fresh.{fresh_is}
 use Rattle.turn_cred.proofs.nonce.Nonces.holds.Goals as goal
 use Rattle.turn_cred.proofs.nonce.Nonces.holds.Goals.{then-issued-now-via-then-issued-now, then-issued-now-via-else-issued-now+then-now-issued-ge-LIFETIME}

@@ -1,4 +1,4 @@
-use Rattle.std.proofs.Common.{◌≡◌, ap, sym, ◌∙◌}
+use Rattle.std.proofs.Common.{ap, ◌∙◌}
 use Rattle.std.specs.FinMap as map
 use Rattle.turn_cred.proofs.KeyMaps.{lookup-key_map}
 use Rattle.turn_cred.proofs.users.UsersAuthHandler.key.Goals as goal
