@@ -1,0 +1,6 @@
+pub mod Since
+pub mod Standing
+mod Pieces
+mod Replaced
+mod Recorded
+mod Crashes

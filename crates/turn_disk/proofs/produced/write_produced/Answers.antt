@@ -1,0 +1,71 @@
+use Rattle.std.proofs.Common.{rules, ◌+◌, arith, refl, ◌∙◌}
+use Rattle.std.proofs.lemmas.List.{length-take}
+use Rattle.turn_disk.proofs.Pieces.{next_given, next_is, none_so_far, more_so_far, stopped_so_far, synced_so_far, whole_so_far}
+use Rattle.turn_disk.proofs.Since.{outcome_sync}
+use Rattle.turn_disk.proofs.produced.write_produced.Goals as goal
+
+pub pieces-init : goal.pieces-init
+pieces-init g c = record {
+  size_of_piece = search rules;
+  within = omega arith;
+  rest = refl;
+  size = refl;
+  count = refl;
+  honest = ((λ h. h), (λ h. h));
+  so_far = λ honest settled. none_so_far c.args.at _ _ settled;
+}
+
+pub pieces-preserved : goal.pieces-preserved
+pieces-preserved g c =
+    let inv = c.pieces.invariant in
+    let given = next_given _ c.pieces.done c.fill_piece-count.result c.fill_piece-count.new.piece _ _ inv.within inv.rest (omega (arith, c.fill_piece-count.ensures.small, c.fill_piece-count.ensures.len)) c.fill_piece-count.ensures.gives (λ none. c.fill_piece-count.ensures.ends (omega (arith, none))) in
+    record {
+      size_of_piece = c.fill_piece-count.ensures.len;
+      within = given.within;
+      rest = given.behind;
+      size = c.write_within.ensures.size ∙ inv.size;
+      count = c.in_ok-write_within.ensures.count ∙ inv.count;
+      honest = ((λ h. inv.honest.0 (c.write_within.ensures.honest.0 h)), (λ h. c.write_within.ensures.honest.1 (inv.honest.1 h)));
+      so_far = λ honest settled.
+          more_so_far c.args.at _ _ c.pieces.done (c.pieces.done + c.fill_piece-count.result) _ _ _ (omega arith) given.within (next_is _ _ _ _ _ given) (inv.so_far honest settled) (c.in_ok-write_within.ensures.outcome (inv.honest.1 honest));
+    }
+
+pub returns-in_err-write_within-clause-stop : goal.returns-in_err-write_within-clause-stop
+returns-in_err-write_within-clause-stop g c = λ honest settled.
+    let inv = c.pieces.invariant in
+    let given = next_given _ c.pieces.done c.fill_piece-count.result c.fill_piece-count.new.piece _ _ inv.within inv.rest (omega (arith, c.fill_piece-count.ensures.small, c.fill_piece-count.ensures.len)) c.fill_piece-count.ensures.gives (λ none. c.fill_piece-count.ensures.ends (omega (arith, none))) in
+    stopped_so_far c.args.at _ _ c.pieces.done (c.pieces.done + c.fill_piece-count.result) _ _ _ (omega arith) given.within (next_is _ _ _ _ _ given) (inv.so_far honest settled) (c.in_err-write_within.ensures.outcome (inv.honest.1 honest))
+
+pub returns-in_err-sync-clause-stop : goal.returns-in_err-sync-clause-stop
+returns-in_err-sync-clause-stop g c = λ honest settled.
+    let inv = c.pieces.invariant in
+    synced_so_far c.args.at _ c.pieces.done _ _ _ (inv.so_far honest settled) (outcome_sync _ _ _ (c.sync.ensures.outcome (inv.honest.1 honest)))
+
+pub returns-then-count-eq0-clause-stop : goal.returns-then-count-eq0-clause-stop
+returns-then-count-eq0-clause-stop g c = λ honest settled.
+    let inv = c.pieces.invariant in
+    synced_so_far c.args.at _ c.pieces.done _ _ _ (inv.so_far honest settled) (outcome_sync _ _ _ (c.sync.ensures.outcome (inv.honest.1 honest)))
+
+pub returns-then-count-eq0-clause-done : goal.returns-then-count-eq0-clause-done
+returns-then-count-eq0-clause-done g c = λ honest settled.
+    let inv = c.pieces.invariant in
+    let given = next_given _ c.pieces.done c.fill_piece-count.result c.fill_piece-count.new.piece _ _ inv.within inv.rest (omega (arith, c.fill_piece-count.ensures.small, c.fill_piece-count.ensures.len)) c.fill_piece-count.ensures.gives (λ none. c.fill_piece-count.ensures.ends (omega (arith, none))) in
+    whole_so_far c.args.at _ c.pieces.done _ _ _ (given.ends c.if-count-eq0.true) (inv.so_far honest settled) (c.in_ok-sync.ensures.outcome (inv.honest.1 honest))
+
+pub write_within-requires : goal.write_within-requires
+write_within-requires g c =
+    let inv = c.pieces.invariant in
+    let given = next_given _ c.pieces.done c.fill_piece-count.result c.fill_piece-count.new.piece _ _ inv.within inv.rest (omega (arith, c.fill_piece-count.ensures.small, c.fill_piece-count.ensures.len)) c.fill_piece-count.ensures.gives (λ none. c.fill_piece-count.ensures.ends (omega (arith, none))) in
+    omega (arith, given.within, c.requires.place, inv.size, given.small, length-take c.fill_piece-count.result c.fill_piece-count.new.piece)
+
+pub overflow_add-done : goal.overflow_add-done
+overflow_add-done g c =
+    let inv = c.pieces.invariant in
+    let given = next_given _ c.pieces.done c.fill_piece-count.result c.fill_piece-count.new.piece _ _ inv.within inv.rest (omega (arith, c.fill_piece-count.ensures.small, c.fill_piece-count.ensures.len)) c.fill_piece-count.ensures.gives (λ none. c.fill_piece-count.ensures.ends (omega (arith, none))) in
+    omega (arith, given.within, c.requires.addressable)
+
+pub pieces-smaller : goal.pieces-smaller
+pieces-smaller g c =
+    let inv = c.pieces.invariant in
+    let given = next_given _ c.pieces.done c.fill_piece-count.result c.fill_piece-count.new.piece _ _ inv.within inv.rest (omega (arith, c.fill_piece-count.ensures.small, c.fill_piece-count.ensures.len)) c.fill_piece-count.ensures.gives (λ none. c.fill_piece-count.ensures.ends (omega (arith, none))) in
+    omega (arith, given.within, c.if-count-eq0.false, inv.within)

@@ -1,0 +1,6 @@
+pub mod Disk
+pub mod Counts
+pub mod Crash
+pub mod Laws
+pub mod Record
+pub mod Views

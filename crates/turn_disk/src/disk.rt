@@ -1,0 +1,60 @@
+//! A disk of fixed size. What a stop may leave of an honest one is a part of its trace.
+
+ghost use Rattle.std.specs.Prelude.{◌≡◌, ◌+◌, ◌≤◌, ◌↔◌, ℕ, length, take, drop, OnOk};
+ghost use Rattle.turn_disk.specs.Counts.{CountOutcome};
+ghost use Rattle.turn_disk.specs.Disk.{Trace, WriteOutcome, SyncOutcome};
+
+/// A device call that failed.
+#[derive(Clone, Copy, Debug, PartialEq, Eq)]
+pub struct DeviceFailed;
+
+/// A disk of fixed size. Positions are counted in bytes from its first one.
+///
+/// `read_at`, `write_at` and `sync` are its device calls; `size` and `failures` are none.
+pub trait Disk {
+    /// How many bytes it has.
+    ghost capacity: { Self → ℕ };
+
+    /// How many device calls have failed, modulo 2^64.
+    ghost failed: { Self → ℕ };
+
+    /// That it keeps what was synced: the clauses that begin with this hold of such a disk alone.
+    ghost is_honest: { Self → Type 0 };
+
+    /// What a read gives, and what a stop may leave, now and inside each device call so far.
+    ghost trace: { Self → Trace };
+
+    fn size(&self) -> usize
+        ensures { result ≡ capacity self.now };
+
+    /// How many device calls have failed, modulo 2^64.
+    fn failures(&self) -> u64
+        ensures { result ≡ failed self.now };
+
+    /// Fills the buffer with what stands from this position on. After a failure the buffer may hold anything.
+    fn read_at(&mut self, at: usize, buffer: &mut [u8]) -> Result<(), DeviceFailed>
+        requires { at + length buffer.old ≤ capacity self.old }
+        ensures size { capacity self.new ≡ capacity self.old }
+        ensures count { CountOutcome (failed self.old) (failed self.new) result }
+        ensures honest { is_honest self.new ↔ is_honest self.old }
+        ensures same { is_honest self.old → trace self.new ≡ trace self.old }
+        ensures bytes { is_honest self.old
+            → OnOk result (buffer.new ≡ take (length buffer.old) (drop at (trace self.old).now.bytes)) };
+
+    /// Writes these bytes from this position on; they are pending until the next sync.
+    fn write_at(&mut self, at: usize, bytes: &[u8]) -> Result<(), DeviceFailed>
+        requires { at + length bytes.now ≤ capacity self.old }
+        ensures size { capacity self.new ≡ capacity self.old }
+        ensures count { CountOutcome (failed self.old) (failed self.new) result }
+        ensures honest { is_honest self.new ↔ is_honest self.old }
+        ensures outcome { is_honest self.old → WriteOutcome at bytes.now (trace self.old) (trace self.new) result };
+
+    /// Makes all that is pending last.
+    fn sync(&mut self) -> Result<(), DeviceFailed>
+        ensures size { capacity self.new ≡ capacity self.old }
+        ensures count { CountOutcome (failed self.old) (failed self.new) result }
+        ensures honest { is_honest self.new ↔ is_honest self.old }
+        ensures outcome { is_honest self.old → SyncOutcome (trace self.old) (trace self.new) result };
+
+    ghost sized: { (disk : Self) → is_honest disk → length (trace disk).now.bytes ≡ capacity disk };
+}

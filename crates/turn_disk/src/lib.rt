@@ -1,0 +1,30 @@
+//! Disks of fixed size, and what a stop may leave of them.
+//!
+//! An honest disk keeps what was synced; of what was written since, a stop may leave anything. `MemoryDisk` is honest,
+//! and `write_through` and `write_produced` carry what follows for a write and a sync together, so that the layers
+//! above speak of bytes alone.
+#![tactic(auto)]
+
+mod call;
+mod disk;
+mod failures;
+mod faults;
+mod file;
+mod laws;
+mod memory;
+mod memory_disk;
+mod outcome;
+mod produced;
+mod reads;
+#[cfg(test)]
+mod tests;
+mod writes;
+
+pub use disk::{DeviceFailed, Disk};
+pub use file::FileDisk;
+pub use laws::{a_risen_count_differs, a_settled_disk_has_one_image};
+pub use memory_disk::MemoryDisk;
+pub use outcome::Outcome;
+pub use produced::{Bytes, Chain, PIECE, Producer, write_produced};
+pub use reads::read_array;
+pub use writes::write_through;

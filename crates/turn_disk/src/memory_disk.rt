@@ -1,0 +1,133 @@
+//! A disk in memory, which is honest, and which a test stops and crashes.
+
+ghost use Rattle.std.specs.Prelude.{◌≡◌, ◌<◌, [], length};
+ghost use Rattle.turn_disk.specs.Crash.{left_by};
+ghost use Rattle.turn_disk.specs.Disk.{IsImage};
+
+use crate::disk::{DeviceFailed, Disk};
+use crate::failures::raise;
+use crate::faults::Faults;
+use crate::memory::Memory;
+use crate::outcome::Outcome;
+use std::alloc::{Allocator, Global};
+use std::marker::Model;
+
+/// A disk in memory.
+///
+/// It records its writes and syncs. A call whose record finds no room fails and changes nothing. A write that fails by
+/// `fail_call` or `stop_at` leaves all the bytes that it was to write, pending, and reads give them at once.
+#[derive(Drop)]
+pub struct MemoryDisk<A: Allocator = Global> {
+    memory: Memory<A>,
+    faults: Faults,
+    failures: u64,
+}
+
+impl<A: Allocator> Model for MemoryDisk<A> {
+    ghost use Rattle.turn_disk.specs.Views.{InMemory};
+
+    ghost Value = { InMemory };
+
+    ghost view = { λ d. record { trace = d.memory; failures = d.failures } };
+}
+
+impl<A: Allocator + Copy> MemoryDisk<A> {
+    /// A disk with this content, nothing of which is pending.
+    pub fn new(alloc: A, content: Vec<u8, A>) -> MemoryDisk<A>
+        ensures trace { result.trace ≡ record { now = record { bytes = content.items; pending = [] }; past = [] } }
+        ensures failures { result.failures ≡ 0 }
+    {
+        MemoryDisk {
+            memory: Memory::new(alloc, content),
+            faults: Faults::none(),
+            failures: 0,
+        }
+    }
+}
+
+impl<A: Allocator> MemoryDisk<A> {
+    /// The device call of this number from here on fails, where 1 is the next one. It takes the place of an earlier
+    /// `fail_call` whose call is still to come.
+    pub fn fail_call(&self, call: u64)
+        requires { 0 < call }
+    {
+        self.faults.fail_after(call - 1);
+    }
+
+    /// The device call of this number from here on fails, where 1 is the next one, and so does each later one until
+    /// the next crash. It moves a stop that is still to come only nearer.
+    pub fn stop_at(&self, call: u64)
+        requires { 0 < call }
+    {
+        self.faults.stop_after(call - 1);
+    }
+
+    /// The disk becomes the image that the outcome names, nothing is pending, and no call is to fail any longer.
+    pub fn crash(&mut self, outcome: Outcome)
+        ensures left { self.new.trace.now ≡ record { bytes = left_by outcome self.old.trace; pending = [] } }
+        ensures image { IsImage self.old.trace.now self.new.trace.now.bytes }
+        ensures past { self.new.trace.past ≡ [] }
+        ensures failures { self.new.failures ≡ self.old.failures }
+    {
+        self.faults.forget();
+        self.memory.crash(outcome);
+    }
+
+    /// What reads give.
+    pub fn content(&self) -> &[u8]
+        ensures { result.now ≡ self.now.trace.now.bytes }
+    {
+        self.memory.bytes()
+    }
+}
+
+impl<A: Allocator> Disk for MemoryDisk<A> {
+    ghost use Rattle.std.specs.Prelude.{length, refl};
+
+    ghost capacity = { λ disk. length disk.trace.now.bytes };
+
+    ghost failed = { λ disk. disk.failures };
+
+    ghost is_honest = { λ _. Unit {0} };
+
+    ghost trace = { λ disk. disk.trace };
+
+    ghost sized = { λ disk honest. refl };
+
+    fn size(&self) -> usize {
+        self.memory.bytes().len()
+    }
+
+    fn failures(&self) -> u64 {
+        self.failures
+    }
+
+    fn read_at(&mut self, at: usize, buffer: &mut [u8]) -> Result<(), DeviceFailed> {
+        if self.faults.strikes() {
+            return Err(raise(&mut self.failures));
+        }
+        self.memory.read(at, buffer);
+        Ok(())
+    }
+
+    fn write_at(&mut self, at: usize, bytes: &[u8]) -> Result<(), DeviceFailed> {
+        let fails = self.faults.strikes();
+        let Ok(()) = self.memory.write(at, bytes) else {
+            return Err(raise(&mut self.failures));
+        };
+        if fails {
+            return Err(raise(&mut self.failures));
+        }
+        Ok(())
+    }
+
+    fn sync(&mut self) -> Result<(), DeviceFailed> {
+        if self.faults.strikes() {
+            return Err(raise(&mut self.failures));
+        }
+        let Ok(()) = self.memory.sync() else {
+            return Err(raise(&mut self.failures));
+        };
+        Ok(())
+    }
+}

@@ -1,0 +1,143 @@
+//! A write of bytes that are made piece by piece.
+
+ghost use Rattle.std.specs.Prelude.{◌-◌, ◌≡◌, ◌++◌, [], ◌+◌, ◌^◌, ◌<◌, ◌≤◌, ◌↔◌, ℕ, List, length, take, drop, OnOk};
+ghost use Rattle.turn_disk.specs.Counts.{CountOutcome};
+ghost use Rattle.turn_disk.specs.Disk.{ChangesOnly, EachImageSince, IsSettled, WritesThrough};
+
+use crate::disk::{DeviceFailed, Disk};
+use crate::writes::write_within;
+use std::marker::Model;
+
+/// The greatest number of bytes of a device call of `write_produced`.
+pub const PIECE: usize = 4096;
+
+/// What gives bytes, a piece at a time.
+pub trait Producer {
+    /// The bytes that it is still to give.
+    ghost rest: { Self → List ℕ };
+
+    /// Puts the next bytes to the front of the piece, and says how many; none only at the end.
+    fn next(&mut self, piece: &mut [u8]) -> usize
+        ensures small { result ≤ length piece.old }
+        ensures len { length piece.new ≡ length piece.old }
+        ensures gives { rest self.old ≡ take result piece.new ++ rest self.new }
+        ensures ends { result ≡ 0 → 0 < length piece.old → rest self.new ≡ [] };
+}
+
+/// Gives the bytes of a slice.
+#[derive(Drop)]
+pub struct Bytes<'a> {
+    rest: &'a [u8],
+}
+
+impl<'a> Model for Bytes<'a> {
+    ghost Value = { List ℕ };
+
+    ghost view = { λ b. b.rest.now };
+}
+
+impl<'a> Bytes<'a> {
+    pub fn new(bytes: &'a [u8]) -> Bytes<'a>
+        ensures { result ≡ bytes.now }
+    {
+        Bytes { rest: bytes }
+    }
+}
+
+impl<'a> Producer for Bytes<'a> {
+    ghost rest = { λ bytes. bytes };
+
+    fn next(&mut self, piece: &mut [u8]) -> usize {
+        let rest = self.rest;
+        let size = piece.len().min(rest.len());
+        piece[..size].copy_from_slice(&rest[..size]);
+        self.rest = &rest[size..];
+        size
+    }
+}
+
+/// Gives what one gives and then what the other gives.
+#[derive(Drop)]
+pub struct Chain<A: Producer, B: Producer> {
+    pub first: A,
+    pub second: B,
+}
+
+impl<A: Producer, B: Producer> Producer for Chain<A, B> {
+    ghost rest = { λ c. A.rest c.first ++ B.rest c.second };
+
+    fn next(&mut self, piece: &mut [u8]) -> usize {
+        if piece.is_empty() {
+            return 0;
+        }
+        let size = self.first.next(piece);
+        if size > 0 {
+            return size;
+        }
+        self.second.next(piece)
+    }
+}
+
+// Fills a piece as far as the producer gives.
+fn fill_piece<P: Producer>(producer: &mut P, piece: &mut [u8; PIECE]) -> usize
+    ensures small { result ≤ 4096 }
+    ensures len { length piece.new ≡ 4096 }
+    ensures gives { P.rest producer.old ≡ take result piece.new ++ P.rest producer.new }
+    ensures ends { result < 4096 → P.rest producer.new ≡ [] }
+{
+    let mut size = 0;
+    'parts: loop {
+        if size == PIECE {
+            return size;
+        }
+        let given = give(producer, piece, size);
+        if given == 0 {
+            return size;
+        }
+        size += given;
+    }
+}
+
+// Lets the producer give behind what the piece has.
+fn give<P: Producer>(producer: &mut P, piece: &mut [u8; PIECE], size: usize) -> usize
+    requires { size < 4096 }
+    ensures small { result ≤ 4096 - size }
+    ensures len { length piece.new ≡ 4096 }
+    ensures gives { take size piece.old ++ P.rest producer.old ≡ take (size + result) piece.new ++ P.rest producer.new }
+    ensures ends { result ≡ 0 → P.rest producer.new ≡ [] }
+{
+    producer.next(&mut piece[size..])
+}
+
+/// Writes all that the producer gives, in pieces of at most 4,096 bytes, and then syncs.
+pub fn write_produced<D: Disk, P: Producer>(
+    disk: &mut D,
+    at: usize,
+    producer: &mut P,
+) -> Result<(), DeviceFailed>
+    requires place { at + length (P.rest producer.old) ≤ D.capacity disk.old }
+    requires addressable { at + length (P.rest producer.old) < 2 ^ 64 }
+    ensures size { D.capacity disk.new ≡ D.capacity disk.old }
+    ensures count { CountOutcome (D.failed disk.old) (D.failed disk.new) result }
+    ensures honest { D.is_honest disk.new ↔ D.is_honest disk.old }
+
+    // A stop at any moment changes nothing outside the range.
+    ensures stop { D.is_honest disk.old → IsSettled (D.trace disk.old).now
+        → EachImageSince (D.trace disk.old) (D.trace disk.new)
+        (ChangesOnly at (length (P.rest producer.old)) (D.trace disk.old).now.bytes) }
+
+    ensures done { D.is_honest disk.old → IsSettled (D.trace disk.old).now
+        → OnOk result (WritesThrough at (P.rest producer.old) (D.trace disk.old).now (D.trace disk.new).now) }
+{
+    let mut piece = [0u8; PIECE];
+    let mut done = 0;
+    'pieces: loop {
+        let count = fill_piece(producer, &mut piece);
+        if count == 0 {
+            disk.sync()?;
+            return Ok(());
+        }
+        write_within(disk, at + done, &piece[..count])?;
+        done += count;
+    }
+}

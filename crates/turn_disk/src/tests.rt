@@ -1,0 +1,5 @@
+mod crashes;
+mod faults;
+mod files;
+mod pieces;
+mod refusals;

@@ -1,0 +1,14 @@
+-- Laws of the definitions.
+use Rattle.std.specs.Prelude.{◌≡◌, ℕ, List}
+use Rattle.turn_journal.specs.Frames.{HoldsFrames}
+use Rattle.turn_journal.specs.Scan.{IsFound, IsBadFrame}
+use Rattle.turn_journal.specs.declared.found.Found.{Found}
+
+-- whoever reads the frames of an area reads what was written
+abbrev pub AnAreaHoldsOneLog : Type 0
+AnAreaHoldsOneLog = (from limit : ℕ) (payloads others : List (List ℕ)) (content : List ℕ)
+    → HoldsFrames from payloads limit content → HoldsFrames from others limit content → payloads ≡ others
+
+abbrev pub WhatIsFoundIsNotBad : Type 0
+WhatIsFoundIsNotBad = (gate limit greatest : ℕ) (content : List ℕ) (found : Found)
+    → IsFound gate limit greatest content found → IsBadFrame gate limit greatest content → ⊥

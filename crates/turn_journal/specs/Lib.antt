@@ -1,0 +1,4 @@
+pub mod Area
+pub mod Frames
+pub mod Laws
+pub mod Scan

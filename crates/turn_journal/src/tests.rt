@@ -1,0 +1,4 @@
+mod area;
+mod gates;
+mod memory;
+mod stops;
