@@ -77,6 +77,36 @@ fn moments_and_methods(rt: HostRuntime) -> Result<(), Fail> {
     Ok(())
 }
 
+// A name and a list of addresses give back the vector that they were made of.
+#[test]
+fn acts(rt: HostRuntime) -> Result<(), Fail> {
+    let user = Vec::from_slice(rt.alloc(), b"alice").map_err(|_| "memory")?;
+    let addresses = Vec::from_slice(rt.alloc(), &[0xCB00_7105, 0xCB00_7109]).map_err(|_| "memory")?;
+    let alloc = Act::Alloc {
+        user: UserName::from(user),
+        port: 50000,
+        granted: 600,
+        tx: TxId([9; 12]),
+    };
+    let permit = Act::Permit {
+        addresses: Addresses::from(addresses),
+    };
+    for act in [alloc, permit] {
+        match act {
+            Act::Alloc { user, .. } => {
+                assert_eq!(rt; user.as_slice(), b"alice".as_slice());
+                assert_eq!(rt; user.into_vec().as_slice(), b"alice".as_slice());
+            }
+            Act::Permit { addresses } => {
+                assert_eq!(rt; addresses.as_slice(), [0xCB00_7105, 0xCB00_7109].as_slice());
+                assert_eq!(rt; addresses.into_vec().len(), 2);
+            }
+            Act::Renew { .. } | Act::Bind { .. } => Err("another act")?,
+        }
+    }
+    Ok(())
+}
+
 #[test]
 fn limits(rt: HostRuntime) -> Result<(), Fail> {
     let greatest = Limits::new(1024, 32, 32, 64, 508).ok_or("limits")?;

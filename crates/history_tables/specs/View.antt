@@ -1,0 +1,31 @@
+-- What clauses see of the code's events, entries and tables.
+use Rattle.std.specs.Prelude.{map}
+use Rattle.std.specs.BTreeMap.{BTreeMap}
+use Rattle.std.specs.FinMap as fin
+use Rattle.turn_types.specs.Act.{act_of}
+use Rattle.turn_types.specs.History as history
+use Rattle.turn_types.specs.Table as tables
+use Rattle.turn_types.specs.declared.address.FiveTuple.{FiveTuple}
+use Rattle.history_tables.specs.declared.Event.{Event}
+use Rattle.history_tables.specs.declared.Entry.{Entry}
+
+abbrev pub event_of : {A : Type 0} → Event A → history.Event
+event_of e = record { moment = e.moment; tuple = e.tuple; act = act_of e.act }
+
+abbrev pub entry_of : {A : Type 0} → Entry A → tables.Entry
+entry_of e =
+    record {
+      user = e.user;
+      port = e.port;
+      granted = e.granted;
+      tx = e.tx;
+      expiry = e.expiry;
+      permissions = fin.from_entries e.permissions.entries;
+      channels = fin.from_entries e.channels.entries;
+    }
+
+abbrev pub pair_of : {A : Type 0} → FiveTuple × Entry A → FiveTuple × tables.Entry
+pair_of p = (p.0, entry_of p.1)
+
+abbrev pub contents_of : {A : Type 0} → BTreeMap FiveTuple (Entry A) → tables.Contents
+contents_of m = record { entries = fin.from_entries (map pair_of m.entries) }

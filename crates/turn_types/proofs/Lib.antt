@@ -1,0 +1,13 @@
+pub mod Channels
+pub mod Greatest
+pub mod Histories
+pub mod Live
+pub mod Maps
+pub mod Permissions
+pub mod Places
+pub mod Ranges
+pub mod Reading
+pub mod Rows
+pub mod Sizes
+pub mod Steady
+pub mod Steps
