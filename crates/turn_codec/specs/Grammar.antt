@@ -15,14 +15,15 @@ pub record Content : Type 0 where
   pub tx : List ℕ
   pub attributes : List Attribute
 
--- the two bits C1 C0
+-- the two bits of the class
 abbrev pub class_number : Class → ℕ
 class_number Request = 0
 class_number Indication = 1
 class_number Success = 2
 class_number Error = 3
 
--- the bits M11..M7 C1 M6..M4 C0 M3..M0, the highest first
+-- the method's five highest bits, the class's higher bit, three bits of the method, the class's lower bit, and the
+-- method's four lowest bits (RFC 8489, section 5, figure 3)
 abbrev pub type_number : Class → ℕ → ℕ
 type_number class method =
     method / 128 * 512 + class_number class / 2 * 256 + method / 16 % 8 * 32 + class_number class % 2 * 16 + method % 16

@@ -248,3 +248,43 @@ fn takes_memory_once(rt: HostRuntime) -> Result<(), Fail> {
     assert_eq!(rt; builder.finish().len(), 52);
     Ok(())
 }
+
+#[test]
+fn reads_channel_data(rt: HostRuntime) {
+    for (bytes, number, payload) in [
+        (b"\x40\x00\x00\x03abc".as_slice(), 0x4000, b"abc".as_slice()),
+        (
+            b"\x40\x00\x00\x03abc\x00".as_slice(),
+            0x4000,
+            b"abc".as_slice(),
+        ),
+        (b"\x7f\xff\x00\x00".as_slice(), 0x7FFF, b"".as_slice()),
+    ] {
+        let read = ChannelData::parse(bytes);
+        assert!(rt;
+            matches!(read, Some(found) if found.number == number && found.payload == payload)
+        );
+    }
+    for bytes in [
+        b"".as_slice(),
+        b"\x40\x00\x00".as_slice(),
+        b"\x40\x00\x00\x04abc".as_slice(),
+        b"\x3f\xff\x00\x00".as_slice(),
+        b"\x80\x00\x00\x00".as_slice(),
+    ] {
+        assert!(rt; ChannelData::parse(bytes).is_none());
+    }
+}
+
+#[test]
+fn writes_channel_data(rt: HostRuntime) -> Result<(), Fail> {
+    let data = ChannelData {
+        number: 0x4000,
+        payload: b"abc",
+    };
+    let refusing = Refusing::new(rt.alloc(), 0);
+    assert!(rt; data.write(&refusing).is_err());
+    let written = data.write(&refusing)?;
+    assert_eq!(rt; written.as_slice(), b"\x40\x00\x00\x03abc".as_slice());
+    Ok(())
+}

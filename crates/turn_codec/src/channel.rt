@@ -1,0 +1,56 @@
+//! ChannelData (RFC 8656, section 12.4).
+
+ghost use Rattle.std.specs.Prelude.{◌≡◌, ◌<◌, ◌^◌, ℕ, List, IsSomeAnd, length, IfSome, IfOk};
+ghost use Rattle.turn_codec.specs.Channel.{IsChannel, channel_spelling, SpellsChannelData};
+
+use std::alloc::{AllocError, Allocator};
+
+/// Data on a channel. The payload is a slice of the datagram that it was read from.
+#[derive(Clone, Copy, Debug)]
+pub struct ChannelData<'a> {
+    pub number: u16,
+    pub payload: &'a [u8],
+}
+
+impl<'a> ChannelData<'a> {
+    /// The channel data that a datagram begins with. Bytes behind the payload are ignored.
+    ///
+    /// `None` where the datagram has fewer than 4 bytes, its first two bits aren't 01, or the length passes
+    /// its end.
+    pub fn parse(bytes: &'a [u8]) -> Option<ChannelData<'a>>
+        // What is read stands there.
+        ensures found { IfSome result (λ d. SpellsChannelData bytes.now d.number d.payload.now) }
+        // What stands there is read.
+        ensures only { (number : ℕ) (payload : List ℕ) → SpellsChannelData bytes.now number payload →
+            IsSomeAnd result (λ d. (d.number ≡ number) × (d.payload.now ≡ payload)) }
+    {
+        match bytes {
+            [k, l, m, n, rest @ ..] => {
+                let number = u16::from_be_bytes([*k, *l]);
+                let size = u16::from_be_bytes([*m, *n]) as usize;
+                if number < 0x4000 || 0x8000 <= number || rest.len() < size {
+                    return None;
+                }
+                Some(ChannelData {
+                    number,
+                    payload: &rest[..size],
+                })
+            }
+            _ => None,
+        }
+    }
+
+    /// The datagram, with no byte behind the payload.
+    pub fn write<A: Allocator>(&self, alloc: A) -> Result<Vec<u8, A>, AllocError>
+        requires number { IsChannel self.now.number }
+        requires size { length self.now.payload.now < 2 ^ 16 }
+        ensures { IfOk result (λ v. v.items ≡ channel_spelling self.now.number self.now.payload.now) }
+    {
+        let size = self.payload.len();
+        let mut bytes = Vec::with_capacity(alloc, 4 + size)?;
+        bytes.extend_from_slice(&self.number.to_be_bytes())?;
+        bytes.extend_from_slice(&(size as u16).to_be_bytes())?;
+        bytes.extend_from_slice(self.payload)?;
+        Ok(bytes)
+    }
+}
