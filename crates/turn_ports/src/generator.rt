@@ -1,0 +1,46 @@
+//! What a server asks of that which gives out its relay ports.
+
+ghost use Rattle.std.specs.Prelude.{◌≡◌, ◌⊎◌, ℕ, Bool, IfOk, Ok, None};
+ghost use Rattle.turn_ports.specs.Ports.{Failed, MayPick, has_failed};
+
+use std::alloc::AllocError;
+
+/// A set of ports, such as those of the live allocations.
+pub trait PortSet {
+    ghost has: { Self → ℕ → Bool };
+
+    fn has(&self, port: u16) -> bool
+        ensures { result ≡ has self.now port };
+}
+
+/// A generator of relayed addresses: of a fixed address, the UDP ports from a first to a last, both included.
+///
+/// A generator may hold something for each port that it gave out, as a bound socket, so a port that was picked is
+/// to be released once no allocation has it.
+pub trait RelayAddressGenerator {
+    ghost range: { Self → ℕ × ℕ };
+
+    ghost failures: { Self → ℕ };
+
+    /// The first and the last port.
+    fn range(&self) -> (u16, u16)
+        ensures { result ≡ range self.now };
+
+    /// A port of the range that isn't taken, and an even one where `even` asks for it (EVEN-PORT: RFC 8656,
+    /// section 7.2). None where there is no such port, or where the generator failed, as by a port that can't be
+    /// bound: a server answers 508 to both. Refused for want of memory alone.
+    fn pick<S: PortSet>(&mut self, taken: &S, even: bool) -> Result<Option<u16>, AllocError>
+        ensures answer { IfOk result (MayPick (range self.old) (S.has taken.now) even (has_failed (failures self.old) (failures self.new))) }
+        // The generator fails only where it answers none.
+        ensures count { (failures self.new ≡ failures self.old) ⊎ ((result ≡ Ok None) × Failed (failures self.old) (failures self.new)) }
+        ensures range { range self.new ≡ range self.old };
+
+    /// Gives a port back. Nothing happens where the port wasn't given out.
+    fn release(&mut self, port: u16)
+        ensures range { range self.new ≡ range self.old }
+        ensures count { failures self.new ≡ failures self.old };
+
+    /// How many calls of `pick` failed, modulo 2^64.
+    fn failures(&self) -> u64
+        ensures { result ≡ failures self.now };
+}

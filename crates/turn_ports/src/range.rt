@@ -1,0 +1,78 @@
+//! The ports of a range, the least first.
+
+ghost use Rattle.std.specs.Prelude.{◌≡◌, ◌≤◌, IsOkAnd, SomeIff};
+ghost use Rattle.turn_ports.specs.Ports.{IsLeastFree};
+
+use crate::generator::{PortSet, RelayAddressGenerator};
+use std::alloc::AllocError;
+use std::marker::Model;
+
+/// A generator that gives the least free port of its range. It holds nothing for a port, and never fails.
+#[derive(Clone, Copy, Debug, PartialEq, Eq)]
+pub struct PortRange {
+    first: u16,
+    last: u16,
+}
+
+impl Model for PortRange {
+    ghost use Rattle.std.specs.Prelude.{ℕ, ◌≤◌};
+
+    ghost Value = { ℕ × ℕ };
+
+    ghost view = { λ r. (r.first, r.last) };
+
+    ghost invariant = { λ r. r.first ≤ r.last };
+
+    ghost inverse = { λ r. record { first = r.0; last = r.1 } };
+}
+
+impl PortRange {
+    /// The ports from a first to a last, both included. None where the first is above the last.
+    pub fn new(first: u16, last: u16) -> Option<PortRange>
+        ensures { SomeIff result (first ≤ last) (first, last) }
+    {
+        if first <= last {
+            Some(PortRange { first, last })
+        } else {
+            None
+        }
+    }
+}
+
+impl RelayAddressGenerator for PortRange {
+    ghost range = { λ r. r };
+
+    ghost failures = { λ _. 0 };
+
+    fn range(&self) -> (u16, u16)
+        ensures value { result ≡ self.now }
+        ensures ordered { result.0 ≤ result.1 }
+    {
+        (self.first, self.last)
+    }
+
+    /// The least free port, and none only where there is none. Takes no memory.
+    fn pick<S: PortSet>(&mut self, taken: &S, even: bool) -> Result<Option<u16>, AllocError>
+        ensures least { IsOkAnd result (IsLeastFree self.old (S.has taken.now) even) }
+        ensures unchanged { self.new ≡ self.old }
+    {
+        for port in self.first..=self.last {
+            if !taken.has(port) && (!even || port % 2 == 0) {
+                return Ok(Some(port));
+            }
+        }
+        Ok(None)
+    }
+
+    fn release(&mut self, _port: u16)
+        ensures unchanged { self.new ≡ self.old }
+    {
+        // Nothing is held for a port.
+    }
+
+    fn failures(&self) -> u64
+        ensures { result ≡ 0 }
+    {
+        0
+    }
+}
