@@ -1,7 +1,7 @@
 use super::*;
 use std::alloc::Allocator;
 use std::test::Fail;
-use turn_codec::Message;
+use turn_codec::{AttributeType, Message};
 use turn_cred::{Checker, Users};
 use turn_mac::generate_auth_key;
 use turn_types::{Endpoint, FiveTuple, Limits, Moment, ServerConfig};
@@ -73,4 +73,13 @@ fn reply_at<A: Allocator + Copy>(
 /// The reply to a datagram from 192.0.2.1:32853 at second 0.
 fn reply<A: Allocator + Copy>(alloc: A, bytes: &[u8]) -> Result<Option<Vec<u8, A>>, Fail> {
     reply_at(alloc, bytes, FIVE_TUPLE.client, 0)
+}
+
+/// The code of an error response, 0 for a success.
+fn code_of(message: &Message<'_>) -> Result<u16, Fail> {
+    match message.find(AttributeType::ERROR_CODE) {
+        Some([_, _, hundreds, rest, ..]) => Ok(u16::from(*hundreds) * 100 + u16::from(*rest)),
+        Some(_) => Err("an error code")?,
+        None => Ok(0),
+    }
 }

@@ -1,7 +1,7 @@
 //! Binding requests, and what is dropped.
 
 use super::*;
-use turn_codec::{AttributeType, Builder};
+use turn_codec::Builder;
 use turn_types::{Class, Method, TxId};
 
 const BINDING: &[u8] =
@@ -66,8 +66,8 @@ fn answers_a_fingerprint_with_one(rt: HostRuntime) -> Result<(), Fail> {
     Ok(())
 }
 
-/// The class of the reply and whether it has a FINGERPRINT, or `None` where nothing is answered.
-fn kind_of_reply(rt: &HostRuntime, bytes: &[u8]) -> Result<Option<(Class, bool)>, Fail> {
+/// The error code of the reply, 0 for a success, and whether it has a FINGERPRINT, or `None` where nothing is answered.
+fn kind_of_reply(rt: &HostRuntime, bytes: &[u8]) -> Result<Option<(u16, bool)>, Fail> {
     if Message::parse(bytes).is_err() {
         return Ok(None);
     }
@@ -76,7 +76,7 @@ fn kind_of_reply(rt: &HostRuntime, bytes: &[u8]) -> Result<Option<(Class, bool)>
     };
     let message = Message::parse(&found)?;
     Ok(Some((
-        message.class(),
+        code_of(&message)?,
         message.find(AttributeType::FINGERPRINT).is_some(),
     )))
 }
@@ -90,8 +90,8 @@ fn drops_flipped_bits(rt: HostRuntime) -> Result<(), Fail> {
             let mut bytes = FINGERPRINTED;
             bytes[place] ^= 1 << bit;
             let want = match (place, bit) {
-                (20, 7) => Some((Class::Error, false)),
-                (20 | 21, _) => Some((Class::Success, false)),
+                (20, 7) => Some((420, false)),
+                (20 | 21, _) => Some((0, false)),
                 _ => None,
             };
             assert!(rt; kind_of_reply(&rt, &bytes)? == want, "{place} {bit}");
