@@ -1,7 +1,8 @@
 //! The types of attributes.
 
-ghost use Rattle.std.specs.Prelude.{◌≡◌, ◌<◌, ◌^◌, ℕ};
-ghost use Rattle.turn_codec.specs.AttributeTypes.{is_unknown};
+ghost use Rattle.std.specs.Prelude.{◌≡◌, ◌==◌, ◌<◌, ◌^◌, ℕ};
+ghost use Rattle.std.specs.List.{list_any};
+ghost use Rattle.turn_codec.specs.AttributeTypes.{is_unknown, known_types};
 
 use std::marker::Model;
 
@@ -22,6 +23,7 @@ impl Model for AttributeType {
 }
 
 impl AttributeType {
+    // The types that this server knows, by their names in the standards.
     pub const MAPPED_ADDRESS: AttributeType = AttributeType { number: 0x0001 };
 
     pub const USERNAME: AttributeType = AttributeType { number: 0x0006 };
@@ -67,7 +69,7 @@ impl AttributeType {
         AttributeType { number }
     }
 
-    /// The number of a type.
+    /// The number of the type.
     pub fn number(self) -> u16
         ensures value { result ≡ self }
         ensures range { self < 2 ^ 16 }
@@ -81,26 +83,33 @@ impl AttributeType {
         ensures { result ≡ is_unknown self }
     {
         let number = self.number;
-        let known = matches!(
-            number,
-            0x0001
-                | 0x0006
-                | 0x0008
-                | 0x0009
-                | 0x000A
-                | 0x000C
-                | 0x000D
-                | 0x0012
-                | 0x0013
-                | 0x0014
-                | 0x0015
-                | 0x0016
-                | 0x0017
-                | 0x0018
-                | 0x0019
-                | 0x0020
-                | 0x0022
-        );
-        number < 0x8000 && !known
+        number < 0x8000 && !is_known(self)
     }
+}
+
+/// The types below 0x8000 that this server knows.
+const KNOWN: [AttributeType; 17] = [
+    AttributeType::MAPPED_ADDRESS,
+    AttributeType::USERNAME,
+    AttributeType::MESSAGE_INTEGRITY,
+    AttributeType::ERROR_CODE,
+    AttributeType::UNKNOWN_ATTRIBUTES,
+    AttributeType::CHANNEL_NUMBER,
+    AttributeType::LIFETIME,
+    AttributeType::XOR_PEER_ADDRESS,
+    AttributeType::DATA,
+    AttributeType::REALM,
+    AttributeType::NONCE,
+    AttributeType::XOR_RELAYED_ADDRESS,
+    AttributeType::REQUESTED_ADDRESS_FAMILY,
+    AttributeType::EVEN_PORT,
+    AttributeType::REQUESTED_TRANSPORT,
+    AttributeType::XOR_MAPPED_ADDRESS,
+    AttributeType::RESERVATION_TOKEN,
+];
+
+fn is_known(kind: AttributeType) -> bool
+    ensures { result ≡ list_any (λ known. known == kind) known_types }
+{
+    KNOWN.iter().any(|known| *known == kind)
 }

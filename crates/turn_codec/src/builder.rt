@@ -18,6 +18,7 @@ use turn_types::{Class, Method, TxId};
 pub enum PushError {
     /// The attributes would have more than 65,532 bytes.
     TooLong,
+    /// A growth was refused.
     Memory,
 }
 

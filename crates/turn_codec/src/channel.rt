@@ -8,6 +8,7 @@ use std::alloc::{AllocError, Allocator};
 /// Data on a channel. The payload is a slice of the datagram that it was read from.
 #[derive(Clone, Copy, Debug)]
 pub struct ChannelData<'a> {
+    /// The channel's number, from 0x4000 to 0x7FFF.
     pub number: u16,
     pub payload: &'a [u8],
 }

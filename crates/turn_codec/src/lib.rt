@@ -15,7 +15,7 @@ pub use attribute_type::AttributeType;
 pub use builder::{Builder, PushError};
 pub use channel::ChannelData;
 pub use laws::{address_again, one_message};
-pub use message::{COOKIE, Located, Malformed, Message};
+pub use message::{Located, Malformed, Message};
 
 #[cfg(test)]
 mod tests;

@@ -43,7 +43,7 @@ impl<'a> Model for Message<'a> {
     ghost invariant = { λ m. IsDatagram m.bytes.now };
 }
 
-pub const COOKIE: u32 = 0x2112_A442;
+pub(crate) const COOKIE: u32 = 0x2112_A442;
 
 impl<'a> Message<'a> {
     /// The message that a datagram spells.
@@ -73,7 +73,7 @@ impl<'a> Message<'a> {
         Ok(Message { bytes })
     }
 
-    /// The datagram.
+    /// The whole datagram, of 20 to 65,555 bytes, for as long as it is borrowed.
     #[tactic(auto, unfolding(crate::specs::Reading::datagram_of))]
     pub fn as_bytes(&self) -> &'a [u8]
         ensures bytes { result.now ≡ self.now.bytes }
@@ -92,7 +92,7 @@ impl<'a> Message<'a> {
         u16::from_be_bytes([self.bytes[0], self.bytes[1]])
     }
 
-    /// The class.
+    /// The class, by the bits 8 and 4 of the type (RFC 8489, section 5, figure 3).
     pub fn class(&self) -> Class
         ensures { result ≡ self.now.content.class }
     {
@@ -105,7 +105,7 @@ impl<'a> Message<'a> {
         }
     }
 
-    /// The method.
+    /// The method, by the other twelve bits of the type.
     pub fn method(&self) -> Method
         ensures { result ≡ self.now.content.method }
     {
@@ -113,6 +113,7 @@ impl<'a> Message<'a> {
         Method::new(number / 512 * 128 + number / 32 % 8 * 16 + number % 16).unwrap()
     }
 
+    /// The transaction id, the last twelve bytes of the header.
     #[tactic(auto, unfolding(crate::specs::Reading::datagram_of, crate::specs::Reading::content_of))]
     pub fn tx(&self) -> TxId
         ensures { result.0 ≡ self.now.content.tx }
@@ -122,7 +123,7 @@ impl<'a> Message<'a> {
         TxId(tx)
     }
 
-    /// All attributes.
+    /// All attributes in their order, those behind MESSAGE-INTEGRITY included. Each value is a slice of the datagram.
     #[tactic(auto, unfolding(crate::specs::Reading::datagram_of, crate::specs::Reading::content_of))]
     pub fn attributes(&self) -> Attributes<'a>
         ensures value { result ≡ self.now.content.attributes }
@@ -184,8 +185,10 @@ impl<'a> Message<'a> {
 /// Where the first attribute of a type stands in a message.
 #[derive(Drop)]
 pub struct Located<'a> {
-    /// The message up to the attribute.
+    /// The datagram up to the attribute's type.
     pub front: &'a [u8],
+    /// The attribute's value, without padding.
     pub value: &'a [u8],
+    /// Whether no other attribute stands behind it.
     pub is_last: bool,
 }

@@ -288,3 +288,30 @@ fn writes_channel_data(rt: HostRuntime) -> Result<(), Fail> {
     assert_eq!(rt; written.as_slice(), b"\x40\x00\x00\x03abc".as_slice());
     Ok(())
 }
+
+#[test]
+fn numbers_its_types(rt: HostRuntime) {
+    for (kind, number) in [
+        (AttributeType::MAPPED_ADDRESS, 0x0001),
+        (AttributeType::USERNAME, 0x0006),
+        (AttributeType::MESSAGE_INTEGRITY, 0x0008),
+        (AttributeType::ERROR_CODE, 0x0009),
+        (AttributeType::UNKNOWN_ATTRIBUTES, 0x000A),
+        (AttributeType::CHANNEL_NUMBER, 0x000C),
+        (AttributeType::LIFETIME, 0x000D),
+        (AttributeType::XOR_PEER_ADDRESS, 0x0012),
+        (AttributeType::DATA, 0x0013),
+        (AttributeType::REALM, 0x0014),
+        (AttributeType::NONCE, 0x0015),
+        (AttributeType::XOR_RELAYED_ADDRESS, 0x0016),
+        (AttributeType::REQUESTED_ADDRESS_FAMILY, 0x0017),
+        (AttributeType::EVEN_PORT, 0x0018),
+        (AttributeType::REQUESTED_TRANSPORT, 0x0019),
+        (AttributeType::XOR_MAPPED_ADDRESS, 0x0020),
+        (AttributeType::RESERVATION_TOKEN, 0x0022),
+        (AttributeType::SOFTWARE, 0x8022),
+        (AttributeType::FINGERPRINT, 0x8028),
+    ] {
+        assert_eq!(rt; kind.number(), number);
+    }
+}

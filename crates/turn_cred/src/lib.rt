@@ -9,7 +9,7 @@ mod users;
 
 pub use checker::{Checker, Verdict};
 pub use handler::AuthHandler;
-pub use laws::{holds_for_an_hour, integrity_is_decided};
+pub use laws::{freshness_is_decided, holds_for_an_hour, integrity_is_decided};
 pub use nonce::Nonces;
 pub use users::Users;
 

@@ -5,7 +5,8 @@ use Rattle.std.specs.List.{list_any}
 use Rattle.std.proofs.lemmas.List.{take_at, take_all, append-nil, length-append}
 use Rattle.std.proofs.lemmas.List.Elements.{filter_agree}
 use Rattle.std.proofs.lemmas.Bool.{eqb-true}
-use Rattle.turn_rules.specs.Unknown.{is_in, with_once, each_once}
+use Rattle.turn_rules.specs.Collected.{is_in, with_once}
+use Rattle.turn_rules.specs.Unknown.{each_once}
 
 -- those elements that aren't in a list
 abbrev pub without : List ℕ → List ℕ → List ℕ

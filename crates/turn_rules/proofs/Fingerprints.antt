@@ -19,6 +19,9 @@ is_last_with-Decides (a ∷ others) value = both (bytes_eq a.value value) (eqb (
     both true false h = (λ e. absurd cc, λ f. sym f.1)
     both false last h = (λ e. absurd cc, λ f. h.1 f.0)
 
-pub right_when : (d : Datagram) (result : Bool) → IsTrue result ↔ FingerprintHolds d → result ≡ is_fingerprint_right d
+pub right_Decides : (d : Datagram) → Decides (is_fingerprint_right d) (FingerprintHolds d)
 unfolding is_fingerprint_right
-right_when d result h = same_from_decides result (is_fingerprint_right d) (h.0, h.1) (is_last_with-Decides (from fingerprint d.content.attributes) (fingerprint_of (front_of fingerprint d)))
+right_Decides d = is_last_with-Decides (from fingerprint d.content.attributes) (fingerprint_of (front_of fingerprint d))
+
+pub right_when : (d : Datagram) (result : Bool) → IsTrue result ↔ FingerprintHolds d → result ≡ is_fingerprint_right d
+right_when d result h = same_from_decides result (is_fingerprint_right d) (h.0, h.1) (right_Decides d)

@@ -36,14 +36,14 @@ abbrev pub is_protected : ℕ → Bool
 is_protected method = method == allocate || (method == refresh || (method == create_permission || method == channel_bind))
 
 -- a line, and the key that its response is signed under, if it is
-pub record Said : Type 0 where
+pub record SignedLine : Type 0 where
   pub line : Line
   pub key : Option (List ℕ)
 
-abbrev pub unsigned : Line → Said
+abbrev pub unsigned : Line → SignedLine
 unsigned line = record { line = line; key = None }
 
--- a Binding request: 420, else the client's address (RFC 8489, section 6.3.3)
+-- a Binding request: 420, else the client's address (RFC 8489, sections 6.3.1 and 14.2)
 abbrev pub binding_line : FiveTuple → Content → Line
 binding_line f m = first_row (
     (has_unknown m, refuse_unknown m) ∷ []) (Succeed (attribute xor_mapped_address (xor_value f.client) ∷ []))
@@ -59,24 +59,24 @@ passed_line m = first_row (
     (has_unknown m, refuse_unknown m) ∷ []) (refuse AllocationMismatch)
 
 -- by what the credentials are worth, which is None where they aren't looked at
-abbrev pub judged : Config → Endpoint → ℕ → Content → Option Verdict → Said
-judged s client t m None = unsigned Drop
-judged s client t m (Some Challenge401) = unsigned (challenge s client t Unauthenticated)
-judged s client t m (Some Bad400) = unsigned (refuse BadRequest)
-judged s client t m (Some Stale438) = unsigned (challenge s client t StaleNonce)
-judged s client t m (Some (Passed user key)) = record { line = passed_line m; key = Some key }
+abbrev pub by_verdict : Config → Endpoint → ℕ → Content → Option Verdict → SignedLine
+by_verdict s client t m None = unsigned Drop
+by_verdict s client t m (Some Challenge401) = unsigned (challenge s client t Unauthenticated)
+by_verdict s client t m (Some Bad400) = unsigned (refuse BadRequest)
+by_verdict s client t m (Some Stale438) = unsigned (challenge s client t StaleNonce)
+by_verdict s client t m (Some (Passed user key)) = record { line = passed_line m; key = Some key }
 
 -- the line that counts for a datagram
-unfoldable pub said : Config → FiveTuple → ℕ → Datagram → Option Verdict → Said
-said s f t d v = first_row (
+unfoldable pub counting_line : Config → FiveTuple → ℕ → Datagram → Option Verdict → SignedLine
+counting_line s f t d v = first_row (
     (not (is_request d.content.class), unsigned Drop) ∷
     (has_wrong_fingerprint d, unsigned Drop) ∷
     (d.content.method == binding, unsigned (binding_line f d.content)) ∷
-    (is_protected d.content.method, judged s f.client t d.content v) ∷ []) (unsigned Drop)
+    (is_protected d.content.method, by_verdict s f.client t d.content v) ∷ []) (unsigned Drop)
 
 -- the reply: the canonical spelling of the line's response, if it has one
 unfoldable pub reply : Config → FiveTuple → ℕ → Datagram → Option Verdict → Option (List ℕ)
-reply s f t d v = let counts = said s f t d v in option_map canonical (response_of d.content counts.key counts.line)
+reply s f t d v = let counts = counting_line s f t d v in option_map canonical (response_of d.content counts.key counts.line)
 
 -- the credentials are looked at for the protected methods alone
 unfoldable pub judgement : Config → Keys → Endpoint → ℕ → Datagram → Option Verdict

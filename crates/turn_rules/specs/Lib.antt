@@ -1,4 +1,5 @@
 pub mod Answer
+pub mod Collected
 pub mod Examples
 pub mod Fingerprint
 pub mod Line

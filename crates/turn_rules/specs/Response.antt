@@ -1,4 +1,4 @@
--- Responses (RFC 8489, sections 6.3.3 and 6.3.4).
+-- Responses (RFC 8489, section 6.3.1.1).
 use Rattle.std.specs.Prelude.{ℕ, ◌/◌, ◌%◌, if◌then◌else◌, Option, List, [], ◌∷◌, ◌++◌}
 use Rattle.turn_types.specs.declared.error.ErrorCode.{ErrorCode}
 use Rattle.turn_types.specs.declared.message.Class.{Class}

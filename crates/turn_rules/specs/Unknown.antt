@@ -1,5 +1,5 @@
--- The types that a request has and the server doesn't understand (RFC 8489, sections 6.3.1 and 14.9).
-use Rattle.std.specs.Prelude.{ℕ, ◌==◌, ◌||◌, Bool, not, if◌then◌else◌, List, [], ◌∷◌, ◌++◌, length, map, filter, take}
+-- The types that a request has and the server doesn't understand (RFC 8489, sections 6.3.1 and 14.13).
+use Rattle.std.specs.Prelude.{ℕ, ◌==◌, Bool, not, List, [], ◌∷◌, map, filter, take}
 use Rattle.std.specs.List.{list_any}
 use Rattle.turn_codec.specs.Grammar.{Attribute, Content, before}
 use Rattle.turn_codec.specs.AttributeTypes.{message_integrity, is_unknown}
@@ -10,13 +10,6 @@ seen m = before message_integrity m.attributes
 
 abbrev pub has_unknown : Content → Bool
 has_unknown m = list_any (λ a. is_unknown a.kind) (seen m)
-
-abbrev pub is_in : List ℕ → ℕ → Bool
-is_in xs x = list_any (λ y. y == x) xs
-
--- with an element at the end, unless it is there or there are 64
-abbrev pub with_once : List ℕ → ℕ → List ℕ
-with_once xs x = if is_in xs x || (length xs == 64) then xs else xs ++ x ∷ []
 
 -- each element once, where it first stands
 abbrev pub each_once : List ℕ → List ℕ

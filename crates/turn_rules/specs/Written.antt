@@ -8,11 +8,12 @@ use Rattle.turn_codec.specs.Grammar.{Attribute, Content}
 use Rattle.turn_cred.specs.Credential.{Verdict}
 use Rattle.turn_cred.specs.Found.{verdict_of}
 use Rattle.turn_rules.specs.declared.decision.Request.{Request}
-use Rattle.turn_rules.specs.declared.line.Chosen.{Chosen}
+use Rattle.turn_rules.specs.declared.line.SignedLine.{SignedLine}
 use Rattle.turn_rules.specs.declared.line.Line.{Line}
 use Rattle.turn_rules.specs.declared.line.Line.TheVariants as chosen
 use Rattle.turn_rules.specs.declared.response.OwnAttribute.{OwnAttribute}
-use Rattle.turn_rules.specs.Answer.{Said, challenge}
+use Rattle.turn_rules.specs.Answer as answer
+use Rattle.turn_rules.specs.Answer.{challenge}
 use Rattle.turn_rules.specs.Line as said
 use Rattle.turn_rules.specs.Line.{refuse, refuse_unknown}
 use Rattle.turn_rules.specs.Response.{attribute}
@@ -28,8 +29,8 @@ line_of s f t m (chosen.Challenge code) = challenge s f.client t code
 line_of s f t m chosen.RefuseUnknown = refuse_unknown m
 line_of s f t m chosen.Mapped = said.Line.Succeed (attribute xor_mapped_address (xor_value f.client) ∷ [])
 
-abbrev pub said_of : Config → FiveTuple → ℕ → Content → Chosen → Said
-said_of s f t m c = record { line = line_of s f t m c.line; key = c.key }
+abbrev pub signed_line_of : Config → FiveTuple → ℕ → Content → SignedLine → answer.SignedLine
+signed_line_of s f t m c = record { line = line_of s f t m c.line; key = c.key }
 
 abbrev pub verdict_in : Request → Option Verdict
 verdict_in r = option_map verdict_of r.verdict

@@ -1,11 +1,12 @@
 //! What a client's message is answered.
 
-ghost use Rattle.std.specs.Prelude.{◌≡◌, IfOk, option_map};
-ghost use Rattle.turn_rules.specs.Answer.{binding_line, is_protected, passed_line, reply, said};
-ghost use Rattle.turn_rules.specs.Written.{line_of, said_of, verdict_in};
+ghost use Rattle.std.specs.Prelude.{◌≡◌, ℕ, IfOk, option_map};
+ghost use Rattle.turn_types.specs.Config.{Config};
+ghost use Rattle.turn_rules.specs.Answer.{binding_line, is_protected, passed_line, reply, counting_line};
+ghost use Rattle.turn_rules.specs.Written.{line_of, signed_line_of, verdict_in};
 
 use crate::fingerprint::has_wrong_fingerprint;
-use crate::line::{Chosen, Line, unsigned};
+use crate::line::{Line, SignedLine, unsigned};
 use crate::unknown::has_unknown;
 use crate::write::write;
 use std::alloc::{AllocError, Allocator, Global};
@@ -33,15 +34,14 @@ pub struct Decision<A: Allocator = Global> {
 pub fn is_protected(method: Method) -> bool
     ensures { result ≡ is_protected method }
 {
-    matches!(method.number(), 0x003 | 0x004 | 0x008 | 0x009)
+    method == Method::ALLOCATE
+        || method == Method::REFRESH
+        || method == Method::CREATE_PERMISSION
+        || method == Method::CHANNEL_BIND
 }
 
-fn binding_line<A: Allocator>(
-    config: &ServerConfig<A>,
-    request: &Request<'_>,
-    moment: Moment,
-) -> Line
-    ensures { line_of config.now request.now.five_tuple moment request.now.message.content result
+fn binding_line(request: &Request<'_>) -> Line
+    ensures { (s : Config) (t : ℕ) → line_of s request.now.five_tuple t request.now.message.content result
         ≡ binding_line request.now.five_tuple request.now.message.content }
 {
     if has_unknown(&request.message) {
@@ -50,12 +50,8 @@ fn binding_line<A: Allocator>(
     Line::Mapped
 }
 
-fn passed_line<A: Allocator>(
-    config: &ServerConfig<A>,
-    request: &Request<'_>,
-    moment: Moment,
-) -> Line
-    ensures { line_of config.now request.now.five_tuple moment request.now.message.content result
+fn passed_line(request: &Request<'_>) -> Line
+    ensures { (s : Config) (t : ℕ) → line_of s request.now.five_tuple t request.now.message.content result
         ≡ passed_line request.now.message.content }
 {
     if request.message.method() == Method::ALLOCATE {
@@ -68,10 +64,14 @@ fn passed_line<A: Allocator>(
 }
 
 /// The line that counts for a message.
-#[tactic(auto, unfolding(crate::specs::Answer::said))]
-fn choose<A: Allocator>(config: &ServerConfig<A>, request: &Request<'_>, moment: Moment) -> Chosen
-    ensures { said_of config.now request.now.five_tuple moment request.now.message.content result
-        ≡ said config.now request.now.five_tuple moment request.now.message (verdict_in request.now) }
+#[tactic(auto, unfolding(crate::specs::Answer::counting_line))]
+fn choose<A: Allocator>(
+    config: &ServerConfig<A>,
+    request: &Request<'_>,
+    moment: Moment,
+) -> SignedLine
+    ensures { signed_line_of config.now request.now.five_tuple moment request.now.message.content result
+        ≡ counting_line config.now request.now.five_tuple moment request.now.message (verdict_in request.now) }
 {
     let message = &request.message;
     if message.class() != Class::Request || has_wrong_fingerprint(message) {
@@ -79,7 +79,7 @@ fn choose<A: Allocator>(config: &ServerConfig<A>, request: &Request<'_>, moment:
     }
     let method = message.method();
     if method == Method::BINDING {
-        return unsigned(binding_line(config, request, moment));
+        return unsigned(binding_line(request));
     }
     if !is_protected(method) {
         return unsigned(Line::Drop);
@@ -93,8 +93,8 @@ fn choose<A: Allocator>(config: &ServerConfig<A>, request: &Request<'_>, moment:
         Some(Verdict::Stale438) => return unsigned(Line::Challenge(ErrorCode::StaleNonce)),
         Some(Verdict::Passed { user: _, key }) => key,
     };
-    Chosen {
-        line: passed_line(config, request, moment),
+    SignedLine {
+        line: passed_line(request),
         key: Some(key),
     }
 }
@@ -110,7 +110,7 @@ pub fn decide<A: Allocator + Copy, C: Allocator>(
     ensures { IfOk result (λ d. option_map (λ v. v.items) d.reply
         ≡ reply config.now request.now.five_tuple moment request.now.message (verdict_in request.now)) }
 {
-    let Chosen { line, key } = choose(config, request, moment);
+    let SignedLine { line, key } = choose(config, request, moment);
     Ok(Decision {
         reply: write(alloc, config, request, moment, line, key)?,
     })

@@ -11,7 +11,7 @@ mod value;
 mod write;
 
 pub use decision::{Decision, Request, decide, is_protected};
-pub use laws::worked_examples;
+pub use laws::{fingerprint_is_decided, worked_examples};
 
 #[cfg(test)]
 mod tests;

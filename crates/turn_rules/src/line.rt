@@ -21,14 +21,14 @@ pub(crate) enum Line {
 
 /// A line, and the key that its response is signed under, if it is.
 #[derive(Clone, Copy)]
-pub(crate) struct Chosen {
+pub(crate) struct SignedLine {
     pub(crate) line: Line,
     pub(crate) key: Option<[u8; 16]>,
 }
 
-pub(crate) fn unsigned(line: Line) -> Chosen
+pub(crate) fn unsigned(line: Line) -> SignedLine
     ensures line { result.line ≡ line }
     ensures key { result.key ≡ None }
 {
-    Chosen { line, key: None }
+    SignedLine { line, key: None }
 }

@@ -1,4 +1,4 @@
-//! Responses as bytes (RFC 8489, sections 6.3.3 and 6.3.4).
+//! Responses as bytes (RFC 8489, section 6.3.1.1).
 
 ghost use Rattle.std.specs.Prelude.{◌≡◌, ◌≤◌, [], IfOk, OnOk, map, sum_by};
 ghost use Rattle.turn_codec.specs.AttributeTypes.{fingerprint, message_integrity};

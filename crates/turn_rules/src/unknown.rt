@@ -3,7 +3,8 @@
 ghost use Rattle.std.specs.Prelude.{◌≡◌, ◌≤◌, [], length};
 ghost use Rattle.std.specs.List.{flat_map};
 ghost use Rattle.std.specs.Int.{w16, to_be_bytes};
-ghost use Rattle.turn_rules.specs.Unknown.{has_unknown, is_in, unknown_types, with_once};
+ghost use Rattle.turn_rules.specs.Collected.{is_in, with_once};
+ghost use Rattle.turn_rules.specs.Unknown.{has_unknown, unknown_types};
 
 use crate::value;
 use crate::value::ShortValue;

@@ -13,7 +13,7 @@ use Rattle.turn_types.specs.declared.address.FiveTuple.{FiveTuple}
 use Rattle.turn_types.specs.Fitting.{Fits, Follows, FitsBehind, IsFitting}
 use Rattle.turn_types.specs.FiveTuple.{tuple_cmp, same_tuple}
 use Rattle.turn_types.specs.History.{PlainAct, Allocates, Renews, Permits, Binds, Event, History, own, clock}
-use Rattle.turn_types.specs.Laws.{PortsApart, AllFrom, entries_of}
+use Rattle.turn_types.specs.Laws.{PortsApart, AllFrom, events_of}
 use Rattle.turn_types.specs.Limits.{Bounds}
 use Rattle.turn_types.specs.Table.{Entry, entry_in, Contents, table, still_permitted, still_bound, kept, purged, renewed, permitting, binding, applied_to, applied}
 use Rattle.turn_types.proofs.Reading.{get-table, get-purged, get-applied}
@@ -110,17 +110,17 @@ own-cons : (e : Event) (h : History) (f : FiveTuple) → own (e ∷ h) f ≡ own
 unfolding own
 own-cons e h f = ap (filter (λ x. same_tuple f x.tuple)) (reverse-append (e ∷ []) h) ∙ filter-append (λ x. same_tuple f x.tuple) (reverse h) (e ∷ [])
 
-own-entries_of : (h : History) (f : FiveTuple) → own (entries_of f h) f ≡ own h f
-own-entries_of [] f = refl
-own-entries_of (e ∷ h) f = by_test (own-entries_of h f) (same_tuple f e.tuple) refl ∙ sym (own-cons e h f)
+own-events_of : (h : History) (f : FiveTuple) → own (events_of f h) f ≡ own h f
+own-events_of [] f = refl
+own-events_of (e ∷ h) f = by_test (own-events_of h f) (same_tuple f e.tuple) refl ∙ sym (own-cons e h f)
   where
-    by_test : own (entries_of f h) f ≡ own h f → (b : Bool) → same_tuple f e.tuple ≡ b → own (cond b (e ∷ entries_of f h) (entries_of f h)) f ≡ own h f ++ cond (same_tuple f e.tuple) (e ∷ []) []
-    by_test ih true is = own-cons e (entries_of f h) f ∙ ap (λ l. l ++ cond (same_tuple f e.tuple) (e ∷ []) []) ih
+    by_test : own (events_of f h) f ≡ own h f → (b : Bool) → same_tuple f e.tuple ≡ b → own (cond b (e ∷ events_of f h) (events_of f h)) f ≡ own h f ++ cond (same_tuple f e.tuple) (e ∷ []) []
+    by_test ih true is = own-cons e (events_of f h) f ∙ ap (λ l. l ++ cond (same_tuple f e.tuple) (e ∷ []) []) ih
     by_test ih false is = ih ∙ sym (append-nil (own h f)) ∙ ap (λ b. own h f ++ cond b (e ∷ []) []) (sym is)
 
 -- the entry of f is read off its own entries
-pub table-entries_of : (h : History) (t : ℕ) (f : FiveTuple) → fin.get (table h t).entries f ≡ fin.get (table (entries_of f h) t).entries f
-table-entries_of h t f = get-table h t f ∙ ap (entry_in t) (sym (own-entries_of h f)) ∙ sym (get-table (entries_of f h) t f)
+pub table-events_of : (h : History) (t : ℕ) (f : FiveTuple) → fin.get (table h t).entries f ≡ fin.get (table (events_of f h) t).entries f
+table-events_of h t f = get-table h t f ∙ ap (entry_in t) (sym (own-events_of h f)) ∙ sym (get-table (events_of f h) t f)
 
 -- ---- Ports
 

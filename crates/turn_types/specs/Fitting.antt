@@ -54,17 +54,18 @@ pub record IsEntryInRange (b : Bounds) (t : ℕ) (e : Entry) : Type 0 where
 
 -- ---- Fitting
 
+-- no entry has the port (RFC 8656, section 7.2)
 abbrev pub PortIsFree : Contents → ℕ → Type 0
 PortIsFree c port = (f : FiveTuple) (e : Entry) → fin.get c.entries f ≡ Some e → e.port ≢ port
 
--- number n may be bound to the peer p: the limits hold afterwards, n is bound to no other peer, and p to no other number
+-- number n may be bound to the peer p (RFC 8656, section 12.2): the limits hold afterwards, n is bound to no other peer, and p to no other number
 abbrev pub FitsChannel : Bounds → ℕ → Endpoint → Entry → Type 0
 FitsChannel b n p e =
     (fin.len (fin.insert e.permissions p.ip 0) ≤ b.permissions)
     × (fin.len (fin.insert e.channels n (record { peer = p; expiry = 0 })) ≤ b.channels)
     × ((k : ℕ) (c : Channel) → fin.get e.channels k ≡ Some c → (k ≡ n → c.peer ≡ p) × (c.peer ≡ p → k ≡ n))
 
--- an act of f fits a table: an Alloc, where f is not live, the port is nobody's and the table is not full; the others,
+-- an act of f fits a table (RFC 8656, sections 7.2, 8.2, 10.2 and 12.2): an Alloc, where f is not live, the port is nobody's and the table is not full; the others,
 -- where f is live and the limits hold afterwards
 abbrev pub Fits : Bounds → Contents → FiveTuple → PlainAct → Type 0
 Fits b c f (Allocates user port granted tx) = (fin.get c.entries f ≡ None) × PortIsFree c port × (fin.len c.entries < b.allocations)

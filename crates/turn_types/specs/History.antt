@@ -1,5 +1,5 @@
 -- Histories of accepted acts, and what is read off one (RFC 8656, sections 6 to 12). Nothing in a history is ever
--- changed or removed: what holds is given by the last entry of its kind.
+-- changed or removed: what holds is given by the last event of its kind.
 use Rattle.std.specs.Prelude.{ℕ, ◌+◌, ◌<◌, Bool, if◌then◌else◌, nat_lt, nat_eq, ◌==◌, Option, Some, None, List, [], ◌∷◌, reverse, IsSome, IsSomeAnd, is_some}
 use Rattle.std.specs.Option.{option_or, option_map}
 use Rattle.std.specs.List.{list_any, filter}
@@ -21,13 +21,13 @@ pub data PlainAct : Type 0 where
   Permits : (addresses : List ℕ) → PlainAct
   Binds : (number : ℕ) (peer : Endpoint) → PlainAct
 
--- an entry of a history: an act on the allocation of a five-tuple, and its moment in seconds
+-- an event of a history: an act on the allocation of a five-tuple, and its moment in seconds
 pub record Event : Type 0 where
   pub moment : ℕ
   pub tuple : FiveTuple
   pub act : PlainAct
 
--- the oldest entry first
+-- the oldest event first
 abbrev pub History : Type 0
 History = List Event
 
@@ -36,9 +36,9 @@ abbrev pub clock : History → ℕ
 clock [] = 0
 clock (e ∷ es) = if nat_lt e.moment (clock es) then clock es else e.moment
 
--- ---- The last entry of its kind
+-- ---- The last event of its kind
 
--- the entries of f, the newest first
+-- the events of f, the newest first
 unfoldable pub own : History → FiveTuple → List Event
 own h f = filter (λ e. same_tuple f e.tuple) (reverse h)
 
@@ -93,7 +93,7 @@ pub record IsLive (h : History) (t : ℕ) (f : FiveTuple) : Type 0 where
   pub made : IsSome (made h f)
   pub ahead : IsSomeAnd (span h f) (λ x. t < x)
 
--- the entries of f behind its last Alloc, the newest first
+-- the events of f behind its last Alloc, the newest first
 abbrev pub behind : History → FiveTuple → List Event
 behind h f = in_front (λ e. is_some (allocation_at e)) (own h f)
 
@@ -125,10 +125,10 @@ channel_by n m (Binds number peer) = if n == number then Some (record { peer = p
 abbrev pub channel_at : ℕ → Event → Option Channel
 channel_at n e = channel_by n e.moment e.act
 
--- when the permission of an address runs out: 300 s after the last entry behind the last Alloc that installs it
+-- when the permission of an address runs out: 300 s after the last event behind the last Alloc that installs it
 abbrev pub permission : History → FiveTuple → ℕ → Option ℕ
 permission h f a = first_some (permission_at a) (behind h f)
 
--- the peer of a channel, and when it runs out: 600 s after the last entry behind the last Alloc that binds it
+-- the peer of a channel, and when it runs out: 600 s after the last event behind the last Alloc that binds it
 abbrev pub channel : History → FiveTuple → ℕ → Option Channel
 channel h f n = first_some (channel_at n) (behind h f)

@@ -14,11 +14,11 @@ use Rattle.turn_types.specs.declared.channel.Channel.{Channel}
 abbrev pub AllFrom : ℕ → List Event → Type 0
 AllFrom s es = AllByRecursion (λ e. s ≤ e.moment) es
 
--- the entries of f, the oldest first
-abbrev pub entries_of : FiveTuple → History → History
-entries_of f h = filter (λ e. same_tuple f e.tuple) h
+-- the events of f, the oldest first
+abbrev pub events_of : FiveTuple → History → History
+events_of f h = filter (λ e. same_tuple f e.tuple) h
 
--- x is the answer of the last entry of f that has one
+-- x is the answer of the last event of f that has one
 pub record IsLast {X : Type 0} (g : Event → Option X) (h : History) (f : FiveTuple) (x : X) : Type 0 where
   pub before : History
   pub event : Event
@@ -32,7 +32,7 @@ pub record IsLast {X : Type 0} (g : Event → Option X) (h : History) (f : FiveT
 abbrev pub allocation_of : Entry → Allocation
 allocation_of e = record { user = e.user; port = e.port; granted = e.granted; tx = e.tx }
 
--- an entry of f stands behind the last Alloc of f
+-- an event of f stands behind the last Alloc of f
 pub record IsBehind (h : History) (f : FiveTuple) (e : Event) : Type 0 where
   pub before : History
   pub alloc : Event
@@ -44,7 +44,7 @@ pub record IsBehind (h : History) (f : FiveTuple) (e : Event) : Type 0 where
   pub last : AllByRecursion (λ x. x.tuple ≡ f → allocation_at x ≡ None) (between ++ e ∷ after)
   pub tuple : e.tuple ≡ f
 
--- some entry of f behind its last Alloc is of a kind, has the moment m, and is less than so many seconds old at t
+-- some event of f behind its last Alloc is of a kind, has the moment m, and is less than so many seconds old at t
 pub record HoldsFrom (kind : Event → Type 0) (seconds : ℕ) (h : History) (t : ℕ) (f : FiveTuple) (m : ℕ) : Type 0 where
   pub event : Event
   pub is_behind : IsBehind h f event

@@ -1,4 +1,4 @@
--- The numbers of the methods (RFC 8489, section 18.1; RFC 8656, section 17).
+-- The numbers of the methods (RFC 8489, section 18.2; RFC 8656, section 17).
 use Rattle.std.specs.Prelude.{ℕ}
 
 abbrev pub binding : ℕ

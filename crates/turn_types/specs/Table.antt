@@ -15,7 +15,7 @@ use Rattle.turn_types.specs.declared.message.TxId.{TxId}
 
 -- ---- What a table holds
 
--- what a table holds of a live five-tuple: the fields of its last Alloc, when the allocation runs out, when the
+-- what a table holds of a live five-tuple (RFC 8656, section 6): the fields of its last Alloc, when the allocation runs out, when the
 -- permission of each address does, and of each channel number the peer and when the channel runs out
 pub record Entry : Type 0 where
   pub user : List ℕ
@@ -58,7 +58,7 @@ unfoldable pub map_of : {K X : Type 0} (R : K → K → Ordering) → List K →
 map_of R [] g = fin.empty
 map_of R (k ∷ ks) g = insert_some (map_of R ks g) k (g k)
 
--- the permissions and channels at a moment, read off the entries behind the last Alloc
+-- the permissions (RFC 8656, section 9) and channels (section 12) at a moment, read off the events behind the last Alloc
 unfoldable pub permissions_in : ℕ → List Event → FinMap nat_cmp ℕ
 permissions_in t es = map_of nat_cmp (flat_map (λ e. addresses_of e.act) es) (λ a. ahead t (first_some (permission_at a) es))
 
@@ -72,7 +72,7 @@ entry_with ps cs (Some a) None = None
 entry_with ps cs (Some a) (Some x) =
     Some (record { user = a.user; port = a.port; granted = a.granted; tx = a.tx; expiry = x; permissions = ps; channels = cs })
 
--- the entry of a five-tuple at a moment, read off its own entries, the newest first
+-- the entry of a five-tuple at a moment, read off its own events, the newest first
 unfoldable pub entry_in : ℕ → List Event → Option Entry
 entry_in t es =
     let since = in_front (λ e. is_some (allocation_at e)) es in
@@ -81,7 +81,7 @@ entry_in t es =
 abbrev pub entry_of : History → ℕ → FiveTuple → Option Entry
 entry_of h t f = entry_in t (own h f)
 
--- the map from each live five-tuple to its entry
+-- the map from each live five-tuple to its entry (RFC 8656, section 6)
 unfoldable pub table : History → ℕ → Contents
 table h t = record { entries = map_of tuple_cmp (map (λ e. e.tuple) h) (entry_of h t) }
 
@@ -110,16 +110,20 @@ abbrev pub install : ℕ → List ℕ → FinMap nat_cmp ℕ → FinMap nat_cmp 
 install x [] m = m
 install x (a ∷ more) m = fin.insert (install x more m) a x
 
+-- a new allocation (RFC 8656, section 7.2)
 abbrev pub allocated : ℕ → List ℕ → ℕ → ℕ → TxId → Entry
 allocated t user port granted tx =
     record { user = user; port = port; granted = granted; tx = tx; expiry = t + granted; permissions = fin.empty; channels = fin.empty }
 
+-- an allocation that expires at another moment (RFC 8656, section 8.2)
 abbrev pub renewed : ℕ → Entry → Entry
 renewed x e = record e { expiry = x }
 
+-- an allocation with the permissions of a CreatePermission (RFC 8656, section 10.2)
 abbrev pub permitting : ℕ → List ℕ → Entry → Entry
 permitting x addresses e = record e { permissions = install x addresses e.permissions }
 
+-- an allocation with the channel and the permission of a ChannelBind (RFC 8656, section 12.2)
 abbrev pub binding : ℕ → ℕ → Endpoint → Entry → Entry
 binding t number peer e =
     record e {

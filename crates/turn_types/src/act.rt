@@ -86,18 +86,23 @@ impl<A: Allocator> Addresses<A> {
 /// What an accepted request does to the allocation of its five-tuple (RFC 8656, sections 7 to 12).
 #[derive(Drop)]
 pub enum Act<A: Allocator = Global> {
+    /// A new allocation: for a user, with a relayed port, granted for so many seconds, by the request with this
+    /// transaction id.
     Alloc {
         user: UserName<A>,
         port: u16,
         granted: u32,
         tx: TxId,
     },
+    /// The allocation expires so many seconds from now; 0 deletes it.
     Renew {
         granted: u32,
     },
+    /// Permissions for IPv4 addresses, for 300 seconds.
     Permit {
         addresses: Addresses<A>,
     },
+    /// A channel to a peer for 600 seconds, and a permission for its address for 300 seconds.
     Bind {
         number: u16,
         peer: Endpoint,

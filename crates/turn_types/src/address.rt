@@ -1,9 +1,11 @@
 //! IP addresses and ports. An IPv4 address is the number whose highest byte is its first part.
 
-/// An IP address as a message may name it.
+/// An IP address as a message may name it. The number's highest byte is the address's first.
 #[derive(Clone, Copy, Debug, PartialEq, Eq)]
 pub enum Addr {
+    /// An IPv4 address.
     V4(u32),
+    /// An IPv6 address.
     V6(u128),
 }
 
@@ -22,7 +24,8 @@ pub struct Endpoint {
 }
 
 /// The client's and the server's endpoint, which name an allocation (RFC 8656, section 3.2). The transport
-/// is always UDP. The order is that of the twelve bytes: client address and port, server address and port.
+/// is always UDP. The order is by the client's address and port, then by the server's, which is that of the twelve
+/// bytes in network byte order.
 #[derive(Clone, Copy, Debug, PartialEq, Eq, PartialOrd, Ord, Hash)]
 pub struct FiveTuple {
     pub client: Endpoint,

@@ -24,6 +24,7 @@ pub enum ConfigError {
     BadQuota,
     /// More than 64 denied ranges, or one whose first address is above its last.
     BadRange,
+    /// A growth was refused.
     Memory,
 }
 
@@ -125,6 +126,7 @@ impl<A: Allocator + Copy> ServerConfig<A> {
 }
 
 impl<A: Allocator> ServerConfig<A> {
+    /// The realm, 1 to 127 bytes (RFC 8489, section 14.9).
     pub fn realm(&self) -> &[u8]
         ensures value { result.now ≡ self.now.realm }
         ensures range { (1 ≤ length result.now) × (length result.now ≤ 127) }
@@ -132,6 +134,7 @@ impl<A: Allocator> ServerConfig<A> {
         &self.realm
     }
 
+    /// The secret that nonces are made with.
     pub fn secret(&self) -> &[u8; 32]
         ensures { result.now ≡ self.now.secret }
     {
@@ -162,6 +165,7 @@ impl<A: Allocator> ServerConfig<A> {
             .any(|range| range.first <= ip && ip <= range.last)
     }
 
+    /// The greatest numbers that the server holds.
     pub fn limits(&self) -> Limits
         ensures { result ≡ self.now.limits }
     {

@@ -6,17 +6,29 @@ ghost use Rattle.turn_types.specs.ErrorCode.{number_of, reason_of};
 /// An error code that the server answers.
 #[derive(Clone, Copy, Debug, PartialEq, Eq)]
 pub enum ErrorCode {
+    /// 400: the request lacks something or is malformed.
     BadRequest,
+    /// 401: the request has no credentials, or wrong ones.
     Unauthenticated,
+    /// 403: the peer address is denied.
     Forbidden,
+    /// 420: the request has attributes that have to be understood and aren't.
     UnknownAttribute,
+    /// 437: there is an allocation where none may be, or none where one is needed.
     AllocationMismatch,
+    /// 438: the nonce is no longer valid, or was never given to this client.
     StaleNonce,
+    /// 440: the requested address family isn't served.
     AddressFamilyNotSupported,
+    /// 441: another user made the allocation.
     WrongCredentials,
+    /// 442: the requested transport is not UDP.
     UnsupportedTransportProtocol,
+    /// 443: the peer address is of another family.
     PeerAddressFamilyMismatch,
+    /// 486: the user has as many allocations as one may have.
     AllocationQuotaReached,
+    /// 508: the server has no port or no room left.
     InsufficientCapacity,
 }
 

@@ -5,7 +5,7 @@ ghost use Rattle.std.specs.Prelude.{◌≡◌, ◌≤◌, ◌++◌, ◌∷◌, [
 ghost use Rattle.std.specs.FinMap as fin;
 ghost use Rattle.turn_types.specs.Fitting.{Follows, FitsBehind, IsFitting, IsTuple, IsEntryInRange};
 ghost use Rattle.turn_types.specs.History.{History, Event, Allocation, clock, made, span, allocation_at, span_at, IsLive};
-ghost use Rattle.turn_types.specs.Laws.{AllFrom, PortsApart, PeersApart, IsWithin, entries_of, IsLast, IsEntryOf, InstalledAt, BoundAt, IsPermitted, IsBound, IsAboveGreatest, HasPermission, PermissionEnds, HasChannel, ChannelEnds};
+ghost use Rattle.turn_types.specs.Laws.{AllFrom, PortsApart, PeersApart, IsWithin, events_of, IsLast, IsEntryOf, InstalledAt, BoundAt, IsPermitted, IsBound, IsAboveGreatest, HasPermission, PermissionEnds, HasChannel, ChannelEnds};
 ghost use Rattle.turn_types.specs.Limits.{Bounds};
 ghost use Rattle.turn_types.specs.Table.{Entry, table, purged, applied};
 ghost use Rattle.turn_types.specs.declared.address.Endpoint.{Endpoint};
@@ -17,7 +17,7 @@ pub fn tables_run_out()
 {}
 
 /// What one more fitting act makes of the table at its moment is a function of that table and the act. So
-/// histories that have one table at a moment, and are continued by the same entries from that moment on, have one
+/// histories that have one table at a moment, and are continued by the same events from that moment on, have one
 /// table at every later moment.
 pub fn acts_change_tables()
     ensures next { (b : Bounds) (h : History) (e : Event) → Follows b h e →
@@ -40,10 +40,10 @@ pub fn fitting_histories_grow()
         IsFitting b h → FitsBehind b h g → IsFitting b (h ++ g) }
 {}
 
-/// The entry of a five-tuple in the table of a history is that in the table of its own entries alone.
+/// The entry of a five-tuple in the table of a history is that in the table of its own events alone.
 pub fn entries_stand_alone()
     ensures { (h : History) (t : ℕ) (f : FiveTuple) →
-        fin.get (table h t).entries f ≡ fin.get (table (entries_of f h) t).entries f }
+        fin.get (table h t).entries f ≡ fin.get (table (events_of f h) t).entries f }
 {}
 
 /// No two live five-tuples have one port, and in an entry no two channels have one peer.

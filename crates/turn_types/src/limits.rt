@@ -97,6 +97,7 @@ impl Limits {
         })
     }
 
+    /// The greatest number of live allocations, 1 to 1,024.
     pub fn allocations(&self) -> u32
         ensures value { result ≡ self.now.allocations }
         ensures range { (1 ≤ result) × (result ≤ 1024) }
@@ -104,6 +105,7 @@ impl Limits {
         self.allocations
     }
 
+    /// The greatest number of permissions of an allocation, 1 to 32.
     pub fn permissions(&self) -> u16
         ensures value { result ≡ self.now.permissions }
         ensures range { (1 ≤ result) × (result ≤ 32) }
@@ -111,6 +113,7 @@ impl Limits {
         self.permissions
     }
 
+    /// The greatest number of channels of an allocation, 1 to 32.
     pub fn channels(&self) -> u16
         ensures value { result ≡ self.now.channels }
         ensures range { (1 ≤ result) × (result ≤ 32) }
@@ -118,6 +121,7 @@ impl Limits {
         self.channels
     }
 
+    /// The greatest number of acts of a frame and of arrivals of a batch, 1 to 64.
     pub fn acts(&self) -> u16
         ensures value { result ≡ self.now.acts }
         ensures range { (1 ≤ result) × (result ≤ 64) }
@@ -125,6 +129,7 @@ impl Limits {
         self.acts
     }
 
+    /// The greatest number of bytes of a user's name, 1 to 508.
     pub fn name_bytes(&self) -> u16
         ensures value { result ≡ self.now.name_bytes }
         ensures range { (1 ≤ result) × (result ≤ 508) }

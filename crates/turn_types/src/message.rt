@@ -7,13 +7,17 @@ use std::marker::Model;
 /// The class of a message.
 #[derive(Clone, Copy, Debug, PartialEq, Eq)]
 pub enum Class {
+    /// Asks for a response.
     Request,
+    /// Asks for none.
     Indication,
+    /// Answers a request that was granted.
     Success,
+    /// Answers a request that was refused.
     Error,
 }
 
-/// The transaction id of a message.
+/// The transaction id of a message, by which a response is matched to its request.
 #[derive(Clone, Copy, Debug, PartialEq, Eq)]
 pub struct TxId(pub [u8; 12]);
 
@@ -59,7 +63,7 @@ impl Method {
         }
     }
 
-    /// The number of a method.
+    /// The number of the method, in its low 12 bits.
     pub fn number(self) -> u16
         ensures value { result ≡ self }
         ensures range { self < 2 ^ 12 }

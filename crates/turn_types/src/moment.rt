@@ -32,7 +32,7 @@ impl Moment {
         }
     }
 
-    /// The seconds of a moment.
+    /// The number of seconds, from the same start as every other moment's.
     pub fn seconds(self) -> u64
         ensures value { result ≡ self }
         ensures range { self < 2 ^ 40 - 3600 }

@@ -230,3 +230,20 @@ fn each_growth_refused(rt: HostRuntime) -> Result<(), Fail> {
     }
     Err("some growth is always refused")?
 }
+
+// Each part in turn, with every later part the other way round.
+#[test]
+fn orders_five_tuples(rt: HostRuntime) {
+    let tuple = |a: u32, b: u16, c: u32, d: u16| FiveTuple {
+        client: Endpoint { ip: a, port: b },
+        server: Endpoint { ip: c, port: d },
+    };
+    for (less, greater) in [
+        (tuple(0x00FF_FFFF, 9, 9, 9), tuple(0x0100_0000, 0, 0, 0)),
+        (tuple(7, 0x00FF, 9, 9), tuple(7, 0x0100, 0, 0)),
+        (tuple(7, 7, 0x7FFF_FFFF, 9), tuple(7, 7, 0x8000_0000, 0)),
+        (tuple(7, 7, 7, 0x00FF), tuple(7, 7, 7, 0x0100)),
+    ] {
+        assert!(rt; less < greater && greater > less && less != greater);
+    }
+}
