@@ -8,28 +8,28 @@ use sha1::Sha1;
 use turn_codec::Message;
 use turn_mac::{crc32, fingerprint_holds, hmac_sha1, integrity_holds};
 
-/// Writes the SHA-1 digest of the data.
+/// Writes the SHA-1 digest of the octets.
 #[unsafe(no_mangle)]
-pub extern "C" fn bench_sha1(data: &[u8], sum: &mut [u8])
+pub extern "C" fn bench_sha1(octets: &[u8], sum: &mut [u8])
     requires { length sum.old ≡ 20 }
 {
-    sum.copy_from_slice(&Sha1::digest(data));
+    sum.copy_from_slice(&Sha1::digest(octets));
 }
 
-/// Writes the HMAC-SHA1 of the data under the key.
+/// Writes the HMAC-SHA1 of the octets under the key.
 #[unsafe(no_mangle)]
-pub extern "C" fn bench_hmac_sha1(key: &[u8], data: &[u8], sum: &mut [u8])
+pub extern "C" fn bench_hmac_sha1(key: &[u8], octets: &[u8], sum: &mut [u8])
     requires { length sum.old ≡ 20 }
 {
-    sum.copy_from_slice(&hmac_sha1(key, data));
+    sum.copy_from_slice(&hmac_sha1(key, octets));
 }
 
-/// The CRC-32 of the data.
+/// The CRC-32 of the octets.
 #[unsafe(no_mangle)]
-pub extern "C" fn bench_crc32(data: &[u8]) -> u32
-    ensures { result ≡ crc data.now }
+pub extern "C" fn bench_crc32(octets: &[u8]) -> u32
+    ensures { result ≡ crc octets.now }
 {
-    crc32(data)
+    crc32(octets)
 }
 
 /// Whether the datagram is a message whose integrity holds under the key.

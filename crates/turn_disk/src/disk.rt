@@ -49,7 +49,7 @@ pub trait Disk {
         ensures honest { is_honest self.new ↔ is_honest self.old }
         ensures outcome { is_honest self.old → WriteOutcome at bytes.now (trace self.old) (trace self.new) result };
 
-    /// Makes all that is pending last.
+    /// Puts all that is pending on the disk.
     fn sync(&mut self) -> Result<(), DeviceFailed>
         ensures size { capacity self.new ≡ capacity self.old }
         ensures count { CountOutcome (failed self.old) (failed self.new) result }
