@@ -1,0 +1,64 @@
+-- What an act does to a table.
+use Rattle.std.proofs.Common.{◌≡◌, ℕ, ◌++◌, ◌∷◌, [], true, false, cond, eqb, arith, refl, sym, ap, ◌∙◌, subst, Option, Some, None}
+use Rattle.std.specs.Prelude.{IsSomeAnd}
+use Rattle.std.proofs.lemmas.Bool.Decides.{nat_tests}
+use Rattle.turn_types.proofs.Histories.{table-follows}
+use Rattle.turn_types.specs.Fitting.{Follows}
+use Rattle.turn_types.specs.History.{PlainAct, Renews, Event, History}
+use Rattle.turn_types.specs.Table.{Entry, Contents, applied, applied_to, with_entry, table}
+use Rattle.turn_types.specs.declared.address.FiveTuple.{FiveTuple}
+use Rattle.std.specs.FinMap as fin
+use Rattle.turn_table.specs.State.{State}
+use Rattle.turn_table.specs.Order as order
+use Rattle.turn_table.specs.Table.{Agrees, BecomesFree, freed_by}
+use Rattle.turn_table.proofs.Purging.{free-remove}
+
+-- an act makes this of the entry that is there
+pub applied-is : (t : ℕ) (f : FiveTuple) (d : PlainAct) (c : Contents) (o : Option Entry) → applied_to t d (fin.get c.entries f) ≡ o → applied t f d c ≡ record c { entries = with_entry c.entries f o }
+unfolding applied
+applied-is t f d c o is = ap (λ v. record c { entries = with_entry c.entries f v }) is
+
+-- and this of the table
+pub done : (s : State) (t : ℕ) (f : FiveTuple) (d e : PlainAct) → d ≡ e → (o : Option Entry) → applied_to t e (fin.get s.contents.entries f) ≡ o → record s { contents = applied t f d s.contents; room = None } ≡ record s { contents = record { entries = with_entry s.contents.entries f o }; room = None }
+done s t f d e is o gives =
+    ap (λ x. record s { contents = applied t f x s.contents; room = None }) is
+    ∙ ap (λ k. record s { contents = k; room = None }) (applied-is t f e s.contents o gives)
+
+-- where an act changes the entry that is there
+pub changed_by : (s new : State) (t : ℕ) (f : FiveTuple) (d e : PlainAct) → d ≡ e → (h : Entry → Entry) → ((v : Entry) → applied_to t e (Some v) ≡ Some (h v)) → IsSomeAnd (fin.get s.contents.entries f) (λ v. new ≡ order.with_entry s f (h v)) → new ≡ record s { contents = applied t f d s.contents; room = None }
+changed_by s new t f d e is h gives some = by_entry (fin.get s.contents.entries f) refl some
+  where
+    by_entry : (o : Option Entry) → fin.get s.contents.entries f ≡ o → IsSomeAnd o (λ v. new ≡ order.with_entry s f (h v)) → new ≡ record s { contents = applied t f d s.contents; room = None }
+    by_entry None at none = absurd none
+    by_entry (Some v) at new_is = new_is ∙ sym (done s t f d e is (Some (h v)) (ap (applied_to t e) at ∙ gives v))
+
+pub zero_granted : (g : ℕ) → g ≡ 0 → eqb g 0 ≡ true
+zero_granted g h = grind (arith, nat_tests)
+
+pub some_granted : (g : ℕ) → (g ≡ 0 → ⊥) → eqb g 0 ≡ false
+some_granted g h = grind (arith, nat_tests)
+
+-- the port of the entry that an act removes is free
+pub free_end : (s new : State) (f : FiveTuple) (port : ℕ) → new ≡ order.without_entry s f → IsSomeAnd (fin.get s.contents.entries f) (λ e. e.port ≡ port) → BecomesFree s.contents new.contents port
+free_end s new f port is some = by_entry (fin.get s.contents.entries f) refl some
+  where
+    by_entry : (o : Option Entry) → fin.get s.contents.entries f ≡ o → IsSomeAnd o (λ e. e.port ≡ port) → BecomesFree s.contents new.contents port
+    by_entry None at none = absurd none
+    by_entry (Some v) at port_is =
+        subst (λ c. BecomesFree s.contents c port) (sym (ap (λ x. x.contents) is))
+        (subst (λ p. BecomesFree s.contents (record { entries = fin.remove s.contents.entries f }) p) port_is (free-remove s.contents f v at))
+
+-- and it is what the act gives
+pub freed_end : (o : Option Entry) (granted port : ℕ) (d : PlainAct) → eqb granted 0 ≡ true → d ≡ Renews granted → IsSomeAnd o (λ e. e.port ≡ port) → Some port ≡ freed_by d o
+freed_end None granted port d zero is none = absurd none
+freed_end (Some v) granted port d zero is port_is =
+    ap Some (sym port_is) ∙ ap (λ b. cond b (Some v.port) None) (sym zero) ∙ ap (λ x. freed_by x (Some v)) (sym is)
+
+-- a table that agrees with a history agrees with it and the act
+pub agrees_after : (old new : State) (t : ℕ) (f : FiveTuple) (d : PlainAct) → old.moment ≡ t → new ≡ record old { contents = applied t f d old.contents; room = None } → (h : History) → Follows old.bounds h (record { moment = t; tuple = f; act = d }) → Agrees old h → Agrees new (h ++ record { moment = t; tuple = f; act = d } ∷ [])
+agrees_after old new t f d now is h follows same =
+    let e : Event = record { moment = t; tuple = f; act = d } in
+    ap (λ s. s.contents) is
+    ∙ ap (applied t f d) (same ∙ ap (table h) now)
+    ∙ sym (table-follows old.bounds h e follows)
+    ∙ ap (table (h ++ e ∷ [])) (sym now ∙ sym (ap (λ s. s.moment) is))

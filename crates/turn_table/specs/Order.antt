@@ -1,0 +1,45 @@
+-- What holds of the list of a table.
+use Rattle.std.specs.Prelude.{ℕ, ◌≡◌, ◌≤◌, ◌<◌, Bool, true, not, ◌&&◌, nat_eq, if◌then◌else◌, Some, Option, None, List, Ok, Err, slice_index_or}
+use Rattle.std.specs.FinMap as fin
+use Rattle.std.specs.FinMap.{is_sorted}
+use Rattle.turn_types.specs.FiveTuple.{tuple_cmp}
+use Rattle.turn_types.specs.Limits.{Bounds}
+use Rattle.turn_types.specs.Table.{Entry}
+use Rattle.turn_types.specs.declared.address.Endpoint.{Endpoint}
+use Rattle.turn_types.specs.declared.address.FiveTuple.{FiveTuple}
+use Rattle.turn_types.specs.declared.channel.Channel.{Channel}
+use Rattle.turn_table.specs.declared.edit.Reserved.{Reserved}
+use Rattle.turn_table.specs.Sorted.{scan}
+use Rattle.turn_table.specs.State.{Held, Room, State, pairs}
+
+abbrev pub room_of : Reserved → Room
+room_of r = record { tuple = r.tuple; permissions = r.permissions; channels = r.channels }
+
+abbrev pub state_of : Bounds → ℕ → List (FiveTuple × Held) → Option Room → State
+state_of b t xs r = record { bounds = b; moment = t; contents = record { entries = fin.from_sorted (pairs xs) }; room = r }
+
+-- where the five-tuple stands, its entry has the room; where it doesn't, the list has a place
+pub record HasRoom (r : Room) (xs : List (FiveTuple × Held)) (len capacity : ℕ) : Type 0 where
+  pub place : (i : ℕ) → Err i ≡ scan tuple_cmp r.tuple xs → len < capacity
+  pub inside :
+      (i : ℕ) (x : FiveTuple × Held) → Ok i ≡ scan tuple_cmp r.tuple xs → x ≡ slice_index_or xs i x →
+      (r.permissions ≤ x.1.permission_room) × (r.channels ≤ x.1.channel_room)
+
+-- the five-tuples rise, and where room was made there is some
+pub record IsInOrder (xs : List (FiveTuple × Held)) (len capacity : ℕ) (room : Option Room) : Type 0 where
+  pub sorted : is_sorted tuple_cmp (pairs xs) ≡ true
+  pub spare : (r : Room) → room ≡ Some r → HasRoom r xs len capacity
+
+-- the table with another entry of a five-tuple, or none, and no room for an act
+abbrev pub with_entry : State → FiveTuple → Entry → State
+with_entry s f e = record s { contents = record { entries = fin.insert s.contents.entries f e }; room = None }
+
+abbrev pub without_entry : State → FiveTuple → State
+without_entry s f = record s { contents = record { entries = fin.remove s.contents.entries f }; room = None }
+
+abbrev pub is_peer : Endpoint → Channel → Bool
+is_peer p c = nat_eq c.peer.ip p.ip && nat_eq c.peer.port p.port
+
+-- a channel has this number exactly where it has this peer
+abbrev pub goes_with : ℕ → Endpoint → ℕ × Channel → Bool
+goes_with n p s = if nat_eq s.0 n then is_peer p s.1 else not (is_peer p s.1)

@@ -1,0 +1,138 @@
+//! Changes of entries, and the room for them.
+
+ghost use Rattle.std.specs.Prelude.{◌≡◌, ◌≤◌, ◌<◌, ◌+◌, ◌^◌, ◌∷◌, [], OnOk, length, map};
+ghost use Rattle.std.specs.Vec.{vec_len, vec_capacity};
+ghost use Rattle.turn_table.specs.Kept.{still_pair, still_entry};
+ghost use Rattle.turn_table.specs.Order.{HasRoom, room_of};
+ghost use Rattle.turn_table.specs.State.{pairs};
+ghost use Rattle.turn_table.specs.Table.{room_for};
+ghost use Rattle.turn_types.specs.Act.{act_of};
+ghost use Rattle.turn_types.specs.Table.{renewed, permitting, binding};
+
+use crate::entry::Entry;
+use crate::search::place_of;
+use std::alloc::{AllocError, Allocator};
+use turn_types::{Act, Channel, Endpoint, FiveTuple};
+
+/// Room for an act of a five-tuple: for an entry of it, or for so many more permissions and channels in the one
+/// that is there.
+#[derive(Clone, Copy)]
+pub(crate) struct Reserved {
+    pub(crate) tuple: FiveTuple,
+    pub(crate) permissions: usize,
+    pub(crate) channels: usize,
+}
+
+impl Reserved {
+    /// The room that an act needs, where none of its permissions and channels is there.
+    pub(crate) fn for_act<A: Allocator>(tuple: FiveTuple, act: &Act<A>) -> Reserved
+        ensures { room_of result ≡ room_for tuple (act_of act.now) }
+    {
+        let (permissions, channels) = match act {
+            Act::Alloc { .. } => (0, 0),
+            Act::Renew { .. } => (0, 0),
+            Act::Permit { addresses } => (addresses.as_slice().len(), 0),
+            Act::Bind { .. } => (1, 1),
+        };
+        Reserved {
+            tuple,
+            permissions,
+            channels,
+        }
+    }
+}
+
+/// Makes room for more permissions and channels.
+fn make_room<A: Allocator + Copy>(
+    entry: &mut Entry<A>,
+    permissions: usize,
+    channels: usize,
+) -> Result<(), AllocError>
+    ensures same { entry.new.entry ≡ entry.old.entry }
+    ensures permissions { OnOk result (permissions ≤ entry.new.permission_room) }
+    ensures channels { OnOk result (channels ≤ entry.new.channel_room) }
+{
+    entry.permissions.reserve(permissions)?;
+    entry.channels.reserve(channels)
+}
+
+/// Makes room in the entry of a five-tuple, or for one.
+pub(crate) fn make_room_for<A: Allocator + Copy>(
+    entries: &mut Vec<(FiveTuple, Entry<A>), A>,
+    room: Reserved,
+) -> Result<(), AllocError>
+    ensures same { pairs entries.new.items ≡ pairs entries.old.items }
+    ensures room { OnOk result (HasRoom (room_of room) entries.new.items (vec_len entries.new) (vec_capacity entries.new)) }
+{
+    match place_of(entries, room.tuple) {
+        Ok(i) => make_room(&mut entries[i].1, room.permissions, room.channels),
+        Err(_) => entries.reserve(1),
+    }
+}
+
+/// Sets when an entry runs out.
+pub(crate) fn set_expiry<A: Allocator>(entry: &mut Entry<A>, expiry: u64)
+    ensures { entry.new.entry ≡ renewed expiry entry.old.entry }
+{
+    entry.expiry = expiry;
+}
+
+/// Installs one permission until a second.
+fn permit_one<A: Allocator + Copy>(entry: &mut Entry<A>, address: u32, expiry: u64)
+    requires { 0 < entry.old.permission_room }
+    ensures value { entry.new.entry ≡ permitting expiry (address ∷ []) entry.old.entry }
+    ensures room { entry.old.permission_room ≤ entry.new.permission_room + 1 }
+{
+    entry.permissions.put(address, expiry);
+}
+
+/// Installs permissions until a second.
+pub(crate) fn permit<A: Allocator + Copy>(entry: &mut Entry<A>, addresses: &[u32], expiry: u64)
+    requires { length addresses.now ≤ entry.old.permission_room }
+    ensures { entry.new.entry ≡ permitting expiry addresses.now entry.old.entry }
+{
+    let mut left = addresses.len();
+    while left > 0 {
+        left -= 1;
+        permit_one(entry, addresses[left], expiry);
+    }
+}
+
+/// Binds a channel, and installs the permission of its peer.
+pub(crate) fn bind<A: Allocator + Copy>(
+    entry: &mut Entry<A>,
+    number: u16,
+    peer: Endpoint,
+    moment: u64,
+)
+    requires permissions { 1 ≤ entry.old.permission_room }
+    requires channels { 1 ≤ entry.old.channel_room }
+    requires moment { moment < 2 ^ 40 }
+    ensures { entry.new.entry ≡ binding moment number peer entry.old.entry }
+{
+    entry.permissions.put(peer.ip, moment + 300);
+    entry.channels.put(
+        u32::from(number),
+        Channel {
+            peer,
+            expiry: moment + 600,
+        },
+    );
+}
+
+/// Drops the permissions and channels that have run out.
+fn purge_entry<A: Allocator + Copy>(entry: &mut Entry<A>, moment: u64)
+    ensures { entry.new.entry ≡ still_entry moment entry.old.entry }
+{
+    entry.permissions.purge(moment);
+    entry.channels.purge(moment);
+}
+
+/// The same for each entry.
+pub(crate) fn purge_entries<A: Allocator + Copy>(entries: &mut [(FiveTuple, Entry<A>)], moment: u64)
+    ensures { pairs entries.new ≡ map (still_pair moment) (pairs entries.old) }
+{
+    for slot in entries.iter_mut() {
+        purge_entry(&mut slot.1, moment);
+    }
+}

@@ -1,0 +1,415 @@
+//! The table.
+
+ghost use Rattle.std.specs.Prelude.{◌≡◌, ℕ, ◌+◌, ◌≤◌, ◌<◌, ◌↔◌, IsTrue, IsSome, IsSomeAnd, IfSome, IfNone, OnSome, OnOk, OnErr, MatchOption, Some, None, false, ◌==◌, ◌++◌, ◌∷◌, [], option_map, option_copied};
+ghost use Rattle.std.specs.FinMap as fin;
+ghost use Rattle.std.specs.Iterator.{YieldsFirstBy, item_count};
+ghost use Rattle.std.specs.List.{count_by, list_any};
+ghost use Rattle.std.specs.Option.{option_and_then};
+ghost use Rattle.std.specs.Str.{bytes_eq};
+ghost use Rattle.turn_table.specs.Order.{with_entry, without_entry};
+ghost use Rattle.turn_table.specs.State.{State};
+ghost use Rattle.turn_table.specs.Table.{Agrees, AgreesOncePurged, BecomesFree, RunsOut, freed_by, room_for};
+ghost use Rattle.turn_types.specs.Act.{act_of};
+ghost use Rattle.turn_types.specs.Fitting.{Fits, Follows, PortIsFree};
+ghost use Rattle.turn_types.specs.History.{History, Event, Permits, Binds};
+ghost use Rattle.turn_types.specs.Laws.{HasChannel, HasPermission};
+ghost use Rattle.turn_types.specs.Table.{table, applied, purged, renewed, permitting, binding, no_contents};
+ghost use Rattle.turn_types.specs.Table as tables;
+ghost use Rattle.turn_types.specs.declared.address.FiveTuple.{FiveTuple};
+
+use crate::edit::{Reserved, bind, make_room_for, permit, purge_entries, set_expiry};
+use crate::entry::Entry;
+use crate::fits::{fits_channel, fits_permissions, is_channel_number};
+use crate::search::{count_of, expired_of, has_port, holder_of, place_of};
+use crate::timed::Timed;
+use std::alloc::{AllocError, Allocator, Global};
+use std::marker::Model;
+use turn_ports::PortSet;
+use turn_types::{Act, Endpoint, FiveTuple, Limits, Moment};
+
+/// The allocations that live at a moment.
+#[derive(Drop)]
+pub struct Table<A: Allocator = Global> {
+    limits: Limits,
+    moment: Moment,
+    entries: Vec<(FiveTuple, Entry<A>), A>,
+    room: Option<Reserved>,
+}
+
+impl<A: Allocator> Model for Table<A> {
+    ghost use Rattle.std.specs.Prelude.{option_map};
+    ghost use Rattle.std.specs.Vec.{vec_len, vec_capacity};
+    ghost use Rattle.turn_table.specs.Order.{state_of, room_of, IsInOrder};
+    ghost use Rattle.turn_table.specs.State.{State, state_code};
+
+    ghost Value = { State };
+
+    ghost coded = { state_code };
+
+    ghost view = { λ t. state_of t.limits t.moment t.entries.items (option_map room_of t.room) };
+
+    ghost invariant = { λ t. IsInOrder t.entries.items (vec_len t.entries) (vec_capacity t.entries) (option_map room_of t.room) };
+}
+
+/// The entries of a table that are left, ascending by five-tuple.
+#[derive(Drop)]
+pub struct Entries<'a, A: Allocator = Global> {
+    rest: &'a [(FiveTuple, Entry<A>)],
+}
+
+impl<'a, A: Allocator> Model for Entries<'a, A> {
+    ghost use Rattle.std.specs.Prelude.{List};
+    ghost use Rattle.std.specs.Coded.{coded×, coded_list};
+    ghost use Rattle.turn_types.specs.Codes.{tuple_code, entry_code};
+    ghost use Rattle.turn_types.specs.Table.{Entry};
+    ghost use Rattle.turn_types.specs.declared.address.FiveTuple.{FiveTuple};
+    ghost use Rattle.turn_table.specs.State.{pairs};
+
+    ghost Value = { List (FiveTuple × Entry) };
+
+    ghost coded = { coded_list (coded× tuple_code entry_code) };
+
+    ghost view = { λ a. pairs a.rest.now };
+}
+
+impl<'a, A: Allocator> Iterator for Entries<'a, A> {
+    type Item = (FiveTuple, &'a Entry<A>);
+
+    ghost next_gives = { YieldsFirstBy (λ x. (x.0, x.1.now.entry)) (λ s. s) };
+
+    ghost remaining = { item_count (λ s. s) };
+
+    fn next(&mut self) -> Option<(FiveTuple, &'a Entry<A>)> {
+        match self.rest {
+            [first, rest @ ..] => {
+                self.rest = rest;
+                Some((first.0, &first.1))
+            }
+            [] => None,
+        }
+    }
+}
+
+impl<A: Allocator + Copy> Table<A> {
+    /// A table at a moment, without entries.
+    pub fn new(alloc: A, limits: Limits, moment: Moment) -> Table<A>
+        ensures { result ≡ record { bounds = limits; moment = moment; contents = no_contents; room = None } }
+    {
+        Table {
+            limits,
+            moment,
+            entries: Vec::new(alloc),
+            room: None,
+        }
+    }
+
+    pub fn limits(&self) -> Limits
+        ensures { result ≡ self.now.bounds }
+    {
+        self.limits
+    }
+
+    /// The moment at which the entries are those that live.
+    pub fn moment(&self) -> Moment
+        ensures { result ≡ self.now.moment }
+    {
+        self.moment
+    }
+
+    /// How many entries it has.
+    pub fn len(&self) -> usize
+        ensures { result ≡ fin.len self.now.contents.entries }
+    {
+        self.entries.len()
+    }
+
+    pub fn is_empty(&self) -> bool
+        ensures { IsTrue result ↔ (fin.len self.now.contents.entries ≡ 0) }
+    {
+        self.len() == 0
+    }
+
+    /// Whether it has as many entries as its limits allow.
+    pub fn is_full(&self) -> bool
+        ensures { IsTrue result ↔ (self.now.bounds.allocations ≤ fin.len self.now.contents.entries) }
+    {
+        self.limits.allocations() as usize <= self.len()
+    }
+
+    /// The entries, ascending by five-tuple.
+    pub fn entries(&self) -> Entries<'_, A>
+        ensures { result ≡ fin.entries self.now.contents.entries }
+    {
+        Entries {
+            rest: &self.entries,
+        }
+    }
+
+    /// The entry of a five-tuple.
+    pub fn get(&self, tuple: FiveTuple) -> Option<&Entry<A>>
+        ensures { option_map (λ e. e.entry) (option_copied result) ≡ fin.get self.now.contents.entries tuple }
+    {
+        match place_of(&self.entries, tuple) {
+            Ok(i) => Some(&self.entries[i].1),
+            Err(_) => None,
+        }
+    }
+
+    /// An entry with a relayed port, and its five-tuple.
+    pub fn by_port(&self, port: u16) -> Option<(FiveTuple, &Entry<A>)>
+        ensures { MatchOption result (PortIsFree self.now.contents port) (λ x.
+            (fin.get self.now.contents.entries x.0 ≡ Some x.1.now.entry) × (x.1.now.entry.port ≡ port)) }
+    {
+        match holder_of(&self.entries, port) {
+            Some(i) => {
+                let slot = &self.entries[i];
+                Some((slot.0, &slot.1))
+            }
+            None => None,
+        }
+    }
+
+    /// How many entries a user made.
+    pub fn count_of_user(&self, user: &[u8]) -> usize
+        ensures { result ≡ count_by (λ p. bytes_eq p.1.user user.now) (fin.entries self.now.contents.entries) }
+    {
+        count_of(&self.entries, user)
+    }
+
+    /// Whether an address has a permission (RFC 8656, section 9).
+    pub fn permitted(&self, tuple: FiveTuple, ip: u32) -> bool
+        ensures { IsTrue result ↔ HasPermission self.now.contents tuple ip }
+    {
+        match self.get(tuple) {
+            Some(entry) => entry.is_permitted(ip),
+            None => false,
+        }
+    }
+
+    /// The peer of a channel (RFC 8656, section 12).
+    pub fn peer_of(&self, tuple: FiveTuple, number: u16) -> Option<Endpoint>
+        ensures { result ≡ option_and_then (λ e. option_map (λ c. c.peer) (fin.get e.channels number)) (fin.get self.now.contents.entries tuple) }
+    {
+        match self.get(tuple) {
+            Some(entry) => match entry.channel(number) {
+                Some(channel) => Some(channel.peer),
+                None => None,
+            },
+            None => None,
+        }
+    }
+
+    /// A channel number that is bound to a peer.
+    pub fn channel_to(&self, tuple: FiveTuple, peer: Endpoint) -> Option<u16>
+        ensures { MatchOption result ((n : ℕ) → ¬ HasChannel self.now.contents tuple n peer) (λ n. HasChannel self.now.contents tuple n peer) }
+    {
+        match self.get(tuple) {
+            Some(entry) => entry.channel_to(peer),
+            None => None,
+        }
+    }
+
+    /// Whether an act of a five-tuple may be the next change.
+    pub fn fits(&self, tuple: FiveTuple, act: &Act<A>) -> bool
+        ensures { IsTrue result ↔ Fits self.now.bounds self.now.contents tuple (act_of act.now) }
+    {
+        match act {
+            Act::Alloc { port, .. } => {
+                self.get(tuple).is_none() && self.by_port(*port).is_none() && !self.is_full()
+            }
+            Act::Renew { .. } => self.get(tuple).is_some(),
+            Act::Permit { addresses } => match self.get(tuple) {
+                Some(entry) => {
+                    fits_permissions(entry, addresses.as_slice(), self.limits.permissions())
+                }
+                None => false,
+            },
+            Act::Bind { number, peer } => match self.get(tuple) {
+                Some(entry) => {
+                    is_channel_number(*number) && fits_channel(entry, self.limits, *number, *peer)
+                }
+                None => false,
+            },
+        }
+    }
+
+    /// Makes the room that an act of a five-tuple needs, if it is the next change. After an `Err` the limits, the
+    /// moment and the entries are as before, and there is room for no act.
+    pub fn reserve_for(&mut self, tuple: FiveTuple, act: &Act<A>) -> Result<(), AllocError>
+        ensures ok { OnOk result (self.new ≡ record self.old { room = Some (room_for tuple (act_of act.now)) }) }
+        ensures err { OnErr result (self.new ≡ record self.old { room = None }) }
+    {
+        self.room = None;
+        let room = Reserved::for_act(tuple, act);
+        make_room_for(&mut self.entries, room)?;
+        self.room = Some(room);
+        Ok(())
+    }
+
+    /// Adds the entry of a five-tuple that has none.
+    fn insert_entry(&mut self, tuple: FiveTuple, entry: Entry<A>)
+        requires room { IsSomeAnd self.old.room (λ r. r.tuple ≡ tuple) }
+        requires absent { fin.get self.old.contents.entries tuple ≡ None }
+        ensures { self.new ≡ with_entry self.old tuple entry.entry }
+    {
+        self.room = None;
+        match place_of(&self.entries, tuple) {
+            Err(i) => {
+                let Ok(()) = self.entries.insert(i, (tuple, entry)) else {
+                    unreachable!()
+                };
+            }
+            Ok(_) => unreachable!(),
+        }
+    }
+
+    /// Removes the entry of a five-tuple, and gives its port.
+    fn remove_entry(&mut self, tuple: FiveTuple) -> u16
+        requires { IsSome (fin.get self.old.contents.entries tuple) }
+        ensures state { self.new ≡ without_entry self.old tuple }
+        ensures port { IsSomeAnd (fin.get self.old.contents.entries tuple) (λ e. e.port ≡ result) }
+    {
+        self.room = None;
+        match place_of(&self.entries, tuple) {
+            Ok(i) => {
+                let (_, entry) = self.entries.remove(i);
+                entry.port()
+            }
+            Err(_) => unreachable!(),
+        }
+    }
+
+    /// Sets when an entry runs out.
+    fn renew(&mut self, tuple: FiveTuple, expiry: u64)
+        requires { IsSome (fin.get self.old.contents.entries tuple) }
+        ensures { IsSomeAnd (fin.get self.old.contents.entries tuple) (λ e. self.new ≡ with_entry self.old tuple (renewed expiry e)) }
+    {
+        self.room = None;
+        match place_of(&self.entries, tuple) {
+            Ok(i) => set_expiry(&mut self.entries[i].1, expiry),
+            Err(_) => unreachable!(),
+        }
+    }
+
+    /// Installs permissions in an entry.
+    fn permit(&mut self, tuple: FiveTuple, addresses: &[u32], expiry: u64)
+        requires there { IsSome (fin.get self.old.contents.entries tuple) }
+        requires room { self.old.room ≡ Some (room_for tuple (Permits addresses.now)) }
+        ensures { IsSomeAnd (fin.get self.old.contents.entries tuple) (λ e. self.new ≡ with_entry self.old tuple (permitting expiry addresses.now e)) }
+    {
+        self.room = None;
+        match place_of(&self.entries, tuple) {
+            Ok(i) => permit(&mut self.entries[i].1, addresses, expiry),
+            Err(_) => unreachable!(),
+        }
+    }
+
+    /// Binds a channel of an entry.
+    fn bind(&mut self, tuple: FiveTuple, number: u16, peer: Endpoint, moment: Moment)
+        requires there { IsSome (fin.get self.old.contents.entries tuple) }
+        requires room { self.old.room ≡ Some (room_for tuple (Binds number peer)) }
+        ensures { IsSomeAnd (fin.get self.old.contents.entries tuple) (λ e. self.new ≡ with_entry self.old tuple (binding moment number peer e)) }
+    {
+        self.room = None;
+        match place_of(&self.entries, tuple) {
+            Ok(i) => bind(&mut self.entries[i].1, number, peer, moment.seconds()),
+            Err(_) => unreachable!(),
+        }
+    }
+
+    /// Does an act of a five-tuple at the table's moment, in the room that was made for it. Gives the port that
+    /// became free, if the act is a Renew of 0.
+    pub fn apply(&mut self, moment: Moment, tuple: FiveTuple, act: Act<A>) -> Option<u16>
+        requires purged { self.old.moment ≡ moment }
+        requires reserved { self.old.room ≡ Some (room_for tuple (act_of act)) }
+        requires fits { Fits self.old.bounds self.old.contents tuple (act_of act) }
+        ensures state { self.new ≡ record self.old { contents = applied moment tuple (act_of act) self.old.contents; room = None } }
+        ensures freed { result ≡ freed_by (act_of act) (fin.get self.old.contents.entries tuple) }
+        ensures free { IfSome result (BecomesFree self.old.contents self.new.contents) }
+        ensures agrees { (h : History) →
+            let e : Event = record { moment = moment; tuple = tuple; act = act_of act } in
+            Follows self.old.bounds h e → Agrees self.old h → Agrees self.new (h ++ e ∷ []) }
+    {
+        let alloc = *self.entries.allocator();
+        match act {
+            Act::Alloc {
+                user,
+                port,
+                granted,
+                tx,
+            } => {
+                self.insert_entry(
+                    tuple,
+                    Entry {
+                        user,
+                        port,
+                        granted,
+                        tx,
+                        expiry: moment.seconds() + u64::from(granted),
+                        permissions: Timed::new(alloc),
+                        channels: Timed::new(alloc),
+                    },
+                );
+                None
+            }
+            Act::Renew { granted } => {
+                if granted == 0 {
+                    return Some(self.remove_entry(tuple));
+                }
+                self.renew(tuple, moment.seconds() + u64::from(granted));
+                None
+            }
+            Act::Permit { addresses } => {
+                self.permit(tuple, addresses.as_slice(), moment.seconds() + 300);
+                None
+            }
+            Act::Bind { number, peer } => {
+                self.bind(tuple, number, peer, moment);
+                None
+            }
+        }
+    }
+
+    /// Removes an entry that has run out by a moment that is not before the table's, and gives its port. Where no
+    /// such entry is left, drops the permissions and channels that have run out; the table then stands at the
+    /// moment. Called until `None`; in between the table agrees with no history, but would once it is purged.
+    pub fn purge(&mut self, moment: Moment) -> Option<u16>
+        requires { self.old.moment ≤ moment }
+        ensures one { IfSome result (RunsOut moment self.old.contents self.new.contents) }
+        ensures free { IfSome result (BecomesFree self.old.contents self.new.contents) }
+        ensures others { OnSome result (self.new ≡ record self.old { contents = self.new.contents; room = None }) }
+        ensures rest { OnSome result (purged moment self.new.contents ≡ purged moment self.old.contents) }
+        ensures fewer { OnSome result (fin.len self.new.contents.entries + 1 ≡ fin.len self.old.contents.entries) }
+        ensures all { IfNone result (self.new ≡ record self.old { moment = moment; contents = purged moment self.old.contents; room = None }) }
+        ensures kept { IfNone result ((f : FiveTuple) (e : tables.Entry) → fin.get self.old.contents.entries f ≡ Some e → moment < e.expiry) }
+        ensures begins { (h : History) → Agrees self.old h → AgreesOncePurged moment self.old h }
+        ensures agrees { (h : History) → AgreesOncePurged moment self.old h →
+            MatchOption result (Agrees self.new h) (λ _. AgreesOncePurged moment self.new h) }
+    {
+        match expired_of(&self.entries, moment.seconds()) {
+            Some(i) => {
+                self.room = None;
+                let (_, entry) = self.entries.remove(i);
+                Some(entry.port())
+            }
+            None => {
+                self.room = None;
+                purge_entries(&mut self.entries, moment.seconds());
+                self.moment = moment;
+                None
+            }
+        }
+    }
+}
+
+impl<A: Allocator + Copy> PortSet for Table<A> {
+    ghost has = { λ t port. list_any (λ p. p.1.port == port) (fin.entries t.contents.entries) };
+
+    /// Whether an entry has the port.
+    fn has(&self, port: u16) -> bool
+        ensures value { result ≡ list_any (λ p. p.1.port == port) (fin.entries self.now.contents.entries) }
+        ensures free { result ≡ false → PortIsFree self.now.contents port }
+    {
+        has_port(&self.entries, port)
+    }
+}
