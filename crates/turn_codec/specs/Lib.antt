@@ -4,3 +4,4 @@ pub mod Channel
 pub mod Fault
 pub mod Grammar
 pub mod Reading
+pub mod Seen

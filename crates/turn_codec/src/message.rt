@@ -5,6 +5,7 @@ ghost use Rattle.turn_codec.specs.Grammar.{Content, Spells, before, from, value_
 ghost use Rattle.turn_codec.specs.Reading.{class_of, method_of};
 ghost use Rattle.turn_codec.specs.Fault.{fault_of};
 ghost use Rattle.turn_codec.specs.AttributeTypes.{message_integrity};
+ghost use Rattle.turn_codec.specs.Seen.{has_unknown, seen_value};
 
 use crate::attribute::{Attributes, are_attributes, find_attribute};
 use crate::attribute_type::AttributeType;
@@ -179,6 +180,26 @@ impl<'a> Message<'a> {
             Some((offset, _, _)) => Attributes::new(&body[..offset]),
             None => Attributes::new(body),
         }
+    }
+
+    /// The value of the first attribute of a type, among those before the first MESSAGE-INTEGRITY.
+    #[tactic(auto, unfolding(crate::specs::Seen::seen_value))]
+    pub fn seen_value(&self, kind: AttributeType) -> Option<&'a [u8]>
+        ensures { option_copied result ≡ seen_value self.now.content kind }
+    {
+        self.seen().value_of(kind)
+    }
+
+    /// Whether a type is seen that a receiver has to understand and this server doesn't.
+    pub fn has_unknown(&self) -> bool
+        ensures { result ≡ has_unknown self.now.content }
+    {
+        for (kind, _) in self.seen() {
+            if kind.is_unknown() {
+                return true;
+            }
+        }
+        false
     }
 }
 

@@ -4,3 +4,4 @@ pub mod Crc
 pub mod Integrity
 pub mod Register
 pub mod CrcState
+pub mod Fingerprint

@@ -3,16 +3,18 @@
 
 mod crc;
 mod crc_table;
+mod fingerprint;
 mod hmac;
 mod integrity;
 mod laws;
 
 pub use crc::crc32;
+pub use fingerprint::{has_fingerprint, has_wrong_fingerprint};
 pub use hmac::{generate_auth_key, hmac_sha1, hmac_sha256};
 pub use integrity::{
     append_fingerprint, append_integrity, digests_agree, fingerprint_holds, integrity_holds,
 };
-pub use laws::long_division;
+pub use laws::{fingerprint_is_decided, long_division};
 
 #[cfg(test)]
 mod tests;

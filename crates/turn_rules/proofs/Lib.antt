@@ -1,3 +1,6 @@
 pub mod Collecting
-pub mod Fingerprints
 pub mod Sizes
+pub mod Lines
+pub mod EachOnce
+pub mod Fitting
+pub mod Alone

@@ -1,12 +1,13 @@
 -- Worked examples: the client 192.0.2.1:32853 sends messages to 192.0.2.100:3478.
-use Rattle.std.specs.Prelude.{◌≡◌, ℕ, ◌+◌, ◌-◌, ◌*◌, nat_le, if◌then◌else◌, List, [], ◌∷◌, None, Some, codes}
+use Rattle.std.specs.Prelude.{◌≡◌, ℕ, ◌+◌, ◌-◌, ◌*◌, nat_le, if◌then◌else◌, List, [], ◌∷◌, Option, None, Some, codes}
 use Rattle.turn_types.specs.declared.address.Endpoint.{Endpoint}
 use Rattle.turn_types.specs.declared.address.FiveTuple.{FiveTuple}
 use Rattle.turn_types.specs.declared.message.Class.TheVariants.{Request}
 use Rattle.turn_types.specs.Config.{Config}
 use Rattle.turn_types.specs.Methods.{binding}
+use Rattle.turn_types.specs.Table.{Contents}
 use Rattle.turn_codec.specs.Grammar.{Attribute, Content, Datagram, Spells}
-use Rattle.turn_rules.specs.Answer.{reply}
+use Rattle.turn_rules.specs.Answer.{decision}
 use Rattle.turn_rules.specs.Response.{attribute}
 
 abbrev pub digit : ℕ → ℕ
@@ -24,10 +25,12 @@ five_tuple = record { client = record { ip = 3221225985; port = 32853 }; server 
 abbrev pub binding_request : List Attribute → Content
 binding_request attributes = record { class = Request; method = binding; tx = hex (codes "0102030405060708090a0b0c"); attributes = attributes }
 
--- what the bytes spell, and the reply to it, under any configuration, at any moment
+-- what the bytes spell, and the reply to it, under any configuration, over any table, at any moment: nothing is done
 pub record IsAnswered (bytes : List ℕ) (m : Content) (answer : List ℕ) : Type 0 where
   pub spells : Spells bytes m
-  pub reply : (s : Config) (t : ℕ) → let d : Datagram = record { bytes = bytes; content = m } in reply s five_tuple t d None ≡ Some answer
+  pub decision : (s : Config) (c : Contents) (t : ℕ) (port : Option ℕ) →
+      let d : Datagram = record { bytes = bytes; content = m } in
+      decision s c five_tuple t d None port ≡ record { reply = Some answer; act = None }
 
 -- a Binding request, and its success
 abbrev pub BindingExample : Type 0

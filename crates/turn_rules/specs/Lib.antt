@@ -1,8 +1,14 @@
+pub mod Allocate
 pub mod Answer
+pub mod Channel
+pub mod Choice
 pub mod Collected
 pub mod Examples
-pub mod Fingerprint
+pub mod Fields
 pub mod Line
+pub mod Owner
+pub mod Permission
+pub mod Refresh
 pub mod Response
 pub mod Unknown
 pub mod Written

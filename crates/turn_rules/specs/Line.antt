@@ -2,6 +2,7 @@
 use Rattle.std.specs.Prelude.{ℕ, List, [], ◌∷◌, Option, Some, None}
 use Rattle.std.specs.List.{flat_map}
 use Rattle.std.specs.Int.{w16, to_be_bytes}
+use Rattle.turn_types.specs.History.{PlainAct}
 use Rattle.turn_types.specs.declared.error.ErrorCode.{ErrorCode}
 use Rattle.turn_types.specs.declared.error.ErrorCode.TheVariants.{UnknownAttribute}
 use Rattle.turn_types.specs.declared.message.Class.TheVariants.{Success, Error}
@@ -15,8 +16,8 @@ pub data Line : Type 0 where
   Drop : Line
   -- an error, with further attributes
   Refuse : (code : ErrorCode) (more : List Attribute) → Line
-  -- a success, with attributes of its own
-  Succeed : (own : List Attribute) → Line
+  -- a success, with attributes of its own, and what it does to the allocation of the five-tuple
+  Succeed : (own : List Attribute) (act : Option PlainAct) → Line
 
 abbrev pub refuse : ErrorCode → Line
 refuse code = Refuse code []
@@ -29,4 +30,10 @@ refuse_unknown m = Refuse UnknownAttribute (attribute unknown_attributes (flat_m
 abbrev pub response_of : Content → Option (List ℕ) → Line → Option Content
 response_of m key Drop = None
 response_of m key (Refuse code more) = Some (response m Error key (error_attribute code ∷ more))
-response_of m key (Succeed own) = Some (response m Success key own)
+response_of m key (Succeed own act) = Some (response m Success key own)
+
+-- what a line does to the allocation of the five-tuple, if anything
+abbrev pub act_in : Line → Option PlainAct
+act_in Drop = None
+act_in (Refuse code more) = None
+act_in (Succeed own act) = act

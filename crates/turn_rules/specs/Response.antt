@@ -5,9 +5,9 @@ use Rattle.turn_types.specs.declared.message.Class.{Class}
 use Rattle.turn_types.specs.ErrorCode.{number_of, reason_of}
 use Rattle.std.specs.Option.{option_map_or}
 use Rattle.turn_codec.specs.Grammar.{Attribute, Content, canonical, with_attribute}
-use Rattle.turn_codec.specs.AttributeTypes.{error_code, message_integrity}
-use Rattle.turn_mac.specs.Integrity.{integrity_of}
-use Rattle.turn_rules.specs.Fingerprint.{has_fingerprint, with_fingerprint}
+use Rattle.turn_codec.specs.AttributeTypes.{error_code, fingerprint, message_integrity}
+use Rattle.turn_mac.specs.Fingerprint.{has_fingerprint}
+use Rattle.turn_mac.specs.Integrity.{fingerprint_of, integrity_of}
 
 abbrev pub attribute : ℕ → List ℕ → Attribute
 attribute kind value = record { kind = kind; value = value }
@@ -19,6 +19,10 @@ plain_response m class own = record { class = class; method = m.method; tx = m.t
 -- a message with the MESSAGE-INTEGRITY that holds under a key (RFC 8489, section 14.5)
 unfoldable pub with_integrity : List ℕ → Content → Content
 with_integrity key m = with_attribute m message_integrity (integrity_of key (canonical m))
+
+-- a message with the FINGERPRINT that is right for it (RFC 8489, section 14.7)
+unfoldable pub with_fingerprint : Content → Content
+with_fingerprint m = with_attribute m fingerprint (fingerprint_of (canonical m))
 
 -- a response with its MESSAGE-INTEGRITY, where there is a key
 unfoldable pub signed : Option (List ℕ) → Content → Content

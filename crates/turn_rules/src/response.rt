@@ -6,10 +6,10 @@ ghost use Rattle.turn_codec.specs.Grammar.{body_size, canonical, from, size_of};
 ghost use Rattle.turn_rules.specs.Response.{plain_response, response, with_integrity};
 ghost use Rattle.turn_rules.specs.Written.{attribute_of};
 
-use crate::fingerprint::{add_fingerprint, has_fingerprint};
+use crate::fingerprint::add_fingerprint;
 use std::alloc::{AllocError, Allocator};
 use turn_codec::{AttributeType, Builder, Message, PushError};
-use turn_mac::append_integrity;
+use turn_mac::{append_integrity, has_fingerprint};
 use turn_types::Class;
 
 /// Bytes of attributes for which a response is made in one piece: no response has more.

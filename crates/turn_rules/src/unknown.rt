@@ -4,7 +4,7 @@ ghost use Rattle.std.specs.Prelude.{◌≡◌, ◌≤◌, [], length};
 ghost use Rattle.std.specs.List.{flat_map};
 ghost use Rattle.std.specs.Int.{w16, to_be_bytes};
 ghost use Rattle.turn_rules.specs.Collected.{is_in, with_once};
-ghost use Rattle.turn_rules.specs.Unknown.{has_unknown, unknown_types};
+ghost use Rattle.turn_rules.specs.Unknown.{unknown_types};
 
 use crate::value;
 use crate::value::ShortValue;
@@ -67,18 +67,6 @@ impl UnknownTypes {
         BigEndian::write_u16_into(&self.types[..self.count], &mut bytes[..size]);
         ShortValue { bytes, size }
     }
-}
-
-/// Whether a request has a type that the server doesn't understand.
-pub(crate) fn has_unknown(message: &Message<'_>) -> bool
-    ensures { result ≡ has_unknown message.now.content }
-{
-    for (kind, _) in message.seen() {
-        if kind.is_unknown() {
-            return true;
-        }
-    }
-    false
 }
 
 /// The types that a request has and the server doesn't understand.

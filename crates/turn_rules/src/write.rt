@@ -3,20 +3,26 @@
 ghost use Rattle.std.specs.Prelude.{◌≡◌, ◌∷◌, [], Some, IfOk, map, option_map};
 ghost use Rattle.turn_codec.specs.AttributeTypes as types;
 ghost use Rattle.turn_codec.specs.Grammar.{canonical};
+ghost use Rattle.turn_codec.specs.Address.{xor_value};
+ghost use Rattle.turn_rules.specs.Allocate.{allocated, lifetime_attribute};
 ghost use Rattle.turn_rules.specs.Answer.{challenge};
 ghost use Rattle.turn_rules.specs.Line.{refuse, refuse_unknown, response_of};
-ghost use Rattle.turn_rules.specs.Response.{attribute};
-ghost use Rattle.turn_rules.specs.Written.{attribute_of, line_of};
+ghost use Rattle.turn_rules.specs.Line.Line.{Succeed};
+ghost use Rattle.turn_rules.specs.Response.{attribute, response};
+ghost use Rattle.turn_rules.specs.Written.{act_by, act_chosen, attribute_of, line_of, signed_line_of};
+ghost use Rattle.turn_types.specs.Act.{act_of};
 
 use crate::decision::Request;
-use crate::line::Line;
+use crate::line::{Choice, Line};
 use crate::response::{OwnAttribute, respond};
 use crate::unknown::unknown_types;
 use crate::value::error_value;
 use std::alloc::{AllocError, Allocator};
 use turn_codec::{AttributeType, Message, xor_address};
 use turn_cred::Nonces;
-use turn_types::{Class, Endpoint, ErrorCode, Moment, ServerConfig};
+use turn_types::{
+    Act, Addresses, Class, Endpoint, ErrorCode, Moment, ServerConfig, TxId, UserName,
+};
 
 type Key = Option<[u8; 16]>;
 
@@ -88,26 +94,23 @@ fn write_challenge<A: Allocator + Copy, C: Allocator>(
     request: &Request<'_>,
     moment: Moment,
     code: ErrorCode,
-    key: Key,
 ) -> Result<Vec<u8, A>, AllocError>
-    ensures { IfOk result (λ v. Some v.items ≡ option_map canonical (response_of request.now.message.content key
+    ensures { IfOk result (λ v. Some v.items ≡ option_map canonical (response_of request.now.message.content None
         (challenge config.now request.now.five_tuple.client moment code))) }
 {
     let error = error_value(code);
     let nonce = Nonces::new(*config.secret()).issue(request.five_tuple.client, moment);
     let own = challenge_attributes(error.as_slice(), config.realm(), &nonce);
-    respond(alloc, &request.message, Class::Error, key, &own)
+    respond(alloc, &request.message, Class::Error, None, &own)
 }
 
-fn write_mapped<A: Allocator + Copy, C: Allocator>(
+fn write_mapped<A: Allocator + Copy>(
     alloc: A,
-    config: &ServerConfig<C>,
     request: &Request<'_>,
-    moment: Moment,
     key: Key,
 ) -> Result<Vec<u8, A>, AllocError>
-    ensures { IfOk result (λ v. Some v.items ≡ option_map canonical (response_of request.now.message.content key
-        (line_of config.now request.now.five_tuple moment request.now.message.content Line.Mapped))) }
+    ensures { IfOk result (λ v. v.items ≡ canonical (response request.now.message.content Class.Success key
+        (attribute types.xor_mapped_address (xor_value request.now.five_tuple.client) ∷ []))) }
 {
     let mapped = xor_address(request.five_tuple.client);
     let own = [OwnAttribute {
@@ -117,24 +120,177 @@ fn write_mapped<A: Allocator + Copy, C: Allocator>(
     respond(alloc, &request.message, Class::Success, key, &own)
 }
 
-/// The response that a line makes, if it makes one, signed under the key, if there is one.
+// One lifetime for the three values, as the array needs it.
+fn allocated_attributes<'a>(
+    relayed: &'a [u8],
+    lifetime: &'a [u8],
+    mapped: &'a [u8],
+) -> [OwnAttribute<'a>; 3]
+    ensures { map attribute_of result
+        ≡ attribute types.xor_relayed_address relayed.now ∷ attribute types.lifetime lifetime.now ∷ attribute types.xor_mapped_address mapped.now ∷ [] }
+{
+    [
+        OwnAttribute {
+            kind: AttributeType::XOR_RELAYED_ADDRESS,
+            value: relayed,
+        },
+        OwnAttribute {
+            kind: AttributeType::LIFETIME,
+            value: lifetime,
+        },
+        OwnAttribute {
+            kind: AttributeType::XOR_MAPPED_ADDRESS,
+            value: mapped,
+        },
+    ]
+}
+
+fn write_allocated<A: Allocator + Copy, C: Allocator>(
+    alloc: A,
+    config: &ServerConfig<C>,
+    request: &Request<'_>,
+    key: Key,
+    port: u16,
+    granted: u32,
+) -> Result<Vec<u8, A>, AllocError>
+    ensures { IfOk result (λ v. v.items ≡ canonical (response request.now.message.content Class.Success key
+        (allocated config.now request.now.five_tuple.client port granted))) }
+{
+    let relayed = xor_address(Endpoint {
+        ip: config.relay(),
+        port,
+    });
+    let lifetime = granted.to_be_bytes();
+    let client = xor_address(request.five_tuple.client);
+    let own = allocated_attributes(&relayed, &lifetime, &client);
+    respond(alloc, &request.message, Class::Success, key, &own)
+}
+
+fn write_lifetime<A: Allocator + Copy>(
+    alloc: A,
+    message: &Message<'_>,
+    key: Key,
+    granted: u32,
+) -> Result<Vec<u8, A>, AllocError>
+    ensures { IfOk result (λ v. v.items ≡ canonical (response message.now.content Class.Success key (lifetime_attribute granted ∷ []))) }
+{
+    let lifetime = granted.to_be_bytes();
+    let own = [OwnAttribute {
+        kind: AttributeType::LIFETIME,
+        value: &lifetime,
+    }];
+    respond(alloc, message, Class::Success, key, &own)
+}
+
+fn write_success<A: Allocator + Copy>(
+    alloc: A,
+    message: &Message<'_>,
+    key: Key,
+) -> Result<Vec<u8, A>, AllocError>
+    ensures { IfOk result (λ v. v.items ≡ canonical (response message.now.content Class.Success key [])) }
+{
+    respond(alloc, message, Class::Success, key, &[])
+}
+
+/// The response that a line makes, if it makes one, signed under the key, if there is one. The user counts for none.
+fn write_line<A: Allocator + Copy, C: Allocator>(
+    alloc: A,
+    config: &ServerConfig<C>,
+    request: &Request<'_>,
+    line: &Line,
+    key: Key,
+) -> Result<Option<Vec<u8, A>>, AllocError>
+    ensures { IfOk result (λ r. option_map (λ v. v.items) r ≡ option_map canonical (response_of request.now.message.content key
+        (line_of config.now request.now.five_tuple.client [] request.now.message.content line.now))) }
+{
+    let message = &request.message;
+    Ok(match line {
+        Line::Drop => None,
+        Line::Refuse(code) => Some(write_error(alloc, message, *code, key)?),
+        Line::RefuseUnknown => Some(write_unknown(alloc, message, key)?),
+        Line::Mapped => Some(write_mapped(alloc, request, key)?),
+        Line::Repeat { port, granted } | Line::Allocate { port, granted } => {
+            Some(write_allocated(alloc, config, request, key, *port, *granted)?)
+        }
+        Line::Renew { granted } => Some(write_lifetime(alloc, message, key, *granted)?),
+        Line::Permit(_) | Line::Bind { .. } => Some(write_success(alloc, message, key)?),
+    })
+}
+
+/// The reply that is chosen, if one is.
+#[tactic(auto, using(crate::proofs::Lines::same_response))]
 pub(crate) fn write<A: Allocator + Copy, C: Allocator>(
     alloc: A,
     config: &ServerConfig<C>,
     request: &Request<'_>,
     moment: Moment,
-    line: Line,
-    key: Key,
+    choice: &Choice<'_>,
 ) -> Result<Option<Vec<u8, A>>, AllocError>
-    ensures { IfOk result (λ r. option_map (λ v. v.items) r ≡ option_map canonical (response_of request.now.message.content key
-        (line_of config.now request.now.five_tuple moment request.now.message.content line))) }
+    ensures { IfOk result (λ r. option_map (λ v. v.items) r
+        ≡ (let counts = signed_line_of config.now request.now.five_tuple.client moment request.now.message.content choice.now in
+        option_map canonical (response_of request.now.message.content counts.key counts.line))) }
 {
-    let message = &request.message;
+    match choice {
+        Choice::Plain(line) => write_line(alloc, config, request, line, None),
+        Choice::Challenge(code) => Ok(Some(write_challenge(
+            alloc, config, request, moment, *code,
+        )?)),
+        Choice::Signed { line, key, .. } => write_line(alloc, config, request, line, Some(*key)),
+    }
+}
+
+fn make_name<A: Allocator + Copy>(alloc: A, user: &[u8]) -> Result<UserName<A>, AllocError>
+    ensures { IfOk result (λ n. n ≡ user.now) }
+{
+    Ok(UserName::from(Vec::from_slice(alloc, user)?))
+}
+
+fn make_addresses<A: Allocator + Copy>(alloc: A, ips: &[u32]) -> Result<Addresses<A>, AllocError>
+    ensures { IfOk result (λ a. a ≡ ips.now) }
+{
+    Ok(Addresses::from(Vec::from_slice(alloc, ips)?))
+}
+
+/// What a line of a user's request does, if it does anything.
+fn line_act<A: Allocator + Copy>(
+    alloc: A,
+    message: &Message<'_>,
+    user: &[u8],
+    line: &Line,
+) -> Result<Option<Act<A>>, AllocError>
+    ensures { IfOk result (λ a. option_map act_of a ≡ act_by user.now message.now.content line.now) }
+{
     Ok(match line {
-        Line::Drop => None,
-        Line::Refuse(code) => Some(write_error(alloc, message, code, key)?),
-        Line::Challenge(code) => Some(write_challenge(alloc, config, request, moment, code, key)?),
-        Line::RefuseUnknown => Some(write_unknown(alloc, message, key)?),
-        Line::Mapped => Some(write_mapped(alloc, config, request, moment, key)?),
+        Line::Drop | Line::Refuse(_) | Line::RefuseUnknown | Line::Mapped | Line::Repeat { .. } =>
+            None,
+        Line::Allocate { port, granted } => Some(Act::Alloc {
+            user: make_name(alloc, user)?,
+            port: *port,
+            granted: *granted,
+            tx: message.tx(),
+        }),
+        Line::Renew { granted } => Some(Act::Renew { granted: *granted }),
+        Line::Permit(addresses) => Some(Act::Permit {
+            addresses: make_addresses(alloc, addresses.as_slice())?,
+        }),
+        Line::Bind { number, peer } => Some(Act::Bind {
+            number: *number,
+            peer: *peer,
+        }),
     })
+}
+
+/// What is chosen to be done to the allocation, if anything is.
+pub(crate) fn make_act<A: Allocator + Copy>(
+    alloc: A,
+    message: &Message<'_>,
+    choice: &Choice<'_>,
+) -> Result<Option<Act<A>>, AllocError>
+    ensures { IfOk result (λ a. option_map act_of a ≡ act_chosen message.now.content choice.now) }
+{
+    match choice {
+        Choice::Plain(line) => line_act(alloc, message, &[], line),
+        Choice::Challenge(_) => Ok(None),
+        Choice::Signed { line, user, .. } => line_act(alloc, message, user, line),
+    }
 }

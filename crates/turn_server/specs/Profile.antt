@@ -1,7 +1,11 @@
 -- What `turn answer` answers by: the realm example.org, no users, a secret of 32 zero bytes, no denied addresses.
-use Rattle.std.specs.Prelude.{ℕ, List, [], None, replicate, codes}
+use Rattle.std.specs.Prelude.{ℕ, List, [], Option, None, replicate, codes}
 use Rattle.turn_types.specs.Config.{Config}
+use Rattle.turn_types.specs.Table.{no_contents}
+use Rattle.turn_types.specs.declared.address.FiveTuple.{FiveTuple}
+use Rattle.turn_codec.specs.Grammar.{Datagram}
 use Rattle.turn_cred.specs.Credential.{Keys}
+use Rattle.turn_rules.specs.Answer.{decision, judgement}
 
 abbrev pub profile : Config
 profile = record {
@@ -15,3 +19,7 @@ profile = record {
 
 abbrev pub no_keys : Keys
 no_keys user realm = None
+
+-- the reply to a client's message at a moment, over an empty table: no user is known, so none passes, and no port is needed
+unfoldable pub answer : FiveTuple → ℕ → Datagram → Option (List ℕ)
+answer f t d = (decision profile no_contents f t d (judgement profile no_keys f.client t d) None).reply

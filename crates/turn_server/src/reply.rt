@@ -4,16 +4,17 @@ ghost use Rattle.std.specs.Prelude.{◌≡◌, IfOk, None, option_map};
 ghost use Rattle.turn_codec.specs.Grammar.{Content, Datagram, Spells};
 ghost use Rattle.turn_cred.specs.Credential.{policy_of};
 ghost use Rattle.turn_cred.specs.Found.{verdict_of};
-ghost use Rattle.turn_rules.specs.Answer.{answer, judgement};
-ghost use Rattle.turn_server.specs.Profile.{profile, no_keys};
+ghost use Rattle.turn_rules.specs.Answer.{judgement};
+ghost use Rattle.turn_server.specs.Profile.{answer, profile, no_keys};
 
 use std::alloc::{AllocError, Allocator};
 use turn_codec::Message;
 use turn_cred::{AuthHandler, Checker, Verdict};
 use turn_rules::{Request, decide, is_protected};
+use turn_table::Table;
 use turn_types::{ConfigError, Endpoint, FiveTuple, Limits, Moment, ServerConfig};
 
-/// The relay address 198.51.100.1, which no answer names today.
+/// The relay address 198.51.100.1, which no answer over an empty table names.
 const RELAY: u32 = 0xC633_6401;
 
 /// Knows no user.
@@ -64,7 +65,7 @@ fn judge<'a, A: Allocator>(
 }
 
 /// The reply to a message at a moment, or `None` where it is dropped.
-#[tactic(auto, unfolding(turn_rules::specs::Answer::answer))]
+#[tactic(auto, unfolding(crate::specs::Profile::answer, turn_rules::specs::Answer::decision))]
 fn reply_to_message<A: Allocator + Copy>(
     alloc: A,
     five_tuple: FiveTuple,
@@ -72,7 +73,7 @@ fn reply_to_message<A: Allocator + Copy>(
     message: Message<'_>,
 ) -> Result<Option<Vec<u8, A>>, AllocError>
     ensures { (d : Datagram) → message.entry ≡ d → IfOk result (λ r. option_map (λ v. v.items) r
-        ≡ answer profile no_keys five_tuple moment d) }
+        ≡ answer five_tuple moment d) }
 {
     let config = make_config(alloc)?;
     let mut checker = Checker::new(alloc, &config, NoUsers)?;
@@ -82,7 +83,8 @@ fn reply_to_message<A: Allocator + Copy>(
         five_tuple,
         verdict,
     };
-    let decision = decide(alloc, &config, &request, moment)?;
+    let table = Table::new(alloc, config.limits(), moment);
+    let decision = decide(alloc, &table, &config, &request, moment, None)?;
     Ok(decision.reply)
 }
 
@@ -94,7 +96,7 @@ pub fn reply_to<A: Allocator + Copy>(
     datagram: &[u8],
 ) -> Result<Option<Vec<u8, A>>, AllocError>
     ensures message { (m : Content) → Spells datagram.now m → IfOk result (λ r. option_map (λ v. v.items) r
-        ≡ answer profile no_keys five_tuple moment (record { bytes = datagram.now; content = m })) }
+        ≡ answer five_tuple moment (record { bytes = datagram.now; content = m })) }
     ensures malformed { ((m : Content) → ¬ (Spells datagram.now m)) → IfOk result (λ r. r ≡ None) }
 {
     let Ok(message) = Message::parse(datagram) else {

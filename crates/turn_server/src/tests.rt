@@ -42,20 +42,29 @@ fn expect_usage(rt: &(impl AllocGlobal + Clock + Abort), words: &[&str]) -> Resu
     expect(rt, words, 1, "", "turn: usage\n")
 }
 
-// The nonce by HMAC-SHA256 of another program.
+/// A 401 behind its type, with the nonce of second 1000 by HMAC-SHA256 of another program.
+const CHALLENGE: &str =
+    "007c2112a4420102030405060708090a0b0c0009001300000401556e61757468656e74696361746564000014000b6578616d706c652e6f726700001500503030303030303030303030303033653836376234363161613630393434666632643533616132333762363430376331616236373739633534386532393739373662336265643037383430353639343839\n";
+
+// Allocate, Refresh, CreatePermission and ChannelBind.
 #[test]
 fn challenges(rt: HostRuntime) -> Result<(), Fail> {
-    let words = [
-        "answer",
-        "--from",
-        FROM,
-        "--at",
-        "1000",
-        "000300002112a4420102030405060708090a0b0c",
-    ];
-    let challenge =
-        "0113007c2112a4420102030405060708090a0b0c0009001300000401556e61757468656e74696361746564000014000b6578616d706c652e6f726700001500503030303030303030303030303033653836376234363161613630393434666632643533616132333762363430376331616236373739633534386532393739373662336265643037383430353639343839\n";
-    expect(&rt, &words, 0, challenge, "")
+    for (kind, answered) in [
+        ("0003", "0113"),
+        ("0004", "0114"),
+        ("0008", "0118"),
+        ("0009", "0119"),
+    ] {
+        let mut datagram = String::new(rt.alloc());
+        datagram.push_str(kind)?;
+        datagram.push_str("00002112a4420102030405060708090a0b0c")?;
+        let mut challenge = String::new(rt.alloc());
+        challenge.push_str(answered)?;
+        challenge.push_str(CHALLENGE)?;
+        let words = ["answer", "--from", FROM, "--at", "1000", datagram.as_str()];
+        expect(&rt, &words, 0, challenge.as_str(), "")?;
+    }
+    Ok(())
 }
 
 // The checksums are zlib's.

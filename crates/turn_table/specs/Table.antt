@@ -1,12 +1,15 @@
 -- What the calls of a table do.
-use Rattle.std.specs.Prelude.{ℕ, ◌≡◌, ◌≤◌, Option, Some, None, length, if◌then◌else◌, ◌==◌, option_map, IsSomeAnd}
+use Rattle.std.specs.Prelude.{ℕ, ◌≡◌, ◌≤◌, ◌||◌, Bool, not, nat_lt, Option, Some, None, length, if◌then◌else◌, ◌==◌, option_map, IsSomeAnd}
 use Rattle.std.specs.FinMap as fin
+use Rattle.std.specs.List.{list_all}
 use Rattle.turn_types.specs.Fitting.{PortIsFree}
 use Rattle.turn_types.specs.History.{PlainAct, Allocates, Renews, Permits, Binds, History, addresses_of, numbers_of}
+use Rattle.turn_types.specs.Limits.{Bounds}
 use Rattle.turn_types.specs.Laws.{PortsApart}
 use Rattle.turn_types.specs.Table.{Entry, Contents, table, purged}
 use Rattle.turn_types.specs.declared.address.Endpoint.{Endpoint}
 use Rattle.turn_types.specs.declared.address.FiveTuple.{FiveTuple}
+use Rattle.turn_table.specs.Order.{goes_with}
 use Rattle.turn_table.specs.State.{Room, State}
 
 -- a table agrees with a history: it holds the table of the history at its moment
@@ -44,3 +47,13 @@ pub record RunsOut (t : ℕ) (old new : Contents) (port : ℕ) : Type 0 where
   pub past : entry.expiry ≤ t
   pub port_is : entry.port ≡ port
   pub gone : new ≡ record old { entries = fin.remove old.entries tuple }
+
+-- number n or the peer p is bound, but not to each other
+abbrev pub is_bound_elsewhere : ℕ → Endpoint → Entry → Bool
+is_bound_elsewhere n p e = not (list_all (goes_with n p) (fin.entries e.channels))
+
+-- with a channel of number n to the peer p, the permissions or the channels are more than the limits allow
+abbrev pub exceeds : Bounds → ℕ → Endpoint → Entry → Bool
+exceeds b n p e =
+    nat_lt b.permissions (fin.len (fin.insert e.permissions p.ip 0))
+    || nat_lt b.channels (fin.len (fin.insert e.channels n (record { peer = p; expiry = 0 })))

@@ -1,14 +1,17 @@
 //! What a table holds of one allocation.
 
-ghost use Rattle.std.specs.Prelude.{◌≡◌, ℕ, is_some, MatchOption};
-ghost use Rattle.turn_table.specs.Table.{IsChannelTo};
+ghost use Rattle.std.specs.Prelude.{◌≡◌, ◌≤◌, ◌↔◌, ◌||◌, ℕ, IsTrue, is_some, not, MatchOption};
+ghost use Rattle.turn_table.specs.Table.{IsChannelTo, exceeds, is_bound_elsewhere};
+ghost use Rattle.turn_types.specs.Fitting.{FitsChannel};
+ghost use Rattle.turn_types.specs.Table.{install};
 ghost use Rattle.std.specs.FinMap as fin;
 
+use crate::fits::{fits_channel, fits_permissions, is_bound_elsewhere};
 use crate::search::number_to;
 use crate::timed::Timed;
 use std::alloc::{Allocator, Global};
 use std::marker::Model;
-use turn_types::{Channel, Endpoint, TxId, UserName};
+use turn_types::{Channel, Endpoint, Limits, TxId, UserName};
 
 /// The user, relayed port, lifetime in seconds and transaction id that the Allocate request gave, the second from
 /// which on the allocation no longer is, and its permissions and channels.
@@ -109,5 +112,27 @@ impl<A: Allocator + Copy> Entry<A> {
             Some(i) => Some(channels[i].0 as u16),
             None => None,
         }
+    }
+
+    /// Whether it may have permissions of these addresses too, under the limit of permissions.
+    pub fn fits_permissions(&self, addresses: &[u32], limit: u16) -> bool
+        ensures { IsTrue result ↔ (fin.len (install 0 addresses.now self.now.entry.permissions) ≤ limit) }
+    {
+        fits_permissions(self, addresses, limit)
+    }
+
+    /// Whether it may have a channel of this number to this peer too, under the limits.
+    pub fn fits_channel(&self, limits: Limits, number: u16, peer: Endpoint) -> bool
+        ensures fits { IsTrue result ↔ FitsChannel limits number peer self.now.entry }
+        ensures value { result ≡ not (is_bound_elsewhere number peer self.now.entry || exceeds limits number peer self.now.entry) }
+    {
+        fits_channel(self, limits, number, peer)
+    }
+
+    /// Whether the channel number is bound to another peer, or the peer to another number.
+    pub fn is_bound_elsewhere(&self, number: u16, peer: Endpoint) -> bool
+        ensures { result ≡ is_bound_elsewhere number peer self.now.entry }
+    {
+        is_bound_elsewhere(self, number, peer)
     }
 }

@@ -4,6 +4,7 @@ ghost use Rattle.std.specs.Prelude.{◌≡◌, ◌+◌, ◌≤◌, ◌↔◌, Is
 ghost use Rattle.std.specs.FinMap as fin;
 ghost use Rattle.std.specs.List.{list_all, list_any};
 ghost use Rattle.turn_table.specs.Order.{goes_with};
+ghost use Rattle.turn_table.specs.Table.{exceeds, is_bound_elsewhere};
 ghost use Rattle.turn_types.specs.Fitting.{FitsChannel, IsChannelNumber};
 ghost use Rattle.turn_types.specs.Table.{install};
 ghost use Rattle.turn_types.specs.declared.channel.Channel.{Channel};
@@ -87,7 +88,8 @@ pub(crate) fn fits_channel<A: Allocator + Copy>(
     number: u16,
     peer: Endpoint,
 ) -> bool
-    ensures { IsTrue result ↔ FitsChannel limits number peer entry.now.entry }
+    ensures fits { IsTrue result ↔ FitsChannel limits number peer entry.now.entry }
+    ensures value { result ≡ not (is_bound_elsewhere number peer entry.now.entry || exceeds limits number peer entry.now.entry) }
 {
     if !fits_permissions(entry, &[peer.ip], limits.permissions()) {
         return false;
@@ -96,6 +98,17 @@ pub(crate) fn fits_channel<A: Allocator + Copy>(
         return false;
     }
     go_together(entry.channels.items(), u32::from(number), peer)
+}
+
+/// Whether the channel number or the peer is bound, but not to each other.
+pub(crate) fn is_bound_elsewhere<A: Allocator + Copy>(
+    entry: &Entry<A>,
+    number: u16,
+    peer: Endpoint,
+) -> bool
+    ensures { result ≡ is_bound_elsewhere number peer entry.now.entry }
+{
+    !go_together(entry.channels.items(), u32::from(number), peer)
 }
 
 /// RFC 8656, section 12.

@@ -1,8 +1,6 @@
 //! Binding requests, and what is dropped.
 
 use super::*;
-use turn_codec::Builder;
-use turn_types::{Class, Method, TxId};
 
 const BINDING: &[u8] =
     b"\x00\x01\x00\x00\x21\x12\xa4\x42\x01\x02\x03\x04\x05\x06\x07\x08\x09\x0a\x0b\x0c";
@@ -101,7 +99,7 @@ fn drops_flipped_bits(rt: HostRuntime) -> Result<(), Fail> {
 }
 
 /// A Binding request with an empty attribute of each type.
-fn request_with<A: Allocator + Copy>(alloc: A, types: &[u16]) -> Result<Vec<u8, A>, Fail> {
+fn request_with(alloc: Global, types: &[u16]) -> Result<Vec<u8>, Fail> {
     let mut builder = Builder::new(alloc, Class::Request, Method::BINDING, TxId([9; 12]))?;
     for kind in types {
         builder.push(AttributeType::new(*kind), &[])?;

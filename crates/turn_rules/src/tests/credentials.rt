@@ -2,30 +2,15 @@
 
 use super::*;
 use refusing::Refusing;
-use std::alloc::Global;
-use turn_codec::Builder;
-use turn_cred::Nonces;
-use turn_mac::{append_fingerprint, append_integrity, integrity_holds};
-use turn_types::{Class, Method, TxId};
-
-const ID: TxId = TxId([1, 2, 3, 4, 5, 6, 7, 8, 9, 10, 11, 12]);
+use turn_mac::{append_fingerprint, append_integrity};
 
 /// By HMAC-SHA256 of another program: the nonce of second 1000 for 192.0.2.1:32853 under a secret of 32 zero bytes.
 const NONCE: &[u8; 80] =
     b"00000000000003e867b461aa60944ff2d53aa237b6407c1ab6779c548e297976b3bed07840569489";
 
-fn nonce_of(second: u64, client: Endpoint) -> Result<[u8; 80], Fail> {
-    Ok(Nonces::new([0; 32]).issue(client, Moment::new(second).ok_or("a moment")?))
-}
-
-/// A request of a user under a key, with the nonce of second 1000.
-fn signed(alloc: Global, method: Method, name: &[u8], key: &[u8; 16]) -> Result<Vec<u8>, Fail> {
-    let mut builder = Builder::new(alloc, Class::Request, method, ID)?;
-    builder.push(AttributeType::USERNAME, name)?;
-    builder.push(AttributeType::REALM, REALM)?;
-    builder.push(AttributeType::NONCE, NONCE)?;
-    append_integrity(&mut builder, key).map_err(|_| "an integrity")?;
-    Ok(builder.finish())
+/// A request of a user, with the nonce of second 1000.
+fn of_1000(alloc: Global, method: Method, user: User) -> Result<Vec<u8>, Fail> {
+    signed(alloc, method, ID, user, NONCE, &[])
 }
 
 /// A ChannelBind of bob with DONT-FRAGMENT, which the server doesn't understand.
@@ -35,7 +20,7 @@ fn with_unknown(alloc: Global) -> Result<Vec<u8>, Fail> {
     builder.push(AttributeType::USERNAME, b"bob")?;
     builder.push(AttributeType::REALM, REALM)?;
     builder.push(AttributeType::NONCE, NONCE)?;
-    append_integrity(&mut builder, &key_of(b"bob", b"builder")).map_err(|_| "an integrity")?;
+    append_integrity(&mut builder, &BOB.key()).map_err(|_| "an integrity")?;
     Ok(builder.finish())
 }
 
@@ -44,14 +29,14 @@ fn without_nonce(alloc: Global) -> Result<Vec<u8>, Fail> {
     let mut builder = Builder::new(alloc, Class::Request, Method::REFRESH, ID)?;
     builder.push(AttributeType::USERNAME, b"alice")?;
     builder.push(AttributeType::REALM, REALM)?;
-    append_integrity(&mut builder, &key_of(b"alice", b"wonder")).map_err(|_| "an integrity")?;
+    append_integrity(&mut builder, &ALICE.key()).map_err(|_| "an integrity")?;
     Ok(builder.finish())
 }
 
 /// A Refresh of alice with name, realm and nonce behind the integrity.
 fn behind_the_integrity(alloc: Global) -> Result<Vec<u8>, Fail> {
     let mut builder = Builder::new(alloc, Class::Request, Method::REFRESH, ID)?;
-    append_integrity(&mut builder, &key_of(b"alice", b"wonder")).map_err(|_| "an integrity")?;
+    append_integrity(&mut builder, &ALICE.key()).map_err(|_| "an integrity")?;
     builder.push(AttributeType::USERNAME, b"alice")?;
     builder.push(AttributeType::REALM, REALM)?;
     builder.push(AttributeType::NONCE, NONCE)?;
@@ -62,7 +47,7 @@ fn behind_the_integrity(alloc: Global) -> Result<Vec<u8>, Fail> {
 fn challenges(rt: HostRuntime) -> Result<(), Fail> {
     let allocate =
         b"\x00\x03\x00\x00\x21\x12\xa4\x42\x01\x02\x03\x04\x05\x06\x07\x08\x09\x0a\x0b\x0c";
-    let found = reply_at(rt.alloc(), allocate, FIVE_TUPLE.client, 1000)?.ok_or("a reply")?;
+    let found = reply_at(rt.alloc(), allocate, FIRST, 1000)?.ok_or("a reply")?;
     let mut challenge = Vec::from_slice(
         rt.alloc(),
         b"\x01\x13\x00\x7c\x21\x12\xa4\x42\x01\x02\x03\x04\x05\x06\x07\x08\x09\x0a\x0b\x0c\
@@ -76,9 +61,9 @@ fn challenges(rt: HostRuntime) -> Result<(), Fail> {
 // A nonce of second 1000, from its second on for an hour, and from other clients.
 #[test]
 fn judges_the_nonce(rt: HostRuntime) -> Result<(), Fail> {
-    let key = key_of(b"alice", b"wonder");
-    let client = FIVE_TUPLE.client;
-    let bytes = signed(rt.alloc(), Method::REFRESH, b"alice", &key)?;
+    let key = ALICE.key();
+    let client = FIRST;
+    let bytes = of_1000(rt.alloc(), Method::REFRESH, ALICE)?;
     for (ip, port, second, code) in [
         (client.ip, client.port, 999, 438),
         (client.ip, client.port, 1000, 437),
@@ -110,9 +95,8 @@ fn judges_the_nonce(rt: HostRuntime) -> Result<(), Fail> {
 
 #[test]
 fn refuses_a_wrong_password(rt: HostRuntime) -> Result<(), Fail> {
-    let wrong = key_of(b"alice", b"wonderful");
-    let bytes = signed(rt.alloc(), Method::CREATE_PERMISSION, b"alice", &wrong)?;
-    let found = reply_at(rt.alloc(), &bytes, FIVE_TUPLE.client, 1000)?.ok_or("a reply")?;
+    let bytes = of_1000(rt.alloc(), Method::CREATE_PERMISSION, User::Impostor)?;
+    let found = reply_at(rt.alloc(), &bytes, FIRST, 1000)?.ok_or("a reply")?;
     let message = Message::parse(&found)?;
     assert_eq!(rt; code_of(&message)?, 401);
     assert!(rt; message.find(AttributeType::REALM) == Some(REALM));
@@ -127,7 +111,7 @@ fn refuses_what_lacks_a_credential(rt: HostRuntime) -> Result<(), Fail> {
         without_nonce(rt.alloc())?,
         behind_the_integrity(rt.alloc())?,
     ] {
-        let found = reply_at(rt.alloc(), &bytes, FIVE_TUPLE.client, 1000)?.ok_or("a reply")?;
+        let found = reply_at(rt.alloc(), &bytes, FIRST, 1000)?.ok_or("a reply")?;
         let message = Message::parse(&found)?;
         assert_eq!(rt; code_of(&message)?, 400);
         assert_eq!(rt; message.attributes().count(), 1);
@@ -138,24 +122,20 @@ fn refuses_what_lacks_a_credential(rt: HostRuntime) -> Result<(), Fail> {
 // What passes is answered as where there is no allocation, under the key of the user who asked.
 #[test]
 fn answers_who_passed(rt: HostRuntime) -> Result<(), Fail> {
-    let key = key_of(b"bob", b"builder");
+    let key = BOB.key();
     for (bytes, code) in [
-        (signed(rt.alloc(), Method::REFRESH, b"bob", &key)?, 437),
-        (
-            signed(rt.alloc(), Method::CREATE_PERMISSION, b"bob", &key)?,
-            437,
-        ),
-        (signed(rt.alloc(), Method::CHANNEL_BIND, b"bob", &key)?, 437),
+        (of_1000(rt.alloc(), Method::ALLOCATE, BOB)?, 400),
+        (of_1000(rt.alloc(), Method::REFRESH, BOB)?, 437),
+        (of_1000(rt.alloc(), Method::CREATE_PERMISSION, BOB)?, 437),
+        (of_1000(rt.alloc(), Method::CHANNEL_BIND, BOB)?, 437),
         (with_unknown(rt.alloc())?, 420),
     ] {
-        let found = reply_at(rt.alloc(), &bytes, FIVE_TUPLE.client, 1000)?.ok_or("a reply")?;
+        let found = reply_at(rt.alloc(), &bytes, FIRST, 1000)?.ok_or("a reply")?;
         let message = Message::parse(&found)?;
         assert_eq!(rt; code_of(&message)?, code);
         assert!(rt; message.class() == Class::Error);
         assert!(rt; integrity_holds(&message, &key));
     }
-    let bytes = signed(rt.alloc(), Method::ALLOCATE, b"bob", &key)?;
-    assert!(rt; reply_at(rt.alloc(), &bytes, FIVE_TUPLE.client, 1000)?.is_none());
     Ok(())
 }
 
@@ -165,27 +145,28 @@ fn fingerprinted(alloc: Global) -> Result<Vec<u8>, Fail> {
     builder.push(AttributeType::USERNAME, b"alice")?;
     builder.push(AttributeType::REALM, REALM)?;
     builder.push(AttributeType::NONCE, NONCE)?;
-    append_integrity(&mut builder, &key_of(b"alice", b"wonder")).map_err(|_| "an integrity")?;
+    append_integrity(&mut builder, &ALICE.key()).map_err(|_| "an integrity")?;
     append_fingerprint(&mut builder).map_err(|_| "a fingerprint")?;
     Ok(builder.finish())
 }
 
 #[test]
 fn each_growth_refused(rt: HostRuntime) -> Result<(), Fail> {
-    let config = config(rt.alloc())?;
+    let config = config(rt.alloc(), 2, Limits::GREATEST)?;
     let mut checker = checker(rt.alloc(), &config)?;
-    let moment = Moment::new(1000).ok_or("a moment")?;
+    let moment = at(1000)?;
+    let table = Table::new(rt.alloc(), config.limits(), moment);
     let bytes = fingerprinted(rt.alloc())?;
     let message = Message::parse(&bytes)?;
-    let verdict = Some(checker.check(&message, FIVE_TUPLE.client, moment));
+    let verdict = Some(checker.check(&message, FIRST, moment));
     let request = Request {
         message,
-        five_tuple: FIVE_TUPLE,
+        five_tuple: five_tuple(FIRST),
         verdict,
     };
     for served in 0..8u64 {
         let refusing = Refusing::new(rt.alloc(), served);
-        let outcome = decide(&refusing, &config, &request, moment);
+        let outcome = decide(&refusing, &table, &config, &request, moment, None);
         if !refusing.has_refused() {
             assert_eq!(rt; served, 1);
             let found = outcome?.reply.ok_or("a reply")?;
@@ -198,7 +179,7 @@ fn each_growth_refused(rt: HostRuntime) -> Result<(), Fail> {
         }
         assert!(rt; outcome.is_err());
         assert!(rt;
-            decide(&refusing, &config, &request, moment)?
+            decide(&refusing, &table, &config, &request, moment, None)?
                 .reply
                 .is_some()
         );

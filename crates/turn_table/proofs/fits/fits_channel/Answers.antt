@@ -12,8 +12,8 @@ judged g c =
     c.go_together.ensures ∙ ap (λ n. list_all (goes_with n c.args.peer) c.items.result.now) c.from.ensures
     ∙ ap (list_all (goes_with c.args.number c.args.peer)) (c.items.ensures ∙ ap (λ h. fin.entries h.entry.channels) c.entry.view_is)
 
-pub returns : goal.returns
-returns g c = (
+pub returns-clause-fits : goal.returns-clause-fits
+returns-clause-fits g c = (
   λ yes. (
     subst (λ k. fin.len (fin.insert c.args.entry.now.entry.permissions c.args.peer.ip 0) ≤ k) c.permissions.ensures.value (c.fits_permissions.ensures.0 c.if-not-fits_permissions.false),
     subst (λ k. fin.len (fin.insert c.args.entry.now.entry.channels c.args.number (record { peer = c.args.peer; expiry = 0 })) ≤ k) c.channels.ensures.value ((c.fits_number.ensures (record { peer = c.args.peer; expiry = 0 })).0 c.if-not-fits_number.false),

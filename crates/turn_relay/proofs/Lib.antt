@@ -1,0 +1,3 @@
+pub mod Datagrams
+pub mod Holders
+pub mod Sent

@@ -1,0 +1,5 @@
+pub mod FromClient
+pub mod FromPeer
+pub mod Laws
+pub mod Udp
+pub mod Views

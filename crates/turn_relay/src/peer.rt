@@ -1,0 +1,154 @@
+//! What a peer's datagram sends.
+
+ghost use Rattle.std.specs.Prelude.{◌≡◌, ◌≤◌, nat_le, length, None, option_map, IfOk, IfSome, OnOk};
+ghost use Rattle.std.specs.Option.{ForSome};
+ghost use Rattle.turn_codec.specs.Channel.{IsChannel};
+ghost use Rattle.turn_codec.specs.Grammar.{Spells, body_size, canonical, with_attribute};
+ghost use Rattle.turn_relay.specs.FromPeer.{IsForClient, SendsToClient, client_datagram, data_indication, size_for_client};
+ghost use Rattle.turn_relay.specs.Udp.{longest};
+ghost use Rattle.turn_relay.specs.Views.{client_data};
+ghost use Rattle.turn_table.specs.Table.{Agrees};
+ghost use Rattle.turn_types.specs.Fitting.{IsFitting};
+ghost use Rattle.turn_types.specs.History.{History, clock};
+ghost use Rattle.turn_types.specs.Limits.{Bounds};
+ghost use Rattle.turn_types.specs.Table as tables;
+
+use crate::LONGEST;
+use std::alloc::{AllocError, Allocator};
+use turn_codec::{AttributeType, Builder, ChannelData, PushError, xor_address};
+use turn_table::Table;
+use turn_types::{Class, Endpoint, FiveTuple, Method, Moment, TxId};
+
+/// The longest payload of ChannelData that UDP carries, with 4 bytes in front of it.
+const LONGEST_OVER_A_CHANNEL: usize = LONGEST - 4;
+
+/// The longest DATA that UDP carries in a Data indication, which has a multiple of 4 bytes and 36 of them in front
+/// of it.
+const LONGEST_INDICATED: usize = LONGEST / 4 * 4 - 36;
+
+/// Data for a client. It is a peer's datagram.
+#[derive(Clone, Copy, Debug)]
+pub struct ToClient<'a> {
+    pub five_tuple: FiveTuple,
+    /// The number of the channel that is bound to the peer, if one is.
+    pub channel: Option<u16>,
+    pub peer: Endpoint,
+    pub bytes: &'a [u8],
+}
+
+/// Adds an attribute for which there is room in the message.
+fn add<A: Allocator + Copy>(
+    builder: &mut Builder<A>,
+    kind: AttributeType,
+    value: &[u8],
+) -> Result<(), AllocError>
+    requires { body_size (with_attribute builder.old kind value.now) ≤ 65532 }
+    ensures { OnOk result (builder.new ≡ with_attribute builder.old kind value.now) }
+{
+    match builder.push(kind, value) {
+        Ok(()) => Ok(()),
+        Err(PushError::Memory) => Err(AllocError),
+        Err(PushError::TooLong) => unreachable!(),
+    }
+}
+
+/// A Data indication (RFC 8656, section 11.3).
+fn data_indication<A: Allocator + Copy>(
+    alloc: A,
+    tx: TxId,
+    peer: Endpoint,
+    payload: &[u8],
+) -> Result<Vec<u8, A>, AllocError>
+    requires { length payload.now ≤ 65468 }
+    ensures bytes { IfOk result (λ v. v.items ≡ canonical (data_indication tx.0 peer payload.now)) }
+    ensures spells { IfOk result (λ v. Spells v.items (data_indication tx.0 peer payload.now)) }
+    ensures size { IfOk result (λ v. length v.items ≡ size_for_client None (length payload.now)) }
+{
+    // XOR-PEER-ADDRESS, and DATA with its padding.
+    let capacity = 12 + (4 + payload.len().next_multiple_of(4));
+    let mut builder = Builder::with_capacity(
+        alloc,
+        Class::Indication,
+        Method::DATA,
+        tx,
+        capacity as u16,
+    )?;
+    add(
+        &mut builder,
+        AttributeType::XOR_PEER_ADDRESS,
+        &xor_address(peer),
+    )?;
+    add(&mut builder, AttributeType::DATA, payload)?;
+    Ok(builder.finish())
+}
+
+impl<'a> ToClient<'a> {
+    /// The client's datagram: ChannelData without padding (RFC 8656, section 12.5), or a Data indication with the
+    /// transaction id (section 11.3). It takes memory once.
+    #[tactic(auto, unfolding(crate::specs::FromPeer::client_datagram))]
+    pub fn write<A: Allocator + Copy>(&self, alloc: A, tx: TxId) -> Result<Vec<u8, A>, AllocError>
+        requires number { ForSome self.now.channel IsChannel }
+        requires size { size_for_client self.now.channel (length self.now.bytes.now) ≤ longest }
+        ensures bytes { IfOk result (λ v. v.items ≡ client_datagram (client_data self.now) tx.0) }
+        ensures spells { IfOk result (λ v. IsForClient v.items tx.0 (client_data self.now)) }
+        ensures size { IfOk result (λ v. length v.items ≡ size_for_client self.now.channel (length self.now.bytes.now)) }
+    {
+        match self.channel {
+            Some(number) => {
+                let data = ChannelData {
+                    number,
+                    payload: self.bytes,
+                };
+                data.write(alloc)
+            }
+            None => data_indication(alloc, tx, self.peer, self.bytes),
+        }
+    }
+}
+
+/// Whether the client's datagram is one that UDP carries.
+fn fits_client(channel: Option<u16>, size: usize) -> bool
+    ensures { result ≡ nat_le (size_for_client channel size) longest }
+{
+    match channel {
+        Some(_) => size <= LONGEST_OVER_A_CHANNEL,
+        None => size <= LONGEST_INDICATED,
+    }
+}
+
+/// What a peer's datagram at a relayed port sends to the client of the port's allocation: the datagram, where the
+/// peer's address has a permission, over the channel that is bound to the peer's address and port, if one is
+/// (RFC 8656, sections 11.3 and 12.7). It sends nothing where the client's datagram would have more than 65,507
+/// bytes. The table was purged at the moment of the arrival.
+pub fn from_peer<'a, A: Allocator + Copy>(
+    table: &Table<A>,
+    port: u16,
+    from: Endpoint,
+    datagram: &'a [u8],
+    moment: Moment,
+) -> Option<ToClient<'a>>
+    requires purged { table.now.moment ≡ moment }
+    ensures sends { SendsToClient table.now.contents port from datagram.now (option_map client_data result) }
+    ensures history { (h : History) → Agrees table.now h →
+        SendsToClient (tables.table h moment) port from datagram.now (option_map client_data result) }
+    // What is given can be written.
+    ensures size { IfSome result (λ x. size_for_client x.channel (length x.bytes.now) ≤ longest) }
+    ensures number { (b : Bounds) (h : History) → IsFitting b h → clock h ≤ moment → Agrees table.now h →
+        IfSome result (λ x. ForSome x.channel IsChannel) }
+{
+    let (five_tuple, entry) = table.by_port(port)?;
+    let is_permitted = entry.is_permitted(from.ip);
+    if !is_permitted {
+        return None;
+    }
+    let channel = entry.channel_to(from);
+    if !fits_client(channel, datagram.len()) {
+        return None;
+    }
+    Some(ToClient {
+        five_tuple,
+        channel,
+        peer: from,
+        bytes: datagram,
+    })
+}

@@ -1,5 +1,0 @@
-use Rattle.turn_rules.proofs.Fingerprints.{right_Decides}
-use Rattle.turn_rules.proofs.laws.fingerprint_is_decided.Goals as goal
-
-pub returns : goal.returns
-returns c = λ d. let right = right_Decides d in (right.0, right.1)
