@@ -28,7 +28,7 @@ use Rattle.turn_table.proofs.Together.{together}
 use Rattle.turn_table.specs.Order.{goes_with}
 use Rattle.turn_table.specs.Table.{exceeds, is_bound_elsewhere}
 use Rattle.turn_rules.specs.Allocate.{allocate_line, allocate_rows, before_port, lifetime_attribute, repeated, with_port}
-use Rattle.turn_rules.specs.Choice.{first_applying}
+use Rattle.turn_rules.specs.FirstApplying.{first_applying}
 use Rattle.turn_rules.specs.Answer.{SignedLine, binding_line, by_verdict, challenge, counting_line, decision, is_dropped, is_protected, passed_line, unsigned}
 use Rattle.turn_rules.specs.Channel.{bind_line, bind_rows, channel_line, in_range, named_number, named_peer, number_at, to_address, to_peer}
 use Rattle.turn_rules.specs.Fields.{four_bytes, lifetime_of}

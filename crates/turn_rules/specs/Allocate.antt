@@ -15,7 +15,7 @@ use Rattle.turn_codec.specs.Address.{xor_value}
 use Rattle.turn_codec.specs.AttributeTypes.{even_port, lifetime, requested_address_family, requested_transport, reservation_token, xor_mapped_address, xor_relayed_address}
 use Rattle.turn_codec.specs.Grammar.{Attribute, Content}
 use Rattle.turn_codec.specs.Seen.{has_unknown, is_seen}
-use Rattle.turn_rules.specs.Choice.{first_applying}
+use Rattle.turn_rules.specs.FirstApplying.{first_applying}
 use Rattle.turn_rules.specs.Fields.{first_byte, granted, is_malformed, is_other_family, lifetime_of}
 use Rattle.turn_rules.specs.Line.{Line, refuse, refuse_unknown}
 use Rattle.turn_rules.specs.Line.Line.{Drop, Succeed}

@@ -1,10 +1,10 @@
 pub mod Allocate
 pub mod Answer
 pub mod Channel
-pub mod Choice
 pub mod Collected
 pub mod Examples
 pub mod Fields
+pub mod FirstApplying
 pub mod Line
 pub mod Owner
 pub mod Permission
