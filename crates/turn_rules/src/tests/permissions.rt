@@ -56,9 +56,8 @@ fn permits_for_300_seconds(rt: HostRuntime) -> Result<(), Fail> {
     Ok(())
 }
 
-// Where several lines apply, the first one of the order that is kept. What is refused installs no permission.
 #[test]
-fn refuses(rt: HostRuntime) -> Result<(), Fail> {
+fn only_for_the_owner(rt: HostRuntime) -> Result<(), Fail> {
     let mut server = server_of_alice(rt.alloc(), 32, 32)?;
     for (name, user, client, attributes, code) in [
         (
@@ -79,44 +78,33 @@ fn refuses(rt: HostRuntime) -> Result<(), Fail> {
         ("no allocation, no peer", BOB, SECOND, &[], 437),
         ("bob", BOB, FIRST, &[PEER], 441),
         ("bob, no peer", BOB, FIRST, &[], 441),
-        ("no peer", ALICE, FIRST, &[], 400),
-        (
-            "no peer, but a lifetime",
-            ALICE,
-            FIRST,
-            &[SHORT_LIFETIME],
-            400,
-        ),
-        ("malformed", ALICE, FIRST, &[PEER, SHORT_PEER], 400),
-        (
-            "malformed, IPv6",
-            ALICE,
-            FIRST,
-            &[IPV6_PEER, SHORT_PEER],
-            400,
-        ),
-        (
-            "IPv6, malformed",
-            ALICE,
-            FIRST,
-            &[SHORT_PEER, IPV6_PEER],
-            400,
-        ),
-        (
-            "malformed, denied",
-            ALICE,
-            FIRST,
-            &[DENIED, SHORT_PEER],
-            400,
-        ),
-        ("IPv6", ALICE, FIRST, &[IPV6_PEER], 443),
-        ("IPv6 behind IPv4", ALICE, FIRST, &[PEER, IPV6_PEER], 443),
-        ("denied, IPv6", ALICE, FIRST, &[DENIED, IPV6_PEER], 443),
-        ("denied", ALICE, FIRST, &[DENIED], 403),
-        ("denied behind another", ALICE, FIRST, &[PEER, DENIED], 403),
-        ("denied before another", ALICE, FIRST, &[DENIED, PEER], 403),
     ] {
         let found = server.code(Method::CREATE_PERMISSION, user, client, 1000, attributes)?;
+        assert_eq!(rt; found, code, "{name}");
+    }
+    assert!(rt; !is_permitted(&mut server, IP, 1000)?);
+    Ok(())
+}
+
+// Where several lines apply, the first one of the order that is kept. What is refused installs no permission.
+#[test]
+fn refuses(rt: HostRuntime) -> Result<(), Fail> {
+    let mut server = server_of_alice(rt.alloc(), 32, 32)?;
+    for (name, attributes, code) in [
+        ("a lifetime", [SHORT_LIFETIME].as_slice(), 400),
+        ("no peer", &[], 400),
+        ("malformed", &[PEER, SHORT_PEER], 400),
+        ("malformed, IPv6", &[IPV6_PEER, SHORT_PEER], 400),
+        ("IPv6, malformed", &[SHORT_PEER, IPV6_PEER], 400),
+        ("malformed, denied", &[DENIED, SHORT_PEER], 400),
+        ("IPv6", &[IPV6_PEER], 443),
+        ("IPv6 behind IPv4", &[PEER, IPV6_PEER], 443),
+        ("denied, IPv6", &[DENIED, IPV6_PEER], 443),
+        ("denied", &[DENIED], 403),
+        ("denied behind another", &[PEER, DENIED], 403),
+        ("denied before another", &[DENIED, PEER], 403),
+    ] {
+        let found = server.code(Method::CREATE_PERMISSION, ALICE, FIRST, 1000, attributes)?;
         assert_eq!(rt; found, code, "{name}");
     }
     assert!(rt; !is_permitted(&mut server, IP, 1000)?);
