@@ -6,7 +6,7 @@ use Rattle.std.specs.Map.{lookup, keys_of}
 use Rattle.std.specs.Map.Calls.{RetainsPairs}
 use Rattle.std.specs.List.Sorted.{IsStrictlySortedBy}
 use Rattle.std.specs.declared.cmp.Ordering.TheVariants.{Less}
-use Rattle.turn_types.proofs.Maps.{from_eq}
+use Rattle.turn_history.proofs.Maps.{from_eq}
 use Rattle.std.specs.Ordering.{nat_cmp, eq_by_cmp, is_eq}
 use Rattle.std.specs.declared.cmp.Ordering.{Ordering}
 use Rattle.std.specs.Cmp.{IsTotalOrder, eq_by_cmp_equiv}
@@ -16,10 +16,10 @@ use Rattle.std.proofs.lemmas.Cmp.{nat_cmp_total}
 use Rattle.std.proofs.lemmas.List.Folds.{list_any-append}
 use Rattle.std.specs.FinMap as fin
 use Rattle.std.specs.FinMap.{FinMap, IsAntisymmetric, find, get-insert, get-from_entries, same_map, nat_cmp-IsAntisymmetric}
-use Rattle.turn_types.specs.Table.{install, ahead, channel_ahead, still_permitted, still_bound}
-use Rattle.turn_types.specs.declared.channel.Channel.{Channel}
-use Rattle.turn_types.proofs.Reading.{nat_same, get-still_permitted, get-still_bound}
-use Rattle.turn_types.proofs.Steps.{get-install}
+use Rattle.turn_history.specs.Table.{install, ahead, channel_ahead, still_permitted, still_bound}
+use Rattle.turn_history.specs.declared.channel.Channel.{Channel}
+use Rattle.turn_history.proofs.Reading.{nat_same, get-still_permitted, get-still_bound}
+use Rattle.turn_history.proofs.Steps.{get-install}
 
 module _ {K X Y : Type 0} (R : K → K → Ordering) (view : X → Y) where
   abbrev pub views : List (K × X) → List (K × Y)

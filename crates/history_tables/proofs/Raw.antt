@@ -1,4 +1,4 @@
--- The entry of a five-tuple before anything that has run out is removed from it.
+-- The entry of a five-tuple before anything that has expired is removed from it.
 use Rattle.std.proofs.Common.{◌≡◌, ℕ, ◌+◌, Bool, true, false, cond, is_some, Option, Some, None, List, [], ◌∷◌, refl, sym, ap, ◌∙◌, ltb}
 use Rattle.std.specs.Prelude.{nat_eq, IsSome}
 use Rattle.std.specs.Option.{option_or, option_and_then, option_map}
@@ -7,14 +7,14 @@ use Rattle.std.proofs.lemmas.Cmp.{nat_cmp_total}
 use Rattle.std.specs.List.{flat_map, list_any}
 use Rattle.std.specs.FinMap as fin
 use Rattle.std.specs.FinMap.{FinMap, get-insert, same_map, nat_cmp-IsAntisymmetric}
-use Rattle.turn_types.specs.History.{PlainAct, Allocates, Renews, Permits, Binds, Event, first_some, in_front, Allocation, allocation_at, span_at, addresses_of, numbers_of, permission_at, channel_at}
-use Rattle.turn_types.specs.Table.{Entry, ahead, channel_ahead, map_of, entry_with, entry_in, permissions_in, channels_in, kept, still_permitted, still_bound, install, renewed, permitting, binding}
+use Rattle.turn_history.specs.History.{PlainAct, Allocates, Renews, Permits, Binds, Event, first_some, until_first, Allocation, allocation_at, span_at, addresses_of, numbers_of, permission_at, channel_at}
+use Rattle.turn_history.specs.Table.{Entry, ahead, channel_ahead, map_of, entry_with, entry_in, permissions_in, channels_in, kept, still_permitted, still_bound, install, renewed, permitting, binding}
 use Rattle.turn_types.specs.declared.address.Endpoint.{Endpoint}
 use Rattle.turn_types.specs.declared.address.FiveTuple.{FiveTuple}
-use Rattle.turn_types.specs.declared.channel.Channel.{Channel}
-use Rattle.turn_types.proofs.Maps.{get-map_of-all}
-use Rattle.turn_types.proofs.Reading.{nat_same, permission-none, channel-none, get-permissions_in, get-channels_in, get-still_permitted, get-still_bound}
-use Rattle.turn_types.proofs.Steps.{event, get-install}
+use Rattle.turn_history.specs.declared.channel.Channel.{Channel}
+use Rattle.turn_history.proofs.Maps.{get-map_of-all}
+use Rattle.turn_history.proofs.Reading.{nat_same, permission-none, channel-none, get-permissions_in, get-channels_in, get-still_permitted, get-still_bound}
+use Rattle.turn_history.proofs.Steps.{event, get-install}
 use Rattle.history_tables.specs.Replay.{replayed}
 
 raw_permissions : List Event → FinMap nat_cmp ℕ
@@ -26,7 +26,7 @@ raw_channels es = map_of nat_cmp (flat_map (λ e. numbers_of e.act) es) (λ n. f
 -- of the entries of a five-tuple, the newest first
 pub raw_in : List Event → Option Entry
 raw_in es =
-    let since = in_front (λ e. is_some (allocation_at e)) es in
+    let since = until_first (λ e. is_some (allocation_at e)) es in
     entry_with (raw_permissions since) (raw_channels since) (first_some allocation_at es) (first_some span_at es)
 
 pub raw_in-none : raw_in [] ≡ None
@@ -100,7 +100,7 @@ raw_in-more m f (Allocates user port granted tx) es =
 raw_in-more m f (Renews granted) es = renew (first_some allocation_at es) refl (first_some span_at es) refl
   where
     since : List Event
-    since = in_front (λ e. is_some (allocation_at e)) es
+    since = until_first (λ e. is_some (allocation_at e)) es
 
     renew : (a : Option Allocation) → first_some allocation_at es ≡ a → (x : Option ℕ) → first_some span_at es ≡ x → entry_with (raw_permissions (event m f (Renews granted) ∷ since)) (raw_channels (event m f (Renews granted) ∷ since)) a (Some (m + granted)) ≡ option_map (renewed (m + granted)) (entry_with (raw_permissions since) (raw_channels since) a x)
     renew None ea x ex = refl
@@ -109,7 +109,7 @@ raw_in-more m f (Renews granted) es = renew (first_some allocation_at es) refl (
 raw_in-more m f (Permits addresses) es = permit (first_some allocation_at es) (first_some span_at es)
   where
     since : List Event
-    since = in_front (λ e. is_some (allocation_at e)) es
+    since = until_first (λ e. is_some (allocation_at e)) es
 
     permit : (a : Option Allocation) (x : Option ℕ) → entry_with (raw_permissions (event m f (Permits addresses) ∷ since)) (raw_channels (event m f (Permits addresses) ∷ since)) a x ≡ option_map (permitting (m + 300) addresses) (entry_with (raw_permissions since) (raw_channels since) a x)
     permit None x = refl
@@ -118,7 +118,7 @@ raw_in-more m f (Permits addresses) es = permit (first_some allocation_at es) (f
 raw_in-more m f (Binds number peer) es = bind (first_some allocation_at es) (first_some span_at es)
   where
     since : List Event
-    since = in_front (λ e. is_some (allocation_at e)) es
+    since = until_first (λ e. is_some (allocation_at e)) es
 
     bind : (a : Option Allocation) (x : Option ℕ) → entry_with (raw_permissions (event m f (Binds number peer) ∷ since)) (raw_channels (event m f (Binds number peer) ∷ since)) a x ≡ option_map (binding m number peer) (entry_with (raw_permissions since) (raw_channels since) a x)
     bind None x = refl
@@ -140,7 +140,7 @@ unfolding raw_in entry_in
 raw_in-at t es = by_parts (first_some allocation_at es) (first_some span_at es)
   where
     since : List Event
-    since = in_front (λ e. is_some (allocation_at e)) es
+    since = until_first (λ e. is_some (allocation_at e)) es
 
     by_parts : (a : Option Allocation) (x : Option ℕ) → option_and_then (kept t) (entry_with (raw_permissions since) (raw_channels since) a x) ≡ entry_with (permissions_in t since) (channels_in t since) a (ahead t x)
     by_parts None x = refl

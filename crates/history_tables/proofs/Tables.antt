@@ -10,13 +10,13 @@ use Rattle.std.specs.Option.{option_map, option_and_then}
 use Rattle.std.specs.Cmp.{eq_by_cmp_equiv}
 use Rattle.std.specs.FinMap as fin
 use Rattle.std.specs.FinMap.{find, get-from_entries}
-use Rattle.turn_types.specs.Act.{act_of}
+use Rattle.turn_history.specs.Act.{act_of}
 use Rattle.turn_types.specs.FiveTuple.{tuple_cmp, same_tuple}
-use Rattle.turn_types.specs.History.{History, own}
-use Rattle.turn_types.specs.Table.{Contents, kept, table}
+use Rattle.turn_history.specs.History.{History, own}
+use Rattle.turn_history.specs.Table.{Contents, kept, table}
 use Rattle.turn_types.specs.declared.address.FiveTuple.{FiveTuple}
-use Rattle.turn_types.proofs.Maps.{tuple_total, tuple_exact, from_eq}
-use Rattle.turn_types.proofs.Reading.{own-push, get-table, same_contents}
+use Rattle.turn_history.proofs.Maps.{tuple_total, tuple_exact, from_eq}
+use Rattle.turn_history.proofs.Reading.{own-push, get-table, same_contents}
 use Rattle.history_tables.specs.Replay.{replayed, still}
 use Rattle.history_tables.specs.View.{event_of, entry_of, pair_of}
 use Rattle.history_tables.specs.declared.Event.{Event}
@@ -56,7 +56,7 @@ module _ {A : Type 0} where
             ap (option_map entry_of) (removed f ∙ ap (λ b. cond b None (lookup (is_at (tuple_cmp f)) es)) is)
             ∙ sym (find-views tuple_cmp entry_of es f) ∙ holds f
 
-  -- without what has run out it is the table
+  -- without what has expired it is the table
   pub table_of : {F : Type 0} (T : F → FiveTuple → Entry A → Bool → Entry A → F → Type 0) (g : F) (h : History) (t : ℕ) (es left : List (FiveTuple × Entry A)) → Holds es h → Decides T entry_of (λ e. nat_lt t e.expiry) (still t) g → IsStrictlySortedBy tuple_cmp (keys_of es) → RetainsPairs T g es left → ◌≡◌ {A = Contents} (record { entries = fin.from_entries (map pair_of left) }) (table h t)
   table_of T g h t es left holds says sorted r = same_contents _ _ (λ f.
       get-from_entries tuple_total (map pair_of left) f

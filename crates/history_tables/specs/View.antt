@@ -2,9 +2,9 @@
 use Rattle.std.specs.Prelude.{map}
 use Rattle.std.specs.BTreeMap.{BTreeMap}
 use Rattle.std.specs.FinMap as fin
-use Rattle.turn_types.specs.Act.{act_of}
-use Rattle.turn_types.specs.History as history
-use Rattle.turn_types.specs.Table as tables
+use Rattle.turn_history.specs.Act.{act_of}
+use Rattle.turn_history.specs.History as history
+use Rattle.turn_history.specs.Table as tables
 use Rattle.turn_types.specs.declared.address.FiveTuple.{FiveTuple}
 use Rattle.history_tables.specs.declared.Event.{Event}
 use Rattle.history_tables.specs.declared.Entry.{Entry}

@@ -1,17 +1,18 @@
-//! The table of a history at a moment, worked out plainly, for tests: every act in turn changes one map, and at
-//! the end what has run out is removed. By the definition, in turn_types, nothing is changed or removed.
+//! A reference implementation of the table of a history at a moment, for tests: every act in turn changes one map, and
+//! at the end what has expired is removed. By the definition, in turn_history, nothing is changed or removed.
 #![tactic(auto)]
 
 ghost use Rattle.std.specs.Prelude.{◌≡◌, ◌<◌, ◌^◌, IfOk, OnOk, map};
 ghost use Rattle.std.specs.Option.{option_map};
-ghost use Rattle.turn_types.specs.Act.{act_of};
-ghost use Rattle.turn_types.specs.Table.{table, permitting, binding};
+ghost use Rattle.turn_history.specs.Act.{act_of};
+ghost use Rattle.turn_history.specs.Table.{table, permitting, binding};
 ghost use Rattle.history_tables.specs.Replay.{replayed, still};
 ghost use Rattle.history_tables.specs.View.{entry_of, contents_of, event_of};
 
 use std::alloc::{AllocError, Allocator, Global};
 use std::collections::BTreeMap;
-use turn_types::{Act, Channel, Endpoint, FiveTuple, Moment, TxId, UserName};
+use turn_history::{Act, Channel, UserName};
+use turn_types::{Endpoint, FiveTuple, Moment, TxId};
 
 /// An accepted act on the allocation of a five-tuple, and its moment.
 #[derive(Drop)]
@@ -21,8 +22,8 @@ pub struct Event<A: Allocator = Global> {
     pub act: Act<A>,
 }
 
-/// What a table holds of a live five-tuple. Permissions are by address and channels by number. Each expiry is the
-/// second from which on something no longer holds.
+/// What a table holds of a live five-tuple. Permissions are by address and channels by number. Each expiry is a time in
+/// seconds (exclusive).
 #[derive(Drop)]
 pub struct Entry<A: Allocator = Global> {
     pub user: UserName<A>,
@@ -133,6 +134,3 @@ pub fn table_at<A: Allocator + Copy>(
     });
     Ok(entries)
 }
-
-#[cfg(test)]
-mod tests;

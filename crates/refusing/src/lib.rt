@@ -14,7 +14,7 @@ pub struct Refusing<B: Allocator> {
 }
 
 impl<B: Allocator> Refusing<B> {
-    /// Refuses the request behind the first `served` ones; `u64::MAX` refuses none.
+    /// Serves `served` requests and refuses the next one; `u64::MAX` refuses none.
     pub fn new(inner: B, served: u64) -> Refusing<B> {
         Refusing {
             inner,
@@ -22,7 +22,7 @@ impl<B: Allocator> Refusing<B> {
         }
     }
 
-    /// From now on serves `served` requests before it refuses one; `u64::MAX` refuses none.
+    /// Counts anew: serves `served` requests and refuses the next one; `u64::MAX` refuses none.
     pub fn arm(&self, served: u64) {
         self.left.set(served);
     }

@@ -1,4 +1,4 @@
--- Ports that may be allocated, and what a generator of relayed addresses may answer. A range is its first and its last port.
+-- Ports that may be allocated, and what a generator of relayed addresses may pick. A range is its first and its last port.
 use Rattle.std.specs.Prelude.{ℕ, ◌≡◌, ◌==◌, ◌≤◌, ◌<◌, ◌+◌, ◌%◌, ◌^◌, Bool, true, false, not, Option, Some, None}
 
 -- a port that may be allocated: of the range, not taken, and even if asked
@@ -16,11 +16,11 @@ abbrev pub MayPick : ℕ × ℕ → (ℕ → Bool) → Bool → Bool → Option 
 MayPick range taken even failed (Some port) = IsFree range taken even port
 MayPick range taken even failed None = failed ≡ false → NoneIsFree range taken even
 
--- the least free port; none exactly where there is none
-abbrev pub IsLeastFree : ℕ × ℕ → (ℕ → Bool) → Bool → Option ℕ → Type 0
-IsLeastFree range taken even (Some port) =
+-- the lowest free port; none exactly where there is none
+abbrev pub IsLowestFree : ℕ × ℕ → (ℕ → Bool) → Bool → Option ℕ → Type 0
+IsLowestFree range taken even (Some port) =
     IsFree range taken even port × ((other : ℕ) → IsFree range taken even other → port ≤ other)
-IsLeastFree range taken even None = NoneIsFree range taken even
+IsLowestFree range taken even None = NoneIsFree range taken even
 
 -- the count of failures went up by one, modulo 2^64
 abbrev pub Failed : ℕ → ℕ → Type 0

@@ -1,4 +1,4 @@
-//! What a server asks of that which gives out its relay ports.
+//! What a server asks of a set of ports, and of a generator of relayed addresses.
 
 ghost use Rattle.std.specs.Prelude.{◌≡◌, ◌⊎◌, ℕ, Bool, IfOk, Ok, None};
 ghost use Rattle.turn_ports.specs.Ports.{Failed, MayPick, has_failed};
@@ -13,10 +13,10 @@ pub trait PortSet {
         ensures { result ≡ has self.now port };
 }
 
-/// A generator of relayed addresses: of a fixed address, the UDP ports from a first to a last, both included.
+/// A generator of relayed addresses: the UDP ports of one address, from a first to a last, both included.
 ///
 /// A generator may hold something for each port that it gave out, as a bound socket, so a port that was picked is
-/// to be released once no allocation has it.
+/// released once no allocation has it.
 pub trait RelayAddressGenerator {
     ghost range: { Self → ℕ × ℕ };
 
@@ -27,15 +27,15 @@ pub trait RelayAddressGenerator {
         ensures { result ≡ range self.now };
 
     /// A port of the range that isn't taken, and an even one where `even` asks for it (EVEN-PORT: RFC 8656,
-    /// section 7.2). None where there is no such port, or where the generator failed, as by a port that can't be
-    /// bound: a server answers 508 to both. Refused for want of memory alone.
+    /// section 7.2). `None` where there is no such port, or where the generator failed, as at a port that can't be
+    /// bound: a server answers 508 to both. `Err` is an allocation failure.
     fn pick<S: PortSet>(&mut self, taken: &S, even: bool) -> Result<Option<u16>, AllocError>
         ensures answer { IfOk result (MayPick (range self.old) (S.has taken.now) even (has_failed (failures self.old) (failures self.new))) }
         // The generator fails only where it answers none.
         ensures count { (failures self.new ≡ failures self.old) ⊎ ((result ≡ Ok None) × Failed (failures self.old) (failures self.new)) }
         ensures range { range self.new ≡ range self.old };
 
-    /// Gives a port back. Nothing happens where the port wasn't given out.
+    /// Releases a port. Nothing happens where the port wasn't given out.
     fn release(&mut self, port: u16)
         ensures range { range self.new ≡ range self.old }
         ensures count { failures self.new ≡ failures self.old };

@@ -1,13 +1,13 @@
-//! The ports of a range, the least first.
+//! The ports of a range, in ascending order.
 
 ghost use Rattle.std.specs.Prelude.{◌≡◌, ◌≤◌, IsOkAnd, SomeIff};
-ghost use Rattle.turn_ports.specs.Ports.{IsLeastFree};
+ghost use Rattle.turn_ports.specs.Ports.{IsLowestFree};
 
 use crate::generator::{PortSet, RelayAddressGenerator};
 use std::alloc::AllocError;
 use std::marker::Model;
 
-/// A generator that gives the least free port of its range. It holds nothing for a port, and never fails.
+/// A generator that picks the lowest free port of its range. It holds nothing for a port, and never fails.
 #[derive(Clone, Copy, Debug, PartialEq, Eq)]
 pub struct PortRange {
     first: u16,
@@ -27,7 +27,7 @@ impl Model for PortRange {
 }
 
 impl PortRange {
-    /// The ports from a first to a last, both included. None where the first is above the last.
+    /// The ports from a first to a last, both included. `None` where the first is above the last.
     pub fn new(first: u16, last: u16) -> Option<PortRange>
         ensures { SomeIff result (first ≤ last) (first, last) }
     {
@@ -51,9 +51,9 @@ impl RelayAddressGenerator for PortRange {
         (self.first, self.last)
     }
 
-    /// The least free port, and none only where there is none. Takes no memory.
+    /// The lowest free port, and `None` only where there is none. Takes no memory.
     fn pick<S: PortSet>(&mut self, taken: &S, even: bool) -> Result<Option<u16>, AllocError>
-        ensures least { IsOkAnd result (IsLeastFree self.old (S.has taken.now) even) }
+        ensures lowest { IsOkAnd result (IsLowestFree self.old (S.has taken.now) even) }
         ensures unchanged { self.new ≡ self.old }
     {
         for port in self.first..=self.last {

@@ -1,10 +1,10 @@
--- What a server is told when it starts.
+-- The configuration of a server.
 use Rattle.std.specs.Prelude.{ℕ, ◌&&◌, ◌||◌, Bool, not, nat_le, nat_lt, Option, Some, None, List, length, if◌then◌else◌}
 use Rattle.std.specs.List.{list_any, list_all}
 use Rattle.turn_types.specs.declared.config.IpRange.{IpRange}
 use Rattle.turn_types.specs.declared.config.ConfigError.{ConfigError}
 use Rattle.turn_types.specs.declared.config.ConfigError.TheVariants.{BadRealm, BadQuota, BadRange}
-use Rattle.turn_types.specs.Limits.{Bounds}
+use Rattle.turn_types.specs.declared.limits.Bounds.{Bounds}
 
 pub record Config : Type 0 where
   pub realm : List ℕ
@@ -28,6 +28,6 @@ refusal_of realm quota denied =
     else if nat_lt 64 (length denied) || not (list_all is_ordered denied) then Some BadRange
     else None
 
--- an address that no permission and no channel is given for
+-- an address that no peer may have
 abbrev pub is_denied : Config → ℕ → Bool
 is_denied c ip = list_any (λ r. is_between r.first r.last ip) c.denied

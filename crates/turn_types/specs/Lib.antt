@@ -1,12 +1,7 @@
-pub mod Act
-pub mod Codes
 pub mod Config
 pub mod ErrorCode
-pub mod Fitting
 pub mod FiveTuple
-pub mod History
-pub mod Laws
 pub mod Limits
 pub mod Methods
 pub mod Rows
-pub mod Table
+pub mod Settings

@@ -1,12 +1,6 @@
--- The greatest numbers that a server holds.
-use Rattle.std.specs.Prelude.{ℕ, ◌≤◌}
-
-pub record Bounds : Type 0 where
-  pub allocations : ℕ
-  pub permissions : ℕ
-  pub channels : ℕ
-  pub acts : ℕ
-  pub name_bytes : ℕ
+-- The ranges of limits.
+use Rattle.std.specs.Prelude.{◌≤◌}
+use Rattle.turn_types.specs.declared.limits.Bounds.{Bounds}
 
 pub record AreInRange (b : Bounds) : Type 0 where
   pub allocations : (1 ≤ b.allocations) × (b.allocations ≤ 1024)
@@ -14,3 +8,7 @@ pub record AreInRange (b : Bounds) : Type 0 where
   pub channels : (1 ≤ b.channels) × (b.channels ≤ 32)
   pub acts : (1 ≤ b.acts) × (b.acts ≤ 64)
   pub name_bytes : (1 ≤ b.name_bytes) × (b.name_bytes ≤ 508)
+
+-- the last value of each range
+abbrev pub max_bounds : Bounds
+max_bounds = record { allocations = 1024; permissions = 32; channels = 32; acts = 64; name_bytes = 508 }

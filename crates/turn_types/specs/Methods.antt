@@ -1,5 +1,5 @@
 -- The numbers of the methods (RFC 8489, section 18.2; RFC 8656, section 17).
-use Rattle.std.specs.Prelude.{ℕ}
+use Rattle.std.specs.Prelude.{ℕ, List, [], ◌∷◌}
 
 abbrev pub binding : ℕ
 binding = 0x001
@@ -21,3 +21,6 @@ create_permission = 0x008
 
 abbrev pub channel_bind : ℕ
 channel_bind = 0x009
+
+abbrev pub known_methods : List ℕ
+known_methods = binding ∷ allocate ∷ refresh ∷ send ∷ data_method ∷ create_permission ∷ channel_bind ∷ []

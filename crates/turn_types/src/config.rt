@@ -1,12 +1,15 @@
-//! What a server is told when it starts.
+//! The configuration of a server, and the settings that it is made of.
 
 ghost use Rattle.std.specs.Prelude.{◌≡◌, ◌≤◌, length, IfOk, IfSome, IfNone, IsOkUnless};
 ghost use Rattle.std.specs.List.{list_all};
 ghost use Rattle.turn_types.specs.Config.{is_ordered, refusal_of, is_denied};
+ghost use Rattle.turn_types.specs.Limits.{AreInRange};
+ghost use Rattle.turn_types.specs.Settings.{config_of};
 
 use crate::limits::Limits;
 use std::alloc::{AllocError, Allocator, Global};
 use std::marker::Model;
+use thiserror::Error;
 
 /// Addresses from a first to a last.
 #[derive(Clone, Copy, Debug, PartialEq, Eq)]
@@ -16,15 +19,15 @@ pub struct IpRange {
 }
 
 /// Why a configuration was refused: the first that applies.
-#[derive(Clone, Copy, Debug, PartialEq, Eq)]
+#[derive(Clone, Copy, Debug, PartialEq, Eq, Error)]
 pub enum ConfigError {
-    /// The realm hasn't 1 to 127 bytes.
+    #[error("the realm doesn't have 1 to 127 bytes")]
     BadRealm,
-    /// The quota isn't 1 to 1,024.
+    #[error("the quota isn't 1 to 1,024")]
     BadQuota,
-    /// More than 64 denied ranges, or one whose first address is above its last.
+    #[error("more than 64 ranges are denied, or one whose first address is after its last")]
     BadRange,
-    /// A growth was refused.
+    #[error("out of memory")]
     Memory,
 }
 
@@ -38,8 +41,23 @@ impl From<AllocError> for ConfigError {
     }
 }
 
-/// The configuration of a server: its realm, the secret that its nonces are made with, the IPv4 address that
-/// peers see, how many allocations a user may have, the addresses that no peer may have, and the limits.
+/// What a configuration is made of.
+#[derive(Clone, Copy, Debug)]
+pub struct Settings<'a> {
+    /// 1 to 127 bytes (RFC 8489, section 14.9).
+    pub realm: &'a [u8],
+    /// What nonces are made with; nobody else may know it.
+    pub secret: [u8; 32],
+    /// The IPv4 address that peers see.
+    pub relay: u32,
+    /// How many live allocations a user may have, 1 to 1,024.
+    pub quota: u32,
+    /// At most 64 ranges of addresses that no peer may have.
+    pub denied: &'a [IpRange],
+    pub limits: Limits,
+}
+
+/// The configuration of a server: settings that are in range.
 #[derive(Drop)]
 pub struct ServerConfig<A: Allocator = Global> {
     realm: Vec<u8, A>,
@@ -90,42 +108,41 @@ fn refusal(realm: &[u8], quota: u32, denied: &[IpRange]) -> Option<ConfigError>
 }
 
 impl<A: Allocator + Copy> ServerConfig<A> {
-    /// Copies what it is given. Refused for want of memory only where nothing else is wrong.
-    pub fn new(
-        alloc: A,
-        realm: &[u8],
-        secret: [u8; 32],
-        relay: u32,
-        quota: u32,
-        denied: &[IpRange],
-        limits: Limits,
-    ) -> Result<ServerConfig<A>, ConfigError>
-        ensures ok { IfOk result (λ c. c ≡ record {
-          realm = realm.now;
-          secret = secret;
-          relay = relay;
-          quota = quota;
-          denied = denied.now;
-          limits = limits;
-        }) }
-        ensures refused { IfSome (refusal_of realm.now quota denied.now) (λ e. result ≡ Err e) }
-        ensures memory { IfNone (refusal_of realm.now quota denied.now) (IsOkUnless result ConfigError.Memory) }
+    /// Copies the settings, once they are in range: `Memory` comes only where no other fault applies.
+    pub fn new(alloc: A, settings: Settings<'_>) -> Result<ServerConfig<A>, ConfigError>
+        ensures ok { IfOk result (λ c. c ≡ config_of settings.entry) }
+        ensures refused { IfSome (refusal_of settings.entry.realm.now settings.entry.quota settings.entry.denied.now) (λ e. result ≡ Err e) }
+        ensures memory { IfNone (refusal_of settings.entry.realm.now settings.entry.quota settings.entry.denied.now) (IsOkUnless result ConfigError.Memory) }
     {
-        if let Some(error) = refusal(realm, quota, denied) {
+        if let Some(error) = refusal(settings.realm, settings.quota, settings.denied) {
             return Err(error);
         }
         Ok(ServerConfig {
-            realm: Vec::from_slice(alloc, realm)?,
-            secret,
-            relay,
-            quota,
-            denied: Vec::from_slice(alloc, denied)?,
-            limits,
+            realm: Vec::from_slice(alloc, settings.realm)?,
+            secret: settings.secret,
+            relay: settings.relay,
+            quota: settings.quota,
+            denied: Vec::from_slice(alloc, settings.denied)?,
+            limits: settings.limits,
         })
     }
 }
 
 impl<A: Allocator> ServerConfig<A> {
+    /// The same configuration in memory of another allocator.
+    pub fn try_clone<B: Allocator + Copy>(&self, alloc: B) -> Result<ServerConfig<B>, AllocError>
+        ensures { IfOk result (λ c. c ≡ self.now) }
+    {
+        Ok(ServerConfig {
+            realm: Vec::from_slice(alloc, &self.realm)?,
+            secret: self.secret,
+            relay: self.relay,
+            quota: self.quota,
+            denied: Vec::from_slice(alloc, &self.denied)?,
+            limits: self.limits,
+        })
+    }
+
     /// The realm, 1 to 127 bytes (RFC 8489, section 14.9).
     pub fn realm(&self) -> &[u8]
         ensures value { result.now ≡ self.now.realm }
@@ -165,10 +182,13 @@ impl<A: Allocator> ServerConfig<A> {
             .any(|range| range.first <= ip && ip <= range.last)
     }
 
-    /// The greatest numbers that the server holds.
+    /// The most that the server holds.
     pub fn limits(&self) -> Limits
-        ensures { result ≡ self.now.limits }
+        ensures value { result ≡ self.now.limits }
+        ensures range { AreInRange result }
     {
+        // What `bounds` ensures proves the ranges.
+        let _ = self.limits.bounds();
         self.limits
     }
 }

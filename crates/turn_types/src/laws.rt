@@ -1,101 +1,13 @@
-//! What holds of the tables of histories. The definitions stand in specs/; each law is a clause of a function
-//! that does nothing.
+//! Laws over the definitions.
 
-ghost use Rattle.std.specs.Prelude.{◌≡◌, ◌≤◌, ◌++◌, ◌∷◌, [], ◌↔◌, ℕ, List, Some, IsSome, IfSome};
-ghost use Rattle.std.specs.FinMap as fin;
-ghost use Rattle.turn_types.specs.Fitting.{Follows, FitsBehind, IsFitting, IsTuple, IsEntryInRange};
-ghost use Rattle.turn_types.specs.History.{History, Event, Allocation, clock, made, span, allocation_at, span_at, IsLive};
-ghost use Rattle.turn_types.specs.Laws.{AllFrom, PortsApart, PeersApart, IsWithin, events_of, IsLast, IsEntryOf, InstalledAt, BoundAt, IsPermitted, IsBound, IsAboveGreatest, HasPermission, PermissionEnds, HasChannel, ChannelEnds};
-ghost use Rattle.turn_types.specs.Limits.{Bounds};
-ghost use Rattle.turn_types.specs.Table.{Entry, table, purged, applied};
-ghost use Rattle.turn_types.specs.declared.address.Endpoint.{Endpoint};
+ghost use Rattle.std.specs.Prelude.{◌≡◌};
+ghost use Rattle.turn_types.specs.FiveTuple.{tuple_cmp, TuplesGoByBytes};
 ghost use Rattle.turn_types.specs.declared.address.FiveTuple.{FiveTuple};
 
-/// The table of a history at a later moment is what of its table has not run out by then.
-pub fn tables_run_out()
-    ensures { (h : History) (t u : ℕ) → t ≤ u → table h u ≡ purged u (table h t) }
-{}
+use crate::address::FiveTuple;
 
-/// What one more fitting act makes of the table at its moment is a function of that table and the act. So
-/// histories that have one table at a moment, and are continued by the same events from that moment on, have one
-/// table at every later moment.
-pub fn acts_change_tables()
-    ensures next { (b : Bounds) (h : History) (e : Event) → Follows b h e →
-        table (h ++ e ∷ []) e.moment ≡ applied e.moment e.tuple e.act (table h e.moment) }
-    ensures same { (b : Bounds) (h g : History) (es : List Event) (s t : ℕ) →
-        table h s ≡ table g s → AllFrom s es → FitsBehind b h es → FitsBehind b g es →
-        s ≤ t → clock es ≤ t → table (h ++ es) t ≡ table (g ++ es) t }
-{}
-
-/// A fitting history with one more event that may follow it is fitting, and its clock is that event's moment. The
-/// first events of a fitting history are one, and the others fit behind them.
-pub fn fitting_histories_grow()
-    ensures grows { (b : Bounds) (h : History) (e : Event) →
-        IsFitting b h → Follows b h e → IsFitting b (h ++ e ∷ []) }
-    ensures clock { (h : History) (e : Event) →
-        clock h ≤ e.moment → clock (h ++ e ∷ []) ≡ e.moment }
-    ensures begins { (b : Bounds) (h g : History) →
-        IsFitting b (h ++ g) → IsFitting b h × FitsBehind b h g }
-    ensures joins { (b : Bounds) (h g : History) →
-        IsFitting b h → FitsBehind b h g → IsFitting b (h ++ g) }
-{}
-
-/// The entry of a five-tuple in the table of a history is that in the table of its own events alone.
-pub fn entries_stand_alone()
-    ensures { (h : History) (t : ℕ) (f : FiveTuple) →
-        fin.get (table h t).entries f ≡ fin.get (table (events_of f h) t).entries f }
-{}
-
-/// No two live five-tuples have one port, and in an entry no two channels have one peer.
-pub fn ports_and_peers_differ()
-    ensures ports { (b : Bounds) (h : History) (t : ℕ) →
-        IsFitting b h → clock h ≤ t → PortsApart (table h t) }
-    ensures peers { (b : Bounds) (h : History) (t : ℕ) →
-        IsFitting b h → clock h ≤ t → PeersApart (table h t) }
-{}
-
-/// A table has an entry exactly of each live five-tuple: the user, port, lifetime and transaction id that its last
-/// Alloc gave, and the moment when its last Alloc or Renew runs out. "The last" is meant by places in the history.
-pub fn tables_hold_the_live()
-    ensures live { (h : History) (t : ℕ) (f : FiveTuple) →
-        IsSome (fin.get (table h t).entries f) ↔ IsLive h t f }
-    ensures entry { (h : History) (t : ℕ) (f : FiveTuple) →
-        IfSome (fin.get (table h t).entries f) (IsEntryOf h f) }
-    ensures made { (h : History) (f : FiveTuple) (a : Allocation) →
-        (made h f ≡ Some a) ↔ IsLast allocation_at h f a }
-    ensures span { (h : History) (f : FiveTuple) (x : ℕ) →
-        (span h f ≡ Some x) ↔ IsLast span_at h f x }
-{}
-
-/// The permissions of a live five-tuple in a table are those of the addresses that some Permit or Bind of it names,
-/// which stands behind its last Alloc and is less than 300 seconds old. A permission runs out 300 seconds after
-/// the greatest moment of these.
-pub fn tables_hold_the_permitted()
-    ensures permitted { (b : Bounds) (h : History) (t : ℕ) (f : FiveTuple) (a : ℕ) →
-        IsFitting b h → (HasPermission (table h t) f a ↔ IsPermitted h t f a) }
-    ensures expiry { (b : Bounds) (h : History) (t : ℕ) (f : FiveTuple) (a x : ℕ) → IsFitting b h →
-        (PermissionEnds (table h t) f a x ↔
-        (IsLive h t f × IsAboveGreatest 300 (InstalledAt h t f a) x)) }
-{}
-
-/// The channels of a live five-tuple in a table are the numbers and peers of its Binds that stand behind its last
-/// Alloc and are less than 600 seconds old. A channel runs out 600 seconds after the greatest moment of these.
-pub fn tables_hold_the_bound()
-    ensures bound { (b : Bounds) (h : History) (t : ℕ) (f : FiveTuple) (n : ℕ) (p : Endpoint) →
-        IsFitting b h → clock h ≤ t → (HasChannel (table h t) f n p ↔ IsBound h t f n p) }
-    ensures expiry { (b : Bounds) (h : History) (t : ℕ) (f : FiveTuple) (n : ℕ) (p : Endpoint) (x : ℕ) →
-        IsFitting b h → clock h ≤ t →
-        (ChannelEnds (table h t) f n p x ↔
-        (IsLive h t f × IsAboveGreatest 600 (BoundAt h t f n p) x)) }
-{}
-
-/// The values in the table of a fitting history are in their ranges: each entry has an Alloc's, ends within 3600
-/// seconds, and has permissions that end within 300 seconds and channels that end within 600. And there are no
-/// more entries, permissions and channels than the limits allow.
-pub fn tables_are_in_range()
-    ensures values { (b : Bounds) (h : History) (t : ℕ) (f : FiveTuple) (e : Entry) →
-        IsFitting b h → clock h ≤ t → fin.get (table h t).entries f ≡ Some e →
-        IsTuple f × IsEntryInRange b t e }
-    ensures counts { (b : Bounds) (h : History) (t : ℕ) →
-        IsFitting b h → clock h ≤ t → IsWithin b (table h t) }
+/// The derived order of five-tuples, by which maps sort them, is that of their twelve bytes in network byte order.
+pub fn tuples_go_by_bytes()
+    ensures derived { (f g : FiveTuple) → ⟦<FiveTuple as Ord>⟧.cmp f g ≡ tuple_cmp f g }
+    ensures bytes { TuplesGoByBytes }
 {}

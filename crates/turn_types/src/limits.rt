@@ -1,139 +1,135 @@
-//! The greatest numbers that a server holds.
+//! The most that a server holds.
 
 ghost use Rattle.std.specs.Prelude.{◌≡◌, ◌≤◌, SomeIff};
-ghost use Rattle.turn_types.specs.Limits.{Bounds, AreInRange};
+ghost use Rattle.turn_types.specs.Limits.{AreInRange};
 
 use std::marker::Model;
 
-/// How many allocations a server holds, how many permissions and channels an allocation, how many acts a
-/// frame of the journal (which is the greatest number of arrivals of a batch too), and how many bytes a user's name.
+/// Five numbers that limits are made of.
+#[derive(Clone, Copy, Debug, PartialEq, Eq)]
+pub struct Bounds {
+    /// Live allocations.
+    pub allocations: u32,
+    /// Permissions of an allocation.
+    pub permissions: u16,
+    /// Channels of an allocation.
+    pub channels: u16,
+    /// Acts of a frame of the journal, and arrivals of a batch.
+    pub acts: u16,
+    /// Bytes of a user's name.
+    pub name_bytes: u16,
+}
+
+/// The most that a server holds: bounds that are in range.
 #[derive(Clone, Copy, Debug, PartialEq, Eq)]
 pub struct Limits {
-    allocations: u32,
-    permissions: u16,
-    channels: u16,
-    acts: u16,
-    name_bytes: u16,
+    bounds: Bounds,
 }
 
 impl Model for Limits {
-    ghost use Rattle.turn_types.specs.Limits.{Bounds, AreInRange};
+    ghost use Rattle.turn_types.specs.Limits.{AreInRange};
+    ghost use Rattle.turn_types.specs.declared.limits.Bounds.{Bounds};
 
     ghost Value = { Bounds };
 
-    ghost view = { λ a. record {
-      allocations = a.allocations;
-      permissions = a.permissions;
-      channels = a.channels;
-      acts = a.acts;
-      name_bytes = a.name_bytes;
-    } };
+    ghost view = { λ l. l.bounds };
 
-    ghost invariant = { λ a. AreInRange (record {
-      allocations = a.allocations;
-      permissions = a.permissions;
-      channels = a.channels;
-      acts = a.acts;
-      name_bytes = a.name_bytes;
-    }) };
+    ghost invariant = { λ l. AreInRange l.bounds };
 
-    ghost inverse = { λ b. record {
-      allocations = b.allocations;
-      permissions = b.permissions;
-      channels = b.channels;
-      acts = b.acts;
-      name_bytes = b.name_bytes;
-    } };
+    ghost inverse = { λ b. record { bounds = b } };
 }
 
 impl Limits {
-    /// The greatest limits, which are the default.
-    pub const GREATEST: Limits = Limits {
-        allocations: 1024,
-        permissions: 32,
-        channels: 32,
-        acts: 64,
-        name_bytes: 508,
+    /// The max limits: each bound has the last value of its range.
+    pub const MAX: Limits = Limits {
+        bounds: Bounds {
+            allocations: 1024,
+            permissions: 32,
+            channels: 32,
+            acts: 64,
+            name_bytes: 508,
+        },
     };
 
-    /// Limits of 1 to 1,024 allocations, 1 to 32 permissions and channels, 1 to 64 acts, and 1 to 508 bytes.
-    pub fn new(
-        allocations: u32,
-        permissions: u16,
-        channels: u16,
-        acts: u16,
-        name_bytes: u16,
-    ) -> Option<Limits>
-        ensures { let bounds : Bounds = record {
-          allocations = allocations;
-          permissions = permissions;
-          channels = channels;
-          acts = acts;
-          name_bytes = name_bytes;
-        } in
-            SomeIff result (AreInRange bounds) bounds }
+    /// Limits of 1 to 1,024 allocations, 1 to 32 permissions and channels of each, 1 to 64 acts of a frame, and 1 to 508
+    /// bytes of a user's name. `None` where a bound is out of its range.
+    pub fn new(bounds: Bounds) -> Option<Limits>
+        ensures { SomeIff result (AreInRange bounds) bounds }
     {
-        if allocations < 1 || 1024 < allocations {
+        if bounds.allocations < 1 || 1024 < bounds.allocations {
             return None;
         }
-        if permissions < 1 || 32 < permissions {
+        if bounds.permissions < 1 || 32 < bounds.permissions {
             return None;
         }
-        if channels < 1 || 32 < channels {
+        if bounds.channels < 1 || 32 < bounds.channels {
             return None;
         }
-        if acts < 1 || 64 < acts {
+        if bounds.acts < 1 || 64 < bounds.acts {
             return None;
         }
-        if name_bytes < 1 || 508 < name_bytes {
+        if bounds.name_bytes < 1 || 508 < bounds.name_bytes {
             return None;
         }
-        Some(Limits {
-            allocations,
-            permissions,
-            channels,
-            acts,
-            name_bytes,
-        })
+        Some(Limits { bounds })
     }
 
-    /// The greatest number of live allocations, 1 to 1,024.
+    /// The five numbers.
+    pub fn bounds(&self) -> Bounds
+        ensures value { result ≡ self.now }
+        ensures range { AreInRange result }
+    {
+        self.bounds
+    }
+
+    /// The max number of live allocations, 1 to 1,024.
     pub fn allocations(&self) -> u32
         ensures value { result ≡ self.now.allocations }
         ensures range { (1 ≤ result) × (result ≤ 1024) }
     {
-        self.allocations
+        self.bounds.allocations
     }
 
-    /// The greatest number of permissions of an allocation, 1 to 32.
+    /// The max number of permissions of an allocation, 1 to 32.
     pub fn permissions(&self) -> u16
         ensures value { result ≡ self.now.permissions }
         ensures range { (1 ≤ result) × (result ≤ 32) }
     {
-        self.permissions
+        self.bounds.permissions
     }
 
-    /// The greatest number of channels of an allocation, 1 to 32.
+    /// The max number of channels of an allocation, 1 to 32.
     pub fn channels(&self) -> u16
         ensures value { result ≡ self.now.channels }
         ensures range { (1 ≤ result) × (result ≤ 32) }
     {
-        self.channels
+        self.bounds.channels
     }
 
-    /// The greatest number of acts of a frame and of arrivals of a batch, 1 to 64.
+    /// The max number of acts of a frame and of arrivals of a batch, 1 to 64.
     pub fn acts(&self) -> u16
         ensures value { result ≡ self.now.acts }
         ensures range { (1 ≤ result) × (result ≤ 64) }
     {
-        self.acts
+        self.bounds.acts
     }
 
-    /// The greatest number of bytes of a user's name, 1 to 508.
+    /// The max number of bytes of a user's name, 1 to 508.
     pub fn name_bytes(&self) -> u16
         ensures value { result ≡ self.now.name_bytes }
         ensures range { (1 ≤ result) × (result ≤ 508) }
     {
-        self.name_bytes
+        self.bounds.name_bytes
+    }
+}
+
+impl Default for Limits {
+    ghost use Rattle.turn_types.specs.Limits.{max_bounds};
+
+    ghost is_default = { λ l. l ≡ max_bounds };
+
+    /// The max limits.
+    fn default() -> Limits {
+        Limits::MAX
     }
 }

@@ -1,6 +1,7 @@
-//! The head of a STUN message (RFC 8489, section 5).
+//! The class, the method and the transaction id of a STUN message (RFC 8489, section 5).
 
 ghost use Rattle.std.specs.Prelude.{◌≡◌, ◌<◌, ◌^◌, ℕ, SomeIff};
+ghost use Rattle.turn_types.specs.Methods.{known_methods};
 
 use std::marker::Model;
 
@@ -51,6 +52,21 @@ impl Method {
     pub const CREATE_PERMISSION: Method = Method { number: 0x008 };
 
     pub const CHANNEL_BIND: Method = Method { number: 0x009 };
+
+    /// The methods that TURN has, in the order of their numbers (RFC 8489, section 18.2; RFC 8656, section 17).
+    pub fn known() -> [Method; 7]
+        ensures { result ≡ known_methods }
+    {
+        [
+            Method::BINDING,
+            Method::ALLOCATE,
+            Method::REFRESH,
+            Method::SEND,
+            Method::DATA,
+            Method::CREATE_PERMISSION,
+            Method::CHANNEL_BIND,
+        ]
+    }
 
     /// The method of a number, if the number has at most 12 bits.
     pub fn new(number: u16) -> Option<Method>

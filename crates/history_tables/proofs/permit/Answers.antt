@@ -3,7 +3,7 @@ use Rattle.std.proofs.lemmas.List.{take_more}
 use Rattle.std.specs.FinMap as fin
 use Rattle.std.specs.FinMap.{FinMap}
 use Rattle.std.specs.Ordering.{nat_cmp}
-use Rattle.turn_types.specs.Table.{Entry, install, permitting}
+use Rattle.turn_history.specs.Table.{Entry, install, permitting}
 use Rattle.history_tables.specs.View.{entry_of}
 use Rattle.history_tables.proofs.Maps.{from_insert-nat, install_push}
 use Rattle.history_tables.proofs.permit.Goals as goal

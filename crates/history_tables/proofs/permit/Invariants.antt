@@ -1,5 +1,5 @@
 use Rattle.std.proofs.Common.{◌≡◌, take}
-use Rattle.turn_types.specs.Table.{permitting}
+use Rattle.turn_history.specs.Table.{permitting}
 use Rattle.history_tables.specs.View.{entry_of}
 use Rattle.history_tables.proofs.permit.Given as goal
 

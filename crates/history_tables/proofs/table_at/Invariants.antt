@@ -1,7 +1,7 @@
 use Rattle.std.proofs.Common.{◌≡◌, take, map}
 use Rattle.std.specs.FinMap.{find}
 use Rattle.turn_types.specs.FiveTuple.{tuple_cmp}
-use Rattle.turn_types.specs.History.{own}
+use Rattle.turn_history.specs.History.{own}
 use Rattle.turn_types.specs.declared.address.FiveTuple.{FiveTuple}
 use Rattle.history_tables.specs.View.{event_of, pair_of}
 use Rattle.history_tables.proofs.Raw.{raw_in}

@@ -1,0 +1,15 @@
+pub mod Channels
+pub mod Entries
+pub mod Histories
+pub mod Latest
+pub mod Live
+pub mod Maps
+pub mod Permissions
+pub mod Places
+pub mod Ranges
+pub mod Reading
+pub mod Rows
+pub mod Sizes
+pub mod Steady
+pub mod Steps
+pub mod Tests

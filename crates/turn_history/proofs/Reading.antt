@@ -1,0 +1,115 @@
+-- What the table of a history answers, after one more event and at a later moment.
+use Rattle.std.proofs.Common.{◌≡◌, ℕ, ◌+◌, Bool, false, cond, ◌||◌, Option, Some, None, List, [], ◌∷◌, ◌++◌, map, reverse, refl, sym, ap, ◌∙◌, arith}
+use Rattle.std.specs.Prelude.{nat_eq}
+use Rattle.std.specs.Option.{option_or, option_and_then}
+use Rattle.std.specs.Ordering.{nat_cmp, eq_by_cmp}
+use Rattle.std.proofs.lemmas.Cmp.{nat_cmp_total}
+use Rattle.std.specs.List.{flat_map, list_any, filter}
+use Rattle.std.proofs.lemmas.List.{reverse-append}
+use Rattle.std.proofs.lemmas.List.Elements.{filter-append}
+use Rattle.std.proofs.lemmas.List.Folds.{list_any-append}
+use Rattle.std.proofs.lemmas.Bool.{or_parts}
+use Rattle.std.proofs.lemmas.Bool.Decides.{nat_tests}
+use Rattle.std.specs.FinMap as fin
+use Rattle.std.specs.FinMap.{FinMap, get-insert, get-remove, same_map, nat_cmp-IsAntisymmetric}
+use Rattle.turn_types.specs.declared.address.FiveTuple.{FiveTuple}
+use Rattle.turn_history.specs.declared.channel.Channel.{Channel}
+use Rattle.turn_types.specs.FiveTuple.{tuple_cmp, same_tuple}
+use Rattle.turn_history.specs.History.{PlainAct, Allocates, Renews, Permits, Binds, Event, History, first_some, own, addresses_of, numbers_of, permission_at, channel_at, channel_by}
+use Rattle.turn_history.specs.Table.{ahead, channel_ahead, Entry, permissions_in, channels_in, entry_in, entry_of, Contents, table, still_permitted, still_bound, kept, purged, applied_to, with_entry, applied}
+use Rattle.turn_history.proofs.Maps.{tuple_total, tuple_exact, get-map_of-all, outside_keys}
+
+-- ---- Tests
+
+-- the order's test of equal numbers is the plain one
+pub nat_same : (a k : ℕ) → eq_by_cmp nat_cmp a k ≡ nat_eq a k
+nat_same a k = grind (arith, nat_tests)
+
+any_same : (a : ℕ) (ks : List ℕ) → list_any (eq_by_cmp nat_cmp a) ks ≡ list_any (nat_eq a) ks
+any_same a [] = refl
+any_same a (k ∷ ks) = ap (λ b. b || list_any (eq_by_cmp nat_cmp a) ks) (nat_same a k) ∙ ap (λ b. nat_eq a k || b) (any_same a ks)
+
+-- ---- A five-tuple's own events
+
+pub own-push : (h : History) (e : Event) (f : FiveTuple) → own (h ++ e ∷ []) f ≡ cond (same_tuple f e.tuple) (e ∷ own h f) (own h f)
+unfolding own
+own-push h e f = ap (filter (λ x. same_tuple f x.tuple)) (reverse-append h (e ∷ []))
+
+pub own-none : (h : History) (f : FiveTuple) → list_any (eq_by_cmp tuple_cmp f) (map (λ e. e.tuple) h) ≡ false → own h f ≡ []
+unfolding own
+own-none [] f none = refl
+own-none (e ∷ h) f none =
+    let p : Event → Bool = λ x. same_tuple f x.tuple in
+    ap (filter p) (reverse-append (e ∷ []) h) ∙ filter-append p (reverse h) (e ∷ [])
+    ∙ (ap (λ xs. xs ++ filter p (e ∷ [])) (own-none h f (or_parts _ _ none).1)
+    ∙ ap (λ b. cond b (e ∷ []) []) (or_parts _ _ none).0)
+
+-- ---- What the maps answer
+
+pub permission-none : (es : List Event) (a : ℕ) → list_any (eq_by_cmp nat_cmp a) (flat_map (λ e. addresses_of e.act) es) ≡ false → first_some (permission_at a) es ≡ None
+permission-none [] a none = refl
+permission-none (e ∷ es) a none =
+    let split = sym (list_any-append (eq_by_cmp nat_cmp a) (addresses_of e.act) (flat_map (λ x. addresses_of x.act) es)) ∙ none in
+    let here : list_any (nat_eq a) (addresses_of e.act) ≡ false = sym (any_same a (addresses_of e.act)) ∙ (or_parts _ _ split).0 in
+    ap (λ b. option_or (cond b (Some (e.moment + 300)) None) (first_some (permission_at a) es)) here ∙ permission-none es a (or_parts _ _ split).1
+
+pub get-permissions_in : (t : ℕ) (es : List Event) (a : ℕ) → fin.get (permissions_in t es) a ≡ ahead t (first_some (permission_at a) es)
+unfolding permissions_in
+get-permissions_in t es a =
+    get-map_of-all nat_cmp_total nat_cmp-IsAntisymmetric (flat_map (λ e. addresses_of e.act) es) (λ k. ahead t (first_some (permission_at k) es)) a
+    (λ none. ap (ahead t) (permission-none es a none))
+
+pub channel-none : (es : List Event) (n : ℕ) → list_any (eq_by_cmp nat_cmp n) (flat_map (λ e. numbers_of e.act) es) ≡ false → first_some (channel_at n) es ≡ None
+channel-none [] n none = refl
+channel-none (e ∷ es) n none =
+    let split = sym (list_any-append (eq_by_cmp nat_cmp n) (numbers_of e.act) (flat_map (λ x. numbers_of x.act) es)) ∙ none in
+    ap (λ o. option_or o (first_some (channel_at n) es)) (here e.moment e.act (or_parts _ _ split).0) ∙ channel-none es n (or_parts _ _ split).1
+  where
+    here : (m : ℕ) (d : PlainAct) → list_any (eq_by_cmp nat_cmp n) (numbers_of d) ≡ false → channel_by n m d ≡ None
+    here m (Allocates user port granted tx) none = refl
+    here m (Renews granted) none = refl
+    here m (Permits addresses) none = refl
+    here m (Binds number peer) none = ap (λ b. cond b (Some (record { peer = peer; expiry = m + 600 })) None) (sym (nat_same n number) ∙ (or_parts _ _ none).0)
+
+pub get-channels_in : (t : ℕ) (es : List Event) (n : ℕ) → fin.get (channels_in t es) n ≡ channel_ahead t (first_some (channel_at n) es)
+unfolding channels_in
+get-channels_in t es n =
+    get-map_of-all nat_cmp_total nat_cmp-IsAntisymmetric (flat_map (λ e. numbers_of e.act) es) (λ k. channel_ahead t (first_some (channel_at k) es)) n
+    (λ none. ap (channel_ahead t) (channel-none es n none))
+
+-- the table has the entry of each live five-tuple, and no other
+pub get-table : (h : History) (t : ℕ) (f : FiveTuple) → fin.get (table h t).entries f ≡ entry_of h t f
+unfolding table entry_in
+get-table h t f =
+    get-map_of-all tuple_total tuple_exact (map (λ e. e.tuple) h) (entry_of h t) f
+    (λ none. ap (entry_in t) (own-none h f none))
+
+pub get-still_permitted : (t : ℕ) (m : FinMap nat_cmp ℕ) (a : ℕ) → fin.get (still_permitted t m) a ≡ ahead t (fin.get m a)
+unfolding still_permitted
+get-still_permitted t m a =
+    get-map_of-all nat_cmp_total nat_cmp-IsAntisymmetric (fin.keys m) (λ k. ahead t (fin.get m k)) a
+    (λ none. ap (ahead t) (outside_keys nat_cmp_total nat_cmp-IsAntisymmetric m a none))
+
+pub get-still_bound : (t : ℕ) (m : FinMap nat_cmp Channel) (n : ℕ) → fin.get (still_bound t m) n ≡ channel_ahead t (fin.get m n)
+unfolding still_bound
+get-still_bound t m n =
+    get-map_of-all nat_cmp_total nat_cmp-IsAntisymmetric (fin.keys m) (λ k. channel_ahead t (fin.get m k)) n
+    (λ none. ap (channel_ahead t) (outside_keys nat_cmp_total nat_cmp-IsAntisymmetric m n none))
+
+pub get-purged : (t : ℕ) (c : Contents) (f : FiveTuple) → fin.get (purged t c).entries f ≡ option_and_then (kept t) (fin.get c.entries f)
+unfolding purged
+get-purged t c f =
+    get-map_of-all tuple_total tuple_exact (fin.keys c.entries) (λ k. option_and_then (kept t) (fin.get c.entries k)) f
+    (λ none. ap (option_and_then (kept t)) (outside_keys tuple_total tuple_exact c.entries f none))
+
+pub get-applied : (t : ℕ) (f : FiveTuple) (d : PlainAct) (c : Contents) (q : FiveTuple) → fin.get (applied t f d c).entries q ≡ cond (same_tuple q f) (applied_to t d (fin.get c.entries f)) (fin.get c.entries q)
+unfolding applied
+get-applied t f d c q = by_entry (applied_to t d (fin.get c.entries f))
+  where
+    by_entry : (o : Option Entry) → fin.get (with_entry c.entries f o) q ≡ cond (same_tuple q f) o (fin.get c.entries q)
+    by_entry None = get-remove tuple_total c.entries f q
+    by_entry (Some e) = get-insert tuple_total c.entries f e q
+
+-- tables with one answer at each five-tuple are one
+pub same_contents : (c d : Contents) → ((f : FiveTuple) → fin.get c.entries f ≡ fin.get d.entries f) → c ≡ d
+same_contents c d same = ap (λ m. record { entries = m }) (same_map tuple_total tuple_exact c.entries d.entries same)

@@ -1,0 +1,234 @@
+-- The table of a fitting history is within the limits.
+use Rattle.std.proofs.Common.{◌≡◌, ℕ, zero, suc, T, ◌+◌, ◌-◌, ◌≤◌, Bool, true, false, cond, ◌&&◌, is_some, Option, Some, None, List, [], ◌∷◌, ◌++◌, length, refl, sym, ap, ◌∙◌, subst, arith, append_assoc}
+use Rattle.std.specs.Prelude.{IsSomeAnd, nat_eq, nat_lt, ◌==◌}
+use Rattle.std.specs.List.{list_any}
+use Rattle.std.specs.Option.{option_and_then, option_map}
+use Rattle.std.specs.Ordering.{nat_cmp, eq_by_cmp, is_eq, is_lt}
+use Rattle.std.specs.Cmp.{IsTotalOrder}
+use Rattle.std.specs.declared.cmp.Ordering.{Ordering}
+use Rattle.std.specs.declared.cmp.Ordering.TheVariants.{Less, Equal, Greater}
+use Rattle.std.proofs.lemmas.Cmp.{nat_cmp_total, tied_itself}
+use Rattle.std.proofs.lemmas.List.{append-nil}
+use Rattle.std.proofs.lemmas.Option.{same_Some}
+use Rattle.std.specs.FinMap as fin
+use Rattle.std.specs.FinMap.{FinMap, IsAntisymmetric, find, is_sorted, get-insert, get-remove, get-empty, len-insert, len-empty, len-remove, empty_of_len, len-entries, entries_sorted, get-entries, nat_cmp-IsAntisymmetric}
+use Rattle.std.specs.FinMap.Entries.{below_all}
+use Rattle.turn_types.specs.FiveTuple.{tuple_cmp, same_tuple}
+use Rattle.turn_types.specs.declared.limits.Bounds.{Bounds}
+use Rattle.turn_history.specs.History.{PlainAct, Allocates, Renews, Permits, Binds, Event, History, own, clock}
+use Rattle.turn_history.specs.Table.{Entry, Contents, ahead, channel_ahead, still_permitted, still_bound, kept, purged, install, renewed, permitting, binding, applied_to, allocated, map_of, entry_in, applied, table}
+use Rattle.turn_history.specs.Fitting.{Fits, FitsChannel, IsChannelNumber, FitsAfter, IsFitting}
+use Rattle.turn_history.specs.Laws.{IsWithin}
+use Rattle.turn_types.specs.declared.address.FiveTuple.{FiveTuple}
+use Rattle.turn_history.specs.declared.channel.Channel.{Channel}
+use Rattle.turn_history.proofs.Histories.{NextFrom, next_fits, below_first, below_rest, next_zero, table-follows}
+use Rattle.turn_history.proofs.Maps.{tuple_total, tuple_exact, from_eq}
+use Rattle.turn_history.proofs.Reading.{get-still_permitted, get-still_bound, get-purged, get-applied, get-table}
+use Rattle.turn_history.proofs.Steps.{get-install, table-later}
+
+-- ---- A map without keys that another one lacks is no larger
+
+module _ {K : Type 0} {R : K → K → Ordering} (o : IsTotalOrder R) (exact : IsAntisymmetric R) where
+  less_first : (r : Ordering) (b : Bool) → (is_lt r && b) ≡ true → (is_eq r ≡ false) × (b ≡ true)
+  less_first Less b h = (refl, h)
+  less_first Equal b h = cc
+  less_first Greater b h = cc
+
+  none_below : {X : Type 0} (es : List (K × X)) (x : K) → below_all R x es ≡ true → find R x es ≡ None
+  none_below [] x below = refl
+  none_below (e ∷ es) x below =
+      let parts = less_first (R x e.0) (below_all R x es) below in
+      ap (λ b. cond b (Some e.1) (find R x es)) parts.0 ∙ none_below es x parts.1
+
+  both : (a b : Bool) → (a && b) ≡ true → (a ≡ true) × (b ≡ true)
+  both true b h = (refl, h)
+  both false b h = cc
+
+  not_empty : {Y : Type 0} (m : FinMap R Y) (k : K) → is_some (fin.get m k) ≡ true → 1 ≤ fin.len m
+  not_empty m k has = by_size (fin.len m) refl
+    where
+      by_size : (n : ℕ) → fin.len m ≡ n → 1 ≤ n
+      by_size zero none = let no : false ≡ true = sym (ap is_some (ap (λ x. fin.get x k) (empty_of_len m none) ∙ get-empty R k)) ∙ has in cc
+      by_size (suc n) some = omega arith
+
+  no_more : {X Y : Type 0} (es : List (K × X)) (m : FinMap R Y) → is_sorted R es ≡ true → ((q : K) → is_some (find R q es) ≡ true → is_some (fin.get m q) ≡ true) → length es ≤ fin.len m
+  no_more [] m sorted has = omega arith
+  no_more (e ∷ es) m sorted has =
+      let parts = both (below_all R e.0 es) (is_sorted R es) sorted in
+      let here = has e.0 (ap (λ b. is_some (cond b (Some e.1) (find R e.0 es))) (ap is_eq (tied_itself o e.0))) in
+      let less : fin.len (fin.remove m e.0) ≡ fin.len m - 1 = len-remove o m e.0 ∙ ap (λ b. cond b (fin.len m - 1) (fin.len m)) here in
+      let some = not_empty m e.0 here in
+      let rest = no_more es (fin.remove m e.0) parts.1 (λ q in_es. later parts.0 q (eq_by_cmp R q e.0) refl in_es (has q)) in
+      omega arith
+    where
+      later : below_all R e.0 es ≡ true → (q : K) (b : Bool) → eq_by_cmp R q e.0 ≡ b → is_some (find R q es) ≡ true → (is_some (cond (eq_by_cmp R q e.0) (Some e.1) (find R q es)) ≡ true → is_some (fin.get m q) ≡ true) → is_some (fin.get (fin.remove m e.0) q) ≡ true
+      later below q true same in_es there =
+          let one = from_eq R exact q e.0 same in
+          let none : find R q es ≡ None = ap (λ k. find R k es) one ∙ none_below es e.0 below in
+          let no : false ≡ true = sym (ap is_some none) ∙ in_es in cc
+      later below q false other in_es there =
+          ap is_some (get-remove o m e.0 q ∙ ap (λ b. cond b None (fin.get m q)) other)
+          ∙ there (ap (λ b. is_some (cond b (Some e.1) (find R q es))) other ∙ in_es)
+
+  is_true : (b : Bool) → T b → b ≡ true
+  is_true true h = refl
+  is_true false h = absurd h
+
+  pub len-le : {X Y : Type 0} (n : FinMap R X) (m : FinMap R Y) → ((q : K) → is_some (fin.get n q) ≡ true → is_some (fin.get m q) ≡ true) → fin.len n ≤ fin.len m
+  len-le n m has =
+      let size = len-entries n in
+      let le = no_more (fin.entries n) m (is_true (is_sorted R (fin.entries n)) (entries_sorted n)) (λ q in_n. has q (ap is_some (get-entries n q) ∙ in_n)) in
+      omega arith
+
+nat_len-le : {X Y : Type 0} (n : FinMap nat_cmp X) (m : FinMap nat_cmp Y) → ((q : ℕ) → is_some (fin.get n q) ≡ true → is_some (fin.get m q) ≡ true) → fin.len n ≤ fin.len m
+nat_len-le n m has = len-le nat_cmp_total nat_cmp-IsAntisymmetric n m has
+
+-- ---- Time that passes
+
+some_ahead : (t : ℕ) (o : Option ℕ) → is_some (ahead t o) ≡ true → is_some o ≡ true
+some_ahead t None h = cc
+some_ahead t (Some x) h = refl
+
+some_channel_ahead : (t : ℕ) (o : Option Channel) → is_some (channel_ahead t o) ≡ true → is_some o ≡ true
+some_channel_ahead t None h = cc
+some_channel_ahead t (Some c) h = refl
+
+some_kept : (t : ℕ) (o : Option Entry) → is_some (option_and_then (kept t) o) ≡ true → is_some o ≡ true
+some_kept t None h = cc
+some_kept t (Some e) h = refl
+
+kept_from : (t : ℕ) (o : Option Entry) (e : Entry) → option_and_then (kept t) o ≡ Some e → (x : Entry) × (o ≡ Some x) × (e.permissions ≡ still_permitted t x.permissions) × (e.channels ≡ still_bound t x.channels)
+kept_from t None e h = cc
+kept_from t (Some x) e h = by_test (nat_lt t x.expiry) h
+  where
+    by_test : (b : Bool) → cond b (Some (record x { permissions = still_permitted t x.permissions; channels = still_bound t x.channels })) None ≡ Some e → (y : Entry) × (Some x ≡ Some y) × (e.permissions ≡ still_permitted t y.permissions) × (e.channels ≡ still_bound t y.channels)
+    by_test true h = let is = same_Some _ e h in (x, refl, sym (ap (λ y. y.permissions) is), sym (ap (λ y. y.channels) is))
+    by_test false h = cc
+
+within-purged : (b : Bounds) (t : ℕ) (c : Contents) → IsWithin b c → IsWithin b (purged t c)
+within-purged b t c w = record {
+  allocations = (let le = len-le tuple_total tuple_exact (purged t c).entries c.entries (λ q has. some_kept t (fin.get c.entries q) (sym (ap is_some (get-purged t c q)) ∙ has)) in let all = w.allocations in omega arith);
+  permissions = (λ f e is.
+      let x = kept_from t (fin.get c.entries f) e (sym (get-purged t c f) ∙ is) in
+      let le = nat_len-le (still_permitted t x.0.permissions) x.0.permissions (λ q has. some_ahead t (fin.get x.0.permissions q) (sym (ap is_some (get-still_permitted t x.0.permissions q)) ∙ has)) in
+      let same = ap fin.len x.2 in
+      let all = w.permissions f x.0 x.1 in omega arith);
+  channels = (λ f e is.
+      let x = kept_from t (fin.get c.entries f) e (sym (get-purged t c f) ∙ is) in
+      let le = nat_len-le (still_bound t x.0.channels) x.0.channels (λ q has. some_channel_ahead t (fin.get x.0.channels q) (sym (ap is_some (get-still_bound t x.0.channels q)) ∙ has)) in
+      let same = ap fin.len x.3 in
+      let all = w.channels f x.0 x.1 in omega arith);
+}
+
+-- ---- One more act
+
+some_mapped : (g : Entry → Entry) (o : Option Entry) → is_some (option_map g o) ≡ true → is_some o ≡ true
+some_mapped g None h = cc
+some_mapped g (Some e) h = refl
+
+-- no entry comes from an act that is no Alloc
+no_new : (t : ℕ) (f : FiveTuple) (d : PlainAct) (c : Contents) → ((o : Option Entry) → is_some (applied_to t d o) ≡ true → is_some o ≡ true) → fin.len (applied t f d c).entries ≤ fin.len c.entries
+no_new t f d c some = len-le tuple_total tuple_exact (applied t f d c).entries c.entries (λ q has. by_test q (same_tuple q f) refl (sym (ap is_some (get-applied t f d c q)) ∙ has))
+  where
+    by_test : (q : FiveTuple) (b : Bool) → same_tuple q f ≡ b → is_some (cond (same_tuple q f) (applied_to t d (fin.get c.entries f)) (fin.get c.entries q)) ≡ true → is_some (fin.get c.entries q) ≡ true
+    by_test q true same h = ap (λ k. is_some (fin.get c.entries k)) (from_eq tuple_cmp tuple_exact q f same) ∙ some (fin.get c.entries f) (sym (ap (λ b. is_some (cond b (applied_to t d (fin.get c.entries f)) (fin.get c.entries q))) same) ∙ h)
+    by_test q false other h = sym (ap (λ b. is_some (cond b (applied_to t d (fin.get c.entries f)) (fin.get c.entries q))) other) ∙ h
+
+some_alike : {X : Type 0} (x y : X) (b : Bool) (o : Option X) → is_some (cond b (Some x) o) ≡ true → is_some (cond b (Some y) o) ≡ true
+some_alike x y true o h = refl
+some_alike x y false o h = h
+
+installed_alike : (x y : ℕ) (ks : List ℕ) (m : FinMap nat_cmp ℕ) → fin.len (install x ks m) ≤ fin.len (install y ks m)
+installed_alike x y ks m = nat_len-le (install x ks m) (install y ks m) (λ q has. ap is_some (get-install y ks m q) ∙ some_alike x y (list_any (nat_eq q) ks) (fin.get m q) (sym (ap is_some (get-install x ks m q)) ∙ has))
+
+inserted_alike : {X : Type 0} (x y : X) (k : ℕ) (m : FinMap nat_cmp X) → fin.len (fin.insert m k x) ≤ fin.len (fin.insert m k y)
+inserted_alike x y k m = nat_len-le (fin.insert m k x) (fin.insert m k y) (λ q has. ap is_some (get-insert nat_cmp_total m k y q) ∙ some_alike x y (eq_by_cmp nat_cmp q k) (fin.get m q) (sym (ap is_some (get-insert nat_cmp_total m k x q)) ∙ has))
+
+module _ (b : Bounds) (t : ℕ) (f : FiveTuple) (c : Contents) (w : IsWithin b c) where
+  allocations-applied : (d : PlainAct) → Fits b c f d → fin.len (applied t f d c).entries ≤ b.allocations
+  unfolding applied
+  allocations-applied (Allocates user port granted tx) fits =
+      let more : fin.len (applied t f (Allocates user port granted tx) c).entries ≡ fin.len c.entries + 1 = len-insert tuple_total c.entries f (allocated t user port granted tx) ∙ ap (λ o. cond (is_some o) (fin.len c.entries) (fin.len c.entries + 1)) fits.0 in
+      omega (arith, fits.2)
+  allocations-applied (Renews granted) fits = let le = no_new t f (Renews granted) c (λ o h. renews (granted == 0) o h) in let all = w.allocations in omega arith
+    where
+      renews : (z : Bool) (o : Option Entry) → is_some (cond z None (option_map (renewed (t + granted)) o)) ≡ true → is_some o ≡ true
+      renews true o h = cc
+      renews false o h = some_mapped (renewed (t + granted)) o h
+  allocations-applied (Permits addresses) fits = let le = no_new t f (Permits addresses) c (some_mapped (permitting (t + 300) addresses)) in let all = w.allocations in omega arith
+  allocations-applied (Binds number peer) fits = let le = no_new t f (Binds number peer) c (some_mapped (binding t number peer)) in let all = w.allocations in omega arith
+
+  abbrev pub Small : Entry → Type 0
+  Small e = (fin.len e.permissions ≤ b.permissions) × (fin.len e.channels ≤ b.channels)
+
+  was_small : (e : Entry) → fin.get c.entries f ≡ Some e → Small e
+  was_small e is = (w.permissions f e is, w.channels f e is)
+
+  small_entry : (d : PlainAct) (o : Option Entry) (e : Entry) → o ≡ fin.get c.entries f → Fits b c f d → applied_to t d o ≡ Some e → Small e
+  small_entry (Allocates user port granted tx) o e same fits is =
+      let made = same_Some (allocated t user port granted tx) e is in
+      let ps = len-empty nat_cmp ℕ in
+      let cs = len-empty nat_cmp Channel in
+      subst Small made (omega arith, omega arith)
+  small_entry (Renews granted) o e same fits is = by_test (granted == 0) o same is
+    where
+      by_test : (z : Bool) (o : Option Entry) → o ≡ fin.get c.entries f → cond z None (option_map (renewed (t + granted)) o) ≡ Some e → Small e
+      by_test true o same is = cc
+      by_test false None same is = cc
+      by_test false (Some y) same is = subst Small (same_Some (renewed (t + granted) y) e is) (was_small y (sym same))
+  small_entry (Permits addresses) None e same fits is = cc
+  small_entry (Permits addresses) (Some y) e same fits is =
+      let room = subst (λ o. IsSomeAnd o (λ e. fin.len (install 0 addresses e.permissions) ≤ b.permissions)) (sym same) fits in
+      let le = installed_alike (t + 300) 0 addresses y.permissions in
+      let was = was_small y (sym same) in
+      subst Small (same_Some (permitting (t + 300) addresses y) e is) (omega arith, was.1)
+  small_entry (Binds number peer) None e same fits is = cc
+  small_entry (Binds number peer) (Some y) e same fits is =
+      let room = subst (λ o. IsSomeAnd o (λ e. FitsChannel b number peer e × IsChannelNumber number)) (sym same) fits in
+      let ps = inserted_alike (t + 300) 0 peer.ip y.permissions in
+      let cs = inserted_alike (record { peer = peer; expiry = t + 600 }) (record { peer = peer; expiry = 0 }) number y.channels in
+      let permissions = room.0.0 in
+      let channels = room.0.1 in
+      subst Small (same_Some (binding t number peer y) e is) (omega arith, omega arith)
+
+  within-applied : (d : PlainAct) → Fits b c f d → IsWithin b (applied t f d c)
+  within-applied d fits = record {
+    allocations = allocations-applied d fits;
+    permissions = (λ q e is. (small q e (sym (get-applied t f d c q) ∙ is)).0);
+    channels = (λ q e is. (small q e (sym (get-applied t f d c q) ∙ is)).1);
+  }
+    where
+      small : (q : FiveTuple) (e : Entry) → cond (same_tuple q f) (applied_to t d (fin.get c.entries f)) (fin.get c.entries q) ≡ Some e → Small e
+      small q e is = by_test (same_tuple q f) is
+        where
+          by_test : (z : Bool) → cond z (applied_to t d (fin.get c.entries f)) (fin.get c.entries q) ≡ Some e → Small e
+          by_test true is = small_entry d (fin.get c.entries f) e refl fits is
+          by_test false is = (w.permissions q e is, w.channels q e is)
+
+-- ---- A history
+
+within-later : (b : Bounds) (h : History) (s t : ℕ) → s ≤ t → IsWithin b (table h s) → IsWithin b (table h t)
+within-later b h s t le w = subst (IsWithin b) (table-later h s t le) (within-purged b t (table h s) w)
+
+within-after : (b : Bounds) (h : History) (es : List Event) (s t : ℕ) → IsWithin b (table h s) → NextFrom s es → FitsAfter b h es → s ≤ t → clock es ≤ t → IsWithin b (table (h ++ es) t)
+within-after b h [] s t w from fits le below = subst (λ l. IsWithin b (table l t)) (sym (append-nil h)) (within-later b h s t le w)
+within-after b h (e ∷ es) s t w from fits le below =
+    let here = within-later b h s e.moment from w in
+    let done = subst (IsWithin b) (sym (table-follows b h e fits.0)) (within-applied b e.moment e.tuple (table h e.moment) here e.act fits.0.fits) in
+    subst (λ l. IsWithin b (table l t)) (append_assoc h (e ∷ []) es)
+    (within-after b (h ++ e ∷ []) es e.moment t done (next_fits b h e es fits.1) fits.1 (below_first e es t below) (below_rest e es t below))
+
+none : (f : FiveTuple) → fin.get (table [] 0).entries f ≡ None
+unfolding own entry_in
+none f = get-table [] 0 f
+
+within-none : (b : Bounds) → IsWithin b (table [] 0)
+unfolding table map_of
+within-none b = record {
+  allocations = (let size = len-empty tuple_cmp Entry in omega arith);
+  permissions = (λ f e is. let no : None ≡ Some e = sym (none f) ∙ is in cc);
+  channels = (λ f e is. let no : None ≡ Some e = sym (none f) ∙ is in cc);
+}
+
+pub tables-within : (b : Bounds) (h : History) (t : ℕ) → IsFitting b h → clock h ≤ t → IsWithin b (table h t)
+tables-within b h t fits below = within-after b [] h 0 t (within-none b) (next_zero h) fits (omega arith) below

@@ -1,0 +1,104 @@
+-- Which acts may follow a history.
+use Rattle.std.specs.Prelude.{◌≡◌, ◌≢◌, ◌⊎◌, ℕ, ◌+◌, ◌-◌, ◌^◌, ◌≤◌, ◌<◌, ◌==◌, ◌&&◌, ◌||◌, nat_eq, nat_lt, not, Bool, if◌then◌else◌, None, Some, List, [], ◌∷◌, ◌++◌, length, IsSome, IsSomeAnd, All}
+use Rattle.std.specs.List.{IsDistinct, list_all, list_any}
+use Rattle.std.specs.FinMap as fin
+use Rattle.turn_history.specs.History.{PlainAct, Allocates, Renews, Permits, Binds, Event, History, clock}
+use Rattle.turn_types.specs.declared.limits.Bounds.{Bounds}
+use Rattle.turn_history.specs.Table.{Entry, Contents, install, table}
+pub use Rattle.turn_types.specs.FiveTuple.{IsEndpoint, IsTuple}
+use Rattle.turn_types.specs.declared.address.Endpoint.{Endpoint}
+use Rattle.turn_types.specs.declared.address.FiveTuple.{FiveTuple}
+use Rattle.turn_history.specs.declared.channel.Channel.{Channel}
+
+-- ---- The ranges of an event's values
+
+-- some seconds that are granted (RFC 8656, section 7.2: at least the default of 600, and at most 3600)
+abbrev pub IsLifetime : ℕ → Type 0
+IsLifetime granted = (600 ≤ granted) × (granted ≤ 3600)
+
+-- RFC 8656, section 12
+abbrev pub IsChannelNumber : ℕ → Type 0
+IsChannelNumber n = (0x4000 ≤ n) × (n ≤ 0x4FFF)
+
+-- the values of an act are in their ranges under the limits
+abbrev pub IsActInRange : Bounds → PlainAct → Type 0
+IsActInRange b (Allocates user port granted tx) =
+    ((1 ≤ length user) × (length user ≤ b.name_bytes) × All (λ x. x < 256) user)
+    × (port < 2 ^ 16)
+    × IsLifetime granted
+    × ((length tx.0 ≡ 12) × All (λ x. x < 256) tx.0)
+IsActInRange b (Renews granted) = (granted ≡ 0) ⊎ IsLifetime granted
+IsActInRange b (Permits addresses) =
+    ((1 ≤ length addresses) × (length addresses ≤ b.permissions) × All (λ x. x < 2 ^ 32) addresses)
+    × IsDistinct nat_eq addresses
+IsActInRange b (Binds number peer) = IsChannelNumber number × IsEndpoint peer
+
+pub record IsInRange (b : Bounds) (e : Event) : Type 0 where
+  pub moment : e.moment < 2 ^ 40 - 3600
+  pub tuple : IsTuple e.tuple
+  pub act : IsActInRange b e.act
+
+-- the values of an entry of a table at the moment t are in their ranges under the limits
+pub record IsEntryInRange (b : Bounds) (t : ℕ) (e : Entry) : Type 0 where
+  pub made : IsActInRange b (Allocates e.user e.port e.granted e.tx)
+  pub expiry : (t < e.expiry) × (e.expiry ≤ t + 3600)
+  pub permissions : (a x : ℕ) → fin.get e.permissions a ≡ Some x → (a < 2 ^ 32) × (t < x) × (x ≤ t + 300)
+  pub channels : (n : ℕ) (c : Channel) → fin.get e.channels n ≡ Some c → IsChannelNumber n × IsEndpoint c.peer × (t < c.expiry) × (c.expiry ≤ t + 600)
+
+-- ---- Fitting
+
+-- no entry has the port (RFC 8656, section 7.2)
+abbrev pub PortIsFree : Contents → ℕ → Type 0
+PortIsFree c port = (f : FiveTuple) (e : Entry) → fin.get c.entries f ≡ Some e → e.port ≢ port
+
+-- whether an entry has the port: the test of which `PortIsFree` is the fact
+abbrev pub is_taken : Contents → ℕ → Bool
+is_taken c port = list_any (λ p. p.1.port == port) (fin.entries c.entries)
+
+-- number n may be bound to the peer p (RFC 8656, section 12.2): the limits hold afterwards, n is bound to no other peer, and p to no other number
+abbrev pub FitsChannel : Bounds → ℕ → Endpoint → Entry → Type 0
+FitsChannel b n p e =
+    (fin.len (fin.insert e.permissions p.ip 0) ≤ b.permissions)
+    × (fin.len (fin.insert e.channels n (record { peer = p; expiry = 0 })) ≤ b.channels)
+    × ((k : ℕ) (c : Channel) → fin.get e.channels k ≡ Some c → (k ≡ n → c.peer ≡ p) × (c.peer ≡ p → k ≡ n))
+
+-- `FitsChannel` as tests, one for each error code of ChannelBind: `is_bound_elsewhere` is 400, `exceeds` is 508
+abbrev pub is_peer : Endpoint → Channel → Bool
+is_peer p c = nat_eq c.peer.ip p.ip && nat_eq c.peer.port p.port
+
+-- a channel has the number n exactly where it has the peer p
+abbrev pub goes_with : ℕ → Endpoint → ℕ × Channel → Bool
+goes_with n p s = if nat_eq s.0 n then is_peer p s.1 else not (is_peer p s.1)
+
+-- number n or the peer p is bound, but not to each other
+abbrev pub is_bound_elsewhere : ℕ → Endpoint → Entry → Bool
+is_bound_elsewhere n p e = not (list_all (goes_with n p) (fin.entries e.channels))
+
+-- with a channel of number n to the peer p, the permissions or the channels are more than the limits allow
+abbrev pub exceeds : Bounds → ℕ → Endpoint → Entry → Bool
+exceeds b n p e =
+    nat_lt b.permissions (fin.len (fin.insert e.permissions p.ip 0))
+    || nat_lt b.channels (fin.len (fin.insert e.channels n (record { peer = p; expiry = 0 })))
+
+-- an act of f fits a table (RFC 8656, sections 7.2, 8.2, 10.2 and 12.2): an Alloc, where f is not live, the port is nobody's and the table is not full; the others,
+-- where f is live and the limits hold afterwards
+abbrev pub Fits : Bounds → Contents → FiveTuple → PlainAct → Type 0
+Fits b c f (Allocates user port granted tx) = (fin.get c.entries f ≡ None) × PortIsFree c port × (fin.len c.entries < b.allocations)
+Fits b c f (Renews granted) = IsSome (fin.get c.entries f)
+Fits b c f (Permits addresses) = IsSomeAnd (fin.get c.entries f) (λ e. fin.len (install 0 addresses e.permissions) ≤ b.permissions)
+Fits b c f (Binds number peer) = IsSomeAnd (fin.get c.entries f) (λ e. FitsChannel b number peer e × IsChannelNumber number)
+
+-- an event may be the next of a history
+pub record Follows (b : Bounds) (h : History) (e : Event) : Type 0 where
+  pub later : clock h ≤ e.moment
+  pub in_range : IsInRange b e
+  pub fits : Fits b (table h e.moment) e.tuple e.act
+
+-- the events of a list may follow a history, one after another
+abbrev pub FitsAfter : Bounds → History → List Event → Type 0
+FitsAfter b h [] = Unit {0}
+FitsAfter b h (e ∷ es) = Follows b h e × FitsAfter b (h ++ e ∷ []) es
+
+-- moments never fall, and each act fits the entries before it at its moment
+abbrev pub IsFitting : Bounds → History → Type 0
+IsFitting b h = FitsAfter b [] h

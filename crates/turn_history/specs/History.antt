@@ -1,0 +1,134 @@
+-- Histories of accepted acts, and what is read off one (RFC 8656, sections 6 to 12). Nothing in a history is ever
+-- changed or removed: what holds is given by the last event of its kind.
+use Rattle.std.specs.Prelude.{ℕ, ◌+◌, ◌<◌, Bool, if◌then◌else◌, nat_lt, nat_eq, ◌==◌, Option, Some, None, List, [], ◌∷◌, reverse, IsSome, IsSomeAnd, is_some}
+use Rattle.std.specs.Option.{option_or, option_map}
+use Rattle.std.specs.List.{list_any, filter}
+use Rattle.turn_types.specs.FiveTuple.{same_tuple}
+use Rattle.turn_types.specs.declared.address.Endpoint.{Endpoint}
+use Rattle.turn_types.specs.declared.address.FiveTuple.{FiveTuple}
+use Rattle.turn_history.specs.declared.channel.Channel.{Channel}
+use Rattle.turn_types.specs.declared.message.TxId.{TxId}
+
+-- ---- Acts and histories
+
+-- What an accepted request does to the allocation of its five-tuple, with lists where the code has vectors: an
+-- Allocate makes it (section 7), a Refresh sets its time to expiry and with 0 deletes it (section 8), a
+-- CreatePermission installs permissions (section 10), and a ChannelBind binds a channel and installs the permission
+-- of the peer's address (section 12).
+pub data PlainAct : Type 0 where
+  Allocates : (user : List ℕ) (port granted : ℕ) (tx : TxId) → PlainAct
+  Renews : (granted : ℕ) → PlainAct
+  Permits : (addresses : List ℕ) → PlainAct
+  Binds : (number : ℕ) (peer : Endpoint) → PlainAct
+
+-- an event of a history: an act on the allocation of a five-tuple, and its moment in seconds
+pub record Event : Type 0 where
+  pub moment : ℕ
+  pub tuple : FiveTuple
+  pub act : PlainAct
+
+-- the oldest event first
+abbrev pub History : Type 0
+History = List Event
+
+-- the latest moment of a history, or 0
+abbrev pub clock : History → ℕ
+clock [] = 0
+clock (e ∷ es) = if nat_lt e.moment (clock es) then clock es else e.moment
+
+-- ---- The last event of its kind
+
+-- the events of f, the newest first
+unfoldable pub own : History → FiveTuple → List Event
+own h f = filter (λ e. same_tuple f e.tuple) (reverse h)
+
+-- the first answer of g, from the front
+abbrev pub first_some : {A B : Type 0} → (A → Option B) → List A → Option B
+first_some g [] = None
+first_some g (x ∷ xs) = option_or (g x) (first_some g xs)
+
+-- what comes before the first element that passes
+abbrev pub until_first : {A : Type 0} → (A → Bool) → List A → List A
+until_first p [] = []
+until_first p (x ∷ xs) = if p x then [] else x ∷ until_first p xs
+
+-- ---- Allocations (sections 6 to 8)
+
+-- what an Allocate gave
+pub record Allocation : Type 0 where
+  pub user : List ℕ
+  pub port : ℕ
+  pub granted : ℕ
+  pub tx : TxId
+
+abbrev pub allocation_by : PlainAct → Option Allocation
+allocation_by (Allocates user port granted tx) = Some (record { user = user; port = port; granted = granted; tx = tx })
+allocation_by (Renews granted) = None
+allocation_by (Permits addresses) = None
+allocation_by (Binds number peer) = None
+
+-- for how many seconds an allocation lasts from here
+abbrev pub granted_by : PlainAct → Option ℕ
+granted_by (Allocates user port granted tx) = Some granted
+granted_by (Renews granted) = Some granted
+granted_by (Permits addresses) = None
+granted_by (Binds number peer) = None
+
+abbrev pub allocation_at : Event → Option Allocation
+allocation_at e = allocation_by e.act
+
+abbrev pub span_at : Event → Option ℕ
+span_at e = option_map (λ g. e.moment + g) (granted_by e.act)
+
+-- what the last Alloc of f gave
+abbrev pub made : History → FiveTuple → Option Allocation
+made h f = first_some allocation_at (own h f)
+
+-- when the last Alloc or Renew of f expires
+abbrev pub span : History → FiveTuple → Option ℕ
+span h f = first_some span_at (own h f)
+
+-- f has an allocation at the moment t
+pub record IsLive (h : History) (t : ℕ) (f : FiveTuple) : Type 0 where
+  pub made : IsSome (made h f)
+  pub ahead : IsSomeAnd (span h f) (λ x. t < x)
+
+-- the events of f after its last Alloc, the newest first
+abbrev pub since_alloc : History → FiveTuple → List Event
+since_alloc h f = until_first (λ e. is_some (allocation_at e)) (own h f)
+
+-- ---- Permissions (section 9: they last 300 seconds) and channels (section 12: they last 600 seconds)
+
+-- the addresses whose permission an act installs
+abbrev pub addresses_of : PlainAct → List ℕ
+addresses_of (Allocates user port granted tx) = []
+addresses_of (Renews granted) = []
+addresses_of (Permits addresses) = addresses
+addresses_of (Binds number peer) = peer.ip ∷ []
+
+-- the channel number that an act binds
+abbrev pub numbers_of : PlainAct → List ℕ
+numbers_of (Allocates user port granted tx) = []
+numbers_of (Renews granted) = []
+numbers_of (Permits addresses) = []
+numbers_of (Binds number peer) = number ∷ []
+
+abbrev pub permission_at : ℕ → Event → Option ℕ
+permission_at a e = if list_any (nat_eq a) (addresses_of e.act) then Some (e.moment + 300) else None
+
+abbrev pub channel_by : ℕ → ℕ → PlainAct → Option Channel
+channel_by n m (Allocates user port granted tx) = None
+channel_by n m (Renews granted) = None
+channel_by n m (Permits addresses) = None
+channel_by n m (Binds number peer) = if n == number then Some (record { peer = peer; expiry = m + 600 }) else None
+
+abbrev pub channel_at : ℕ → Event → Option Channel
+channel_at n e = channel_by n e.moment e.act
+
+-- when the permission of an address expires: 300 s after it was last installed, if that was after the last Alloc
+abbrev pub permission : History → FiveTuple → ℕ → Option ℕ
+permission h f a = first_some (permission_at a) (since_alloc h f)
+
+-- the peer of a channel, and when it expires: 600 s after it was last bound, if that was after the last Alloc
+abbrev pub channel : History → FiveTuple → ℕ → Option Channel
+channel h f n = first_some (channel_at n) (since_alloc h f)

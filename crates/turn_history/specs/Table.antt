@@ -1,0 +1,148 @@
+-- The table of a history at a moment, and what the time that passes and one more act do to it.
+use Rattle.std.specs.Prelude.{ℕ, ◌+◌, if◌then◌else◌, nat_lt, ◌==◌, Option, Some, None, List, [], ◌∷◌, map, is_some}
+use Rattle.std.specs.Option.{option_and_then, option_map}
+use Rattle.std.specs.declared.cmp.Ordering.{Ordering}
+use Rattle.std.specs.Ordering.{nat_cmp}
+use Rattle.std.specs.List.{flat_map}
+use Rattle.std.specs.FinMap as fin
+use Rattle.std.specs.FinMap.{FinMap}
+use Rattle.turn_types.specs.FiveTuple.{tuple_cmp}
+use Rattle.turn_history.specs.History.{PlainAct, Allocates, Renews, Permits, Binds, Event, History, own, first_some, until_first, Allocation, allocation_at, span_at, addresses_of, numbers_of, permission_at, channel_at}
+use Rattle.turn_types.specs.declared.address.Endpoint.{Endpoint}
+use Rattle.turn_types.specs.declared.address.FiveTuple.{FiveTuple}
+use Rattle.turn_history.specs.declared.channel.Channel.{Channel}
+use Rattle.turn_types.specs.declared.message.TxId.{TxId}
+
+-- ---- What a table holds
+
+-- what a table holds of a live five-tuple (RFC 8656, section 6): the fields of its last Alloc, when the allocation expires, when the
+-- permission of each address does, and of each channel number the peer and when the channel expires
+pub record Entry : Type 0 where
+  pub user : List ℕ
+  pub port : ℕ
+  pub granted : ℕ
+  pub tx : TxId
+  pub expiry : ℕ
+  pub permissions : FinMap nat_cmp ℕ
+  pub channels : FinMap nat_cmp Channel
+
+-- by five-tuples, in the order of their twelve bytes
+abbrev pub Entries : Type 0
+Entries = FinMap tuple_cmp Entry
+
+pub record Contents : Type 0 where
+  pub entries : Entries
+
+unfoldable pub no_contents : Contents
+no_contents = record { entries = fin.empty }
+
+-- ---- What has not expired
+
+-- a moment, where it is still to come
+abbrev pub ahead : ℕ → Option ℕ → Option ℕ
+ahead t None = None
+ahead t (Some x) = if nat_lt t x then Some x else None
+
+abbrev pub channel_ahead : ℕ → Option Channel → Option Channel
+channel_ahead t None = None
+channel_ahead t (Some c) = if nat_lt t c.expiry then Some c else None
+
+-- ---- The table of a history
+
+abbrev pub insert_some : {K X : Type 0} {R : K → K → Ordering} → FinMap R X → K → Option X → FinMap R X
+insert_some m k None = m
+insert_some m k (Some x) = fin.insert m k x
+
+-- the map that has g k at each key k of the list where g has an answer
+unfoldable pub map_of : {K X : Type 0} (R : K → K → Ordering) → List K → (K → Option X) → FinMap R X
+map_of R [] g = fin.empty
+map_of R (k ∷ ks) g = insert_some (map_of R ks g) k (g k)
+
+-- the permissions (RFC 8656, section 9) and channels (section 12) at a moment, read off the events after the last Alloc
+unfoldable pub permissions_in : ℕ → List Event → FinMap nat_cmp ℕ
+permissions_in t es = map_of nat_cmp (flat_map (λ e. addresses_of e.act) es) (λ a. ahead t (first_some (permission_at a) es))
+
+unfoldable pub channels_in : ℕ → List Event → FinMap nat_cmp Channel
+channels_in t es = map_of nat_cmp (flat_map (λ e. numbers_of e.act) es) (λ n. channel_ahead t (first_some (channel_at n) es))
+
+-- an entry there is of an Alloc, and of a moment when the allocation expires that is still to come
+abbrev pub entry_with : FinMap nat_cmp ℕ → FinMap nat_cmp Channel → Option Allocation → Option ℕ → Option Entry
+entry_with ps cs None x = None
+entry_with ps cs (Some a) None = None
+entry_with ps cs (Some a) (Some x) =
+    Some (record { user = a.user; port = a.port; granted = a.granted; tx = a.tx; expiry = x; permissions = ps; channels = cs })
+
+-- the entry of a five-tuple at a moment, read off its own events, the newest first
+unfoldable pub entry_in : ℕ → List Event → Option Entry
+entry_in t es =
+    let since = until_first (λ e. is_some (allocation_at e)) es in
+    entry_with (permissions_in t since) (channels_in t since) (first_some allocation_at es) (ahead t (first_some span_at es))
+
+abbrev pub entry_of : History → ℕ → FiveTuple → Option Entry
+entry_of h t f = entry_in t (own h f)
+
+-- the map from each live five-tuple to its entry (RFC 8656, section 6)
+unfoldable pub table : History → ℕ → Contents
+table h t = record { entries = map_of tuple_cmp (map (λ e. e.tuple) h) (entry_of h t) }
+
+-- ---- What the time that passes does to a table
+
+unfoldable pub still_permitted : ℕ → FinMap nat_cmp ℕ → FinMap nat_cmp ℕ
+still_permitted t m = map_of nat_cmp (fin.keys m) (λ a. ahead t (fin.get m a))
+
+unfoldable pub still_bound : ℕ → FinMap nat_cmp Channel → FinMap nat_cmp Channel
+still_bound t m = map_of nat_cmp (fin.keys m) (λ n. channel_ahead t (fin.get m n))
+
+abbrev pub kept : ℕ → Entry → Option Entry
+kept t e =
+    if nat_lt t e.expiry
+    then Some (record e { permissions = still_permitted t e.permissions; channels = still_bound t e.channels })
+    else None
+
+-- what of a table has an expiry above t: of its entries, and in them of their permissions and channels
+unfoldable pub purged : ℕ → Contents → Contents
+purged t c = record c { entries = map_of tuple_cmp (fin.keys c.entries) (λ f. option_and_then (kept t) (fin.get c.entries f)) }
+
+-- ---- What one more act does to a table
+
+-- these addresses, each at this expiry, over what there was
+abbrev pub install : ℕ → List ℕ → FinMap nat_cmp ℕ → FinMap nat_cmp ℕ
+install x [] m = m
+install x (a ∷ more) m = fin.insert (install x more m) a x
+
+-- a new allocation (RFC 8656, section 7.2)
+abbrev pub allocated : ℕ → List ℕ → ℕ → ℕ → TxId → Entry
+allocated t user port granted tx =
+    record { user = user; port = port; granted = granted; tx = tx; expiry = t + granted; permissions = fin.empty; channels = fin.empty }
+
+-- an allocation that expires at another moment (RFC 8656, section 8.2)
+abbrev pub renewed : ℕ → Entry → Entry
+renewed x e = record e { expiry = x }
+
+-- an allocation with the permissions of a CreatePermission (RFC 8656, section 10.2)
+abbrev pub permitting : ℕ → List ℕ → Entry → Entry
+permitting x addresses e = record e { permissions = install x addresses e.permissions }
+
+-- an allocation with the channel and the permission of a ChannelBind (RFC 8656, section 12.2)
+abbrev pub binding : ℕ → ℕ → Endpoint → Entry → Entry
+binding t number peer e =
+    record e {
+      permissions = fin.insert e.permissions peer.ip (t + 300);
+      channels = fin.insert e.channels number (record { peer = peer; expiry = t + 600 });
+    }
+
+-- an act done at the moment t to the entry of its five-tuple
+abbrev pub applied_to : ℕ → PlainAct → Option Entry → Option Entry
+applied_to t (Allocates user port granted tx) o = Some (allocated t user port granted tx)
+applied_to t (Renews granted) o = if granted == 0 then None else option_map (renewed (t + granted)) o
+applied_to t (Permits addresses) o = option_map (permitting (t + 300) addresses) o
+applied_to t (Binds number peer) o = option_map (binding t number peer) o
+
+-- the map with this at f, or nothing, and all else as it was
+abbrev pub with_entry : Entries → FiveTuple → Option Entry → Entries
+with_entry m f None = fin.remove m f
+with_entry m f (Some e) = fin.insert m f e
+
+-- an act of the five-tuple f done to a table at the moment t
+unfoldable pub applied : ℕ → FiveTuple → PlainAct → Contents → Contents
+applied t f d c = record c { entries = with_entry c.entries f (applied_to t d (fin.get c.entries f)) }

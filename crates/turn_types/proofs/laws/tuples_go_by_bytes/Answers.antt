@@ -1,0 +1,5 @@
+use Rattle.turn_types.proofs.Order.{by_bytes}
+use Rattle.turn_types.proofs.laws.tuples_go_by_bytes.Goals as goal
+
+pub returns-clause-bytes : goal.returns-clause-bytes
+returns-clause-bytes c = by_bytes
