@@ -1,11 +1,10 @@
 -- What an act does to a table.
-use Rattle.std.proofs.Common.{◌≡◌, ℕ, ◌++◌, ◌∷◌, [], true, false, cond, eqb, arith, refl, sym, ap, ◌∙◌, subst, Option, Some, None}
+use Rattle.std.proofs.Common.{◌≡◌, ℕ, ◌++◌, ◌∷◌, [], true, cond, eqb, refl, sym, ap, ◌∙◌, subst, Option, Some, None}
 use Rattle.std.specs.Prelude.{IsSomeAnd}
-use Rattle.std.proofs.lemmas.Bool.Decides.{nat_tests}
-use Rattle.turn_types.proofs.Histories.{table-follows}
-use Rattle.turn_types.specs.Fitting.{Follows}
-use Rattle.turn_types.specs.History.{PlainAct, Renews, Event, History}
-use Rattle.turn_types.specs.Table.{Entry, Contents, applied, applied_to, with_entry, table}
+use Rattle.turn_history.proofs.Histories.{table-follows}
+use Rattle.turn_history.specs.Fitting.{Follows}
+use Rattle.turn_history.specs.History.{PlainAct, Renews, Event, History}
+use Rattle.turn_history.specs.Table.{Entry, Contents, applied, applied_to, with_entry, table}
 use Rattle.turn_types.specs.declared.address.FiveTuple.{FiveTuple}
 use Rattle.std.specs.FinMap as fin
 use Rattle.turn_table.specs.State.{State}
@@ -31,12 +30,6 @@ changed_by s new t f d e is h gives some = by_entry (fin.get s.contents.entries 
     by_entry : (o : Option Entry) → fin.get s.contents.entries f ≡ o → IsSomeAnd o (λ v. new ≡ order.with_entry s f (h v)) → new ≡ record s { contents = applied t f d s.contents; room = None }
     by_entry None at none = absurd none
     by_entry (Some v) at new_is = new_is ∙ sym (done s t f d e is (Some (h v)) (ap (applied_to t e) at ∙ gives v))
-
-pub zero_granted : (g : ℕ) → g ≡ 0 → eqb g 0 ≡ true
-zero_granted g h = grind (arith, nat_tests)
-
-pub some_granted : (g : ℕ) → (g ≡ 0 → ⊥) → eqb g 0 ≡ false
-some_granted g h = grind (arith, nat_tests)
 
 -- the port of the entry that an act removes is free
 pub free_end : (s new : State) (f : FiveTuple) (port : ℕ) → new ≡ order.without_entry s f → IsSomeAnd (fin.get s.contents.entries f) (λ e. e.port ≡ port) → BecomesFree s.contents new.contents port

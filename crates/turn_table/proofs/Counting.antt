@@ -1,29 +1,22 @@
 -- How many permissions an entry would have.
 use Rattle.std.proofs.Common.{◌≡◌, ℕ, ◌+◌, ◌<◌, ◌≤◌, Bool, true, false, cond, ◌||◌, not, is_some, arith, List, ◌∷◌, drop, length, refl, sym, ap, ◌∙◌, Option, Some, None, get_or, drop-cons, add-one}
 use Rattle.std.specs.Prelude.{nat_eq, IsTrue, leb, ltb}
+use Rattle.std.proofs.lemmas.Bool.{not-false, not-true}
 use Rattle.std.proofs.lemmas.Bool.Decides.{nat_tests}
 use Rattle.std.specs.List.{list_any}
 use Rattle.std.specs.Ordering.{nat_cmp}
 use Rattle.std.proofs.lemmas.Cmp.{nat_cmp_total}
 use Rattle.std.specs.FinMap as fin
 use Rattle.std.specs.FinMap.{FinMap, len-insert}
-use Rattle.turn_types.proofs.Steps.{get-install}
-use Rattle.turn_types.specs.Table.{install}
-use Rattle.turn_types.specs.declared.channel.Channel.{Channel}
+use Rattle.turn_history.proofs.Steps.{get-install}
+use Rattle.turn_history.specs.Table.{install}
+use Rattle.turn_history.specs.declared.channel.Channel.{Channel}
 
 counted : (any : Bool) (o : Option ℕ) (n : ℕ) → cond (is_some (cond any (Some 0) o)) n (n + 1) ≡ cond (is_some o || any) n (n + 1)
 counted true None n = refl
 counted true (Some x) n = refl
 counted false None n = refl
 counted false (Some x) n = refl
-
-not_true : (b : Bool) → not b ≡ true → b ≡ false
-not_true false h = refl
-not_true true h = cc
-
-pub not_false : (b : Bool) → not b ≡ false → b ≡ true
-not_false true h = refl
-not_false false h = cc
 
 module _ (xs : List ℕ) (i : ℕ) (m : FinMap nat_cmp ℕ) (n : ℕ) (lt : i < length xs) where
   step : (b : Bool) → (is_some (fin.get m (get_or xs i 0)) || list_any (nat_eq (get_or xs i 0)) (drop (i + 1) xs)) ≡ b → fin.len (install 0 (drop i xs) m) ≡ cond b (fin.len (install 0 (drop (i + 1) xs) m)) (fin.len (install 0 (drop (i + 1) xs) m) + 1)
@@ -39,11 +32,11 @@ module _ (xs : List ℕ) (i : ℕ) (m : FinMap nat_cmp ℕ) (n : ℕ) (lt : i < 
 
   -- a new address is one permission more
   pub one_more : not (is_some (fin.get m (get_or xs i 0)) || list_any (nat_eq (get_or xs i 0)) (drop (i + 1) xs)) ≡ true → n + fin.len m ≡ fin.len (install 0 (drop (i + 1) xs) m) → (n + 1) + fin.len m ≡ fin.len (install 0 (drop i xs) m)
-  one_more fresh so = let e = step false (not_true _ fresh) in omega (arith, e, so)
+  one_more fresh so = let e = step false (not-true _ fresh) in omega (arith, e, so)
 
   -- another is none
   pub none_more : not (is_some (fin.get m (get_or xs i 0)) || list_any (nat_eq (get_or xs i 0)) (drop (i + 1) xs)) ≡ false → n + fin.len m ≡ fin.len (install 0 (drop (i + 1) xs) m) → n + fin.len m ≡ fin.len (install 0 (drop i xs) m)
-  none_more old so = so ∙ sym (step true (not_false _ old))
+  none_more old so = so ∙ sym (step true (not-false _ old))
 
 -- a channel more, where the number has none
 pub number_there : (m : FinMap nat_cmp Channel) (n : ℕ) (c : Channel) → is_some (fin.get m n) ≡ true → fin.len (fin.insert m n c) ≡ fin.len m

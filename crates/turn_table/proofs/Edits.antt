@@ -4,8 +4,8 @@ use Rattle.std.specs.Prelude.{IsSome, IsSomeAnd}
 use Rattle.std.specs.FinMap as fin
 use Rattle.std.specs.FinMap.{is_sorted}
 use Rattle.turn_types.specs.FiveTuple.{tuple_cmp}
-use Rattle.turn_types.specs.Limits.{Bounds}
-use Rattle.turn_types.specs.Table.{Entry, Entries}
+use Rattle.turn_types.specs.declared.limits.Bounds.{Bounds}
+use Rattle.turn_history.specs.Table.{Entry, Entries}
 use Rattle.turn_types.specs.declared.address.FiveTuple.{FiveTuple}
 use Rattle.turn_table.specs.Order.{state_of, HasRoom, IsInOrder, with_entry, without_entry}
 use Rattle.turn_table.specs.Sorted.{scan}

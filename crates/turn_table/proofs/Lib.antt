@@ -1,12 +1,11 @@
 pub mod Acts
-pub mod ChannelNumbers
+pub mod ChannelPeers
 pub mod Counting
 pub mod Edits
+pub mod Keyed
 pub mod Lists
-pub mod Numbers
 pub mod Places
 pub mod Purging
 pub mod Rooms
 pub mod Sorted
 pub mod Still
-pub mod Together

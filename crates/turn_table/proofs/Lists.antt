@@ -1,19 +1,19 @@
 -- The list of a table, as a map.
-use Rattle.std.proofs.Common.{◌≡◌, ℕ, zero, suc, ◌+◌, ◌<◌, Bool, true, false, ◌||◌, set, cond, List, [], ◌∷◌, ◌++◌, length, refl, sym, ap, ◌∙◌, subst, Some, None, Ok, Err, get_or, take, drop}
+use Rattle.std.proofs.Common.{◌≡◌, ℕ, zero, suc, ◌+◌, ◌<◌, true, ◌||◌, set, cond, List, [], ◌∷◌, ◌++◌, length, refl, sym, ap, ◌∙◌, subst, Some, None, Ok, Err, get_or, take, drop}
 use Rattle.std.specs.Prelude.{◌==◌}
 use Rattle.std.specs.List.{insert, remove, AllByRecursion, count_by, fold, list_any}
 use Rattle.std.specs.Str.{bytes_eq}
 use Rattle.std.specs.FinMap as fin
-use Rattle.std.specs.FinMap.{is_sorted, entries-from_sorted, get-from_sorted, len-entries, same_map, get-empty, get-entries}
+use Rattle.std.specs.FinMap.{is_sorted, entries-from_sorted, get-from_sorted, len-entries, same_map, get-empty}
 use Rattle.std.proofs.lemmas.List.{get_or-map, map-append, map-set, length-map, take-map, drop-map}
-use Rattle.turn_types.proofs.Maps.{tuple_total, tuple_exact}
+use Rattle.turn_history.proofs.Entries.{find-all}
+use Rattle.turn_history.proofs.Maps.{tuple_total, tuple_exact}
 use Rattle.turn_types.specs.FiveTuple.{tuple_cmp}
-use Rattle.turn_types.specs.Table.{Entry, Entries}
+use Rattle.turn_history.specs.Table.{Entry, Entries}
 use Rattle.turn_types.specs.declared.address.FiveTuple.{FiveTuple}
 use Rattle.turn_table.specs.Sorted.{scan, scan_on}
 use Rattle.turn_table.specs.State.{Held, pairs, pair_of}
-use Rattle.turn_table.proofs.Sorted.{Shows, Found, holds, found-scan, found-at, find-found, find-all, key-at, shows_inserted, shows_set, shows_removed}
-use Rattle.turn_table.proofs.Places.{other_port}
+use Rattle.turn_table.proofs.Sorted.{Shows, Found, holds, found-scan, found-at, find-found, key-at, shows_inserted, shows_set, shows_removed}
 use Rattle.turn_table.proofs.Sorted as sorted
 
 -- the entries of the map are the list
@@ -91,19 +91,6 @@ count-pairs user xs = fold-pairs user 0 xs
 pub any-pairs : (port : ℕ) (xs : List (FiveTuple × Held)) → list_any (λ p. p.1.port == port) (pairs xs) ≡ list_any (λ s. s.1.entry.port == port) xs
 any-pairs port [] = refl
 any-pairs port (x ∷ xs) = ap (λ b. (x.1.entry.port == port) || b) (any-pairs port xs)
-
-none_has : (port : ℕ) (xs : List (FiveTuple × Entry)) → list_any (λ p. p.1.port == port) xs ≡ false → AllByRecursion (λ p. p.1.port ≡ port → ⊥) xs
-none_has port [] h = tt
-none_has port (x ∷ xs) h = by_test (none_has port xs) (x.1.port == port) refl h
-  where
-    by_test : (list_any (λ p. p.1.port == port) xs ≡ false → AllByRecursion (λ p. p.1.port ≡ port → ⊥) xs) → (b : Bool) → (x.1.port == port) ≡ b → (b || list_any (λ p. p.1.port == port) xs) ≡ false → AllByRecursion (λ p. p.1.port ≡ port → ⊥) (x ∷ xs)
-    by_test ih true e all = cc
-    by_test ih false e all = (other_port x.1.port port e, ih all)
-
--- a port that no entry has is free
-pub free_port : (m : Entries) (port : ℕ) → list_any (λ p. p.1.port == port) (fin.entries m) ≡ false → (f : FiveTuple) (e : Entry) → fin.get m f ≡ Some e → e.port ≡ port → ⊥
-free_port m port h f e is =
-    find-all tuple_total tuple_exact (λ k v. v.port ≡ port → ⊥) f (fin.entries m) e (none_has port (fin.entries m) h) (sym (get-entries m f) ∙ is)
 
 -- ---- Edits
 

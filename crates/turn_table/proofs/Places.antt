@@ -1,8 +1,6 @@
 -- Places by a test.
-use Rattle.std.proofs.Common.{◌≡◌, ℕ, zero, suc, ◌+◌, ◌<◌, Bool, true, false, cond, List, [], ◌∷◌, length, refl, sym, ap, ◌∙◌, arith, Some, None, get_or, eqb}
-use Rattle.std.specs.Prelude.{nat_le}
+use Rattle.std.proofs.Common.{◌≡◌, ℕ, zero, suc, ◌+◌, ◌<◌, Bool, true, false, cond, List, [], ◌∷◌, length, refl, sym, ap, ◌∙◌, arith, Some, None, get_or}
 use Rattle.std.specs.List.{position_from, AllByRecursion}
-use Rattle.std.proofs.lemmas.Bool.Decides.{nat_tests}
 
 module _ {X : Type 0} where
   position_some : (p : X → Bool) (xs : List X) (n i : ℕ) (d : X) → position_from p n xs ≡ Some i → (k : ℕ) × (i ≡ n + k) × (k < length xs) × (p (get_or xs k d) ≡ true)
@@ -30,12 +28,3 @@ module _ {X : Type 0} where
 
   pub passes_at : (p : X → Bool) (xs : List X) (i : ℕ) (x : X) → Some i ≡ position_from p 0 xs → x ≡ get_or xs i x → (i < length xs) × (p x ≡ true)
   passes_at p xs i x e is = let there = passes p xs i x e in (there.0, ap p is ∙ there.1)
-
-pub late : (t x : ℕ) → nat_le x t ≡ false → t < x
-late t x h = grind (arith, nat_tests)
-
-pub same_port : (a b : ℕ) → eqb a b ≡ true → a ≡ b
-same_port a b e = grind (arith, nat_tests)
-
-pub other_port : (a b : ℕ) → eqb a b ≡ false → a ≡ b → ⊥
-other_port a b e same = grind (arith, nat_tests)

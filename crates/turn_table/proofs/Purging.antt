@@ -1,5 +1,5 @@
 -- What purging removes.
-use Rattle.std.proofs.Common.{◌≡◌, ℕ, ◌+◌, ◌-◌, ◌<◌, ◌≤◌, Bool, true, false, cond, ◌&&◌, List, [], ◌∷◌, ◌++◌, take, drop, map, length, refl, sym, ap, ◌∙◌, subst, arith, is_some, Option, Some, None, get_or, eqb, ltb, lt-ltb, leb-true}
+use Rattle.std.proofs.Common.{◌≡◌, ℕ, ◌+◌, ◌-◌, ◌<◌, ◌≤◌, Bool, true, false, cond, ◌&&◌, List, [], ◌∷◌, ◌++◌, take, drop, map, length, refl, sym, ap, ◌∙◌, subst, arith, is_some, Option, Some, None, get_or, eqb, lt-ltb}
 use Rattle.std.specs.Prelude.{nat_le}
 use Rattle.std.specs.Option.{option_and_then, option_map}
 use Rattle.std.specs.Ordering.{is_eq, is_lt, eq_by_cmp}
@@ -7,28 +7,26 @@ use Rattle.std.proofs.lemmas.Cmp.{tied_itself}
 use Rattle.std.proofs.Math.ListN.{drop_of_length-le}
 use Rattle.std.proofs.lemmas.List.{take_all, append-nil, length-map}
 use Rattle.std.specs.List.{remove, position_from, AllByRecursion}
+use Rattle.std.proofs.lemmas.Bool.{le-ltb, leb-false, leb-true}
 use Rattle.std.proofs.lemmas.Bool.Decides.{nat_tests}
 use Rattle.std.specs.FinMap as fin
 use Rattle.std.specs.FinMap.{same_map, is_sorted, get-from_sorted, get-remove, get-empty, find}
 use Rattle.std.specs.FinMap.Entries.{below_all}
-use Rattle.turn_types.proofs.Maps.{tuple_total, tuple_exact, from_eq}
-use Rattle.turn_types.proofs.Reading.{get-purged, same_contents}
+use Rattle.turn_history.proofs.Maps.{tuple_total, tuple_exact, from_eq}
+use Rattle.turn_history.proofs.Reading.{get-purged, same_contents}
 use Rattle.turn_types.specs.FiveTuple.{tuple_cmp, same_tuple}
-use Rattle.turn_types.specs.Table.{Entry, Entries, Contents, purged, kept, still_permitted, still_bound}
+use Rattle.turn_history.specs.Table.{Entry, Entries, Contents, purged, kept, still_permitted, still_bound}
 use Rattle.turn_types.specs.declared.address.FiveTuple.{FiveTuple}
 use Rattle.turn_table.specs.Kept.{still_pair, still_entry}
 use Rattle.turn_table.specs.State.{Held, pairs, pair_of}
-use Rattle.turn_table.specs.Table.{RunsOut, BecomesFree}
+use Rattle.turn_table.specs.Table.{RemovesExpired, BecomesFree}
 use Rattle.turn_table.proofs.Lists.{Shown, get-at, get-all, removed-found}
-use Rattle.turn_table.proofs.Places.{passes_at, position_none, late}
+use Rattle.turn_table.proofs.Places.{passes_at, position_none}
 use Rattle.turn_table.proofs.Sorted.{holds}
 
--- ---- An entry that has run out
+-- ---- An entry that has expired
 
-past_is : (t x : ℕ) → x ≤ t → ltb t x ≡ false
-past_is t x le = grind (arith, nat_tests)
-
--- without an entry that has run out, what is to be kept is the same
+-- without an entry that has expired, what is to be kept is the same
 pub purged-remove : (t : ℕ) (c : Contents) (f : FiveTuple) (e : Entry) → fin.get c.entries f ≡ Some e → e.expiry ≤ t → purged t (record c { entries = fin.remove c.entries f }) ≡ purged t c
 purged-remove t c f e is past = same_contents _ _ (λ q.
     get-purged t (record c { entries = fin.remove c.entries f }) q ∙ ap (option_and_then (kept t)) (get-remove tuple_total c.entries f q) ∙ by_test q (same_tuple q f) refl ∙ sym (get-purged t c q))
@@ -37,7 +35,7 @@ purged-remove t c f e is past = same_contents _ _ (λ q.
     by_test q false e = refl
     by_test q true at =
         sym (ap (option_and_then (kept t)) (ap (fin.get c.entries) (from_eq tuple_cmp tuple_exact q f at) ∙ is)
-        ∙ ap (λ b. cond b (Some (record e { permissions = still_permitted t e.permissions; channels = still_bound t e.channels })) None) (past_is t e.expiry past))
+        ∙ ap (λ b. cond b (Some (record e { permissions = still_permitted t e.permissions; channels = still_bound t e.channels })) None) (le-ltb t e.expiry past))
 
 some_entries : (m : Entries) (f : FiveTuple) (e : Entry) → fin.get m f ≡ Some e → eqb (fin.len m) 0 ≡ false
 some_entries m f e is = by_test (eqb (fin.len m) 0) refl
@@ -71,8 +69,8 @@ free-remove c f e is apart q v at same = by_test (eq_by_cmp tuple_cmp q f) refl
         let one : q ≡ f = apart q f v e there is same in
         let tied : eq_by_cmp tuple_cmp q f ≡ true = ap (λ k. eq_by_cmp tuple_cmp k f) one ∙ itself f in cc
 
--- what follows of an entry that has run out and is gone
-module _ (t : ℕ) (old new : Contents) (port : ℕ) (r : RunsOut t old new port) where
+-- what follows of an entry that has expired and is gone
+module _ (t : ℕ) (old new : Contents) (port : ℕ) (r : RemovesExpired t old new port) where
   pub free_of : BecomesFree old new port
   free_of =
       subst (λ c. BecomesFree old c port) (sym r.gone)
@@ -90,8 +88,8 @@ module _ (xs : List (FiveTuple × Held)) (s : is_sorted tuple_cmp (pairs xs) ≡
       let place = passes_at (λ p. nat_le p.1.entry.expiry t) xs i x e is in
       removed-found xs x.0 i s (get-at xs s i x place.0 is).0
 
-  pub runs_out : (i : ℕ) (x : FiveTuple × Held) → Some i ≡ position_from (λ p. nat_le p.1.entry.expiry t) 0 xs → x ≡ get_or xs i x → (ys : List (FiveTuple × Held)) → ys ≡ remove xs i → RunsOut t (record { entries = fin.from_sorted (pairs xs) }) (record { entries = fin.from_sorted (pairs ys) }) x.1.entry.port
-  runs_out i x e is ys ys_is =
+  pub removes_expired : (i : ℕ) (x : FiveTuple × Held) → Some i ≡ position_from (λ p. nat_le p.1.entry.expiry t) 0 xs → x ≡ get_or xs i x → (ys : List (FiveTuple × Held)) → ys ≡ remove xs i → RemovesExpired t (record { entries = fin.from_sorted (pairs xs) }) (record { entries = fin.from_sorted (pairs ys) }) x.1.entry.port
+  removes_expired i x e is ys ys_is =
       let place = passes_at (λ p. nat_le p.1.entry.expiry t) xs i x e is in
       record {
         tuple = x.0;
@@ -102,11 +100,11 @@ module _ (xs : List (FiveTuple × Held)) (s : is_sorted tuple_cmp (pairs xs) ≡
         gone = ap (λ m. record { entries = m }) (ap (λ zs. fin.from_sorted (pairs zs)) ys_is ∙ (removed_past i x e is).map_is);
       }
 
-  -- ---- Where no entry has run out
+  -- ---- Where no entry has expired
 
   all_ahead : (zs : List (FiveTuple × Held)) → AllByRecursion (λ p. nat_le p.1.entry.expiry t ≡ false) zs → AllByRecursion (λ p. t < p.1.entry.expiry) zs
   all_ahead [] h = tt
-  all_ahead (z ∷ zs) h = (late t z.1.entry.expiry h.0, all_ahead zs h.1)
+  all_ahead (z ∷ zs) h = (leb-false z.1.entry.expiry t h.0, all_ahead zs h.1)
 
   pub none_past : None ≡ position_from (λ p. nat_le p.1.entry.expiry t) 0 xs → (f : FiveTuple) (e : Entry) → fin.get (fin.from_sorted {R = tuple_cmp} (pairs xs)) f ≡ Some e → t < e.expiry
   none_past none f e is =
@@ -131,7 +129,7 @@ find-still t q (x ∷ xs) = by_test (find-still t q xs) (eq_by_cmp tuple_cmp q x
     by_test ih true = refl
     by_test ih false = ih
 
--- the list without the permissions and channels that have run out shows the purged table
+-- the list without the permissions and channels that have expired shows the purged table
 pub purged_shown : (xs : List (FiveTuple × Held)) → is_sorted tuple_cmp (pairs xs) ≡ true → (t : ℕ) → None ≡ position_from (λ p. nat_le p.1.entry.expiry t) 0 xs → (ys : List (FiveTuple × Held)) → pairs ys ≡ map (still_pair t) (pairs xs) → Shown ys (purged t (record { entries = fin.from_sorted (pairs xs) })).entries
 purged_shown xs s t none ys is =
     let m = fin.from_sorted {R = tuple_cmp} (pairs xs) in

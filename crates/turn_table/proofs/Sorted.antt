@@ -1,17 +1,17 @@
 -- Lists of entries whose keys rise, as maps.
-use Rattle.std.proofs.Common.{◌≡◌, ℕ, zero, suc, ◌+◌, set, ◌<◌, Bool, true, false, cond, List, [], ◌∷◌, length, refl, sym, ap, ◌∙◌, subst, arith, T, Option, Some, None, Result, Ok, Err, get_or, drop, add-one, add-zero, drop-cons, ◌&&◌}
+use Rattle.std.proofs.Common.{◌≡◌, ℕ, zero, suc, ◌+◌, set, ◌<◌, Bool, true, false, cond, List, [], ◌∷◌, length, refl, sym, ap, ◌∙◌, subst, arith, T, Option, Some, None, Result, Ok, Err, get_or, drop, add-one, add-zero, drop-cons}
 use Rattle.std.specs.declared.cmp.Ordering.{Ordering}
 use Rattle.std.specs.declared.cmp.Ordering.TheVariants.{Less, Equal, Greater}
-use Rattle.std.specs.Ordering.{ordering_reverse, MatchOrdering, is_eq, is_lt, eq_by_cmp}
+use Rattle.std.specs.Ordering.{ordering_reverse, MatchOrdering, is_eq, eq_by_cmp}
 use Rattle.std.specs.Cmp.{IsTotalOrder}
-use Rattle.std.specs.List.{insert, remove, filter, AllByRecursion}
+use Rattle.std.specs.List.{insert, remove, filter}
 use Rattle.std.specs.Option.{option_and_then}
 use Rattle.std.proofs.lemmas.Cmp.{tied_itself}
-use Rattle.std.proofs.lemmas.Option.{same_Some}
 use Rattle.std.specs.FinMap as fin
 use Rattle.std.specs.FinMap.{FinMap, IsAntisymmetric, is_sorted, get-from_sorted, same_map, get-insert, get-remove}
 use Rattle.std.specs.FinMap.Entries.{put, by_order, find, below_all, is_sorted-put, find-put}
-use Rattle.turn_types.proofs.Maps.{from_eq}
+use Rattle.turn_history.proofs.Entries.{both, first, less, second, unfound}
+use Rattle.turn_history.proofs.Maps.{from_eq}
 use Rattle.turn_table.specs.Sorted.{scan, scan_on, further, advanced}
 
 pub holds : (b : Bool) → b ≡ true → T b
@@ -20,23 +20,6 @@ holds b h = subst T (sym h) tt
 pub yes : (b : Bool) → T b → b ≡ true
 yes true h = refl
 yes false h = absurd h
-
-first : (a b : Bool) → T (a && b) → T a
-first true b p = tt
-first false b p = p
-
-second : (a b : Bool) → T (a && b) → T b
-second true b p = p
-second false b p = absurd p
-
-both : (a b : Bool) → T a → T b → T (a && b)
-both true b p q = q
-both false b p q = p
-
-less : (o : Ordering) → T (is_lt o) → o ≡ Less
-less Less p = refl
-less Equal p = absurd p
-less Greater p = absurd p
 
 -- ---- A place among the entries
 
@@ -60,10 +43,6 @@ module _ {K X : Type 0} {R : K → K → Ordering} (o : IsTotalOrder R) (exact :
   find_below f g [] lt h = refl
   find_below f g (x ∷ xs) lt h =
       ap (λ r. cond (is_eq r) (Some x.1) (find R f xs)) (o.trans f g x.0 lt (less _ (first _ _ h))) ∙ find_below f g xs lt (second _ _ h)
-
-  unfound : (g : K) (xs : List (K × X)) → T (below_all R g xs) → find R g xs ≡ None
-  unfound g [] h = refl
-  unfound g (x ∷ xs) h = ap (λ r. cond (is_eq r) (Some x.1) (find R g xs)) (less _ (first _ _ h)) ∙ unfound g xs (second _ _ h)
 
   -- where a key stands
   pub data Found (f : K) : List (K × X) → ℕ → Type 0 where
@@ -139,7 +118,7 @@ module _ {K X : Type 0} {R : K → K → Ordering} (o : IsTotalOrder R) (exact :
       by_test (eq_by_cmp R q x.0) refl ∙ ap (λ k. cond (eq_by_cmp R q k) None (find R q (x ∷ xs))) (sym (exact f x.0 c))
     where
       by_test : (b : Bool) → eq_by_cmp R q x.0 ≡ b → find R q xs ≡ cond (eq_by_cmp R q x.0) None (find R q (x ∷ xs))
-      by_test true e = rw e (ap (λ k. find R k xs) (from_eq R exact q x.0 e) ∙ unfound x.0 xs (first _ _ s))
+      by_test true e = rw e (ap (λ k. find R k xs) (from_eq R exact q x.0 e) ∙ unfound o exact x.0 xs (first _ _ s))
       by_test false e = rw e (refl)
   find-remove f q (x ∷ xs) (suc i) (there c more) s =
       ap (cond (eq_by_cmp R q x.0) (Some x.1)) (find-remove f q xs i more (second _ _ s))
@@ -213,15 +192,6 @@ module _ {K X : Type 0} {R : K → K → Ordering} (o : IsTotalOrder R) (exact :
       let in_rest : i < length xs = omega arith in
       there (o.antisymm (get_or xs i d).0 x.0 ∙ ap ordering_reverse (below-at x.0 xs i d (first _ _ s) in_rest)) (found-at xs i d (second _ _ s) in_rest)
 
-  -- what holds of all entries holds of what is found
-  pub find-all : (P : K → X → Type 0) (f : K) (xs : List (K × X)) (e : X) → AllByRecursion (λ x. P x.0 x.1) xs → find R f xs ≡ Some e → P f e
-  find-all P f [] e all is = cc
-  find-all P f (x ∷ xs) e all is = by_test (find-all P f xs e all.1) (eq_by_cmp R f x.0) refl is
-    where
-      by_test : (find R f xs ≡ Some e → P f e) → (b : Bool) → eq_by_cmp R f x.0 ≡ b → cond b (Some x.1) (find R f xs) ≡ Some e → P f e
-      by_test ih true at is = subst (λ v. P f v) (same_Some x.1 e is) (subst (λ k. P k x.1) (sym (from_eq R exact f x.0 at)) all.0)
-      by_test ih false at is = ih is
-
   -- ---- A filter by the values
 
   module _ (test : X → Bool) where
@@ -246,7 +216,7 @@ module _ {K X : Type 0} {R : K → K → Ordering} (o : IsTotalOrder R) (exact :
       where
         by_tests : find R q (filter (λ e. test e.1) xs) ≡ option_and_then passing (find R q xs) → (a : Bool) → eq_by_cmp R q x.0 ≡ a → (b : Bool) → test x.1 ≡ b → find R q (cond b (x ∷ filter (λ e. test e.1) xs) (filter (λ e. test e.1) xs)) ≡ option_and_then passing (cond a (Some x.1) (find R q xs))
         by_tests ih true ea true eb = ap (λ a. cond a (Some x.1) (find R q (filter (λ e. test e.1) xs))) ea ∙ ap (λ b. cond b (Some x.1) None) (sym eb)
-        by_tests ih true ea false eb = ih ∙ ap (option_and_then passing) (ap (λ k. find R k xs) (from_eq R exact q x.0 ea) ∙ unfound x.0 xs (first _ _ h)) ∙ ap (λ b. cond b (Some x.1) None) (sym eb)
+        by_tests ih true ea false eb = ih ∙ ap (option_and_then passing) (ap (λ k. find R k xs) (from_eq R exact q x.0 ea) ∙ unfound o exact x.0 xs (first _ _ h)) ∙ ap (λ b. cond b (Some x.1) None) (sym eb)
         by_tests ih false ea true eb = ap (λ a. cond a (Some x.1) (find R q (filter (λ e. test e.1) xs))) ea ∙ ih
         by_tests ih false ea false eb = ih
 

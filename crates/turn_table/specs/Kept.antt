@@ -1,27 +1,26 @@
--- What of an entry has not run out.
-use Rattle.std.specs.Prelude.{ℕ, ◌≡◌, ◌<◌, ◌^◌, Option, None, Some, if◌then◌else◌, nat_lt}
+-- What of an entry has not expired.
+use Rattle.std.specs.Prelude.{ℕ, Option, None, Some, List, if◌then◌else◌, nat_lt}
 use Rattle.std.specs.Option.{option_and_then}
-use Rattle.std.specs.Ordering.{nat_cmp}
+use Rattle.std.specs.declared.cmp.Ordering.{Ordering}
 use Rattle.std.specs.FinMap as fin
-use Rattle.turn_types.specs.Table.{map_of, Entry, still_permitted, still_bound}
-use Rattle.turn_types.specs.declared.channel.Channel.{Channel}
+use Rattle.turn_history.specs.Table.{map_of, Entry, still_permitted, still_bound}
 use Rattle.turn_types.specs.declared.address.FiveTuple.{FiveTuple}
 
 -- a value that is still ahead of a moment
 abbrev pub ahead_by : {V : Type 0} → (V → ℕ) → ℕ → V → Option V
 ahead_by expiry t v = if nat_lt t (expiry v) then Some v else None
 
--- what of a map has not run out
-unfoldable pub still : {V : Type 0} → (V → ℕ) → ℕ → fin.FinMap nat_cmp V → fin.FinMap nat_cmp V
-still expiry t m = map_of nat_cmp (fin.keys m) (λ k. option_and_then (ahead_by expiry t) (fin.get m k))
+-- what of a map has not expired
+unfoldable pub still : {K V : Type 0} {R : K → K → Ordering} → (V → ℕ) → ℕ → fin.FinMap R V → fin.FinMap R V
+still {R = R} expiry t m = map_of R (fin.keys m) (λ k. option_and_then (ahead_by expiry t) (fin.get m k))
 
--- what is left of an entry that has not run out
+-- the map of a list whose keys rise, without the room that it has
+abbrev pub map_in : {K V : Type 0} (R : K → K → Ordering) → List (K × V) × ℕ → fin.FinMap R V
+map_in R m = fin.from_sorted {R = R} m.0
+
+-- what is left of an entry that has not expired
 abbrev pub still_entry : ℕ → Entry → Entry
 still_entry t e = record e { permissions = still_permitted t e.permissions; channels = still_bound t e.channels }
 
 abbrev pub still_pair : ℕ → FiveTuple × Entry → FiveTuple × Entry
 still_pair t p = (p.0, still_entry t p.1)
-
--- channels have numbers of 16 bits
-abbrev pub HaveNumbers : fin.FinMap nat_cmp Channel → Type 0
-HaveNumbers m = (n : ℕ) (c : Channel) → fin.get m n ≡ Some c → n < 2 ^ 16

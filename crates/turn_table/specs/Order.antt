@@ -1,13 +1,11 @@
 -- What holds of the list of a table.
-use Rattle.std.specs.Prelude.{ℕ, ◌≡◌, ◌≤◌, ◌<◌, Bool, true, not, ◌&&◌, nat_eq, if◌then◌else◌, Some, Option, None, List, Ok, Err, slice_index_or}
+use Rattle.std.specs.Prelude.{ℕ, ◌≡◌, ◌≤◌, ◌<◌, true, Some, Option, None, List, Ok, Err, slice_index_or}
 use Rattle.std.specs.FinMap as fin
 use Rattle.std.specs.FinMap.{is_sorted}
 use Rattle.turn_types.specs.FiveTuple.{tuple_cmp}
-use Rattle.turn_types.specs.Limits.{Bounds}
-use Rattle.turn_types.specs.Table.{Entry}
-use Rattle.turn_types.specs.declared.address.Endpoint.{Endpoint}
+use Rattle.turn_types.specs.declared.limits.Bounds.{Bounds}
+use Rattle.turn_history.specs.Table.{Entry}
 use Rattle.turn_types.specs.declared.address.FiveTuple.{FiveTuple}
-use Rattle.turn_types.specs.declared.channel.Channel.{Channel}
 use Rattle.turn_table.specs.declared.edit.Reserved.{Reserved}
 use Rattle.turn_table.specs.Sorted.{scan}
 use Rattle.turn_table.specs.State.{Held, Room, State, pairs}
@@ -18,7 +16,7 @@ room_of r = record { tuple = r.tuple; permissions = r.permissions; channels = r.
 abbrev pub state_of : Bounds → ℕ → List (FiveTuple × Held) → Option Room → State
 state_of b t xs r = record { bounds = b; moment = t; contents = record { entries = fin.from_sorted (pairs xs) }; room = r }
 
--- where the five-tuple stands, its entry has the room; where it doesn't, the list has a place
+-- an entry of the five-tuple has the room, or if there is none, the list has a place
 pub record HasRoom (r : Room) (xs : List (FiveTuple × Held)) (len capacity : ℕ) : Type 0 where
   pub place : (i : ℕ) → Err i ≡ scan tuple_cmp r.tuple xs → len < capacity
   pub inside :
@@ -36,10 +34,3 @@ with_entry s f e = record s { contents = record { entries = fin.insert s.content
 
 abbrev pub without_entry : State → FiveTuple → State
 without_entry s f = record s { contents = record { entries = fin.remove s.contents.entries f }; room = None }
-
-abbrev pub is_peer : Endpoint → Channel → Bool
-is_peer p c = nat_eq c.peer.ip p.ip && nat_eq c.peer.port p.port
-
--- a channel has this number exactly where it has this peer
-abbrev pub goes_with : ℕ → Endpoint → ℕ × Channel → Bool
-goes_with n p s = if nat_eq s.0 n then is_peer p s.1 else not (is_peer p s.1)

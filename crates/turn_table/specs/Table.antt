@@ -1,22 +1,19 @@
 -- What the calls of a table do.
-use Rattle.std.specs.Prelude.{ℕ, ◌≡◌, ◌≤◌, ◌||◌, Bool, not, nat_lt, Option, Some, None, length, if◌then◌else◌, ◌==◌, option_map, IsSomeAnd}
+use Rattle.std.specs.Prelude.{ℕ, ◌≡◌, ◌≤◌, Option, Some, None, length, if◌then◌else◌, ◌==◌, option_map, IsSomeAnd}
 use Rattle.std.specs.FinMap as fin
-use Rattle.std.specs.List.{list_all}
-use Rattle.turn_types.specs.Fitting.{PortIsFree}
-use Rattle.turn_types.specs.History.{PlainAct, Allocates, Renews, Permits, Binds, History, addresses_of, numbers_of}
-use Rattle.turn_types.specs.Limits.{Bounds}
-use Rattle.turn_types.specs.Laws.{PortsApart}
-use Rattle.turn_types.specs.Table.{Entry, Contents, table, purged}
+use Rattle.turn_history.specs.Fitting.{PortIsFree}
+use Rattle.turn_history.specs.History.{PlainAct, Allocates, Renews, Permits, Binds, History, addresses_of, numbers_of}
+use Rattle.turn_history.specs.Laws.{PortsApart}
+use Rattle.turn_history.specs.Table.{Entry, Contents, table, purged}
 use Rattle.turn_types.specs.declared.address.Endpoint.{Endpoint}
 use Rattle.turn_types.specs.declared.address.FiveTuple.{FiveTuple}
-use Rattle.turn_table.specs.Order.{goes_with}
 use Rattle.turn_table.specs.State.{Room, State}
 
 -- a table agrees with a history: it holds the table of the history at its moment
 abbrev pub Agrees : State → History → Type 0
 Agrees s h = s.contents ≡ table h s.moment
 
--- without what has run out at t, it holds the table of the history at t
+-- without what has expired at t, it holds the table of the history at t
 abbrev pub AgreesOncePurged : ℕ → State → History → Type 0
 AgreesOncePurged t s h = purged t s.contents ≡ table h t
 
@@ -32,28 +29,18 @@ IsChannelTo e n p = IsSomeAnd (fin.get e.channels n) (λ c. c.peer ≡ p)
 abbrev pub room_for : FiveTuple → PlainAct → Room
 room_for f d = record { tuple = f; permissions = length (addresses_of d); channels = length (numbers_of d) }
 
--- the port that an act gives back, of the entry that is there
+-- the port that an act releases, of the entry that is there
 abbrev pub freed_by : PlainAct → Option Entry → Option ℕ
 freed_by (Allocates user port granted tx) o = None
 freed_by (Renews granted) o = if granted == 0 then option_map (λ e. e.port) o else None
 freed_by (Permits addresses) o = None
 freed_by (Binds number peer) o = None
 
--- one entry that has run out is gone, and this was its port
-pub record RunsOut (t : ℕ) (old new : Contents) (port : ℕ) : Type 0 where
+-- one entry that has expired is gone, and this was its port
+pub record RemovesExpired (t : ℕ) (old new : Contents) (port : ℕ) : Type 0 where
   pub tuple : FiveTuple
   pub entry : Entry
   pub was : fin.get old.entries tuple ≡ Some entry
   pub past : entry.expiry ≤ t
   pub port_is : entry.port ≡ port
   pub gone : new ≡ record old { entries = fin.remove old.entries tuple }
-
--- number n or the peer p is bound, but not to each other
-abbrev pub is_bound_elsewhere : ℕ → Endpoint → Entry → Bool
-is_bound_elsewhere n p e = not (list_all (goes_with n p) (fin.entries e.channels))
-
--- with a channel of number n to the peer p, the permissions or the channels are more than the limits allow
-abbrev pub exceeds : Bounds → ℕ → Endpoint → Entry → Bool
-exceeds b n p e =
-    nat_lt b.permissions (fin.len (fin.insert e.permissions p.ip 0))
-    || nat_lt b.channels (fin.len (fin.insert e.channels n (record { peer = p; expiry = 0 })))

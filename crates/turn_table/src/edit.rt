@@ -6,16 +6,17 @@ ghost use Rattle.turn_table.specs.Kept.{still_pair, still_entry};
 ghost use Rattle.turn_table.specs.Order.{HasRoom, room_of};
 ghost use Rattle.turn_table.specs.State.{pairs};
 ghost use Rattle.turn_table.specs.Table.{room_for};
-ghost use Rattle.turn_types.specs.Act.{act_of};
-ghost use Rattle.turn_types.specs.Table.{renewed, permitting, binding};
+ghost use Rattle.turn_history.specs.Act.{act_of};
+ghost use Rattle.turn_history.specs.Table.{renewed, permitting, binding};
 
 use crate::entry::Entry;
 use crate::search::place_of;
 use std::alloc::{AllocError, Allocator};
-use turn_types::{Act, Channel, Endpoint, FiveTuple};
+use turn_history::{Act, Channel};
+use turn_types::{Endpoint, FiveTuple};
 
-/// Room for an act of a five-tuple: for an entry of it, or for so many more permissions and channels in the one
-/// that is there.
+/// Room for an act of a five-tuple: for its entry, or for so many more permissions and channels in the entry that is
+/// there.
 #[derive(Clone, Copy)]
 pub(crate) struct Reserved {
     pub(crate) tuple: FiveTuple,
@@ -64,13 +65,13 @@ pub(crate) fn make_room_for<A: Allocator + Copy>(
     ensures same { pairs entries.new.items ≡ pairs entries.old.items }
     ensures room { OnOk result (HasRoom (room_of room) entries.new.items (vec_len entries.new) (vec_capacity entries.new)) }
 {
-    match place_of(entries, room.tuple) {
+    match place_of(entries, &room.tuple) {
         Ok(i) => make_room(&mut entries[i].1, room.permissions, room.channels),
         Err(_) => entries.reserve(1),
     }
 }
 
-/// Sets when an entry runs out.
+/// Sets the expiry time of an entry, in seconds.
 pub(crate) fn set_expiry<A: Allocator>(entry: &mut Entry<A>, expiry: u64)
     ensures { entry.new.entry ≡ renewed expiry entry.old.entry }
 {
@@ -111,16 +112,11 @@ pub(crate) fn bind<A: Allocator + Copy>(
     ensures { entry.new.entry ≡ binding moment number peer entry.old.entry }
 {
     entry.permissions.put(peer.ip, moment + 300);
-    entry.channels.put(
-        u32::from(number),
-        Channel {
-            peer,
-            expiry: moment + 600,
-        },
-    );
+    let expiry = moment + 600;
+    entry.channels.put(number, Channel { peer, expiry });
 }
 
-/// Drops the permissions and channels that have run out.
+/// Drops the permissions and channels that have expired.
 fn purge_entry<A: Allocator + Copy>(entry: &mut Entry<A>, moment: u64)
     ensures { entry.new.entry ≡ still_entry moment entry.old.entry }
 {

@@ -1,9 +1,9 @@
 //! What a table holds of one allocation.
 
 ghost use Rattle.std.specs.Prelude.{◌≡◌, ◌≤◌, ◌↔◌, ◌||◌, ℕ, IsTrue, is_some, not, MatchOption};
-ghost use Rattle.turn_table.specs.Table.{IsChannelTo, exceeds, is_bound_elsewhere};
-ghost use Rattle.turn_types.specs.Fitting.{FitsChannel};
-ghost use Rattle.turn_types.specs.Table.{install};
+ghost use Rattle.turn_table.specs.Table.{IsChannelTo};
+ghost use Rattle.turn_history.specs.Fitting.{FitsChannel, exceeds, is_bound_elsewhere};
+ghost use Rattle.turn_history.specs.Table.{allocated, install};
 ghost use Rattle.std.specs.FinMap as fin;
 
 use crate::fits::{fits_channel, fits_permissions, is_bound_elsewhere};
@@ -11,10 +11,11 @@ use crate::search::number_to;
 use crate::timed::Timed;
 use std::alloc::{Allocator, Global};
 use std::marker::Model;
-use turn_types::{Channel, Endpoint, Limits, TxId, UserName};
+use turn_history::{Channel, UserName};
+use turn_types::{Endpoint, Limits, Moment, TxId};
 
-/// The user, relayed port, lifetime in seconds and transaction id that the Allocate request gave, the second from
-/// which on the allocation no longer is, and its permissions and channels.
+/// The user, relayed port, lifetime in seconds and transaction id that the Allocate request gave, the
+/// expiry time in seconds (exclusive), and the permissions and channels.
 #[derive(Drop)]
 pub struct Entry<A: Allocator = Global> {
     pub(crate) user: UserName<A>,
@@ -22,12 +23,13 @@ pub struct Entry<A: Allocator = Global> {
     pub(crate) granted: u32,
     pub(crate) tx: TxId,
     pub(crate) expiry: u64,
-    pub(crate) permissions: Timed<u64, A>,
-    pub(crate) channels: Timed<Channel, A>,
+    pub(crate) permissions: Timed<u32, u64, A>,
+    pub(crate) channels: Timed<u16, Channel, A>,
 }
 
 impl<A: Allocator> Model for Entry<A> {
-    ghost use Rattle.turn_table.specs.Kept.{HaveNumbers};
+    ghost use Rattle.std.specs.Ordering.{nat_cmp};
+    ghost use Rattle.turn_table.specs.Kept.{map_in};
     ghost use Rattle.turn_table.specs.State.{Held, held_code};
 
     ghost Value = { Held };
@@ -41,14 +43,12 @@ impl<A: Allocator> Model for Entry<A> {
         granted = e.granted;
         tx = e.tx;
         expiry = e.expiry;
-        permissions = e.permissions.0;
-        channels = e.channels.0;
+        permissions = map_in nat_cmp e.permissions;
+        channels = map_in nat_cmp e.channels;
       };
       permission_room = e.permissions.1;
       channel_room = e.channels.1;
     } };
-
-    ghost invariant = { λ e. HaveNumbers e.channels.0 };
 }
 
 impl<A: Allocator> Entry<A> {
@@ -80,7 +80,7 @@ impl<A: Allocator> Entry<A> {
         self.tx
     }
 
-    /// The second from which on the allocation no longer is.
+    /// The expiry time of the allocation, in seconds (exclusive).
     pub fn expiry(&self) -> u64
         ensures { result ≡ self.now.entry.expiry }
     {
@@ -89,6 +89,28 @@ impl<A: Allocator> Entry<A> {
 }
 
 impl<A: Allocator + Copy> Entry<A> {
+    /// The entry of a new allocation (RFC 8656, section 7.2).
+    pub(crate) fn allocated(
+        alloc: A,
+        moment: Moment,
+        user: UserName<A>,
+        port: u16,
+        granted: u32,
+        tx: TxId,
+    ) -> Entry<A>
+        ensures { result.entry ≡ allocated moment user port granted tx }
+    {
+        Entry {
+            user,
+            port,
+            granted,
+            tx,
+            expiry: moment.seconds() + u64::from(granted),
+            permissions: Timed::new(alloc),
+            channels: Timed::new(alloc),
+        }
+    }
+
     /// Whether an address has a permission.
     pub fn is_permitted(&self, ip: u32) -> bool
         ensures { result ≡ is_some (fin.get self.now.entry.permissions ip) }
@@ -100,7 +122,7 @@ impl<A: Allocator + Copy> Entry<A> {
     pub fn channel(&self, number: u16) -> Option<Channel>
         ensures { result ≡ fin.get self.now.entry.channels number }
     {
-        self.channels.get(u32::from(number))
+        self.channels.get(number)
     }
 
     /// A number of a channel to a peer.
@@ -109,7 +131,7 @@ impl<A: Allocator + Copy> Entry<A> {
     {
         let channels = self.channels.items();
         match number_to(channels, peer) {
-            Some(i) => Some(channels[i].0 as u16),
+            Some(i) => Some(channels[i].0),
             None => None,
         }
     }

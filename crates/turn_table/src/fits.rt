@@ -3,16 +3,15 @@
 ghost use Rattle.std.specs.Prelude.{◌≡◌, ◌+◌, ◌≤◌, ◌↔◌, IsTrue, not, ◌||◌, is_some, length, nat_eq};
 ghost use Rattle.std.specs.FinMap as fin;
 ghost use Rattle.std.specs.List.{list_all, list_any};
-ghost use Rattle.turn_table.specs.Order.{goes_with};
-ghost use Rattle.turn_table.specs.Table.{exceeds, is_bound_elsewhere};
-ghost use Rattle.turn_types.specs.Fitting.{FitsChannel, IsChannelNumber};
-ghost use Rattle.turn_types.specs.Table.{install};
-ghost use Rattle.turn_types.specs.declared.channel.Channel.{Channel};
+ghost use Rattle.turn_history.specs.Fitting.{FitsChannel, IsChannelNumber, exceeds, goes_with, is_bound_elsewhere};
+ghost use Rattle.turn_history.specs.Table.{install};
+ghost use Rattle.turn_history.specs.declared.channel.Channel.{Channel};
 
 use crate::entry::Entry;
 use crate::search::is_peer;
 use std::alloc::Allocator;
-use turn_types::{Channel, Endpoint, Limits};
+use turn_history::Channel;
+use turn_types::{Endpoint, Limits};
 
 fn is_among(addresses: &[u32], address: u32) -> bool
     ensures { result ≡ list_any (nat_eq address) addresses.now }
@@ -69,7 +68,7 @@ fn fits_number<A: Allocator + Copy>(entry: &Entry<A>, number: u16, limit: u16) -
 }
 
 /// Whether a channel number and a peer are bound to each other wherever one of them is bound.
-fn go_together(channels: &[(u32, Channel)], number: u32, peer: Endpoint) -> bool
+fn go_together(channels: &[(u16, Channel)], number: u16, peer: Endpoint) -> bool
     ensures { result ≡ list_all (goes_with number peer) channels.now }
 {
     channels.iter().all(|slot| {
@@ -97,7 +96,7 @@ pub(crate) fn fits_channel<A: Allocator + Copy>(
     if !fits_number(entry, number, limits.channels()) {
         return false;
     }
-    go_together(entry.channels.items(), u32::from(number), peer)
+    go_together(entry.channels.items(), number, peer)
 }
 
 /// Whether the channel number or the peer is bound, but not to each other.
@@ -108,7 +107,7 @@ pub(crate) fn is_bound_elsewhere<A: Allocator + Copy>(
 ) -> bool
     ensures { result ≡ is_bound_elsewhere number peer entry.now.entry }
 {
-    !go_together(entry.channels.items(), u32::from(number), peer)
+    !go_together(entry.channels.items(), number, peer)
 }
 
 /// RFC 8656, section 12.

@@ -10,6 +10,3 @@ mod timed;
 
 pub use entry::Entry;
 pub use table::{Entries, Table};
-
-#[cfg(test)]
-mod tests;

@@ -3,31 +3,28 @@
 ghost use Rattle.std.specs.Prelude.{◌≡◌, ◌<◌, ◌≤◌, MatchResult, IfSome, length, nat_le, ◌==◌};
 ghost use Rattle.std.specs.List.{count_by, list_any, position_from};
 ghost use Rattle.std.specs.Str.{bytes_eq};
-ghost use Rattle.turn_table.specs.Order.{is_peer};
+ghost use Rattle.turn_history.specs.Fitting.{is_peer};
 ghost use Rattle.turn_table.specs.Sorted.{scan};
-ghost use Rattle.turn_types.specs.FiveTuple.{tuple_cmp};
 
 use crate::entry::Entry;
 use std::alloc::Allocator;
 use std::cmp::Ordering;
-use turn_types::{Channel, Endpoint, FiveTuple};
+use turn_history::Channel;
+use turn_types::{Endpoint, FiveTuple};
 
-/// The place of a five-tuple, or the place where it would stand.
-pub(crate) fn place_of<A: Allocator>(
-    entries: &[(FiveTuple, Entry<A>)],
-    tuple: FiveTuple,
-) -> Result<usize, usize>
-    ensures value { result ≡ scan tuple_cmp tuple entries.now }
-    ensures found { MatchResult result (λ i. i < length entries.now) (λ i. i ≤ length entries.now) }
+/// The place of a key among keys that rise, or the place where it would be inserted.
+pub(crate) fn place_of<K: Ord, V>(items: &[(K, V)], key: &K) -> Result<usize, usize>
+    ensures value { result ≡ scan K.cmp key.now items.now }
+    ensures found { MatchResult result (λ i. i < length items.now) (λ i. i ≤ length items.now) }
 {
-    for (i, slot) in entries.iter().enumerate() {
-        match tuple.cmp(&slot.0) {
+    for (i, slot) in items.iter().enumerate() {
+        match key.cmp(&slot.0) {
             Ordering::Less => return Err(i),
             Ordering::Equal => return Ok(i),
             Ordering::Greater => {}
         }
     }
-    Err(entries.len())
+    Err(items.len())
 }
 
 /// The first entry with a port.
@@ -50,7 +47,7 @@ pub(crate) fn has_port<A: Allocator>(entries: &[(FiveTuple, Entry<A>)], port: u1
     entries.iter().any(|slot| slot.1.port() == port)
 }
 
-/// The first entry that has run out.
+/// The first entry that has expired.
 pub(crate) fn expired_of<A: Allocator>(
     entries: &[(FiveTuple, Entry<A>)],
     seconds: u64,
@@ -74,7 +71,7 @@ pub(crate) fn count_of<A: Allocator>(entries: &[(FiveTuple, Entry<A>)], user: &[
 }
 
 /// The first channel to a peer.
-pub(crate) fn number_to(channels: &[(u32, Channel)], peer: Endpoint) -> Option<usize>
+pub(crate) fn number_to(channels: &[(u16, Channel)], peer: Endpoint) -> Option<usize>
     ensures value { result ≡ position_from (λ s. is_peer peer s.1) 0 channels.now }
     ensures found { IfSome result (λ i. i < length channels.now) }
 {

@@ -8,24 +8,24 @@ ghost use Rattle.std.specs.Option.{option_and_then};
 ghost use Rattle.std.specs.Str.{bytes_eq};
 ghost use Rattle.turn_table.specs.Order.{with_entry, without_entry};
 ghost use Rattle.turn_table.specs.State.{State};
-ghost use Rattle.turn_table.specs.Table.{Agrees, AgreesOncePurged, BecomesFree, RunsOut, freed_by, room_for};
-ghost use Rattle.turn_types.specs.Act.{act_of};
-ghost use Rattle.turn_types.specs.Fitting.{Fits, Follows, PortIsFree};
-ghost use Rattle.turn_types.specs.History.{History, Event, Permits, Binds};
-ghost use Rattle.turn_types.specs.Laws.{HasChannel, HasPermission};
-ghost use Rattle.turn_types.specs.Table.{table, applied, purged, renewed, permitting, binding, no_contents};
-ghost use Rattle.turn_types.specs.Table as tables;
+ghost use Rattle.turn_table.specs.Table.{Agrees, AgreesOncePurged, BecomesFree, RemovesExpired, freed_by, room_for};
+ghost use Rattle.turn_history.specs.Act.{act_of};
+ghost use Rattle.turn_history.specs.Fitting.{Fits, Follows, PortIsFree, is_taken};
+ghost use Rattle.turn_history.specs.History.{History, Event, Permits, Binds};
+ghost use Rattle.turn_history.specs.Laws.{HasChannel, HasPermission};
+ghost use Rattle.turn_history.specs.Table.{table, applied, purged, renewed, permitting, binding, no_contents};
+ghost use Rattle.turn_history.specs.Table as tables;
 ghost use Rattle.turn_types.specs.declared.address.FiveTuple.{FiveTuple};
 
 use crate::edit::{Reserved, bind, make_room_for, permit, purge_entries, set_expiry};
 use crate::entry::Entry;
 use crate::fits::{fits_channel, fits_permissions, is_channel_number};
 use crate::search::{count_of, expired_of, has_port, holder_of, place_of};
-use crate::timed::Timed;
 use std::alloc::{AllocError, Allocator, Global};
 use std::marker::Model;
+use turn_history::Act;
 use turn_ports::PortSet;
-use turn_types::{Act, Endpoint, FiveTuple, Limits, Moment};
+use turn_types::{Endpoint, FiveTuple, Limits, Moment};
 
 /// The allocations that live at a moment.
 #[derive(Drop)]
@@ -60,8 +60,8 @@ pub struct Entries<'a, A: Allocator = Global> {
 impl<'a, A: Allocator> Model for Entries<'a, A> {
     ghost use Rattle.std.specs.Prelude.{List};
     ghost use Rattle.std.specs.Coded.{coded×, coded_list};
-    ghost use Rattle.turn_types.specs.Codes.{tuple_code, entry_code};
-    ghost use Rattle.turn_types.specs.Table.{Entry};
+    ghost use Rattle.turn_history.specs.Codes.{tuple_code, entry_code};
+    ghost use Rattle.turn_history.specs.Table.{Entry};
     ghost use Rattle.turn_types.specs.declared.address.FiveTuple.{FiveTuple};
     ghost use Rattle.turn_table.specs.State.{pairs};
 
@@ -149,7 +149,7 @@ impl<A: Allocator + Copy> Table<A> {
     pub fn get(&self, tuple: FiveTuple) -> Option<&Entry<A>>
         ensures { option_map (λ e. e.entry) (option_copied result) ≡ fin.get self.now.contents.entries tuple }
     {
-        match place_of(&self.entries, tuple) {
+        match place_of(&self.entries, &tuple) {
             Ok(i) => Some(&self.entries[i].1),
             Err(_) => None,
         }
@@ -233,8 +233,8 @@ impl<A: Allocator + Copy> Table<A> {
         }
     }
 
-    /// Makes the room that an act of a five-tuple needs, if it is the next change. After an `Err` the limits, the
-    /// moment and the entries are as before, and there is room for no act.
+    /// Makes room for an act of a five-tuple, which has to be the next change. After an `Err` the limits, the moment
+    /// and the entries are as before, and there is room for no act.
     pub fn reserve_for(&mut self, tuple: FiveTuple, act: &Act<A>) -> Result<(), AllocError>
         ensures ok { OnOk result (self.new ≡ record self.old { room = Some (room_for tuple (act_of act.now)) }) }
         ensures err { OnErr result (self.new ≡ record self.old { room = None }) }
@@ -253,7 +253,7 @@ impl<A: Allocator + Copy> Table<A> {
         ensures { self.new ≡ with_entry self.old tuple entry.entry }
     {
         self.room = None;
-        match place_of(&self.entries, tuple) {
+        match place_of(&self.entries, &tuple) {
             Err(i) => {
                 let Ok(()) = self.entries.insert(i, (tuple, entry)) else {
                     unreachable!()
@@ -263,14 +263,14 @@ impl<A: Allocator + Copy> Table<A> {
         }
     }
 
-    /// Removes the entry of a five-tuple, and gives its port.
+    /// Removes the entry of a five-tuple, and returns its port.
     fn remove_entry(&mut self, tuple: FiveTuple) -> u16
         requires { IsSome (fin.get self.old.contents.entries tuple) }
         ensures state { self.new ≡ without_entry self.old tuple }
         ensures port { IsSomeAnd (fin.get self.old.contents.entries tuple) (λ e. e.port ≡ result) }
     {
         self.room = None;
-        match place_of(&self.entries, tuple) {
+        match place_of(&self.entries, &tuple) {
             Ok(i) => {
                 let (_, entry) = self.entries.remove(i);
                 entry.port()
@@ -279,13 +279,13 @@ impl<A: Allocator + Copy> Table<A> {
         }
     }
 
-    /// Sets when an entry runs out.
+    /// Sets the expiry time of an entry, in seconds.
     fn renew(&mut self, tuple: FiveTuple, expiry: u64)
         requires { IsSome (fin.get self.old.contents.entries tuple) }
         ensures { IsSomeAnd (fin.get self.old.contents.entries tuple) (λ e. self.new ≡ with_entry self.old tuple (renewed expiry e)) }
     {
         self.room = None;
-        match place_of(&self.entries, tuple) {
+        match place_of(&self.entries, &tuple) {
             Ok(i) => set_expiry(&mut self.entries[i].1, expiry),
             Err(_) => unreachable!(),
         }
@@ -298,7 +298,7 @@ impl<A: Allocator + Copy> Table<A> {
         ensures { IsSomeAnd (fin.get self.old.contents.entries tuple) (λ e. self.new ≡ with_entry self.old tuple (permitting expiry addresses.now e)) }
     {
         self.room = None;
-        match place_of(&self.entries, tuple) {
+        match place_of(&self.entries, &tuple) {
             Ok(i) => permit(&mut self.entries[i].1, addresses, expiry),
             Err(_) => unreachable!(),
         }
@@ -311,14 +311,14 @@ impl<A: Allocator + Copy> Table<A> {
         ensures { IsSomeAnd (fin.get self.old.contents.entries tuple) (λ e. self.new ≡ with_entry self.old tuple (binding moment number peer e)) }
     {
         self.room = None;
-        match place_of(&self.entries, tuple) {
+        match place_of(&self.entries, &tuple) {
             Ok(i) => bind(&mut self.entries[i].1, number, peer, moment.seconds()),
             Err(_) => unreachable!(),
         }
     }
 
-    /// Does an act of a five-tuple at the table's moment, in the room that was made for it. Gives the port that
-    /// became free, if the act is a Renew of 0.
+    /// Applies an act of a five-tuple at the table's moment, in the room that was made for it. Returns the port that
+    /// became free, which a Renew of 0 has.
     pub fn apply(&mut self, moment: Moment, tuple: FiveTuple, act: Act<A>) -> Option<u16>
         requires purged { self.old.moment ≡ moment }
         requires reserved { self.old.room ≡ Some (room_for tuple (act_of act)) }
@@ -338,18 +338,8 @@ impl<A: Allocator + Copy> Table<A> {
                 granted,
                 tx,
             } => {
-                self.insert_entry(
-                    tuple,
-                    Entry {
-                        user,
-                        port,
-                        granted,
-                        tx,
-                        expiry: moment.seconds() + u64::from(granted),
-                        permissions: Timed::new(alloc),
-                        channels: Timed::new(alloc),
-                    },
-                );
+                let entry = Entry::allocated(alloc, moment, user, port, granted, tx);
+                self.insert_entry(tuple, entry);
                 None
             }
             Act::Renew { granted } => {
@@ -370,12 +360,12 @@ impl<A: Allocator + Copy> Table<A> {
         }
     }
 
-    /// Removes an entry that has run out by a moment that is not before the table's, and gives its port. Where no
-    /// such entry is left, drops the permissions and channels that have run out; the table then stands at the
-    /// moment. Called until `None`; in between the table agrees with no history, but would once it is purged.
+    /// Removes an entry that has expired by a moment that is not before the table's, and returns its port. If no such
+    /// entry is left, drops the permissions and channels that have expired, and moves the table to the moment. Call it
+    /// until `None`; in between the table agrees with no history, but would once it is purged.
     pub fn purge(&mut self, moment: Moment) -> Option<u16>
         requires { self.old.moment ≤ moment }
-        ensures one { IfSome result (RunsOut moment self.old.contents self.new.contents) }
+        ensures one { IfSome result (RemovesExpired moment self.old.contents self.new.contents) }
         ensures free { IfSome result (BecomesFree self.old.contents self.new.contents) }
         ensures others { OnSome result (self.new ≡ record self.old { contents = self.new.contents; room = None }) }
         ensures rest { OnSome result (purged moment self.new.contents ≡ purged moment self.old.contents) }
@@ -403,11 +393,11 @@ impl<A: Allocator + Copy> Table<A> {
 }
 
 impl<A: Allocator + Copy> PortSet for Table<A> {
-    ghost has = { λ t port. list_any (λ p. p.1.port == port) (fin.entries t.contents.entries) };
+    ghost has = { λ t port. is_taken t.contents port };
 
     /// Whether an entry has the port.
     fn has(&self, port: u16) -> bool
-        ensures value { result ≡ list_any (λ p. p.1.port == port) (fin.entries self.now.contents.entries) }
+        ensures value { result ≡ is_taken self.now.contents port }
         ensures free { result ≡ false → PortIsFree self.now.contents port }
     {
         has_port(&self.entries, port)

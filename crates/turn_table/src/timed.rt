@@ -1,18 +1,31 @@
-//! Small maps whose values run out.
+//! Small maps whose values expire.
 
-ghost use Rattle.std.specs.Prelude.{◌≡◌, ℕ, ◌+◌, ◌<◌, ◌≤◌, OnOk, OnErr, MatchResult, length, nat_lt};
+ghost use Rattle.std.specs.Prelude.{◌≡◌, ℕ, ◌+◌, ◌<◌, ◌≤◌, OnOk, OnErr, nat_lt};
 ghost use Rattle.std.specs.List.{filter};
-ghost use Rattle.std.specs.Ordering.{nat_cmp};
 ghost use Rattle.std.specs.FinMap as fin;
-ghost use Rattle.turn_table.specs.Sorted.{scan};
-ghost use Rattle.turn_table.specs.Kept.{still};
+ghost use Rattle.std.specs.FinMap.{IsAntisymmetric};
+ghost use Rattle.std.proofs.lemmas.Map.Lookups.{exact_unsigned};
+ghost use Rattle.turn_table.specs.Kept.{map_in, still};
 
+use crate::search::place_of;
 use std::alloc::{AllocError, Allocator, Global};
-use std::cmp::Ordering;
 use std::marker::Model;
-use turn_types::Channel;
+use turn_history::Channel;
 
-/// A value that runs out at a moment.
+/// A key: keys that compare alike are one.
+pub(crate) trait Key: Ord + Copy {
+    ghost exact: { IsAntisymmetric Self.cmp };
+}
+
+impl Key for u16 {
+    ghost exact = { exact_unsigned };
+}
+
+impl Key for u32 {
+    ghost exact = { exact_unsigned };
+}
+
+/// A value that expires at a moment.
 pub(crate) trait Expires: Copy {
     ghost expiry: { Self → ℕ };
 
@@ -36,53 +49,37 @@ impl Expires for Channel {
     }
 }
 
-/// The place of a key, or the place where it would stand.
-fn place_of<V>(items: &[(u32, V)], key: u32) -> Result<usize, usize>
-    ensures value { result ≡ scan nat_cmp key items.now }
-    ensures found { MatchResult result (λ i. i < length items.now) (λ i. i ≤ length items.now) }
-{
-    for (i, slot) in items.iter().enumerate() {
-        match key.cmp(&slot.0) {
-            Ordering::Less => return Err(i),
-            Ordering::Equal => return Ok(i),
-            Ordering::Greater => {}
-        }
-    }
-    Err(items.len())
-}
-
-/// Drops what has run out.
-fn keep_ahead<V: Expires, A: Allocator>(items: &mut Vec<(u32, V), A>, moment: u64)
+/// Drops what has expired.
+fn keep_ahead<K: Key, V: Expires, A: Allocator>(items: &mut Vec<(K, V), A>, moment: u64)
     ensures { items.new.items ≡ filter (λ e. nat_lt moment (V.expiry e.1)) items.old.items }
 {
     items.retain(|e| moment < e.1.expiry());
 }
 
-/// A map from numbers to values that run out, with room for some more keys: a list, ascending by number.
+/// A map to values that expire, with room for some more keys: a list, ascending by key.
 #[derive(Drop)]
-pub(crate) struct Timed<V, A: Allocator = Global> {
-    items: Vec<(u32, V), A>,
+pub(crate) struct Timed<K: Key, V, A: Allocator = Global> {
+    items: Vec<(K, V), A>,
 }
 
-impl<V, A: Allocator> Model for Timed<V, A> {
-    ghost use Rattle.std.specs.Prelude.{◌≡◌, ℕ, ◌-◌, true};
+impl<K: Key, V, A: Allocator> Model for Timed<K, V, A> {
+    ghost use Rattle.std.specs.Prelude.{◌≡◌, ℕ, ◌-◌, true, List};
     ghost use Rattle.std.specs.Vec.{vec_len, vec_capacity};
-    ghost use Rattle.std.specs.Ordering.{nat_cmp};
-    ghost use Rattle.std.specs.Coded.{coded×, coded_ℕ};
+    ghost use Rattle.std.specs.Coded.{coded×, coded_ℕ, coded_list};
     ghost use Rattle.std.specs.FinMap as fin;
 
-    ghost Value = { fin.FinMap nat_cmp V × ℕ };
+    ghost Value = { List (K × V) × ℕ };
 
-    ghost coded = { coded× (fin.code coded_ℕ V.code) coded_ℕ };
+    ghost coded = { coded× (coded_list (coded× K.code V.code)) coded_ℕ };
 
-    ghost view = { λ a. (fin.from_sorted a.items.items, vec_capacity a.items - vec_len a.items) };
+    ghost view = { λ a. (a.items.items, vec_capacity a.items - vec_len a.items) };
 
-    ghost invariant = { λ a. fin.is_sorted nat_cmp a.items.items ≡ true };
+    ghost invariant = { λ a. fin.is_sorted K.cmp a.items.items ≡ true };
 }
 
-impl<V: Expires, A: Allocator + Copy> Timed<V, A> {
-    pub(crate) fn new(alloc: A) -> Timed<V, A>
-        ensures { result.0 ≡ fin.empty }
+impl<K: Key, V: Expires, A: Allocator + Copy> Timed<K, V, A> {
+    pub(crate) fn new(alloc: A) -> Timed<K, V, A>
+        ensures { map_in K.cmp result ≡ fin.empty }
     {
         Timed {
             items: Vec::new(alloc),
@@ -90,22 +87,22 @@ impl<V: Expires, A: Allocator + Copy> Timed<V, A> {
     }
 
     pub(crate) fn len(&self) -> usize
-        ensures { result ≡ fin.len self.now.0 }
+        ensures { result ≡ fin.len (map_in K.cmp self.now) }
     {
         self.items.len()
     }
 
     /// In the order of the keys.
-    pub(crate) fn items(&self) -> &[(u32, V)]
-        ensures { result.now ≡ fin.entries self.now.0 }
+    pub(crate) fn items(&self) -> &[(K, V)]
+        ensures { result.now ≡ fin.entries (map_in K.cmp self.now) }
     {
         self.items.as_slice()
     }
 
-    pub(crate) fn get(&self, key: u32) -> Option<V>
-        ensures { result ≡ fin.get self.now.0 key }
+    pub(crate) fn get(&self, key: K) -> Option<V>
+        ensures { result ≡ fin.get (map_in K.cmp self.now) key }
     {
-        match place_of(&self.items, key) {
+        match place_of(&self.items, &key) {
             Ok(i) => Some(self.items[i].1),
             Err(_) => None,
         }
@@ -121,12 +118,12 @@ impl<V: Expires, A: Allocator + Copy> Timed<V, A> {
     }
 
     /// Sets the value of a key.
-    pub(crate) fn put(&mut self, key: u32, value: V)
+    pub(crate) fn put(&mut self, key: K, value: V)
         requires { 0 < self.old.1 }
-        ensures map { self.new.0 ≡ fin.insert self.old.0 key value }
+        ensures map { map_in K.cmp self.new ≡ fin.insert (map_in K.cmp self.old) key value }
         ensures room { self.old.1 ≤ self.new.1 + 1 }
     {
-        match place_of(&self.items, key) {
+        match place_of(&self.items, &key) {
             Ok(i) => self.items[i].1 = value,
             Err(i) => {
                 let _ = self.items.insert(i, (key, value));
@@ -134,9 +131,9 @@ impl<V: Expires, A: Allocator + Copy> Timed<V, A> {
         }
     }
 
-    /// Drops what has run out.
+    /// Drops what has expired.
     pub(crate) fn purge(&mut self, moment: u64)
-        ensures { self.new.0 ≡ still V.expiry moment self.old.0 }
+        ensures { map_in K.cmp self.new ≡ still V.expiry moment (map_in K.cmp self.old) }
     {
         keep_ahead(&mut self.items, moment);
     }

@@ -1,15 +1,15 @@
 use Rattle.std.proofs.Common.{◌≡◌, ◌≤◌, ap, sym, ◌∙◌, subst}
 use Rattle.std.specs.List.{list_all}
 use Rattle.std.specs.FinMap as fin
-use Rattle.turn_table.specs.Order.{goes_with}
-use Rattle.turn_table.proofs.Together.{together, all_together}
+use Rattle.turn_history.specs.Fitting.{goes_with}
+use Rattle.turn_history.proofs.Tests.{together, all_together}
 use Rattle.turn_table.proofs.fits.fits_channel.Goals as goal
 use Rattle.turn_table.proofs.fits.fits_channel.Goals.{After-go_together}
 use Rattle.turn_table.proofs.fits.fits_channel.Given.{Over}
 
 judged : (g : Over) (c : After-go_together g) → c.go_together.result ≡ list_all (goes_with c.args.number c.args.peer) (fin.entries c.args.entry.now.entry.channels)
 judged g c =
-    c.go_together.ensures ∙ ap (λ n. list_all (goes_with n c.args.peer) c.items.result.now) c.from.ensures
+    c.go_together.ensures
     ∙ ap (list_all (goes_with c.args.number c.args.peer)) (c.items.ensures ∙ ap (λ h. fin.entries h.entry.channels) c.entry.view_is)
 
 pub returns-clause-fits : goal.returns-clause-fits

@@ -3,7 +3,7 @@ use Rattle.std.specs.Prelude.{nat_eq}
 use Rattle.std.specs.List.{list_any}
 use Rattle.std.proofs.lemmas.List.{take_all, length-drop}
 use Rattle.std.specs.FinMap as fin
-use Rattle.turn_types.specs.Table.{install}
+use Rattle.turn_history.specs.Table.{install}
 use Rattle.turn_table.proofs.Counting.{one_more, none_more}
 use Rattle.turn_table.proofs.fits.new_addresses.Goals as goal
 

@@ -1,7 +1,7 @@
 use Rattle.std.proofs.Common.{ap, ◌∙◌, option_map}
 use Rattle.std.specs.FinMap as fin
 use Rattle.turn_types.specs.FiveTuple.{tuple_cmp}
-use Rattle.turn_types.specs.Table.{binding}
+use Rattle.turn_history.specs.Table.{binding}
 use Rattle.turn_table.specs.Order.{room_of}
 use Rattle.turn_table.specs.Sorted.{scan}
 use Rattle.turn_table.proofs.Edits.{in_order, is_none_some, changed, missed}

@@ -1,6 +1,6 @@
 use Rattle.std.proofs.Common.{ap, ◌∙◌, None}
 use Rattle.std.specs.FinMap as fin
-use Rattle.turn_types.specs.Table.{no_contents}
+use Rattle.turn_history.specs.Table.{no_contents}
 use Rattle.turn_table.specs.State.{pairs}
 use Rattle.turn_table.proofs.Lists.{from_sorted-none}
 use Rattle.turn_table.proofs.table.Table.new.Goals as goal

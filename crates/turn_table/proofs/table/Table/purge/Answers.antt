@@ -2,19 +2,19 @@ use Rattle.std.proofs.Common.{◌≡◌, ap, sym, ◌∙◌, subst, map, take, d
 use Rattle.std.specs.Prelude.{nat_le}
 use Rattle.std.specs.List.{position_from}
 use Rattle.std.specs.FinMap as fin
-use Rattle.turn_types.proofs.Steps.{table-later}
-use Rattle.turn_types.specs.Table.{purged}
+use Rattle.turn_history.proofs.Steps.{table-later}
+use Rattle.turn_history.specs.Table.{purged}
 use Rattle.turn_table.specs.Kept.{still_pair}
 use Rattle.turn_table.specs.State.{State, pairs}
-use Rattle.turn_table.specs.Table.{RunsOut}
+use Rattle.turn_table.specs.Table.{RemovesExpired}
 use Rattle.turn_table.proofs.Edits.{in_order}
 use Rattle.turn_table.proofs.Lists.{Shown}
-use Rattle.turn_table.proofs.Purging.{removed_past, runs_out, none_past, purged_over, free_of, rest_of, fewer_of}
+use Rattle.turn_table.proofs.Purging.{removed_past, removes_expired, none_past, purged_over, free_of, rest_of, fewer_of}
 use Rattle.turn_table.proofs.table.Table.purge.Goals as goal
 use Rattle.turn_table.proofs.table.Table.purge.Goals.{After-drop-entry-inside-in-Some-2, After-moment-1}
 use Rattle.turn_table.proofs.table.Table.purge.Given.{Over}
 
--- ---- An entry that has run out
+-- ---- An entry that has expired
 
 -- its place
 place : (g : Over) (c : After-drop-entry-inside-in-Some-2 g) → Some c.in-Some.i ≡ position_from (λ p. nat_le p.1.entry.expiry c.args.moment) 0 c.self.inside.entries.items
@@ -30,9 +30,9 @@ invariant_of-self g c =
 
 pub returns-in-Some-clause-one : goal.returns-in-Some-clause-one
 returns-in-Some-clause-one g c =
-    subst (λ old. RunsOut c.args.moment old (record { entries = fin.from_sorted (pairs c.remove-entry.new.self.items) }) c.port.result) (ap (λ s. s.contents) c.self.view_is)
-    (subst (λ p. RunsOut c.args.moment (record { entries = fin.from_sorted (pairs c.self.inside.entries.items) }) (record { entries = fin.from_sorted (pairs c.remove-entry.new.self.items) }) p) (sym c.port.ensures)
-    (runs_out c.self.inside.entries.items c.self.invariant.sorted c.args.moment c.in-Some.i c.remove-entry.result (place g c) c.remove-entry.ensures.value c.remove-entry.new.self.items c.remove-entry.ensures.items))
+    subst (λ old. RemovesExpired c.args.moment old (record { entries = fin.from_sorted (pairs c.remove-entry.new.self.items) }) c.port.result) (ap (λ s. s.contents) c.self.view_is)
+    (subst (λ p. RemovesExpired c.args.moment (record { entries = fin.from_sorted (pairs c.self.inside.entries.items) }) (record { entries = fin.from_sorted (pairs c.remove-entry.new.self.items) }) p) (sym c.port.ensures)
+    (removes_expired c.self.inside.entries.items c.self.invariant.sorted c.args.moment c.in-Some.i c.remove-entry.result (place g c) c.remove-entry.ensures.value c.remove-entry.new.self.items c.remove-entry.ensures.items))
 
 pub returns-in-Some-clause-free : goal.returns-in-Some-clause-free
 returns-in-Some-clause-free g c = free_of _ _ _ _ (returns-in-Some-clause-one g c)
@@ -49,7 +49,7 @@ returns-in-Some-clause-begins g c h same = ap (purged c.args.moment) same ∙ ta
 pub returns-in-Some-clause-agrees : goal.returns-in-Some-clause-agrees
 returns-in-Some-clause-agrees g c h same = returns-in-Some-clause-rest g c ∙ same
 
--- ---- None has run out
+-- ---- None has expired
 
 nowhere : (g : Over) (c : After-moment-1 g) → None ≡ position_from (λ p. nat_le p.1.entry.expiry c.args.moment) 0 c.self.inside.entries.items
 nowhere g c =

@@ -1,38 +1,18 @@
--- Channel numbers have 16 bits.
-use Rattle.std.proofs.Common.{◌≡◌, ℕ, ◌<◌, ◌^◌, Bool, true, false, cond, refl, sym, ◌∙◌, subst, Option, Some, None, List, get_or}
+-- Channels by their peers.
+use Rattle.std.proofs.Common.{◌≡◌, ℕ, true, false, refl, sym, ◌∙◌, subst, Option, Some, None, List, get_or}
 use Rattle.std.specs.Prelude.{IsSomeAnd}
 use Rattle.std.specs.List.{position_from, AllByRecursion}
-use Rattle.std.specs.Option.{option_and_then}
-use Rattle.std.specs.Ordering.{nat_cmp, eq_by_cmp}
+use Rattle.std.specs.Ordering.{nat_cmp}
 use Rattle.std.proofs.lemmas.Cmp.{nat_cmp_total}
 use Rattle.std.specs.FinMap as fin
-use Rattle.std.specs.FinMap.{FinMap, nat_cmp-IsAntisymmetric, get-insert, get-empty, get-entries, entries_sorted}
-use Rattle.turn_types.proofs.Maps.{from_eq}
+use Rattle.std.specs.FinMap.{FinMap, nat_cmp-IsAntisymmetric, get-entries, entries_sorted}
+use Rattle.turn_history.proofs.Entries.{find-all}
+use Rattle.turn_history.proofs.Tests.{peer_is, is_peer-same}
 use Rattle.turn_types.specs.declared.address.Endpoint.{Endpoint}
-use Rattle.turn_types.specs.declared.channel.Channel.{Channel}
-use Rattle.turn_table.specs.Kept.{HaveNumbers, still, ahead_by}
-use Rattle.turn_table.specs.Order.{is_peer}
-use Rattle.turn_table.proofs.Numbers.{get-still}
+use Rattle.turn_history.specs.declared.channel.Channel.{Channel}
+use Rattle.turn_history.specs.Fitting.{is_peer}
 use Rattle.turn_table.proofs.Places.{passes, position_none}
-use Rattle.turn_table.proofs.Sorted.{find-found, found-at, find-all}
-use Rattle.turn_table.proofs.Together.{peer_is, is_peer-same}
-
-pub numbers_still : (t : ℕ) (m : FinMap nat_cmp Channel) → HaveNumbers m → HaveNumbers (still (λ c. c.expiry) t m)
-numbers_still t m ok n c is = by_value (fin.get m n) refl (sym (get-still (λ c. c.expiry) t m n) ∙ is)
-  where
-    by_value : (o : Option Channel) → fin.get m n ≡ o → option_and_then (ahead_by (λ c. c.expiry) t) o ≡ Some c → n < 2 ^ 16
-    by_value None at none = cc
-    by_value (Some x) at some = ok n x at
-
-pub numbers_none : HaveNumbers fin.empty
-numbers_none n c is = let no : ◌≡◌ {A = Option Channel} None (Some c) = sym (get-empty nat_cmp n) ∙ is in cc
-
-pub numbers_insert : (m : FinMap nat_cmp Channel) (k : ℕ) (v : Channel) → HaveNumbers m → k < 2 ^ 16 → HaveNumbers (fin.insert m k v)
-numbers_insert m k v ok small n c is = by_test (eq_by_cmp nat_cmp n k) refl (sym (get-insert nat_cmp_total m k v n) ∙ is)
-  where
-    by_test : (b : Bool) → eq_by_cmp nat_cmp n k ≡ b → cond b (Some v) (fin.get m n) ≡ Some c → n < 2 ^ 16
-    by_test true e some = subst (λ j. j < 2 ^ 16) (sym (from_eq nat_cmp nat_cmp-IsAntisymmetric n k e)) small
-    by_test false e some = ok n c some
+use Rattle.turn_table.proofs.Sorted.{find-found, found-at}
 
 module _ (p : Endpoint) (m : FinMap nat_cmp Channel) where
   -- a channel to the peer was found at its place
