@@ -44,7 +44,7 @@ first_size (k ∷ l ∷ m ∷ n ∷ tail) a rest e =
     let rest-is : length (drop (padded size) tail) ≡ length rest = ap (λ (y : Attribute × List ℕ). length y.1) same in
     omega (arith, size-is, rest-is, length-take size tail, length-drop (padded size) tail)
 
--- what is left from some place on, where no attribute of the type stands before it
+-- what is left from some place on, where no attribute of the type is before it
 pub record Looks (kind : ℕ) (body rest : List ℕ) : Type 0 where
   pub whole : IsSome (attributes_in rest)
   pub shorter : length rest ≤ length body

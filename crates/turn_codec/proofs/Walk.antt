@@ -213,7 +213,7 @@ pub in_sound : (bytes : List ℕ) (attributes : List Attribute) → IsBytes byte
 unfolding attributes_in
 in_sound bytes attributes fits e = within_sound (length bytes) bytes attributes fits e
 
--- an attribute has 4 bytes at least
+-- an attribute has at least 4 bytes
 pub count_le : (attributes : List Attribute) (bytes : List ℕ) → SpellsAttributes bytes attributes → 4 * length attributes ≤ length bytes
 count_le [] bytes s = omega arith
 count_le (a ∷ others) bytes s = omega (arith, ap length s.2, length-append s.0 s.1, attribute_size s.0 a s.3, count_le others s.1 s.4)

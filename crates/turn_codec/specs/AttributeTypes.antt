@@ -59,12 +59,11 @@ software = 0x8022
 abbrev pub fingerprint : ℕ
 fingerprint = 0x8028
 
--- the types below 0x8000 that are known
 abbrev pub known_types : List ℕ
 known_types =
     mapped_address ∷ username ∷ message_integrity ∷ error_code ∷ unknown_attributes ∷ channel_number ∷ lifetime
     ∷ xor_peer_address ∷ payload ∷ realm ∷ nonce ∷ xor_relayed_address ∷ requested_address_family ∷ even_port
-    ∷ requested_transport ∷ xor_mapped_address ∷ reservation_token ∷ []
+    ∷ requested_transport ∷ xor_mapped_address ∷ reservation_token ∷ software ∷ fingerprint ∷ []
 
 -- a type that a receiver has to understand (RFC 8489, section 14) and that is not known
 unfoldable pub is_unknown : ℕ → Bool

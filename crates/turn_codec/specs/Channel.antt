@@ -10,7 +10,7 @@ IsChannel number = (0x4000 ≤ number) × (number < 0x8000)
 abbrev pub channel_spelling : ℕ → List ℕ → List ℕ
 channel_spelling number payload = to_be_bytes w16 number ++ to_be_bytes w16 (length payload) ++ payload
 
--- a datagram begins with channel data, and has any bytes behind it
+-- a datagram begins with channel data; any bytes follow
 pub record SpellsChannelData (bytes : List ℕ) (number : ℕ) (payload : List ℕ) : Type 0 where
   pub rest : List ℕ
   pub is : bytes ≡ channel_spelling number payload ++ rest

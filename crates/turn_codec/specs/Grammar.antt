@@ -79,7 +79,7 @@ abbrev pub value_of : ℕ → List Attribute → Option (List ℕ)
 value_of kind [] = None
 value_of kind (a ∷ others) = if a.kind == kind then Some a.value else value_of kind others
 
--- where the first attribute of a type stands in a message: behind the header and the attributes before it
+-- where the first attribute of a type is in a message: after the header and the attributes before it
 abbrev pub offset_of : ℕ → List Attribute → ℕ
 offset_of kind attributes = 20 + sum_by size_of (before kind attributes)
 
@@ -88,7 +88,7 @@ abbrev pub FirstHas : List Attribute → List ℕ → Bool → Type 0
 FirstHas [] value is_last = ⊥
 FirstHas (a ∷ others) value is_last = (a.value ≡ value) × (is_last ≡ (length others == 0))
 
--- the first attribute of a type: what of the datagram stands in front of it, its value, and whether it is the last one
+-- the first attribute of a type: what of the datagram is before it, its value, and whether it is the last one
 abbrev pub IsFirstOf : ℕ → Datagram → List ℕ → List ℕ → Bool → Type 0
 IsFirstOf kind d front value is_last =
     (front ≡ take (offset_of kind d.content.attributes) d.bytes)
@@ -106,7 +106,7 @@ canonical_attribute a = to_be_bytes w16 a.kind ++ to_be_bytes w16 (length a.valu
 abbrev pub canonical_attributes : List Attribute → List ℕ
 canonical_attributes attributes = flat_map canonical_attribute attributes
 
--- the spelling with zeros as padding
+-- the encoding with zeros as padding
 unfoldable pub canonical : Content → List ℕ
 canonical m = to_be_bytes w16 (type_number m.class m.method) ++ to_be_bytes w16 (length (canonical_attributes m.attributes))
     ++ to_be_bytes w32 cookie ++ m.tx ++ canonical_attributes m.attributes
@@ -120,6 +120,6 @@ with_attribute m kind value = record {
   attributes = m.attributes ++ record { kind = kind; value = value } ∷ [];
 }
 
--- the size of a message behind its header
+-- the size of a message after its header
 abbrev pub body_size : Content → ℕ
 body_size m = sum_by size_of m.attributes

@@ -1,4 +1,4 @@
-//! The attributes of a message, in the bytes where they stand.
+//! The attributes of a message, in its bytes.
 
 ghost use Rattle.std.specs.Prelude.{◌≡◌, ◌<◌, ◌≤◌, ◌+◌, List, [], option_map, option_copied, is_some, length, IsSome, MatchOption, sum_by};
 ghost use Rattle.std.specs.Iterator.{YieldsFirstBy, item_count};
@@ -79,7 +79,7 @@ impl<'a> Model for Attributes<'a> {
 }
 
 impl<'a> Attributes<'a> {
-    /// The attributes that the bytes spell.
+    /// The attributes that the bytes encode.
     pub(crate) fn new(rest: &'a [u8]) -> Attributes<'a>
         requires { IsSome (attributes_in rest.now) }
         ensures { result ≡ attributes_of rest.now }

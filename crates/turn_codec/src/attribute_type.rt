@@ -23,7 +23,6 @@ impl Model for AttributeType {
 }
 
 impl AttributeType {
-    // The types that this server knows, by their names in the standards.
     pub const MAPPED_ADDRESS: AttributeType = AttributeType { number: 0x0001 };
 
     pub const USERNAME: AttributeType = AttributeType { number: 0x0006 };
@@ -62,6 +61,33 @@ impl AttributeType {
 
     pub const FINGERPRINT: AttributeType = AttributeType { number: 0x8028 };
 
+    /// The types that this server knows, in the order of their numbers.
+    pub fn known() -> [AttributeType; 19]
+        ensures { result ≡ known_types }
+    {
+        [
+            AttributeType::MAPPED_ADDRESS,
+            AttributeType::USERNAME,
+            AttributeType::MESSAGE_INTEGRITY,
+            AttributeType::ERROR_CODE,
+            AttributeType::UNKNOWN_ATTRIBUTES,
+            AttributeType::CHANNEL_NUMBER,
+            AttributeType::LIFETIME,
+            AttributeType::XOR_PEER_ADDRESS,
+            AttributeType::DATA,
+            AttributeType::REALM,
+            AttributeType::NONCE,
+            AttributeType::XOR_RELAYED_ADDRESS,
+            AttributeType::REQUESTED_ADDRESS_FAMILY,
+            AttributeType::EVEN_PORT,
+            AttributeType::REQUESTED_TRANSPORT,
+            AttributeType::XOR_MAPPED_ADDRESS,
+            AttributeType::RESERVATION_TOKEN,
+            AttributeType::SOFTWARE,
+            AttributeType::FINGERPRINT,
+        ]
+    }
+
     /// The type of a number.
     pub fn new(number: u16) -> AttributeType
         ensures { result ≡ number }
@@ -87,29 +113,8 @@ impl AttributeType {
     }
 }
 
-/// The types below 0x8000 that this server knows.
-const KNOWN: [AttributeType; 17] = [
-    AttributeType::MAPPED_ADDRESS,
-    AttributeType::USERNAME,
-    AttributeType::MESSAGE_INTEGRITY,
-    AttributeType::ERROR_CODE,
-    AttributeType::UNKNOWN_ATTRIBUTES,
-    AttributeType::CHANNEL_NUMBER,
-    AttributeType::LIFETIME,
-    AttributeType::XOR_PEER_ADDRESS,
-    AttributeType::DATA,
-    AttributeType::REALM,
-    AttributeType::NONCE,
-    AttributeType::XOR_RELAYED_ADDRESS,
-    AttributeType::REQUESTED_ADDRESS_FAMILY,
-    AttributeType::EVEN_PORT,
-    AttributeType::REQUESTED_TRANSPORT,
-    AttributeType::XOR_MAPPED_ADDRESS,
-    AttributeType::RESERVATION_TOKEN,
-];
-
 fn is_known(kind: AttributeType) -> bool
     ensures { result ≡ list_any (λ known. known == kind) known_types }
 {
-    KNOWN.iter().any(|known| *known == kind)
+    AttributeType::known().iter().any(|known| *known == kind)
 }

@@ -1,4 +1,4 @@
-//! Messages that are written.
+//! Writing messages.
 
 ghost use Rattle.std.specs.Prelude.{◌≡◌, ◌≤◌, ◌<◌, ◌^◌, ◌↔◌, ◌++◌, [], take, drop, length, vec_len, ◌+◌, IfOk, OnOk, OnErr};
 ghost use Rattle.std.specs.Int.{w16, to_be_bytes};
@@ -11,14 +11,15 @@ use crate::message::COOKIE;
 use byteorder::{BigEndian, ByteOrder};
 use std::alloc::{AllocError, Allocator, Global};
 use std::marker::Model;
+use thiserror::Error;
 use turn_types::{Class, Method, TxId};
 
 /// Why an attribute was not added.
-#[derive(Clone, Copy, Debug, PartialEq, Eq)]
+#[derive(Clone, Copy, Debug, PartialEq, Eq, Error)]
 pub enum PushError {
-    /// The attributes would have more than 65,532 bytes.
+    #[error("the attributes would have more than 65,532 bytes")]
     TooLong,
-    /// A growth was refused.
+    #[error("out of memory")]
     Memory,
 }
 
@@ -150,11 +151,22 @@ impl<A: Allocator + Copy> Builder<A> {
         if size > 65528 || self.bytes.len() + 4 + size.next_multiple_of(4) > 65552 {
             return Err(PushError::TooLong);
         }
+        self.push_fitting(kind, value)?;
+        Ok(())
+    }
+
+    /// Adds an attribute at the end for which the message has room: it fails for memory alone, and then the message is
+    /// as before.
+    pub fn push_fitting(&mut self, kind: AttributeType, value: &[u8]) -> Result<(), AllocError>
+        requires { body_size (with_attribute self.old kind value.now) ≤ 65532 }
+        ensures ok { OnOk result (self.new ≡ with_attribute self.old kind value.now) }
+        ensures err { OnErr result (self.new ≡ self.old) }
+    {
         grow(&mut self.bytes, kind, value)?;
         Ok(())
     }
 
-    /// The canonical spelling of the message so far.
+    /// The canonical encoding of the message so far: padding is zeros.
     pub fn as_bytes(&self) -> &[u8]
         ensures canonical { result.now ≡ canonical self.now }
         ensures spells { Spells result.now self.now }
@@ -164,7 +176,7 @@ impl<A: Allocator + Copy> Builder<A> {
         &self.bytes
     }
 
-    /// The canonical spelling of the message.
+    /// The canonical encoding of the message: padding is zeros.
     pub fn finish(self) -> Vec<u8, A>
         ensures canonical { result.items ≡ canonical self }
         ensures spells { Spells result.items self }

@@ -14,14 +14,14 @@ pub struct ChannelData<'a> {
 }
 
 impl<'a> ChannelData<'a> {
-    /// The channel data that a datagram begins with. Bytes behind the payload are ignored.
+    /// The channel data that a datagram begins with. Bytes after the payload are ignored.
     ///
     /// `None` where the datagram has fewer than 4 bytes, its first two bits aren't 01, or the length passes
     /// its end.
     pub fn parse(bytes: &'a [u8]) -> Option<ChannelData<'a>>
-        // What is read stands there.
+        // What is read is there.
         ensures found { IfSome result (λ d. SpellsChannelData bytes.now d.number d.payload.now) }
-        // What stands there is read.
+        // What is there is read.
         ensures only { (number : ℕ) (payload : List ℕ) → SpellsChannelData bytes.now number payload →
             IsSomeAnd result (λ d. (d.number ≡ number) × (d.payload.now ≡ payload)) }
     {
@@ -41,7 +41,7 @@ impl<'a> ChannelData<'a> {
         }
     }
 
-    /// The datagram, with no byte behind the payload.
+    /// The datagram, with no byte after the payload.
     pub fn write<A: Allocator>(&self, alloc: A) -> Result<Vec<u8, A>, AllocError>
         requires number { IsChannel self.now.number }
         requires size { length self.now.payload.now < 2 ^ 16 }

@@ -14,8 +14,5 @@ pub use attribute::Attributes;
 pub use attribute_type::AttributeType;
 pub use builder::{Builder, PushError};
 pub use channel::ChannelData;
-pub use laws::{address_again, one_message};
+pub use laws::{address_again, one_message, values_are_bytes};
 pub use message::{Located, Malformed, Message};
-
-#[cfg(test)]
-mod tests;

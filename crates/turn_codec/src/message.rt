@@ -3,27 +3,28 @@
 ghost use Rattle.std.specs.Prelude.{◌≡◌, ◌≤◌, ◌<◌, ◌^◌, ◌+◌, [], take, length, IfOk, IfErr, MatchOption, option_copied, option_map};
 ghost use Rattle.turn_codec.specs.Grammar.{Content, Spells, before, from, value_of, IsFirstOf};
 ghost use Rattle.turn_codec.specs.Reading.{class_of, method_of};
-ghost use Rattle.turn_codec.specs.Fault.{fault_of};
+ghost use Rattle.turn_codec.specs.Fault.{fault_of, has_right_length};
 ghost use Rattle.turn_codec.specs.AttributeTypes.{message_integrity};
-ghost use Rattle.turn_codec.specs.Seen.{has_unknown, seen_value};
+ghost use Rattle.turn_codec.specs.Seen.{has_unknown, is_seen, seen_value};
 
 use crate::attribute::{Attributes, are_attributes, find_attribute};
 use crate::attribute_type::AttributeType;
 use std::marker::Model;
+use thiserror::Error;
 use turn_types::{Class, Method, TxId};
 
 /// Why bytes are no message: the first that applies.
-#[derive(Clone, Copy, Debug, PartialEq, Eq)]
+#[derive(Clone, Copy, Debug, PartialEq, Eq, Error)]
 pub enum Malformed {
-    /// Fewer than 20 bytes.
+    #[error("the datagram has fewer than 20 bytes")]
     Short,
-    /// The first two bits are not zero.
+    #[error("the first two bits of the datagram are not zero")]
     NotStun,
-    /// The cookie is not RFC 8489's.
+    #[error("the datagram doesn't have the magic cookie")]
     BadCookie,
-    /// The length is no multiple of 4, or another one than the bytes have behind the header.
+    #[error("the length in the header is no multiple of 4, or not that of the bytes after the header")]
     BadLength,
-    /// An attribute passes the end.
+    #[error("an attribute passes the end of the datagram")]
     AttributeOverruns,
 }
 
@@ -46,12 +47,20 @@ impl<'a> Model for Message<'a> {
 
 pub(crate) const COOKIE: u32 = 0x2112_A442;
 
+fn has_right_length(bytes: &[u8]) -> bool
+    requires { 20 ≤ length bytes.now }
+    ensures { result ≡ has_right_length bytes.now }
+{
+    let length = u16::from_be_bytes([bytes[2], bytes[3]]) as usize;
+    length % 4 == 0 && length + 20 == bytes.len()
+}
+
 impl<'a> Message<'a> {
-    /// The message that a datagram spells.
+    /// The message that a datagram encodes. A datagram with a byte after its last attribute is none.
     pub fn parse(bytes: &'a [u8]) -> Result<Message<'a>, Malformed>
-        // What is read is what the datagram spells.
+        // What is read is what the datagram encodes.
         ensures found { IfOk result (λ m. (m.bytes ≡ bytes.now) × Spells bytes.now m.content) }
-        // What a datagram spells is read.
+        // What a datagram encodes is read.
         ensures only { (m : Content) → Spells bytes.now m → result ≡ Ok (record { bytes = bytes.now; content = m }) }
         ensures refused { IfErr result (λ e. e ≡ fault_of bytes.now) }
     {
@@ -64,8 +73,7 @@ impl<'a> Message<'a> {
         if u32::from_be_bytes([bytes[4], bytes[5], bytes[6], bytes[7]]) != COOKIE {
             return Err(Malformed::BadCookie);
         }
-        let length = u16::from_be_bytes([bytes[2], bytes[3]]) as usize;
-        if length % 4 != 0 || length + 20 != bytes.len() {
+        if !has_right_length(bytes) {
             return Err(Malformed::BadLength);
         }
         if !are_attributes(&bytes[20..]) {
@@ -124,7 +132,7 @@ impl<'a> Message<'a> {
         TxId(tx)
     }
 
-    /// All attributes in their order, those behind MESSAGE-INTEGRITY included. Each value is a slice of the datagram.
+    /// All attributes in their order, those after MESSAGE-INTEGRITY included. Each value is a slice of the datagram.
     #[tactic(auto, unfolding(crate::specs::Reading::datagram_of, crate::specs::Reading::content_of))]
     pub fn attributes(&self) -> Attributes<'a>
         ensures value { result ≡ self.now.content.attributes }
@@ -140,7 +148,7 @@ impl<'a> Message<'a> {
         self.attributes().value_of(kind)
     }
 
-    /// Where the first attribute of a type stands.
+    /// Where the first attribute of a type is.
     #[tactic(auto, unfolding(crate::specs::Reading::datagram_of, crate::specs::Reading::content_of))]
     pub fn locate(&self, kind: AttributeType) -> Option<Located<'a>>
         ensures size { length self.now.bytes < 2 ^ 16 + 20 }
@@ -159,7 +167,7 @@ impl<'a> Message<'a> {
         }
     }
 
-    /// Where MESSAGE-INTEGRITY stands, if there is one.
+    /// Where the first MESSAGE-INTEGRITY is.
     pub fn before_integrity(&self) -> Option<Located<'a>>
         ensures size { length self.now.bytes < 2 ^ 16 + 20 }
         ensures value { option_map (λ found. found.value.now) result ≡ value_of message_integrity self.now.content.attributes }
@@ -190,6 +198,13 @@ impl<'a> Message<'a> {
         self.seen().value_of(kind)
     }
 
+    /// Whether an attribute of a type is among those before the first MESSAGE-INTEGRITY.
+    pub fn is_seen(&self, kind: AttributeType) -> bool
+        ensures { result ≡ is_seen self.now.content kind }
+    {
+        self.seen_value(kind).is_some()
+    }
+
     /// Whether a type is seen that a receiver has to understand and this server doesn't.
     pub fn has_unknown(&self) -> bool
         ensures { result ≡ has_unknown self.now.content }
@@ -203,13 +218,13 @@ impl<'a> Message<'a> {
     }
 }
 
-/// Where the first attribute of a type stands in a message.
+/// Where the first attribute of a type is in a message.
 #[derive(Drop)]
 pub struct Located<'a> {
     /// The datagram up to the attribute's type.
     pub front: &'a [u8],
     /// The attribute's value, without padding.
     pub value: &'a [u8],
-    /// Whether no other attribute stands behind it.
+    /// Whether no other attribute follows.
     pub is_last: bool,
 }

@@ -1,3 +1,4 @@
 pub mod Fresh
 pub mod KeyMaps
 pub mod SecondText
+pub mod Passes

@@ -1,7 +1,7 @@
 //! Who sent a request (RFC 8489, section 9.2.4).
 
 ghost use Rattle.std.specs.Prelude.{◌≡◌, IfOk, IfErr};
-ghost use Rattle.turn_cred.specs.Credential.{has_right_integrity, user_key, verdict, policy_of};
+ghost use Rattle.turn_cred.specs.Credential.{user_key, verdict, policy_of};
 ghost use Rattle.turn_cred.specs.Found.{verdict_of};
 
 use crate::handler::AuthHandler;
@@ -12,20 +12,20 @@ use turn_codec::{AttributeType, Message};
 use turn_mac::integrity_holds;
 use turn_types::{Endpoint, Moment, ServerConfig};
 
-/// What a request's credentials are worth.
+/// The outcome of the credential check of a request.
 #[derive(Clone, Copy)]
 pub enum Verdict<'a> {
     /// The user who sent the request, and the user's key.
     Passed { user: &'a [u8], key: [u8; 16] },
     /// The sender hasn't shown a key: 401, with a realm and a nonce.
     Challenge401,
-    /// The request is integrity protected, but hasn't all the attributes that this takes: 400.
+    /// The request is integrity protected, but lacks an attribute that this takes: 400.
     Bad400,
     /// The nonce doesn't hold for the client: 438, with a realm and a new nonce.
     Stale438,
 }
 
-/// Judges the credentials of requests, under one realm.
+/// Checks the credentials of requests, under one realm.
 #[derive(Drop)]
 pub struct Checker<H: AuthHandler, A: Allocator = Global> {
     handler: H,
@@ -46,15 +46,8 @@ impl<H: AuthHandler, A: Allocator> Model for Checker<H, A> {
     } };
 }
 
-/// Whether the first MESSAGE-INTEGRITY is right under the key.
-fn has_right_integrity(message: &Message<'_>, key: &[u8; 16]) -> bool
-    ensures { result ≡ has_right_integrity key.now message.now }
-{
-    integrity_holds(message, key)
-}
-
 impl<H: AuthHandler, A: Allocator + Copy> Checker<H, A> {
-    /// Copies the realm, the secret and the name limit. Where memory is refused the error has the handler as its value.
+    /// Copies the realm, the secret and the name limit. An allocation failure returns the handler in the error.
     pub fn new<C: Allocator>(
         alloc: A,
         config: &ServerConfig<C>,
@@ -98,13 +91,13 @@ impl<H: AuthHandler, A: Allocator> Checker<H, A> {
         self.handler.key(user, realm)
     }
 
-    /// Judges the credentials of a request from a client at a moment.
+    /// Checks the credentials of a request from a client at a moment.
     ///
-    /// The first line that applies counts. No MESSAGE-INTEGRITY: `Challenge401`. No USERNAME, REALM or NONCE
-    /// before it: `Bad400`. Another realm, an empty user name or one above the limit, or a user without a
-    /// key: `Challenge401`. A MESSAGE-INTEGRITY that is wrong under the user's key: `Challenge401`. A nonce
+    /// The first condition that applies counts. No MESSAGE-INTEGRITY: `Challenge401`. No USERNAME, REALM or
+    /// NONCE before it: `Bad400`. Another realm, an empty user name or one above the limit, or a user without
+    /// a key: `Challenge401`. A MESSAGE-INTEGRITY that is wrong under the user's key: `Challenge401`. A nonce
     /// that doesn't hold for the client: `Stale438`. Else `Passed`. Of repeated attributes the first counts;
-    /// MESSAGE-INTEGRITY-SHA256 counts for nothing. Nothing is claimed of the time that it takes.
+    /// MESSAGE-INTEGRITY-SHA256 is ignored.
     #[tactic(auto, unfolding(crate::specs::Credential::verdict))]
     pub fn check<'a>(
         &mut self,
@@ -118,18 +111,17 @@ impl<H: AuthHandler, A: Allocator> Checker<H, A> {
         if message.before_integrity().is_none() {
             return Verdict::Challenge401;
         }
-        let seen = message.seen();
         let (Some(user), Some(realm), Some(nonce)) = (
-            seen.value_of(AttributeType::USERNAME),
-            seen.value_of(AttributeType::REALM),
-            seen.value_of(AttributeType::NONCE),
+            message.seen_value(AttributeType::USERNAME),
+            message.seen_value(AttributeType::REALM),
+            message.seen_value(AttributeType::NONCE),
         ) else {
             return Verdict::Bad400;
         };
         let Some(key) = self.key_of(user, realm) else {
             return Verdict::Challenge401;
         };
-        if !has_right_integrity(message, &key) {
+        if !integrity_holds(message, &key) {
             return Verdict::Challenge401;
         }
         if !self.nonces.holds(nonce, client, moment) {

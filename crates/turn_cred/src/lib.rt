@@ -9,9 +9,6 @@ mod users;
 
 pub use checker::{Checker, Verdict};
 pub use handler::AuthHandler;
-pub use laws::{freshness_is_decided, holds_for_an_hour, integrity_is_decided};
+pub use laws::{freshness_is_decided, holds_for_an_hour, passed_is_sent_by_the_user};
 pub use nonce::Nonces;
 pub use users::Users;
-
-#[cfg(test)]
-mod tests;

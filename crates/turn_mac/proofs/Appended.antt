@@ -1,5 +1,5 @@
 -- What an attribute that is added at the end leaves of the fronts of a message.
-use Rattle.std.proofs.Common.{◌≡◌, ℕ, suc, ◌+◌, ◌-◌, ◌*◌, ◌/◌, ◌≤◌, Bool, true, false, cond, eqb, List, [], ◌∷◌, ◌++◌, length, take, Option, Some, refl, sym, ap, subst, ◌∙◌, append_assoc, arith}
+use Rattle.std.proofs.Common.{◌≡◌, ℕ, suc, ◌+◌, ◌-◌, ◌≤◌, Bool, true, false, cond, eqb, List, [], ◌∷◌, ◌++◌, length, take, Option, Some, refl, sym, ap, subst, ◌∙◌, append_assoc, arith}
 use Rattle.std.specs.Prelude.{bit_xor, sum_by}
 use Rattle.std.specs.Int.{w16, w32, to_be_bytes}
 use Rattle.std.proofs.lemmas.List.{append-nil, take_all, take-append-le}
@@ -69,12 +69,12 @@ before_size kind (a ∷ others) = by_test (eqb a.kind kind) (before_size kind ot
 
 -- ---- the fronts of a message with one attribute more
 
-behind_cookie : ℕ → ℕ
-behind_cookie k = suc (suc (suc (suc (suc (suc (suc (suc k)))))))
+after_cookie : ℕ → ℕ
+after_cookie k = suc (suc (suc (suc (suc (suc (suc (suc k)))))))
 
-same_rest : (m : Content) (a : Attribute) (k : ℕ) → behind_cookie k ≤ length (canonical m)
+same_rest : (m : Content) (a : Attribute) (k : ℕ) → after_cookie k ≤ length (canonical m)
     → take k (m.tx ++ canonical_attributes (m.attributes ++ a ∷ [])) ≡ take k (m.tx ++ canonical_attributes m.attributes)
-unfolding canonical behind_cookie
+unfolding canonical after_cookie
 same_rest m a k fits =
     let body = canonical_attributes m.attributes in
     let more : canonical_attributes (m.attributes ++ a ∷ []) ≡ body ++ canonical_attribute a =
@@ -83,25 +83,25 @@ same_rest m a k fits =
     ∙ ap (take k) (sym (append_assoc m.tx body (canonical_attribute a)))
     ∙ take-append-le k (m.tx ++ body) (canonical_attribute a) (omega arith)
 
--- a front with a number in the header's length, which the front's size gives
+-- a front with a number in the header's length, computed from the front's size
 sized : (ℕ → ℕ) → List ℕ → List ℕ
 sized size front = with_length front (size (length front))
 
-same_behind_cookie : (size : ℕ → ℕ) (m : Content) (kind : ℕ) (value : List ℕ) (k : ℕ) → behind_cookie k ≤ length (canonical m)
-    → sized size (take (behind_cookie k) (canonical (with_attribute m kind value))) ≡ sized size (take (behind_cookie k) (canonical m))
-unfolding canonical behind_cookie sized
-same_behind_cookie size m kind value k fits =
+same_after_cookie : (size : ℕ → ℕ) (m : Content) (kind : ℕ) (value : List ℕ) (k : ℕ) → after_cookie k ≤ length (canonical m)
+    → sized size (take (after_cookie k) (canonical (with_attribute m kind value))) ≡ sized size (take (after_cookie k) (canonical m))
+unfolding canonical after_cookie sized
+same_after_cookie size m kind value k fits =
     ap (λ (t : List ℕ). take 2 (to_be_bytes w16 (type_number m.class m.method)) ++ to_be_bytes w16 (size (suc (suc (suc (suc (suc (suc (suc (suc (length t)))))))))) ++ to_be_bytes w32 cookie ++ t)
     (same_rest m (record { kind = kind; value = value }) k fits)
 
 same_front : (size : ℕ → ℕ) (m : Content) (kind : ℕ) (value : List ℕ) (offset : ℕ) → 8 ≤ offset → offset ≤ length (canonical m)
     → sized size (take offset (canonical (with_attribute m kind value))) ≡ sized size (take offset (canonical m))
-unfolding behind_cookie
+unfolding after_cookie
 same_front size m kind value offset long fits =
-    let e : behind_cookie (offset - 8) ≡ offset = omega arith in
-    subst (λ (o : ℕ). sized size (take o (canonical (with_attribute m kind value))) ≡ sized size (take o (canonical m))) e (same_behind_cookie size m kind value (offset - 8) (omega arith))
+    let e : after_cookie (offset - 8) ≡ offset = omega arith in
+    subst (λ (o : ℕ). sized size (take o (canonical (with_attribute m kind value))) ≡ sized size (take o (canonical m))) e (same_after_cookie size m kind value (offset - 8) (omega arith))
 
--- in front of an added attribute, the first of its type, stands the message as it was
+-- before an added attribute, the first of its type, the message is as it was
 front_as_it_was : (size : ℕ → ℕ) (m : Content) (kind : ℕ) (value : List ℕ) → length (canonical m) ≡ 20 + body_size m → from kind m.attributes ≡ []
     → sized size (front_of kind (canonical_datagram (with_attribute m kind value))) ≡ sized size (canonical m)
 front_as_it_was size m kind value length-is none =

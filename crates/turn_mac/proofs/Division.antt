@@ -19,7 +19,7 @@ unfolding shifted
 length-shifted true u = length-aligned_sum (u ++ false ∷ []) lower_terms ∙ (let e = length-append u (false ∷ []) in omega arith)
 length-shifted false u = let e = length-append u (false ∷ []) in omega arith
 
--- the bits of the register behind those of a message, taken one after the other
+-- the bits of the register after those of a message, taken one after the other
 bits_after : List Bool → List Bool → List Bool
 bits_after u [] = u
 bits_after [] (b ∷ m) = []
@@ -122,7 +122,7 @@ reversed (b ∷ bits) =
     ∙ number_from-append 0 (reverse bits) (b ∷ [])
     ∙ ap (λ (k : ℕ). cond b 1 0 + 2 * k) (reversed bits)
 
--- the bits complemented are what is missing to the greatest number
+-- the bits complemented are what is missing to the max
 complement : (n x : ℕ) → x < 2 ^ n → low_first (map not (bits_of n x)) + x + 1 ≡ 2 ^ n
 unfolding low_first
 complement zero x h = let e : x ≡ 0 = omega arith in rw e refl
@@ -179,7 +179,7 @@ bits_after_none : (u : List Bool) → bits_after u [] ≡ u
 unfolding bits_after
 bits_after_none u = refl
 
--- the remainder of a byte is its register behind eight steps
+-- the remainder of a byte is its register after eight steps
 pub byte_remainder_is : (byte : ℕ) → byte < 256 → byte_remainder byte ≡ shifts 8 byte
 unfolding byte_remainder
 byte_remainder_is byte fits =

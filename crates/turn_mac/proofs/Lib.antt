@@ -5,4 +5,4 @@ pub mod Table
 pub mod Appended
 pub mod FrontBytes
 pub mod Remainder
-pub mod Fingerprints
+pub mod Decided

@@ -50,7 +50,7 @@ dividend bytes = aligned_sum (message_bits bytes ++ replicate 32 false) (replica
 unfoldable pub crc : List ℕ → ℕ
 crc bytes = number_from 0 (reverse (map not (remainder (8 * length bytes) (dividend bytes))))
 
--- the remainder of a byte's bits with 32 zeros behind them, in reversed order
+-- the remainder of a byte's bits with 32 zeros after them, in reversed order
 unfoldable pub byte_remainder : ℕ → ℕ
 byte_remainder byte = number_from 0 (reverse (remainder 8 (bits_of 8 byte ++ replicate 32 false)))
 

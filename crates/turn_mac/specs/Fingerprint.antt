@@ -17,6 +17,6 @@ is_last_with (a ∷ others) value = bytes_eq a.value value && (length others == 
 unfoldable pub is_fingerprint_right : Datagram → Bool
 is_fingerprint_right d = is_last_with (from fingerprint d.content.attributes) (fingerprint_of (front_of fingerprint d))
 
--- a datagram whose FINGERPRINT isn't right
+-- a datagram whose FINGERPRINT is wrong
 unfoldable pub has_wrong_fingerprint : Datagram → Bool
 has_wrong_fingerprint d = has_fingerprint d.content && not (is_fingerprint_right d)

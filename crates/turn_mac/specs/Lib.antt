@@ -1,5 +1,4 @@
 pub mod Hmac
-pub mod HmacState
 pub mod Crc
 pub mod Integrity
 pub mod Register

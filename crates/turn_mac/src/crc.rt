@@ -35,7 +35,7 @@ impl Checksum {
     }
 }
 
-/// The remainder of the bits of a byte with 32 zeros behind them.
+/// The remainder of the bits of a byte, with 32 zeros after them.
 fn remainder_of(byte: u8) -> u32
     ensures { result ≡ byte_remainder byte }
 {
@@ -57,5 +57,7 @@ fn register_after(register: u32, bytes: &[u8]) -> u32
 pub fn crc32(bytes: &[u8]) -> u32
     ensures { result ≡ crc bytes.now }
 {
-    !register_after(u32::MAX, bytes)
+    let mut checksum = Checksum::new();
+    checksum.update(bytes);
+    checksum.finalize()
 }

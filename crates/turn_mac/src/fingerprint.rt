@@ -1,7 +1,7 @@
 //! The test of FINGERPRINT (RFC 8489, section 14.7).
 
 ghost use Rattle.std.specs.Prelude.{◌≡◌};
-ghost use Rattle.turn_mac.specs.Fingerprint.{has_fingerprint, has_wrong_fingerprint, is_fingerprint_right};
+ghost use Rattle.turn_mac.specs.Fingerprint.{has_fingerprint, has_wrong_fingerprint};
 
 use crate::integrity::fingerprint_holds;
 use turn_codec::{AttributeType, Message};
@@ -14,16 +14,10 @@ pub fn has_fingerprint(message: &Message<'_>) -> bool
     message.find(AttributeType::FINGERPRINT).is_some()
 }
 
-fn is_fingerprint_right(message: &Message<'_>) -> bool
-    ensures { result ≡ is_fingerprint_right message.now }
-{
-    fingerprint_holds(message)
-}
-
-/// Whether a message has a FINGERPRINT that isn't right. Such a message is dropped.
+/// Whether a message has a FINGERPRINT that is wrong. Such a message is dropped.
 #[tactic(auto, unfolding(crate::specs::Fingerprint::has_wrong_fingerprint))]
 pub fn has_wrong_fingerprint(message: &Message<'_>) -> bool
     ensures { result ≡ has_wrong_fingerprint message.now }
 {
-    has_fingerprint(message) && !is_fingerprint_right(message)
+    has_fingerprint(message) && !fingerprint_holds(message)
 }

@@ -1,16 +1,17 @@
 //! HMAC (RFC 2104) over SHA-1 and SHA-256, and the key of a user.
 
-ghost use Rattle.std.specs.Prelude.{◌≡◌, ◌++◌, ◌≤◌, ◌-◌, List, ℕ, [], length, replicate};
+ghost use Rattle.std.specs.Prelude.{◌≡◌, ◌++◌, ◌≤◌, ◌-◌, List, ℕ, length, map, replicate};
+ghost use Rattle.std.specs.List.{concat};
 ghost use Rattle.sha1.specs.Sha1.{sha1};
 ghost use Rattle.sha2.specs.Sha256.{sha256};
 ghost use Rattle.turn_mac.specs.Hmac.{key_block, masked, hmac, auth_key};
-ghost use Rattle.turn_mac.specs.HmacState.{HoldsText};
 
+use crate::digest::{BlockDigest, digest_of};
 use md5::Md5;
 use sha1::Sha1;
 use sha2::Sha256;
 
-// The bytes of a block of both digests.
+/// The bytes of a block of the digests.
 const BLOCK: usize = 64;
 
 const INNER_PAD: u8 = 0x36;
@@ -38,77 +39,49 @@ fn masked_block(block: &[u8; BLOCK], mask: u8) -> [u8; BLOCK]
     bytes
 }
 
-/// HMAC-SHA1 of a text that comes in pieces.
-#[derive(Drop)]
-pub(crate) struct HmacSha1 {
-    inner: Sha1,
-    outer: [u8; BLOCK],
+/// The key as a block (RFC 2104, section 2).
+fn key_block<D: BlockDigest<SIZE>, const SIZE: usize>(key: &[u8]) -> [u8; BLOCK]
+    ensures { result ≡ key_block D.digest key.now }
+{
+    if key.len() <= BLOCK {
+        block_of(key)
+    } else {
+        block_of(&digest_of::<D, SIZE>(key))
+    }
 }
 
-impl HmacSha1 {
-    #[tactic(auto, unfolding(crate::specs::HmacState::HoldsText))]
-    pub(crate) fn new(key: &[u8]) -> HmacSha1
-        ensures { HoldsText result key.now [] }
-    {
-        let block = if key.len() <= BLOCK {
-            block_of(key)
-        } else {
-            block_of(&Sha1::digest(key))
-        };
-        let mut inner = Sha1::new();
-        inner.update(&masked_block(&block, INNER_PAD));
-        HmacSha1 {
-            inner,
-            outer: masked_block(&block, OUTER_PAD),
-        }
+/// HMAC of a text that comes in pieces, under a key of any length (RFC 2104, section 2).
+#[tactic(auto, unfolding(crate::specs::Hmac::hmac))]
+pub(crate) fn hmac_of<D: BlockDigest<SIZE>, const SIZE: usize>(
+    key: &[u8],
+    pieces: &[&[u8]],
+) -> [u8; SIZE]
+    ensures { result ≡ hmac D.digest key.now (concat (map (λ piece. piece.now) pieces.now)) }
+{
+    let block = key_block::<D, SIZE>(key);
+    let mut inner = D::new();
+    inner.update(&masked_block(&block, INNER_PAD));
+    for piece in pieces {
+        inner.update(piece);
     }
-
-    #[tactic(auto, unfolding(crate::specs::HmacState::HoldsText))]
-    pub(crate) fn update(&mut self, piece: &[u8])
-        ensures { (key text : List ℕ) → HoldsText self.old key text → HoldsText self.new key (text ++ piece.now) }
-    {
-        self.inner.update(piece);
-    }
-
-    #[tactic(auto, unfolding(crate::specs::HmacState::HoldsText, crate::specs::Hmac::hmac))]
-    pub(crate) fn finalize(self) -> [u8; 20]
-        ensures { (key text : List ℕ) → HoldsText self key text → result ≡ hmac sha1 key text }
-    {
-        let digest = self.inner.finalize();
-        let mut outer = Sha1::new();
-        outer.update(&self.outer);
-        outer.update(&digest);
-        outer.finalize()
-    }
+    let mut outer = D::new();
+    outer.update(&masked_block(&block, OUTER_PAD));
+    outer.update(&inner.finalize());
+    outer.finalize()
 }
 
 /// HMAC-SHA1 of a text under a key of any length (RFC 2104, section 2).
 pub fn hmac_sha1(key: &[u8], text: &[u8]) -> [u8; 20]
     ensures { result ≡ hmac sha1 key.now text.now }
 {
-    let mut mac = HmacSha1::new(key);
-    mac.update(text);
-    mac.finalize()
+    hmac_of::<Sha1, 20>(key, &[text])
 }
 
 /// HMAC-SHA256 of a text under a key of any length (RFC 2104, section 2).
-#[tactic(auto, unfolding(crate::specs::Hmac::hmac))]
 pub fn hmac_sha256(key: &[u8], text: &[u8]) -> [u8; 32]
     ensures { result ≡ hmac sha256 key.now text.now }
 {
-    use sha2::Digest;
-    let block = if key.len() <= BLOCK {
-        block_of(key)
-    } else {
-        block_of(&Sha256::digest(key))
-    };
-    let mut inner = Sha256::new();
-    inner.update(&masked_block(&block, INNER_PAD));
-    inner.update(text);
-    let mut outer = Sha256::new();
-    outer.update(&masked_block(&block, OUTER_PAD));
-    outer.update(&inner.finalize());
-    outer.finalize()
+    hmac_of::<Sha256, 32>(key, &[text])
 }
 
 /// The long-term key of a user: MD5 of the name, the realm and the password, with colons between

@@ -3,6 +3,7 @@
 
 mod crc;
 mod crc_table;
+mod digest;
 mod fingerprint;
 mod hmac;
 mod integrity;
@@ -12,9 +13,7 @@ pub use crc::crc32;
 pub use fingerprint::{has_fingerprint, has_wrong_fingerprint};
 pub use hmac::{generate_auth_key, hmac_sha1, hmac_sha256};
 pub use integrity::{
-    append_fingerprint, append_integrity, digests_agree, fingerprint_holds, integrity_holds,
+    append_fingerprint, append_fingerprint_fitting, append_integrity, append_integrity_fitting,
+    digests_agree, fingerprint_holds, integrity_holds,
 };
-pub use laws::{fingerprint_is_decided, long_division};
-
-#[cfg(test)]
-mod tests;
+pub use laws::{fingerprint_is_decided, integrity_is_decided, long_division};

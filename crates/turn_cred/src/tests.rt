@@ -1,3 +1,0 @@
-mod credentials;
-mod nonces;
-mod users;
