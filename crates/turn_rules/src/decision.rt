@@ -1,31 +1,33 @@
 //! What a client's message is answered.
 
-ghost use Rattle.std.specs.Prelude.{◌≡◌, [], ℕ, Bool, IfOk, IfSome};
-ghost use Rattle.turn_rules.specs.Answer.{MayAnswer, MayHavePicked, binding_line, counting_line, decision, is_dropped, is_protected, passed_line, port_needed};
-ghost use Rattle.turn_rules.specs.Written.{decided_of, line_of, signed_line_of, verdict_in};
+ghost use Rattle.std.specs.Prelude.{◌≡◌, ◌<◌, ◌^◌, ℕ, Bool, IfOk, IfSome};
+ghost use Rattle.turn_rules.specs.Answer.{MayAnswer, MayHavePicked, decision, is_dropped, is_protected, key_of, outcome_of, passed_outcome, port_needed, user_of};
+ghost use Rattle.turn_rules.specs.Decided.{decided_of, verdict_in};
+ghost use Rattle.turn_rules.specs.Laws.{IsMadeOfBytes, NamesInRange};
 ghost use Rattle.turn_table.specs.Table.{Agrees};
-ghost use Rattle.turn_types.specs.Fitting.{Fits, PortIsFree};
-ghost use Rattle.turn_types.specs.History.{History};
-ghost use Rattle.turn_types.specs.Table as tables;
+ghost use Rattle.turn_history.specs.Fitting.{Fits, IsActInRange, PortIsFree};
+ghost use Rattle.turn_history.specs.History.{History};
+ghost use Rattle.turn_history.specs.Table as tables;
 
-use crate::allocate::{allocate_line, before_port};
-use crate::fields::is_seen;
-use crate::line::{Choice, Line};
-use crate::owner::owner_line;
+use crate::allocate::{allocate_outcome, before_port};
+use crate::binding::binding_outcome;
+use crate::outcome::Outcome;
+use crate::owner::owner_outcome;
 use crate::write::{make_act, write};
 use std::alloc::{AllocError, Allocator, Global};
 use turn_codec::{AttributeType, Message};
 use turn_cred::Verdict;
+use turn_history::Act;
 use turn_mac::has_wrong_fingerprint;
 use turn_table::Table;
-use turn_types::{Act, Class, ErrorCode, FiveTuple, Method, Moment, ServerConfig};
+use turn_types::{Class, ErrorCode, FiveTuple, Method, Moment, ServerConfig};
 
 /// A message from a client.
 #[derive(Drop)]
 pub struct Request<'a> {
     pub message: Message<'a>,
     pub five_tuple: FiveTuple,
-    /// What the credentials are worth, or `None` for Binding, which asks for none.
+    /// The outcome of the credential check, or `None` for Binding, which asks for no credentials.
     pub verdict: Option<Verdict<'a>>,
 }
 
@@ -55,65 +57,72 @@ fn is_dropped(message: &Message<'_>) -> bool
     message.class() != Class::Request || has_wrong_fingerprint(message)
 }
 
-fn binding_line<C: Allocator>(config: &ServerConfig<C>, request: &Request<'_>) -> Line
-    ensures { line_of config.now request.now.five_tuple.client [] request.now.message.content result
-        ≡ binding_line request.now.five_tuple request.now.message.content }
-{
-    if request.message.has_unknown() {
-        return Line::RefuseUnknown;
-    }
-    Line::Mapped
-}
-
-fn passed_line<C: Allocator, T: Allocator + Copy>(
+fn passed_outcome<C: Allocator, T: Allocator + Copy>(
     config: &ServerConfig<C>,
     table: &Table<T>,
     request: &Request<'_>,
     user: &[u8],
     port: Option<u16>,
-) -> Line
-    ensures { line_of config.now request.now.five_tuple.client user.now request.now.message.content result
-        ≡ passed_line config.now table.now.contents request.now.five_tuple user.now request.now.message.content port }
+) -> Outcome
+    ensures { result ≡ passed_outcome config.now table.now.contents request.now.five_tuple user.now request.now.message.content port }
 {
     if request.message.method() == Method::ALLOCATE {
-        return allocate_line(config, table, request, user, port);
+        return allocate_outcome(config, table, request, user, port);
     }
-    owner_line(config, table, request, user)
+    owner_outcome(config, table, request.five_tuple, user, &request.message)
 }
 
-/// The line that counts for a message.
-#[tactic(auto, unfolding(crate::specs::Answer::counting_line))]
-fn choose<'a, C: Allocator, T: Allocator + Copy>(
+/// The outcome of a message.
+#[tactic(auto, unfolding(crate::specs::Answer::outcome_of))]
+fn outcome_of<C: Allocator, T: Allocator + Copy>(
     config: &ServerConfig<C>,
     table: &Table<T>,
-    request: &Request<'a>,
-    moment: Moment,
+    request: &Request<'_>,
     port: Option<u16>,
-) -> Choice<'a>
-    ensures { signed_line_of config.now request.now.five_tuple.client moment request.now.message.content result
-        ≡ counting_line config.now table.now.contents request.now.five_tuple moment request.now.message (verdict_in request.now) port }
+) -> Outcome
+    ensures { result ≡ outcome_of config.now table.now.contents request.now.five_tuple request.now.message (verdict_in request.now) port }
 {
-    let message = &request.message;
-    if is_dropped(message) {
-        return Choice::Plain(Line::Drop);
+    // RFC 8489, section 6.3: a wrong FINGERPRINT, or a class or a method that isn't expected: silently discarded.
+    if is_dropped(&request.message) {
+        return Outcome::Drop;
     }
-    let method = message.method();
+    let method = request.message.method();
     if method == Method::BINDING {
-        return Choice::Plain(binding_line(config, request));
+        return binding_outcome(&request.message);
     }
     if !is_protected(method) {
-        return Choice::Plain(Line::Drop);
+        return Outcome::Drop;
     }
     match request.verdict {
-        None => Choice::Plain(Line::Drop),
-        Some(Verdict::Challenge401) => Choice::Challenge(ErrorCode::Unauthenticated),
-        Some(Verdict::Bad400) => Choice::Plain(Line::Refuse(ErrorCode::BadRequest)),
-        Some(Verdict::Stale438) => Choice::Challenge(ErrorCode::StaleNonce),
-        Some(Verdict::Passed { user, key }) => Choice::Signed {
-            line: passed_line(config, table, request, user, port),
-            user,
-            key,
-        },
+        None => Outcome::Drop,
+        // RFC 8489, section 9.2.4: no or wrong credentials 401, malformed ones 400, a nonce that doesn't hold 438.
+        Some(Verdict::Challenge401) => Outcome::Challenge(ErrorCode::Unauthenticated),
+        Some(Verdict::Bad400) => Outcome::Refuse(ErrorCode::BadRequest),
+        Some(Verdict::Stale438) => Outcome::Challenge(ErrorCode::StaleNonce),
+        Some(Verdict::Passed { user, .. }) => passed_outcome(config, table, request, user, port),
+    }
+}
+
+/// The user whose credentials hold, or no bytes.
+fn user_of<'a>(request: &Request<'a>) -> &'a [u8]
+    ensures { result.now ≡ user_of (verdict_in request.now) }
+{
+    match request.verdict {
+        Some(Verdict::Passed { user, .. }) => user,
+        _ => &[],
+    }
+}
+
+/// The key that the response is signed under, if it is: that of the user whose credentials hold.
+fn key_of(request: &Request<'_>) -> Option<[u8; 16]>
+    ensures { result ≡ key_of request.now.message.content (verdict_in request.now) }
+{
+    if !is_protected(request.message.method()) {
+        return None;
+    }
+    match request.verdict {
+        Some(Verdict::Passed { key, .. }) => Some(key),
+        _ => None,
     }
 }
 
@@ -137,10 +146,10 @@ pub fn needs_port<C: Allocator, T: Allocator + Copy>(
     let Some(Verdict::Passed { user, .. }) = request.verdict else {
         return None;
     };
-    match before_port(config, table, request, user) {
-        Some(_) => None,
-        None => Some(is_seen(&request.message, AttributeType::EVEN_PORT)),
+    if before_port(config, table, request, user).is_some() {
+        return None;
     }
+    Some(request.message.is_seen(AttributeType::EVEN_PORT))
 }
 
 /// The answer to a client's message at a moment, with the port that was picked for it, if one was: where one is
@@ -158,7 +167,7 @@ pub fn decide<A: Allocator + Copy, C: Allocator, T: Allocator + Copy>(
     requires purged { table.now.moment ≡ moment }
     ensures value { IfOk result (λ d. decided_of d
         ≡ decision config.now table.now.contents request.now.five_tuple moment request.now.message (verdict_in request.now) port) }
-    // Behind every history with which the table agrees it is an answer, if the port is one that may be picked.
+    // After every history with which the table agrees it is an answer, if the port is one that may be picked.
     ensures answers { (h : History) (range : ℕ × ℕ) (failed : Bool) → Agrees table.now h →
         MayHavePicked range failed table.now.contents
         (port_needed config.now table.now.contents request.now.five_tuple request.now.message (verdict_in request.now)) port →
@@ -166,10 +175,13 @@ pub fn decide<A: Allocator + Copy, C: Allocator, T: Allocator + Copy>(
     // What is done fits the table, if the port is free.
     ensures fits { table.now.bounds ≡ config.now.limits → IfSome port (PortIsFree table.now.contents) →
         IfOk result (λ d. IfSome (decided_of d).act (Fits table.now.bounds table.now.contents request.now.five_tuple)) }
+    // What is done is in range, if the message's values are bytes and the user's name is in range.
+    ensures in_range { IsMadeOfBytes request.now.message.content → IfSome port (λ p. p < 2 ^ 16) → NamesInRange config.now.limits (verdict_in request.now) →
+        IfOk result (λ d. IfSome (decided_of d).act (IsActInRange config.now.limits)) }
 {
-    let choice = choose(config, table, request, moment, port);
+    let outcome = outcome_of(config, table, request, port);
     Ok(Decision {
-        reply: write(alloc, config, request, moment, &choice)?,
-        act: make_act(alloc, &request.message, &choice)?,
+        reply: write(alloc, config, request, moment, &outcome, key_of(request))?,
+        act: make_act(alloc, &request.message, user_of(request), &outcome)?,
     })
 }

@@ -1,28 +1,23 @@
-//! Lines, written as responses.
+//! Outcomes, written as responses and as acts.
 
-ghost use Rattle.std.specs.Prelude.{◌≡◌, ◌∷◌, [], Some, IfOk, map, option_map};
+ghost use Rattle.std.specs.Prelude.{◌≡◌, ◌∷◌, [], IfOk, map, option_map};
+ghost use Rattle.turn_codec.specs.Address.{xor_value};
 ghost use Rattle.turn_codec.specs.AttributeTypes as types;
 ghost use Rattle.turn_codec.specs.Grammar.{canonical};
-ghost use Rattle.turn_codec.specs.Address.{xor_value};
-ghost use Rattle.turn_rules.specs.Allocate.{allocated, lifetime_attribute};
-ghost use Rattle.turn_rules.specs.Answer.{challenge};
-ghost use Rattle.turn_rules.specs.Line.{refuse, refuse_unknown, response_of};
-ghost use Rattle.turn_rules.specs.Line.Line.{Succeed};
-ghost use Rattle.turn_rules.specs.Response.{attribute, response};
-ghost use Rattle.turn_rules.specs.Written.{act_by, act_chosen, attribute_of, line_of, signed_line_of};
-ghost use Rattle.turn_types.specs.Act.{act_of};
+ghost use Rattle.turn_history.specs.Act.{act_of};
+ghost use Rattle.turn_rules.specs.Outcome.{act_by, allocated, challenge, lifetime_attribute, response_of, unknown_attribute};
+ghost use Rattle.turn_rules.specs.Response.{attribute, attribute_of, error_attribute, response};
 
 use crate::decision::Request;
-use crate::line::{Choice, Line};
+use crate::outcome::Outcome;
 use crate::response::{OwnAttribute, respond};
-use crate::unknown::unknown_types;
+use crate::unknown::unknown_value;
 use crate::value::error_value;
 use std::alloc::{AllocError, Allocator};
 use turn_codec::{AttributeType, Message, xor_address};
 use turn_cred::Nonces;
-use turn_types::{
-    Act, Addresses, Class, Endpoint, ErrorCode, Moment, ServerConfig, TxId, UserName,
-};
+use turn_history::{Act, Addresses, UserName};
+use turn_types::{Class, Endpoint, ErrorCode, Moment, ServerConfig};
 
 type Key = Option<[u8; 16]>;
 
@@ -32,7 +27,7 @@ fn write_error<A: Allocator + Copy>(
     code: ErrorCode,
     key: Key,
 ) -> Result<Vec<u8, A>, AllocError>
-    ensures { IfOk result (λ v. Some v.items ≡ option_map canonical (response_of message.now.content key (refuse code))) }
+    ensures { IfOk result (λ v. v.items ≡ canonical (response message.now.content Class.Error key (error_attribute code ∷ []))) }
 {
     let error = error_value(code);
     let own = [OwnAttribute {
@@ -47,10 +42,11 @@ fn write_unknown<A: Allocator + Copy>(
     message: &Message<'_>,
     key: Key,
 ) -> Result<Vec<u8, A>, AllocError>
-    ensures { IfOk result (λ v. Some v.items ≡ option_map canonical (response_of message.now.content key (refuse_unknown message.now.content))) }
+    ensures { IfOk result (λ v. v.items ≡ canonical (response message.now.content Class.Error key
+        (error_attribute ErrorCode.UnknownAttribute ∷ unknown_attribute message.now.content ∷ []))) }
 {
     let error = error_value(ErrorCode::UnknownAttribute);
-    let types = unknown_types(message).to_value();
+    let types = unknown_value(message);
     let own = [
         OwnAttribute {
             kind: AttributeType::ERROR_CODE,
@@ -94,14 +90,15 @@ fn write_challenge<A: Allocator + Copy, C: Allocator>(
     request: &Request<'_>,
     moment: Moment,
     code: ErrorCode,
+    key: Key,
 ) -> Result<Vec<u8, A>, AllocError>
-    ensures { IfOk result (λ v. Some v.items ≡ option_map canonical (response_of request.now.message.content None
+    ensures { IfOk result (λ v. v.items ≡ canonical (response request.now.message.content Class.Error key
         (challenge config.now request.now.five_tuple.client moment code))) }
 {
     let error = error_value(code);
     let nonce = Nonces::new(*config.secret()).issue(request.five_tuple.client, moment);
     let own = challenge_attributes(error.as_slice(), config.realm(), &nonce);
-    respond(alloc, &request.message, Class::Error, None, &own)
+    respond(alloc, &request.message, Class::Error, key, &own)
 }
 
 fn write_mapped<A: Allocator + Copy>(
@@ -192,51 +189,33 @@ fn write_success<A: Allocator + Copy>(
     respond(alloc, message, Class::Success, key, &[])
 }
 
-/// The response that a line makes, if it makes one, signed under the key, if there is one. The user counts for none.
-fn write_line<A: Allocator + Copy, C: Allocator>(
-    alloc: A,
-    config: &ServerConfig<C>,
-    request: &Request<'_>,
-    line: &Line,
-    key: Key,
-) -> Result<Option<Vec<u8, A>>, AllocError>
-    ensures { IfOk result (λ r. option_map (λ v. v.items) r ≡ option_map canonical (response_of request.now.message.content key
-        (line_of config.now request.now.five_tuple.client [] request.now.message.content line.now))) }
-{
-    let message = &request.message;
-    Ok(match line {
-        Line::Drop => None,
-        Line::Refuse(code) => Some(write_error(alloc, message, *code, key)?),
-        Line::RefuseUnknown => Some(write_unknown(alloc, message, key)?),
-        Line::Mapped => Some(write_mapped(alloc, request, key)?),
-        Line::Repeat { port, granted } | Line::Allocate { port, granted } => {
-            Some(write_allocated(alloc, config, request, key, *port, *granted)?)
-        }
-        Line::Renew { granted } => Some(write_lifetime(alloc, message, key, *granted)?),
-        Line::Permit(_) | Line::Bind { .. } => Some(write_success(alloc, message, key)?),
-    })
-}
-
-/// The reply that is chosen, if one is.
-#[tactic(auto, using(crate::proofs::Lines::same_response))]
+/// The response that an outcome makes, if it makes one, signed under the key, if there is one.
 pub(crate) fn write<A: Allocator + Copy, C: Allocator>(
     alloc: A,
     config: &ServerConfig<C>,
     request: &Request<'_>,
     moment: Moment,
-    choice: &Choice<'_>,
+    outcome: &Outcome,
+    key: Key,
 ) -> Result<Option<Vec<u8, A>>, AllocError>
-    ensures { IfOk result (λ r. option_map (λ v. v.items) r
-        ≡ (let counts = signed_line_of config.now request.now.five_tuple.client moment request.now.message.content choice.now in
-        option_map canonical (response_of request.now.message.content counts.key counts.line))) }
+    ensures { IfOk result (λ r. option_map (λ v. v.items) r ≡ option_map canonical
+        (response_of config.now request.now.five_tuple.client moment request.now.message.content key outcome.now)) }
 {
-    match choice {
-        Choice::Plain(line) => write_line(alloc, config, request, line, None),
-        Choice::Challenge(code) => Ok(Some(write_challenge(
-            alloc, config, request, moment, *code,
-        )?)),
-        Choice::Signed { line, key, .. } => write_line(alloc, config, request, line, Some(*key)),
-    }
+    let message = &request.message;
+    Ok(match outcome {
+        Outcome::Drop => None,
+        Outcome::Refuse(code) => Some(write_error(alloc, message, *code, key)?),
+        Outcome::RefuseUnknown => Some(write_unknown(alloc, message, key)?),
+        Outcome::Challenge(code) => {
+            Some(write_challenge(alloc, config, request, moment, *code, key)?)
+        }
+        Outcome::MappedAddress => Some(write_mapped(alloc, request, key)?),
+        Outcome::RepeatedAllocate { port, granted } | Outcome::Allocate { port, granted } => {
+            Some(write_allocated(alloc, config, request, key, *port, *granted)?)
+        }
+        Outcome::Renew { granted } => Some(write_lifetime(alloc, message, key, *granted)?),
+        Outcome::Permit(_) | Outcome::Bind { .. } => Some(write_success(alloc, message, key)?),
+    })
 }
 
 fn make_name<A: Allocator + Copy>(alloc: A, user: &[u8]) -> Result<UserName<A>, AllocError>
@@ -251,46 +230,30 @@ fn make_addresses<A: Allocator + Copy>(alloc: A, ips: &[u32]) -> Result<Addresse
     Ok(Addresses::from(Vec::from_slice(alloc, ips)?))
 }
 
-/// What a line of a user's request does, if it does anything.
-fn line_act<A: Allocator + Copy>(
+/// What an outcome of a user's request does to the allocation, if it does anything.
+pub(crate) fn make_act<A: Allocator + Copy>(
     alloc: A,
     message: &Message<'_>,
     user: &[u8],
-    line: &Line,
+    outcome: &Outcome,
 ) -> Result<Option<Act<A>>, AllocError>
-    ensures { IfOk result (λ a. option_map act_of a ≡ act_by user.now message.now.content line.now) }
+    ensures { IfOk result (λ a. option_map act_of a ≡ act_by user.now message.now.content outcome.now) }
 {
-    Ok(match line {
-        Line::Drop | Line::Refuse(_) | Line::RefuseUnknown | Line::Mapped | Line::Repeat { .. } =>
-            None,
-        Line::Allocate { port, granted } => Some(Act::Alloc {
+    Ok(match outcome {
+        Outcome::Allocate { port, granted } => Some(Act::Alloc {
             user: make_name(alloc, user)?,
             port: *port,
             granted: *granted,
             tx: message.tx(),
         }),
-        Line::Renew { granted } => Some(Act::Renew { granted: *granted }),
-        Line::Permit(addresses) => Some(Act::Permit {
+        Outcome::Renew { granted } => Some(Act::Renew { granted: *granted }),
+        Outcome::Permit(addresses) => Some(Act::Permit {
             addresses: make_addresses(alloc, addresses.as_slice())?,
         }),
-        Line::Bind { number, peer } => Some(Act::Bind {
+        Outcome::Bind { number, peer } => Some(Act::Bind {
             number: *number,
             peer: *peer,
         }),
+        _ => None,
     })
-}
-
-/// What is chosen to be done to the allocation, if anything is.
-pub(crate) fn make_act<A: Allocator + Copy>(
-    alloc: A,
-    message: &Message<'_>,
-    choice: &Choice<'_>,
-) -> Result<Option<Act<A>>, AllocError>
-    ensures { IfOk result (λ a. option_map act_of a ≡ act_chosen message.now.content choice.now) }
-{
-    match choice {
-        Choice::Plain(line) => line_act(alloc, message, &[], line),
-        Choice::Challenge(_) => Ok(None),
-        Choice::Signed { line, user, .. } => line_act(alloc, message, user, line),
-    }
 }

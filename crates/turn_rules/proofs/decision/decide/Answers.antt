@@ -1,11 +1,19 @@
-use Rattle.std.proofs.Common.{◌≡◌, IfSome, ap, sym, subst, ◌∙◌}
-use Rattle.turn_types.specs.Fitting.{Fits}
-use Rattle.turn_rules.specs.Answer.{decision}
-use Rattle.turn_rules.specs.Line.{act_in}
-use Rattle.turn_rules.specs.Written.{verdict_in}
-use Rattle.turn_rules.proofs.Fitting.{decided_fits}
-use Rattle.turn_rules.proofs.Lines.{chosen_act}
+use Rattle.std.proofs.Common.{◌≡◌, ℕ, List, IfSome, sym, subst, ◌∙◌, ap, Option}
+use Rattle.turn_codec.specs.Grammar.{Content}
+use Rattle.turn_history.specs.Fitting.{Fits, IsActInRange}
+use Rattle.turn_history.specs.History.{PlainAct}
+use Rattle.turn_rules.specs.declared.outcome.Outcome.{Outcome}
+use Rattle.turn_rules.specs.Answer.{outcome_of, user_of, decision}
+use Rattle.turn_rules.specs.Decided.{verdict_in}
+use Rattle.turn_rules.specs.Outcome.{act_by}
+use Rattle.turn_rules.proofs.Acts.{decided_fits}
+use Rattle.turn_rules.proofs.InRange.{decided_in_range}
 use Rattle.turn_rules.proofs.decision.decide.Goals as goal
+
+-- what holds of the act of an outcome holds of the act that is made of an equal one
+of_act : (P : PlainAct → Type 0) (m : Content) (user other : List ℕ) (o p : Outcome) (act : Option PlainAct) → IfSome (act_by other m p) P → act ≡ act_by user m o → user ≡ other → o ≡ p → IfSome act P
+of_act P m user other o p act holds is same_user same_outcome =
+    subst (λ a. IfSome a P) (sym (is ∙ ap (λ u. act_by u m o) same_user ∙ ap (act_by other m) same_outcome)) holds
 
 pub returns-clause-fits : goal.returns-clause-fits
 unfolding decision
@@ -13,7 +21,19 @@ returns-clause-fits g c = λ same free.
     let table = c.args.table.now in
     let s = c.args.config.now in
     let request = c.args.request.now in
-    let acts = c.in_ok-make_act.ensures ∙ chosen_act s request.five_tuple.client c.args.moment request.message.content c.choose-choice.result ∙ ap (λ l. act_in l.line) c.choose-choice.ensures in
-    let fits = decided_fits s table.contents request.five_tuple c.args.moment c.args.port free request.message (verdict_in request) in
-    subst (λ a. IfSome a (Fits table.bounds table.contents request.five_tuple)) (sym acts)
-    (subst (λ b. IfSome (decision s table.contents request.five_tuple c.args.moment request.message (verdict_in request) c.args.port).act (Fits b table.contents request.five_tuple)) (sym same) fits)
+    let v = verdict_in request in
+    let fits = decided_fits s table.contents request.five_tuple c.args.moment c.args.port free request.message v in
+    of_act (Fits table.bounds table.contents request.five_tuple) request.message.content c.user_of.result.now (user_of v) c.outcome_of-outcome.result (outcome_of s table.contents request.five_tuple request.message v c.args.port) _
+    (subst (λ b. IfSome (act_by (user_of v) request.message.content (outcome_of s table.contents request.five_tuple request.message v c.args.port)) (Fits b table.contents request.five_tuple)) (sym same) fits)
+    c.in_ok-make_act.ensures c.user_of.ensures c.outcome_of-outcome.ensures
+
+pub returns-clause-in_range : goal.returns-clause-in_range
+unfolding decision
+returns-clause-in_range g c = λ bytes below names.
+    let table = c.args.table.now in
+    let s = c.args.config.now in
+    let request = c.args.request.now in
+    let v = verdict_in request in
+    of_act (IsActInRange s.limits) request.message.content c.user_of.result.now (user_of v) c.outcome_of-outcome.result (outcome_of s table.contents request.five_tuple request.message v c.args.port) _
+    (decided_in_range s table.contents request.five_tuple c.args.moment request.message v c.args.port bytes below names)
+    c.in_ok-make_act.ensures c.user_of.ensures c.outcome_of-outcome.ensures

@@ -1,0 +1,73 @@
+-- What the response of each outcome has, and what the outcome does to the allocation of the five-tuple.
+use Rattle.std.specs.Prelude.{ℕ, List, [], ◌∷◌, Option, Some, None, option_map}
+use Rattle.std.specs.List.{flat_map}
+use Rattle.std.specs.Int.{w16, w32, to_be_bytes}
+use Rattle.turn_types.specs.Config.{Config}
+use Rattle.turn_types.specs.declared.address.Endpoint.{Endpoint}
+use Rattle.turn_types.specs.declared.error.ErrorCode.{ErrorCode}
+use Rattle.turn_types.specs.declared.error.ErrorCode.TheVariants.{UnknownAttribute}
+use Rattle.turn_types.specs.declared.message.Class.{Class}
+use Rattle.turn_types.specs.declared.message.Class.TheVariants.{Success, Error}
+use Rattle.turn_history.specs.History.{PlainAct, Allocates, Renews, Permits, Binds}
+use Rattle.turn_codec.specs.Address.{xor_value}
+use Rattle.turn_codec.specs.AttributeTypes.{lifetime, nonce, realm, unknown_attributes, xor_mapped_address, xor_relayed_address}
+use Rattle.turn_codec.specs.Grammar.{Attribute, Content}
+use Rattle.turn_cred.specs.Nonce.{nonce_of}
+use Rattle.turn_rules.specs.declared.outcome.Outcome.{Outcome}
+use Rattle.turn_rules.specs.declared.outcome.Outcome.TheVariants.{Drop, Refuse, RefuseUnknown, Challenge, MappedAddress, RepeatedAllocate, Allocate, Renew, Permit, Bind}
+use Rattle.turn_rules.specs.Response.{attribute, error_attribute, response}
+use Rattle.turn_rules.specs.Unknown.{unknown_types}
+
+-- ---- Attributes
+
+-- the types that aren't understood (RFC 8489, section 14.13)
+abbrev pub unknown_attribute : Content → Attribute
+unknown_attribute m = attribute unknown_attributes (flat_map (to_be_bytes w16) (unknown_types m))
+
+-- 401 and 438 come with the realm and the nonce of the moment for the client (RFC 8489, section 9.2.4)
+abbrev pub challenge : Config → Endpoint → ℕ → ErrorCode → List Attribute
+challenge s client t code = error_attribute code ∷ attribute realm s.realm ∷ attribute nonce (nonce_of s.secret t client) ∷ []
+
+abbrev pub lifetime_attribute : ℕ → Attribute
+lifetime_attribute seconds = attribute lifetime (to_be_bytes w32 seconds)
+
+-- the relayed address, the seconds that are granted, and the client's address (RFC 8656, section 7.2)
+abbrev pub allocated : Config → Endpoint → ℕ → ℕ → List Attribute
+allocated s client port seconds =
+    attribute xor_relayed_address (xor_value (record { ip = s.relay; port = port })) ∷
+    lifetime_attribute seconds ∷
+    attribute xor_mapped_address (xor_value client) ∷ []
+
+-- ---- Responses
+
+-- the class and the attributes of an outcome's response to a client at a moment, if it has a response
+abbrev pub attributes_of : Config → Endpoint → ℕ → Content → Outcome → Option (Class × List Attribute)
+attributes_of s client t m Drop = None
+attributes_of s client t m (Refuse code) = Some (Error, error_attribute code ∷ [])
+attributes_of s client t m RefuseUnknown = Some (Error, error_attribute UnknownAttribute ∷ unknown_attribute m ∷ [])
+attributes_of s client t m (Challenge code) = Some (Error, challenge s client t code)
+attributes_of s client t m MappedAddress = Some (Success, attribute xor_mapped_address (xor_value client) ∷ [])
+attributes_of s client t m (RepeatedAllocate port granted) = Some (Success, allocated s client port granted)
+attributes_of s client t m (Allocate port granted) = Some (Success, allocated s client port granted)
+attributes_of s client t m (Renew granted) = Some (Success, lifetime_attribute granted ∷ [])
+attributes_of s client t m (Permit addresses) = Some (Success, [])
+attributes_of s client t m (Bind number peer) = Some (Success, [])
+
+-- the response, signed under the key, if there is one
+abbrev pub response_of : Config → Endpoint → ℕ → Content → Option (List ℕ) → Outcome → Option Content
+response_of s client t m key outcome = option_map (λ own. response m own.0 key own.1) (attributes_of s client t m outcome)
+
+-- ---- Acts
+
+-- what an outcome of a user's request does to the allocation of the five-tuple, if anything
+abbrev pub act_by : List ℕ → Content → Outcome → Option PlainAct
+act_by user m Drop = None
+act_by user m (Refuse code) = None
+act_by user m RefuseUnknown = None
+act_by user m (Challenge code) = None
+act_by user m MappedAddress = None
+act_by user m (RepeatedAllocate port granted) = None
+act_by user m (Allocate port granted) = Some (Allocates user port granted (record { 0 = m.tx }))
+act_by user m (Renew granted) = Some (Renews granted)
+act_by user m (Permit addresses) = Some (Permits addresses)
+act_by user m (Bind number peer) = Some (Binds number peer)
