@@ -4,7 +4,7 @@ use Rattle.std.specs.FinMap as fin
 use Rattle.std.specs.Int.{w16, to_be_bytes, from_be_bytes}
 use Rattle.std.proofs.lemmas.Nat.{from_be_bytes-to_be_bytes_2}
 use Rattle.turn_types.specs.declared.address.FiveTuple.{FiveTuple}
-use Rattle.turn_types.specs.Table.{Contents}
+use Rattle.turn_history.specs.Table.{Contents}
 use Rattle.turn_codec.specs.Channel.{SpellsChannelData}
 use Rattle.turn_codec.specs.Grammar.{Content, Datagram, Spells, type_number}
 use Rattle.turn_codec.proofs.TypeNumber.{type_number_fits}

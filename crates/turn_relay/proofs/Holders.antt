@@ -5,30 +5,30 @@ use Rattle.std.proofs.lemmas.Option.{same_Some}
 use Rattle.std.specs.FinMap as fin
 use Rattle.turn_types.specs.declared.address.Endpoint.{Endpoint}
 use Rattle.turn_types.specs.declared.address.FiveTuple.{FiveTuple}
-use Rattle.turn_types.specs.declared.channel.Channel.{Channel}
-use Rattle.turn_types.specs.Fitting.{IsFitting}
-use Rattle.turn_types.specs.History.{History, clock}
-use Rattle.turn_types.specs.Laws.{PortsApart, PeersApart}
-use Rattle.turn_types.specs.Limits.{Bounds}
-use Rattle.turn_types.specs.Table.{Contents, Entry, table}
-use Rattle.turn_types.proofs.Ranges.{entry_in_range}
+use Rattle.turn_history.specs.declared.channel.Channel.{Channel}
+use Rattle.turn_history.specs.Fitting.{IsFitting}
+use Rattle.turn_history.specs.History.{History, clock}
+use Rattle.turn_history.specs.Laws.{PortsApart, PeersApart}
+use Rattle.turn_types.specs.declared.limits.Bounds.{Bounds}
+use Rattle.turn_history.specs.Table.{Contents, Entry, table}
+use Rattle.turn_history.proofs.Ranges.{entry_in_range}
 use Rattle.turn_codec.specs.Channel.{IsChannel}
 use Rattle.turn_table.specs.Table.{IsChannelTo}
 use Rattle.turn_relay.specs.FromClient.{is_permitted}
 use Rattle.turn_relay.specs.FromPeer.{ClientData, IsAt, IsChannelFor, SendsToClient, relayed, size_for_client}
-use Rattle.turn_relay.specs.Udp.{longest}
+use Rattle.turn_relay.specs.Udp.{max_payload}
 
 pub channel_for : (e : Entry) (peer : Endpoint) (channel : Option ℕ) → MatchOption channel ((n : ℕ) → ¬ IsChannelTo e n peer) (λ n. IsChannelTo e n peer) → IsChannelFor e peer channel
 channel_for e peer None none = none
 channel_for e peer (Some n) bound = bound
 
 -- a payload is too long for the client's datagram, or isn't
-module _ (f : FiveTuple) (channel : Option ℕ) (peer : Endpoint) (payload : List ℕ) (b : Bool) (is : b ≡ nat_le (size_for_client channel (length payload)) longest) where
+module _ (f : FiveTuple) (channel : Option ℕ) (peer : Endpoint) (payload : List ℕ) (b : Bool) (is : b ≡ nat_le (size_for_client channel (length payload)) max_payload) where
   pub too_long : b ≡ false → None ≡ relayed f channel peer payload
-  too_long off = let e : nat_le (size_for_client channel (length payload)) longest ≡ false = sym is ∙ off in rw e refl
+  too_long off = let e : nat_le (size_for_client channel (length payload)) max_payload ≡ false = sym is ∙ off in rw e refl
 
   pub not_too_long : b ≡ true → Some (record { five_tuple = f; channel = channel; peer = peer; payload = payload }) ≡ relayed f channel peer payload
-  not_too_long on = let e : nat_le (size_for_client channel (length payload)) longest ≡ true = sym is ∙ on in rw e refl
+  not_too_long on = let e : nat_le (size_for_client channel (length payload)) max_payload ≡ true = sym is ∙ on in rw e refl
 
 -- the number of a channel of a fitting history
 pub numbered : (b : Bounds) (h : History) (t : ℕ) (f : FiveTuple) (e : Entry) (number : ℕ) (peer : Endpoint)

@@ -6,15 +6,15 @@ use Rattle.std.specs.Option.{option_and_then}
 use Rattle.std.specs.FinMap as fin
 use Rattle.turn_types.specs.declared.address.Endpoint.{Endpoint}
 use Rattle.turn_types.specs.declared.address.FiveTuple.{FiveTuple}
-use Rattle.turn_types.specs.declared.channel.Channel.{Channel}
-use Rattle.turn_types.specs.Fitting.{IsFitting}
-use Rattle.turn_types.specs.History.{History, clock}
-use Rattle.turn_types.specs.Laws.{IsPermitted, IsBound}
-use Rattle.turn_types.specs.Limits.{Bounds}
-use Rattle.turn_types.specs.Table.{Entry, table}
-use Rattle.turn_types.proofs.Channels.{has-bound, bound-has}
-use Rattle.turn_types.proofs.Live.{is_entry, with_entry, of_entry}
-use Rattle.turn_types.proofs.Permissions.{has-permitted}
+use Rattle.turn_history.specs.declared.channel.Channel.{Channel}
+use Rattle.turn_history.specs.Fitting.{IsFitting}
+use Rattle.turn_history.specs.History.{History, clock}
+use Rattle.turn_history.specs.Laws.{IsPermitted, IsBound}
+use Rattle.turn_types.specs.declared.limits.Bounds.{Bounds}
+use Rattle.turn_history.specs.Table.{Entry, table}
+use Rattle.turn_history.proofs.Channels.{has-bound, bound-has}
+use Rattle.turn_history.proofs.Live.{is_entry, with_entry, of_entry}
+use Rattle.turn_history.proofs.Permissions.{has-permitted}
 use Rattle.turn_codec.specs.AttributeTypes as types
 use Rattle.turn_codec.specs.Grammar.{Content, Datagram}
 use Rattle.turn_codec.specs.Seen.{has_unknown, seen_value}
@@ -23,7 +23,7 @@ use Rattle.turn_table.specs.Table.{IsChannelTo}
 use Rattle.turn_relay.specs.FromClient.{PeerData, is_permitted, peer_of, sent, sent_by_channel_data, sent_by_indication, sent_by_message, sent_to_permitted}
 use Rattle.turn_relay.specs.FromPeer.{ClientData, IsChannelFor, SendsToClient, size_for_client}
 use Rattle.turn_relay.specs.Laws.{HasPort, IsRelayed, IsSentBy, IsSentOver, IsTheChannel}
-use Rattle.turn_relay.specs.Udp.{longest}
+use Rattle.turn_relay.specs.Udp.{max_payload}
 
 -- ---- What led to a value
 
@@ -35,9 +35,9 @@ passed : {A : Type 0} (b : Bool) (x : Option A) (y : A) → Some y ≡ cond b x 
 passed true x y is = (refl, is)
 passed false x y is = cc
 
-behind : {A B : Type 0} (g : A → Option B) (o : Option A) (y : B) → Some y ≡ option_and_then g o → (x : A) × (o ≡ Some x) × (Some y ≡ g x)
-behind g None y is = cc
-behind g (Some x) y is = (x, refl, is)
+from_some : {A B : Type 0} (g : A → Option B) (o : Option A) (y : B) → Some y ≡ option_and_then g o → (x : A) × (o ≡ Some x) × (Some y ≡ g x)
+from_some g None y is = cc
+from_some g (Some x) y is = (x, refl, is)
 
 -- ---- Entries of a history
 
@@ -62,7 +62,7 @@ module _ (b : Bounds) (h : History) (t : ℕ) (f : FiveTuple) (e : Entry) (fits 
 sent_is : (e : Entry) (peer : Endpoint) (payload : List ℕ) (d : PeerData) → Some d ≡ sent e peer payload → record { port = e.port; peer = peer; payload = payload } ≡ d
 sent_is e peer payload d is =
     let out : PeerData = record { port = e.port; peer = peer; payload = payload } in
-    sym (same_Some d out (passed (nat_le (length payload) longest) (Some out) d is).1)
+    sym (same_Some d out (passed (nat_le (length payload) max_payload) (Some out) d is).1)
 
 module _ (b : Bounds) (h : History) (t : ℕ) (f : FiveTuple) (fits : IsFitting b h) where
   by_parts : (m : Content) (e : Entry) (peer : Endpoint) (payload : List ℕ) (d : PeerData) → fin.get (table h t).entries f ≡ Some e → peer_of m ≡ Some peer → seen_value m types.payload ≡ Some payload
@@ -84,9 +84,9 @@ module _ (b : Bounds) (h : History) (t : ℕ) (f : FiveTuple) (fits : IsFitting 
       let third : Option PeerData = cond (has_unknown m) None last in
       let second : Option PeerData = cond (has_wrong_fingerprint dg) None third in
       let indication = not_dropped (has_unknown m) last d (not_dropped (has_wrong_fingerprint dg) third d (not_dropped _ second d is)) in
-      let e = behind _ entry d indication in
-      let peer = behind _ (peer_of m) d e.2 in
-      let payload = behind (sent_to_permitted e.0 peer.0) (seen_value m types.payload) d peer.2 in
+      let e = from_some _ entry d indication in
+      let peer = from_some _ (peer_of m) d e.2 in
+      let payload = from_some (sent_to_permitted e.0 peer.0) (seen_value m types.payload) d peer.2 in
       let test = passed (is_permitted e.0 peer.0) (sent e.0 peer.0 payload.0) d payload.2 in
       by_parts m e.0 peer.0 payload.0 d e.1 peer.1 payload.1 test.0 test.1
 
@@ -102,8 +102,8 @@ module _ (b : Bounds) (h : History) (t : ℕ) (f : FiveTuple) (fits : IsFitting 
   pub sent_over : (number : ℕ) (payload : List ℕ) (d : PeerData) → clock h ≤ t → Some d ≡ sent_by_channel_data (fin.get (table h t).entries f) number payload → IsSentOver h t f number payload d
   unfolding sent_by_channel_data
   sent_over number payload d now is =
-      let e = behind _ (fin.get (table h t).entries f) d is in
-      let channel = behind (λ (c : Channel). sent e.0 c.peer payload) (fin.get e.0.channels number) d e.2 in
+      let e = from_some _ (fin.get (table h t).entries f) d is in
+      let channel = from_some (λ (c : Channel). sent e.0 c.peer payload) (fin.get e.0.channels number) d e.2 in
       over_parts number payload e.0 channel.0 d now e.1 channel.1 channel.2
 
 -- ---- Peers' datagrams
@@ -114,7 +114,7 @@ module _ (b : Bounds) (h : History) (t port : ℕ) (peer : Endpoint) (payload : 
   relayed_by (SendsToClient.NoPermission f e at denied is) = cc
   relayed_by (SendsToClient.Relayed f e channel at test to is) =
       let out : ClientData = record { five_tuple = f; channel = channel; peer = peer; payload = payload } in
-      let same : out ≡ d = sym (same_Some d out (passed (nat_le (size_for_client channel (length payload)) longest) (Some out) d is).1) in
+      let same : out ≡ d = sym (same_Some d out (passed (nat_le (size_for_client channel (length payload)) max_payload) (Some out) d is).1) in
       subst (IsRelayed h t port peer payload) same (record {
         at = subst (HasPort h f) at.1 (has_port b h t f e fits at.0);
         permitted = permitted b h t f e fits at.0 peer test;

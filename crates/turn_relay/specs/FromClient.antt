@@ -11,14 +11,14 @@ use Rattle.turn_types.specs.declared.message.Class.{Class}
 use Rattle.turn_types.specs.declared.message.Class.TheVariants.{Request, Indication, Success, Error}
 use Rattle.turn_types.specs.Methods.{send}
 use Rattle.turn_types.specs.Rows.{first_row}
-use Rattle.turn_types.specs.Table.{Entry, Contents}
+use Rattle.turn_history.specs.Table.{Entry, Contents}
 use Rattle.turn_codec.specs.Address.{address_of}
 use Rattle.turn_codec.specs.AttributeTypes as types
 use Rattle.turn_codec.specs.Channel.{SpellsChannelData}
 use Rattle.turn_codec.specs.Grammar.{Content, Datagram, Spells}
 use Rattle.turn_codec.specs.Seen.{has_unknown, seen_value}
 use Rattle.turn_mac.specs.Fingerprint.{has_wrong_fingerprint}
-use Rattle.turn_relay.specs.Udp.{longest}
+use Rattle.turn_relay.specs.Udp.{max_payload}
 
 -- a datagram for a peer: the relayed port that it goes from, the peer, and the payload
 pub record PeerData : Type 0 where
@@ -28,7 +28,7 @@ pub record PeerData : Type 0 where
 
 -- from an allocation to a peer, unless it is longer than UDP carries
 abbrev pub sent : Entry → Endpoint → List ℕ → Option PeerData
-sent e peer payload = if nat_le (length payload) longest then Some (record { port = e.port; peer = peer; payload = payload }) else None
+sent e peer payload = if nat_le (length payload) max_payload then Some (record { port = e.port; peer = peer; payload = payload }) else None
 
 -- ---- Send indications (section 11.2)
 

@@ -4,16 +4,16 @@ use Rattle.std.specs.FinMap as fin
 use Rattle.turn_types.specs.declared.address.Endpoint.{Endpoint}
 use Rattle.turn_types.specs.declared.address.FiveTuple.{FiveTuple}
 use Rattle.turn_types.specs.declared.message.Class.TheVariants.{Indication}
-use Rattle.turn_types.specs.Fitting.{PortIsFree}
+use Rattle.turn_history.specs.Fitting.{PortIsFree}
 use Rattle.turn_types.specs.Methods.{data_method}
-use Rattle.turn_types.specs.Table.{Entry, Contents}
+use Rattle.turn_history.specs.Table.{Entry, Contents}
 use Rattle.turn_codec.specs.Address.{xor_value}
 use Rattle.turn_codec.specs.AttributeTypes as types
 use Rattle.turn_codec.specs.Channel.{SpellsChannelData, channel_spelling}
 use Rattle.turn_codec.specs.Grammar.{Content, Spells, canonical, padding_size}
 use Rattle.turn_table.specs.Table.{IsChannelTo}
 use Rattle.turn_relay.specs.FromClient.{is_permitted}
-use Rattle.turn_relay.specs.Udp.{longest}
+use Rattle.turn_relay.specs.Udp.{max_payload}
 
 -- a peer's data for a client: the five-tuple that it goes to, the number of the channel that carries it, if one does,
 -- the peer, and the payload
@@ -51,7 +51,7 @@ Says (Some number) bytes tx peer payload = SpellsChannelData bytes number payloa
 abbrev pub IsForClient : List ℕ → List ℕ → ClientData → Type 0
 IsForClient bytes tx d = Says d.channel bytes tx d.peer d.payload
 
--- the size of a client's datagram with a payload of n bytes: 4 bytes in front of it; or the header, XOR-PEER-ADDRESS,
+-- the size of a client's datagram with a payload of n bytes: a header of 4 bytes and the payload; or the header, XOR-PEER-ADDRESS,
 -- and DATA with its padding
 abbrev pub size_for_client : Option ℕ → ℕ → ℕ
 size_for_client (Some number) n = 4 + n
@@ -71,7 +71,7 @@ IsChannelFor e peer (Some number) = IsChannelTo e number peer
 -- to the client, unless its datagram would be longer than UDP carries
 abbrev pub relayed : FiveTuple → Option ℕ → Endpoint → List ℕ → Option ClientData
 relayed f channel peer payload =
-    if nat_le (size_for_client channel (length payload)) longest
+    if nat_le (size_for_client channel (length payload)) max_payload
     then Some (record { five_tuple = f; channel = channel; peer = peer; payload = payload })
     else None
 

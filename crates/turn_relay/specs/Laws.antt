@@ -2,8 +2,8 @@
 use Rattle.std.specs.Prelude.{◌≡◌, ℕ, Option, Some, None, List, IsSomeAnd}
 use Rattle.turn_types.specs.declared.address.Endpoint.{Endpoint}
 use Rattle.turn_types.specs.declared.address.FiveTuple.{FiveTuple}
-use Rattle.turn_types.specs.History.{History, made}
-use Rattle.turn_types.specs.Laws.{IsPermitted, IsBound}
+use Rattle.turn_history.specs.History.{History, made}
+use Rattle.turn_history.specs.Laws.{IsPermitted, IsBound}
 use Rattle.turn_codec.specs.AttributeTypes as types
 use Rattle.turn_codec.specs.Grammar.{Content}
 use Rattle.turn_codec.specs.Seen.{seen_value}

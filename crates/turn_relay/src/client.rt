@@ -3,13 +3,13 @@
 ghost use Rattle.std.specs.Prelude.{◌≡◌, ◌≤◌, length, option_map, IfSome};
 ghost use Rattle.std.specs.FinMap as fin;
 ghost use Rattle.turn_relay.specs.FromClient.{SendsToPeer, is_send_indication, peer_of, sent, sent_by_channel_data, sent_by_message};
-ghost use Rattle.turn_relay.specs.Udp.{longest};
+ghost use Rattle.turn_relay.specs.Udp.{max_payload};
 ghost use Rattle.turn_relay.specs.Views.{peer_data};
 ghost use Rattle.turn_table.specs.Table.{Agrees};
-ghost use Rattle.turn_types.specs.History.{History};
-ghost use Rattle.turn_types.specs.Table as tables;
+ghost use Rattle.turn_history.specs.History.{History};
+ghost use Rattle.turn_history.specs.Table as tables;
 
-use crate::LONGEST;
+use crate::MAX_PAYLOAD;
 use std::alloc::Allocator;
 use turn_codec::{AttributeType, ChannelData, Message, read_xor_address};
 use turn_mac::has_wrong_fingerprint;
@@ -32,9 +32,9 @@ fn send_to<'a, A: Allocator>(
     bytes: &'a [u8],
 ) -> Option<ToPeer<'a>>
     ensures sends { option_map peer_data result ≡ sent entry.now.entry peer bytes.now }
-    ensures size { IfSome result (λ x. length x.bytes.now ≤ longest) }
+    ensures size { IfSome result (λ x. length x.bytes.now ≤ max_payload) }
 {
-    if bytes.len() > LONGEST {
+    if bytes.len() > MAX_PAYLOAD {
         return None;
     }
     Some(ToPeer {
@@ -74,7 +74,7 @@ fn by_message<'a, A: Allocator + Copy>(
     message: &Message<'a>,
 ) -> Option<ToPeer<'a>>
     ensures sends { option_map peer_data result ≡ sent_by_message (fin.get table.now.contents.entries five_tuple) message.now }
-    ensures size { IfSome result (λ x. length x.bytes.now ≤ longest) }
+    ensures size { IfSome result (λ x. length x.bytes.now ≤ max_payload) }
 {
     if !is_send_indication(message) || has_wrong_fingerprint(message) || message.has_unknown() {
         return None;
@@ -97,7 +97,7 @@ fn by_channel_data<'a, A: Allocator + Copy>(
     payload: &'a [u8],
 ) -> Option<ToPeer<'a>>
     ensures sends { option_map peer_data result ≡ sent_by_channel_data (fin.get table.now.contents.entries five_tuple) number payload.now }
-    ensures size { IfSome result (λ x. length x.bytes.now ≤ longest) }
+    ensures size { IfSome result (λ x. length x.bytes.now ≤ max_payload) }
 {
     let entry = table.get(five_tuple)?;
     let channel = entry.channel(number)?;
@@ -118,7 +118,7 @@ pub fn from_client<'a, A: Allocator + Copy>(
     ensures sends { SendsToPeer table.now.contents five_tuple datagram.now (option_map peer_data result) }
     ensures history { (h : History) → Agrees table.now h →
         SendsToPeer (tables.table h moment) five_tuple datagram.now (option_map peer_data result) }
-    ensures size { IfSome result (λ x. length x.bytes.now ≤ longest) }
+    ensures size { IfSome result (λ x. length x.bytes.now ≤ max_payload) }
 {
     if let Some(data) = ChannelData::parse(datagram) {
         return by_channel_data(table, five_tuple, data.number, data.payload);

@@ -7,11 +7,11 @@ ghost use Rattle.turn_codec.specs.Grammar.{Content, Spells};
 ghost use Rattle.turn_relay.specs.FromClient.{PeerData, SendsToPeer};
 ghost use Rattle.turn_relay.specs.FromPeer.{ClientData, SendsToClient};
 ghost use Rattle.turn_relay.specs.Laws.{IsRelayed, IsSentBy, IsSentOver};
-ghost use Rattle.turn_types.specs.Fitting.{IsFitting};
-ghost use Rattle.turn_types.specs.History.{History, clock};
-ghost use Rattle.turn_types.specs.Laws.{events_of};
-ghost use Rattle.turn_types.specs.Limits.{Bounds};
-ghost use Rattle.turn_types.specs.Table.{Entry, table};
+ghost use Rattle.turn_history.specs.Fitting.{IsFitting};
+ghost use Rattle.turn_history.specs.History.{History, clock};
+ghost use Rattle.turn_history.specs.Laws.{events_of};
+ghost use Rattle.turn_types.specs.declared.limits.Bounds.{Bounds};
+ghost use Rattle.turn_history.specs.Table.{Entry, table};
 ghost use Rattle.turn_types.specs.declared.address.Endpoint.{Endpoint};
 ghost use Rattle.turn_types.specs.declared.address.FiveTuple.{FiveTuple};
 

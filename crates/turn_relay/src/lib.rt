@@ -9,8 +9,5 @@ pub use client::{ToPeer, from_client};
 pub use laws::{relayed_in_one_way, sends_as_permitted, sends_by_own_events};
 pub use peer::{ToClient, from_peer};
 
-/// The greatest payload of a UDP datagram over IPv4, in bytes.
-const LONGEST: usize = 65507;
-
-#[cfg(test)]
-mod tests;
+/// The max payload of a UDP datagram over IPv4, in bytes.
+const MAX_PAYLOAD: usize = 65507;

@@ -1,30 +1,29 @@
 //! What a peer's datagram sends.
 
-ghost use Rattle.std.specs.Prelude.{◌≡◌, ◌≤◌, nat_le, length, None, option_map, IfOk, IfSome, OnOk};
+ghost use Rattle.std.specs.Prelude.{◌≡◌, ◌≤◌, nat_le, length, None, option_map, IfOk, IfSome};
 ghost use Rattle.std.specs.Option.{ForSome};
 ghost use Rattle.turn_codec.specs.Channel.{IsChannel};
-ghost use Rattle.turn_codec.specs.Grammar.{Spells, body_size, canonical, with_attribute};
+ghost use Rattle.turn_codec.specs.Grammar.{Spells, canonical};
 ghost use Rattle.turn_relay.specs.FromPeer.{IsForClient, SendsToClient, client_datagram, data_indication, size_for_client};
-ghost use Rattle.turn_relay.specs.Udp.{longest};
+ghost use Rattle.turn_relay.specs.Udp.{max_payload};
 ghost use Rattle.turn_relay.specs.Views.{client_data};
 ghost use Rattle.turn_table.specs.Table.{Agrees};
-ghost use Rattle.turn_types.specs.Fitting.{IsFitting};
-ghost use Rattle.turn_types.specs.History.{History, clock};
-ghost use Rattle.turn_types.specs.Limits.{Bounds};
-ghost use Rattle.turn_types.specs.Table as tables;
+ghost use Rattle.turn_history.specs.Fitting.{IsFitting};
+ghost use Rattle.turn_history.specs.History.{History, clock};
+ghost use Rattle.turn_types.specs.declared.limits.Bounds.{Bounds};
+ghost use Rattle.turn_history.specs.Table as tables;
 
-use crate::LONGEST;
+use crate::MAX_PAYLOAD;
 use std::alloc::{AllocError, Allocator};
-use turn_codec::{AttributeType, Builder, ChannelData, PushError, xor_address};
+use turn_codec::{AttributeType, Builder, ChannelData, xor_address};
 use turn_table::Table;
 use turn_types::{Class, Endpoint, FiveTuple, Method, Moment, TxId};
 
-/// The longest payload of ChannelData that UDP carries, with 4 bytes in front of it.
-const LONGEST_OVER_A_CHANNEL: usize = LONGEST - 4;
+/// The max payload of ChannelData over UDP, after a header of 4 bytes.
+const MAX_OVER_A_CHANNEL: usize = MAX_PAYLOAD - 4;
 
-/// The longest DATA that UDP carries in a Data indication, which has a multiple of 4 bytes and 36 of them in front
-/// of it.
-const LONGEST_INDICATED: usize = LONGEST / 4 * 4 - 36;
+/// The max DATA of a Data indication over UDP: the indication has a multiple of 4 bytes, 36 of them before the DATA.
+const MAX_INDICATED: usize = MAX_PAYLOAD / 4 * 4 - 36;
 
 /// Data for a client. It is a peer's datagram.
 #[derive(Clone, Copy, Debug)]
@@ -34,22 +33,6 @@ pub struct ToClient<'a> {
     pub channel: Option<u16>,
     pub peer: Endpoint,
     pub bytes: &'a [u8],
-}
-
-/// Adds an attribute for which there is room in the message.
-fn add<A: Allocator + Copy>(
-    builder: &mut Builder<A>,
-    kind: AttributeType,
-    value: &[u8],
-) -> Result<(), AllocError>
-    requires { body_size (with_attribute builder.old kind value.now) ≤ 65532 }
-    ensures { OnOk result (builder.new ≡ with_attribute builder.old kind value.now) }
-{
-    match builder.push(kind, value) {
-        Ok(()) => Ok(()),
-        Err(PushError::Memory) => Err(AllocError),
-        Err(PushError::TooLong) => unreachable!(),
-    }
 }
 
 /// A Data indication (RFC 8656, section 11.3).
@@ -73,22 +56,18 @@ fn data_indication<A: Allocator + Copy>(
         tx,
         capacity as u16,
     )?;
-    add(
-        &mut builder,
-        AttributeType::XOR_PEER_ADDRESS,
-        &xor_address(peer),
-    )?;
-    add(&mut builder, AttributeType::DATA, payload)?;
+    builder.push_fitting(AttributeType::XOR_PEER_ADDRESS, &xor_address(peer))?;
+    builder.push_fitting(AttributeType::DATA, payload)?;
     Ok(builder.finish())
 }
 
 impl<'a> ToClient<'a> {
     /// The client's datagram: ChannelData without padding (RFC 8656, section 12.5), or a Data indication with the
-    /// transaction id (section 11.3). It takes memory once.
+    /// transaction id (section 11.3), in one allocation.
     #[tactic(auto, unfolding(crate::specs::FromPeer::client_datagram))]
     pub fn write<A: Allocator + Copy>(&self, alloc: A, tx: TxId) -> Result<Vec<u8, A>, AllocError>
         requires number { ForSome self.now.channel IsChannel }
-        requires size { size_for_client self.now.channel (length self.now.bytes.now) ≤ longest }
+        requires size { size_for_client self.now.channel (length self.now.bytes.now) ≤ max_payload }
         ensures bytes { IfOk result (λ v. v.items ≡ client_datagram (client_data self.now) tx.0) }
         ensures spells { IfOk result (λ v. IsForClient v.items tx.0 (client_data self.now)) }
         ensures size { IfOk result (λ v. length v.items ≡ size_for_client self.now.channel (length self.now.bytes.now)) }
@@ -108,18 +87,18 @@ impl<'a> ToClient<'a> {
 
 /// Whether the client's datagram is one that UDP carries.
 fn fits_client(channel: Option<u16>, size: usize) -> bool
-    ensures { result ≡ nat_le (size_for_client channel size) longest }
+    ensures { result ≡ nat_le (size_for_client channel size) max_payload }
 {
     match channel {
-        Some(_) => size <= LONGEST_OVER_A_CHANNEL,
-        None => size <= LONGEST_INDICATED,
+        Some(_) => size <= MAX_OVER_A_CHANNEL,
+        None => size <= MAX_INDICATED,
     }
 }
 
-/// What a peer's datagram at a relayed port sends to the client of the port's allocation: the datagram, where the
-/// peer's address has a permission, over the channel that is bound to the peer's address and port, if one is
-/// (RFC 8656, sections 11.3 and 12.7). It sends nothing where the client's datagram would have more than 65,507
-/// bytes. The table was purged at the moment of the arrival.
+/// What a peer's datagram at a relayed port sends to the client of the port's allocation, if the peer's address has a
+/// permission: the datagram, over the channel that is bound to the peer's address and port, if one is (RFC 8656,
+/// sections 11.3 and 12.7). It sends nothing if the client's datagram would have more than 65,507 bytes. The table
+/// was purged at the moment of the arrival.
 pub fn from_peer<'a, A: Allocator + Copy>(
     table: &Table<A>,
     port: u16,
@@ -131,8 +110,8 @@ pub fn from_peer<'a, A: Allocator + Copy>(
     ensures sends { SendsToClient table.now.contents port from datagram.now (option_map client_data result) }
     ensures history { (h : History) → Agrees table.now h →
         SendsToClient (tables.table h moment) port from datagram.now (option_map client_data result) }
-    // What is given can be written.
-    ensures size { IfSome result (λ x. size_for_client x.channel (length x.bytes.now) ≤ longest) }
+    // What is returned can be written.
+    ensures size { IfSome result (λ x. size_for_client x.channel (length x.bytes.now) ≤ max_payload) }
     ensures number { (b : Bounds) (h : History) → IsFitting b h → clock h ≤ moment → Agrees table.now h →
         IfSome result (λ x. ForSome x.channel IsChannel) }
 {

@@ -1,5 +1,5 @@
 use Rattle.std.proofs.Common.{None, ap, subst, ◌∙◌, option_map}
-use Rattle.turn_types.specs.Table as tables
+use Rattle.turn_history.specs.Table as tables
 use Rattle.turn_relay.specs.FromClient.{SendsToPeer}
 use Rattle.turn_relay.specs.Views.{peer_data}
 use Rattle.turn_relay.proofs.Datagrams.{of_channel_data, of_message, of_neither}

@@ -1,6 +1,6 @@
-use Rattle.turn_types.specs.Table.{table}
-use Rattle.turn_types.proofs.Channels.{peers-apart}
-use Rattle.turn_types.proofs.Histories.{ports-apart}
+use Rattle.turn_history.specs.Table.{table}
+use Rattle.turn_history.proofs.Channels.{peers-apart}
+use Rattle.turn_history.proofs.Histories.{ports-apart}
 use Rattle.turn_relay.proofs.Holders.{one_way}
 use Rattle.turn_relay.proofs.laws.relayed_in_one_way.Goals as goal
 

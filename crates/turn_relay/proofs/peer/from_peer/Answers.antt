@@ -1,6 +1,6 @@
 use Rattle.std.proofs.Common.{Some, None, refl, ap, subst, sym, ◌∙◌}
 use Rattle.std.specs.FinMap as fin
-use Rattle.turn_types.specs.Table as tables
+use Rattle.turn_history.specs.Table as tables
 use Rattle.turn_relay.specs.FromPeer.{IsChannelFor, SendsToClient}
 use Rattle.turn_relay.proofs.Holders.{channel_for, not_too_long, numbered, too_long}
 use Rattle.turn_relay.proofs.peer.from_peer.Goals as goal

@@ -1,0 +1,6 @@
+pub mod Clients
+pub mod Dropped
+pub mod Exclusion
+pub mod Machines
+pub mod Names
+pub mod Ports

@@ -1,0 +1,94 @@
+-- Machines after histories.
+use Rattle.std.proofs.Common.{◌≡◌, ◌≤◌, ◌++◌, ◌∷◌, [], ℕ, Option, Some, None, Result, Ok, Err, refl, sym, ap, subst, ◌∙◌, inl, inr, arith}
+use Rattle.std.proofs.Math.Nat.{eq-or-lt_of_le}
+use Rattle.std.specs.Prelude.{IfOk, IfSome}
+use Rattle.turn_types.specs.Config.{Config}
+use Rattle.turn_types.specs.declared.limits.Bounds.{Bounds}
+use Rattle.turn_history.specs.Fitting.{Fits, Follows, IsFitting}
+use Rattle.turn_history.specs.History.{History, clock}
+use Rattle.turn_history.specs.Table.{purged, table}
+use Rattle.turn_history.proofs.Histories.{clock-push, fitting-join}
+use Rattle.turn_history.proofs.Steps.{table-later}
+use Rattle.turn_cred.specs.Credential.{Keys}
+use Rattle.turn_ports.specs.Ports.{has_failed}
+use Rattle.turn_table.specs.State.{State}
+use Rattle.turn_table.specs.Table.{Agrees}
+use Rattle.turn_step.specs.Answer.{AnswersArrival, Setting}
+use Rattle.turn_step.specs.Outcome.{Arrives, Change, Outcome, added, event_at}
+use Rattle.turn_step.specs.State.{IsAfter, IsPurged, IsReady, IsSameTable, MachineState, MayBeNext, setting_of}
+
+-- ---- A later moment
+
+pub agrees_later : (old new : State) (h : History) (t : ℕ) → old.moment ≤ t → IsPurged t old new → Agrees old h → Agrees new h
+agrees_later old new h t le later agrees = elim (eq-or-lt_of_le le) [
+  | inl e ↦ later.same e ∙ agrees ∙ ap (table h) (e ∙ sym later.moment)
+  | inr lt ↦ later.later lt ∙ ap (purged t) agrees ∙ table-later h old.moment t le ∙ ap (table h) (sym later.moment)
+]
+
+pub purged_same : (t : ℕ) (old mid new : State) → IsPurged t old mid → IsSameTable mid new → IsPurged t old new
+purged_same t old mid new later same = record {
+  moment = ap (λ (s : State). s.moment) same ∙ later.moment;
+  bounds = ap (λ (s : State). s.bounds) same ∙ later.bounds;
+  same = λ e. ap (λ (s : State). s.contents) same ∙ later.same e;
+  later = λ lt. ap (λ (s : State). s.contents) same ∙ later.later lt;
+}
+
+pub after_later : {H G : Type 0} (m n : MachineState H G) (h : History) (t : ℕ) → m.table.moment ≤ t → n.config ≡ m.config → IsPurged t m.table n.table
+    → IsAfter m h → IsAfter n h
+after_later m n h t le config later after = record {
+  fitting = subst (λ c. IsFitting c.limits h) (sym config) after.fitting;
+  late = let bound = after.late in let is = later.moment in omega arith;
+  agrees = agrees_later m.table n.table h t le later after.agrees;
+}
+
+-- ---- A change
+
+pub follows_next : (s : State) (b : Bounds) (h : History) (t : ℕ) (c : Change) → s.bounds ≡ b → s.moment ≡ t → clock h ≤ t → Agrees s h → MayBeNext s c → Follows b h (event_at t c)
+follows_next s b h t c bounds moment late agrees next =
+    subst (λ x. Follows x h (event_at t c)) bounds
+    (subst (λ u. clock h ≤ u → Follows s.bounds h (event_at u c)) moment
+    (λ before. record {
+      later = before;
+      in_range = next.in_range;
+      fits = subst (λ x. Fits s.bounds x c.tuple c.act) agrees next.fits;
+    }) late)
+
+-- the change of an outcome that a machine is ready for follows the history
+pub follows_outcome : {H G E : Type 0} (m : MachineState H G) (b : Bounds) (h : History) (t : ℕ) (r : Result Outcome E) → m.table.bounds ≡ b → m.table.moment ≡ t
+    → IsAfter m h → IfOk r (IsReady m) → IfOk r (λ o. IfSome o.change (λ c. Follows b h (event_at t c)))
+follows_outcome m b h t (Err e) bounds moment after ready = tt
+follows_outcome m b h t (Ok o) bounds moment after ready = by_change o.change ready
+  where
+    by_change : (change : Option Change) → IfSome change (MayBeNext m.table) → IfSome change (λ c. Follows b h (event_at t c))
+    by_change None next = tt
+    by_change (Some c) next = follows_next m.table b h t c bounds moment (subst (λ u. clock h ≤ u) moment after.late) after.agrees next
+
+pub after_change : {H G : Type 0} (m n : MachineState H G) (h : History) (change : Option Change) (c : Change) → change ≡ Some c → m.table.bounds ≡ m.config.limits
+    → IfSome change (MayBeNext m.table) → n.config ≡ m.config → n.table.moment ≡ m.table.moment
+    → (Follows m.table.bounds h (event_at m.table.moment c) → Agrees m.table h → Agrees n.table (h ++ event_at m.table.moment c ∷ []))
+    → IsAfter m h → IsAfter n (h ++ added m.table.moment change)
+after_change m n h change c is limits next config moment applies after =
+    let may : MayBeNext m.table c = subst (λ o. IfSome o (MayBeNext m.table)) is next in
+    let follows : Follows m.table.bounds h (event_at m.table.moment c) = follows_next m.table m.table.bounds h m.table.moment c refl refl after.late after.agrees may in
+    let within : Follows n.config.limits h (event_at m.table.moment c) = subst (λ b. Follows b h (event_at m.table.moment c)) (limits ∙ ap (λ (x : Config). x.limits) (sym config)) follows in
+    let fits : IsFitting n.config.limits h = subst (λ x. IsFitting x.limits h) (sym config) after.fitting in
+    subst (λ o. IsAfter n (h ++ added m.table.moment o)) (sym is) (record {
+      fitting = fitting-join n.config.limits h _ fits (within, tt);
+      late = let last = clock-push h (event_at m.table.moment c) after.late in omega arith;
+      agrees = applies follows after.agrees;
+    })
+
+-- ---- Answers
+
+pub setting_is : {H G : Type 0} (keys : H → Keys) (range : G → ℕ × ℕ) (m : MachineState H G) (config : Config) (handler : H) (ports : G)
+    → config ≡ m.config → handler ≡ m.handler → range ports ≡ range m.ports
+    → ◌≡◌ {A = Setting} (record { config = config; keys = keys handler; range = range ports }) (setting_of keys range m)
+setting_is keys range m config handler ports same_config same_handler same_range =
+    λ j. record { config = same_config j; keys = keys (same_handler j); range = same_range j }
+
+pub answers_along : {E : Type 0} (s z : Setting) (h : History) (t x y n : ℕ) (a b : Arrives) (r : Result Outcome E) → s ≡ z → x ≡ y → a ≡ b
+    → IfOk r (AnswersArrival s h t (has_failed x n) a) → IfOk r (AnswersArrival z h t (has_failed y n) b)
+answers_along s z h t x y n a b r same_s same_x same_a answers =
+    subst (λ w. IfOk r (AnswersArrival w h t (has_failed y n) b)) same_s
+    (subst (λ k. IfOk r (AnswersArrival s h t (has_failed k n) b)) same_x
+    (subst (λ v. IfOk r (AnswersArrival s h t (has_failed x n) v)) same_a answers))

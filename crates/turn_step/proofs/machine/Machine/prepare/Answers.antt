@@ -1,0 +1,53 @@
+use Rattle.std.proofs.Common.{◌≤◌, ap, subst, sym, ◌∙◌}
+use Rattle.std.specs.Prelude.{IfOk}
+use Rattle.turn_history.specs.History.{clock}
+use Rattle.turn_ports.specs.Ports.{has_failed}
+use Rattle.turn_step.specs.Answer.{AnswersArrival}
+use Rattle.turn_step.specs.State.{IsPurged, setting_of}
+use Rattle.turn_step.specs.Views.{arrival_of}
+use Rattle.turn_step.proofs.Machines.{after_later, agrees_later, answers_along, follows_outcome, purged_same, setting_is}
+use Rattle.turn_step.proofs.machine.Machine.prepare.Goals as goal
+use Rattle.turn_step.proofs.machine.Machine.prepare.Given.{Over}
+
+-- ---- A client's
+
+advanced : (g : Over) (c : goal.After-client_step g) → IsPurged c.args.moment c.args.self.now.table c.advance.new.table
+advanced g c = subst (λ s. IsPurged c.args.moment s c.advance.new.table) (ap (λ m. m.table) c.self.view_is) c.advance.ensures.table
+
+later : (g : Over) (c : goal.After-client_step g) → IsPurged c.args.moment c.args.self.now.table c.client_step.new.self.table
+later g c = purged_same c.args.moment c.args.self.now.table c.advance.new.table c.client_step.new.self.table (advanced g c) c.client_step.ensures.table
+
+pub returns-in-Client-clause-after : goal.returns-in-Client-clause-after
+returns-in-Client-clause-after g c h after =
+    after_later c.args.self.now c.client_step.new.self h c.args.moment c.requires (c.client_step.ensures.setting.config ∙ ap (λ m. m.config) c.self.view_is) (later g c) after
+
+pub returns-in-Client-clause-follows : goal.returns-in-Client-clause-follows
+returns-in-Client-clause-follows g c h after =
+    follows_outcome c.client_step.new.self c.args.self.now.config.limits h c.args.moment c.client_step.result
+    ((later g c).bounds ∙ sym (ap (λ m. m.table.bounds) c.self.view_is) ∙ c.self.invariant.1 ∙ ap (λ m. m.config.limits) c.self.view_is)
+    (later g c).moment (returns-in-Client-clause-after g c h after) c.client_step.ensures.ready
+
+pub returns-in-Client-clause-answers : goal.returns-in-Client-clause-answers
+returns-in-Client-clause-answers g c h after =
+    let range = g.G.RelayAddressGenerator.range in
+    answers_along _ _ h c.args.moment _ _ _ _ _ c.client_step.result
+    (setting_is g.H.AuthHandler.key_of range c.args.self.now c.self.inside.config c.self.inside.checker.handler c.advance.new.ports
+    (ap (λ m. m.config) c.self.view_is) (ap (λ m. m.handler) c.self.view_is) (c.advance.ensures.range ∙ ap (λ m. range m.ports) c.self.view_is))
+    (c.advance.ensures.failures ∙ ap (λ m. g.G.RelayAddressGenerator.failures m.ports) c.self.view_is)
+    (sym (ap arrival_of c.in-Client.is))
+    (c.client_step.ensures.answers h (agrees_later c.args.self.now.table c.advance.new.table h c.args.moment c.requires (advanced g c) after.agrees))
+
+-- ---- A peer's
+
+pub returns-in-Peer-clause-after : goal.returns-in-Peer-clause-after
+returns-in-Peer-clause-after g c h after =
+    after_later c.args.self.now _ h c.args.moment c.requires (ap (λ m. m.config) c.self.view_is)
+    (subst (λ s. IsPurged c.args.moment s c.advance.new.table) (ap (λ m. m.table) c.self.view_is) c.advance.ensures.table) after
+
+pub returns-in-Peer-clause-answers : goal.returns-in-Peer-clause-answers
+returns-in-Peer-clause-answers g c h after =
+    let now = returns-in-Peer-clause-after g c h after in
+    let s = setting_of g.H.AuthHandler.key_of g.G.RelayAddressGenerator.range c.args.self.now in
+    let failures = g.G.RelayAddressGenerator.failures in
+    subst (λ a. IfOk c.peer_step.result (AnswersArrival s h c.args.moment (has_failed (failures c.args.self.now.ports) (failures c.advance.new.ports)) a)) (sym (ap arrival_of c.in-Peer.is))
+    (c.peer_step.ensures.answers c.self.inside.config.limits h now.fitting (subst (λ t. clock h ≤ t) c.advance.ensures.table.moment now.late) now.agrees)

@@ -1,0 +1,80 @@
+-- What may be sent and done about an arrival.
+use Rattle.std.specs.Prelude.{◌≡◌, ◌⊎◌, ℕ, Bool, Option, Some, None, option_map, List}
+use Rattle.std.specs.Option.{option_or}
+use Rattle.turn_types.specs.Config.{Config}
+use Rattle.turn_types.specs.declared.address.Endpoint.{Endpoint}
+use Rattle.turn_types.specs.declared.address.FiveTuple.{FiveTuple}
+use Rattle.turn_history.specs.History.{History}
+use Rattle.turn_history.specs.Table.{table}
+use Rattle.turn_codec.specs.Grammar.{Content, Datagram, Spells}
+use Rattle.turn_cred.specs.Credential.{Keys}
+use Rattle.turn_rules.specs.Answer.{Answers, Decided}
+use Rattle.turn_relay.specs.FromClient.{PeerData, SendsToPeer}
+use Rattle.turn_relay.specs.FromPeer.{ClientData, IsForClient, SendsToClient, client_datagram}
+use Rattle.turn_step.specs.Outcome.{Arrives, Outcome, Sent, change_of, decided_for}
+use Rattle.turn_step.specs.Outcome.Arrives.{FromClient, FromPeer}
+use Rattle.turn_step.specs.Outcome.Sent.{ToClient, ToPeer}
+
+-- what stays the same: the configuration, the users' keys, and the first and the last port of the range
+pub record Setting : Type 0 where
+  pub config : Config
+  pub keys : Keys
+  pub range : ℕ × ℕ
+
+-- ---- A client's bytes
+
+abbrev pub undecided : Decided
+undecided = record { reply = None; act = None }
+
+abbrev pub to_client : FiveTuple → Option (List ℕ) → Option Sent
+to_client f reply = option_map (ToClient f) reply
+
+abbrev pub to_peer : Option PeerData → Option Sent
+to_peer relayed = option_map (λ d. ToPeer d.port d.peer d.payload) relayed
+
+-- what is decided about a message, if the bytes spell one: a reply and an act
+pub record Decides (s : Setting) (h : History) (t : ℕ) (failed : Bool) (f : FiveTuple) (bytes : List ℕ) (d : Decided) : Type 0 where
+  pub message : (m : Content) → Spells bytes m → Answers s.config s.keys s.range h t failed f (record { bytes = bytes; content = m }) d
+  pub no_message : ((m : Content) → ¬ Spells bytes m) → d ≡ undecided
+
+-- an outcome is what is decided about a message
+pub record IsDecided (s : Setting) (h : History) (t : ℕ) (failed : Bool) (f : FiveTuple) (d : Datagram) (o : Outcome) : Type 0 where
+  pub decided : Decided
+  pub answers : Answers s.config s.keys s.range h t failed f d decided
+  pub is : o ≡ decided_for f decided
+
+-- a client's bytes are decided about as a message, or send data to a peer as a message or as channel data, or neither
+pub record AnswersClient (s : Setting) (h : History) (t : ℕ) (failed : Bool) (f : FiveTuple) (bytes : List ℕ) (o : Outcome) : Type 0 where
+  pub decided : Decided
+  pub relayed : Option PeerData
+  pub decides : Decides s h t failed f bytes decided
+  pub sends : SendsToPeer (table h t) f bytes relayed
+  pub one : (decided ≡ undecided) ⊎ (relayed ≡ None)
+  pub sent : o.sent ≡ option_or (to_peer relayed) (to_client f decided.reply)
+  pub change : o.change ≡ option_map (change_of f) decided.act
+
+-- ---- A peer's bytes
+
+-- the client's datagram, which says the data with the transaction id
+pub record IsWritten (id : List ℕ) (d : ClientData) (sent : Option Sent) : Type 0 where
+  pub is : sent ≡ Some (ToClient d.five_tuple (client_datagram d id))
+  pub says : IsForClient (client_datagram d id) id d
+
+abbrev pub IsWrittenIfAny : List ℕ → Option ClientData → Option Sent → Type 0
+IsWrittenIfAny id None sent = sent ≡ None
+IsWrittenIfAny id (Some d) sent = IsWritten id d sent
+
+-- a peer's bytes at a relayed port send data to a client, or nothing
+pub record AnswersPeer (h : History) (t port : ℕ) (from : Endpoint) (bytes id : List ℕ) (o : Outcome) : Type 0 where
+  pub relayed : Option ClientData
+  pub sends : SendsToClient (table h t) port from bytes relayed
+  pub written : IsWrittenIfAny id relayed o.sent
+  pub change : o.change ≡ None
+
+-- ---- Both
+
+-- what may be sent and done about an arrival at the moment t after a history; failed: whether the generator of ports
+-- failed
+abbrev pub AnswersArrival : Setting → History → ℕ → Bool → Arrives → Outcome → Type 0
+AnswersArrival s h t failed (FromClient f bytes) o = AnswersClient s h t failed f bytes o
+AnswersArrival s h t failed (FromPeer port from bytes id) o = AnswersPeer h t port from bytes id o

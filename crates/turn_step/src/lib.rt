@@ -1,0 +1,17 @@
+//! One step of a TURN server without sockets and without a store: what an arrival sends, and what it does to the
+//! table (RFC 8656).
+#![tactic(auto)]
+
+mod arrival;
+mod client;
+mod laws;
+mod machine;
+mod peer;
+mod purge;
+mod request;
+mod step;
+
+pub use arrival::{Arrival, Outgoing};
+pub use laws::replies_answer_requests;
+pub use machine::{Machine, Parts};
+pub use step::Step;

@@ -1,0 +1,291 @@
+//! The rules of a server.
+
+ghost use Rattle.std.specs.Prelude.{◌≡◌, ◌≤◌, ◌++◌, IfOk, IfErr, IfSome, OnErr, option_map};
+ghost use Rattle.turn_codec.specs.Grammar.{Datagram};
+ghost use Rattle.turn_history.specs.Fitting.{Follows};
+ghost use Rattle.turn_history.specs.History.{History};
+ghost use Rattle.turn_ports.specs.Ports.{has_failed};
+ghost use Rattle.turn_rules.specs.Laws.{IsMadeOfBytes};
+ghost use Rattle.turn_step.specs.Answer.{AnswersArrival, AnswersClient, IsDecided};
+ghost use Rattle.turn_step.specs.Outcome.{added, event_at};
+ghost use Rattle.turn_step.specs.State.{Answered, CountsOne, IsAfter, IsPurged, IsReady, IsSameTable, KeepsSetting, changed, setting_of};
+ghost use Rattle.turn_step.specs.Views.{arrival_of, sent_of};
+ghost use Rattle.turn_table.specs.Table.{Agrees};
+
+use crate::arrival::{Arrival, Outgoing};
+use crate::client::{read_request, to_peer};
+use crate::peer::peer_step;
+use crate::purge::{advance, release};
+use crate::request::{judge, pick, settle};
+use crate::step::Step;
+use std::alloc::{AllocError, AllocFailed, Allocator, Global};
+use std::marker::Model;
+use turn_codec::Message;
+use turn_cred::{AuthHandler, Checker};
+use turn_history::Act;
+use turn_ports::RelayAddressGenerator;
+use turn_relay::from_client;
+use turn_rules::Request;
+use turn_table::Table;
+use turn_types::{FiveTuple, Moment, ServerConfig};
+
+/// The configuration, the users' keys, the generator of ports and the table of a machine.
+#[derive(Drop)]
+pub struct Parts<H: AuthHandler, G: RelayAddressGenerator, A: Allocator = Global> {
+    pub config: ServerConfig<A>,
+    pub handler: H,
+    pub ports: G,
+    pub table: Table<A>,
+}
+
+/// The rules of a server over its configuration, credentials, ports and table, without sockets and without a store.
+///
+/// Each arrival is one step, in two halves: `prepare` decides and makes all room, and `apply` does what was decided.
+/// Between them a caller who stores acts can write the act. The moments of the steps never go back.
+///
+/// Each port that was picked is released exactly once: when its allocation has expired, by a Refresh of 0, or, if no
+/// allocation came of it, after an allocation failure or by `abandon`.
+#[derive(Drop)]
+pub struct Machine<H: AuthHandler, G: RelayAddressGenerator, A: Allocator = Global> {
+    alloc: A,
+    config: ServerConfig<A>,
+    checker: Checker<H, A>,
+    ports: G,
+    table: Table<A>,
+}
+
+impl<H: AuthHandler, G: RelayAddressGenerator, A: Allocator> Model for Machine<H, G, A> {
+    ghost use Rattle.std.specs.Prelude.{◌≡◌};
+    ghost use Rattle.turn_cred.specs.Credential.{policy_of};
+    ghost use Rattle.std.specs.Coded.{codes};
+    ghost use Rattle.turn_table.specs.State.{state_code};
+    ghost use Rattle.turn_step.specs.State.{MachineState};
+
+    ghost Value = { MachineState H G };
+
+    ghost coded = { Prim.hlevel (codes, state_code) };
+
+    ghost view = { λ m. record { config = m.config; handler = m.checker.handler; ports = m.ports; table = m.table } };
+
+    ghost invariant = { λ m. (m.checker.policy ≡ policy_of m.config) × (m.table.bounds ≡ m.config.limits) };
+}
+
+impl<H: AuthHandler, G: RelayAddressGenerator, A: Allocator + Copy> Machine<H, G, A> {
+    /// A machine over a table with the limits of the configuration. After an allocation failure the error has the parts.
+    pub fn new(
+        alloc: A,
+        config: ServerConfig<A>,
+        handler: H,
+        ports: G,
+        table: Table<A>,
+    ) -> Result<Machine<H, G, A>, AllocFailed<Parts<H, G, A>>>
+        requires { table.bounds ≡ config.limits }
+        ensures ok { IfOk result (λ m. m ≡ record { config = config; handler = handler; ports = ports; table = table }) }
+        ensures err { IfErr result (λ e. e.value ≡ record { config = config; handler = handler; ports = ports; table = table }) }
+    {
+        match Checker::new(alloc, &config, handler) {
+            Ok(checker) => Ok(Machine {
+                alloc,
+                config,
+                checker,
+                ports,
+                table,
+            }),
+            Err(AllocFailed { value: handler }) => Err(AllocFailed {
+                value: Parts {
+                    config,
+                    handler,
+                    ports,
+                    table,
+                },
+            }),
+        }
+    }
+
+    /// The moment of the table.
+    pub fn moment(&self) -> Moment
+        ensures { result ≡ self.now.table.moment }
+    {
+        self.table.moment()
+    }
+
+    pub fn table(&self) -> &Table<A>
+        ensures value { result.now ≡ self.now.table }
+        ensures limits { result.now.bounds ≡ self.now.config.limits }
+    {
+        &self.table
+    }
+
+    pub fn ports(&self) -> &G
+        ensures { result.now ≡ self.now.ports }
+    {
+        &self.ports
+    }
+
+    pub fn config(&self) -> &ServerConfig<A>
+        ensures { result.now ≡ self.now.config }
+    {
+        &self.config
+    }
+
+    pub fn into_parts(self) -> Parts<H, G, A>
+        ensures { record { config = result.config; handler = result.handler; ports = result.ports; table = result.table } ≡ self }
+    {
+        let Machine {
+            config,
+            checker,
+            ports,
+            table,
+            ..
+        } = self;
+        Parts {
+            config,
+            handler: checker.into_handler(),
+            ports,
+            table,
+        }
+    }
+
+    /// The step of a request.
+    fn request_step(
+        &mut self,
+        moment: Moment,
+        five_tuple: FiveTuple,
+        message: Message<'_>,
+    ) -> Result<Step<A>, AllocError>
+        requires now { self.old.table.moment ≡ moment }
+        requires bytes { IsMadeOfBytes message.content }
+        ensures answers { (h : History) (d : Datagram) → Agrees self.old.table h → message.entry ≡ d →
+            IfOk result (IsDecided (setting_of H.key_of G.range self.old) h moment (has_failed (G.failures self.old.ports) (G.failures self.new.ports)) five_tuple d) }
+        ensures ready { IfOk result (IsReady self.new) }
+        ensures table { IsSameTable self.old.table self.new.table }
+        ensures setting { KeepsSetting G.range self.old self.new }
+        ensures count { CountsOne (G.failures self.old.ports) (G.failures self.new.ports) }
+    {
+        let verdict = judge(&mut self.checker, &message, five_tuple.client, moment);
+        let request = Request {
+            message,
+            five_tuple,
+            verdict,
+        };
+        let port = pick(&mut self.ports, &self.table, &self.config, &request, moment)?;
+        let settled = settle(
+            self.alloc,
+            &mut self.table,
+            &self.config,
+            &request,
+            moment,
+            port,
+        );
+        let Ok(step) = settled else {
+            release(&mut self.ports, port);
+            return Err(AllocError);
+        };
+        Ok(step)
+    }
+
+    /// The step of a client's datagram: data to a peer, or a request, or nothing.
+    fn client_step(
+        &mut self,
+        moment: Moment,
+        five_tuple: FiveTuple,
+        bytes: &[u8],
+    ) -> Result<Step<A>, AllocError>
+        requires { self.old.table.moment ≡ moment }
+        ensures answers { (h : History) → Agrees self.old.table h →
+            IfOk result (AnswersClient (setting_of H.key_of G.range self.old) h moment (has_failed (G.failures self.old.ports) (G.failures self.new.ports)) five_tuple bytes.now) }
+        ensures ready { IfOk result (IsReady self.new) }
+        ensures table { IsSameTable self.old.table self.new.table }
+        ensures setting { KeepsSetting G.range self.old self.new }
+        ensures count { CountsOne (G.failures self.old.ports) (G.failures self.new.ports) }
+    {
+        if let Some(data) = from_client(&self.table, five_tuple, bytes, moment) {
+            return Ok(Step::new(None, Some(to_peer(self.alloc, data)?)));
+        }
+        match read_request(bytes) {
+            Some(message) => self.request_step(moment, five_tuple, message),
+            None => Ok(Step::new(None, None)),
+        }
+    }
+
+    /// The first half of a step, at a moment that isn't before the table's: removes what has expired, decides, and makes
+    /// room for the datagram and for the act. After an `Err` the table is at the moment, the ports of the allocations
+    /// that have expired are released, and nothing else has changed. Where the table is at the moment already it isn't
+    /// searched.
+    pub fn prepare(&mut self, moment: Moment, arrival: &Arrival<'_>) -> Result<Step<A>, AllocError>
+        requires { self.old.table.moment ≤ moment }
+
+        ensures answers { (h : History) → IsAfter self.old h →
+            IfOk result (AnswersArrival (setting_of H.key_of G.range self.old) h moment (has_failed (G.failures self.old.ports) (G.failures self.new.ports)) (arrival_of arrival.now)) }
+        ensures ready { IfOk result (IsReady self.new) }
+        ensures follows { (h : History) → IsAfter self.old h → IfOk result (λ s. IfSome s.change (λ c. Follows self.old.config.limits h (event_at moment c))) }
+
+        // After an `Err` too.
+        ensures table { IsPurged moment self.old.table self.new.table }
+        ensures after { (h : History) → IsAfter self.old h → IsAfter self.new h }
+        ensures setting { KeepsSetting G.range self.old self.new }
+        ensures count { CountsOne (G.failures self.old.ports) (G.failures self.new.ports) }
+    {
+        advance(&mut self.table, &mut self.ports, moment);
+        match *arrival {
+            Arrival::Client { five_tuple, bytes } => self.client_step(moment, five_tuple, bytes),
+            Arrival::Peer {
+                port,
+                from,
+                bytes,
+                id,
+            } => peer_step(self.alloc, &self.table, port, from, bytes, id, moment),
+        }
+    }
+
+    /// The second half, which can't be refused: does the act, releases the port of an allocation that it deletes, and
+    /// returns the datagram that is to be sent. The step is the last one that was prepared.
+    pub fn apply(&mut self, step: Step<A>) -> Option<Outgoing<A>>
+        requires { IsReady self.old step }
+        ensures sent { option_map sent_of result ≡ step.sent }
+        ensures table { self.new.table ≡ changed self.old.table step.change }
+        ensures after { (h : History) → IsAfter self.old h → IsAfter self.new (h ++ added self.old.table.moment step.change) }
+        ensures setting { KeepsSetting G.range self.old self.new }
+        ensures count { G.failures self.new.ports ≡ G.failures self.old.ports }
+    {
+        let (act, outgoing) = step.into_parts();
+        if let Some((five_tuple, act)) = act {
+            let moment = self.table.moment();
+            let freed = self.table.apply(moment, five_tuple, act);
+            release(&mut self.ports, freed);
+        }
+        outgoing
+    }
+
+    /// In place of the second half: releases the port that was picked for the act, if one was. The table is as after the
+    /// first half.
+    pub fn abandon(&mut self, step: Step<A>)
+        ensures table { self.new.table ≡ self.old.table }
+        ensures setting { KeepsSetting G.range self.old self.new }
+        ensures count { G.failures self.new.ports ≡ G.failures self.old.ports }
+    {
+        let (act, _) = step.into_parts();
+        if let Some((_, Act::Alloc { port, .. })) = act {
+            self.ports.release(port);
+        }
+    }
+
+    /// Both halves. After an `Err` as after one of `prepare`.
+    pub fn step(
+        &mut self,
+        moment: Moment,
+        arrival: &Arrival<'_>,
+    ) -> Result<Option<Outgoing<A>>, AllocError>
+        requires { self.old.table.moment ≤ moment }
+        ensures answers { (h : History) → IsAfter self.old h → IfOk result (λ out.
+            Answered (setting_of H.key_of G.range self.old) self.new h moment (has_failed (G.failures self.old.ports) (G.failures self.new.ports)) (arrival_of arrival.now) (option_map sent_of out)) }
+        ensures memory { OnErr result (IsPurged moment self.old.table self.new.table) }
+        ensures memory_after { (h : History) → IsAfter self.old h → OnErr result (IsAfter self.new h) }
+        ensures moment { self.new.table.moment ≡ moment }
+        ensures setting { KeepsSetting G.range self.old self.new }
+        ensures count { CountsOne (G.failures self.old.ports) (G.failures self.new.ports) }
+    {
+        let step = self.prepare(moment, arrival)?;
+        Ok(self.apply(step))
+    }
+}
