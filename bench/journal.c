@@ -1,4 +1,4 @@
-// The device calls of a journal's appends, by hand: the frame behind its gate, a sync, the gate, a sync.
+// The device calls of a journal's appends, by hand: the frame after its gate, a sync, the gate, a sync.
 // Words: FILE APPENDS BYTES.
 #define _GNU_SOURCE
 #include <fcntl.h>

@@ -29,7 +29,7 @@ static double now(void) {
     return t.tv_sec * 1e9 + t.tv_nsec;
 }
 
-/* Runs `call` count times, and gives the nanoseconds of one, the least of five runs. */
+/* Runs `call` count times, and returns the nanoseconds of one, the best of five runs. */
 static double measure(void (*call)(void), long count) {
     double best = 1e300;
     for (int round = 0; round < ROUNDS; round++) {
@@ -67,7 +67,7 @@ static void fingerprint(void) { sink += bench_fingerprint(request, REQUEST + 24 
 
 static void set16(uint8_t *at, unsigned n) { at[0] = n >> 8, at[1] = n; }
 
-/* A request of 164 bytes with a MESSAGE-INTEGRITY behind it, and then a FINGERPRINT. */
+/* A request of 164 bytes with a MESSAGE-INTEGRITY after it, and then a FINGERPRINT. */
 static void make_request(void) {
     static const uint8_t head[8] = {0, 3, 0, 0, 0x21, 0x12, 0xA4, 0x42};
     memcpy(request, head, 8);
@@ -108,7 +108,7 @@ int main(void) {
     double two = measure(digests, 200000), one = measure(hmac, 200000);
     printf("two SHA-1 digests of %d bytes   %8.0f ns\n", REQUEST, two);
     printf("HMAC-SHA1 of %d bytes           %8.0f ns   %.2f of the two digests\n", REQUEST, one, one / two);
-    printf("integrity_holds behind %d bytes %8.0f ns\n", REQUEST, measure(integrity, 200000));
+    printf("integrity_holds after %d bytes  %8.0f ns\n", REQUEST, measure(integrity, 200000));
     printf("CRC-32 of %d bytes              %8.0f ns\n", REQUEST, measure(crc, 1000000));
     add_fingerprint();
     if (!bench_fingerprint(request, REQUEST + 32)) {

@@ -1,56 +1,51 @@
 //! Appends over a file, timed. Words: FILE APPENDS BYTES. Without words it does nothing.
 #![tactic(auto)]
 
-use std::io::ErrorKind;
-use std::rt::{Clock, Files};
-use std::time::Instant;
+use bench_time::{Measured, number, time};
 use std::{env, fs, io};
 use turn_disk::{Disk, FileDisk};
-use turn_journal::Journal;
+use turn_journal::{Area, Journal};
 
-fn number(words: &[String], index: usize) -> usize {
-    match words.get(index) {
-        Some(word) => word.parse().unwrap_or(0),
-        None => 0,
-    }
+/// An append of a payload.
+#[derive(Drop)]
+struct Append<'a> {
+    journal: &'a mut Journal,
+    disk: &'a mut FileDisk,
+    payload: &'a [u8],
 }
 
-// How many of so many appends end well.
-fn append_all(
-    journal: &mut Journal,
-    disk: &mut FileDisk<fs::File>,
-    payload: &[u8],
-    appends: usize,
-) -> usize {
-    let mut done = 0usize;
-    for _ in 0..appends {
-        if journal.start() + journal.size() > disk.size() || payload.len() > journal.greatest() {
-            return done;
+impl Measured for Append<'_> {
+    fn make(&mut self) -> bool {
+        let end = self.journal.start() + self.journal.size();
+        if self.disk.size() < end || self.journal.max_payload() < self.payload.len() {
+            return false;
         }
-        if journal.append(disk, payload).is_ok() {
-            done = done.wrapping_add(1);
-        }
+        self.journal.append(self.disk, self.payload).is_ok()
     }
-    done
 }
 
 fn measure(
     rt: &HostRuntime,
     pass: &str,
     journal: &mut Journal,
-    disk: &mut FileDisk<fs::File>,
+    disk: &mut FileDisk,
     payload: &[u8],
     appends: usize,
 ) -> io::Result<()> {
     if journal.size() > 0 && journal.start() == 0 {
         journal.move_to(0, 0);
     }
-    let start = Instant::now(rt)?;
-    let done = append_all(journal, disk, payload, appends);
-    let spent = start.elapsed(rt)?.as_micros();
+    let mut append = Append {
+        journal,
+        disk,
+        payload,
+    };
+    let timing = time(rt, &mut append, appends)?;
     println!(rt;
-        "{pass}: {done} appends in {spent} us, {} failures",
-        disk.failures()
+        "{pass}: {} appends in {} us, {} failures",
+        timing.done,
+        timing.micros,
+        append.disk.failures()
     )
 }
 
@@ -61,25 +56,24 @@ fn main(rt: HostRuntime) -> io::Result<()> {
     };
     let appends = number(words.as_slice(), 2).min(1_000_000);
     let bytes = number(words.as_slice(), 3).min(65_536);
-    let size = appends * (bytes + 5) + 1;
+    let area = Area {
+        start: 0,
+        size: appends * (bytes + 5) + 1,
+        max_payload: bytes,
+        end: 0,
+    };
     let payload = Vec::from_elem(rt.alloc(), 7u8, bytes)?;
-    let mut disk = FileDisk::create(&rt, path.as_str(), size)?;
-    let mut journal = Journal::new(rt.alloc(), 0, size, bytes, 0)?;
-    measure(
-        &rt,
-        "new file",
-        &mut journal,
-        &mut disk,
-        payload.as_slice(),
-        appends,
-    )?;
-    measure(
-        &rt,
-        "written before",
-        &mut journal,
-        &mut disk,
-        payload.as_slice(),
-        appends,
-    )?;
+    let mut disk = FileDisk::create(&rt, path.as_str(), area.size)?;
+    let mut journal = Journal::new(rt.alloc(), area)?;
+    for pass in ["new file", "written before"] {
+        measure(
+            &rt,
+            pass,
+            &mut journal,
+            &mut disk,
+            payload.as_slice(),
+            appends,
+        )?;
+    }
     fs::remove_file(&rt, path.as_str())
 }

@@ -46,7 +46,7 @@ left_image outcome (Wrote at count ∷ calls) replaced content is =
           ∙ ⊎_elim (λ (low : i < at). front_is at old content fits i low) (λ (high : at + count ≤ i). back_is at old content fits i (omega (arith, old_size))) out.0;
     }
 
--- One write, the newest: it was taken back, the older ones left their parts, and it leaves its own. In the meantime its bytes stood in the record.
+-- One write, the newest: it was undone, the older ones left their parts, and it leaves its own. In the meantime its bytes were in the record.
 module _ (outcome : Outcome) (calls older : List Call) (at count kept : ℕ) (content replaced : List ℕ)
     (calls_are : calls ≡ older ++ Wrote at count ∷ []) (fits : kept ≤ length replaced) (is : IsRecord (reverse calls) kept (length content))
     (taken_back exchanged : List ℕ) (taken_back_is : taken_back ≡ replaced_at at (take count (drop (kept - count) replaced)) content)
@@ -66,7 +66,7 @@ module _ (outcome : Outcome) (calls older : List Call) (at count kept : ℕ) (co
   kept_back : kept - count + count ≡ kept
   kept_back = omega (arith, within.0)
 
-  -- in front of its bytes, its bytes, and behind them
+  -- before its bytes, its bytes, and after them
   front : take (kept - count) exchanged ≡ take (kept - count) (take kept replaced)
   front = ap (λ (l : List ℕ). take (kept - count) l) exchanged_is ∙ take_front (kept - count) _ replaced exchange_fits
       ∙ sym (take-take (kept - count) kept replaced (omega arith))
@@ -76,8 +76,8 @@ module _ (outcome : Outcome) (calls older : List Call) (at count kept : ℕ) (co
       ∙ ap (λ (l : List ℕ). take count l) (drop_front (kept - count) (take count (drop at content)) replaced exchange_fits)
       ∙ take_at (take count (drop at content)) _ count wrote_size
 
-  pub behind : drop kept exchanged ≡ drop kept replaced
-  behind =
+  pub rest_is : drop kept exchanged ≡ drop kept replaced
+  rest_is =
       let there : kept - count + length (take count (drop at content)) ≡ kept = omega (arith, wrote_size, within.0) in
       ap (λ (l : List ℕ). drop kept l) exchanged_is
       ∙ subst (λ (n : ℕ). drop n (replaced_at (kept - count) (take count (drop at content)) replaced) ≡ drop n replaced) there (drop_back (kept - count) (take count (drop at content)) replaced exchange_fits)
@@ -95,10 +95,10 @@ module _ (outcome : Outcome) (calls older : List Call) (at count kept : ℕ) (co
       ap (λ (cs : List Call). left_of outcome (pending_of cs) (past_of cs (take kept replaced) content) content) newest
       ∙ ap (λ (n : ℕ). after (take (n - count) (take kept replaced)) (replaced_at at (drop (n - count) (take kept replaced)) content)) all
 
-  pub behind_older : (later : List ℕ) → drop (kept - count) later ≡ drop (kept - count) exchanged → drop kept later ≡ drop kept replaced
-  behind_older later same =
+  pub rest_of_older : (later : List ℕ) → drop (kept - count) later ≡ drop (kept - count) exchanged → drop kept later ≡ drop kept replaced
+  rest_of_older later same =
       let cut : (l : List ℕ) → drop kept l ≡ drop count (drop (kept - count) l) = λ l. ap (λ (n : ℕ). drop n l) (sym kept_back ∙ omega arith) ∙ sym (drop-drop count (kept - count) l) in
-      cut later ∙ ap (λ (l : List ℕ). drop count l) same ∙ sym (cut exchanged) ∙ behind
+      cut later ∙ ap (λ (l : List ℕ). drop count l) same ∙ sym (cut exchanged) ∙ rest_is
 
   pub one_left : (later left new : List ℕ) → drop (kept - count) later ≡ drop (kept - count) exchanged
       → left ≡ left_by outcome (trace_of older (take (kept - count) exchanged) taken_back)

@@ -44,7 +44,7 @@ module _ (at : ℕ) (bytes content : List ℕ) (fits : at + length bytes ≤ len
   here : length (take at content) ≡ at
   here = omega (arith, length-take at content)
 
-  -- what stands in front of the bytes, the bytes, and what stands behind them
+  -- what is before the bytes, the bytes, and what is after them
   pub take_front : take at (replaced_at at bytes content) ≡ take at content
   take_front = ap (λ (l : List ℕ). take at l) (append_assoc (take at content) bytes _) ∙ take_at (take at content) _ at here
 

@@ -1,8 +1,7 @@
 -- The count of failures.
 use Rattle.std.specs.Prelude.{◌≡◌, ◌+◌, ◌%◌, ◌^◌, ℕ, Result, MatchResult}
 
--- One call more has failed. The count has 64 bits, and 0 comes behind its greatest value, so that one
--- more is always another number.
+-- One call more has failed. The count has 64 bits and wraps, so that one more is always another number.
 abbrev pub Rises : ℕ → ℕ → Type 0
 Rises old new = new ≡ (old + 1) % 2 ^ 64
 

@@ -4,7 +4,7 @@ use Rattle.turn_disk.specs.Disk.{Range, State, Trace}
 use Rattle.turn_disk.specs.declared.outcome.Outcome.{Outcome}
 use Rattle.turn_disk.specs.declared.outcome.Outcome.TheVariants.{Lost, Kept, Half, Fill}
 
--- these bytes in place of those that stood there
+-- the content with these bytes from this position on
 abbrev pub replaced_at : ℕ → List ℕ → List ℕ → List ℕ
 replaced_at at bytes content = take at content ++ bytes ++ drop (at + length bytes) content
 
@@ -17,8 +17,8 @@ part_of Half bytes = take (length bytes / 2) bytes
 part_of (Fill byte) bytes = replicate (length bytes) byte
 
 -- The pending writes leave their parts in the order in which they were made, over the bytes of the last
--- sync. So where two of them overlap, the newer one's part stands over the older one's. The state inside a
--- write has the bytes that stood there before it.
+-- sync. So where two of them overlap, the newer one's part covers the older one's. The state inside a
+-- write has the bytes from before it.
 abbrev pub left_of : Outcome → List Range → List State → List ℕ → List ℕ
 left_of outcome [] past bytes = bytes
 left_of outcome (range ∷ ranges) [] bytes = bytes

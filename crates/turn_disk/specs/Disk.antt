@@ -1,4 +1,4 @@
--- A disk of fixed size: what a read gives, what a stop may leave of it, and when a stop may fall.
+-- A disk of fixed size: what a read returns, what a stop may leave of it, and when a stop may fall.
 use Rattle.std.specs.Prelude.{◌≡◌, ◌⊎◌, ◌∷◌, ◌++◌, ◌<◌, ◌≤◌, ◌+◌, [], List, ℕ, Result, MatchResult, length, slice_index}
 
 -- so many positions, from here on
@@ -6,7 +6,7 @@ pub record Range : Type 0 where
   pub at : ℕ
   pub count : ℕ
 
--- What a read gives, and what was written since the last sync, the newest write first. A range that was
+-- What a read returns, and what was written since the last sync, the newest write first. A range that was
 -- written is pending.
 pub record State : Type 0 where
   pub bytes : List ℕ
@@ -29,7 +29,7 @@ pub record IsImage (state : State) (image : List ℕ) : Type 0 where
   pub size : length image ≡ length state.bytes
   pub same : (i : ℕ) → IsOutside state.pending i → slice_index image i ≡ slice_index state.bytes i
 
--- these bytes stand there
+-- the content has these bytes from this position on
 abbrev pub StandsAt : ℕ → List ℕ → List ℕ → Type 0
 StandsAt at bytes content = (i : ℕ) → i < length bytes → slice_index content (at + i) ≡ slice_index bytes i
 

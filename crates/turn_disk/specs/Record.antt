@@ -11,7 +11,7 @@ pending_of [] = []
 pending_of (Wrote at count ∷ calls) = record { at = at; count = count } ∷ pending_of calls
 pending_of (Synced ∷ calls) = []
 
--- the states inside these calls; what a write replaced stands at the end of replaced
+-- the states inside these calls; the newest write's replaced bytes are the last of replaced
 abbrev pub past_of : List Call → List ℕ → List ℕ → List State
 past_of [] replaced content = []
 past_of (Wrote at count ∷ calls) replaced content =

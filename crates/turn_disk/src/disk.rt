@@ -4,8 +4,11 @@ ghost use Rattle.std.specs.Prelude.{◌≡◌, ◌+◌, ◌≤◌, ◌↔◌, �
 ghost use Rattle.turn_disk.specs.Counts.{CountOutcome};
 ghost use Rattle.turn_disk.specs.Disk.{Trace, WriteOutcome, SyncOutcome};
 
+use thiserror::Error;
+
 /// A device call that failed.
-#[derive(Clone, Copy, Debug, PartialEq, Eq)]
+#[derive(Clone, Copy, Debug, PartialEq, Eq, Error)]
+#[error("a device call failed")]
 pub struct DeviceFailed;
 
 /// A disk of fixed size. Positions are counted in bytes from its first one.
@@ -21,7 +24,7 @@ pub trait Disk {
     /// That it keeps what was synced: the clauses that begin with this hold of such a disk alone.
     ghost is_honest: { Self → Type 0 };
 
-    /// What a read gives, and what a stop may leave, now and inside each device call so far.
+    /// What a read returns, and what a stop may leave, now and inside each device call so far.
     ghost trace: { Self → Trace };
 
     fn size(&self) -> usize
@@ -31,7 +34,7 @@ pub trait Disk {
     fn failures(&self) -> u64
         ensures { result ≡ failed self.now };
 
-    /// Fills the buffer with what stands from this position on. After a failure the buffer may hold anything.
+    /// Fills the buffer with the bytes from this position on. After a failure the buffer may hold anything.
     fn read_at(&mut self, at: usize, buffer: &mut [u8]) -> Result<(), DeviceFailed>
         requires { at + length buffer.old ≤ capacity self.old }
         ensures size { capacity self.new ≡ capacity self.old }
@@ -49,7 +52,7 @@ pub trait Disk {
         ensures honest { is_honest self.new ↔ is_honest self.old }
         ensures outcome { is_honest self.old → WriteOutcome at bytes.now (trace self.old) (trace self.new) result };
 
-    /// Puts all that is pending on the disk.
+    /// Makes all that is pending durable.
     fn sync(&mut self) -> Result<(), DeviceFailed>
         ensures size { capacity self.new ≡ capacity self.old }
         ensures count { CountOutcome (failed self.old) (failed self.new) result }

@@ -4,9 +4,9 @@ use std::cell::Cell;
 
 #[derive(Drop)]
 pub struct Faults {
-    // How many calls go well before one that fails.
+    // How many calls succeed before one that fails.
     fail: Cell<Option<u64>>,
-    // How many calls go well before those that fail, which are all from there on.
+    // How many calls succeed before all later ones fail.
     stop: Cell<Option<u64>>,
 }
 
@@ -18,7 +18,7 @@ impl Faults {
         }
     }
 
-    /// In place of a failure that is still to come.
+    /// Replaces a failure that is still to come.
     pub fn fail_after(&self, calls: u64) {
         self.fail.set(Some(calls));
     }
@@ -37,8 +37,8 @@ impl Faults {
         self.stop.set(None);
     }
 
-    /// Counts one device call, and says whether it fails.
-    pub fn strikes(&self) -> bool {
+    /// Counts one device call, and returns whether it fails.
+    pub fn next_call_fails(&self) -> bool {
         let fail = self.fail.get();
         let stop = self.stop.get();
         self.fail.set(fail.and_then(|calls| calls.checked_sub(1)));

@@ -12,7 +12,7 @@ use std::os::unix::fs::FileExt;
 
 /// A disk over a file, as large as the file is when it is opened.
 ///
-/// Reads and writes go on after a short count or an interruption; each other error is a failed call.
+/// Reads and writes continue after a short count or an interruption; each other error is a failed call.
 #[derive(Drop)]
 pub struct FileDisk<F: FileExt + OpenFile = File> {
     file: F,
@@ -42,7 +42,7 @@ impl<F: FileExt + OpenFile> FileDisk<F> {
 }
 
 impl FileDisk<File> {
-    /// Makes the file anew, with so many zero bytes. What stood in a file of that name is gone.
+    /// Makes the file anew, with so many zero bytes. The content of a file of that name is lost.
     pub fn create<R: Files<File = File>>(
         files: &R,
         path: &str,
@@ -58,7 +58,7 @@ impl FileDisk<File> {
         Ok(FileDisk::new(file, size))
     }
 
-    /// Opens a file that is there.
+    /// Opens an existing file.
     pub fn open<R: Files<File = File>>(files: &R, path: &str) -> io::Result<FileDisk<File>>
         ensures failures { IfOk result (λ disk. disk.failures ≡ 0) }
     {

@@ -7,7 +7,7 @@ pub fn a_risen_count_differs()
     ensures { ARisenCountDiffers }
 {}
 
-/// Where nothing is pending, a stop leaves the content.
+/// Where nothing is pending, a stop leaves the content as it is.
 pub fn a_settled_disk_has_one_image()
     ensures { ASettledDiskHasOneImage }
 {}

@@ -1,8 +1,8 @@
 //! Disks of fixed size, and what a stop may leave of them.
 //!
-//! An honest disk keeps what was synced; of what was written since, a stop may leave anything. `MemoryDisk` is honest,
-//! and `write_through` and `write_produced` carry what follows for a write and a sync together, so that the layers
-//! above speak of bytes alone.
+//! An honest disk keeps what was synced; of what was written since, a stop may leave anything. `MemoryDisk` is honest.
+//! `write_through` and `write_produced` state what this means for a write with its sync, so that the layers above have to
+//! do with bytes alone.
 #![tactic(auto)]
 
 mod call;
@@ -16,8 +16,6 @@ mod memory_disk;
 mod outcome;
 mod produced;
 mod reads;
-#[cfg(test)]
-mod tests;
 mod writes;
 
 pub use disk::{DeviceFailed, Disk};

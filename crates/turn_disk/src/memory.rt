@@ -1,5 +1,5 @@
-//! Bytes in memory, with a record of each write and sync. Of a write it keeps what it replaced, so that the states
-//! inside all calls can be told, and so that a crash can go back to the last sync.
+//! Bytes in memory, with a record of each write and sync. The bytes that a write replaces are kept, so that the record
+//! determines the states inside all calls, and so that a crash can go back to the last sync.
 
 ghost use Rattle.std.specs.Prelude.{◌≡◌, ◌+◌, ◌-◌, ◌≤◌, ◌++◌, [], ◌∷◌, length, reverse, take, drop, OnOk, OnErr};
 ghost use Rattle.turn_disk.specs.Crash.{part_of, replaced_at, left_by};
@@ -60,7 +60,7 @@ impl<A: Allocator> Memory<A> {
         buffer.copy_from_slice(&self.content[at..at + count]);
     }
 
-    /// Where the record finds no room, nothing changes.
+    /// Writes and records it. Where the record finds no memory, nothing changes.
     pub fn write(&mut self, at: usize, bytes: &[u8]) -> Result<(), AllocError>
         requires { at + length bytes.now ≤ length self.old.now.bytes }
         ensures written { OnOk result (Writes at bytes.now self.old self.new) }
@@ -72,7 +72,7 @@ impl<A: Allocator> Memory<A> {
         Ok(())
     }
 
-    /// Where the record finds no room, nothing changes.
+    /// Records a sync. Where the record finds no memory, nothing changes.
     pub fn sync(&mut self) -> Result<(), AllocError>
         ensures synced { OnOk result (Syncs self.old self.new) }
         ensures refused { OnErr result (self.new ≡ self.old) }
@@ -158,8 +158,8 @@ fn put_part<A: Allocator>(content: &mut Vec<u8, A>, at: usize, bytes: &[u8], out
     }
 }
 
-// Takes back the writes since the last sync, the newest first, and puts their parts in their place, the oldest first.
-// While it does so, a write's own bytes stand where those that it replaced stood.
+// Undoes the writes since the last sync, the newest first, and then puts in the part that each leaves, the oldest first.
+// In the meantime `replaced` holds the bytes that a write wrote in place of those that it replaced.
 fn leave<A: Allocator>(
     content: &mut Vec<u8, A>,
     replaced: &mut Vec<u8, A>,

@@ -14,8 +14,8 @@ use std::marker::Model;
 
 /// A disk in memory.
 ///
-/// It records its writes and syncs. A call whose record finds no room fails and changes nothing. A write that fails by
-/// `fail_call` or `stop_at` leaves all the bytes that it was to write, pending, and reads give them at once.
+/// It records its writes and syncs. A call whose record finds no memory fails and changes nothing. A write that fails by
+/// `fail_call` or `stop_at` leaves all the bytes that it was to write, pending, and reads return them at once.
 #[derive(Drop)]
 pub struct MemoryDisk<A: Allocator = Global> {
     memory: Memory<A>,
@@ -62,7 +62,7 @@ impl<A: Allocator> MemoryDisk<A> {
         self.faults.stop_after(call - 1);
     }
 
-    /// The disk becomes the image that the outcome names, nothing is pending, and no call is to fail any longer.
+    /// The disk becomes the image that the outcome names, nothing is pending, and failures that are still to come are cancelled.
     pub fn crash(&mut self, outcome: Outcome)
         ensures left { self.new.trace.now ≡ record { bytes = left_by outcome self.old.trace; pending = [] } }
         ensures image { IsImage self.old.trace.now self.new.trace.now.bytes }
@@ -73,7 +73,7 @@ impl<A: Allocator> MemoryDisk<A> {
         self.memory.crash(outcome);
     }
 
-    /// What reads give.
+    /// What reads return.
     pub fn content(&self) -> &[u8]
         ensures { result.now ≡ self.now.trace.now.bytes }
     {
@@ -103,7 +103,7 @@ impl<A: Allocator> Disk for MemoryDisk<A> {
     }
 
     fn read_at(&mut self, at: usize, buffer: &mut [u8]) -> Result<(), DeviceFailed> {
-        if self.faults.strikes() {
+        if self.faults.next_call_fails() {
             return Err(raise(&mut self.failures));
         }
         self.memory.read(at, buffer);
@@ -111,7 +111,7 @@ impl<A: Allocator> Disk for MemoryDisk<A> {
     }
 
     fn write_at(&mut self, at: usize, bytes: &[u8]) -> Result<(), DeviceFailed> {
-        let fails = self.faults.strikes();
+        let fails = self.faults.next_call_fails();
         let Ok(()) = self.memory.write(at, bytes) else {
             return Err(raise(&mut self.failures));
         };
@@ -122,7 +122,7 @@ impl<A: Allocator> Disk for MemoryDisk<A> {
     }
 
     fn sync(&mut self) -> Result<(), DeviceFailed> {
-        if self.faults.strikes() {
+        if self.faults.next_call_fails() {
             return Err(raise(&mut self.failures));
         }
         let Ok(()) = self.memory.sync() else {

@@ -8,15 +8,15 @@ use crate::disk::{DeviceFailed, Disk};
 use crate::writes::write_within;
 use std::marker::Model;
 
-/// The greatest number of bytes of a device call of `write_produced`.
+/// The max number of bytes of a device call of `write_produced`.
 pub const PIECE: usize = 4096;
 
-/// What gives bytes, a piece at a time.
+/// A source of bytes, which come a piece at a time.
 pub trait Producer {
-    /// The bytes that it is still to give.
+    /// The bytes that are still to come.
     ghost rest: { Self → List ℕ };
 
-    /// Puts the next bytes to the front of the piece, and says how many; none only at the end.
+    /// Puts the next bytes at the front of the piece, and returns how many; 0 only at the end.
     fn next(&mut self, piece: &mut [u8]) -> usize
         ensures small { result ≤ length piece.old }
         ensures len { length piece.new ≡ length piece.old }
@@ -24,7 +24,7 @@ pub trait Producer {
         ensures ends { result ≡ 0 → 0 < length piece.old → rest self.new ≡ [] };
 }
 
-/// Gives the bytes of a slice.
+/// Produces the bytes of a slice.
 #[derive(Drop)]
 pub struct Bytes<'a> {
     rest: &'a [u8],
@@ -56,7 +56,7 @@ impl<'a> Producer for Bytes<'a> {
     }
 }
 
-/// Gives what one gives and then what the other gives.
+/// Produces the bytes of the first producer, and then those of the second.
 #[derive(Drop)]
 pub struct Chain<A: Producer, B: Producer> {
     pub first: A,
@@ -78,7 +78,7 @@ impl<A: Producer, B: Producer> Producer for Chain<A, B> {
     }
 }
 
-// Fills a piece as far as the producer gives.
+// Fills the piece, or as much of it as the producer has bytes for.
 fn fill_piece<P: Producer>(producer: &mut P, piece: &mut [u8; PIECE]) -> usize
     ensures small { result ≤ 4096 }
     ensures len { length piece.new ≡ 4096 }
@@ -90,7 +90,7 @@ fn fill_piece<P: Producer>(producer: &mut P, piece: &mut [u8; PIECE]) -> usize
         if size == PIECE {
             return size;
         }
-        let given = give(producer, piece, size);
+        let given = extend_piece(producer, piece, size);
         if given == 0 {
             return size;
         }
@@ -98,8 +98,8 @@ fn fill_piece<P: Producer>(producer: &mut P, piece: &mut [u8; PIECE]) -> usize
     }
 }
 
-// Lets the producer give behind what the piece has.
-fn give<P: Producer>(producer: &mut P, piece: &mut [u8; PIECE], size: usize) -> usize
+// Lets the producer add to the first `size` bytes of the piece.
+fn extend_piece<P: Producer>(producer: &mut P, piece: &mut [u8; PIECE], size: usize) -> usize
     requires { size < 4096 }
     ensures small { result ≤ 4096 - size }
     ensures len { length piece.new ≡ 4096 }
@@ -109,7 +109,7 @@ fn give<P: Producer>(producer: &mut P, piece: &mut [u8; PIECE], size: usize) -> 
     producer.next(&mut piece[size..])
 }
 
-/// Writes all that the producer gives, in pieces of at most 4,096 bytes, and then syncs.
+/// Writes all bytes of the producer, in pieces of at most 4,096 bytes, and then syncs.
 pub fn write_produced<D: Disk, P: Producer>(
     disk: &mut D,
     at: usize,

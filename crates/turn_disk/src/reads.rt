@@ -6,7 +6,7 @@ ghost use Rattle.turn_disk.specs.Disk.{StandsAt};
 
 use crate::disk::{DeviceFailed, Disk};
 
-/// The bytes that stand from this position on, in one device call.
+/// Reads the bytes from this position on, in one device call.
 pub fn read_array<D: Disk, const N: usize>(disk: &mut D, at: usize) -> Result<[u8; N], DeviceFailed>
     requires { at + N ≤ D.capacity disk.old }
     ensures size { D.capacity disk.new ≡ D.capacity disk.old }

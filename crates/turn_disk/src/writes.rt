@@ -1,4 +1,4 @@
-//! Writes, with what a stop at any moment of them may leave. What is pending is spoken of here and nowhere above.
+//! Writes, with what a stop at any moment of them may leave. Crates above use these clauses, and never what is pending.
 
 ghost use Rattle.std.specs.Prelude.{◌≡◌, ◌+◌, ◌≤◌, ◌↔◌, ℕ, List, length, OnOk};
 ghost use Rattle.turn_disk.specs.Counts.{CountOutcome};

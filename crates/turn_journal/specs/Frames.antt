@@ -13,46 +13,46 @@ IsOpen gate content = slice_index content gate ≡ open_gate
 abbrev pub IsClosed : ℕ → List ℕ → Type 0
 IsClosed gate content = slice_index content gate ≢ open_gate
 
--- what stands behind a frame's gate: the payload's length in 4 bytes, the highest first, and the payload
+-- what follows a frame's gate: the payload's length in 4 bytes, the highest first, and the payload
 unfoldable pub framed : List ℕ → List ℕ
 framed payload = to_be_bytes w32 (length payload) ++ payload
 
--- A frame with this payload stands at this gate, which is open.
+-- A frame with this payload is at this gate, which is open.
 pub record IsFrame (gate : ℕ) (payload content : List ℕ) : Type 0 where
   pub is_open : IsOpen gate content
   pub short : length payload < 2 ^ 32
   pub stands : StandsAt (gate + 1) (framed payload) content
 
--- the gate behind a frame with this payload
-abbrev pub gate_behind : ℕ → List ℕ → ℕ
-gate_behind gate payload = gate + 5 + length payload
+-- the gate after a frame with this payload
+abbrev pub gate_after : ℕ → List ℕ → ℕ
+gate_after gate payload = gate + 5 + length payload
 
--- From this gate on stand frames with these payloads, each at the gate behind the one before, and then a
--- closed gate in front of the limit. Whatever stands behind that one doesn't count.
+-- From this gate on there are frames with these payloads, each at the gate after the one before, and then a
+-- closed gate before the limit. Whatever follows that one doesn't count.
 abbrev pub HoldsFrames : ℕ → List (List ℕ) → ℕ → List ℕ → Type 0
 HoldsFrames gate [] limit content = (gate < limit) × IsClosed gate content
 HoldsFrames gate (payload ∷ payloads) limit content =
-    IsFrame gate payload content × HoldsFrames (gate_behind gate payload) payloads limit content
+    IsFrame gate payload content × HoldsFrames (gate_after gate payload) payloads limit content
 
--- the gate behind frames with these payloads
+-- the gate after frames with these payloads
 abbrev pub last_gate : ℕ → List (List ℕ) → ℕ
 last_gate gate [] = gate
-last_gate gate (payload ∷ payloads) = last_gate (gate_behind gate payload) payloads
+last_gate gate (payload ∷ payloads) = last_gate (gate_after gate payload) payloads
 
--- the frames, and where the closed gate behind them stands
+-- the frames, and the position of the closed gate after them
 pub record HoldsFramesTo (from : ℕ) (payloads : List (List ℕ)) (gate limit : ℕ) (content : List ℕ) : Type 0 where
   pub frames : HoldsFrames from payloads limit content
   pub ends : last_gate from payloads ≡ gate
 
--- A frame with this payload waits behind this gate: it counts once the gate is open. The gate behind it is
--- closed, and in front of the limit.
+-- A frame with this payload waits after this gate: it counts once the gate is open. The gate after the frame
+-- is closed, and before the limit.
 pub record IsWaiting (gate : ℕ) (payload : List ℕ) (limit : ℕ) (content : List ℕ) : Type 0 where
   pub short : length payload < 2 ^ 32
   pub stands : StandsAt (gate + 1) (framed payload) content
-  pub fits : gate_behind gate payload < limit
-  pub closed : IsClosed (gate_behind gate payload) content
+  pub fits : gate_after gate payload < limit
+  pub closed : IsClosed (gate_after gate payload) content
 
--- the frames from before, and nothing has changed but so many bytes behind the gate
+-- the frames from before, and nothing has changed but so many bytes after the gate
 pub record HoldsWithout (from : ℕ) (payloads : List (List ℕ)) (gate count limit : ℕ) (old image : List ℕ) : Type 0 where
   pub others : ChangesOnly (gate + 1) count old image
   pub frames : HoldsFrames from payloads limit image
@@ -64,9 +64,9 @@ pub record HoldsWithOrWithout
   pub others : ChangesOnly gate count old image
   pub frames : HoldsFrames from payloads limit image ⊎ HoldsFrames from (payloads ++ payload ∷ []) limit image
 
--- the frames from before with the new one, up to the gate behind it, and nothing has changed but so many
+-- the frames from before with the new one, up to the gate after it, and nothing has changed but so many
 -- bytes from the gate on
 pub record HoldsWith
     (from : ℕ) (payloads : List (List ℕ)) (payload : List ℕ) (gate count limit : ℕ) (old new : List ℕ) : Type 0 where
   pub others : ChangesOnly gate count old new
-  pub frames : HoldsFramesTo from (payloads ++ payload ∷ []) (gate_behind gate payload) limit new
+  pub frames : HoldsFramesTo from (payloads ++ payload ∷ []) (gate_after gate payload) limit new

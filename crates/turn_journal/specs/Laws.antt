@@ -10,5 +10,5 @@ AnAreaHoldsOneLog = (from limit : ℕ) (payloads others : List (List ℕ)) (cont
     → HoldsFrames from payloads limit content → HoldsFrames from others limit content → payloads ≡ others
 
 abbrev pub WhatIsFoundIsNotBad : Type 0
-WhatIsFoundIsNotBad = (gate limit greatest : ℕ) (content : List ℕ) (found : Found)
-    → IsFound gate limit greatest content found → IsBadFrame gate limit greatest content → ⊥
+WhatIsFoundIsNotBad = (gate limit max_payload : ℕ) (content : List ℕ) (found : Found)
+    → IsFound gate limit max_payload content found → IsBadFrame gate limit max_payload content → ⊥

@@ -1,11 +1,12 @@
-//! What a scan of a gate gives.
+//! What a scan of a gate returns.
 
 ghost use Rattle.std.specs.Prelude.{◌≡◌};
 ghost use Rattle.turn_journal.specs.declared.found.ScanRefused.TheVariants.{Device};
 
+use thiserror::Error;
 use turn_disk::DeviceFailed;
 
-/// What stands at a gate.
+/// What a scan finds at a gate.
 #[derive(Clone, Copy, Debug, PartialEq, Eq)]
 pub enum Found {
     /// The gate is closed, so the log ends here.
@@ -14,12 +15,14 @@ pub enum Found {
     Frame(usize),
 }
 
-/// Why a scan gives nothing.
-#[derive(Clone, Copy, Debug, PartialEq, Eq)]
+/// Why a scan is refused.
+#[derive(Clone, Copy, Debug, PartialEq, Eq, Error)]
 pub enum ScanRefused {
     /// A device call failed.
+    #[error("a device call failed")]
     Device,
-    /// The gate is open, and the length behind it is over the longest payload's, or the frame doesn't fit.
+    /// The gate is open, and the length after it is over the longest payload's, or the frame doesn't fit.
+    #[error("no frame follows the open gate")]
     BadFrame,
 }
 

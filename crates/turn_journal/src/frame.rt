@@ -1,4 +1,4 @@
-//! The bytes of a frame behind its gate, and the gate behind it.
+//! The bytes of a frame after its gate, and the gate after it.
 
 ghost use Rattle.std.specs.Prelude.{◌≡◌, ◌∷◌, ◌++◌, [], ◌+◌, ◌<◌, ◌≤◌, ◌^◌, length, take};
 ghost use Rattle.turn_journal.specs.Frames.{framed};
@@ -6,7 +6,7 @@ ghost use Rattle.turn_journal.specs.Frames.{framed};
 use crate::gate::CLOSED;
 use std::alloc::Allocator;
 
-/// Puts the payload's length, the payload and a closed gate to the front of the buffer.
+/// Puts the payload's length, the payload and a closed gate at the front of the buffer.
 pub fn put_frame<A: Allocator>(buffer: &mut Vec<u8, A>, payload: &[u8])
     requires room { length payload.now + 5 ≤ length buffer.old.items }
     requires short { length payload.now < 2 ^ 32 }

@@ -8,14 +8,14 @@ ghost use Rattle.turn_journal.specs.Scan.{HasLength};
 
 use turn_disk::{DeviceFailed, Disk, read_array, write_through};
 
-/// An open gate; every other byte is a closed one.
+/// The byte of an open gate; every other byte is that of a closed one.
 pub const OPEN: u8 = 0xA5;
 
-/// The closed gate that is written.
+/// The byte that is written for a closed gate.
 pub const CLOSED: u8 = 0;
 
-/// Writes behind a gate, and syncs.
-pub fn write_behind<D: Disk>(disk: &mut D, gate: usize, bytes: &[u8]) -> Result<(), DeviceFailed>
+/// Writes after a closed gate, and syncs.
+pub fn write_after<D: Disk>(disk: &mut D, gate: usize, bytes: &[u8]) -> Result<(), DeviceFailed>
     requires place { gate + 1 + length bytes.now ≤ D.capacity disk.old }
     requires addressable { gate + 1 < 2 ^ 64 }
     ensures size { D.capacity disk.new ≡ D.capacity disk.old }
@@ -35,7 +35,7 @@ pub fn write_behind<D: Disk>(disk: &mut D, gate: usize, bytes: &[u8]) -> Result<
     write_through(disk, gate + 1, bytes)
 }
 
-/// Opens the gate behind which a frame waits, and syncs.
+/// Opens the gate after which a frame waits, and syncs.
 pub fn open_gate<D: Disk>(disk: &mut D, gate: usize) -> Result<(), DeviceFailed>
     requires { gate + 1 ≤ D.capacity disk.old }
     ensures size { D.capacity disk.new ≡ D.capacity disk.old }
@@ -58,7 +58,7 @@ pub fn open_gate<D: Disk>(disk: &mut D, gate: usize) -> Result<(), DeviceFailed>
     Ok(())
 }
 
-/// The length behind a gate.
+/// Reads the length after a gate.
 pub fn read_length<D: Disk>(disk: &mut D, gate: usize) -> Result<usize, DeviceFailed>
     requires place { gate + 5 ≤ D.capacity disk.old }
     requires addressable { gate + 1 < 2 ^ 64 }

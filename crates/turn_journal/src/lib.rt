@@ -1,14 +1,14 @@
 //! One area of a store: a log of frames, each of which counts once its gate is open.
 #![tactic(auto)]
 
+mod area;
 mod found;
 mod frame;
 mod gate;
 mod journal;
 mod laws;
-#[cfg(test)]
-mod tests;
 
+pub use area::Area;
 pub use found::{Found, ScanRefused};
 pub use journal::{AppendRefused, Journal};
 pub use laws::{an_area_holds_one_log, what_is_found_is_not_bad};

@@ -1,5 +1,5 @@
 use Rattle.std.proofs.Common.{◌≡◌, ◌-◌, ◌++◌, [], ◌∷◌, ap, ◌∙◌, rules, drop, take, List, ℕ}
-use Rattle.turn_disk.proofs.Crashes.{one_left, behind_older}
+use Rattle.turn_disk.proofs.Crashes.{one_left, rest_of_older}
 use Rattle.turn_disk.specs.Crash.{replaced_at, part_of}
 use Rattle.turn_disk.specs.declared.call.Call.TheVariants.{Wrote}
 use Rattle.turn_disk.proofs.memory.+leave.Goals as goal
@@ -17,4 +17,4 @@ pub returns-in-Some-Wrote-default-clause-others : goal.returns-in-Some-Wrote-def
 returns-in-Some-Wrote-default-clause-others g t c =
     let arm = c.in-Some-Wrote-default in
     let calls_are : c.args.calls.now ≡ arm.older.now ++ Wrote arm.at arm.count ∷ [] = search rules in
-    behind_older c.args.outcome _ _ arm.at arm.count c.args.kept _ _ calls_are c.requires.kept c.requires.is_record _ _ c.exchange.ensures.content c.exchange.ensures.replaced _ c.leave.ensures.others
+    rest_of_older c.args.outcome _ _ arm.at arm.count c.args.kept _ _ calls_are c.requires.kept c.requires.is_record _ _ c.exchange.ensures.content c.exchange.ensures.replaced _ c.leave.ensures.others

@@ -22,7 +22,7 @@ pieces-preserved g c =
     record {
       size_of_piece = c.fill_piece-count.ensures.len;
       within = given.within;
-      rest = given.behind;
+      rest = given.remaining;
       size = c.write_within.ensures.size ∙ inv.size;
       count = c.in_ok-write_within.ensures.count ∙ inv.count;
       honest = ((λ h. inv.honest.0 (c.write_within.ensures.honest.0 h)), (λ h. c.write_within.ensures.honest.1 (inv.honest.1 h)));

@@ -1,6 +1,6 @@
 use Rattle.std.proofs.Common.{◌≡◌, ◌+◌, ℕ, slice_index, arith, ap, ◌∙◌}
 use Rattle.turn_disk.proofs.Since.{since_weaken}
-use Rattle.turn_journal.proofs.Growing.{at_gate, after_gate}
+use Rattle.turn_journal.proofs.Growing.{at_gate, with_open_gate}
 use Rattle.turn_journal.proofs.gate.open_gate.Goals as goal
 
 pub returns-in_err-write_through-clause-stop : goal.returns-in_err-write_through-clause-stop
@@ -17,4 +17,4 @@ returns-clause-done g c = λ honest from payloads payload limit is waits.
     let here : c.args.gate ≡ c.args.gate + 0 = omega arith in
     let bytes = (g.D.Disk.trace c.write_through.new.disk).now.bytes in
     let is_open : slice_index bytes c.args.gate ≡ 165 = ap (λ (i : ℕ). slice_index bytes i) here ∙ wrote.written 0 (omega arith) in
-    (wrote.settled, after_gate from payloads c.args.gate limit _ is payload waits _ wrote.content is_open)
+    (wrote.settled, with_open_gate from payloads c.args.gate limit _ is payload waits _ wrote.content is_open)

@@ -1,5 +1,0 @@
-mod crashes;
-mod faults;
-mod files;
-mod pieces;
-mod refusals;

@@ -1,4 +1,0 @@
-mod area;
-mod gates;
-mod memory;
-mod stops;
