@@ -1,0 +1,9 @@
+pub mod Acts
+pub mod Appended
+pub mod Batches
+pub mod Last
+pub mod Many
+pub mod Once
+pub mod Readers
+pub mod Shorts
+pub mod Sizes

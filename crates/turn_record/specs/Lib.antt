@@ -1,0 +1,4 @@
+pub mod Bytes
+pub mod Reading
+pub mod Records
+pub mod Views

@@ -1,0 +1,208 @@
+-- Reading from the left, with the first fault that is met: the fields as they stand, at one field the first condition that fails, a condition over several
+-- fields at the last one that it needs, and bytes after the last field at the end.
+use Rattle.std.specs.Prelude.{◌≡◌, ℕ, zero, suc, ◌+◌, ◌-◌, ◌^◌, Bool, true, not, ◌&&◌, ◌||◌, List, [], ◌∷◌, ◌++◌, length, take, drop, Option, Some, None, Result, Ok, Err, slice_get, nat_lt, nat_le, nat_eq, ◌==◌, if◌then◌else◌}
+use Rattle.std.specs.List.{list_any}
+use Rattle.std.specs.Int.{Width, w16, w32, w64, byte_len, from_be_bytes}
+use Rattle.turn_history.specs.History.{PlainAct, Allocates, Renews, Permits, Binds, Allocation, Event}
+use Rattle.turn_record.specs.declared.fault.Malformed.{Malformed}
+use Rattle.turn_record.specs.declared.fault.Malformed.TheVariants.{Short, BadTag, BadValue, OutOfOrder, TrailingBytes}
+use Rattle.turn_record.specs.declared.fault.ReadError.{ReadError}
+use Rattle.turn_record.specs.declared.fault.ReadError.TheVariants as errors
+use Rattle.turn_types.specs.declared.address.Endpoint.{Endpoint}
+use Rattle.turn_types.specs.declared.address.FiveTuple.{FiveTuple}
+use Rattle.turn_types.specs.declared.limits.Bounds.{Bounds}
+use Rattle.turn_types.specs.declared.message.TxId.{TxId}
+
+infixl 10 ◌>>=◌
+abbrev pub ◌>>=◌ : {A B : Type 0} → Result A Malformed → (A → Result B Malformed) → Result B Malformed
+(Ok x) >>= f = f x
+(Err e) >>= f = Err e
+
+-- what a function returned, seen by view, is what reading gives, unless it is out of memory
+abbrev pub Fails : {Y : Type 0} → ReadError → Result Y Malformed → Type 0
+Fails errors.Memory read = Unit {0}
+Fails (errors.Malformed f) read = read ≡ Err f
+
+abbrev pub Gives : {X Y : Type 0} → (X → Y) → Result X ReadError → Result Y Malformed → Type 0
+Gives view (Ok x) read = read ≡ Ok (view x)
+Gives view (Err e) read = Fails e read
+
+-- a value, and the bytes after it
+abbrev pub Field : Type 0 → Type 0
+Field A = Result (A × List ℕ) Malformed
+
+-- the last element passes, where there is one
+abbrev pub passes : {A : Type 0} → (A → Bool) → Option A → Bool
+passes test None = true
+passes test (Some x) = test x
+
+abbrev pub last_passes : {A : Type 0} → (A → Bool) → List A → Bool
+last_passes test xs = passes test (slice_get xs (length xs - 1))
+
+-- the field, where it is good
+abbrev pub judged : {A : Type 0} → Bool → Malformed → A → Result A Malformed
+judged good fault x = if good then Ok x else Err fault
+
+abbrev pub byte_at : List ℕ → Field ℕ
+byte_at [] = Err Short
+byte_at (b ∷ rest) = Ok (b, rest)
+
+abbrev pub number_at : Width → List ℕ → Field ℕ
+number_at w bytes = if nat_lt (length bytes) (byte_len w) then Err Short else Ok (from_be_bytes w (take (byte_len w) bytes), drop (byte_len w) bytes)
+
+abbrev pub bytes_at : ℕ → List ℕ → Field (List ℕ)
+bytes_at n bytes = if nat_lt (length bytes) n then Err Short else Ok (take n bytes, drop n bytes)
+
+-- n elements more, each read after those before it
+unfoldable pub many : {A : Type 0} → (List A → List ℕ → Field A) → ℕ → List A → List ℕ → Field (List A)
+many item zero before bytes = Ok (before, bytes)
+many item (suc n) before bytes = do
+  x ← item before bytes
+  many item n (before ++ x.0 ∷ []) x.1
+
+-- ---- Fields
+
+unfoldable pub moment_at : List ℕ → Field ℕ
+moment_at bytes = do
+  m ← number_at w64 bytes
+  judged (nat_lt m.0 (2 ^ 40 - 3600)) BadValue m
+
+unfoldable pub endpoint_at : List ℕ → Field Endpoint
+endpoint_at bytes = do
+  ip ← number_at w32 bytes
+  port ← number_at w16 ip.1
+  Ok (record { ip = ip.0; port = port.0 }, port.1)
+
+unfoldable pub tuple_at : List ℕ → Field FiveTuple
+tuple_at bytes = do
+  client ← endpoint_at bytes
+  server ← endpoint_at client.1
+  Ok (record { client = client.0; server = server.0 }, server.1)
+
+unfoldable pub name_len_at : Bounds → List ℕ → Field ℕ
+name_len_at b bytes = do
+  n ← number_at w16 bytes
+  judged (nat_lt 0 n.0 && nat_le n.0 b.name_bytes) BadValue n
+
+unfoldable pub name_at : Bounds → List ℕ → Field (List ℕ)
+name_at b bytes = do
+  n ← name_len_at b bytes
+  bytes_at n.0 n.1
+
+unfoldable pub granted_at : List ℕ → Field ℕ
+granted_at bytes = do
+  g ← number_at w32 bytes
+  judged (nat_le 600 g.0 && nat_le g.0 3600) BadValue g
+
+unfoldable pub renewed_at : List ℕ → Field ℕ
+renewed_at bytes = do
+  g ← number_at w32 bytes
+  judged (nat_eq g.0 0 || (nat_le 600 g.0 && nat_le g.0 3600)) BadValue g
+
+unfoldable pub tx_at : List ℕ → Field TxId
+tx_at bytes = do
+  t ← bytes_at 12 bytes
+  Ok (record { 0 = t.0 }, t.1)
+
+unfoldable pub channel_number_at : List ℕ → Field ℕ
+channel_number_at bytes = do
+  n ← number_at w16 bytes
+  judged (nat_le 0x4000 n.0 && nat_le n.0 0x4FFF) BadValue n
+
+-- a count, from low up to high
+unfoldable pub count_at : ℕ → ℕ → List ℕ → Field ℕ
+count_at low high bytes = do
+  n ← byte_at bytes
+  judged (nat_le low n.0 && nat_le n.0 high) BadValue n
+
+-- ---- Acts
+
+unfoldable pub allocation_at : Bounds → List ℕ → Field Allocation
+allocation_at b bytes = do
+  user ← name_at b bytes
+  port ← number_at w16 user.1
+  granted ← granted_at port.1
+  tx ← tx_at granted.1
+  Ok (record { user = user.0; port = port.0; granted = granted.0; tx = tx.0 }, tx.1)
+
+abbrev pub allocated_at : Bounds → List ℕ → Field PlainAct
+allocated_at b bytes = do
+  a ← allocation_at b bytes
+  Ok (Allocates a.0.user a.0.port a.0.granted a.0.tx, a.1)
+
+unfoldable pub address_at : List ℕ → List ℕ → Field ℕ
+address_at before bytes = do
+  a ← number_at w32 bytes
+  judged (not (list_any (λ y. nat_eq y a.0) before)) BadValue a
+
+unfoldable pub addresses_at : Bounds → List ℕ → Field (List ℕ)
+addresses_at b bytes = do
+  k ← count_at 1 b.permissions bytes
+  many address_at k.0 [] k.1
+
+pub record Binding : Type 0 where
+  pub number : ℕ
+  pub peer : Endpoint
+
+unfoldable pub binding_at : List ℕ → Field Binding
+binding_at bytes = do
+  number ← channel_number_at bytes
+  peer ← endpoint_at number.1
+  Ok (record { number = number.0; peer = peer.0 }, peer.1)
+
+abbrev pub bound_at : List ℕ → Field PlainAct
+bound_at bytes = do
+  a ← binding_at bytes
+  Ok (Binds a.0.number a.0.peer, a.1)
+
+abbrev pub renews_at : List ℕ → Field PlainAct
+renews_at bytes = do
+  g ← renewed_at bytes
+  Ok (Renews g.0, g.1)
+
+abbrev pub permits_at : Bounds → List ℕ → Field PlainAct
+permits_at b bytes = do
+  a ← addresses_at b bytes
+  Ok (Permits a.0, a.1)
+
+unfoldable pub body_at : Bounds → ℕ → List ℕ → Field PlainAct
+body_at b tag bytes =
+    if tag == 1 then allocated_at b bytes
+    else if tag == 2 then renews_at bytes
+    else if tag == 3 then permits_at b bytes
+    else bound_at bytes
+
+unfoldable pub tag_at : List ℕ → Field ℕ
+tag_at bytes = do
+  t ← byte_at bytes
+  judged (nat_le 1 t.0 && nat_le t.0 4) BadTag t
+
+-- a moment that is not below those before
+unfoldable pub moment_after : List Event → List ℕ → Field ℕ
+moment_after before bytes = do
+  m ← moment_at bytes
+  judged (last_passes (λ last. nat_le last.moment m.0) before) OutOfOrder m
+
+unfoldable pub event_at : Bounds → List Event → List ℕ → Field Event
+event_at b before bytes = do
+  t ← tag_at bytes
+  m ← moment_after before t.1
+  f ← tuple_at m.1
+  d ← body_at b t.0 f.1
+  Ok (record { moment = m.0; tuple = f.0; act = d.0 }, d.1)
+
+unfoldable pub events_at : Bounds → List ℕ → Field (List Event)
+events_at b bytes = do
+  n ← count_at 1 b.acts bytes
+  many (event_at b) n.0 [] n.1
+
+-- all of the bytes
+abbrev pub whole : {A : Type 0} → Field A → Result A Malformed
+whole read = read >>= λ x. if length x.1 == 0 then Ok x.0 else Err TrailingBytes
+
+-- what a byte list spells, or the first fault
+unfoldable pub act_in : Bounds → List ℕ → Result Event Malformed
+act_in b bytes = whole (event_at b [] bytes)
+
+unfoldable pub payload_in : Bounds → List ℕ → Result (List Event) Malformed
+payload_in b bytes = whole (events_at b bytes)

@@ -1,0 +1,42 @@
+-- What bytes spell. The ranges of values are those of fitting histories, so what such a history holds has a spelling.
+use Rattle.std.specs.Prelude.{◌≡◌, ℕ, ◌+◌, ◌*◌, ◌^◌, ◌<◌, ◌≤◌, List, [], ◌∷◌, length, max}
+use Rattle.std.specs.List.{AllByRecursion}
+use Rattle.turn_history.specs.Fitting.{IsInRange}
+use Rattle.turn_history.specs.History.{PlainAct, Allocates, Renews, Permits, Binds, Event}
+use Rattle.turn_history.specs.Laws.{NeverFall}
+use Rattle.turn_types.specs.declared.limits.Bounds.{Bounds}
+use Rattle.turn_record.specs.Bytes.{act_entry, payload}
+
+-- bytes spell an act entry, all of them
+pub record SpellsAct (b : Bounds) (e : Event) (bytes : List ℕ) : Type 0 where
+  pub in_range : IsInRange b e
+  pub is : bytes ≡ act_entry e
+
+-- its lengths fit the bytes that they are written in
+abbrev pub HasShortParts : PlainAct → Type 0
+HasShortParts (Allocates user port granted tx) = (length user < 2 ^ 16) × (length tx.0 ≡ 12)
+HasShortParts (Renews granted) = Unit {0}
+HasShortParts (Permits xs) = length xs < 256
+HasShortParts (Binds number peer) = Unit {0}
+
+-- the events of one frame
+pub record IsBatch (b : Bounds) (es : List Event) : Type 0 where
+  pub some : 1 ≤ length es
+  pub few : length es ≤ b.acts
+  pub in_range : AllByRecursion (IsInRange b) es
+  pub later : NeverFall es
+
+-- bytes spell a payload, all of them
+pub record SpellsPayload (b : Bounds) (es : List Event) (bytes : List ℕ) : Type 0 where
+  pub batch : IsBatch b es
+  pub is : bytes ≡ payload es
+
+-- ---- Sizes
+
+-- of an act entry under the limits
+abbrev pub max_act : Bounds → ℕ
+max_act b = max (max (41 + b.name_bytes) (22 + 4 * b.permissions)) 29
+
+-- of a payload under the limits
+abbrev pub max_payload : Bounds → ℕ
+max_payload b = 1 + b.acts * max_act b

@@ -1,0 +1,53 @@
+//! Why bytes couldn't be read.
+
+ghost use Rattle.std.specs.Prelude.{◌≡◌};
+
+use std::alloc::{AllocError, AllocFailed};
+use thiserror::Error;
+
+/// The first fault of bytes that spell nothing, from the left.
+#[derive(Clone, Copy, Debug, PartialEq, Eq, Error)]
+pub enum Malformed {
+    /// The bytes end inside a field.
+    #[error("the bytes end inside a field")]
+    Short,
+    #[error("no act has this tag")]
+    BadTag,
+    /// A value that is out of its range, or that must not stand twice and does.
+    #[error("a value is out of its range")]
+    BadValue,
+    /// A key that isn't above the one before, or a moment that is below it.
+    #[error("a key or a moment is out of order")]
+    OutOfOrder,
+    #[error("there are bytes after the last field")]
+    TrailingBytes,
+}
+
+/// Why bytes couldn't be read.
+#[derive(Clone, Copy, Debug, PartialEq, Eq, Error)]
+pub enum ReadError {
+    #[error("out of memory")]
+    Memory,
+    #[error("{0}")]
+    Malformed(Malformed),
+}
+
+impl From<AllocError> for ReadError {
+    ghost use Rattle.turn_record.specs.declared.fault.ReadError.TheVariants.{Memory};
+
+    ghost from_gives = { λ _ e. e ≡ Memory };
+
+    fn from(_error: AllocError) -> ReadError {
+        ReadError::Memory
+    }
+}
+
+impl<T: Drop> From<AllocFailed<T>> for ReadError {
+    ghost use Rattle.turn_record.specs.declared.fault.ReadError.TheVariants.{Memory};
+
+    ghost from_gives = { λ _ e. e ≡ Memory };
+
+    fn from(_error: AllocFailed<T>) -> ReadError {
+        ReadError::Memory
+    }
+}

@@ -1,0 +1,23 @@
+//! Laws of the bytes. Each is a clause of a function that does nothing.
+
+ghost use Rattle.std.specs.Prelude.{◌≡◌, ◌≤◌, ◌++◌, ℕ, List, length};
+ghost use Rattle.turn_history.specs.Fitting.{IsInRange};
+ghost use Rattle.turn_history.specs.History.{Event};
+ghost use Rattle.turn_record.specs.Bytes.{act_entry, payload};
+ghost use Rattle.turn_record.specs.Records.{IsBatch, max_act, max_payload};
+ghost use Rattle.turn_types.specs.Limits.{AreInRange};
+ghost use Rattle.turn_types.specs.declared.limits.Bounds.{Bounds};
+
+/// Bytes spell one event, or one batch, at most, and no spelling of one is a proper prefix of another's.
+pub fn spellings_are_one()
+    ensures acts { (b : Bounds) → AreInRange b → (x y : Event) (u v : List ℕ) → IsInRange b x → IsInRange b y →
+        act_entry x ++ u ≡ act_entry y ++ v → (x ≡ y) × (u ≡ v) }
+    ensures payloads { (b : Bounds) → AreInRange b → (x y : List Event) (u v : List ℕ) → IsBatch b x → IsBatch b y →
+        payload x ++ u ≡ payload y ++ v → (x ≡ y) × (u ≡ v) }
+{}
+
+/// How many bytes act entries and payloads have at most.
+pub fn spellings_are_short()
+    ensures acts { (b : Bounds) (e : Event) → IsInRange b e → length (act_entry e) ≤ max_act b }
+    ensures payloads { (b : Bounds) (es : List Event) → IsBatch b es → length (payload es) ≤ max_payload b }
+{}

@@ -1,0 +1,13 @@
+//! The bytes of acts and payloads.
+#![tactic(auto)]
+
+mod fault;
+mod field;
+mod laws;
+mod read;
+mod write;
+
+pub use fault::{Malformed, ReadError};
+pub use laws::{spellings_are_one, spellings_are_short};
+pub use read::{read_act, read_payload};
+pub use write::{max_act, max_payload, write_act, write_payload};
