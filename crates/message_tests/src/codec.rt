@@ -1,0 +1,401 @@
+//! Tests of `turn_codec`.
+
+use refusing::Refusing;
+use std::alloc::Allocator;
+use std::test::Fail;
+use turn_codec::{
+    AttributeType, Builder, ChannelData, Malformed, Message, PushError, read_xor_address,
+    xor_address,
+};
+use turn_types::{Addr, Class, Endpoint, Method, PeerAddress, TxId};
+
+const ID: TxId = TxId([1, 2, 3, 4, 5, 6, 7, 8, 9, 10, 11, 12]);
+
+const REQUEST: [u8; 20] = [
+    0, 1, 0, 0, 0x21, 0x12, 0xA4, 0x42, 1, 2, 3, 4, 5, 6, 7, 8, 9, 10, 11, 12,
+];
+
+const CLIENT: Endpoint = Endpoint {
+    ip: 0xC000_0201,
+    port: 32853,
+};
+
+const BINDING_SUCCESS: &[u8] =
+    b"\x01\x01\x00\x0c\x21\x12\xa4\x42\x01\x02\x03\x04\x05\x06\x07\x08\x09\x0a\x0b\x0c\
+    \x00\x20\x00\x08\x00\x01\xa1\x47\xe1\x12\xa6\x43";
+
+#[test]
+fn a_binding_success_is_written(rt: HostRuntime) -> Result<(), Fail> {
+    let mut builder = Builder::new(rt.alloc(), Class::Success, Method::BINDING, ID)?;
+    builder.push(AttributeType::XOR_MAPPED_ADDRESS, &xor_address(CLIENT))?;
+    assert!(rt; builder.as_bytes() == BINDING_SUCCESS);
+    assert!(rt; builder.finish().as_slice() == BINDING_SUCCESS);
+    Ok(())
+}
+
+/// The first two bytes, the class and the method's number.
+const TYPES: [(u8, u8, Class, u16); 6] = [
+    (0x00, 0x01, Class::Request, 0x001),
+    (0x01, 0x01, Class::Success, 0x001),
+    (0x01, 0x13, Class::Error, 0x003),
+    (0x00, 0x16, Class::Indication, 0x006),
+    (0x3E, 0xEF, Class::Request, 0xFFF),
+    (0x3F, 0xFF, Class::Error, 0xFFF),
+];
+
+fn reads_the_type(first: u8, second: u8, class: Class, method: u16) -> bool {
+    let mut bytes = REQUEST;
+    bytes[0] = first;
+    bytes[1] = second;
+    match Message::parse(&bytes) {
+        Ok(message) => message.class() == class && message.method().number() == method,
+        Err(_) => false,
+    }
+}
+
+#[test]
+fn a_header_is_read(rt: HostRuntime) -> Result<(), Fail> {
+    let message = Message::parse(&REQUEST)?;
+    assert!(rt; message.as_bytes() == REQUEST.as_slice());
+    assert!(rt; message.tx() == ID);
+    for (first, second, class, method) in TYPES {
+        assert!(rt; reads_the_type(first, second, class, method));
+    }
+    Ok(())
+}
+
+fn fault_of(bytes: &[u8]) -> Option<Malformed> {
+    Message::parse(bytes).err()
+}
+
+/// The fault of the request where one of its bytes is another.
+fn fault_with(place: usize, byte: u8) -> Option<Malformed> {
+    let mut bytes = REQUEST;
+    if place < bytes.len() {
+        bytes[place] = byte;
+    }
+    fault_of(&bytes)
+}
+
+/// A place, another byte there, and the fault.
+const FAULTS: [(usize, u8, Malformed); 7] = [
+    (0, 0x40, Malformed::NotStun),
+    (0, 0x80, Malformed::NotStun),
+    (4, 0x20, Malformed::BadCookie),
+    (7, 0x43, Malformed::BadCookie),
+    (2, 0x01, Malformed::BadLength),
+    (3, 0x02, Malformed::BadLength),
+    (3, 0x04, Malformed::BadLength),
+];
+
+const LONGER: [u8; 21] = [
+    0, 1, 0, 0, 0x21, 0x12, 0xA4, 0x42, 1, 2, 3, 4, 5, 6, 7, 8, 9, 10, 11, 12, 0,
+];
+
+#[test]
+fn what_is_no_message_is_refused_by_its_first_fault(rt: HostRuntime) {
+    assert!(rt; fault_of(&[]) == Some(Malformed::Short));
+    assert!(rt; fault_of(&[0xFF; 19]) == Some(Malformed::Short));
+    assert!(rt; fault_of(&[0xFF; 20]) == Some(Malformed::NotStun));
+    assert!(rt; fault_of(&LONGER) == Some(Malformed::BadLength));
+    for (place, byte, fault) in FAULTS {
+        assert!(rt; fault_with(place, byte) == Some(fault));
+    }
+}
+
+#[test]
+fn faults_are_printed(rt: HostRuntime) -> Result<(), Fail> {
+    let malformed = format!(in rt.alloc(); "{}", Malformed::BadCookie)?;
+    assert!(rt; malformed.as_str() == "the datagram doesn't have the magic cookie");
+    let too_long = format!(in rt.alloc(); "{}", PushError::TooLong)?;
+    assert!(rt; too_long.as_str() == "the attributes would have more than 65,532 bytes");
+    Ok(())
+}
+
+/// How many bytes the user's name is read to have, in a message with 4 bytes after its attribute's header.
+fn name_size(size: u8) -> Result<Option<usize>, Malformed> {
+    let mut bytes = [0xEE; 28];
+    bytes[..20].copy_from_slice(&REQUEST);
+    bytes[3] = 8;
+    bytes[20..24].copy_from_slice(&[0, 6, 0, size]);
+    let message = Message::parse(&bytes)?;
+    Ok(message.find(AttributeType::USERNAME).map(|name| name.len()))
+}
+
+#[test]
+fn an_attribute_ends_where_the_message_does(rt: HostRuntime) {
+    assert!(rt; name_size(0) == Err(Malformed::AttributeOverruns));
+    assert!(rt; name_size(1) == Ok(Some(1)));
+    assert!(rt; name_size(2) == Ok(Some(2)));
+    assert!(rt; name_size(3) == Ok(Some(3)));
+    assert!(rt; name_size(4) == Ok(Some(4)));
+    assert!(rt; name_size(5) == Err(Malformed::AttributeOverruns));
+}
+
+/// USERNAME twice, MESSAGE-INTEGRITY, and REALM after it; padding that isn't zero.
+const SIGNED: [u8; 68] =
+    *b"\x00\x03\x00\x30\x21\x12\xa4\x42\x01\x02\x03\x04\x05\x06\x07\x08\x09\x0a\x0b\x0c\
+    \x00\x06\x00\x01a\xff\xfe\xfd\x00\x06\x00\x02bc\xaa\xbb\x00\x08\x00\x14\
+    ABCDEFGHIJKLMNOPQRST\x00\x14\x00\x03xyz\x01";
+
+#[test]
+fn attributes_are_read_in_their_order(rt: HostRuntime) -> Result<(), Fail> {
+    let message = Message::parse(&SIGNED)?;
+    let mut kinds = Vec::new(rt.alloc());
+    for (kind, value) in message.attributes() {
+        kinds.push((kind.number(), value.len()))?;
+    }
+    assert!(rt;
+        kinds.as_slice() == [(0x0006, 1), (0x0006, 2), (0x0008, 20), (0x0014, 3)].as_slice()
+    );
+    assert!(rt; message.seen().count() == 2);
+    Ok(())
+}
+
+#[test]
+fn the_first_attribute_of_a_type_is_found(rt: HostRuntime) -> Result<(), Fail> {
+    let message = Message::parse(&SIGNED)?;
+    assert!(rt; message.find(AttributeType::USERNAME) == Some(b"a".as_slice()));
+    assert!(rt; message.find(AttributeType::REALM) == Some(b"xyz".as_slice()));
+    assert!(rt; message.find(AttributeType::NONCE).is_none());
+    Ok(())
+}
+
+#[test]
+fn what_follows_the_integrity_is_not_seen(rt: HostRuntime) -> Result<(), Fail> {
+    let message = Message::parse(&SIGNED)?;
+    assert!(rt; message.seen().value_of(AttributeType::REALM).is_none());
+    assert!(rt; message.is_seen(AttributeType::USERNAME));
+    assert!(rt; !message.is_seen(AttributeType::REALM));
+    Ok(())
+}
+
+#[test]
+fn the_integrity_is_located(rt: HostRuntime) -> Result<(), Fail> {
+    let message = Message::parse(&SIGNED)?;
+    let integrity = message.before_integrity().ok_or("an integrity")?;
+    assert!(rt; integrity.front == &SIGNED[..36]);
+    assert!(rt; integrity.value == b"ABCDEFGHIJKLMNOPQRST".as_slice());
+    assert!(rt; !integrity.is_last);
+    let realm = message.locate(AttributeType::REALM).ok_or("a realm")?;
+    assert!(rt; realm.is_last);
+    assert!(rt; Message::parse(&REQUEST)?.before_integrity().is_none());
+    Ok(())
+}
+
+/// The numbers of types, and whether they have to be understood and aren't known.
+const UNDERSTOOD: [(u16, bool); 12] = [
+    (0x0001, false),
+    (0x000C, false),
+    (0x0022, false),
+    (0x8022, false),
+    (0x8028, false),
+    (0x0000, true),
+    (0x0003, true),
+    (0x001A, true),
+    (0x001C, true),
+    (0x0021, true),
+    (0x7FFF, true),
+    (0x8000, false),
+];
+
+#[test]
+fn unknown_types_are_told_from_known_and_optional_ones(rt: HostRuntime) {
+    for (number, is_unknown) in UNDERSTOOD {
+        assert!(rt; AttributeType::new(number).is_unknown() == is_unknown);
+    }
+}
+
+const KINDS: [(AttributeType, u16); 19] = [
+    (AttributeType::MAPPED_ADDRESS, 0x0001),
+    (AttributeType::USERNAME, 0x0006),
+    (AttributeType::MESSAGE_INTEGRITY, 0x0008),
+    (AttributeType::ERROR_CODE, 0x0009),
+    (AttributeType::UNKNOWN_ATTRIBUTES, 0x000A),
+    (AttributeType::CHANNEL_NUMBER, 0x000C),
+    (AttributeType::LIFETIME, 0x000D),
+    (AttributeType::XOR_PEER_ADDRESS, 0x0012),
+    (AttributeType::DATA, 0x0013),
+    (AttributeType::REALM, 0x0014),
+    (AttributeType::NONCE, 0x0015),
+    (AttributeType::XOR_RELAYED_ADDRESS, 0x0016),
+    (AttributeType::REQUESTED_ADDRESS_FAMILY, 0x0017),
+    (AttributeType::EVEN_PORT, 0x0018),
+    (AttributeType::REQUESTED_TRANSPORT, 0x0019),
+    (AttributeType::XOR_MAPPED_ADDRESS, 0x0020),
+    (AttributeType::RESERVATION_TOKEN, 0x0022),
+    (AttributeType::SOFTWARE, 0x8022),
+    (AttributeType::FINGERPRINT, 0x8028),
+];
+
+#[test]
+fn types_have_the_numbers_of_the_standards(rt: HostRuntime) {
+    for (kind, number) in KINDS {
+        assert!(rt; kind.number() == number);
+    }
+}
+
+const XOR_CLIENT: [u8; 8] = [0, 1, 0xA1, 0x47, 0xE1, 0x12, 0xA6, 0x43];
+
+#[test]
+fn an_ipv4_address_is_read_whatever_its_first_byte(rt: HostRuntime) {
+    let client = PeerAddress {
+        ip: Addr::V4(CLIENT.ip),
+        port: CLIENT.port,
+    };
+    let mut value = XOR_CLIENT;
+    assert!(rt; read_xor_address(&value, ID) == Some(client));
+    value[0] = 9;
+    assert!(rt; read_xor_address(&value, ID) == Some(client));
+}
+
+/// The IPv6 address of RFC 5769, section 2.3, under its transaction id.
+#[test]
+fn an_ipv6_address_is_read(rt: HostRuntime) {
+    let tx = TxId([
+        0xB7, 0xE7, 0xA7, 0x01, 0xBC, 0x34, 0xD6, 0x86, 0xFA, 0x87, 0xDF, 0xAE,
+    ]);
+    let value = [
+        0, 2, 0xA1, 0x47, 0x01, 0x13, 0xA9, 0xFA, 0xA5, 0xD3, 0xF1, 0x79, 0xBC, 0x25, 0xF4, 0xB5,
+        0xBE, 0xD2, 0xB9, 0xD9,
+    ];
+    let peer = PeerAddress {
+        ip: Addr::V6(0x2001_0DB8_1234_5678_0011_2233_4455_6677),
+        port: 32853,
+    };
+    assert!(rt; read_xor_address(&value, tx) == Some(peer));
+}
+
+const NO_ADDRESSES: [&[u8]; 6] = [
+    &[],
+    &[0, 1, 0xA1, 0x47, 0xE1, 0x12, 0xA6],
+    &[0, 1, 0xA1, 0x47, 0xE1, 0x12, 0xA6, 0x43, 0],
+    &[0, 2, 0xA1, 0x47, 0xE1, 0x12, 0xA6, 0x43],
+    &[0, 3, 0xA1, 0x47, 0xE1, 0x12, 0xA6, 0x43],
+    &[0, 1, 0, 0, 0, 0, 0, 0, 0, 0, 0, 0, 0, 0, 0, 0, 0, 0, 0, 0],
+];
+
+#[test]
+fn a_malformed_address_is_none(rt: HostRuntime) {
+    for value in NO_ADDRESSES {
+        assert!(rt; read_xor_address(value, ID).is_none());
+    }
+}
+
+/// Whether a value of so many bytes is refused as too long.
+fn is_too_long<A: Allocator + Copy, B: Allocator>(
+    alloc: B,
+    builder: &mut Builder<A>,
+    size: usize,
+) -> Result<bool, Fail> {
+    let value = vec![in alloc; 0u8; size]?;
+    Ok(builder.push(AttributeType::DATA, &value) == Err(PushError::TooLong))
+}
+
+#[test]
+fn a_value_that_is_too_long_is_refused_before_memory_is_asked_for(
+    rt: HostRuntime,
+) -> Result<(), Fail> {
+    let refusing = Refusing::new(rt.alloc(), u64::MAX);
+    let mut builder = Builder::new(&refusing, Class::Request, Method::SEND, ID)?;
+    refusing.arm(0);
+    assert!(rt; is_too_long(rt.alloc(), &mut builder, 65_529)?);
+    assert!(rt; is_too_long(rt.alloc(), &mut builder, 65_532)?);
+    assert!(rt; is_too_long(rt.alloc(), &mut builder, 65_535)?);
+    assert!(rt; is_too_long(rt.alloc(), &mut builder, 65_536)?);
+    Ok(())
+}
+
+#[test]
+fn the_longest_message_is_written(rt: HostRuntime) -> Result<(), Fail> {
+    let refusing = Refusing::new(rt.alloc(), u64::MAX);
+    let mut builder = Builder::new(&refusing, Class::Request, Method::SEND, ID)?;
+    refusing.arm(0);
+    let value = vec![in rt.alloc(); 0u8; 65_528]?;
+    assert!(rt; builder.push(AttributeType::DATA, &value) == Err(PushError::Memory));
+    assert!(rt; builder.as_bytes().len() == 20);
+    builder.push(AttributeType::DATA, &value)?;
+    assert!(rt; builder.push(AttributeType::EVEN_PORT, &[]) == Err(PushError::TooLong));
+    let bytes = builder.finish();
+    assert!(rt; bytes.len() == 65_552);
+    assert!(rt; Message::parse(&bytes).is_ok());
+    Ok(())
+}
+
+#[test]
+fn a_message_takes_memory_twice(rt: HostRuntime) -> Result<(), Fail> {
+    let refusing = Refusing::new(rt.alloc(), 0);
+    assert!(rt; Builder::new(&refusing, Class::Error, Method::REFRESH, ID).is_err());
+    refusing.arm(1);
+    let mut builder = Builder::new(&refusing, Class::Error, Method::REFRESH, ID)?;
+    assert!(rt; refusing.left() == 0);
+    assert!(rt; builder.push(AttributeType::REALM, b"example.org") == Err(PushError::Memory));
+    assert!(rt; builder.as_bytes().len() == 20);
+    refusing.arm(0);
+    assert!(rt;
+        builder
+            .push_fitting(AttributeType::REALM, b"example.org")
+            .is_err()
+    );
+    assert!(rt; builder.as_bytes().len() == 20);
+    refusing.arm(1);
+    builder.push(AttributeType::REALM, b"example.org")?;
+    assert!(rt; builder.as_bytes().len() == 36);
+    assert!(rt; !refusing.has_refused());
+    Ok(())
+}
+
+#[test]
+fn a_message_with_a_capacity_takes_memory_once(rt: HostRuntime) -> Result<(), Fail> {
+    let refusing = Refusing::new(rt.alloc(), 1);
+    let mut builder = Builder::with_capacity(&refusing, Class::Request, Method::ALLOCATE, ID, 24)?;
+    builder.push(AttributeType::REALM, b"example.org")?;
+    builder.push(AttributeType::LIFETIME, &[0, 0, 2, 88])?;
+    assert!(rt; !refusing.has_refused());
+    assert!(rt; builder.push(AttributeType::EVEN_PORT, &[0]) == Err(PushError::Memory));
+    assert!(rt; builder.as_bytes().len() == 44);
+    builder.push(AttributeType::EVEN_PORT, &[0])?;
+    assert!(rt; builder.finish().len() == 52);
+    Ok(())
+}
+
+/// Datagrams, and the number and payload that they begin with.
+const CHANNEL_DATA: [(&[u8], u16, &[u8]); 3] = [
+    (b"\x40\x00\x00\x03abc", 0x4000, b"abc"),
+    (b"\x40\x00\x00\x03abc\x00", 0x4000, b"abc"),
+    (b"\x7f\xff\x00\x00", 0x7FFF, b""),
+];
+
+const NO_CHANNEL_DATA: [&[u8]; 5] = [
+    b"",
+    b"\x40\x00\x00",
+    b"\x40\x00\x00\x04abc",
+    b"\x3f\xff\x00\x00",
+    b"\x80\x00\x00\x00",
+];
+
+#[test]
+fn channel_data_is_read(rt: HostRuntime) {
+    for (bytes, number, payload) in CHANNEL_DATA {
+        let read = ChannelData::parse(bytes).map(|data| (data.number, data.payload));
+        assert!(rt; read == Some((number, payload)));
+    }
+    for bytes in NO_CHANNEL_DATA {
+        assert!(rt; ChannelData::parse(bytes).is_none());
+    }
+}
+
+#[test]
+fn channel_data_is_written_in_one_allocation(rt: HostRuntime) -> Result<(), Fail> {
+    let data = ChannelData {
+        number: 0x4000,
+        payload: b"abc",
+    };
+    let refusing = Refusing::new(rt.alloc(), 0);
+    assert!(rt; data.write(&refusing).is_err());
+    refusing.arm(1);
+    let written = data.write(&refusing)?;
+    assert!(rt; !refusing.has_refused());
+    assert!(rt; written.as_slice() == b"\x40\x00\x00\x03abc".as_slice());
+    Ok(())
+}

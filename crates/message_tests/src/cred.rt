@@ -1,0 +1,5 @@
+//! Tests of `turn_cred`.
+
+mod credentials;
+mod nonces;
+mod users;

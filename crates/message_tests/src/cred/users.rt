@@ -1,0 +1,87 @@
+use refusing::Refusing;
+use std::alloc::Allocator;
+use std::test::Fail;
+use turn_cred::{AuthHandler, Users};
+
+/// Names and keys, in the order in which they are added.
+const ADDED: [(&[u8], u8); 5] = [
+    (b"alice", 1),
+    (b"bob", 2),
+    (b"", 3),
+    (b"alic", 4),
+    (b"alice", 5),
+];
+
+/// A name, a realm, and the first byte of the key that is known afterwards.
+const KNOWN: [(&[u8], &[u8], Option<u8>); 5] = [
+    (b"alice", b"any realm", Some(5)),
+    (b"bob", b"", Some(2)),
+    (b"", b"", Some(3)),
+    (b"alic", b"", Some(4)),
+    (b"Alice", b"", None),
+];
+
+#[test]
+fn the_last_key_of_a_name_counts(rt: HostRuntime) -> Result<(), Fail> {
+    let mut users = Users::new(rt.alloc());
+    assert!(rt; users.key(b"alice", b"example.org").is_none());
+    for (name, key) in &ADDED {
+        users.add(name, [*key; 16])?;
+        assert!(rt; users.key(name, b"example.org") == Some([*key; 16]));
+    }
+    for (name, realm, key) in &KNOWN {
+        assert!(rt; users.key(name, realm) == key.map(|key| [key; 16]));
+    }
+    Ok(())
+}
+
+/// Adds a key to a name that has one only where the number is odd. A refusal leaves the users as they were.
+fn add<A: Allocator + Copy>(
+    users: &mut Users<&Refusing<A>>,
+    refusing: &Refusing<A>,
+    number: u8,
+) -> Result<(), Fail> {
+    let name = [b'a', number / 2];
+    let before = users.key(&name, b"");
+    if before.is_some() != (number % 2 == 1) {
+        return Err(Fail::new("a name"));
+    }
+    if users.add(&name, [number; 16]).is_err() {
+        if !refusing.has_refused() || users.key(&name, b"") != before {
+            return Err(Fail::new("a refusal"));
+        }
+        users.add(&name, [number; 16])?;
+    }
+    if users.key(&name, b"") != Some([number; 16]) {
+        return Err(Fail::new("a key"));
+    }
+    Ok(())
+}
+
+/// Makes forty additions where the growth after so many is refused, and says whether one was.
+fn is_refused<A: Allocator + Copy>(alloc: A, served: u64) -> Result<bool, Fail> {
+    let refusing = Refusing::new(alloc, served);
+    let mut users = Users::new(&refusing);
+    for number in 0..40u8 {
+        add(&mut users, &refusing, number)?;
+    }
+    for name in 0..20u8 {
+        if users.key(&[b'a', name], b"") != Some([2 * name + 1; 16]) {
+            return Err(Fail::new("a last key"));
+        }
+    }
+    Ok(refusing.has_refused())
+}
+
+#[test]
+fn a_refused_growth_leaves_the_users(rt: HostRuntime) -> Result<(), Fail> {
+    for served in 0..=40u64 {
+        assert!(rt; is_refused(rt.alloc(), served)?);
+    }
+    for served in 41..256u64 {
+        if !is_refused(rt.alloc(), served)? {
+            return Ok(());
+        }
+    }
+    Err("some growth is always refused")?
+}

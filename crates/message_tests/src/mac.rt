@@ -1,0 +1,4 @@
+//! Tests of `turn_mac`.
+
+mod digests;
+mod messages;

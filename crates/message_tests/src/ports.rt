@@ -1,0 +1,188 @@
+//! Tests of `turn_ports`.
+
+ghost use Rattle.std.specs.Prelude.{◌==◌, IfOk};
+ghost use Rattle.std.specs.List.{list_any};
+ghost use Rattle.turn_ports.specs.Ports.{MayPick};
+
+use refusing::Refusing;
+use std::alloc::{AllocError, Allocator};
+use std::test::Fail;
+use turn_ports::{PortRange, PortSet, RelayAddressGenerator};
+
+#[derive(Drop)]
+struct Taken<'a> {
+    ports: &'a [u16],
+}
+
+impl PortSet for Taken<'_> {
+    ghost has = { λ s port. list_any (λ p. p == port) s.ports.now };
+
+    fn has(&self, port: u16) -> bool {
+        self.ports.contains(&port)
+    }
+}
+
+/// A generator that keeps a list of the ports that it gave out, and fails at one port.
+#[derive(Drop)]
+struct Binding<A: Allocator> {
+    range: PortRange,
+    fails_at: u16,
+    bound: Vec<u16, A>,
+    failures: u64,
+}
+
+impl<A: Allocator> RelayAddressGenerator for Binding<A> {
+    ghost range = { λ b. b.range };
+
+    ghost failures = { λ b. b.failures };
+
+    fn range(&self) -> (u16, u16) {
+        self.range.range()
+    }
+
+    fn pick<S: PortSet>(&mut self, taken: &S, even: bool) -> Result<Option<u16>, AllocError> {
+        let Some(port) = self.range.pick(taken, even)? else {
+            return Ok(None);
+        };
+        if port == self.fails_at {
+            self.failures = self.failures.wrapping_add(1);
+            return Ok(None);
+        }
+        self.bound.push(port)?;
+        Ok(Some(port))
+    }
+
+    fn release(&mut self, port: u16) {
+        self.bound.retain(|bound| *bound != port);
+    }
+
+    fn failures(&self) -> u64 {
+        self.failures
+    }
+}
+
+/// What is picked, and whether the generator failed.
+fn pick_from<G: RelayAddressGenerator, S: PortSet>(
+    generator: &mut G,
+    taken: &S,
+    even: bool,
+) -> Result<(Option<u16>, bool), AllocError>
+    ensures { IfOk result (λ r. MayPick (G.range generator.old) (S.has taken.now) even r.1 r.0) }
+{
+    let before = generator.failures();
+    let port = generator.pick(taken, even)?;
+    Ok((port, before != generator.failures()))
+}
+
+#[test]
+fn a_range_has_a_port(rt: HostRuntime) {
+    assert!(rt; PortRange::new(2, 1).is_none());
+    assert!(rt; PortRange::new(65535, 0).is_none());
+}
+
+const TEN: &[u16] = &[
+    50000, 50001, 50002, 50003, 50004, 50005, 50006, 50007, 50008, 50009,
+];
+
+const NINE: &[u16] = &[
+    50008, 50007, 50006, 50005, 50004, 50003, 50002, 50001, 50000,
+];
+
+const EVENS: &[u16] = &[50000, 50002, 50004, 50006, 50008];
+
+/// A range, the ports that are taken, the min free port, and the min even one.
+const PICKS: [((u16, u16), &[u16], Option<u16>, Option<u16>); 15] = [
+    ((50000, 50009), &[], Some(50000), Some(50000)),
+    ((50000, 50009), &[50000], Some(50001), Some(50002)),
+    ((50000, 50009), EVENS, Some(50001), None),
+    ((50000, 50009), NINE, Some(50009), None),
+    ((50000, 50009), TEN, None, None),
+    ((50000, 50009), &[49999, 50010], Some(50000), Some(50000)),
+    ((50001, 50002), &[], Some(50001), Some(50002)),
+    ((50000, 50000), &[], Some(50000), Some(50000)),
+    ((50001, 50001), &[], Some(50001), None),
+    ((50001, 50001), &[50001], None, None),
+    ((0, 0), &[], Some(0), Some(0)),
+    ((0, 0), &[0], None, None),
+    ((0, 65535), &[0], Some(1), Some(2)),
+    ((65534, 65535), &[65534], Some(65535), None),
+    ((65535, 65535), &[], Some(65535), None),
+];
+
+/// Whether a range picks these, again after its first pick was released, and counts no failure.
+fn picks(
+    range: (u16, u16),
+    taken: &[u16],
+    any: Option<u16>,
+    even: Option<u16>,
+) -> Result<bool, Fail> {
+    let mut ports = PortRange::new(range.0, range.1).ok_or("a range")?;
+    let taken = Taken { ports: taken };
+    let first = pick_from(&mut ports, &taken, false)?;
+    let second = pick_from(&mut ports, &taken, true)?;
+    if let Some(port) = any {
+        ports.release(port);
+    }
+    let third = pick_from(&mut ports, &taken, false)?;
+    Ok(
+        first == (any, false)
+            && second == (even, false)
+            && third == (any, false)
+            && ports.range() == range
+            && ports.failures() == 0,
+    )
+}
+
+#[test]
+fn the_min_free_port_is_picked(rt: HostRuntime) -> Result<(), Fail> {
+    for (range, taken, any, even) in PICKS {
+        assert!(rt; picks(range, taken, any, even)?);
+    }
+    Ok(())
+}
+
+fn bindings<A: Allocator>(alloc: A) -> Result<Binding<A>, Fail> {
+    Ok(Binding {
+        range: PortRange::new(50000, 50003).ok_or("a range")?,
+        fails_at: 50001,
+        bound: Vec::new(alloc),
+        failures: u64::MAX,
+    })
+}
+
+const NONE_TAKEN: Taken<'static> = Taken { ports: &[] };
+
+const FIRST_TAKEN: Taken<'static> = Taken { ports: &[50000] };
+
+#[test]
+fn an_allocation_failure_is_no_failure_of_the_generator(rt: HostRuntime) -> Result<(), Fail> {
+    let refusing = Refusing::new(rt.alloc(), 0);
+    let mut ports = bindings(&refusing)?;
+    assert!(rt; pick_from(&mut ports, &NONE_TAKEN, false).is_err());
+    assert!(rt; ports.failures() == u64::MAX);
+    assert!(rt; ports.bound.is_empty());
+    assert!(rt; pick_from(&mut ports, &NONE_TAKEN, false)? == (Some(50000), false));
+    Ok(())
+}
+
+#[test]
+fn failures_are_counted_and_wrap(rt: HostRuntime) -> Result<(), Fail> {
+    let mut ports = bindings(rt.alloc())?;
+    assert!(rt; pick_from(&mut ports, &FIRST_TAKEN, false)? == (None, true));
+    assert!(rt; ports.failures() == 0);
+    assert!(rt; pick_from(&mut ports, &FIRST_TAKEN, false)? == (None, true));
+    assert!(rt; ports.failures() == 1);
+    Ok(())
+}
+
+#[test]
+fn a_released_port_is_held_no_more(rt: HostRuntime) -> Result<(), Fail> {
+    let mut ports = bindings(rt.alloc())?;
+    assert!(rt; pick_from(&mut ports, &NONE_TAKEN, false)? == (Some(50000), false));
+    assert!(rt; pick_from(&mut ports, &FIRST_TAKEN, true)? == (Some(50002), false));
+    assert!(rt; ports.bound.as_slice() == [50000, 50002].as_slice());
+    ports.release(50000);
+    assert!(rt; ports.bound.as_slice() == [50002].as_slice());
+    assert!(rt; ports.range() == (50000, 50003));
+    Ok(())
+}

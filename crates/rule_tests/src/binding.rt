@@ -1,0 +1,193 @@
+//! Binding, and datagrams that are dropped.
+
+use crate::judged::decided;
+use crate::player::{Player, play};
+use crate::requests::*;
+use crate::row::Row;
+use crate::setup::SETUP;
+use std::alloc::Global;
+use std::test::Fail;
+use turn_codec::{AttributeType, Builder, Message};
+use turn_rules::Decision;
+use turn_table::Table;
+use turn_types::{Class, Method, TxId};
+
+const BINDING: &[u8] =
+    b"\x00\x01\x00\x00\x21\x12\xa4\x42\x01\x02\x03\x04\x05\x06\x07\x08\x09\x0a\x0b\x0c";
+
+const SUCCESS: &[u8] =
+    b"\x01\x01\x00\x0c\x21\x12\xa4\x42\x01\x02\x03\x04\x05\x06\x07\x08\x09\x0a\x0b\x0c\
+    \x00\x20\x00\x08\x00\x01\xa1\x47\xe1\x12\xa6\x43";
+
+const WITH_AN_UNKNOWN_TYPE: &[u8] =
+    b"\x00\x01\x00\x08\x21\x12\xa4\x42\x01\x02\x03\x04\x05\x06\x07\x08\x09\x0a\x0b\x0c\
+    \x00\x03\x00\x04\x00\x00\x00\x00";
+
+const UNKNOWN_TYPE: &[u8] =
+    b"\x01\x11\x00\x24\x21\x12\xa4\x42\x01\x02\x03\x04\x05\x06\x07\x08\x09\x0a\x0b\x0c\
+    \x00\x09\x00\x15\x00\x00\x04\x14Unknown Attribute\x00\x00\x00\x00\x0a\x00\x02\x00\x03\x00\x00";
+
+/// A request with a FINGERPRINT, whose checksum is that of zlib.
+const FINGERPRINTED: &[u8; 28] =
+    b"\x00\x01\x00\x08\x21\x12\xa4\x42\x01\x02\x03\x04\x05\x06\x07\x08\x09\x0a\x0b\x0c\
+    \x80\x28\x00\x04\x5b\x20\xf9\xcc";
+
+const FINGERPRINTED_SUCCESS: &[u8] =
+    b"\x01\x01\x00\x14\x21\x12\xa4\x42\x01\x02\x03\x04\x05\x06\x07\x08\x09\x0a\x0b\x0c\
+    \x00\x20\x00\x08\x00\x01\xa1\x47\xe1\x12\xa6\x43\x80\x28\x00\x04\x50\x89\xd8\x98";
+
+const ANSWERED: [Row; 1] = [Row::Answer(0, BINDING, Some(SUCCESS))];
+
+#[test]
+fn binding_is_answered_by_the_mapped_address(rt: HostRuntime) -> Result<(), Fail> {
+    play(rt.alloc(), &SETUP, &ANSWERED)
+}
+
+const REFUSED: [Row; 1] = [Row::Answer(0, WITH_AN_UNKNOWN_TYPE, Some(UNKNOWN_TYPE))];
+
+#[test]
+fn binding_with_an_unknown_type_is_420(rt: HostRuntime) -> Result<(), Fail> {
+    play(rt.alloc(), &SETUP, &REFUSED)
+}
+
+const WITH_A_FINGERPRINT: [Row; 1] = [Row::Answer(0, FINGERPRINTED, Some(FINGERPRINTED_SUCCESS))];
+
+#[test]
+fn fingerprint_is_answered_by_one(rt: HostRuntime) -> Result<(), Fail> {
+    play(rt.alloc(), &SETUP, &WITH_A_FINGERPRINT)
+}
+
+/// The first two bytes of messages of each other class, and of methods that aren't served.
+const DROPPED: [u16; 8] = [
+    0x0011, 0x0101, 0x0111, 0x0006, 0x0016, 0x0007, 0x0002, 0x3EEF,
+];
+
+/// Whether a new server's step and its decision drop a message.
+fn is_dropped(alloc: Global, bytes: &[u8]) -> Result<bool, Fail> {
+    let table = Table::new(alloc, SETUP.limits()?, at(0)?);
+    let Decision { reply: found, act } = decided(alloc, &table, bytes)?;
+    Ok(found.is_none() && act.is_none() && reply(alloc, bytes)?.is_none())
+}
+
+#[test]
+fn other_classes_and_methods_are_dropped(rt: HostRuntime) -> Result<(), Fail> {
+    for first in &DROPPED {
+        let mut bytes = [0; 20];
+        bytes.copy_from_slice(BINDING);
+        bytes[..2].copy_from_slice(&first.to_be_bytes());
+        if !is_dropped(rt.alloc(), &bytes)? {
+            return Err(Fail::new(*first));
+        }
+    }
+    Ok(())
+}
+
+/// The reply of a new server to a datagram, if there is one.
+fn reply(alloc: Global, bytes: &[u8]) -> Result<Option<Vec<u8>>, Fail> {
+    Player::new(alloc, alloc, &SETUP)?.reply(FIRST, 0, bytes)
+}
+
+/// The error code of the reply, 0 for a success, and whether it has a FINGERPRINT, or `None` where nothing is answered.
+fn kind_of_reply(alloc: Global, bytes: &[u8]) -> Result<Option<(u16, bool)>, Fail> {
+    let Some(found) = reply(alloc, bytes)? else {
+        return Ok(None);
+    };
+    let message = Message::parse(&found)?;
+    let has_fingerprint = message.find(AttributeType::FINGERPRINT).is_some();
+    Ok(Some((code_of(&message)?, has_fingerprint)))
+}
+
+/// Whether the request with a FINGERPRINT is dropped once a bit of a byte is flipped. A bit of the type of FINGERPRINT
+/// makes another attribute of it, of a type that has to be understood where the bit is the first one.
+fn is_judged(alloc: Global, place: usize, bit: u32) -> Result<bool, Fail> {
+    if place >= 28 || bit >= 8 {
+        return Err(Fail::new("a bit that isn't there"));
+    }
+    let mut bytes = *FINGERPRINTED;
+    bytes[place] ^= 1 << bit;
+    let expected = match (place, bit) {
+        (20, 7) => Some((420, false)),
+        (20 | 21, _) => Some((0, false)),
+        _ => None,
+    };
+    Ok(kind_of_reply(alloc, &bytes)? == expected)
+}
+
+#[test]
+fn each_flipped_bit_under_a_fingerprint_is_dropped(rt: HostRuntime) -> Result<(), Fail> {
+    for i in 0..224u32 {
+        if !is_judged(rt.alloc(), i as usize / 8, i % 8)? {
+            return Err(Fail::new(i));
+        }
+    }
+    Ok(())
+}
+
+/// The types of empty attributes of a Binding request, and the value of UNKNOWN-ATTRIBUTES in the reply, empty for a
+/// success.
+const NAMED: [(&[u16], &[u8]); 4] = [
+    (
+        &[0x7FFF, 0x0003, 0x7FFF, 0x8000, 0x0006],
+        &[0x7F, 0xFF, 0x00, 0x03],
+    ),
+    (
+        &[0x001A, 0x001C, 0x001A, 0x0008, 0x0002],
+        &[0x00, 0x1A, 0x00, 0x1C],
+    ),
+    (&[0x0000, 0x0008, 0x0003, 0x0004, 0x0005], &[0x00, 0x00]),
+    (&[0x8000, 0x8024, 0x0006, 0x0014, 0x0008, 0x0003], &[]),
+];
+
+/// A Binding request with an empty attribute of each type.
+fn request_with(alloc: Global, types: &[u16]) -> Result<Vec<u8>, Fail> {
+    let mut builder = Builder::new(alloc, Class::Request, Method::BINDING, TxId([9; 12]))?;
+    for kind in types {
+        push_value(&mut builder, *kind, &[])?;
+    }
+    Ok(builder.finish())
+}
+
+/// Whether the reply to a Binding request with empty attributes names these types, or is a success where they are none.
+fn names(alloc: Global, types: &[u16], named: &[u8]) -> Result<bool, Fail> {
+    let bytes = request_with(alloc, types)?;
+    let found = reply(alloc, &bytes)?.ok_or("a reply")?;
+    let message = Message::parse(&found)?;
+    Ok(match message.find(AttributeType::UNKNOWN_ATTRIBUTES) {
+        Some(value) => message.class() == Class::Error && value == named,
+        None => message.class() == Class::Success && named.is_empty(),
+    })
+}
+
+#[test]
+fn each_unknown_type_is_named_once(rt: HostRuntime) -> Result<(), Fail> {
+    for (types, named) in &NAMED {
+        assert!(rt; names(rt.alloc(), types, named)?);
+    }
+    Ok(())
+}
+
+/// The 80 types from 0x4000 on, with 0x4000 after each of them.
+fn eighty_types(alloc: Global) -> Result<Vec<u16>, Fail> {
+    let mut types = Vec::new(alloc);
+    for kind in 0x4000..0x4050u16 {
+        types.push(kind)?;
+        types.push(0x4000)?;
+    }
+    Ok(types)
+}
+
+/// The 64 types from 0x4000 on, in the bytes of UNKNOWN-ATTRIBUTES.
+fn first_64(alloc: Global) -> Result<Vec<u8>, Fail> {
+    let mut named = Vec::new(alloc);
+    for kind in 0x4000..0x4040u16 {
+        named.extend_from_slice(&kind.to_be_bytes())?;
+    }
+    Ok(named)
+}
+
+#[test]
+fn the_first_64_unknown_types_are_named(rt: HostRuntime) -> Result<(), Fail> {
+    let types = eighty_types(rt.alloc())?;
+    assert!(rt; names(rt.alloc(), &types, &first_64(rt.alloc())?)?);
+    Ok(())
+}

@@ -1,0 +1,164 @@
+//! Requests that ask for credentials.
+
+use crate::player::{Player, play};
+use crate::requests::*;
+use crate::row::Row;
+use crate::setup::SETUP;
+use std::alloc::Global;
+use std::test::Fail;
+use turn_codec::{AttributeType, Builder, Message};
+use turn_mac::{append_integrity, integrity_holds};
+use turn_types::{Class, Endpoint, Method};
+
+/// By HMAC-SHA256 of another program: the nonce of second 1000 for 192.0.2.1:32853 under a secret of 32 zero bytes.
+const NONCE: &[u8] =
+    b"00000000000003e867b461aa60944ff2d53aa237b6407c1ab6779c548e297976b3bed07840569489";
+
+const ALLOCATE: &[u8] =
+    b"\x00\x03\x00\x00\x21\x12\xa4\x42\x01\x02\x03\x04\x05\x06\x07\x08\x09\x0a\x0b\x0c";
+
+/// 401 with the realm and that nonce.
+const CHALLENGE: &[u8] =
+    b"\x01\x13\x00\x7c\x21\x12\xa4\x42\x01\x02\x03\x04\x05\x06\x07\x08\x09\x0a\x0b\x0c\
+    \x00\x09\x00\x13\x00\x00\x04\x01Unauthenticated\x00\
+    \x00\x14\x00\x0bexample.org\x00\x00\x15\x00\x50\
+    00000000000003e867b461aa60944ff2d53aa237b6407c1ab6779c548e297976b3bed07840569489";
+
+const CHALLENGED: [Row; 1] = [Row::Answer(1000, ALLOCATE, Some(CHALLENGE))];
+
+#[test]
+fn request_without_credentials_is_challenged(rt: HostRuntime) -> Result<(), Fail> {
+    play(rt.alloc(), &SETUP, &CHALLENGED)
+}
+
+/// The reply of a new server to a datagram from a client at a second.
+fn reply(alloc: Global, bytes: &[u8], client: Endpoint, second: u64) -> Result<Vec<u8>, Fail> {
+    let found = Player::new(alloc, alloc, &SETUP)?.reply(client, second, bytes)?;
+    Ok(found.ok_or("a reply")?)
+}
+
+/// Whether a reply is an error with a code, the realm and a nonce, and without an integrity.
+fn is_challenge(reply: &[u8], code: u16, nonce: &[u8]) -> Result<bool, Fail> {
+    let message = Message::parse(reply)?;
+    Ok(
+        code_of(&message)? == code
+            && message.find(AttributeType::REALM) == Some(REALM)
+            && message.find(AttributeType::NONCE) == Some(nonce)
+            && message.before_integrity().is_none(),
+    )
+}
+
+/// Whether a reply is an error with a code and without a nonce, signed by a user's key.
+fn is_signed(reply: &[u8], code: u16, user: User) -> Result<bool, Fail> {
+    let message = Message::parse(reply)?;
+    Ok(
+        message.class() == Class::Error
+            && code_of(&message)? == code
+            && message.find(AttributeType::NONCE).is_none()
+            && integrity_holds(&message, &user.key()),
+    )
+}
+
+/// Addresses from which a Refresh with the nonce of second 1000 comes, seconds, and the codes of the replies.
+const JUDGED: [(u32, u16, u64, u16); 7] = [
+    (0xC000_0201, 32853, 999, 438),
+    (0xC000_0201, 32853, 1000, 437),
+    (0xC000_0201, 32853, 4599, 437),
+    (0xC000_0201, 32853, 4600, 438),
+    (0xC000_0202, 40000, 1000, 438),
+    (0xC000_0201, 40000, 1000, 438),
+    (0xC000_0202, 32853, 1000, 438),
+];
+
+/// Whether a datagram is refused with a new nonce at 438, and by a signed error else.
+fn is_judged(
+    alloc: Global,
+    bytes: &[u8],
+    client: Endpoint,
+    second: u64,
+    code: u16,
+) -> Result<bool, Fail> {
+    let found = reply(alloc, bytes, client, second)?;
+    if code == 438 {
+        return is_challenge(&found, code, &nonce_of(second, client)?);
+    }
+    is_signed(&found, code, ALICE)
+}
+
+#[test]
+fn nonce_is_of_its_client_and_holds_for_an_hour(rt: HostRuntime) -> Result<(), Fail> {
+    let bytes = signed(rt.alloc(), Kind::Refresh, ID, ALICE, NONCE, &[])?;
+    for (ip, port, second, code) in &JUDGED {
+        let client = Endpoint {
+            ip: *ip,
+            port: *port,
+        };
+        assert!(rt; is_judged(rt.alloc(), &bytes, client, *second, *code)?);
+    }
+    Ok(())
+}
+
+#[test]
+fn wrong_password_is_challenged(rt: HostRuntime) -> Result<(), Fail> {
+    let user = User::Impostor;
+    let bytes = signed(rt.alloc(), Kind::CreatePermission, ID, user, NONCE, &[])?;
+    let found = reply(rt.alloc(), &bytes, FIRST, 1000)?;
+    assert!(rt; is_challenge(&found, 401, NONCE)?);
+    Ok(())
+}
+
+/// A Refresh of alice without a nonce.
+fn without_nonce(alloc: Global) -> Result<Vec<u8>, Fail> {
+    let mut builder = Builder::new(alloc, Class::Request, Method::REFRESH, ID)?;
+    builder.push(AttributeType::USERNAME, b"alice")?;
+    builder.push(AttributeType::REALM, REALM)?;
+    append_integrity(&mut builder, &ALICE.key())?;
+    Ok(builder.finish())
+}
+
+/// A Refresh of alice with name, realm and nonce after the integrity.
+fn after_the_integrity(alloc: Global) -> Result<Vec<u8>, Fail> {
+    let mut builder = Builder::new(alloc, Class::Request, Method::REFRESH, ID)?;
+    append_integrity(&mut builder, &ALICE.key())?;
+    builder.push(AttributeType::USERNAME, b"alice")?;
+    builder.push(AttributeType::REALM, REALM)?;
+    builder.push(AttributeType::NONCE, NONCE)?;
+    Ok(builder.finish())
+}
+
+/// Whether a datagram gets 400 and no other attribute.
+fn is_bad(alloc: Global, bytes: &[u8]) -> Result<bool, Fail> {
+    let found = reply(alloc, bytes, FIRST, 1000)?;
+    let message = Message::parse(&found)?;
+    Ok(code_of(&message)? == 400 && message.attributes().count() == 1)
+}
+
+#[test]
+fn request_that_lacks_a_credential_is_400(rt: HostRuntime) -> Result<(), Fail> {
+    assert!(rt; is_bad(rt.alloc(), &without_nonce(rt.alloc())?)?);
+    assert!(rt; is_bad(rt.alloc(), &after_the_integrity(rt.alloc())?)?);
+    Ok(())
+}
+
+/// Bob's requests, and their codes where he has no allocation.
+const PASSED: [(Kind, &[Attribute], u16); 5] = [
+    (Kind::Allocate, &[], 400),
+    (Kind::Refresh, &[], 437),
+    (Kind::CreatePermission, &[], 437),
+    (Kind::ChannelBind, &[], 437),
+    (Kind::ChannelBind, &[FLAG], 420),
+];
+
+/// Whether bob's request with the nonce of second 1000 gets an error of a code under his key.
+fn passes(alloc: Global, kind: Kind, attributes: &[Attribute], code: u16) -> Result<bool, Fail> {
+    let bytes = signed(alloc, kind, ID, BOB, NONCE, attributes)?;
+    is_signed(&reply(alloc, &bytes, FIRST, 1000)?, code, BOB)
+}
+
+#[test]
+fn who_passed_is_answered_under_his_key(rt: HostRuntime) -> Result<(), Fail> {
+    for (kind, attributes, code) in &PASSED {
+        assert!(rt; passes(rt.alloc(), *kind, attributes, *code)?);
+    }
+    Ok(())
+}

@@ -1,0 +1,40 @@
+//! The calls that judge a request, without a step.
+
+use crate::requests::*;
+use crate::setup::{SETUP, users};
+use std::alloc::Global;
+use std::test::Fail;
+use turn_codec::Message;
+use turn_cred::Checker;
+use turn_rules::{Decision, Request, decide, is_protected};
+use turn_table::Table;
+use turn_types::{Moment, ServerConfig};
+
+/// A datagram of 192.0.2.1:32853, with the outcome of the credential check at a moment.
+pub fn judged<'a>(
+    alloc: Global,
+    config: &ServerConfig,
+    bytes: &'a [u8],
+    moment: Moment,
+) -> Result<Request<'a>, Fail> {
+    let mut checker = Checker::new(alloc, config, users(alloc)?).map_err(|_| "memory")?;
+    let message = Message::parse(bytes)?;
+    let verdict = if is_protected(message.method()) {
+        Some(checker.check(&message, FIRST, moment))
+    } else {
+        None
+    };
+    Ok(Request {
+        message,
+        five_tuple: five_tuple(FIRST),
+        verdict,
+    })
+}
+
+/// What is decided about a datagram of 192.0.2.1:32853 at a table's moment.
+pub fn decided(alloc: Global, table: &Table, bytes: &[u8]) -> Result<Decision, Fail> {
+    let config = SETUP.config(alloc)?;
+    let moment = table.moment();
+    let request = judged(alloc, &config, bytes, moment)?;
+    Ok(decide(alloc, table, &config, &request, moment, None)?)
+}

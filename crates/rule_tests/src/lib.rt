@@ -1,0 +1,44 @@
+//! Tests of requests and of relayed data over public items alone, in a crate of their own, so that the crates that they
+//! test are proved once. The library itself is empty.
+#![tactic(auto)]
+
+#[cfg(test)]
+mod acts;
+#[cfg(test)]
+mod allocate;
+#[cfg(test)]
+mod binding;
+#[cfg(test)]
+mod channels;
+#[cfg(test)]
+mod clients_data;
+#[cfg(test)]
+mod credentials;
+#[cfg(test)]
+mod judged;
+#[cfg(test)]
+mod needs_port;
+#[cfg(test)]
+mod peers_data;
+#[cfg(test)]
+mod permissions;
+#[cfg(test)]
+mod player;
+#[cfg(test)]
+mod ports;
+#[cfg(test)]
+mod references;
+#[cfg(test)]
+mod refresh;
+#[cfg(test)]
+mod refused_growths;
+#[cfg(test)]
+mod released_ports;
+#[cfg(test)]
+mod requests;
+#[cfg(test)]
+mod row;
+#[cfg(test)]
+mod setup;
+#[cfg(test)]
+mod tables;

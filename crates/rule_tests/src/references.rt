@@ -1,0 +1,382 @@
+//! The reference implementation of tables, and the table against it.
+
+use crate::tables::{PEER_IP, Step, act_of, peer, purge_to, tuple};
+use history_tables::{Entry, Event, table_at};
+use refusing::Refusing;
+use std::alloc::{AllocError, Allocator};
+use std::collections::BTreeMap;
+use std::test::Fail;
+use turn_history::Channel;
+use turn_table::Table;
+use turn_types::{Bounds, FiveTuple, Limits, Moment, TxId};
+
+type Reference<A> = BTreeMap<FiveTuple, Entry<A>, A>;
+
+/// Moments in seconds, clients' ports and acts.
+type Steps<'a> = &'a [(u64, u16, Step)];
+
+fn event_of<A: Allocator + Copy>(
+    alloc: A,
+    moment: Moment,
+    client: u16,
+    step: Step,
+) -> Result<Event<A>, AllocError> {
+    let act = act_of(alloc, step)?;
+    let tuple = tuple(client);
+    Ok(Event { moment, tuple, act })
+}
+
+/// The first of some events.
+fn history_of<A: Allocator + Copy>(
+    alloc: A,
+    steps: Steps<'_>,
+    count: usize,
+) -> Result<Vec<Event<A>, A>, Fail> {
+    let mut history = Vec::new(alloc);
+    for (seconds, client, step) in steps.iter().take(count) {
+        let moment = Moment::new(*seconds).ok_or("a moment")?;
+        history.push(event_of(alloc, moment, *client, *step)?)?;
+    }
+    Ok(history)
+}
+
+// ---- The reference implementation by itself
+
+/// The expiry of a client's entry, of the permission of the peers' address, and of channel 0x4000; 0 for none.
+fn expiries<A: Allocator>(table: &Reference<A>, client: u16) -> (u64, u64, u64) {
+    let Some(entry) = table.get(&tuple(client)) else {
+        return (0, 0, 0);
+    };
+    let permission = entry.permissions.get(&PEER_IP).copied().unwrap_or(0);
+    let channel = match entry.channels.get(&0x4000) {
+        Some(channel) => channel.expiry,
+        None => 0,
+    };
+    (entry.expiry, permission, channel)
+}
+
+const REFRESHED: [(u64, u16, Step); 2] = [
+    (1000, 1, Step::Alloc(b"alice", 50000, 600)),
+    (1100, 1, Step::Renew(1200)),
+];
+
+const PERMITTED: [(u64, u16, Step); 3] = [
+    (1000, 1, Step::Alloc(b"alice", 50000, 3600)),
+    (1000, 1, Step::Permit(&[PEER_IP])),
+    (1200, 1, Step::Permit(&[7])),
+];
+
+const BOUND: [(u64, u16, Step); 2] = [
+    (1000, 1, Step::Alloc(b"alice", 50000, 3600)),
+    (1000, 1, Step::Bind(0x4000, 9)),
+];
+
+const AGAIN: [(u64, u16, Step); 4] = [
+    (1000, 1, Step::Alloc(b"alice", 50000, 600)),
+    (1000, 1, Step::Bind(0x4000, 9)),
+    (1100, 1, Step::Renew(0)),
+    (1100, 1, Step::Alloc(b"alice", 50001, 600)),
+];
+
+/// What comes before any Alloc.
+const BEFORE: [(u64, u16, Step); 2] = [(1000, 1, Step::Bind(0x4000, 9)), (1100, 1, Step::Renew(0))];
+
+const PORT_AGAIN: [(u64, u16, Step); 2] = [
+    (1000, 1, Step::Alloc(b"alice", 50000, 600)),
+    (1600, 2, Step::Alloc(b"alice", 50000, 600)),
+];
+
+/// A permission of 1000 is installed again at 1250, and so is a channel's by its second Bind.
+const INSTALLED_AGAIN: [(u64, u16, Step); 4] = [
+    (1000, 1, Step::Alloc(b"alice", 50000, 3600)),
+    (1000, 1, Step::Permit(&[PEER_IP])),
+    (1250, 1, Step::Bind(0x4000, 9)),
+    (1800, 1, Step::Bind(0x4000, 9)),
+];
+
+/// How many of some events, a moment in seconds, a client, and the expiries of its entry then.
+const EXPIRIES: [(Steps<'static>, usize, u64, u16, (u64, u64, u64)); 20] = [
+    // 600 s at 1000, refreshed to 1200 s at 1100.
+    (&REFRESHED, 1, 1599, 1, (1600, 0, 0)),
+    (&REFRESHED, 1, 1600, 1, (0, 0, 0)),
+    (&REFRESHED, 2, 1600, 1, (2300, 0, 0)),
+    (&REFRESHED, 2, 2299, 1, (2300, 0, 0)),
+    (&REFRESHED, 2, 2300, 1, (0, 0, 0)),
+    (&REFRESHED, 2, 1600, 2, (0, 0, 0)),
+    // Permissions last 300 s.
+    (&PERMITTED, 3, 1299, 1, (4600, 1300, 0)),
+    (&PERMITTED, 3, 1300, 1, (4600, 0, 0)),
+    // A channel lasts 600 s, the permission that its Bind installs 300 s.
+    (&BOUND, 2, 1299, 1, (4600, 1300, 1600)),
+    (&BOUND, 2, 1300, 1, (4600, 0, 1600)),
+    (&BOUND, 2, 1599, 1, (4600, 0, 1600)),
+    (&BOUND, 2, 1600, 1, (4600, 0, 0)),
+    // A Refresh with 0 ends an allocation, and the next one keeps nothing of it.
+    (&AGAIN, 3, 1100, 1, (0, 0, 0)),
+    (&AGAIN, 4, 1100, 1, (1700, 0, 0)),
+    // A port is taken again at the moment when its allocation expires.
+    (&PORT_AGAIN, 2, 1600, 1, (0, 0, 0)),
+    (&PORT_AGAIN, 2, 1600, 2, (2200, 0, 0)),
+    (&INSTALLED_AGAIN, 3, 1549, 1, (4600, 1550, 1850)),
+    (&INSTALLED_AGAIN, 4, 1850, 1, (4600, 2100, 2400)),
+    // What comes before any Alloc does nothing.
+    (&BEFORE, 2, 1100, 1, (0, 0, 0)),
+    (&BEFORE, 0, 1000, 1, (0, 0, 0)),
+];
+
+/// Whether a client's entry has these expiries after some events.
+fn expires<A: Allocator + Copy>(
+    alloc: A,
+    history: &[Event<A>],
+    seconds: u64,
+    client: u16,
+    expected: (u64, u64, u64),
+) -> Result<bool, Fail> {
+    let moment = Moment::new(seconds).ok_or("a moment")?;
+    let table = table_at(alloc, history, moment)?;
+    Ok(expiries(&table, client) == expected)
+}
+
+#[test]
+fn the_reference_expires_as_granted(rt: HostRuntime) -> Result<(), Fail> {
+    for (steps, count, seconds, client, expected) in &EXPIRIES {
+        let history = history_of(rt.alloc(), steps, *count)?;
+        assert!(rt; expires(rt.alloc(), &history, *seconds, *client, *expected)?);
+    }
+    Ok(())
+}
+
+const FIELDS: [(u64, u16, Step); 5] = [
+    (1000, 2, Step::Alloc(b"alice", 50001, 600)),
+    (1000, 1, Step::Alloc(b"alice", 50000, 700)),
+    (1001, 1, Step::Permit(&[7])),
+    (1002, 1, Step::Bind(0x4FFF, 9)),
+    (1003, 1, Step::Renew(800)),
+];
+
+fn fields_are<A: Allocator>(entry: &Entry<A>) -> bool {
+    entry.user.as_slice() == b"alice".as_slice()
+        && (entry.port, entry.granted, entry.expiry) == (50000, 700, 1803)
+        && entry.tx == TxId([7; 12])
+}
+
+fn maps_are<A: Allocator>(entry: &Entry<A>) -> bool {
+    let channel = Channel {
+        peer: peer(9),
+        expiry: 1602,
+    };
+    entry.permissions.len() == 2
+        && entry.permissions.get(&7).copied() == Some(1301)
+        && entry.permissions.get(&PEER_IP).copied() == Some(1302)
+        && entry.channels.len() == 1
+        && entry.channels.get(&0x4FFF).copied() == Some(channel)
+}
+
+#[test]
+fn the_reference_has_each_field(rt: HostRuntime) -> Result<(), Fail> {
+    let history = history_of(rt.alloc(), &FIELDS, 5)?;
+    let moment = Moment::new(1003).ok_or("a moment")?;
+    let table = table_at(rt.alloc(), &history, moment)?;
+    let mut tuples = table.keys();
+    assert!(rt; tuples.next().copied() == Some(tuple(1)));
+    assert!(rt; tuples.next().copied() == Some(tuple(2)));
+    assert!(rt; tuples.next().is_none());
+    let entry = table.get(&tuple(1)).ok_or("an entry")?;
+    assert!(rt; fields_are(entry) && maps_are(entry));
+    Ok(())
+}
+
+#[test]
+fn the_reference_fails_only_without_memory(rt: HostRuntime) -> Result<(), Fail> {
+    let refusing = Refusing::new(rt.alloc(), u64::MAX);
+    let history = history_of(&refusing, &INSTALLED_AGAIN, 4)?;
+    let moment = Moment::new(1800).ok_or("a moment")?;
+    for served in 0..100u64 {
+        refusing.arm(served);
+        let refused = table_at(&refusing, &history, moment).is_err();
+        if refused != refusing.has_refused() {
+            return Err(Fail::new(served));
+        }
+        refusing.arm(u64::MAX);
+        assert!(rt; expires(&refusing, &history, 1800, 1, (4600, 2100, 2400))?);
+        if !refused {
+            assert!(rt; 3 < served);
+            return Ok(());
+        }
+    }
+    Err(Fail::new("some growth is always refused"))
+}
+
+// ---- The table against the reference
+
+const CLIENTS: u64 = 4;
+
+const USERS: [&[u8]; 2] = [b"alice", b"bob"];
+
+const ADDRESSES: [u32; 4] = [PEER_IP, 1, 2, 3];
+
+const PERMITS: [&[u32]; 4] = [&[1], &[2, 3], &[3, 1], &[1, 2, 3]];
+
+fn is_same<A: Allocator + Copy>(entry: &turn_table::Entry<A>, reference: &Entry<A>) -> bool {
+    entry.user() == reference.user.as_slice()
+        && entry.port() == reference.port
+        && entry.granted() == reference.granted
+        && entry.tx() == reference.tx
+        && entry.expiry() == reference.expiry
+}
+
+fn has_same_permissions<A: Allocator + Copy>(
+    entry: &turn_table::Entry<A>,
+    reference: &Entry<A>,
+) -> bool {
+    for ip in &ADDRESSES {
+        if entry.is_permitted(*ip) != reference.permissions.get(ip).is_some() {
+            return false;
+        }
+    }
+    true
+}
+
+fn has_same_channels<A: Allocator + Copy>(
+    entry: &turn_table::Entry<A>,
+    reference: &Entry<A>,
+) -> bool {
+    for number in 0x4000..0x4004u16 {
+        let channel = entry.channel(number);
+        if channel != reference.channels.get(&number).copied() {
+            return false;
+        }
+        if let Some(channel) = channel {
+            if entry.channel_to(channel.peer) != Some(number) {
+                return false;
+            }
+        }
+    }
+    true
+}
+
+fn count_of<A: Allocator>(reference: &Reference<A>, user: &[u8]) -> usize {
+    reference
+        .values()
+        .filter(|entry| entry.user.as_slice() == user)
+        .count()
+}
+
+/// Whether each user has as many entries in a table as in the reference.
+fn has_same_counts<A: Allocator + Copy>(table: &Table<A>, reference: &Reference<A>) -> bool {
+    for user in &USERS {
+        if table.count_of_user(user) != count_of(reference, user) {
+            return false;
+        }
+    }
+    table.len() == reference.len()
+}
+
+fn is_at_port<A: Allocator + Copy>(table: &Table<A>, port: u16, tuple: FiveTuple) -> bool {
+    match table.by_port(port) {
+        Some((found, _)) => found == tuple,
+        None => false,
+    }
+}
+
+/// Whether a table has the entries of the reference, in their order, with all that they hold.
+fn has_same_entries<A: Allocator + Copy>(table: &Table<A>, reference: &Reference<A>) -> bool {
+    let mut entries = table.entries();
+    for (tuple, expected) in reference {
+        let Some((found, entry)) = entries.next() else {
+            return false;
+        };
+        if found != *tuple
+            || !is_same(entry, expected)
+            || !is_at_port(table, expected.port, *tuple)
+        {
+            return false;
+        }
+        if !has_same_permissions(entry, expected) || !has_same_channels(entry, expected) {
+            return false;
+        }
+    }
+    entries.next().is_none()
+}
+
+fn agrees<A: Allocator + Copy>(
+    alloc: A,
+    table: &Table<A>,
+    history: &[Event<A>],
+) -> Result<bool, Fail> {
+    let reference = table_at(alloc, history, table.moment())?;
+    Ok(has_same_counts(table, &reference) && has_same_entries(table, &reference))
+}
+
+/// The next word of a linear congruential generator, whose higher bits serve.
+fn next_word(word: u64) -> u64 {
+    word.wrapping_mul(6_364_136_223_846_793_005)
+        .wrapping_add(1_442_695_040_888_963_407)
+}
+
+/// An act of a word: each kind, over few ports, addresses, numbers and peers, so that acts meet.
+fn step_of(word: u64) -> Step {
+    let some = (word >> 36) % 4;
+    let other = (word >> 38) % 4;
+    let user = USERS[((word >> 40) % 2) as usize];
+    match (word >> 33) % 8 {
+        0 | 1 => Step::Alloc(user, 50000 + some as u16, 600 + 300 * other as u32),
+        2 => Step::Renew(600 * some as u32),
+        3 | 4 => Step::Permit(PERMITS[some as usize]),
+        _ => Step::Bind(0x4000 + some as u16, 1 + other as u16),
+    }
+}
+
+/// Applies an act to a table and adds it to the history, if it fits.
+fn change<A: Allocator + Copy>(
+    alloc: A,
+    table: &mut Table<A>,
+    history: &mut Vec<Event<A>, A>,
+    client: u16,
+    step: Step,
+) -> Result<(), AllocError> {
+    let act = act_of(alloc, step)?;
+    let tuple = tuple(client);
+    if !table.fits(tuple, &act) {
+        return Ok(());
+    }
+    table.reserve_for(tuple, &act)?;
+    history.push(event_of(alloc, table.moment(), client, step)?)?;
+    table.apply(table.moment(), tuple, act);
+    Ok(())
+}
+
+/// Plays changes that a seed makes, compares after each, and returns how many acts fitted and how many entries expired.
+fn play<A: Allocator + Copy>(alloc: A, seed: u64, changes: u32) -> Result<(usize, usize), Fail> {
+    let bounds = Bounds {
+        allocations: 3,
+        permissions: 3,
+        channels: 2,
+        acts: 1,
+        name_bytes: 8,
+    };
+    let limits = Limits::new(bounds).ok_or("limits")?;
+    let mut table = Table::new(alloc, limits, Moment::new(1000).ok_or("a moment")?);
+    let mut history = Vec::new(alloc);
+    let (mut word, mut expired) = (seed, 0usize);
+    for place in 0..changes {
+        word = next_word(word);
+        // All moments and expiry times are multiples of 100, so that many fall together.
+        let seconds = table.moment().seconds() + 100 * ((word >> 56) % 4);
+        let (removed, _) = purge_to(&mut table, seconds)?;
+        let client = 1 + ((word >> 42) % CLIENTS) as u16;
+        change(alloc, &mut table, &mut history, client, step_of(word))?;
+        expired = expired.wrapping_add(removed);
+        if !agrees(alloc, &table, &history)? {
+            return Err(Fail::new(place));
+        }
+    }
+    Ok((history.len(), expired))
+}
+
+#[test]
+fn the_table_agrees_with_the_reference(rt: HostRuntime) -> Result<(), Fail> {
+    let (fitted, expired) = play(rt.alloc(), 1, 400)?;
+    assert!(rt; 100 < fitted && 10 < expired);
+    Ok(())
+}

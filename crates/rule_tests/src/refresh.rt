@@ -1,0 +1,144 @@
+//! Refresh.
+
+use crate::player::{Player, play};
+use crate::requests::*;
+use crate::row::{ALLOCATED, Asked, Refused, Row};
+use crate::setup::SETUP;
+use std::test::Fail;
+use turn_codec::{AttributeType, Message};
+
+const REFRESH: Kind = Kind::Refresh;
+
+/// By HMAC-SHA256 of another program: the nonce of second 4600 for 192.0.2.1:32853 under a secret of 32 zero bytes.
+const NEXT_NONCE: &[u8] =
+    b"00000000000011f8ae82317d7fa01e5b4dea76ec0af7675c3d730e4c24cd95884b20b252480d4278";
+
+/// The error code of the reply to a datagram of the first client, and the nonce in it, if there is one.
+fn is_answered(
+    player: &mut Player,
+    second: u64,
+    bytes: &[u8],
+    code: u16,
+    nonce: Option<&[u8]>,
+) -> Result<bool, Fail> {
+    let found = player.reply(FIRST, second, bytes)?.ok_or("a reply")?;
+    let message = Message::parse(&found)?;
+    Ok(code_of(&message)? == code && message.find(AttributeType::NONCE) == nonce)
+}
+
+const EXPIRY: [Row; 1] = [Row::Expiry(4600, 5199)];
+
+fn play_old_nonce(player: &mut Player, bytes: &[u8]) -> Result<(), Fail> {
+    player.play(&[ALLOCATED])?;
+    if !is_answered(player, 4599, bytes, 0, None)? {
+        return Err(Fail::new("within the hour"));
+    }
+    if !is_answered(player, 4600, bytes, 438, Some(NEXT_NONCE))? {
+        return Err(Fail::new("after an hour"));
+    }
+    player.play(&EXPIRY)
+}
+
+// The allocation lives longer than the nonce.
+#[test]
+fn nonce_of_an_hour_ago_is_438(rt: HostRuntime) -> Result<(), Fail> {
+    let nonce = nonce_of(1000, FIRST)?;
+    let bytes = signed(rt.alloc(), REFRESH, ID, ALICE, &nonce, &[])?;
+    play_old_nonce(&mut Player::new(rt.alloc(), rt.alloc(), &SETUP)?, &bytes)
+}
+
+/// The success of a Refresh of 0, with an HMAC-SHA1 of another program.
+const DELETED: &[u8] =
+    b"\x01\x04\x00\x20\x21\x12\xa4\x42\x01\x02\x03\x04\x05\x06\x07\x08\x09\x0a\x0b\x0c\
+    \x00\x0d\x00\x04\x00\x00\x00\x00\x00\x08\x00\x14\x9f\xe5\x25\x57\xf5\xda\x1a\xad\
+    \x31\x66\x1f\x18\x27\x70\xa8\x59\x8b\x3a\x96\xdf";
+
+const DELETION: [Row; 4] = [
+    ALLOCATED,
+    Row::Reply(1000, REFRESH, &[ZERO], DELETED),
+    Row::Entries(0),
+    Row::Ask(1000, ALICE, FIRST, REFRESH, &[ZERO], 437),
+];
+
+#[test]
+fn refresh_of_0_deletes_the_allocation(rt: HostRuntime) -> Result<(), Fail> {
+    play(rt.alloc(), &SETUP, &DELETION)
+}
+
+// From the moment of the request on, whatever was granted before.
+const GRANTS: [Row; 11] = [
+    ALLOCATED,
+    Row::Grant(1100, REFRESH, 100, 600),
+    Row::Grant(1100, REFRESH, 600, 600),
+    Row::Grant(1100, REFRESH, 601, 601),
+    Row::Grant(1100, REFRESH, 1200, 1200),
+    Row::Grant(1100, REFRESH, 3600, 3600),
+    Row::Grant(1100, REFRESH, 3601, 3600),
+    Row::Grant(1100, REFRESH, 999_999, 3600),
+    Row::Grant(1100, REFRESH, 4_294_967_295, 3600),
+    Row::Ask(1200, ALICE, FIRST, REFRESH, &[], 0),
+    Row::Expiry(1200, 1800),
+];
+
+#[test]
+fn refresh_grants_600_to_3600_seconds(rt: HostRuntime) -> Result<(), Fail> {
+    play(rt.alloc(), &SETUP, &GRANTS)
+}
+
+// Where several errors apply, the first one of the order counts.
+const ROWS: [Asked; 11] = [
+    ("a flag, no allocation", ALICE, SECOND, &[FLAG], 420),
+    ("a flag, bob", BOB, FIRST, &[FLAG], 420),
+    ("bob, no allocation", BOB, SECOND, &[], 437),
+    (
+        "malformed, no allocation",
+        ALICE,
+        SECOND,
+        &[SHORT_LIFETIME],
+        437,
+    ),
+    ("bob", BOB, FIRST, &[], 441),
+    ("bob, malformed", BOB, FIRST, &[SHORT_LIFETIME], 441),
+    ("bob, IPv6", BOB, FIRST, &[IPV6], 441),
+    ("bob, to delete", BOB, FIRST, &[ZERO], 441),
+    (
+        "malformed, IPv6",
+        ALICE,
+        FIRST,
+        &[SHORT_LIFETIME, IPV6],
+        400,
+    ),
+    ("IPv6", ALICE, FIRST, &[IPV6], 443),
+    ("IPv6, to delete", ALICE, FIRST, &[IPV6, ZERO], 443),
+];
+
+const REFUSED: [Row; 3] = [
+    ALLOCATED,
+    Row::Asks(1100, REFRESH, &ROWS),
+    Row::Expiry(1100, 4600),
+];
+
+#[test]
+fn refresh_gets_the_first_error_that_applies(rt: HostRuntime) -> Result<(), Fail> {
+    play(rt.alloc(), &SETUP, &REFUSED)
+}
+
+const LENGTHS: [Refused; 6] = [
+    ("LIFETIME, 0", &[Attribute::Of(0x000D, 0)], 400),
+    ("LIFETIME, 3", &[Attribute::Of(0x000D, 3)], 400),
+    ("LIFETIME, 5", &[Attribute::Of(0x000D, 5)], 400),
+    ("family, 0", &[Attribute::Of(0x0017, 0)], 400),
+    ("family, 3", &[Attribute::Of(0x0017, 3)], 400),
+    ("family, 5", &[Attribute::Of(0x0017, 5)], 400),
+];
+
+const WRONG_LENGTHS: [Row; 3] = [
+    ALLOCATED,
+    Row::Refuses(1100, REFRESH, &LENGTHS),
+    Row::Expiry(1100, 4600),
+];
+
+#[test]
+fn refresh_with_a_wrong_length_is_400(rt: HostRuntime) -> Result<(), Fail> {
+    play(rt.alloc(), &SETUP, &WRONG_LENGTHS)
+}

@@ -1,0 +1,65 @@
+//! Rows of tests.
+
+use crate::requests::*;
+use turn_types::Endpoint;
+
+/// What a request of alice from the first client is, and the code of its reply.
+pub type Refused = (&'static str, &'static [Attribute], u16);
+
+/// What a request is, who sends it from where, and the code of its reply.
+pub type Asked = (&'static str, User, Endpoint, &'static [Attribute], u16);
+
+/// What a test does and finds, each at a second. Seconds never fall.
+#[derive(Clone, Copy)]
+pub enum Row {
+    /// A request of a user from a client, and the code of its reply, 0 for a success.
+    Ask(u64, User, Endpoint, Kind, &'static [Attribute], u16),
+    /// Such requests.
+    Asks(u64, Kind, &'static [Asked]),
+    /// Such requests of alice from the first client.
+    Refuses(u64, Kind, &'static [Refused]),
+    /// Alice's request, and the bytes of its reply.
+    Reply(u64, Kind, &'static [Attribute], &'static [u8]),
+    /// Alice's request for so many seconds, and how many are granted.
+    Grant(u64, Kind, u32, u32),
+    /// A datagram of the first client, and its reply, if it has one.
+    Answer(u64, &'static [u8], Option<&'static [u8]>),
+    /// A datagram of the first client, and the payload that 203.0.113.5:7000 gets of it from port 50000, if it gets one.
+    Send(u64, &'static [u8], Option<&'static [u8]>),
+    /// A datagram to port 50000 from an address, and what the first client gets of it, if it gets anything.
+    Receive(u64, Endpoint, &'static [u8], Option<&'static [u8]>),
+    /// A client's datagram that sends nothing.
+    Drop(u64, Endpoint, &'static [u8]),
+    /// A datagram from an address to a port that sends nothing.
+    DropAt(u64, u16, Endpoint, &'static [u8]),
+    /// The port of a client's allocation, 0 for none.
+    Port(u64, Endpoint, u16),
+    /// The second at which the first client's allocation expires, 0 for none.
+    Expiry(u64, u64),
+    /// Whether an address is permitted to the first client.
+    Permitted(u64, u32, bool),
+    /// The port to which 0x4000 is bound at 203.0.113.5 for the first client, 0 for none, and whether that address is
+    /// permitted.
+    Bound(u64, u16, bool),
+    /// The peer to which a channel of the first client is bound, if it is.
+    Peer(u64, u16, Option<Endpoint>),
+    /// Alice's CreatePermission that names so many addresses from one on, each twice, and the code of its reply.
+    Names(u64, u32, u32, u16),
+    /// How many allocations there are.
+    Entries(usize),
+    /// The ports that were released up to now, in any order.
+    Released(&'static [u16]),
+    /// The ports that were picked up to now, in order.
+    Picked(&'static [u16]),
+    /// How often the generator failed up to now.
+    Failures(u64),
+}
+
+/// An allocation of alice at the first client for an hour from second 1000 on.
+pub const ALLOCATED: Row = Row::Ask(1000, ALICE, FIRST, Kind::Allocate, &[UDP, HOUR], 0);
+
+/// 203.0.113.5 is permitted to it from second 1000 on.
+pub const PERMITTED: Row = Row::Ask(1000, ALICE, FIRST, Kind::CreatePermission, &[PEER], 0);
+
+/// Its channel 0x4000 is bound to 203.0.113.5:7000 from second 1000 on.
+pub const BOUND: Row = Row::Ask(1000, ALICE, FIRST, Kind::ChannelBind, &[LOWEST, PEER], 0);

@@ -1,0 +1,12 @@
+mod area;
+mod disk_crashes;
+mod disk_faults;
+mod disk_files;
+mod disk_memory;
+mod disk_writes;
+mod disks;
+mod journal_area;
+mod journal_memory;
+mod journal_scan;
+mod journal_stops;
+mod records;

@@ -1,0 +1,62 @@
+use super::disks::{disk_of, write};
+use std::alloc::{AllocError, Global};
+use std::process::Abort;
+use std::test::Fail;
+use turn_disk::{Disk, MemoryDisk, Outcome};
+
+// Three writes that overlap, the newest within the other two. The images were worked out by hand.
+const OVERLAPPING: [(usize, &[u8]); 3] = [(1, b"abcde"), (3, b"VWXYZ"), (2, b"mno")];
+
+const OVERLAPPING_IMAGES: [(Outcome, &[u8; 10]); 4] = [
+    (Outcome::Lost, b"0123456789"),
+    (Outcome::Kept, b"0amnoXYZ89"),
+    (Outcome::Half, b"0amVW56789"),
+    (Outcome::Fill(b'*'), b"0*******89"),
+];
+
+// One write with a sync, and one without.
+const SYNCED_IMAGES: [(Outcome, &[u8; 10]); 4] = [
+    (Outcome::Lost, b"0abcde6789"),
+    (Outcome::Kept, b"0abcde67xy"),
+    (Outcome::Half, b"0abcde67x9"),
+    (Outcome::Fill(b'*'), b"0abcde67**"),
+];
+
+fn overlapping(rt: &impl Abort, alloc: Global) -> Result<MemoryDisk, AllocError> {
+    let mut disk = disk_of(alloc, b"0123456789")?;
+    for (at, bytes) in &OVERLAPPING {
+        assert!(rt; write(rt, &mut disk, *at, bytes));
+    }
+    assert!(rt; disk.content() == b"0amnoXYZ89".as_slice());
+    Ok(disk)
+}
+
+fn synced(rt: &impl Abort, alloc: Global) -> Result<MemoryDisk, AllocError> {
+    let mut disk = disk_of(alloc, b"0123456789")?;
+    assert!(rt; write(rt, &mut disk, 1, b"abcde"));
+    assert!(rt; disk.sync().is_ok());
+    assert!(rt; write(rt, &mut disk, 8, b"xy"));
+    Ok(disk)
+}
+
+#[test]
+fn a_crash_leaves_a_part_of_each_pending_write(rt: HostRuntime) -> Result<(), Fail> {
+    for (outcome, image) in &OVERLAPPING_IMAGES {
+        let mut disk = overlapping(&rt, rt.alloc())?;
+        disk.crash(*outcome);
+        assert!(rt; disk.content() == image.as_slice());
+        disk.crash(Outcome::Lost);
+        assert!(rt; disk.content() == image.as_slice());
+    }
+    Ok(())
+}
+
+#[test]
+fn a_crash_keeps_what_was_synced(rt: HostRuntime) -> Result<(), Fail> {
+    for (outcome, image) in &SYNCED_IMAGES {
+        let mut disk = synced(&rt, rt.alloc())?;
+        disk.crash(*outcome);
+        assert!(rt; disk.content() == image.as_slice());
+    }
+    Ok(())
+}

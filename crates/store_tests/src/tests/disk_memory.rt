@@ -1,0 +1,58 @@
+use super::disks::{disk_of, write};
+use refusing::Refusing;
+use std::alloc::{AllocError, Allocator};
+use std::process::Abort;
+use turn_disk::{Disk, MemoryDisk, Outcome};
+
+// The contents after each of four calls, the second of which is a sync.
+const CONTENTS: [&[u8; 8]; 4] = [b"abcd4567", b"abcd4567", b"ababcd67", b"abaabcd7"];
+
+// Whether the call succeeds: call 1 syncs, and each other one writes at the position of its number.
+fn make_call<A: Allocator>(rt: &impl Abort, disk: &mut MemoryDisk<A>, call: usize) -> bool {
+    if call == 1 {
+        return disk.sync().is_ok();
+    }
+    write(rt, disk, call, b"abcd")
+}
+
+// A call that fails leaves the content before it, and succeeds when it is repeated.
+fn make_calls<A: Allocator, B: Allocator>(
+    rt: &impl Abort,
+    disk: &mut MemoryDisk<A>,
+    refusing: &Refusing<B>,
+) {
+    let mut before = b"01234567";
+    for (call, after) in CONTENTS.iter().enumerate() {
+        if !make_call(rt, disk, call) {
+            assert!(rt; disk.content() == before.as_slice());
+            assert!(rt; refusing.has_refused());
+            assert!(rt; make_call(rt, disk, call));
+        }
+        assert!(rt; disk.content() == after.as_slice());
+        before = after;
+    }
+}
+
+fn refuse<B: Allocator>(
+    rt: &impl Abort,
+    refusing: &Refusing<B>,
+    served: u64,
+) -> Result<(), AllocError> {
+    refusing.arm(u64::MAX);
+    let mut disk = disk_of(refusing, b"01234567")?;
+    refusing.arm(served);
+    make_calls(rt, &mut disk, refusing);
+    assert!(rt; (disk.failures() == 1) == refusing.has_refused());
+    disk.crash(Outcome::Lost);
+    assert!(rt; disk.content() == b"abcd4567".as_slice());
+    Ok(())
+}
+
+#[test]
+fn a_call_without_memory_for_its_record_changes_nothing(rt: HostRuntime) -> Result<(), AllocError> {
+    let refusing = Refusing::new(rt.alloc(), u64::MAX);
+    for served in 0..16u64 {
+        refuse(&rt, &refusing, served)?;
+    }
+    Ok(())
+}

@@ -1,0 +1,106 @@
+use super::disks::disk_of;
+use std::alloc::{AllocError, Global};
+use std::process::Abort;
+use turn_disk::{
+    Bytes, Chain, DeviceFailed, Disk, MemoryDisk, PIECE, read_array, write_produced, write_through,
+};
+
+// The sizes of two parts, and how many device calls it takes to write both.
+const ROWS: [(usize, usize, u64); 5] = [
+    (0, 0, 1),
+    (1, 1, 2),
+    (4000, 96, 2),
+    (4000, 97, 3),
+    (10, 8192, 4),
+];
+
+fn write_both(
+    rt: &impl Abort,
+    disk: &mut MemoryDisk,
+    first: &[u8],
+    second: &[u8],
+) -> Result<(), DeviceFailed> {
+    assert!(rt; first.len() <= PIECE && second.len() <= 2 * PIECE && disk.size() == 4 * PIECE);
+    let mut both = Chain {
+        first: Bytes::new(first),
+        second: Bytes::new(second),
+    };
+    write_produced(disk, 5, &mut both)
+}
+
+// A disk of four pieces, one call of which fails.
+fn failing_disk(rt: &impl Abort, alloc: Global, fail: u64) -> Result<MemoryDisk, AllocError> {
+    let content = Vec::from_elem(alloc, 0u8, 4 * PIECE)?;
+    let disk = MemoryDisk::new(alloc, content);
+    assert!(rt; fail > 0);
+    disk.fail_call(fail);
+    Ok(disk)
+}
+
+// Five zeros, the two parts, and a zero.
+fn written(alloc: Global, first: &[u8], second: &[u8]) -> Result<Vec<u8>, AllocError> {
+    let mut content = Vec::from_elem(alloc, 0u8, 5)?;
+    content.extend_from_slice(first)?;
+    content.extend_from_slice(second)?;
+    content.push(0)?;
+    Ok(content)
+}
+
+fn write_parts(
+    rt: &impl Abort,
+    alloc: Global,
+    first: &[u8],
+    second: &[u8],
+    calls: u64,
+) -> Result<(), AllocError> {
+    let content = written(alloc, first, second)?;
+    for fail in 1..6u64 {
+        let mut disk = failing_disk(rt, alloc, fail)?;
+        let fails = write_both(rt, &mut disk, first, second).is_err();
+        assert!(rt; fails == (fail <= calls));
+        assert!(rt; fails || disk.content().starts_with(content.as_slice()));
+    }
+    Ok(())
+}
+
+#[test]
+fn write_produced_writes_full_pieces_and_syncs_once(rt: HostRuntime) -> Result<(), AllocError> {
+    for (first, second, calls) in &ROWS {
+        let first = Vec::from_elem(rt.alloc(), 1u8, *first)?;
+        let second = Vec::from_elem(rt.alloc(), 2u8, *second)?;
+        write_parts(&rt, rt.alloc(), first.as_slice(), second.as_slice(), *calls)?;
+    }
+    Ok(())
+}
+
+// A write with its sync.
+fn write_abcd(rt: &impl Abort, disk: &mut MemoryDisk) -> Result<(), DeviceFailed> {
+    assert!(rt; disk.size() >= 7);
+    write_through(disk, 3, b"abcd")
+}
+
+fn read_four(rt: &impl Abort, disk: &mut MemoryDisk) -> Result<[u8; 4], DeviceFailed> {
+    assert!(rt; disk.size() >= 6);
+    read_array(disk, 2)
+}
+
+fn write_and_read(rt: &impl Abort, alloc: Global, fail: u64) -> Result<(), AllocError> {
+    let mut disk = disk_of(alloc, &[0; 16])?;
+    assert!(rt; fail > 0);
+    disk.fail_call(fail);
+    assert!(rt; write_abcd(rt, &mut disk).is_err() == (fail <= 2));
+    match fail {
+        3 => assert!(rt; read_four(rt, &mut disk) == Err(DeviceFailed)),
+        4 => assert!(rt; read_four(rt, &mut disk) == Ok(*b"\0abc")),
+        _ => {}
+    }
+    Ok(())
+}
+
+#[test]
+fn write_through_makes_two_calls_and_read_array_one(rt: HostRuntime) -> Result<(), AllocError> {
+    for fail in 1..5u64 {
+        write_and_read(&rt, rt.alloc(), fail)?;
+    }
+    Ok(())
+}

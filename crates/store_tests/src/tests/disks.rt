@@ -1,0 +1,22 @@
+//! Disks in memory, and device calls whose range is checked when they run.
+
+use std::alloc::{AllocError, Allocator};
+use std::process::Abort;
+use turn_disk::{Disk, MemoryDisk};
+
+/// A disk with this content.
+pub fn disk_of<A: Allocator + Copy>(alloc: A, content: &[u8]) -> Result<MemoryDisk<A>, AllocError> {
+    Ok(MemoryDisk::new(alloc, Vec::from_slice(alloc, content)?))
+}
+
+/// Whether the write succeeds.
+pub fn write<D: Disk>(rt: &impl Abort, disk: &mut D, at: usize, bytes: &[u8]) -> bool {
+    assert!(rt; at <= disk.size() && bytes.len() <= disk.size() - at);
+    disk.write_at(at, bytes).is_ok()
+}
+
+/// Whether the read succeeds.
+pub fn read<D: Disk>(rt: &impl Abort, disk: &mut D, at: usize, buffer: &mut [u8]) -> bool {
+    assert!(rt; at <= disk.size() && buffer.len() <= disk.size() - at);
+    disk.read_at(at, buffer).is_ok()
+}

@@ -1,0 +1,106 @@
+//! Frames in areas of different sizes, as bytes.
+
+use super::area::{MAX_PAYLOAD, append, count_frames, empty};
+use std::alloc::{AllocError, Global};
+use std::fs::{File, Files};
+use std::process::Abort;
+use std::{fs, io};
+use turn_disk::{Disk, FileDisk, MemoryDisk};
+use turn_journal::{AppendRefused, Area, Journal};
+
+#[test]
+fn frames_are_gate_length_and_payload(rt: HostRuntime) -> Result<(), AllocError> {
+    let (mut disk, mut journal) = empty(rt.alloc(), 20)?;
+    assert!(rt; append(&rt, &mut journal, &mut disk, b"ab").is_ok());
+    assert!(rt; journal.end() == 7);
+    assert!(rt; append(&rt, &mut journal, &mut disk, b"wxyz").is_ok());
+    assert!(rt; journal.end() == 16);
+    let bytes = b"\0\0\0\xa5\0\0\0\x02ab\xa5\0\0\0\x04wxyz\0\0\0\0\0\0\0\0\0\0";
+    assert!(rt; disk.content() == bytes.as_slice());
+    assert!(rt; count_frames(&rt, &journal, &mut disk) == Some(2));
+    Ok(())
+}
+
+// A disk with an area that holds one frame, and its content.
+fn with_one_frame(
+    rt: &impl Abort,
+    alloc: Global,
+    size: usize,
+) -> Result<(MemoryDisk, Journal, Vec<u8>), AllocError> {
+    let (mut disk, mut journal) = empty(alloc, size)?;
+    assert!(rt; append(rt, &mut journal, &mut disk, b"ab").is_ok());
+    let content = Vec::from_slice(alloc, disk.content())?;
+    Ok((disk, journal, content))
+}
+
+// A refused append makes no device call, so the next call is the first.
+fn append_when_full(rt: &impl Abort, disk: &mut MemoryDisk, journal: &mut Journal) {
+    disk.fail_call(1);
+    assert!(rt; append(rt, journal, disk, b"12345678") == Err(AppendRefused::Full));
+    assert!(rt; disk.failures() == 0);
+    assert!(rt; disk.sync().is_err());
+}
+
+#[test]
+fn a_frame_that_just_fits_is_added(rt: HostRuntime) -> Result<(), AllocError> {
+    let (mut disk, mut journal, before) = with_one_frame(&rt, rt.alloc(), 17)?;
+    assert!(rt; journal.room(4));
+    assert!(rt; append(&rt, &mut journal, &mut disk, b"wxyz") == Ok(()));
+    assert!(rt; disk.content() != before.as_slice());
+    assert!(rt; journal.end() == 16);
+    append_when_full(&rt, &mut disk, &mut journal);
+    Ok(())
+}
+
+#[test]
+fn a_frame_that_does_not_fit_is_full_without_a_device_call(
+    rt: HostRuntime,
+) -> Result<(), AllocError> {
+    let (mut disk, mut journal, before) = with_one_frame(&rt, rt.alloc(), 16)?;
+    assert!(rt; !journal.room(4));
+    assert!(rt; append(&rt, &mut journal, &mut disk, b"wxyz") == Err(AppendRefused::Full));
+    assert!(rt; disk.content() == before.as_slice());
+    assert!(rt; journal.end() == 7);
+    append_when_full(&rt, &mut disk, &mut journal);
+    Ok(())
+}
+
+#[test]
+fn a_journal_continues_in_another_area(rt: HostRuntime) -> Result<(), AllocError> {
+    let (mut disk, mut journal, _) = with_one_frame(&rt, rt.alloc(), 14)?;
+    assert!(rt; journal.size() == 14);
+    journal.move_to(9, 1);
+    assert!(rt; journal.start() == 9 && journal.end() == 1);
+    assert!(rt; append(&rt, &mut journal, &mut disk, b"c").is_ok());
+    let bytes = b"\0\0\0\xa5\0\0\0\x02ab\xa5\0\0\0\x01c\0\0\0\0\0\0\0";
+    assert!(rt; disk.content() == bytes.as_slice());
+    Ok(())
+}
+
+const FILE_AREA: Area = Area {
+    start: 10,
+    size: 30,
+    max_payload: MAX_PAYLOAD,
+    end: 0,
+};
+
+fn append_to_a_file<R: Abort + Files<File = File>>(
+    rt: &R,
+    alloc: Global,
+    path: &str,
+) -> io::Result<Journal> {
+    let mut disk = FileDisk::create(rt, path, 40)?;
+    let mut journal = Journal::new(alloc, FILE_AREA)?;
+    assert!(rt; append(rt, &mut journal, &mut disk, b"ab").is_ok());
+    assert!(rt; append(rt, &mut journal, &mut disk, b"").is_ok());
+    Ok(journal)
+}
+
+#[test]
+fn a_file_holds_frames(rt: HostRuntime) -> io::Result<()> {
+    let path = "turn_journal.file";
+    let journal = append_to_a_file(&rt, rt.alloc(), path)?;
+    let mut disk = FileDisk::open(&rt, path)?;
+    assert!(rt; count_frames(&rt, &journal, &mut disk) == Some(2));
+    fs::remove_file(&rt, path)
+}

@@ -1,0 +1,75 @@
+use super::area::{MAX_PAYLOAD, scan};
+use super::disks::disk_of;
+use std::alloc::{AllocError, Global};
+use std::process::Abort;
+use turn_disk::{Disk, MemoryDisk};
+use turn_journal::{Area, Found, Journal, ScanRefused};
+
+const AREA: Area = Area {
+    start: 0,
+    size: 16,
+    max_payload: MAX_PAYLOAD,
+    end: 0,
+};
+
+// What an area of 16 bytes has at a gate, and what a scan finds there.
+const ROWS: [(usize, &[u8; 5], Result<Found, ScanRefused>); 12] = [
+    (0, b"\x00\0\0\0\0", Ok(Found::End)),
+    (0, b"\xa4\0\0\0\0", Ok(Found::End)),
+    (0, b"\xff\0\0\0\0", Ok(Found::End)),
+    (0, b"\xa5\0\0\0\0", Ok(Found::Frame(0))),
+    (0, b"\xa5\0\0\0\x08", Ok(Found::Frame(8))),
+    (0, b"\xa5\0\0\0\x09", Err(ScanRefused::BadFrame)),
+    (0, b"\xa5\x01\0\0\0", Err(ScanRefused::BadFrame)),
+    (3, b"\xa5\0\0\0\x07", Ok(Found::Frame(7))),
+    (3, b"\xa5\0\0\0\x08", Err(ScanRefused::BadFrame)),
+    (10, b"\xa5\0\0\0\0", Ok(Found::Frame(0))),
+    (11, b"\xa5\0\0\0\0", Err(ScanRefused::BadFrame)),
+    (11, b"\x00\0\0\0\0", Ok(Found::End)),
+];
+
+fn scan_row(
+    rt: &impl Abort,
+    alloc: Global,
+    row: &(usize, &[u8; 5], Result<Found, ScanRefused>),
+) -> Result<(), AllocError> {
+    let (at, bytes, found) = *row;
+    let mut content = Vec::from_elem(alloc, 7u8, at)?;
+    content.extend_from_slice(bytes.as_slice())?;
+    content.resize(16, 7)?;
+    let mut disk = MemoryDisk::new(alloc, content);
+    let journal = Journal::new(alloc, AREA)?;
+    assert!(rt; scan(rt, &journal, &mut disk, at) == found);
+    assert!(rt; disk.failures() == 0);
+    Ok(())
+}
+
+#[test]
+fn a_scan_reads_gate_and_length(rt: HostRuntime) -> Result<(), AllocError> {
+    for row in &ROWS {
+        scan_row(&rt, rt.alloc(), row)?;
+    }
+    Ok(())
+}
+
+fn scan_with_a_failure(
+    rt: &impl Abort,
+    alloc: Global,
+    call: u64,
+    found: Result<Found, ScanRefused>,
+) -> Result<(), AllocError> {
+    let mut disk = disk_of(alloc, b"\xa5\0\0\0\0\0")?;
+    let journal = Journal::new(alloc, Area { size: 6, ..AREA })?;
+    assert!(rt; call > 0);
+    disk.fail_call(call);
+    assert!(rt; scan(rt, &journal, &mut disk, 0) == found);
+    assert!(rt; disk.failures() == u64::from(call < 3));
+    Ok(())
+}
+
+#[test]
+fn a_scan_makes_two_device_calls_and_names_a_failed_one(rt: HostRuntime) -> Result<(), AllocError> {
+    scan_with_a_failure(&rt, rt.alloc(), 1, Err(ScanRefused::Device))?;
+    scan_with_a_failure(&rt, rt.alloc(), 2, Err(ScanRefused::Device))?;
+    scan_with_a_failure(&rt, rt.alloc(), 3, Ok(Found::Frame(0)))
+}

@@ -1,0 +1,264 @@
+//! Tests of `turn_record`: act entries and payloads. The bytes are written out by hand from the format.
+
+use refusing::Refusing;
+use std::alloc::{Allocator, Global};
+use std::test::Fail;
+use turn_history::{Act, Addresses, Event, UserName};
+use turn_record::{Malformed, ReadError, read_act, read_payload, write_act, write_payload};
+use turn_types::{Bounds, Endpoint, FiveTuple, Limits, Moment, TxId};
+
+/// The payload of alice's allocation at 1000: from 192.0.2.1:32853 to 192.0.2.100:3478, port 50000, 600 seconds.
+const PAYLOAD: [u8; 47] =
+    *b"\x01\x01\x00\x00\x00\x00\x00\x00\x03\xe8\xc0\x00\x02\x01\x80\x55\xc0\x00\x02\x64\x0d\x96\
+    \x00\x05alice\xc3\x50\x00\x00\x02\x58\x01\x02\x03\x04\x05\x06\x07\x08\x09\x0a\x0b\x0c";
+
+/// Of one frame: alice's allocation, and bob's from 192.0.2.2:40000 with port 50001, both at 1000.
+const BATCH: [u8; 91] =
+    *b"\x02\x01\x00\x00\x00\x00\x00\x00\x03\xe8\xc0\x00\x02\x01\x80\x55\xc0\x00\x02\x64\x0d\x96\
+    \x00\x05alice\xc3\x50\x00\x00\x02\x58\x01\x02\x03\x04\x05\x06\x07\x08\x09\x0a\x0b\x0c\
+    \x01\x00\x00\x00\x00\x00\x00\x03\xe8\xc0\x00\x02\x02\x9c\x40\xc0\x00\x02\x64\x0d\x96\
+    \x00\x03bob\xc3\x51\x00\x00\x02\x58\x00\x00\x00\x00\x00\x00\x00\x00\x00\x00\x00\x02";
+
+/// A Refresh of that allocation at 1000 for 600 seconds, by itself.
+const RENEW: [u8; 25] =
+    *b"\x02\x00\x00\x00\x00\x00\x00\x03\xe8\xc0\x00\x02\x01\x80\x55\xc0\x00\x02\x64\x0d\x96\
+    \x00\x00\x02\x58";
+
+/// Permissions for 203.0.113.5 and 203.0.113.6.
+const PERMIT: [u8; 30] =
+    *b"\x03\x00\x00\x00\x00\x00\x00\x03\xe8\xc0\x00\x02\x01\x80\x55\xc0\x00\x02\x64\x0d\x96\
+    \x02\xcb\x00\x71\x05\xcb\x00\x71\x06";
+
+/// The channel 0x4000 to 203.0.113.5:7000.
+const BIND: [u8; 29] =
+    *b"\x04\x00\x00\x00\x00\x00\x00\x03\xe8\xc0\x00\x02\x01\x80\x55\xc0\x00\x02\x64\x0d\x96\
+    \x40\x00\xcb\x00\x71\x05\x1b\x58";
+
+fn limits(permissions: u16, acts: u16) -> Result<Limits, Fail> {
+    let bounds = Bounds {
+        allocations: 2,
+        permissions,
+        channels: 1,
+        acts,
+        name_bytes: 8,
+    };
+    Ok(Limits::new(bounds).ok_or("limits")?)
+}
+
+/// The fault that an outcome is, if it is one.
+fn fault_of<T: Drop>(outcome: Result<T, ReadError>) -> Option<Malformed> {
+    match outcome {
+        Err(ReadError::Malformed(fault)) => Some(fault),
+        _ => None,
+    }
+}
+
+/// Bytes with a part written over.
+fn changed(alloc: Global, bytes: &[u8], place: usize, part: &[u8]) -> Result<Vec<u8>, Fail> {
+    if bytes.len() < place || bytes.len() - place < part.len() {
+        return Err(Fail::new("a place past the end"));
+    }
+    let (before, rest) = bytes.split_at(place);
+    let mut changed = Vec::from_slice(alloc, before)?;
+    changed.extend_from_slice(part)?;
+    changed.extend_from_slice(&rest[part.len()..])?;
+    Ok(changed)
+}
+
+/// What a payload's bytes are refused for where these are written over from a place on, under the limits 2, 1, 1, 1, 8.
+const PAYLOAD_CHANGES: [(usize, &[u8], Option<Malformed>); 14] = [
+    (0, b"\x00", Some(Malformed::BadValue)),
+    (0, b"\x02", Some(Malformed::BadValue)),
+    (1, b"\x00", Some(Malformed::BadTag)),
+    (1, b"\x05", Some(Malformed::BadTag)),
+    // 2^40 - 3601 and 2^40 - 3600 seconds.
+    (2, b"\x00\x00\x00\xff\xff\xff\xf1\xef", None),
+    (
+        2,
+        b"\x00\x00\x00\xff\xff\xff\xf1\xf0",
+        Some(Malformed::BadValue),
+    ),
+    (22, b"\x00\x00", Some(Malformed::BadValue)),
+    (22, b"\x00\x09", Some(Malformed::BadValue)),
+    (31, b"\x00\x00\x02\x57", Some(Malformed::BadValue)),
+    (31, b"\x00\x00\x0e\x10", None),
+    (31, b"\x00\x00\x0e\x11", Some(Malformed::BadValue)),
+    // The count is judged before the tag, the tag before the moment, the name before what is granted.
+    (0, b"\x00\x05", Some(Malformed::BadValue)),
+    (1, b"\x05\x01", Some(Malformed::BadTag)),
+    (
+        22,
+        b"\x00\x00\x00\x00\x00\x00\x00\x00\x00\x00\x00\x00\x00",
+        Some(Malformed::BadValue),
+    ),
+];
+
+#[test]
+fn the_first_fault_of_a_payload(rt: HostRuntime) -> Result<(), Fail> {
+    let limits = limits(1, 1)?;
+    for (place, part, fault) in &PAYLOAD_CHANGES {
+        let bytes = changed(rt.alloc(), &PAYLOAD, *place, part)?;
+        assert!(rt; fault_of(read_payload(rt.alloc(), limits, &bytes)) == *fault);
+    }
+    Ok(())
+}
+
+/// The act entry, the place, the bytes written over, and the fault, under 2 permissions.
+const ACT_CHANGES: [(&[u8], usize, &[u8], Option<Malformed>); 16] = [
+    (&RENEW, 21, b"\x00\x00\x00\x00", None),
+    (&RENEW, 21, b"\x00\x00\x00\x01", Some(Malformed::BadValue)),
+    (&RENEW, 21, b"\x00\x00\x02\x57", Some(Malformed::BadValue)),
+    (&RENEW, 21, b"\x00\x00\x02\x58", None),
+    (&RENEW, 21, b"\x00\x00\x0e\x10", None),
+    (&RENEW, 21, b"\x00\x00\x0e\x11", Some(Malformed::BadValue)),
+    (&PERMIT, 21, b"\x02", None),
+    (&PERMIT, 21, b"\x00", Some(Malformed::BadValue)),
+    (&PERMIT, 21, b"\x03", Some(Malformed::BadValue)),
+    (&PERMIT, 21, b"\x01", Some(Malformed::TrailingBytes)),
+    // An address that is named twice.
+    (&PERMIT, 26, b"\xcb\x00\x71\x05", Some(Malformed::BadValue)),
+    (&BIND, 21, b"\x3f\xff", Some(Malformed::BadValue)),
+    (&BIND, 21, b"\x40\x00", None),
+    (&BIND, 21, b"\x4f\xff", None),
+    (&BIND, 21, b"\x50\x00", Some(Malformed::BadValue)),
+    (&BIND, 0, b"\x02", Some(Malformed::BadValue)),
+];
+
+#[test]
+fn the_first_fault_of_an_act(rt: HostRuntime) -> Result<(), Fail> {
+    let limits = limits(2, 1)?;
+    for (bytes, place, part, fault) in &ACT_CHANGES {
+        let bytes = changed(rt.alloc(), bytes, *place, part)?;
+        assert!(rt; fault_of(read_act(rt.alloc(), limits, &bytes)) == *fault);
+    }
+    Ok(())
+}
+
+/// The moment of the second act of the batch, whose first is of 1000.
+const LATER: [(&[u8], Option<Malformed>); 3] = [
+    (
+        b"\x00\x00\x00\x00\x00\x00\x03\xe7",
+        Some(Malformed::OutOfOrder),
+    ),
+    (b"\x00\x00\x00\x00\x00\x00\x03\xe8", None),
+    (b"\x00\x00\x00\x00\x00\x00\x03\xe9", None),
+];
+
+#[test]
+fn moments_never_fall(rt: HostRuntime) -> Result<(), Fail> {
+    let limits = limits(1, 2)?;
+    for (moment, fault) in &LATER {
+        let bytes = changed(rt.alloc(), &BATCH, 48, moment)?;
+        assert!(rt; fault_of(read_payload(rt.alloc(), limits, &bytes)) == *fault);
+    }
+    Ok(())
+}
+
+#[test]
+fn every_prefix_is_short_and_a_byte_more_is_trailing(rt: HostRuntime) -> Result<(), Fail> {
+    let limits = limits(1, 2)?;
+    for size in 0..BATCH.len() {
+        assert!(rt;
+            fault_of(read_payload(rt.alloc(), limits, &BATCH[..size])) == Some(Malformed::Short)
+        );
+    }
+    let mut longer = Vec::from_slice(rt.alloc(), &BATCH)?;
+    longer.push(0)?;
+    assert!(rt;
+        fault_of(read_payload(rt.alloc(), limits, &longer)) == Some(Malformed::TrailingBytes)
+    );
+    Ok(())
+}
+
+/// Reads a payload and writes it again.
+fn again<A: Allocator + Copy>(alloc: A, bytes: &[u8]) -> Result<Vec<u8, A>, ReadError> {
+    let bounds = Bounds {
+        allocations: 2,
+        permissions: 1,
+        channels: 1,
+        acts: 2,
+        name_bytes: 8,
+    };
+    let Some(limits) = Limits::new(bounds) else {
+        return Err(ReadError::Memory);
+    };
+    let events = read_payload(alloc, limits, bytes)?;
+    let mut out = Vec::new(alloc);
+    write_payload(&mut out, limits, &events)?;
+    Ok(out)
+}
+
+#[test]
+fn payloads_are_read_and_written_again(rt: HostRuntime) -> Result<(), Fail> {
+    assert!(rt; again(rt.alloc(), &PAYLOAD)?.as_slice() == PAYLOAD.as_slice());
+    assert!(rt; again(rt.alloc(), &BATCH)?.as_slice() == BATCH.as_slice());
+    Ok(())
+}
+
+fn act_again(alloc: Global, bytes: &[u8]) -> Result<Vec<u8>, Fail> {
+    let limits = limits(2, 1)?;
+    let event = read_act(alloc, limits, bytes)?;
+    let mut out = Vec::new(alloc);
+    write_act(&mut out, limits, &event)?;
+    Ok(out)
+}
+
+#[test]
+fn acts_are_read_and_written_again(rt: HostRuntime) -> Result<(), Fail> {
+    for bytes in [
+        &PAYLOAD[1..],
+        RENEW.as_slice(),
+        PERMIT.as_slice(),
+        BIND.as_slice(),
+    ] {
+        assert!(rt; act_again(rt.alloc(), bytes)?.as_slice() == bytes);
+    }
+    Ok(())
+}
+
+#[test]
+fn an_act_has_the_values_that_the_bytes_spell(rt: HostRuntime) -> Result<(), Fail> {
+    let event = read_act(rt.alloc(), limits(1, 1)?, &PAYLOAD[1..])?;
+    assert!(rt; event.moment.seconds() == 1000);
+    assert!(rt; event.tuple == FIVE_TUPLE);
+    let Act::Alloc {
+        user,
+        port,
+        granted,
+        tx,
+    } = &event.act
+    else {
+        return Err(Fail::new("another act"));
+    };
+    assert!(rt; user.as_slice() == b"alice".as_slice());
+    assert!(rt; (*port, *granted) == (50000, 600));
+    assert!(rt; *tx == TxId([1, 2, 3, 4, 5, 6, 7, 8, 9, 10, 11, 12]));
+    Ok(())
+}
+
+/// From 192.0.2.1:32853 to 192.0.2.100:3478.
+const FIVE_TUPLE: FiveTuple = FiveTuple {
+    client: Endpoint {
+        ip: 0xC000_0201,
+        port: 32853,
+    },
+    server: Endpoint {
+        ip: 0xC000_0264,
+        port: 3478,
+    },
+};
+
+#[test]
+fn each_growth_is_refused_in_turn(rt: HostRuntime) -> Result<(), Fail> {
+    for served in 0..16u64 {
+        let refusing = Refusing::new(rt.alloc(), served);
+        let outcome = again(&refusing, &BATCH);
+        if !refusing.has_refused() {
+            assert!(rt; outcome.is_ok());
+            return Ok(());
+        }
+        assert!(rt; matches!(outcome, Err(ReadError::Memory)));
+        assert!(rt; again(&refusing, &BATCH).is_ok());
+    }
+    Err(Fail::new("some growth is always refused"))
+}
