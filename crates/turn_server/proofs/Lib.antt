@@ -1,3 +1,4 @@
 pub mod Addresses
+pub mod NoUsers
 pub mod Numbers
 pub mod Splits

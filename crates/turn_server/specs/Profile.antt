@@ -1,11 +1,13 @@
 -- What `turn answer` answers by: the realm example.org, no users, a secret of 32 zero bytes, no denied addresses.
-use Rattle.std.specs.Prelude.{ℕ, List, [], Option, None, replicate, codes}
+use Rattle.std.specs.Prelude.{ℕ, List, [], Option, Some, None, replicate, codes}
 use Rattle.turn_types.specs.Config.{Config}
-use Rattle.turn_types.specs.Table.{no_contents}
+use Rattle.turn_history.specs.Table.{no_contents}
 use Rattle.turn_types.specs.declared.address.FiveTuple.{FiveTuple}
 use Rattle.turn_codec.specs.Grammar.{Datagram}
 use Rattle.turn_cred.specs.Credential.{Keys}
 use Rattle.turn_rules.specs.Answer.{decision, judgement}
+use Rattle.turn_step.specs.Outcome.{Sent}
+use Rattle.turn_step.specs.Outcome.Sent.{ToClient, ToPeer}
 
 abbrev pub profile : Config
 profile = record {
@@ -23,3 +25,9 @@ no_keys user realm = None
 -- the reply to a client's message at a moment, over an empty table: no user is known, so none passes, and no port is needed
 unfoldable pub answer : FiveTuple → ℕ → Datagram → Option (List ℕ)
 answer f t d = (decision profile no_contents f t d (judgement profile no_keys f.client t d) None).reply
+
+-- the bytes that are sent to the client, if any are
+abbrev pub reply_in : Option Sent → Option (List ℕ)
+reply_in None = None
+reply_in (Some (ToClient f bytes)) = Some bytes
+reply_in (Some (ToPeer port peer bytes)) = None

@@ -1,7 +1,8 @@
 //! The words of a command line as a command with its values.
 
-ghost use Rattle.std.specs.Prelude.{◌≢◌, IfOk, IfErr};
-ghost use Rattle.turn_server.specs.Command.{IsAnswer, IsAnswerFault};
+ghost use Rattle.std.specs.Prelude.{◌≢◌, IfOk, IfErr, SomeIff};
+ghost use Rattle.std.specs.Option.{option_copied};
+ghost use Rattle.turn_server.specs.Command.{IsAnswer, IsAnswerFault, IsAt, seconds_at};
 ghost use Rattle.turn_server.specs.declared.fault.Fault.TheVariants.{Device};
 
 use crate::fault::Fault;
@@ -41,7 +42,7 @@ fn turn_command<'a>(alloc: Global) -> Result<clap::Command<'a>, AllocError> {
         .subcommand(answer_command(alloc)?)
 }
 
-/// A refusal of the words, a call for help included, is a usage fault.
+/// A refusal of the words, `--help` included, is a usage fault.
 fn fault_of(error: clap::Error) -> Fault
     ensures { result ≢ Device }
 {
@@ -51,15 +52,25 @@ fn fault_of(error: clap::Error) -> Fault
     }
 }
 
-/// The command `answer`, by the texts of its values. A datagram that is no hex is judged last.
-fn answer(alloc: Global, from: &[u8], at: &[u8], hex: &[u8]) -> Result<Command, Fault>
-    ensures taken { IfOk result (λ command. IsAnswer from.now at.now hex.now command) }
-    ensures refused { IfErr result (λ fault. IsAnswerFault from.now at.now hex.now fault) }
+/// The moment of `--at`, 0 if there is no such option.
+fn moment_at(text: Option<&[u8]>) -> Option<Moment>
+    ensures { SomeIff result (IsAt (option_copied text.entry)) (seconds_at (option_copied text.entry)) }
+{
+    match text {
+        Some(text) => moment(text),
+        None => Moment::new(0),
+    }
+}
+
+/// The command `answer`, by the texts of its values. A datagram that is not hex is judged last.
+fn answer(alloc: Global, from: &[u8], at: Option<&[u8]>, hex: &[u8]) -> Result<Command, Fault>
+    ensures taken { IfOk result (λ command. IsAnswer from.now (option_copied at.entry) hex.now command) }
+    ensures refused { IfErr result (λ fault. IsAnswerFault from.now (option_copied at.entry) hex.now fault) }
 {
     let Some(from) = endpoint(from) else {
         return Err(Fault::Usage);
     };
-    let Some(at) = moment(at) else {
+    let Some(at) = moment_at(at) else {
         return Err(Fault::Usage);
     };
     let Some(datagram) = bytes(alloc, hex)? else {
@@ -72,9 +83,9 @@ fn answer_of(alloc: Global, found: &ArgMatches<'_>) -> Result<Command, Fault>
     ensures { IfErr result (λ fault. fault ≢ Device) }
 {
     let from = found.get_str("from").ok_or(Fault::Usage)?;
-    let at = found.get_str("at").unwrap_or("0");
+    let at = found.get_str("at").map(|text| text.as_bytes());
     let hex = found.get_str("HEX").ok_or(Fault::Usage)?;
-    answer(alloc, from.as_bytes(), at.as_bytes(), hex.as_bytes())
+    answer(alloc, from.as_bytes(), at, hex.as_bytes())
 }
 
 /// The command that the words make, the program's name first.

@@ -1,18 +1,17 @@
 //! The reply of the server to one datagram of a client, over an empty table.
 
 ghost use Rattle.std.specs.Prelude.{◌≡◌, IfOk, None, option_map};
-ghost use Rattle.turn_codec.specs.Grammar.{Content, Datagram, Spells};
-ghost use Rattle.turn_cred.specs.Credential.{policy_of};
-ghost use Rattle.turn_cred.specs.Found.{verdict_of};
-ghost use Rattle.turn_rules.specs.Answer.{judgement};
-ghost use Rattle.turn_server.specs.Profile.{answer, profile, no_keys};
+ghost use Rattle.turn_codec.specs.Grammar.{Content, Spells};
+ghost use Rattle.turn_history.specs.Table.{no_contents};
+ghost use Rattle.turn_server.specs.Profile.{answer, profile, reply_in};
+ghost use Rattle.turn_step.specs.Views.{sent_of};
 
 use std::alloc::{AllocError, Allocator};
-use turn_codec::Message;
-use turn_cred::{AuthHandler, Checker, Verdict};
-use turn_rules::{Request, decide, is_protected};
+use turn_cred::AuthHandler;
+use turn_ports::PortRange;
+use turn_step::{Arrival, Machine, Outgoing};
 use turn_table::Table;
-use turn_types::{ConfigError, Endpoint, FiveTuple, Limits, Moment, ServerConfig};
+use turn_types::{ConfigError, FiveTuple, Limits, Moment, ServerConfig, Settings};
 
 /// The relay address 198.51.100.1, which no answer over an empty table names.
 const RELAY: u32 = 0xC633_6401;
@@ -34,12 +33,14 @@ fn make_config<A: Allocator + Copy>(alloc: A) -> Result<ServerConfig<A>, AllocEr
 {
     match ServerConfig::new(
         alloc,
-        b"example.org",
-        [0; 32],
-        RELAY,
-        10,
-        &[],
-        Limits::GREATEST,
+        Settings {
+            realm: b"example.org",
+            secret: [0; 32],
+            relay: RELAY,
+            quota: 10,
+            denied: &[],
+            limits: Limits::MAX,
+        },
     ) {
         Ok(config) => Ok(config),
         Err(ConfigError::Memory) => Err(AllocError),
@@ -47,48 +48,31 @@ fn make_config<A: Allocator + Copy>(alloc: A) -> Result<ServerConfig<A>, AllocEr
     }
 }
 
-/// What the credentials of a message are worth, where they are looked at.
-#[tactic(auto, unfolding(turn_rules::specs::Answer::judgement))]
-fn judge<'a, A: Allocator>(
-    checker: &mut Checker<NoUsers, A>,
-    message: &Message<'a>,
-    client: Endpoint,
-    moment: Moment,
-) -> Option<Verdict<'a>>
-    requires { checker.old.policy ≡ policy_of profile }
-    ensures { option_map verdict_of result ≡ judgement profile no_keys client moment message.now }
-{
-    if !is_protected(message.method()) {
-        return None;
-    }
-    Some(checker.check(message, client, moment))
-}
-
-/// The reply to a message at a moment, or `None` where it is dropped.
-#[tactic(auto, unfolding(crate::specs::Profile::answer, turn_rules::specs::Answer::decision))]
-fn reply_to_message<A: Allocator + Copy>(
+/// A server without users, over an empty table.
+fn make_machine<A: Allocator + Copy>(
     alloc: A,
-    five_tuple: FiveTuple,
     moment: Moment,
-    message: Message<'_>,
-) -> Result<Option<Vec<u8, A>>, AllocError>
-    ensures { (d : Datagram) → message.entry ≡ d → IfOk result (λ r. option_map (λ v. v.items) r
-        ≡ answer five_tuple moment d) }
+) -> Result<Machine<NoUsers, PortRange, A>, AllocError>
+    ensures config { IfOk result (λ m. m.config ≡ profile) }
+    ensures table { IfOk result (λ m. m.table ≡ record { bounds = profile.limits; moment = moment; contents = no_contents; room = None }) }
 {
     let config = make_config(alloc)?;
-    let mut checker = Checker::new(alloc, &config, NoUsers)?;
-    let verdict = judge(&mut checker, &message, five_tuple.client, moment);
-    let request = Request {
-        message,
-        five_tuple,
-        verdict,
-    };
+    let ports = PortRange::new(50000, 59999).unwrap();
     let table = Table::new(alloc, config.limits(), moment);
-    let decision = decide(alloc, &table, &config, &request, moment, None)?;
-    Ok(decision.reply)
+    Ok(Machine::new(alloc, config, NoUsers, ports, table)?)
 }
 
-/// The reply to a datagram at a moment, or `None` where it is dropped.
+/// The bytes that are sent to the client, if any are.
+fn to_client<A: Allocator>(outgoing: Option<Outgoing<A>>) -> Option<Vec<u8, A>>
+    ensures { option_map (λ v. v.items) result ≡ reply_in (option_map sent_of outgoing) }
+{
+    match outgoing {
+        Some(Outgoing::ToClient { bytes, .. }) => Some(bytes),
+        _ => None,
+    }
+}
+
+/// The reply to a datagram at a moment, or `None` if it is dropped.
 pub fn reply_to<A: Allocator + Copy>(
     alloc: A,
     five_tuple: FiveTuple,
@@ -99,8 +83,10 @@ pub fn reply_to<A: Allocator + Copy>(
         ≡ answer five_tuple moment (record { bytes = datagram.now; content = m })) }
     ensures malformed { ((m : Content) → ¬ (Spells datagram.now m)) → IfOk result (λ r. r ≡ None) }
 {
-    let Ok(message) = Message::parse(datagram) else {
-        return Ok(None);
+    let mut machine = make_machine(alloc, moment)?;
+    let arrival = Arrival::Client {
+        five_tuple,
+        bytes: datagram,
     };
-    reply_to_message(alloc, five_tuple, moment, message)
+    Ok(to_client(machine.step(moment, &arrival)?))
 }

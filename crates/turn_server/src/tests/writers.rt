@@ -4,10 +4,11 @@ use super::{BINDING, FROM, SUCCESS};
 use crate::program::run_words;
 use std::io;
 use std::io::{ErrorKind, Write};
+use std::rt::Clock;
 use std::test::Fail;
 
-/// A device with room for so many bytes, which takes at most `step` of them at once. Where it holds what it took
-/// back until a flush, that flush may fail.
+/// A device with room for so many bytes, which takes at most `step` of them at once. If it buffers what it took until
+/// a flush, that flush may fail.
 #[derive(Drop)]
 struct Device {
     bytes: Vec<u8>,
@@ -36,53 +37,81 @@ impl Write for Device {
     }
 }
 
-#[test]
-fn failed_writes(rt: HostRuntime) -> Result<(), Fail> {
-    for (room, step, flushes, status) in [
-        (65, 65, true, 0),
-        (65, 1, true, 0),
-        (0, 65, true, 3),
-        (1, 65, true, 3),
-        (64, 1, true, 3),
-        (65, 65, false, 3),
-    ] {
-        let bytes = Vec::new(rt.alloc());
-        let mut out = Device {
-            bytes,
-            room,
-            step,
-            flushes,
-        };
-        let mut err = Vec::new(rt.alloc());
-        let words = ["turn", "answer", "--from", FROM, BINDING];
-        let got = run_words(&rt, &rt, &words, &mut out, &mut err);
-        assert_eq!(rt; got, status);
-        assert!(rt; out.bytes.as_slice() == &SUCCESS.as_bytes()[..room]);
-        let said = if status == 0 { "" } else { "turn: device\n" };
-        assert!(rt; err.as_slice() == said.as_bytes());
+/// Runs `turn answer` with a datagram, over two devices: the status.
+fn answer(
+    rt: &(impl AllocGlobal + Clock),
+    datagram: &str,
+    out: &mut Device,
+    err: &mut Device,
+) -> u8 {
+    let words = ["turn", "answer", "--from", FROM, datagram];
+    run_words(rt, rt, &words, out, err)
+}
+
+/// A device's room, step and whether it flushes, and the status of a success that is printed on it.
+type Case = (usize, usize, bool, u8);
+
+const CASES: [Case; 6] = [
+    (65, 65, true, 0),
+    (65, 1, true, 0),
+    (0, 65, true, 3),
+    (1, 65, true, 3),
+    (64, 1, true, 3),
+    (65, 65, false, 3),
+];
+
+fn play(rt: &(impl AllocGlobal + Clock), case: &Case) -> Result<(), Fail> {
+    let (room, step, flushes, status) = *case;
+    let mut out = Device {
+        bytes: Vec::new(rt.alloc()),
+        room,
+        step,
+        flushes,
+    };
+    let mut err = Device {
+        bytes: Vec::new(rt.alloc()),
+        room: 100,
+        step: 100,
+        flushes: true,
+    };
+    let got = answer(rt, BINDING, &mut out, &mut err);
+    let said = if status == 0 { "" } else { "turn: device\n" };
+    if got != status
+        || Some(out.bytes.as_slice()) != SUCCESS.as_bytes().get(..room)
+        || err.bytes.as_slice() != said.as_bytes()
+    {
+        return Err(Fail::new(room));
     }
     Ok(())
 }
 
-// A fault's status stays where its line can't be printed.
 #[test]
-fn silent_fault(rt: HostRuntime) -> Result<(), Fail> {
-    for (word, status) in [("0g", 1), (BINDING, 3)] {
-        let (bytes, said) = (Vec::new(rt.alloc()), Vec::new(rt.alloc()));
-        let mut out = Device {
-            bytes,
-            room: 0,
-            step: 1,
-            flushes: true,
-        };
-        let mut err = Device {
-            bytes: said,
-            room: 0,
-            step: 1,
-            flushes: false,
-        };
-        let words = ["turn", "answer", "--from", FROM, word];
-        assert_eq!(rt; run_words(&rt, &rt, &words, &mut out, &mut err), status);
+fn a_full_standard_output_is_a_device_fault(rt: HostRuntime) -> Result<(), Fail> {
+    for case in &CASES {
+        play(&rt, case)?;
     }
     Ok(())
+}
+
+/// The status of a datagram over two devices that take nothing.
+fn silent_status(rt: &(impl AllocGlobal + Clock), datagram: &str) -> u8 {
+    let mut out = Device {
+        bytes: Vec::new(rt.alloc()),
+        room: 0,
+        step: 1,
+        flushes: true,
+    };
+    let mut err = Device {
+        bytes: Vec::new(rt.alloc()),
+        room: 0,
+        step: 1,
+        flushes: false,
+    };
+    answer(rt, datagram, &mut out, &mut err)
+}
+
+#[test]
+fn a_full_standard_error_changes_no_status(rt: HostRuntime) {
+    assert!(rt; silent_status(&rt, "0g") == 1);
+    assert!(rt; silent_status(&rt, BINDING) == 3);
 }
