@@ -6,7 +6,7 @@ use Rattle.std.proofs.lemmas.Bool.{cases_lt, ltb-true, leb-true, le-leb, eqb-tru
 use Rattle.turn_history.specs.Fitting.{IsEndpoint, IsTuple, IsActInRange, IsInRange}
 use Rattle.turn_history.specs.History.{PlainAct, Allocates, Renews, Permits, Binds, Allocation, Event}
 use Rattle.turn_record.specs.Bytes.{joined, each, endpoint, five_tuple, name, tag, allocation, addresses, body, act_entry, payload}
-use Rattle.turn_record.specs.Reading.{◌>>=◌, Field, judged, last_passes, Binding, byte_at, number_at, bytes_at, many, moment_at, endpoint_at, tuple_at, name_len_at, name_at, granted_at, renewed_at, tx_at, channel_number_at, count_at, allocation_at, allocated_at, address_at, addresses_at, binding_at, bound_at, renews_at, permits_at, body_at, tag_at, moment_after, event_at, events_at}
+use Rattle.turn_record.specs.Reading.{◌>>=◌, Field, judged, last_passes, Binding, byte_at, number_at, bytes_at, many, moment_at, endpoint_at, tuple_at, name_len_at, name_at, granted_at, renewed_at, tx_at, channel_number_at, count_at, port_at, allocation_at, allocated_at, address_at, addresses_at, binding_at, bound_at, renews_at, permits_at, body_at, tag_at, moment_after, event_at, events_at}
 use Rattle.turn_record.specs.declared.fault.Malformed.{Malformed}
 use Rattle.turn_record.specs.declared.fault.Malformed.TheVariants.{Short, BadTag, BadValue, OutOfOrder}
 use Rattle.turn_types.specs.Limits.{AreInRange}
@@ -122,7 +122,7 @@ pub reads_tx : Reads tx_at (λ t. t.0) FitsTx
 unfolding tx_at
 reads_tx =
     let tx : List ℕ → TxId = λ t. record { 0 = t } in
-    reads_as (bytes_at 12) (λ t. t) (λ t. (length t ≡ 12) × IsBytes t) tx _ _ (reads_bytes 12) (λ t. refl) (λ t h. h) (λ t h. (t.0, refl, h))
+    reads_as (bytes_at 12) (λ t. t) (λ t. (length t ≡ 12) × IsBytes t) tx _ _ (reads_bytes 12) (λ t h. refl) (λ t h. h) (λ t h. (t.0, refl, h))
 
 pub reads_channel_number : Reads channel_number_at (to_be_bytes w16) (λ n. (0x4000 ≤ n) × (n ≤ 0x4FFF))
 unfolding channel_number_at
@@ -138,25 +138,30 @@ reads_count low high small =
 
 -- ---- Acts
 
-pub record FitsAllocation (b : Bounds) (a : Allocation) : Type 0 where
+pub reads_port : (free : ℕ → Bool) → Reads (port_at free) (to_be_bytes w16) (λ n. (n < 2 ^ 16) × (free n ≡ true))
+unfolding port_at
+reads_port free = reads_judged (number_at w16) (to_be_bytes w16) (λ n. n < 2 ^ 16) free BadValue reads16
+
+pub record FitsAllocation (b : Bounds) (test : ℕ → Bool) (a : Allocation) : Type 0 where
   pub user : FitsName b a.user
   pub port : a.port < 2 ^ 16
+  pub free : test a.port ≡ true
   pub low : 600 ≤ a.granted
   pub high : a.granted ≤ 3600
   pub tx : FitsTx a.tx
 
-reads_allocation : (b : Bounds) → AreInRange b → Reads (allocation_at b) allocation (FitsAllocation b)
+pub reads_allocation : (b : Bounds) → AreInRange b → (free : ℕ → Bool) → Reads (allocation_at b free) allocation (FitsAllocation b free)
 unfolding allocation_at
-reads_allocation b range =
-    in_words (allocation_at b) _ allocation _ (FitsAllocation b)
-    (chain (name_at b) name (FitsName b) (λ user bytes. number_at w16 bytes >>= λ port. granted_at port.1 >>= λ granted. tx_at granted.1 >>= λ tx. Ok (record { user = user; port = port.0; granted = granted.0; tx = tx.0 }, tx.1)) _ (λ (a : Allocation). a.user) (λ a. Unit {0}) _ (reads_name b range)
-    (λ user h0. chain (number_at w16) (to_be_bytes w16) (λ n. n < 2 ^ 16) (λ port bytes. granted_at bytes >>= λ granted. tx_at granted.1 >>= λ tx. Ok (record { user = user; port = port; granted = granted.0; tx = tx.0 }, tx.1)) _ (λ (a : Allocation). a.port) (λ a. Unit {0} × (a.user ≡ user)) _ reads16
+reads_allocation b range free =
+    in_words (allocation_at b free) _ allocation _ (FitsAllocation b free)
+    (chain (name_at b) name (FitsName b) (λ user bytes. port_at free bytes >>= λ port. granted_at port.1 >>= λ granted. tx_at granted.1 >>= λ tx. Ok (record { user = user; port = port.0; granted = granted.0; tx = tx.0 }, tx.1)) _ (λ (a : Allocation). a.user) (λ a. Unit {0}) _ (reads_name b range)
+    (λ user h0. chain (port_at free) (to_be_bytes w16) (λ n. (n < 2 ^ 16) × (free n ≡ true)) (λ port bytes. granted_at bytes >>= λ granted. tx_at granted.1 >>= λ tx. Ok (record { user = user; port = port; granted = granted.0; tx = tx.0 }, tx.1)) _ (λ (a : Allocation). a.port) (λ a. Unit {0} × (a.user ≡ user)) _ (reads_port free)
     (λ port h1. chain granted_at (to_be_bytes w32) (λ g. (600 ≤ g) × (g ≤ 3600)) (λ granted bytes. tx_at bytes >>= λ tx. Ok (record { user = user; port = port; granted = granted; tx = tx.0 }, tx.1)) _ (λ (a : Allocation). a.granted) (λ a. (Unit {0} × (a.user ≡ user)) × (a.port ≡ port)) _ reads_granted
     (λ granted h2. chain tx_at (λ (t : TxId). t.0) FitsTx (λ tx bytes. Ok (record { user = user; port = port; granted = granted; tx = tx }, bytes)) _ (λ (a : Allocation). a.tx) (λ a. ((Unit {0} × (a.user ≡ user)) × (a.port ≡ port)) × (a.granted ≡ granted)) _ reads_tx
     (λ tx h3. made (record { user = user; port = port; granted = granted; tx = tx }) (λ a. (((Unit {0} × (a.user ≡ user)) × (a.port ≡ port)) × (a.granted ≡ granted)) × (a.tx ≡ tx)) ((((tt, refl), refl), refl), refl)
     (λ a e. rw (← e.0.0.0.1, ← e.0.0.1, ← e.0.1, ← e.1) refl))))))
-    (λ a. refl) (λ a h. record { user = h.1.0; port = h.1.1.0; low = h.1.1.1.0.0; high = h.1.1.1.0.1; tx = h.1.1.1.1.0 })
-    (λ a h. (tt, (h.user, (h.port, ((h.low, h.high), (h.tx, tt))))))
+    (λ a. refl) (λ a h. record { user = h.1.0; port = h.1.1.0.0; free = h.1.1.0.1; low = h.1.1.1.0.0; high = h.1.1.1.0.1; tx = h.1.1.1.1.0 })
+    (λ a h. (tt, (h.user, ((h.port, h.free), ((h.low, h.high), (h.tx, tt))))))
 
 reads_address : (before : List ℕ) → Reads (address_at before) (to_be_bytes w32) (FitsAddress before)
 unfolding address_at
@@ -189,9 +194,18 @@ reads_binding =
 abbrev FitsTagged : Bounds → ℕ → PlainAct → Type 0
 FitsTagged b t d = (tag d ≡ t) × IsActInRange b d
 
-from_allocates : (b : Bounds) (d : PlainAct) → FitsTagged b 1 d → (a : Allocation) × (d ≡ Allocates a.user a.port a.granted a.tx) × FitsAllocation b a
+-- an allocation whose values are in range has a spelling
+pub fits_allocation : (b : Bounds) (free : ℕ → Bool) (a : Allocation) → IsActInRange b (Allocates a.user a.port a.granted a.tx) → free a.port ≡ true → FitsAllocation b free a
+fits_allocation b free a h is_free =
+    record { user = (h.0.0, h.0.1, bytes_of_all a.user h.0.2); port = h.1; free = is_free; low = h.2.0; high = h.2.1; tx = (h.3.0, bytes_of_all a.tx.0 h.3.1) }
+
+pub allocation_fits : (b : Bounds) (free : ℕ → Bool) (a : Allocation) → FitsAllocation b free a → IsActInRange b (Allocates a.user a.port a.granted a.tx)
+allocation_fits b free a h = ((h.user.0, h.user.1, all_of_bytes a.user h.user.2), h.port, (h.low, h.high), (h.tx.0, all_of_bytes a.tx.0 h.tx.1))
+
+from_allocates : (b : Bounds) (d : PlainAct) → FitsTagged b 1 d → (a : Allocation) × (d ≡ Allocates a.user a.port a.granted a.tx) × FitsAllocation b (λ port. true) a
 from_allocates b (Allocates user port granted tx) h =
-    (record { user = user; port = port; granted = granted; tx = tx }, refl, record { user = (h.1.0.0, h.1.0.1, bytes_of_all user h.1.0.2); port = h.1.1; low = h.1.2.0; high = h.1.2.1; tx = (h.1.3.0, bytes_of_all tx.0 h.1.3.1) })
+    let a : Allocation = record { user = user; port = port; granted = granted; tx = tx } in
+    (a, refl, fits_allocation b (λ p. true) a h.1 refl)
 from_allocates b (Renews granted) h = absurd cc
 from_allocates b (Permits xs) h = absurd cc
 from_allocates b (Binds number peer) h = absurd cc
@@ -199,8 +213,8 @@ from_allocates b (Binds number peer) h = absurd cc
 reads_allocates : (b : Bounds) → AreInRange b → Reads (allocated_at b) body (FitsTagged b 1)
 reads_allocates b range =
     let make : Allocation → PlainAct = λ a. Allocates a.user a.port a.granted a.tx in
-    reads_as (allocation_at b) allocation (FitsAllocation b) make body (FitsTagged b 1) (reads_allocation b range) (λ a. refl)
-    (λ a h. (refl, ((h.user.0, h.user.1, all_of_bytes a.user h.user.2), h.port, (h.low, h.high), (h.tx.0, all_of_bytes a.tx.0 h.tx.1)))) (from_allocates b)
+    reads_as (allocation_at b (λ port. true)) allocation (FitsAllocation b (λ port. true)) make body (FitsTagged b 1) (reads_allocation b range (λ port. true)) (λ a h. refl)
+    (λ a h. (refl, allocation_fits b (λ port. true) a h)) (from_allocates b)
 
 from_renews : (b : Bounds) (d : PlainAct) → FitsTagged b 2 d → (g : ℕ) × (d ≡ Renews g) × ((g ≡ 0) ⊎ ((600 ≤ g) × (g ≤ 3600)))
 from_renews b (Allocates user port granted tx) h = absurd cc
@@ -209,7 +223,7 @@ from_renews b (Permits xs) h = absurd cc
 from_renews b (Binds number peer) h = absurd cc
 
 reads_renews : (b : Bounds) → Reads renews_at body (FitsTagged b 2)
-reads_renews b = reads_as renewed_at (to_be_bytes w32) (λ g. (g ≡ 0) ⊎ ((600 ≤ g) × (g ≤ 3600))) Renews body (FitsTagged b 2) reads_renewed (λ a. refl) (λ a h. (refl, h)) (from_renews b)
+reads_renews b = reads_as renewed_at (to_be_bytes w32) (λ g. (g ≡ 0) ⊎ ((600 ≤ g) × (g ≤ 3600))) Renews body (FitsTagged b 2) reads_renewed (λ a h. refl) (λ a h. (refl, h)) (from_renews b)
 
 from_permits : (b : Bounds) (d : PlainAct) → FitsTagged b 3 d → (xs : List ℕ) × (d ≡ Permits xs) × FitsAddresses b xs
 from_permits b (Allocates user port granted tx) h = absurd cc
@@ -219,7 +233,7 @@ from_permits b (Binds number peer) h = absurd cc
 
 reads_permits : (b : Bounds) → AreInRange b → Reads (permits_at b) body (FitsTagged b 3)
 reads_permits b range =
-    reads_as (addresses_at b) addresses (FitsAddresses b) Permits body (FitsTagged b 3) (reads_addresses b range) (λ xs. refl)
+    reads_as (addresses_at b) addresses (FitsAddresses b) Permits body (FitsTagged b 3) (reads_addresses b range) (λ xs h. refl)
     (λ xs h. let p = distinct_after [] xs h.2 in (refl, ((h.0, h.1, All-from_recursion (λ x. x < 2 ^ 32) xs p.0), p.1))) (from_permits b)
 
 from_binds : (b : Bounds) (d : PlainAct) → FitsTagged b 4 d → (a : Binding) × (d ≡ Binds a.number a.peer) × FitsBinding a
@@ -231,7 +245,7 @@ from_binds b (Binds number peer) h = (record { number = number; peer = peer }, r
 reads_binds : (b : Bounds) → Reads bound_at body (FitsTagged b 4)
 reads_binds b =
     let make : Binding → PlainAct = λ a. Binds a.number a.peer in
-    reads_as binding_at binding FitsBinding make body (FitsTagged b 4) reads_binding (λ a. refl) (λ a h. (refl, (h.0, h.1))) (from_binds b)
+    reads_as binding_at binding FitsBinding make body (FitsTagged b 4) reads_binding (λ a h. refl) (λ a h. (refl, (h.0, h.1))) (from_binds b)
 
 one_to_four : (t : ℕ) → 1 ≤ t → t ≤ 4 → (t ≡ 1) ⊎ ((t ≡ 2) ⊎ ((t ≡ 3) ⊎ (t ≡ 4)))
 one_to_four t low high =

@@ -1,9 +1,12 @@
 pub mod Acts
+pub mod Apart
 pub mod Appended
 pub mod Batches
 pub mod Last
 pub mod Many
 pub mod Once
 pub mod Readers
+pub mod Rising
 pub mod Shorts
 pub mod Sizes
+pub mod Tables

@@ -188,17 +188,17 @@ in_words {A} r s s' f f' reads same to from = record {
 
 -- a value seen as another
 pub reads_as : {A B : Type 0} (r : List ℕ → Field A) (s : A → List ℕ) (f : A → Type 0) (make : A → B) (s' : B → List ℕ) (f' : B → Type 0) → Reads r s f
-    → ((x : A) → s' (make x) ≡ s x) → ((x : A) → f x → f' (make x)) → ((y : B) → f' y → (x : A) × (y ≡ make x) × f x)
+    → ((x : A) → f x → s' (make x) ≡ s x) → ((x : A) → f x → f' (make x)) → ((y : B) → f' y → (x : A) × (y ≡ make x) × f x)
     → Reads (λ bytes. r bytes >>= λ x. Ok (make x.0, x.1)) s' f'
 reads_as {A} {B} r s f make s' f' reads same to from = record {
   takes = λ bytes y rest fits e.
       let a = bind_ok (r bytes) (λ (x : A × List ℕ). Ok (make x.0, x.1)) (y, rest) e in
       let t = reads.takes bytes a.0.0 a.0.1 fits a.1 in
-      subst (λ (x : B × List ℕ). Taken bytes (s' x.0) x.1 (f' x.0)) (ok_is (make a.0.0, a.0.1) (y, rest) a.2) (record { parts = t.parts ∙ ap (λ (u : List ℕ). u ++ a.0.1) (sym (same a.0.0)); left = t.left; fits = to a.0.0 t.fits });
+      subst (λ (x : B × List ℕ). Taken bytes (s' x.0) x.1 (f' x.0)) (ok_is (make a.0.0, a.0.1) (y, rest) a.2) (record { parts = t.parts ∙ ap (λ (u : List ℕ). u ++ a.0.1) (sym (same a.0.0 t.fits)); left = t.left; fits = to a.0.0 t.fits });
   again = λ y rest h.
       let x = from y h in
       let one : r (s x.0 ++ rest) ≡ Ok (x.0, rest) = reads.again x.0 rest x.2 in
-      let text : s' y ≡ s x.0 = ap s' x.1 ∙ same x.0 in
+      let text : s' y ≡ s x.0 = ap s' x.1 ∙ same x.0 x.2 in
       ap (λ (u : List ℕ). r (u ++ rest) >>= λ z. Ok (make z.0, z.1)) text ∙ ap (λ (u : Field A). u >>= λ z. Ok (make z.0, z.1)) one ∙ ap (λ (v : B). done (v, rest)) (sym x.1);
 }
 

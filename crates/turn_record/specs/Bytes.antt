@@ -1,7 +1,13 @@
--- The bytes of act entries and payloads. Numbers have their highest byte first.
+-- The bytes of act entries, payloads and snapshots. Numbers have their highest byte first.
 use Rattle.std.specs.Prelude.{ℕ, List, [], ◌∷◌, ◌++◌, length}
 use Rattle.std.specs.Int.{to_be_bytes, w16, w32, w64}
+use Rattle.std.specs.Ordering.{nat_cmp}
+use Rattle.std.specs.FinMap as fin
+use Rattle.std.specs.FinMap.{FinMap}
 use Rattle.turn_history.specs.History.{PlainAct, Allocates, Renews, Permits, Binds, Allocation, Event}
+use Rattle.turn_history.specs.Laws.{allocation_of}
+use Rattle.turn_history.specs.Table.{Entry, Contents}
+use Rattle.turn_history.specs.declared.channel.Channel.{Channel}
 use Rattle.turn_types.specs.declared.address.Endpoint.{Endpoint}
 use Rattle.turn_types.specs.declared.address.FiveTuple.{FiveTuple}
 
@@ -53,3 +59,33 @@ act_entry e = joined ((tag e.act ∷ []) ∷ to_be_bytes w64 e.moment ∷ five_t
 
 abbrev pub payload : List Event → List ℕ
 payload es = (length es ∷ []) ++ each act_entry es
+
+-- ---- Snapshots
+
+-- an address, and when its permission expires
+abbrev pub permission : ℕ × ℕ → List ℕ
+permission p = joined (to_be_bytes w32 p.0 ∷ to_be_bytes w64 p.1 ∷ [])
+
+-- ascending by address
+unfoldable pub permissions : FinMap nat_cmp ℕ → List ℕ
+permissions m = (fin.len m ∷ []) ++ each permission (fin.entries m)
+
+-- a number, its peer, and when the channel expires
+abbrev pub channel : ℕ × Channel → List ℕ
+channel c = joined (to_be_bytes w16 c.0 ∷ endpoint c.1.peer ∷ to_be_bytes w64 c.1.expiry ∷ [])
+
+-- ascending by number
+unfoldable pub channels : FinMap nat_cmp Channel → List ℕ
+channels m = (fin.len m ∷ []) ++ each channel (fin.entries m)
+
+unfoldable pub entry : FiveTuple × Entry → List ℕ
+entry p =
+    joined (five_tuple p.0 ∷ allocation (allocation_of p.1) ∷ to_be_bytes w64 p.1.expiry ∷ permissions p.1.permissions ∷ channels p.1.channels ∷ [])
+
+-- a moment, and the number of entries
+abbrev pub head : ℕ → ℕ → List ℕ
+head t count = joined (to_be_bytes w64 t ∷ to_be_bytes w32 count ∷ [])
+
+-- a table at a moment, ascending by five-tuple, which is by its twelve bytes
+unfoldable pub snapshot : ℕ → Contents → List ℕ
+snapshot t c = head t (fin.len c.entries) ++ each entry (fin.entries c.entries)

@@ -1,4 +1,5 @@
 pub mod Bytes
 pub mod Reading
 pub mod Records
+pub mod Snapshots
 pub mod Views

@@ -117,17 +117,23 @@ count_at low high bytes = do
 
 -- ---- Acts
 
-unfoldable pub allocation_at : Bounds → List ℕ → Field Allocation
-allocation_at b bytes = do
+-- a port that passes a test
+unfoldable pub port_at : (ℕ → Bool) → List ℕ → Field ℕ
+port_at free bytes = do
+  port ← number_at w16 bytes
+  judged (free port.0) BadValue port
+
+unfoldable pub allocation_at : Bounds → (ℕ → Bool) → List ℕ → Field Allocation
+allocation_at b free bytes = do
   user ← name_at b bytes
-  port ← number_at w16 user.1
+  port ← port_at free user.1
   granted ← granted_at port.1
   tx ← tx_at granted.1
   Ok (record { user = user.0; port = port.0; granted = granted.0; tx = tx.0 }, tx.1)
 
 abbrev pub allocated_at : Bounds → List ℕ → Field PlainAct
 allocated_at b bytes = do
-  a ← allocation_at b bytes
+  a ← allocation_at b (λ port. true) bytes
   Ok (Allocates a.0.user a.0.port a.0.granted a.0.tx, a.1)
 
 unfoldable pub address_at : List ℕ → List ℕ → Field ℕ

@@ -1,6 +1,7 @@
 //! The bytes of acts and payloads.
 #![tactic(auto)]
 
+mod entries;
 mod fault;
 mod field;
 mod laws;

@@ -16,7 +16,7 @@ use std::alloc::Allocator;
 use turn_history::{Act, Addresses, Event};
 use turn_types::{Bounds, Limits, Moment};
 
-#[tactic(auto, unfolding(crate::specs::Reading::allocation_at))]
+#[tactic(auto, unfolding(crate::specs::Reading::allocation_at, crate::specs::Reading::port_at))]
 fn alloc_of<'a, A: Allocator + Copy>(
     alloc: A,
     bounds: Bounds,

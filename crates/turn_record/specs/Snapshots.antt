@@ -1,0 +1,134 @@
+-- Reading a snapshot from the left, with the first fault that is met.
+use Rattle.std.specs.Prelude.{◌≡◌, ℕ, ◌+◌, not, ◌&&◌, List, [], Result, Ok, Err, nat_lt, nat_le, ◌==◌, Bool}
+use Rattle.std.specs.List.{list_any}
+use Rattle.std.specs.Int.{w32, w64}
+use Rattle.std.specs.Ordering.{nat_cmp, is_lt}
+use Rattle.std.specs.FinMap as fin
+use Rattle.std.specs.FinMap.{FinMap}
+use Rattle.turn_history.specs.Fitting.{is_peer}
+use Rattle.turn_history.specs.History.{Allocation}
+use Rattle.turn_history.specs.Table.{Entry, Contents}
+use Rattle.turn_history.specs.declared.channel.Channel.{Channel}
+use Rattle.turn_record.specs.declared.fault.Malformed.{Malformed}
+use Rattle.turn_record.specs.declared.fault.Malformed.TheVariants.{BadValue, OutOfOrder}
+use Rattle.turn_record.specs.Reading.{◌>>=◌, Field, last_passes, judged, number_at, many, moment_at, endpoint_at, tuple_at, allocation_at, channel_number_at, count_at, whole}
+use Rattle.turn_types.specs.FiveTuple.{tuple_cmp}
+use Rattle.turn_types.specs.declared.address.Endpoint.{Endpoint}
+use Rattle.turn_types.specs.declared.address.FiveTuple.{FiveTuple}
+use Rattle.turn_types.specs.declared.limits.Bounds.{Bounds}
+
+-- when something expires: after the moment t, and by at most so many seconds
+unfoldable pub expiry_at : ℕ → ℕ → List ℕ → Field ℕ
+expiry_at t most bytes = do
+  x ← number_at w64 bytes
+  judged (nat_lt t x.0 && nat_le x.0 (t + most)) BadValue x
+
+-- ---- Permissions
+
+unfoldable pub address_after : List (ℕ × ℕ) → List ℕ → Field ℕ
+address_after before bytes = do
+  a ← number_at w32 bytes
+  judged (last_passes (λ last. nat_lt last.0 a.0) before) OutOfOrder a
+
+unfoldable pub permission_at : ℕ → List (ℕ × ℕ) → List ℕ → Field (ℕ × ℕ)
+permission_at t before bytes = do
+  a ← address_after before bytes
+  x ← expiry_at t 300 a.1
+  Ok ((a.0, x.0), x.1)
+
+unfoldable pub permission_list_at : Bounds → ℕ → List ℕ → Field (List (ℕ × ℕ))
+permission_list_at b t bytes = do
+  n ← count_at 0 b.permissions bytes
+  many (permission_at t) n.0 [] n.1
+
+abbrev pub permissions_at : Bounds → ℕ → List ℕ → Field (FinMap nat_cmp ℕ)
+permissions_at b t bytes = do
+  ps ← permission_list_at b t bytes
+  Ok (fin.from_sorted ps.0, ps.1)
+
+-- ---- Channels
+
+unfoldable pub number_after : List (ℕ × Channel) → List ℕ → Field ℕ
+number_after before bytes = do
+  n ← channel_number_at bytes
+  judged (last_passes (λ last. nat_lt last.0 n.0) before) OutOfOrder n
+
+-- a peer of none of the channels before
+unfoldable pub other_peer_at : List (ℕ × Channel) → List ℕ → Field Endpoint
+other_peer_at before bytes = do
+  p ← endpoint_at bytes
+  judged (not (list_any (λ c. is_peer p.0 c.1) before)) BadValue p
+
+unfoldable pub channel_at : ℕ → List (ℕ × Channel) → List ℕ → Field (ℕ × Channel)
+channel_at t before bytes = do
+  n ← number_after before bytes
+  p ← other_peer_at before n.1
+  x ← expiry_at t 600 p.1
+  Ok ((n.0, record { peer = p.0; expiry = x.0 }), x.1)
+
+unfoldable pub channel_list_at : Bounds → ℕ → List ℕ → Field (List (ℕ × Channel))
+channel_list_at b t bytes = do
+  n ← count_at 0 b.channels bytes
+  many (channel_at t) n.0 [] n.1
+
+abbrev pub channels_at : Bounds → ℕ → List ℕ → Field (FinMap nat_cmp Channel)
+channels_at b t bytes = do
+  cs ← channel_list_at b t bytes
+  Ok (fin.from_sorted cs.0, cs.1)
+
+-- ---- Entries
+
+unfoldable pub tuple_after : List (FiveTuple × Entry) → List ℕ → Field FiveTuple
+tuple_after before bytes = do
+  f ← tuple_at bytes
+  judged (last_passes (λ last. is_lt (tuple_cmp last.0 f.0)) before) OutOfOrder f
+
+-- no entry before has the port
+abbrev pub is_free_after : List (FiveTuple × Entry) → ℕ → Bool
+is_free_after before port = not (list_any (λ e. e.1.port == port) before)
+
+-- an entry of what its Allocate gave, when it expires, its permissions and its channels
+abbrev pub entry_with : Allocation → ℕ → FinMap nat_cmp ℕ → FinMap nat_cmp Channel → Entry
+entry_with a x ps cs = record { user = a.user; port = a.port; granted = a.granted; tx = a.tx; expiry = x; permissions = ps; channels = cs }
+
+unfoldable pub entry_at : Bounds → ℕ → List (FiveTuple × Entry) → List ℕ → Field (FiveTuple × Entry)
+entry_at b t before bytes = do
+  f ← tuple_after before bytes
+  a ← allocation_at b (is_free_after before) f.1
+  x ← expiry_at t 3600 a.1
+  ps ← permissions_at b t x.1
+  cs ← channels_at b t ps.1
+  Ok ((f.0, entry_with a.0 x.0 ps.0 cs.0), cs.1)
+
+-- ---- Snapshots
+
+-- the first twelve bytes
+pub record Head : Type 0 where
+  pub moment : ℕ
+  pub count : ℕ
+
+unfoldable pub entry_count_at : Bounds → List ℕ → Field ℕ
+entry_count_at b bytes = do
+  n ← number_at w32 bytes
+  judged (nat_le n.0 b.allocations) BadValue n
+
+unfoldable pub head_at : Bounds → List ℕ → Field Head
+head_at b bytes = do
+  t ← moment_at bytes
+  n ← entry_count_at b t.1
+  Ok (record { moment = t.0; count = n.0 }, n.1)
+
+-- n entries more, and the table that they make with those before them, at the moment t
+unfoldable pub table_at : Bounds → ℕ → ℕ → List (FiveTuple × Entry) → List ℕ → Field (ℕ × Contents)
+table_at b t n before bytes = do
+  es ← many (entry_at b t) n before bytes
+  Ok ((t, record { entries = fin.from_sorted es.0 }), es.1)
+
+unfoldable pub snapshot_at : Bounds → List ℕ → Field (ℕ × Contents)
+snapshot_at b bytes = do
+  h ← head_at b bytes
+  table_at b h.0.moment h.0.count [] h.1
+
+-- the table and its moment that a byte list spells, or the first fault
+unfoldable pub snapshot_in : Bounds → List ℕ → Result (ℕ × Contents) Malformed
+snapshot_in b bytes = whole (snapshot_at b bytes)
