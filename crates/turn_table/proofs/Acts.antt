@@ -8,8 +8,8 @@ use Rattle.turn_history.specs.Table.{Entry, Contents, applied, applied_to, with_
 use Rattle.turn_types.specs.declared.address.FiveTuple.{FiveTuple}
 use Rattle.std.specs.FinMap as fin
 use Rattle.turn_table.specs.State.{State}
-use Rattle.turn_table.specs.Order as order
-use Rattle.turn_table.specs.Table.{Agrees, BecomesFree, freed_by}
+use Rattle.turn_table.specs.Table.{Agrees, BecomesFree, freed_by, without_entry}
+use Rattle.turn_table.specs.Table as calls
 use Rattle.turn_table.proofs.Purging.{free-remove}
 
 -- an act makes this of the entry that is there
@@ -24,15 +24,15 @@ done s t f d e is o gives =
     ∙ ap (λ k. record s { contents = k; room = None }) (applied-is t f e s.contents o gives)
 
 -- where an act changes the entry that is there
-pub changed_by : (s new : State) (t : ℕ) (f : FiveTuple) (d e : PlainAct) → d ≡ e → (h : Entry → Entry) → ((v : Entry) → applied_to t e (Some v) ≡ Some (h v)) → IsSomeAnd (fin.get s.contents.entries f) (λ v. new ≡ order.with_entry s f (h v)) → new ≡ record s { contents = applied t f d s.contents; room = None }
+pub changed_by : (s new : State) (t : ℕ) (f : FiveTuple) (d e : PlainAct) → d ≡ e → (h : Entry → Entry) → ((v : Entry) → applied_to t e (Some v) ≡ Some (h v)) → IsSomeAnd (fin.get s.contents.entries f) (λ v. new ≡ calls.with_entry s f (h v)) → new ≡ record s { contents = applied t f d s.contents; room = None }
 changed_by s new t f d e is h gives some = by_entry (fin.get s.contents.entries f) refl some
   where
-    by_entry : (o : Option Entry) → fin.get s.contents.entries f ≡ o → IsSomeAnd o (λ v. new ≡ order.with_entry s f (h v)) → new ≡ record s { contents = applied t f d s.contents; room = None }
+    by_entry : (o : Option Entry) → fin.get s.contents.entries f ≡ o → IsSomeAnd o (λ v. new ≡ calls.with_entry s f (h v)) → new ≡ record s { contents = applied t f d s.contents; room = None }
     by_entry None at none = absurd none
     by_entry (Some v) at new_is = new_is ∙ sym (done s t f d e is (Some (h v)) (ap (applied_to t e) at ∙ gives v))
 
 -- the port of the entry that an act removes is free
-pub free_end : (s new : State) (f : FiveTuple) (port : ℕ) → new ≡ order.without_entry s f → IsSomeAnd (fin.get s.contents.entries f) (λ e. e.port ≡ port) → BecomesFree s.contents new.contents port
+pub free_end : (s new : State) (f : FiveTuple) (port : ℕ) → new ≡ without_entry s f → IsSomeAnd (fin.get s.contents.entries f) (λ e. e.port ≡ port) → BecomesFree s.contents new.contents port
 free_end s new f port is some = by_entry (fin.get s.contents.entries f) refl some
   where
     by_entry : (o : Option Entry) → fin.get s.contents.entries f ≡ o → IsSomeAnd o (λ e. e.port ≡ port) → BecomesFree s.contents new.contents port

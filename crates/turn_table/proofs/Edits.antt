@@ -7,9 +7,10 @@ use Rattle.turn_types.specs.FiveTuple.{tuple_cmp}
 use Rattle.turn_types.specs.declared.limits.Bounds.{Bounds}
 use Rattle.turn_history.specs.Table.{Entry, Entries}
 use Rattle.turn_types.specs.declared.address.FiveTuple.{FiveTuple}
-use Rattle.turn_table.specs.Order.{state_of, HasRoom, IsInOrder, with_entry, without_entry}
+use Rattle.turn_table.specs.Order.{state_of, HasRoom, IsInOrder}
 use Rattle.turn_table.specs.Sorted.{scan}
 use Rattle.turn_table.specs.State.{Held, Room, State, pairs}
+use Rattle.turn_table.specs.Table.{with_entry, without_entry}
 use Rattle.turn_table.proofs.Lists.{Shown, get-ok, get-err, written}
 use Rattle.turn_table.proofs.Rooms.{no_room}
 

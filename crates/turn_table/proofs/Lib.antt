@@ -2,6 +2,7 @@ pub mod Acts
 pub mod ChannelPeers
 pub mod Counting
 pub mod Edits
+pub mod Ends
 pub mod Keyed
 pub mod Lists
 pub mod Places

@@ -1,10 +1,9 @@
 -- What holds of the list of a table.
-use Rattle.std.specs.Prelude.{ℕ, ◌≡◌, ◌≤◌, ◌<◌, true, Some, Option, None, List, Ok, Err, slice_index_or}
+use Rattle.std.specs.Prelude.{ℕ, ◌≡◌, ◌≤◌, ◌<◌, true, Some, Option, List, Ok, Err, slice_index_or}
 use Rattle.std.specs.FinMap as fin
 use Rattle.std.specs.FinMap.{is_sorted}
 use Rattle.turn_types.specs.FiveTuple.{tuple_cmp}
 use Rattle.turn_types.specs.declared.limits.Bounds.{Bounds}
-use Rattle.turn_history.specs.Table.{Entry}
 use Rattle.turn_types.specs.declared.address.FiveTuple.{FiveTuple}
 use Rattle.turn_table.specs.declared.edit.Reserved.{Reserved}
 use Rattle.turn_table.specs.Sorted.{scan}
@@ -27,10 +26,3 @@ pub record HasRoom (r : Room) (xs : List (FiveTuple × Held)) (len capacity : �
 pub record IsInOrder (xs : List (FiveTuple × Held)) (len capacity : ℕ) (room : Option Room) : Type 0 where
   pub sorted : is_sorted tuple_cmp (pairs xs) ≡ true
   pub spare : (r : Room) → room ≡ Some r → HasRoom r xs len capacity
-
--- the table with another entry of a five-tuple, or none, and no room for an act
-abbrev pub with_entry : State → FiveTuple → Entry → State
-with_entry s f e = record s { contents = record { entries = fin.insert s.contents.entries f e }; room = None }
-
-abbrev pub without_entry : State → FiveTuple → State
-without_entry s f = record s { contents = record { entries = fin.remove s.contents.entries f }; room = None }

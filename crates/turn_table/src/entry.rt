@@ -1,6 +1,7 @@
 //! What a table holds of one allocation.
 
-ghost use Rattle.std.specs.Prelude.{◌≡◌, ◌≤◌, ◌↔◌, ◌||◌, ℕ, IsTrue, is_some, not, MatchOption};
+ghost use Rattle.std.specs.Prelude.{◌≡◌, ◌≤◌, ◌↔◌, ◌||◌, ℕ, true, IsTrue, is_some, not, MatchOption};
+ghost use Rattle.std.specs.Ordering.{nat_cmp};
 ghost use Rattle.turn_table.specs.Table.{IsChannelTo};
 ghost use Rattle.turn_history.specs.Fitting.{FitsChannel, exceeds, is_bound_elsewhere};
 ghost use Rattle.turn_history.specs.Table.{allocated, install};
@@ -25,6 +26,19 @@ pub struct Entry<A: Allocator = Global> {
     pub(crate) expiry: u64,
     pub(crate) permissions: Timed<u32, u64, A>,
     pub(crate) channels: Timed<u16, Channel, A>,
+}
+
+/// The values of an entry: the fields that the Allocate request gave, the expiry time in seconds (exclusive), and the
+/// permissions, ascending by address, and channels, ascending by number, each with its own expiry time.
+#[derive(Drop)]
+pub struct EntryParts<A: Allocator = Global> {
+    pub user: UserName<A>,
+    pub port: u16,
+    pub granted: u32,
+    pub tx: TxId,
+    pub expiry: u64,
+    pub permissions: Vec<(u32, u64), A>,
+    pub channels: Vec<(u16, Channel), A>,
 }
 
 impl<A: Allocator> Model for Entry<A> {
@@ -89,6 +103,40 @@ impl<A: Allocator> Entry<A> {
 }
 
 impl<A: Allocator + Copy> Entry<A> {
+    /// An entry of known values, as a snapshot has them. It takes no memory.
+    pub fn new(parts: EntryParts<A>) -> Entry<A>
+        requires permissions { fin.is_sorted nat_cmp parts.permissions.items ≡ true }
+        requires channels { fin.is_sorted nat_cmp parts.channels.items ≡ true }
+        ensures { result.entry ≡ record {
+          user = parts.user;
+          port = parts.port;
+          granted = parts.granted;
+          tx = parts.tx;
+          expiry = parts.expiry;
+          permissions = fin.from_sorted {R = nat_cmp} parts.permissions.items;
+          channels = fin.from_sorted {R = nat_cmp} parts.channels.items;
+        } }
+    {
+        let EntryParts {
+            user,
+            port,
+            granted,
+            tx,
+            expiry,
+            permissions,
+            channels,
+        } = parts;
+        Entry {
+            user,
+            port,
+            granted,
+            tx,
+            expiry,
+            permissions: Timed::from_sorted(permissions),
+            channels: Timed::from_sorted(channels),
+        }
+    }
+
     /// The entry of a new allocation (RFC 8656, section 7.2).
     pub(crate) fn allocated(
         alloc: A,
@@ -109,6 +157,21 @@ impl<A: Allocator + Copy> Entry<A> {
             permissions: Timed::new(alloc),
             channels: Timed::new(alloc),
         }
+    }
+
+    /// The addresses that have a permission, ascending, each with the expiry time of its permission in seconds
+    /// (exclusive).
+    pub fn permissions(&self) -> &[(u32, u64)]
+        ensures { result.now ≡ fin.entries self.now.entry.permissions }
+    {
+        self.permissions.items()
+    }
+
+    /// The channels, ascending by number.
+    pub fn channels(&self) -> &[(u16, Channel)]
+        ensures { result.now ≡ fin.entries self.now.entry.channels }
+    {
+        self.channels.items()
     }
 
     /// Whether an address has a permission.

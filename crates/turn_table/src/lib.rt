@@ -4,9 +4,11 @@
 mod edit;
 mod entry;
 mod fits;
+mod laws;
 mod search;
 mod table;
 mod timed;
 
-pub use entry::Entry;
+pub use entry::{Entry, EntryParts};
+pub use laws::above_the_last;
 pub use table::{Entries, Table};

@@ -1,14 +1,13 @@
 //! The table.
 
-ghost use Rattle.std.specs.Prelude.{◌≡◌, ℕ, ◌+◌, ◌≤◌, ◌<◌, ◌↔◌, IsTrue, IsSome, IsSomeAnd, IfSome, IfNone, OnSome, OnOk, OnErr, MatchOption, Some, None, false, ◌==◌, ◌++◌, ◌∷◌, [], option_map, option_copied};
+ghost use Rattle.std.specs.Prelude.{◌≡◌, ℕ, ◌+◌, ◌-◌, ◌≤◌, ◌<◌, ◌↔◌, IsTrue, IsSome, IsSomeAnd, IfSome, IfNone, OnSome, OnOk, OnErr, MatchOption, Some, None, false, ◌==◌, ◌++◌, ◌∷◌, [], length, slice_get, option_map, option_copied};
 ghost use Rattle.std.specs.FinMap as fin;
 ghost use Rattle.std.specs.Iterator.{YieldsFirstBy, item_count};
 ghost use Rattle.std.specs.List.{count_by, list_any};
 ghost use Rattle.std.specs.Option.{option_and_then};
 ghost use Rattle.std.specs.Str.{bytes_eq};
-ghost use Rattle.turn_table.specs.Order.{with_entry, without_entry};
 ghost use Rattle.turn_table.specs.State.{State};
-ghost use Rattle.turn_table.specs.Table.{Agrees, AgreesOncePurged, BecomesFree, RemovesExpired, freed_by, room_for};
+ghost use Rattle.turn_table.specs.Table.{Agrees, AgreesOncePurged, BecomesFree, IsAbove, RemovesExpired, freed_by, room_for, with_entry, without_entry};
 ghost use Rattle.turn_history.specs.Act.{act_of};
 ghost use Rattle.turn_history.specs.Fitting.{Fits, Follows, PortIsFree, is_taken};
 ghost use Rattle.turn_history.specs.History.{History, Event, Permits, Binds};
@@ -145,6 +144,17 @@ impl<A: Allocator + Copy> Table<A> {
         }
     }
 
+    /// The greatest five-tuple that has an entry.
+    pub fn last(&self) -> Option<FiveTuple>
+        ensures { let all = fin.entries self.now.contents.entries in
+            result ≡ option_map (λ p. p.0) (slice_get all (length all - 1)) }
+    {
+        match self.entries.last() {
+            Some(slot) => Some(slot.0),
+            None => None,
+        }
+    }
+
     /// The entry of a five-tuple.
     pub fn get(&self, tuple: FiveTuple) -> Option<&Entry<A>>
         ensures { option_map (λ e. e.entry) (option_copied result) ≡ fin.get self.now.contents.entries tuple }
@@ -243,6 +253,22 @@ impl<A: Allocator + Copy> Table<A> {
         let room = Reserved::for_act(tuple, act);
         make_room_for(&mut self.entries, room)?;
         self.room = Some(room);
+        Ok(())
+    }
+
+    /// Adds the entry of a five-tuple that is above all others, without a search, so that a snapshot is restored in the
+    /// order of its entries. After an `Err` the limits, the moment and the entries are as before. There is room for no
+    /// act afterwards.
+    pub fn restore(&mut self, tuple: FiveTuple, entry: Entry<A>) -> Result<(), AllocError>
+        requires above { IsAbove self.old.contents tuple }
+        requires free { PortIsFree self.old.contents entry.entry.port }
+        requires few { fin.len self.old.contents.entries < self.old.bounds.allocations }
+        ensures ok { OnOk result (self.new ≡ with_entry self.old tuple entry.entry) }
+        ensures entries { OnOk result (fin.entries self.new.contents.entries ≡ fin.entries self.old.contents.entries ++ (tuple, entry.entry) ∷ []) }
+        ensures err { OnErr result (self.new ≡ record self.old { room = None }) }
+    {
+        self.room = None;
+        self.entries.push((tuple, entry))?;
         Ok(())
     }
 

@@ -1,6 +1,6 @@
 //! Small maps whose values expire.
 
-ghost use Rattle.std.specs.Prelude.{◌≡◌, ℕ, ◌+◌, ◌<◌, ◌≤◌, OnOk, OnErr, nat_lt};
+ghost use Rattle.std.specs.Prelude.{◌≡◌, ℕ, ◌+◌, ◌<◌, ◌≤◌, true, OnOk, OnErr, nat_lt};
 ghost use Rattle.std.specs.List.{filter};
 ghost use Rattle.std.specs.FinMap as fin;
 ghost use Rattle.std.specs.FinMap.{IsAntisymmetric};
@@ -84,6 +84,14 @@ impl<K: Key, V: Expires, A: Allocator + Copy> Timed<K, V, A> {
         Timed {
             items: Vec::new(alloc),
         }
+    }
+
+    /// The map of a list whose keys rise.
+    pub(crate) fn from_sorted(items: Vec<(K, V), A>) -> Timed<K, V, A>
+        requires { fin.is_sorted K.cmp items.items ≡ true }
+        ensures { result.0 ≡ items.items }
+    {
+        Timed { items }
     }
 
     pub(crate) fn len(&self) -> usize

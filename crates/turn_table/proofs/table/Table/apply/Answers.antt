@@ -4,7 +4,7 @@ use Rattle.std.specs.FinMap as fin
 use Rattle.turn_history.specs.Act.{act_of}
 use Rattle.turn_history.specs.History.{Allocates, Renews, Permits, Binds}
 use Rattle.turn_history.specs.Table.{renewed, permitting, binding}
-use Rattle.turn_table.specs.Order.{with_entry}
+use Rattle.turn_table.specs.Table.{with_entry}
 use Rattle.turn_table.proofs.Acts.{done, changed_by, agrees_after, free_end, freed_end}
 use Rattle.turn_table.proofs.table.Table.apply.Goals as goal
 
