@@ -50,7 +50,7 @@ all_two P Q R h (x ∷ xs) p q = (h x p.0 q.0, all_two P Q R h xs p.1 q.1)
 not_itself : {K : Type 0} (R : K → K → Ordering) → IsTotalOrder R → (k l : K) → k ≡ l → ¬ T (is_lt (R k l))
 not_itself R o k l e lt = subst (λ r. T (is_lt r)) (ap (R k) (sym e) ∙ tied_itself o k) lt
 
-module _ {K X : Type 0} (R : K → K → Ordering) (o : IsTotalOrder R) (same : K × X → K × X → Bool) where
+module _ {K X : Type 0} (R : K → K → Ordering) (same : K × X → K × X → Bool) where
   -- the same as none of those before
   abbrev pub IsNew : List (K × X) → K × X → Type 0
   IsNew before x = list_any (same x) before ≡ false
@@ -62,7 +62,7 @@ module _ {K X : Type 0} (R : K → K → Ordering) (o : IsTotalOrder R) (same : 
   abbrev pub Apart : List (K × X) → Type 0
   Apart xs = AllByRecursion (λ p. AllByRecursion (AreOne p) xs) xs
 
-  module _ (symmetric : (p q : K × X) → same p q ≡ same q p) where
+  module _ (o : IsTotalOrder R) (symmetric : (p q : K × X) → same p q ≡ same q p) where
     apart_after : (before xs : List (K × X)) → Apart before → EachAfter IsNew before xs → Apart (before ++ xs)
     apart_after before [] apart each = subst Apart (sym (append-nil before)) apart
     apart_after before (x ∷ xs) apart each =

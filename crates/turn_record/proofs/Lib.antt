@@ -3,8 +3,10 @@ pub mod Apart
 pub mod Appended
 pub mod Batches
 pub mod Last
+pub mod Lasting
 pub mod Many
 pub mod Once
+pub mod Onward
 pub mod Readers
 pub mod Rising
 pub mod Shorts

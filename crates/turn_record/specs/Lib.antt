@@ -1,4 +1,6 @@
 pub mod Bytes
+pub mod Pieces
+pub mod Places
 pub mod Reading
 pub mod Records
 pub mod Snapshots

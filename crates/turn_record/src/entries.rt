@@ -1,23 +1,27 @@
 //! Entries of a snapshot, read.
 
-ghost use Rattle.std.specs.Prelude.{◌≡◌, ◌^◌, ◌<◌, ◌≤◌, [], OnOk, T, length};
+ghost use Rattle.std.specs.Prelude.{◌≡◌, ◌≤◌, [], IfOk, true};
 ghost use Rattle.std.specs.FinMap as fin;
 ghost use Rattle.std.specs.List.{list_any};
-ghost use Rattle.std.specs.Ordering.{nat_cmp};
-ghost use Rattle.turn_history.specs.Fitting.{is_peer};
-ghost use Rattle.turn_record.specs.Reading.{Gives, many};
-ghost use Rattle.turn_record.specs.Snapshots.{address_after, channel_at, channel_list_at, expiry_at, number_after, other_peer_at, permission_at, permission_list_at};
-ghost use Rattle.turn_types.specs.declared.limits.Bounds.{Bounds};
+ghost use Rattle.std.specs.Ordering.{is_lt, nat_cmp};
+ghost use Rattle.turn_history.specs.Fitting.{PortIsFree, is_peer};
+ghost use Rattle.turn_record.specs.Views.{allocation_of};
+ghost use Rattle.turn_record.specs.Reading.{Gives, allocation_at, last_passes, many, port_at};
+ghost use Rattle.turn_record.specs.Snapshots.{address_after, channel_at, channel_list_at, entry_at, expiry_at, is_free_after, number_after, other_peer_at, permission_at, permission_list_at, tuple_after};
+ghost use Rattle.turn_table.specs.Table.{IsAbove};
+ghost use Rattle.turn_types.specs.FiveTuple.{tuple_cmp};
 
 use crate::fault::{Malformed, ReadError};
 use crate::field::{
-    channel_number_of, count_of, endpoint_of,  u32_of,
+    channel_number_of, count_of, endpoint_of, granted_of, name_of, tuple_of, tx_of, u16_of,  u32_of,
     u64_of,
 };
 use std::alloc::Allocator;
-use turn_history::Channel;
+use turn_history::{Channel, UserName};
+use turn_ports::PortSet;
+use turn_table::{Entry, EntryParts, Table, above_the_last};
 
-use turn_types::{Bounds, Endpoint, Moment};
+use turn_types::{Endpoint, FiveTuple, Limits, Moment, TxId};
 
 #[tactic(auto, unfolding(crate::specs::Snapshots::expiry_at))]
 fn expiry_of(moment: Moment, most: u64, bytes: &[u8]) -> Result<(u64, &[u8]), ReadError>
@@ -82,16 +86,29 @@ fn permissions_after<'a, A: Allocator + Copy>(
 }
 
 #[tactic(auto, unfolding(crate::specs::Snapshots::permission_list_at))]
-fn permissions_of<'a, A: Allocator + Copy>(
+fn permission_list_of<'a, A: Allocator + Copy>(
     alloc: A,
-    bounds: Bounds,
+    limits: Limits,
     moment: Moment,
     bytes: &'a [u8],
 ) -> Result<(Vec<(u32, u64), A>, &'a [u8]), ReadError>
-    ensures { Gives (λ x. (x.0.items, x.1.now)) result (permission_list_at bounds moment bytes.now) }
+    ensures { Gives (λ x. (x.0.items, x.1.now)) result (permission_list_at limits moment bytes.now) }
 {
-    let (count, rest) = count_of(0, bounds.permissions, bytes)?;
+    let (count, rest) = count_of(0, limits.permissions(), bytes)?;
     permissions_after(alloc, moment, count, rest)
+}
+
+fn permissions_of<'a, A: Allocator + Copy>(
+    alloc: A,
+    limits: Limits,
+    moment: Moment,
+    bytes: &'a [u8],
+) -> Result<(Vec<(u32, u64), A>, &'a [u8]), ReadError>
+    ensures gives { Gives (λ x. (x.0.items, x.1.now)) result (permission_list_at limits moment bytes.now) }
+    ensures sorted { IfOk result (λ x. fin.is_sorted nat_cmp x.0.items ≡ true) }
+{
+    let (_bounds, _now) = (limits.bounds(), moment.seconds());
+    permission_list_of(alloc, limits, moment, bytes)
 }
 
 // ---- Channels
@@ -167,14 +184,131 @@ fn channels_after<'a, A: Allocator + Copy>(
 }
 
 #[tactic(auto, unfolding(crate::specs::Snapshots::channel_list_at))]
-fn channels_of<'a, A: Allocator + Copy>(
+fn channel_list_of<'a, A: Allocator + Copy>(
     alloc: A,
-    bounds: Bounds,
+    limits: Limits,
     moment: Moment,
     bytes: &'a [u8],
 ) -> Result<(Vec<(u16, Channel), A>, &'a [u8]), ReadError>
-    ensures { Gives (λ x. (x.0.items, x.1.now)) result (channel_list_at bounds moment bytes.now) }
+    ensures { Gives (λ x. (x.0.items, x.1.now)) result (channel_list_at limits moment bytes.now) }
 {
-    let (count, rest) = count_of(0, bounds.channels, bytes)?;
+    let (count, rest) = count_of(0, limits.channels(), bytes)?;
     channels_after(alloc, moment, count, rest)
+}
+
+fn channels_of<'a, A: Allocator + Copy>(
+    alloc: A,
+    limits: Limits,
+    moment: Moment,
+    bytes: &'a [u8],
+) -> Result<(Vec<(u16, Channel), A>, &'a [u8]), ReadError>
+    ensures gives { Gives (λ x. (x.0.items, x.1.now)) result (channel_list_at limits moment bytes.now) }
+    ensures sorted { IfOk result (λ x. fin.is_sorted nat_cmp x.0.items ≡ true) }
+{
+    let (_bounds, _now) = (limits.bounds(), moment.seconds());
+    channel_list_of(alloc, limits, moment, bytes)
+}
+
+// ---- Entries
+
+/// Whether a five-tuple is above that of the last entry.
+fn is_above_last<A: Allocator + Copy>(table: &Table<A>, tuple: FiveTuple) -> bool
+    ensures { result ≡ last_passes (λ last. is_lt (tuple_cmp last.0 tuple)) (fin.entries table.now.contents.entries) }
+{
+    match table.last() {
+        Some(last) => last < tuple,
+        None => true,
+    }
+}
+
+#[tactic(auto, unfolding(crate::specs::Snapshots::tuple_after))]
+fn tuple_after<'a, A: Allocator + Copy>(
+    table: &Table<A>,
+    bytes: &'a [u8],
+) -> Result<(FiveTuple, &'a [u8]), ReadError>
+    ensures gives { Gives (λ x. (x.0, x.1.now)) result (tuple_after (fin.entries table.now.contents.entries) bytes.now) }
+    ensures above { IfOk result (λ x. IsAbove table.now.contents x.0) }
+{
+    above_the_last();
+    let (tuple, rest) = tuple_of(bytes)?;
+    if !is_above_last(table, tuple) {
+        return Err(ReadError::Malformed(Malformed::OutOfOrder));
+    }
+    Ok((tuple, rest))
+}
+
+#[tactic(auto, unfolding(crate::specs::Reading::port_at))]
+fn free_port_of<'a, A: Allocator + Copy>(
+    table: &Table<A>,
+    bytes: &'a [u8],
+) -> Result<(u16, &'a [u8]), ReadError>
+    ensures gives { Gives (λ x. (x.0, x.1.now)) result (port_at (is_free_after (fin.entries table.now.contents.entries)) bytes.now) }
+    ensures free { IfOk result (λ x. PortIsFree table.now.contents x.0) }
+{
+    let (port, rest) = u16_of(bytes)?;
+    if table.has(port) {
+        return Err(ReadError::Malformed(Malformed::BadValue));
+    }
+    Ok((port, rest))
+}
+
+/// What the Allocate request of an entry gave.
+#[derive(Drop)]
+pub(crate) struct Allocation<A: Allocator> {
+    pub(crate) user: UserName<A>,
+    pub(crate) port: u16,
+    pub(crate) granted: u32,
+    pub(crate) tx: TxId,
+}
+
+#[tactic(auto, unfolding(crate::specs::Reading::allocation_at))]
+fn allocation_of<'a, A: Allocator + Copy>(
+    alloc: A,
+    table: &Table<A>,
+    bytes: &'a [u8],
+) -> Result<(Allocation<A>, &'a [u8]), ReadError>
+    ensures gives { Gives (λ x. (allocation_of x.0, x.1.now)) result (allocation_at table.now.bounds (is_free_after (fin.entries table.now.contents.entries)) bytes.now) }
+    ensures free { IfOk result (λ x. PortIsFree table.now.contents x.0.port) }
+{
+    let (user, rest) = name_of(alloc, table.limits().bounds(), bytes)?;
+    let (port, rest) = free_port_of(table, rest)?;
+    let (granted, rest) = granted_of(rest)?;
+    let (tx, rest) = tx_of(rest)?;
+    Ok((
+        Allocation {
+            user,
+            port,
+            granted,
+            tx,
+        },
+        rest,
+    ))
+}
+
+/// The entry after those of the table, at the table's moment.
+#[tactic(auto, unfolding(crate::specs::Snapshots::entry_at))]
+pub(crate) fn entry_after<'a, A: Allocator + Copy>(
+    alloc: A,
+    table: &Table<A>,
+    bytes: &'a [u8],
+) -> Result<(FiveTuple, Entry<A>, &'a [u8]), ReadError>
+    ensures gives { Gives (λ x. ((x.0, x.1.entry), x.2.now)) result (entry_at table.now.bounds table.now.moment (fin.entries table.now.contents.entries) bytes.now) }
+    ensures above { IfOk result (λ x. IsAbove table.now.contents x.0) }
+    ensures free { IfOk result (λ x. PortIsFree table.now.contents x.1.entry.port) }
+{
+    let (tuple, rest) = tuple_after(table, bytes)?;
+    let (made, rest) = allocation_of(alloc, table, rest)?;
+    let (expiry, rest) = expiry_of(table.moment(), 3600, rest)?;
+    let (permissions, rest) = permissions_of(alloc, table.limits(), table.moment(), rest)?;
+    let (channels, rest) = channels_of(alloc, table.limits(), table.moment(), rest)?;
+    let entry = Entry::new(EntryParts {
+        user: made.user,
+        port: made.port,
+        granted: made.granted,
+        tx: made.tx,
+        expiry,
+        permissions,
+        channels,
+    });
+    Ok((tuple, entry, rest))
 }

@@ -5,7 +5,9 @@ mod entries;
 mod fault;
 mod field;
 mod laws;
+mod pieces;
 mod read;
+mod restored;
 mod write;
 
 pub use fault::{Malformed, ReadError};

@@ -1,0 +1,14 @@
+use Rattle.std.proofs.Common.{◌≡◌, Some, sym, ap}
+use Rattle.turn_record.proofs.Onward.{expected_end, refused_end}
+use Rattle.turn_record.proofs.pieces.SnapshotReader.finish.Goals as goal
+
+pub returns-in-Some-clause-gives : goal.returns-in-Some-clause-gives
+returns-in-Some-clause-gives g c = λ b fed was. refused_end b c.args.self.refused c.in-Some.error c.args.self.restored c.args.self.held.items fed c.in-Some.is was.expects
+
+pub returns-clause-gives : goal.returns-clause-gives
+returns-clause-gives g c = λ b fed was.
+    let p = expected_end b c.args.self.refused c.args.self.restored c.args.self.held.items fed c.in-None.is was.expects in
+    rw p.0 (c.conclude.ensures.gives b c.args.self.held.items p.1)
+
+pub returns-clause-limits : goal.returns-clause-limits
+returns-clause-limits g c = λ b fed was. c.conclude.ensures.bounds b was.under

@@ -1,0 +1,8 @@
+use Rattle.std.proofs.Common.{refl, ap, sym}
+use Rattle.turn_record.specs.Places.{gives}
+use Rattle.turn_record.specs.Snapshots.{head_at}
+use Rattle.turn_record.proofs.Onward.{fed_nothing}
+use Rattle.turn_record.proofs.pieces.SnapshotReader.new.Goals as goal
+
+pub returns-clause-fed : goal.returns-clause-fed
+returns-clause-fed g c = record { limits = refl; under = tt; expects = fed_nothing c.args.limits c.new.result.items c.new.ensures.items }

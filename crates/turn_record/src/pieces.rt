@@ -1,0 +1,111 @@
+//! Snapshots, read: from pieces, or as a whole.
+
+ghost use Rattle.std.specs.Prelude.{◌≡◌, ◌++◌, [], List, ℕ, IfErr, IfOk, None, OnOk, Ok, Err, Some};
+ghost use Rattle.turn_history.specs.Table.{Contents};
+ghost use Rattle.turn_record.specs.Pieces.{WasFed, refusal};
+ghost use Rattle.turn_record.specs.Reading.{Gives};
+ghost use Rattle.turn_record.specs.Records.{SpellsSnapshot};
+ghost use Rattle.turn_record.specs.Snapshots.{snapshot_in};
+ghost use Rattle.turn_record.specs.declared.fault.ReadError.{ReadError};
+ghost use Rattle.turn_types.specs.declared.limits.Bounds.{Bounds};
+
+use crate::fault::ReadError;
+use crate::restored::{Restored, advance, conclude, step};
+use std::alloc::{Allocator, Global};
+use turn_table::Table;
+use turn_types::Limits;
+
+/// Reads a snapshot that comes in pieces, cut in any way. Beside the table that it restores it holds the bytes of the
+/// entry that isn't whole yet. Once it has refused, it refuses for the same reason for good, and the table is gone.
+#[derive(Drop)]
+pub struct SnapshotReader<A: Allocator = Global> {
+    alloc: A,
+    limits: Limits,
+    refused: Option<ReadError>,
+    restored: Option<Restored<A>>,
+    held: Vec<u8, A>,
+}
+
+impl<A: Allocator + Copy> SnapshotReader<A> {
+    /// A reader of snapshots under the limits. It takes no memory yet.
+    #[tactic(auto, unfolding(crate::specs::Places::gives))]
+    pub fn new(alloc: A, limits: Limits) -> SnapshotReader<A>
+        ensures fed { WasFed limits result [] }
+        ensures none { refusal result ≡ None }
+    {
+        SnapshotReader {
+            alloc,
+            limits,
+            refused: None,
+            restored: None,
+            held: Vec::new(alloc),
+        }
+    }
+
+    /// Reads the next piece.
+    pub fn feed(&mut self, piece: &[u8]) -> Result<(), ReadError>
+        ensures fed { (b : Bounds) (fed : List ℕ) → WasFed b self.old fed → WasFed b self.new (fed ++ piece.now) }
+        ensures ok { OnOk result (refusal self.new ≡ None) }
+        ensures err { IfErr result (λ e. refusal self.new ≡ Some e) }
+        ensures for_good { (e : ReadError) → refusal self.old ≡ Some e → result ≡ Err e }
+    {
+        if let Some(error) = self.refused {
+            return Err(error);
+        }
+        let restored = self.restored.take();
+        match step(self.alloc, self.limits, restored, &mut self.held, piece) {
+            Ok(restored) => {
+                self.restored = restored;
+                Ok(())
+            }
+            Err(error) => {
+                self.refused = Some(error);
+                Err(error)
+            }
+        }
+    }
+
+    /// The table that the pieces joined are the snapshot of, at its moment.
+    pub fn finish(self) -> Result<Table<A>, ReadError>
+        ensures gives { (b : Bounds) (fed : List ℕ) → WasFed b self fed → Gives (λ t. (t.moment, t.contents)) result (snapshot_in b fed) }
+        ensures limits { (b : Bounds) (fed : List ℕ) → WasFed b self fed → IfOk result (λ t. t.bounds ≡ b) }
+        ensures for_good { (e : ReadError) → refusal self ≡ Some e → result ≡ Err e }
+    {
+        let SnapshotReader {
+            refused, restored, ..
+        } = self;
+        match refused {
+            Some(error) => Err(error),
+            None => conclude(restored),
+        }
+    }
+}
+
+fn whole_snapshot<A: Allocator + Copy>(
+    alloc: A,
+    limits: Limits,
+    bytes: &[u8],
+) -> Result<Table<A>, ReadError>
+    ensures fault { Gives (λ t. (t.moment, t.contents)) result (snapshot_in limits bytes.now) }
+    ensures limits { IfOk result (λ t. t.bounds ≡ limits) }
+{
+    match advance(alloc, limits, None, bytes) {
+        Err(error) => Err(error),
+        Ok((restored, _)) => conclude(restored),
+    }
+}
+
+/// The table that the bytes, all of them, are the snapshot of, at its moment.
+pub fn read_snapshot<A: Allocator + Copy>(
+    alloc: A,
+    limits: Limits,
+    bytes: &[u8],
+) -> Result<Table<A>, ReadError>
+    ensures spelled { IfOk result (λ t. SpellsSnapshot limits t.moment t.contents bytes.now) }
+    ensures limits { IfOk result (λ t. t.bounds ≡ limits) }
+    ensures read { (t : ℕ) (c : Contents) → SpellsSnapshot limits t c bytes.now → Gives {Y = ℕ × Contents} (λ x. (x.moment, x.contents)) result (Ok (t, c)) }
+    ensures fault { Gives (λ t. (t.moment, t.contents)) result (snapshot_in limits bytes.now) }
+{
+    let _bounds = limits.bounds();
+    whole_snapshot(alloc, limits, bytes)
+}
