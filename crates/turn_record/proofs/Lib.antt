@@ -11,4 +11,5 @@ pub mod Readers
 pub mod Rising
 pub mod Shorts
 pub mod Sizes
+pub mod SnapshotSizes
 pub mod Tables

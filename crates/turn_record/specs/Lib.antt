@@ -5,3 +5,4 @@ pub mod Reading
 pub mod Records
 pub mod Snapshots
 pub mod Views
+pub mod Written

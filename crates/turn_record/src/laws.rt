@@ -3,8 +3,9 @@
 ghost use Rattle.std.specs.Prelude.{◌≡◌, ◌≤◌, ◌++◌, ℕ, List, length};
 ghost use Rattle.turn_history.specs.Fitting.{IsInRange};
 ghost use Rattle.turn_history.specs.History.{Event};
-ghost use Rattle.turn_record.specs.Bytes.{act_entry, payload};
-ghost use Rattle.turn_record.specs.Records.{IsBatch, max_act, max_payload};
+ghost use Rattle.turn_history.specs.Table.{Contents};
+ghost use Rattle.turn_record.specs.Bytes.{act_entry, payload, snapshot};
+ghost use Rattle.turn_record.specs.Records.{IsBatch, IsSnapshot, max_act, max_payload, max_snapshot};
 ghost use Rattle.turn_types.specs.Limits.{AreInRange};
 ghost use Rattle.turn_types.specs.declared.limits.Bounds.{Bounds};
 
@@ -16,8 +17,9 @@ pub fn spellings_are_one()
         payload x ++ u ≡ payload y ++ v → (x ≡ y) × (u ≡ v) }
 {}
 
-/// How many bytes act entries and payloads have at most.
+/// How many bytes act entries, payloads and snapshots have at most.
 pub fn spellings_are_short()
     ensures acts { (b : Bounds) (e : Event) → IsInRange b e → length (act_entry e) ≤ max_act b }
     ensures payloads { (b : Bounds) (es : List Event) → IsBatch b es → length (payload es) ≤ max_payload b }
+    ensures snapshots { (b : Bounds) (t : ℕ) (c : Contents) → IsSnapshot b t c → length (snapshot t c) ≤ max_snapshot b }
 {}

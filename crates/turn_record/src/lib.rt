@@ -1,16 +1,19 @@
-//! The bytes of acts and payloads.
+//! The bytes of acts, payloads and snapshots.
 #![tactic(auto)]
 
 mod entries;
+mod entry_bytes;
 mod fault;
 mod field;
 mod laws;
 mod pieces;
 mod read;
 mod restored;
+mod snapshot_writer;
 mod write;
 
 pub use fault::{Malformed, ReadError};
 pub use laws::{spellings_are_one, spellings_are_short};
 pub use read::{read_act, read_payload};
+pub use snapshot_writer::{SnapshotWriter, max_snapshot, snapshot_size, write_snapshot};
 pub use write::{max_act, max_payload, write_act, write_payload};

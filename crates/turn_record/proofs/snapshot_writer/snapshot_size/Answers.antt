@@ -1,0 +1,41 @@
+use Rattle.std.proofs.Common.{◌≡◌, ◌+◌, ◌∷◌, List, length, subst, sym, ap, ◌∙◌, arith, length-append}
+use Rattle.std.specs.FinMap as fin
+use Rattle.turn_history.specs.Table.{Entry}
+use Rattle.turn_record.specs.Bytes.{each, entry}
+use Rattle.turn_record.specs.Written.{AreShort}
+use Rattle.turn_record.proofs.SnapshotSizes.{are_short, size_snapshot, snapshot_small}
+use Rattle.turn_record.proofs.snapshot_writer.snapshot_size.Goals as goal
+use Rattle.turn_types.specs.declared.address.FiveTuple.{FiveTuple}
+
+pub loop-kept-init : goal.loop-kept-init
+loop-kept-init g c =
+    let s = c.args.table.now in
+    let range = rw (c.bounds-bounds.ensures.value, c.limits.ensures) at c.bounds-bounds.ensures.range in
+    let all : c.into_iter-kept-iterator.result ≡ fin.entries s.contents.entries = c.into_iter-kept-iterator.ensures.into_iter_gives ∙ c.entries-kept-items.ensures in
+    record {
+      can_next = tt;
+      is_finite = tt;
+      short = subst AreShort (sym all) (are_short s.bounds s.moment s.contents range c.requires);
+      size = ap (λ (es : List (FiveTuple × Entry)). 12 + length (each entry es)) all ∙ sym (size_snapshot s.moment s.contents);
+    }
+
+pub overflow_add-size : goal.overflow_add-size
+overflow_add-size g c =
+    let s = c.args.table.now in
+    let range = rw (c.bounds-bounds.ensures.value, c.limits.ensures) at c.bounds-bounds.ensures.range in
+    let first : FiveTuple × Entry = (c.in-Some.field-0-0, c.in-Some.kept.now.entry) in
+    let step : c.loop-kept.kept-iterator ≡ first ∷ c.next.new.self = c.in-Some.ensures.steps in
+    let size = ap (λ (es : List (FiveTuple × Entry)). length (each entry es)) step ∙ length-append (entry first) (each entry c.next.new.self) in
+    omega (arith, size, c.entry_size-size.ensures.size c.in-Some.field-0-0, c.loop-kept.invariant.size, snapshot_small s.bounds s.moment s.contents range c.requires)
+
+pub loop-kept-preserved : goal.loop-kept-preserved
+loop-kept-preserved g c =
+    let first : FiveTuple × Entry = (c.in-Some.field-0-0, c.in-Some.kept.now.entry) in
+    let step : c.loop-kept.kept-iterator ≡ first ∷ c.next.new.self = c.in-Some.ensures.steps in
+    let size = ap (λ (es : List (FiveTuple × Entry)). length (each entry es)) step ∙ length-append (entry first) (each entry c.next.new.self) in
+    record {
+      can_next = tt;
+      is_finite = tt;
+      short = (subst AreShort step c.loop-kept.invariant.short).1;
+      size = omega (arith, size, c.entry_size-size.ensures.size c.in-Some.field-0-0, c.loop-kept.invariant.size);
+    }

@@ -1,0 +1,12 @@
+use Rattle.std.proofs.Common.{◌≡◌, ◌+◌, length}
+use Rattle.turn_record.specs.Bytes.{each, entry, snapshot}
+use Rattle.turn_record.specs.Written.{AreShort}
+use Rattle.turn_record.proofs.snapshot_writer.snapshot_size.Given as goal
+
+abbrev pub invariant-loop-kept : goal.invariant-loop-kept
+invariant-loop-kept g l = record {
+  can_next : (goal.iterator-loop-kept g).can_next l.kept-iterator;
+  is_finite : (goal.iterator-loop-kept g).is_finite l.kept-iterator;
+  short : AreShort l.kept-iterator;
+  size : l.size + length (each entry l.kept-iterator) ≡ length (snapshot l.table.moment l.table.contents);
+}

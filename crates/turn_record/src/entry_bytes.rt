@@ -1,0 +1,172 @@
+//! Room for the bytes of one entry of a snapshot, without an allocation.
+
+ghost use Rattle.std.specs.Prelude.{◌≡◌, ◌+◌, ◌*◌, ◌≤◌, ◌<◌, ◌^◌, ◌∷◌, ◌++◌, [], length};
+ghost use Rattle.turn_history.specs.Laws.{allocation_of};
+ghost use Rattle.turn_record.specs.Bytes.{allocation, channel, each, endpoint, entry, five_tuple, name, permission};
+ghost use Rattle.turn_record.specs.Written.{IsShort};
+ghost use Rattle.turn_types.specs.Limits.{max_bounds};
+
+use std::alloc::Allocator;
+use std::marker::Model;
+use turn_history::Channel;
+use turn_table::Entry;
+use turn_types::{Endpoint, FiveTuple};
+
+/// The max number of bytes of an entry of a snapshot: 42, 508 of the user's name, 12 of each of 32 permissions and 16 of
+/// each of 32 channels.
+pub(crate) const ENTRY_BYTES: usize = 1446;
+
+/// Up to `ENTRY_BYTES` bytes, in the order in which they were put.
+#[derive(Drop)]
+pub(crate) struct EntryBytes {
+    bytes: [u8; ENTRY_BYTES],
+    len: usize,
+}
+
+impl Model for EntryBytes {
+    ghost use Rattle.std.specs.Prelude.{ℕ, ◌≤◌, List, take};
+
+    ghost Value = { List ℕ };
+
+    ghost view = { λ b. take b.len b.bytes };
+
+    ghost invariant = { λ b. b.len ≤ 1446 };
+}
+
+impl EntryBytes {
+    pub(crate) fn new() -> EntryBytes
+        ensures { result ≡ [] }
+    {
+        EntryBytes {
+            bytes: [0; ENTRY_BYTES],
+            len: 0,
+        }
+    }
+
+    pub(crate) fn as_slice(&self) -> &[u8]
+        ensures { result.now ≡ self.now }
+    {
+        &self.bytes[..self.len]
+    }
+
+    pub(crate) fn clear(&mut self)
+        ensures { self.new ≡ [] }
+    {
+        self.len = 0;
+    }
+
+    /// Appends bytes for which there is room.
+    pub(crate) fn put(&mut self, field: &[u8])
+        requires room { length self.old + length field.now ≤ 1446 }
+        ensures { self.new ≡ self.old ++ field.now }
+    {
+        let end = self.len + field.len();
+        self.bytes[self.len..end].copy_from_slice(field);
+        self.len = end;
+    }
+
+    fn put_endpoint(&mut self, place: Endpoint)
+        requires room { length self.old + 6 ≤ 1446 }
+        ensures { self.new ≡ self.old ++ endpoint place }
+    {
+        self.put(&place.ip.to_be_bytes());
+        self.put(&place.port.to_be_bytes());
+    }
+
+    fn put_tuple(&mut self, tuple: FiveTuple)
+        requires room { length self.old + 12 ≤ 1446 }
+        ensures { self.new ≡ self.old ++ five_tuple tuple }
+    {
+        self.put_endpoint(tuple.client);
+        self.put_endpoint(tuple.server);
+    }
+
+    fn put_name(&mut self, user: &[u8])
+        requires short { length user.now < 2 ^ 16 }
+        requires room { length self.old + (2 + length user.now) ≤ 1446 }
+        ensures { self.new ≡ self.old ++ name user.now }
+    {
+        self.put(&(user.len() as u16).to_be_bytes());
+        self.put(user);
+    }
+
+    /// What the Allocate request of an entry gave.
+    fn put_allocation<A: Allocator>(&mut self, kept: &Entry<A>)
+        requires short { IsShort max_bounds kept.now.entry }
+        requires room { length self.old + (20 + length kept.now.entry.user) ≤ 1446 }
+        ensures { self.new ≡ self.old ++ allocation (allocation_of kept.now.entry) }
+    {
+        self.put_name(kept.user());
+        self.put(&kept.port().to_be_bytes());
+        self.put(&kept.granted().to_be_bytes());
+        self.put(&kept.tx().0);
+    }
+
+    fn put_permission(&mut self, ip: u32, expiry: u64)
+        requires room { length self.old + 12 ≤ 1446 }
+        ensures { self.new ≡ self.old ++ permission (ip, expiry) }
+    {
+        self.put(&ip.to_be_bytes());
+        self.put(&expiry.to_be_bytes());
+    }
+
+    fn put_each_permission(&mut self, permissions: &[(u32, u64)])
+        requires room { length self.old + 12 * length permissions.now ≤ 1446 }
+        ensures { self.new ≡ self.old ++ each permission permissions.now }
+    {
+        for (ip, expiry) in permissions {
+            self.put_permission(*ip, *expiry);
+        }
+    }
+
+    /// A count, and the permissions in their order.
+    fn put_permissions(&mut self, permissions: &[(u32, u64)])
+        requires few { length permissions.now ≤ 32 }
+        requires room { length self.old + (1 + 12 * length permissions.now) ≤ 1446 }
+        ensures { self.new ≡ self.old ++ ((length permissions.now ∷ []) ++ each permission permissions.now) }
+    {
+        self.put(&[permissions.len() as u8]);
+        self.put_each_permission(permissions);
+    }
+
+    fn put_channel(&mut self, number: u16, bound: Channel)
+        requires room { length self.old + 16 ≤ 1446 }
+        ensures { self.new ≡ self.old ++ channel (number, bound) }
+    {
+        self.put(&number.to_be_bytes());
+        self.put_endpoint(bound.peer);
+        self.put(&bound.expiry.to_be_bytes());
+    }
+
+    fn put_each_channel(&mut self, channels: &[(u16, Channel)])
+        requires room { length self.old + 16 * length channels.now ≤ 1446 }
+        ensures { self.new ≡ self.old ++ each channel channels.now }
+    {
+        for (number, bound) in channels {
+            self.put_channel(*number, *bound);
+        }
+    }
+
+    /// A count, and the channels in their order.
+    fn put_channels(&mut self, channels: &[(u16, Channel)])
+        requires few { length channels.now ≤ 32 }
+        requires room { length self.old + (1 + 16 * length channels.now) ≤ 1446 }
+        ensures { self.new ≡ self.old ++ ((length channels.now ∷ []) ++ each channel channels.now) }
+    {
+        self.put(&[channels.len() as u8]);
+        self.put_each_channel(channels);
+    }
+
+    /// Puts the bytes of an entry in place of what it held.
+    pub(crate) fn hold<A: Allocator + Copy>(&mut self, tuple: FiveTuple, kept: &Entry<A>)
+        requires { IsShort max_bounds kept.now.entry }
+        ensures { self.new ≡ entry (tuple, kept.now.entry) }
+    {
+        self.clear();
+        self.put_tuple(tuple);
+        self.put_allocation(kept);
+        self.put(&kept.expiry().to_be_bytes());
+        self.put_permissions(kept.permissions());
+        self.put_channels(kept.channels());
+    }
+}
