@@ -1,9 +1,9 @@
 //! Laws of the bytes. Each is a clause of a function that does nothing.
 
-ghost use Rattle.std.specs.Prelude.{◌≡◌, ◌≤◌, ◌++◌, ℕ, List, length};
-ghost use Rattle.turn_history.specs.Fitting.{IsInRange};
-ghost use Rattle.turn_history.specs.History.{Event};
-ghost use Rattle.turn_history.specs.Table.{Contents};
+ghost use Rattle.std.specs.Prelude.{◌≡◌, ◌≤◌, ◌<◌, ◌-◌, ◌^◌, ◌++◌, ℕ, List, length};
+ghost use Rattle.turn_history.specs.Fitting.{IsFitting, IsInRange};
+ghost use Rattle.turn_history.specs.History.{Event, History, clock};
+ghost use Rattle.turn_history.specs.Table.{Contents, table};
 ghost use Rattle.turn_record.specs.Bytes.{act_entry, payload, snapshot};
 ghost use Rattle.turn_record.specs.Records.{IsBatch, IsSnapshot, max_act, max_payload, max_snapshot};
 ghost use Rattle.turn_types.specs.Limits.{AreInRange};
@@ -15,6 +15,11 @@ pub fn spellings_are_one()
         act_entry x ++ u ≡ act_entry y ++ v → (x ≡ y) × (u ≡ v) }
     ensures payloads { (b : Bounds) → AreInRange b → (x y : List Event) (u v : List ℕ) → IsBatch b x → IsBatch b y →
         payload x ++ u ≡ payload y ++ v → (x ≡ y) × (u ≡ v) }
+{}
+
+/// The table of a fitting history has a snapshot, at each moment from the history's clock on.
+pub fn tables_have_snapshots()
+    ensures { (b : Bounds) (h : History) (t : ℕ) → IsFitting b h → clock h ≤ t → t < 2 ^ 40 - 3600 → IsSnapshot b t (table h t) }
 {}
 
 /// How many bytes act entries, payloads and snapshots have at most.
