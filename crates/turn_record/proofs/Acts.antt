@@ -1,14 +1,13 @@
 -- The readers of act entries and payloads read what the spellings spell.
-use Rattle.std.proofs.Common.{◌≡◌, ℕ, ◌+◌, ◌-◌, ◌^◌, ◌<◌, ◌≤◌, ◌⊎◌, Bool, true, false, not, ◌&&◌, ◌||◌, leb, ltb, eqb, List, [], ◌∷◌, ◌++◌, length, All, Result, Ok, Err, refl, sym, ap, subst, ◌∙◌, append_assoc, arith, rules, inl, inr}
+use Rattle.std.proofs.Common.{◌≡◌, ℕ, ◌-◌, ◌^◌, ◌<◌, ◌≤◌, ◌⊎◌, Bool, true, false, not, ◌&&◌, ◌||◌, leb, ltb, eqb, List, [], ◌∷◌, ◌++◌, length, Ok, refl, sym, subst, arith, rules, inl, inr}
 use Rattle.std.specs.Int.{w16, w32, w64, to_be_bytes}
 use Rattle.std.specs.List.{list_any}
 use Rattle.std.proofs.lemmas.Bool.{cases_lt, ltb-true, leb-true, le-leb, eqb-true}
 use Rattle.turn_history.specs.Fitting.{IsEndpoint, IsTuple, IsActInRange, IsInRange}
 use Rattle.turn_history.specs.History.{PlainAct, Allocates, Renews, Permits, Binds, Allocation, Event}
-use Rattle.turn_record.specs.Bytes.{joined, each, endpoint, five_tuple, name, tag, allocation, addresses, body, act_entry, payload}
-use Rattle.turn_record.specs.Reading.{◌>>=◌, Field, judged, last_passes, Binding, byte_at, number_at, bytes_at, many, moment_at, endpoint_at, tuple_at, name_len_at, name_at, granted_at, renewed_at, tx_at, channel_number_at, count_at, port_at, allocation_at, allocated_at, address_at, addresses_at, binding_at, bound_at, renews_at, permits_at, body_at, tag_at, moment_after, event_at, events_at}
-use Rattle.turn_record.specs.declared.fault.Malformed.{Malformed}
-use Rattle.turn_record.specs.declared.fault.Malformed.TheVariants.{Short, BadTag, BadValue, OutOfOrder}
+use Rattle.turn_record.specs.Bytes.{joined, endpoint, five_tuple, name, tag, allocation, addresses, body, act_entry, payload}
+use Rattle.turn_record.specs.Reading.{◌>>=◌, last_passes, Binding, byte_at, number_at, bytes_at, moment_at, endpoint_at, tuple_at, name_len_at, name_at, granted_at, renewed_at, tx_at, channel_number_at, count_at, port_at, allocation_at, allocated_at, address_at, addresses_at, binding_at, bound_at, renews_at, permits_at, body_at, tag_at, moment_after, event_at, events_at}
+use Rattle.turn_record.specs.declared.fault.Malformed.TheVariants.{BadTag, BadValue, OutOfOrder}
 use Rattle.turn_types.specs.Limits.{AreInRange}
 use Rattle.turn_types.specs.declared.address.Endpoint.{Endpoint}
 use Rattle.turn_types.specs.declared.address.FiveTuple.{FiveTuple}
@@ -16,7 +15,7 @@ use Rattle.turn_types.specs.declared.limits.Bounds.{Bounds}
 use Rattle.turn_types.specs.declared.message.TxId.{TxId}
 use Rattle.turn_record.proofs.Once.{bytes_of_all, all_of_bytes, FitsAddress, none_before, after_distinct, distinct_after}
 use Rattle.std.proofs.lemmas.List.Elements.{All-from_recursion, recursion_from_All}
-use Rattle.turn_record.proofs.Readers.{EachAfter, IsBytes, Reads, Taken, reads16, reads32, reads64, one, reads_byte, reads_bytes, reads_judged, chain, made, in_words, reads_as, reads_many, reads_counted}
+use Rattle.turn_record.proofs.Readers.{EachAfter, IsBytes, Reads, reads16, reads32, reads64, one, reads_byte, reads_bytes, reads_judged, chain, made, in_words, reads_as, reads_counted}
 
 -- ---- What a reader asks, before it is said in the words of histories
 

@@ -1,7 +1,6 @@
 -- What holds of each element after those before it, taken apart and put together; elements that are apart.
 use Rattle.std.proofs.Common.{◌≡◌, Bool, true, false, T, List, [], ◌∷◌, ◌++◌, refl, sym, ap, subst, ◌∙◌, append_assoc, append-nil}
 use Rattle.std.specs.declared.cmp.Ordering.{Ordering}
-use Rattle.std.specs.declared.cmp.Ordering.TheVariants.{Less, Equal, Greater}
 use Rattle.std.specs.Ordering.{is_lt}
 use Rattle.std.specs.Cmp.{IsTotalOrder, tied_itself}
 use Rattle.std.specs.FinMap.Entries.{is_sorted}
@@ -68,7 +67,7 @@ module _ {K X : Type 0} (R : K → K → Ordering) (same : K × X → K × X →
     apart_after before (x ∷ xs) apart each =
         let new = pass_none (same x) before each.0 in
         let theirs : AllByRecursion (λ p. AllByRecursion (AreOne p) (before ++ x ∷ [])) before =
-                all_two _ _ _ (λ p mine other. all_joined (AreOne p) before (x ∷ []) mine (λ e. absurd (let no : same p x ≡ false = symmetric p x ∙ other in cc), tt)) before apart new in
+        all_two _ _ _ (λ p mine other. all_joined (AreOne p) before (x ∷ []) mine (λ e. absurd (let no : same p x ≡ false = symmetric p x ∙ other in cc), tt)) before apart new in
         let mine : AllByRecursion (AreOne x) (before ++ x ∷ []) = all_joined (AreOne x) before (x ∷ []) (all_more _ _ (λ q no e. absurd cc) before new) (λ e. refl, tt) in
         subst Apart (append_assoc before (x ∷ []) xs) (apart_after (before ++ x ∷ []) xs (all_joined _ before (x ∷ []) theirs (mine, tt)) each.1)
 

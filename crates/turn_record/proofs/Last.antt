@@ -1,5 +1,5 @@
 -- The last element, seen through a view.
-use Rattle.std.proofs.Common.{◌≡◌, ℕ, zero, suc, ◌-◌, ◌<◌, List, [], ◌∷◌, length, map, Option, Some, None, Ok, Err, Result, leb, true, false, ◌≤◌, refl, ap, rules}
+use Rattle.std.proofs.Common.{◌≡◌, ℕ, zero, suc, ◌-◌, ◌<◌, List, [], ◌∷◌, length, map, Some, None, Ok, Err, leb, true, false, ◌≤◌, refl, ap, rules}
 use Rattle.std.specs.Prelude.{slice_get}
 use Rattle.std.specs.Option.{option_map}
 use Rattle.std.proofs.lemmas.Bool.{lt-leb, le-leb}

@@ -1,5 +1,5 @@
 -- What a reader answers stays when bytes are added: a value, with the added bytes behind it, and a refusal other than Short.
-use Rattle.std.proofs.Common.{◌≡◌, ℕ, zero, suc, ◌+◌, ◌≤◌, ◌<◌, Bool, true, false, cond, ltb, List, [], ◌∷◌, ◌++◌, length, take, drop, Result, Ok, Err, refl, sym, ap, ◌∙◌, arith}
+use Rattle.std.proofs.Common.{◌≡◌, ℕ, zero, suc, ◌≤◌, Bool, true, false, cond, ltb, List, [], ◌∷◌, ◌++◌, length, take, drop, Result, Ok, Err, refl, arith}
 use Rattle.std.specs.Int.{Width, w16, w32, w64, byte_len, from_be_bytes}
 use Rattle.std.proofs.lemmas.Bool.{ltb-false, le-ltb}
 use Rattle.std.proofs.lemmas.List.{take-append-le, drop-append-le, length-append}
@@ -36,14 +36,14 @@ pub lasts_number : (w : Width) → Lasts (number_at w)
 lasts_number w = record {
   grows = λ bytes more. guard_grows (ltb (length bytes) (byte_len w)) (ltb (length (bytes ++ more)) (byte_len w)) (from_be_bytes w (take (byte_len w) bytes), drop (byte_len w) bytes) (from_be_bytes w (take (byte_len w) (bytes ++ more)), drop (byte_len w) (bytes ++ more)) more
       (λ e. let long : byte_len w ≤ length bytes = ltb-false _ _ e in
-          (le-ltb _ _ (omega (arith, length-append bytes more)), rw (take-append-le (byte_len w) bytes more long, drop-append-le (byte_len w) bytes more long) refl));
+      (le-ltb _ _ (omega (arith, length-append bytes more)), rw (take-append-le (byte_len w) bytes more long, drop-append-le (byte_len w) bytes more long) refl));
 }
 
 pub lasts_bytes : (n : ℕ) → Lasts (bytes_at n)
 lasts_bytes n = record {
   grows = λ bytes more. guard_grows (ltb (length bytes) n) (ltb (length (bytes ++ more)) n) (take n bytes, drop n bytes) (take n (bytes ++ more), drop n (bytes ++ more)) more
       (λ e. let long : n ≤ length bytes = ltb-false _ _ e in
-          (le-ltb _ _ (omega (arith, length-append bytes more)), rw (take-append-le n bytes more long, drop-append-le n bytes more long) refl));
+      (le-ltb _ _ (omega (arith, length-append bytes more)), rw (take-append-le n bytes more long, drop-append-le n bytes more long) refl));
 }
 
 byte_grows : (bytes more : List ℕ) → Grows (byte_at bytes) more (byte_at (bytes ++ more))

@@ -1,9 +1,8 @@
 -- Reading elements one after the other, as a loop does.
-use Rattle.std.proofs.Common.{◌≡◌, ℕ, suc, ◌-◌, ◌+◌, ◌≤◌, ◌<◌, List, [], ◌∷◌, ◌++◌, Result, Ok, Err, refl, sym, ap, ◌∙◌, arith}
-use Rattle.turn_record.specs.declared.fault.Malformed.{Malformed}
+use Rattle.std.proofs.Common.{◌≡◌, ℕ, suc, ◌-◌, ◌+◌, ◌≤◌, ◌<◌, List, [], ◌∷◌, ◌++◌, Ok, Err, refl, sym, ◌∙◌, arith}
 use Rattle.turn_record.specs.declared.fault.ReadError.{ReadError}
 use Rattle.turn_record.specs.declared.fault.ReadError.TheVariants as errors
-use Rattle.turn_record.specs.Reading.{◌>>=◌, Field, Fails, many}
+use Rattle.turn_record.specs.Reading.{Field, Fails, many}
 
 pub goes_on : {A : Type 0} (item : List A → List ℕ → Field A) (count i : ℕ) (before : List A) (bytes : List ℕ) (x : A) (after : List ℕ) (total : Field (List A)) → i < count → item before bytes ≡ Ok (x, after)
     → many item (count - i) before bytes ≡ total → many item (count - (i + 1)) (before ++ x ∷ []) after ≡ total

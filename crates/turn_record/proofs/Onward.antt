@@ -1,5 +1,5 @@
 -- What a step of a reader in pieces keeps.
-use Rattle.std.proofs.Common.{◌≡◌, ◌⊎◌, ℕ, zero, suc, ◌+◌, ◌-◌, ◌<◌, ◌≤◌, Bool, true, false, eqb, List, [], ◌∷◌, ◌++◌, length, Option, Some, None, Result, Ok, Err, refl, sym, ap, subst, ◌∙◌, append_assoc, arith, inl, inr}
+use Rattle.std.proofs.Common.{◌≡◌, ◌⊎◌, ℕ, zero, suc, ◌+◌, ◌-◌, ◌<◌, ◌≤◌, true, false, eqb, List, [], ◌∷◌, ◌++◌, length, Option, Some, None, Result, Ok, Err, refl, sym, ap, subst, ◌∙◌, arith, inl, inr}
 use Rattle.std.proofs.lemmas.Bool.{eqb-false, eqb-true, leb-true, ne_eqb}
 use Rattle.std.proofs.lemmas.List.{append-nil, length-append, nil_from_length}
 use Rattle.turn_record.specs.declared.fault.Malformed.{Malformed}
@@ -23,7 +23,7 @@ use Rattle.turn_table.specs.State.{State}
 use Rattle.turn_types.specs.FiveTuple.{tuple_cmp}
 use Rattle.turn_types.specs.declared.address.FiveTuple.{FiveTuple}
 use Rattle.turn_types.specs.declared.limits.Bounds.{Bounds}
-use Rattle.turn_record.specs.Reading.{◌>>=◌, Field, Fails, many, moment_at, number_at, passes, whole}
+use Rattle.turn_record.specs.Reading.{Field, Fails, many, moment_at, number_at, passes, whole}
 use Rattle.turn_record.proofs.Lasting.{Stays, Grows, Lasts}
 
 pub next_ok : {A : Type 0} (read : List ℕ → Field A) → Lasts read → (bytes : List ℕ) (x : A) (rest : List ℕ) → read bytes ≡ Ok (x, rest) → (more : List ℕ) → read (bytes ++ more) ≡ Ok (x, rest ++ more)

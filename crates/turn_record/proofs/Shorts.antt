@@ -1,5 +1,5 @@
 -- Values in range have lengths that fit the bytes that they are written in.
-use Rattle.std.proofs.Common.{ℕ, ◌≤◌, ◌^◌, ◌<◌, List, [], ◌∷◌, All, arith}
+use Rattle.std.proofs.Common.{List, [], ◌∷◌, All, arith}
 use Rattle.std.specs.List.{AllByRecursion}
 use Rattle.std.proofs.lemmas.List.Elements.{All-from_recursion}
 use Rattle.turn_history.specs.Act.{act_of}

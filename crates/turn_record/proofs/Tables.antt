@@ -1,5 +1,5 @@
 -- The readers of snapshots read what the spellings spell, and what they read is a table in its ranges.
-use Rattle.std.proofs.Common.{◌≡◌, ℕ, ◌+◌, ◌-◌, ◌^◌, ◌<◌, ◌≤◌, Bool, true, false, cond, not, ◌&&◌, leb, ltb, T, Option, Some, None, List, [], ◌∷◌, ◌++◌, length, Result, Ok, Err, refl, sym, ap, subst, ◌∙◌, arith}
+use Rattle.std.proofs.Common.{◌≡◌, ℕ, ◌+◌, ◌-◌, ◌^◌, ◌<◌, ◌≤◌, Bool, true, false, cond, not, ◌&&◌, leb, ltb, T, Some, None, List, [], ◌++◌, length, Ok, refl, sym, ap, subst, ◌∙◌, arith}
 use Rattle.std.specs.Prelude.{◌==◌, slice_get}
 use Rattle.std.specs.Int.{w16, w32, w64, to_be_bytes}
 use Rattle.std.specs.List.{AllByRecursion, list_any}
@@ -12,25 +12,23 @@ use Rattle.std.specs.FinMap.{FinMap, IsAntisymmetric, entries-from_sorted, entri
 use Rattle.std.proofs.lemmas.Bool.{eq-eqb, eqb-true, leb-true, le-leb, ltb-true}
 use Rattle.std.proofs.lemmas.Cmp.{nat_cmp_total}
 use Rattle.turn_history.specs.Fitting.{IsEndpoint, IsTuple, IsChannelNumber, IsEntryInRange, is_peer}
-use Rattle.turn_history.specs.History.{Allocation}
-use Rattle.turn_history.specs.Laws.{IsWithin, allocation_of}
+use Rattle.turn_history.specs.Laws.{allocation_of}
 use Rattle.turn_history.specs.Table.{Contents, Entry}
 use Rattle.turn_history.specs.declared.channel.Channel.{Channel}
 use Rattle.turn_history.proofs.Entries.{all_entries, of_entries}
 use Rattle.turn_history.proofs.Maps.{tuple_total, tuple_exact}
 use Rattle.turn_history.proofs.Tests.{peer_is, is_peer-same}
-use Rattle.turn_record.specs.Bytes.{joined, each, endpoint, five_tuple, allocation, permission, permissions, channel, channels, entry, head, snapshot}
-use Rattle.turn_record.specs.Reading.{◌>>=◌, Field, judged, last_passes, passes, number_at, many, moment_at, endpoint_at, tuple_at, channel_number_at, count_at, allocation_at}
+use Rattle.turn_record.specs.Bytes.{each, endpoint, five_tuple, allocation, permission, permissions, channel, channels, entry, head, snapshot}
+use Rattle.turn_record.specs.Reading.{◌>>=◌, last_passes, passes, number_at, many, moment_at, endpoint_at, tuple_at, channel_number_at, count_at, allocation_at}
 use Rattle.turn_record.specs.Records.{IsSnapshot, SpellsSnapshot}
 use Rattle.turn_record.specs.Snapshots.{Head, expiry_at, address_after, permission_at, permission_list_at, permissions_at, number_after, other_peer_at, channel_at, channel_list_at, channels_at, tuple_after, is_free_after, entry_with, entry_at, entry_count_at, head_at, table_at, snapshot_at, snapshot_in}
 use Rattle.turn_record.specs.declared.fault.Malformed.TheVariants.{BadValue, OutOfOrder}
 use Rattle.turn_record.proofs.Acts.{FitsAllocation, allocation_fits, fits_allocation, and_is, and_from, not_is, not_from, lt_from, reads_moment, reads_endpoint, reads_tuple, reads_channel_number, reads_count, reads_allocation}
-use Rattle.turn_record.proofs.Apart.{each_more, each_both, each_alone, alone_each, Apart, AreOne, IsNew, apart_new, new_apart}
+use Rattle.turn_record.proofs.Apart.{each_more, each_both, each_alone, alone_each, Apart, AreOne, apart_new, new_apart}
 use Rattle.turn_record.proofs.Readers.{EachAfter, IsBytes, Reads, reads32, reads64, one, reads_judged, chain, made, in_words, one_spelling, reads_as, reads_many, reads_counted, whole_again, whole_takes}
-use Rattle.turn_record.proofs.Rising.{Rises, sorted_rising, rising_sorted}
+use Rattle.turn_record.proofs.Rising.{sorted_rising, rising_sorted}
 use Rattle.turn_types.specs.FiveTuple.{tuple_cmp}
 use Rattle.turn_types.specs.Limits.{AreInRange}
-use Rattle.turn_types.specs.declared.address.Endpoint.{Endpoint}
 use Rattle.turn_types.specs.declared.address.FiveTuple.{FiveTuple}
 use Rattle.turn_types.specs.declared.limits.Bounds.{Bounds}
 
@@ -120,9 +118,15 @@ reads_permissions b range t room =
     reads_as (permission_list_at b t) _ (FitsPermissionList b t) (λ ps. fin.from_sorted {R = nat_cmp} ps) permissions (ArePermissions b t) (reads_permission_list b range t room)
     (λ ps h. rw (size ps h, sorted ps h) refl)
     (λ ps h. (omega (arith, size ps h, h.0), of_entries nat_cmp_total nat_cmp-IsAntisymmetric (IsPermission t) (fin.from_sorted ps) (rw (sorted ps h) (each_alone (IsPermission t) [] ps (each_more _ _ (λ before p fits. fits.1) [] ps h.1)))))
-    (λ m h. (fin.entries m, map_again nat_cmp m, (omega (arith, len-entries m, h.0),
-    each_both _ _ _ (λ before p rises fits. (above_is before p.0 ∙ rises, fits)) [] (fin.entries m) (rising_sorted nat_cmp nat_cmp_total (fin.entries m) (entries_sorted m))
-        (alone_each (IsPermission t) [] (fin.entries m) (all_entries nat_cmp_total nat_cmp-IsAntisymmetric (IsPermission t) m h.1)))))
+    (λ m h. (
+      fin.entries m,
+      map_again nat_cmp m,
+      (
+        omega (arith, len-entries m, h.0),
+        each_both _ _ _ (λ before p rises fits. (above_is before p.0 ∙ rises, fits)) [] (fin.entries m) (rising_sorted nat_cmp nat_cmp_total (fin.entries m) (entries_sorted m))
+            (alone_each (IsPermission t) [] (fin.entries m) (all_entries nat_cmp_total nat_cmp-IsAntisymmetric (IsPermission t) m h.1)),
+      ),
+    ))
 
 -- ---- Channels
 
@@ -213,9 +217,10 @@ channels_are b t m h =
     let apart = from_keys nat_cmp nat_cmp_total nat_cmp-IsAntisymmetric same_peer m (λ n k x y is is2 e. h.apart n k x y is is2 (sym (peer_is x.peer y e))) in
     let rises = rising_sorted nat_cmp nat_cmp_total (fin.entries m) (entries_sorted m) in
     let new = new_apart nat_cmp same_peer nat_cmp_total same_peers (fin.entries m) (entries_sorted m) apart in
-    let values = alone_each (IsChannel t) [] (fin.entries m) (all_entries nat_cmp_total nat_cmp-IsAntisymmetric (IsChannel t) m h.values) in
-    (omega (arith, len-entries m, h.few),
-    each_both _ _ _ (λ before c up more. (above_is before c.0 ∙ up, more)) [] (fin.entries m) rises (each_both _ _ (λ before c. (list_any (same_peer c) before ≡ false) × IsChannel t c) (λ before c other value. (other, value)) [] (fin.entries m) new values))
+    let values = alone_each (IsChannel t) [] (fin.entries m) (all_entries nat_cmp_total nat_cmp-IsAntisymmetric (IsChannel t) m h.values) in (
+      omega (arith, len-entries m, h.few),
+      each_both _ _ _ (λ before c up more. (above_is before c.0 ∙ up, more)) [] (fin.entries m) rises (each_both _ _ (λ before c. (list_any (same_peer c) before ≡ false) × IsChannel t c) (λ before c other value. (other, value)) [] (fin.entries m) new values),
+    )
 
 reads_channels : (b : Bounds) → AreInRange b → (t : ℕ) → t + 600 < 2 ^ 64 → Reads (channels_at b t) channels (AreChannels b t)
 unfolding channels
@@ -294,10 +299,10 @@ snapshot_is : (b : Bounds) (t : ℕ) (c : Contents) → IsSnapshot b t c → Eac
 snapshot_is b t c s =
     let m = c.entries in
     let one : (f : FiveTuple) (e : Entry) → fin.get m f ≡ Some e → IsOne b t (f, e) = λ f e is.
-            let v = s.values f e is in
-            let permissions : ArePermissions b t e.permissions = (s.within.permissions f e is, λ a x is2. let p = v.1.permissions a x is2 in (p.0, (p.1, p.2))) in
-            let channels : AreChannels b t e.channels = record { few = s.within.channels f e is; values = λ n k is2. let p = v.1.channels n k is2 in (p.0, (p.1, (p.2, p.3))); apart = s.peers f e is } in
-            (v.0, (v.1, (permissions, channels))) in
+    let v = s.values f e is in
+    let permissions : ArePermissions b t e.permissions = (s.within.permissions f e is, λ a x is2. let p = v.1.permissions a x is2 in (p.0, (p.1, p.2))) in
+    let channels : AreChannels b t e.channels = record { few = s.within.channels f e is; values = λ n k is2. let p = v.1.channels n k is2 in (p.0, (p.1, (p.2, p.3))); apart = s.peers f e is } in
+    (v.0, (v.1, (permissions, channels))) in
     let apart = from_keys tuple_cmp tuple_total tuple_exact same_port m (λ f g x y is is2 e. s.ports f g x y is is2 (sym (eqb-true y.port x.port e))) in
     let rises = rising_sorted tuple_cmp tuple_total (fin.entries m) (entries_sorted m) in
     let new = new_apart tuple_cmp same_port tuple_total same_ports (fin.entries m) (entries_sorted m) apart in

@@ -1,5 +1,5 @@
 -- What bytes spell. The ranges of values are those of fitting histories, so what such a history holds has a spelling.
-use Rattle.std.specs.Prelude.{◌≡◌, ℕ, ◌+◌, ◌-◌, ◌*◌, ◌^◌, ◌<◌, ◌≤◌, Some, List, [], ◌∷◌, length, max}
+use Rattle.std.specs.Prelude.{◌≡◌, ℕ, ◌+◌, ◌-◌, ◌*◌, ◌^◌, ◌<◌, ◌≤◌, Some, List, length, max}
 use Rattle.std.specs.List.{AllByRecursion}
 use Rattle.std.specs.FinMap as fin
 use Rattle.turn_history.specs.Fitting.{IsTuple, IsInRange, IsEntryInRange}

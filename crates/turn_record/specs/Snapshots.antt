@@ -1,5 +1,5 @@
 -- Reading a snapshot from the left, with the first fault that is met.
-use Rattle.std.specs.Prelude.{◌≡◌, ℕ, ◌+◌, not, ◌&&◌, List, [], Result, Ok, Err, nat_lt, nat_le, ◌==◌, Bool}
+use Rattle.std.specs.Prelude.{ℕ, ◌+◌, not, ◌&&◌, List, [], Result, Ok, nat_lt, nat_le, ◌==◌, Bool}
 use Rattle.std.specs.List.{list_any}
 use Rattle.std.specs.Int.{w32, w64}
 use Rattle.std.specs.Ordering.{nat_cmp, is_lt}

@@ -13,14 +13,13 @@ ghost use Rattle.turn_types.specs.FiveTuple.{tuple_cmp};
 
 use crate::fault::{Malformed, ReadError};
 use crate::field::{
-    channel_number_of, count_of, endpoint_of, granted_of, name_of, tuple_of, tx_of, u16_of,  u32_of,
+    channel_number_of, count_of, endpoint_of, granted_of, name_of, tuple_of, tx_of, u16_of, u32_of,
     u64_of,
 };
 use std::alloc::Allocator;
 use turn_history::{Channel, UserName};
 use turn_ports::PortSet;
 use turn_table::{Entry, EntryParts, Table, above_the_last};
-
 use turn_types::{Endpoint, FiveTuple, Limits, Moment, TxId};
 
 #[tactic(auto, unfolding(crate::specs::Snapshots::expiry_at))]
@@ -39,10 +38,7 @@ fn expiry_of(moment: Moment, most: u64, bytes: &[u8]) -> Result<(u64, &[u8]), Re
 // ---- Permissions
 
 #[tactic(auto, unfolding(crate::specs::Snapshots::address_after))]
-fn address_after<'a>(
-    before: &[(u32, u64)],
-    bytes: &'a [u8],
-) -> Result<(u32, &'a [u8]), ReadError>
+fn address_after<'a>(before: &[(u32, u64)], bytes: &'a [u8]) -> Result<(u32, &'a [u8]), ReadError>
     ensures { Gives (λ x. (x.0, x.1.now)) result (address_after before.now bytes.now) }
 {
     let (address, rest) = u32_of(bytes)?;

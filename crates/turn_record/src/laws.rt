@@ -9,12 +9,15 @@ ghost use Rattle.turn_record.specs.Records.{IsBatch, IsSnapshot, max_act, max_pa
 ghost use Rattle.turn_types.specs.Limits.{AreInRange};
 ghost use Rattle.turn_types.specs.declared.limits.Bounds.{Bounds};
 
-/// Bytes spell one event, or one batch, at most, and no spelling of one is a proper prefix of another's.
+/// Bytes spell one event, one batch, or one table at one moment, at most, and no spelling of one is a proper prefix of
+/// another's.
 pub fn spellings_are_one()
     ensures acts { (b : Bounds) → AreInRange b → (x y : Event) (u v : List ℕ) → IsInRange b x → IsInRange b y →
         act_entry x ++ u ≡ act_entry y ++ v → (x ≡ y) × (u ≡ v) }
     ensures payloads { (b : Bounds) → AreInRange b → (x y : List Event) (u v : List ℕ) → IsBatch b x → IsBatch b y →
         payload x ++ u ≡ payload y ++ v → (x ≡ y) × (u ≡ v) }
+    ensures snapshots { (b : Bounds) → AreInRange b → (s t : ℕ) (c d : Contents) (u v : List ℕ) → IsSnapshot b s c → IsSnapshot b t d →
+        snapshot s c ++ u ≡ snapshot t d ++ v → (s ≡ t) × (c ≡ d) × (u ≡ v) }
 {}
 
 /// The table of a fitting history has a snapshot, at each moment from the history's clock on.

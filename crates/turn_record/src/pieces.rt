@@ -72,7 +72,9 @@ impl<A: Allocator + Copy> SnapshotReader<A> {
         ensures for_good { (e : ReadError) → refusal self ≡ Some e → result ≡ Err e }
     {
         let SnapshotReader {
-            refused, restored, ..
+            refused,
+            restored,
+            ..
         } = self;
         match refused {
             Some(error) => Err(error),

@@ -222,7 +222,9 @@ pub(crate) fn advance<'a, A: Allocator + Copy>(
 
 /// The table, where all of it is restored.
 #[tactic(auto, unfolding(crate::specs::Places::gives))]
-pub(crate) fn conclude<A: Allocator + Copy>(restored: Option<Restored<A>>) -> Result<Table<A>, ReadError>
+pub(crate) fn conclude<A: Allocator + Copy>(
+    restored: Option<Restored<A>>,
+) -> Result<Table<A>, ReadError>
     ensures gives { (b : Bounds) (bytes : List ℕ) → IsWaiting b restored bytes → Gives (λ t. (t.moment, t.contents)) result (gives b restored bytes) }
     ensures bounds { (b : Bounds) → IfSome restored (λ p. p.0.bounds ≡ b) → IfOk result (λ t. t.bounds ≡ b) }
 {

@@ -1,4 +1,4 @@
-use Rattle.std.proofs.Common.{◌≡◌, ℕ, List, Ok, subst, arith}
+use Rattle.std.proofs.Common.{ℕ, subst, arith}
 use Rattle.turn_history.specs.Table.{Contents}
 use Rattle.turn_record.proofs.Batches.{found}
 use Rattle.turn_record.proofs.Tables.{snapshot_again, snapshot_found}

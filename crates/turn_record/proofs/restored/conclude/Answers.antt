@@ -1,5 +1,5 @@
-use Rattle.std.proofs.Common.{◌≡◌, ap, arith, sym}
-use Rattle.turn_record.specs.Places.{Place, IsWaiting, gives}
+use Rattle.std.proofs.Common.{ap, arith}
+use Rattle.turn_record.specs.Places.{Place}
 use Rattle.turn_record.proofs.Onward.{given_all, given_none, given_short}
 use Rattle.turn_record.proofs.restored.conclude.Goals as goal
 

@@ -1,4 +1,4 @@
-use Rattle.std.proofs.Common.{◌++◌, ◌<◌, ◌≡◌, ap, arith, sym}
+use Rattle.std.proofs.Common.{ap, arith}
 use Rattle.turn_record.specs.Places.{Place}
 use Rattle.turn_record.proofs.Onward.{empty_waits, goes_on_at, is_some, still_waits, trailing}
 use Rattle.turn_record.proofs.restored.go_on.Goals as goal

@@ -1,4 +1,4 @@
-use Rattle.std.proofs.Common.{◌++◌, ◌-◌, ◌<◌, ℕ, ap, refl, arith}
+use Rattle.std.proofs.Common.{◌++◌, ◌-◌, ◌<◌, ap, refl, arith}
 use Rattle.turn_record.specs.Places.{Place}
 use Rattle.turn_record.proofs.Onward.{refused_entry, room_kept, took}
 use Rattle.turn_record.proofs.restored.restore_next.Goals as goal
@@ -20,5 +20,8 @@ returns-in_ok-restore-in-Ok-Some-clause-takes g c =
     let some : 0 < c.restored.inside.left = omega (arith, ap (λ (p : Place). p.1) c.restored.view_is, c.requires) in
     let ok = c.in_ok-restore-in-Ok-Some.ensures.ok in
     let next = rw c.in-Ok-Some.field-0-is at c.in-Ok-Some.ensures.next in
-    rw (← c.restored.view_is) (omega (arith, some), λ more. took (c.restored.inside.table, c.restored.inside.left) (c.restore.new.self, c.restored.inside.left - 1) (c.in-Ok-Some.tuple, c.in-Ok-Some.entry.entry)
-    c.args.bytes.now c.in-Ok-Some.rest.now more some refl (ap (λ (s : State). s.bounds) ok) (ap (λ (s : State). s.moment) ok) c.in_ok-restore-in-Ok-Some.ensures.entries (next more))
+    rw (← c.restored.view_is) (
+      omega (arith, some),
+      λ more. took (c.restored.inside.table, c.restored.inside.left) (c.restore.new.self, c.restored.inside.left - 1) (c.in-Ok-Some.tuple, c.in-Ok-Some.entry.entry)
+          c.args.bytes.now c.in-Ok-Some.rest.now more some refl (ap (λ (s : State). s.bounds) ok) (ap (λ (s : State). s.moment) ok) c.in_ok-restore-in-Ok-Some.ensures.entries (next more),
+    )

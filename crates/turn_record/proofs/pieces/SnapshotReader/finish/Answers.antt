@@ -1,4 +1,3 @@
-use Rattle.std.proofs.Common.{◌≡◌, Some, sym, ap}
 use Rattle.turn_record.proofs.Onward.{expected_end, refused_end}
 use Rattle.turn_record.proofs.pieces.SnapshotReader.finish.Goals as goal
 

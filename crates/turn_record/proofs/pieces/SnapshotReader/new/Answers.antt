@@ -1,6 +1,4 @@
-use Rattle.std.proofs.Common.{refl, ap, sym}
-use Rattle.turn_record.specs.Places.{gives}
-use Rattle.turn_record.specs.Snapshots.{head_at}
+use Rattle.std.proofs.Common.{refl}
 use Rattle.turn_record.proofs.Onward.{fed_nothing}
 use Rattle.turn_record.proofs.pieces.SnapshotReader.new.Goals as goal
 
