@@ -10,7 +10,7 @@ use Rattle.std.specs.Option.{option_map, option_and_then}
 use Rattle.std.specs.Cmp.{eq_by_cmp_equiv}
 use Rattle.std.specs.FinMap as fin
 use Rattle.std.specs.FinMap.{find, get-from_entries}
-use Rattle.turn_history.specs.Act.{act_of}
+use Rattle.turn_history.specs.Act.{act_of, event_of}
 use Rattle.turn_types.specs.FiveTuple.{tuple_cmp, same_tuple}
 use Rattle.turn_history.specs.History.{History, own}
 use Rattle.turn_history.specs.Table.{Contents, kept, table}
@@ -18,8 +18,8 @@ use Rattle.turn_types.specs.declared.address.FiveTuple.{FiveTuple}
 use Rattle.turn_history.proofs.Maps.{tuple_total, tuple_exact, from_eq}
 use Rattle.turn_history.proofs.Reading.{own-push, get-table, same_contents}
 use Rattle.history_tables.specs.Replay.{replayed, still}
-use Rattle.history_tables.specs.View.{event_of, entry_of, pair_of}
-use Rattle.history_tables.specs.declared.Event.{Event}
+use Rattle.turn_history.specs.declared.event.Event.{Event}
+use Rattle.history_tables.specs.View.{entry_of, pair_of}
 use Rattle.history_tables.specs.declared.Entry.{Entry}
 use Rattle.history_tables.proofs.Maps.{find-views, Decides, retained}
 use Rattle.history_tables.proofs.Raw.{raw_in, raw_in-none, raw_in-more, raw_in-at}

@@ -1,16 +1,10 @@
--- What clauses see of the code's events, entries and tables.
+-- What clauses see of the code's entries and tables.
 use Rattle.std.specs.Prelude.{map}
 use Rattle.std.specs.BTreeMap.{BTreeMap}
 use Rattle.std.specs.FinMap as fin
-use Rattle.turn_history.specs.Act.{act_of}
-use Rattle.turn_history.specs.History as history
 use Rattle.turn_history.specs.Table as tables
 use Rattle.turn_types.specs.declared.address.FiveTuple.{FiveTuple}
-use Rattle.history_tables.specs.declared.Event.{Event}
 use Rattle.history_tables.specs.declared.Entry.{Entry}
-
-abbrev pub event_of : {A : Type 0} → Event A → history.Event
-event_of e = record { moment = e.moment; tuple = e.tuple; act = act_of e.act }
 
 abbrev pub entry_of : {A : Type 0} → Entry A → tables.Entry
 entry_of e =

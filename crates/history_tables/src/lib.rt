@@ -4,23 +4,15 @@
 
 ghost use Rattle.std.specs.Prelude.{◌≡◌, ◌<◌, ◌^◌, IfOk, OnOk, map};
 ghost use Rattle.std.specs.Option.{option_map};
-ghost use Rattle.turn_history.specs.Act.{act_of};
+ghost use Rattle.turn_history.specs.Act.{act_of, event_of};
 ghost use Rattle.turn_history.specs.Table.{table, permitting, binding};
 ghost use Rattle.history_tables.specs.Replay.{replayed, still};
-ghost use Rattle.history_tables.specs.View.{entry_of, contents_of, event_of};
+ghost use Rattle.history_tables.specs.View.{entry_of, contents_of};
 
 use std::alloc::{AllocError, Allocator, Global};
 use std::collections::BTreeMap;
-use turn_history::{Act, Channel, UserName};
+use turn_history::{Act, Channel, Event, UserName};
 use turn_types::{Endpoint, FiveTuple, Moment, TxId};
-
-/// An accepted act on the allocation of a five-tuple, and its moment.
-#[derive(Drop)]
-pub struct Event<A: Allocator = Global> {
-    pub moment: Moment,
-    pub tuple: FiveTuple,
-    pub act: Act<A>,
-}
 
 /// What a table holds of a live five-tuple. Permissions are by address and channels by number. Each expiry is a time in
 /// seconds (exclusive).

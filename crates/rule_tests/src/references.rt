@@ -1,12 +1,12 @@
 //! The reference implementation of tables, and the table against it.
 
 use crate::tables::{PEER_IP, Step, act_of, peer, purge_to, tuple};
-use history_tables::{Entry, Event, table_at};
+use history_tables::{Entry, table_at};
 use refusing::Refusing;
 use std::alloc::{AllocError, Allocator};
 use std::collections::BTreeMap;
 use std::test::Fail;
-use turn_history::Channel;
+use turn_history::{Channel, Event};
 use turn_table::Table;
 use turn_types::{Bounds, FiveTuple, Limits, Moment, TxId};
 

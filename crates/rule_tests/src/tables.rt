@@ -1,11 +1,14 @@
 //! The table of live allocations, by rows of what it is asked and what it answers.
 
+ghost use Rattle.std.specs.Prelude.{IsTrue};
+ghost use Rattle.turn_table.specs.Table.{IsAbove};
+
 use refusing::Refusing;
 use std::alloc::{AllocError, Allocator, Global};
 use std::test::Fail;
-use turn_history::{Act, Addresses, UserName};
+use turn_history::{Act, Addresses, Channel, UserName};
 use turn_ports::PortSet;
-use turn_table::Table;
+use turn_table::{Entry, EntryParts, Table, above_the_last};
 use turn_types::{Bounds, Endpoint, FiveTuple, Limits, Moment, TxId};
 
 pub const SERVER: Endpoint = Endpoint {
@@ -98,6 +101,48 @@ fn apply<A: Allocator + Copy>(
     Ok(table.apply(table.moment(), tuple, act).unwrap_or(0))
 }
 
+/// An entry of a snapshot of second 1000, with a relayed port, two permissions and a channel.
+fn entry_with<A: Allocator + Copy>(alloc: A, port: u16) -> Result<Entry<A>, AllocError> {
+    let channel = Channel {
+        peer: peer(9),
+        expiry: 1500,
+    };
+    Ok(Entry::new(EntryParts {
+        user: UserName::from(Vec::from_slice(alloc, b"alice")?),
+        port,
+        granted: 700,
+        tx: TxId([7; 12]),
+        expiry: 1600,
+        permissions: Vec::from_slice(alloc, &[(1, 1300), (PEER_IP, 1200)])?,
+        channels: Vec::from_slice(alloc, &[(0x4000, channel)])?,
+    }))
+}
+
+/// Whether a five-tuple comes after all of a table.
+fn comes_last<A: Allocator + Copy>(table: &Table<A>, tuple: FiveTuple) -> bool
+    ensures { IsTrue result → IsAbove table.now.contents tuple }
+{
+    above_the_last();
+    match table.last() {
+        Some(last) => last.cmp(&tuple).is_lt(),
+        None => true,
+    }
+}
+
+/// Restores the entry of a client, which may be the table's last, and returns whether there was memory.
+fn restore<A: Allocator + Copy>(
+    table: &mut Table<A>,
+    client: u16,
+    entry: Entry<A>,
+) -> Result<bool, Fail> {
+    let tuple = tuple(client);
+    let is_free = table.by_port(entry.port()).is_none();
+    if !is_free || table.is_full() || !comes_last(table, tuple) {
+        return Err(Fail::new(client));
+    }
+    Ok(table.restore(tuple, entry).is_ok())
+}
+
 /// What a table is asked, with its answer last. Clients are written as their ports, peers too; 0 stands for none.
 enum Row {
     /// Whether an act of a client fits.
@@ -106,6 +151,8 @@ enum Row {
     Applies(u16, Step, u16),
     /// The port that is free after a purge to a second.
     PurgesTo(u64, u16),
+    /// Restores an entry of a client, with a relayed port.
+    Restores(u16, u16),
     /// The expiry of a client's entry.
     Expires(u16, u64),
     /// The client with a relayed port.
@@ -164,6 +211,7 @@ fn answers<A: Allocator + Copy>(alloc: A, table: &mut Table<A>, row: &Row) -> Re
             apply(table, tuple(*client), act_of(alloc, *step)?)? == *port
         }
         Row::PurgesTo(seconds, port) => purges_to(table, *seconds, *port)?,
+        Row::Restores(client, port) => restore(table, *client, entry_with(alloc, *port)?)?,
         Row::Expires(client, expiry) => expiry_of(table, *client) == *expiry,
         Row::HasPort(port, client) => has_port(table, *port, *client),
         Row::Permits(client, ip, permits) => table.permitted(tuple(*client), *ip) == *permits,
@@ -348,7 +396,98 @@ fn a_permission_expires_before_its_channel(rt: HostRuntime) -> Result<(), Fail> 
     Ok(())
 }
 
+const RESTORED: [Row; 17] = [
+    Row::Restores(30000, 50001),
+    Row::Restores(40000, 50000),
+    Row::Len(2),
+    Row::IsFull(true),
+    Row::Expires(30000, 1600),
+    Row::HasPort(50001, 30000),
+    Row::HasPort(50000, 40000),
+    Row::Permits(40000, PEER_IP, true),
+    Row::Permits(40000, 1, true),
+    Row::Permits(40000, 2, false),
+    Row::Peer(40000, 0x4000, 9),
+    Row::Number(30000, 9, 0x4000),
+    Row::Count(b"alice", 2),
+    // A restored entry expires, and may be changed.
+    Row::PurgesTo(1200, 0),
+    Row::Permits(40000, PEER_IP, false),
+    Row::Applies(30000, Step::Renew(0), 50001),
+    Row::Len(1),
+];
+
+#[test]
+fn restored_entries_are_found(rt: HostRuntime) -> Result<(), Fail> {
+    play(rt.alloc(), limits(2, 2, 1)?, &RESTORED)?;
+    Ok(())
+}
+
+/// Whether an entry has the values that it was made of.
+fn is_entry_with<A: Allocator + Copy>(entry: &Entry<A>, port: u16) -> bool {
+    let channel = Channel {
+        peer: peer(9),
+        expiry: 1500,
+    };
+    entry.user() == b"alice".as_slice()
+        && (entry.port(), entry.granted(), entry.expiry()) == (port, 700, 1600)
+        && entry.tx() == TxId([7; 12])
+        && entry.permissions() == [(1, 1300), (PEER_IP, 1200)].as_slice()
+        && entry.channels() == [(0x4000, channel)].as_slice()
+}
+
+#[test]
+fn restored_entries_have_their_values(rt: HostRuntime) -> Result<(), Fail> {
+    let table = play(rt.alloc(), Limits::MAX, RESTORED.get(..2).ok_or("rows")?)?;
+    assert!(rt; table.last() == Some(tuple(40000)));
+    let mut entries = table.entries();
+    let (first, entry) = entries.next().ok_or("an entry")?;
+    assert!(rt; first == tuple(30000) && is_entry_with(entry, 50001));
+    let (second, entry) = entries.next().ok_or("an entry")?;
+    assert!(rt; second == tuple(40000) && is_entry_with(entry, 50000));
+    assert!(rt; entries.next().is_none());
+    Ok(())
+}
+
 type Refused<'a> = &'a Refusing<Global>;
+
+/// Whether the growth for an entry of a client is refused, which changes nothing, and after which the entry is restored.
+fn restores_after_refusal<'a>(
+    refusing: Refused<'a>,
+    table: &mut Table<Refused<'a>>,
+    client: u16,
+) -> Result<bool, Fail> {
+    let (len, last) = (table.len(), table.last());
+    let entry = entry_with(refusing, client)?;
+    refusing.arm(0);
+    let is_restored = restore(table, client, entry)?;
+    let is_refused = refusing.has_refused();
+    refusing.arm(u64::MAX);
+    if is_restored {
+        return Ok(false);
+    }
+    let is_same = table.len() == len && table.last() == last;
+    let entry = entry_with(refusing, client)?;
+    if !is_refused || !is_same || !restore(table, client, entry)? {
+        return Err(Fail::new(client));
+    }
+    Ok(true)
+}
+
+#[test]
+fn a_restore_that_lacks_memory_changes_nothing(rt: HostRuntime) -> Result<(), Fail> {
+    let refusing = Refusing::new(rt.alloc(), u64::MAX);
+    let moment = Moment::new(1000).ok_or("a moment")?;
+    let mut table = Table::new(&refusing, Limits::MAX, moment);
+    let mut refused = 0u8;
+    for client in 1..10u16 {
+        if restores_after_refusal(&refusing, &mut table, client)? {
+            refused = refused.wrapping_add(1);
+        }
+    }
+    assert!(rt; 1 < refused && table.len() == 9);
+    Ok(())
+}
 
 /// Whether a reservation fails after so many served growths, and leaves the table as it was.
 fn fails<'a>(

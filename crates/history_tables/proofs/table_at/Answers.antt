@@ -1,10 +1,10 @@
 use Rattle.std.proofs.Common.{rules, ◌≡◌, None, Some, sym, subst, map, take}
 use Rattle.std.proofs.lemmas.List.{take_all}
 use Rattle.std.specs.Option.{option_map}
-use Rattle.turn_history.specs.Act.{act_of}
+use Rattle.turn_history.specs.Act.{act_of, event_of}
 use Rattle.turn_history.specs.Table.{table}
 use Rattle.history_tables.specs.Replay.{replayed}
-use Rattle.history_tables.specs.View.{event_of, entry_of, contents_of}
+use Rattle.history_tables.specs.View.{entry_of, contents_of}
 use Rattle.history_tables.proofs.Tables.{Holds, puts_none, one_more, table_of, events_more, holds_first}
 use Rattle.history_tables.proofs.table_at.Goals as goal
 

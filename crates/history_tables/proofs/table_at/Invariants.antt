@@ -1,9 +1,10 @@
 use Rattle.std.proofs.Common.{◌≡◌, take, map}
 use Rattle.std.specs.FinMap.{find}
 use Rattle.turn_types.specs.FiveTuple.{tuple_cmp}
+use Rattle.turn_history.specs.Act.{event_of}
 use Rattle.turn_history.specs.History.{own}
 use Rattle.turn_types.specs.declared.address.FiveTuple.{FiveTuple}
-use Rattle.history_tables.specs.View.{event_of, pair_of}
+use Rattle.history_tables.specs.View.{pair_of}
 use Rattle.history_tables.proofs.Raw.{raw_in}
 use Rattle.history_tables.proofs.table_at.Given as goal
 
