@@ -24,5 +24,5 @@ pub use laws::{a_risen_count_differs, a_settled_disk_has_one_image};
 pub use memory_disk::MemoryDisk;
 pub use outcome::Outcome;
 pub use produced::{Bytes, Chain, PIECE, Producer, write_produced};
-pub use reads::read_array;
+pub use reads::{read_array, read_pieces};
 pub use writes::write_through;

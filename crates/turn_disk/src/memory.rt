@@ -60,6 +60,15 @@ impl<A: Allocator> Memory<A> {
         buffer.copy_from_slice(&self.content[at..at + count]);
     }
 
+    /// Makes room for the record of so many calls, whose writes replace so many bytes together.
+    pub fn reserve(&mut self, calls: usize, bytes: usize) -> Result<(), AllocError>
+        ensures { self.new ≡ self.old }
+    {
+        self.calls.reserve(calls)?;
+        self.replaced.reserve(bytes)?;
+        Ok(())
+    }
+
     /// Writes and records it. Where the record finds no memory, nothing changes.
     pub fn write(&mut self, at: usize, bytes: &[u8]) -> Result<(), AllocError>
         requires { at + length bytes.now ≤ length self.old.now.bytes }

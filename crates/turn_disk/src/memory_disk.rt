@@ -9,7 +9,7 @@ use crate::failures::raise;
 use crate::faults::Faults;
 use crate::memory::Memory;
 use crate::outcome::Outcome;
-use std::alloc::{Allocator, Global};
+use std::alloc::{AllocError, Allocator, Global};
 use std::marker::Model;
 
 /// A disk in memory.
@@ -46,6 +46,14 @@ impl<A: Allocator + Copy> MemoryDisk<A> {
 }
 
 impl<A: Allocator> MemoryDisk<A> {
+    /// Makes room for the record of so many writes and syncs, which write so many bytes together: none of these takes any
+    /// memory.
+    pub fn reserve(&mut self, calls: usize, bytes: usize) -> Result<(), AllocError>
+        ensures { self.new ≡ self.old }
+    {
+        self.memory.reserve(calls, bytes)
+    }
+
     /// The device call of this number from here on fails, where 1 is the next one. It takes the place of an earlier
     /// `fail_call` whose call is still to come.
     pub fn fail_call(&self, call: u64)

@@ -1,10 +1,11 @@
-//! Reads of a few bytes.
+//! Reads.
 
-ghost use Rattle.std.specs.Prelude.{◌≡◌, ◌+◌, ◌≤◌, ◌↔◌, IfOk};
+ghost use Rattle.std.specs.Prelude.{◌≡◌, ◌+◌, ◌++◌, ◌≤◌, ◌<◌, ◌^◌, ◌↔◌, IfOk, OnOk, drop, length, take};
 ghost use Rattle.turn_disk.specs.Counts.{CountOutcome};
 ghost use Rattle.turn_disk.specs.Disk.{StandsAt};
 
 use crate::disk::{DeviceFailed, Disk};
+use crate::produced::PIECE;
 
 /// Reads the bytes from this position on, in one device call.
 pub fn read_array<D: Disk, const N: usize>(disk: &mut D, at: usize) -> Result<[u8; N], DeviceFailed>
@@ -18,4 +19,47 @@ pub fn read_array<D: Disk, const N: usize>(disk: &mut D, at: usize) -> Result<[u
     let mut bytes = [0; N];
     disk.read_at(at, &mut bytes)?;
     Ok(bytes)
+}
+
+// Reads to a part of the buffer.
+fn read_part<D: Disk>(
+    disk: &mut D,
+    at: usize,
+    buffer: &mut [u8],
+    done: usize,
+    size: usize,
+) -> Result<(), DeviceFailed>
+    requires part { done + size ≤ length buffer.old }
+    requires place { at + size ≤ D.capacity disk.old }
+    ensures size { D.capacity disk.new ≡ D.capacity disk.old }
+    ensures count { CountOutcome (D.failed disk.old) (D.failed disk.new) result }
+    ensures honest { D.is_honest disk.new ↔ D.is_honest disk.old }
+    ensures same { D.is_honest disk.old → D.trace disk.new ≡ D.trace disk.old }
+    ensures len { length buffer.new ≡ length buffer.old }
+    ensures front { D.is_honest disk.old → OnOk result (take (done + size) buffer.new
+        ≡ take done buffer.old ++ take size (drop at (D.trace disk.old).now.bytes)) }
+{
+    disk.read_at(at, &mut buffer[done..done + size])?;
+    Ok(())
+}
+
+/// Fills the buffer with the bytes from this position on, in device calls of at most 4,096 bytes. After a failure the
+/// buffer may hold anything.
+pub fn read_pieces<D: Disk>(disk: &mut D, at: usize, buffer: &mut [u8]) -> Result<(), DeviceFailed>
+    requires place { at + length buffer.old ≤ D.capacity disk.old }
+    requires addressable { at + length buffer.old < 2 ^ 64 }
+    ensures size { D.capacity disk.new ≡ D.capacity disk.old }
+    ensures count { CountOutcome (D.failed disk.old) (D.failed disk.new) result }
+    ensures honest { D.is_honest disk.new ↔ D.is_honest disk.old }
+    ensures same { D.is_honest disk.old → D.trace disk.new ≡ D.trace disk.old }
+    ensures len { length buffer.new ≡ length buffer.old }
+    ensures bytes { D.is_honest disk.old → OnOk result (StandsAt at buffer.new (D.trace disk.old).now.bytes) }
+{
+    let mut done = 0;
+    while done < buffer.len() {
+        let size = PIECE.min(buffer.len() - done);
+        read_part(disk, at + done, buffer, done, size)?;
+        done += size;
+    }
+    Ok(())
 }

@@ -56,3 +56,16 @@ fn a_call_without_memory_for_its_record_changes_nothing(rt: HostRuntime) -> Resu
     }
     Ok(())
 }
+
+// A sync and three writes of four bytes.
+#[test]
+fn calls_in_room_that_was_reserved_take_no_memory(rt: HostRuntime) -> Result<(), AllocError> {
+    let refusing = Refusing::new(rt.alloc(), u64::MAX);
+    let mut disk = disk_of(&refusing, b"01234567")?;
+    disk.reserve(4, 12)?;
+    refusing.arm(0);
+    make_calls(&rt, &mut disk, &refusing);
+    assert!(rt; !refusing.has_refused());
+    assert!(rt; disk.failures() == 0);
+    Ok(())
+}
