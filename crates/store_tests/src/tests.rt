@@ -11,3 +11,5 @@ mod journal_memory;
 mod journal_scan;
 mod journal_stops;
 mod records;
+mod store_format;
+mod stores;

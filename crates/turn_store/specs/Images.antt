@@ -1,0 +1,26 @@
+-- What an image of a store stands for.
+use Rattle.std.specs.Prelude.{◌⊎◌, ◌≤◌, ◌++◌, ℕ, List}
+use Rattle.turn_disk.specs.Disk.{State, IsImage}
+use Rattle.turn_history.specs.History.{Event, History}
+use Rattle.turn_store.specs.Areas.{Form, Holds}
+use Rattle.turn_store.specs.Spells.{Spells}
+
+-- What the image holds spells the history, and the latest moment that is written is the clock.
+pub record StandsForAt (form : Form) (h : History) (clock : ℕ) (image : List ℕ) : Type 0 where
+  pub snapshot : List ℕ
+  pub payloads : List (List ℕ)
+  pub holds : Holds form snapshot payloads image
+  pub spells : Spells form.bounds h clock snapshot payloads
+
+-- the image stands for the history, at a clock that is not later than a moment
+pub record StandsBy (form : Form) (h : History) (moment : ℕ) (image : List ℕ) : Type 0 where
+  pub clock : ℕ
+  pub bounded : clock ≤ moment
+  pub stands : StandsForAt form h clock image
+
+-- for the history before some events, or with them
+abbrev pub EitherBy : Form → History → List Event → ℕ → List ℕ → Type 0
+EitherBy form h es moment image = StandsBy form h moment image ⊎ StandsBy form (h ++ es) moment image
+
+abbrev pub EachImage : State → (List ℕ → Type 0) → Type 0
+EachImage state P = (image : List ℕ) → IsImage state image → P image

@@ -1,0 +1,36 @@
+-- Which histories a snapshot and payloads spell.
+use Rattle.std.specs.Prelude.{◌≡◌, ◌<◌, ◌≤◌, ◌^◌, ◌-◌, ℕ, List, [], ◌∷◌, ◌++◌, length, map, max}
+use Rattle.std.specs.List.{AllByRecursion}
+use Rattle.turn_history.specs.Fitting.{IsFitting}
+use Rattle.turn_history.specs.History.{Event, History, clock}
+use Rattle.turn_history.specs.Laws.{AllFrom}
+use Rattle.turn_history.specs.Table.{table}
+use Rattle.turn_record.specs.Bytes.{payload, snapshot}
+use Rattle.turn_types.specs.declared.limits.Bounds.{Bounds}
+
+-- the events of all batches, in order
+abbrev pub all_of : List (List Event) → History
+all_of [] = []
+all_of (es ∷ more) = es ++ all_of more
+
+-- a frame has at least one event, and no more than the limit
+pub record HasSize (b : Bounds) (es : List Event) : Type 0 where
+  pub some : 1 ≤ length es
+  pub few : length es ≤ b.acts
+
+-- A history is some events, whose table the snapshot spells, and then batches, each of which a payload spells. No event before
+-- the batches is later than the snapshot's moment, and none in them earlier. c is the latest moment that is
+-- written.
+pub record Spells (b : Bounds) (h : History) (c : ℕ) (bytes : List ℕ) (payloads : List (List ℕ)) : Type 0 where
+  pub fitting : IsFitting b h
+  pub before : History
+  pub batches : List (List Event)
+  pub whole : h ≡ before ++ all_of batches
+  pub moment : ℕ
+  pub in_range : moment < 2 ^ 40 - 3600
+  pub late : clock before ≤ moment
+  pub from : AllFrom moment (all_of batches)
+  pub sizes : AllByRecursion (HasSize b) batches
+  pub is_snapshot : bytes ≡ snapshot moment (table before moment)
+  pub are_payloads : payloads ≡ map payload batches
+  pub clock_is : c ≡ max moment (clock (all_of batches))

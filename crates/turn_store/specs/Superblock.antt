@@ -1,0 +1,32 @@
+-- The first 64 bytes of a store.
+use Rattle.std.specs.Prelude.{◌∷◌, ◌++◌, ◌≤◌, ◌<◌, ◌^◌, ◌+◌, [], List, ℕ, length}
+use Rattle.std.specs.Int.{to_be_bytes, w16, w32, w64}
+use Rattle.turn_disk.specs.Disk.{StandsAt}
+use Rattle.turn_record.specs.Records.{max_snapshot, max_payload}
+use Rattle.turn_types.specs.Limits.{AreInRange}
+use Rattle.turn_types.specs.declared.limits.Bounds.{Bounds}
+
+-- the letters RTURNST1
+abbrev pub magic : List ℕ
+magic = 0x52 ∷ 0x54 ∷ 0x55 ∷ 0x52 ∷ 0x4E ∷ 0x53 ∷ 0x54 ∷ 0x31 ∷ []
+
+-- 36 of them
+abbrev pub zeros : List ℕ
+zeros = 0 ∷ 0 ∷ 0 ∷ 0 ∷ 0 ∷ 0 ∷ 0 ∷ 0 ∷ 0 ∷ 0 ∷ 0 ∷ 0 ∷ 0 ∷ 0 ∷ 0 ∷ 0 ∷ 0 ∷ 0 ∷ 0 ∷ 0 ∷ 0 ∷ 0 ∷ 0 ∷ 0 ∷ 0 ∷ 0 ∷ 0 ∷ 0 ∷ 0 ∷ 0 ∷ 0 ∷ 0 ∷ 0 ∷ 0 ∷ 0 ∷ 0 ∷ []
+
+-- the letters, the size of an area, the limits, and zeros; the highest byte of a number is first
+unfoldable pub superblock : ℕ → Bounds → List ℕ
+superblock area b =
+    magic ++ (to_be_bytes w64 area ++ (to_be_bytes w32 b.allocations ++ (to_be_bytes w16 b.permissions ++ (to_be_bytes w16 b.channels
+    ++ (to_be_bytes w16 b.acts ++ (to_be_bytes w16 b.name_bytes ++ zeros))))))
+
+-- the content begins with the superblock of an area of this size and of these limits
+pub record HasSuperblock (area : ℕ) (b : Bounds) (content : List ℕ) : Type 0 where
+  pub long : 64 ≤ length content
+  pub addressable : area < 2 ^ 64
+  pub in_range : AreInRange b
+  pub stands : StandsAt 0 (superblock area b) content
+
+-- the min size of an area: 14 bytes before the snapshot, the longest snapshot, a frame of 5 bytes and the longest payload, and the gate after it
+abbrev pub least_area : Bounds → ℕ
+least_area b = 20 + max_snapshot b + max_payload b

@@ -1,0 +1,151 @@
+//! The first 64 bytes of a store: the size of an area, and the limits.
+
+ghost use Rattle.std.specs.Prelude.{◌≡◌, ◌≢◌, ◌+◌, ◌≤◌, ◌<◌, ◌^◌, ◌↔◌, ℕ, IfSome, IsNone, IfOk, IfErr, OnOk, length};
+ghost use Rattle.turn_disk.specs.Counts.{Rises};
+ghost use Rattle.turn_store.specs.Superblock.{HasSuperblock, least_area, superblock};
+ghost use Rattle.turn_store.specs.declared.superblock.LimitsRefused.TheVariants.{Device};
+ghost use Rattle.turn_types.specs.Limits.{AreInRange};
+ghost use Rattle.turn_types.specs.declared.limits.Bounds.{Bounds};
+
+use thiserror::Error;
+use turn_disk::{DeviceFailed, Disk, read_array};
+use turn_record::{max_payload, max_snapshot};
+use turn_types::{Bounds, Limits};
+
+/// Why the limits of a store are not known.
+#[derive(Clone, Copy, Debug, PartialEq, Eq, Error)]
+pub enum LimitsRefused {
+    /// A device call failed.
+    #[error("a device call failed")]
+    Device,
+    /// The disk doesn't begin with a superblock.
+    #[error("not a store")]
+    NotAStore,
+}
+
+impl From<DeviceFailed> for LimitsRefused {
+    ghost from_gives = { λ _ e. e ≡ Device };
+
+    fn from(_: DeviceFailed) -> Self {
+        LimitsRefused::Device
+    }
+}
+
+/// What a superblock says.
+#[derive(Clone, Copy, Debug, PartialEq, Eq)]
+pub struct Superblock {
+    /// The size of an area.
+    pub area: usize,
+    pub limits: Limits,
+}
+
+/// The min size of an area under the limits, in which each batch fits.
+pub fn least_area(limits: Limits) -> usize
+    ensures value { result ≡ least_area limits }
+    ensures small { result < 2 ^ 32 }
+{
+    20 + max_snapshot(limits) + max_payload(limits)
+}
+
+/// The bytes of a superblock.
+pub fn superblock_bytes(area: usize, limits: Limits) -> [u8; 64]
+    ensures bytes { result ≡ superblock area limits }
+    ensures range { AreInRange limits }
+{
+    let b = limits.bounds();
+    let size = (area as u64).to_be_bytes();
+    let most = b.allocations.to_be_bytes();
+    let perm = b.permissions.to_be_bytes();
+    let chan = b.channels.to_be_bytes();
+    let acts = b.acts.to_be_bytes();
+    let name = b.name_bytes.to_be_bytes();
+    [
+        0x52, 0x54, 0x55, 0x52, 0x4E, 0x53, 0x54, 0x31, size[0], size[1], size[2], size[3],
+        size[4], size[5], size[6], size[7], most[0], most[1], most[2], most[3], perm[0], perm[1],
+        chan[0], chan[1], acts[0], acts[1], name[0], name[1], 0, 0, 0, 0, 0, 0, 0, 0, 0, 0, 0, 0,
+        0, 0, 0, 0, 0, 0, 0, 0, 0, 0, 0, 0, 0, 0, 0, 0, 0, 0, 0, 0, 0, 0, 0, 0,
+    ]
+}
+
+// What the fields read.
+fn fields(bytes: &[u8; 64]) -> (usize, Bounds)
+    ensures { (area : ℕ) (b : Bounds) → area < 2 ^ 64 → AreInRange b → bytes.now ≡ superblock area b
+        → (result.0 ≡ area) × (result.1 ≡ b) }
+{
+    let area = u64::from_be_bytes([
+        bytes[8], bytes[9], bytes[10], bytes[11], bytes[12], bytes[13], bytes[14], bytes[15],
+    ]) as usize;
+    let bounds = Bounds {
+        allocations: u32::from_be_bytes([bytes[16], bytes[17], bytes[18], bytes[19]]),
+        permissions: u16::from_be_bytes([bytes[20], bytes[21]]),
+        channels: u16::from_be_bytes([bytes[22], bytes[23]]),
+        acts: u16::from_be_bytes([bytes[24], bytes[25]]),
+        name_bytes: u16::from_be_bytes([bytes[26], bytes[27]]),
+    };
+    (area, bounds)
+}
+
+// The superblock that these bytes are.
+fn superblock_in(bytes: &[u8; 64]) -> Option<Superblock>
+    ensures long { length bytes.now ≡ 64 }
+    ensures some { IfSome result (λ s. bytes.now ≡ superblock s.area s.limits) }
+    ensures range { IfSome result (λ s. (s.area < 2 ^ 64) × AreInRange s.limits) }
+    ensures none { IsNone result → (area : ℕ) (b : Bounds) → area < 2 ^ 64 → AreInRange b → bytes.now ≢ superblock area b }
+{
+    let (area, bounds) = fields(bytes);
+    let Some(limits) = Limits::new(bounds) else {
+        return None;
+    };
+    if superblock_bytes(area, limits) != *bytes {
+        return None;
+    }
+    Some(Superblock { area, limits })
+}
+
+/// Reads the superblock, in at most one device call.
+pub fn read_superblock<D: Disk>(disk: &mut D) -> Result<Superblock, LimitsRefused>
+    ensures size { D.capacity disk.new ≡ D.capacity disk.old }
+    ensures honest { D.is_honest disk.new ↔ D.is_honest disk.old }
+    ensures same { D.is_honest disk.old → D.trace disk.new ≡ D.trace disk.old }
+    ensures device { IfErr result (λ refused. refused ≡ LimitsRefused.Device
+        → Rises (D.failed disk.old) (D.failed disk.new)) }
+    ensures count { OnOk result (D.failed disk.new ≡ D.failed disk.old) }
+    ensures count_not { IfErr result (λ refused. refused ≡ LimitsRefused.NotAStore
+        → D.failed disk.new ≡ D.failed disk.old) }
+    ensures found { D.is_honest disk.old
+        → IfOk result (λ s. HasSuperblock s.area s.limits (D.trace disk.old).now.bytes) }
+    ensures none { D.is_honest disk.old → IfErr result (λ refused. refused ≡ LimitsRefused.NotAStore
+        → (area : ℕ) (b : Bounds) → HasSuperblock area b (D.trace disk.old).now.bytes → ⊥) }
+{
+    if disk.size() < 64 {
+        return Err(LimitsRefused::NotAStore);
+    }
+    let bytes = read_array(disk, 0)?;
+    match superblock_in(&bytes) {
+        Some(found) => Ok(found),
+        None => Err(LimitsRefused::NotAStore),
+    }
+}
+
+/// The limits that the store of a disk was formatted with.
+pub fn limits<D: Disk>(disk: &mut D) -> Result<Limits, LimitsRefused>
+    ensures size { D.capacity disk.new ≡ D.capacity disk.old }
+    ensures honest { D.is_honest disk.new ↔ D.is_honest disk.old }
+    ensures same { D.is_honest disk.old → D.trace disk.new ≡ D.trace disk.old }
+    ensures device { IfErr result (λ refused. refused ≡ LimitsRefused.Device
+        → Rises (D.failed disk.old) (D.failed disk.new)) }
+    ensures count { OnOk result (D.failed disk.new ≡ D.failed disk.old) }
+    ensures count_not { IfErr result (λ refused. refused ≡ LimitsRefused.NotAStore
+        → D.failed disk.new ≡ D.failed disk.old) }
+
+    // The limits are those of the superblock, and a disk without one is refused.
+    ensures found { D.is_honest disk.old
+        → IfOk result (λ limits. (area : ℕ) × HasSuperblock area limits (D.trace disk.old).now.bytes) }
+    ensures none { D.is_honest disk.old → IfErr result (λ refused. refused ≡ LimitsRefused.NotAStore
+        → (area : ℕ) (b : Bounds) → HasSuperblock area b (D.trace disk.old).now.bytes → ⊥) }
+{
+    match read_superblock(disk) {
+        Ok(found) => Ok(found.limits),
+        Err(refused) => Err(refused),
+    }
+}
