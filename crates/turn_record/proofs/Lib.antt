@@ -2,6 +2,7 @@ pub mod Acts
 pub mod Apart
 pub mod Appended
 pub mod Batches
+pub mod Bounded
 pub mod Last
 pub mod Lasting
 pub mod Many

@@ -21,3 +21,7 @@ pub record WasFed {A : Type 0} (b : Bounds) (r : SnapshotReader A) (fed : List �
 -- why a reader has refused
 abbrev pub refusal : {A : Type 0} → SnapshotReader A → Option ReadError
 refusal r = r.refused
+
+-- the bytes that a reader holds of an entry that isn't whole yet
+abbrev pub held : {A : Type 0} → SnapshotReader A → List ℕ
+held r = r.held.items

@@ -1,10 +1,11 @@
 //! Snapshots, read: from pieces, or as a whole.
 
-ghost use Rattle.std.specs.Prelude.{◌≡◌, ◌++◌, [], List, ℕ, IfErr, IfOk, None, OnOk, Ok, Err, Some};
+ghost use Rattle.std.specs.Prelude.{◌≡◌, ◌<◌, ◌++◌, [], List, ℕ, IfErr, IfOk, None, OnOk, Ok, Err, Some, length};
 ghost use Rattle.turn_history.specs.Table.{Contents};
-ghost use Rattle.turn_record.specs.Pieces.{WasFed, refusal};
+ghost use Rattle.turn_record.specs.Pieces.{WasFed, held, refusal};
 ghost use Rattle.turn_record.specs.Reading.{Gives};
-ghost use Rattle.turn_record.specs.Records.{SpellsSnapshot};
+ghost use Rattle.turn_record.specs.Records.{SpellsSnapshot, max_entry};
+ghost use Rattle.turn_record.specs.declared.pieces.SnapshotReader.{SnapshotReader};
 ghost use Rattle.turn_record.specs.Snapshots.{snapshot_in};
 ghost use Rattle.turn_record.specs.declared.fault.ReadError.{ReadError};
 ghost use Rattle.turn_types.specs.declared.limits.Bounds.{Bounds};
@@ -82,6 +83,11 @@ impl<A: Allocator + Copy> SnapshotReader<A> {
         }
     }
 }
+
+/// Between two pieces a reader holds fewer bytes than the longest entry has under the limits.
+pub fn readers_hold_little<A: Allocator>()
+    ensures { (b : Bounds) (r : SnapshotReader A) (fed : List ℕ) → WasFed b r fed → refusal r ≡ None → length (held r) < max_entry b }
+{}
 
 fn whole_snapshot<A: Allocator + Copy>(
     alloc: A,
