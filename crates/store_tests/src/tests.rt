@@ -11,5 +11,6 @@ mod journal_memory;
 mod journal_scan;
 mod journal_stops;
 mod records;
+mod snapshots;
 mod store_format;
 mod stores;
