@@ -1,0 +1,71 @@
+//! Snapshots of 1,024 entries, read and written, timed. Words: COUNT, how often each call is made in a round. Without words
+//! it does nothing.
+#![tactic(auto)]
+
+mod calls;
+mod kept;
+mod spelled;
+
+use bench_time::{Measured, best_of, number};
+use calls::{ReadPieces, ReadWhole, WritePieces, WriteWhole, is_right};
+use kept::Kept;
+use spelled::{ENTRIES, Shape, spell};
+use std::{env, io};
+
+/// Rounds of which the best counts.
+const ROUNDS: usize = 5;
+
+/// Prints the nanoseconds of an entry, and the megabytes of a second, of a call on a snapshot of so many bytes.
+fn measure<M: Measured>(
+    rt: &HostRuntime,
+    name: &str,
+    call: &mut M,
+    count: usize,
+    size: usize,
+) -> io::Result<()> {
+    let timing = best_of(rt, call, count, ROUNDS)?;
+    let entries = (count.max(1) as u128).saturating_mul(u128::from(ENTRIES));
+    let each = timing.micros.saturating_mul(1000) / entries.max(1);
+    let rate = (count as u128).saturating_mul(size as u128) / timing.micros.max(1);
+    println!(rt;
+        "{name}: {each} ns an entry, {rate} MB/s ({} of {count} done)",
+        timing.done
+    )
+}
+
+fn measure_all(rt: &HostRuntime, kept: &Kept, bytes: &[u8], count: usize) -> io::Result<()> {
+    let alloc = rt.alloc();
+    let size = bytes.len();
+    let mut whole = ReadWhole { alloc, bytes };
+    measure(rt, "read_snapshot", &mut whole, count, size)?;
+    let mut pieces = ReadPieces { alloc, bytes };
+    measure(rt, "SnapshotReader, in pieces", &mut pieces, count, size)?;
+    let mut pieces = WritePieces::new(kept, size);
+    measure(rt, "SnapshotWriter, in pieces", &mut pieces, count, size)?;
+    let mut whole = WriteWhole::new(alloc, kept, size)?;
+    measure(rt, "write_snapshot", &mut whole, count, size)
+}
+
+fn main(rt: HostRuntime) -> io::Result<()> {
+    let words: Vec<String> = env::args(&rt)?.collect(rt.alloc())?;
+    if words.len() < 2 {
+        return Ok(());
+    }
+    let count = number(words.as_slice(), 1);
+    for shape in [Shape::PLAIN, Shape::WITH_PEERS] {
+        let bytes = spell(rt.alloc(), shape)?;
+        println!(rt;
+            "{ENTRIES} entries of {} permissions and {} channels, {} bytes",
+            shape.permissions,
+            shape.channels,
+            bytes.len()
+        )?;
+        match Kept::read(rt.alloc(), &bytes) {
+            Some(kept) if is_right(rt.alloc(), &kept, &bytes)? => {
+                measure_all(&rt, &kept, &bytes, count)?;
+            }
+            _ => println!(rt; "a wrong answer")?,
+        }
+    }
+    Ok(())
+}
