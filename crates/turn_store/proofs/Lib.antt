@@ -1,3 +1,9 @@
 pub mod Formats
+pub mod Logs
 pub mod Numbers
+pub mod Replayed
+pub mod Rows
+pub mod Sound
+pub mod Spelling
+pub mod Staged
 pub mod Superblocks

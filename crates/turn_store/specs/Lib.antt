@@ -1,5 +1,12 @@
 pub mod Areas
 pub mod Format
+pub mod Head
 pub mod Images
+pub mod Opened
+pub mod Refused
+pub mod Replay
 pub mod Spells
+pub mod Stages
+pub mod State
 pub mod Superblock
+pub mod Tables

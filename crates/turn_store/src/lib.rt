@@ -2,8 +2,13 @@
 //! accepted since.
 #![tactic(auto)]
 
+mod areas;
+mod fault;
 mod formatting;
 mod gate;
+mod heads;
+mod log;
+mod replay;
 mod superblock;
 
 pub use formatting::{FormatRefused, format};

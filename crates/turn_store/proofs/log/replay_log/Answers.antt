@@ -1,0 +1,101 @@
+use Rattle.std.proofs.Common.{◌≡◌, ◌+◌, ℕ, ap, refl, sym, ◌∙◌, subst, arith, length}
+use Rattle.turn_disk.specs.Disk.{Trace, StandsAt}
+use Rattle.turn_journal.specs.Area.{end_of, limit_of}
+use Rattle.turn_journal.specs.Frames.{IsClosed, IsFrame, IsOpen}
+use Rattle.turn_journal.specs.Scan.{HasLength, IsBadFrame, IsFound}
+use Rattle.turn_store.specs.Refused.{FaultWith, ReadsBad, ReadsOn}
+use Rattle.turn_store.specs.Tables.{snapshot_of}
+use Rattle.turn_store.proofs.Logs.{SoFar, none_yet, one_more, all_read, frame_is, broken_frame, broken_payload, faults_weaken}
+use Rattle.turn_store.proofs.log.replay_log.Goals as goal
+
+pub frames-init : goal.frames-init
+frames-init g c = record {
+  within = omega (arith, c.end-end.ensures.end, c.end-end.ensures.within);
+  few = omega arith;
+  size = refl;
+  count = refl;
+  honest = ((λ h. h), (λ h. h));
+  same = λ h. refl;
+  bounds = refl;
+  so_far = λ h.
+      let j = c.args.journal.now in
+      let s = snapshot_of c.args.table.now in
+      let content = (g.D.Disk.trace c.args.disk.now).now.bytes in
+      subst (λ (e : ℕ). SoFar c.args.limits (j.start + j.end) s (j.start + e) 0 s content) (sym c.end-end.ensures.end) (none_yet c.args.limits (j.start + j.end) s content);
+}
+
+pub returns-in-Err-clause-faults : goal.returns-in-Err-clause-faults
+returns-in-Err-clause-faults g c = λ h.
+    let inv = c.frames.invariant in
+    let j = c.args.journal.now in
+    let gate = j.start + c.frames.end in
+    let content = (g.D.Disk.trace c.args.disk.now).now.bytes in
+    let why = subst (λ (t : Trace). FaultWith (λ place. (place ≡ gate) × IsBadFrame place (limit_of j) j.max_payload t.now.bytes) c.in-Err.fault) (inv.same h) (c.in-Err.ensures.faults (inv.honest.1 h)) in
+    faults_weaken _ _ (broken_frame c.args.limits (end_of j) (limit_of j) (snapshot_of c.args.table.now) gate c.frames.frames j.max_payload (snapshot_of c.frames.table) content (inv.so_far h) c.requires.payload) c.in-Err.fault why
+
+pub returns-in-End-clause-log : goal.returns-in-End-clause-log
+returns-in-End-clause-log g c = λ h.
+    let inv = c.frames.invariant in
+    let j = c.args.journal.now in
+    let gate = j.start + c.frames.end in
+    let content = (g.D.Disk.trace c.args.disk.now).now.bytes in
+    let found = subst (λ f. IsFound gate (limit_of j) j.max_payload (g.D.Disk.trace c.frames.disk).now.bytes f) c.in-End.is (c.in-Ok.ensures.found (inv.honest.1 h)) in
+    let closed : IsClosed gate content = subst (λ (t : Trace). IsClosed gate t.now.bytes) (inv.same h) found in
+    all_read c.args.limits (end_of j) (snapshot_of c.args.table.now) gate (limit_of j) c.frames.frames (snapshot_of c.frames.table) content (inv.so_far h) closed (omega (arith, inv.within))
+
+pub returns-in-Err-replay_frame-clause-count_not : goal.returns-in-Err-replay_frame-clause-count_not
+returns-in-Err-replay_frame-clause-count_not g c = λ other.
+    c.in-Err-replay_frame.ensures.count_not (λ is. other (c.fault_at.ensures.device.1 is)) ∙ (c.in-Ok.ensures.count ∙ c.frames.invariant.count)
+
+pub returns-in-Err-replay_frame-clause-faults : goal.returns-in-Err-replay_frame-clause-faults
+returns-in-Err-replay_frame-clause-faults g c = λ h.
+    let inv = c.frames.invariant in
+    let j = c.args.journal.now in
+    let gate = j.start + c.frames.end in
+    let content = (g.D.Disk.trace c.args.disk.now).now.bytes in
+    let here = inv.honest.1 h in
+    let still = c.found_at.ensures.honest.1 here in
+    let found = subst (λ f. IsFound gate (limit_of j) j.max_payload (g.D.Disk.trace c.frames.disk).now.bytes f) c.in-Frame.is (c.in-Ok.ensures.found here) in
+    let there = subst (λ (t : Trace). IsOpen gate t.now.bytes × HasLength gate c.in-Frame.count t.now.bytes) (inv.same h) (found.0, found.1) in
+    let start_is = c.start-start.ensures.start in
+    let place : c.start-start.result + c.frames.end + 5 ≡ gate + 5 = ap (λ (n : ℕ). n + c.frames.end + 5) start_is in
+    faults_weaken _ _
+    (λ place_ is.
+    let read : ReadsBad c.args.limits (snapshot_of c.frames.table) (c.start-start.result + c.frames.end + 5) c.in-Frame.count content =
+    subst (λ (t : Trace). ReadsBad c.args.limits (snapshot_of c.frames.table) (c.start-start.result + c.frames.end + 5) c.in-Frame.count t.now.bytes) (c.found_at.ensures.same here ∙ inv.same h)
+    (c.in-Err-replay_frame.ensures.bad still is.1) in
+    let frame : IsFrame gate read.bytes content = frame_is gate c.in-Frame.count read.bytes content read.has.long there.0 there.1 (subst (λ (n : ℕ). StandsAt n read.bytes content) place read.has.stands) in
+    broken_payload c.args.limits (end_of j) (limit_of j) (snapshot_of c.args.table.now) gate c.frames.frames (snapshot_of c.frames.table) read.bytes content (inv.so_far h) frame
+    read.none place_ (is.0 ∙ ap (λ (n : ℕ). n + c.frames.end) start_is))
+    c.fault_at.result c.fault_at.ensures.damaged
+
+pub frames-preserved : goal.frames-preserved
+frames-preserved g c =
+    let inv = c.frames.invariant in
+    let j = c.args.journal.now in
+    let gate = j.start + c.frames.end in
+    let content = (g.D.Disk.trace c.args.disk.now).now.bytes in
+    let admitted = c.in-Ok.ensures.admitted c.in-Frame.count c.in-Frame.is in
+    let start_is = c.start-start.ensures.start in
+    record {
+      within = omega (arith, admitted.1);
+      few = omega (arith, inv.few);
+      size = c.replay_frame.ensures.size ∙ (c.found_at.ensures.size ∙ inv.size);
+      count = c.in-Ok-replay_frame.ensures.count ∙ (c.in-Ok.ensures.count ∙ inv.count);
+      honest = ((λ h. inv.honest.0 (c.found_at.ensures.honest.0 (c.replay_frame.ensures.honest.0 h))), (λ h. c.replay_frame.ensures.honest.1 (c.found_at.ensures.honest.1 (inv.honest.1 h))));
+      same = λ h. c.replay_frame.ensures.same (c.found_at.ensures.honest.1 (inv.honest.1 h)) ∙ (c.found_at.ensures.same (inv.honest.1 h) ∙ inv.same h);
+      bounds = c.replay_frame.ensures.bounds ∙ inv.bounds;
+      so_far = λ h.
+          let here = inv.honest.1 h in
+          let still = c.found_at.ensures.honest.1 here in
+          let found = subst (λ f. IsFound gate (limit_of j) j.max_payload (g.D.Disk.trace c.frames.disk).now.bytes f) c.in-Frame.is (c.in-Ok.ensures.found here) in
+          let there = subst (λ (t : Trace). IsOpen gate t.now.bytes × HasLength gate c.in-Frame.count t.now.bytes) (inv.same h) (found.0, found.1) in
+          let place : c.start-start.result + c.frames.end + 5 ≡ gate + 5 = ap (λ (n : ℕ). n + c.frames.end + 5) start_is in
+          let read : ReadsOn c.args.limits (snapshot_of c.frames.table) (c.start-start.result + c.frames.end + 5) c.in-Frame.count (snapshot_of c.replay_frame.new.table) content =
+          subst (λ (t : Trace). ReadsOn c.args.limits (snapshot_of c.frames.table) (c.start-start.result + c.frames.end + 5) c.in-Frame.count (snapshot_of c.replay_frame.new.table) t.now.bytes) (c.found_at.ensures.same here ∙ inv.same h)
+          (c.in-Ok-replay_frame.ensures.goes still) in
+          let frame : IsFrame gate read.bytes content = frame_is gate c.in-Frame.count read.bytes content read.has.long there.0 there.1 (subst (λ (n : ℕ). StandsAt n read.bytes content) place read.has.stands) in
+          let more = one_more c.args.limits (end_of j) (snapshot_of c.args.table.now) gate c.frames.frames (snapshot_of c.frames.table) (snapshot_of c.replay_frame.new.table) read.bytes content (inv.so_far h) frame read.goes in
+          let next : gate + 5 + length read.bytes ≡ j.start + (c.frames.end + (5 + c.in-Frame.count)) = omega (arith, read.has.long) in
+          subst (λ (n : ℕ). SoFar c.args.limits (end_of j) (snapshot_of c.args.table.now) n (c.frames.frames + 1) (snapshot_of c.replay_frame.new.table) content) next more;
+    }

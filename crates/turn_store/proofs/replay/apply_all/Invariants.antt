@@ -1,0 +1,15 @@
+use Rattle.std.proofs.Common.{◌≡◌, ◌↔◌, length}
+use Rattle.turn_record.specs.Views.{events_of}
+use Rattle.turn_store.specs.Replay.{GoOn, after_all}
+use Rattle.turn_store.specs.Tables.{snapshot_of}
+use Rattle.turn_store.proofs.replay.apply_all.Given as goal
+
+abbrev pub decreases-loop-events : goal.decreases-loop-events
+decreases-loop-events g l = length l.events.items
+
+abbrev pub invariant-loop-events : goal.invariant-loop-events
+invariant-loop-events g l = record {
+  bounds : l.table.bounds ≡ l.initial.table.bounds;
+  goes : GoOn l.initial.table.bounds (snapshot_of l.initial.table) (events_of l.fn.events.items) ↔ GoOn l.initial.table.bounds (snapshot_of l.table) (events_of l.events.items);
+  ends : after_all (snapshot_of l.initial.table) (events_of l.fn.events.items) ≡ after_all (snapshot_of l.table) (events_of l.events.items);
+}

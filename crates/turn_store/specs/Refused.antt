@@ -1,0 +1,109 @@
+-- Why a store is refused, and where.
+use Rattle.std.specs.Prelude.{◌≡◌, ◌≢◌, ◌⊎◌, ◌<◌, ◌≤◌, ◌+◌, ◌*◌, List, ℕ, length}
+use Rattle.turn_disk.specs.Disk.{StandsAt}
+use Rattle.turn_history.specs.History.{Event}
+use Rattle.turn_history.specs.Table.{Contents}
+use Rattle.turn_journal.specs.Frames.{IsFrame}
+use Rattle.turn_journal.specs.Scan.{IsBadFrame}
+use Rattle.turn_record.specs.Records.{SpellsPayload, SpellsSnapshot, max_payload, max_snapshot}
+use Rattle.turn_store.specs.Head.{IsHead, Beats, NoneCounts}
+use Rattle.turn_store.specs.Replay.{Snapshot, GoOn, GoesOn, ReplaysTo}
+use Rattle.turn_store.specs.Superblock.{HasSuperblock, least_area}
+use Rattle.turn_store.specs.declared.fault.OpenFault.{OpenFault}
+use Rattle.turn_store.specs.declared.fault.OpenFault.TheVariants.{Device, Memory, NotAStore, LimitsDiffer, Damaged}
+use Rattle.turn_store.specs.declared.heads.Head.{Head}
+use Rattle.turn_types.specs.declared.limits.Bounds.{Bounds}
+
+-- a failed device call, or a failed allocation, or damage at a place of which this holds
+abbrev pub FaultWith : (ℕ → Type 0) → OpenFault → Type 0
+FaultWith P Device = Unit {0}
+FaultWith P Memory = Unit {0}
+FaultWith P NotAStore = ⊥
+FaultWith P LimitsDiffer = ⊥
+FaultWith P (Damaged place) = P place
+
+-- a failed device call, or a failed allocation
+abbrev pub IsPlain : OpenFault → Type 0
+IsPlain fault = FaultWith (λ place. ⊥) fault
+
+-- ---- An area
+
+-- so many bytes from this position on
+pub record HasBytes (at count : ℕ) (bytes content : List ℕ) : Type 0 where
+  pub long : length bytes ≡ count
+  pub stands : StandsAt at bytes content
+
+-- at this gate there is no frame that an area may have, or one whose payload spells no batch that goes on
+abbrev pub IsBadAt : Bounds → ℕ → ℕ → Snapshot → List ℕ → Type 0
+IsBadAt b gate limit s content =
+    IsBadFrame gate limit (max_payload b) content
+    ⊎ ((payload : List ℕ) × IsFrame gate payload content × ((es : List Event) → SpellsPayload b es payload → GoOn b s es → ⊥))
+
+-- these bytes are a payload that spells a batch that goes on
+pub record ReadsOn (b : Bounds) (s : Snapshot) (at count : ℕ) (t : Snapshot) (content : List ℕ) : Type 0 where
+  pub bytes : List ℕ
+  pub has : HasBytes at count bytes content
+  pub goes : GoesOn b s bytes t
+
+-- these bytes are none
+pub record ReadsBad (b : Bounds) (s : Snapshot) (at count : ℕ) (content : List ℕ) : Type 0 where
+  pub bytes : List ℕ
+  pub has : HasBytes at count bytes content
+  pub none : (es : List Event) → SpellsPayload b es bytes → GoOn b s es → ⊥
+
+-- after good frames there is a bad one, at this gate
+pub record BreaksAt (b : Bounds) (from limit : ℕ) (s : Snapshot) (content : List ℕ) (gate : ℕ) : Type 0 where
+  pub reached : Snapshot
+  pub before : ReplaysTo b from s gate reached content
+  pub bad : IsBadAt b gate limit reached content
+
+-- another version, or too long a snapshot
+abbrev pub IsBadHead : Bounds → Head → Type 0
+IsBadHead b head = (head.version ≢ 1) ⊎ (max_snapshot b < head.snapshot)
+
+-- these bytes spell a table at a moment
+pub record IsGoodSnapshot (b : Bounds) (at count : ℕ) (s : Snapshot) (content : List ℕ) : Type 0 where
+  pub bytes : List ℕ
+  pub has : HasBytes at count bytes content
+  pub spells : SpellsSnapshot b s.moment s.contents bytes
+
+-- these bytes spell no table
+pub record IsBadSnapshot (b : Bounds) (at count : ℕ) (content : List ℕ) : Type 0 where
+  pub bytes : List ℕ
+  pub has : HasBytes at count bytes content
+  pub none : (t : ℕ) (c : Contents) → SpellsSnapshot b t c bytes → ⊥
+
+-- a bad frame after a good snapshot
+abbrev pub IsBadLog : Bounds → ℕ → ℕ → Head → List ℕ → ℕ → Type 0
+IsBadLog b start size head content place =
+    (s : Snapshot) × IsGoodSnapshot b (start + 14) head.snapshot s content
+    × BreaksAt b (start + 14 + head.snapshot) (start + size) s content place
+
+-- what is wrong with an area, with the place: the first that applies
+abbrev pub AreaIsBad : Bounds → ℕ → ℕ → Head → List ℕ → ℕ → Type 0
+AreaIsBad b start size head content place =
+    ((place ≡ start) × IsBadHead b head)
+    ⊎ ((head.version ≡ 1) × (head.snapshot ≤ max_snapshot b)
+    × (((place ≡ start + 14) × IsBadSnapshot b (start + 14) head.snapshot content) ⊎ IsBadLog b start size head content place))
+
+-- ---- A store
+
+-- no area counts, or the one that does is bad
+pub record StoreIsBad (b : Bounds) (size : ℕ) (content : List ℕ) (place : ℕ) : Type 0 where
+  pub first : Head
+  pub second : Head
+  pub is_first : IsHead 64 first content
+  pub is_second : IsHead (64 + size) second content
+  pub why : ((place ≡ 64) × NoneCounts first second)
+      ⊎ ((Beats first second × AreaIsBad b 64 size first content place)
+      ⊎ (Beats second first × AreaIsBad b (64 + size) size second content place))
+
+-- The reason of each refusal under these limits: the first that applies.
+abbrev pub WhyRefused : Bounds → List ℕ → OpenFault → Type 0
+WhyRefused b content Device = Unit {0}
+WhyRefused b content Memory = Unit {0}
+WhyRefused b content NotAStore = (area : ℕ) (its : Bounds) → HasSuperblock area its content → ⊥
+WhyRefused b content LimitsDiffer = (area : ℕ) × (its : Bounds) × HasSuperblock area its content × (its ≢ b)
+WhyRefused b content (Damaged place) = (area : ℕ) × HasSuperblock area b content
+    × (((place ≡ 8) × ((area < least_area b) ⊎ (length content ≢ 64 + 2 * area)))
+    ⊎ ((least_area b ≤ area) × (length content ≡ 64 + 2 * area) × StoreIsBad b area content place))

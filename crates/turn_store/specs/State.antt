@@ -1,0 +1,79 @@
+-- What contracts see of a store.
+use Rattle.std.specs.Prelude.{◌≡◌, ◌≤◌, ◌<◌, ◌^◌, ◌-◌, ◌+◌, ◌*◌, ◌++◌, ℕ, Bool, List, true, false, length}
+use Rattle.turn_disk.specs.Disk.{State}
+use Rattle.turn_history.specs.Fitting.{IsFitting}
+use Rattle.turn_history.specs.History.{Event, History, clock}
+use Rattle.turn_history.specs.Laws.{AllFrom}
+use Rattle.turn_journal.specs.declared.area.Area.{Area}
+use Rattle.turn_store.specs.Areas.{Form, RestsOn}
+use Rattle.turn_record.specs.Records.{max_payload}
+use Rattle.turn_store.specs.Spells.{Spells}
+use Rattle.turn_store.specs.Superblock.{least_area}
+use Rattle.turn_types.specs.declared.limits.Bounds.{Bounds}
+
+-- the disk, the limits, the area that counts, where the other one begins, the generation, how many frames the area has,
+-- whether the other area's generation is below, and whether the store is stopped
+pub record StoreState (D : Type 0) : Type 0 where
+  pub disk : D
+  pub bounds : Bounds
+  pub area : Area
+  pub other : ℕ
+  pub generation : ℕ
+  pub frames : ℕ
+  pub other_is_below : Bool
+  pub stopped : Bool
+
+abbrev pub form_of : {D : Type 0} → StoreState D → Form
+form_of s = record { bounds = s.bounds; area = s.area.size }
+
+-- what a store knows of its disk in this state: nothing is pending, and the area that counts holds this snapshot and these
+-- payloads
+pub record Shows {D : Type 0} (store : StoreState D) (state : State) (snapshot : List ℕ) (payloads : List (List ℕ)) : Type 0 where
+  pub rests : RestsOn (form_of store) store.area.start store.other store.generation store.area.end store.other_is_below snapshot payloads state
+  pub frames : store.frames ≡ length payloads
+
+-- A store that isn't stopped rests on a history at a clock: what its disk holds spells it.
+pub record RestsAt {D : Type 0} (store : StoreState D) (state : State) (c : ℕ) (h : History) : Type 0 where
+  pub snapshot : List ℕ
+  pub payloads : List (List ℕ)
+  pub shows : Shows store state snapshot payloads
+  pub spells : Spells store.bounds h c snapshot payloads
+  pub runs : store.stopped ≡ false
+
+-- Events may be added to a history on which a store rests at a clock: they fit after it, and none is before the clock or later
+-- than a moment.
+pub record MayFollow (b : Bounds) (c : ℕ) (h : History) (es : List Event) (moment : ℕ) : Type 0 where
+  pub fitting : IsFitting b (h ++ es)
+  pub from : AllFrom c es
+  pub clock_late : c ≤ moment
+  pub late : clock (h ++ es) ≤ moment
+  pub in_range : moment < 2 ^ 40 - 3600
+
+-- what a store keeps in any state: its areas fill the disk, and each batch fits
+pub record IsSound (capacity : ℕ) (b : Bounds) (area : Area) (other frames : ℕ) : Type 0 where
+  pub whole : 64 + 2 * area.size ≡ capacity
+  pub addressable : capacity < 2 ^ 64
+  pub room : least_area b ≤ area.size
+  pub payload : area.max_payload ≡ max_payload b
+  pub start_within : area.start ≤ 64 + area.size
+  pub other_within : other ≤ 64 + area.size
+  pub frames_within : frames ≤ area.end
+
+-- the store after a frame with a payload of so many bytes more, over this disk
+abbrev pub framed : {D : Type 0} → StoreState D → ℕ → D → StoreState D
+framed s count disk = record s {
+  disk = disk;
+  area = record s.area { end = s.area.end + 5 + count };
+  frames = s.frames + 1;
+}
+
+-- the store after a snapshot of so many bytes in the other area, which counts now, over this disk
+abbrev pub swapped : {D : Type 0} → StoreState D → ℕ → D → StoreState D
+swapped s count disk = record s {
+  disk = disk;
+  area = record s.area { start = s.other; end = 14 + count };
+  other = s.area.start;
+  generation = s.generation + 1;
+  frames = 0;
+  other_is_below = true;
+}

@@ -1,0 +1,6 @@
+-- The table of a store.
+use Rattle.turn_store.specs.Replay.{Snapshot}
+use Rattle.turn_table.specs.State.{State}
+
+abbrev pub snapshot_of : State → Snapshot
+snapshot_of s = record { moment = s.moment; contents = s.contents }

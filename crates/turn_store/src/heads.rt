@@ -1,0 +1,98 @@
+//! The first 14 bytes of an area.
+
+ghost use Rattle.std.specs.Prelude.{◌≡◌, ◌+◌, ◌≤◌, ◌<◌, ◌^◌, ◌↔◌, IfOk, IfSome, IsNone, MatchBool, slice_index};
+ghost use Rattle.std.specs.Int.{to_be_bytes, w32, w64};
+ghost use Rattle.turn_disk.specs.Counts.{CountOutcome};
+ghost use Rattle.turn_disk.specs.Disk.{StandsAt};
+ghost use Rattle.turn_store.specs.Head.{IsHead, Beats, NoneCounts};
+
+use crate::gate::OPEN;
+use turn_disk::{DeviceFailed, Disk, read_array};
+
+/// What an area begins with: its gate, the version, the generation and the length of the snapshot.
+#[derive(Clone, Copy, Debug, PartialEq, Eq)]
+pub struct Head {
+    pub is_open: bool,
+    pub version: u8,
+    pub generation: u64,
+    pub snapshot: u32,
+}
+
+// Reads one byte.
+fn read_byte<D: Disk>(disk: &mut D, at: usize) -> Result<u8, DeviceFailed>
+    requires { at + 1 ≤ D.capacity disk.old }
+    ensures size { D.capacity disk.new ≡ D.capacity disk.old }
+    ensures count { CountOutcome (D.failed disk.old) (D.failed disk.new) result }
+    ensures honest { D.is_honest disk.new ↔ D.is_honest disk.old }
+    ensures same { D.is_honest disk.old → D.trace disk.new ≡ D.trace disk.old }
+    ensures value { D.is_honest disk.old → IfOk result (λ b. slice_index (D.trace disk.old).now.bytes at ≡ b) }
+{
+    let bytes: [u8; 1] = read_array(disk, at)?;
+    Ok(bytes[0])
+}
+
+// Reads a number of four bytes.
+fn read_u32<D: Disk>(disk: &mut D, at: usize) -> Result<u32, DeviceFailed>
+    requires { at + 4 ≤ D.capacity disk.old }
+    ensures size { D.capacity disk.new ≡ D.capacity disk.old }
+    ensures count { CountOutcome (D.failed disk.old) (D.failed disk.new) result }
+    ensures honest { D.is_honest disk.new ↔ D.is_honest disk.old }
+    ensures same { D.is_honest disk.old → D.trace disk.new ≡ D.trace disk.old }
+    ensures value { D.is_honest disk.old
+        → IfOk result (λ n. StandsAt at (to_be_bytes w32 n) (D.trace disk.old).now.bytes) }
+{
+    let bytes = read_array(disk, at)?;
+    Ok(u32::from_be_bytes(bytes))
+}
+
+// Reads a number of eight bytes.
+fn read_u64<D: Disk>(disk: &mut D, at: usize) -> Result<u64, DeviceFailed>
+    requires { at + 8 ≤ D.capacity disk.old }
+    ensures size { D.capacity disk.new ≡ D.capacity disk.old }
+    ensures count { CountOutcome (D.failed disk.old) (D.failed disk.new) result }
+    ensures honest { D.is_honest disk.new ↔ D.is_honest disk.old }
+    ensures same { D.is_honest disk.old → D.trace disk.new ≡ D.trace disk.old }
+    ensures value { D.is_honest disk.old
+        → IfOk result (λ n. StandsAt at (to_be_bytes w64 n) (D.trace disk.old).now.bytes) }
+{
+    let bytes = read_array(disk, at)?;
+    Ok(u64::from_be_bytes(bytes))
+}
+
+/// Reads the head of an area, in four device calls.
+pub fn read_head<D: Disk>(disk: &mut D, at: usize) -> Result<Head, DeviceFailed>
+    requires place { at + 14 ≤ D.capacity disk.old }
+    requires addressable { at + 14 < 2 ^ 64 }
+    ensures size { D.capacity disk.new ≡ D.capacity disk.old }
+    ensures count { CountOutcome (D.failed disk.old) (D.failed disk.new) result }
+    ensures honest { D.is_honest disk.new ↔ D.is_honest disk.old }
+    ensures same { D.is_honest disk.old → D.trace disk.new ≡ D.trace disk.old }
+    ensures generation { IfOk result (λ head. head.generation < 2 ^ 64) }
+    ensures snapshot { IfOk result (λ head. head.snapshot < 2 ^ 32) }
+    ensures head { D.is_honest disk.old → IfOk result (λ head. IsHead at head (D.trace disk.old).now.bytes) }
+{
+    let gate = read_byte(disk, at)?;
+    let version = read_byte(disk, at + 1)?;
+    let generation = read_u64(disk, at + 2)?;
+    let snapshot = read_u32(disk, at + 10)?;
+    Ok(Head {
+        is_open: gate == OPEN,
+        version,
+        generation,
+        snapshot,
+    })
+}
+
+/// Whether the first area counts, or the second one: it is open, and the other is closed or of a generation below.
+pub fn first_counts(first: &Head, second: &Head) -> Option<bool>
+    ensures counts { IfSome result (λ is_first. MatchBool is_first (Beats first.now second.now) (Beats second.now first.now)) }
+    ensures none { IsNone result → NoneCounts first.now second.now }
+{
+    match (first.is_open, second.is_open) {
+        (true, false) => Some(true),
+        (false, true) => Some(false),
+        (true, true) if first.generation > second.generation => Some(true),
+        (true, true) if first.generation < second.generation => Some(false),
+        _ => None,
+    }
+}

@@ -1,0 +1,112 @@
+//! The log of an area, replayed.
+
+ghost use Rattle.std.specs.Prelude.{◌≡◌, ◌≢◌, ◌+◌, ◌≤◌, ◌<◌, ◌^◌, ◌↔◌, IfOk, IfErr, OnOk, length};
+ghost use Rattle.turn_disk.specs.Counts.{Rises};
+ghost use Rattle.turn_journal.specs.Area.{end_of, limit_of};
+ghost use Rattle.turn_journal.specs.Scan.{IsAdmitted, IsFound, IsBadFrame};
+ghost use Rattle.turn_record.specs.Records.{max_payload};
+ghost use Rattle.turn_store.specs.Opened.{LogIsRead};
+ghost use Rattle.turn_store.specs.Refused.{BreaksAt, FaultWith};
+ghost use Rattle.turn_store.specs.Tables.{snapshot_of};
+
+use crate::fault::OpenFault;
+use crate::replay::{FrameFault, replay_frame};
+use std::alloc::Allocator;
+use turn_disk::Disk;
+use turn_journal::{Found, Journal, ScanRefused};
+use turn_table::Table;
+use turn_types::Limits;
+
+// What is at a gate.
+fn found_at<D: Disk, A: Allocator>(
+    journal: &Journal<A>,
+    disk: &mut D,
+    at: usize,
+) -> Result<Found, OpenFault>
+    requires place { journal.now.start + journal.now.size ≤ D.capacity disk.old }
+    requires gate { at < journal.now.size }
+    ensures size { D.capacity disk.new ≡ D.capacity disk.old }
+    ensures honest { D.is_honest disk.new ↔ D.is_honest disk.old }
+    ensures same { D.is_honest disk.old → D.trace disk.new ≡ D.trace disk.old }
+    ensures device { IfErr result (λ fault. fault ≡ OpenFault.Device → Rises (D.failed disk.old) (D.failed disk.new)) }
+    ensures count { OnOk result (D.failed disk.new ≡ D.failed disk.old) }
+    ensures count_not { IfErr result (λ fault. fault ≢ OpenFault.Device → D.failed disk.new ≡ D.failed disk.old) }
+    ensures admitted { IfOk result (λ found. (n : _) → found ≡ Found.Frame n
+        → IsAdmitted at journal.now.size journal.now.max_payload n) }
+    ensures found { D.is_honest disk.old → IfOk result
+        (IsFound (journal.now.start + at) (limit_of journal.now) journal.now.max_payload (D.trace disk.old).now.bytes) }
+    ensures faults { D.is_honest disk.old → IfErr result (FaultWith (λ place. (place ≡ journal.now.start + at)
+        × IsBadFrame place (limit_of journal.now) journal.now.max_payload (D.trace disk.old).now.bytes)) }
+{
+    let gate = journal.start() + at;
+    match journal.scan(disk, at) {
+        Ok(found) => Ok(found),
+        Err(ScanRefused::Device) => Err(OpenFault::Device),
+        Err(ScanRefused::BadFrame) => Err(OpenFault::Damaged(gate)),
+    }
+}
+
+// The fault of a frame at this gate.
+fn fault_at(gate: usize, fault: FrameFault) -> OpenFault
+    ensures device { (result ≡ OpenFault.Device) ↔ (fault ≡ FrameFault.Device) }
+    ensures damaged { FaultWith (λ place. (place ≡ gate) × (fault ≡ FrameFault.Bad)) result }
+{
+    match fault {
+        FrameFault::Device => OpenFault::Device,
+        FrameFault::Memory => OpenFault::Memory,
+        FrameFault::Bad => OpenFault::Damaged(gate),
+    }
+}
+
+/// Applies the frames from the journal's gate on to the table before them. Returns the gate at which the log ends, and the
+/// number of frames.
+pub fn replay_log<D: Disk, A: Allocator + Copy>(
+    alloc: A,
+    disk: &mut D,
+    limits: Limits,
+    journal: &Journal<A>,
+    table: &mut Table<A>,
+) -> Result<(usize, usize), OpenFault>
+    requires place { journal.now.start + journal.now.size ≤ D.capacity disk.old }
+    requires payload { journal.now.max_payload ≡ max_payload limits }
+    requires bounds { table.old.bounds ≡ limits }
+    ensures size { D.capacity disk.new ≡ D.capacity disk.old }
+    ensures honest { D.is_honest disk.new ↔ D.is_honest disk.old }
+    ensures same { D.is_honest disk.old → D.trace disk.new ≡ D.trace disk.old }
+    ensures device { IfErr result (λ fault. fault ≡ OpenFault.Device → Rises (D.failed disk.old) (D.failed disk.new)) }
+    ensures count { OnOk result (D.failed disk.new ≡ D.failed disk.old) }
+    ensures count_not { IfErr result (λ fault. fault ≢ OpenFault.Device → D.failed disk.new ≡ D.failed disk.old) }
+    ensures bounds { table.new.bounds ≡ table.old.bounds }
+    ensures within { IfOk result (λ r. r.0 < journal.now.size) }
+    ensures few { IfOk result (λ r. r.1 ≤ r.0) }
+    ensures log { D.is_honest disk.old → IfOk result (λ r.
+        LogIsRead limits (end_of journal.now) (snapshot_of table.old) (journal.now.start + r.0) (limit_of journal.now) r.1
+        (snapshot_of table.new) (D.trace disk.old).now.bytes) }
+
+    // The fault is at the first gate whose frame is bad.
+    ensures faults { D.is_honest disk.old → IfErr result (FaultWith
+        (BreaksAt limits (end_of journal.now) (limit_of journal.now) (snapshot_of table.old) (D.trace disk.old).now.bytes)) }
+{
+    let start = journal.start();
+    let mut end = journal.end();
+    let mut frames = 0;
+    'frames: loop {
+        let found = match found_at(journal, disk, end) {
+            Ok(found) => found,
+            Err(fault) => return Err(fault),
+        };
+        match found {
+            Found::End => return Ok((end, frames)),
+            Found::Frame(count) => {
+                let at = start + end + 5;
+                match replay_frame(alloc, disk, at, count, table, limits) {
+                    Ok(()) => {
+                        end += 5 + count;
+                        frames += 1;
+                    }
+                    Err(fault) => return Err(fault_at(start + end, fault)),
+                }
+            }
+        }
+    }
+}

@@ -1,0 +1,205 @@
+//! The events of a log, applied to the table of the snapshot before it.
+
+ghost use Rattle.std.specs.Prelude.{◌≡◌, ◌≢◌, ◌+◌, ◌^◌, ◌<◌, ◌≤◌, ◌↔◌, List, None, OnOk, IfOk, IfErr, length};
+ghost use Rattle.turn_disk.specs.Counts.{Rises};
+ghost use Rattle.turn_disk.specs.Disk.{StandsAt};
+ghost use Rattle.turn_history.specs.Act.{event_of};
+ghost use Rattle.turn_history.specs.History as histories;
+ghost use Rattle.turn_history.specs.Table.{purged};
+ghost use Rattle.turn_record.specs.Records.{SpellsPayload};
+ghost use Rattle.turn_record.specs.Views.{events_of};
+ghost use Rattle.turn_store.specs.Refused.{ReadsBad, ReadsOn};
+ghost use Rattle.turn_store.specs.Replay.{IsNext, GoOn, GoesOn, after, after_all};
+ghost use Rattle.turn_store.specs.Tables.{snapshot_of};
+ghost use Rattle.turn_store.specs.declared.replay.FrameFault.TheVariants.{Device, Memory};
+
+use std::alloc::{AllocError, Allocator};
+use turn_disk::{DeviceFailed, Disk, read_pieces};
+use turn_history::Event;
+use turn_record::{ReadError, read_payload};
+use turn_table::Table;
+use turn_types::{Limits, Moment};
+
+/// Why a frame was not applied.
+#[derive(Clone, Copy, Debug, PartialEq, Eq)]
+pub enum FrameFault {
+    Device,
+    Memory,
+    /// Its payload spells no batch, or an event is before the table's moment or doesn't fit.
+    Bad,
+}
+
+impl From<DeviceFailed> for FrameFault {
+    ghost from_gives = { λ _ e. e ≡ Device };
+
+    fn from(_: DeviceFailed) -> Self {
+        FrameFault::Device
+    }
+}
+
+impl From<AllocError> for FrameFault {
+    ghost from_gives = { λ _ e. e ≡ Memory };
+
+    fn from(_: AllocError) -> Self {
+        FrameFault::Memory
+    }
+}
+
+// Removes what has expired by a moment.
+fn advance<A: Allocator + Copy>(table: &mut Table<A>, moment: Moment)
+    requires { table.old.moment ≤ moment }
+    ensures { table.new ≡ record table.old { moment = moment; contents = purged moment table.old.contents; room = None } }
+{
+    while table.purge(moment).is_some() {}
+}
+
+// Applies an event that may be the next.
+fn apply_next<A: Allocator + Copy>(table: &mut Table<A>, event: Event<A>) -> Result<(), FrameFault>
+    ensures bounds { table.new.bounds ≡ table.old.bounds }
+    ensures no_device { IfErr result (λ fault. fault ≢ FrameFault.Device) }
+    ensures ok { OnOk result (IsNext table.old.bounds (snapshot_of table.old) (event_of event)) }
+    ensures after { OnOk result (snapshot_of table.new ≡ after (snapshot_of table.old) (event_of event)) }
+    ensures bad { IfErr result (λ fault. fault ≡ FrameFault.Bad
+        → IsNext table.old.bounds (snapshot_of table.old) (event_of event) → ⊥) }
+{
+    if event.moment < table.moment() {
+        return Err(FrameFault::Bad);
+    }
+    advance(table, event.moment);
+    if !table.fits(event.tuple, &event.act) {
+        return Err(FrameFault::Bad);
+    }
+    table.reserve_for(event.tuple, &event.act)?;
+    let _ = table.apply(event.moment, event.tuple, event.act);
+    Ok(())
+}
+
+/// Applies events, each of which may be the next after those before it.
+pub fn apply_all<A: Allocator + Copy>(
+    table: &mut Table<A>,
+    events: Vec<Event<A>, A>,
+) -> Result<(), FrameFault>
+    ensures bounds { table.new.bounds ≡ table.old.bounds }
+    ensures no_device { IfErr result (λ fault. fault ≢ FrameFault.Device) }
+    ensures ok { OnOk result (GoOn table.old.bounds (snapshot_of table.old) (events_of events.items)) }
+    ensures after { OnOk result (snapshot_of table.new ≡ after_all (snapshot_of table.old) (events_of events.items)) }
+    ensures bad { IfErr result (λ fault. fault ≡ FrameFault.Bad
+        → GoOn table.old.bounds (snapshot_of table.old) (events_of events.items) → ⊥) }
+{
+    let mut events = events;
+    while !events.is_empty() {
+        let event = events.remove(0);
+        if let Err(fault) = apply_next(table, event) {
+            return Err(fault);
+        }
+    }
+    Ok(())
+}
+
+// The events of a payload.
+fn read_events<A: Allocator + Copy>(
+    alloc: A,
+    limits: Limits,
+    payload: &[u8],
+) -> Result<Vec<Event<A>, A>, FrameFault>
+    ensures no_device { IfErr result (λ fault. fault ≢ FrameFault.Device) }
+    ensures spelled { IfOk result (λ v. SpellsPayload limits (events_of v.items) payload.now) }
+    ensures once { IfOk result (λ v. (es : List histories.Event) → SpellsPayload limits es payload.now → es ≡ events_of v.items) }
+    ensures bad { IfErr result (λ fault. fault ≡ FrameFault.Bad
+        → (es : List histories.Event) → SpellsPayload limits es payload.now → ⊥) }
+{
+    match read_payload(alloc, limits, payload) {
+        Ok(events) => Ok(events),
+        Err(ReadError::Memory) => Err(FrameFault::Memory),
+        Err(ReadError::Malformed(_)) => Err(FrameFault::Bad),
+    }
+}
+
+// Applies the events of a payload.
+fn apply_payload<A: Allocator + Copy>(
+    alloc: A,
+    limits: Limits,
+    table: &mut Table<A>,
+    payload: &[u8],
+) -> Result<(), FrameFault>
+    requires { table.old.bounds ≡ limits }
+    ensures bounds { table.new.bounds ≡ table.old.bounds }
+    ensures no_device { IfErr result (λ fault. fault ≢ FrameFault.Device) }
+    ensures goes { OnOk result (GoesOn limits (snapshot_of table.old) payload.now (snapshot_of table.new)) }
+    ensures bad { IfErr result (λ fault. fault ≡ FrameFault.Bad
+        → (es : List histories.Event) → SpellsPayload limits es payload.now → GoOn limits (snapshot_of table.old) es → ⊥) }
+{
+    let events = match read_events(alloc, limits, payload) {
+        Ok(events) => events,
+        Err(fault) => return Err(fault),
+    };
+    match apply_all(table, events) {
+        Ok(()) => Ok(()),
+        Err(fault) => Err(fault),
+    }
+}
+
+// Reads a payload of the buffer's length, and applies its events.
+fn replay_payload<D: Disk, A: Allocator + Copy>(
+    alloc: A,
+    disk: &mut D,
+    at: usize,
+    buffer: &mut [u8],
+    table: &mut Table<A>,
+    limits: Limits,
+) -> Result<(), FrameFault>
+    requires bounds { table.old.bounds ≡ limits }
+    requires place { at + length buffer.old ≤ D.capacity disk.old }
+    requires addressable { at + length buffer.old < 2 ^ 64 }
+    ensures size { D.capacity disk.new ≡ D.capacity disk.old }
+    ensures honest { D.is_honest disk.new ↔ D.is_honest disk.old }
+    ensures same { D.is_honest disk.old → D.trace disk.new ≡ D.trace disk.old }
+    ensures device { IfErr result (λ fault. fault ≡ FrameFault.Device → Rises (D.failed disk.old) (D.failed disk.new)) }
+    ensures count { OnOk result (D.failed disk.new ≡ D.failed disk.old) }
+    ensures count_not { IfErr result (λ fault. fault ≢ FrameFault.Device → D.failed disk.new ≡ D.failed disk.old) }
+    ensures len { length buffer.new ≡ length buffer.old }
+    ensures bounds { table.new.bounds ≡ table.old.bounds }
+    ensures stands { D.is_honest disk.old → IfErr result (λ fault. fault ≢ FrameFault.Device
+        → StandsAt at buffer.new (D.trace disk.old).now.bytes) }
+    ensures stands_ok { D.is_honest disk.old → OnOk result (StandsAt at buffer.new (D.trace disk.old).now.bytes) }
+    ensures goes { OnOk result (GoesOn limits (snapshot_of table.old) buffer.new (snapshot_of table.new)) }
+    ensures bad { IfErr result (λ fault. fault ≡ FrameFault.Bad
+        → (es : List histories.Event) → SpellsPayload limits es buffer.new → GoOn limits (snapshot_of table.old) es → ⊥) }
+{
+    read_pieces(disk, at, buffer)?;
+    match apply_payload(alloc, limits, table, buffer) {
+        Ok(()) => Ok(()),
+        Err(fault) => Err(fault),
+    }
+}
+
+/// Reads a payload of so many bytes, and applies its events.
+pub fn replay_frame<D: Disk, A: Allocator + Copy>(
+    alloc: A,
+    disk: &mut D,
+    at: usize,
+    count: usize,
+    table: &mut Table<A>,
+    limits: Limits,
+) -> Result<(), FrameFault>
+    requires bounds { table.old.bounds ≡ limits }
+    requires place { at + count ≤ D.capacity disk.old }
+    requires addressable { at + count < 2 ^ 64 }
+    ensures size { D.capacity disk.new ≡ D.capacity disk.old }
+    ensures honest { D.is_honest disk.new ↔ D.is_honest disk.old }
+    ensures same { D.is_honest disk.old → D.trace disk.new ≡ D.trace disk.old }
+    ensures device { IfErr result (λ fault. fault ≡ FrameFault.Device → Rises (D.failed disk.old) (D.failed disk.new)) }
+    ensures count { OnOk result (D.failed disk.new ≡ D.failed disk.old) }
+    ensures count_not { IfErr result (λ fault. fault ≢ FrameFault.Device → D.failed disk.new ≡ D.failed disk.old) }
+    ensures bounds { table.new.bounds ≡ table.old.bounds }
+    ensures goes { D.is_honest disk.old → OnOk result
+        (ReadsOn limits (snapshot_of table.old) at count (snapshot_of table.new) (D.trace disk.old).now.bytes) }
+    ensures bad { D.is_honest disk.old → IfErr result (λ fault. fault ≡ FrameFault.Bad
+        → ReadsBad limits (snapshot_of table.old) at count (D.trace disk.old).now.bytes) }
+{
+    let mut payload = Vec::from_elem(alloc, 0, count)?;
+    match replay_payload(alloc, disk, at, &mut payload, table, limits) {
+        Ok(()) => Ok(()),
+        Err(fault) => Err(fault),
+    }
+}
