@@ -1,3 +1,5 @@
+pub mod Choices
+pub mod Fed
 pub mod Formats
 pub mod Logs
 pub mod Numbers

@@ -1,4 +1,5 @@
 pub mod Areas
+pub mod Bytes
 pub mod Format
 pub mod Head
 pub mod Images

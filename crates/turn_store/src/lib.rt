@@ -8,7 +8,9 @@ mod formatting;
 mod gate;
 mod heads;
 mod log;
+mod open;
 mod replay;
+mod snapshots;
 mod superblock;
 
 pub use formatting::{FormatRefused, format};

@@ -1,0 +1,52 @@
+-- A snapshot that was read in pieces.
+use Rattle.std.proofs.Common.{◌≡◌, inl, inr, ℕ, ◌+◌, ◌-◌, ◌≤◌, ◌<◌, List, [], ◌++◌, Result, Ok, Err, length, take, drop, slice_index, refl, sym, ◌∙◌, ap, subst, arith}
+use Rattle.std.proofs.lemmas.Bool.{cases_lt}
+use Rattle.std.proofs.lemmas.List.{length-take, length-drop, take-append-drop, drop-drop, get_or_append_left, get_or-append_right}
+use Rattle.std.proofs.Math.Seq.{take-append-add}
+use Rattle.turn_disk.specs.Disk.{StandsAt}
+use Rattle.turn_disk.proofs.Standing.{stands_read}
+use Rattle.turn_history.specs.Table.{Contents}
+use Rattle.turn_record.specs.Reading.{Gives}
+use Rattle.turn_record.specs.Records.{SpellsSnapshot}
+use Rattle.turn_record.specs.Snapshots.{snapshot_in}
+use Rattle.turn_record.specs.declared.fault.Malformed.{Malformed}
+use Rattle.turn_record.proofs.Tables.{snapshot_found, snapshot_again}
+use Rattle.turn_store.specs.Bytes.{AreBytes}
+use Rattle.turn_store.specs.Refused.{HasBytes, IsBadSnapshot, IsGoodSnapshot}
+use Rattle.turn_store.specs.Replay.{Snapshot}
+use Rattle.turn_types.specs.Limits.{AreInRange}
+use Rattle.turn_types.specs.declared.limits.Bounds.{Bounds}
+
+take_plus : (m n : ℕ) (xs : List ℕ) → m ≤ length xs → take (m + n) xs ≡ take m xs ++ take n (drop m xs)
+take_plus m n xs le =
+    let long : length (take m xs) ≡ m = omega (arith, length-take m xs, le) in
+    ap (λ (l : List ℕ). take (m + n) l) (sym (take-append-drop m xs)) ∙ ap (λ (k : ℕ). take (k + n) (take m xs ++ drop m xs)) (sym long) ∙ take-append-add (take m xs) (drop m xs) n
+
+-- one piece more
+pub piece_more : (at done size : ℕ) (c : List ℕ) → at + done ≤ length c → take (done + size) (drop at c) ≡ take done (drop at c) ++ take size (drop (at + done) c)
+piece_more at done size c le =
+    take_plus done size (drop at c) (omega (arith, length-drop at c, le)) ∙ ap (λ (l : List ℕ). take done (drop at c) ++ take size l) (drop-drop done at c)
+
+pub bytes_join : (xs ys : List ℕ) → AreBytes xs → AreBytes ys → AreBytes (xs ++ ys)
+bytes_join xs ys one two i = elim (cases_lt i (length xs)) [
+  | inl low ↦ subst (λ (n : ℕ). n < 256) (sym (get_or_append_left xs ys 0 i low)) (one i)
+  | inr high ↦ subst (λ (n : ℕ). n < 256) (sym (get_or-append_right xs ys (length xs) i 0 refl high)) (two (i - length xs))
+]
+
+has_bytes : (at count : ℕ) (c : List ℕ) → at + count ≤ length c → HasBytes at count (take count (drop at c)) c
+has_bytes at count c le = record { long = omega (arith, length-take count (drop at c), length-drop at c, le); stands = stands_read at count (take count (drop at c)) c refl }
+
+pub good_snapshot : (b : Bounds) → AreInRange b → (at count : ℕ) (c : List ℕ) (s : Snapshot) → at + count ≤ length c → AreBytes (take count (drop at c)) → snapshot_in b (take count (drop at c)) ≡ Ok (s.moment, s.contents)
+    → IsGoodSnapshot b at count s c
+good_snapshot b range at count c s le bytes is = record {
+  bytes = take count (drop at c);
+  has = has_bytes at count c le;
+  spells = snapshot_found b range (take count (drop at c)) bytes (s.moment, s.contents) is;
+}
+
+pub bad_snapshot : (b : Bounds) → AreInRange b → (at count : ℕ) (c : List ℕ) (f : Malformed) → at + count ≤ length c → snapshot_in b (take count (drop at c)) ≡ Err f → IsBadSnapshot b at count c
+bad_snapshot b range at count c f le is = record {
+  bytes = take count (drop at c);
+  has = has_bytes at count c le;
+  none = λ t contents spelled. let other = sym is ∙ snapshot_again b range (take count (drop at c)) t contents spelled in absurd (cc);
+}

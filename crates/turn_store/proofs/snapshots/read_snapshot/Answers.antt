@@ -1,0 +1,71 @@
+use Rattle.std.proofs.Common.{◌≡◌, [], ◌+◌, ◌≤◌, ◌++◌, ◌∙◌, ℕ, List, length, take, drop, refl, sym, ap, subst, arith}
+use Rattle.turn_disk.specs.Disk.{Trace}
+use Rattle.turn_record.specs.Pieces.{WasFed}
+use Rattle.turn_record.specs.Reading.{Fails}
+use Rattle.turn_record.specs.Snapshots.{snapshot_in}
+use Rattle.turn_record.specs.declared.fault.ReadError.{ReadError}
+use Rattle.turn_store.specs.Bytes.{AreBytes}
+use Rattle.turn_store.specs.Tables.{snapshot_of}
+use Rattle.turn_store.proofs.Fed.{piece_more, bytes_join, good_snapshot, bad_snapshot}
+use Rattle.turn_types.specs.Limits.{AreInRange}
+use Rattle.turn_types.specs.declared.limits.Bounds.{Bounds}
+use Rattle.turn_store.proofs.snapshots.read_snapshot.Goals as goal
+
+pub loop-done-init : goal.loop-done-init
+loop-done-init g c = record {
+  within = omega arith;
+  size = refl;
+  count = refl;
+  honest = ((λ h. h), (λ h. h));
+  same = λ h. refl;
+  some = ([], c.new-reader.ensures.fed);
+  bytes = λ h i. omega arith;
+  fed = λ h. c.new-reader.ensures.fed;
+}
+
+pub loop-done-preserved : goal.loop-done-preserved
+loop-done-preserved g c =
+    let inv = c.loop-done.invariant in
+    record {
+      within = omega (arith, inv.within);
+      size = c.feed_piece.ensures.size ∙ inv.size;
+      count = c.in_ok-feed_piece.ensures.count ∙ inv.count;
+      honest = ((λ h. inv.honest.0 (c.feed_piece.ensures.honest.0 h)), (λ h. c.feed_piece.ensures.honest.1 (inv.honest.1 h)));
+      same = λ h. c.feed_piece.ensures.same (inv.honest.1 h) ∙ inv.same h;
+      some = c.in_ok-feed_piece.ensures.fed_some c.args.limits inv.some.0 inv.some.1;
+      bytes = λ h.
+          let content = (g.D.Disk.trace c.args.disk.now).now.bytes in
+          let size = c.min-size.result in
+          let fits : c.args.at + c.loop-done.done ≤ length content = omega (arith, inv.within, c.requires.place, g.met.D.Disk.sized c.args.disk.now h) in
+          let piece = subst (λ (t : Trace). AreBytes (take size (drop (c.args.at + c.loop-done.done) t.now.bytes))) (inv.same h) (c.in_ok-feed_piece.ensures.bytes (inv.honest.1 h)) in
+          subst AreBytes (sym (piece_more c.args.at c.loop-done.done size content fits)) (bytes_join _ _ (inv.bytes h) piece);
+      fed = λ h.
+          let content = (g.D.Disk.trace c.args.disk.now).now.bytes in
+          let size = c.min-size.result in
+          let fits : c.args.at + c.loop-done.done ≤ length content = omega (arith, inv.within, c.requires.place, g.met.D.Disk.sized c.args.disk.now h) in
+          let before = take c.loop-done.done (drop c.args.at content) in
+          let piece = subst (λ (t : Trace). WasFed c.args.limits c.feed_piece.new.reader (before ++ take size (drop (c.args.at + c.loop-done.done) t.now.bytes))) (inv.same h) (c.in_ok-feed_piece.ensures.fed (inv.honest.1 h) c.args.limits before (inv.fed h)) in
+          subst (WasFed c.args.limits c.feed_piece.new.reader) (sym (piece_more c.args.at c.loop-done.done size content fits)) piece;
+    }
+
+pub returns-in-Ok-clause-read : goal.returns-in-Ok-clause-read
+returns-in-Ok-clause-read g c = λ h.
+    let inv = c.loop-done.invariant in
+    let content = (g.D.Disk.trace c.args.disk.now).now.bytes in
+    let range : AreInRange c.args.limits = subst AreInRange c.bounds-bounds.ensures.value c.bounds-bounds.ensures.range in
+    let all : c.loop-done.done ≡ c.args.count = omega (arith, inv.within, c.loop-done-test.false) in
+    let fed = subst (λ (n : ℕ). WasFed c.args.limits c.loop-done.reader (take n (drop c.args.at content))) all (inv.fed h) in
+    let bytes = subst (λ (n : ℕ). AreBytes (take n (drop c.args.at content))) all (inv.bytes h) in
+    good_snapshot c.args.limits range c.args.at c.args.count content (snapshot_of c.in-Ok.table) (omega (arith, c.requires.place, g.met.D.Disk.sized c.args.disk.now h)) bytes (c.in-Ok.ensures.gives c.args.limits _ fed)
+
+pub returns-in-Err-Malformed-clause-faults : goal.returns-in-Err-Malformed-clause-faults
+returns-in-Err-Malformed-clause-faults g c = λ h.
+    let inv = c.loop-done.invariant in
+    let content = (g.D.Disk.trace c.args.disk.now).now.bytes in
+    let range : AreInRange c.args.limits = subst AreInRange c.bounds-bounds.ensures.value c.bounds-bounds.ensures.range in
+    let all : c.loop-done.done ≡ c.args.count = omega (arith, inv.within, c.loop-done-test.false) in
+    let fed = subst (λ (n : ℕ). WasFed c.args.limits c.loop-done.reader (take n (drop c.args.at content))) all (inv.fed h) in
+    (refl, bad_snapshot c.args.limits range c.args.at c.args.count content _ (omega (arith, c.requires.place, g.met.D.Disk.sized c.args.disk.now h)) (subst (λ (e : ReadError). Fails e (snapshot_in c.args.limits (take c.args.count (drop c.args.at content)))) c.in-Err-Malformed.field-0-is (c.in-Err-Malformed.ensures.gives c.args.limits _ fed)))
+
+pub returns-in-Ok-clause-bounds : goal.returns-in-Ok-clause-bounds
+returns-in-Ok-clause-bounds g c = let inv = c.loop-done.invariant in c.in-Ok.ensures.limits c.args.limits inv.some.0 inv.some.1

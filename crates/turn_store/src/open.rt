@@ -1,0 +1,230 @@
+//! A store is read: the disk is synced first, and what is read after that is what each image of it holds.
+
+ghost use Rattle.std.specs.Prelude.{◌≡◌, ◌≢◌, ◌+◌, ◌*◌, ◌≤◌, ◌<◌, ◌^◌, ◌↔◌, ℕ, List, IfOk, IfErr, IsTrue, OnOk, length};
+ghost use Rattle.turn_disk.specs.Counts.{Rises};
+ghost use Rattle.turn_disk.specs.Disk.{EachImageSince, IsImage};
+ghost use Rattle.turn_record.specs.Records.{max_payload, max_snapshot};
+ghost use Rattle.turn_store.specs.Opened.{AreaIsRead, IsChosen};
+ghost use Rattle.turn_store.specs.Refused.{AreaIsBad, FaultWith, StoreIsBad, WhyRefused};
+ghost use Rattle.turn_store.specs.Superblock.{HasSuperblock, least_area};
+ghost use Rattle.turn_store.specs.Tables.{snapshot_of};
+
+use crate::fault::OpenFault;
+use crate::heads::{Head, first_counts, read_head};
+use crate::log::replay_log;
+use crate::snapshots::read_snapshot;
+use crate::superblock::{LimitsRefused, least_area, read_superblock};
+use std::alloc::{Allocator, Global};
+use turn_disk::Disk;
+use turn_journal::{Area, Journal};
+use turn_record::{max_payload, max_snapshot};
+use turn_table::Table;
+use turn_types::Limits;
+
+/// What an area holds: its journal, the table at its end, and the number of frames.
+#[derive(Drop)]
+pub struct Loaded<A: Allocator = Global> {
+    pub journal: Journal<A>,
+    pub table: Table<A>,
+    pub frames: usize,
+}
+
+// Reads the area that begins there and has this head.
+fn load_area<D: Disk, A: Allocator + Copy>(
+    alloc: A,
+    disk: &mut D,
+    limits: Limits,
+    size: usize,
+    start: usize,
+    head: Head,
+) -> Result<Loaded<A>, OpenFault>
+    requires place { start + size ≤ D.capacity disk.old }
+    requires addressable { start + size < 2 ^ 64 }
+    requires room { least_area limits ≤ size }
+    requires generation { head.generation < 2 ^ 64 }
+    requires snapshot { head.snapshot < 2 ^ 32 }
+    ensures size { D.capacity disk.new ≡ D.capacity disk.old }
+    ensures honest { D.is_honest disk.new ↔ D.is_honest disk.old }
+    ensures same { D.is_honest disk.old → D.trace disk.new ≡ D.trace disk.old }
+    ensures device { IfErr result (λ fault. fault ≡ OpenFault.Device → Rises (D.failed disk.old) (D.failed disk.new)) }
+    ensures count { OnOk result (D.failed disk.new ≡ D.failed disk.old) }
+    ensures count_not { IfErr result (λ fault. fault ≢ OpenFault.Device → D.failed disk.new ≡ D.failed disk.old) }
+    ensures area { IfOk result (λ l. (l.journal.start ≡ start) × (l.journal.size ≡ size) × (l.journal.max_payload ≡ max_payload limits)) }
+    ensures bounds { IfOk result (λ l. l.table.bounds ≡ limits) }
+    ensures few { IfOk result (λ l. l.frames ≤ l.journal.end) }
+    ensures read { D.is_honest disk.old → IfOk result (λ l.
+        AreaIsRead limits start size head l.journal.end l.frames (snapshot_of l.table) (D.trace disk.old).now.bytes) }
+    ensures faults { D.is_honest disk.old
+        → IfErr result (FaultWith (AreaIsBad limits start size head (D.trace disk.old).now.bytes)) }
+{
+    let count = head.snapshot as usize;
+    if head.version != 1 {
+        return Err(OpenFault::Damaged(start));
+    }
+    if count > max_snapshot(limits) {
+        return Err(OpenFault::Damaged(start));
+    }
+    let mut table = match read_snapshot(alloc, disk, limits, start + 14, count) {
+        Ok(table) => table,
+        Err(fault) => return Err(fault),
+    };
+    let area = Area {
+        start,
+        size,
+        max_payload: max_payload(limits),
+        end: 14 + count,
+    };
+    let mut journal = Journal::new(alloc, area)?;
+    match replay_log(alloc, disk, limits, &journal, &mut table) {
+        Ok((end, frames)) => {
+            journal.move_to(start, end);
+            Ok(Loaded {
+                journal,
+                table,
+                frames,
+            })
+        }
+        Err(fault) => Err(fault),
+    }
+}
+
+/// The area that counts, as it was read, and what is known of the other one.
+#[derive(Drop)]
+pub struct Chosen<A: Allocator = Global> {
+    pub loaded: Loaded<A>,
+    pub other: usize,
+    pub generation: u64,
+    pub other_is_below: bool,
+}
+
+// Reads the area that counts.
+fn choose<D: Disk, A: Allocator + Copy>(
+    alloc: A,
+    disk: &mut D,
+    limits: Limits,
+    size: usize,
+) -> Result<Chosen<A>, OpenFault>
+    requires place { 64 + 2 * size ≡ D.capacity disk.old }
+    requires addressable { 64 + 2 * size < 2 ^ 64 }
+    requires room { least_area limits ≤ size }
+    ensures size { D.capacity disk.new ≡ D.capacity disk.old }
+    ensures honest { D.is_honest disk.new ↔ D.is_honest disk.old }
+    ensures same { D.is_honest disk.old → D.trace disk.new ≡ D.trace disk.old }
+    ensures device { IfErr result (λ fault. fault ≡ OpenFault.Device → Rises (D.failed disk.old) (D.failed disk.new)) }
+    ensures count { OnOk result (D.failed disk.new ≡ D.failed disk.old) }
+    ensures count_not { IfErr result (λ fault. fault ≢ OpenFault.Device → D.failed disk.new ≡ D.failed disk.old) }
+    ensures area { IfOk result (λ r. (r.loaded.journal.size ≡ size) × (r.loaded.journal.max_payload ≡ max_payload limits)) }
+    ensures places { IfOk result (λ r. (r.loaded.journal.start ≤ 64 + size) × (r.other ≤ 64 + size)) }
+    ensures bounds { IfOk result (λ r. r.loaded.table.bounds ≡ limits) }
+    ensures few { IfOk result (λ r. r.loaded.frames ≤ r.loaded.journal.end) }
+    ensures chosen { D.is_honest disk.old → IfOk result (λ r.
+        IsChosen limits size r.loaded.journal.start r.other r.generation r.loaded.journal.end r.loaded.frames r.other_is_below
+        (snapshot_of r.loaded.table) (D.trace disk.old).now.bytes) }
+    ensures faults { D.is_honest disk.old
+        → IfErr result (FaultWith (StoreIsBad limits size (D.trace disk.old).now.bytes)) }
+{
+    let second_at = 64 + size;
+    let first = read_head(disk, 64)?;
+    let second = read_head(disk, second_at)?;
+    let Some(is_first) = first_counts(&first, &second) else {
+        return Err(OpenFault::Damaged(64));
+    };
+    if is_first {
+        let loaded = load_area(alloc, disk, limits, size, 64, first)?;
+        return Ok(Chosen {
+            loaded,
+            other: second_at,
+            generation: first.generation,
+            other_is_below: second.generation < first.generation,
+        });
+    }
+    let loaded = load_area(alloc, disk, limits, size, second_at, second)?;
+    Ok(Chosen {
+        loaded,
+        other: 64,
+        generation: second.generation,
+        other_is_below: first.generation < second.generation,
+    })
+}
+
+// Whether a disk of this size has two such areas and nothing more.
+fn is_whole(size: usize, area: usize) -> bool
+    ensures { IsTrue result ↔ (size ≡ 64 + 2 * area) }
+{
+    size >= 64 && size % 2 == 0 && (size - 64) / 2 == area
+}
+
+// Whether these are the same limits.
+fn are_same(first: Limits, second: Limits) -> bool
+    ensures { IsTrue result ↔ (first ≡ second) }
+{
+    first == second
+}
+
+// The size of an area, by the superblock, which has to have these limits.
+fn read_area_size<D: Disk>(disk: &mut D, limits: Limits) -> Result<usize, OpenFault>
+    ensures size { D.capacity disk.new ≡ D.capacity disk.old }
+    ensures honest { D.is_honest disk.new ↔ D.is_honest disk.old }
+    ensures same { D.is_honest disk.old → D.trace disk.new ≡ D.trace disk.old }
+    ensures device { IfErr result (λ fault. fault ≡ OpenFault.Device → Rises (D.failed disk.old) (D.failed disk.new)) }
+    ensures count { OnOk result (D.failed disk.new ≡ D.failed disk.old) }
+    ensures count_not { IfErr result (λ fault. fault ≢ OpenFault.Device → D.failed disk.new ≡ D.failed disk.old) }
+    ensures place { IfOk result (λ area. 64 + 2 * area ≡ D.capacity disk.old) }
+    ensures addressable { D.capacity disk.old < 2 ^ 64 }
+    ensures room { IfOk result (λ area. least_area limits ≤ area) }
+    ensures superblock { D.is_honest disk.old → IfOk result (λ area. HasSuperblock area limits (D.trace disk.old).now.bytes) }
+    ensures why { D.is_honest disk.old → IfErr result (WhyRefused limits (D.trace disk.old).now.bytes) }
+{
+    let needed = least_area(limits);
+    let size = disk.size();
+    let found = match read_superblock(disk) {
+        Ok(found) => found,
+        Err(LimitsRefused::Device) => return Err(OpenFault::Device),
+        Err(LimitsRefused::NotAStore) => return Err(OpenFault::NotAStore),
+    };
+    if !are_same(found.limits, limits) {
+        return Err(OpenFault::LimitsDiffer);
+    }
+    if found.area < needed {
+        return Err(OpenFault::Damaged(8));
+    }
+    if !is_whole(size, found.area) {
+        return Err(OpenFault::Damaged(8));
+    }
+    Ok(found.area)
+}
+
+/// What a disk holds on which nothing is pending.
+pub fn read_store<D: Disk, A: Allocator + Copy>(
+    alloc: A,
+    disk: &mut D,
+    limits: Limits,
+) -> Result<Chosen<A>, OpenFault>
+    ensures size { D.capacity disk.new ≡ D.capacity disk.old }
+    ensures honest { D.is_honest disk.new ↔ D.is_honest disk.old }
+    ensures same { D.is_honest disk.old → D.trace disk.new ≡ D.trace disk.old }
+    ensures device { IfErr result (λ fault. fault ≡ OpenFault.Device → Rises (D.failed disk.old) (D.failed disk.new)) }
+    ensures count { OnOk result (D.failed disk.new ≡ D.failed disk.old) }
+    ensures count_not { IfErr result (λ fault. fault ≢ OpenFault.Device → D.failed disk.new ≡ D.failed disk.old) }
+    ensures place { IfOk result (λ r. 64 + 2 * r.loaded.journal.size ≡ D.capacity disk.old) }
+    ensures addressable { D.capacity disk.old < 2 ^ 64 }
+    ensures area { IfOk result (λ r. (least_area limits ≤ r.loaded.journal.size) × (r.loaded.journal.max_payload ≡ max_payload limits)) }
+    ensures places { IfOk result (λ r. (r.loaded.journal.start ≤ 64 + r.loaded.journal.size) × (r.other ≤ 64 + r.loaded.journal.size)) }
+    ensures bounds { IfOk result (λ r. r.loaded.table.bounds ≡ limits) }
+    ensures few { IfOk result (λ r. r.loaded.frames ≤ r.loaded.journal.end) }
+    ensures superblock { D.is_honest disk.old
+        → IfOk result (λ r. HasSuperblock r.loaded.journal.size limits (D.trace disk.old).now.bytes) }
+    ensures chosen { D.is_honest disk.old → IfOk result (λ r.
+        IsChosen limits r.loaded.journal.size r.loaded.journal.start r.other r.generation r.loaded.journal.end r.loaded.frames r.other_is_below
+        (snapshot_of r.loaded.table) (D.trace disk.old).now.bytes) }
+    ensures why { D.is_honest disk.old → IfErr result (WhyRefused limits (D.trace disk.old).now.bytes) }
+{
+    let size = match read_area_size(disk, limits) {
+        Ok(size) => size,
+        Err(fault) => return Err(fault),
+    };
+    match choose(alloc, disk, limits, size) {
+        Ok(chosen) => Ok(chosen),
+        Err(fault) => Err(fault),
+    }
+}

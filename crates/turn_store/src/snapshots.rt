@@ -1,0 +1,109 @@
+//! A snapshot, read in pieces.
+
+ghost use Rattle.std.specs.Prelude.{◌≡◌, ◌≢◌, ◌+◌, ◌++◌, ◌≤◌, ◌<◌, ◌^◌, ◌↔◌, ℕ, List, IfOk, IfErr, OnOk, drop, length, take};
+ghost use Rattle.turn_disk.specs.Counts.{CountOutcome, Rises};
+ghost use Rattle.turn_record.specs.Pieces.{WasFed};
+ghost use Rattle.turn_record.specs.Records.{SpellsSnapshot};
+ghost use Rattle.turn_history.specs.Table.{Contents};
+ghost use Rattle.turn_store.specs.Refused.{FaultWith, IsBadSnapshot, IsGoodSnapshot};
+ghost use Rattle.turn_store.specs.Bytes.{AreBytes};
+ghost use Rattle.turn_store.specs.Tables.{snapshot_of};
+ghost use Rattle.turn_types.specs.declared.limits.Bounds.{Bounds};
+
+use crate::fault::OpenFault;
+use std::alloc::Allocator;
+use turn_disk::{DeviceFailed, Disk, PIECE};
+use turn_record::{ReadError, SnapshotReader};
+use turn_table::Table;
+use turn_types::Limits;
+
+// Reads to the front of a piece.
+fn read_front<D: Disk>(
+    disk: &mut D,
+    at: usize,
+    piece: &mut [u8; PIECE],
+    size: usize,
+) -> Result<(), DeviceFailed>
+    requires fits { size ≤ 4096 }
+    requires place { at + size ≤ D.capacity disk.old }
+    ensures size { D.capacity disk.new ≡ D.capacity disk.old }
+    ensures count { CountOutcome (D.failed disk.old) (D.failed disk.new) result }
+    ensures honest { D.is_honest disk.new ↔ D.is_honest disk.old }
+    ensures same { D.is_honest disk.old → D.trace disk.new ≡ D.trace disk.old }
+    ensures len { length piece.new ≡ 4096 }
+    ensures value { D.is_honest disk.old
+        → OnOk result (take size piece.new ≡ take size (drop at (D.trace disk.old).now.bytes)) }
+{
+    disk.read_at(at, &mut piece[..size])?;
+    Ok(())
+}
+
+// Feeds a piece to a reader.
+fn feed<A: Allocator + Copy>(reader: &mut SnapshotReader<A>, piece: &[u8])
+    ensures bytes { AreBytes piece.now }
+    ensures fed { (b : Bounds) (fed : List ℕ) → WasFed b reader.old fed → WasFed b reader.new (fed ++ piece.now) }
+{
+    let _ = reader.feed(piece);
+}
+
+// Feeds so many bytes of the disk to a reader. Whether it refuses them shows when it finishes.
+fn feed_piece<D: Disk, A: Allocator + Copy>(
+    disk: &mut D,
+    at: usize,
+    size: usize,
+    reader: &mut SnapshotReader<A>,
+) -> Result<(), DeviceFailed>
+    requires fits { size ≤ 4096 }
+    requires place { at + size ≤ D.capacity disk.old }
+    ensures size { D.capacity disk.new ≡ D.capacity disk.old }
+    ensures count { CountOutcome (D.failed disk.old) (D.failed disk.new) result }
+    ensures honest { D.is_honest disk.new ↔ D.is_honest disk.old }
+    ensures same { D.is_honest disk.old → D.trace disk.new ≡ D.trace disk.old }
+    ensures bytes { D.is_honest disk.old → OnOk result (AreBytes (take size (drop at (D.trace disk.old).now.bytes))) }
+    ensures fed_some { OnOk result ((b : Bounds) (fed : List ℕ)
+        → WasFed b reader.old fed → (more : List ℕ) × WasFed b reader.new more) }
+    ensures fed { D.is_honest disk.old → OnOk result ((b : Bounds) (fed : List ℕ)
+        → WasFed b reader.old fed → WasFed b reader.new (fed ++ take size (drop at (D.trace disk.old).now.bytes))) }
+{
+    let mut piece = [0u8; PIECE];
+    read_front(disk, at, &mut piece, size)?;
+    feed(reader, &piece[..size]);
+    Ok(())
+}
+
+/// Reads the table that so many bytes of the disk spell.
+pub fn read_snapshot<D: Disk, A: Allocator + Copy>(
+    alloc: A,
+    disk: &mut D,
+    limits: Limits,
+    at: usize,
+    count: usize,
+) -> Result<Table<A>, OpenFault>
+    requires place { at + count ≤ D.capacity disk.old }
+    requires addressable { at + count < 2 ^ 64 }
+    ensures size { D.capacity disk.new ≡ D.capacity disk.old }
+    ensures honest { D.is_honest disk.new ↔ D.is_honest disk.old }
+    ensures same { D.is_honest disk.old → D.trace disk.new ≡ D.trace disk.old }
+    ensures device { IfErr result (λ fault. fault ≡ OpenFault.Device → Rises (D.failed disk.old) (D.failed disk.new)) }
+    ensures count { OnOk result (D.failed disk.new ≡ D.failed disk.old) }
+    ensures count_not { IfErr result (λ fault. fault ≢ OpenFault.Device → D.failed disk.new ≡ D.failed disk.old) }
+    ensures bounds { IfOk result (λ table. table.bounds ≡ limits) }
+    ensures read { D.is_honest disk.old → IfOk result (λ table.
+        IsGoodSnapshot limits at count (snapshot_of table) (D.trace disk.old).now.bytes) }
+    ensures faults { D.is_honest disk.old → IfErr result (FaultWith (λ place. (place ≡ at)
+        × IsBadSnapshot limits at count (D.trace disk.old).now.bytes)) }
+{
+    let _bounds = limits.bounds();
+    let mut reader = SnapshotReader::new(alloc, limits);
+    let mut done = 0;
+    while done < count {
+        let size = PIECE.min(count - done);
+        feed_piece(disk, at + done, size, &mut reader)?;
+        done += size;
+    }
+    match reader.finish() {
+        Ok(table) => Ok(table),
+        Err(ReadError::Memory) => Err(OpenFault::Memory),
+        Err(ReadError::Malformed(_)) => Err(OpenFault::Damaged(at)),
+    }
+}
