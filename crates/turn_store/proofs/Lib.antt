@@ -1,10 +1,12 @@
 pub mod Choices
 pub mod Fed
 pub mod Formats
+pub mod Honest
 pub mod Logs
 pub mod Numbers
 pub mod Replayed
 pub mod Rows
+pub mod Fronts
 pub mod Sound
 pub mod Spelling
 pub mod Staged

@@ -30,7 +30,7 @@ use Rattle.turn_types.specs.declared.limits.Bounds.{Bounds}
 abbrev pub at : History → ℕ → Snapshot
 at h m = record { moment = m; contents = table h m }
 
-same_at : (g h : History) (m n : ℕ) → g ≡ h → m ≡ n → at g m ≡ at h n
+pub same_at : (g h : History) (m n : ℕ) → g ≡ h → m ≡ n → at g m ≡ at h n
 same_at g h m n one two = ap (λ (l : History). at l m) one ∙ ap (λ (k : ℕ). at h k) two
 
 -- an event that may follow a history is the next of its table

@@ -1,0 +1,97 @@
+-- What stands for a history is not refused, and its table is read.
+use Rattle.std.proofs.Common.{◌≡◌, ◌≢◌, ◌⊎◌, inl, inr, ⊎_elim, ℕ, ◌*◌, ◌+◌, ◌^◌, ◌<◌, ◌≤◌, ◌++◌, Bool, List, length, map, max, refl, sym, ◌∙◌, ap, subst, arith, false}
+use Rattle.turn_disk.specs.Disk.{State, StandsAt, IsSettled}
+use Rattle.turn_history.specs.History.{Event, History, clock}
+use Rattle.turn_history.specs.Table.{Contents, table}
+use Rattle.turn_journal.specs.Frames.{HoldsFrames}
+use Rattle.turn_journal.proofs.Once.{list_once}
+use Rattle.turn_record.specs.Bytes.{payload}
+use Rattle.turn_record.specs.Records.{SpellsSnapshot, max_snapshot}
+use Rattle.turn_store.specs.Areas.{Form, AreAreas, AreaHolds, Holds, Yields}
+use Rattle.turn_store.specs.Head.{IsHead, Beats, NoneCounts}
+use Rattle.turn_store.specs.Images.{StandsForAt}
+use Rattle.turn_store.specs.Refused.{FaultWith, IsPlain, BreaksAt, HasBytes, IsBadHead, IsBadLog, IsBadSnapshot, IsGoodSnapshot, AreaIsBad, StoreIsBad, WhyRefused}
+use Rattle.turn_store.specs.Replay.{Snapshot, Replays}
+use Rattle.turn_store.specs.Spells.{Spells, all_of}
+use Rattle.turn_store.specs.Superblock.{superblock, HasSuperblock, least_area}
+use Rattle.turn_store.specs.declared.fault.OpenFault.{OpenFault}
+use Rattle.turn_store.specs.declared.fault.OpenFault.TheVariants.{Device, Memory, NotAStore, LimitsDiffer, Damaged}
+use Rattle.turn_store.specs.declared.heads.Head.{Head}
+use Rattle.turn_store.proofs.Replayed.{at, same_at, batches_replay, no_break}
+use Rattle.turn_store.proofs.Fronts.{front_is, front_short, spelled_once}
+use Rattle.turn_store.proofs.Sound.{Counts, counts_is, front_size, none_no, none_turned, beats_no}
+use Rattle.turn_store.proofs.Spelling.{of_spelled, are_batches}
+use Rattle.turn_store.proofs.Superblocks.{length-superblock, superblock_once}
+use Rattle.turn_types.specs.Limits.{AreInRange}
+use Rattle.turn_types.specs.declared.limits.Bounds.{Bounds}
+
+module _ (b : Bounds) (range : AreInRange b) (h : History) (clock_is : ℕ) (snapshot : List ℕ) (payloads : List (List ℕ)) (s : Spells b h clock_is snapshot payloads) where
+  -- what the payloads of a history make of the table of its snapshot
+  pub replayed : (first t : Snapshot) → SpellsSnapshot b first.moment first.contents snapshot → Replays b first payloads t → t ≡ at h clock_is
+  replayed first t spells replays =
+      let parts = of_spelled b h clock_is snapshot payloads s in
+      let start : first ≡ at s.before s.moment = spelled_once b range first (at s.before s.moment) snapshot spells (front_is b h clock_is snapshot payloads s) in
+      let there = subst (λ (ps : List (List ℕ)). Replays b (at s.before s.moment) ps t) s.are_payloads (subst (λ (x : Snapshot). Replays b x payloads t) start replays) in
+      batches_replay b range s.before s.moment s.batches t parts.1 s.from s.late (are_batches b s.before s.batches parts.1 s.sizes) there
+      ∙ same_at (s.before ++ all_of s.batches) h (max s.moment (clock (all_of s.batches))) clock_is (sym s.whole) (sym s.clock_is)
+
+  -- an area that holds them isn't bad
+  area_no : (start size generation : ℕ) (head rival : Head) (c : List ℕ) (place : ℕ) → AreaHolds start size generation snapshot payloads c → Counts head rival generation (length snapshot) → AreaIsBad b start size head c place → ⊥
+  area_no start size generation head rival c place holds counts (inl (there, wrong)) =
+      let short = front_short b h clock_is snapshot payloads s in
+      ⊎_elim (λ (other : head.version ≢ 1). other counts.version) (λ (long : max_snapshot b < head.snapshot). absurd (omega (arith, long, counts.size, short))) wrong
+  area_no start size generation head rival c place holds counts (inr (version, small, inl (there, bad))) =
+      let same : bad.bytes ≡ snapshot = list_once (start + 14) bad.bytes snapshot c (bad.has.long ∙ counts.size) bad.has.stands (front_size start generation snapshot c holds.front).1 in
+      bad.none s.moment (table s.before s.moment) (subst (SpellsSnapshot b s.moment (table s.before s.moment)) (sym same) (front_is b h clock_is snapshot payloads s))
+  area_no start size generation head rival c place holds counts (inr (version, small, inr (first, good, breaks))) =
+      let same : good.bytes ≡ snapshot = list_once (start + 14) good.bytes snapshot c (good.has.long ∙ counts.size) good.has.stands (front_size start generation snapshot c holds.front).1 in
+      let parts = of_spelled b h clock_is snapshot payloads s in
+      let begin : first ≡ at s.before s.moment = spelled_once b range first (at s.before s.moment) snapshot (subst (SpellsSnapshot b first.moment first.contents) same good.spells) (front_is b h clock_is snapshot payloads s) in
+      let frames : HoldsFrames (start + 14 + head.snapshot) (map payload s.batches) (start + size) c =
+      subst (λ (n : ℕ). HoldsFrames (start + 14 + n) (map payload s.batches) (start + size) c) (sym counts.size) (subst (λ (ps : List (List ℕ)). HoldsFrames (start + 14 + length snapshot) ps (start + size) c) s.are_payloads holds.frames) in
+      let before = breaks.before in
+      no_break b range s.before s.moment s.batches (start + 14 + head.snapshot) (start + size) c before.payloads place breaks.reached parts.1 s.from s.late (are_batches b s.before s.batches parts.1 s.sizes) frames
+      before.frames before.ends (subst (λ (x : Snapshot). Replays b x before.payloads breaks.reached) begin before.replays) breaks.bad
+
+  -- nor a store
+  pub store_no : (size start other generation : ℕ) (c : List ℕ) (place : ℕ) → AreAreas size start other → AreaHolds start size generation snapshot payloads c → Yields other generation c → StoreIsBad b size c place → ⊥
+  store_no size start other generation c place (inl places) holds yields bad =
+      let holds_64 = subst (λ (n : ℕ). AreaHolds n size generation snapshot payloads c) places.0 holds in
+      let counts = counts_is 64 (64 + size) size generation snapshot payloads bad.first bad.second c holds_64 (subst (λ (n : ℕ). Yields n generation c) places.1 yields) bad.is_first bad.is_second in
+      ⊎_elim (λ (none : (place ≡ 64) × NoneCounts bad.first bad.second). none_no bad.first bad.second generation (length snapshot) counts none.1)
+      (λ (one : (Beats bad.first bad.second × AreaIsBad b 64 size bad.first c place) ⊎ (Beats bad.second bad.first × AreaIsBad b (64 + size) size bad.second c place)).
+      ⊎_elim (λ (first : Beats bad.first bad.second × AreaIsBad b 64 size bad.first c place). area_no 64 size generation bad.first bad.second c place holds_64 counts first.1)
+      (λ (second : Beats bad.second bad.first × AreaIsBad b (64 + size) size bad.second c place). beats_no bad.first bad.second generation (length snapshot) counts second.0) one)
+      bad.why
+  store_no size start other generation c place (inr places) holds yields bad =
+      let holds_far = subst (λ (n : ℕ). AreaHolds n size generation snapshot payloads c) places.0 holds in
+      let counts = counts_is (64 + size) 64 size generation snapshot payloads bad.second bad.first c holds_far (subst (λ (n : ℕ). Yields n generation c) places.1 yields) bad.is_second bad.is_first in
+      ⊎_elim (λ (none : (place ≡ 64) × NoneCounts bad.first bad.second). none_no bad.second bad.first generation (length snapshot) counts (none_turned bad.second bad.first none.1))
+      (λ (one : (Beats bad.first bad.second × AreaIsBad b 64 size bad.first c place) ⊎ (Beats bad.second bad.first × AreaIsBad b (64 + size) size bad.second c place)).
+      ⊎_elim (λ (first : Beats bad.first bad.second × AreaIsBad b 64 size bad.first c place). beats_no bad.second bad.first generation (length snapshot) counts first.0)
+      (λ (second : Beats bad.second bad.first × AreaIsBad b (64 + size) size bad.second c place). area_no (64 + size) size generation bad.second bad.first c place holds_far counts second.1) one)
+      bad.why
+
+module _ (form : Form) (h : History) (clock_is : ℕ) (c : List ℕ) (stands : StandsForAt form h clock_is c) where
+  pub has_superblock : HasSuperblock form.area form.bounds c
+  has_superblock =
+      let whole = stands.holds.whole in
+      let fits = stands.holds.is_form.addressable in
+      record { long = omega arith; addressable = omega arith; in_range = stands.holds.is_form.in_range; stands = stands.holds.front }
+
+  -- it is refused for want of the device or of memory alone
+  pub why_plain : (fault : OpenFault) → WhyRefused form.bounds c fault → IsPlain fault
+  why_plain Device why = tt
+  why_plain Memory why = tt
+  why_plain NotAStore why = absurd (why form.area form.bounds has_superblock)
+  why_plain LimitsDiffer why = absurd (why.3 (superblock_once why.0 form.area why.1 form.bounds c why.2 has_superblock).1)
+  why_plain (Damaged place) why =
+      let holds = stands.holds in
+      let same : why.0 ≡ form.area = (superblock_once why.0 form.area form.bounds form.bounds c why.1 has_superblock).0 in
+      ⊎_elim
+      (λ (size : (place ≡ 8) × ((why.0 < least_area form.bounds) ⊎ (length c ≢ 64 + 2 * why.0))).
+      ⊎_elim (λ (low : why.0 < least_area form.bounds). absurd (omega (arith, low, same, holds.is_form.room))) (λ (wrong : length c ≢ 64 + 2 * why.0). absurd (wrong (holds.whole ∙ ap (λ (n : ℕ). 64 + 2 * n) (sym same)))) size.1)
+      (λ (bad : (least_area form.bounds ≤ why.0) × (length c ≡ 64 + 2 * why.0) × StoreIsBad form.bounds why.0 c place).
+      store_no form.bounds holds.is_form.in_range h clock_is stands.snapshot stands.payloads stands.spells form.area holds.start holds.other holds.generation c place holds.places holds.area holds.yields
+      (subst (λ (n : ℕ). StoreIsBad form.bounds n c place) same bad.2))
+      why.2
