@@ -4,8 +4,11 @@ ghost use Rattle.std.specs.Prelude.{◌≡◌, ◌≢◌, ◌+◌, ◌*◌, ◌�
 ghost use Rattle.turn_disk.specs.Counts.{Rises};
 ghost use Rattle.turn_disk.specs.Disk.{EachImageSince, IsImage};
 ghost use Rattle.turn_record.specs.Records.{max_payload, max_snapshot};
+ghost use Rattle.turn_history.specs.History.{History};
+ghost use Rattle.turn_store.specs.Areas.{Form};
+ghost use Rattle.turn_store.specs.Images.{StandsForAt};
 ghost use Rattle.turn_store.specs.Opened.{AreaIsRead, IsChosen};
-ghost use Rattle.turn_store.specs.Refused.{AreaIsBad, FaultWith, StoreIsBad, WhyRefused};
+ghost use Rattle.turn_store.specs.Refused.{AreaIsBad, FaultWith, IsPlain, StoreIsBad, WhyRefused};
 ghost use Rattle.turn_store.specs.Superblock.{HasSuperblock, least_area};
 ghost use Rattle.turn_store.specs.Tables.{snapshot_of};
 
@@ -218,6 +221,10 @@ pub fn read_store<D: Disk, A: Allocator + Copy>(
         IsChosen limits r.loaded.journal.size r.loaded.journal.start r.other r.generation r.loaded.journal.end r.loaded.frames r.other_is_below
         (snapshot_of r.loaded.table) (D.trace disk.old).now.bytes) }
     ensures why { D.is_honest disk.old → IfErr result (WhyRefused limits (D.trace disk.old).now.bytes) }
+
+    // A disk whose content stands for a history is refused only for a failed device call or allocation.
+    ensures sound { D.is_honest disk.old → (form : Form) (h : History) (clock : ℕ) → form.bounds ≡ limits
+        → StandsForAt form h clock (D.trace disk.old).now.bytes → IfErr result IsPlain }
 {
     let size = match read_area_size(disk, limits) {
         Ok(size) => size,

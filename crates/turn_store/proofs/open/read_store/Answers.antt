@@ -1,10 +1,12 @@
 use Rattle.std.proofs.Common.{◌≡◌, ◌+◌, ◌*◌, ◌∙◌, ℕ, length, sym, subst}
 use Rattle.turn_disk.specs.Disk.{Trace}
 use Rattle.turn_store.specs.Opened.{IsChosen}
-use Rattle.turn_store.specs.Refused.{FaultWith, StoreIsBad}
+use Rattle.turn_store.specs.Refused.{FaultWith, StoreIsBad, WhyRefused}
 use Rattle.turn_store.specs.Superblock.{HasSuperblock}
 use Rattle.turn_store.specs.Tables.{snapshot_of}
 use Rattle.turn_store.proofs.Choices.{why_of_bad}
+use Rattle.turn_store.proofs.Honest.{why_plain}
+use Rattle.turn_types.specs.declared.limits.Bounds.{Bounds}
 use Rattle.turn_store.proofs.open.read_store.Goals as goal
 
 pub returns-in-Err-choose-clause-why : goal.returns-in-Err-choose-clause-why
@@ -31,3 +33,14 @@ returns-in-Ok-choose-clause-chosen g c = λ honest.
 
 pub returns-in-Ok-choose-clause-same : goal.returns-in-Ok-choose-clause-same
 returns-in-Ok-choose-clause-same g c = λ h. c.choose.ensures.same (c.read_area_size.ensures.honest.1 h) ∙ c.read_area_size.ensures.same h
+
+pub returns-in-Err-clause-sound : goal.returns-in-Err-clause-sound
+returns-in-Err-clause-sound g c = λ honest form h clock same stands.
+    let content = (g.D.Disk.trace c.args.disk.now).now.bytes in
+    why_plain form h clock content stands c.in-Err.fault (subst (λ (b : Bounds). WhyRefused b content c.in-Err.fault) (sym same) (c.in-Err.ensures.why honest))
+
+pub returns-in-Err-choose-clause-sound : goal.returns-in-Err-choose-clause-sound
+returns-in-Err-choose-clause-sound g c = λ honest form h clock same stands.
+    let content = (g.D.Disk.trace c.args.disk.now).now.bytes in
+    why_plain form h clock content stands c.in-Err-choose.fault
+    (subst (λ (b : Bounds). WhyRefused b content c.in-Err-choose.fault) (sym same) (returns-in-Err-choose-clause-why g c honest))
