@@ -11,6 +11,7 @@ mod journal_memory;
 mod journal_scan;
 mod journal_stops;
 mod records;
+mod snapshot_reads;
 mod snapshots;
 mod store_format;
 mod stores;
