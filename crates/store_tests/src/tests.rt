@@ -3,7 +3,6 @@ mod disk_crashes;
 mod disk_faults;
 mod disk_files;
 mod disk_memory;
-mod disk_reads;
 mod disk_writes;
 mod disks;
 mod journal_area;
