@@ -1,6 +1,6 @@
 //! A write of bytes that are made piece by piece.
 
-ghost use Rattle.std.specs.Prelude.{◌-◌, ◌≡◌, ◌++◌, [], ◌+◌, ◌^◌, ◌<◌, ◌≤◌, ◌↔◌, ℕ, List, length, take, drop, OnOk};
+ghost use Rattle.std.specs.Prelude.{◌-◌, ◌≡◌, ◌++◌, [], ◌+◌, ◌^◌, ◌<◌, ◌≤◌, ◌↔◌, ℕ, List, length, take, OnOk};
 ghost use Rattle.turn_disk.specs.Counts.{CountOutcome};
 ghost use Rattle.turn_disk.specs.Disk.{ChangesOnly, EachImageSince, IsSettled, WritesThrough};
 

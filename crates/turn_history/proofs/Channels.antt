@@ -21,7 +21,7 @@ use Rattle.turn_history.proofs.Latest.{IsTop, Ends, some_of, some_map, some_all,
 use Rattle.turn_history.proofs.Live.{is_entry, entry_of_live, live_of_entry, with_entry, of_entry}
 use Rattle.turn_history.proofs.Steady.{BindFits, Steady, steady_after}
 
-channel_ahead_is : (t : ℕ) (o : Option Channel) (c : Channel) → channel_ahead t o ≡ Some c → (o ≡ Some c) × (t < c.expiry)
+pub channel_ahead_is : (t : ℕ) (o : Option Channel) (c : Channel) → channel_ahead t o ≡ Some c → (o ≡ Some c) × (t < c.expiry)
 channel_ahead_is t None c h = cc
 channel_ahead_is t (Some d) c h = by_test (ltb t d.expiry) refl h
   where

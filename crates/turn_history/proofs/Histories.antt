@@ -1,7 +1,7 @@
 -- The laws of tables: later moments, equal tables, own entries, ports.
-use Rattle.std.proofs.Common.{◌≡◌, ℕ, ◌+◌, ◌≤◌, Bool, true, false, cond, Option, Some, None, List, [], ◌∷◌, ◌++◌, reverse, refl, sym, ap, ◌∙◌, subst, arith, ltb, eqb, max}
+use Rattle.std.proofs.Common.{◌≡◌, ℕ, ◌+◌, ◌≤◌, Bool, true, false, cond, Option, Some, None, List, [], ◌∷◌, ◌++◌, reverse, refl, sym, ap, ◌∙◌, subst, arith, eqb, max}
 use Rattle.std.specs.Prelude.{IsSome, IsSomeAnd}
-use Rattle.std.specs.Option.{option_and_then, option_map}
+use Rattle.std.specs.Option.{option_map}
 use Rattle.std.specs.declared.cmp.Ordering.TheVariants.{Equal}
 use Rattle.std.specs.Ordering.{is_eq}
 use Rattle.std.specs.List.{filter, AllByRecursion}
@@ -15,8 +15,8 @@ use Rattle.turn_types.specs.FiveTuple.{tuple_cmp, same_tuple}
 use Rattle.turn_history.specs.History.{PlainAct, Allocates, Renews, Permits, Binds, Event, History, own, clock}
 use Rattle.turn_history.specs.Laws.{PortsApart, AllFrom, NeverFall, events_of}
 use Rattle.turn_types.specs.declared.limits.Bounds.{Bounds}
-use Rattle.turn_history.specs.Table.{Entry, entry_in, Contents, table, still_permitted, still_bound, kept, purged, renewed, permitting, binding, applied_to, applied}
-use Rattle.turn_history.proofs.Reading.{get-table, get-purged, get-applied}
+use Rattle.turn_history.specs.Table.{Entry, entry_in, Contents, table, purged, renewed, permitting, binding, applied_to, applied}
+use Rattle.turn_history.proofs.Reading.{get-table, get-applied, purged_from}
 use Rattle.turn_history.proofs.Steps.{Acts, table-more, table-later}
 use Rattle.std.proofs.lemmas.Cmp.{tied_itself}
 use Rattle.std.proofs.lemmas.Option.{same_Some}
@@ -152,20 +152,11 @@ table-events_of h t f = get-table h t f ∙ ap (entry_in t) (sym (own-events_of 
 
 -- ---- Ports
 
--- what is kept of an entry has its port
-kept_port : (t : ℕ) (o : Option Entry) (x : Entry) → option_and_then (kept t) o ≡ Some x → (e : Entry) × (o ≡ Some e) × (e.port ≡ x.port)
-kept_port t None x h = cc
-kept_port t (Some e) x h = by_test (ltb t e.expiry) h
-  where
-    by_test : (b : Bool) → cond b (Some (record e { permissions = still_permitted t e.permissions; channels = still_bound t e.channels })) None ≡ Some x → (f : Entry) × (Some e ≡ Some f) × (f.port ≡ x.port)
-    by_test true h = (e, refl, ap (λ y. y.port) (same_Some _ x h))
-    by_test false h = cc
-
-ports-purged : (t : ℕ) (m : Contents) → PortsApart m → PortsApart (purged t m)
+pub ports-purged : (t : ℕ) (m : Contents) → PortsApart m → PortsApart (purged t m)
 ports-purged t m apart f g x y ex ey same =
-    let a = kept_port t (fin.get m.entries f) x (sym (get-purged t m f) ∙ ex) in
-    let b = kept_port t (fin.get m.entries g) y (sym (get-purged t m g) ∙ ey) in
-    apart f g a.0 b.0 a.1 b.1 (a.2 ∙ same ∙ sym b.2)
+    let a = purged_from t m f x ex in
+    let b = purged_from t m g y ey in
+    apart f g a.0 b.0 a.1 b.1 (ap (λ e. e.port) a.3 ∙ same ∙ sym (ap (λ e. e.port) b.3))
 
 -- an act leaves no entry with the port of another one
 module _ (b : Bounds) (t : ℕ) (f : FiveTuple) (m : Contents) (apart : PortsApart m) (q : FiveTuple) (other : same_tuple q f ≡ false) (y : Entry) (ey : fin.get m.entries q ≡ Some y) (x : Entry) (same : x.port ≡ y.port) where
@@ -186,7 +177,7 @@ module _ (b : Bounds) (t : ℕ) (f : FiveTuple) (m : Contents) (apart : PortsApa
   crossing (Permits addresses) fits h = changed (permitting (t + 300) addresses) (λ e. refl) (fin.get m.entries f) refl h
   crossing (Binds number peer) fits h = changed (binding t number peer) (λ e. refl) (fin.get m.entries f) refl h
 
-ports-applied : (b : Bounds) (t : ℕ) (f : FiveTuple) (d : PlainAct) (m : Contents) → Fits b m f d → PortsApart m → PortsApart (applied t f d m)
+pub ports-applied : (b : Bounds) (t : ℕ) (f : FiveTuple) (d : PlainAct) (m : Contents) → Fits b m f d → PortsApart m → PortsApart (applied t f d m)
 ports-applied b t f d m fits apart p q x y ex ey same =
     by_tests (same_tuple p f) refl (same_tuple q f) refl (sym (get-applied t f d m p) ∙ ex) (sym (get-applied t f d m q) ∙ ey)
   where

@@ -1,6 +1,7 @@
 pub mod Channels
 pub mod Entries
 pub mod Histories
+pub mod Kept
 pub mod Latest
 pub mod Live
 pub mod Maps

@@ -65,7 +65,7 @@ named (x ∷ xs) a all is = by_test (λ later. named xs a (All-tail (λ y. y < 2
     by_test ih true same is = subst (λ y. y < 2 ^ 32) (sym (eqb-true a x same)) (All-head (λ y. y < 2 ^ 32) x xs all)
     by_test ih false other is = ih is
 
-installs : (b : Bounds) (d : PlainAct) (a : ℕ) → list_any (nat_eq a) (addresses_of d) ≡ true → IsActInRange b d → a < 2 ^ 32
+pub installs : (b : Bounds) (d : PlainAct) (a : ℕ) → list_any (nat_eq a) (addresses_of d) ≡ true → IsActInRange b d → a < 2 ^ 32
 installs b (Allocates user port granted tx) a is r = cc
 installs b (Renews granted) a is r = cc
 installs b (Permits addresses) a is r = named addresses a r.0.2 is

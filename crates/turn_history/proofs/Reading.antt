@@ -1,23 +1,24 @@
 -- What the table of a history answers, after one more event and at a later moment.
-use Rattle.std.proofs.Common.{◌≡◌, ℕ, ◌+◌, Bool, false, cond, ◌||◌, Option, Some, None, List, [], ◌∷◌, ◌++◌, map, reverse, refl, sym, ap, ◌∙◌, arith}
+use Rattle.std.proofs.Common.{◌≡◌, ℕ, ◌+◌, ◌<◌, Bool, true, false, cond, ◌||◌, Option, Some, None, List, [], ◌∷◌, ◌++◌, map, reverse, refl, sym, ap, ◌∙◌, subst, arith, ltb, ltb-true, eqb}
 use Rattle.std.specs.Prelude.{nat_eq}
-use Rattle.std.specs.Option.{option_or, option_and_then}
+use Rattle.std.specs.Option.{option_or, option_and_then, option_map}
 use Rattle.std.specs.Ordering.{nat_cmp, eq_by_cmp}
 use Rattle.std.proofs.lemmas.Cmp.{nat_cmp_total}
 use Rattle.std.specs.List.{flat_map, list_any, filter}
 use Rattle.std.proofs.lemmas.List.{reverse-append}
 use Rattle.std.proofs.lemmas.List.Elements.{filter-append}
 use Rattle.std.proofs.lemmas.List.Folds.{list_any-append}
-use Rattle.std.proofs.lemmas.Bool.{or_parts}
+use Rattle.std.proofs.lemmas.Bool.{or_parts, eqb-false}
 use Rattle.std.proofs.lemmas.Bool.Decides.{nat_tests}
+use Rattle.std.proofs.lemmas.Option.{cond_some, option_and_then_some, same_Some}
 use Rattle.std.specs.FinMap as fin
 use Rattle.std.specs.FinMap.{FinMap, get-insert, get-remove, same_map, nat_cmp-IsAntisymmetric}
 use Rattle.turn_types.specs.declared.address.FiveTuple.{FiveTuple}
 use Rattle.turn_history.specs.declared.channel.Channel.{Channel}
 use Rattle.turn_types.specs.FiveTuple.{tuple_cmp, same_tuple}
 use Rattle.turn_history.specs.History.{PlainAct, Allocates, Renews, Permits, Binds, Event, History, first_some, own, addresses_of, numbers_of, permission_at, channel_at, channel_by}
-use Rattle.turn_history.specs.Table.{ahead, channel_ahead, Entry, permissions_in, channels_in, entry_in, entry_of, Contents, table, still_permitted, still_bound, kept, purged, applied_to, with_entry, applied}
-use Rattle.turn_history.proofs.Maps.{tuple_total, tuple_exact, get-map_of-all, outside_keys}
+use Rattle.turn_history.specs.Table.{ahead, channel_ahead, Entry, permissions_in, channels_in, entry_in, entry_of, Contents, table, still_permitted, still_bound, kept, purged, allocated, renewed, permitting, binding, applied_to, with_entry, applied}
+use Rattle.turn_history.proofs.Maps.{tuple_total, tuple_exact, from_eq, get-map_of-all, outside_keys}
 
 -- ---- Tests
 
@@ -109,6 +110,43 @@ get-applied t f d c q = by_entry (applied_to t d (fin.get c.entries f))
     by_entry : (o : Option Entry) → fin.get (with_entry c.entries f o) q ≡ cond (same_tuple q f) o (fin.get c.entries q)
     by_entry None = get-remove tuple_total c.entries f q
     by_entry (Some e) = get-insert tuple_total c.entries f e q
+
+-- what of an entry has not expired
+abbrev pub left : ℕ → Entry → Entry
+left t e = record e { permissions = still_permitted t e.permissions; channels = still_bound t e.channels }
+
+-- an entry of a purged table is what is left of one that is ahead
+pub purged_from : (t : ℕ) (c : Contents) (f : FiveTuple) (e : Entry) → fin.get (purged t c).entries f ≡ Some e → (x : Entry) × (fin.get c.entries f ≡ Some x) × (t < x.expiry) × (left t x ≡ e)
+purged_from t c f e is = option_and_then_some (kept t) (fin.get c.entries f) e (sym (get-purged t c f) ∙ is) (λ x was same. let p = cond_some (ltb t x.expiry) (left t x) e same in (x, was, ltb-true t x.expiry p.0, p.1))
+
+-- P holds of what an act makes of an entry
+abbrev pub Makes : (Entry → Type 0) → ℕ → PlainAct → Option Entry → Type 0
+Makes P t (Allocates user port granted tx) o = P (allocated t user port granted tx)
+Makes P t (Renews granted) o = (granted ≡ 0 → ⊥) → (x : Entry) → o ≡ Some x → P (renewed (t + granted) x)
+Makes P t (Permits addresses) o = (x : Entry) → o ≡ Some x → P (permitting (t + 300) addresses x)
+Makes P t (Binds number peer) o = (x : Entry) → o ≡ Some x → P (binding t number peer x)
+
+mapped : (P : Entry → Type 0) (g : Entry → Entry) (o : Option Entry) (e : Entry) → ((x : Entry) → o ≡ Some x → P (g x)) → option_map g o ≡ Some e → P e
+mapped P g None e makes is = cc
+mapped P g (Some x) e makes is = subst P (same_Some (g x) e is) (makes x refl)
+
+made : (P : Entry → Type 0) (t : ℕ) (d : PlainAct) (o : Option Entry) (e : Entry) → Makes P t d o → applied_to t d o ≡ Some e → P e
+made P t (Allocates user port granted tx) o e makes is = subst P (same_Some _ e is) makes
+made P t (Renews granted) o e makes is = by_test (eqb granted 0) refl is
+  where
+    by_test : (b : Bool) → eqb granted 0 ≡ b → cond b None (option_map (renewed (t + granted)) o) ≡ Some e → P e
+    by_test true all is = cc
+    by_test false some is = mapped P (renewed (t + granted)) o e (makes (eqb-false granted 0 some)) is
+made P t (Permits addresses) o e makes is = mapped P (permitting (t + 300) addresses) o e makes is
+made P t (Binds number peer) o e makes is = mapped P (binding t number peer) o e makes is
+
+-- what holds of each entry, and of what an act makes of its own, holds of each entry after the act
+pub all_applied : (P : FiveTuple → Entry → Type 0) (t : ℕ) (f : FiveTuple) (d : PlainAct) (c : Contents) → ((q : FiveTuple) (e : Entry) → fin.get c.entries q ≡ Some e → P q e) → Makes (P f) t d (fin.get c.entries f) → (q : FiveTuple) (e : Entry) → fin.get (applied t f d c).entries q ≡ Some e → P q e
+all_applied P t f d c all makes q e is = by_test (same_tuple q f) refl (sym (get-applied t f d c q) ∙ is)
+  where
+    by_test : (b : Bool) → same_tuple q f ≡ b → cond b (applied_to t d (fin.get c.entries f)) (fin.get c.entries q) ≡ Some e → P q e
+    by_test true same is = subst (λ k. P k e) (sym (from_eq tuple_cmp tuple_exact q f same)) (made (P f) t d (fin.get c.entries f) e makes is)
+    by_test false other is = all q e is
 
 -- tables with one answer at each five-tuple are one
 pub same_contents : (c d : Contents) → ((f : FiveTuple) → fin.get c.entries f ≡ fin.get d.entries f) → c ≡ d

@@ -1,6 +1,6 @@
 -- The table of a fitting history is within the limits.
 use Rattle.std.proofs.Common.{◌≡◌, ℕ, zero, suc, T, ◌+◌, ◌-◌, ◌≤◌, Bool, true, false, cond, ◌&&◌, is_some, Option, Some, None, List, [], ◌∷◌, ◌++◌, length, refl, sym, ap, ◌∙◌, subst, arith, append_assoc}
-use Rattle.std.specs.Prelude.{IsSomeAnd, nat_eq, nat_lt, ◌==◌}
+use Rattle.std.specs.Prelude.{IsSomeAnd, nat_eq, ◌==◌}
 use Rattle.std.specs.List.{list_any}
 use Rattle.std.specs.Option.{option_and_then, option_map}
 use Rattle.std.specs.Ordering.{nat_cmp, eq_by_cmp, is_eq, is_lt}
@@ -9,7 +9,6 @@ use Rattle.std.specs.declared.cmp.Ordering.{Ordering}
 use Rattle.std.specs.declared.cmp.Ordering.TheVariants.{Less, Equal, Greater}
 use Rattle.std.proofs.lemmas.Cmp.{nat_cmp_total, tied_itself}
 use Rattle.std.proofs.lemmas.List.{append-nil}
-use Rattle.std.proofs.lemmas.Option.{same_Some}
 use Rattle.std.specs.FinMap as fin
 use Rattle.std.specs.FinMap.{FinMap, IsAntisymmetric, find, is_sorted, get-insert, get-remove, get-empty, len-insert, len-empty, len-remove, empty_of_len, len-entries, entries_sorted, get-entries, nat_cmp-IsAntisymmetric}
 use Rattle.std.specs.FinMap.Entries.{below_all}
@@ -23,7 +22,7 @@ use Rattle.turn_types.specs.declared.address.FiveTuple.{FiveTuple}
 use Rattle.turn_history.specs.declared.channel.Channel.{Channel}
 use Rattle.turn_history.proofs.Histories.{NextFrom, next_fits, below_first, below_rest, next_zero, table-follows}
 use Rattle.turn_history.proofs.Maps.{tuple_total, tuple_exact, from_eq}
-use Rattle.turn_history.proofs.Reading.{get-still_permitted, get-still_bound, get-purged, get-applied, get-table}
+use Rattle.turn_history.proofs.Reading.{get-still_permitted, get-still_bound, get-purged, get-applied, get-table, purged_from, Makes, all_applied}
 use Rattle.turn_history.proofs.Steps.{get-install, table-later}
 
 -- ---- A map without keys that another one lacks is no larger
@@ -97,26 +96,18 @@ some_kept : (t : ℕ) (o : Option Entry) → is_some (option_and_then (kept t) o
 some_kept t None h = cc
 some_kept t (Some e) h = refl
 
-kept_from : (t : ℕ) (o : Option Entry) (e : Entry) → option_and_then (kept t) o ≡ Some e → (x : Entry) × (o ≡ Some x) × (e.permissions ≡ still_permitted t x.permissions) × (e.channels ≡ still_bound t x.channels)
-kept_from t None e h = cc
-kept_from t (Some x) e h = by_test (nat_lt t x.expiry) h
-  where
-    by_test : (b : Bool) → cond b (Some (record x { permissions = still_permitted t x.permissions; channels = still_bound t x.channels })) None ≡ Some e → (y : Entry) × (Some x ≡ Some y) × (e.permissions ≡ still_permitted t y.permissions) × (e.channels ≡ still_bound t y.channels)
-    by_test true h = let is = same_Some _ e h in (x, refl, sym (ap (λ y. y.permissions) is), sym (ap (λ y. y.channels) is))
-    by_test false h = cc
-
-within-purged : (b : Bounds) (t : ℕ) (c : Contents) → IsWithin b c → IsWithin b (purged t c)
+pub within-purged : (b : Bounds) (t : ℕ) (c : Contents) → IsWithin b c → IsWithin b (purged t c)
 within-purged b t c w = record {
   allocations = (let le = len-le tuple_total tuple_exact (purged t c).entries c.entries (λ q has. some_kept t (fin.get c.entries q) (sym (ap is_some (get-purged t c q)) ∙ has)) in let all = w.allocations in omega arith);
   permissions = (λ f e is.
-      let x = kept_from t (fin.get c.entries f) e (sym (get-purged t c f) ∙ is) in
+      let x = purged_from t c f e is in
       let le = nat_len-le (still_permitted t x.0.permissions) x.0.permissions (λ q has. some_ahead t (fin.get x.0.permissions q) (sym (ap is_some (get-still_permitted t x.0.permissions q)) ∙ has)) in
-      let same = ap fin.len x.2 in
+      let same = ap (λ y. fin.len y.permissions) x.3 in
       let all = w.permissions f x.0 x.1 in omega arith);
   channels = (λ f e is.
-      let x = kept_from t (fin.get c.entries f) e (sym (get-purged t c f) ∙ is) in
+      let x = purged_from t c f e is in
       let le = nat_len-le (still_bound t x.0.channels) x.0.channels (λ q has. some_channel_ahead t (fin.get x.0.channels q) (sym (ap is_some (get-still_bound t x.0.channels q)) ∙ has)) in
-      let same = ap fin.len x.3 in
+      let same = ap (λ y. fin.len y.channels) x.3 in
       let all = w.channels f x.0 x.1 in omega arith);
 }
 
@@ -161,49 +152,28 @@ module _ (b : Bounds) (t : ℕ) (f : FiveTuple) (c : Contents) (w : IsWithin b c
   abbrev pub Small : Entry → Type 0
   Small e = (fin.len e.permissions ≤ b.permissions) × (fin.len e.channels ≤ b.channels)
 
-  was_small : (e : Entry) → fin.get c.entries f ≡ Some e → Small e
-  was_small e is = (w.permissions f e is, w.channels f e is)
+  was_small : (q : FiveTuple) (e : Entry) → fin.get c.entries q ≡ Some e → Small e
+  was_small q e is = (w.permissions q e is, w.channels q e is)
 
-  small_entry : (d : PlainAct) (o : Option Entry) (e : Entry) → o ≡ fin.get c.entries f → Fits b c f d → applied_to t d o ≡ Some e → Small e
-  small_entry (Allocates user port granted tx) o e same fits is =
-      let made = same_Some (allocated t user port granted tx) e is in
-      let ps = len-empty nat_cmp ℕ in
-      let cs = len-empty nat_cmp Channel in
-      subst Small made (omega arith, omega arith)
-  small_entry (Renews granted) o e same fits is = by_test (granted == 0) o same is
-    where
-      by_test : (z : Bool) (o : Option Entry) → o ≡ fin.get c.entries f → cond z None (option_map (renewed (t + granted)) o) ≡ Some e → Small e
-      by_test true o same is = cc
-      by_test false None same is = cc
-      by_test false (Some y) same is = subst Small (same_Some (renewed (t + granted) y) e is) (was_small y (sym same))
-  small_entry (Permits addresses) None e same fits is = cc
-  small_entry (Permits addresses) (Some y) e same fits is =
-      let room = subst (λ o. IsSomeAnd o (λ e. fin.len (install 0 addresses e.permissions) ≤ b.permissions)) (sym same) fits in
-      let le = installed_alike (t + 300) 0 addresses y.permissions in
-      let was = was_small y (sym same) in
-      subst Small (same_Some (permitting (t + 300) addresses y) e is) (omega arith, was.1)
-  small_entry (Binds number peer) None e same fits is = cc
-  small_entry (Binds number peer) (Some y) e same fits is =
-      let room = subst (λ o. IsSomeAnd o (λ e. FitsChannel b number peer e × IsChannelNumber number)) (sym same) fits in
-      let ps = inserted_alike (t + 300) 0 peer.ip y.permissions in
-      let cs = inserted_alike (record { peer = peer; expiry = t + 600 }) (record { peer = peer; expiry = 0 }) number y.channels in
+  made_small : (d : PlainAct) → Fits b c f d → Makes Small t d (fin.get c.entries f)
+  made_small (Allocates user port granted tx) fits = let ps = len-empty nat_cmp ℕ in let cs = len-empty nat_cmp Channel in (omega arith, omega arith)
+  made_small (Renews granted) fits = λ some x is. was_small f x is
+  made_small (Permits addresses) fits = λ x is.
+      let room = subst (λ o. IsSomeAnd o (λ e. fin.len (install 0 addresses e.permissions) ≤ b.permissions)) is fits in
+      let le = installed_alike (t + 300) 0 addresses x.permissions in
+      (omega arith, w.channels f x is)
+  made_small (Binds number peer) fits = λ x is.
+      let room = subst (λ o. IsSomeAnd o (λ e. FitsChannel b number peer e × IsChannelNumber number)) is fits in
+      let ps = inserted_alike (t + 300) 0 peer.ip x.permissions in
+      let cs = inserted_alike (record { peer = peer; expiry = t + 600 }) (record { peer = peer; expiry = 0 }) number x.channels in
       let permissions = room.0.0 in
       let channels = room.0.1 in
-      subst Small (same_Some (binding t number peer y) e is) (omega arith, omega arith)
+      (omega arith, omega arith)
 
-  within-applied : (d : PlainAct) → Fits b c f d → IsWithin b (applied t f d c)
-  within-applied d fits = record {
-    allocations = allocations-applied d fits;
-    permissions = (λ q e is. (small q e (sym (get-applied t f d c q) ∙ is)).0);
-    channels = (λ q e is. (small q e (sym (get-applied t f d c q) ∙ is)).1);
-  }
-    where
-      small : (q : FiveTuple) (e : Entry) → cond (same_tuple q f) (applied_to t d (fin.get c.entries f)) (fin.get c.entries q) ≡ Some e → Small e
-      small q e is = by_test (same_tuple q f) is
-        where
-          by_test : (z : Bool) → cond z (applied_to t d (fin.get c.entries f)) (fin.get c.entries q) ≡ Some e → Small e
-          by_test true is = small_entry d (fin.get c.entries f) e refl fits is
-          by_test false is = (w.permissions q e is, w.channels q e is)
+  pub within-applied : (d : PlainAct) → Fits b c f d → IsWithin b (applied t f d c)
+  within-applied d fits =
+      let small = all_applied (λ q e. Small e) t f d c was_small (made_small d fits) in
+      record { allocations = allocations-applied d fits; permissions = λ q e is. (small q e is).0; channels = λ q e is. (small q e is).1 }
 
 -- ---- A history
 

@@ -45,6 +45,10 @@ pub record IsEntryInRange (b : Bounds) (t : ℕ) (e : Entry) : Type 0 where
   pub permissions : (a x : ℕ) → fin.get e.permissions a ≡ Some x → (a < 2 ^ 32) × (t < x) × (x ≤ t + 300)
   pub channels : (n : ℕ) (c : Channel) → fin.get e.channels n ≡ Some c → IsChannelNumber n × IsEndpoint c.peer × (t < c.expiry) × (c.expiry ≤ t + 600)
 
+-- each entry of a table at the moment t is in its ranges, and so is its five-tuple
+abbrev pub AreEntriesInRange : Bounds → ℕ → Contents → Type 0
+AreEntriesInRange b t c = (f : FiveTuple) (e : Entry) → fin.get c.entries f ≡ Some e → IsTuple f × IsEntryInRange b t e
+
 -- ---- Fitting
 
 -- no entry has the port (RFC 8656, section 7.2)

@@ -3,6 +3,7 @@ pub mod Apart
 pub mod Appended
 pub mod Batches
 pub mod Bounded
+pub mod Kept
 pub mod Last
 pub mod Lasting
 pub mod Many

@@ -1,12 +1,10 @@
 -- What bytes spell. The ranges of values are those of fitting histories, so what such a history holds has a spelling.
-use Rattle.std.specs.Prelude.{◌≡◌, ℕ, ◌+◌, ◌-◌, ◌*◌, ◌^◌, ◌<◌, ◌≤◌, Some, List, length, max}
+use Rattle.std.specs.Prelude.{◌≡◌, ℕ, ◌+◌, ◌-◌, ◌*◌, ◌^◌, ◌<◌, ◌≤◌, List, length, max}
 use Rattle.std.specs.List.{AllByRecursion}
-use Rattle.std.specs.FinMap as fin
-use Rattle.turn_history.specs.Fitting.{IsTuple, IsInRange, IsEntryInRange}
+use Rattle.turn_history.specs.Fitting.{IsInRange, AreEntriesInRange}
 use Rattle.turn_history.specs.History.{PlainAct, Allocates, Renews, Permits, Binds, Event}
 use Rattle.turn_history.specs.Laws.{NeverFall, PortsApart, PeersApart, IsWithin}
-use Rattle.turn_history.specs.Table.{Contents, Entry}
-use Rattle.turn_types.specs.declared.address.FiveTuple.{FiveTuple}
+use Rattle.turn_history.specs.Table.{Contents}
 use Rattle.turn_types.specs.declared.limits.Bounds.{Bounds}
 use Rattle.turn_record.specs.Bytes.{act_entry, payload, snapshot}
 
@@ -38,7 +36,7 @@ pub record SpellsPayload (b : Bounds) (es : List Event) (bytes : List ℕ) : Typ
 -- and no port and no peer stands twice
 pub record IsSnapshot (b : Bounds) (t : ℕ) (c : Contents) : Type 0 where
   pub moment : t < 2 ^ 40 - 3600
-  pub values : (f : FiveTuple) (e : Entry) → fin.get c.entries f ≡ Some e → IsTuple f × IsEntryInRange b t e
+  pub values : AreEntriesInRange b t c
   pub within : IsWithin b c
   pub ports : PortsApart c
   pub peers : PeersApart c

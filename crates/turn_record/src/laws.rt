@@ -1,9 +1,9 @@
 //! Laws of the bytes. Each is a clause of a function that does nothing.
 
 ghost use Rattle.std.specs.Prelude.{◌≡◌, ◌≤◌, ◌<◌, ◌-◌, ◌^◌, ◌++◌, ℕ, List, length};
-ghost use Rattle.turn_history.specs.Fitting.{IsFitting, IsInRange};
+ghost use Rattle.turn_history.specs.Fitting.{Fits, IsFitting, IsInRange};
 ghost use Rattle.turn_history.specs.History.{Event, History, clock};
-ghost use Rattle.turn_history.specs.Table.{Contents, table};
+ghost use Rattle.turn_history.specs.Table.{Contents, applied, purged, table};
 ghost use Rattle.turn_record.specs.Bytes.{act_entry, payload, snapshot};
 ghost use Rattle.turn_record.specs.Records.{IsBatch, IsSnapshot, max_act, max_payload, max_snapshot};
 ghost use Rattle.turn_types.specs.Limits.{AreInRange};
@@ -23,6 +23,14 @@ pub fn spellings_are_one()
 /// The table of a fitting history has a snapshot, at each moment from the history's clock on.
 pub fn tables_have_snapshots()
     ensures { (b : Bounds) (h : History) (t : ℕ) → IsFitting b h → clock h ≤ t → t < 2 ^ 40 - 3600 → IsSnapshot b t (table h t) }
+{}
+
+/// What has a snapshot at a moment still has one at a later moment, without what has expired by then, and has one after
+/// an event that fits it at its moment.
+pub fn snapshots_go_on()
+    ensures later { (b : Bounds) (t u : ℕ) (c : Contents) → t ≤ u → u < 2 ^ 40 - 3600 → IsSnapshot b t c → IsSnapshot b u (purged u c) }
+    ensures acts { (b : Bounds) (e : Event) (c : Contents) → IsInRange b e → Fits b c e.tuple e.act → IsSnapshot b e.moment c →
+        IsSnapshot b e.moment (applied e.moment e.tuple e.act c) }
 {}
 
 /// How many bytes act entries, payloads and snapshots have at most.

@@ -13,7 +13,7 @@ mod snapshot_writer;
 mod write;
 
 pub use fault::{Malformed, ReadError};
-pub use laws::{spellings_are_one, spellings_are_short, tables_have_snapshots};
+pub use laws::{snapshots_go_on, spellings_are_one, spellings_are_short, tables_have_snapshots};
 pub use pieces::{SnapshotReader, read_snapshot, readers_hold_little};
 pub use read::{read_act, read_payload};
 pub use snapshot_writer::{SnapshotWriter, max_snapshot, snapshot_size, write_snapshot};

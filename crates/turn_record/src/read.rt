@@ -1,6 +1,6 @@
 //! Act entries and payloads, read.
 
-ghost use Rattle.std.specs.Prelude.{◌≡◌, [], List, IfOk, Ok};
+ghost use Rattle.std.specs.Prelude.{[], List, IfOk, Ok};
 ghost use Rattle.turn_history.specs.Act.{act_of, event_of};
 ghost use Rattle.turn_history.specs.History as histories;
 ghost use Rattle.turn_record.specs.Reading.{Gives, act_in, address_at, addresses_at, allocated_at, body_at, bound_at, event_at, many, moment_after, payload_in, tag_at};

@@ -1,18 +1,19 @@
 -- An area that was read, and which one counts.
-use Rattle.std.proofs.Common.{◌≡◌, ◌≢◌, ◌⊎◌, ◌↔◌, inl, inr, ⊎_elim, ◌^◌, ℕ, ◌+◌, ◌*◌, ◌<◌, ◌≤◌, Bool, true, false, nat_lt, List, [], ◌∷◌, ◌++◌, length, slice_index, refl, sym, ◌∙◌, ap, subst, arith}
+use Rattle.std.proofs.Common.{◌≡◌, ◌⊎◌, inl, inr, ⊎_elim, ◌^◌, ℕ, ◌+◌, ◌*◌, ◌<◌, ◌≤◌, Bool, true, false, nat_lt, List, [], ◌∷◌, ◌++◌, length, slice_index, sym, ◌∙◌, ap, subst, arith}
 use Rattle.std.proofs.lemmas.Bool.Decides.{nat_tests}
 use Rattle.std.specs.Int.{to_be_bytes, w32, w64}
 use Rattle.turn_disk.specs.Disk.{StandsAt}
-use Rattle.turn_journal.specs.Frames.{HoldsFrames, HoldsFramesTo, IsOpen, last_gate}
-use Rattle.turn_store.specs.Areas.{area_front, AreAreas, AreaHolds, IsBelow, Yields}
+use Rattle.turn_journal.specs.Frames.{HoldsFrames, last_gate}
+use Rattle.turn_store.specs.Areas.{area_front, AreAreas, IsBelow}
 use Rattle.turn_store.specs.Head.{IsHead, Beats}
 use Rattle.turn_store.specs.Opened.{AreaIsRead, IsChosen, LogIsRead}
-use Rattle.turn_store.specs.Refused.{FaultWith, IsGoodSnapshot, StoreIsBad, WhyRefused}
+use Rattle.turn_store.specs.Refused.{AreaIsBad, FaultWith, IsGoodSnapshot, StoreIsBad, WhyRefused}
 use Rattle.turn_store.specs.Replay.{Snapshot}
 use Rattle.turn_store.specs.Superblock.{HasSuperblock, least_area}
 use Rattle.turn_store.specs.declared.fault.OpenFault.{OpenFault}
 use Rattle.turn_store.specs.declared.fault.OpenFault.TheVariants.{Device, Memory, NotAStore, LimitsDiffer, Damaged}
 use Rattle.turn_store.specs.declared.heads.Head.{Head}
+use Rattle.turn_store.specs.declared.heads.Placed.{Placed}
 use Rattle.turn_store.proofs.Numbers.{stands_join, stands_one, number_once_8}
 use Rattle.turn_types.specs.declared.limits.Bounds.{Bounds}
 
@@ -80,6 +81,49 @@ chosen_is b size start other head rival end frames t c places read beats is_head
       replays = read.replays;
       count = read.count;
     }
+
+-- two areas as they were read, in either order
+pub record AreRead (size : ℕ) (first second area other : Placed) (c : List ℕ) : Type 0 where
+  pub first_start : first.start ≡ 64
+  pub second_start : second.start ≡ 64 + size
+  pub first_head : IsHead 64 first.head c
+  pub second_head : IsHead (64 + size) second.head c
+  pub both : ((area ≡ first) × (other ≡ second)) ⊎ ((area ≡ second) × (other ≡ first))
+
+module _ (size : ℕ) (first second area other : Placed) (c : List ℕ) (read : AreRead size first second area other c) where
+  abbrev Found : Placed → Placed → Type 0
+  Found p q = AreAreas size p.start q.start × IsHead p.start p.head c × IsHead q.start q.head c
+
+  first_found : IsHead first.start first.head c
+  first_found = subst (λ (at : ℕ). IsHead at first.head c) (sym read.first_start) read.first_head
+
+  second_found : IsHead second.start second.head c
+  second_found = subst (λ (at : ℕ). IsHead at second.head c) (sym read.second_start) read.second_head
+
+  pub found : Found area other
+  found =
+      ⊎_elim
+      (λ (same : (area ≡ first) × (other ≡ second)). subst (λ (q : Placed). Found area q) (sym same.1) (subst (λ (p : Placed). Found p second) (sym same.0) (inl (read.first_start, read.second_start), first_found, second_found)))
+      (λ (crossed : (area ≡ second) × (other ≡ first)). subst (λ (q : Placed). Found area q) (sym crossed.1) (subst (λ (p : Placed). Found p first) (sym crossed.0) (inr (read.second_start, read.first_start), second_found, first_found)))
+      read.both
+
+  pub bad_store : (b : Bounds) → Beats area.head other.head → (place : ℕ) → AreaIsBad b area.start size area.head c place → StoreIsBad b size c place
+  bad_store b beats place bad = record {
+    first = first.head;
+    second = second.head;
+    is_first = read.first_head;
+    is_second = read.second_head;
+    why = inr (⊎_elim
+        (λ (same : (area ≡ first) × (other ≡ second)). inl (
+          subst (λ (q : Placed). Beats first.head q.head) same.1 (subst (λ (p : Placed). Beats p.head other.head) same.0 beats),
+          subst (λ (at : ℕ). AreaIsBad b at size first.head c place) read.first_start (subst (λ (p : Placed). AreaIsBad b p.start size p.head c place) same.0 bad),
+        ))
+        (λ (crossed : (area ≡ second) × (other ≡ first)). inr (
+          subst (λ (q : Placed). Beats second.head q.head) crossed.1 (subst (λ (p : Placed). Beats p.head other.head) crossed.0 beats),
+          subst (λ (at : ℕ). AreaIsBad b at size second.head c place) read.second_start (subst (λ (p : Placed). AreaIsBad b p.start size p.head c place) crossed.0 bad),
+        ))
+        read.both);
+  }
 
 -- a store whose size is right is refused for what is wrong with its areas
 pub why_of_bad : (b : Bounds) (area : ℕ) (c : List ℕ) → HasSuperblock area b c → least_area b ≤ area → length c ≡ 64 + 2 * area → (fault : OpenFault) → FaultWith (StoreIsBad b area c) fault → WhyRefused b c fault

@@ -1,13 +1,10 @@
 -- A snapshot that was read in pieces.
-use Rattle.std.proofs.Common.{◌≡◌, inl, inr, ℕ, ◌+◌, ◌-◌, ◌≤◌, ◌<◌, List, [], ◌++◌, Result, Ok, Err, length, take, drop, slice_index, refl, sym, ◌∙◌, ap, subst, arith}
+use Rattle.std.proofs.Common.{◌≡◌, inl, inr, ℕ, ◌+◌, ◌-◌, ◌≤◌, ◌<◌, List, ◌++◌, Ok, Err, length, take, drop, refl, sym, ◌∙◌, ap, subst, arith}
 use Rattle.std.proofs.lemmas.Bool.{cases_lt}
 use Rattle.std.proofs.lemmas.List.{length-take, length-drop, take-append-drop, drop-drop, get_or_append_left, get_or-append_right}
 use Rattle.std.proofs.Math.Seq.{take-append-add}
-use Rattle.turn_disk.specs.Disk.{StandsAt}
 use Rattle.turn_disk.proofs.Standing.{stands_read}
-use Rattle.turn_history.specs.Table.{Contents}
-use Rattle.turn_record.specs.Reading.{Gives}
-use Rattle.turn_record.specs.Records.{SpellsSnapshot}
+use Rattle.turn_record.specs.Records.{IsSnapshot}
 use Rattle.turn_record.specs.Snapshots.{snapshot_in}
 use Rattle.turn_record.specs.declared.fault.Malformed.{Malformed}
 use Rattle.turn_record.proofs.Tables.{snapshot_found, snapshot_again}
@@ -35,6 +32,9 @@ bytes_join xs ys one two i = elim (cases_lt i (length xs)) [
 
 has_bytes : (at count : ℕ) (c : List ℕ) → at + count ≤ length c → HasBytes at count (take count (drop at c)) c
 has_bytes at count c le = record { long = omega (arith, length-take count (drop at c), length-drop at c, le); stands = stands_read at count (take count (drop at c)) c refl }
+
+pub fed_snapshot : (b : Bounds) → AreInRange b → (bytes : List ℕ) → AreBytes bytes → (s : Snapshot) → snapshot_in b bytes ≡ Ok (s.moment, s.contents) → IsSnapshot b s.moment s.contents
+fed_snapshot b range bytes are s is = (snapshot_found b range bytes are (s.moment, s.contents) is).fits
 
 pub good_snapshot : (b : Bounds) → AreInRange b → (at count : ℕ) (c : List ℕ) (s : Snapshot) → at + count ≤ length c → AreBytes (take count (drop at c)) → snapshot_in b (take count (drop at c)) ≡ Ok (s.moment, s.contents)
     → IsGoodSnapshot b at count s c

@@ -3,11 +3,9 @@ use Rattle.std.proofs.Common.{◌≡◌, ◌≤◌, ◌<◌, ◌^◌, ◌-◌, �
 use Rattle.turn_history.specs.Fitting.{IsFitting}
 use Rattle.turn_history.specs.History.{History, clock}
 use Rattle.turn_history.specs.Table.{Contents, table}
-use Rattle.turn_record.specs.Bytes.{snapshot}
 use Rattle.turn_record.specs.Records.{IsSnapshot, SpellsSnapshot, max_snapshot}
 use Rattle.turn_store.specs.Replay.{Snapshot}
 use Rattle.turn_store.specs.Spells.{Spells}
-use Rattle.turn_store.proofs.Replayed.{at}
 use Rattle.turn_store.proofs.Spelling.{of_spelled}
 use Rattle.turn_types.specs.Limits.{AreInRange}
 use Rattle.turn_types.specs.declared.limits.Bounds.{Bounds}

@@ -1,19 +1,18 @@
 -- What stands for a history is not refused, and its table is read.
-use Rattle.std.proofs.Common.{◌≡◌, ◌≢◌, ◌⊎◌, inl, inr, ⊎_elim, ℕ, ◌*◌, ◌+◌, ◌^◌, ◌<◌, ◌≤◌, ◌++◌, Bool, List, length, map, max, refl, sym, ◌∙◌, ap, subst, arith, false}
-use Rattle.turn_disk.specs.Disk.{State, StandsAt, IsSettled}
-use Rattle.turn_history.specs.History.{Event, History, clock}
-use Rattle.turn_history.specs.Table.{Contents, table}
+use Rattle.std.proofs.Common.{◌≡◌, ◌≢◌, ◌⊎◌, inl, inr, ⊎_elim, ℕ, ◌*◌, ◌+◌, ◌<◌, ◌≤◌, ◌++◌, List, length, map, max, sym, ◌∙◌, ap, subst, arith}
+use Rattle.turn_history.specs.History.{History, clock}
+use Rattle.turn_history.specs.Table.{table}
 use Rattle.turn_journal.specs.Frames.{HoldsFrames}
 use Rattle.turn_journal.proofs.Once.{list_once}
 use Rattle.turn_record.specs.Bytes.{payload}
 use Rattle.turn_record.specs.Records.{SpellsSnapshot, max_snapshot}
-use Rattle.turn_store.specs.Areas.{Form, AreAreas, AreaHolds, Holds, Yields}
-use Rattle.turn_store.specs.Head.{IsHead, Beats, NoneCounts}
+use Rattle.turn_store.specs.Areas.{Form, AreAreas, AreaHolds, Yields}
+use Rattle.turn_store.specs.Head.{Beats, NoneCounts}
 use Rattle.turn_store.specs.Images.{StandsForAt}
-use Rattle.turn_store.specs.Refused.{FaultWith, IsPlain, BreaksAt, HasBytes, IsBadHead, IsBadLog, IsBadSnapshot, IsGoodSnapshot, AreaIsBad, StoreIsBad, WhyRefused}
+use Rattle.turn_store.specs.Refused.{IsPlain, AreaIsBad, StoreIsBad, WhyRefused}
 use Rattle.turn_store.specs.Replay.{Snapshot, Replays}
 use Rattle.turn_store.specs.Spells.{Spells, all_of}
-use Rattle.turn_store.specs.Superblock.{superblock, HasSuperblock, least_area}
+use Rattle.turn_store.specs.Superblock.{HasSuperblock, least_area}
 use Rattle.turn_store.specs.declared.fault.OpenFault.{OpenFault}
 use Rattle.turn_store.specs.declared.fault.OpenFault.TheVariants.{Device, Memory, NotAStore, LimitsDiffer, Damaged}
 use Rattle.turn_store.specs.declared.heads.Head.{Head}
@@ -21,7 +20,7 @@ use Rattle.turn_store.proofs.Replayed.{at, same_at, batches_replay, no_break}
 use Rattle.turn_store.proofs.Fronts.{front_is, front_short, spelled_once}
 use Rattle.turn_store.proofs.Sound.{Counts, counts_is, front_size, none_no, none_turned, beats_no}
 use Rattle.turn_store.proofs.Spelling.{of_spelled, are_batches}
-use Rattle.turn_store.proofs.Superblocks.{length-superblock, superblock_once}
+use Rattle.turn_store.proofs.Superblocks.{superblock_once}
 use Rattle.turn_types.specs.Limits.{AreInRange}
 use Rattle.turn_types.specs.declared.limits.Bounds.{Bounds}
 

@@ -3,6 +3,7 @@ pub mod Bytes
 pub mod Format
 pub mod Head
 pub mod Images
+pub mod Laws
 pub mod Opened
 pub mod Refused
 pub mod Replay

@@ -3,10 +3,12 @@ use Rattle.std.specs.Prelude.{◌≡◌, ◌+◌, ◌↔◌, ℕ, List, Bool, le
 use Rattle.turn_disk.specs.Disk.{State}
 use Rattle.turn_journal.specs.Frames.{HoldsFramesTo, last_gate}
 use Rattle.turn_record.specs.Records.{SpellsSnapshot}
-use Rattle.turn_store.specs.Areas.{AreaHolds, AreAreas, IsBelow, Yields}
+use Rattle.turn_history.specs.History.{History}
+use Rattle.turn_history.specs.Table.{table}
+use Rattle.turn_store.specs.Areas.{Form, AreaHolds, AreAreas, IsBelow, Yields}
 use Rattle.turn_store.specs.Head.{IsHead}
 use Rattle.turn_store.specs.Replay.{Snapshot, Replays}
-use Rattle.turn_store.specs.State.{StoreState, Shows}
+use Rattle.turn_store.specs.State.{StoreState, RestsAt, Shows, form_of}
 use Rattle.turn_store.specs.declared.heads.Head.{Head}
 use Rattle.turn_types.specs.declared.limits.Bounds.{Bounds}
 
@@ -51,3 +53,9 @@ pub record IsOpened {D : Type 0} (store : StoreState D) (state : State) (t : Sna
   pub shows : Shows store state snapshot payloads
   pub spells : SpellsSnapshot store.bounds first.moment first.contents snapshot
   pub replays : Replays store.bounds first payloads t
+
+-- The store was opened to a history at a clock: it rests on it, and the table that was returned is the history's.
+pub record OpensTo {D : Type 0} (form : Form) (h : History) (clock : ℕ) (store : StoreState D) (state : State) (t : Snapshot) : Type 0 where
+  pub same_form : form_of store ≡ form
+  pub rests : RestsAt store state clock h
+  pub table_is : t ≡ record { moment = clock; contents = table h clock }

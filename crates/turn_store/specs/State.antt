@@ -54,6 +54,7 @@ pub record IsSound (capacity : ℕ) (b : Bounds) (area : Area) (other frames : �
   pub whole : 64 + 2 * area.size ≡ capacity
   pub addressable : capacity < 2 ^ 64
   pub room : least_area b ≤ area.size
+  pub small : least_area b < 2 ^ 32
   pub payload : area.max_payload ≡ max_payload b
   pub start_within : area.start ≤ 64 + area.size
   pub other_within : other ≤ 64 + area.size

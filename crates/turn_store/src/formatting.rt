@@ -1,10 +1,9 @@
 //! A store is made of a disk: zeros over the superblock, the areas, the superblock, the first area's gate. So until the last
 //! write no image is a store.
 
-ghost use Rattle.std.specs.Prelude.{◌≡◌, [], ◌∷◌, ◌++◌, ◌+◌, ◌*◌, ◌≤◌, ◌<◌, ◌^◌, ◌↔◌, ℕ, List, IfErr, OnOk};
+ghost use Rattle.std.specs.Prelude.{◌≡◌, [], ◌+◌, ◌*◌, ◌≤◌, ◌<◌, ◌^◌, ◌↔◌, IfErr, OnOk};
 ghost use Rattle.turn_disk.specs.Counts.{CountOutcome, Rises};
-ghost use Rattle.turn_store.specs.Areas.{Form, area_front};
-ghost use Rattle.turn_store.specs.Format.{IsFormatted, IsLaid, fresh};
+ghost use Rattle.turn_store.specs.Format.{IsFormatted, IsLaid};
 ghost use Rattle.turn_store.specs.Images.{EachImage, StandsForAt};
 ghost use Rattle.turn_store.specs.Superblock.{least_area};
 ghost use Rattle.turn_store.specs.declared.formatting.FormatRefused.TheVariants.{Device};

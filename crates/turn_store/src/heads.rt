@@ -1,6 +1,6 @@
 //! The first 14 bytes of an area.
 
-ghost use Rattle.std.specs.Prelude.{◌≡◌, ◌+◌, ◌≤◌, ◌<◌, ◌^◌, ◌↔◌, IfOk, IfSome, IsNone, MatchBool, slice_index};
+ghost use Rattle.std.specs.Prelude.{◌≡◌, ◌⊎◌, ◌+◌, ◌≤◌, ◌<◌, ◌^◌, ◌↔◌, IfOk, IfSome, IsNone, slice_index};
 ghost use Rattle.std.specs.Int.{to_be_bytes, w32, w64};
 ghost use Rattle.turn_disk.specs.Counts.{CountOutcome};
 ghost use Rattle.turn_disk.specs.Disk.{StandsAt};
@@ -83,16 +83,24 @@ pub fn read_head<D: Disk>(disk: &mut D, at: usize) -> Result<Head, DeviceFailed>
     })
 }
 
-/// Whether the first area counts, or the second one: it is open, and the other is closed or of a generation below.
-pub fn first_counts(first: &Head, second: &Head) -> Option<bool>
-    ensures counts { IfSome result (λ is_first. MatchBool is_first (Beats first.now second.now) (Beats second.now first.now)) }
-    ensures none { IsNone result → NoneCounts first.now second.now }
+/// Where an area begins, and its head.
+#[derive(Clone, Copy, Debug, PartialEq, Eq)]
+pub struct Placed {
+    pub start: usize,
+    pub head: Head,
+}
+
+/// The area that counts, and the other one: it is open, and the other is closed or of a generation below.
+pub fn counting(first: Placed, second: Placed) -> Option<(Placed, Placed)>
+    ensures counts { IfSome result (λ r. Beats r.0.head r.1.head) }
+    ensures both { IfSome result (λ r. ((r.0 ≡ first) × (r.1 ≡ second)) ⊎ ((r.0 ≡ second) × (r.1 ≡ first))) }
+    ensures none { IsNone result → NoneCounts first.head second.head }
 {
-    match (first.is_open, second.is_open) {
-        (true, false) => Some(true),
-        (false, true) => Some(false),
-        (true, true) if first.generation > second.generation => Some(true),
-        (true, true) if first.generation < second.generation => Some(false),
+    match (first.head.is_open, second.head.is_open) {
+        (true, false) => Some((first, second)),
+        (false, true) => Some((second, first)),
+        (true, true) if first.head.generation > second.head.generation => Some((first, second)),
+        (true, true) if first.head.generation < second.head.generation => Some((second, first)),
         _ => None,
     }
 }

@@ -5,13 +5,19 @@
 mod areas;
 mod fault;
 mod formatting;
+mod front;
 mod gate;
 mod heads;
+mod laws;
 mod log;
 mod open;
 mod replay;
 mod snapshots;
+mod store;
 mod superblock;
 
+pub use fault::{OpenFault, StoreFault};
 pub use formatting::{FormatRefused, format};
+pub use laws::{a_store_at_rest_stands, an_image_has_one_table};
+pub use store::{Info, Opened, Refused, Store};
 pub use superblock::{LimitsRefused, least_area, limits};

@@ -1,10 +1,10 @@
 //! The log of an area, replayed.
 
-ghost use Rattle.std.specs.Prelude.{◌≡◌, ◌≢◌, ◌+◌, ◌≤◌, ◌<◌, ◌^◌, ◌↔◌, IfOk, IfErr, OnOk, length};
+ghost use Rattle.std.specs.Prelude.{◌≡◌, ◌≢◌, ◌+◌, ◌≤◌, ◌<◌, ◌↔◌, IfOk, IfErr, OnOk, length};
 ghost use Rattle.turn_disk.specs.Counts.{Rises};
 ghost use Rattle.turn_journal.specs.Area.{end_of, limit_of};
 ghost use Rattle.turn_journal.specs.Scan.{IsAdmitted, IsFound, IsBadFrame};
-ghost use Rattle.turn_record.specs.Records.{max_payload};
+ghost use Rattle.turn_record.specs.Records.{IsSnapshot, max_payload};
 ghost use Rattle.turn_store.specs.Opened.{LogIsRead};
 ghost use Rattle.turn_store.specs.Refused.{BreaksAt, FaultWith};
 ghost use Rattle.turn_store.specs.Tables.{snapshot_of};
@@ -58,17 +58,19 @@ fn fault_at(gate: usize, fault: FrameFault) -> OpenFault
     }
 }
 
-/// Applies the frames from the journal's gate on to the table before them. Returns the gate at which the log ends, and the
-/// number of frames.
+/// Applies the frames from the journal's gate on to the table before them, each read to the buffer for the longest payload.
+/// Returns the gate at which the log ends, and the number of frames.
 pub fn replay_log<D: Disk, A: Allocator + Copy>(
     alloc: A,
     disk: &mut D,
     limits: Limits,
     journal: &Journal<A>,
+    payload: &mut [u8],
     table: &mut Table<A>,
 ) -> Result<(usize, usize), OpenFault>
     requires place { journal.now.start + journal.now.size ≤ D.capacity disk.old }
     requires payload { journal.now.max_payload ≡ max_payload limits }
+    requires buffer { length payload.old ≡ max_payload limits }
     requires bounds { table.old.bounds ≡ limits }
     ensures size { D.capacity disk.new ≡ D.capacity disk.old }
     ensures honest { D.is_honest disk.new ↔ D.is_honest disk.old }
@@ -77,6 +79,8 @@ pub fn replay_log<D: Disk, A: Allocator + Copy>(
     ensures count { OnOk result (D.failed disk.new ≡ D.failed disk.old) }
     ensures count_not { IfErr result (λ fault. fault ≢ OpenFault.Device → D.failed disk.new ≡ D.failed disk.old) }
     ensures bounds { table.new.bounds ≡ table.old.bounds }
+    ensures snapshot { IsSnapshot limits table.old.moment table.old.contents
+        → OnOk result (IsSnapshot limits table.new.moment table.new.contents) }
     ensures within { IfOk result (λ r. r.0 < journal.now.size) }
     ensures few { IfOk result (λ r. r.1 ≤ r.0) }
     ensures log { D.is_honest disk.old → IfOk result (λ r.
@@ -99,7 +103,7 @@ pub fn replay_log<D: Disk, A: Allocator + Copy>(
             Found::End => return Ok((end, frames)),
             Found::Frame(count) => {
                 let at = start + end + 5;
-                match replay_frame(alloc, disk, at, count, table, limits) {
+                match replay_frame(alloc, disk, at, count, payload, table, limits) {
                     Ok(()) => {
                         end += 5 + count;
                         frames += 1;

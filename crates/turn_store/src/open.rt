@@ -1,9 +1,9 @@
-//! A store is read: the disk is synced first, and what is read after that is what each image of it holds.
+//! What a store holds is read: its superblock, the area that counts, the snapshot and the log.
 
-ghost use Rattle.std.specs.Prelude.{◌≡◌, ◌≢◌, ◌+◌, ◌*◌, ◌≤◌, ◌<◌, ◌^◌, ◌↔◌, ℕ, List, IfOk, IfErr, IsTrue, OnOk, length};
+ghost use Rattle.std.specs.Prelude.{◌≡◌, ◌≢◌, ◌+◌, ◌*◌, ◌≤◌, ◌<◌, ◌^◌, ◌↔◌, ℕ, IfOk, IfErr, IsTrue, OnOk};
 ghost use Rattle.turn_disk.specs.Counts.{Rises};
-ghost use Rattle.turn_disk.specs.Disk.{EachImageSince, IsImage};
-ghost use Rattle.turn_record.specs.Records.{max_payload, max_snapshot};
+ghost use Rattle.turn_disk.specs.Disk.{EachImageSince, IsImage, IsSettled};
+ghost use Rattle.turn_record.specs.Records.{IsSnapshot, max_payload, max_snapshot};
 ghost use Rattle.turn_history.specs.History.{History};
 ghost use Rattle.turn_store.specs.Areas.{Form};
 ghost use Rattle.turn_store.specs.Images.{StandsForAt};
@@ -13,7 +13,7 @@ ghost use Rattle.turn_store.specs.Superblock.{HasSuperblock, least_area};
 ghost use Rattle.turn_store.specs.Tables.{snapshot_of};
 
 use crate::fault::OpenFault;
-use crate::heads::{Head, first_counts, read_head};
+use crate::heads::{Head, Placed, counting, read_head};
 use crate::log::replay_log;
 use crate::snapshots::read_snapshot;
 use crate::superblock::{LimitsRefused, least_area, read_superblock};
@@ -54,6 +54,7 @@ fn load_area<D: Disk, A: Allocator + Copy>(
     ensures count_not { IfErr result (λ fault. fault ≢ OpenFault.Device → D.failed disk.new ≡ D.failed disk.old) }
     ensures area { IfOk result (λ l. (l.journal.start ≡ start) × (l.journal.size ≡ size) × (l.journal.max_payload ≡ max_payload limits)) }
     ensures bounds { IfOk result (λ l. l.table.bounds ≡ limits) }
+    ensures snapshot { IfOk result (λ l. IsSnapshot limits l.table.moment l.table.contents) }
     ensures few { IfOk result (λ l. l.frames ≤ l.journal.end) }
     ensures read { D.is_honest disk.old → IfOk result (λ l.
         AreaIsRead limits start size head l.journal.end l.frames (snapshot_of l.table) (D.trace disk.old).now.bytes) }
@@ -78,7 +79,8 @@ fn load_area<D: Disk, A: Allocator + Copy>(
         end: 14 + count,
     };
     let mut journal = Journal::new(alloc, area)?;
-    match replay_log(alloc, disk, limits, &journal, &mut table) {
+    let mut payload = Vec::from_elem(alloc, 0, max_payload(limits))?;
+    match replay_log(alloc, disk, limits, &journal, &mut payload, &mut table) {
         Ok((end, frames)) => {
             journal.move_to(start, end);
             Ok(Loaded {
@@ -119,6 +121,7 @@ fn choose<D: Disk, A: Allocator + Copy>(
     ensures area { IfOk result (λ r. (r.loaded.journal.size ≡ size) × (r.loaded.journal.max_payload ≡ max_payload limits)) }
     ensures places { IfOk result (λ r. (r.loaded.journal.start ≤ 64 + size) × (r.other ≤ 64 + size)) }
     ensures bounds { IfOk result (λ r. r.loaded.table.bounds ≡ limits) }
+    ensures snapshot { IfOk result (λ r. IsSnapshot limits r.loaded.table.moment r.loaded.table.contents) }
     ensures few { IfOk result (λ r. r.loaded.frames ≤ r.loaded.journal.end) }
     ensures chosen { D.is_honest disk.old → IfOk result (λ r.
         IsChosen limits size r.loaded.journal.start r.other r.generation r.loaded.journal.end r.loaded.frames r.other_is_below
@@ -126,28 +129,29 @@ fn choose<D: Disk, A: Allocator + Copy>(
     ensures faults { D.is_honest disk.old
         → IfErr result (FaultWith (StoreIsBad limits size (D.trace disk.old).now.bytes)) }
 {
-    let second_at = 64 + size;
-    let first = read_head(disk, 64)?;
-    let second = read_head(disk, second_at)?;
-    let Some(is_first) = first_counts(&first, &second) else {
+    let second_start = 64 + size;
+    let first_head = read_head(disk, 64)?;
+    let second_head = read_head(disk, second_start)?;
+    let first = Placed {
+        start: 64,
+        head: first_head,
+    };
+    let second = Placed {
+        start: second_start,
+        head: second_head,
+    };
+    let Some((area, other)) = counting(first, second) else {
         return Err(OpenFault::Damaged(64));
     };
-    if is_first {
-        let loaded = load_area(alloc, disk, limits, size, 64, first)?;
-        return Ok(Chosen {
+    match load_area(alloc, disk, limits, size, area.start, area.head) {
+        Ok(loaded) => Ok(Chosen {
             loaded,
-            other: second_at,
-            generation: first.generation,
-            other_is_below: second.generation < first.generation,
-        });
+            other: other.start,
+            generation: area.head.generation,
+            other_is_below: other.head.generation < area.head.generation,
+        }),
+        Err(fault) => Err(fault),
     }
-    let loaded = load_area(alloc, disk, limits, size, second_at, second)?;
-    Ok(Chosen {
-        loaded,
-        other: 64,
-        generation: second.generation,
-        other_is_below: first.generation < second.generation,
-    })
 }
 
 // Whether a disk of this size has two such areas and nothing more.
@@ -214,6 +218,7 @@ pub fn read_store<D: Disk, A: Allocator + Copy>(
     ensures area { IfOk result (λ r. (least_area limits ≤ r.loaded.journal.size) × (r.loaded.journal.max_payload ≡ max_payload limits)) }
     ensures places { IfOk result (λ r. (r.loaded.journal.start ≤ 64 + r.loaded.journal.size) × (r.other ≤ 64 + r.loaded.journal.size)) }
     ensures bounds { IfOk result (λ r. r.loaded.table.bounds ≡ limits) }
+    ensures snapshot { IfOk result (λ r. IsSnapshot limits r.loaded.table.moment r.loaded.table.contents) }
     ensures few { IfOk result (λ r. r.loaded.frames ≤ r.loaded.journal.end) }
     ensures superblock { D.is_honest disk.old
         → IfOk result (λ r. HasSuperblock r.loaded.journal.size limits (D.trace disk.old).now.bytes) }
@@ -231,6 +236,48 @@ pub fn read_store<D: Disk, A: Allocator + Copy>(
         Err(fault) => return Err(fault),
     };
     match choose(alloc, disk, limits, size) {
+        Ok(chosen) => Ok(chosen),
+        Err(fault) => Err(fault),
+    }
+}
+
+/// Syncs a disk, and reads what it holds.
+pub fn load<D: Disk, A: Allocator + Copy>(
+    alloc: A,
+    disk: &mut D,
+    limits: Limits,
+) -> Result<Chosen<A>, OpenFault>
+    ensures size { D.capacity disk.new ≡ D.capacity disk.old }
+    ensures honest { D.is_honest disk.new ↔ D.is_honest disk.old }
+    ensures device { IfErr result (λ fault. fault ≡ OpenFault.Device → Rises (D.failed disk.old) (D.failed disk.new)) }
+    ensures count { OnOk result (D.failed disk.new ≡ D.failed disk.old) }
+    ensures count_not { IfErr result (λ fault. fault ≢ OpenFault.Device → D.failed disk.new ≡ D.failed disk.old) }
+    ensures same { D.is_honest disk.old → (D.trace disk.new).now.bytes ≡ (D.trace disk.old).now.bytes }
+    ensures stop { D.is_honest disk.old
+        → EachImageSince (D.trace disk.old) (D.trace disk.new) (IsImage (D.trace disk.old).now) }
+    ensures settled { D.is_honest disk.old → OnOk result (IsSettled (D.trace disk.new).now) }
+    ensures settled_err { D.is_honest disk.old
+        → IfErr result (λ fault. fault ≢ OpenFault.Device → IsSettled (D.trace disk.new).now) }
+    ensures place { IfOk result (λ r. 64 + 2 * r.loaded.journal.size ≡ D.capacity disk.new) }
+    ensures addressable { OnOk result (D.capacity disk.new < 2 ^ 64) }
+    ensures area { IfOk result (λ r. (least_area limits ≤ r.loaded.journal.size) × (r.loaded.journal.max_payload ≡ max_payload limits)) }
+    ensures small { least_area limits < 2 ^ 32 }
+    ensures places { IfOk result (λ r. (r.loaded.journal.start ≤ 64 + r.loaded.journal.size) × (r.other ≤ 64 + r.loaded.journal.size)) }
+    ensures bounds { IfOk result (λ r. r.loaded.table.bounds ≡ limits) }
+    ensures snapshot { IfOk result (λ r. IsSnapshot limits r.loaded.table.moment r.loaded.table.contents) }
+    ensures few { IfOk result (λ r. r.loaded.frames ≤ r.loaded.journal.end) }
+    ensures superblock { D.is_honest disk.old
+        → IfOk result (λ r. HasSuperblock r.loaded.journal.size limits (D.trace disk.old).now.bytes) }
+    ensures chosen { D.is_honest disk.old → IfOk result (λ r.
+        IsChosen limits r.loaded.journal.size r.loaded.journal.start r.other r.generation r.loaded.journal.end r.loaded.frames r.other_is_below
+        (snapshot_of r.loaded.table) (D.trace disk.old).now.bytes) }
+    ensures why { D.is_honest disk.old → IfErr result (WhyRefused limits (D.trace disk.old).now.bytes) }
+    ensures sound { D.is_honest disk.old → (form : Form) (h : History) (clock : ℕ) → form.bounds ≡ limits
+        → StandsForAt form h clock (D.trace disk.old).now.bytes → IfErr result IsPlain }
+{
+    let _needed = least_area(limits);
+    disk.sync()?;
+    match read_store(alloc, disk, limits) {
         Ok(chosen) => Ok(chosen),
         Err(fault) => Err(fault),
     }

@@ -6,7 +6,7 @@ ghost use Rattle.turn_disk.specs.Disk.{StandsAt};
 ghost use Rattle.turn_history.specs.Act.{event_of};
 ghost use Rattle.turn_history.specs.History as histories;
 ghost use Rattle.turn_history.specs.Table.{purged};
-ghost use Rattle.turn_record.specs.Records.{SpellsPayload};
+ghost use Rattle.turn_record.specs.Records.{IsSnapshot, SpellsPayload};
 ghost use Rattle.turn_record.specs.Views.{events_of};
 ghost use Rattle.turn_store.specs.Refused.{ReadsBad, ReadsOn};
 ghost use Rattle.turn_store.specs.Replay.{IsNext, GoOn, GoesOn, after, after_all};
@@ -173,16 +173,18 @@ fn replay_payload<D: Disk, A: Allocator + Copy>(
     }
 }
 
-/// Reads a payload of so many bytes, and applies its events.
+/// Reads a payload of so many bytes to the front of the buffer, and applies its events.
 pub fn replay_frame<D: Disk, A: Allocator + Copy>(
     alloc: A,
     disk: &mut D,
     at: usize,
     count: usize,
+    buffer: &mut [u8],
     table: &mut Table<A>,
     limits: Limits,
 ) -> Result<(), FrameFault>
     requires bounds { table.old.bounds ≡ limits }
+    requires room { count ≤ length buffer.old }
     requires place { at + count ≤ D.capacity disk.old }
     requires addressable { at + count < 2 ^ 64 }
     ensures size { D.capacity disk.new ≡ D.capacity disk.old }
@@ -191,14 +193,16 @@ pub fn replay_frame<D: Disk, A: Allocator + Copy>(
     ensures device { IfErr result (λ fault. fault ≡ FrameFault.Device → Rises (D.failed disk.old) (D.failed disk.new)) }
     ensures count { OnOk result (D.failed disk.new ≡ D.failed disk.old) }
     ensures count_not { IfErr result (λ fault. fault ≢ FrameFault.Device → D.failed disk.new ≡ D.failed disk.old) }
+    ensures len { length buffer.new ≡ length buffer.old }
     ensures bounds { table.new.bounds ≡ table.old.bounds }
+    ensures snapshot { IsSnapshot limits table.old.moment table.old.contents
+        → OnOk result (IsSnapshot limits table.new.moment table.new.contents) }
     ensures goes { D.is_honest disk.old → OnOk result
         (ReadsOn limits (snapshot_of table.old) at count (snapshot_of table.new) (D.trace disk.old).now.bytes) }
     ensures bad { D.is_honest disk.old → IfErr result (λ fault. fault ≡ FrameFault.Bad
         → ReadsBad limits (snapshot_of table.old) at count (D.trace disk.old).now.bytes) }
 {
-    let mut payload = Vec::from_elem(alloc, 0, count)?;
-    match replay_payload(alloc, disk, at, &mut payload, table, limits) {
+    match replay_payload(alloc, disk, at, &mut buffer[..count], table, limits) {
         Ok(()) => Ok(()),
         Err(fault) => Err(fault),
     }

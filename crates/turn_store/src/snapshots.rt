@@ -3,8 +3,7 @@
 ghost use Rattle.std.specs.Prelude.{◌≡◌, ◌≢◌, ◌+◌, ◌++◌, ◌≤◌, ◌<◌, ◌^◌, ◌↔◌, ℕ, List, IfOk, IfErr, OnOk, drop, length, take};
 ghost use Rattle.turn_disk.specs.Counts.{CountOutcome, Rises};
 ghost use Rattle.turn_record.specs.Pieces.{WasFed};
-ghost use Rattle.turn_record.specs.Records.{SpellsSnapshot};
-ghost use Rattle.turn_history.specs.Table.{Contents};
+ghost use Rattle.turn_record.specs.Records.{IsSnapshot};
 ghost use Rattle.turn_store.specs.Refused.{FaultWith, IsBadSnapshot, IsGoodSnapshot};
 ghost use Rattle.turn_store.specs.Bytes.{AreBytes};
 ghost use Rattle.turn_store.specs.Tables.{snapshot_of};
@@ -60,8 +59,8 @@ fn feed_piece<D: Disk, A: Allocator + Copy>(
     ensures honest { D.is_honest disk.new ↔ D.is_honest disk.old }
     ensures same { D.is_honest disk.old → D.trace disk.new ≡ D.trace disk.old }
     ensures bytes { D.is_honest disk.old → OnOk result (AreBytes (take size (drop at (D.trace disk.old).now.bytes))) }
-    ensures fed_some { OnOk result ((b : Bounds) (fed : List ℕ)
-        → WasFed b reader.old fed → (more : List ℕ) × WasFed b reader.new more) }
+    ensures fed_some { OnOk result ((b : Bounds) (fed : List ℕ) → AreBytes fed
+        → WasFed b reader.old fed → (more : List ℕ) × AreBytes more × WasFed b reader.new more) }
     ensures fed { D.is_honest disk.old → OnOk result ((b : Bounds) (fed : List ℕ)
         → WasFed b reader.old fed → WasFed b reader.new (fed ++ take size (drop at (D.trace disk.old).now.bytes))) }
 {
@@ -88,6 +87,7 @@ pub fn read_snapshot<D: Disk, A: Allocator + Copy>(
     ensures count { OnOk result (D.failed disk.new ≡ D.failed disk.old) }
     ensures count_not { IfErr result (λ fault. fault ≢ OpenFault.Device → D.failed disk.new ≡ D.failed disk.old) }
     ensures bounds { IfOk result (λ table. table.bounds ≡ limits) }
+    ensures snapshot { IfOk result (λ table. IsSnapshot limits table.moment table.contents) }
     ensures read { D.is_honest disk.old → IfOk result (λ table.
         IsGoodSnapshot limits at count (snapshot_of table) (D.trace disk.old).now.bytes) }
     ensures faults { D.is_honest disk.old → IfErr result (FaultWith (λ place. (place ≡ at)

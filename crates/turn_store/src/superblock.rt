@@ -1,6 +1,6 @@
 //! The first 64 bytes of a store: the size of an area, and the limits.
 
-ghost use Rattle.std.specs.Prelude.{◌≡◌, ◌≢◌, ◌+◌, ◌≤◌, ◌<◌, ◌^◌, ◌↔◌, ℕ, IfSome, IsNone, IfOk, IfErr, OnOk, length};
+ghost use Rattle.std.specs.Prelude.{◌≡◌, ◌≢◌, ◌+◌, ◌<◌, ◌^◌, ◌↔◌, ℕ, IfSome, IsNone, IfOk, IfErr, OnOk, length};
 ghost use Rattle.turn_disk.specs.Counts.{Rises};
 ghost use Rattle.turn_store.specs.Superblock.{HasSuperblock, least_area, superblock};
 ghost use Rattle.turn_store.specs.declared.superblock.LimitsRefused.TheVariants.{Device};

@@ -1,6 +1,6 @@
 //! What more permissions and channels an entry may have.
 
-ghost use Rattle.std.specs.Prelude.{◌≡◌, ◌+◌, ◌≤◌, ◌↔◌, IsTrue, not, ◌||◌, is_some, length, nat_eq};
+ghost use Rattle.std.specs.Prelude.{◌≡◌, ◌+◌, ◌≤◌, ◌↔◌, IsTrue, not, ◌||◌, is_some, nat_eq};
 ghost use Rattle.std.specs.FinMap as fin;
 ghost use Rattle.std.specs.List.{list_all, list_any};
 ghost use Rattle.turn_history.specs.Fitting.{FitsChannel, IsChannelNumber, exceeds, goes_with, is_bound_elsewhere};

@@ -1,11 +1,11 @@
-use Rattle.std.proofs.Common.{◌≡◌, ◌≢◌, ◌+◌, ◌≤◌, ℕ, inl, inr, refl, ◌∙◌, ap, sym, subst, arith}
+use Rattle.std.proofs.Common.{◌≡◌, ◌+◌, ◌≤◌, ℕ, inl, inr, refl, ◌∙◌, ap, sym, subst, arith}
 use Rattle.turn_disk.specs.Counts.{Rises}
 use Rattle.turn_disk.specs.Disk.{Trace}
 use Rattle.turn_journal.specs.Area.{end_of, limit_of}
 use Rattle.turn_journal.specs.declared.area.Area.{Area}
 use Rattle.turn_record.specs.Records.{max_snapshot}
 use Rattle.turn_store.specs.Opened.{AreaIsRead, LogIsRead}
-use Rattle.turn_store.specs.Refused.{BreaksAt, FaultWith}
+use Rattle.turn_store.specs.Refused.{BreaksAt}
 use Rattle.turn_store.specs.Tables.{snapshot_of}
 use Rattle.turn_store.proofs.Logs.{faults_weaken}
 use Rattle.turn_store.proofs.Choices.{area_is_read}

@@ -1,6 +1,7 @@
 use Rattle.std.proofs.Common.{ℕ, ◌++◌, List, subst}
 use Rattle.turn_record.specs.Pieces.{WasFed}
 use Rattle.turn_store.specs.Bytes.{AreBytes}
+use Rattle.turn_store.proofs.Fed.{bytes_join}
 use Rattle.turn_store.proofs.snapshots.feed_piece.Goals as goal
 
 pub returns-clause-bytes : goal.returns-clause-bytes
@@ -11,4 +12,4 @@ returns-clause-fed g c = λ honest b fed was.
     subst (λ (l : List ℕ). WasFed b c.feed.new.reader (fed ++ l)) (c.in_ok-read_front.ensures.value honest) (c.feed.ensures.fed b fed was)
 
 pub returns-clause-fed_some : goal.returns-clause-fed_some
-returns-clause-fed_some g c = λ b fed was. (_, c.feed.ensures.fed b fed was)
+returns-clause-fed_some g c = λ b fed are was. (_, bytes_join fed _ are c.feed.ensures.bytes, c.feed.ensures.fed b fed was)

@@ -1,4 +1,4 @@
-use Rattle.std.proofs.Common.{◌≡◌, [], ◌+◌, ◌≤◌, ◌++◌, ◌∙◌, ℕ, List, length, take, drop, refl, sym, ap, subst, arith}
+use Rattle.std.proofs.Common.{◌≡◌, [], ◌+◌, ◌≤◌, ◌++◌, ◌∙◌, ℕ, length, take, drop, refl, sym, subst, arith}
 use Rattle.turn_disk.specs.Disk.{Trace}
 use Rattle.turn_record.specs.Pieces.{WasFed}
 use Rattle.turn_record.specs.Reading.{Fails}
@@ -6,9 +6,8 @@ use Rattle.turn_record.specs.Snapshots.{snapshot_in}
 use Rattle.turn_record.specs.declared.fault.ReadError.{ReadError}
 use Rattle.turn_store.specs.Bytes.{AreBytes}
 use Rattle.turn_store.specs.Tables.{snapshot_of}
-use Rattle.turn_store.proofs.Fed.{piece_more, bytes_join, good_snapshot, bad_snapshot}
+use Rattle.turn_store.proofs.Fed.{piece_more, bytes_join, fed_snapshot, good_snapshot, bad_snapshot}
 use Rattle.turn_types.specs.Limits.{AreInRange}
-use Rattle.turn_types.specs.declared.limits.Bounds.{Bounds}
 use Rattle.turn_store.proofs.snapshots.read_snapshot.Goals as goal
 
 pub loop-done-init : goal.loop-done-init
@@ -18,7 +17,7 @@ loop-done-init g c = record {
   count = refl;
   honest = ((λ h. h), (λ h. h));
   same = λ h. refl;
-  some = ([], c.new-reader.ensures.fed);
+  some = ([], (λ i. omega arith), c.new-reader.ensures.fed);
   bytes = λ h i. omega arith;
   fed = λ h. c.new-reader.ensures.fed;
 }
@@ -32,7 +31,7 @@ loop-done-preserved g c =
       count = c.in_ok-feed_piece.ensures.count ∙ inv.count;
       honest = ((λ h. inv.honest.0 (c.feed_piece.ensures.honest.0 h)), (λ h. c.feed_piece.ensures.honest.1 (inv.honest.1 h)));
       same = λ h. c.feed_piece.ensures.same (inv.honest.1 h) ∙ inv.same h;
-      some = c.in_ok-feed_piece.ensures.fed_some c.args.limits inv.some.0 inv.some.1;
+      some = c.in_ok-feed_piece.ensures.fed_some c.args.limits inv.some.0 inv.some.1 inv.some.2;
       bytes = λ h.
           let content = (g.D.Disk.trace c.args.disk.now).now.bytes in
           let size = c.min-size.result in
@@ -68,4 +67,10 @@ returns-in-Err-Malformed-clause-faults g c = λ h.
     (refl, bad_snapshot c.args.limits range c.args.at c.args.count content _ (omega (arith, c.requires.place, g.met.D.Disk.sized c.args.disk.now h)) (subst (λ (e : ReadError). Fails e (snapshot_in c.args.limits (take c.args.count (drop c.args.at content)))) c.in-Err-Malformed.field-0-is (c.in-Err-Malformed.ensures.gives c.args.limits _ fed)))
 
 pub returns-in-Ok-clause-bounds : goal.returns-in-Ok-clause-bounds
-returns-in-Ok-clause-bounds g c = let inv = c.loop-done.invariant in c.in-Ok.ensures.limits c.args.limits inv.some.0 inv.some.1
+returns-in-Ok-clause-bounds g c = let inv = c.loop-done.invariant in c.in-Ok.ensures.limits c.args.limits inv.some.0 inv.some.2
+
+pub returns-in-Ok-clause-snapshot : goal.returns-in-Ok-clause-snapshot
+returns-in-Ok-clause-snapshot g c =
+    let some = c.loop-done.invariant.some in
+    let range : AreInRange c.args.limits = subst AreInRange c.bounds-bounds.ensures.value c.bounds-bounds.ensures.range in
+    fed_snapshot c.args.limits range some.0 some.1 (snapshot_of c.in-Ok.table) (c.in-Ok.ensures.gives c.args.limits some.0 some.2)

@@ -10,7 +10,7 @@ invariant-loop-done g l = record {
   count : g.D.Disk.failed l.disk ≡ g.D.Disk.failed l.initial.disk;
   honest : g.D.Disk.is_honest l.disk ↔ g.D.Disk.is_honest l.initial.disk;
   same : g.D.Disk.is_honest l.initial.disk → g.D.Disk.trace l.disk ≡ g.D.Disk.trace l.initial.disk;
-  some : (fed : List ℕ) × WasFed l.fn.limits l.reader fed;
+  some : (fed : List ℕ) × AreBytes fed × WasFed l.fn.limits l.reader fed;
   bytes : g.D.Disk.is_honest l.initial.disk → AreBytes (take l.done (drop l.at (g.D.Disk.trace l.initial.disk).now.bytes));
   fed : g.D.Disk.is_honest l.initial.disk → WasFed l.fn.limits l.reader (take l.done (drop l.at (g.D.Disk.trace l.initial.disk).now.bytes));
 }

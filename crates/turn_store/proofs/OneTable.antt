@@ -1,0 +1,83 @@
+-- What an image stands for is one table.
+use Rattle.std.proofs.Common.{◌≡◌, ℕ, ◌≤◌, List, [], ◌∷◌, ◌++◌, map, max, refl, sym, ◌∙◌, ap, subst, arith}
+use Rattle.std.specs.List.{AllByRecursion}
+use Rattle.turn_history.specs.Fitting.{FitsAfter}
+use Rattle.turn_history.specs.History.{Event, History, clock}
+use Rattle.turn_history.specs.Table.{table}
+use Rattle.turn_history.proofs.Histories.{same_table}
+use Rattle.turn_record.specs.Bytes.{payload}
+use Rattle.turn_record.specs.Records.{IsBatch}
+use Rattle.turn_record.proofs.Batches.{one_payload}
+use Rattle.turn_store.specs.Areas.{Form}
+use Rattle.turn_store.specs.Images.{StandsForAt}
+use Rattle.turn_store.specs.Replay.{Snapshot}
+use Rattle.turn_store.specs.Spells.{Spells, all_of}
+use Rattle.turn_store.proofs.Fronts.{front_is, spelled_once}
+use Rattle.turn_store.proofs.Honest.{has_superblock}
+use Rattle.turn_store.proofs.Opens.{form_is}
+use Rattle.turn_store.proofs.Replayed.{at}
+use Rattle.turn_store.proofs.Sound.{HoldsHere, holds_once}
+use Rattle.turn_store.proofs.Spelling.{are_batches, of_spelled}
+use Rattle.turn_store.proofs.Superblocks.{superblock_once}
+use Rattle.turn_types.specs.Limits.{AreInRange}
+use Rattle.turn_types.specs.declared.limits.Bounds.{Bounds}
+
+batches_once : (b : Bounds) → AreInRange b → (xs ys : List (List Event)) → AllByRecursion (IsBatch b) xs → AllByRecursion (IsBatch b) ys → map payload xs ≡ map payload ys → xs ≡ ys
+batches_once b range [] [] one two same = refl
+batches_once b range [] (y ∷ ys) one two same = cc
+batches_once b range (x ∷ xs) [] one two same = cc
+batches_once b range (x ∷ xs) (y ∷ ys) one two same =
+    let heads : payload x ≡ payload y = ap (λ (l : List (List ℕ)). head_of l) same in
+    let tails : map payload xs ≡ map payload ys = ap (λ (l : List (List ℕ)). tail_of l) same in
+    let here = (one_payload b range x y [] [] one.0 two.0 (ap (λ (l : List ℕ). l ++ []) heads)).0 in
+    ap (λ (e : List Event). e ∷ xs) here ∙ ap (λ (l : List (List Event)). y ∷ l) (batches_once b range xs ys one.1 two.1 tails)
+  where
+    head_of : List (List ℕ) → List ℕ
+    head_of [] = []
+    head_of (l ∷ ls) = l
+
+    tail_of : List (List ℕ) → List (List ℕ)
+    tail_of [] = []
+    tail_of (l ∷ ls) = ls
+
+-- bytes spell one table
+pub one_table : (b : Bounds) → AreInRange b → (g h : History) (c d : ℕ) (s : List ℕ) (ps : List (List ℕ)) → Spells b g c s ps → Spells b h d s ps
+    → (c ≡ d) × ((t : ℕ) → c ≤ t → table g t ≡ table h t)
+one_table b range g h c d s ps one two =
+    let parts = of_spelled b g c s ps one in
+    let others = of_spelled b h d s ps two in
+    let first : at one.before one.moment ≡ at two.before two.moment =
+    spelled_once b range (at one.before one.moment) (at two.before two.moment) s (front_is b g c s ps one) (front_is b h d s ps two) in
+    let moments : one.moment ≡ two.moment = ap (λ (x : Snapshot). x.moment) first in
+    let tables : table one.before one.moment ≡ table two.before two.moment = ap (λ (x : Snapshot). x.contents) first in
+    let batches : one.batches ≡ two.batches = batches_once b range one.batches two.batches (are_batches b one.before one.batches parts.1 one.sizes) (are_batches b two.before two.batches others.1 two.sizes)
+    (sym one.are_payloads ∙ two.are_payloads) in
+    let events : all_of one.batches ≡ all_of two.batches = ap all_of batches in
+    let clocks : c ≡ d = one.clock_is ∙ ap (λ (m : ℕ). max m (clock (all_of one.batches))) moments ∙ ap (λ (l : History). max two.moment (clock l)) events ∙ sym two.clock_is in
+    let es = all_of one.batches in
+    let fits_there = subst (λ (l : History). FitsAfter b two.before l) (sym events) others.1 in
+    let same_moment : table one.before one.moment ≡ table two.before one.moment = tables ∙ ap (λ (m : ℕ). table two.before m) (sym moments) in (
+      clocks,
+      λ t le.
+          let clock_is = one.clock_is in
+          ap (λ (l : History). table l t) one.whole
+          ∙ same_table b one.before two.before es one.moment t same_moment one.from parts.1 fits_there (omega arith) (omega arith)
+          ∙ ap (λ (l : History). table (two.before ++ l) t) events
+          ∙ ap (λ (l : History). table l t) (sym two.whole),
+    )
+
+pub image_once : (first second : Form) (g h : History) (c d : ℕ) (image : List ℕ) → StandsForAt first g c image → StandsForAt second h d image
+    → (first ≡ second) × (c ≡ d) × ((t : ℕ) → c ≤ t → table g t ≡ table h t)
+image_once first second g h c d image one two =
+    let blocks = superblock_once first.area second.area first.bounds second.bounds image (has_superblock first g c image one) (has_superblock second h d image two) in
+    let a = one.holds in
+    let b = two.holds in
+    let here : HoldsHere first.area a.start a.other a.generation one.snapshot one.payloads image = record { places = a.places; area = a.area; yields = a.yields } in
+    let there : HoldsHere second.area b.start b.other b.generation two.snapshot two.payloads image = record { places = b.places; area = b.area; yields = b.yields } in
+    let once = holds_once first.area a.start a.other a.generation b.start b.other b.generation one.snapshot two.snapshot one.payloads two.payloads image here
+    (subst (λ (n : ℕ). HoldsHere n b.start b.other b.generation two.snapshot two.payloads image) (sym blocks.0) there) in
+    let bounds_there = subst (λ (x : Bounds). Spells x h d two.snapshot two.payloads) (sym blocks.1) two.spells in
+    let snapshot_there = subst (λ (s : List ℕ). Spells first.bounds h d s two.payloads) (sym once.0) bounds_there in
+    let spells = subst (λ (ps : List (List ℕ)). Spells first.bounds h d one.snapshot ps) (sym once.1) snapshot_there in
+    let tables = one_table first.bounds a.is_form.in_range g h c d one.snapshot one.payloads one.spells spells in
+    (form_is first.bounds second.bounds first.area second.area blocks.1 blocks.0, tables.0, tables.1)

@@ -1,0 +1,38 @@
+use Rattle.std.proofs.Common.{◌∙◌, ap, arith}
+use Rattle.turn_store.proofs.Appends.{frame_stages, frame_done, rest_stages, snapshot_stages, snapshot_done}
+use Rattle.turn_store.proofs.store.Store.append.Goals as goal
+
+pub returns-in-Some-clause-stages : goal.returns-in-Some-clause-stages
+returns-in-Some-clause-stages g c = rw (← c.self.view_is) (λ honest at h es rests follows size is contents.
+    rest_stages _ (g.D.Disk.trace c.self.inside.disk) at h es _ rests follows)
+
+pub returns-in_err-add_frame-clause-stages : goal.returns-in_err-add_frame-clause-stages
+returns-in_err-add_frame-clause-stages g c = λ honest at h es rests follows size is contents.
+    frame_stages _ _ at h es _ rests follows size c.args.payload.now is _ _ (c.add_frame.ensures.stages honest rests.snapshot rests.payloads rests.shows)
+
+pub returns-in_ok-add_frame-clause-stages : goal.returns-in_ok-add_frame-clause-stages
+returns-in_ok-add_frame-clause-stages g c = λ honest at h es rests follows size is contents.
+    frame_stages _ _ at h es _ rests follows size c.args.payload.now is _ _ (c.add_frame.ensures.stages honest rests.snapshot rests.payloads rests.shows)
+
+pub returns-in_err-replace_snapshot-clause-stages : goal.returns-in_err-replace_snapshot-clause-stages
+returns-in_err-replace_snapshot-clause-stages g c = λ honest at h es rests follows size is contents.
+    snapshot_stages _ _ at h es _ rests follows c.args.table.now.contents contents _ _ (c.replace_snapshot.ensures.stages honest rests.snapshot rests.payloads rests.shows)
+
+pub returns-in_ok-replace_snapshot-clause-stages : goal.returns-in_ok-replace_snapshot-clause-stages
+returns-in_ok-replace_snapshot-clause-stages g c = λ honest at h es rests follows size is contents.
+    snapshot_stages _ _ at h es _ rests follows c.args.table.now.contents contents _ _ (c.replace_snapshot.ensures.stages honest rests.snapshot rests.payloads rests.shows)
+
+pub returns-in_ok-add_frame-clause-done : goal.returns-in_ok-add_frame-clause-done
+returns-in_ok-add_frame-clause-done g c = λ honest at h es rests follows size is contents.
+    let after = c.in_ok-add_frame.ensures.ok in
+    frame_done _ _ at h es _ rests follows size c.args.payload.now is _ _ (ap (λ st. st.bounds) after) (ap (λ st. st.stopped) after ∙ rests.runs)
+    (c.in_ok-add_frame.ensures.shown honest rests.snapshot rests.payloads rests.shows)
+
+pub returns-in_ok-replace_snapshot-clause-done : goal.returns-in_ok-replace_snapshot-clause-done
+returns-in_ok-replace_snapshot-clause-done g c = λ honest at h es rests follows size is contents.
+    let after = c.in_ok-replace_snapshot.ensures.ok in (
+      c.args.table.now.moment,
+      omega arith,
+      snapshot_done _ _ at h es _ rests follows c.args.table.now.contents contents _ _ (ap (λ st. st.bounds) after) (ap (λ st. st.stopped) after ∙ rests.runs)
+          (c.in_ok-replace_snapshot.ensures.shown honest rests.snapshot rests.payloads rests.shows),
+    )

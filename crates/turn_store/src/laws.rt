@@ -1,0 +1,21 @@
+//! Laws of the definitions.
+
+ghost use Rattle.std.specs.Prelude.{ℕ};
+ghost use Rattle.turn_disk.specs.Disk.{State};
+ghost use Rattle.turn_history.specs.History.{History};
+ghost use Rattle.turn_store.specs.Images.{EachImage, StandsForAt};
+ghost use Rattle.turn_store.specs.Laws.{AnImageHasOneTable};
+ghost use Rattle.turn_store.specs.State.{RestsAt, StoreState, form_of};
+
+use turn_disk::Disk;
+
+/// What an image stands for is one table, whatever history it is told by.
+pub fn an_image_has_one_table()
+    ensures { AnImageHasOneTable }
+{}
+
+/// Each image of the disk of a store that rests on a history stands for it.
+pub fn a_store_at_rest_stands<D: Disk>()
+    ensures { (store : StoreState D) (state : State) (c : ℕ) (h : History)
+        → RestsAt store state c h → EachImage state (StandsForAt (form_of store) h c) }
+{}

@@ -1,0 +1,398 @@
+//! A store: the area that counts, and the other one.
+
+ghost use Rattle.std.specs.Prelude.{◌≡◌, ◌≢◌, ◌⊎◌, [], ◌∷◌, ◌++◌, ◌+◌, ◌-◌, ◌≤◌, ◌<◌, ◌^◌, ◌↔◌, ℕ, List, true, false, Some, Ok, Err, length, IsTrue, IfOk, IfErr, MatchBool, OnOk, OnErr};
+ghost use Rattle.turn_disk.specs.Counts.{CountOutcome, Rises};
+ghost use Rattle.turn_history.specs.History.{Event, History};
+ghost use Rattle.turn_history.specs.Table as tables;
+ghost use Rattle.turn_record.specs.Bytes as bytes;
+ghost use Rattle.turn_record.specs.Records.{IsSnapshot, max_payload};
+ghost use Rattle.turn_disk.specs.Disk.{EachImageSince, IsImage, IsSettled};
+ghost use Rattle.turn_store.specs.Areas.{Form, Holds};
+ghost use Rattle.turn_store.specs.Images.{EitherBy, StandsBy, StandsForAt};
+ghost use Rattle.turn_store.specs.Opened.{IsOpened, OpensTo};
+ghost use Rattle.turn_store.specs.Refused.{IsPlain, WhyRefused};
+ghost use Rattle.turn_store.specs.Spells.{HasSize};
+ghost use Rattle.turn_store.specs.Stages.{InStages};
+ghost use Rattle.turn_store.specs.State.{MayFollow, RestsAt, Shows, form_of, framed, swapped};
+ghost use Rattle.turn_store.specs.Tables.{snapshot_of};
+
+use crate::areas::replace;
+use crate::fault::{OpenFault, StoreFault};
+use crate::front::area_head;
+use crate::gate::CLOSED;
+use crate::open::{Chosen, Loaded, load};
+use std::alloc::{Allocator, Global};
+use std::marker::Model;
+use turn_disk::{Bytes, Chain, DeviceFailed, Disk};
+use turn_journal::{AppendRefused, Journal};
+use turn_record::{SnapshotWriter, snapshot_size};
+use turn_table::Table;
+use turn_types::Limits;
+
+/// A snapshot of a table, and a log of the batches after it, on a disk.
+#[derive(Drop)]
+pub struct Store<D: Disk, A: Allocator = Global> {
+    disk: D,
+    limits: Limits,
+    journal: Journal<A>,
+    // Where the other area begins.
+    other: usize,
+    generation: u64,
+    // How many frames the area that counts has.
+    frames: usize,
+    // Whether the generation of the other area is below.
+    other_is_below: bool,
+    stopped: bool,
+}
+
+impl<D: Disk, A: Allocator> Model for Store<D, A> {
+    ghost use Rattle.turn_store.specs.State.{StoreState, IsSound};
+
+    ghost Value = { StoreState D };
+
+    ghost view = { λ s. record {
+      disk = s.disk;
+      bounds = s.limits;
+      area = s.journal;
+      other = s.other;
+      generation = s.generation;
+      frames = s.frames;
+      other_is_below = s.other_is_below;
+      stopped = s.stopped;
+    } };
+
+    ghost invariant = { λ s. IsSound (D.capacity s.disk) s.limits s.journal s.other s.frames };
+}
+
+/// The generation of the area that counts, and how many frames it has.
+#[derive(Clone, Copy, Debug, PartialEq, Eq)]
+pub struct Info {
+    pub generation: u64,
+    pub frames: usize,
+}
+
+impl<D: Disk, A: Allocator + Copy> Store<D, A> {
+    /// The generation of the area that counts, and how many frames it has.
+    pub fn info(&self) -> Info
+        ensures generation { result.generation ≡ self.now.generation }
+        ensures frames { result.frames ≡ self.now.frames }
+    {
+        Info {
+            generation: self.generation,
+            frames: self.frames,
+        }
+    }
+
+    /// Whether a call failed, so that all later ones are refused.
+    pub fn is_stopped(&self) -> bool
+        ensures { result ≡ self.now.stopped }
+    {
+        self.stopped
+    }
+
+    pub fn disk(&self) -> &D
+        ensures { result.now ≡ self.now.disk }
+    {
+        &self.disk
+    }
+
+    pub fn into_disk(self) -> D
+        ensures { result ≡ self.disk }
+    {
+        self.disk
+    }
+
+    // Why a call is refused before it reaches the disk, if it is.
+    fn refusal(&self, compacts: bool) -> Option<StoreFault>
+        ensures stopped { (result ≡ Some StoreFault.Stopped) ↔ (self.now.stopped ≡ true) }
+        ensures worn { (result ≡ Some StoreFault.Worn)
+            ↔ ((self.now.stopped ≡ false) × (compacts ≡ true) × (self.now.generation ≡ 2 ^ 64 - 1)) }
+        ensures device { result ≢ Some StoreFault.Device }
+    {
+        if self.stopped {
+            return Some(StoreFault::Stopped);
+        }
+        if compacts && self.generation == u64::MAX {
+            return Some(StoreFault::Worn);
+        }
+        None
+    }
+
+    // Adds a frame, for which there is room.
+    fn add_frame(&mut self, payload: &[u8]) -> Result<(), DeviceFailed>
+        requires runs { self.old.stopped ≡ false }
+        requires short { length payload.now ≤ max_payload self.old.bounds }
+        requires room { self.old.area.end + 6 + length payload.now ≤ self.old.area.size }
+
+        ensures honest { D.is_honest self.new.disk ↔ D.is_honest self.old.disk }
+        ensures count { CountOutcome (D.failed self.old.disk) (D.failed self.new.disk) result }
+        ensures ok { OnOk result (self.new ≡ framed self.old (length payload.now) self.new.disk) }
+        ensures err { OnErr result (self.new ≡ record self.old { disk = self.new.disk; stopped = true }) }
+
+        // Up to some moment a stop leaves what was there; from then on that, or with the frame.
+        ensures stages { D.is_honest self.old.disk → (s : List ℕ) (ps : List (List ℕ))
+            → Shows self.old (D.trace self.old.disk).now s ps
+            → InStages (D.trace self.old.disk) (D.trace self.new.disk) (Holds (form_of self.old) s ps)
+            (λ image. Holds (form_of self.old) s ps image ⊎ Holds (form_of self.old) s (ps ++ payload.now ∷ []) image) }
+
+        ensures shown { D.is_honest self.old.disk → (s : List ℕ) (ps : List (List ℕ))
+            → Shows self.old (D.trace self.old.disk).now s ps
+            → OnOk result (Shows self.new (D.trace self.new.disk).now s (ps ++ payload.now ∷ [])) }
+    {
+        self.stopped = true;
+        match self.journal.append(&mut self.disk, payload) {
+            Ok(()) => {
+                self.frames += 1;
+                self.stopped = false;
+                Ok(())
+            }
+            Err(_) => Err(DeviceFailed),
+        }
+    }
+
+    // The size of the table's snapshot, for which an area has room.
+    fn next_size(&self, table: &Table<A>) -> usize
+        requires limits { table.now.bounds ≡ self.now.bounds }
+        requires snapshot { IsSnapshot table.now.bounds table.now.moment table.now.contents }
+        ensures value { result ≡ length (bytes.snapshot table.now.moment table.now.contents) }
+        ensures small { result < 2 ^ 32 }
+        ensures room { 14 + result < self.now.area.size }
+        ensures within { self.now.other + 15 + result ≤ D.capacity self.now.disk }
+        ensures addressable { D.capacity self.now.disk < 2 ^ 64 }
+    {
+        let _area = self.journal.size();
+        snapshot_size(table)
+    }
+
+    // Writes a snapshot of the table into the other area, which then counts.
+    fn replace_snapshot(&mut self, table: &Table<A>) -> Result<(), DeviceFailed>
+        requires runs { self.old.stopped ≡ false }
+        requires generation { self.old.generation < 2 ^ 64 - 1 }
+        requires limits { table.now.bounds ≡ self.old.bounds }
+        requires snapshot { IsSnapshot table.now.bounds table.now.moment table.now.contents }
+
+        ensures honest { D.is_honest self.new.disk ↔ D.is_honest self.old.disk }
+        ensures count { CountOutcome (D.failed self.old.disk) (D.failed self.new.disk) result }
+        ensures ok { OnOk result (self.new
+            ≡ swapped self.old (length (bytes.snapshot table.now.moment table.now.contents)) self.new.disk) }
+        ensures err { OnErr result (self.new ≡ record self.old { disk = self.new.disk; stopped = true }) }
+
+        // Up to some moment a stop leaves what was there; from then on that, or the new snapshot alone.
+        ensures stages { D.is_honest self.old.disk → (s : List ℕ) (ps : List (List ℕ))
+            → Shows self.old (D.trace self.old.disk).now s ps
+            → InStages (D.trace self.old.disk) (D.trace self.new.disk) (Holds (form_of self.old) s ps)
+            (λ image. Holds (form_of self.old) s ps image
+            ⊎ Holds (form_of self.old) (bytes.snapshot table.now.moment table.now.contents) [] image) }
+
+        ensures shown { D.is_honest self.old.disk → (s : List ℕ) (ps : List (List ℕ))
+            → Shows self.old (D.trace self.old.disk).now s ps
+            → OnOk result (Shows self.new (D.trace self.new.disk).now
+            (bytes.snapshot table.now.moment table.now.contents) []) }
+    {
+        self.stopped = true;
+        let size = self.next_size(table);
+        let head = area_head(self.generation + 1, size as u32);
+        let mut front = Chain {
+            first: Bytes::new(&head),
+            second: Chain {
+                first: SnapshotWriter::new(table),
+                second: Bytes::new(&[CLOSED]),
+            },
+        };
+        replace(&mut self.disk, self.other, self.other_is_below, &mut front)?;
+        let start = self.journal.start();
+        self.journal.move_to(self.other, 14 + size);
+        self.other = start;
+        self.generation += 1;
+        self.frames = 0;
+        self.other_is_below = true;
+        self.stopped = false;
+        Ok(())
+    }
+
+    /// Adds a batch of events: a frame with their payload if one fits after the last one, and else a snapshot of the
+    /// table, which has the batch, in the other area. Returns whether it was a snapshot. It takes no memory.
+    pub fn append(&mut self, payload: &[u8], table: &Table<A>) -> Result<bool, StoreFault>
+        requires short { length payload.now ≤ max_payload self.old.bounds }
+        requires limits { table.now.bounds ≡ self.old.bounds }
+        requires snapshot { IsSnapshot table.now.bounds table.now.moment table.now.contents }
+
+        ensures honest { D.is_honest self.new.disk ↔ D.is_honest self.old.disk }
+        ensures framed { result ≡ Ok false → self.new ≡ framed self.old (length payload.now) self.new.disk }
+        ensures compacted { result ≡ Ok true → self.new
+            ≡ swapped self.old (length (bytes.snapshot table.now.moment table.now.contents)) self.new.disk }
+        ensures compacts { IfOk result (λ did. IsTrue did
+            ↔ (self.old.area.size < self.old.area.end + 6 + length payload.now)) }
+
+        // Device comes with one failed call. Worn and Stopped come without a device call.
+        ensures count { OnOk result (D.failed self.new.disk ≡ D.failed self.old.disk) }
+        ensures device { result ≡ Err StoreFault.Device → Rises (D.failed self.old.disk) (D.failed self.new.disk) }
+        ensures worn { (result ≡ Err StoreFault.Worn) ↔ ((self.old.stopped ≡ false) × (self.old.generation ≡ 2 ^ 64 - 1)
+            × (self.old.area.size < self.old.area.end + 6 + length payload.now)) }
+        ensures untouched_worn { result ≡ Err StoreFault.Worn → self.new.disk ≡ self.old.disk }
+        ensures stopped { (result ≡ Err StoreFault.Stopped) ↔ (self.old.stopped ≡ true) }
+        ensures untouched { self.old.stopped ≡ true → self.new ≡ self.old }
+        ensures stops { OnErr result (self.new ≡ record self.old { disk = self.new.disk; stopped = true }) }
+
+        // Up to some moment a stop leaves the history from before at its clock; from then on the history from before, or with
+        // the batch, at a moment that is at most the table's.
+        ensures stages { D.is_honest self.old.disk → (c : ℕ) (h : History) (es : List Event)
+            → RestsAt self.old (D.trace self.old.disk).now c h → MayFollow self.old.bounds c h es table.now.moment
+            → HasSize self.old.bounds es → payload.now ≡ bytes.payload es
+            → table.now.contents ≡ tables.table (h ++ es) table.now.moment
+            → InStages (D.trace self.old.disk) (D.trace self.new.disk)
+            (StandsForAt (form_of self.old) h c) (EitherBy (form_of self.old) h es table.now.moment) }
+        ensures done { D.is_honest self.old.disk → (c : ℕ) (h : History) (es : List Event)
+            → RestsAt self.old (D.trace self.old.disk).now c h → MayFollow self.old.bounds c h es table.now.moment
+            → HasSize self.old.bounds es → payload.now ≡ bytes.payload es
+            → table.now.contents ≡ tables.table (h ++ es) table.now.moment
+            → OnOk result ((d : ℕ) × (d ≤ table.now.moment)
+            × RestsAt self.new (D.trace self.new.disk).now d (h ++ es)) }
+
+        // What the area that counts holds after Ok: one frame more, or the new snapshot alone.
+        ensures shown { D.is_honest self.old.disk → (s : List ℕ) (ps : List (List ℕ))
+            → Shows self.old (D.trace self.old.disk).now s ps → IfOk result (λ did. MatchBool did
+            (Shows self.new (D.trace self.new.disk).now (bytes.snapshot table.now.moment table.now.contents) [])
+            (Shows self.new (D.trace self.new.disk).now s (ps ++ payload.now ∷ []))) }
+    {
+        let compacts = !self.journal.room(payload.len());
+        if let Some(fault) = self.refusal(compacts) {
+            self.stopped = true;
+            return Err(fault);
+        }
+        if compacts {
+            self.replace_snapshot(table)?;
+        } else {
+            self.add_frame(payload)?;
+        }
+        Ok(compacts)
+    }
+
+    /// Writes a snapshot of the table into the other area, which then counts. It takes no memory.
+    pub fn compact(&mut self, table: &Table<A>) -> Result<(), StoreFault>
+        requires limits { table.now.bounds ≡ self.old.bounds }
+        requires snapshot { IsSnapshot table.now.bounds table.now.moment table.now.contents }
+
+        ensures honest { D.is_honest self.new.disk ↔ D.is_honest self.old.disk }
+        ensures compacted { OnOk result (self.new
+            ≡ swapped self.old (length (bytes.snapshot table.now.moment table.now.contents)) self.new.disk) }
+
+        // Device comes with one failed call. Worn and Stopped come without a device call.
+        ensures count { OnOk result (D.failed self.new.disk ≡ D.failed self.old.disk) }
+        ensures device { result ≡ Err StoreFault.Device → Rises (D.failed self.old.disk) (D.failed self.new.disk) }
+        ensures worn { (result ≡ Err StoreFault.Worn)
+            ↔ ((self.old.stopped ≡ false) × (self.old.generation ≡ 2 ^ 64 - 1)) }
+        ensures untouched_worn { result ≡ Err StoreFault.Worn → self.new.disk ≡ self.old.disk }
+        ensures stopped { (result ≡ Err StoreFault.Stopped) ↔ (self.old.stopped ≡ true) }
+        ensures untouched { self.old.stopped ≡ true → self.new ≡ self.old }
+        ensures stops { OnErr result (self.new ≡ record self.old { disk = self.new.disk; stopped = true }) }
+
+        // Up to some moment a stop leaves the history at its clock; from then on at a moment that is at most the table's.
+        ensures stages { D.is_honest self.old.disk → (c : ℕ) (h : History)
+            → RestsAt self.old (D.trace self.old.disk).now c h → MayFollow self.old.bounds c h [] table.now.moment
+            → table.now.contents ≡ tables.table h table.now.moment
+            → InStages (D.trace self.old.disk) (D.trace self.new.disk)
+            (StandsForAt (form_of self.old) h c) (StandsBy (form_of self.old) h table.now.moment) }
+        ensures done { D.is_honest self.old.disk → (c : ℕ) (h : History)
+            → RestsAt self.old (D.trace self.old.disk).now c h → MayFollow self.old.bounds c h [] table.now.moment
+            → table.now.contents ≡ tables.table h table.now.moment
+            → OnOk result (RestsAt self.new (D.trace self.new.disk).now table.now.moment h) }
+
+        // What the area that counts holds after Ok: the new snapshot alone.
+        ensures shown { D.is_honest self.old.disk → (s : List ℕ) (ps : List (List ℕ))
+            → Shows self.old (D.trace self.old.disk).now s ps → OnOk result
+            (Shows self.new (D.trace self.new.disk).now (bytes.snapshot table.now.moment table.now.contents) []) }
+    {
+        if let Some(fault) = self.refusal(true) {
+            self.stopped = true;
+            return Err(fault);
+        }
+        self.replace_snapshot(table)?;
+        Ok(())
+    }
+}
+
+/// A store that was opened, and the table that it holds, at the latest moment that is written.
+#[derive(Drop)]
+pub struct Opened<D: Disk, A: Allocator = Global> {
+    pub store: Store<D, A>,
+    pub table: Table<A>,
+}
+
+/// A disk that was not opened, and why.
+#[derive(Drop)]
+pub struct Refused<D: Disk> {
+    pub fault: OpenFault,
+    pub disk: D,
+}
+
+impl<D: Disk, A: Allocator + Copy> Store<D, A> {
+    /// Opens the store of a disk, which was formatted with these limits. It syncs, and reads in device calls of at most 4,096
+    /// bytes. A refusal returns the disk, which can be opened again.
+    pub fn open(alloc: A, disk: D, limits: Limits) -> Result<Opened<D, A>, Refused<D>>
+        ensures honest { IfOk result (λ o. D.is_honest o.store.disk ↔ D.is_honest disk) }
+        ensures honest_err { IfErr result (λ r. D.is_honest r.disk ↔ D.is_honest disk) }
+        ensures count { IfOk result (λ o. D.failed o.store.disk ≡ D.failed disk) }
+        ensures device { IfErr result (λ r. r.fault ≡ OpenFault.Device → Rises (D.failed disk) (D.failed r.disk)) }
+        ensures count_not { IfErr result (λ r. r.fault ≢ OpenFault.Device → D.failed r.disk ≡ D.failed disk) }
+        ensures bounds { IfOk result (λ o. (o.store.bounds ≡ limits) × (o.table.bounds ≡ limits)) }
+        ensures runs { IfOk result (λ o. o.store.stopped ≡ false) }
+        ensures snapshot { IfOk result (λ o. IsSnapshot limits o.table.moment o.table.contents) }
+
+        // The content stays, and a stop at any moment leaves what it might have left before.
+        ensures same { D.is_honest disk
+            → IfOk result (λ o. (D.trace o.store.disk).now.bytes ≡ (D.trace disk).now.bytes) }
+        ensures same_err { D.is_honest disk
+            → IfErr result (λ r. (D.trace r.disk).now.bytes ≡ (D.trace disk).now.bytes) }
+        ensures stop { D.is_honest disk → IfOk result (λ o.
+            EachImageSince (D.trace disk) (D.trace o.store.disk) (IsImage (D.trace disk).now)) }
+        ensures stop_err { D.is_honest disk → IfErr result (λ r.
+            EachImageSince (D.trace disk) (D.trace r.disk) (IsImage (D.trace disk).now)) }
+
+        // The sync comes first: a refusal that isn't its failure finds nothing pending.
+        ensures settled { D.is_honest disk
+            → IfErr result (λ r. r.fault ≢ OpenFault.Device → IsSettled (D.trace r.disk).now) }
+
+        // What was read, and the reason of each refusal: the first that applies.
+        ensures opened { D.is_honest disk
+            → IfOk result (λ o. IsOpened o.store (D.trace o.store.disk).now (snapshot_of o.table)) }
+        ensures why { D.is_honest disk → IfErr result (λ r. WhyRefused limits (D.trace disk).now.bytes r.fault) }
+
+        // If the content stands for a history, the store rests on it, the table is the history's, and a refusal is of the
+        // device or of memory.
+        ensures rests { D.is_honest disk → (form : Form) (h : History) (clock : ℕ) → form.bounds ≡ limits
+            → StandsForAt form h clock (D.trace disk).now.bytes
+            → IfOk result (λ o. OpensTo form h clock o.store (D.trace o.store.disk).now (snapshot_of o.table)) }
+        ensures sound { D.is_honest disk → (form : Form) (h : History) (clock : ℕ) → form.bounds ≡ limits
+            → StandsForAt form h clock (D.trace disk).now.bytes → IfErr result (λ r. IsPlain r.fault) }
+    {
+        let mut disk = disk;
+        match load(alloc, &mut disk, limits) {
+            Ok(chosen) => {
+                let Chosen {
+                    loaded,
+                    other,
+                    generation,
+                    other_is_below,
+                } = chosen;
+                let Loaded {
+                    journal,
+                    table,
+                    frames,
+                } = loaded;
+                let store = Store {
+                    disk,
+                    limits,
+                    journal,
+                    other,
+                    generation,
+                    frames,
+                    other_is_below,
+                    stopped: false,
+                };
+                Ok(Opened { store, table })
+            }
+            Err(fault) => Err(Refused { fault, disk }),
+        }
+    }
+}
