@@ -1,16 +1,19 @@
-//! Snapshots of 1,024 entries, read and written, timed. Words: COUNT, how often each call is made in a round. Without words
-//! it does nothing.
+//! Times reading and writing snapshots of 1,024 entries or, if a file is named, the calls of a store over it. Words: COUNT, how
+//! often each call is made in a round, and FILE, which is made anew and removed. Without words it does nothing.
 #![tactic(auto)]
 
 mod calls;
 mod kept;
 mod spelled;
+mod stored;
+mod stores;
 
 use bench_time::{Measured, best_of, number};
 use calls::{ReadPieces, ReadWhole, WritePieces, WriteWhole, is_right};
 use kept::Kept;
 use spelled::{ENTRIES, Shape, spell};
 use std::{env, io};
+use stores::measure_stores;
 
 /// Rounds of which the best counts.
 const ROUNDS: usize = 5;
@@ -52,6 +55,9 @@ fn main(rt: HostRuntime) -> io::Result<()> {
         return Ok(());
     }
     let count = number(words.as_slice(), 1);
+    if let Some(path) = words.get(2) {
+        return measure_stores(&rt, path.as_str(), count);
+    }
     for shape in [Shape::PLAIN, Shape::WITH_PEERS] {
         let bytes = spell(rt.alloc(), shape)?;
         println!(rt;

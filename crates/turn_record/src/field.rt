@@ -1,4 +1,5 @@
 //! Fields, read from the front: each function returns the value and the bytes after it, or the first fault.
+
 ghost use Rattle.std.specs.Int.{w16, w32, w64};
 ghost use Rattle.turn_record.specs.Reading.{Gives, byte_at, bytes_at, channel_number_at, count_at, endpoint_at, granted_at, moment_at, name_at, name_len_at, number_at, renewed_at, tuple_at, tx_at};
 

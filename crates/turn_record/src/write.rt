@@ -2,7 +2,7 @@
 
 ghost use Rattle.std.specs.Prelude.{◌≡◌, ◌+◌, ◌*◌, ◌≤◌, ◌<◌, ◌^◌, ◌++◌, All, IsOk, OnErr, OnOk, length, vec_capacity};
 ghost use Rattle.std.specs.Int.{to_be_bytes, w32};
-ghost use Rattle.turn_history.specs.Act.{act_of, event_of};
+ghost use Rattle.turn_history.specs.Act.{act_of};
 ghost use Rattle.turn_record.specs.Bytes.{act_entry, addresses, body, each, endpoint, five_tuple, name, payload, tag};
 ghost use Rattle.turn_history.specs.Fitting.{IsInRange};
 ghost use Rattle.turn_record.specs.Records.{HasShortParts, IsBatch, max_act, max_payload};
@@ -10,7 +10,7 @@ ghost use Rattle.turn_record.specs.Views.{events_of};
 
 use std::alloc::{AllocError, Allocator};
 use turn_history::{Act, Event};
-use turn_types::{Endpoint, FiveTuple, Limits};
+use turn_types::{Endpoint, FiveTuple, Limits, Moment};
 
 /// Appends bytes for which there is room.
 fn put<A: Allocator>(out: &mut Vec<u8, A>, field: &[u8])
@@ -111,16 +111,21 @@ fn tag_of<B: Allocator>(act: &Act<B>) -> u8
 }
 
 /// Appends an act entry for which there is room.
-fn put_act<A: Allocator, B: Allocator>(out: &mut Vec<u8, A>, event: &Event<B>)
-    requires short { HasShortParts (act_of event.now.act) }
-    requires room { length out.old.items + length (act_entry (event_of event.now)) ≤ vec_capacity out.old }
-    ensures items { out.new.items ≡ out.old.items ++ act_entry (event_of event.now) }
+fn put_act<A: Allocator, B: Allocator>(
+    out: &mut Vec<u8, A>,
+    moment: Moment,
+    tuple: FiveTuple,
+    act: &Act<B>,
+)
+    requires short { HasShortParts (act_of act.now) }
+    requires room { length out.old.items + length (act_entry (record { moment = moment; tuple = tuple; act = act_of act.now })) ≤ vec_capacity out.old }
+    ensures items { out.new.items ≡ out.old.items ++ act_entry (record { moment = moment; tuple = tuple; act = act_of act.now }) }
     ensures capacity { vec_capacity out.old ≤ vec_capacity out.new }
 {
-    put(out, &[tag_of(&event.act)]);
-    put(out, &event.moment.seconds().to_be_bytes());
-    put_tuple(out, event.tuple);
-    put_body(out, &event.act);
+    put(out, &[tag_of(act)]);
+    put(out, &moment.seconds().to_be_bytes());
+    put_tuple(out, tuple);
+    put_body(out, act);
 }
 
 /// The max number of bytes of an act entry under the limits.
@@ -146,17 +151,19 @@ pub fn max_payload(limits: Limits) -> usize
 pub fn write_act<A: Allocator, B: Allocator>(
     out: &mut Vec<u8, A>,
     limits: Limits,
-    event: &Event<B>,
+    moment: Moment,
+    five_tuple: FiveTuple,
+    act: &Act<B>,
 ) -> Result<(), AllocError>
-    requires { IsInRange limits (event_of event.now) }
-    ensures ok { OnOk result (out.new.items ≡ out.old.items ++ act_entry (event_of event.now)) }
+    requires { IsInRange limits (record { moment = moment; tuple = five_tuple; act = act_of act.now }) }
+    ensures ok { OnOk result (out.new.items ≡ out.old.items ++ act_entry (record { moment = moment; tuple = five_tuple; act = act_of act.now })) }
     ensures err { OnErr result (out.new.items ≡ out.old.items) }
     ensures room { length out.old.items + max_act limits ≤ vec_capacity out.old → IsOk result }
     ensures capacity { vec_capacity out.old ≤ vec_capacity out.new }
 {
     let _bounds = limits.bounds();
     out.reserve(max_act(limits))?;
-    put_act(out, event);
+    put_act(out, moment, five_tuple, act);
     Ok(())
 }
 
@@ -167,7 +174,7 @@ fn put_all<A: Allocator, B: Allocator>(out: &mut Vec<u8, A>, events: &[Event<B>]
     ensures capacity { vec_capacity out.old ≤ vec_capacity out.new }
 {
     for event in events {
-        put_act(out, event);
+        put_act(out, event.moment, event.tuple, &event.act);
     }
 }
 
