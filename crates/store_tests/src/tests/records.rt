@@ -199,7 +199,7 @@ fn act_again(alloc: Global, bytes: &[u8]) -> Result<Vec<u8>, Fail> {
     let limits = limits(2, 1)?;
     let event = read_act(alloc, limits, bytes)?;
     let mut out = Vec::new(alloc);
-    write_act(&mut out, limits, &event)?;
+    write_act(&mut out, limits, event.moment, event.tuple, &event.act)?;
     Ok(out)
 }
 
