@@ -1,0 +1,34 @@
+-- A payload with one act more.
+use Rattle.std.proofs.Common.{◌≡◌, ◌≤◌, ◌<◌, ◌+◌, ℕ, List, [], ◌∷◌, ◌++◌, length, slice_index, slice_set, refl, sym, ap, ◌∙◌, arith, append_assoc, append-nil, length-append}
+use Rattle.turn_history.specs.History.{Event}
+use Rattle.turn_record.specs.Bytes.{act_entry, each, payload}
+use Rattle.turn_record.specs.Records.{max_act}
+use Rattle.turn_engine.specs.Staged.{IsSound}
+use Rattle.turn_types.specs.declared.limits.Bounds.{Bounds}
+
+pub pushed-sound : (b : Bounds) (acts : ℕ) (bytes entry : List ℕ) (capacity more : ℕ) → IsSound b acts bytes capacity → acts < b.acts
+    → length entry ≤ max_act b → capacity ≤ more → IsSound b (acts + 1) (slice_set (bytes ++ entry) 0 (acts + 1)) more
+pushed-sound b acts [] entry capacity more s few short room = absurd (omega (arith, s.some))
+pushed-sound b acts (x ∷ xs) entry capacity more s few short room =
+    let size : length (xs ++ entry) ≡ length xs + length entry = length-append xs entry in
+    record {
+      in_range = s.in_range;
+      few = omega arith;
+      counted = refl;
+      some = omega arith;
+      short = omega (arith, s.short, size);
+      room = omega (arith, s.room);
+    }
+
+pub each-one_more : (es : List Event) (e : Event) → each act_entry (es ++ e ∷ []) ≡ each act_entry es ++ act_entry e
+each-one_more [] e = append-nil (act_entry e)
+each-one_more (x ∷ es) e = ap (λ (l : List ℕ). act_entry x ++ l) (each-one_more es e) ∙ sym (append_assoc (act_entry x) (each act_entry es) (act_entry e))
+
+pub pushed-payload : (es : List Event) (e : Event) (bytes : List ℕ) (acts : ℕ) → bytes ≡ payload es → slice_index bytes 0 ≡ acts
+    → slice_set (bytes ++ act_entry e) 0 (acts + 1) ≡ payload (es ++ e ∷ [])
+pushed-payload es e bytes acts is counted =
+    let first : acts ≡ length es = sym counted ∙ ap (λ (l : List ℕ). slice_index l 0) is in
+    let size : acts + 1 ≡ length (es ++ e ∷ []) = omega (arith, length-append es (e ∷ []), first) in
+    let rest : each act_entry es ++ act_entry e ≡ each act_entry (es ++ e ∷ []) = sym (each-one_more es e) in
+    ap (λ (l : List ℕ). slice_set (l ++ act_entry e) 0 (acts + 1)) is ∙ ap (λ (n : ℕ). n ∷ (each act_entry es ++ act_entry e)) size
+    ∙ ap (λ (l : List ℕ). length (es ++ e ∷ []) ∷ l) rest

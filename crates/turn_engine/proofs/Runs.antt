@@ -1,0 +1,289 @@
+-- Runs go on, call after call.
+use Rattle.std.proofs.Common.{rules, tests, ◌≡◌, ◌≤◌, ◌+◌, ◌⊎◌, inl, inr, ℕ, Bool, true, false, List, [], ◌∷◌, ◌++◌, length, map, take, Result, Ok, Err, refl, sym, ap, ◌∙◌, subst, arith, append_assoc, append-nil, length-append}
+use Rattle.std.proofs.lemmas.List.{map-append}
+use Rattle.std.specs.List.{AllByRecursion}
+use Rattle.std.specs.Option.{option_to_list}
+use Rattle.turn_cred.specs.Credential.{Keys}
+use Rattle.turn_cred.specs.declared.handler.AuthHandler as handlers
+use Rattle.turn_disk.specs.Disk.{EachImageSince}
+use Rattle.turn_disk.specs.declared.disk.Disk as disks
+use Rattle.turn_disk.proofs.Since.{since_same, since_weaken}
+use Rattle.turn_history.specs.History.{History}
+use Rattle.turn_ports.specs.Ports.{has_failed}
+use Rattle.turn_ports.specs.declared.generator.RelayAddressGenerator as generators
+use Rattle.turn_step.specs.Answer.{AnswersArrival, Setting}
+use Rattle.turn_step.specs.Outcome.{Arrives, Sent, added}
+use Rattle.turn_step.specs.State.{KeepsSetting, MachineState, setting_of}
+use Rattle.turn_store.specs.Areas.{Form}
+use Rattle.turn_store.specs.State.{form_of}
+use Rattle.turn_store.specs.declared.fault.StoreFault.{StoreFault}
+use Rattle.turn_store.specs.declared.fault.StoreFault.TheVariants as faults
+use Rattle.turn_types.specs.Config.{Config}
+use Rattle.turn_engine.specs.Calls.{Commits, Submits}
+use Rattle.turn_engine.specs.Images.{AtLeast}
+use Rattle.turn_engine.specs.Resting.{Opens, Rests}
+use Rattle.turn_engine.specs.Runs.{Commit, IsAt, IsCall, IsRun, IsSilent, Lasts, Leads, NeverFails, Place, Serves, Step, Submit, Taken, accepted, after_of, all_asked, asked, asked_by, count_at, datagrams_of, handed_by, handed_out, history_at, last_moment, last_of, sent_about, start}
+use Rattle.turn_engine.specs.State.{ServerState, now_of}
+use Rattle.turn_engine.specs.declared.fault.SubmitRefused.{SubmitRefused}
+use Rattle.turn_engine.specs.declared.fault.SubmitRefused.TheVariants.{BatchFull, Memory, Stopped}
+use Rattle.turn_engine.proofs.Answered.{answered_at, begins, history-cut, history-push, last_moment-push, run-push, sent_about-append}
+use Rattle.turn_engine.proofs.Lists.{all-append, length-take-le}
+use Rattle.turn_engine.proofs.Written.{images_stored}
+
+by_bool : (b : Bool) → (b ≡ true) ⊎ (b ≡ false)
+by_bool true = inl refl
+by_bool false = inr refl
+
+not_both : (b : Bool) → b ≡ true → b ≡ false → ⊥
+not_both b yes_is no_is = cc
+
+ok_is_no_error : {T E : Type 0} (x : T) (e : E) → Ok x ≡ Err e → ⊥
+ok_is_no_error x e is = cc
+
+memory_is_not_stopped : (r : Result Unit SubmitRefused) → r ≡ Err Memory → r ≡ Err Stopped → ⊥
+memory_is_not_stopped r memory stopped = cc
+
+none_failed : (old new : ℕ) → old ≡ new → has_failed old new ≡ false
+none_failed old new same = subst (λ (n : ℕ). has_failed old n ≡ false) same (same_count old)
+  where
+    same_count : (n : ℕ) → has_failed n n ≡ false
+    same_count n = search (rules, tests)
+
+setting_kept : {H G : Type 0} (keys : H → Keys) (range : G → ℕ × ℕ) (old new : MachineState H G) → KeepsSetting range old new → setting_of keys range new ≡ setting_of keys range old
+setting_kept keys range old new kept =
+    let first : setting_of keys range new ≡ record { config = old.config; keys = keys new.handler; range = range new.ports } =
+    ap (λ (x : Config). record { config = x; keys = keys new.handler; range = range new.ports }) kept.config in
+    let second : record { config = old.config; keys = keys new.handler; range = range new.ports } ≡ record { config = old.config; keys = keys old.handler; range = range new.ports } =
+    ap (λ x. record { config = old.config; keys = keys x; range = range new.ports }) kept.handler in
+    let third : record { config = old.config; keys = keys old.handler; range = range new.ports } ≡ setting_of keys range old =
+    ap (λ (x : ℕ × ℕ). record { config = old.config; keys = keys old.handler; range = x }) kept.range_is in
+    first ∙ second ∙ third
+
+module _ {D H G : Type 0} (disk : disks.Ghosts D) (handler : handlers.Ghosts H) (ports : generators.Ghosts G) where
+  -- a call of a stopped server leaves it as it was, and hands nothing out
+  silent_call : (server : ServerState D H G) (x : Step D H G) → server.store.stopped ≡ true → IsCall disk handler ports server x → (after_of x ≡ server) × (handed_by x ≡ [])
+  silent_call server (Submit moment a result after) stopped call = (call.unchanged (call.stopped.1 stopped), refl)
+  silent_call server (Commit result after) stopped call = (call.unchanged stopped, ap datagrams_of (call.stopped.1 stopped))
+
+  pub silent : (server : ServerState D H G) (steps : List (Step D H G)) → server.store.stopped ≡ true → Serves disk handler ports server steps → IsSilent server steps
+  silent server [] stopped serves = record { none = refl; same = refl }
+  silent server (x ∷ xs) stopped serves =
+      let one = silent_call server x stopped serves.0 in
+      let rest = silent (after_of x) xs (subst (λ (v : ServerState D H G). v.store.stopped ≡ true) (sym one.0) stopped) serves.1 in
+      record {
+        none = ap (λ (l : List Sent). l ++ handed_out xs) one.1 ∙ rest.none;
+        same = rest.same ∙ one.0;
+      }
+
+  runs_on : (old new : ServerState D H G) (moment : ℕ) (a : Arrives) (result : Result Unit SubmitRefused) → Submits disk handler ports old new moment a result → (result ≡ Err Stopped → ⊥)
+      → old.store.stopped ≡ false
+  runs_on old new moment a result call not_stopped = elim (by_bool old.store.stopped) [
+    | inl stopped ↦ absurd (not_stopped (call.stopped.1 stopped))
+    | inr runs ↦ runs
+  ]
+
+  module _ (s : Setting) (h : History) (t : ℕ) where
+    -- a server that rests on all that was taken
+    at_rest : (server : ServerState D H G) (p : Place) → IsRun s h t (p.handed ++ p.recent) → last_moment t (p.handed ++ p.recent) ≤ now_of server → disk.is_honest server.store.disk
+        → setting_of handler.key_of ports.range server.machine ≡ s → Rests (disk.trace server.store.disk).now server (history_at h p) (count_at h p) → server.outs ≡ sent_about p.recent
+        → server.arrivals ≡ length p.recent → (NeverFails ports → AllByRecursion (λ x. x.failed ≡ false) (p.handed ++ p.recent)) → IsAt disk handler ports s h t server p
+    at_rest server p run late honest same rests outs arrivals flags = record {
+      is_run = run;
+      in_time = late;
+      honest = honest;
+      same_setting = same;
+      images = images_stored (disk.trace server.store.disk).now server (history_at h p) (count_at h p) rests;
+      rests = λ runs. rests;
+      outs = λ runs. outs;
+      arrivals = λ runs. arrivals;
+      flags = flags;
+    }
+
+    record Advances (p : Place) (x : Step D H G) : Type 0 where
+      end : Place
+      is_at : IsAt disk handler ports s h t (after_of x) end
+      more : List Taken
+      handed : end.handed ≡ p.handed ++ more
+      sent : handed_by x ≡ sent_about more
+      arrivals : map asked (end.handed ++ end.recent) ≡ map asked (p.handed ++ p.recent) ++ asked_by x
+
+    stays : (p : Place) (x : Step D H G) → IsAt disk handler ports s h t (after_of x) p → handed_by x ≡ [] → asked_by x ≡ [] → Advances p x
+    stays p x is none no_arrival = record {
+      end = p;
+      is_at = is;
+      more = [];
+      handed = sym (append-nil p.handed);
+      sent = none;
+      arrivals = sym (append-nil (map asked (p.handed ++ p.recent))) ∙ ap (λ (l : List (ℕ × Arrives)). map asked (p.handed ++ p.recent) ++ l) (sym no_arrival);
+    }
+
+    took : (old new : ServerState D H G) (p : Place) (moment : ℕ) (a : Arrives) (u : Unit) → IsAt disk handler ports s h t old p → Submits disk handler ports old new moment a (Ok u)
+        → Advances p (Submit moment a (Ok u) new)
+    took old new p moment a u is call =
+        let runs = runs_on old new moment a (Ok u) call (ok_is_no_error u Stopped) in
+        let takes = call.takes (history_at h p) (count_at h p) (is.rests runs) in
+        let x : Taken = record { moment = moment; arrival = a; failed = has_failed (ports.failures old.machine.ports) (ports.failures new.machine.ports); outcome = takes.outcome } in
+        let q : Place = record { handed = p.handed; recent = p.recent ++ x ∷ [] } in
+        let same = setting_kept handler.key_of ports.range old.machine new.machine call.setting ∙ is.same_setting in
+        let answers = subst (λ (z : Setting). AnswersArrival z (history_at h p) moment x.failed a x.outcome) is.same_setting takes.answers in
+        let in_time = is.in_time in
+        let le = call.in_time in
+        let now : now_of new ≡ moment = call.clock in
+        let longer : (p.handed ++ p.recent) ++ x ∷ [] ≡ p.handed ++ (p.recent ++ x ∷ []) = append_assoc p.handed p.recent (x ∷ []) in
+        let last : last_moment t (p.handed ++ (p.recent ++ x ∷ [])) ≡ moment = ap (last_moment t) (sym longer) ∙ last_moment-push t (p.handed ++ p.recent) x in
+        let here = subst (λ z. Rests (disk.trace z.disk).now new (history_at h p ++ added moment x.outcome.change) (count_at h p)) (sym call.store) takes.rests in
+        let rests = subst (λ (l : History). Rests (disk.trace new.store.disk).now new l (count_at h p)) (sym (history-push h p.handed p.recent x)) here in
+        let outs : new.outs ≡ sent_about (p.recent ++ x ∷ []) =
+        takes.outs ∙ ap (λ (l : List Sent). l ++ option_to_list x.outcome.sent) (is.outs runs)
+        ∙ ap (λ (l : List Sent). sent_about p.recent ++ l) (sym (append-nil (option_to_list x.outcome.sent))) ∙ sym (sent_about-append p.recent (x ∷ [])) in
+        record {
+          end = q;
+          is_at = at_rest new q (subst (IsRun s h t) longer (run-push s h t (p.handed ++ p.recent) x is.is_run (omega arith) answers)) (omega arith)
+              (subst (λ z. disk.is_honest z.disk) (sym call.store) is.honest) same rests outs
+              (call.arrivals ∙ ap (λ (n : ℕ). n + 1) (is.arrivals runs) ∙ sym (length-append p.recent (x ∷ [])))
+              (λ never. subst (AllByRecursion (λ y. y.failed ≡ false)) longer
+              (all-append (λ (y : Taken). y.failed ≡ false) (p.handed ++ p.recent) (x ∷ []) (is.flags never) (none_failed _ _ (never old.machine.ports new.machine.ports), tt)));
+          more = [];
+          handed = sym (append-nil p.handed);
+          sent = refl;
+          arrivals = ap (map asked) (sym longer) ∙ map-append asked (p.handed ++ p.recent) (x ∷ []);
+        }
+
+    refused : (old new : ServerState D H G) (p : Place) (moment : ℕ) (a : Arrives) (why : SubmitRefused) → IsAt disk handler ports s h t old p → Submits disk handler ports old new moment a (Err why)
+        → IsAt disk handler ports s h t new p
+    refused old new p moment a Stopped is call = subst (λ (v : ServerState D H G). IsAt disk handler ports s h t v p) (sym (call.unchanged refl)) is
+    refused old new p moment a BatchFull is call = subst (λ (v : ServerState D H G). IsAt disk handler ports s h t v p) (sym (call.unchanged_full refl)) is
+    refused old new p moment a Memory is call =
+        let runs = runs_on old new moment a (Err Memory) call (memory_is_not_stopped (Err Memory) refl) in
+        let in_time = is.in_time in
+        let le = call.in_time in
+        let now : now_of new ≡ moment = call.memory_clock refl in
+        at_rest new p is.is_run (omega arith) (subst (λ z. disk.is_honest z.disk) (sym call.store) is.honest)
+        (setting_kept handler.key_of ports.range old.machine new.machine call.setting ∙ is.same_setting)
+        (subst (λ z. Rests (disk.trace z.disk).now new (history_at h p) (count_at h p)) (sym call.store) (call.rests (history_at h p) (count_at h p) (is.rests runs)))
+        (ap (λ (v : ServerState D H G). v.outs) (call.memory refl) ∙ is.outs runs) (ap (λ (v : ServerState D H G). v.arrivals) (call.memory refl) ∙ is.arrivals runs) is.flags
+
+    committed : (old new : ServerState D H G) (p : Place) (outs : List Sent) → IsAt disk handler ports s h t old p → Commits disk old new (Ok outs) → Advances p (Commit (Ok outs) new)
+    committed old new p outs is call = elim (by_bool old.store.stopped) [
+      | inl stopped ↦ absurd (ok_is_no_error outs faults.Stopped (call.stopped.1 stopped))
+      | inr runs ↦
+          let q : Place = record { handed = p.handed ++ p.recent; recent = [] } in
+          let none : (p.handed ++ p.recent) ++ [] ≡ p.handed ++ p.recent = append-nil (p.handed ++ p.recent) in
+          let in_time = is.in_time in
+          let now : now_of new ≡ now_of old = ap (λ (v : ServerState D H G). now_of v) call.ok in
+          let last : last_moment t ((p.handed ++ p.recent) ++ []) ≡ last_moment t (p.handed ++ p.recent) = ap (last_moment t) none in
+          let rests = call.rests is.honest (history_at h p) (count_at h p) (is.rests runs) in
+          record {
+            end = q;
+            is_at = at_rest new q (subst (IsRun s h t) (sym none) is.is_run) (omega arith) (call.honest.1 is.honest)
+                (ap (λ (v : ServerState D H G). setting_of handler.key_of ports.range v.machine) call.ok ∙ is.same_setting)
+                (subst (λ (l : List Taken). Rests (disk.trace new.store.disk).now new (h ++ accepted l) (count_at h q)) (sym none) rests)
+                (ap (λ (v : ServerState D H G). v.outs) call.ok) (ap (λ (v : ServerState D H G). v.arrivals) call.ok)
+                (λ never. subst (AllByRecursion (λ y. y.failed ≡ false)) (sym none) (is.flags never));
+            more = p.recent;
+            handed = refl;
+            sent = call.handed ∙ is.outs runs;
+            arrivals = ap (map asked) none ∙ sym (append-nil (map asked (p.handed ++ p.recent)));
+          }
+    ]
+
+    failed : (old new : ServerState D H G) (p : Place) (why : StoreFault) → IsAt disk handler ports s h t old p → Commits disk old new (Err why) → IsAt disk handler ports s h t new p
+    failed old new p why is call = elim (by_bool old.store.stopped) [
+      | inl stopped ↦ subst (λ (v : ServerState D H G). IsAt disk handler ports s h t v p) (sym (call.unchanged stopped)) is
+      | inr runs ↦
+          let in_time = is.in_time in
+          let now : now_of new ≡ now_of old = ap (λ (v : ServerState D H G). now_of v) call.err in
+          let since = call.stop is.honest (history_at h p) (count_at h p) (is.rests runs) in
+          record {
+            is_run = is.is_run;
+            in_time = omega arith;
+            honest = call.honest.1 is.honest;
+            same_setting = ap (λ (v : ServerState D H G). setting_of handler.key_of ports.range v.machine) call.err ∙ is.same_setting;
+            images = λ image left.
+                subst (λ (f : Form). AtLeast f (history_at h p) (count_at h p) (now_of new) image) (sym call.form)
+                (subst (λ (m : ℕ). AtLeast (form_of old.store) (history_at h p) (count_at h p) m image) (sym now) (since.after image left));
+            rests = λ goes. absurd (not_both new.store.stopped call.stops goes);
+            outs = λ goes. absurd (not_both new.store.stopped call.stops goes);
+            arrivals = λ goes. absurd (not_both new.store.stopped call.stops goes);
+            flags = is.flags;
+          }
+    ]
+
+    advances : (server : ServerState D H G) (p : Place) (x : Step D H G) → IsAt disk handler ports s h t server p → IsCall disk handler ports server x → Advances p x
+    advances server p (Submit moment a (Ok u) after) is call = took server after p moment a u is call
+    advances server p (Submit moment a (Err why) after) is call = stays p (Submit moment a (Err why) after) (refused server after p moment a why is call) refl refl
+    advances server p (Commit (Ok outs) after) is call = committed server after p outs is call
+    advances server p (Commit (Err why) after) is call = stays p (Commit (Err why) after) (failed server after p why is call) refl refl
+
+    pub goes_on : (server : ServerState D H G) (p : Place) (steps : List (Step D H G)) → IsAt disk handler ports s h t server p → Serves disk handler ports server steps
+        → Leads disk handler ports s h t server p steps
+    goes_on server p [] is serves = record {
+      end = p;
+      is_at = is;
+      more = [];
+      handed = sym (append-nil p.handed);
+      sent = refl;
+      arrivals = sym (append-nil (map asked (p.handed ++ p.recent)));
+    }
+    goes_on server p (x ∷ xs) is serves =
+        let one = advances server p x is serves.0 in
+        let rest = goes_on (after_of x) one.end xs one.is_at serves.1 in
+        record {
+          end = rest.end;
+          is_at = rest.is_at;
+          more = one.more ++ rest.more;
+          handed = rest.handed ∙ ap (λ (l : List Taken). l ++ rest.more) one.handed ∙ append_assoc p.handed one.more rest.more;
+          sent = ap (λ (l : List Sent). l ++ handed_out xs) one.sent ∙ ap (λ (l : List Sent). sent_about one.more ++ l) rest.sent ∙ sym (sent_about-append one.more rest.more);
+          arrivals = rest.arrivals ∙ ap (λ (l : List (ℕ × Arrives)). l ++ all_asked xs) one.arrivals ∙ append_assoc (map asked (p.handed ++ p.recent)) (asked_by x) (all_asked xs);
+        }
+
+    -- a stop in a call
+    pub stops : (server : ServerState D H G) (p : Place) (x : Step D H G) → IsAt disk handler ports s h t server p → IsCall disk handler ports server x
+        → EachImageSince (disk.trace server.store.disk) (disk.trace (after_of x).store.disk) (AtLeast (form_of server.store) (history_at h p) (count_at h p) (now_of server))
+    stops server p (Submit moment a result after) is call = since_same _ _ _ (ap (λ z. disk.trace z.disk) call.store) is.images
+    stops server p (Commit result after) is call = elim (by_bool server.store.stopped) [
+      | inl stopped ↦ since_same _ _ _ (ap (λ (v : ServerState D H G). disk.trace v.store.disk) (call.unchanged stopped)) is.images
+      | inr runs ↦ call.stop is.honest (history_at h p) (count_at h p) (is.rests runs)
+    ]
+
+    -- what was answered lasts
+    pub lasts : (server : ServerState D H G) (p : Place) (before : List Taken) (x : Taken) (after : List Taken) (steps : List (Step D H G)) (call : Step D H G)
+        → IsAt disk handler ports s h t server p → p.handed ≡ before ++ x ∷ after → Serves disk handler ports server steps → IsCall disk handler ports (last_of server steps) call
+        → Lasts disk s (h ++ accepted before) x (last_of server steps) (after_of call)
+    lasts server p before x after steps call is place serves calls =
+        let to = goes_on server p steps is serves in
+        let last = last_of server steps in
+        let first = (h ++ accepted before) ++ added x.moment x.outcome.change in
+        let handed : to.end.handed ≡ before ++ x ∷ (after ++ to.more) = to.handed ∙ ap (λ (l : List Taken). l ++ to.more) place ∙ append_assoc before (x ∷ after) to.more in
+        let whole : to.end.handed ++ to.end.recent ≡ before ++ x ∷ ((after ++ to.more) ++ to.end.recent) =
+        ap (λ (l : List Taken). l ++ to.end.recent) handed ∙ append_assoc before (x ∷ (after ++ to.more)) to.end.recent in
+        let all : history_at h to.end ≡ first ++ accepted ((after ++ to.more) ++ to.end.recent) = ap (λ (l : List Taken). h ++ accepted l) whole ∙ history-cut h before x ((after ++ to.more) ++ to.end.recent) in
+        let sure : h ++ accepted to.end.handed ≡ first ++ accepted (after ++ to.more) = ap (λ (l : List Taken). h ++ accepted l) handed ∙ history-cut h before x (after ++ to.more) in
+        let count : count_at h to.end ≡ length first + length (accepted (after ++ to.more)) = ap (λ (l : History). length l) sure ∙ length-append first (accepted (after ++ to.more)) in
+        let long : length first ≤ count_at h to.end = subst (λ (n : ℕ). length first ≤ n) (sym count) (at_most (length first) (length (accepted (after ++ to.more)))) in
+        record {
+          answered = answered_at s h t before x (after ++ p.recent)
+              (subst (IsRun s h t) (ap (λ (l : List Taken). l ++ p.recent) place ∙ append_assoc before (x ∷ after) p.recent) is.is_run);
+          images = since_weaken _ _ (AtLeast (form_of last.store) (history_at h to.end) (count_at h to.end) (now_of last)) _
+              (λ image at. begins (form_of last.store) (history_at h to.end) first (accepted ((after ++ to.more) ++ to.end.recent)) (count_at h to.end) (now_of last) image all long at)
+              (stops last to.end call to.is_at calls);
+        }
+      where
+        at_most : (m n : ℕ) → m ≤ m + n
+        at_most m n = omega arith
+
+pub starts : {D H G : Type 0} (disk : disks.Ghosts D) (handler : handlers.Ghosts H) (ports : generators.Ghosts G) (server : ServerState D H G) (h : History) (k : ℕ)
+    → disk.is_honest server.store.disk → Rests (disk.trace server.store.disk).now server h k → k ≡ length h → server.outs ≡ [] → server.arrivals ≡ 0
+    → IsAt disk handler ports (setting_of handler.key_of ports.range server.machine) h (now_of server) server start
+starts disk handler ports server h k honest rests all none fresh =
+    let state = (disk.trace server.store.disk).now in
+    let same : h ++ [] ≡ h = append-nil h in
+    let count : k ≡ length (h ++ []) = all ∙ ap (λ (l : History). length l) (sym same) in
+    at_rest disk handler ports (setting_of handler.key_of ports.range server.machine) h (now_of server) server start tt (omega arith) honest refl
+    (subst (λ (n : ℕ). Rests state server (h ++ []) n) count (subst (λ (l : History). Rests state server l k) (sym same) rests)) none fresh (λ never. tt)
+
+pub opened : {D H G : Type 0} (disk : disks.Ghosts D) (handler : handlers.Ghosts H) (ports : generators.Ghosts G) (form : Form) (h : History) (k m : ℕ) (content : List ℕ) (server : ServerState D H G)
+    → disk.is_honest server.store.disk → (o : Opens form h k m content (disk.trace server.store.disk).now server) → server.outs ≡ [] → server.arrivals ≡ 0
+    → IsAt disk handler ports (setting_of handler.key_of ports.range server.machine) (take o.count h) (now_of server) server start
+opened disk handler ports form h k m content server honest o none fresh =
+    starts disk handler ports server (take o.count h) o.count honest o.rests (sym (length-take-le o.count h o.no_more)) none fresh

@@ -1,0 +1,128 @@
+-- What an arrival makes of what a server keeps and rests on.
+use Rattle.std.proofs.Common.{◌≡◌, ◌≤◌, ◌<◌, ◌+◌, ◌-◌, ◌^◌, inl, inr, ℕ, List, ◌++◌, length, take, drop, Option, Some, None, refl, sym, ap, ◌∙◌, subst, arith, length-append}
+use Rattle.std.proofs.Math.Nat.{eq-or-lt_of_le}
+use Rattle.std.proofs.lemmas.List.{take-append-le, drop-append-le}
+use Rattle.std.specs.Prelude.{IfSome}
+use Rattle.turn_disk.specs.Disk as disks
+use Rattle.turn_history.specs.Fitting.{Fits, IsFitting, IsInRange}
+use Rattle.turn_history.specs.History.{Event, History, clock}
+use Rattle.turn_history.specs.Laws.{AllFrom}
+use Rattle.turn_history.specs.Table.{Contents}
+use Rattle.turn_record.proofs.Kept.{snapshot-purged, snapshot-applied}
+use Rattle.turn_record.specs.Bytes as bytes
+use Rattle.turn_record.specs.Records.{IsSnapshot}
+use Rattle.turn_step.specs.Outcome.{Change, added, event_at}
+use Rattle.turn_step.specs.State.{CountsOne, IsAfter, IsPurged, MachineState, MayBeNext, changed}
+use Rattle.turn_store.specs.State.{RestsAt}
+use Rattle.turn_table.specs.State.{State}
+use Rattle.turn_table.specs.Table.{Agrees}
+use Rattle.turn_types.specs.Config.{Config}
+use Rattle.turn_types.specs.declared.limits.Bounds.{Bounds}
+use Rattle.turn_engine.specs.Resting.{Rests}
+use Rattle.turn_engine.specs.State.{IsSound, ServerState, now_of}
+use Rattle.turn_engine.proofs.Lists.{all-append, added_few, added_from}
+
+-- ---- What a server keeps
+
+pub snapshot_later : (b : Bounds) (t : ℕ) (old new : State) → t < 2 ^ 40 - 3600 → old.moment ≤ t → IsPurged t old new → IsSnapshot b old.moment old.contents
+    → IsSnapshot b new.moment new.contents
+snapshot_later b t old new range le later is = elim (eq-or-lt_of_le le) [
+  | inl e ↦ subst (λ (m : ℕ). IsSnapshot b m new.contents) (e ∙ sym later.moment) (subst (λ (c : Contents). IsSnapshot b old.moment c) (sym (later.same e)) is)
+  | inr lt ↦ subst (λ (m : ℕ). IsSnapshot b m new.contents) (sym later.moment)
+      (subst (λ (c : Contents). IsSnapshot b t c) (sym (later.later lt)) (snapshot-purged b old.moment t old.contents le range is))
+]
+
+pub sound_later : (b limits store batch : Bounds) (acts arrivals t : ℕ) (old new : State) → t < 2 ^ 40 - 3600 → old.moment ≤ t → IsPurged t old new → limits ≡ b
+    → IsSound b store batch acts arrivals old → IsSound limits store batch acts arrivals new
+sound_later b limits store batch acts arrivals t old new range le later same s =
+    subst (λ (x : Bounds). IsSound x store batch acts arrivals new) (sym same) (record {
+      store_is = s.store_is;
+      batch_is = s.batch_is;
+      table_is = later.bounds ∙ s.table_is;
+      few = s.few;
+      capped = s.capped;
+      snapshot = snapshot_later b t old new range le later s.snapshot;
+    })
+
+snapshot_changed : (b : Bounds) (old : State) (change : Option Change) → old.bounds ≡ b → IfSome change (MayBeNext old) → IsSnapshot b old.moment old.contents
+    → IsSnapshot b (changed old change).moment (changed old change).contents
+snapshot_changed b old None bounds may is = is
+snapshot_changed b old (Some c) bounds may is =
+    snapshot-applied b (event_at old.moment c) old.contents (subst (λ (x : Bounds). IsInRange x (event_at old.moment c)) bounds may.in_range)
+    (subst (λ (x : Bounds). Fits x old.contents c.tuple c.act) bounds may.fits) is
+
+bounds_changed : (old : State) (change : Option Change) → (changed old change).bounds ≡ old.bounds
+bounds_changed old None = refl
+bounds_changed old (Some c) = refl
+
+pub moment_changed : (old : State) (change : Option Change) → (changed old change).moment ≡ old.moment
+moment_changed old None = refl
+moment_changed old (Some c) = refl
+
+pub sound_changed : (b limits store batch larger : Bounds) (acts more arrivals t : ℕ) (old new : State) (change : Option Change) → new ≡ changed old change → IfSome change (MayBeNext old)
+    → limits ≡ b → larger ≡ batch → more ≡ acts + length (added t change) → arrivals < b.acts → IsSound b store batch acts arrivals old
+    → IsSound limits store larger more (arrivals + 1) new
+sound_changed b limits store batch larger acts more arrivals t old new change is may same same_batch count room s =
+    let few = s.few in
+    let one = added_few t change in
+    subst (λ (x : Bounds). IsSound x store larger more (arrivals + 1) new) (sym same) (record {
+      store_is = s.store_is;
+      batch_is = same_batch ∙ s.batch_is;
+      table_is = ap (λ (x : State). x.bounds) is ∙ bounds_changed old change ∙ s.table_is;
+      few = omega arith;
+      capped = omega arith;
+      snapshot = subst (λ (x : State). IsSnapshot b x.moment x.contents) (sym is) (snapshot_changed b old change s.table_is may s.snapshot);
+    })
+
+pub counts_same : (old mid new : ℕ) → CountsOne old mid → new ≡ mid → CountsOne old new
+counts_same old mid new counts same = subst (λ (n : ℕ). CountsOne old n) (sym same) counts
+
+-- ---- What it rests on
+
+pub after_same : {H G : Type 0} (m n : MachineState H G) (h : History) → n.config ≡ m.config → n.table ≡ m.table → IsAfter m h → IsAfter n h
+after_same m n h config table after = record {
+  fitting = subst (λ (c : Config). IsFitting c.limits h) (sym config) after.fitting;
+  late = subst (λ (s : State). clock h ≤ s.moment) (sym table) after.late;
+  agrees = subst (λ (s : State). Agrees s h) (sym table) after.agrees;
+}
+
+-- a server whose machine alone is another, at a later moment
+pub rests_later : {D H G : Type 0} (state : disks.State) (old new : ServerState D H G) (h : History) (k : ℕ) → Rests state old h k → new.store ≡ old.store → new.payload ≡ old.payload
+    → new.acts ≡ old.acts → now_of old ≤ now_of new → IsAfter new.machine h → Rests state new h k
+rests_later state old new h k rests store payload acts le after =
+    let late = rests.at_late in
+    record {
+      after = after;
+      within = rests.within;
+      at = rests.at;
+      at_late = omega arith;
+      stored = subst (λ s. RestsAt s state rests.at (take k h)) (sym store) rests.stored;
+      staged = payload ∙ rests.staged;
+      counted = acts ∙ rests.counted;
+      from = rests.from;
+    }
+
+-- a server that took an arrival
+pub rests_taken : {D H G : Type 0} (state : disks.State) (old new : ServerState D H G) (h : History) (k t : ℕ) (change : Option Change) → Rests state old h k → new.store ≡ old.store
+    → ((es : List Event) → old.payload ≡ bytes.payload es → new.payload ≡ bytes.payload (es ++ added t change)) → new.acts ≡ old.acts + length (added t change)
+    → now_of old ≤ t → now_of new ≡ t → IsAfter new.machine (h ++ added t change) → Rests state new (h ++ added t change) k
+rests_taken state old new h k t change rests store payload acts le now after =
+    let more = added t change in
+    let late = rests.at_late in
+    let within = rests.within in
+    let longer : length (h ++ more) ≡ length h + length more = length-append h more in
+    let front : take k (h ++ more) ≡ take k h = take-append-le k h more rests.within in
+    let rest : drop k (h ++ more) ≡ drop k h ++ more = drop-append-le k h more rests.within in
+    let counted = rests.counted in
+    let count : length (drop k h ++ more) ≡ length (drop k h) + length more = length-append (drop k h) more in
+    let sum : new.acts ≡ length (drop k h ++ more) = omega arith in
+    record {
+      after = after;
+      within = omega arith;
+      at = rests.at;
+      at_late = omega arith;
+      stored = subst (λ s. RestsAt s state rests.at (take k (h ++ more))) (sym store) (subst (λ (l : History). RestsAt old.store state rests.at l) (sym front) rests.stored);
+      staged = payload (drop k h) rests.staged ∙ ap bytes.payload (sym rest);
+      counted = sum ∙ ap (λ (l : History). length l) (sym rest);
+      from = subst (AllFrom rests.at) (sym rest) (all-append (λ (e : Event). rests.at ≤ e.moment) (drop k h) more rests.from (added_from rests.at t change (omega arith)));
+    }

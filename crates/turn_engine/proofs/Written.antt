@@ -1,0 +1,164 @@
+-- What a commit makes of what a server rests on, and of its disk.
+use Rattle.std.proofs.Common.{inl, ◌≡◌, ◌≢◌, ◌≤◌, ◌<◌, ◌-◌, ◌^◌, ⊎_elim, ℕ, Bool, true, false, List, [], ◌∷◌, ◌++◌, length, take, drop, Result, Ok, Err, refl, sym, ap, ◌∙◌, subst, arith, append-nil}
+use Rattle.std.proofs.lemmas.List.{take-append-drop}
+use Rattle.std.proofs.Math.Seq.{take-length, drop-length}
+use Rattle.std.specs.Prelude.{OnErr}
+use Rattle.turn_disk.specs.Disk.{State, Trace, IsImage, EachImageSince}
+use Rattle.turn_disk.proofs.Since.{image_settled, since_same}
+use Rattle.turn_history.specs.Fitting.{IsFitting}
+use Rattle.turn_history.specs.History.{History, clock}
+use Rattle.turn_history.specs.Table as tables
+use Rattle.turn_history.specs.Laws.{AllFrom}
+use Rattle.turn_record.specs.Bytes as bytes
+use Rattle.turn_store.specs.Areas.{Form, Holds}
+use Rattle.turn_store.specs.Images.{EachImage, EitherBy, StandsBy, StandsForAt}
+use Rattle.turn_store.specs.Spells.{HasSize}
+use Rattle.turn_store.specs.Stages.{InStages}
+use Rattle.turn_store.specs.State.{MayFollow, RestsAt, StoreState, form_of, framed, swapped}
+use Rattle.turn_store.specs.declared.fault.StoreFault.{StoreFault}
+use Rattle.turn_store.proofs.Staged.{stages_all, stages_first, stages_weaken}
+use Rattle.turn_types.specs.declared.limits.Bounds.{Bounds}
+use Rattle.turn_engine.specs.Images.{AtLeast}
+use Rattle.turn_engine.specs.Resting.{Rests}
+use Rattle.turn_engine.specs.State.{ServerState, emptied, limits_of, now_of}
+use Rattle.turn_engine.proofs.Lists.{none_left}
+
+-- the form of a store is kept, whatever an append answers
+pub form_kept : {D : Type 0} (old new : StoreState D) (count size : ℕ) (result : Result Bool StoreFault) → (result ≡ Ok false → new ≡ framed old count new.disk)
+    → (result ≡ Ok true → new ≡ swapped old size new.disk) → OnErr result (new ≡ record old { disk = new.disk; stopped = true }) → form_of new ≡ form_of old
+form_kept old new count size (Ok false) one two err = ap form_of (one refl)
+form_kept old new count size (Ok true) one two err = ap form_of (two refl)
+form_kept old new count size (Err e) one two err = ap form_of err
+
+-- ---- Images
+
+-- what a store that rests on a history leaves
+stood : {D : Type 0} (store : StoreState D) (state : State) (c : ℕ) (h : History) → RestsAt store state c h → (image : List ℕ) → IsImage state image → StandsForAt (form_of store) h c image
+stood store state c h rests image is =
+    let on = rests.shows.rests in
+    let holds = on.holds in
+    let whole : Holds (form_of store) rests.snapshot rests.payloads state.bytes = record {
+      is_form = holds.is_form;
+      front = holds.front;
+      whole = holds.whole;
+      start = store.area.start;
+      other = store.other;
+      places = holds.places;
+      generation = store.generation;
+      area = holds.area;
+      yields = on.yields;
+    } in
+    record {
+      snapshot = rests.snapshot;
+      payloads = rests.payloads;
+      holds = subst (λ (l : List ℕ). Holds (form_of store) rests.snapshot rests.payloads l) (sym (image_settled state holds.settled image is)) whole;
+      spells = rests.spells;
+    }
+
+least_first : (form : Form) (h : History) (k m : ℕ) (image : List ℕ) → k ≤ length h → StandsBy form (take k h) m image → AtLeast form h k m image
+least_first form h k m image le stands = record { count = k; no_less = omega arith; no_more = le; stands = stands }
+
+least_all : (form : Form) (h : History) (k m : ℕ) (image : List ℕ) → k ≤ length h → StandsBy form h m image → AtLeast form h k m image
+least_all form h k m image le stands = record {
+  count = length h;
+  no_less = le;
+  no_more = omega arith;
+  stands = subst (λ (l : History). StandsBy form l m image) (sym (take-length h)) stands;
+}
+
+-- each image of a server's disk has what is stored
+pub images_stored : {D H G : Type 0} (state : State) (server : ServerState D H G) (h : History) (k : ℕ) → Rests state server h k
+    → EachImage state (AtLeast (form_of server.store) h k (now_of server))
+images_stored state server h k rests image is =
+    least_first (form_of server.store) h k (now_of server) image rests.within
+    (record { clock = rests.at; bounded = rests.at_late; stands = stood server.store state rests.at (take k h) rests.stored image is })
+
+pub not_written : {D H G : Type 0} (old new : Trace) (server : ServerState D H G) (h : History) (k : ℕ) → new ≡ old → Rests old.now server h k
+    → EachImageSince old new (AtLeast (form_of server.store) h k (now_of server))
+not_written old new server h k same rests = since_same old new (AtLeast (form_of server.store) h k (now_of server)) same (images_stored old.now server h k rests)
+
+-- what an append leaves
+pub written : {D H G : Type 0} (old new : Trace) (server : ServerState D H G) (h : History) (k : ℕ) → (rests : Rests old.now server h k)
+    → InStages old new (StandsForAt (form_of server.store) (take k h) rests.at) (EitherBy (form_of server.store) (take k h) (drop k h) (now_of server))
+    → EachImageSince old new (AtLeast (form_of server.store) h k (now_of server))
+written old new server h k rests stages =
+    let form = form_of server.store in
+    let m = now_of server in
+    stages_all old new (AtLeast form h k m) (AtLeast form h k m) (λ image is. is)
+    (stages_weaken old new (StandsForAt form (take k h) rests.at) (EitherBy form (take k h) (drop k h) m) (AtLeast form h k m) (AtLeast form h k m)
+    (λ image stands. least_first form h k m image rests.within (record { clock = rests.at; bounded = rests.at_late; stands = stands }))
+    (λ image either. ⊎_elim (λ (first : StandsBy form (take k h) m image). least_first form h k m image rests.within first)
+    (λ (all : StandsBy form (take k h ++ drop k h) m image). least_all form h k m image rests.within (subst (λ (l : History). StandsBy form l m image) (take-append-drop k h) all)) either)
+    stages)
+
+-- the same, moment by moment
+pub stages_written : {D H G : Type 0} (old new : Trace) (server : ServerState D H G) (h : History) (k : ℕ) → (rests : Rests old.now server h k)
+    → InStages old new (StandsForAt (form_of server.store) (take k h) rests.at) (EitherBy (form_of server.store) (take k h) (drop k h) (now_of server))
+    → InStages old new (StandsBy (form_of server.store) (take k h) (now_of server)) (EitherBy (form_of server.store) (take k h) (drop k h) (now_of server))
+stages_written old new server h k rests stages =
+    let form = form_of server.store in
+    let m = now_of server in
+    stages_weaken old new (StandsForAt form (take k h) rests.at) (EitherBy form (take k h) (drop k h) m) (StandsBy form (take k h) m) (EitherBy form (take k h) (drop k h) m)
+    (λ image stands. record { clock = rests.at; bounded = rests.at_late; stands = stands }) (λ image either. either) stages
+
+pub stages_none : {D H G : Type 0} (old new : Trace) (server : ServerState D H G) (h : History) (k : ℕ) → new ≡ old → Rests old.now server h k
+    → InStages old new (StandsBy (form_of server.store) (take k h) (now_of server)) (EitherBy (form_of server.store) (take k h) (drop k h) (now_of server))
+stages_none old new server h k same rests =
+    let form = form_of server.store in
+    let m = now_of server in
+    stages_first old new (StandsBy form (take k h) m) (EitherBy form (take k h) (drop k h) m) (λ image stands. inl stands)
+    (since_same old new (StandsBy form (take k h) m) same
+    (λ image is. record { clock = rests.at; bounded = rests.at_late; stands = stood server.store old.now rests.at (take k h) rests.stored image is }))
+
+-- ---- What an append asks
+
+pub may_follow : {D H G : Type 0} (state : State) (server : ServerState D H G) (h : History) (k : ℕ) (rests : Rests state server h k) → server.store.bounds ≡ limits_of server
+    → now_of server < 2 ^ 40 - 3600 → MayFollow server.store.bounds rests.at (take k h) (drop k h) (now_of server)
+may_follow state server h k rests same range =
+    let whole : take k h ++ drop k h ≡ h = take-append-drop k h in
+    record {
+      fitting = subst (IsFitting server.store.bounds) (sym whole) (subst (λ (b : Bounds). IsFitting b h) (sym same) rests.after.fitting);
+      from = rests.from;
+      clock_late = rests.at_late;
+      late = subst (λ (l : History). clock l ≤ now_of server) (sym whole) rests.after.late;
+      in_range = range;
+    }
+
+pub some_acts : (n acts : ℕ) → n ≡ acts → n ≢ 0 → 1 ≤ acts
+some_acts n acts is not = omega arith
+
+pub few_acts : (acts arrivals limit bound : ℕ) → acts ≤ arrivals → arrivals ≤ limit → bound ≡ limit → acts ≤ bound
+few_acts acts arrivals limit bound one two is = omega arith
+
+pub has_size : {D H G : Type 0} (state : State) (server : ServerState D H G) (h : History) (k : ℕ) → Rests state server h k → 1 ≤ server.acts → server.acts ≤ server.store.bounds.acts
+    → HasSize server.store.bounds (drop k h)
+has_size state server h k rests some few = let count = rests.counted in record { some = omega arith; few = omega arith }
+
+pub contents_are : {D H G : Type 0} (state : State) (server : ServerState D H G) (h : History) (k : ℕ) → Rests state server h k
+    → server.machine.table.contents ≡ tables.table (take k h ++ drop k h) (now_of server)
+contents_are state server h k rests = rests.after.agrees ∙ ap (λ (l : History). tables.table l (now_of server)) (sym (take-append-drop k h))
+
+-- ---- What a server rests on afterwards
+
+-- all is stored
+pub all_stored : {D H G : Type 0} (state after : State) (old : ServerState D H G) (store : StoreState D) (h : History) (k : ℕ) → Rests state old h k
+    → (d : ℕ) × (d ≤ now_of old) × RestsAt store after d (take k h ++ drop k h) → Rests after (emptied old store) h (length h)
+all_stored state after old store h k rests done =
+    let none : drop (length h) h ≡ [] = drop-length h in
+    record {
+      after = rests.after;
+      within = omega arith;
+      at = done.0;
+      at_late = done.1;
+      stored = subst (λ (l : History). RestsAt store after done.0 l) (take-append-drop k h ∙ sym (take-length h)) done.2;
+      staged = ap (λ (l : History). length l ∷ bytes.each bytes.act_entry l) (sym none);
+      counted = ap (λ (l : History). length l) (sym none);
+      from = subst (AllFrom done.0) (sym none) tt;
+    }
+
+-- nothing was staged
+pub none_staged : {D H G : Type 0} (state : State) (old : ServerState D H G) (h : History) (k : ℕ) → Rests state old h k → old.acts ≡ 0 → Rests state (emptied old old.store) h (length h)
+none_staged state old h k rests none =
+    let is : drop k h ≡ [] = none_left (drop k h) (sym rests.counted ∙ none) in
+    let all : take k h ≡ take k h ++ drop k h = sym (append-nil (take k h)) ∙ ap (λ (l : History). take k h ++ l) (sym is) in
+    all_stored state state old old.store h k rests (rests.at, rests.at_late, subst (λ (l : History). RestsAt old.store state rests.at l) all rests.stored)

@@ -1,0 +1,58 @@
+use Rattle.std.proofs.Common.{◌≡◌, take, sym, ap, ◌∙◌, subst}
+use Rattle.turn_disk.specs.Disk.{EachImageSince}
+use Rattle.turn_store.specs.Opened.{IsOpened, OpensTo}
+use Rattle.turn_store.specs.Refused.{WhyRefused}
+use Rattle.turn_store.specs.Tables.{snapshot_of}
+use Rattle.turn_table.specs.State.{State}
+use Rattle.turn_types.specs.Config.{Config}
+use Rattle.turn_types.specs.declared.limits.Bounds.{Bounds}
+use Rattle.turn_engine.specs.Images.{AtLeast}
+use Rattle.turn_engine.proofs.Opened.{fresh_sound, image_self, opens, since_images}
+use Rattle.turn_engine.proofs.server.Server.open.Goals as goal
+
+pub returns-in-Err-clause-why : goal.returns-in-Err-clause-why
+returns-in-Err-clause-why g c = λ honest.
+    subst (λ (b : Bounds). WhyRefused b (g.D.Disk.trace c.args.disk).now.bytes c.in-Err.field-0.fault) c.limits-limits.ensures.value (c.in-Err.ensures.why honest)
+
+pub returns-in-Err-clause-sound : goal.returns-in-Err-clause-sound
+returns-in-Err-clause-sound g c = λ honest form h k m bounds images.
+    let at = images _ (image_self (g.D.Disk.trace c.args.disk).now) in
+    c.in-Err.ensures.sound honest form (take at.count h) at.stands.clock (bounds ∙ sym c.limits-limits.ensures.value) at.stands.stands
+
+pub returns-in-Err-clause-stop_err : goal.returns-in-Err-clause-stop_err
+returns-in-Err-clause-stop_err g c = λ honest form h k m images. since_images _ _ _ images (c.in-Err.ensures.stop_err honest)
+
+pub invariant_of-result : goal.invariant_of-result
+invariant_of-result g c =
+    fresh_sound c.limits-limits.result _ _ _ _ c.in-Ok-new.machine.table c.in-Ok.opened.table
+    (ap (λ m. m.config.limits) c.in-Ok-new.ensures.ok ∙ ap (λ (x : Config). x.limits) c.in-Ok-Ok.ensures ∙ sym c.limits-limits.ensures.value)
+    (ap (λ m. m.table) c.in-Ok-new.ensures.ok) c.in-Ok.ensures.bounds.0 (ap (λ b. b.bounds) c.in-Ok-Ok.ensures') c.in-Ok.ensures.bounds.1 (ap (λ b. b.acts) c.in-Ok-Ok.ensures')
+    c.in-Ok.ensures.snapshot
+
+pub returns-in-Ok-new-clause-opened : goal.returns-in-Ok-new-clause-opened
+returns-in-Ok-new-clause-opened g c = λ honest.
+    let state = (g.D.Disk.trace c.in-Ok.opened.store.disk).now in
+    subst (λ (t : State). IsOpened c.in-Ok.opened.store state (snapshot_of t)) (sym (ap (λ m. m.table) c.in-Ok-new.ensures.ok)) (c.in-Ok.ensures.opened honest)
+
+pub returns-in-Ok-new-clause-rests : goal.returns-in-Ok-new-clause-rests
+returns-in-Ok-new-clause-rests g c = λ honest form h k m bounds images.
+    let state = (g.D.Disk.trace c.in-Ok.opened.store.disk).now in
+    let at = images _ (image_self (g.D.Disk.trace c.args.disk).now) in
+    let read = c.in-Ok.ensures.rests honest form (take at.count h) at.stands.clock (bounds ∙ sym c.limits-limits.ensures.value) at.stands.stands in
+    opens form h k m _ state _ at
+    (subst (λ (t : State). OpensTo form (take at.count h) at.stands.clock c.in-Ok.opened.store state (snapshot_of t)) (sym (ap (λ m. m.table) c.in-Ok-new.ensures.ok)) read)
+    (bounds ∙ sym (ap (λ m. m.config.limits) c.in-Ok-new.ensures.ok ∙ ap (λ (x : Config). x.limits) c.in-Ok-Ok.ensures))
+    (ap (λ b. b.payload) c.in-Ok-Ok.ensures') (ap (λ b. b.acts) c.in-Ok-Ok.ensures')
+
+pub returns-in-Ok-new-clause-stop : goal.returns-in-Ok-new-clause-stop
+returns-in-Ok-new-clause-stop g c = λ honest form h k m images. since_images _ _ _ images (c.in-Ok.ensures.stop honest)
+
+pub returns-in-Err-new-clause-same_err : goal.returns-in-Err-new-clause-same_err
+returns-in-Err-new-clause-same_err g c = λ honest.
+    let trace = g.D.Disk.trace in
+    subst (λ d. (trace d).now.bytes ≡ (trace c.args.disk).now.bytes) (sym c.into_disk.ensures) (c.in-Ok.ensures.same honest)
+
+pub returns-in-Err-new-clause-stop_err : goal.returns-in-Err-new-clause-stop_err
+returns-in-Err-new-clause-stop_err g c = λ honest form h k m images.
+    let trace = g.D.Disk.trace in
+    subst (λ d. EachImageSince (trace c.args.disk) (trace d) (AtLeast form h k m)) (sym c.into_disk.ensures) (since_images _ _ _ images (c.in-Ok.ensures.stop honest))

@@ -1,0 +1,82 @@
+use Rattle.std.proofs.Common.{◌≡◌, ◌≤◌, ◌+◌, ◌++◌, ℕ, length, map, option_map, sym, ap, ◌∙◌, subst, arith}
+use Rattle.std.specs.Option.{option_to_list}
+use Rattle.turn_ports.specs.Ports.{has_failed}
+use Rattle.turn_step.specs.Answer.{AnswersArrival}
+use Rattle.turn_step.specs.Outcome.{added}
+use Rattle.turn_step.specs.State.{CountsOne, IsAfter, setting_of}
+use Rattle.turn_step.specs.Views.{arrival_of, sent_of}
+use Rattle.turn_types.specs.Config.{Config}
+use Rattle.turn_table.specs.State.{State}
+use Rattle.turn_engine.specs.State.{now_of}
+use Rattle.turn_engine.proofs.Lists.{when_ok}
+use Rattle.turn_engine.proofs.Taken.{after_same, counts_same, moment_changed, rests_later, rests_taken, sound_changed, sound_later}
+use Rattle.turn_engine.proofs.server.Server.take.Goals as goal
+
+pub invariant_of-self : goal.invariant_of-self
+invariant_of-self g c =
+    let le = subst (λ s. now_of s ≤ c.args.moment) (sym c.self.view_is) c.requires.clock in
+    sound_later _ _ _ _ _ _ c.args.moment c.self.inside.machine.table c.prepare.new.self.table c.seconds.ensures.range le c.prepare.ensures.table
+    (ap (λ (x : Config). x.limits) c.prepare.ensures.setting.config) c.self.invariant
+
+pub returns-in-Err-clause-memory_rests : goal.returns-in-Err-clause-memory_rests
+returns-in-Err-clause-memory_rests g c = λ h k rests.
+    let moment = c.prepare.ensures.table.moment in
+    rests_later _ c.args.self.now _ h k rests (ap (λ s. s.store) c.self.view_is) (ap (λ s. s.payload) c.self.view_is) (ap (λ s. s.acts) c.self.view_is)
+    (omega (arith, c.requires.clock, moment)) (c.prepare.ensures.after h (subst (λ m. IsAfter m h) (sym (ap (λ s. s.machine) c.self.view_is)) rests.after))
+
+pub invariant_of-self-then-is_err : goal.invariant_of-self-then-is_err
+invariant_of-self-then-is_err g c =
+    let le = subst (λ s. now_of s ≤ c.args.moment) (sym c.self.view_is) c.requires.clock in
+    rw c.abandon.ensures.table (sound_later _ _ _ _ _ _ c.args.moment c.self.inside.machine.table c.prepare.new.self.table c.seconds.ensures.range le c.prepare.ensures.table
+    (ap (λ (x : Config). x.limits) (c.abandon.ensures.setting.config ∙ c.prepare.ensures.setting.config)) c.self.invariant)
+
+pub returns-then-is_err-clause-memory_rests : goal.returns-then-is_err-clause-memory_rests
+returns-then-is_err-clause-memory_rests g c = λ h k rests.
+    let moment = c.prepare.ensures.table.moment in
+    let same = ap (λ (s : State). s.moment) c.abandon.ensures.table in
+    let after = c.prepare.ensures.after h (subst (λ m. IsAfter m h) (sym (ap (λ s. s.machine) c.self.view_is)) rests.after) in
+    rests_later _ c.args.self.now _ h k rests (ap (λ s. s.store) c.self.view_is) (ap (λ s. s.payload) c.self.view_is) (ap (λ s. s.acts) c.self.view_is)
+    (omega (arith, c.requires.clock, moment, same)) (after_same c.prepare.new.self c.abandon.new.self h c.abandon.ensures.setting.config c.abandon.ensures.table after)
+
+pub stage_datagram-requires : goal.stage_datagram-requires
+stage_datagram-requires g c = record { room = when_ok c.reserve.result _ c.reserve.ensures.ok (sym c.is_err.ensures.value ∙ c.if-is_err.false) }
+
+pub overflow_add-self : goal.overflow_add-self
+overflow_add-self g c = let small = rw (← c.self.view_is) at c.requires.small in omega (arith, small)
+
+pub invariant_of-self-2 : goal.invariant_of-self-2
+invariant_of-self-2 g c =
+    let le = subst (λ s. now_of s ≤ c.args.moment) (sym c.self.view_is) c.requires.clock in
+    let room = rw (← c.self.view_is) at c.requires.room in
+    let same = ap (λ (x : Config). x.limits.acts) c.prepare.ensures.setting.config in
+    let later = sound_later _ _ _ _ _ _ c.args.moment c.self.inside.machine.table c.prepare.new.self.table c.seconds.ensures.range le c.prepare.ensures.table
+    (ap (λ (x : Config). x.limits) c.prepare.ensures.setting.config) c.self.invariant in
+    sound_changed _ _ _ _ _ _ _ _ c.args.moment c.prepare.new.self.table c.apply-datagram.new.self.table c.in-Ok.step.change c.apply-datagram.ensures.table c.in-Ok.ensures.ready
+    (ap (λ (x : Config). x.limits) c.apply-datagram.ensures.setting.config) c.stage_act.ensures.bounds c.stage_act.ensures.acts (omega (arith, room, same)) later
+
+pub returns-clause-count : goal.returns-clause-count
+returns-clause-count g c =
+    let failures = g.G.RelayAddressGenerator.failures in
+    counts_same _ (failures c.prepare.new.self.ports) _ (subst (λ s. CountsOne (failures s.machine.ports) (failures c.prepare.new.self.ports)) c.self.view_is c.prepare.ensures.count)
+    c.apply-datagram.ensures.count
+
+pub returns-clause-ok : goal.returns-clause-ok
+returns-clause-ok g c = λ h k rests.
+    let t = c.args.moment in
+    let change = c.in-Ok.step.change in
+    let failures = g.G.RelayAddressGenerator.failures in
+    let after_old : IsAfter c.self.inside.machine h = subst (λ m. IsAfter m h) (sym (ap (λ s. s.machine) c.self.view_is)) rests.after in
+    let moment : c.prepare.new.self.table.moment ≡ t = c.prepare.ensures.table.moment in
+    let answers = subst (λ s. AnswersArrival (setting_of g.H.AuthHandler.key_of g.G.RelayAddressGenerator.range s.machine) h t
+    (has_failed (failures s.machine.ports) (failures c.prepare.new.self.ports)) (arrival_of c.args.arrival.now) c.in-Ok.step) c.self.view_is (c.in-Ok.ensures.answers h after_old) in
+    let after = subst (λ (u : ℕ). IsAfter c.apply-datagram.new.self (h ++ added u change)) moment (c.apply-datagram.ensures.after h (c.prepare.ensures.after h after_old)) in
+    record {
+      outcome = c.in-Ok.step;
+      answers = subst (λ (n : ℕ). AnswersArrival (setting_of g.H.AuthHandler.key_of g.G.RelayAddressGenerator.range c.args.self.now.machine) h t
+          (has_failed (failures c.args.self.now.machine.ports) n) (arrival_of c.args.arrival.now) c.in-Ok.step) (sym c.apply-datagram.ensures.count) answers;
+      outs = c.stage_datagram.ensures ∙ ap (λ l. map sent_of l ++ option_to_list (option_map sent_of c.apply-datagram.result)) c.reserve.ensures.items
+          ∙ ap (λ o. map sent_of c.self.inside.outgoing.items ++ option_to_list o) c.apply-datagram.ensures.sent ∙ ap (λ s. s.outs ++ option_to_list c.in-Ok.step.sent) c.self.view_is;
+      rests = rests_taken _ c.args.self.now _ h k t change rests (ap (λ s. s.store) c.self.view_is) (λ es is. c.stage_act.ensures.payload es (ap (λ s. s.payload) c.self.view_is ∙ is))
+          (c.stage_act.ensures.acts ∙ ap (λ s. s.acts + length (added t change)) c.self.view_is) c.requires.clock
+          (ap (λ (s : State). s.moment) c.apply-datagram.ensures.table ∙ moment_changed c.prepare.new.self.table change ∙ moment) after;
+    }

@@ -1,0 +1,74 @@
+use Rattle.std.proofs.Common.{length, take, drop, sym, ap, ◌∙◌, subst, refl}
+use Rattle.turn_disk.specs.Disk.{EachImageSince}
+use Rattle.turn_store.specs.Areas.{Form}
+use Rattle.turn_store.specs.Images.{EitherBy, StandsBy}
+use Rattle.turn_store.specs.Stages.{InStages}
+use Rattle.turn_store.specs.State.{form_of}
+use Rattle.turn_types.specs.declared.limits.Bounds.{Bounds}
+use Rattle.turn_engine.specs.Images.{AtLeast}
+use Rattle.turn_engine.specs.Resting.{Rests}
+use Rattle.turn_engine.specs.State.{emptied, now_of}
+use Rattle.turn_engine.proofs.Written.{all_stored, contents_are, few_acts, form_kept, has_size, may_follow, none_staged, not_written, some_acts, stages_none, stages_written, written}
+use Rattle.turn_engine.proofs.server.Server.write.Goals as goal
+use Rattle.turn_engine.proofs.server.Server.write.Goals.{in-Ok, in-Err}
+
+pub returns-then-acts-eq0-clause-stop : goal.returns-then-acts-eq0-clause-stop
+returns-then-acts-eq0-clause-stop g c = λ honest h k rests. not_written _ _ c.args.self.now h k refl rests
+
+pub returns-then-acts-eq0-clause-done : goal.returns-then-acts-eq0-clause-done
+returns-then-acts-eq0-clause-done g c = λ honest h k rests.
+    none_staged _ c.args.self.now h k rests (sym (ap (λ s. s.acts) c.self.view_is) ∙ sym c.acts.ensures.value ∙ c.if-acts-eq0.true)
+
+pub invariant_of-self : goal.invariant_of-self
+invariant_of-self g c =
+    let kept = form_kept c.self.inside.store c.append.new.self _ _ c.append.result c.append.ensures.framed c.append.ensures.compacted c.append.ensures.stops in
+    let s = c.self.invariant in
+    record {
+      store_is = ap (λ (f : Form). f.bounds) kept ∙ s.store_is;
+      batch_is = s.batch_is;
+      table_is = s.table_is;
+      few = s.few;
+      capped = s.capped;
+      snapshot = s.snapshot;
+    }
+
+pub returns-clause-form : goal.returns-clause-form
+returns-clause-form g c =
+    form_kept c.self.inside.store c.append.new.self _ _ c.append.result c.append.ensures.framed c.append.ensures.compacted c.append.ensures.stops ∙ ap (λ s. form_of s.store) c.self.view_is
+
+pub returns-then-acts-eq0-clause-stages : goal.returns-then-acts-eq0-clause-stages
+returns-then-acts-eq0-clause-stages g c = λ honest h k rests. stages_none _ _ c.args.self.now h k refl rests
+
+pub returns-clause-stages : goal.returns-clause-stages
+returns-clause-stages g c = λ honest h k old.
+    let trace = g.D.Disk.trace in
+    let rests = subst (λ s. Rests (trace s.store.disk).now s h k) (sym c.self.view_is) old in
+    let here = subst (λ s. g.D.Disk.is_honest s.store.disk) (sym c.self.view_is) honest in
+    let stages = rw (c.table.ensures.value, c.payload.ensures.value) at c.append.ensures.stages in
+    subst (λ s. InStages (trace s.store.disk) (trace c.append.new.self.disk) (StandsBy (form_of s.store) (take k h) (now_of s)) (EitherBy (form_of s.store) (take k h) (drop k h) (now_of s))) c.self.view_is
+    (stages_written _ _ _ h k rests (stages here rests.at (take k h) (drop k h) rests.stored (may_follow _ _ h k rests c.self.invariant.store_is c.self.invariant.snapshot.moment)
+    (has_size _ _ h k rests (some_acts c.acts.result _ c.acts.ensures.value c.if-acts-eq0.false) (few_acts _ _ _ _ c.self.invariant.few c.self.invariant.capped (ap (λ (b : Bounds). b.acts) c.self.invariant.store_is))) rests.staged (contents_are _ _ h k rests)))
+
+pub returns-clause-stop : goal.returns-clause-stop
+returns-clause-stop g c = λ honest h k old.
+    let trace = g.D.Disk.trace in
+    let rests = subst (λ s. Rests (trace s.store.disk).now s h k) (sym c.self.view_is) old in
+    let here = subst (λ s. g.D.Disk.is_honest s.store.disk) (sym c.self.view_is) honest in
+    let stages = rw (c.table.ensures.value, c.payload.ensures.value) at c.append.ensures.stages in
+    subst (λ s. EachImageSince (trace s.store.disk) (trace c.append.new.self.disk) (AtLeast (form_of s.store) h k (now_of s))) c.self.view_is
+    (written _ _ _ h k rests (stages here rests.at (take k h) (drop k h) rests.stored (may_follow _ _ h k rests c.self.invariant.store_is c.self.invariant.snapshot.moment)
+    (has_size _ _ h k rests (some_acts c.acts.result _ c.acts.ensures.value c.if-acts-eq0.false) (few_acts _ _ _ _ c.self.invariant.few c.self.invariant.capped (ap (λ (b : Bounds). b.acts) c.self.invariant.store_is))) rests.staged (contents_are _ _ h k rests)))
+
+pub returns-clause-done : goal.returns-clause-done
+returns-clause-done g c = λ honest h k old.
+    let trace = g.D.Disk.trace in
+    let rests = subst (λ s. Rests (trace s.store.disk).now s h k) (sym c.self.view_is) old in
+    let here = subst (λ s. g.D.Disk.is_honest s.store.disk) (sym c.self.view_is) honest in
+    elim c.match-append.branch [
+      | in-Ok w ↦
+          let done = rw (c.table.ensures.value, c.payload.ensures.value) at w.in-Ok.ensures.done in
+          rw w.result-is (subst (λ s. Rests (trace c.append.new.self.disk).now (emptied s c.append.new.self) h (length h)) c.self.view_is
+          (all_stored _ _ _ c.append.new.self h k rests (done here rests.at (take k h) (drop k h) rests.stored
+          (may_follow _ _ h k rests c.self.invariant.store_is c.self.invariant.snapshot.moment) (has_size _ _ h k rests (some_acts c.acts.result _ c.acts.ensures.value c.if-acts-eq0.false) (few_acts _ _ _ _ c.self.invariant.few c.self.invariant.capped (ap (λ (b : Bounds). b.acts) c.self.invariant.store_is))) rests.staged (contents_are _ _ h k rests))))
+      | in-Err w ↦ rw w.result-is tt
+    ]

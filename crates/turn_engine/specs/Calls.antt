@@ -1,0 +1,52 @@
+-- What the calls of a server do, as records over what contracts see.
+use Rattle.std.specs.Prelude.{◌≡◌, ◌≤◌, ◌↔◌, ◌+◌, ℕ, List, Result, Err, IfOk, OnOk, OnErr, true, false, length}
+use Rattle.turn_cred.specs.declared.handler.AuthHandler as handlers
+use Rattle.turn_disk.specs.Disk.{EachImageSince}
+use Rattle.turn_disk.specs.declared.disk.Disk as disks
+use Rattle.turn_history.specs.History.{History}
+use Rattle.turn_ports.specs.Ports.{has_failed}
+use Rattle.turn_ports.specs.declared.generator.RelayAddressGenerator as generators
+use Rattle.turn_step.specs.Outcome.{Arrives, Sent}
+use Rattle.turn_step.specs.State.{KeepsSetting, setting_of}
+use Rattle.turn_store.specs.State.{form_of}
+use Rattle.turn_store.specs.declared.fault.StoreFault.{StoreFault}
+use Rattle.turn_store.specs.declared.fault.StoreFault.TheVariants as faults
+use Rattle.turn_engine.specs.Images.{AtLeast}
+use Rattle.turn_engine.specs.Resting.{Rests, Takes}
+use Rattle.turn_engine.specs.State.{ServerState, emptied, limits_of, now_of}
+use Rattle.turn_engine.specs.declared.fault.SubmitRefused.{SubmitRefused}
+use Rattle.turn_engine.specs.declared.fault.SubmitRefused.TheVariants.{BatchFull, Memory, Stopped}
+
+-- `submit` of an arrival at a moment that isn't before the clock
+pub record Submits {D H G : Type 0} (disk : disks.Ghosts D) (handler : handlers.Ghosts H) (ports : generators.Ghosts G) (old new : ServerState D H G) (moment : ℕ) (a : Arrives) (result : Result Unit SubmitRefused) : Type 0 where
+  pub in_time : now_of old ≤ moment
+  pub store : new.store ≡ old.store
+  pub setting : KeepsSetting ports.range old.machine new.machine
+  pub stopped : (result ≡ Err Stopped) ↔ (old.store.stopped ≡ true)
+  pub full : (result ≡ Err BatchFull) ↔ ((old.store.stopped ≡ false) × (old.arrivals ≡ (limits_of old).acts))
+  pub unchanged : result ≡ Err Stopped → new ≡ old
+  pub unchanged_full : result ≡ Err BatchFull → new ≡ old
+  pub memory : result ≡ Err Memory → new ≡ record old { machine = new.machine }
+  pub memory_clock : result ≡ Err Memory → now_of new ≡ moment
+  pub clock : OnOk result (now_of new ≡ moment)
+  pub arrivals : OnOk result (new.arrivals ≡ old.arrivals + 1)
+  pub takes : (h : History) (k : ℕ) → Rests (disk.trace old.store.disk).now old h k
+      → OnOk result (Takes (setting_of handler.key_of ports.range old.machine) (disk.trace old.store.disk).now old new h k moment
+      (has_failed (ports.failures old.machine.ports) (ports.failures new.machine.ports)) a)
+  pub rests : (h : History) (k : ℕ) → Rests (disk.trace old.store.disk).now old h k → OnErr result (Rests (disk.trace old.store.disk).now new h k)
+
+-- `commit`, which answers datagrams or a fault
+pub record Commits {D H G : Type 0} (disk : disks.Ghosts D) (old new : ServerState D H G) (result : Result (List Sent) StoreFault) : Type 0 where
+  pub handed : IfOk result (λ outs. outs ≡ old.outs)
+  pub ok : OnOk result (new ≡ emptied old new.store)
+  pub err : OnErr result (new ≡ record old { store = new.store })
+  pub runs : OnOk result (new.store.stopped ≡ false)
+  pub stops : OnErr result (new.store.stopped ≡ true)
+  pub stopped : (result ≡ Err faults.Stopped) ↔ (old.store.stopped ≡ true)
+  pub unchanged : old.store.stopped ≡ true → new ≡ old
+  pub honest : disk.is_honest new.store.disk ↔ disk.is_honest old.store.disk
+  pub form : form_of new.store ≡ form_of old.store
+  pub stop : disk.is_honest old.store.disk → (h : History) (k : ℕ) → Rests (disk.trace old.store.disk).now old h k
+      → EachImageSince (disk.trace old.store.disk) (disk.trace new.store.disk) (AtLeast (form_of old.store) h k (now_of old))
+  pub rests : disk.is_honest old.store.disk → (h : History) (k : ℕ) → Rests (disk.trace old.store.disk).now old h k
+      → OnOk result (Rests (disk.trace new.store.disk).now new h (length h))

@@ -1,0 +1,164 @@
+-- Runs: what a server answers from an opening on, call after call.
+use Rattle.std.specs.Prelude.{◌≡◌, ◌≤◌, ◌++◌, ℕ, Bool, List, [], ◌∷◌, Result, Ok, Err, false, length, map}
+use Rattle.std.specs.List.{AllByRecursion}
+use Rattle.std.specs.Option.{option_to_list}
+use Rattle.turn_cred.specs.declared.handler.AuthHandler as handlers
+use Rattle.turn_disk.specs.Disk.{EachImageSince}
+use Rattle.turn_disk.specs.declared.disk.Disk as disks
+use Rattle.turn_history.specs.History.{History}
+use Rattle.turn_ports.specs.declared.generator.RelayAddressGenerator as generators
+use Rattle.turn_step.specs.Answer.{AnswersArrival, Setting}
+use Rattle.turn_step.specs.Outcome.{Arrives, Outcome, Sent, added}
+use Rattle.turn_step.specs.State.{setting_of}
+use Rattle.turn_store.specs.Areas.{Form}
+use Rattle.turn_store.specs.Images.{EachImage, StandsBy}
+use Rattle.turn_store.specs.State.{form_of}
+use Rattle.turn_store.specs.declared.fault.StoreFault.{StoreFault}
+use Rattle.turn_engine.specs.Calls.{Submits, Commits}
+use Rattle.turn_engine.specs.Images.{AtLeast}
+use Rattle.turn_engine.specs.Resting.{Rests}
+use Rattle.turn_engine.specs.State.{ServerState, now_of}
+use Rattle.turn_engine.specs.declared.fault.SubmitRefused.{SubmitRefused}
+
+-- ---- Answers in a row
+
+-- an arrival that was taken at a moment, whether the generator of ports failed, and what was answered
+pub record Taken : Type 0 where
+  pub moment : ℕ
+  pub arrival : Arrives
+  pub failed : Bool
+  pub outcome : Outcome
+
+-- the events that arrivals added
+abbrev pub accepted : List Taken → History
+accepted [] = []
+accepted (x ∷ xs) = added x.moment x.outcome.change ++ accepted xs
+
+-- what is sent about them
+abbrev pub sent_about : List Taken → List Sent
+sent_about [] = []
+sent_about (x ∷ xs) = option_to_list x.outcome.sent ++ sent_about xs
+
+-- moments never fall, none is before the moment t, and each arrival is answered from the history before it
+abbrev pub IsRun : Setting → History → ℕ → List Taken → Type 0
+IsRun s h t [] = Unit {0}
+IsRun s h t (x ∷ xs) =
+    (t ≤ x.moment) × AnswersArrival s h x.moment x.failed x.arrival x.outcome × IsRun s (h ++ added x.moment x.outcome.change) x.moment xs
+
+-- the moment of the last arrival, or t where there is none
+abbrev pub last_moment : ℕ → List Taken → ℕ
+last_moment t [] = t
+last_moment t (x ∷ xs) = last_moment x.moment xs
+
+-- ---- Calls in a row
+
+-- a call, what it answered, and the server after it
+pub data Step (D H G : Type 0) : Type 0 where
+  Submit : (moment : ℕ) (arrival : Arrives) (result : Result Unit SubmitRefused) (after : ServerState D H G) → Step D H G
+  Commit : (result : Result (List Sent) StoreFault) (after : ServerState D H G) → Step D H G
+
+abbrev pub after_of : {D H G : Type 0} → Step D H G → ServerState D H G
+after_of (Submit moment arrival result after) = after
+after_of (Commit result after) = after
+
+abbrev pub last_of : {D H G : Type 0} → ServerState D H G → List (Step D H G) → ServerState D H G
+last_of server [] = server
+last_of server (x ∷ xs) = last_of (after_of x) xs
+
+abbrev pub datagrams_of : Result (List Sent) StoreFault → List Sent
+datagrams_of (Ok outs) = outs
+datagrams_of (Err fault) = []
+
+abbrev pub handed_by : {D H G : Type 0} → Step D H G → List Sent
+handed_by (Submit moment arrival result after) = []
+handed_by (Commit result after) = datagrams_of result
+
+-- what the commits handed out, one after another
+abbrev pub handed_out : {D H G : Type 0} → List (Step D H G) → List Sent
+handed_out [] = []
+handed_out (x ∷ xs) = handed_by x ++ handed_out xs
+
+-- the moment and the arrival of what was taken, and of each call that took one
+abbrev pub asked : Taken → ℕ × Arrives
+asked x = (x.moment, x.arrival)
+
+abbrev pub asked_by : {D H G : Type 0} → Step D H G → List (ℕ × Arrives)
+asked_by (Submit moment arrival (Ok done) after) = (moment, arrival) ∷ []
+asked_by (Submit moment arrival (Err why) after) = []
+asked_by (Commit result after) = []
+
+abbrev pub all_asked : {D H G : Type 0} → List (Step D H G) → List (ℕ × Arrives)
+all_asked [] = []
+all_asked (x ∷ xs) = asked_by x ++ all_asked xs
+
+-- a call does what its contract says
+abbrev pub IsCall : {D H G : Type 0} → disks.Ghosts D → handlers.Ghosts H → generators.Ghosts G → ServerState D H G → Step D H G → Type 0
+IsCall disk handler ports old (Submit moment arrival result after) = Submits disk handler ports old after moment arrival result
+IsCall disk handler ports old (Commit result after) = Commits disk old after result
+
+-- calls, each at the server that the one before left
+abbrev pub Serves : {D H G : Type 0} → disks.Ghosts D → handlers.Ghosts H → generators.Ghosts G → ServerState D H G → List (Step D H G) → Type 0
+Serves disk handler ports server [] = Unit {0}
+Serves disk handler ports server (x ∷ xs) = IsCall disk handler ports server x × Serves disk handler ports (after_of x) xs
+
+-- ---- Where a run is
+
+-- the arrivals that were taken up to the last commit that answered Ok, and those that were taken since
+pub record Place : Type 0 where
+  pub handed : List Taken
+  pub recent : List Taken
+
+abbrev pub start : Place
+start = record { handed = []; recent = [] }
+
+-- the history after all that was taken
+abbrev pub history_at : History → Place → History
+history_at h p = h ++ accepted (p.handed ++ p.recent)
+
+-- how many of its events belong to what was handed out, or were there at the opening
+abbrev pub count_at : History → Place → ℕ
+count_at h p = length (h ++ accepted p.handed)
+
+-- no generator has counted another number of failures
+abbrev pub NeverFails : {G : Type 0} → generators.Ghosts G → Type 0
+NeverFails {G = G} ports = (old new : G) → ports.failures old ≡ ports.failures new
+
+-- A server is at a place of a run that began after the history h at the moment t: what was taken is one run, each image of
+-- the disk has at least what was handed out, and a server that isn't stopped rests on all of it, has taken so many arrivals
+-- since the last commit, and has their datagrams staged. Where the generator never fails, no arrival says that it did.
+pub record IsAt {D H G : Type 0} (disk : disks.Ghosts D) (handler : handlers.Ghosts H) (ports : generators.Ghosts G) (s : Setting) (h : History) (t : ℕ) (server : ServerState D H G) (p : Place) : Type 0 where
+  pub is_run : IsRun s h t (p.handed ++ p.recent)
+  pub in_time : last_moment t (p.handed ++ p.recent) ≤ now_of server
+  pub honest : disk.is_honest server.store.disk
+  pub same_setting : setting_of handler.key_of ports.range server.machine ≡ s
+  pub images : EachImage (disk.trace server.store.disk).now (AtLeast (form_of server.store) (history_at h p) (count_at h p) (now_of server))
+  pub rests : server.store.stopped ≡ false → Rests (disk.trace server.store.disk).now server (history_at h p) (count_at h p)
+  pub outs : server.store.stopped ≡ false → server.outs ≡ sent_about p.recent
+  pub arrivals : server.store.stopped ≡ false → server.arrivals ≡ length p.recent
+  pub flags : NeverFails ports → AllByRecursion (λ x. x.failed ≡ false) (p.handed ++ p.recent)
+
+-- Calls led from one place to another. The arrivals of the run are those that the calls took, in order; what the calls
+-- handed out is what the arrivals that were added to the handed ones were answered, in order, each once.
+pub record Leads {D H G : Type 0} (disk : disks.Ghosts D) (handler : handlers.Ghosts H) (ports : generators.Ghosts G) (s : Setting) (h : History) (t : ℕ) (server : ServerState D H G) (p : Place) (steps : List (Step D H G)) : Type 0 where
+  pub end : Place
+  pub is_at : IsAt disk handler ports s h t (last_of server steps) end
+  pub more : List Taken
+  pub handed : end.handed ≡ p.handed ++ more
+  pub sent : handed_out steps ≡ sent_about more
+  pub arrivals : map asked (end.handed ++ end.recent) ≡ map asked (p.handed ++ p.recent) ++ all_asked steps
+
+-- calls that hand nothing out and leave the server as it was
+pub record IsSilent {D H G : Type 0} (server : ServerState D H G) (steps : List (Step D H G)) : Type 0 where
+  pub none : handed_out steps ≡ []
+  pub same : last_of server steps ≡ server
+
+-- the image stands for a history that begins with this one
+pub record BeginsWith (form : Form) (h : History) (moment : ℕ) (image : List ℕ) : Type 0 where
+  pub rest : History
+  pub stands : StandsBy form (h ++ rest) moment image
+
+-- An arrival was answered from the history h, and each image at a moment since old stands for a history that begins with h
+-- and what the arrival added.
+pub record Lasts {D H G : Type 0} (disk : disks.Ghosts D) (s : Setting) (h : History) (x : Taken) (old new : ServerState D H G) : Type 0 where
+  pub answered : AnswersArrival s h x.moment x.failed x.arrival x.outcome
+  pub images : EachImageSince (disk.trace old.store.disk) (disk.trace new.store.disk) (BeginsWith (form_of old.store) (h ++ added x.moment x.outcome.change) (now_of old))

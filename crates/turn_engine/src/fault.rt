@@ -1,0 +1,42 @@
+//! Why the calls of a server are refused.
+
+ghost use Rattle.std.specs.Prelude.{◌≡◌};
+ghost use Rattle.turn_engine.specs.declared.fault.SubmitRefused.TheVariants as submits;
+
+use std::alloc::AllocError;
+use thiserror::Error;
+use turn_cred::AuthHandler;
+use turn_disk::Disk;
+use turn_ports::RelayAddressGenerator;
+use turn_store::OpenFault;
+
+/// Why an arrival was not taken.
+#[derive(Clone, Copy, Debug, PartialEq, Eq, Error)]
+pub enum SubmitRefused {
+    /// The clock is at the arrival's moment, and nothing else has changed.
+    #[error("out of memory")]
+    Memory,
+    /// As many arrivals are staged as a batch may have. Nothing has changed.
+    #[error("batch full")]
+    BatchFull,
+    /// A commit failed. Nothing has changed.
+    #[error("stopped")]
+    Stopped,
+}
+
+impl From<AllocError> for SubmitRefused {
+    ghost from_gives = { λ _ e. e ≡ submits.Memory };
+
+    fn from(_: AllocError) -> Self {
+        SubmitRefused::Memory
+    }
+}
+
+/// A server that was not opened: why, and what it was to be made of.
+#[derive(Drop)]
+pub struct OpenRefused<D: Disk, H: AuthHandler, G: RelayAddressGenerator> {
+    pub fault: OpenFault,
+    pub disk: D,
+    pub handler: H,
+    pub ports: G,
+}

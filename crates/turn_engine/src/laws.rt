@@ -1,0 +1,72 @@
+//! Laws of runs: what follows of the contracts of `submit` and `commit`, whatever calls are made. Each is a clause of a
+//! function that does nothing.
+
+ghost use Rattle.std.specs.Prelude.{◌≡◌, ◌++◌, ◌∷◌, [], ℕ, List, Err, true, length, take};
+ghost use Rattle.turn_disk.specs.Disk.{EachImageSince, IsSettled, State};
+ghost use Rattle.turn_disk.specs.declared.disk.Disk as disks;
+ghost use Rattle.turn_cred.specs.declared.handler.AuthHandler as handlers;
+ghost use Rattle.turn_history.specs.History.{History};
+ghost use Rattle.turn_ports.specs.declared.generator.RelayAddressGenerator as generators;
+ghost use Rattle.turn_step.specs.Answer.{Setting};
+ghost use Rattle.turn_step.specs.State.{setting_of};
+ghost use Rattle.turn_store.specs.Areas.{Form};
+ghost use Rattle.turn_store.specs.Images.{EachImage};
+ghost use Rattle.turn_store.specs.State.{form_of};
+ghost use Rattle.turn_store.specs.declared.fault.StoreFault.{StoreFault};
+ghost use Rattle.turn_engine.specs.Calls.{Commits};
+ghost use Rattle.turn_engine.specs.Images.{AtLeast};
+ghost use Rattle.turn_engine.specs.Resting.{Opens, Rests};
+ghost use Rattle.turn_engine.specs.Runs.{IsAt, IsCall, IsSilent, Lasts, Leads, Place, Serves, Step, Taken, accepted, after_of, count_at, history_at, last_of, start};
+ghost use Rattle.turn_engine.specs.Stops.{IsLeft};
+ghost use Rattle.turn_engine.specs.State.{ServerState, now_of};
+
+use turn_cred::AuthHandler;
+use turn_disk::Disk;
+use turn_ports::RelayAddressGenerator;
+
+/// From an opening on, whatever arrivals and commits come, what the commits hand out is in order what the arrivals of one
+/// run were answered, each once, up to the last commit that answered `Ok`. A commit that failed handed nothing of its batch
+/// out, and nothing is handed out later.
+pub fn servers_make_runs<D: Disk, H: AuthHandler, G: RelayAddressGenerator>()
+    // What an opening yields, with nothing staged, is at the start of a run after the part of the history that it rests on.
+    ensures opened { (form : Form) (h : History) (k m : ℕ) (content : List ℕ) (server : ServerState D H G)
+        → D.is_honest server.store.disk → (o : Opens form h k m content (D.trace server.store.disk).now server) → server.outs ≡ [] → server.arrivals ≡ 0
+        → IsAt D.Disk H.AuthHandler G.RelayAddressGenerator (setting_of H.key_of G.range server.machine) (take o.count h) (now_of server) server start }
+
+    // So is every server with all of a history stored and nothing staged.
+    ensures starts { (server : ServerState D H G) (h : History) (k : ℕ)
+        → D.is_honest server.store.disk → Rests (D.trace server.store.disk).now server h k → k ≡ length h → server.outs ≡ [] → server.arrivals ≡ 0
+        → IsAt D.Disk H.AuthHandler G.RelayAddressGenerator (setting_of H.key_of G.range server.machine) h (now_of server) server start }
+
+    ensures goes_on { (s : Setting) (h : History) (t : ℕ) (server : ServerState D H G) (p : Place) (steps : List (Step D H G))
+        → IsAt D.Disk H.AuthHandler G.RelayAddressGenerator s h t server p → Serves D.Disk H.AuthHandler G.RelayAddressGenerator server steps
+        → Leads D.Disk H.AuthHandler G.RelayAddressGenerator s h t server p steps }
+    ensures failed { (old new : ServerState D H G) (fault : StoreFault) (steps : List (Step D H G))
+        → Commits D.Disk old new (Err fault) → Serves D.Disk H.AuthHandler G.RelayAddressGenerator new steps → IsSilent new steps }
+{}
+
+/// At every moment of every call each image of the disk stands for the first events of the run's history, and for no fewer
+/// than belong to what was handed out.
+pub fn stops_keep_what_was_handed_out<D: Disk, H: AuthHandler, G: RelayAddressGenerator>()
+    ensures calls { (s : Setting) (h : History) (t : ℕ) (server : ServerState D H G) (p : Place) (x : Step D H G)
+        → IsAt D.Disk H.AuthHandler G.RelayAddressGenerator s h t server p → IsCall D.Disk H.AuthHandler G.RelayAddressGenerator server x
+        → EachImageSince (D.trace server.store.disk) (D.trace (after_of x).store.disk)
+        (AtLeast (form_of server.store) (history_at h p) (count_at h p) (now_of server)) }
+
+    // Of each datagram that was handed out, relayed data too: whatever calls follow, each image at each moment of the call
+    // after them stands for a history that begins with the one that it was answered from.
+    ensures datagrams { (s : Setting) (h : History) (t : ℕ) (server : ServerState D H G) (p : Place) (before : List Taken) (x : Taken) (after : List Taken)
+        (steps : List (Step D H G)) (call : Step D H G)
+        → IsAt D.Disk H.AuthHandler G.RelayAddressGenerator s h t server p → p.handed ≡ before ++ x ∷ after
+        → Serves D.Disk H.AuthHandler G.RelayAddressGenerator server steps → IsCall D.Disk H.AuthHandler G.RelayAddressGenerator (last_of server steps) call
+        → Lasts D.Disk s (h ++ accepted before) x (last_of server steps) (after_of call) }
+{}
+
+/// A stop at any moment of any call leaves a disk of which `Server::open` makes a server of the same run: each image of it
+/// stands for the first events of the run's history, and for no fewer than belong to what was handed out.
+pub fn stopped_servers_open_again<D: Disk, H: AuthHandler, G: RelayAddressGenerator>()
+    ensures { (s : Setting) (h : History) (t : ℕ) (server : ServerState D H G) (p : Place) (x : Step D H G) (image : List ℕ) (state : State)
+        → IsAt D.Disk H.AuthHandler G.RelayAddressGenerator s h t server p → IsCall D.Disk H.AuthHandler G.RelayAddressGenerator server x
+        → IsLeft (D.trace server.store.disk) (D.trace (after_of x).store.disk) image → state.bytes ≡ image → IsSettled state
+        → EachImage state (AtLeast (form_of server.store) (history_at h p) (count_at h p) (now_of server)) }
+{}

@@ -1,0 +1,13 @@
+//! A TURN server over a store: arrivals are staged, and a commit writes what was accepted since the last one and hands
+//! out what is to be sent.
+#![tactic(auto)]
+
+mod batch;
+mod fault;
+mod laws;
+mod server;
+
+pub use fault::{OpenRefused, SubmitRefused};
+pub use laws::{servers_make_runs, stopped_servers_open_again, stops_keep_what_was_handed_out};
+pub use server::Server;
+pub use turn_store::StoreFault as CommitRefused;

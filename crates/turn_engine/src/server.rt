@@ -1,0 +1,387 @@
+//! The server.
+
+ghost use Rattle.std.specs.Prelude.{◌≡◌, ◌≢◌, ◌+◌, ◌-◌, ◌^◌, ◌≤◌, ◌<◌, ◌↔◌, ◌++◌, ℕ, [], ◌∷◌, Ok, Err, IsOk, IfOk, IfErr, IfSome, OnOk, OnErr, true, false, length, map, take, drop, option_map, vec_len, vec_capacity, List};
+ghost use Rattle.std.specs.Option.{option_to_list};
+ghost use Rattle.std.specs.Result.{result_map_both};
+ghost use Rattle.turn_disk.specs.Counts.{Rises};
+ghost use Rattle.turn_disk.specs.Disk.{EachImageSince};
+ghost use Rattle.turn_history.specs.Fitting.{IsInRange};
+ghost use Rattle.turn_history.specs.History.{Event, History};
+ghost use Rattle.turn_ports.specs.Ports.{has_failed};
+ghost use Rattle.turn_record.specs.Bytes as bytes;
+ghost use Rattle.turn_step.specs.Outcome.{added, event_at};
+ghost use Rattle.turn_step.specs.State.{CountsOne, IsPurged, KeepsSetting, setting_of};
+ghost use Rattle.turn_step.specs.Views.{arrival_of, sent_of};
+ghost use Rattle.turn_store.specs.Areas.{Form};
+ghost use Rattle.turn_store.specs.Images.{EachImage, EitherBy, StandsBy};
+ghost use Rattle.turn_store.specs.Opened.{IsOpened};
+ghost use Rattle.turn_store.specs.Refused.{IsPlain, WhyRefused};
+ghost use Rattle.turn_store.specs.Stages.{InStages};
+ghost use Rattle.turn_store.specs.State.{form_of};
+ghost use Rattle.turn_store.specs.Tables.{snapshot_of};
+ghost use Rattle.turn_engine.specs.Calls.{Commits, Submits};
+ghost use Rattle.turn_engine.specs.Images.{AtLeast};
+ghost use Rattle.turn_engine.specs.Resting.{Opens, Rests, Takes};
+ghost use Rattle.turn_engine.specs.State.{emptied, limits_of, now_of};
+
+use crate::batch::Batch;
+use crate::fault::{OpenRefused, SubmitRefused};
+use std::alloc::{AllocError, AllocFailed, Allocator, Global};
+use std::marker::Model;
+use std::mem;
+use turn_cred::AuthHandler;
+use turn_disk::Disk;
+use turn_ports::RelayAddressGenerator;
+use turn_step::{Arrival, Machine, Outgoing, Parts, Step};
+use turn_store::{OpenFault, Opened, Refused, Store, StoreFault};
+use turn_table::Table;
+use turn_types::{Moment, ServerConfig};
+
+/// A TURN server over a disk.
+///
+/// `submit` takes an arrival: it is answered from all that was accepted so far, and what is to be sent is staged. `commit`
+/// writes the acts that were accepted since the last commit, and returns what is staged. So nothing is sent before what it
+/// rests on is on the disk. After a commit that failed each call answers `Stopped`.
+#[derive(Drop)]
+pub struct Server<D: Disk, H: AuthHandler, G: RelayAddressGenerator, A: Allocator = Global> {
+    alloc: A,
+    store: Store<D, A>,
+    machine: Machine<H, G, A>,
+    batch: Batch<A>,
+    outgoing: Vec<Outgoing<A>, A>,
+    // How many arrivals were taken since the last commit.
+    arrivals: u16,
+}
+
+impl<D: Disk, H: AuthHandler, G: RelayAddressGenerator, A: Allocator> Model for Server<D, H, G, A> {
+    ghost use Rattle.std.specs.Prelude.{map};
+    ghost use Rattle.std.specs.Coded.{codes};
+    ghost use Rattle.turn_step.specs.Views.{sent_of};
+    ghost use Rattle.turn_table.specs.State.{state_code};
+    ghost use Rattle.turn_engine.specs.State.{ServerState, IsSound};
+
+    ghost Value = { ServerState D H G };
+
+    ghost coded = { Prim.hlevel (codes, state_code) };
+
+    ghost view = { λ s. record {
+      store = s.store;
+      machine = s.machine;
+      payload = s.batch.payload;
+      acts = s.batch.acts;
+      outs = map sent_of s.outgoing.items;
+      arrivals = s.arrivals;
+    } };
+
+    ghost invariant = { λ s. IsSound s.machine.config.limits s.store.bounds s.batch.bounds s.batch.acts s.arrivals s.machine.table };
+}
+
+/// Adds the act of a step to a batch that has room for it.
+fn stage_act<A: Allocator>(batch: &mut Batch<A>, moment: Moment, step: &Step<A>)
+    requires few { batch.old.acts < batch.old.bounds.acts }
+    requires in_range { IfSome step.now.change (λ c. IsInRange batch.old.bounds (event_at moment c)) }
+    ensures bounds { batch.new.bounds ≡ batch.old.bounds }
+    ensures acts { batch.new.acts ≡ batch.old.acts + length (added moment step.now.change) }
+    ensures payload { (es : List Event) → batch.old.payload ≡ bytes.payload es
+        → batch.new.payload ≡ bytes.payload (es ++ added moment step.now.change) }
+{
+    if let Some((five_tuple, act)) = step.act() {
+        batch.push(moment, five_tuple, act);
+    }
+}
+
+/// Adds a datagram, if there is one, for which there is room.
+fn stage_datagram<A: Allocator>(outgoing: &mut Vec<Outgoing<A>, A>, datagram: Option<Outgoing<A>>)
+    requires room { vec_len outgoing.old + 1 ≤ vec_capacity outgoing.old }
+    ensures { map sent_of outgoing.new.items ≡ map sent_of outgoing.old.items ++ option_to_list (option_map sent_of datagram) }
+{
+    if let Some(datagram) = datagram {
+        let Ok(()) = outgoing.push(datagram) else {
+            unreachable!()
+        };
+    }
+}
+
+impl<D: Disk, H: AuthHandler, G: RelayAddressGenerator, A: Allocator + Copy> Server<D, H, G, A> {
+    /// Opens the store of a disk, which was formatted with the limits of the configuration. A refusal returns the disk, the
+    /// handler and the generator.
+    pub fn open(
+        alloc: A,
+        disk: D,
+        config: &ServerConfig<A>,
+        handler: H,
+        ports: G,
+    ) -> Result<Server<D, H, G, A>, OpenRefused<D, H, G>>
+        ensures machine { IfOk result (λ s. s.machine ≡ record { config = config.now; handler = handler; ports = ports; table = s.machine.table }) }
+        ensures nothing { IfOk result (λ s. s ≡ emptied s s.store) }
+        ensures runs { IfOk result (λ s. s.store.stopped ≡ false) }
+        ensures returned { IfErr result (λ r. (r.handler ≡ handler) × (r.ports ≡ ports)) }
+
+        ensures honest { IfOk result (λ s. D.is_honest s.store.disk ↔ D.is_honest disk) }
+        ensures honest_err { IfErr result (λ r. D.is_honest r.disk ↔ D.is_honest disk) }
+        ensures count { IfOk result (λ s. D.failed s.store.disk ≡ D.failed disk) }
+        ensures device { IfErr result (λ r. r.fault ≡ OpenFault.Device → Rises (D.failed disk) (D.failed r.disk)) }
+        ensures count_not { IfErr result (λ r. r.fault ≢ OpenFault.Device → D.failed r.disk ≡ D.failed disk) }
+
+        // What was read, and the reason of each refusal: the first that applies. The content stays.
+        ensures opened { D.is_honest disk
+            → IfOk result (λ s. IsOpened s.store (D.trace s.store.disk).now (snapshot_of s.machine.table)) }
+        ensures why { D.is_honest disk → IfErr result (λ r. WhyRefused config.now.limits (D.trace disk).now.bytes r.fault) }
+        ensures same { D.is_honest disk
+            → IfOk result (λ s. (D.trace s.store.disk).now.bytes ≡ (D.trace disk).now.bytes) }
+        ensures same_err { D.is_honest disk
+            → IfErr result (λ r. (D.trace r.disk).now.bytes ≡ (D.trace disk).now.bytes) }
+
+        // Where each image of the disk stands for the first events of a history, at least k of them, the server rests on
+        // such a part of it, a refusal is of the device or of memory, and a stop leaves such images.
+        ensures rests { D.is_honest disk → (form : Form) (h : History) (k m : ℕ) → form.bounds ≡ config.now.limits
+            → EachImage (D.trace disk).now (AtLeast form h k m)
+            → IfOk result (λ s. Opens form h k m (D.trace disk).now.bytes (D.trace s.store.disk).now s) }
+        ensures sound { D.is_honest disk → (form : Form) (h : History) (k m : ℕ) → form.bounds ≡ config.now.limits
+            → EachImage (D.trace disk).now (AtLeast form h k m) → IfErr result (λ r. IsPlain r.fault) }
+        ensures stop { D.is_honest disk → (form : Form) (h : History) (k m : ℕ)
+            → EachImage (D.trace disk).now (AtLeast form h k m)
+            → IfOk result (λ s. EachImageSince (D.trace disk) (D.trace s.store.disk) (AtLeast form h k m)) }
+        ensures stop_err { D.is_honest disk → (form : Form) (h : History) (k m : ℕ)
+            → EachImage (D.trace disk).now (AtLeast form h k m)
+            → IfErr result (λ r. EachImageSince (D.trace disk) (D.trace r.disk) (AtLeast form h k m)) }
+    {
+        let limits = config.limits();
+        let (Ok(config), Ok(batch)) = (config.try_clone(alloc), Batch::new(alloc, limits)) else {
+            return Err(OpenRefused {
+                fault: OpenFault::Memory,
+                disk,
+                handler,
+                ports,
+            });
+        };
+        let Opened { store, table } = match Store::open(alloc, disk, limits) {
+            Ok(opened) => opened,
+            Err(Refused { fault, disk }) => {
+                return Err(OpenRefused {
+                    fault,
+                    disk,
+                    handler,
+                    ports,
+                });
+            }
+        };
+        match Machine::new(alloc, config, handler, ports, table) {
+            Ok(machine) => Ok(Server {
+                alloc,
+                store,
+                machine,
+                batch,
+                outgoing: Vec::new(alloc),
+                arrivals: 0,
+            }),
+            Err(AllocFailed { value }) => Err(OpenRefused {
+                fault: OpenFault::Memory,
+                disk: store.into_disk(),
+                handler: value.handler,
+                ports: value.ports,
+            }),
+        }
+    }
+
+    // Takes an arrival, for which the batch has room.
+    fn take(&mut self, moment: Moment, arrival: &Arrival<'_>) -> Result<(), AllocError>
+        requires clock { now_of self.old ≤ moment }
+        requires room { self.old.arrivals < (limits_of self.old).acts }
+        requires small { self.old.arrivals + 1 < 2 ^ 16 }
+
+        ensures store { self.new.store ≡ self.old.store }
+        ensures clock { now_of self.new ≡ moment }
+        ensures setting { KeepsSetting G.range self.old.machine self.new.machine }
+        ensures count { CountsOne (G.failures self.old.machine.ports) (G.failures self.new.machine.ports) }
+        ensures arrivals { OnOk result (self.new.arrivals ≡ self.old.arrivals + 1) }
+        ensures ok { (h : History) (k : ℕ) → Rests (D.trace self.old.store.disk).now self.old h k
+            → OnOk result (Takes (setting_of H.key_of G.range self.old.machine) (D.trace self.old.store.disk).now self.old self.new h k moment
+            (has_failed (G.failures self.old.machine.ports) (G.failures self.new.machine.ports)) (arrival_of arrival.now)) }
+        ensures memory { OnErr result (self.new ≡ record self.old { machine = self.new.machine }) }
+        ensures memory_table { OnErr result (IsPurged moment self.old.machine.table self.new.machine.table) }
+        ensures memory_rests { (h : History) (k : ℕ) → Rests (D.trace self.old.store.disk).now self.old h k
+            → OnErr result (Rests (D.trace self.old.store.disk).now self.new h k) }
+    {
+        // What this ensures proves the moment's range.
+        let _ = moment.seconds();
+        let step = match self.machine.prepare(moment, arrival) {
+            Ok(step) => step,
+            Err(error) => return Err(error),
+        };
+        if self.outgoing.reserve(1).is_err() {
+            self.machine.abandon(step);
+            return Err(AllocError);
+        }
+        stage_act(&mut self.batch, moment, &step);
+        let datagram = self.machine.apply(step);
+        stage_datagram(&mut self.outgoing, datagram);
+        self.arrivals += 1;
+        Ok(())
+    }
+
+    /// Takes an arrival at a moment that isn't before the clock.
+    pub fn submit(&mut self, moment: Moment, arrival: &Arrival<'_>) -> Result<(), SubmitRefused>
+        requires { now_of self.old ≤ moment }
+
+        // The reasons in their order, and what is left of the server.
+        ensures stopped { (result ≡ Err SubmitRefused.Stopped) ↔ (self.old.store.stopped ≡ true) }
+        ensures full { (result ≡ Err SubmitRefused.BatchFull)
+            ↔ ((self.old.store.stopped ≡ false) × (self.old.arrivals ≡ (limits_of self.old).acts)) }
+        ensures unchanged { (result ≡ Err SubmitRefused.Stopped) → self.new ≡ self.old }
+        ensures unchanged_full { (result ≡ Err SubmitRefused.BatchFull) → self.new ≡ self.old }
+        ensures memory { result ≡ Err SubmitRefused.Memory → self.new ≡ record self.old { machine = self.new.machine } }
+        ensures memory_clock { result ≡ Err SubmitRefused.Memory → now_of self.new ≡ moment }
+        ensures memory_table { result ≡ Err SubmitRefused.Memory → IsPurged moment self.old.machine.table self.new.machine.table }
+
+        ensures store { self.new.store ≡ self.old.store }
+        ensures setting { KeepsSetting G.range self.old.machine self.new.machine }
+        ensures count { CountsOne (G.failures self.old.machine.ports) (G.failures self.new.machine.ports) }
+
+        ensures clock { OnOk result (now_of self.new ≡ moment) }
+        ensures arrivals { OnOk result (self.new.arrivals ≡ self.old.arrivals + 1) }
+
+        // For each history on which the server rests.
+        ensures ok { (h : History) (k : ℕ) → Rests (D.trace self.old.store.disk).now self.old h k
+            → OnOk result (Takes (setting_of H.key_of G.range self.old.machine) (D.trace self.old.store.disk).now self.old self.new h k moment
+            (has_failed (G.failures self.old.machine.ports) (G.failures self.new.machine.ports)) (arrival_of arrival.now)) }
+        ensures rests { (h : History) (k : ℕ) → Rests (D.trace self.old.store.disk).now self.old h k
+            → OnErr result (Rests (D.trace self.old.store.disk).now self.new h k) }
+
+        // All of this as one record, of which the laws of runs speak.
+        ensures call { Submits D.Disk H.AuthHandler G.RelayAddressGenerator self.old self.new moment (arrival_of arrival.now) result }
+    {
+        if self.store.is_stopped() {
+            return Err(SubmitRefused::Stopped);
+        }
+        if self.arrivals >= self.machine.config().limits().acts() {
+            return Err(SubmitRefused::BatchFull);
+        }
+        match self.take(moment, arrival) {
+            Ok(()) => Ok(()),
+            Err(_) => Err(SubmitRefused::Memory),
+        }
+    }
+
+    // Writes the acts that were accepted since the last commit, if there are any.
+    fn write(&mut self) -> Result<(), StoreFault>
+        ensures honest { D.is_honest self.new.store.disk ↔ D.is_honest self.old.store.disk }
+        ensures form { form_of self.new.store ≡ form_of self.old.store }
+        ensures rest { self.new ≡ record self.old { store = self.new.store } }
+        ensures runs { OnOk result (self.new.store.stopped ≡ false) }
+        ensures stops { OnErr result (self.new.store.stopped ≡ true) }
+        ensures stopped { (result ≡ Err StoreFault.Stopped) ↔ (self.old.store.stopped ≡ true) }
+        ensures unchanged { self.old.store.stopped ≡ true → self.new ≡ self.old }
+        ensures nothing { self.old.store.stopped ≡ false → self.old.acts ≡ 0 → IsOk result × (self.new.store ≡ self.old.store) }
+
+        ensures count { OnOk result (D.failed self.new.store.disk ≡ D.failed self.old.store.disk) }
+        ensures device { result ≡ Err StoreFault.Device → Rises (D.failed self.old.store.disk) (D.failed self.new.store.disk) }
+        ensures worn { (result ≡ Err StoreFault.Worn) ↔ ((self.old.store.stopped ≡ false) × (1 ≤ self.old.acts)
+            × (self.old.store.generation ≡ 2 ^ 64 - 1)
+            × (self.old.store.area.size < self.old.store.area.end + 6 + length self.old.payload)) }
+        ensures untouched_worn { result ≡ Err StoreFault.Worn → self.new.store.disk ≡ self.old.store.disk }
+
+        ensures stages { D.is_honest self.old.store.disk → (h : History) (k : ℕ) → Rests (D.trace self.old.store.disk).now self.old h k
+            → InStages (D.trace self.old.store.disk) (D.trace self.new.store.disk) (StandsBy (form_of self.old.store) (take k h) (now_of self.old))
+            (EitherBy (form_of self.old.store) (take k h) (drop k h) (now_of self.old)) }
+        ensures stop { D.is_honest self.old.store.disk → (h : History) (k : ℕ) → Rests (D.trace self.old.store.disk).now self.old h k
+            → EachImageSince (D.trace self.old.store.disk) (D.trace self.new.store.disk) (AtLeast (form_of self.old.store) h k (now_of self.old)) }
+        ensures done { D.is_honest self.old.store.disk → (h : History) (k : ℕ) → Rests (D.trace self.old.store.disk).now self.old h k
+            → OnOk result (Rests (D.trace self.new.store.disk).now (emptied self.old self.new.store) h (length h)) }
+    {
+        if self.store.is_stopped() {
+            return Err(StoreFault::Stopped);
+        }
+        if self.batch.acts() == 0 {
+            return Ok(());
+        }
+        match self
+            .store
+            .append(self.batch.payload(), self.machine.table())
+        {
+            Ok(_) => Ok(()),
+            Err(fault) => Err(fault),
+        }
+    }
+
+    /// Writes the acts that were accepted since the last commit, and returns what is to be sent, in order.
+    pub fn commit(&mut self) -> Result<Vec<Outgoing<A>, A>, StoreFault>
+        ensures handed { IfOk result (λ outs. map sent_of outs.items ≡ self.old.outs) }
+        ensures ok { OnOk result (self.new ≡ emptied self.old self.new.store) }
+        ensures err { OnErr result (self.new ≡ record self.old { store = self.new.store }) }
+        ensures runs { OnOk result (self.new.store.stopped ≡ false) }
+        ensures stops { OnErr result (self.new.store.stopped ≡ true) }
+        ensures stopped { (result ≡ Err StoreFault.Stopped) ↔ (self.old.store.stopped ≡ true) }
+        ensures unchanged { self.old.store.stopped ≡ true → self.new ≡ self.old }
+
+        // A batch without acts can't fail, and nothing is written.
+        ensures nothing { self.old.store.stopped ≡ false → self.old.acts ≡ 0 → IsOk result × (self.new.store ≡ self.old.store) }
+
+        // Device comes with one failed call. Worn comes without a device call, at the last generation.
+        ensures honest { D.is_honest self.new.store.disk ↔ D.is_honest self.old.store.disk }
+        ensures form { form_of self.new.store ≡ form_of self.old.store }
+        ensures count { OnOk result (D.failed self.new.store.disk ≡ D.failed self.old.store.disk) }
+        ensures device { result ≡ Err StoreFault.Device → Rises (D.failed self.old.store.disk) (D.failed self.new.store.disk) }
+        ensures worn { (result ≡ Err StoreFault.Worn) ↔ ((self.old.store.stopped ≡ false) × (1 ≤ self.old.acts)
+            × (self.old.store.generation ≡ 2 ^ 64 - 1)
+            × (self.old.store.area.size < self.old.store.area.end + 6 + length self.old.payload)) }
+        ensures untouched_worn { result ≡ Err StoreFault.Worn → self.new.store.disk ≡ self.old.store.disk }
+
+        // For each history on which the server rests: up to some moment of the call a stop leaves what is stored of it, from
+        // then on that or all of it; so it always leaves what is stored, or more. At Ok all is stored.
+        ensures stages { D.is_honest self.old.store.disk → (h : History) (k : ℕ) → Rests (D.trace self.old.store.disk).now self.old h k
+            → InStages (D.trace self.old.store.disk) (D.trace self.new.store.disk) (StandsBy (form_of self.old.store) (take k h) (now_of self.old))
+            (EitherBy (form_of self.old.store) (take k h) (drop k h) (now_of self.old)) }
+        ensures stop { D.is_honest self.old.store.disk → (h : History) (k : ℕ) → Rests (D.trace self.old.store.disk).now self.old h k
+            → EachImageSince (D.trace self.old.store.disk) (D.trace self.new.store.disk) (AtLeast (form_of self.old.store) h k (now_of self.old)) }
+        ensures rests { D.is_honest self.old.store.disk → (h : History) (k : ℕ) → Rests (D.trace self.old.store.disk).now self.old h k
+            → OnOk result (Rests (D.trace self.new.store.disk).now self.new h (length h)) }
+
+        // All of this as one record, of which the laws of runs speak.
+        ensures call { Commits D.Disk self.old self.new (result_map_both (λ outs. map sent_of outs.items) (λ fault. fault) result) }
+    {
+        match self.write() {
+            Ok(()) => {}
+            Err(fault) => return Err(fault),
+        }
+        self.batch.clear();
+        self.arrivals = 0;
+        Ok(mem::replace(&mut self.outgoing, Vec::new(self.alloc)))
+    }
+
+    /// The moment of the last arrival that was taken or refused for memory; after an opening the latest one in the store.
+    pub fn clock(&self) -> Moment
+        ensures { result ≡ now_of self.now }
+    {
+        self.machine.moment()
+    }
+
+    pub fn ports(&self) -> &G
+        ensures { result.now ≡ self.now.machine.ports }
+    {
+        self.machine.ports()
+    }
+
+    pub fn table(&self) -> &Table<A>
+        ensures { result.now ≡ self.now.machine.table }
+    {
+        self.machine.table()
+    }
+
+    pub fn disk(&self) -> &D
+        ensures { result.now ≡ self.now.store.disk }
+    {
+        self.store.disk()
+    }
+
+    /// Returns the disk, the handler and the generator.
+    pub fn close(self) -> (D, H, G)
+        ensures disk { result.0 ≡ self.store.disk }
+        ensures handler { result.1 ≡ self.machine.handler }
+        ensures ports { result.2 ≡ self.machine.ports }
+    {
+        let Server { store, machine, .. } = self;
+        let Parts { handler, ports, .. } = machine.into_parts();
+        (store.into_disk(), handler, ports)
+    }
+}
