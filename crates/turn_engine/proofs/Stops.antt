@@ -1,5 +1,5 @@
 -- What a stop leaves has what each image since the call began has.
-use Rattle.std.proofs.Common.{◌≡◌, ◌⊎◌, ⊎_elim, inl, inr, List, [], ◌∷◌, ◌++◌, ℕ, sym, ◌∙◌, subst}
+use Rattle.std.proofs.Common.{◌≡◌, ◌⊎◌, ⊎_elim, inl, inr, List, [], ◌∷◌, ℕ, sym, ◌∙◌, subst}
 use Rattle.std.proofs.lemmas.List.{append_cancel_right}
 use Rattle.turn_disk.specs.Disk.{State, Trace, IsImage, EachImageOf, EachImageSince, IsSettled}
 use Rattle.turn_disk.proofs.Since.{image_settled}

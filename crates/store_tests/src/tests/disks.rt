@@ -9,6 +9,12 @@ pub fn disk_of<A: Allocator + Copy>(alloc: A, content: &[u8]) -> Result<MemoryDi
     Ok(MemoryDisk::new(alloc, Vec::from_slice(alloc, content)?))
 }
 
+/// A disk with this content.
+pub fn copy_of<A: Allocator + Copy>(rt: &impl Abort, alloc: A, content: &[u8]) -> MemoryDisk<A> {
+    let content = Vec::from_slice(alloc, content).expect(rt, "memory");
+    MemoryDisk::new(alloc, content)
+}
+
 /// Whether the write succeeds.
 pub fn write<D: Disk>(rt: &impl Abort, disk: &mut D, at: usize, bytes: &[u8]) -> bool {
     assert!(rt; at <= disk.size() && bytes.len() <= disk.size() - at);

@@ -667,7 +667,7 @@ fn push_max_entry(bytes: &mut Vec<u8>, client: u16) -> Result<(), Fail> {
 }
 
 /// So many of these entries at 1000.
-fn max_entries(alloc: Global, count: u16) -> Result<Vec<u8>, Fail> {
+pub fn max_entries(alloc: Global, count: u16) -> Result<Vec<u8>, Fail> {
     let mut bytes = Vec::from_slice(alloc, b"\0\0\0\0\0\0\x03\xe8\0\0")?;
     bytes.extend_from_slice(&count.to_be_bytes())?;
     for client in 0..count {

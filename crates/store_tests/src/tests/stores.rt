@@ -1,10 +1,15 @@
-//! Limits of small stores, and calls whose conditions are checked when they run.
+//! Stores over disks in memory, and calls whose conditions are checked when they run.
+
+ghost use Rattle.std.specs.Prelude.{◌≡◌, ◌↔◌, IsTrue};
 
 use std::alloc::{Allocator, Global};
+use std::marker::Model;
 use std::process::Abort;
 use std::test::Fail;
 use turn_disk::{Disk, MemoryDisk};
-use turn_store::{FormatRefused, format};
+use turn_record::{max_payload, read_snapshot};
+use turn_store::{FormatRefused, Info, Store, StoreFault, format};
+use turn_table::Table;
 use turn_types::{Bounds, Limits};
 
 pub fn limits_of(
@@ -52,4 +57,130 @@ pub fn small_store(rt: &impl Abort, alloc: Global) -> Result<MemoryDisk, Fail> {
         return Err(Fail::new("format"));
     }
     Ok(disk)
+}
+
+/// The limits 2, 1, 1, 1, 8.
+pub fn small_limits(rt: &impl Abort) -> Limits {
+    let bounds = Bounds {
+        allocations: 2,
+        permissions: 1,
+        channels: 1,
+        acts: 1,
+        name_bytes: 8,
+    };
+    Limits::new(bounds).expect(rt, "limits")
+}
+
+/// A table that a snapshot can hold.
+#[derive(Drop)]
+pub struct SnapshotTable<A: Allocator = Global> {
+    table: Table<A>,
+}
+
+impl<A: Allocator> Model for SnapshotTable<A> {
+    ghost use Rattle.turn_record.specs.Records.{IsSnapshot};
+    ghost use Rattle.turn_table.specs.State.{State, state_code};
+
+    ghost Value = { State };
+
+    ghost coded = { state_code };
+
+    ghost view = { λ s. s.table };
+
+    ghost invariant = { λ s. IsSnapshot s.table.bounds s.table.moment s.table.contents };
+}
+
+impl<A: Allocator + Copy> SnapshotTable<A> {
+    /// The table that these bytes are the snapshot of.
+    pub fn read(rt: &impl Abort, alloc: A, limits: Limits, bytes: &[u8]) -> SnapshotTable<A> {
+        match read_snapshot(alloc, limits, bytes) {
+            Ok(table) => SnapshotTable { table },
+            Err(_) => panic!(rt; "a snapshot"),
+        }
+    }
+}
+
+fn are_same(first: Limits, second: Limits) -> bool
+    ensures { IsTrue result ↔ (first ≡ second) }
+{
+    first == second
+}
+
+/// An open store and its limits, so that the conditions of its calls can be checked when they run.
+#[derive(Drop)]
+pub struct TestStore<A: Allocator = Global> {
+    store: Store<MemoryDisk<A>, A>,
+    limits: Limits,
+}
+
+impl<A: Allocator> Model for TestStore<A> {
+    ghost use Rattle.std.specs.Prelude.{◌≡◌};
+    ghost use Rattle.turn_disk.specs.Views.{InMemory};
+    ghost use Rattle.turn_store.specs.State.{StoreState};
+
+    ghost Value = { StoreState InMemory };
+
+    ghost view = { λ s. s.store };
+
+    ghost invariant = { λ s. s.store.bounds ≡ s.limits };
+}
+
+impl<A: Allocator + Copy> TestStore<A> {
+    pub fn open(rt: &impl Abort, alloc: A, disk: MemoryDisk<A>, limits: Limits) -> TestStore<A> {
+        match Store::open(alloc, disk, limits) {
+            Ok(opened) => {
+                let store = opened.store;
+                TestStore { store, limits }
+            }
+            Err(_) => panic!(rt; "not opened"),
+        }
+    }
+
+    /// Formats a disk of this content, with areas of this size.
+    pub fn format(
+        rt: &impl Abort,
+        alloc: A,
+        content: Vec<u8, A>,
+        limits: Limits,
+        area: usize,
+    ) -> TestStore<A> {
+        let mut disk = MemoryDisk::new(alloc, content);
+        assert!(rt; format_disk(rt, &mut disk, limits, area).is_ok());
+        TestStore::open(rt, alloc, disk, limits)
+    }
+
+    pub fn append(
+        &mut self,
+        rt: &impl Abort,
+        payload: &[u8],
+        table: &SnapshotTable<A>,
+    ) -> Result<bool, StoreFault> {
+        assert!(rt; payload.len() <= max_payload(self.limits));
+        assert!(rt; are_same(table.table.limits(), self.limits));
+        match self.store.append(payload, &table.table) {
+            Ok(true) => Ok(true),
+            Ok(false) => Ok(false),
+            Err(fault) => Err(fault),
+        }
+    }
+
+    pub fn compact(&mut self, rt: &impl Abort, table: &SnapshotTable<A>) -> Result<(), StoreFault> {
+        assert!(rt; are_same(table.table.limits(), self.limits));
+        match self.store.compact(&table.table) {
+            Ok(()) => Ok(()),
+            Err(fault) => Err(fault),
+        }
+    }
+
+    pub fn info(&self) -> Info {
+        self.store.info()
+    }
+
+    pub fn disk(&self) -> &MemoryDisk<A> {
+        self.store.disk()
+    }
+
+    pub fn into_disk(self) -> MemoryDisk<A> {
+        self.store.into_disk()
+    }
 }

@@ -1,0 +1,124 @@
+//! Tests of batches that are appended as frames: the bytes, each stop, each failed device call.
+
+use super::batches::{
+    OUTCOMES, Stops, append_at, append_with, expiry_in, stop_batch, store_after, table_at,
+};
+use super::store_format::{SUPERBLOCK, has_at, is_zero_from};
+use super::stores::TestStore;
+use std::alloc::Global;
+use std::process::Abort;
+use turn_disk::{Disk, Outcome};
+use turn_store::{Info, OpenFault, StoreFault};
+
+#[test]
+fn a_fresh_store_opens_to_an_empty_table_at_0(rt: HostRuntime) {
+    let store = store_after(&rt, rt.alloc(), 0);
+    assert!(rt; store.info() == FRESH);
+    assert!(rt; expiry_in(&rt, rt.alloc(), store.into_disk()) == Ok(0));
+}
+
+const FRESH: Info = Info {
+    generation: 1,
+    frames: 0,
+};
+
+/// The first area after alice's allocation: an open gate, version 1, generation 1, a snapshot of 12 bytes (moment 0, no
+/// entry), an open gate, 47 bytes of payload, a closed gate.
+const FIRST_AREA: [u8; 79] = *b"\xa5\x01\x00\x00\x00\x00\x00\x00\x00\x01\x00\x00\x00\x0c\
+    \x00\x00\x00\x00\x00\x00\x00\x00\x00\x00\x00\x00\
+    \xa5\x00\x00\x00\x2f\x01\x01\x00\x00\x00\x00\x00\x00\x03\xe8\
+    \xc0\x00\x02\x01\x80\x55\xc0\x00\x02\x64\x0d\x96\
+    \x00\x05alice\xc3\x50\x00\x00\x02\x58\x01\x02\x03\x04\x05\x06\x07\x08\x09\x0a\x0b\x0c\x00";
+
+const ONE_FRAME: Info = Info {
+    generation: 1,
+    frames: 1,
+};
+
+#[test]
+fn a_batch_is_a_frame_after_the_last_one(rt: HostRuntime) {
+    let mut store = store_after(&rt, rt.alloc(), 0);
+    assert!(rt; append_at(&rt, rt.alloc(), &mut store, 0) == Ok(false));
+    assert!(rt; store.info() == ONE_FRAME);
+    let content = store.disk().content();
+    assert!(rt; content.len() == 540);
+    assert!(rt; has_at(content, 0, &SUPERBLOCK));
+    assert!(rt; has_at(content, 64, &FIRST_AREA));
+    assert!(rt; is_zero_from(content, 143));
+    assert!(rt; expiry_in(&rt, rt.alloc(), store.into_disk()) == Ok(1600));
+}
+
+/// Of the append of alice's allocation. Until the first sync the frame's gate is closed, whatever follows it. From the
+/// write of the gate on it is what the crash leaves of one byte, of which the first half is none.
+const STOPS: [Stops; 5] = [
+    (1, [0, 0, 0, 0, 0, 0]),
+    (2, [0, 0, 0, 0, 0, 0]),
+    (3, [0, 1600, 0, 0, 1600, 0]),
+    (4, [0, 1600, 0, 0, 1600, 0]),
+    (5, [1600, 1600, 1600, 1600, 1600, 1600]),
+];
+
+fn stop_frame(rt: &impl Abort, alloc: Global, call: u64, expiries: &[u64]) {
+    for (outcome, expiry) in OUTCOMES.iter().zip(expiries.iter()) {
+        let store = store_after(rt, alloc, 0);
+        let stopped = stop_batch(rt, alloc, store, 0, call, *outcome);
+        assert!(rt; stopped == (call == 5, Ok(*expiry)));
+    }
+}
+
+#[test]
+fn a_stop_of_a_frame_leaves_the_batch_or_not(rt: HostRuntime) {
+    for (call, expiries) in &STOPS {
+        stop_frame(&rt, rt.alloc(), *call, expiries);
+    }
+}
+
+/// A device call of an append that fails alone, and when alice's allocation then expires, or 0.
+const FAILURES: [(u64, u64); 4] = [(1, 0), (2, 0), (3, 1600), (4, 1600)];
+
+// The append of the allocation, whose device call of this number fails.
+fn fail_frame(rt: &impl Abort, alloc: Global, call: u64) -> TestStore {
+    let mut store = store_after(rt, alloc, 0);
+    assert!(rt; call > 0);
+    store.disk().fail_call(call);
+    assert!(rt; append_at(rt, alloc, &mut store, 0) == Err(StoreFault::Device));
+    assert!(rt; store.disk().failures() == 1);
+    store
+}
+
+#[test]
+fn a_failed_device_call_of_a_frame_leaves_the_batch_or_not(rt: HostRuntime) {
+    for (call, expiry) in &FAILURES {
+        let store = fail_frame(&rt, rt.alloc(), *call);
+        assert!(rt; expiry_in(&rt, rt.alloc(), store.into_disk()) == Ok(*expiry));
+    }
+}
+
+// The next device call is to fail, and still is after all calls of a stopped store.
+fn call_stopped(rt: &impl Abort, alloc: Global, store: &mut TestStore) {
+    let table = table_at(rt, alloc, 0);
+    store.disk().fail_call(1);
+    assert!(rt; append_with(rt, store, 0, &table) == Err(StoreFault::Stopped));
+    assert!(rt; store.compact(rt, &table) == Err(StoreFault::Stopped));
+    assert!(rt; store.info() == FRESH);
+    assert!(rt; store.disk().failures() == 1);
+}
+
+fn reopen_stopped(rt: &impl Abort, alloc: Global, outcome: Outcome) -> Result<u64, OpenFault> {
+    let mut store = fail_frame(rt, alloc, 4);
+    call_stopped(rt, alloc, &mut store);
+    let mut disk = store.into_disk();
+    assert!(rt; disk.sync().is_err());
+    disk.crash(outcome);
+    expiry_in(rt, alloc, disk)
+}
+
+/// When alice's allocation expires where the last device call of its append failed, after each outcome of a crash, or 0.
+const FAILED_SYNC: [u64; 6] = [0, 1600, 0, 0, 1600, 0];
+
+#[test]
+fn a_stopped_store_makes_no_device_call(rt: HostRuntime) {
+    for (outcome, expiry) in OUTCOMES.iter().zip(FAILED_SYNC.iter()) {
+        assert!(rt; reopen_stopped(&rt, rt.alloc(), *outcome) == Ok(*expiry));
+    }
+}

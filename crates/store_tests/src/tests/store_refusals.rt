@@ -1,0 +1,92 @@
+//! Tests of batches and compactions over an allocator that refuses memory.
+
+use super::batches::{append_with, expiry_in, store_after, table_at};
+use super::disks::copy_of;
+use super::stores::{TestStore, small_limits};
+use refusing::Refusing;
+use std::alloc::{Allocator, Global};
+use std::process::Abort;
+use turn_disk::Disk;
+use turn_store::StoreFault;
+
+// A store with the first `count` batches, whose disk has room to record so many writes and syncs of so many bytes, and the
+// sync of the opening.
+fn reserved<A: Allocator + Copy>(
+    rt: &impl Abort,
+    alloc: A,
+    count: u8,
+    calls: usize,
+    bytes: usize,
+) -> TestStore<A> {
+    assert!(rt; calls < 100);
+    let store = store_after(rt, alloc, count);
+    let mut disk = copy_of(rt, alloc, store.disk().content());
+    assert!(rt; disk.reserve(calls + 1, bytes).is_ok());
+    TestStore::open(rt, alloc, disk, small_limits(rt))
+}
+
+// What the batch of a second, and then a compaction, answer where one request for memory is refused; and whether it was.
+fn refuse<A: Allocator + Copy>(
+    rt: &impl Abort,
+    refusing: &Refusing<Global>,
+    alloc: A,
+    store: &mut TestStore<A>,
+    second: u8,
+    served: u64,
+) -> (Result<bool, StoreFault>, Result<(), StoreFault>, bool) {
+    let table = table_at(rt, alloc, second);
+    refusing.arm(served);
+    let appended = append_with(rt, store, second, &table);
+    let compacted = store.compact(rt, &table);
+    let is_refused = refusing.has_refused();
+    refusing.arm(u64::MAX);
+    (appended, compacted, is_refused)
+}
+
+// Two writes and two syncs of a frame, and three writes and three syncs of a compaction.
+#[test]
+fn a_frame_and_a_compaction_take_no_memory(rt: HostRuntime) {
+    let refusing = Refusing::new(rt.alloc(), u64::MAX);
+    let mut store = reserved(&rt, &refusing, 0, 4 + 6, 52 + 1 + 1 + 73 + 1);
+    let outcomes = refuse(&rt, &refusing, &refusing, &mut store, 0, 0);
+    assert!(rt; outcomes == (Ok(false), Ok(()), false));
+}
+
+#[test]
+fn a_batch_without_room_takes_no_memory(rt: HostRuntime) {
+    let refusing = Refusing::new(rt.alloc(), u64::MAX);
+    let mut store = reserved(&rt, &refusing, 6, 6 + 6, 2 * (1 + 73 + 1));
+    let outcomes = refuse(&rt, &refusing, &refusing, &mut store, 6, 0);
+    assert!(rt; outcomes == (Ok(true), Ok(()), false));
+}
+
+// Appends the allocation, and then compacts, over a disk whose record has no room. Returns whether a growth was refused.
+fn refuse_record(rt: &impl Abort, alloc: Global, served: u64) -> bool {
+    let refusing = Refusing::new(alloc, u64::MAX);
+    let mut store = reserved(rt, &refusing, 0, 0, 0);
+    let (appended, compacted, is_refused) = refuse(rt, &refusing, &refusing, &mut store, 0, served);
+    let disk = store.into_disk();
+    assert!(rt; disk.failures() == u64::from(is_refused));
+    let expiry = expiry_in(rt, &refusing, disk);
+    match appended {
+        Ok(_) => assert!(rt; expiry == Ok(1600)),
+        Err(_) => assert!(rt; expiry == Ok(0) || expiry == Ok(1600)),
+    }
+    let stopped = (Err(StoreFault::Device), Err(StoreFault::Stopped));
+    let half = (Ok(false), Err(StoreFault::Device));
+    let outcome = (appended, compacted);
+    assert!(rt; !is_refused || outcome == stopped || outcome == half);
+    assert!(rt; is_refused || outcome == (Ok(false), Ok(())));
+    is_refused
+}
+
+#[test]
+fn a_record_without_room_is_a_failed_device_call(rt: HostRuntime) {
+    for served in 0..100u64 {
+        if !refuse_record(&rt, rt.alloc(), served) {
+            assert!(rt; served > 1);
+            return;
+        }
+    }
+    panic!(rt; "some growth is always refused");
+}
