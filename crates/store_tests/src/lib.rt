@@ -1,4 +1,4 @@
-//! Tests of `turn_disk`, `turn_journal` and `turn_record`, in a crate of their own, so that those three are proved once.
+//! Tests of `turn_disk`, `turn_journal`, `turn_record` and `turn_store`, in a crate of their own, so that those four are proved once.
 #![tactic(auto)]
 
 #[cfg(test)]
