@@ -1,0 +1,26 @@
+//! Tests of a server over a store, by public items alone, in a crate of their own, so that the crates that they test are
+//! proved once. The library itself is empty.
+#![tactic(auto)]
+
+#[cfg(test)]
+mod commits;
+#[cfg(test)]
+mod crashes;
+#[cfg(test)]
+mod data;
+#[cfg(test)]
+mod player;
+#[cfg(test)]
+mod ports;
+#[cfg(test)]
+mod requests;
+#[cfg(test)]
+mod row;
+#[cfg(test)]
+mod same;
+#[cfg(test)]
+mod setup;
+#[cfg(test)]
+mod stops;
+#[cfg(test)]
+mod worn;

@@ -1,0 +1,69 @@
+//! Commits whose device calls are stopped or fail, and what is found then.
+
+use crate::player::Player;
+use crate::requests::{ALICE, FIRST, Kind};
+use crate::row::{ALLOCATE, ALLOCATED, Row, Sent};
+use crate::setup::{SMALL, Setup};
+use std::alloc::Global;
+use std::process::Abort;
+use std::test::Fail;
+use turn_disk::{Disk, Outcome};
+use turn_engine::CommitRefused;
+
+pub const OUTCOMES: [Outcome; 6] = [
+    Outcome::Lost,
+    Outcome::Kept,
+    Outcome::Half,
+    Outcome::Fill(0x11),
+    Outcome::Fill(0xA5),
+    Outcome::Fill(0x00),
+];
+
+/// A device call of a commit, counted from 1, and what is found after each outcome of a crash.
+pub type Stops = (u64, [&'static [Row]; 6]);
+
+/// Alice's allocation, and her Refreshes for 600 seconds from second 1001 on, one a second, each with a commit.
+pub fn refreshed(rt: &impl Abort, alloc: Global, last: u64) -> Result<Player, Fail> {
+    let mut player = Player::new(rt, alloc, alloc, &SMALL)?;
+    player.play(rt, &[ALLOCATE, ALLOCATED])?;
+    for second in 1001..last {
+        player.play(rt, &[refresh(second), Row::Commit(&[Sent::Code(FIRST, 0)])])?;
+    }
+    player.play(rt, &[refresh(last)])?;
+    Ok(player)
+}
+
+/// Alice's Refresh.
+fn refresh(second: u64) -> Row {
+    Row::Ask(second, ALICE, FIRST, Kind::Refresh, &[])
+}
+
+/// Alice's Allocate at 1000, or her Refresh.
+pub fn act_of(second: u64) -> Row {
+    if second > 1000 {
+        refresh(second)
+    } else {
+        ALLOCATE
+    }
+}
+
+/// A server whose acts up to this second are staged: alice's allocation at 1000, or a Refresh after those before it.
+pub fn staged(rt: &impl Abort, alloc: Global, second: u64) -> Result<Player, Fail> {
+    if second > 1000 {
+        return refreshed(rt, alloc, second);
+    }
+    let mut player = Player::new(rt, alloc, alloc, &SMALL)?;
+    player.play(rt, &[ALLOCATE])?;
+    Ok(player)
+}
+
+/// Stops the commit of a server at a device call, crashes the disk, and opens it again.
+pub fn stop(rt: &impl Abort, player: Player, call: u64, outcome: Outcome) -> Result<Player, Fail> {
+    let mut player = player;
+    assert!(rt; call > 0);
+    player.disk().stop_at(call);
+    assert!(rt; player.fails(CommitRefused::Device));
+    assert!(rt; player.disk().failures() > 0);
+    player.play(rt, &[Row::Stopped(1012)])?;
+    player.crash(outcome)
+}
