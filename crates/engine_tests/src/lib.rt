@@ -9,9 +9,13 @@ mod crashes;
 #[cfg(test)]
 mod data;
 #[cfg(test)]
+mod hostile_bytes;
+#[cfg(test)]
 mod player;
 #[cfg(test)]
 mod ports;
+#[cfg(test)]
+mod released_ports;
 #[cfg(test)]
 mod requests;
 #[cfg(test)]

@@ -1,0 +1,137 @@
+//! Which ports are picked and released. No contract says what a generator is asked.
+
+use crate::player::{Player, play};
+use crate::requests::*;
+use crate::row::{ALLOCATE, ALLOCATED, Row, Sent};
+use crate::setup::LARGE;
+use crate::stops::staged;
+use refusing::Refusing;
+use std::alloc::Global;
+use std::process::Abort;
+use std::test::Fail;
+use turn_engine::SubmitRefused;
+
+/// An allocation of bob at the second client for an hour from second 1000 on.
+const BOBS: Row = Row::Ask(1000, BOB, SECOND, Kind::Allocate, &[UDP, HOUR]);
+
+const BOTH: Row = Row::Commit(&[Sent::Code(FIRST, 0), Sent::Code(SECOND, 0)]);
+
+const EXPIRED: [Row; 10] = [
+    ALLOCATE,
+    BOBS,
+    Row::Picked(&[50000, 50001]),
+    BOTH,
+    Row::Client(1599, FIRST, b""),
+    Row::Released(&[]),
+    // Alice's allocation expires, whatever arrives.
+    Row::Client(1600, SECOND, b""),
+    Row::Released(&[50000]),
+    Row::Client(4599, FIRST, b""),
+    Row::Released(&[50000]),
+];
+
+#[test]
+fn port_is_released_once_its_allocation_has_expired(rt: HostRuntime) -> Result<(), Fail> {
+    play(&rt, rt.alloc(), &LARGE, &EXPIRED)
+}
+
+const DELETED: [Row; 12] = [
+    ALLOCATE,
+    BOBS,
+    BOTH,
+    Row::Ask(1001, ALICE, FIRST, Kind::Refresh, &[ZERO]),
+    Row::Released(&[50000]),
+    Row::Ask(1001, ALICE, FIRST, Kind::Refresh, &[ZERO]),
+    Row::Commit(&[Sent::Code(FIRST, 0), Sent::Code(FIRST, 437)]),
+    Row::Client(1600, FIRST, b""),
+    Row::Released(&[50000]),
+    Row::Ask(1601, ALICE, FIRST, Kind::Allocate, &[UDP]),
+    Row::Picked(&[50000, 50001, 50000]),
+    Row::Released(&[50000]),
+];
+
+// Neither by a second deletion nor at the second at which it would have expired.
+#[test]
+fn port_of_a_deleted_allocation_is_released_once(rt: HostRuntime) -> Result<(), Fail> {
+    play(&rt, rt.alloc(), &LARGE, &DELETED)
+}
+
+const NOTHING_PICKED: [Row; 8] = [
+    ALLOCATE,
+    ALLOCATE,
+    Row::Ask(1000, BOB, FIRST, Kind::Allocate, &[UDP]),
+    Row::Ask(1000, ALICE, SECOND, Kind::Allocate, &[]),
+    Row::Ask(1000, ALICE, FIRST, Kind::Refresh, &[]),
+    Row::Ask(1000, ALICE, FIRST, Kind::CreatePermission, &[PEER]),
+    Row::Picked(&[50000]),
+    Row::Released(&[]),
+];
+
+#[test]
+fn no_port_is_picked_that_no_allocation_gets(rt: HostRuntime) -> Result<(), Fail> {
+    play(&rt, rt.alloc(), &LARGE, &NOTHING_PICKED)
+}
+
+/// Of a server that was opened with alice's allocation, whose port it has not picked.
+const RECOVERED: [Row; 10] = [
+    Row::Picked(&[]),
+    BOBS,
+    Row::Picked(&[50001]),
+    Row::Commit(&[Sent::Code(SECOND, 0)]),
+    Row::Client(1599, FIRST, b""),
+    Row::Released(&[]),
+    Row::Idle,
+    Row::Client(1600, FIRST, b""),
+    Row::Released(&[50000]),
+    Row::Live(&[(SECOND, 50001, 4600)]),
+];
+
+#[test]
+fn port_of_a_stored_allocation_is_released_once(rt: HostRuntime) -> Result<(), Fail> {
+    staged(&rt, rt.alloc(), 1001)?
+        .reopen()?
+        .play(&rt, &RECOVERED)
+}
+
+/// The port that was picked for an Allocate which then lacked memory. The same Allocate gets it afterwards.
+const UNUSED: [Row; 6] = [
+    Row::Picked(&[50000, 50001]),
+    Row::Released(&[50001]),
+    BOBS,
+    Row::Picked(&[50000, 50001, 50001]),
+    Row::Released(&[50001]),
+    Row::Commit(&[Sent::Code(SECOND, 0)]),
+];
+
+/// Whether bob's Allocate beside alice's allocation lacks memory where the growth after so many is refused.
+fn lacks_memory(rt: &impl Abort, alloc: Global, served: u64) -> Result<bool, Fail> {
+    let refusing = Refusing::new(alloc, u64::MAX);
+    let mut player = Player::new(rt, &refusing, alloc, &LARGE)?;
+    player.play(rt, &[ALLOCATE, ALLOCATED])?;
+    refusing.arm(served);
+    let taken = player.submit(rt, &BOBS)?;
+    let was_refused = refusing.has_refused();
+    refusing.arm(u64::MAX);
+    assert!(rt; was_refused == (taken == Err(SubmitRefused::Memory)));
+    assert!(rt; player.keeps_ports());
+    if was_refused {
+        player.play(rt, &UNUSED)?;
+    }
+    Ok(was_refused)
+}
+
+/// How many growths are refused, one after the other.
+fn refused_growths(rt: &impl Abort, alloc: Global) -> Result<u64, Fail> {
+    for served in 0..32u64 {
+        if !lacks_memory(rt, alloc, served)? {
+            return Ok(served);
+        }
+    }
+    Err(Fail::new("some growth is always refused"))
+}
+
+#[test]
+fn picked_port_is_released_after_an_allocation_failure(rt: HostRuntime) -> Result<(), Fail> {
+    assert!(rt; refused_growths(&rt, rt.alloc())? > 1);
+    Ok(())
+}
