@@ -1,5 +1,5 @@
 -- Histories, cut and made longer.
-use Rattle.std.proofs.Common.{◌≡◌, ◌≤◌, ℕ, List, [], ◌∷◌, ◌++◌, length, take, Option, Some, None, Result, Ok, Err, false, refl, sym, ap, ◌∙◌, arith, append-nil, rules}
+use Rattle.std.proofs.Common.{◌≡◌, ◌≤◌, ◌<◌, ◌+◌, ◌-◌, ℕ, List, [], ◌∷◌, ◌++◌, length, take, Option, Some, None, Result, Ok, Err, false, refl, sym, ap, ◌∙◌, arith, append-nil, rules}
 use Rattle.std.specs.List.{AllByRecursion}
 use Rattle.std.specs.Prelude.{OnOk, is_err}
 use Rattle.std.proofs.lemmas.List.{take-append-drop}
@@ -32,3 +32,7 @@ none_left (x ∷ xs) e = absurd (omega (arith, e))
 pub when_ok : {T E : Type 0} (r : Result T E) (P : Type 0) → OnOk r P → is_err r ≡ false → P
 when_ok (Ok x) P p e = p
 when_ok (Err x) P p e = cc
+
+-- a batch that isn't full has room for one more, where there is room for as many as it may still take
+pub room_for_one : (len left capacity acts arrivals old limit : ℕ) → len + left ≤ capacity → old < limit → left ≡ acts - arrivals → arrivals ≡ old → acts ≡ limit → len + 1 ≤ capacity
+room_for_one len left capacity acts arrivals old limit enough few is same all = omega (arith, enough, few, is, same, all)

@@ -2,7 +2,7 @@
 use Rattle.std.proofs.Common.{◌≡◌, ◌≤◌, ℕ, List, [], ◌∷◌, length, take, drop, refl, sym, ap, ◌∙◌, subst, arith}
 use Rattle.std.proofs.Math.ListN.{drop_of_length-le}
 use Rattle.turn_disk.specs.Disk.{State, Trace, IsImage, EachImageSince}
-use Rattle.turn_disk.proofs.Since.{since_same, since_weaken}
+use Rattle.turn_disk.proofs.Since.{since_weaken}
 use Rattle.turn_history.specs.Fitting.{IsFitting}
 use Rattle.turn_history.specs.History.{History, clock}
 use Rattle.turn_history.specs.Laws.{AllFrom}
@@ -42,9 +42,6 @@ image_self state = record { size = refl; same = λ i outside. refl }
 -- what a stop may have left before a call it may have left before, whatever that stands for
 pub since_images : (old new : Trace) (P : List ℕ → Type 0) → EachImage old.now P → EachImageSince old new (IsImage old.now) → EachImageSince old new P
 since_images old new P each since = since_weaken old new (IsImage old.now) P each since
-
-pub not_opened : (old : Trace) (P : List ℕ → Type 0) → EachImage old.now P → EachImageSince old old P
-not_opened old P each = since_same old old P refl each
 
 module _ {D H G : Type 0} (form : Form) (h : History) (k m : ℕ) (content : List ℕ) (state : State) (server : ServerState D H G) (at : AtLeast form h k m content) where
   abbrev first : History

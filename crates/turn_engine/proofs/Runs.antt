@@ -30,26 +30,26 @@ use Rattle.turn_engine.proofs.Answered.{answered_at, begins, history-cut, histor
 use Rattle.turn_engine.proofs.Lists.{all-append, length-take-le}
 use Rattle.turn_engine.proofs.Written.{images_stored}
 
-by_bool : (b : Bool) → (b ≡ true) ⊎ (b ≡ false)
+pub by_bool : (b : Bool) → (b ≡ true) ⊎ (b ≡ false)
 by_bool true = inl refl
 by_bool false = inr refl
 
-not_both : (b : Bool) → b ≡ true → b ≡ false → ⊥
+pub not_both : (b : Bool) → b ≡ true → b ≡ false → ⊥
 not_both b yes_is no_is = cc
 
-ok_is_no_error : {T E : Type 0} (x : T) (e : E) → Ok x ≡ Err e → ⊥
+pub ok_is_no_error : {T E : Type 0} (x : T) (e : E) → Ok x ≡ Err e → ⊥
 ok_is_no_error x e is = cc
 
-memory_is_not_stopped : (r : Result Unit SubmitRefused) → r ≡ Err Memory → r ≡ Err Stopped → ⊥
+pub memory_is_not_stopped : (r : Result Unit SubmitRefused) → r ≡ Err Memory → r ≡ Err Stopped → ⊥
 memory_is_not_stopped r memory stopped = cc
 
-none_failed : (old new : ℕ) → old ≡ new → has_failed old new ≡ false
+pub none_failed : (old new : ℕ) → old ≡ new → has_failed old new ≡ false
 none_failed old new same = subst (λ (n : ℕ). has_failed old n ≡ false) same (same_count old)
   where
     same_count : (n : ℕ) → has_failed n n ≡ false
     same_count n = search (rules, tests)
 
-setting_kept : {H G : Type 0} (keys : H → Keys) (range : G → ℕ × ℕ) (old new : MachineState H G) → KeepsSetting range old new → setting_of keys range new ≡ setting_of keys range old
+pub setting_kept : {H G : Type 0} (keys : H → Keys) (range : G → ℕ × ℕ) (old new : MachineState H G) → KeepsSetting range old new → setting_of keys range new ≡ setting_of keys range old
 setting_kept keys range old new kept =
     let first : setting_of keys range new ≡ record { config = old.config; keys = keys new.handler; range = range new.ports } =
     ap (λ (x : Config). record { config = x; keys = keys new.handler; range = range new.ports }) kept.config in

@@ -33,7 +33,7 @@ form_kept old new count size (Err e) one two err = ap form_of err
 -- ---- Images
 
 -- what a store that rests on a history leaves
-stood : {D : Type 0} (store : StoreState D) (state : State) (c : ℕ) (h : History) → RestsAt store state c h → (image : List ℕ) → IsImage state image → StandsForAt (form_of store) h c image
+pub stood : {D : Type 0} (store : StoreState D) (state : State) (c : ℕ) (h : History) → RestsAt store state c h → (image : List ℕ) → IsImage state image → StandsForAt (form_of store) h c image
 stood store state c h rests image is =
     let on = rests.shows.rests in
     let holds = on.holds in

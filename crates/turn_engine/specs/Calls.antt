@@ -1,6 +1,7 @@
 -- What the calls of a server do, as records over what contracts see.
-use Rattle.std.specs.Prelude.{◌≡◌, ◌≤◌, ◌↔◌, ◌+◌, ℕ, List, Result, Err, IfOk, OnOk, OnErr, true, false, length}
+use Rattle.std.specs.Prelude.{◌≡◌, ◌≤◌, ◌↔◌, ◌+◌, ℕ, List, Result, Err, IsOk, IfOk, IfErr, OnOk, OnErr, true, false, length}
 use Rattle.turn_cred.specs.declared.handler.AuthHandler as handlers
+use Rattle.turn_disk.specs.Counts.{Rises}
 use Rattle.turn_disk.specs.Disk.{EachImageSince}
 use Rattle.turn_disk.specs.declared.disk.Disk as disks
 use Rattle.turn_history.specs.History.{History}
@@ -8,18 +9,25 @@ use Rattle.turn_ports.specs.Ports.{has_failed}
 use Rattle.turn_ports.specs.declared.generator.RelayAddressGenerator as generators
 use Rattle.turn_step.specs.Outcome.{Arrives, Sent}
 use Rattle.turn_step.specs.State.{KeepsSetting, setting_of}
+use Rattle.turn_types.specs.Config.{Config}
+use Rattle.turn_store.specs.Areas.{Form}
+use Rattle.turn_store.specs.Images.{EachImage}
+use Rattle.turn_store.specs.Refused.{IsPlain}
 use Rattle.turn_store.specs.State.{form_of}
+use Rattle.turn_store.specs.declared.fault.OpenFault.TheVariants.{Device}
 use Rattle.turn_store.specs.declared.fault.StoreFault.{StoreFault}
 use Rattle.turn_store.specs.declared.fault.StoreFault.TheVariants as faults
 use Rattle.turn_engine.specs.Images.{AtLeast}
-use Rattle.turn_engine.specs.Resting.{Rests, Takes}
+use Rattle.turn_engine.specs.Resting.{Opens, Rests, Takes}
 use Rattle.turn_engine.specs.State.{ServerState, emptied, limits_of, now_of}
+use Rattle.turn_engine.specs.declared.fault.OpenRefused.{OpenRefused}
 use Rattle.turn_engine.specs.declared.fault.SubmitRefused.{SubmitRefused}
 use Rattle.turn_engine.specs.declared.fault.SubmitRefused.TheVariants.{BatchFull, Memory, Stopped}
 
 -- `submit` of an arrival at a moment that isn't before the clock
 pub record Submits {D H G : Type 0} (disk : disks.Ghosts D) (handler : handlers.Ghosts H) (ports : generators.Ghosts G) (old new : ServerState D H G) (moment : ℕ) (a : Arrives) (result : Result Unit SubmitRefused) : Type 0 where
   pub in_time : now_of old ≤ moment
+  pub few : old.arrivals ≤ (limits_of old).acts
   pub store : new.store ≡ old.store
   pub setting : KeepsSetting ports.range old.machine new.machine
   pub stopped : (result ≡ Err Stopped) ↔ (old.store.stopped ≡ true)
@@ -44,9 +52,28 @@ pub record Commits {D H G : Type 0} (disk : disks.Ghosts D) (old new : ServerSta
   pub stops : OnErr result (new.store.stopped ≡ true)
   pub stopped : (result ≡ Err faults.Stopped) ↔ (old.store.stopped ≡ true)
   pub unchanged : old.store.stopped ≡ true → new ≡ old
+  pub nothing : old.store.stopped ≡ false → old.acts ≡ 0 → IsOk result
   pub honest : disk.is_honest new.store.disk ↔ disk.is_honest old.store.disk
   pub form : form_of new.store ≡ form_of old.store
   pub stop : disk.is_honest old.store.disk → (h : History) (k : ℕ) → Rests (disk.trace old.store.disk).now old h k
       → EachImageSince (disk.trace old.store.disk) (disk.trace new.store.disk) (AtLeast (form_of old.store) h k (now_of old))
   pub rests : disk.is_honest old.store.disk → (h : History) (k : ℕ) → Rests (disk.trace old.store.disk).now old h k
       → OnOk result (Rests (disk.trace new.store.disk).now new h (length h))
+
+-- `open` of a disk, with a configuration, a handler and a generator, which answers a server or hands the three back
+pub record Opening {D H G : Type 0} (disk : disks.Ghosts D) (old : D) (config : Config) (handler : H) (ports : G) (result : Result (ServerState D H G) (OpenRefused D H G)) : Type 0 where
+  pub machine : IfOk result (λ s. s.machine ≡ record { config = config; handler = handler; ports = ports; table = s.machine.table })
+  pub nothing : IfOk result (λ s. s ≡ emptied s s.store)
+  pub runs : IfOk result (λ s. s.store.stopped ≡ false)
+  pub returned : IfErr result (λ r. (r.handler ≡ handler) × (r.ports ≡ ports))
+  pub honest : IfOk result (λ s. disk.is_honest s.store.disk ↔ disk.is_honest old)
+  pub honest_err : IfErr result (λ r. disk.is_honest r.disk ↔ disk.is_honest old)
+  pub device : IfErr result (λ r. r.fault ≡ Device → Rises (disk.failed old) (disk.failed r.disk))
+  pub rests : disk.is_honest old → (form : Form) (h : History) (k m : ℕ) → form.bounds ≡ config.limits → EachImage (disk.trace old).now (AtLeast form h k m)
+      → IfOk result (λ s. Opens form h k m (disk.trace old).now.bytes (disk.trace s.store.disk).now s)
+  pub sound : disk.is_honest old → (form : Form) (h : History) (k m : ℕ) → form.bounds ≡ config.limits → EachImage (disk.trace old).now (AtLeast form h k m)
+      → IfErr result (λ r. IsPlain r.fault)
+  pub stop : disk.is_honest old → (form : Form) (h : History) (k m : ℕ) → EachImage (disk.trace old).now (AtLeast form h k m)
+      → IfOk result (λ s. EachImageSince (disk.trace old) (disk.trace s.store.disk) (AtLeast form h k m))
+  pub stop_err : disk.is_honest old → (form : Form) (h : History) (k m : ℕ) → EachImage (disk.trace old).now (AtLeast form h k m)
+      → IfErr result (λ r. EachImageSince (disk.trace old) (disk.trace r.disk) (AtLeast form h k m))

@@ -19,7 +19,7 @@ ghost use Rattle.turn_store.specs.Refused.{IsPlain, WhyRefused};
 ghost use Rattle.turn_store.specs.Stages.{InStages};
 ghost use Rattle.turn_store.specs.State.{form_of};
 ghost use Rattle.turn_store.specs.Tables.{snapshot_of};
-ghost use Rattle.turn_engine.specs.Calls.{Commits, Submits};
+ghost use Rattle.turn_engine.specs.Calls.{Commits, Opening, Submits};
 ghost use Rattle.turn_engine.specs.Images.{AtLeast};
 ghost use Rattle.turn_engine.specs.Resting.{Opens, Rests, Takes};
 ghost use Rattle.turn_engine.specs.State.{emptied, limits_of, now_of};
@@ -145,6 +145,9 @@ impl<D: Disk, H: AuthHandler, G: RelayAddressGenerator, A: Allocator + Copy> Ser
         ensures stop_err { D.is_honest disk → (form : Form) (h : History) (k m : ℕ)
             → EachImage (D.trace disk).now (AtLeast form h k m)
             → IfErr result (λ r. EachImageSince (D.trace disk) (D.trace r.disk) (AtLeast form h k m)) }
+
+        // All of this as one record, of which the laws of lives speak.
+        ensures call { Opening D.Disk disk config.now handler ports result }
     {
         let limits = config.limits();
         let (Ok(config), Ok(batch)) = (config.try_clone(alloc), Batch::new(alloc, limits)) else {
@@ -205,11 +208,13 @@ impl<D: Disk, H: AuthHandler, G: RelayAddressGenerator, A: Allocator + Copy> Ser
     {
         // What this ensures proves the moment's range.
         let _ = moment.seconds();
+        // Room for the whole batch, so that its list is one allocation.
+        let left = self.machine.config().limits().acts() - self.arrivals;
         let step = match self.machine.prepare(moment, arrival) {
             Ok(step) => step,
             Err(error) => return Err(error),
         };
-        if self.outgoing.reserve(1).is_err() {
+        if self.outgoing.reserve(usize::from(left)).is_err() {
             self.machine.abandon(step);
             return Err(AllocError);
         }
@@ -354,6 +359,13 @@ impl<D: Disk, H: AuthHandler, G: RelayAddressGenerator, A: Allocator + Copy> Ser
         ensures { result ≡ now_of self.now }
     {
         self.machine.moment()
+    }
+
+    /// Whether a commit failed. From then on each call answers `Stopped`.
+    pub fn is_stopped(&self) -> bool
+        ensures { result ≡ self.now.store.stopped }
+    {
+        self.store.is_stopped()
     }
 
     pub fn ports(&self) -> &G

@@ -41,6 +41,7 @@ returns-clause-call g c = record {
   stops = tt;
   stopped = search rules;
   unchanged = search rules;
+  nothing = search rules;
   honest = search rules;
   form = search rules;
   stop = returns-clause-stop g c;

@@ -1,5 +1,7 @@
-use Rattle.std.proofs.Common.{◌≡◌, take, sym, ap, ◌∙◌, subst}
+use Rattle.std.proofs.Common.{rules, ◌≡◌, ◌∷◌, [], List, map, take, sym, ap, ◌∙◌, subst}
 use Rattle.turn_disk.specs.Disk.{EachImageSince}
+use Rattle.turn_step.specs.Outcome.{Sent}
+use Rattle.turn_step.specs.Views.{sent_of}
 use Rattle.turn_store.specs.Opened.{IsOpened, OpensTo}
 use Rattle.turn_store.specs.Refused.{WhyRefused}
 use Rattle.turn_store.specs.Tables.{snapshot_of}
@@ -7,6 +9,8 @@ use Rattle.turn_table.specs.State.{State}
 use Rattle.turn_types.specs.Config.{Config}
 use Rattle.turn_types.specs.declared.limits.Bounds.{Bounds}
 use Rattle.turn_engine.specs.Images.{AtLeast}
+use Rattle.turn_engine.specs.Staged.{Staged}
+use Rattle.turn_engine.specs.State.{ServerState}
 use Rattle.turn_engine.proofs.Opened.{fresh_sound, image_self, opens, since_images}
 use Rattle.turn_engine.proofs.server.Server.open.Goals as goal
 
@@ -56,3 +60,91 @@ pub returns-in-Err-new-clause-stop_err : goal.returns-in-Err-new-clause-stop_err
 returns-in-Err-new-clause-stop_err g c = λ honest form h k m images.
     let trace = g.D.Disk.trace in
     subst (λ d. EachImageSince (trace c.args.disk) (trace d) (AtLeast form h k m)) (sym c.into_disk.ensures) (since_images _ _ _ images (c.in-Ok.ensures.stop honest))
+
+pub returns-in-Ok-new-clause-machine : goal.returns-in-Ok-new-clause-machine
+returns-in-Ok-new-clause-machine g c = search rules
+
+pub returns-in-Ok-new-clause-nothing : goal.returns-in-Ok-new-clause-nothing
+returns-in-Ok-new-clause-nothing g c =
+    let outs = map sent_of c.new-in-Ok-new.result.items in
+    let opened : List Sent → Staged → ServerState _ _ _ = λ l b. record {
+      store = c.in-Ok.opened.store;
+      machine = c.in-Ok-new.machine;
+      payload = b.payload;
+      acts = b.acts;
+      outs = l;
+      arrivals = 0;
+    } in
+    ap (opened outs) c.in-Ok-Ok.ensures' ∙ ap (λ (l : List _). opened (map sent_of l) (record { bounds = c.limits-limits.result; payload = 0 ∷ []; acts = 0 })) c.new-in-Ok-new.ensures.items
+
+pub returns-in-Ok-new-clause-runs : goal.returns-in-Ok-new-clause-runs
+returns-in-Ok-new-clause-runs g c = search rules
+
+pub returns-in-Ok-new-clause-honest : goal.returns-in-Ok-new-clause-honest
+returns-in-Ok-new-clause-honest g c = c.in-Ok.ensures.honest
+
+pub returns-in-Err-clause-returned : goal.returns-in-Err-clause-returned
+returns-in-Err-clause-returned g c = search rules
+
+pub returns-in-Err-clause-honest_err : goal.returns-in-Err-clause-honest_err
+returns-in-Err-clause-honest_err g c = search rules
+
+pub returns-in-Err-clause-device : goal.returns-in-Err-clause-device
+returns-in-Err-clause-device g c = search rules
+
+pub returns-in-Err-new-clause-returned : goal.returns-in-Err-new-clause-returned
+returns-in-Err-new-clause-returned g c = search rules
+
+pub returns-in-Err-new-clause-honest_err : goal.returns-in-Err-new-clause-honest_err
+returns-in-Err-new-clause-honest_err g c = search rules
+
+pub returns-in-Err-new-clause-device : goal.returns-in-Err-new-clause-device
+returns-in-Err-new-clause-device g c = search rules
+
+pub returns-in-Err-new-clause-sound : goal.returns-in-Err-new-clause-sound
+returns-in-Err-new-clause-sound g c = search rules
+
+pub returns-in-Ok-new-clause-call : goal.returns-in-Ok-new-clause-call
+returns-in-Ok-new-clause-call g c = record {
+  machine = returns-in-Ok-new-clause-machine g c;
+  nothing = returns-in-Ok-new-clause-nothing g c;
+  runs = returns-in-Ok-new-clause-runs g c;
+  returned = tt;
+  honest = returns-in-Ok-new-clause-honest g c;
+  honest_err = tt;
+  device = tt;
+  rests = returns-in-Ok-new-clause-rests g c;
+  sound = λ honest form h k m bounds images. tt;
+  stop = returns-in-Ok-new-clause-stop g c;
+  stop_err = λ honest form h k m images. tt;
+}
+
+pub returns-in-Err-clause-call : goal.returns-in-Err-clause-call
+returns-in-Err-clause-call g c = record {
+  machine = tt;
+  nothing = tt;
+  runs = tt;
+  returned = returns-in-Err-clause-returned g c;
+  honest = tt;
+  honest_err = returns-in-Err-clause-honest_err g c;
+  device = returns-in-Err-clause-device g c;
+  rests = λ honest form h k m bounds images. tt;
+  sound = returns-in-Err-clause-sound g c;
+  stop = λ honest form h k m images. tt;
+  stop_err = returns-in-Err-clause-stop_err g c;
+}
+
+pub returns-in-Err-new-clause-call : goal.returns-in-Err-new-clause-call
+returns-in-Err-new-clause-call g c = record {
+  machine = tt;
+  nothing = tt;
+  runs = tt;
+  returned = returns-in-Err-new-clause-returned g c;
+  honest = tt;
+  honest_err = returns-in-Err-new-clause-honest_err g c;
+  device = returns-in-Err-new-clause-device g c;
+  rests = λ honest form h k m bounds images. tt;
+  sound = returns-in-Err-new-clause-sound g c;
+  stop = λ honest form h k m images. tt;
+  stop_err = returns-in-Err-new-clause-stop_err g c;
+}

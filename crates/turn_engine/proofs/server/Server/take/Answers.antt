@@ -7,9 +7,10 @@ use Rattle.turn_step.specs.State.{CountsOne, IsAfter, setting_of}
 use Rattle.turn_step.specs.Views.{arrival_of, sent_of}
 use Rattle.turn_types.specs.Config.{Config}
 use Rattle.turn_table.specs.State.{State}
-use Rattle.turn_engine.specs.State.{now_of}
-use Rattle.turn_engine.proofs.Lists.{when_ok}
+use Rattle.turn_engine.proofs.Lists.{room_for_one, when_ok}
 use Rattle.turn_engine.proofs.Taken.{after_same, counts_same, moment_changed, rests_later, rests_taken, sound_changed, sound_later}
+use Rattle.turn_types.specs.declared.limits.Bounds.{Bounds}
+use Rattle.turn_engine.specs.State.{limits_of, now_of}
 use Rattle.turn_engine.proofs.server.Server.take.Goals as goal
 
 pub invariant_of-self : goal.invariant_of-self
@@ -39,7 +40,12 @@ returns-then-is_err-clause-memory_rests g c = λ h k rests.
     (omega (arith, c.requires.clock, moment, same)) (after_same c.prepare.new.self c.abandon.new.self h c.abandon.ensures.setting.config c.abandon.ensures.table after)
 
 pub stage_datagram-requires : goal.stage_datagram-requires
-stage_datagram-requires g c = record { room = when_ok c.reserve.result _ c.reserve.ensures.ok (sym c.is_err.ensures.value ∙ c.if-is_err.false) }
+stage_datagram-requires g c =
+    let enough = when_ok c.reserve.result _ c.reserve.ensures.ok (sym c.is_err.ensures.value ∙ c.if-is_err.false) in
+    record {
+      room = room_for_one _ _ _ _ _ _ _ enough c.requires.room c.from.ensures (ap (λ v. v.arrivals) c.self.view_is)
+          (c.acts.ensures.value ∙ ap (λ (b : Bounds). b.acts) c.limits.ensures.value ∙ ap (λ (x : Config). x.limits.acts) c.config.ensures ∙ ap (λ v. (limits_of v).acts) c.self.view_is);
+    }
 
 pub overflow_add-self : goal.overflow_add-self
 overflow_add-self g c = let small = rw (← c.self.view_is) at c.requires.small in omega (arith, small)

@@ -1,0 +1,6 @@
+pub mod Lasting
+pub mod Lists
+pub mod Lives
+pub mod Plays
+pub mod Repeats
+pub mod Worlds

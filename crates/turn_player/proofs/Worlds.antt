@@ -1,0 +1,480 @@
+-- Calls that do what their contracts say make a life.
+use Rattle.std.proofs.Common.{◌≡◌, ◌≤◌, ◌<◌, ◌+◌, ◌-◌, ◌⊎◌, inl, inr, ℕ, zero, suc, Bool, true, false, List, [], ◌∷◌, ◌++◌, length, map, max, take, Result, Ok, Err, refl, sym, ap, ◌∙◌, subst, arith, append_assoc, append-nil, length-append}
+use Rattle.std.proofs.lemmas.List.{map-append, length-drop}
+use Rattle.std.proofs.Math.Seq.{take-length, take-append-add, take-append_seam}
+use Rattle.std.specs.Option.{option_to_list}
+use Rattle.turn_cred.specs.declared.handler.AuthHandler as handlers
+use Rattle.turn_disk.specs.Disk.{EachImageSince}
+use Rattle.turn_disk.specs.declared.disk.Disk as disks
+use Rattle.turn_disk.proofs.Since.{since_same, since_weaken}
+use Rattle.turn_engine.specs.Calls.{Commits, Opening, Submits}
+use Rattle.turn_engine.specs.Images.{AtLeast}
+use Rattle.turn_engine.specs.Resting.{Opens, Rests}
+use Rattle.turn_engine.specs.Runs.{NeverFails, Taken, accepted, sent_about}
+use Rattle.turn_engine.specs.State.{ServerState, limits_of, now_of}
+use Rattle.turn_engine.specs.declared.fault.OpenRefused.{OpenRefused}
+use Rattle.turn_engine.specs.declared.fault.SubmitRefused.{SubmitRefused}
+use Rattle.turn_engine.specs.declared.fault.SubmitRefused.TheVariants.{BatchFull, Memory, Stopped}
+use Rattle.turn_engine.proofs.Answered.{accepted-append, sent_about-append}
+use Rattle.turn_engine.proofs.Lists.{length-take-le}
+use Rattle.turn_engine.proofs.Runs.{memory_is_not_stopped, none_failed, not_both, ok_is_no_error, setting_kept}
+use Rattle.turn_engine.proofs.Stops.{left_alone, left_has}
+use Rattle.turn_engine.proofs.Written.{stood}
+use Rattle.turn_history.specs.History.{History, clock}
+use Rattle.turn_ports.specs.Ports.{has_failed}
+use Rattle.turn_ports.specs.declared.generator.RelayAddressGenerator as generators
+use Rattle.turn_step.specs.Answer.{AnswersArrival, Setting}
+use Rattle.turn_step.specs.Outcome.{Arrives, Sent, added}
+use Rattle.turn_step.specs.State.{MachineState, setting_of}
+use Rattle.turn_store.specs.Areas.{Form}
+use Rattle.turn_store.specs.Images.{EachImage, StandsForAt}
+use Rattle.turn_store.specs.State.{form_of}
+use Rattle.turn_store.specs.declared.fault.StoreFault.{StoreFault}
+use Rattle.turn_store.specs.declared.fault.StoreFault.TheVariants as faults
+use Rattle.turn_player.specs.Lives.{Arrive, Closed, Commit, Failed, Found, Goes, Halted, HandedOut, Input, Lasting, Life, NotOpened, Open, Opened, Point, Refused, Running, Said, Shut, Stop, arrivals, bound_of, count_of, found, handing_out, history_of, recent_of, settled_history_of, sure_of, taken_of, unsettled_of}
+use Rattle.turn_player.specs.Lives as lives
+use Rattle.turn_player.specs.Worlds.{Call, Calls, Down, IsDown, IsHalted, Leaves, Lives, Restarts, Runs, Serving, Stands, World, disk_of, handler_of, ports_of, said_by_commit, said_by_open, said_by_submit, world_after}
+use Rattle.turn_player.specs.Worlds as worlds
+use Rattle.turn_player.proofs.Lists.{accepted-found, taken-handed}
+
+-- ---- Images
+
+weaken_by : (form : Form) (h : History) (k m n : ℕ) (image : List ℕ) → m ≤ n → AtLeast form h k m image → AtLeast form h k n image
+weaken_by form h k m n image le at =
+    let bounded = at.stands.bounded in
+    record {
+      count = at.count;
+      no_less = at.no_less;
+      no_more = at.no_more;
+      stands = record { clock = at.stands.clock; bounded = omega arith; stands = at.stands.stands };
+    }
+
+not_full : (a b : ℕ) → a ≤ b → (a ≡ b → ⊥) → a < b
+not_full a b le not = omega (arith, le, not)
+
+module _ {D H G : Type 0} (disk : disks.Ghosts D) (handler : handlers.Ghosts H) (ports : generators.Ghosts G) (form : Form) (s : Setting) where
+  later : (d : D) (sure : List Lasting) (recent : List Taken) (m n : ℕ) → m ≤ n → Leaves disk form d sure recent m → Leaves disk form d sure recent n
+  later d sure recent m n le l = record { honest = l.honest; images = λ image is. weaken_by form _ _ m n image le (l.images image is) }
+
+  -- what lasts is stored while a server runs, and nothing else
+  resting : (server : ServerState D H G) (sure : List Lasting) (recent : List Taken) (c m : ℕ) → Runs disk handler ports form s server sure recent c m → Leaves disk form server.store.disk sure [] m
+  resting server sure recent c m runs =
+      let mine = map taken_of sure in
+      let k = length (accepted mine) in
+      let whole : accepted (mine ++ recent) ≡ accepted mine ++ accepted recent = accepted-append mine recent in
+      let plain : accepted (mine ++ []) ≡ accepted mine = ap accepted (append-nil mine) in
+      let first : take k (accepted (mine ++ recent)) ≡ take k (accepted (mine ++ [])) =
+      ap (λ (l : History). take k l) whole ∙ take-append_seam (accepted mine) (accepted recent) ∙ sym (take-length (accepted mine)) ∙ ap (λ (l : History). take k l) (sym plain) in
+      let long : length (accepted (mine ++ [])) ≡ k = ap (λ (l : History). length l) plain in
+      let now = runs.clock in
+      let bounded = runs.bounded in
+      let late = runs.rests.at_late in
+      record {
+        honest = runs.honest;
+        images = λ image is. record {
+          count = k;
+          no_less = omega arith;
+          no_more = omega arith;
+          stands = record {
+            clock = runs.rests.at;
+            bounded = omega arith;
+            stands = subst (λ (l : History). StandsForAt form l runs.rests.at image) first
+                (subst (λ (f : Form). StandsForAt f (take k (accepted (mine ++ recent))) runs.rests.at image) runs.same_form
+                (stood server.store (disk.trace server.store.disk).now runs.rests.at (take k (accepted (mine ++ recent))) runs.rests.stored image is));
+          };
+        };
+      }
+
+  pub leaves : (w : World D H G) (p : Point) → Stands disk handler ports form s w p → Leaves disk form (disk_of w) (sure_of p) (unsettled_of p) (bound_of p)
+  leaves (Serving server) (Running sure recent c m) stands = resting server sure recent c m stands
+  leaves (Serving server) (Halted sure recent m) stands = stands.leaves
+  leaves (Serving server) (Shut sure recent m) stands = absurd stands
+  leaves (Down d h g) (Running sure recent c m) stands = absurd stands
+  leaves (Down d h g) (Halted sure recent m) stands = absurd stands
+  leaves (Down d h g) (Shut sure recent m) stands = stands.leaves
+
+  keys_at : (w : World D H G) (p : Point) → Stands disk handler ports form s w p → handler.key_of (handler_of w) ≡ s.keys
+  keys_at (Serving server) (Running sure recent c m) stands = ap (λ (z : Setting). z.keys) stands.same_setting
+  keys_at (Serving server) (Halted sure recent m) stands = ap (λ (z : Setting). z.keys) stands.same_setting
+  keys_at (Serving server) (Shut sure recent m) stands = absurd stands
+  keys_at (Down d h g) (Running sure recent c m) stands = absurd stands
+  keys_at (Down d h g) (Halted sure recent m) stands = absurd stands
+  keys_at (Down d h g) (Shut sure recent m) stands = stands.keys
+
+  range_at : (w : World D H G) (p : Point) → Stands disk handler ports form s w p → ports.range (ports_of w) ≡ s.range
+  range_at (Serving server) (Running sure recent c m) stands = ap (λ (z : Setting). z.range) stands.same_setting
+  range_at (Serving server) (Halted sure recent m) stands = ap (λ (z : Setting). z.range) stands.same_setting
+  range_at (Serving server) (Shut sure recent m) stands = absurd stands
+  range_at (Down d h g) (Running sure recent c m) stands = absurd stands
+  range_at (Down d h g) (Halted sure recent m) stands = absurd stands
+  range_at (Down d h g) (Shut sure recent m) stands = stands.range
+
+  -- ---- Stops inside calls
+
+  -- what a stop in a commit leaves
+  commit_leaves : (old new : ServerState D H G) (sure : List Lasting) (recent : List Taken) (c m : ℕ) (result : Result (List Sent) StoreFault) → Runs disk handler ports form s old sure recent c m
+      → Commits disk old new result
+      → EachImageSince (disk.trace old.store.disk) (disk.trace new.store.disk) (AtLeast form (accepted (arrivals sure recent)) (length (accepted (map taken_of sure))) m)
+  commit_leaves old new sure recent c m result runs call =
+      let h = accepted (arrivals sure recent) in
+      let k = length (accepted (map taken_of sure)) in
+      let now = runs.clock in
+      let bounded = runs.bounded in
+      let bound : now_of old ≤ m = omega (arith, now, bounded) in
+      since_weaken (disk.trace old.store.disk) (disk.trace new.store.disk) (AtLeast (form_of old.store) h k (now_of old)) (AtLeast form h k m)
+      (λ image at. weaken_by form h k (now_of old) m image bound (subst (λ (f : Form). AtLeast f h k (now_of old) image) runs.same_form at))
+      (call.stop runs.honest h k runs.rests)
+
+  -- what each image has at each moment of a commit
+  pub commit_since : (p : Point) (old new : ServerState D H G) (result : Result (List Sent) StoreFault) → Stands disk handler ports form s (Serving old) p → Commits disk old new result
+      → EachImageSince (disk.trace old.store.disk) (disk.trace new.store.disk) (AtLeast form (history_of p) (count_of p) (bound_of p))
+  commit_since (Running sure recent c m) old new result stands call = commit_leaves old new sure recent c m result stands call
+  commit_since (Halted sure recent m) old new result stands call =
+      since_same _ _ _ (ap (λ (v : ServerState D H G). disk.trace v.store.disk) (call.unchanged stands.stopped)) stands.leaves.images
+  commit_since (Shut sure recent m) old new result stands call = absurd stands
+
+  -- and of an opening
+  pub open_since : (p : Point) (w : World D H G) (result : Result (ServerState D H G) (OpenRefused D H G)) → Stands disk handler ports form s w p
+      → Opening disk (disk_of w) s.config (handler_of w) (ports_of w) result
+      → EachImageSince (disk.trace (disk_of w)) (disk.trace (disk_of (world_after result))) (AtLeast form (settled_history_of p) (count_of p) (bound_of p))
+  open_since p w (Ok server) stands call = let l = leaves w p stands in call.stop l.honest form (settled_history_of p) (count_of p) (bound_of p) l.images
+  open_since p w (Err refused) stands call = let l = leaves w p stands in call.stop_err l.honest form (settled_history_of p) (count_of p) (bound_of p) l.images
+
+  -- ---- Arrivals
+
+  pub record Next (may_fail : Bool) (p : Point) (input : Input) (said : List Said) (w : World D H G) : Type 0 where
+    pub end : Point
+    pub goes : Goes s may_fail p input said end
+    pub stands : Stands disk handler ports form s w end
+
+  module _ (may_fail : Bool) (never : may_fail ≡ false → NeverFails ports) where
+    flag : (b : Bool) (old new : G) → (b ≡ false → NeverFails ports) → has_failed (ports.failures old) (ports.failures new) ≡ true → b ≡ true
+    flag true old new fails failed = refl
+    flag false old new fails failed = absurd (not_both (has_failed (ports.failures old) (ports.failures new)) failed (none_failed (ports.failures old) (ports.failures new) (fails refl old new)))
+
+    took : (old new : ServerState D H G) (sure : List Lasting) (recent : List Taken) (c m t : ℕ) (a : Arrives) (u : Unit) → Submits disk handler ports old new (max t (now_of old)) a (Ok u)
+        → Runs disk handler ports form s old sure recent c m → Next may_fail (Running sure recent c m) (Arrive t a) [] (Serving new)
+    took old new sure recent c m t a u call runs =
+        let mine = map taken_of sure in
+        let h = accepted (mine ++ recent) in
+        let k = length (accepted mine) in
+        let at : max t (now_of old) ≡ max t c = ap (λ (n : ℕ). max t n) runs.clock in
+        let failed = has_failed (ports.failures old.machine.ports) (ports.failures new.machine.ports) in
+        let takes = call.takes h k runs.rests in
+        let x : Taken = record { moment = max t c; arrival = a; failed = failed; outcome = takes.outcome } in
+        let answers : AnswersArrival s h (max t c) failed a takes.outcome =
+        subst (λ (n : ℕ). AnswersArrival s h n failed a takes.outcome) at (subst (λ (z : Setting). AnswersArrival z h (max t (now_of old)) failed a takes.outcome) runs.same_setting takes.answers) in
+        let change = takes.outcome.change in
+        let history : accepted (mine ++ (recent ++ x ∷ [])) ≡ h ++ added (max t (now_of old)) change =
+        ap accepted (sym (append_assoc mine recent (x ∷ []))) ∙ accepted-append (mine ++ recent) (x ∷ []) ∙ ap (λ (l : History). h ++ l) (append-nil (added (max t c) change))
+        ∙ ap (λ (n : ℕ). h ++ added n change) (sym at) in
+        let limit : (limits_of old).acts ≡ s.config.limits.acts = ap (λ (z : Setting). z.config.limits.acts) runs.same_setting in
+        let counted = runs.counted in
+        let few = not_full old.arrivals (limits_of old).acts call.few (λ all. absurd (ok_is_no_error u BatchFull (call.full.1 (runs.rests.stored.runs, all)))) in
+        let room : length recent < s.config.limits.acts = omega (arith, limit, counted, few) in
+        let bounded = runs.bounded in
+        let rests = subst (λ z. Rests (disk.trace z.disk).now new (h ++ added (max t (now_of old)) change) k) (sym call.store) takes.rests in
+        record {
+          end = Running sure (recent ++ x ∷ []) (max t c) (max t m);
+          goes = lives.takes failed takes.outcome answers (flag may_fail old.machine.ports new.machine.ports never) room;
+          stands = record {
+            honest = subst (λ z. disk.is_honest z.disk) (sym call.store) runs.honest;
+            same_setting = setting_kept handler.key_of ports.range old.machine new.machine call.setting ∙ runs.same_setting;
+            same_form = ap form_of call.store ∙ runs.same_form;
+            rests = subst (λ (l : History). Rests (disk.trace new.store.disk).now new l k) (sym history) rests;
+            outs = takes.outs ∙ ap (λ (l : List Sent). l ++ option_to_list takes.outcome.sent) runs.outs
+                ∙ ap (λ (l : List Sent). sent_about recent ++ l) (sym (append-nil (option_to_list takes.outcome.sent))) ∙ sym (sent_about-append recent (x ∷ []));
+            counted = call.arrivals ∙ ap (λ (n : ℕ). n + 1) counted ∙ sym (length-append recent (x ∷ []));
+            clock = call.clock ∙ at;
+            bounded = omega (arith, bounded);
+          };
+        }
+
+    no_memory : (old new : ServerState D H G) (sure : List Lasting) (recent : List Taken) (c m t : ℕ) (a : Arrives) → Submits disk handler ports old new (max t (now_of old)) a (Err Memory)
+        → Runs disk handler ports form s old sure recent c m → Next may_fail (Running sure recent c m) (Arrive t a) (Refused Memory ∷ []) (Serving new)
+    no_memory old new sure recent c m t a call runs =
+        let mine = map taken_of sure in
+        let h = accepted (mine ++ recent) in
+        let k = length (accepted mine) in
+        let limit : (limits_of old).acts ≡ s.config.limits.acts = ap (λ (z : Setting). z.config.limits.acts) runs.same_setting in
+        let counted = runs.counted in
+        let few = not_full old.arrivals (limits_of old).acts call.few (λ all. memory_is_not_full (Err Memory) refl (call.full.1 (runs.rests.stored.runs, all))) in
+        let room : length recent < s.config.limits.acts = omega (arith, limit, counted, few) in
+        let bounded = runs.bounded in
+        record {
+          end = Running sure recent (max t c) (max t m);
+          goes = lives.no_memory room;
+          stands = record {
+            honest = subst (λ z. disk.is_honest z.disk) (sym call.store) runs.honest;
+            same_setting = setting_kept handler.key_of ports.range old.machine new.machine call.setting ∙ runs.same_setting;
+            same_form = ap form_of call.store ∙ runs.same_form;
+            rests = subst (λ z. Rests (disk.trace z.disk).now new h k) (sym call.store) (call.rests h k runs.rests);
+            outs = ap (λ (v : ServerState D H G). v.outs) (call.memory refl) ∙ runs.outs;
+            counted = ap (λ (v : ServerState D H G). v.arrivals) (call.memory refl) ∙ counted;
+            clock = call.memory_clock refl ∙ ap (λ (n : ℕ). max t n) runs.clock;
+            bounded = omega (arith, bounded);
+          };
+        }
+      where
+        memory_is_not_full : (result : Result Unit SubmitRefused) → result ≡ Err Memory → result ≡ Err BatchFull → ⊥
+        memory_is_not_full result memory is_full = cc
+
+    full : (old new : ServerState D H G) (sure : List Lasting) (recent : List Taken) (c m t : ℕ) (a : Arrives) → Submits disk handler ports old new (max t (now_of old)) a (Err BatchFull)
+        → Runs disk handler ports form s old sure recent c m → Next may_fail (Running sure recent c m) (Arrive t a) (Refused BatchFull ∷ []) (Serving new)
+    full old new sure recent c m t a call runs =
+        let limit : (limits_of old).acts ≡ s.config.limits.acts = ap (λ (z : Setting). z.config.limits.acts) runs.same_setting in
+        let bounded = runs.bounded in
+        let later_bound : Runs disk handler ports form s old sure recent c (max t m) = record {
+          honest = runs.honest;
+          same_setting = runs.same_setting;
+          same_form = runs.same_form;
+          rests = runs.rests;
+          outs = runs.outs;
+          counted = runs.counted;
+          clock = runs.clock;
+          bounded = omega (arith, bounded);
+        } in
+        record {
+          end = Running sure recent c (max t m);
+          goes = lives.is_full (sym runs.counted ∙ (call.full.0 refl).1 ∙ limit);
+          stands = subst (λ (v : ServerState D H G). Runs disk handler ports form s v sure recent c (max t m)) (sym (call.unchanged_full refl)) later_bound;
+        }
+
+    halted_same : (old new : ServerState D H G) (sure : List Lasting) (recent : List Taken) (m n : ℕ) → m ≤ n → new ≡ old → IsHalted disk handler ports form s old sure recent m
+        → IsHalted disk handler ports form s new sure recent n
+    halted_same old new sure recent m n le same stands = subst (λ (v : ServerState D H G). IsHalted disk handler ports form s v sure recent n) (sym same) (record {
+      stopped = stands.stopped;
+      same_setting = stands.same_setting;
+      leaves = later old.store.disk sure recent m n le stands.leaves;
+    })
+
+    submitted : (p : Point) (old new : ServerState D H G) (t : ℕ) (a : Arrives) (result : Result Unit SubmitRefused) → Submits disk handler ports old new (max t (now_of old)) a result
+        → Stands disk handler ports form s (Serving old) p → Next may_fail p (Arrive t a) (said_by_submit result) (Serving new)
+    submitted (Running sure recent c m) old new t a (Ok u) call stands = took old new sure recent c m t a u call stands
+    submitted (Running sure recent c m) old new t a (Err Memory) call stands = no_memory old new sure recent c m t a call stands
+    submitted (Running sure recent c m) old new t a (Err BatchFull) call stands = full old new sure recent c m t a call stands
+    submitted (Running sure recent c m) old new t a (Err Stopped) call stands = absurd (not_both old.store.stopped (call.stopped.0 refl) stands.rests.stored.runs)
+    submitted (Halted sure recent m) old new t a (Ok u) call stands = absurd (ok_is_no_error u Stopped (call.stopped.1 stands.stopped))
+    submitted (Halted sure recent m) old new t a (Err Memory) call stands = absurd (memory_is_not_stopped (Err Memory) refl (call.stopped.1 stands.stopped))
+    submitted (Halted sure recent m) old new t a (Err BatchFull) call stands = absurd (not_both old.store.stopped stands.stopped (call.full.0 refl).0)
+    submitted (Halted sure recent m) old new t a (Err Stopped) call stands = record {
+      end = Halted sure recent (max t m);
+      goes = lives.is_halted;
+      stands = halted_same old new sure recent m (max t m) (omega arith) (call.unchanged refl) stands;
+    }
+    submitted (Shut sure recent m) old new t a result call stands = absurd stands
+
+    -- ---- Commits
+
+    committed_ok : (old new : ServerState D H G) (sure : List Lasting) (recent : List Taken) (c m : ℕ) (outs : List Sent) → Runs disk handler ports form s old sure recent c m → Commits disk old new (Ok outs)
+        → Next may_fail (Running sure recent c m) Commit (handing_out outs) (Serving new)
+    committed_ok old new sure recent c m outs runs call =
+        let mine = map taken_of sure in
+        let h = accepted (mine ++ recent) in
+        let all : map taken_of (sure ++ map HandedOut recent) ≡ mine ++ recent = map-append taken_of sure (map HandedOut recent) ∙ ap (λ (l : List Taken). mine ++ l) (taken-handed recent) in
+        let history : accepted (map taken_of (sure ++ map HandedOut recent) ++ []) ≡ h = ap accepted (append-nil (map taken_of (sure ++ map HandedOut recent)) ∙ all) in
+        let count : length (accepted (map taken_of (sure ++ map HandedOut recent))) ≡ length h = ap (λ (l : List Taken). length (accepted l)) all in
+        let state = (disk.trace new.store.disk).now in
+        let rests : Rests state new h (length h) = call.rests runs.honest h (length (accepted mine)) runs.rests in
+        let sent : sent_about recent ≡ outs = sym (call.handed ∙ runs.outs) in
+        record {
+          end = Running (sure ++ map HandedOut recent) [] c m;
+          goes = subst (λ (l : List Sent). Goes s may_fail (Running sure recent c m) Commit (handing_out l) (Running (sure ++ map HandedOut recent) [] c m)) sent lives.hands_out;
+          stands = record {
+            honest = call.honest.1 runs.honest;
+            same_setting = ap (λ (v : ServerState D H G). setting_of handler.key_of ports.range v.machine) call.ok ∙ runs.same_setting;
+            same_form = call.form ∙ runs.same_form;
+            rests = subst (λ (l : History). Rests state new l (length (accepted (map taken_of (sure ++ map HandedOut recent))))) (sym history)
+                (subst (λ (n : ℕ). Rests state new h n) (sym count) rests);
+            outs = ap (λ (v : ServerState D H G). v.outs) call.ok;
+            counted = ap (λ (v : ServerState D H G). v.arrivals) call.ok;
+            clock = ap (λ (v : ServerState D H G). now_of v) call.ok ∙ runs.clock;
+            bounded = runs.bounded;
+          };
+        }
+
+    -- a commit that failed had acts
+    has_acts : (old new : ServerState D H G) (sure : List Lasting) (recent : List Taken) (c m : ℕ) (why : StoreFault) → Runs disk handler ports form s old sure recent c m → Commits disk old new (Err why)
+        → 1 ≤ length (accepted recent)
+    has_acts old new sure recent c m why runs call =
+        let mine = map taken_of sure in
+        let h = accepted (mine ++ recent) in
+        let some : 1 ≤ old.acts = one_or_more old.acts (λ none. let wrong = call.nothing runs.rests.stored.runs none in cc) in
+        let counted = runs.rests.counted in
+        let cut = length-drop (length (accepted mine)) h in
+        let whole : length h ≡ length (accepted mine) + length (accepted recent) = ap (λ (l : History). length l) (accepted-append mine recent) ∙ length-append (accepted mine) (accepted recent) in
+        omega (arith, some, counted, cut, whole)
+      where
+        one_or_more : (n : ℕ) → (n ≡ 0 → ⊥) → 1 ≤ n
+        one_or_more zero not = absurd (not refl)
+        one_or_more (suc n) not = omega arith
+
+    committed_err : (old new : ServerState D H G) (sure : List Lasting) (recent : List Taken) (c m : ℕ) (why : StoreFault) → (why ≡ faults.Device) ⊎ (why ≡ faults.Worn)
+        → Runs disk handler ports form s old sure recent c m → Commits disk old new (Err why) → Next may_fail (Running sure recent c m) Commit (Failed why ∷ []) (Serving new)
+    committed_err old new sure recent c m why is runs call = record {
+      end = Halted sure recent m;
+      goes = lives.fails why is (has_acts old new sure recent c m why runs call);
+      stands = record {
+        stopped = call.stops;
+        same_setting = ap (λ (v : ServerState D H G). setting_of handler.key_of ports.range v.machine) call.err ∙ runs.same_setting;
+        leaves = record { honest = call.honest.1 runs.honest; images = (commit_leaves old new sure recent c m (Err why) runs call).after };
+      };
+    }
+
+    committed : (p : Point) (old new : ServerState D H G) (result : Result (List Sent) StoreFault) → Commits disk old new result → Stands disk handler ports form s (Serving old) p
+        → Next may_fail p Commit (said_by_commit result) (Serving new)
+    committed (Running sure recent c m) old new (Ok outs) call stands = committed_ok old new sure recent c m outs stands call
+    committed (Running sure recent c m) old new (Err faults.Device) call stands = committed_err old new sure recent c m faults.Device (inl refl) stands call
+    committed (Running sure recent c m) old new (Err faults.Worn) call stands = committed_err old new sure recent c m faults.Worn (inr refl) stands call
+    committed (Running sure recent c m) old new (Err faults.Stopped) call stands = absurd (not_both old.store.stopped (call.stopped.0 refl) stands.rests.stored.runs)
+    committed (Halted sure recent m) old new (Ok outs) call stands = absurd (ok_is_no_error outs faults.Stopped (call.stopped.1 stands.stopped))
+    committed (Halted sure recent m) old new (Err faults.Device) call stands = let wrong = call.stopped.1 stands.stopped in cc
+    committed (Halted sure recent m) old new (Err faults.Worn) call stands = let wrong = call.stopped.1 stands.stopped in cc
+    committed (Halted sure recent m) old new (Err faults.Stopped) call stands = record {
+      end = Halted sure recent m;
+      goes = lives.stays_halted;
+      stands = halted_same old new sure recent m m (omega arith) (call.unchanged stands.stopped) stands;
+    }
+    committed (Shut sure recent m) old new result call stands = absurd stands
+
+    -- ---- Openings
+
+    yielded : (w : World D H G) (p : Point) (server : ServerState D H G) → Stands disk handler ports form s w p → Opening disk (disk_of w) s.config (handler_of w) (ports_of w) (Ok server)
+        → Opens form (settled_history_of p) (count_of p) (bound_of p) (disk.trace (disk_of w)).now.bytes (disk.trace server.store.disk).now server
+        → Next may_fail p Open (Opened (now_of server) ∷ []) (Serving server)
+    yielded w p server stands call opens =
+        let sure = sure_of p in
+        let recent = unsettled_of p in
+        let mine = map taken_of sure in
+        let low = opens.no_less in
+        let high = opens.no_more in
+        let whole : accepted (mine ++ recent) ≡ accepted mine ++ accepted recent = accepted-append mine recent in
+        let size : length (accepted (mine ++ recent)) ≡ length (accepted mine) + length (accepted recent) = ap (λ (l : History). length l) whole ∙ length-append (accepted mine) (accepted recent) in
+        let n = opens.count - length (accepted mine) in
+        let few : n ≤ length (accepted recent) = omega (arith, low, high, size) in
+        let cut : opens.count ≡ length (accepted mine) + n = omega (arith, low) in
+        let acts : accepted (map taken_of (sure ++ found recent n)) ≡ take opens.count (accepted (mine ++ recent)) =
+        ap accepted (map-append taken_of sure (found recent n)) ∙ accepted-append mine (map taken_of (found recent n)) ∙ ap (λ (l : History). accepted mine ++ l) (accepted-found recent n)
+        ∙ sym (take-append-add (accepted mine) (accepted recent) n) ∙ ap (λ (i : ℕ). take i (accepted mine ++ accepted recent)) (sym cut)
+        ∙ ap (λ (l : History). take opens.count l) (sym whole) in
+        let count : length (accepted (map taken_of (sure ++ found recent n))) ≡ opens.count =
+        ap (λ (l : History). length l) acts ∙ length-take-le opens.count (accepted (mine ++ recent)) high in
+        let all : accepted (map taken_of (sure ++ found recent n) ++ []) ≡ take opens.count (accepted (mine ++ recent)) = ap accepted (append-nil (map taken_of (sure ++ found recent n))) ∙ acts in
+        let state = (disk.trace server.store.disk).now in
+        let machine = call.machine in
+        record {
+          end = Running (sure ++ found recent n) [] (now_of server) (bound_of p);
+          goes = lives.opens n (now_of server) few opens.bounded (subst (λ (l : History). clock l ≤ now_of server) (sym acts) opens.rests.after.late);
+          stands = record {
+            honest = call.honest.1 (leaves w p stands).honest;
+            same_setting = ap (λ (v : MachineState H G). setting_of handler.key_of ports.range v) call.machine
+                ∙ ap (λ k. record { config = s.config; keys = k; range = ports.range (ports_of w) }) (keys_at w p stands)
+                ∙ ap (λ (r : ℕ × ℕ). record { config = s.config; keys = s.keys; range = r }) (range_at w p stands);
+            same_form = opens.same_form;
+            rests = subst (λ (l : History). Rests state server l (length (accepted (map taken_of (sure ++ found recent n))))) (sym all)
+                (subst (λ (i : ℕ). Rests state server (take opens.count (accepted (mine ++ recent))) i) (sym count) opens.rests);
+            outs = ap (λ (v : ServerState D H G). v.outs) call.nothing;
+            counted = ap (λ (v : ServerState D H G). v.arrivals) call.nothing;
+            clock = refl;
+            bounded = opens.bounded;
+          };
+        }
+
+    opened : form.bounds ≡ s.config.limits → (p : Point) (w : World D H G) (result : Result (ServerState D H G) (OpenRefused D H G)) → Opening disk (disk_of w) s.config (handler_of w) (ports_of w) result
+        → Stands disk handler ports form s w p → Next may_fail p Open (said_by_open result) (world_after result)
+    opened same p w (Ok server) call stands =
+        let l = leaves w p stands in
+        yielded w p server stands call (call.rests l.honest form (settled_history_of p) (count_of p) (bound_of p) same l.images)
+    opened same p w (Err refused) call stands =
+        let l = leaves w p stands in
+        record {
+          end = Shut (sure_of p) (unsettled_of p) (bound_of p);
+          goes = lives.not_opened refused.fault (call.sound l.honest form (settled_history_of p) (count_of p) (bound_of p) same l.images);
+          stands = record {
+            keys = ap handler.key_of call.returned.0 ∙ keys_at w p stands;
+            range = ap ports.range call.returned.1 ∙ range_at w p stands;
+            leaves = record { honest = call.honest_err.1 l.honest; images = (call.stop_err l.honest form (settled_history_of p) (count_of p) (bound_of p) l.images).after };
+          };
+        }
+
+    -- ---- Stops
+
+    restarted : (w : World D H G) (p : Point) (image : List ℕ) (d : D) (h : H) (g : G) (sure : List Lasting) (recent : List Taken) (m : ℕ) → Stands disk handler ports form s w p
+        → Restarts disk handler ports w image d h g → AtLeast form (accepted (arrivals sure recent)) (length (accepted (map taken_of sure))) m image
+        → IsDown disk handler ports form s d h g sure recent m
+    restarted w p image d h g sure recent m stands is at = record {
+      keys = is.keys ∙ keys_at w p stands;
+      range = is.range ∙ range_at w p stands;
+      leaves = record { honest = is.honest (leaves w p stands).honest; images = left_alone (disk.trace d).now _ image is.bytes is.settled at };
+    }
+
+    left : (w : World D H G) (p : Point) (image : List ℕ) (d : D) (h : H) (g : G) → Stands disk handler ports form s w p → Restarts disk handler ports w image d h g
+        → AtLeast form (settled_history_of p) (count_of p) (bound_of p) image → Next may_fail p Stop [] (Down d h g)
+    left w p image d h g stands is at = record {
+      end = Shut (sure_of p) (unsettled_of p) (bound_of p);
+      goes = lives.stops;
+      stands = restarted w p image d h g (sure_of p) (unsettled_of p) (bound_of p) stands is at;
+    }
+
+    commit_left : (p : Point) (old new : ServerState D H G) (result : Result (List Sent) StoreFault) (image : List ℕ) (d : D) (h : H) (g : G) → Stands disk handler ports form s (Serving old) p
+        → Restarts disk handler ports (Serving old) image d h g → AtLeast form (history_of p) (count_of p) (bound_of p) image → Next may_fail p Stop [] (Down d h g)
+    commit_left (Running sure recent c m) old new result image d h g stands is at = record {
+      end = Shut sure recent m;
+      goes = lives.commit_stops;
+      stands = restarted (Serving old) (Running sure recent c m) image d h g sure recent m stands is at;
+    }
+    commit_left (Halted sure recent m) old new result image d h g stands is at = left (Serving old) (Halted sure recent m) image d h g stands is at
+    commit_left (Shut sure recent m) old new result image d h g stands is at = absurd stands
+
+    -- ---- One call, and many
+
+    down_arrives : (p : Point) (d : D) (h : H) (g : G) (t : ℕ) (a : Arrives) → Stands disk handler ports form s (Down d h g) p → Next may_fail p (Arrive t a) (Closed ∷ []) (Down d h g)
+    down_arrives (Running sure recent c m) d h g t a stands = absurd stands
+    down_arrives (Halted sure recent m) d h g t a stands = absurd stands
+    down_arrives (Shut sure recent m) d h g t a stands = record {
+      end = Shut sure recent (max t m);
+      goes = lives.is_shut;
+      stands = record { keys = stands.keys; range = stands.range; leaves = later d sure recent m (max t m) (omega arith) stands.leaves };
+    }
+
+    down_commits : (p : Point) (d : D) (h : H) (g : G) → Stands disk handler ports form s (Down d h g) p → Next may_fail p Commit (Closed ∷ []) (Down d h g)
+    down_commits (Running sure recent c m) d h g stands = absurd stands
+    down_commits (Halted sure recent m) d h g stands = absurd stands
+    down_commits (Shut sure recent m) d h g stands = record { end = Shut sure recent m; goes = lives.stays_shut; stands = stands }
+
+    next : form.bounds ≡ s.config.limits → (p : Point) (w v : World D H G) (input : Input) (said : List Said) → Call disk handler ports s w input said v → Stands disk handler ports form s w p
+        → Next may_fail p input said v
+    next same p _ _ _ _ (worlds.submits {old = old} {new = new} {t = t} {a = a} result call) stands = submitted p old new t a result call stands
+    next same p _ _ _ _ (worlds.no_submit {d = d} {h = h} {g = g} {t = t} {a = a}) stands = down_arrives p d h g t a stands
+    next same p _ _ _ _ (worlds.commits {old = old} {new = new} result call) stands = committed p old new result call stands
+    next same p _ _ _ _ (worlds.no_commit {d = d} {h = h} {g = g}) stands = down_commits p d h g stands
+    next same p w _ _ _ (worlds.opens result call) stands = opened same p w result call stands
+    next same p w _ _ _ (worlds.stops {d = d} {h = h} {g = g} image of is) stands = left w p image d h g stands is ((leaves w p stands).images image of)
+    next same p _ _ _ _ (worlds.commit_stops {old = old} {new = new} {d = d} {h = h} {g = g} result call image of is) stands =
+        commit_left p old new result image d h g stands is (left_has (disk.trace old.store.disk) (disk.trace new.store.disk) _ image (commit_since p old new result stands call) of)
+    next same p w _ _ _ (worlds.open_stops {d = d} {h = h} {g = g} result call image of is) stands =
+        left w p image d h g stands is (left_has (disk.trace (disk_of w)) (disk.trace (disk_of (world_after result))) _ image (open_since p w result stands call) of)
+
+    pub calls_make_lives : form.bounds ≡ s.config.limits → (p : Point) (w v : World D H G) (inputs : List Input) (said : List Said) → Calls disk handler ports s w inputs said v
+        → Stands disk handler ports form s w p → Lives disk handler ports form s may_fail p inputs said v
+    calls_make_lives same p w _ _ _ worlds.done stands = record { end = p; life = lives.ends; stands = stands }
+    calls_make_lives same p w v _ _ (worlds.then {input = input} {inputs = inputs} {said = said} {later = more} u call rest) stands =
+        let one = next same p w u input said call stands in
+        let last = calls_make_lives same one.end u v inputs more rest one.stands in
+        record { end = last.end; life = lives.goes_on one.end one.goes last.life; stands = last.stands }
+
+pub formatted_stands : {D H G : Type 0} (disk : disks.Ghosts D) (handler : handlers.Ghosts H) (ports : generators.Ghosts G) (form : Form) (s : Setting) (d : D) (h : H) (g : G) → disk.is_honest d
+    → EachImage (disk.trace d).now (StandsForAt form [] 0) → handler.key_of h ≡ s.keys → ports.range g ≡ s.range → Stands disk handler ports form s (Down d h g) lives.formatted
+formatted_stands disk handler ports form s d h g honest images keys range = record {
+  keys = keys;
+  range = range;
+  leaves = record {
+    honest = honest;
+    images = λ image is. record {
+      count = 0;
+      no_less = omega arith;
+      no_more = omega arith;
+      stands = record { clock = 0; bounded = omega arith; stands = images image is };
+    };
+  };
+}

@@ -1,0 +1,174 @@
+-- Lives: arrivals, commits, stops and openings, one after another, from a formatted disk on.
+use Rattle.std.specs.Prelude.{◌≡◌, ◌≤◌, ◌<◌, ◌⊎◌, ◌++◌, ℕ, Bool, List, [], ◌∷◌, true, zero, suc, is_some, if◌then◌else◌, length, map, max}
+use Rattle.std.specs.Option.{option_to_list}
+use Rattle.turn_engine.specs.Runs.{Taken, accepted, sent_about}
+use Rattle.turn_engine.specs.declared.fault.SubmitRefused.{SubmitRefused}
+use Rattle.turn_engine.specs.declared.fault.SubmitRefused.TheVariants as refusals
+use Rattle.turn_history.specs.History.{History, clock}
+use Rattle.turn_step.specs.Answer.{AnswersArrival, Setting}
+use Rattle.turn_step.specs.Outcome.{Arrives, Outcome, Sent}
+use Rattle.turn_store.specs.Refused.{IsPlain}
+use Rattle.turn_store.specs.declared.fault.OpenFault.{OpenFault}
+use Rattle.turn_store.specs.declared.fault.StoreFault.{StoreFault}
+use Rattle.turn_store.specs.declared.fault.StoreFault.TheVariants as faults
+
+-- ---- Arrivals that last
+
+-- an arrival whose datagrams were handed out, or whose act an opening found
+pub data Lasting : Type 0 where
+  HandedOut : Taken → Lasting
+  Found : Taken → Lasting
+
+abbrev pub taken_of : Lasting → Taken
+taken_of (HandedOut x) = x
+taken_of (Found x) = x
+
+-- what was sent about it
+abbrev pub sent_by : Lasting → List Sent
+sent_by (HandedOut x) = option_to_list x.outcome.sent
+sent_by (Found x) = []
+
+abbrev pub sent_by_all : List Lasting → List Sent
+sent_by_all [] = []
+sent_by_all (x ∷ xs) = sent_by x ++ sent_by_all xs
+
+-- the first n of the arrivals that have an act
+abbrev pub found : List Taken → ℕ → List Lasting
+found [] n = []
+found (x ∷ xs) zero = []
+found (x ∷ xs) (suc n) = if is_some x.outcome.change then Found x ∷ found xs n else found xs (suc n)
+
+-- ---- What is asked, and what comes of it
+
+-- A stop is one at rest or inside a commit or an opening.
+pub data Input : Type 0 where
+  Arrive : (moment : ℕ) (arrival : Arrives) → Input
+  Commit : Input
+  Stop : Input
+  Open : Input
+
+pub data Said : Type 0 where
+  Refused : SubmitRefused → Said
+  Sends : Sent → Said
+  Committed : (count : ℕ) → Said
+  Failed : StoreFault → Said
+  Opened : (clock : ℕ) → Said
+  NotOpened : OpenFault → Said
+  Closed : Said
+
+-- what a commit says that hands this out
+abbrev pub handing_out : List Sent → List Said
+handing_out outs = map Sends outs ++ Committed (length outs) ∷ []
+
+-- ---- Where a life is
+
+-- The arrivals that last, and those that were taken since and may get lost. No moment that was handed in is after the bound.
+-- A server that runs has a clock; one that is halted had a commit that failed; where all is shut no store is open.
+pub data Point : Type 0 where
+  Running : (sure : List Lasting) (recent : List Taken) (clock bound : ℕ) → Point
+  Halted : (sure : List Lasting) (recent : List Taken) (bound : ℕ) → Point
+  Shut : (sure : List Lasting) (recent : List Taken) (bound : ℕ) → Point
+
+abbrev pub sure_of : Point → List Lasting
+sure_of (Running sure recent c m) = sure
+sure_of (Halted sure recent m) = sure
+sure_of (Shut sure recent m) = sure
+
+abbrev pub recent_of : Point → List Taken
+recent_of (Running sure recent c m) = recent
+recent_of (Halted sure recent m) = recent
+recent_of (Shut sure recent m) = recent
+
+abbrev pub bound_of : Point → ℕ
+bound_of (Running sure recent c m) = m
+bound_of (Halted sure recent m) = m
+bound_of (Shut sure recent m) = m
+
+-- What an opening, or a stop at rest, may find or lose: while a server runs, nothing that is staged is on the disk.
+abbrev pub unsettled_of : Point → List Taken
+unsettled_of (Running sure recent c m) = []
+unsettled_of (Halted sure recent m) = recent
+unsettled_of (Shut sure recent m) = recent
+
+-- all arrivals that were taken and aren't lost
+abbrev pub arrivals : List Lasting → List Taken → List Taken
+arrivals sure recent = map taken_of sure ++ recent
+
+abbrev pub arrivals_of : Point → List Taken
+arrivals_of p = arrivals (sure_of p) (recent_of p)
+
+-- the history, and how many of its events last
+abbrev pub history_of : Point → History
+history_of p = accepted (arrivals_of p)
+
+abbrev pub settled_history_of : Point → History
+settled_history_of p = accepted (arrivals (sure_of p) (unsettled_of p))
+
+abbrev pub count_of : Point → ℕ
+count_of p = length (accepted (map taken_of (sure_of p)))
+
+-- no store is open
+abbrev pub shut : Point → Point
+shut p = Shut (sure_of p) (unsettled_of p) (bound_of p)
+
+-- the start of each life
+abbrev pub formatted : Point
+formatted = Shut [] [] 0
+
+-- ---- Lives
+
+-- One input leads from a point to a point, and something is said. An arrival counts at the clock where that is later than its
+-- moment. Where the generator of ports can't fail, no answer says that it did.
+pub data Goes (s : Setting) (may_fail : Bool) : Point → Input → List Said → Point → Type 0 where
+  takes : {sure : List Lasting} {recent : List Taken} {c m t : ℕ} {a : Arrives} (failed : Bool) (o : Outcome)
+      → AnswersArrival s (accepted (arrivals sure recent)) (max t c) failed a o → (failed ≡ true → may_fail ≡ true) → length recent < s.config.limits.acts
+      → Goes s may_fail (Running sure recent c m) (Arrive t a) []
+      (Running sure (recent ++ record { moment = max t c; arrival = a; failed = failed; outcome = o } ∷ []) (max t c) (max t m))
+  no_memory : {sure : List Lasting} {recent : List Taken} {c m t : ℕ} {a : Arrives} → length recent < s.config.limits.acts
+      → Goes s may_fail (Running sure recent c m) (Arrive t a) (Refused refusals.Memory ∷ []) (Running sure recent (max t c) (max t m))
+  is_full : {sure : List Lasting} {recent : List Taken} {c m t : ℕ} {a : Arrives} → length recent ≡ s.config.limits.acts
+      → Goes s may_fail (Running sure recent c m) (Arrive t a) (Refused refusals.BatchFull ∷ []) (Running sure recent c (max t m))
+  is_halted : {sure : List Lasting} {recent : List Taken} {m t : ℕ} {a : Arrives}
+      → Goes s may_fail (Halted sure recent m) (Arrive t a) (Refused refusals.Stopped ∷ []) (Halted sure recent (max t m))
+  is_shut : {sure : List Lasting} {recent : List Taken} {m t : ℕ} {a : Arrives}
+      → Goes s may_fail (Shut sure recent m) (Arrive t a) (Closed ∷ []) (Shut sure recent (max t m))
+  hands_out : {sure : List Lasting} {recent : List Taken} {c m : ℕ}
+      → Goes s may_fail (Running sure recent c m) Commit (handing_out (sent_about recent)) (Running (sure ++ map HandedOut recent) [] c m)
+  -- a batch without acts can't fail
+  fails : {sure : List Lasting} {recent : List Taken} {c m : ℕ} (why : StoreFault) → (why ≡ faults.Device) ⊎ (why ≡ faults.Worn) → 1 ≤ length (accepted recent)
+      → Goes s may_fail (Running sure recent c m) Commit (Failed why ∷ []) (Halted sure recent m)
+  stays_halted : {sure : List Lasting} {recent : List Taken} {m : ℕ} → Goes s may_fail (Halted sure recent m) Commit (Failed faults.Stopped ∷ []) (Halted sure recent m)
+  stays_shut : {sure : List Lasting} {recent : List Taken} {m : ℕ} → Goes s may_fail (Shut sure recent m) Commit (Closed ∷ []) (Shut sure recent m)
+  -- a stop at rest, or inside an opening
+  stops : {p : Point} → Goes s may_fail p Stop [] (shut p)
+  -- a stop inside a commit
+  commit_stops : {sure : List Lasting} {recent : List Taken} {c m : ℕ} → Goes s may_fail (Running sure recent c m) Stop [] (Shut sure recent m)
+  -- an opening finds the first n acts of those that may get lost, and loses the others
+  opens : {p : Point} (n c : ℕ) → n ≤ length (accepted (unsettled_of p)) → c ≤ bound_of p
+      → clock (accepted (map taken_of (sure_of p ++ found (unsettled_of p) n))) ≤ c
+      → Goes s may_fail p Open (Opened c ∷ []) (Running (sure_of p ++ found (unsettled_of p) n) [] c (bound_of p))
+  not_opened : {p : Point} (fault : OpenFault) → IsPlain fault → Goes s may_fail p Open (NotOpened fault ∷ []) (shut p)
+
+pub data Life (s : Setting) (may_fail : Bool) : Point → List Input → List Said → Point → Type 0 where
+  ends : {p : Point} → Life s may_fail p [] [] p
+  goes_on : {p q : Point} {input : Input} {inputs : List Input} {said later : List Said} (next : Point)
+      → Goes s may_fail p input said next → Life s may_fail next inputs later q → Life s may_fail p (input ∷ inputs) (said ++ later) q
+
+-- all that was handed out, in order
+abbrev pub sent_in : List Said → List Sent
+sent_in [] = []
+sent_in (Sends out ∷ said) = out ∷ sent_in said
+sent_in (Refused why ∷ said) = sent_in said
+sent_in (Committed count ∷ said) = sent_in said
+sent_in (Failed why ∷ said) = sent_in said
+sent_in (Opened c ∷ said) = sent_in said
+sent_in (NotOpened fault ∷ said) = sent_in said
+sent_in (Closed ∷ said) = sent_in said
+
+-- no moment is before one that was handed in earlier
+abbrev pub NeverFall : ℕ → List Input → Type 0
+NeverFall m [] = Unit {0}
+NeverFall m (Arrive t a ∷ inputs) = (m ≤ t) × NeverFall t inputs
+NeverFall m (Commit ∷ inputs) = NeverFall m inputs
+NeverFall m (Stop ∷ inputs) = NeverFall m inputs
+NeverFall m (Open ∷ inputs) = NeverFall m inputs

@@ -1,0 +1,46 @@
+//! What a player is asked, and what comes of it.
+
+use std::alloc::{Allocator, Global};
+use turn_disk::Outcome;
+use turn_engine::{CommitRefused, SubmitRefused};
+use turn_step::{Arrival, Outgoing};
+use turn_store::OpenFault;
+use turn_types::Moment;
+
+/// One step.
+#[derive(Clone, Copy, Debug)]
+pub enum Step<'a> {
+    /// An arrival at a moment, or at the server's clock where that is later.
+    Arrive(Moment, Arrival<'a>),
+    Commit,
+    /// The disk becomes the image that the outcome names, failures that are still to come are cancelled, and the store is
+    /// opened.
+    Crash(Outcome),
+    /// The store is opened again, as it is. What was staged is lost.
+    Reopen,
+    /// The device call of this number from here on fails, where 1 is the next one; 0 is none. It takes the place of an
+    /// earlier `Fail` whose call is still to come.
+    Fail(u64),
+    /// The device call of this number from here on fails, where 1 is the next one, and so does each later one until the
+    /// next crash; 0 is none. It moves a stop that is still to come only nearer.
+    Stop(u64),
+}
+
+/// What comes of a step. `Fail` and `Stop` give none, nor does an arrival that is taken.
+#[derive(Drop)]
+pub enum Event<A: Allocator = Global> {
+    /// An arrival was not taken.
+    Refused(SubmitRefused),
+    /// A commit handed this out.
+    Sent(Outgoing<A>),
+    /// A commit handed out so many datagrams: those before it.
+    Committed(usize),
+    /// A commit failed, and handed nothing out.
+    Failed(CommitRefused),
+    /// A store was opened; the clock is the greatest moment that it holds.
+    Opened(Moment),
+    /// A store was not opened. No store is open.
+    NotOpened(OpenFault),
+    /// An arrival or a commit while no store is open.
+    Closed,
+}
