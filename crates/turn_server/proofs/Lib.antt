@@ -1,4 +1,1 @@
-pub mod Addresses
 pub mod NoUsers
-pub mod Numbers
-pub mod Splits

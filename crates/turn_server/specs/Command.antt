@@ -3,10 +3,10 @@ use Rattle.std.specs.Prelude.{ℕ, ◌≡◌, ◌-◌, ◌^◌, ⊤, List, Ok, I
 use Rattle.hex.specs.Hex.{decode_of}
 use Rattle.turn_types.specs.declared.address.Endpoint.{Endpoint}
 use Rattle.turn_server.specs.declared.command.Command.{Command}
-use Rattle.turn_server.specs.declared.command.Command.TheVariants.{Answer}
+use Rattle.turn_server.specs.declared.command.Command.TheVariants.{Answer, Replay}
 use Rattle.turn_server.specs.declared.fault.Fault.{Fault}
-use Rattle.turn_server.specs.declared.fault.Fault.TheVariants.{Usage, BadDatagram, Device, Memory}
-use Rattle.turn_server.specs.Values.{number_of, IsNumberBelow, IsEndpoint}
+use Rattle.turn_server.specs.declared.fault.Fault.TheVariants.{Usage, BadDatagram, BadLine, Device, Differs, Memory}
+use Rattle.turn_config.specs.Values.{number_of, IsNumberBelow, IsEndpoint}
 
 -- the option `--at` is not there, or its text is that of a moment
 abbrev pub IsAt : Option (List ℕ) → Type 0
@@ -28,10 +28,13 @@ pub record AreWellFormed (from : List ℕ) (at : Option (List ℕ)) : Type 0 whe
 abbrev pub IsAnswer : List ℕ → Option (List ℕ) → List ℕ → Command → Type 0
 IsAnswer from at hex (Answer endpoint moment datagram) =
     IsEndpoint from endpoint × IsAt at × (moment ≡ seconds_at at) × (decode_of hex ≡ Ok datagram.items)
+IsAnswer from at hex (Replay file) = ⊥
 
 -- why they make no command: a malformed text before a datagram that is not hex
 abbrev pub IsAnswerFault : List ℕ → Option (List ℕ) → List ℕ → Fault → Type 0
 IsAnswerFault from at hex Usage = ¬ (AreWellFormed from at)
 IsAnswerFault from at hex BadDatagram = AreWellFormed from at × IsErr (decode_of hex)
+IsAnswerFault from at hex (BadLine number) = ⊥
 IsAnswerFault from at hex Device = ⊥
+IsAnswerFault from at hex (Differs number) = ⊥
 IsAnswerFault from at hex Memory = AreWellFormed from at

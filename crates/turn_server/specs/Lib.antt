@@ -1,4 +1,3 @@
 pub mod Command
 pub mod Profile
 pub mod Status
-pub mod Values

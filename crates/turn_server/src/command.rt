@@ -6,11 +6,11 @@ ghost use Rattle.turn_server.specs.Command.{IsAnswer, IsAnswerFault, IsAt, secon
 ghost use Rattle.turn_server.specs.declared.fault.Fault.TheVariants.{Device};
 
 use crate::fault::Fault;
-use crate::values::{bytes, endpoint, moment};
 use clap::error::ErrorKind;
 use clap::{Arg, ArgAction, ArgMatches};
 use std::alloc::{AllocError, Global};
 use std::convert::AsStr;
+use turn_config::values::{bytes, endpoint, moment};
 use turn_types::{Endpoint, Moment};
 
 /// What a command line asks for.
@@ -21,6 +21,10 @@ pub enum Command {
         from: Endpoint,
         at: Moment,
         datagram: Vec<u8>,
+    },
+    /// The report of the scenario in a file.
+    Replay {
+        file: String,
     },
 }
 
@@ -36,10 +40,18 @@ fn answer_command<'a>(alloc: Global) -> Result<clap::Command<'a>, AllocError> {
         .arg(datagram)
 }
 
+fn replay_command<'a>(alloc: Global) -> Result<clap::Command<'a>, AllocError> {
+    let file = Arg::new(alloc, "FILE")
+        .required(true)
+        .action(ArgAction::Set);
+    clap::Command::new(alloc, "replay").arg(file)
+}
+
 fn turn_command<'a>(alloc: Global) -> Result<clap::Command<'a>, AllocError> {
     clap::Command::new(alloc, "turn")
         .subcommand_required(true)
-        .subcommand(answer_command(alloc)?)
+        .subcommand(answer_command(alloc)?)?
+        .subcommand(replay_command(alloc)?)
 }
 
 /// A refusal of the words, `--help` included, is a usage fault.
@@ -88,6 +100,15 @@ fn answer_of(alloc: Global, found: &ArgMatches<'_>) -> Result<Command, Fault>
     answer(alloc, from.as_bytes(), at, hex.as_bytes())
 }
 
+fn replay_of(alloc: Global, found: &ArgMatches<'_>) -> Result<Command, Fault>
+    ensures { IfErr result (λ fault. fault ≢ Device) }
+{
+    let file = found.get_str("FILE").ok_or(Fault::Usage)?;
+    Ok(Command::Replay {
+        file: String::from_str(alloc, file)?,
+    })
+}
+
 /// The command that the words make, the program's name first.
 pub fn command_of<S: AsStr>(alloc: Global, words: &[S]) -> Result<Command, Fault>
     ensures { IfErr result (λ fault. fault ≢ Device) }
@@ -96,6 +117,7 @@ pub fn command_of<S: AsStr>(alloc: Global, words: &[S]) -> Result<Command, Fault
     let matches = command.try_get_matches_from(words).map_err(fault_of)?;
     match matches.subcommand() {
         Some(("answer", found)) => answer_of(alloc, found),
+        Some(("replay", found)) => replay_of(alloc, found),
         _ => Err(Fault::Usage),
     }
 }

@@ -1,11 +1,11 @@
-//! The program `turn`: the words of a command line to a line of text and an exit status.
+//! The program `turn`: the words of a command line to text and an exit status.
 #![tactic(auto)]
 
 mod command;
 mod fault;
+mod files;
 mod program;
 mod reply;
-mod values;
 
 use fault::Fault;
 use program::{report, run_words};

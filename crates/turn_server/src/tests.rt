@@ -1,10 +1,11 @@
 mod memory;
+mod replay;
 mod values;
 mod words;
 mod writers;
 
 use super::*;
-use std::rt::Clock;
+use std::rt::{Clock, Files};
 use std::test::Fail;
 
 const FROM: &str = "192.0.2.1:32853";
@@ -17,7 +18,7 @@ const USAGE: &str = "turn: usage\n";
 
 /// Runs the program on the words after its name, and fails with the words if its status or what it writes differs.
 fn expect(
-    rt: &(impl AllocGlobal + Clock),
+    rt: &(impl AllocGlobal + Clock + Files),
     words: &[&str],
     status: u8,
     out: &str,
@@ -35,7 +36,7 @@ fn expect(
 
 /// Each row of words has the same outcome.
 fn expect_each(
-    rt: &(impl AllocGlobal + Clock),
+    rt: &(impl AllocGlobal + Clock + Files),
     rows: &[&[&str]],
     status: u8,
     out: &str,
@@ -48,7 +49,10 @@ fn expect_each(
 }
 
 /// Each datagram, without `--at`, has the output beside it.
-fn expect_replies(rt: &(impl AllocGlobal + Clock), rows: &[(&str, &str)]) -> Result<(), Fail> {
+fn expect_replies(
+    rt: &(impl AllocGlobal + Clock + Files),
+    rows: &[(&str, &str)],
+) -> Result<(), Fail> {
     for (datagram, out) in rows {
         expect(rt, &["answer", "--from", FROM, datagram], 0, out, "")?;
     }

@@ -4,10 +4,10 @@ use super::{BINDING, FROM, SUCCESS};
 use crate::fault::Fault;
 use crate::program::report;
 use crate::reply::reply_to;
-use crate::values::{bytes, endpoint};
 use refusing::Refusing;
 use std::alloc::{AllocError, Global};
 use std::test::Fail;
+use turn_config::values::{bytes, endpoint};
 use turn_types::{FiveTuple, Moment};
 
 #[test]

@@ -1,9 +1,9 @@
 //! Every form of a value.
 
 use super::{BINDING, FROM, SUCCESS, USAGE, expect};
-use crate::values::{endpoint, ip, moment, number};
-use std::rt::Clock;
+use std::rt::{Clock, Files};
 use std::test::Fail;
+use turn_config::values::{endpoint, ip, moment, number};
 
 const NUMBERS: [(&str, Option<u64>); 15] = [
     ("0", Some(0)),
@@ -142,7 +142,7 @@ const NO_MOMENTS: [&str; 13] = [
 
 /// Each text as the value of `--at`, with a Binding request.
 fn expect_at(
-    rt: &(impl AllocGlobal + Clock),
+    rt: &(impl AllocGlobal + Clock + Files),
     texts: &[&str],
     status: u8,
     out: &str,
@@ -187,7 +187,7 @@ const NO_HEX: [&str; 12] = [
 
 /// Each text as the datagram.
 fn expect_hex(
-    rt: &(impl AllocGlobal + Clock),
+    rt: &(impl AllocGlobal + Clock + Files),
     texts: &[&str],
     status: u8,
     out: &str,

@@ -18,13 +18,16 @@ fn options_come_in_any_order(rt: HostRuntime) -> Result<(), Fail> {
     expect_each(&rt, &TAKEN, 0, SUCCESS, "")
 }
 
-const HELP: [&[&str]; 13] = [
+const HELP: [&[&str]; 16] = [
     &["help"],
     &["--help"],
     &["-h"],
     &["--version"],
     &["-V"],
     &["help", "answer"],
+    &["help", "replay"],
+    &["replay", "--help"],
+    &["replay", "x", "-h"],
     &["help", "help"],
     &["answer", "--help"],
     &["answer", "-h"],
@@ -39,13 +42,15 @@ fn help_and_version_are_usage_faults(rt: HostRuntime) -> Result<(), Fail> {
     expect_each(&rt, &HELP, 1, "", USAGE)
 }
 
-const NO_COMMAND: [&[&str]; 8] = [
+const NO_COMMAND: [&[&str]; 10] = [
     &[],
     &[""],
     &["--"],
     &["Answer", "--from", FROM, BINDING],
     &["ans", "--from", FROM, BINDING],
     &["frobnicate"],
+    &["Replay", "x"],
+    &["rep", "x"],
     &["--from", FROM, "answer", BINDING],
     &["--", "answer", "--from", FROM, BINDING],
 ];
@@ -55,8 +60,11 @@ fn words_without_the_command_are_a_usage_fault(rt: HostRuntime) -> Result<(), Fa
     expect_each(&rt, &NO_COMMAND, 1, "", USAGE)
 }
 
-const MISSING_OR_TWICE: [&[&str]; 14] = [
+const MISSING_OR_TWICE: [&[&str]; 17] = [
     &["answer"],
+    &["replay"],
+    &["replay", "x", "x"],
+    &["replay", "x", "--", "x"],
     &["answer", "--from", FROM],
     &["answer", BINDING],
     &["answer", "--at", "5", BINDING],
@@ -77,8 +85,11 @@ fn a_missing_or_repeated_word_is_a_usage_fault(rt: HostRuntime) -> Result<(), Fa
     expect_each(&rt, &MISSING_OR_TWICE, 1, "", USAGE)
 }
 
-const UNKNOWN: [&[&str]; 7] = [
+const UNKNOWN: [&[&str]; 10] = [
     &["answer", "--fro", FROM, BINDING],
+    &["replay", "--from", FROM, "x"],
+    &["replay", "x", "--at=5"],
+    &["replay", "-x"],
     &["answer", "--From", FROM, BINDING],
     &["answer", "-from", FROM, BINDING],
     &["answer", "-f", FROM, BINDING],

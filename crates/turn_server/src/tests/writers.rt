@@ -1,11 +1,12 @@
 //! Writers that fail.
 
+use super::replay::SCENARIO;
 use super::{BINDING, FROM, SUCCESS};
 use crate::program::run_words;
-use std::io;
 use std::io::{ErrorKind, Write};
-use std::rt::Clock;
+use std::rt::{Clock, Files};
 use std::test::Fail;
+use std::{fs, io};
 
 /// A device with room for so many bytes, which takes at most `step` of them at once. If it buffers what it took until
 /// a flush, that flush may fail.
@@ -39,7 +40,7 @@ impl Write for Device {
 
 /// Runs `turn answer` with a datagram, over two devices: the status.
 fn answer(
-    rt: &(impl AllocGlobal + Clock),
+    rt: &(impl AllocGlobal + Clock + Files),
     datagram: &str,
     out: &mut Device,
     err: &mut Device,
@@ -60,7 +61,7 @@ const CASES: [Case; 6] = [
     (65, 65, false, 3),
 ];
 
-fn play(rt: &(impl AllocGlobal + Clock), case: &Case) -> Result<(), Fail> {
+fn play(rt: &(impl AllocGlobal + Clock + Files), case: &Case) -> Result<(), Fail> {
     let (room, step, flushes, status) = *case;
     let mut out = Device {
         bytes: Vec::new(rt.alloc()),
@@ -94,7 +95,7 @@ fn a_full_standard_output_is_a_device_fault(rt: HostRuntime) -> Result<(), Fail>
 }
 
 /// The status of a datagram over two devices that take nothing.
-fn silent_status(rt: &(impl AllocGlobal + Clock), datagram: &str) -> u8 {
+fn silent_status(rt: &(impl AllocGlobal + Clock + Files), datagram: &str) -> u8 {
     let mut out = Device {
         bytes: Vec::new(rt.alloc()),
         room: 0,
@@ -114,4 +115,32 @@ fn silent_status(rt: &(impl AllocGlobal + Clock), datagram: &str) -> u8 {
 fn a_full_standard_error_changes_no_status(rt: HostRuntime) {
     assert!(rt; silent_status(&rt, "0g") == 1);
     assert!(rt; silent_status(&rt, BINDING) == 3);
+}
+
+/// The status of a replay whose report has 15 bytes, over a device with room for so many that may flush.
+fn replay_status(
+    rt: &(impl AllocGlobal + Clock + Files),
+    path: &str,
+    room: usize,
+    flushes: bool,
+) -> u8 {
+    let mut out = Device {
+        bytes: Vec::new(rt.alloc()),
+        room,
+        step: 4,
+        flushes,
+    };
+    let mut err = Vec::new(rt.alloc());
+    run_words(rt, rt, &["turn", "replay", path], &mut out, &mut err)
+}
+
+#[test]
+fn a_report_that_is_not_taken_is_a_device_fault(rt: HostRuntime) -> io::Result<()> {
+    let path = "turn_replay.written";
+    fs::write(&rt, path, SCENARIO)?;
+    assert!(rt; replay_status(&rt, path, 15, true) == 0);
+    assert!(rt; replay_status(&rt, path, 14, true) == 3);
+    assert!(rt; replay_status(&rt, path, 0, true) == 3);
+    assert!(rt; replay_status(&rt, path, 15, false) == 3);
+    fs::remove_file(&rt, path)
 }

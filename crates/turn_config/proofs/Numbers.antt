@@ -5,7 +5,7 @@ use Rattle.std.proofs.Math.Nat.{pow-le-pow_right}
 use Rattle.std.proofs.lemmas.List.{length-take-le}
 use Rattle.std.specs.Char.{digit_value}
 use Rattle.std.specs.Str.Parse.{AllDigits, digits_value}
-use Rattle.turn_server.specs.Values.{IsNumberBelow}
+use Rattle.turn_config.specs.Values.{IsNumberBelow}
 
 -- a number below one bound is below each greater one
 pub below_greater : (low high : ℕ) (text : List ℕ) → low ≤ high → IsNumberBelow low text → IsNumberBelow high text

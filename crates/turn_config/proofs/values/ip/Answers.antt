@@ -1,8 +1,8 @@
 use Rattle.std.proofs.Common.{List, ℕ, Some, ap, sym, ◌∙◌}
-use Rattle.turn_server.specs.Values.{number_of}
-use Rattle.turn_server.proofs.Splits.{no_split}
-use Rattle.turn_server.proofs.Addresses.{one_dot, two_dots, three_dots, joined, same_bytes}
-use Rattle.turn_server.proofs.values.ip.Goals as goal
+use Rattle.turn_config.specs.Values.{number_of}
+use Rattle.turn_config.proofs.Splits.{no_split}
+use Rattle.turn_config.proofs.Addresses.{one_dot, two_dots, three_dots, joined, same_bytes}
+use Rattle.turn_config.proofs.values.ip.Goals as goal
 
 pub returns-in_err-first-clause-only : goal.returns-in_err-first-clause-only
 returns-in_err-first-clause-only c address n = absurd (no_split 46 _ _ _ n.spelled c.in_err-first.ensures.none)

@@ -1,8 +1,8 @@
 use Rattle.std.proofs.Common.{ℕ, List, ap, sym, ◌∙◌}
-use Rattle.turn_server.specs.Values.{number_of}
-use Rattle.turn_server.proofs.Splits.{no_split}
-use Rattle.turn_server.proofs.Addresses.{colon, same_endpoint}
-use Rattle.turn_server.proofs.values.endpoint.Goals as goal
+use Rattle.turn_config.specs.Values.{number_of}
+use Rattle.turn_config.proofs.Splits.{no_split}
+use Rattle.turn_config.proofs.Addresses.{colon, same_endpoint}
+use Rattle.turn_config.proofs.values.endpoint.Goals as goal
 
 pub returns-in_err-address-clause-only : goal.returns-in_err-address-clause-only
 returns-in_err-address-clause-only c endpoint n = absurd (no_split 58 _ _ _ n.spelled c.in_err-address.ensures.none)

@@ -3,9 +3,9 @@ use Rattle.std.proofs.Common.{◌≡◌, ◌≢◌, ℕ, List, [], ◌∷◌, �
 use Rattle.std.proofs.lemmas.List.Elements.{All-append}
 use Rattle.std.specs.Int.{w32, from_be_bytes}
 use Rattle.turn_types.specs.declared.address.Endpoint.{Endpoint}
-use Rattle.turn_server.specs.Values.{number_of, IsNumberBelow, IsIp, IsEndpoint}
-use Rattle.turn_server.proofs.Numbers.{number_without}
-use Rattle.turn_server.proofs.Splits.{Without, same_split, cons_without}
+use Rattle.turn_config.specs.Values.{number_of, IsNumberBelow, IsIp, IsEndpoint}
+use Rattle.turn_config.proofs.Numbers.{number_without}
+use Rattle.turn_config.proofs.Splits.{Without, same_split, cons_without}
 
 octet_without : (text : List ℕ) → IsNumberBelow 256 text → Without 46 text
 octet_without text n = number_without 256 46 text (λ h. omega arith) n

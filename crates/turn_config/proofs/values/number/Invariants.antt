@@ -1,7 +1,7 @@
 use Rattle.std.proofs.Common.{◌≡◌, take}
 use Rattle.std.specs.Str.Parse.{AllDigits}
-use Rattle.turn_server.specs.Values.{number_of}
-use Rattle.turn_server.proofs.values.number.Given as goal
+use Rattle.turn_config.specs.Values.{number_of}
+use Rattle.turn_config.proofs.values.number.Given as goal
 
 abbrev pub invariant-loop-byte : goal.invariant-loop-byte
 invariant-loop-byte l = record {

@@ -1,0 +1,112 @@
+//! Whole configurations.
+
+use refusing::Refusing;
+use std::alloc::{Allocator, Global};
+use std::test::Fail;
+use turn_config::{ConfigFault, Configured, read_config};
+use turn_cred::AuthHandler;
+use turn_ports::RelayAddressGenerator;
+use turn_types::Limits;
+
+const BAD: [(&[u8], u64); 12] = [
+    (b"", 1),
+    (b"\n", 2),
+    (b"#", 2),
+    (b"#\n", 2),
+    (b"#\n\n", 3),
+    (b"realm a", 2),
+    (
+        b"realm a\nuser a b\nlisten 1.2.3.4:5\nrelay 1.2.3.4 5 5\n",
+        5,
+    ),
+    (
+        b"realm a\nuser a b\nlisten 1.2.3.4:5\nrelay 1.2.3.4 5 5\n\n#",
+        7,
+    ),
+    (b"realm a\nfrobnicate\n", 2),
+    (b"\n\n format 238", 3),
+    (b"realm a\nrealm b\nfrobnicate", 2),
+    (b"quota 5\r\n", 1),
+];
+
+#[test]
+fn the_first_bad_line_or_the_one_after_the_last_is_named(rt: HostRuntime) -> Result<(), Fail> {
+    for (text, line) in &BAD {
+        match read_config(rt.alloc(), text) {
+            Err(fault) if fault == ConfigFault::BadLine(*line) => {}
+            _ => return Err(Fail::new(*line)),
+        }
+    }
+    Ok(())
+}
+
+/// Quota and limits are left out.
+const WHOLE: &[u8] = b"user user pass
+relay 198.51.100.1 50000 50009
+deny 203.0.113.9 203.0.113.10
+
+# realm, secret and address
+listen 192.0.2.100:3478
+secret 000102030405060708090a0b0c0d0e0f101112131415161718191A1B1C1D1E1F
+realm realm";
+
+/// The key of user `user`, realm `realm` and password `pass`, by RFC 8489, section 9.2.2, and MD5 of another program.
+const KEY: [u8; 16] = [
+    0x84, 0x93, 0xfb, 0xc5, 0x3b, 0xa5, 0x82, 0xfb, 0x4c, 0x04, 0x4c, 0x45, 0x6b, 0xdc, 0x40, 0xeb,
+];
+
+const SECRET: [u8; 32] = [
+    0, 1, 2, 3, 4, 5, 6, 7, 8, 9, 10, 11, 12, 13, 14, 15, 16, 17, 18, 19, 20, 21, 22, 23, 24, 25,
+    26, 27, 28, 29, 30, 31,
+];
+
+fn is_whole<A: Allocator + Copy>(found: &Configured<'_, A>) -> bool {
+    let config = &found.config;
+    config.realm() == b"realm".as_slice()
+        && config.secret() == &SECRET
+        && config.relay() == 0xC633_6401
+        && config.quota() == 10
+        && config.limits() == Limits::MAX
+        && config.is_denied(0xCB00_710A)
+        && !config.is_denied(0xCB00_710B)
+}
+
+fn has_users<A: Allocator + Copy>(found: &Configured<'_, A>) -> bool {
+    found.users.key(b"user", b"realm") == Some(KEY)
+        && found.users.key(b"pass", b"realm").is_none()
+        && found.listen.ip == 0xC000_0264
+        && found.listen.port == 3478
+        && found.ports.range() == (50000, 50009)
+        && found.realm == b"realm".as_slice()
+        && found.passwords.len() == 1
+}
+
+/// Reads the configuration with one allocation refused after so many. Returns whether none was refused.
+fn read_succeeds(alloc: Global, served: u64) -> Result<bool, Fail> {
+    let refusing = Refusing::new(alloc, served);
+    match read_config(&refusing, WHOLE) {
+        Ok(found) => {
+            if refusing.has_refused() || !is_whole(&found) || !has_users(&found) {
+                return Err(Fail::new(served));
+            }
+            Ok(true)
+        }
+        Err(fault) => {
+            if fault != ConfigFault::Memory || !refusing.has_refused() {
+                return Err(Fail::new(served));
+            }
+            Ok(false)
+        }
+    }
+}
+
+#[test]
+fn a_configuration_is_read_whole_or_is_out_of_memory(rt: HostRuntime) -> Result<(), Fail> {
+    assert!(rt; !read_succeeds(rt.alloc(), 0)?);
+    for served in 1..100u64 {
+        if read_succeeds(rt.alloc(), served)? {
+            return Ok(());
+        }
+    }
+    Err(Fail::new("some allocation is always refused"))
+}

@@ -1,0 +1,46 @@
+//! A whole configuration.
+
+ghost use Rattle.std.specs.Prelude.{◌≡◌};
+
+use crate::lines::{ConfigLines, Configured, is_skipped};
+use std::alloc::{AllocError, Allocator};
+use thiserror::Error;
+
+/// Why a configuration was not read.
+#[derive(Clone, Copy, Debug, PartialEq, Eq, Error)]
+pub enum ConfigFault {
+    /// The first bad line. A needed line that is missing makes the line after the last one bad.
+    #[error("line {0}: bad line")]
+    BadLine(u64),
+    #[error("memory")]
+    Memory,
+}
+
+impl From<AllocError> for ConfigFault {
+    ghost use Rattle.turn_config.specs.declared.config.ConfigFault.TheVariants.{Memory};
+
+    ghost from_gives = { λ _ f. f ≡ Memory };
+
+    fn from(_error: AllocError) -> ConfigFault {
+        ConfigFault::Memory
+    }
+}
+
+/// Reads a configuration. Its lines are numbered from 1, and a newline at the end opens no further line.
+pub fn read_config<A: Allocator + Copy>(
+    alloc: A,
+    text: &[u8],
+) -> Result<Configured<'_, A>, ConfigFault> {
+    let mut lines = ConfigLines::new(alloc);
+    let mut number = 0u64;
+    for line in text.split(|byte| *byte == b'\n') {
+        number = number.wrapping_add(1);
+        if !is_skipped(line) && !lines.take(line)? {
+            return Err(ConfigFault::BadLine(number));
+        }
+    }
+    // What is after the last newline is a line if it isn't empty.
+    let is_open = text.last().is_some_and(|byte| *byte != b'\n');
+    let after = number.wrapping_add(u64::from(is_open));
+    lines.finish()?.ok_or(ConfigFault::BadLine(after))
+}

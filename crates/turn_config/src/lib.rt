@@ -1,0 +1,11 @@
+//! What an operator writes: values in text, and the lines of a configuration.
+#![tactic(auto)]
+
+mod config;
+mod lines;
+mod shown;
+pub mod values;
+
+pub use config::{ConfigFault, read_config};
+pub use lines::{ConfigLines, Configured, is_skipped};
+pub use shown::{ShownEndpoint, ShownIp};

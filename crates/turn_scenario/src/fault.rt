@@ -1,0 +1,65 @@
+//! Why a scenario ended without a report.
+
+ghost use Rattle.std.specs.Prelude.{◌≡◌};
+ghost use Rattle.turn_scenario.specs.declared.fault.LineFault.TheVariants.{Memory};
+
+use std::alloc::{AllocError, AllocFailed};
+use thiserror::Error;
+use turn_codec::PushError;
+
+/// Why a scenario ended without a report: the first fault in the order of its lines, which are numbered from 1.
+#[derive(Clone, Copy, Debug, PartialEq, Eq, Error)]
+pub enum ScenarioFault {
+    #[error("line {0}: bad line")]
+    BadLine(u64),
+    /// An `expect` line differs from the next line of the report, or there is none.
+    #[error("line {0}: differs")]
+    Differs(u64),
+    #[error("memory")]
+    Memory,
+}
+
+/// The fault of one line.
+#[derive(Clone, Copy, Debug, PartialEq, Eq)]
+pub(crate) enum LineFault {
+    Bad,
+    Differs,
+    Memory,
+}
+
+impl LineFault {
+    /// The fault of the scenario whose line of this number it is.
+    pub(crate) fn at(self, number: u64) -> ScenarioFault {
+        match self {
+            LineFault::Bad => ScenarioFault::BadLine(number),
+            LineFault::Differs => ScenarioFault::Differs(number),
+            LineFault::Memory => ScenarioFault::Memory,
+        }
+    }
+}
+
+impl From<AllocError> for LineFault {
+    ghost from_gives = { λ _ f. f ≡ Memory };
+
+    fn from(_error: AllocError) -> LineFault {
+        LineFault::Memory
+    }
+}
+
+impl<T: Drop> From<AllocFailed<T>> for LineFault {
+    ghost from_gives = { λ _ f. f ≡ Memory };
+
+    fn from(_error: AllocFailed<T>) -> LineFault {
+        LineFault::Memory
+    }
+}
+
+/// A datagram that would be too long makes its line bad.
+impl From<PushError> for LineFault {
+    fn from(error: PushError) -> LineFault {
+        match error {
+            PushError::TooLong => LineFault::Bad,
+            PushError::Memory => LineFault::Memory,
+        }
+    }
+}

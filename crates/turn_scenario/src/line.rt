@@ -1,0 +1,148 @@
+//! The lines after `format`.
+
+use turn_config::values::{endpoint, moment, number, port, split_once};
+use turn_disk::Outcome;
+use turn_types::{Endpoint, Method, Moment, TxId};
+
+/// What an `ask` line says.
+#[derive(Clone, Copy)]
+pub(crate) struct Ask<'a> {
+    pub(crate) client: Endpoint,
+    pub(crate) user: &'a [u8],
+    pub(crate) tx: TxId,
+    pub(crate) method: Method,
+    /// The attributes' words, if there are any.
+    pub(crate) attributes: Option<&'a [u8]>,
+}
+
+/// A datagram of a peer, at a relayed port.
+#[derive(Clone, Copy)]
+pub(crate) struct PeerLine<'a> {
+    pub(crate) port: u16,
+    pub(crate) from: Endpoint,
+    pub(crate) hex: &'a [u8],
+}
+
+/// A line after `format`. What is written in hex is still text.
+#[derive(Clone, Copy)]
+pub(crate) enum Line<'a> {
+    At(Moment),
+    Nonce(Moment),
+    Raw(Endpoint, &'a [u8]),
+    Ask(Ask<'a>),
+    /// The client, the peer and the data.
+    Send(Endpoint, Endpoint, &'a [u8]),
+    Peer(PeerLine<'a>),
+    Commit,
+    Fail(u64),
+    Stop(u64),
+    Crash(Outcome),
+    Reopen,
+    Table,
+    Expect(&'a [u8]),
+}
+
+/// The number of a device call, at least 1.
+fn call(text: &[u8]) -> Option<u64> {
+    let call = number(text)?;
+    if call == 0 { None } else { Some(call) }
+}
+
+fn outcome(text: &[u8]) -> Option<Outcome> {
+    match text {
+        b"lost" => return Some(Outcome::Lost),
+        b"kept" => return Some(Outcome::Kept),
+        b"half" => return Some(Outcome::Half),
+        _ => {}
+    }
+    let (b"fill", digits) = split_once(text, b' ')? else {
+        return None;
+    };
+    let mut byte = [0u8];
+    hex::decode_to_slice(digits, &mut byte).ok()?;
+    Some(Outcome::Fill(byte[0]))
+}
+
+fn method(word: &[u8]) -> Option<Method> {
+    match word {
+        b"allocate" => Some(Method::ALLOCATE),
+        b"refresh" => Some(Method::REFRESH),
+        b"permit" => Some(Method::CREATE_PERMISSION),
+        b"bind" => Some(Method::CHANNEL_BIND),
+        _ => None,
+    }
+}
+
+fn transaction(text: &[u8]) -> Option<TxId> {
+    let mut tx = [0u8; 12];
+    hex::decode_to_slice(text, &mut tx).ok()?;
+    Some(TxId(tx))
+}
+
+fn ask_line(text: &[u8]) -> Option<Line<'_>> {
+    let (client, rest) = split_once(text, b' ')?;
+    let (user, rest) = split_once(rest, b' ')?;
+    let (tx, rest) = split_once(rest, b' ')?;
+    let (word, attributes) = match split_once(rest, b' ') {
+        Some((word, attributes)) => (word, Some(attributes)),
+        None => (rest, None),
+    };
+    Some(Line::Ask(Ask {
+        client: endpoint(client)?,
+        user,
+        tx: transaction(tx)?,
+        method: method(word)?,
+        attributes,
+    }))
+}
+
+fn raw_line(text: &[u8]) -> Option<Line<'_>> {
+    let (client, hex) = split_once(text, b' ')?;
+    Some(Line::Raw(endpoint(client)?, hex))
+}
+
+fn send_line(text: &[u8]) -> Option<Line<'_>> {
+    let (client, rest) = split_once(text, b' ')?;
+    let (peer, hex) = split_once(rest, b' ')?;
+    Some(Line::Send(endpoint(client)?, endpoint(peer)?, hex))
+}
+
+fn peer_line(text: &[u8]) -> Option<Line<'_>> {
+    let (relayed, rest) = split_once(text, b' ')?;
+    let (from, hex) = split_once(rest, b' ')?;
+    Some(Line::Peer(PeerLine {
+        port: port(relayed)?,
+        from: endpoint(from)?,
+        hex,
+    }))
+}
+
+/// A line, by its word and what is after the blank.
+fn with_values<'a>(word: &[u8], text: &'a [u8]) -> Option<Line<'a>> {
+    match word {
+        b"at" => Some(Line::At(moment(text)?)),
+        b"nonce" => Some(Line::Nonce(moment(text)?)),
+        b"raw" => raw_line(text),
+        b"ask" => ask_line(text),
+        b"send" => send_line(text),
+        b"peer" => peer_line(text),
+        b"fail" => Some(Line::Fail(call(text)?)),
+        b"stop" => Some(Line::Stop(call(text)?)),
+        b"crash" => Some(Line::Crash(outcome(text)?)),
+        b"expect" => Some(Line::Expect(text)),
+        _ => None,
+    }
+}
+
+/// What a line says, if it is well-formed.
+pub(crate) fn read_line(text: &[u8]) -> Option<Line<'_>> {
+    match text {
+        b"commit" => Some(Line::Commit),
+        b"reopen" => Some(Line::Reopen),
+        b"table" => Some(Line::Table),
+        _ => {
+            let (word, rest) = split_once(text, b' ')?;
+            with_values(word, rest)
+        }
+    }
+}

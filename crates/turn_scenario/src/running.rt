@@ -1,0 +1,253 @@
+//! A scenario after its `format` line.
+
+use crate::attributes::attributes;
+use crate::events::event_text;
+use crate::fault::LineFault;
+use crate::line::{Ask, Line, PeerLine, read_line};
+use crate::report::{Lines, Report};
+use crate::request::{Request, build_request, build_send};
+use crate::table_lines::put_table;
+use std::alloc::{AllocError, Allocator, Global};
+use std::collections::BTreeMap;
+use turn_config::{Configured, values};
+use turn_cred::Nonces;
+use turn_disk::MemoryDisk;
+use turn_mac::generate_auth_key;
+use turn_player::{Player, Step};
+use turn_step::Arrival;
+use turn_store::FormatRefused;
+use turn_types::{Endpoint, FiveTuple, Limits, Moment, TxId};
+
+/// The client's side: what its requests are made of.
+#[derive(Drop)]
+struct Client<'a, A: Allocator = Global> {
+    realm: &'a [u8],
+    passwords: BTreeMap<Vec<u8, A>, &'a [u8], A>,
+    nonces: Nonces,
+    /// The moment of its nonces, where that is not the moment of the request.
+    nonce: Option<Moment>,
+}
+
+/// A scenario after its `format` line.
+#[derive(Drop)]
+pub(crate) struct Running<'a, A: Allocator = Global> {
+    alloc: A,
+    player: Player<A>,
+    client: Client<'a, A>,
+    server: Endpoint,
+    moment: Moment,
+    lines: Lines<A>,
+}
+
+/// A disk of zeros for two areas of a size, and what came of making it a store.
+fn format_disk<A: Allocator + Copy>(
+    alloc: A,
+    limits: Limits,
+    area: u32,
+) -> Result<(MemoryDisk<A>, Result<(), FormatRefused>), AllocError> {
+    let area = area as usize;
+    let content = Vec::from_elem(alloc, 0u8, 64 + 2 * area)?;
+    let mut disk = MemoryDisk::new(alloc, content);
+    let outcome = turn_store::format(&mut disk, limits, area);
+    Ok((disk, outcome))
+}
+
+/// The bytes of a word: `-` for none, or pairs of hex digits.
+fn bytes_of<A: Allocator>(alloc: A, word: &[u8]) -> Result<Vec<u8, A>, LineFault> {
+    match word {
+        [] => Err(LineFault::Bad),
+        b"-" => Ok(Vec::new(alloc)),
+        _ => values::bytes(alloc, word)?.ok_or(LineFault::Bad),
+    }
+}
+
+impl<'a, A: Allocator + Copy> Client<'a, A> {
+    /// The datagram of an `ask` line at a moment.
+    fn request(&self, alloc: A, ask: &Ask<'_>, moment: Moment) -> Result<Vec<u8, A>, LineFault> {
+        let password = *self.passwords.get(ask.user).ok_or(LineFault::Bad)?;
+        let attributes = match ask.attributes {
+            Some(words) => attributes(alloc, words)?.ok_or(LineFault::Bad)?,
+            None => Vec::new(alloc),
+        };
+        let request = Request {
+            method: ask.method,
+            tx: ask.tx,
+            attributes: &attributes,
+            user: ask.user,
+            realm: self.realm,
+        };
+        let key = generate_auth_key(ask.user, self.realm, password);
+        let nonce = self.nonces.issue(ask.client, self.nonce.unwrap_or(moment));
+        Ok(build_request(alloc, &request, &key, &nonce)?)
+    }
+}
+
+impl<'a, A: Allocator + Copy> Running<'a, A> {
+    /// Makes a disk of two areas of a size a store, and opens it unless the format was refused.
+    pub(crate) fn start(
+        alloc: A,
+        configured: Configured<'a, A>,
+        area: u32,
+    ) -> Result<Running<'a, A>, LineFault> {
+        let Configured {
+            config,
+            users,
+            listen,
+            ports,
+            realm,
+            passwords,
+        } = configured;
+        let (disk, outcome) = format_disk(alloc, config.limits(), area)?;
+        let client = Client {
+            realm,
+            passwords,
+            nonces: Nonces::new(*config.secret()),
+            nonce: None,
+        };
+        let mut running = Running {
+            alloc,
+            player: Player::new(alloc, disk, config, users, ports),
+            client,
+            server: listen,
+            moment: Moment::new(0).unwrap(),
+            lines: Lines::new(alloc),
+        };
+        running.open(outcome)?;
+        Ok(running)
+    }
+
+    fn open(&mut self, formatted: Result<(), FormatRefused>) -> Result<(), LineFault> {
+        match formatted {
+            Ok(()) => self.play(&[Step::Reopen]),
+            Err(FormatRefused::Device) => self.say("device"),
+            Err(FormatRefused::AreaTooSmall(needed)) => {
+                let line = format!(in self.alloc; "area too small {needed}")?;
+                self.lines.push(line)?;
+                Ok(())
+            }
+        }
+    }
+
+    fn say(&mut self, text: &str) -> Result<(), LineFault> {
+        self.lines.push(String::from_str(self.alloc, text)?)?;
+        Ok(())
+    }
+
+    /// Makes steps, and reports what comes of them.
+    fn play(&mut self, steps: &[Step<'_>]) -> Result<(), LineFault> {
+        for event in self.player.run(steps)? {
+            self.lines.push(event_text(self.alloc, &event)?)?;
+        }
+        Ok(())
+    }
+
+    fn submit(&mut self, client: Endpoint, bytes: &[u8]) -> Result<(), LineFault> {
+        let five_tuple = FiveTuple {
+            client,
+            server: self.server,
+        };
+        let arrival = Arrival::Client { five_tuple, bytes };
+        self.play(&[Step::Arrive(self.moment, arrival)])
+    }
+
+    fn ask(&mut self, ask: &Ask<'_>) -> Result<(), LineFault> {
+        let bytes = self.client.request(self.alloc, ask, self.moment)?;
+        self.submit(ask.client, &bytes)
+    }
+
+    fn send(&mut self, client: Endpoint, peer: Endpoint, word: &[u8]) -> Result<(), LineFault> {
+        let payload = bytes_of(self.alloc, word)?;
+        let bytes = build_send(self.alloc, peer, &payload)?;
+        self.submit(client, &bytes)
+    }
+
+    fn submit_from_peer(
+        &mut self,
+        port: u16,
+        from: Endpoint,
+        bytes: &[u8],
+    ) -> Result<(), LineFault> {
+        let id = TxId([0; 12]);
+        let arrival = Arrival::Peer {
+            port,
+            from,
+            bytes,
+            id,
+        };
+        self.play(&[Step::Arrive(self.moment, arrival)])
+    }
+
+    fn peer(&mut self, line: &PeerLine<'_>) -> Result<(), LineFault> {
+        let bytes = bytes_of(self.alloc, line.hex)?;
+        self.submit_from_peer(line.port, line.from, &bytes)
+    }
+
+    fn go_to(&mut self, moment: Moment) -> Result<(), LineFault> {
+        if moment < self.moment {
+            return Err(LineFault::Bad);
+        }
+        self.moment = moment;
+        Ok(())
+    }
+
+    /// Reports the table at the moment, or at the server's clock where that is later.
+    fn table(&mut self) -> Result<(), LineFault> {
+        match self.player.server() {
+            Ok(server) => {
+                let clock = server.clock();
+                let moment = if self.moment < clock {
+                    clock
+                } else {
+                    self.moment
+                };
+                put_table(self.alloc, server.table(), moment, self.lines.all())?;
+            }
+            Err(event) => self.lines.push(event_text(self.alloc, &event)?)?,
+        }
+        Ok(())
+    }
+
+    fn expect(&mut self, text: &[u8]) -> Result<(), LineFault> {
+        if self.lines.compare(text) {
+            Ok(())
+        } else {
+            Err(LineFault::Differs)
+        }
+    }
+
+    fn do_line(&mut self, line: &Line<'_>) -> Result<(), LineFault> {
+        match line {
+            Line::At(moment) => self.go_to(*moment),
+            Line::Nonce(moment) => {
+                self.client.nonce = Some(*moment);
+                Ok(())
+            }
+            Line::Raw(client, word) => {
+                let bytes = bytes_of(self.alloc, word)?;
+                self.submit(*client, &bytes)
+            }
+            Line::Ask(ask) => self.ask(ask),
+            Line::Send(client, peer, word) => self.send(*client, *peer, word),
+            Line::Peer(line) => self.peer(line),
+            Line::Commit => self.play(&[Step::Commit]),
+            Line::Fail(call) => self.play(&[Step::Fail(*call)]),
+            Line::Stop(call) => self.play(&[Step::Stop(*call)]),
+            Line::Crash(outcome) => self.play(&[Step::Crash(*outcome)]),
+            Line::Reopen => self.play(&[Step::Reopen]),
+            Line::Table => self.table(),
+            Line::Expect(text) => self.expect(text),
+        }
+    }
+
+    /// Does what a line that is not skipped says.
+    pub(crate) fn take(&mut self, text: &[u8]) -> Result<(), LineFault> {
+        match read_line(text) {
+            Some(line) => self.do_line(&line),
+            None => Err(LineFault::Bad),
+        }
+    }
+
+    pub(crate) fn into_report(self) -> Report<A> {
+        self.lines.into_report()
+    }
+}

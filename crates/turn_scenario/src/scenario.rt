@@ -1,0 +1,102 @@
+//! A whole scenario.
+
+use crate::fault::{LineFault, ScenarioFault};
+use crate::report::{Lines, Report};
+use crate::running::Running;
+use std::alloc::{Allocator, Global};
+use std::mem;
+use turn_config::values::{number, split_once};
+use turn_config::{ConfigLines, is_skipped};
+
+/// How far a scenario is.
+#[derive(Drop)]
+enum Stage<'a, A: Allocator = Global> {
+    /// Before the `format` line.
+    Configuring(ConfigLines<'a, A>),
+    Running(Running<'a, A>),
+}
+
+/// A scenario whose lines are taken in order.
+#[derive(Drop)]
+struct Scenario<'a, A: Allocator = Global> {
+    alloc: A,
+    stage: Stage<'a, A>,
+}
+
+/// The size of an area, where a line is `format` with one.
+fn format_line(line: &[u8]) -> Option<&[u8]> {
+    match split_once(line, b' ') {
+        Some((b"format", size)) => Some(size),
+        _ => None,
+    }
+}
+
+fn area_of(text: &[u8]) -> Option<u32> {
+    u32::try_from(number(text)?).ok()
+}
+
+/// The scenario after its `format` line. A needed line that is missing makes the `format` line bad.
+fn start<'a, A: Allocator + Copy>(
+    alloc: A,
+    lines: ConfigLines<'a, A>,
+    size: &[u8],
+) -> Result<Stage<'a, A>, LineFault> {
+    let area = area_of(size).ok_or(LineFault::Bad)?;
+    let configured = lines.finish()?.ok_or(LineFault::Bad)?;
+    Ok(Stage::Running(Running::start(alloc, configured, area)?))
+}
+
+fn configure<'a, A: Allocator + Copy>(
+    alloc: A,
+    lines: &mut ConfigLines<'a, A>,
+    line: &'a [u8],
+) -> Result<Option<Stage<'a, A>>, LineFault> {
+    if let Some(size) = format_line(line) {
+        let lines = mem::replace(lines, ConfigLines::new(alloc));
+        return Ok(Some(start(alloc, lines, size)?));
+    }
+    if lines.take(line)? {
+        Ok(None)
+    } else {
+        Err(LineFault::Bad)
+    }
+}
+
+impl<'a, A: Allocator + Copy> Scenario<'a, A> {
+    fn take(&mut self, line: &'a [u8]) -> Result<(), LineFault> {
+        let next = match &mut self.stage {
+            Stage::Running(running) => return running.take(line),
+            Stage::Configuring(lines) => configure(self.alloc, lines, line)?,
+        };
+        if let Some(stage) = next {
+            self.stage = stage;
+        }
+        Ok(())
+    }
+
+    /// The report of a scenario whose lines were all taken: empty before `format`.
+    fn into_report(self) -> Report<A> {
+        let Scenario { alloc, stage } = self;
+        match stage {
+            Stage::Running(running) => running.into_report(),
+            Stage::Configuring(_lines) => Lines::new(alloc).into_report(),
+        }
+    }
+}
+
+/// Runs a scenario over a disk in memory and returns its report. Lines are judged and done one after the other, so those
+/// after a fault are not read.
+pub fn replay<A: Allocator + Copy>(alloc: A, text: &[u8]) -> Result<Report<A>, ScenarioFault> {
+    let mut scenario = Scenario {
+        alloc,
+        stage: Stage::Configuring(ConfigLines::new(alloc)),
+    };
+    let mut number = 0u64;
+    for line in text.split(|byte| *byte == b'\n') {
+        number = number.wrapping_add(1);
+        if !is_skipped(line) {
+            scenario.take(line).map_err(|fault| fault.at(number))?;
+        }
+    }
+    Ok(scenario.into_report())
+}

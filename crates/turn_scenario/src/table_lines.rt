@@ -1,0 +1,73 @@
+//! A table as text.
+
+use std::alloc::{AllocError, Allocator};
+use turn_config::{ShownEndpoint, ShownIp};
+use turn_history::Channel;
+use turn_table::{Entry, Table};
+use turn_types::{FiveTuple, Moment};
+
+fn put_permissions<A: Allocator + Copy>(
+    alloc: A,
+    permissions: &[(u32, u64)],
+    second: u64,
+    lines: &mut Vec<String<A>, A>,
+) -> Result<(), AllocError> {
+    for (ip, expiry) in permissions {
+        if second < *expiry {
+            let ip = ShownIp(*ip);
+            lines.push(format!(in alloc; " permit {ip} {expiry}")?)?;
+        }
+    }
+    Ok(())
+}
+
+fn put_channels<A: Allocator + Copy>(
+    alloc: A,
+    channels: &[(u16, Channel)],
+    second: u64,
+    lines: &mut Vec<String<A>, A>,
+) -> Result<(), AllocError> {
+    for (number, channel) in channels {
+        let expiry = channel.expiry;
+        if second < expiry {
+            let peer = ShownEndpoint(channel.peer);
+            lines.push(format!(in alloc; " channel {number:04x} {peer} {expiry}")?)?;
+        }
+    }
+    Ok(())
+}
+
+fn put_entry<A: Allocator + Copy>(
+    alloc: A,
+    tuple: FiveTuple,
+    entry: &Entry<A>,
+    second: u64,
+    lines: &mut Vec<String<A>, A>,
+) -> Result<(), AllocError> {
+    let (client, server) = (ShownEndpoint(tuple.client), ShownEndpoint(tuple.server));
+    let user = hex::encode(alloc, entry.user())?;
+    let (port, expiry) = (entry.port(), entry.expiry());
+    lines.push(format!(in alloc; "{client} {server} {user} {port} {expiry}")?)?;
+    put_permissions(alloc, entry.permissions(), second, lines)?;
+    put_channels(alloc, entry.channels(), second, lines)
+}
+
+/// Adds the lines of what is live in a table at a moment: of each allocation, ascending by five-tuple, its line and those of
+/// its permissions and channels, and in the end how many allocations there are.
+pub fn put_table<A: Allocator + Copy>(
+    alloc: A,
+    table: &Table<A>,
+    moment: Moment,
+    lines: &mut Vec<String<A>, A>,
+) -> Result<(), AllocError> {
+    let second = moment.seconds();
+    let mut live = 0u64;
+    for (tuple, entry) in table.entries() {
+        if second < entry.expiry() {
+            live = live.wrapping_add(1);
+            put_entry(alloc, tuple, entry, second, lines)?;
+        }
+    }
+    lines.push(format!(in alloc; "live {live}")?)?;
+    Ok(())
+}
