@@ -1,5 +1,5 @@
 -- What snapshots and payloads spell.
-use Rattle.std.proofs.Common.{◌≡◌, ◌≤◌, ◌<◌, ◌^◌, ◌-◌, ℕ, List, [], ◌∷◌, ◌++◌, map, max, length, refl, sym, ap, ◌∙◌, subst, arith, append_assoc, append-nil}
+use Rattle.std.proofs.Common.{◌≡◌, ◌≤◌, ◌<◌, ◌^◌, ◌-◌, ℕ, List, [], ◌∷◌, ◌++◌, map, max, refl, sym, ap, ◌∙◌, subst, arith, append_assoc, append-nil}
 use Rattle.std.specs.List.{AllByRecursion}
 use Rattle.turn_history.specs.Fitting.{IsFitting, FitsAfter}
 use Rattle.turn_history.specs.History.{Event, History, clock}
@@ -7,8 +7,7 @@ use Rattle.turn_history.specs.Laws.{AllFrom}
 use Rattle.turn_history.specs.Table.{table}
 use Rattle.turn_history.proofs.Histories.{clock-append, fitting-split, fits_in_range, fits_never_fall}
 use Rattle.turn_record.specs.Bytes.{payload, snapshot}
-use Rattle.turn_record.specs.Records.{IsBatch, max_payload}
-use Rattle.turn_record.proofs.Sizes.{payload_at_most}
+use Rattle.turn_record.specs.Records.{IsBatch}
 use Rattle.turn_store.specs.Spells.{all_of, HasSize, Spells}
 use Rattle.turn_types.specs.declared.limits.Bounds.{Bounds}
 
@@ -103,11 +102,3 @@ frames_go_on b h c bytes payloads es m s fits from size cm hm =
         clock_is = refl;
       },
     )
-
-all_short : (b : Bounds) (bs : List (List Event)) → AllByRecursion (IsBatch b) bs → AllByRecursion (λ p. length p ≤ max_payload b) (map payload bs)
-all_short b [] are = tt
-all_short b (es ∷ bs) are = (payload_at_most b es are.0, all_short b bs are.1)
-
-pub payloads_short : (b : Bounds) (h : History) (c : ℕ) (bytes : List ℕ) (payloads : List (List ℕ)) → Spells b h c bytes payloads → AllByRecursion (λ p. length p ≤ max_payload b) payloads
-payloads_short b h c bytes payloads s = subst (AllByRecursion (λ p. length p ≤ max_payload b)) (sym s.are_payloads)
-    (all_short b s.batches (are_batches b s.before s.batches (of_spelled b h c bytes payloads s).1 s.sizes))

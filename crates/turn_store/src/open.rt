@@ -179,6 +179,7 @@ fn read_area_size<D: Disk>(disk: &mut D, limits: Limits) -> Result<usize, OpenFa
     ensures place { IfOk result (λ area. 64 + 2 * area ≡ D.capacity disk.old) }
     ensures addressable { D.capacity disk.old < 2 ^ 64 }
     ensures room { IfOk result (λ area. least_area limits ≤ area) }
+    ensures small { least_area limits < 2 ^ 32 }
     ensures superblock { D.is_honest disk.old → IfOk result (λ area. HasSuperblock area limits (D.trace disk.old).now.bytes) }
     ensures why { D.is_honest disk.old → IfErr result (WhyRefused limits (D.trace disk.old).now.bytes) }
 {
@@ -201,46 +202,6 @@ fn read_area_size<D: Disk>(disk: &mut D, limits: Limits) -> Result<usize, OpenFa
     Ok(found.area)
 }
 
-/// What a disk holds on which nothing is pending.
-pub fn read_store<D: Disk, A: Allocator + Copy>(
-    alloc: A,
-    disk: &mut D,
-    limits: Limits,
-) -> Result<Chosen<A>, OpenFault>
-    ensures size { D.capacity disk.new ≡ D.capacity disk.old }
-    ensures honest { D.is_honest disk.new ↔ D.is_honest disk.old }
-    ensures same { D.is_honest disk.old → D.trace disk.new ≡ D.trace disk.old }
-    ensures device { IfErr result (λ fault. fault ≡ OpenFault.Device → Rises (D.failed disk.old) (D.failed disk.new)) }
-    ensures count { OnOk result (D.failed disk.new ≡ D.failed disk.old) }
-    ensures count_not { IfErr result (λ fault. fault ≢ OpenFault.Device → D.failed disk.new ≡ D.failed disk.old) }
-    ensures place { IfOk result (λ r. 64 + 2 * r.loaded.journal.size ≡ D.capacity disk.old) }
-    ensures addressable { D.capacity disk.old < 2 ^ 64 }
-    ensures area { IfOk result (λ r. (least_area limits ≤ r.loaded.journal.size) × (r.loaded.journal.max_payload ≡ max_payload limits)) }
-    ensures places { IfOk result (λ r. (r.loaded.journal.start ≤ 64 + r.loaded.journal.size) × (r.other ≤ 64 + r.loaded.journal.size)) }
-    ensures bounds { IfOk result (λ r. r.loaded.table.bounds ≡ limits) }
-    ensures snapshot { IfOk result (λ r. IsSnapshot limits r.loaded.table.moment r.loaded.table.contents) }
-    ensures few { IfOk result (λ r. r.loaded.frames ≤ r.loaded.journal.end) }
-    ensures superblock { D.is_honest disk.old
-        → IfOk result (λ r. HasSuperblock r.loaded.journal.size limits (D.trace disk.old).now.bytes) }
-    ensures chosen { D.is_honest disk.old → IfOk result (λ r.
-        IsChosen limits r.loaded.journal.size r.loaded.journal.start r.other r.generation r.loaded.journal.end r.loaded.frames r.other_is_below
-        (snapshot_of r.loaded.table) (D.trace disk.old).now.bytes) }
-    ensures why { D.is_honest disk.old → IfErr result (WhyRefused limits (D.trace disk.old).now.bytes) }
-
-    // A disk whose content stands for a history is refused only for a failed device call or allocation.
-    ensures sound { D.is_honest disk.old → (form : Form) (h : History) (clock : ℕ) → form.bounds ≡ limits
-        → StandsForAt form h clock (D.trace disk.old).now.bytes → IfErr result IsPlain }
-{
-    let size = match read_area_size(disk, limits) {
-        Ok(size) => size,
-        Err(fault) => return Err(fault),
-    };
-    match choose(alloc, disk, limits, size) {
-        Ok(chosen) => Ok(chosen),
-        Err(fault) => Err(fault),
-    }
-}
-
 /// Syncs a disk, and reads what it holds.
 pub fn load<D: Disk, A: Allocator + Copy>(
     alloc: A,
@@ -261,7 +222,7 @@ pub fn load<D: Disk, A: Allocator + Copy>(
     ensures place { IfOk result (λ r. 64 + 2 * r.loaded.journal.size ≡ D.capacity disk.new) }
     ensures addressable { OnOk result (D.capacity disk.new < 2 ^ 64) }
     ensures area { IfOk result (λ r. (least_area limits ≤ r.loaded.journal.size) × (r.loaded.journal.max_payload ≡ max_payload limits)) }
-    ensures small { least_area limits < 2 ^ 32 }
+    ensures small { OnOk result (least_area limits < 2 ^ 32) }
     ensures places { IfOk result (λ r. (r.loaded.journal.start ≤ 64 + r.loaded.journal.size) × (r.other ≤ 64 + r.loaded.journal.size)) }
     ensures bounds { IfOk result (λ r. r.loaded.table.bounds ≡ limits) }
     ensures snapshot { IfOk result (λ r. IsSnapshot limits r.loaded.table.moment r.loaded.table.contents) }
@@ -275,9 +236,12 @@ pub fn load<D: Disk, A: Allocator + Copy>(
     ensures sound { D.is_honest disk.old → (form : Form) (h : History) (clock : ℕ) → form.bounds ≡ limits
         → StandsForAt form h clock (D.trace disk.old).now.bytes → IfErr result IsPlain }
 {
-    let _needed = least_area(limits);
     disk.sync()?;
-    match read_store(alloc, disk, limits) {
+    let size = match read_area_size(disk, limits) {
+        Ok(size) => size,
+        Err(fault) => return Err(fault),
+    };
+    match choose(alloc, disk, limits, size) {
         Ok(chosen) => Ok(chosen),
         Err(fault) => Err(fault),
     }

@@ -74,8 +74,8 @@ fn apply_next<A: Allocator + Copy>(table: &mut Table<A>, event: Event<A>) -> Res
     Ok(())
 }
 
-/// Applies events, each of which may be the next after those before it.
-pub fn apply_all<A: Allocator + Copy>(
+// Applies events, each of which may be the next after those before it.
+fn apply_all<A: Allocator + Copy>(
     table: &mut Table<A>,
     events: Vec<Event<A>, A>,
 ) -> Result<(), FrameFault>

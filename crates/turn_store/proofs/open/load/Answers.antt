@@ -1,51 +1,105 @@
-use Rattle.std.proofs.Common.{◌≡◌, inl, ℕ, List, sym, ◌∙◌, ap, subst}
+use Rattle.std.proofs.Common.{◌≡◌, ◌+◌, ◌*◌, inl, ℕ, List, length, sym, ◌∙◌, ap, subst}
 use Rattle.turn_disk.specs.Disk.{EachImageSince, IsImage, Trace}
 use Rattle.turn_disk.proofs.Since.{since_join, since_same, since_sync}
 use Rattle.turn_store.specs.Opened.{IsChosen}
-use Rattle.turn_store.specs.Images.{StandsForAt}
-use Rattle.turn_store.specs.Refused.{WhyRefused}
+use Rattle.turn_store.specs.Refused.{FaultWith, StoreIsBad, WhyRefused}
+use Rattle.turn_store.specs.Superblock.{HasSuperblock}
 use Rattle.turn_store.specs.Tables.{snapshot_of}
+use Rattle.turn_store.proofs.Choices.{why_of_bad}
+use Rattle.turn_store.proofs.Honest.{why_plain}
+use Rattle.turn_types.specs.declared.limits.Bounds.{Bounds}
 use Rattle.turn_store.proofs.open.load.Goals as goal
 
 abbrev since_synced : (old mid new : Trace) → EachImageSince old mid (IsImage old.now) → new ≡ mid → EachImageSince old new (IsImage old.now)
 since_synced old mid new since same = since_join old mid new (IsImage old.now) since (since_same mid new (IsImage old.now) same since.after)
-
-pub returns-in-Ok-clause-honest : goal.returns-in-Ok-clause-honest
-returns-in-Ok-clause-honest g c = ((λ h. c.in_ok-sync.ensures.honest.0 (c.in-Ok.ensures.honest.0 h)), (λ h. c.in-Ok.ensures.honest.1 (c.in_ok-sync.ensures.honest.1 h)))
-
-pub returns-in-Ok-clause-same : goal.returns-in-Ok-clause-same
-returns-in-Ok-clause-same g c = λ h.
-    ap (λ (t : Trace). t.now.bytes) (c.in-Ok.ensures.same (c.in_ok-sync.ensures.honest.1 h)) ∙ (c.in_ok-sync.ensures.outcome h).content
-
-pub returns-in-Ok-clause-stop : goal.returns-in-Ok-clause-stop
-returns-in-Ok-clause-stop g c = λ h.
-    let old = g.D.Disk.trace c.args.disk.now in
-    since_synced old _ _ (since_sync old _ (IsImage old.now) (inl (c.in_ok-sync.ensures.outcome h)) (λ image is. is)) (c.in-Ok.ensures.same (c.in_ok-sync.ensures.honest.1 h))
-
-pub returns-in-Ok-clause-settled : goal.returns-in-Ok-clause-settled
-returns-in-Ok-clause-settled g c = λ h.
-    ap (λ (t : Trace). t.now.pending) (c.in-Ok.ensures.same (c.in_ok-sync.ensures.honest.1 h)) ∙ (c.in_ok-sync.ensures.outcome h).pending
-
-pub returns-in-Ok-clause-chosen : goal.returns-in-Ok-clause-chosen
-returns-in-Ok-clause-chosen g c = λ h.
-    let r = c.in-Ok.chosen in
-    subst (λ (l : List ℕ). IsChosen c.args.limits r.loaded.journal.size r.loaded.journal.start r.other r.generation r.loaded.journal.end r.loaded.frames r.other_is_below (snapshot_of r.loaded.table) l)
-    (c.in_ok-sync.ensures.outcome h).content (c.in-Ok.ensures.chosen (c.in_ok-sync.ensures.honest.1 h))
 
 pub returns-in-Err-clause-stop : goal.returns-in-Err-clause-stop
 returns-in-Err-clause-stop g c = λ h.
     let old = g.D.Disk.trace c.args.disk.now in
     since_synced old _ _ (since_sync old _ (IsImage old.now) (inl (c.in_ok-sync.ensures.outcome h)) (λ image is. is)) (c.in-Err.ensures.same (c.in_ok-sync.ensures.honest.1 h))
 
+pub returns-in-Err-clause-settled_err : goal.returns-in-Err-clause-settled_err
+returns-in-Err-clause-settled_err g c = λ h other.
+    ap (λ (t : Trace). t.now.pending) (c.in-Err.ensures.same (c.in_ok-sync.ensures.honest.1 h)) ∙ (c.in_ok-sync.ensures.outcome h).pending
+
 pub returns-in-Err-clause-why : goal.returns-in-Err-clause-why
 returns-in-Err-clause-why g c = λ h.
     subst (λ (l : List ℕ). WhyRefused c.args.limits l c.in-Err.fault) (c.in_ok-sync.ensures.outcome h).content (c.in-Err.ensures.why (c.in_ok-sync.ensures.honest.1 h))
 
 pub returns-in-Err-clause-sound : goal.returns-in-Err-clause-sound
-returns-in-Err-clause-sound g c = λ h form history clock same stands.
-    c.in-Err.ensures.sound (c.in_ok-sync.ensures.honest.1 h) form history clock same
-    (subst (λ (l : List ℕ). StandsForAt form history clock l) (sym (c.in_ok-sync.ensures.outcome h).content) stands)
+returns-in-Err-clause-sound g c = λ honest form h clock same stands.
+    let content = (g.D.Disk.trace c.args.disk.now).now.bytes in
+    why_plain form h clock content stands c.in-Err.fault (subst (λ (b : Bounds). WhyRefused b content c.in-Err.fault) (sym same) (returns-in-Err-clause-why g c honest))
 
-pub returns-in-Err-clause-settled_err : goal.returns-in-Err-clause-settled_err
-returns-in-Err-clause-settled_err g c = λ h other.
-    ap (λ (t : Trace). t.now.pending) (c.in-Err.ensures.same (c.in_ok-sync.ensures.honest.1 h)) ∙ (c.in_ok-sync.ensures.outcome h).pending
+pub returns-in-Ok-choose-clause-honest : goal.returns-in-Ok-choose-clause-honest
+returns-in-Ok-choose-clause-honest g c = (
+      (λ h. c.in_ok-sync.ensures.honest.0 (c.read_area_size.ensures.honest.0 (c.choose.ensures.honest.0 h))),
+      (λ h. c.choose.ensures.honest.1 (c.read_area_size.ensures.honest.1 (c.in_ok-sync.ensures.honest.1 h))),
+    )
+
+pub returns-in-Ok-choose-clause-same : goal.returns-in-Ok-choose-clause-same
+returns-in-Ok-choose-clause-same g c = λ h.
+    let synced = c.in_ok-sync.ensures.honest.1 h in
+    let still = c.read_area_size.ensures.honest.1 synced in
+    ap (λ (t : Trace). t.now.bytes) (c.choose.ensures.same still ∙ c.read_area_size.ensures.same synced) ∙ (c.in_ok-sync.ensures.outcome h).content
+
+pub returns-in-Ok-choose-clause-stop : goal.returns-in-Ok-choose-clause-stop
+returns-in-Ok-choose-clause-stop g c = λ h.
+    let old = g.D.Disk.trace c.args.disk.now in
+    let synced = c.in_ok-sync.ensures.honest.1 h in
+    let still = c.read_area_size.ensures.honest.1 synced in
+    since_synced old _ _ (since_sync old _ (IsImage old.now) (inl (c.in_ok-sync.ensures.outcome h)) (λ image is. is)) (c.choose.ensures.same still ∙ c.read_area_size.ensures.same synced)
+
+pub returns-in-Ok-choose-clause-settled : goal.returns-in-Ok-choose-clause-settled
+returns-in-Ok-choose-clause-settled g c = λ h.
+    let synced = c.in_ok-sync.ensures.honest.1 h in
+    let still = c.read_area_size.ensures.honest.1 synced in
+    ap (λ (t : Trace). t.now.pending) (c.choose.ensures.same still ∙ c.read_area_size.ensures.same synced) ∙ (c.in_ok-sync.ensures.outcome h).pending
+
+pub returns-in-Ok-choose-clause-superblock : goal.returns-in-Ok-choose-clause-superblock
+returns-in-Ok-choose-clause-superblock g c = λ h.
+    let b = c.args.limits in
+    let there = subst (λ (l : List ℕ). HasSuperblock c.in-Ok.size b l) (c.in_ok-sync.ensures.outcome h).content (c.in-Ok.ensures.superblock (c.in_ok-sync.ensures.honest.1 h)) in
+    subst (λ (n : ℕ). HasSuperblock n b (g.D.Disk.trace c.args.disk.now).now.bytes) (sym c.in-Ok-choose.ensures.area.0) there
+
+pub returns-in-Ok-choose-clause-chosen : goal.returns-in-Ok-choose-clause-chosen
+returns-in-Ok-choose-clause-chosen g c = λ h.
+    let r = c.in-Ok-choose.chosen in
+    let t = snapshot_of r.loaded.table in
+    let synced = c.in_ok-sync.ensures.honest.1 h in
+    let still = c.read_area_size.ensures.honest.1 synced in
+    let content = ap (λ (t : Trace). t.now.bytes) (c.read_area_size.ensures.same synced) ∙ (c.in_ok-sync.ensures.outcome h).content in
+    let there = subst (λ (l : List ℕ). IsChosen c.args.limits c.in-Ok.size r.loaded.journal.start r.other r.generation r.loaded.journal.end r.loaded.frames r.other_is_below t l) content (c.in-Ok-choose.ensures.chosen still) in
+    subst (λ (n : ℕ). IsChosen c.args.limits n r.loaded.journal.start r.other r.generation r.loaded.journal.end r.loaded.frames r.other_is_below t (g.D.Disk.trace c.args.disk.now).now.bytes) (sym c.in-Ok-choose.ensures.area.0) there
+
+pub returns-in-Err-choose-clause-stop : goal.returns-in-Err-choose-clause-stop
+returns-in-Err-choose-clause-stop g c = λ h.
+    let old = g.D.Disk.trace c.args.disk.now in
+    let synced = c.in_ok-sync.ensures.honest.1 h in
+    let still = c.read_area_size.ensures.honest.1 synced in
+    since_synced old _ _ (since_sync old _ (IsImage old.now) (inl (c.in_ok-sync.ensures.outcome h)) (λ image is. is)) (c.choose.ensures.same still ∙ c.read_area_size.ensures.same synced)
+
+pub returns-in-Err-choose-clause-settled_err : goal.returns-in-Err-choose-clause-settled_err
+returns-in-Err-choose-clause-settled_err g c = λ h other.
+    let synced = c.in_ok-sync.ensures.honest.1 h in
+    let still = c.read_area_size.ensures.honest.1 synced in
+    ap (λ (t : Trace). t.now.pending) (c.choose.ensures.same still ∙ c.read_area_size.ensures.same synced) ∙ (c.in_ok-sync.ensures.outcome h).pending
+
+pub returns-in-Err-choose-clause-why : goal.returns-in-Err-choose-clause-why
+returns-in-Err-choose-clause-why g c = λ h.
+    let b = c.args.limits in
+    let size = c.in-Ok.size in
+    let content = (g.D.Disk.trace c.args.disk.now).now.bytes in
+    let synced = c.in_ok-sync.ensures.honest.1 h in
+    let still = c.read_area_size.ensures.honest.1 synced in
+    let same = ap (λ (t : Trace). t.now.bytes) (c.read_area_size.ensures.same synced) ∙ (c.in_ok-sync.ensures.outcome h).content in
+    let whole : length content ≡ 64 + 2 * size = g.met.D.Disk.sized c.args.disk.now h ∙ sym c.in_ok-sync.ensures.size ∙ sym c.in-Ok.ensures.place in
+    let superblock = subst (λ (l : List ℕ). HasSuperblock size b l) (c.in_ok-sync.ensures.outcome h).content (c.in-Ok.ensures.superblock synced) in
+    let why = subst (λ (l : List ℕ). FaultWith (StoreIsBad b size l) c.in-Err-choose.fault) same (c.in-Err-choose.ensures.faults still) in
+    why_of_bad b size content superblock c.in-Ok.ensures.room whole c.in-Err-choose.fault why
+
+pub returns-in-Err-choose-clause-sound : goal.returns-in-Err-choose-clause-sound
+returns-in-Err-choose-clause-sound g c = λ honest form h clock same stands.
+    let content = (g.D.Disk.trace c.args.disk.now).now.bytes in
+    why_plain form h clock content stands c.in-Err-choose.fault
+    (subst (λ (b : Bounds). WhyRefused b content c.in-Err-choose.fault) (sym same) (returns-in-Err-choose-clause-why g c honest))
