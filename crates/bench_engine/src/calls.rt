@@ -1,0 +1,104 @@
+//! The calls that are measured.
+
+use crate::datagrams::{CLIENT, ID, PEER, five_tuple};
+use crate::servers::{Engine, PORT, Rules};
+use bench_time::Measured;
+use std::alloc::Global;
+use turn_relay::{from_client, from_peer};
+use turn_step::{Arrival, Outgoing};
+
+/// How many arrivals a commit has.
+pub const BATCH: usize = 64;
+
+/// Whether a datagram starts with these bytes.
+fn starts(out: &Outgoing, bytes: &[u8]) -> bool {
+    match out {
+        Outgoing::ToClient { bytes: sent, .. } | Outgoing::ToPeer { bytes: sent, .. } => {
+            sent.starts_with(bytes)
+        }
+    }
+}
+
+/// The same arrival by so many `submit` as a batch has, and the `commit` of them, which hands out as many datagrams that
+/// start with these bytes.
+#[derive(Drop)]
+pub struct Committed<'a> {
+    pub server: &'a mut Engine,
+    pub arrival: Arrival<'a>,
+    pub starts: &'static [u8],
+}
+
+impl Measured for Committed<'_> {
+    fn make(&mut self) -> bool {
+        for _ in 0..BATCH {
+            let moment = self.server.clock();
+            if self.server.submit(moment, &self.arrival).is_err() {
+                return false;
+            }
+        }
+        match self.server.commit() {
+            Ok(outs) => outs.len() == BATCH && outs.iter().all(|out| starts(out, self.starts)),
+            Err(_) => false,
+        }
+    }
+}
+
+/// A step without a store, which sends a datagram that starts with these bytes.
+#[derive(Drop)]
+pub struct Stepped<'a> {
+    pub server: &'a mut Rules,
+    pub arrival: Arrival<'a>,
+    pub starts: &'static [u8],
+}
+
+impl Measured for Stepped<'_> {
+    fn make(&mut self) -> bool {
+        let moment = self.server.moment();
+        match self.server.step(moment, &self.arrival) {
+            Ok(Some(out)) => starts(&out, self.starts),
+            _ => false,
+        }
+    }
+}
+
+/// What the relay alone makes of data: a client's payload in a vector of its own, or a client's datagram.
+#[derive(Drop)]
+pub struct Relayed<'a> {
+    pub alloc: Global,
+    pub server: &'a Rules,
+    pub bytes: &'a [u8],
+    pub is_of_peer: bool,
+}
+
+impl Relayed<'_> {
+    fn to_peer(&self) -> bool {
+        let table = self.server.table();
+        match from_client(table, five_tuple(CLIENT), self.bytes, table.moment()) {
+            Some(data) => Vec::from_slice(self.alloc, data.bytes).is_ok(),
+            None => false,
+        }
+    }
+
+    fn to_client(&self) -> bool {
+        let table = self.server.table();
+        match from_peer(table, PORT, PEER, self.bytes, table.moment()) {
+            Some(data) => match data.channel {
+                Some(number) if 0x4000 <= number && number < 0x8000 => {
+                    data.write(self.alloc, ID).is_ok()
+                }
+                _ => false,
+            },
+            None => false,
+        }
+    }
+}
+
+impl Measured for Relayed<'_> {
+    fn make(&mut self) -> bool {
+        if self.is_of_peer {
+            self.to_client()
+        } else {
+            self.to_peer()
+        }
+    }
+}

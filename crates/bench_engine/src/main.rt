@@ -1,0 +1,154 @@
+//! Requests and relayed data of a server over a store in memory, timed beside the rules without a store, over a table of one
+//! allocation and of 1,000. Words: COUNT, how often each call is made in a round. Without words it does nothing.
+#![tactic(auto)]
+
+mod calls;
+mod datagrams;
+mod servers;
+
+use bench_time::{Measured, best_of, number};
+use calls::{BATCH, Committed, Relayed, Stepped};
+use datagrams::{CLIENT, ID, PEER, channel_data, five_tuple, request};
+use servers::{Engine, PORT, Rules, make_engine, make_rules};
+use std::{env, io};
+use turn_step::Arrival;
+use turn_types::{Method, Moment};
+
+/// Rounds of which the best counts.
+const ROUNDS: usize = 5;
+
+/// Prints and returns the nanoseconds of an arrival, of which each call has so many.
+fn measure<M: Measured>(
+    rt: &HostRuntime,
+    name: &str,
+    call: &mut M,
+    count: usize,
+    arrivals: usize,
+) -> io::Result<u128> {
+    let timing = best_of(rt, call, count, ROUNDS)?;
+    let all = (count as u128).saturating_mul(arrivals as u128).max(1);
+    let each = timing.micros.saturating_mul(1000) / all;
+    println!(rt; "  {name}: {each} ns ({} of {count} done)", timing.done)?;
+    Ok(each)
+}
+
+/// A server over a store, the rules alone, and how often each call is made.
+#[derive(Drop)]
+struct Compared<'a> {
+    engine: &'a mut Engine,
+    rules: &'a mut Rules,
+    count: usize,
+}
+
+/// Measures an arrival by the rules alone, and by a `submit` with its share of a `commit`.
+fn measure_arrival(
+    rt: &HostRuntime,
+    servers: &mut Compared<'_>,
+    arrival: Arrival<'_>,
+    starts: &'static [u8],
+) -> io::Result<(u128, u128)> {
+    let count = servers.count;
+    let server = &mut *servers.rules;
+    let mut stepped = Stepped {
+        server,
+        arrival,
+        starts,
+    };
+    let alone = measure(rt, "Machine::step", &mut stepped, count, 1)?;
+    let server = &mut *servers.engine;
+    let mut committed = Committed {
+        server,
+        arrival,
+        starts,
+    };
+    let batches = count / BATCH;
+    let name = "submit, and a 64th of a commit";
+    let stored = measure(rt, name, &mut committed, batches, BATCH)?;
+    Ok((alone, stored))
+}
+
+fn measure_refresh(rt: &HostRuntime, servers: &mut Compared<'_>, moment: Moment) -> io::Result<()> {
+    println!(rt; "a Refresh")?;
+    let bytes = request(rt.alloc(), Method::REFRESH, CLIENT, moment)?;
+    let arrival = Arrival::Client {
+        five_tuple: five_tuple(CLIENT),
+        bytes: &bytes,
+    };
+    let (alone, stored) = measure_arrival(rt, servers, arrival, &[1, 4])?;
+    println!(rt; "  {} %", stored.saturating_mul(100) / alone.max(1))
+}
+
+/// Measures data by the relay alone, and as an arrival.
+fn measure_data(
+    rt: &HostRuntime,
+    servers: &mut Compared<'_>,
+    arrival: Arrival<'_>,
+    starts: &'static [u8],
+) -> io::Result<()> {
+    let (bytes, is_of_peer) = match arrival {
+        Arrival::Client { bytes, .. } => (bytes, false),
+        Arrival::Peer { bytes, .. } => (bytes, true),
+    };
+    let name = if is_of_peer {
+        "from_peer and write"
+    } else {
+        "from_client and a copy"
+    };
+    let mut relayed = Relayed {
+        alloc: rt.alloc(),
+        server: &*servers.rules,
+        bytes,
+        is_of_peer,
+    };
+    let relay = measure(rt, name, &mut relayed, servers.count, 1)?;
+    let (_, stored) = measure_arrival(rt, servers, arrival, starts)?;
+    println!(rt; "  {} ns more", stored.saturating_sub(relay))
+}
+
+fn measure_payload(rt: &HostRuntime, servers: &mut Compared<'_>, payload: &[u8]) -> io::Result<()> {
+    println!(rt; "ChannelData of {} bytes to a peer", payload.len())?;
+    let bytes = channel_data(rt.alloc(), payload)?;
+    let arrival = Arrival::Client {
+        five_tuple: five_tuple(CLIENT),
+        bytes: &bytes,
+    };
+    measure_data(rt, servers, arrival, &[])?;
+    println!(rt; "{} bytes from a peer", payload.len())?;
+    let arrival = Arrival::Peer {
+        port: PORT,
+        from: PEER,
+        bytes: payload,
+        id: ID,
+    };
+    measure_data(rt, servers, arrival, &[0x40, 0])
+}
+
+fn measure_all(rt: &HostRuntime, moment: Moment, allocations: u16, count: usize) -> io::Result<()> {
+    println!(rt; "---- {allocations} allocations")?;
+    let commits = (count / BATCH).saturating_mul(ROUNDS);
+    let mut engine = make_engine(rt.alloc(), moment, allocations, commits)?;
+    let mut rules = make_rules(rt.alloc(), moment, allocations)?;
+    let mut servers = Compared {
+        engine: &mut engine,
+        rules: &mut rules,
+        count,
+    };
+    measure_refresh(rt, &mut servers, moment)?;
+    measure_payload(rt, &mut servers, &[7; 160])?;
+    measure_payload(rt, &mut servers, &[7; 1200])
+}
+
+fn main(rt: HostRuntime) -> io::Result<()> {
+    let words: Vec<String> = env::args(&rt)?.collect(rt.alloc())?;
+    if words.len() < 2 {
+        return Ok(());
+    }
+    let count = number(words.as_slice(), 1);
+    let Some(moment) = Moment::new(1000) else {
+        return Ok(());
+    };
+    for allocations in [1, 1000] {
+        measure_all(&rt, moment, allocations, count)?;
+    }
+    Ok(())
+}
