@@ -1,12 +1,9 @@
 //! What a commit hands out and writes.
 
-use crate::player::{Player, play};
+use crate::player::play;
 use crate::requests::*;
-use crate::row::{ALLOCATE, ALLOCATED, NONE, REQUEST, Row, SUCCESS, Sent};
+use crate::row::{ALLOCATE, REQUEST, Row, SUCCESS, Sent};
 use crate::setup::{PAIR, SMALL};
-use crate::stops::{OUTCOMES, Stops, stop};
-use std::alloc::Global;
-use std::process::Abort;
 use std::test::Fail;
 
 /// An open gate, version 1, generation 1, a snapshot of 12 bytes (moment 0, no entry), a closed gate.
@@ -35,17 +32,6 @@ const FIRST_COMMIT: [Row; 10] = [
 #[test]
 fn commit_writes_a_frame_and_hands_out_the_success(rt: HostRuntime) -> Result<(), Fail> {
     play(&rt, rt.alloc(), &SMALL, &FIRST_COMMIT)
-}
-
-fn play_reopened(rt: &impl Abort, alloc: Global) -> Result<(), Fail> {
-    let mut player = Player::new(rt, alloc, alloc, &SMALL)?;
-    player.play(rt, &[ALLOCATE])?;
-    player.reopen()?.play(rt, NONE)
-}
-
-#[test]
-fn closed_server_forgets_what_was_not_committed(rt: HostRuntime) -> Result<(), Fail> {
-    play_reopened(&rt, rt.alloc())
 }
 
 // ---- Two acts a batch
@@ -88,53 +74,4 @@ const TWO: [Row; 9] = [
 #[test]
 fn commit_writes_one_frame_of_two_acts(rt: HostRuntime) -> Result<(), Fail> {
     play(&rt, rt.alloc(), &PAIR, &TWO)
-}
-
-const DROPPED: [Row; 7] = [
-    Row::Client(1000, FIRST, b""),
-    Row::Client(1000, FIRST, b""),
-    Row::Full(1000, FIRST, REQUEST),
-    Row::Live(&[]),
-    Row::Idle,
-    ALLOCATE,
-    ALLOCATED,
-];
-
-#[test]
-fn dropped_datagrams_count_as_arrivals_of_a_batch(rt: HostRuntime) -> Result<(), Fail> {
-    play(&rt, rt.alloc(), &PAIR, &DROPPED)
-}
-
-const EMPTY: &[Row] = &[Row::Live(&[]), Row::Clock(0), Row::Again(1200)];
-
-const BOTH: &[Row] = &[
-    Row::Live(&[(FIRST, 50000, 1600), (SECOND, 50001, 1600)]),
-    Row::Clock(1000),
-    Row::Again(1200),
-];
-
-/// Of the commit of both allocations.
-const STOPS: [Stops; 4] = [
-    (1, [EMPTY, EMPTY, EMPTY, EMPTY, EMPTY, EMPTY]),
-    (2, [EMPTY, EMPTY, EMPTY, EMPTY, EMPTY, EMPTY]),
-    (3, [EMPTY, BOTH, EMPTY, EMPTY, BOTH, EMPTY]),
-    (4, [EMPTY, BOTH, EMPTY, EMPTY, BOTH, EMPTY]),
-];
-
-fn stop_both(rt: &impl Abort, alloc: Global, stops: &Stops) -> Result<(), Fail> {
-    let (call, found) = stops;
-    for (outcome, rows) in OUTCOMES.iter().zip(found.iter()) {
-        let mut player = Player::new(rt, alloc, alloc, &PAIR)?;
-        player.play(rt, &[ALLOCATE, BOBS])?;
-        stop(rt, player, *call, *outcome)?.play(rt, rows)?;
-    }
-    Ok(())
-}
-
-#[test]
-fn stop_of_a_commit_leaves_both_acts_or_none(rt: HostRuntime) -> Result<(), Fail> {
-    for stops in &STOPS {
-        stop_both(&rt, rt.alloc(), stops)?;
-    }
-    Ok(())
 }

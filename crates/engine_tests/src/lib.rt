@@ -7,13 +7,15 @@ mod commits;
 #[cfg(test)]
 mod crashes;
 #[cfg(test)]
-mod data;
-#[cfg(test)]
 mod hostile_bytes;
+#[cfg(test)]
+mod mixed_runs;
 #[cfg(test)]
 mod player;
 #[cfg(test)]
 mod ports;
+#[cfg(test)]
+mod refused_growths;
 #[cfg(test)]
 mod released_ports;
 #[cfg(test)]

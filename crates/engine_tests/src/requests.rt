@@ -125,9 +125,6 @@ pub const LOWEST: Attribute = Attribute::ChannelNumber(0x4000);
 /// 203.0.113.5:7000.
 pub const PEER: Attribute = Attribute::Peer([0x3A, 0x4A, 0xEA, 0x12, 0xD5, 0x47]);
 
-/// 203.0.113.6:7000.
-pub const OTHER: Attribute = Attribute::Peer([0x3A, 0x4A, 0xEA, 0x12, 0xD5, 0x44]);
-
 /// Adds an attribute to a message.
 fn push(builder: &mut Builder, attribute: &Attribute) -> Result<(), Fail> {
     match attribute {

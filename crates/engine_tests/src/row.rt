@@ -11,8 +11,6 @@ pub enum Sent {
     Client(Endpoint, &'static [u8]),
     /// To a client, a response with this code, 0 for a success.
     Code(Endpoint, u16),
-    /// From port 50000 to 203.0.113.5:7000, this payload.
-    Peer(&'static [u8]),
 }
 
 /// The client of an allocation, its port, and the second at which it expires.
@@ -50,24 +48,6 @@ pub enum Row {
     /// The ports that were released up to now, in order.
     Released(&'static [u16]),
 }
-
-/// The store has no allocation, and her Allocate at 1200 gets port 50000 by the same success.
-pub const NONE: &[Row] = &[
-    Row::Live(&[]),
-    Row::Clock(0),
-    Row::Again(1200),
-    Row::Live(&[(FIRST, 50000, 1800)]),
-    Row::Idle,
-];
-
-/// The store has alice's allocation of 1000, and her Allocate at 1200 is answered by the same success.
-pub const ENTRY: &[Row] = &[
-    Row::Live(&[(FIRST, 50000, 1600)]),
-    Row::Clock(1000),
-    Row::Again(1200),
-    Row::Live(&[(FIRST, 50000, 1600)]),
-    Row::Idle,
-];
 
 /// Alice's Allocate at 192.0.2.1:32853 with the nonce of second 1000; its HMACs are those of another program.
 pub const REQUEST: &[u8; 164] =

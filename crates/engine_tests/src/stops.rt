@@ -1,26 +1,12 @@
-//! Commits whose device calls are stopped or fail, and what is found then.
+//! Servers before a commit.
 
 use crate::player::Player;
 use crate::requests::{ALICE, FIRST, Kind};
 use crate::row::{ALLOCATE, ALLOCATED, Row, Sent};
-use crate::setup::{SMALL, Setup};
+use crate::setup::SMALL;
 use std::alloc::Global;
 use std::process::Abort;
 use std::test::Fail;
-use turn_disk::{Disk, Outcome};
-use turn_engine::CommitRefused;
-
-pub const OUTCOMES: [Outcome; 6] = [
-    Outcome::Lost,
-    Outcome::Kept,
-    Outcome::Half,
-    Outcome::Fill(0x11),
-    Outcome::Fill(0xA5),
-    Outcome::Fill(0x00),
-];
-
-/// A device call of a commit, counted from 1, and what is found after each outcome of a crash.
-pub type Stops = (u64, [&'static [Row]; 6]);
 
 /// Alice's allocation, and her Refreshes for 600 seconds from second 1001 on, one a second, each with a commit.
 pub fn refreshed(rt: &impl Abort, alloc: Global, last: u64) -> Result<Player, Fail> {
@@ -55,15 +41,4 @@ pub fn staged(rt: &impl Abort, alloc: Global, second: u64) -> Result<Player, Fai
     let mut player = Player::new(rt, alloc, alloc, &SMALL)?;
     player.play(rt, &[ALLOCATE])?;
     Ok(player)
-}
-
-/// Stops the commit of a server at a device call, crashes the disk, and opens it again.
-pub fn stop(rt: &impl Abort, player: Player, call: u64, outcome: Outcome) -> Result<Player, Fail> {
-    let mut player = player;
-    assert!(rt; call > 0);
-    player.disk().stop_at(call);
-    assert!(rt; player.fails(CommitRefused::Device));
-    assert!(rt; player.disk().failures() > 0);
-    player.play(rt, &[Row::Stopped(1012)])?;
-    player.crash(outcome)
 }

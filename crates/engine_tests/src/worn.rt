@@ -4,7 +4,7 @@ use crate::player::Player;
 use crate::requests::*;
 use crate::row::{Row, Sent};
 use crate::setup::SMALL;
-use crate::stops::{act_of, staged};
+use crate::stops::staged;
 use std::alloc::Global;
 use std::process::Abort;
 use std::test::Fail;

@@ -1,6 +1,5 @@
-//! Binding, and datagrams that are dropped.
+//! Binding, its FINGERPRINT, and unknown types.
 
-use crate::judged::decided;
 use crate::player::{Player, play};
 use crate::requests::*;
 use crate::row::Row;
@@ -8,8 +7,6 @@ use crate::setup::SETUP;
 use std::alloc::Global;
 use std::test::Fail;
 use turn_codec::{AttributeType, Builder, Message};
-use turn_rules::Decision;
-use turn_table::Table;
 use turn_types::{Class, Method, TxId};
 
 const BINDING: &[u8] =
@@ -55,31 +52,6 @@ const WITH_A_FINGERPRINT: [Row; 1] = [Row::Answer(0, FINGERPRINTED, Some(FINGERP
 #[test]
 fn fingerprint_is_answered_by_one(rt: HostRuntime) -> Result<(), Fail> {
     play(rt.alloc(), &SETUP, &WITH_A_FINGERPRINT)
-}
-
-/// The first two bytes of messages of each other class, and of methods that aren't served.
-const DROPPED: [u16; 8] = [
-    0x0011, 0x0101, 0x0111, 0x0006, 0x0016, 0x0007, 0x0002, 0x3EEF,
-];
-
-/// Whether a new server's step and its decision drop a message.
-fn is_dropped(alloc: Global, bytes: &[u8]) -> Result<bool, Fail> {
-    let table = Table::new(alloc, SETUP.limits()?, at(0)?);
-    let Decision { reply: found, act } = decided(alloc, &table, bytes)?;
-    Ok(found.is_none() && act.is_none() && reply(alloc, bytes)?.is_none())
-}
-
-#[test]
-fn other_classes_and_methods_are_dropped(rt: HostRuntime) -> Result<(), Fail> {
-    for first in &DROPPED {
-        let mut bytes = [0; 20];
-        bytes.copy_from_slice(BINDING);
-        bytes[..2].copy_from_slice(&first.to_be_bytes());
-        if !is_dropped(rt.alloc(), &bytes)? {
-            return Err(Fail::new(*first));
-        }
-    }
-    Ok(())
 }
 
 /// The reply of a new server to a datagram, if there is one.

@@ -34,12 +34,6 @@ const OTHER_ADDRESS: Endpoint = Endpoint {
     port: 7000,
 };
 
-/// 203.0.113.9:7000, which the server denies.
-const DENIED_ADDRESS: Endpoint = Endpoint {
-    ip: 0xCB00_7109,
-    port: 7000,
-};
-
 const BY_PERMISSION: [Row; 8] = [
     ALLOCATED,
     Row::Receive(1000, P, b"hello", None),
@@ -55,19 +49,6 @@ const BY_PERMISSION: [Row; 8] = [
 #[test]
 fn data_of_a_permitted_peer_is_indicated_for_300_seconds(rt: HostRuntime) -> Result<(), Fail> {
     play(rt.alloc(), &SETUP, &BY_PERMISSION)
-}
-
-const OF_A_DENIED_PEER: [Row; 5] = [
-    ALLOCATED,
-    PERMITTED,
-    Row::Ask(1000, ALICE, FIRST, Kind::CreatePermission, &[DENIED], 403),
-    Row::Receive(1000, DENIED_ADDRESS, b"hello", None),
-    Row::Receive(1000, P, b"hello", Some(INDICATION)),
-];
-
-#[test]
-fn nothing_comes_from_a_denied_peer(rt: HostRuntime) -> Result<(), Fail> {
-    play(rt.alloc(), &SETUP, &OF_A_DENIED_PEER)
 }
 
 const BY_CHANNEL: [Row; 9] = [
@@ -142,39 +123,4 @@ fn datagrams_to_clients_have_up_to_65507_bytes(rt: HostRuntime) -> Result<(), Fa
         rt.alloc(),
         &mut Player::new(rt.alloc(), rt.alloc(), &SETUP)?,
     )
-}
-
-const TWO_CLIENTS: [Row; 8] = [
-    ALLOCATED,
-    Row::Ask(1000, ALICE, SECOND, Kind::Allocate, &[UDP], 0),
-    Row::Port(1000, SECOND, 50001),
-    BOUND,
-    Row::Receive(1000, P, b"abc", Some(CHANNEL_DATA)),
-    Row::DropAt(1000, 50001, P, b"abc"),
-    Row::Send(1000, CHANNEL_DATA, Some(b"abc")),
-    Row::Drop(1000, SECOND, CHANNEL_DATA),
-];
-
-#[test]
-fn channel_is_of_one_client(rt: HostRuntime) -> Result<(), Fail> {
-    play(rt.alloc(), &SETUP, &TWO_CLIENTS)
-}
-
-const MADE_ANEW: [Row; 10] = [
-    ALLOCATED,
-    BOUND,
-    Row::Receive(1000, P, b"abc", Some(CHANNEL_DATA)),
-    Row::Ask(1000, ALICE, FIRST, Kind::Refresh, &[ZERO], 0),
-    Row::Receive(1000, P, b"abc", None),
-    // It has neither permissions nor channels.
-    ALLOCATED,
-    Row::Receive(1000, P, b"abc", None),
-    Row::Send(1000, CHANNEL_DATA, None),
-    PERMITTED,
-    Row::Receive(1000, P, b"hello", Some(INDICATION)),
-];
-
-#[test]
-fn nothing_comes_without_an_allocation(rt: HostRuntime) -> Result<(), Fail> {
-    play(rt.alloc(), &SETUP, &MADE_ANEW)
 }

@@ -2,7 +2,7 @@
 
 use crate::ports::Ports;
 use crate::requests::*;
-use crate::row::{Asked, Refused, Row};
+use crate::row::Row;
 use crate::setup::{Setup, users};
 use std::alloc::{Allocator, Global};
 use std::test::Fail;
@@ -284,42 +284,6 @@ impl<A: Allocator + Copy> Player<A> {
         code_of(&message)
     }
 
-    /// Whether each of some requests gets its code.
-    fn asks(&mut self, second: u64, kind: Kind, rows: &[Asked]) -> Result<bool, Fail> {
-        for (name, user, client, attributes, code) in rows {
-            if self.code(*user, *client, second, kind, attributes)? != *code {
-                return Err(Fail::new(*name));
-            }
-        }
-        Ok(true)
-    }
-
-    /// Whether each of some requests of alice gets its code.
-    fn refuses(&mut self, second: u64, kind: Kind, rows: &[Refused]) -> Result<bool, Fail> {
-        for (name, attributes, code) in rows {
-            if self.code(ALICE, FIRST, second, kind, attributes)? != *code {
-                return Err(Fail::new(*name));
-            }
-        }
-        Ok(true)
-    }
-
-    /// Whether alice's request for a lifetime gets so many seconds, in the reply and in the table.
-    fn grants(&mut self, second: u64, kind: Kind, asked: u32, seconds: u32) -> Result<bool, Fail> {
-        let other = match kind {
-            Kind::Allocate => UDP,
-            _ => IPV4,
-        };
-        let attributes = [Attribute::Lifetime(asked), other];
-        let reply = self.ask(ALICE, FIRST, second, kind, &attributes)?;
-        let message = Message::parse(&reply)?;
-        Ok(
-            lifetime_in(&message) == Some(seconds)
-                && integrity_holds(&message, &ALICE.key())
-                && self.expiry() == second.wrapping_add(u64::from(seconds)),
-        )
-    }
-
     /// The second at which the first client's allocation expires, 0 for none.
     fn expiry(&self) -> u64 {
         match self.table().get(five_tuple(FIRST)) {
@@ -359,14 +323,9 @@ impl<A: Allocator + Copy> Player<A> {
             Row::Ask(second, user, client, kind, attributes, code) => {
                 Ok(self.code(*user, *client, *second, *kind, attributes)? == *code)
             }
-            Row::Asks(second, kind, rows) => self.asks(*second, *kind, rows),
-            Row::Refuses(second, kind, rows) => self.refuses(*second, *kind, rows),
             Row::Reply(second, kind, attributes, reply) => {
                 let found = self.ask(ALICE, FIRST, *second, *kind, attributes)?;
                 Ok(found.as_slice() == *reply)
-            }
-            Row::Grant(second, kind, asked, seconds) => {
-                self.grants(*second, *kind, *asked, *seconds)
             }
             Row::Answer(second, bytes, reply) => {
                 Ok(is_same(&self.reply(FIRST, *second, bytes)?, *reply))
@@ -380,11 +339,6 @@ impl<A: Allocator + Copy> Player<A> {
             }
             Row::DropAt(second, port, from, bytes) => {
                 Ok(self.receive(*second, *port, *from, bytes)?.is_none())
-            }
-            Row::Names(second, first, count, code) => {
-                let bytes = naming(self.alloc, *second, *first, *count)?;
-                let found = self.reply(FIRST, *second, &bytes)?.ok_or("a reply")?;
-                Ok(code_of(&Message::parse(&found)?)? == *code)
             }
             found => self.finds(found),
         }
@@ -408,10 +362,6 @@ impl<A: Allocator + Copy> Player<A> {
             Row::Bound(second, port, permitted) => {
                 self.wait(*second)?;
                 Ok(self.bound()? == *port && self.permitted(PEER_IP) == *permitted)
-            }
-            Row::Peer(second, number, peer) => {
-                self.wait(*second)?;
-                Ok(self.table().peer_of(five_tuple(FIRST), *number) == *peer)
             }
             Row::Entries(count) => Ok(self.table().len() == *count),
             Row::Released(ports) => Ok(are_the_same(self.ports().released(), ports)),

@@ -2,7 +2,7 @@
 
 use crate::player::{Player, play};
 use crate::requests::*;
-use crate::row::{ALLOCATED, Asked, Refused, Row};
+use crate::row::{ALLOCATED, Row};
 use crate::setup::SETUP;
 use std::test::Fail;
 use turn_codec::{AttributeType, Message};
@@ -63,82 +63,4 @@ const DELETION: [Row; 4] = [
 #[test]
 fn refresh_of_0_deletes_the_allocation(rt: HostRuntime) -> Result<(), Fail> {
     play(rt.alloc(), &SETUP, &DELETION)
-}
-
-// From the moment of the request on, whatever was granted before.
-const GRANTS: [Row; 11] = [
-    ALLOCATED,
-    Row::Grant(1100, REFRESH, 100, 600),
-    Row::Grant(1100, REFRESH, 600, 600),
-    Row::Grant(1100, REFRESH, 601, 601),
-    Row::Grant(1100, REFRESH, 1200, 1200),
-    Row::Grant(1100, REFRESH, 3600, 3600),
-    Row::Grant(1100, REFRESH, 3601, 3600),
-    Row::Grant(1100, REFRESH, 999_999, 3600),
-    Row::Grant(1100, REFRESH, 4_294_967_295, 3600),
-    Row::Ask(1200, ALICE, FIRST, REFRESH, &[], 0),
-    Row::Expiry(1200, 1800),
-];
-
-#[test]
-fn refresh_grants_600_to_3600_seconds(rt: HostRuntime) -> Result<(), Fail> {
-    play(rt.alloc(), &SETUP, &GRANTS)
-}
-
-// Where several errors apply, the first one of the order counts.
-const ROWS: [Asked; 11] = [
-    ("a flag, no allocation", ALICE, SECOND, &[FLAG], 420),
-    ("a flag, bob", BOB, FIRST, &[FLAG], 420),
-    ("bob, no allocation", BOB, SECOND, &[], 437),
-    (
-        "malformed, no allocation",
-        ALICE,
-        SECOND,
-        &[SHORT_LIFETIME],
-        437,
-    ),
-    ("bob", BOB, FIRST, &[], 441),
-    ("bob, malformed", BOB, FIRST, &[SHORT_LIFETIME], 441),
-    ("bob, IPv6", BOB, FIRST, &[IPV6], 441),
-    ("bob, to delete", BOB, FIRST, &[ZERO], 441),
-    (
-        "malformed, IPv6",
-        ALICE,
-        FIRST,
-        &[SHORT_LIFETIME, IPV6],
-        400,
-    ),
-    ("IPv6", ALICE, FIRST, &[IPV6], 443),
-    ("IPv6, to delete", ALICE, FIRST, &[IPV6, ZERO], 443),
-];
-
-const REFUSED: [Row; 3] = [
-    ALLOCATED,
-    Row::Asks(1100, REFRESH, &ROWS),
-    Row::Expiry(1100, 4600),
-];
-
-#[test]
-fn refresh_gets_the_first_error_that_applies(rt: HostRuntime) -> Result<(), Fail> {
-    play(rt.alloc(), &SETUP, &REFUSED)
-}
-
-const LENGTHS: [Refused; 6] = [
-    ("LIFETIME, 0", &[Attribute::Of(0x000D, 0)], 400),
-    ("LIFETIME, 3", &[Attribute::Of(0x000D, 3)], 400),
-    ("LIFETIME, 5", &[Attribute::Of(0x000D, 5)], 400),
-    ("family, 0", &[Attribute::Of(0x0017, 0)], 400),
-    ("family, 3", &[Attribute::Of(0x0017, 3)], 400),
-    ("family, 5", &[Attribute::Of(0x0017, 5)], 400),
-];
-
-const WRONG_LENGTHS: [Row; 3] = [
-    ALLOCATED,
-    Row::Refuses(1100, REFRESH, &LENGTHS),
-    Row::Expiry(1100, 4600),
-];
-
-#[test]
-fn refresh_with_a_wrong_length_is_400(rt: HostRuntime) -> Result<(), Fail> {
-    play(rt.alloc(), &SETUP, &WRONG_LENGTHS)
 }

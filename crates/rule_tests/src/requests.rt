@@ -2,7 +2,7 @@
 
 use std::alloc::Global;
 use std::test::Fail;
-use turn_codec::{AttributeType, Builder, Message, xor_address};
+use turn_codec::{AttributeType, Builder, Message};
 use turn_cred::Nonces;
 use turn_mac::{append_fingerprint, append_integrity, generate_auth_key, hmac_sha1};
 use turn_types::{Class, Endpoint, FiveTuple, Method, Moment, TxId};
@@ -114,18 +114,11 @@ pub enum Attribute {
     Transport(u8),
     Lifetime(u32),
     EvenPort(u8),
-    ReservationToken,
-    /// REQUESTED-ADDRESS-FAMILY.
-    Family(u8),
     ChannelNumber(u16),
     /// XOR-PEER-ADDRESS of a masked port and a masked IPv4 address.
     Peer([u8; 6]),
-    /// XOR-PEER-ADDRESS of a family and so many bytes, up to 24.
-    PeerOf(u8, usize),
     /// Which the server doesn't understand.
     DontFragment,
-    /// A type with a value of so many bytes, up to 24, whose first byte is that of a right one.
-    Of(u16, usize),
 }
 
 pub const UDP: Attribute = Attribute::Transport(17);
@@ -139,32 +132,14 @@ pub const HOUR: Attribute = Attribute::Lifetime(3600);
 
 pub const ZERO: Attribute = Attribute::Lifetime(0);
 
-pub const SHORT_LIFETIME: Attribute = Attribute::Of(0x000D, 3);
-
 /// The channel number 0x4000, the lowest one.
 pub const LOWEST: Attribute = Attribute::ChannelNumber(0x4000);
-
-pub const IPV4: Attribute = Attribute::Family(1);
-
-pub const IPV6: Attribute = Attribute::Family(2);
 
 /// 203.0.113.5:7000.
 pub const PEER: Attribute = Attribute::Peer([0x3A, 0x4A, 0xEA, 0x12, 0xD5, 0x47]);
 
-/// 203.0.113.5:7001.
-pub const PEER_BY_ANOTHER_PORT: Attribute = Attribute::Peer([0x3A, 0x4B, 0xEA, 0x12, 0xD5, 0x47]);
-
 /// 203.0.113.6:7000.
 pub const OTHER: Attribute = Attribute::Peer([0x3A, 0x4A, 0xEA, 0x12, 0xD5, 0x44]);
-
-/// 203.0.113.9:7000, which the server denies.
-pub const DENIED: Attribute = Attribute::Peer([0x3A, 0x4A, 0xEA, 0x12, 0xD5, 0x4B]);
-
-pub const IPV6_PEER: Attribute = Attribute::PeerOf(2, 20);
-
-pub const SHORT_PEER: Attribute = Attribute::PeerOf(1, 7);
-
-pub const LONG_PEER: Attribute = Attribute::PeerOf(1, 9);
 
 impl Attribute {
     fn kind(&self) -> AttributeType {
@@ -172,20 +147,17 @@ impl Attribute {
             Attribute::Transport(_) => AttributeType::REQUESTED_TRANSPORT,
             Attribute::Lifetime(_) => AttributeType::LIFETIME,
             Attribute::EvenPort(_) => AttributeType::EVEN_PORT,
-            Attribute::ReservationToken => AttributeType::RESERVATION_TOKEN,
-            Attribute::Family(_) => AttributeType::REQUESTED_ADDRESS_FAMILY,
             Attribute::ChannelNumber(_) => AttributeType::CHANNEL_NUMBER,
-            Attribute::Peer(_) | Attribute::PeerOf(_, _) => AttributeType::XOR_PEER_ADDRESS,
+            Attribute::Peer(_) => AttributeType::XOR_PEER_ADDRESS,
             Attribute::DontFragment => AttributeType::new(0x001A),
-            Attribute::Of(number, _) => AttributeType::new(*number),
         }
     }
 
     /// The value, with zeros after it, and its size.
-    fn value(&self) -> ([u8; 24], usize) {
-        let mut bytes = [0; 24];
+    fn value(&self) -> ([u8; 8], usize) {
+        let mut bytes = [0; 8];
         let size = match self {
-            Attribute::Transport(first) | Attribute::Family(first) => {
+            Attribute::Transport(first) => {
                 bytes[0] = *first;
                 4
             }
@@ -201,36 +173,14 @@ impl Attribute {
                 bytes[..2].copy_from_slice(&number.to_be_bytes());
                 4
             }
-            Attribute::ReservationToken => 8,
             Attribute::Peer(masked) => {
                 bytes[1] = 1;
                 bytes[2..8].copy_from_slice(masked);
                 8
             }
-            Attribute::PeerOf(family, size) => {
-                bytes[..8].copy_from_slice(&[0, *family, 0x3A, 0x4A, 0xEA, 0x12, 0xD5, 0x47]);
-                *size
-            }
             Attribute::DontFragment => 0,
-            Attribute::Of(number, size) => {
-                bytes[0] = first_byte(AttributeType::new(*number));
-                *size
-            }
         };
         (bytes, size)
-    }
-}
-
-/// The first byte of a right value.
-fn first_byte(kind: AttributeType) -> u8 {
-    if kind == AttributeType::REQUESTED_TRANSPORT {
-        17
-    } else if kind == AttributeType::REQUESTED_ADDRESS_FAMILY {
-        1
-    } else if kind == AttributeType::CHANNEL_NUMBER {
-        0x40
-    } else {
-        0
     }
 }
 
@@ -244,8 +194,8 @@ pub fn push_value(builder: &mut Builder, kind: u16, value: &[u8]) -> Result<(), 
 fn push(builder: &mut Builder, attribute: &Attribute) -> Result<(), Fail> {
     let kind = attribute.kind();
     let (bytes, size) = attribute.value();
-    if size > 24 {
-        return Err(Fail::new("more than 24 bytes"));
+    if size > 8 {
+        return Err(Fail::new("more than 8 bytes"));
     }
     builder.push(kind, &bytes[..size])?;
     Ok(())
@@ -287,17 +237,6 @@ pub fn signed(
     sign(builder, user, nonce)
 }
 
-/// An Allocate of a user at 192.0.2.1:32853, with the nonce of second 1000.
-pub fn allocate_of(
-    alloc: Global,
-    id: TxId,
-    user: User,
-    attributes: &[Attribute],
-) -> Result<Vec<u8>, Fail> {
-    let nonce = nonce_of(1000, FIRST)?;
-    signed(alloc, Kind::Allocate, id, user, &nonce, attributes)
-}
-
 /// Alice's request for UDP with the nonce of second 1000 and a FINGERPRINT.
 pub fn fingerprinted(alloc: Global, kind: Kind) -> Result<Vec<u8>, Fail> {
     let mut builder = Builder::new(alloc, Class::Request, kind.method(), ID)?;
@@ -308,19 +247,6 @@ pub fn fingerprinted(alloc: Global, kind: Kind) -> Result<Vec<u8>, Fail> {
     append_integrity(&mut builder, &ALICE.key())?;
     append_fingerprint(&mut builder)?;
     Ok(builder.finish())
-}
-
-/// A CreatePermission of alice that names so many addresses from one on, each twice.
-pub fn naming(alloc: Global, second: u64, first: u32, count: u32) -> Result<Vec<u8>, Fail> {
-    let mut builder = Builder::new(alloc, Class::Request, Method::CREATE_PERMISSION, ID)?;
-    for i in 0..count {
-        let ip = first.wrapping_add(i);
-        for port in [7000, 7001] {
-            let peer = xor_address(Endpoint { ip, port });
-            builder.push(AttributeType::XOR_PEER_ADDRESS, &peer)?;
-        }
-    }
-    sign(builder, ALICE, &nonce_of(second, FIRST)?)
 }
 
 /// A request without credentials, with attributes by their types and values.
@@ -345,13 +271,5 @@ pub fn code_of(message: &Message<'_>) -> Result<u16, Fail> {
         }
         (Class::Success, None) => Ok(0),
         _ => Err(Fail::new("an error without a code, or a success with one")),
-    }
-}
-
-/// The value of LIFETIME in a reply.
-pub fn lifetime_in(message: &Message<'_>) -> Option<u32> {
-    match message.find(AttributeType::LIFETIME) {
-        Some([a, b, c, d]) => Some(u32::from_be_bytes([*a, *b, *c, *d])),
-        _ => None,
     }
 }

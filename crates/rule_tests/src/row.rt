@@ -3,25 +3,13 @@
 use crate::requests::*;
 use turn_types::Endpoint;
 
-/// What a request of alice from the first client is, and the code of its reply.
-pub type Refused = (&'static str, &'static [Attribute], u16);
-
-/// What a request is, who sends it from where, and the code of its reply.
-pub type Asked = (&'static str, User, Endpoint, &'static [Attribute], u16);
-
 /// What a test does and finds, each at a second. Seconds never fall.
 #[derive(Clone, Copy)]
 pub enum Row {
     /// A request of a user from a client, and the code of its reply, 0 for a success.
     Ask(u64, User, Endpoint, Kind, &'static [Attribute], u16),
-    /// Such requests.
-    Asks(u64, Kind, &'static [Asked]),
-    /// Such requests of alice from the first client.
-    Refuses(u64, Kind, &'static [Refused]),
     /// Alice's request, and the bytes of its reply.
     Reply(u64, Kind, &'static [Attribute], &'static [u8]),
-    /// Alice's request for so many seconds, and how many are granted.
-    Grant(u64, Kind, u32, u32),
     /// A datagram of the first client, and its reply, if it has one.
     Answer(u64, &'static [u8], Option<&'static [u8]>),
     /// A datagram of the first client, and the payload that 203.0.113.5:7000 gets of it from port 50000, if it gets one.
@@ -41,10 +29,6 @@ pub enum Row {
     /// The port to which 0x4000 is bound at 203.0.113.5 for the first client, 0 for none, and whether that address is
     /// permitted.
     Bound(u64, u16, bool),
-    /// The peer to which a channel of the first client is bound, if it is.
-    Peer(u64, u16, Option<Endpoint>),
-    /// Alice's CreatePermission that names so many addresses from one on, each twice, and the code of its reply.
-    Names(u64, u32, u32, u16),
     /// How many allocations there are.
     Entries(usize),
     /// The ports that were released up to now, in any order.

@@ -33,18 +33,6 @@ pub const SETUP: Setup = Setup {
     fails: false,
 };
 
-/// The same under limits of permissions and channels.
-pub fn with_limits(permissions: u16, channels: u16) -> Setup {
-    let bounds = Bounds {
-        allocations: 4,
-        permissions,
-        channels,
-        acts: 64,
-        name_bytes: 508,
-    };
-    Setup { bounds, ..SETUP }
-}
-
 impl Setup {
     pub fn limits(&self) -> Result<Limits, Fail> {
         Ok(Limits::new(self.bounds).ok_or("limits")?)

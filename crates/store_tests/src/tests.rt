@@ -10,7 +10,6 @@ mod disks;
 mod journal_area;
 mod journal_memory;
 mod journal_scan;
-mod journal_stops;
 mod records;
 mod snapshot_reads;
 mod snapshots;

@@ -1,4 +1,4 @@
-//! Tests of batches for which the area that counts has no room: the bytes, each stop, each failed device call.
+//! Tests of batches for which the area that counts has no room: the bytes, and each stop where the other area is closed.
 
 use super::batches::{OUTCOMES, Stops, append_at, expiry_in, stop_batch, store_after};
 use super::disks::write;
@@ -7,7 +7,7 @@ use super::stores::{TestStore, small_limits};
 use std::alloc::Global;
 use std::process::Abort;
 use turn_disk::{Disk, Outcome};
-use turn_store::{Info, OpenFault, StoreFault};
+use turn_store::{Info, StoreFault};
 
 /// The frame of the Refresh at 1005, and the closed gate after it.
 const LAST_FRAME: [u8; 32] = *b"\xa5\x00\x00\x00\x1a\x01\x02\x00\x00\x00\x00\x00\x00\x03\xed\
@@ -86,74 +86,6 @@ fn a_snapshot_may_replace_an_area_of_old_frames(rt: HostRuntime) {
     assert!(rt; expiry_in(&rt, rt.alloc(), store.into_disk()) == Ok(1612));
 }
 
-/// Of the Refresh at 1006. The other area's gate is closed, and then what follows it is written, while the full area
-/// counts. From the write of the gate on, it is what the crash leaves of one byte, of which the first half is none.
-const STOPS: [Stops; 7] = [
-    (1, [1605, 1605, 1605, 1605, 1605, 1605]),
-    (2, [1605, 1605, 1605, 1605, 1605, 1605]),
-    (3, [1605, 1605, 1605, 1605, 1605, 1605]),
-    (4, [1605, 1605, 1605, 1605, 1605, 1605]),
-    (5, [1605, 1606, 1605, 1605, 1606, 1605]),
-    (6, [1605, 1606, 1605, 1605, 1606, 1605]),
-    (7, [1606, 1606, 1606, 1606, 1606, 1606]),
-];
-
-/// Of the Refresh at 1012, whose snapshot is written over old frames.
-const LATER_STOPS: [Stops; 7] = [
-    (1, [1611, 1611, 1611, 1611, 1611, 1611]),
-    (2, [1611, 1611, 1611, 1611, 1611, 1611]),
-    (3, [1611, 1611, 1611, 1611, 1611, 1611]),
-    (4, [1611, 1611, 1611, 1611, 1611, 1611]),
-    (5, [1611, 1612, 1611, 1611, 1612, 1611]),
-    (6, [1611, 1612, 1611, 1611, 1612, 1611]),
-    (7, [1612, 1612, 1612, 1612, 1612, 1612]),
-];
-
-// Stops the batch of this second, which makes six device calls.
-fn stop_snapshot(rt: &impl Abort, alloc: Global, second: u8, call: u64, expiries: &[u64]) {
-    for (outcome, expiry) in OUTCOMES.iter().zip(expiries.iter()) {
-        let store = store_after(rt, alloc, second);
-        let stopped = stop_batch(rt, alloc, store, second, call, *outcome);
-        assert!(rt; stopped == (call == 7, Ok(*expiry)));
-    }
-}
-
-#[test]
-fn a_stop_of_a_compaction_leaves_the_old_table_or_the_new_one(rt: HostRuntime) {
-    for (call, expiries) in &STOPS {
-        stop_snapshot(&rt, rt.alloc(), 6, *call, expiries);
-    }
-    for (call, expiries) in &LATER_STOPS {
-        stop_snapshot(&rt, rt.alloc(), 12, *call, expiries);
-    }
-}
-
-/// A device call of the Refresh at 1006 that fails alone, and when alice's allocation then expires.
-const FAILURES: [(u64, u64); 6] = [
-    (1, 1605),
-    (2, 1605),
-    (3, 1605),
-    (4, 1605),
-    (5, 1606),
-    (6, 1606),
-];
-
-fn fail_snapshot(rt: &impl Abort, alloc: Global, call: u64) -> Result<u64, OpenFault> {
-    let mut store = store_after(rt, alloc, 6);
-    assert!(rt; call > 0);
-    store.disk().fail_call(call);
-    assert!(rt; append_at(rt, alloc, &mut store, 6) == Err(StoreFault::Device));
-    assert!(rt; append_at(rt, alloc, &mut store, 6) == Err(StoreFault::Stopped));
-    expiry_in(rt, alloc, store.into_disk())
-}
-
-#[test]
-fn a_failed_device_call_of_a_compaction_leaves_the_old_table_or_the_new_one(rt: HostRuntime) {
-    for (call, expiry) in &FAILURES {
-        assert!(rt; fail_snapshot(&rt, rt.alloc(), *call) == Ok(*expiry));
-    }
-}
-
 // The full area counts, and the other one is closed and has the snapshot of 1006, with a later generation.
 fn with_later_generation(rt: &impl Abort, alloc: Global) -> TestStore {
     let mut store = store_after(rt, alloc, 6);
@@ -191,9 +123,6 @@ const CLOSED_STOPS: [Stops; 5] = [
 
 fn stop_closed(rt: &impl Abort, alloc: Global, call: u64, expiries: &[u64]) {
     for (outcome, expiry) in OUTCOMES.iter().zip(expiries.iter()) {
-        let later = with_later_generation(rt, alloc);
-        let stopped = stop_batch(rt, alloc, later, 10, call, *outcome);
-        assert!(rt; stopped == (call == 5, Ok(*expiry)));
         let same = with_same_generation(rt, alloc);
         let stopped = stop_batch(rt, alloc, same, 10, call, *outcome);
         assert!(rt; stopped == (call == 5, Ok(*expiry)));

@@ -1,8 +1,6 @@
-//! Tests of batches that are appended as frames: the bytes, each stop, each failed device call.
+//! Tests of batches that are appended as frames, in bytes, and of a stopped store.
 
-use super::batches::{
-    OUTCOMES, Stops, append_at, append_with, expiry_in, stop_batch, store_after, table_at,
-};
+use super::batches::{append_at, append_with, expiry_in, store_after, table_at};
 use super::store_format::{SUPERBLOCK, has_at, is_zero_from};
 use super::stores::TestStore;
 use std::alloc::Global;
@@ -48,34 +46,6 @@ fn a_batch_is_a_frame_after_the_last_one(rt: HostRuntime) {
     assert!(rt; expiry_in(&rt, rt.alloc(), store.into_disk()) == Ok(1600));
 }
 
-/// Of the append of alice's allocation. Until the first sync the frame's gate is closed, whatever follows it. From the
-/// write of the gate on it is what the crash leaves of one byte, of which the first half is none.
-const STOPS: [Stops; 5] = [
-    (1, [0, 0, 0, 0, 0, 0]),
-    (2, [0, 0, 0, 0, 0, 0]),
-    (3, [0, 1600, 0, 0, 1600, 0]),
-    (4, [0, 1600, 0, 0, 1600, 0]),
-    (5, [1600, 1600, 1600, 1600, 1600, 1600]),
-];
-
-fn stop_frame(rt: &impl Abort, alloc: Global, call: u64, expiries: &[u64]) {
-    for (outcome, expiry) in OUTCOMES.iter().zip(expiries.iter()) {
-        let store = store_after(rt, alloc, 0);
-        let stopped = stop_batch(rt, alloc, store, 0, call, *outcome);
-        assert!(rt; stopped == (call == 5, Ok(*expiry)));
-    }
-}
-
-#[test]
-fn a_stop_of_a_frame_leaves_the_batch_or_not(rt: HostRuntime) {
-    for (call, expiries) in &STOPS {
-        stop_frame(&rt, rt.alloc(), *call, expiries);
-    }
-}
-
-/// A device call of an append that fails alone, and when alice's allocation then expires, or 0.
-const FAILURES: [(u64, u64); 4] = [(1, 0), (2, 0), (3, 1600), (4, 1600)];
-
 // The append of the allocation, whose device call of this number fails.
 fn fail_frame(rt: &impl Abort, alloc: Global, call: u64) -> TestStore {
     let mut store = store_after(rt, alloc, 0);
@@ -84,14 +54,6 @@ fn fail_frame(rt: &impl Abort, alloc: Global, call: u64) -> TestStore {
     assert!(rt; append_at(rt, alloc, &mut store, 0) == Err(StoreFault::Device));
     assert!(rt; store.disk().failures() == 1);
     store
-}
-
-#[test]
-fn a_failed_device_call_of_a_frame_leaves_the_batch_or_not(rt: HostRuntime) {
-    for (call, expiry) in &FAILURES {
-        let store = fail_frame(&rt, rt.alloc(), *call);
-        assert!(rt; expiry_in(&rt, rt.alloc(), store.into_disk()) == Ok(*expiry));
-    }
 }
 
 // The next device call is to fail, and still is after all calls of a stopped store.
@@ -113,12 +75,7 @@ fn reopen_stopped(rt: &impl Abort, alloc: Global, outcome: Outcome) -> Result<u6
     expiry_in(rt, alloc, disk)
 }
 
-/// When alice's allocation expires where the last device call of its append failed, after each outcome of a crash, or 0.
-const FAILED_SYNC: [u64; 6] = [0, 1600, 0, 0, 1600, 0];
-
 #[test]
 fn a_stopped_store_makes_no_device_call(rt: HostRuntime) {
-    for (outcome, expiry) in OUTCOMES.iter().zip(FAILED_SYNC.iter()) {
-        assert!(rt; reopen_stopped(&rt, rt.alloc(), *outcome) == Ok(*expiry));
-    }
+    assert!(rt; reopen_stopped(&rt, rt.alloc(), Outcome::Kept) == Ok(1600));
 }

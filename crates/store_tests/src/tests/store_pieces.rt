@@ -1,13 +1,12 @@
 //! Tests of compactions whose snapshot is written in pieces of 4,096 bytes.
 
-use super::batches::OUTCOMES;
 use super::snapshot_reads::max_entries;
 use super::store_format::has_at;
 use super::stores::{SnapshotTable, TestStore};
 use std::alloc::Global;
 use std::process::Abort;
 use std::test::Fail;
-use turn_disk::{Disk, MemoryDisk, Outcome};
+use turn_disk::MemoryDisk;
 use turn_store::{Store, StoreFault, least_area};
 use turn_types::{Bounds, Limits};
 
@@ -111,45 +110,11 @@ fn a_snapshot_of_more_than_a_piece_takes_another_device_call(rt: HostRuntime) {
     }
 }
 
-/// A device call of a compaction to 87 allocations, counted from 1, and how many there are after each outcome of a crash.
-const STOPS: [(u64, [usize; 6]); 8] = [
-    (1, [0, 0, 0, 0, 0, 0]),
-    (2, [0, 0, 0, 0, 0, 0]),
-    (3, [0, 0, 0, 0, 0, 0]),
-    (4, [0, 0, 0, 0, 0, 0]),
-    (5, [0, 0, 0, 0, 0, 0]),
-    (6, [0, 87, 0, 0, 87, 0]),
-    (7, [0, 87, 0, 0, 87, 0]),
-    (8, [87, 87, 87, 87, 87, 87]),
-];
-
 /// How many allocations the store of a disk has.
 fn count_in(rt: &impl Abort, alloc: Global, disk: MemoryDisk, limits: Limits) -> usize {
     match Store::open(alloc, disk, limits) {
         Ok(opened) => opened.table.len(),
         Err(_) => panic!(rt; "not opened"),
-    }
-}
-
-fn count_after(rt: &impl Abort, alloc: Global, call: u64, outcome: Outcome) -> usize {
-    assert!(rt; call > 0);
-    let (mut disk, is_done) = compact_stopped(rt, alloc, 87, call - 1);
-    assert!(rt; is_done == (call == 8));
-    assert!(rt; disk.failures() == u64::from(call < 8));
-    disk.crash(outcome);
-    count_in(rt, alloc, disk, limits(rt))
-}
-
-fn stop_pieces(rt: &impl Abort, alloc: Global, call: u64, counts: &[usize]) {
-    for (outcome, count) in OUTCOMES.iter().zip(counts.iter()) {
-        assert!(rt; count_after(rt, alloc, call, *outcome) == *count);
-    }
-}
-
-#[test]
-fn a_stop_of_a_compaction_in_pieces_leaves_the_old_table_or_the_new_one(rt: HostRuntime) {
-    for (call, counts) in &STOPS {
-        stop_pieces(&rt, rt.alloc(), *call, counts);
     }
 }
 

@@ -1,0 +1,316 @@
+//! A server beside the rules alone, over a long mixed run.
+
+use crate::player::{Player, of_client};
+use crate::ports::Ports;
+use crate::requests::*;
+use crate::same::{are_same, is_same_table};
+use crate::setup::{LARGE, Setup, users};
+use std::alloc::Global;
+use std::process::Abort;
+use std::test::Fail;
+use turn_cred::Users;
+use turn_step::{Arrival, Machine, Outgoing};
+use turn_table::Table;
+use turn_types::{Bounds, Endpoint};
+
+/// The max limits.
+const HIGHEST: Setup = Setup {
+    bounds: Bounds {
+        allocations: 1024,
+        permissions: 32,
+        channels: 32,
+        acts: 64,
+        name_bytes: 508,
+    },
+    area: 2_000_000,
+    ..LARGE
+};
+
+/// A linear congruential generator.
+#[derive(Clone, Copy)]
+struct Random {
+    state: u64,
+}
+
+impl Random {
+    /// A number below a bound.
+    fn below(&mut self, bound: u32) -> u32 {
+        self.state = self
+            .state
+            .wrapping_mul(6_364_136_223_846_793_005)
+            .wrapping_add(1_442_695_040_888_963_407);
+        let high = (self.state >> 33) as u32;
+        if bound == 0 { 0 } else { high % bound }
+    }
+}
+
+/// Where a datagram comes from: a client, or 203.0.113.5:7000 to a relayed port.
+#[derive(Clone, Copy)]
+enum Source {
+    Client(Endpoint),
+    Port(u16),
+}
+
+/// A datagram, and where it comes from.
+#[derive(Drop)]
+struct Drawn {
+    source: Source,
+    bytes: Vec<u8>,
+}
+
+impl Drawn {
+    fn arrival(&self) -> Arrival<'_> {
+        match self.source {
+            Source::Client(client) => of_client(client, &self.bytes),
+            Source::Port(port) => Arrival::Peer {
+                port,
+                from: PEER_ENDPOINT,
+                bytes: &self.bytes,
+                id: ID,
+            },
+        }
+    }
+}
+
+/// The requests, some more often than others.
+const REQUESTS: [(Kind, &[Attribute]); 12] = [
+    (Kind::Allocate, &[UDP]),
+    (Kind::Allocate, &[UDP, HOUR]),
+    (Kind::Allocate, &[UDP]),
+    (Kind::Allocate, &[]),
+    (Kind::Refresh, &[]),
+    (Kind::Refresh, &[HOUR]),
+    (Kind::Refresh, &[ZERO]),
+    (Kind::CreatePermission, &[PEER]),
+    (Kind::CreatePermission, &[PEER]),
+    (Kind::ChannelBind, &[LOWEST, PEER]),
+    (Kind::ChannelBind, &[LOWEST, PEER]),
+    (Kind::ChannelBind, &[PEER]),
+];
+
+/// Data of clients: the text "hello" in a Send indication, and "abc" over channel 0x4000.
+const DATA: [&[u8]; 2] = [
+    b"\x00\x16\x00\x18\x21\x12\xa4\x42\x01\x02\x03\x04\x05\x06\x07\x08\x09\x0a\x0b\x0c\
+    \x00\x12\x00\x08\x00\x01\x3a\x4a\xea\x12\xd5\x47\
+    \x00\x13\x00\x05hello\x00\x00\x00",
+    b"\x40\x00\x00\x03abc",
+];
+
+/// A run of two clients, their requests, and their data.
+#[derive(Drop)]
+struct Run {
+    alloc: Global,
+    random: Random,
+    second: u64,
+    // The last request.
+    last: Drawn,
+}
+
+impl Run {
+    fn new(alloc: Global) -> Run {
+        Run {
+            alloc,
+            random: Random { state: 20 },
+            second: 1000,
+            last: Drawn {
+                source: Source::Client(FIRST),
+                bytes: Vec::new(alloc),
+            },
+        }
+    }
+
+    fn client(&mut self) -> Endpoint {
+        if self.random.below(2) == 0 {
+            FIRST
+        } else {
+            SECOND
+        }
+    }
+
+    /// A request with the nonce of this second, mostly of the user whose address it comes from.
+    fn request(&mut self) -> Result<Drawn, Fail> {
+        let client = self.client();
+        let user = if (client == FIRST) == (self.random.below(16) > 0) {
+            ALICE
+        } else {
+            BOB
+        };
+        let (kind, attributes) = match REQUESTS.get(self.random.below(12) as usize) {
+            Some((kind, attributes)) => (*kind, *attributes),
+            None => (Kind::Refresh, REQUESTS[4].1),
+        };
+        let source = Source::Client(client);
+        let bytes = signed(self.alloc, self.second, user, client, kind, attributes)?;
+        self.last = Drawn {
+            source,
+            bytes: Vec::from_slice(self.alloc, &bytes)?,
+        };
+        Ok(Drawn { source, bytes })
+    }
+
+    /// The last request again.
+    fn repeated(&self) -> Result<Drawn, Fail> {
+        Ok(Drawn {
+            source: self.last.source,
+            bytes: Vec::from_slice(self.alloc, &self.last.bytes)?,
+        })
+    }
+
+    /// The last request with a byte changed, or with its end cut.
+    fn malformed(&mut self) -> Result<Drawn, Fail> {
+        let mut drawn = self.repeated()?;
+        let place = self.random.below(164) as usize;
+        match drawn.bytes.get_mut(place) {
+            Some(byte) if place % 2 == 0 => *byte ^= 0x11,
+            _ => drawn.bytes.truncate(place),
+        }
+        Ok(drawn)
+    }
+
+    fn data(&mut self) -> Result<Drawn, Fail> {
+        let place = self.random.below(3) as usize;
+        match DATA.get(place) {
+            Some(bytes) => Ok(Drawn {
+                source: Source::Client(self.client()),
+                bytes: Vec::from_slice(self.alloc, bytes)?,
+            }),
+            None => Ok(Drawn {
+                source: Source::Port(if self.random.below(2) == 0 {
+                    50000
+                } else {
+                    50001
+                }),
+                bytes: Vec::from_slice(self.alloc, b"hello")?,
+            }),
+        }
+    }
+
+    /// The next datagram, after up to seven seconds.
+    fn next(&mut self) -> Result<Drawn, Fail> {
+        self.second = self.second.saturating_add(u64::from(self.random.below(8)));
+        match self.random.below(16) {
+            0..6 => self.request(),
+            6..8 => self.repeated(),
+            8 => self.malformed(),
+            _ => self.data(),
+        }
+    }
+}
+
+/// The rules of the server, without a store.
+type Rules = Machine<Users, Ports>;
+
+fn rules(alloc: Global, setup: &Setup) -> Result<Rules, Fail> {
+    let config = setup.config(alloc)?;
+    let table = Table::new(alloc, config.limits(), at(0)?);
+    match Machine::new(alloc, config, users(alloc)?, setup.ports()?, table) {
+        Ok(machine) => Ok(machine),
+        Err(_) => Err(Fail::new("memory")),
+    }
+}
+
+/// A server over a store, the same rules without a store, and what these sent since the last commit.
+#[derive(Drop)]
+struct Twins<'a> {
+    player: &'a mut Player,
+    rules: &'a mut Rules,
+    sent: Vec<Outgoing>,
+    // How many datagrams were sent, to clients and to peers.
+    to_clients: u32,
+    to_peers: u32,
+}
+
+impl Twins<'_> {
+    /// Gives both an arrival at a second.
+    fn take(&mut self, rt: &impl Abort, second: u64, arrival: &Arrival<'_>) -> Result<(), Fail> {
+        assert!(rt; self.player.submit_at(rt, second, arrival)? == Ok(()));
+        let moment = at(second)?;
+        assert!(rt; self.rules.moment() <= moment);
+        if let Some(out) = self.rules.step(moment, arrival)? {
+            match &out {
+                Outgoing::ToClient { .. } => self.to_clients = self.to_clients.wrapping_add(1),
+                Outgoing::ToPeer { .. } => self.to_peers = self.to_peers.wrapping_add(1),
+            }
+            self.sent.push(out)?;
+        }
+        Ok(())
+    }
+
+    /// Whether a commit hands out what the rules alone sent since the last one.
+    fn commits(&mut self) -> Result<bool, Fail> {
+        let Ok(outs) = self.player.commit() else {
+            return Err(Fail::new("a refused commit"));
+        };
+        let is_same = are_same(&outs, &self.sent);
+        self.sent.clear();
+        Ok(is_same)
+    }
+
+    fn is_same(&self) -> bool {
+        is_same_table(self.player.table(), self.rules.table()) && self.player.keeps_ports()
+    }
+
+    /// Takes a hundred arrivals, with a commit after every one to seven of them.
+    fn take_hundred(&mut self, rt: &impl Abort, run: &mut Run) -> Result<bool, Fail> {
+        let mut left = 1u32;
+        for _ in 0..100u32 {
+            let drawn = run.next()?;
+            self.take(rt, run.second, &drawn.arrival())?;
+            left = left.saturating_sub(1);
+            if left == 0 {
+                assert!(rt; self.commits()?);
+                left = run.random.below(7).saturating_add(1);
+            }
+        }
+        Ok(self.commits()? && self.is_same())
+    }
+}
+
+/// Takes 2,000 arrivals, which send many datagrams to clients and to peers, and returns the last second.
+fn take_all(
+    rt: &impl Abort,
+    alloc: Global,
+    player: &mut Player,
+    rules: &mut Rules,
+) -> Result<u64, Fail> {
+    let mut run = Run::new(alloc);
+    let mut twins = Twins {
+        player,
+        rules,
+        sent: Vec::new(alloc),
+        to_clients: 0,
+        to_peers: 0,
+    };
+    for _ in 0..20u32 {
+        assert!(rt; twins.take_hundred(rt, &mut run)?);
+    }
+    assert!(rt; twins.to_clients > 800 && twins.to_peers > 100);
+    Ok(run.second)
+}
+
+/// Whether a server that was opened has this table at a second.
+fn has_table(
+    rt: &impl Abort,
+    player: &mut Player,
+    second: u64,
+    table: &Table,
+) -> Result<bool, Fail> {
+    assert!(rt; player.submit_at(rt, second, &of_client(FIRST, b""))? == Ok(()));
+    Ok(is_same_table(player.table(), table))
+}
+
+/// Takes the run, and opens the store.
+fn take_and_reopen(rt: &impl Abort, alloc: Global, setup: &Setup) -> Result<bool, Fail> {
+    let mut rules = rules(alloc, setup)?;
+    let mut player = Player::new(rt, alloc, alloc, setup)?;
+    let second = take_all(rt, alloc, &mut player, &mut rules)?;
+    has_table(rt, &mut player.reopen()?, second, rules.table())
+}
+
+// Under the max limits, and in areas so small that commits compact.
+#[test]
+fn server_answers_as_the_rules_without_a_store(rt: HostRuntime) -> Result<(), Fail> {
+    assert!(rt; take_and_reopen(&rt, rt.alloc(), &HIGHEST)?);
+    assert!(rt; take_and_reopen(&rt, rt.alloc(), &LARGE)?);
+    Ok(())
+}

@@ -1,0 +1,385 @@
+//! Each growth of memory refused in turn.
+
+use crate::player::{Player, Refused};
+use crate::requests::*;
+use crate::row::{ALLOCATE, Row, Sent};
+use crate::same::{are_same, is_same_table};
+use crate::setup::{LARGE, SMALL, users};
+use crate::stops::act_of;
+use refusing::Refusing;
+use std::alloc::{Allocator, Global};
+use std::process::Abort;
+use std::test::Fail;
+use turn_disk::{Disk, MemoryDisk};
+use turn_engine::{CommitRefused, OpenRefused, SubmitRefused};
+use turn_store::OpenFault;
+use turn_types::ServerConfig;
+
+// ---- Arrivals
+
+/// The allocations of alice, by port 50000 for an hour, and of bob, by port 50001 up to second 1001, and then these rows.
+macro_rules! both_and {
+    ($($row:expr),*) => {
+        &[
+            Row::Ask(401, ALICE, FIRST, Kind::Allocate, &[UDP, HOUR]),
+            Row::Ask(401, BOB, SECOND, Kind::Allocate, &[UDP]),
+            Row::Commit(&[Sent::Code(FIRST, 0), Sent::Code(SECOND, 0)]),
+            $($row),*
+        ]
+    };
+}
+
+const BOTH: &[Row] = both_and!();
+
+const PERMIT: Row = Row::Ask(1000, ALICE, FIRST, Kind::CreatePermission, &[PEER]);
+
+const BIND: Row = Row::Ask(1000, ALICE, FIRST, Kind::ChannelBind, &[LOWEST, PEER]);
+
+/// A permission, which is staged.
+const PERMITTED: &[Row] = both_and!(PERMIT);
+
+/// A channel, of whose binding nothing is staged any more.
+const BOUND: &[Row] = both_and!(BIND, Row::Commit(&[Sent::Code(FIRST, 0)]));
+
+/// As many datagrams as the first growth makes room for.
+const FOUR_STAGED: &[Row] = both_and!(PERMIT, BIND, PERMIT, BIND);
+
+/// The text "hello" to 203.0.113.5:7000.
+const SEND: &[u8] =
+    b"\x00\x16\x00\x18\x21\x12\xa4\x42\x01\x02\x03\x04\x05\x06\x07\x08\x09\x0a\x0b\x0c\
+    \x00\x12\x00\x08\x00\x01\x3a\x4a\xea\x12\xd5\x47\
+    \x00\x13\x00\x05hello\x00\x00\x00";
+
+/// The text "abc" over channel 0x4000.
+const ABC: &[u8] = b"\x40\x00\x00\x03abc";
+
+const BOBS: Row = Row::Ask(1001, BOB, SECOND, Kind::Allocate, &[UDP]);
+
+const REFRESH: Row = Row::Ask(1001, ALICE, FIRST, Kind::Refresh, &[]);
+
+/// What is done before, and the arrival at second 1001 whose growths are refused.
+const GROWTHS: [(&[Row], Row); 14] = [
+    (&[], BOBS),
+    (BOTH, BOBS),
+    (PERMITTED, BOBS),
+    (BOTH, REFRESH),
+    (FOUR_STAGED, REFRESH),
+    (BOUND, Row::Ask(1001, ALICE, FIRST, Kind::Refresh, &[ZERO])),
+    (
+        BOTH,
+        Row::Ask(1001, ALICE, FIRST, Kind::CreatePermission, &[PEER]),
+    ),
+    (
+        PERMITTED,
+        Row::Ask(1001, ALICE, FIRST, Kind::ChannelBind, &[LOWEST, PEER]),
+    ),
+    (PERMITTED, Row::Client(1001, FIRST, SEND)),
+    (BOUND, Row::Client(1001, FIRST, SEND)),
+    (BOUND, Row::Client(1001, FIRST, ABC)),
+    (PERMITTED, Row::Peer(1001, PEER_ENDPOINT, b"hello")),
+    (BOUND, Row::Peer(1001, PEER_ENDPOINT, b"abc")),
+    (FOUR_STAGED, Row::Peer(1001, PEER_ENDPOINT, b"abc")),
+];
+
+/// Whether two servers have the same table at the same moment, and each holds the ports of its allocations.
+fn are_alike<A: Allocator + Copy, B: Allocator + Copy>(
+    first: &Player<A, B>,
+    second: &Player<B, B>,
+) -> bool {
+    is_same_table(first.table(), second.table()) && first.keeps_ports() && second.keeps_ports()
+}
+
+/// Whether commits of two servers hand out the same datagrams, and leave the same bytes on their disks.
+fn commit_alike<A: Allocator + Copy, B: Allocator + Copy>(
+    first: &mut Player<A, B>,
+    second: &mut Player<B, B>,
+) -> Result<bool, Fail> {
+    match (first.commit(), second.commit()) {
+        (Ok(outs), Ok(others)) => {
+            let is_same = first.disk().content() == second.disk().content();
+            Ok(is_same && are_same(&outs, &others))
+        }
+        _ => Err(Fail::new("a refused commit")),
+    }
+}
+
+/// Whether a server that had no memory for an arrival goes on as another one that got a datagram without an answer in its
+/// place, at the same second: in what is handed out, and at the same arrival again.
+fn goes_on<A: Allocator + Copy, B: Allocator + Copy>(
+    rt: &impl Abort,
+    player: &mut Player<A, B>,
+    other: &mut Player<B, B>,
+    row: &Row,
+) -> Result<bool, Fail> {
+    other.play(rt, &[Row::Client(1001, FIRST, b"")])?;
+    let is_unchanged = are_alike(player, other) && commit_alike(player, other)?;
+    player.play(rt, &[*row])?;
+    other.play(rt, &[*row])?;
+    Ok(is_unchanged && are_alike(player, other) && commit_alike(player, other)?)
+}
+
+/// Whether the growth after so many is refused, which the result says, and after which the server goes on.
+fn is_refused<'a>(
+    rt: &impl Abort,
+    refusing: &'a Refusing<Global>,
+    player: &mut Player<&'a Refusing<Global>, Global>,
+    other: &mut Player,
+    row: &Row,
+    served: u64,
+) -> Result<bool, Fail> {
+    refusing.arm(served);
+    let taken = player.submit(rt, row)?;
+    let was_refused = refusing.has_refused();
+    refusing.arm(u64::MAX);
+    if was_refused {
+        assert!(rt; taken == Err(SubmitRefused::Memory));
+        assert!(rt; goes_on(rt, player, other, row)?);
+    } else {
+        assert!(rt; taken == Ok(()));
+    }
+    Ok(was_refused)
+}
+
+/// The same beside a new server, both after other rows.
+fn is_refused_after<'a>(
+    rt: &impl Abort,
+    alloc: Global,
+    refusing: &'a Refusing<Global>,
+    player: &mut Player<&'a Refusing<Global>, Global>,
+    (before, row): &(&[Row], Row),
+    served: u64,
+) -> Result<bool, Fail> {
+    player.play(rt, before)?;
+    let mut other = Player::new(rt, alloc, alloc, &LARGE)?;
+    other.play(rt, before)?;
+    is_refused(rt, refusing, player, &mut other, row, served)
+}
+
+fn is_refused_at_first(
+    rt: &impl Abort,
+    alloc: Global,
+    rows: &(&[Row], Row),
+    served: u64,
+) -> Result<bool, Fail> {
+    let disk = LARGE.disk(rt, alloc)?;
+    let refusing = Refusing::new(alloc, u64::MAX);
+    let mut player = Player::open(&refusing, alloc, &LARGE, disk)?;
+    is_refused_after(rt, alloc, &refusing, &mut player, rows, served)
+}
+
+/// How many growths an arrival takes, each of which is refused once.
+fn growths_of(rt: &impl Abort, alloc: Global, rows: &(&[Row], Row)) -> Result<u64, Fail> {
+    for served in 0..32u64 {
+        if !is_refused_at_first(rt, alloc, rows, served)? {
+            return Ok(served);
+        }
+    }
+    Err(Fail::new("some growth is always refused"))
+}
+
+#[test]
+fn arrival_that_lacks_memory_changes_the_moment_alone(rt: HostRuntime) -> Result<(), Fail> {
+    for rows in &GROWTHS {
+        assert!(rt; growths_of(&rt, rt.alloc(), rows)? > 0);
+    }
+    Ok(())
+}
+
+// ---- Openings
+
+fn content_after(rt: &impl Abort, alloc: Global, player: &mut Player) -> Result<Vec<u8>, Fail> {
+    player.play(rt, BOUND)?;
+    Ok(Vec::from_slice(alloc, player.disk().content())?)
+}
+
+/// The content of a store of two frames: both allocations, and a channel.
+fn stored(rt: &impl Abort, alloc: Global) -> Result<Vec<u8>, Fail> {
+    let mut player = Player::new(rt, alloc, alloc, &LARGE)?;
+    content_after(rt, alloc, &mut player)
+}
+
+/// Of a server over that store, whose handler knows alice.
+const OPENED: [Row; 4] = [
+    Row::Live(&[(FIRST, 50000, 4001), (SECOND, 50001, 1001)]),
+    Row::Clock(1000),
+    REFRESH,
+    Row::Commit(&[Sent::Code(FIRST, 0)]),
+];
+
+/// Whether what an opening returned after an allocation failure opens the store.
+fn opens_again<A: Allocator + Copy>(
+    rt: &impl Abort,
+    inner: A,
+    alloc: Global,
+    config: &ServerConfig<A>,
+    content: &[u8],
+    refused: Refused<Global>,
+) -> Result<bool, Fail> {
+    let OpenRefused {
+        fault,
+        disk,
+        handler,
+        ports,
+    } = refused;
+    let is_same = disk.content() == content && disk.failures() == 0;
+    match Player::try_open(inner, alloc, &LARGE, config, disk, handler, ports) {
+        Ok(mut player) => {
+            player.play(rt, &OPENED)?;
+            Ok(is_same && fault == OpenFault::Memory)
+        }
+        Err(_) => Ok(false),
+    }
+}
+
+/// Whether an opening is refused where the growth after so many is, after which it succeeds.
+fn opening_is_refused<'a>(
+    rt: &impl Abort,
+    alloc: Global,
+    refusing: &'a Refusing<Global>,
+    config: &ServerConfig<&'a Refusing<Global>>,
+    content: &[u8],
+    served: u64,
+) -> Result<bool, Fail> {
+    let ports = LARGE.ports()?;
+    let users = users(alloc)?;
+    let disk = MemoryDisk::new(alloc, Vec::from_slice(alloc, content)?);
+    refusing.arm(served);
+    let opened = Player::try_open(refusing, alloc, &LARGE, config, disk, users, ports);
+    let was_refused = refusing.has_refused();
+    refusing.arm(u64::MAX);
+    match opened {
+        Ok(_) => {
+            assert!(rt; !was_refused);
+            Ok(false)
+        }
+        Err(refused) => {
+            assert!(rt; was_refused);
+            assert!(rt; opens_again(rt, refusing, alloc, config, content, refused)?);
+            Ok(true)
+        }
+    }
+}
+
+/// How many growths the opening takes, each of which is refused once.
+fn growths_of_an_opening(rt: &impl Abort, alloc: Global, content: &[u8]) -> Result<u64, Fail> {
+    let refusing = Refusing::new(alloc, u64::MAX);
+    let config = LARGE.config(&refusing)?;
+    for served in 0..64u64 {
+        if !opening_is_refused(rt, alloc, &refusing, &config, content, served)? {
+            return Ok(served);
+        }
+    }
+    Err(Fail::new("some growth is always refused"))
+}
+
+#[test]
+fn opening_that_lacks_memory_returns_what_it_was_passed(rt: HostRuntime) -> Result<(), Fail> {
+    let content = stored(&rt, rt.alloc())?;
+    assert!(rt; growths_of_an_opening(&rt, rt.alloc(), &content)? > 3);
+    Ok(())
+}
+
+// ---- Commits
+
+/// Commits an act, with no memory for any growth.
+fn commits_without_memory<'a>(
+    rt: &impl Abort,
+    refusing: &'a Refusing<Global>,
+    player: &mut Player<&'a Refusing<Global>, &'a Refusing<Global>>,
+    act: &Row,
+) -> Result<bool, Fail> {
+    player.play(rt, &[*act])?;
+    refusing.arm(0);
+    let is_handed_out = player.hands_out(&[Sent::Code(FIRST, 0)])?;
+    let was_refused = refusing.has_refused();
+    refusing.arm(u64::MAX);
+    Ok(is_handed_out && !was_refused)
+}
+
+/// Thirteen commits, two of which compact.
+fn commits_each<'a>(
+    rt: &impl Abort,
+    refusing: &'a Refusing<Global>,
+    player: &mut Player<&'a Refusing<Global>, &'a Refusing<Global>>,
+) -> Result<bool, Fail> {
+    for second in 1000..1013u64 {
+        if !commits_without_memory(rt, refusing, player, &act_of(second))? {
+            return Ok(false);
+        }
+    }
+    Ok(true)
+}
+
+/// A disk with an empty store, and with room for the record of all of these commits.
+fn reserved<A: Allocator + Copy>(rt: &impl Abort, alloc: A) -> Result<MemoryDisk<A>, Fail> {
+    let mut disk = SMALL.disk(rt, alloc)?;
+    disk.reserve(128, 4096)?;
+    Ok(disk)
+}
+
+fn takes_no_memory(rt: &impl Abort, alloc: Global) -> Result<bool, Fail> {
+    let refusing = Refusing::new(alloc, u64::MAX);
+    let disk = reserved(rt, &refusing)?;
+    let mut player = Player::open(&refusing, alloc, &SMALL, disk)?;
+    commits_each(rt, &refusing, &mut player)
+}
+
+#[test]
+fn commit_over_a_reserved_record_takes_no_memory(rt: HostRuntime) -> Result<(), Fail> {
+    assert!(rt; takes_no_memory(&rt, rt.alloc())?);
+    Ok(())
+}
+
+/// Whether a commit fails where the growth of the disk's record after so many is refused, after which the server is
+/// stopped.
+fn fails_at<'a>(
+    rt: &impl Abort,
+    refusing: &'a Refusing<Global>,
+    player: &mut Player<Global, &'a Refusing<Global>>,
+    served: u64,
+) -> Result<bool, Fail> {
+    player.play(rt, &[ALLOCATE])?;
+    refusing.arm(served);
+    let fails = player.fails(CommitRefused::Device);
+    let was_refused = refusing.has_refused();
+    refusing.arm(u64::MAX);
+    assert!(rt; fails == was_refused);
+    if fails {
+        assert!(rt; player.disk().failures() == 1);
+        player.play(rt, &[Row::Stopped(1001)])?;
+    }
+    Ok(fails)
+}
+
+/// A disk with an empty store, and without room for any record.
+fn unreserved<A: Allocator + Copy>(
+    rt: &impl Abort,
+    inner: A,
+    alloc: Global,
+) -> Result<MemoryDisk<A>, Fail> {
+    let disk = SMALL.disk(rt, alloc)?;
+    Ok(MemoryDisk::new(inner, Vec::from_slice(inner, disk.content())?))
+}
+
+fn fails_at_first(rt: &impl Abort, alloc: Global, served: u64) -> Result<bool, Fail> {
+    let refusing = Refusing::new(alloc, u64::MAX);
+    let disk = unreserved(rt, &refusing, alloc)?;
+    let mut player = Player::open(alloc, alloc, &SMALL, disk)?;
+    fails_at(rt, &refusing, &mut player, served)
+}
+
+/// How many growths a commit takes over that disk, each of which is refused once.
+fn growths_of_a_commit(rt: &impl Abort, alloc: Global) -> Result<u64, Fail> {
+    for served in 0..8u64 {
+        if !fails_at_first(rt, alloc, served)? {
+            return Ok(served);
+        }
+    }
+    Err(Fail::new("some growth is always refused"))
+}
+
+#[test]
+fn refused_growth_of_the_record_is_a_device_failure(rt: HostRuntime) -> Result<(), Fail> {
+    assert!(rt; growths_of_a_commit(&rt, rt.alloc())? > 0);
+    Ok(())
+}
