@@ -1,5 +1,5 @@
 -- What a player does: its steps, one after another.
-use Rattle.std.specs.Prelude.{◌≡◌, ◌++◌, ℕ, List, [], ◌∷◌, Option, Some, option_map, false}
+use Rattle.std.specs.Prelude.{◌≡◌, ◌++◌, ℕ, List, [], ◌∷◌, Option, Some, None, option_map, false}
 use Rattle.std.specs.Option.{option_to_list}
 use Rattle.turn_cred.specs.Users.{KeyMap}
 use Rattle.turn_cred.specs.declared.handler.AuthHandler as handlers
@@ -12,10 +12,11 @@ use Rattle.turn_ports.specs.declared.generator.RelayAddressGenerator as generato
 use Rattle.turn_step.specs.Answer.{Setting}
 use Rattle.turn_step.specs.Views.{arrival_of, sent_of}
 use Rattle.turn_store.specs.Areas.{Form}
+use Rattle.turn_store.specs.declared.fault.StoreFault.TheVariants as faults
 use Rattle.turn_types.specs.Config.{Config}
 use Rattle.turn_player.specs.Lives.{Closed, Committed, Failed, Input, NotOpened, Opened, Point, Refused, Said, Sends}
 use Rattle.turn_player.specs.Lives as lives
-use Rattle.turn_player.specs.Worlds.{Call, Down, Lives, Stands, World, disk_of, handler_of, ports_of}
+use Rattle.turn_player.specs.Worlds.{Call, Down, Lives, Serving, Stands, World, disk_of, handler_of, ports_of}
 use Rattle.turn_player.specs.declared.step.Event.{Event}
 use Rattle.turn_player.specs.declared.step.Event.TheVariants as events
 use Rattle.turn_player.specs.declared.step.Step.{Step}
@@ -86,3 +87,9 @@ abbrev pub GoesOn : {D H G : Type 0} → disks.Ghosts D → handlers.Ghosts H �
 GoesOn {D = D} {H = H} {G = G} disk handler ports form s p old inputs said new =
     (before : World D H G) → old ≡ Some before → Stands disk handler ports form s before p
     → (after : World D H G) × (new ≡ Some after) × Lives disk handler ports form s false p inputs said after
+
+-- why a world has no server that runs
+abbrev pub why_none : {D H G : Type 0} → Option (World D H G) → Said
+why_none None = Closed
+why_none (Some (Down d h g)) = Closed
+why_none (Some (Serving server)) = Failed faults.Stopped

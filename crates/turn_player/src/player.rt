@@ -1,13 +1,14 @@
 //! The player.
 
-ghost use Rattle.std.specs.Prelude.{◌≡◌, ◌++◌, ◌∷◌, [], Some, None, IsErr, IfOk, OnOk, OnErr, map, max, false};
+ghost use Rattle.std.specs.Prelude.{◌≡◌, ◌++◌, ◌∷◌, [], Some, None, IsOk, IsErr, IfOk, IfErr, OnOk, OnErr, map, max, false};
+ghost use Rattle.turn_engine.specs.State.{ServerState};
 ghost use Rattle.turn_step.specs.Answer.{Setting};
 ghost use Rattle.turn_step.specs.Views.{arrival_of, sent_of};
 ghost use Rattle.turn_store.specs.Areas.{Form};
 ghost use Rattle.turn_player.specs.Held.{Adds, world_of};
 ghost use Rattle.turn_player.specs.Lives as lives;
 ghost use Rattle.turn_player.specs.Lives.{Point, handing_out};
-ghost use Rattle.turn_player.specs.Plays.{GoesOn, Plays, PlaysAll, Ran, inputs_of_all, said_if, said_of};
+ghost use Rattle.turn_player.specs.Plays.{GoesOn, Plays, PlaysAll, Ran, inputs_of_all, said_if, said_of, why_none};
 ghost use Rattle.turn_player.specs.Worlds.{Call, Down, Serving, World, disk_of, handler_of, ports_of};
 
 use crate::faulty::Faulty;
@@ -364,6 +365,8 @@ impl<A: Allocator + Copy> Player<A> {
     /// The server, or why there is none: `Closed`, or `Failed(Stopped)` after a commit that failed.
     pub fn server(&self) -> Result<&MemoryServer<A>, Event<A>>
         ensures found { IfOk result (λ server. (self.now.world ≡ Some (Serving server.now)) × (server.now.store.stopped ≡ false)) }
+        ensures runs { (server : ServerState _ _ _) → self.now.world ≡ Some (Serving server) → server.store.stopped ≡ false → IsOk result }
+        ensures none { IfErr result (λ event. said_of event ≡ why_none self.now.world) }
     {
         match &self.held {
             Some(Held::Serving(server)) => {

@@ -33,9 +33,9 @@ returns-in-Err-clause-sound g c = λ honest form h clock same stands.
 
 pub returns-in-Ok-choose-clause-honest : goal.returns-in-Ok-choose-clause-honest
 returns-in-Ok-choose-clause-honest g c = (
-      (λ h. c.in_ok-sync.ensures.honest.0 (c.read_area_size.ensures.honest.0 (c.choose.ensures.honest.0 h))),
-      (λ h. c.choose.ensures.honest.1 (c.read_area_size.ensures.honest.1 (c.in_ok-sync.ensures.honest.1 h))),
-    )
+  (λ h. c.in_ok-sync.ensures.honest.0 (c.read_area_size.ensures.honest.0 (c.choose.ensures.honest.0 h))),
+  (λ h. c.choose.ensures.honest.1 (c.read_area_size.ensures.honest.1 (c.in_ok-sync.ensures.honest.1 h))),
+)
 
 pub returns-in-Ok-choose-clause-same : goal.returns-in-Ok-choose-clause-same
 returns-in-Ok-choose-clause-same g c = λ h.
