@@ -31,7 +31,7 @@ const FIRST_COMMIT: [Row; 10] = [
 // Nothing is written before the commit, and nothing is handed out twice.
 #[test]
 fn commit_writes_a_frame_and_hands_out_the_success(rt: HostRuntime) -> Result<(), Fail> {
-    play(&rt, rt.alloc(), &SMALL, &FIRST_COMMIT)
+    play(rt.alloc(), &SMALL, &FIRST_COMMIT)
 }
 
 // ---- Two acts a batch
@@ -73,5 +73,5 @@ const TWO: [Row; 9] = [
 
 #[test]
 fn commit_writes_one_frame_of_two_acts(rt: HostRuntime) -> Result<(), Fail> {
-    play(&rt, rt.alloc(), &PAIR, &TWO)
+    play(rt.alloc(), &PAIR, &TWO)
 }

@@ -1,10 +1,10 @@
 //! Commits of one act, after which the disk crashes: the Allocate which was answered before is answered by the same bytes.
 
+use crate::player::{Player, play_on};
 use crate::requests::*;
 use crate::row::{Row, Sent};
 use crate::stops::staged;
 use std::alloc::Global;
-use std::process::Abort;
 use std::test::Fail;
 use turn_disk::Outcome;
 
@@ -29,16 +29,19 @@ const AT_1006: &[Row] = &[
 /// What was handed out, up to which second, and what is found after a crash.
 const HANDED_OUT: [(u64, &[Row]); 2] = [(1000, AT_1000), (1006, AT_1006)];
 
-fn crash_after(rt: &impl Abort, alloc: Global, second: u64, rows: &[Row]) -> Result<(), Fail> {
-    let mut player = staged(rt, alloc, second)?;
-    player.play(rt, &[Row::Commit(&[Sent::Code(FIRST, 0)])])?;
-    player.crash(Outcome::Lost)?.play(rt, rows)
+fn commit_and_crash(mut player: Player, rows: &[Row]) -> Result<(), Fail> {
+    player.play(&[Row::Commit(&[Sent::Code(FIRST, 0)])])?;
+    player.crash_and_play(Outcome::Lost, rows)
+}
+
+fn crash_after(alloc: Global, second: u64, rows: &[Row]) -> Result<(), Fail> {
+    commit_and_crash(staged(alloc, second)?, rows)
 }
 
 #[test]
 fn crash_leaves_what_was_handed_out(rt: HostRuntime) -> Result<(), Fail> {
     for (second, rows) in &HANDED_OUT {
-        crash_after(&rt, rt.alloc(), *second, rows)?;
+        crash_after(rt.alloc(), *second, rows)?;
     }
     Ok(())
 }
@@ -65,5 +68,5 @@ const COMPACTED: [Row; 4] = [
 
 #[test]
 fn commit_without_room_writes_a_snapshot(rt: HostRuntime) -> Result<(), Fail> {
-    staged(&rt, rt.alloc(), 1006)?.play(&rt, &COMPACTED)
+    play_on(staged(rt.alloc(), 1006)?, &COMPACTED)
 }

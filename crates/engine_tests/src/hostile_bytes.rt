@@ -5,7 +5,6 @@ use crate::requests::*;
 use crate::row::{ALLOCATE, ALLOCATED, REQUEST, Row};
 use crate::setup::SMALL;
 use std::alloc::Global;
-use std::process::Abort;
 use std::test::Fail;
 use turn_codec::Message;
 use turn_disk::Disk;
@@ -20,12 +19,13 @@ const UNCHANGED: [Row; 4] = [
     Row::Idle,
 ];
 
-/// Whether the server is as at first, but for the clock, and goes on.
-fn is_unchanged(rt: &impl Abort, player: &mut Player, content: &[u8]) -> Result<bool, Fail> {
-    player.play(rt, &UNCHANGED)?;
-    let is_same = player.disk().content() == content && player.disk().failures() == 0;
-    player.play(rt, &[ALLOCATE, ALLOCATED])?;
-    Ok(is_same)
+/// A change of alice's Allocate.
+#[derive(Clone, Copy)]
+enum Change {
+    /// It ends before a byte.
+    Cut,
+    /// Each bit of a byte is flipped, one after the other.
+    Flip,
 }
 
 /// The first bytes of alice's Allocate.
@@ -36,20 +36,10 @@ fn front(len: usize) -> &'static [u8] {
     }
 }
 
-fn play_fronts(rt: &impl Abort, alloc: Global) -> Result<(), Fail> {
-    let mut player = Player::new(rt, alloc, alloc, &SMALL)?;
-    let content = Vec::from_slice(alloc, player.disk().content())?;
-    for len in 0..164usize {
-        assert!(rt; player.submit_at(rt, 1000, &of_client(FIRST, front(len)))? == Ok(()));
-        assert!(rt; player.is_idle()?);
-    }
-    assert!(rt; is_unchanged(rt, &mut player, &content)?);
-    Ok(())
-}
-
-#[test]
-fn each_front_of_a_request_is_dropped(rt: HostRuntime) -> Result<(), Fail> {
-    play_fronts(&rt, rt.alloc())
+/// Whether the Allocate that ends before a byte is dropped.
+fn is_dropped(player: &mut Player, place: usize) -> Result<bool, Fail> {
+    player.take(1000, &of_client(FIRST, front(place)))?;
+    player.is_idle()
 }
 
 // ---- Flipped bits
@@ -63,51 +53,94 @@ fn flipped(place: usize, bit: u32) -> [u8; 164] {
     bytes
 }
 
-/// Whether what goes out is nothing or an error, or, for a Binding request, its success.
-fn is_harmless(outs: &[Outgoing], is_binding: bool) -> Result<bool, Fail> {
-    match outs {
-        [] => Ok(!is_binding),
-        [
-            Outgoing::ToClient {
-                five_tuple: to,
-                bytes,
-            },
-        ] => {
-            let message = Message::parse(bytes)?;
-            let is_success = code_of(&message)? == 0;
-            let is_of_binding = message.method() == Method::BINDING;
-            Ok(*to == five_tuple(FIRST) && is_success == is_binding && is_of_binding == is_binding)
-        }
+/// Whether a response is the success of a Binding request, or an error of another one.
+fn is_success_of_binding(message: &Message<'_>, is_binding: bool) -> Result<bool, Fail> {
+    let is_success = code_of(message)? == 0;
+    let is_of_binding = message.method() == Method::BINDING;
+    Ok(is_success == is_binding && is_of_binding == is_binding)
+}
+
+/// The same of a datagram, which goes to alice's client.
+fn is_response(out: &Outgoing, is_binding: bool) -> Result<bool, Fail> {
+    match out {
+        Outgoing::ToClient {
+            five_tuple: to,
+            bytes,
+        } if *to == five_tuple(FIRST) => is_success_of_binding(&Message::parse(bytes)?, is_binding),
         _ => Ok(false),
     }
 }
 
-/// Takes the flips of a byte. The second bit of the second one makes it a Binding request, which needs no credentials.
-fn flip(rt: &impl Abort, player: &mut Player, place: usize) -> Result<(), Fail> {
+/// Whether what goes out is nothing or an error, or, for a Binding request, its success.
+fn is_harmless(outs: &[Outgoing], is_binding: bool) -> Result<bool, Fail> {
+    match outs {
+        [] => Ok(!is_binding),
+        [out] => is_response(out, is_binding),
+        _ => Ok(false),
+    }
+}
+
+/// Takes the Allocate with a flipped bit, whose commit makes no device call. The second bit of the second byte makes it a
+/// Binding request, which needs no credentials.
+fn is_flip_harmless(player: &mut Player, place: usize, bit: u32) -> Result<bool, Fail> {
+    let bytes = flipped(place, bit);
+    player.take(1000, &of_client(FIRST, &bytes))?;
+    player.disk().fail_call(1);
+    let outs = player.commit()?;
+    is_harmless(&outs, (place, bit) == (1, 1))
+}
+
+/// The same of each bit of a byte, by which the table stays empty.
+fn are_flips_harmless(player: &mut Player, place: usize) -> Result<bool, Fail> {
     for bit in 0..8u32 {
-        let bytes = flipped(place, bit);
-        assert!(rt; player.submit_at(rt, 1000, &of_client(FIRST, &bytes))? == Ok(()));
-        // No device call is made.
-        player.disk().fail_call(1);
-        let Ok(outs) = player.commit() else {
-            return Err(Fail::new("a refused commit"));
-        };
-        assert!(rt; is_harmless(&outs, (place, bit) == (1, 1))? && player.table().is_empty());
+        if !is_flip_harmless(player, place, bit)? || !player.table().is_empty() {
+            return Ok(false);
+        }
+    }
+    Ok(true)
+}
+
+// ---- All places
+
+fn is_harmless_at(player: &mut Player, change: Change, place: usize) -> Result<bool, Fail> {
+    match change {
+        Change::Cut => is_dropped(player, place),
+        Change::Flip => are_flips_harmless(player, place),
+    }
+}
+
+/// Fails with the first place at which the change does something.
+fn try_places(player: &mut Player, change: Change) -> Result<(), Fail> {
+    for place in 0..164usize {
+        if !is_harmless_at(player, change, place)? {
+            return Err(Fail::new(place));
+        }
     }
     Ok(())
 }
 
-fn play_flips(rt: &impl Abort, alloc: Global) -> Result<(), Fail> {
-    let mut player = Player::new(rt, alloc, alloc, &SMALL)?;
-    let content = Vec::from_slice(alloc, player.disk().content())?;
-    for place in 0..164usize {
-        flip(rt, &mut player, place)?;
+/// Tries the change at each byte. The server is then as at first, but for the clock, and goes on.
+fn try_all(player: &mut Player, change: Change) -> Result<(), Fail> {
+    let kept = player.kept()?;
+    try_places(player, change)?;
+    player.play(&UNCHANGED)?;
+    if !player.keeps(&kept) || player.disk().failures() > 0 {
+        return Err(Fail::new("another disk"));
     }
-    assert!(rt; is_unchanged(rt, &mut player, &content)?);
-    Ok(())
+    player.play(&[ALLOCATE, ALLOCATED])
+}
+
+fn play_changes(alloc: Global, change: Change) -> Result<(), Fail> {
+    let mut player = Player::new(alloc, alloc, &SMALL)?;
+    try_all(&mut player, change)
+}
+
+#[test]
+fn each_front_of_a_request_is_dropped(rt: HostRuntime) -> Result<(), Fail> {
+    play_changes(rt.alloc(), Change::Cut)
 }
 
 #[test]
 fn each_flipped_bit_of_a_request_leads_to_no_act(rt: HostRuntime) -> Result<(), Fail> {
-    play_flips(&rt, rt.alloc())
+    play_changes(rt.alloc(), Change::Flip)
 }

@@ -6,7 +6,6 @@ use crate::requests::*;
 use crate::same::{are_same, is_same_table};
 use crate::setup::{LARGE, Setup, users};
 use std::alloc::Global;
-use std::process::Abort;
 use std::test::Fail;
 use turn_cred::Users;
 use turn_step::{Arrival, Machine, Outgoing};
@@ -102,6 +101,8 @@ struct Run {
     alloc: Global,
     random: Random,
     second: u64,
+    // How many arrivals are left of the batch.
+    left: u32,
     // The last request.
     last: Drawn,
 }
@@ -112,6 +113,7 @@ impl Run {
             alloc,
             random: Random { state: 20 },
             second: 1000,
+            left: 1,
             last: Drawn {
                 source: Source::Client(FIRST),
                 bytes: Vec::new(alloc),
@@ -185,6 +187,16 @@ impl Run {
         }
     }
 
+    /// Whether the batch ends, which has up to seven arrivals; the next one is drawn then.
+    fn ends_batch(&mut self) -> bool {
+        self.left = self.left.saturating_sub(1);
+        let ends = self.left == 0;
+        if ends {
+            self.left = self.random.below(7).saturating_add(1);
+        }
+        ends
+    }
+
     /// The next datagram, after up to seven seconds.
     fn next(&mut self) -> Result<Drawn, Fail> {
         self.second = self.second.saturating_add(u64::from(self.random.below(8)));
@@ -209,6 +221,15 @@ fn rules(alloc: Global, setup: &Setup) -> Result<Rules, Fail> {
     }
 }
 
+/// What the rules answer to an arrival at a second.
+fn step(rules: &mut Rules, second: u64, arrival: &Arrival<'_>) -> Result<Option<Outgoing>, Fail> {
+    let moment = at(second)?;
+    if rules.moment() > moment {
+        return Err(Fail::new("a second before the last one"));
+    }
+    Ok(rules.step(moment, arrival)?)
+}
+
 /// A server over a store, the same rules without a store, and what these sent since the last commit.
 #[derive(Drop)]
 struct Twins<'a> {
@@ -222,25 +243,26 @@ struct Twins<'a> {
 
 impl Twins<'_> {
     /// Gives both an arrival at a second.
-    fn take(&mut self, rt: &impl Abort, second: u64, arrival: &Arrival<'_>) -> Result<(), Fail> {
-        assert!(rt; self.player.submit_at(rt, second, arrival)? == Ok(()));
-        let moment = at(second)?;
-        assert!(rt; self.rules.moment() <= moment);
-        if let Some(out) = self.rules.step(moment, arrival)? {
-            match &out {
-                Outgoing::ToClient { .. } => self.to_clients = self.to_clients.wrapping_add(1),
-                Outgoing::ToPeer { .. } => self.to_peers = self.to_peers.wrapping_add(1),
-            }
-            self.sent.push(out)?;
+    fn take(&mut self, second: u64, arrival: &Arrival<'_>) -> Result<(), Fail> {
+        self.player.take(second, arrival)?;
+        match step(self.rules, second, arrival)? {
+            Some(out) => self.send(out),
+            None => Ok(()),
         }
-        Ok(())
+    }
+
+    /// Notes a datagram that the rules alone sent.
+    fn send(&mut self, out: Outgoing) -> Result<(), Fail> {
+        match &out {
+            Outgoing::ToClient { .. } => self.to_clients = self.to_clients.wrapping_add(1),
+            Outgoing::ToPeer { .. } => self.to_peers = self.to_peers.wrapping_add(1),
+        }
+        Ok(self.sent.push(out)?)
     }
 
     /// Whether a commit hands out what the rules alone sent since the last one.
     fn commits(&mut self) -> Result<bool, Fail> {
-        let Ok(outs) = self.player.commit() else {
-            return Err(Fail::new("a refused commit"));
-        };
+        let outs = self.player.commit()?;
         let is_same = are_same(&outs, &self.sent);
         self.sent.clear();
         Ok(is_same)
@@ -250,29 +272,39 @@ impl Twins<'_> {
         is_same_table(self.player.table(), self.rules.table()) && self.player.keeps_ports()
     }
 
+    /// Takes the next arrival of a run, and commits if it is the last one of its batch.
+    fn take_next(&mut self, run: &mut Run) -> Result<bool, Fail> {
+        let drawn = run.next()?;
+        self.take(run.second, &drawn.arrival())?;
+        if !run.ends_batch() {
+            return Ok(true);
+        }
+        self.commits()
+    }
+
     /// Takes a hundred arrivals, with a commit after every one to seven of them.
-    fn take_hundred(&mut self, rt: &impl Abort, run: &mut Run) -> Result<bool, Fail> {
-        let mut left = 1u32;
+    fn take_hundred(&mut self, run: &mut Run) -> Result<bool, Fail> {
         for _ in 0..100u32 {
-            let drawn = run.next()?;
-            self.take(rt, run.second, &drawn.arrival())?;
-            left = left.saturating_sub(1);
-            if left == 0 {
-                assert!(rt; self.commits()?);
-                left = run.random.below(7).saturating_add(1);
+            if !self.take_next(run)? {
+                return Ok(false);
             }
         }
         Ok(self.commits()? && self.is_same())
     }
 }
 
+/// Takes 2,000 arrivals.
+fn take_thousands(twins: &mut Twins<'_>, run: &mut Run) -> Result<bool, Fail> {
+    for _ in 0..20u32 {
+        if !twins.take_hundred(run)? {
+            return Ok(false);
+        }
+    }
+    Ok(true)
+}
+
 /// Takes 2,000 arrivals, which send many datagrams to clients and to peers, and returns the last second.
-fn take_all(
-    rt: &impl Abort,
-    alloc: Global,
-    player: &mut Player,
-    rules: &mut Rules,
-) -> Result<u64, Fail> {
+fn take_all(alloc: Global, player: &mut Player, rules: &mut Rules) -> Result<u64, Fail> {
     let mut run = Run::new(alloc);
     let mut twins = Twins {
         player,
@@ -281,36 +313,45 @@ fn take_all(
         to_clients: 0,
         to_peers: 0,
     };
-    for _ in 0..20u32 {
-        assert!(rt; twins.take_hundred(rt, &mut run)?);
+    if !take_thousands(&mut twins, &mut run)? {
+        return Err(Fail::new("another answer"));
     }
-    assert!(rt; twins.to_clients > 800 && twins.to_peers > 100);
+    if twins.to_clients <= 800 || twins.to_peers <= 100 {
+        return Err(Fail::new("few datagrams"));
+    }
     Ok(run.second)
 }
 
 /// Whether a server that was opened has this table at a second.
-fn has_table(
-    rt: &impl Abort,
-    player: &mut Player,
-    second: u64,
-    table: &Table,
-) -> Result<bool, Fail> {
-    assert!(rt; player.submit_at(rt, second, &of_client(FIRST, b""))? == Ok(()));
+fn has_table(player: &mut Player, second: u64, table: &Table) -> Result<bool, Fail> {
+    player.take(second, &of_client(FIRST, b""))?;
     Ok(is_same_table(player.table(), table))
 }
 
-/// Takes the run, and opens the store.
-fn take_and_reopen(rt: &impl Abort, alloc: Global, setup: &Setup) -> Result<bool, Fail> {
-    let mut rules = rules(alloc, setup)?;
-    let mut player = Player::new(rt, alloc, alloc, setup)?;
-    let second = take_all(rt, alloc, &mut player, &mut rules)?;
-    has_table(rt, &mut player.reopen()?, second, rules.table())
+fn is_stored(player: Player, second: u64, table: &Table) -> Result<bool, Fail> {
+    has_table(&mut player.reopen()?, second, table)
 }
 
-// Under the max limits, and in areas so small that commits compact.
+/// Takes the run, and opens the store.
+fn take_run(alloc: Global, mut player: Player, rules: &mut Rules) -> Result<bool, Fail> {
+    let second = take_all(alloc, &mut player, rules)?;
+    is_stored(player, second, rules.table())
+}
+
+fn take_run_of(alloc: Global, setup: &Setup) -> Result<bool, Fail> {
+    let mut rules = rules(alloc, setup)?;
+    take_run(alloc, Player::new(alloc, alloc, setup)?, &mut rules)
+}
+
+/// Under the max limits, and in areas so small that commits compact.
+const SETUPS: [Setup; 2] = [HIGHEST, LARGE];
+
 #[test]
 fn server_answers_as_the_rules_without_a_store(rt: HostRuntime) -> Result<(), Fail> {
-    assert!(rt; take_and_reopen(&rt, rt.alloc(), &HIGHEST)?);
-    assert!(rt; take_and_reopen(&rt, rt.alloc(), &LARGE)?);
+    for setup in &SETUPS {
+        if !take_run_of(rt.alloc(), setup)? {
+            return Err(Fail::new("another table"));
+        }
+    }
     Ok(())
 }

@@ -5,8 +5,8 @@ use crate::requests::*;
 use crate::row::{REQUEST, Row, SUCCESS, Sent};
 use crate::same::{are_live, are_sent, has_at};
 use crate::setup::{Setup, users};
+use refusing::Refusing;
 use std::alloc::{Allocator, Global};
-use std::process::Abort;
 use std::test::Fail;
 use turn_cred::Users;
 use turn_disk::{Disk, MemoryDisk, Outcome};
@@ -41,6 +41,13 @@ pub struct Player<A: Allocator + Copy = Global, B: Allocator + Copy = Global> {
     server: Server<MemoryDisk<B>, Users, Ports, A>,
 }
 
+/// The bytes of a disk, and how many of its calls failed.
+#[derive(Drop)]
+pub struct Kept {
+    content: Vec<u8>,
+    failures: u64,
+}
+
 /// What a server is made of that was not opened.
 pub type Refused<B> = OpenRefused<MemoryDisk<B>, Users, Ports>;
 
@@ -53,14 +60,25 @@ impl<A: Allocator + Copy, B: Allocator + Copy> Player<A, B> {
         disk: MemoryDisk<B>,
     ) -> Result<Player<A, B>, Fail> {
         let config = setup.config(inner)?;
+        Player::open_with(inner, alloc, setup, &config, disk)
+    }
+
+    /// The same with a configuration that was made of the setup.
+    pub fn open_with(
+        inner: A,
+        alloc: Global,
+        setup: &Setup,
+        config: &ServerConfig<A>,
+        disk: MemoryDisk<B>,
+    ) -> Result<Player<A, B>, Fail> {
         let (users, ports) = (users(alloc)?, setup.ports()?);
-        match Player::try_open(inner, alloc, setup, &config, disk, users, ports) {
+        match Player::try_open(inner, alloc, setup, config, disk, users, ports) {
             Ok(player) => Ok(player),
             Err(_) => Err(Fail::new("not opened")),
         }
     }
 
-    /// The same over users, ports and a configuration that was made of the setup.
+    /// The same over users and ports, which a refusal returns.
     pub fn try_open(
         inner: A,
         alloc: Global,
@@ -116,110 +134,122 @@ impl<A: Allocator + Copy, B: Allocator + Copy> Player<A, B> {
     /// Submits an arrival at a second that is not before the clock.
     pub fn submit_at(
         &mut self,
-        rt: &impl Abort,
         second: u64,
         arrival: &Arrival<'_>,
     ) -> Result<Result<(), SubmitRefused>, Fail> {
         let moment = at(second)?;
-        assert!(rt; self.server.clock() <= moment);
-        match self.server.submit(moment, arrival) {
-            Ok(()) => Ok(Ok(())),
-            Err(refused) => Ok(Err(refused)),
+        if self.server.clock() > moment {
+            return Err(Fail::new("a second before the clock"));
+        }
+        Ok(self.server.submit(moment, arrival))
+    }
+
+    /// Submits an arrival that is taken.
+    pub fn take(&mut self, second: u64, arrival: &Arrival<'_>) -> Result<(), Fail> {
+        match self.submit_at(second, arrival)? {
+            Ok(()) => Ok(()),
+            Err(_) => Err(Fail::new("a refused arrival")),
         }
     }
 
-    pub fn commit(&mut self) -> Result<Vec<Outgoing<A>, A>, CommitRefused> {
+    /// What a commit hands out.
+    pub fn commit(&mut self) -> Result<Vec<Outgoing<A>, A>, Fail> {
         match self.server.commit() {
             Ok(outs) => Ok(outs),
-            Err(refused) => Err(refused),
+            Err(_) => Err(Fail::new("a refused commit")),
         }
     }
 
     /// Submits the arrival of a row.
-    pub fn submit(
-        &mut self,
-        rt: &impl Abort,
-        row: &Row,
-    ) -> Result<Result<(), SubmitRefused>, Fail> {
+    pub fn submit(&mut self, row: &Row) -> Result<Result<(), SubmitRefused>, Fail> {
         match row {
             Row::Ask(second, user, client, kind, attributes) => {
                 let bytes = signed(self.alloc, *second, *user, *client, *kind, attributes)?;
-                self.submit_at(rt, *second, &of_client(*client, &bytes))
+                self.submit_at(*second, &of_client(*client, &bytes))
             }
             Row::Client(second, client, bytes) | Row::Full(second, client, bytes) => {
-                self.submit_at(rt, *second, &of_client(*client, bytes))
+                self.submit_at(*second, &of_client(*client, bytes))
             }
             Row::Again(second) | Row::Stopped(second) => {
-                self.submit_at(rt, *second, &of_client(FIRST, REQUEST))
+                self.submit_at(*second, &of_client(FIRST, REQUEST))
             }
-            Row::Peer(second, from, bytes) => {
-                self.submit_at(rt, *second, &of_peer(*from, bytes))
-            }
+            Row::Peer(second, from, bytes) => { self.submit_at(*second, &of_peer(*from, bytes)) }
             _ => Err(Fail::new("a row without an arrival")),
         }
     }
 
     /// Whether a commit hands out these datagrams.
     pub fn hands_out(&mut self, wanted: &[Sent]) -> Result<bool, Fail> {
-        match self.commit() {
-            Ok(outs) => are_sent(&outs, wanted),
-            Err(_) => Err(Fail::new("a refused commit")),
-        }
+        let outs = self.commit()?;
+        are_sent(&outs, wanted)
     }
 
     /// Whether a commit is refused for this reason.
     pub fn fails(&mut self, wanted: CommitRefused) -> bool {
-        match self.commit() {
+        match self.server.commit() {
             Ok(_) => false,
             Err(refused) => refused == wanted,
         }
     }
 
     /// Whether the arrival of a row is refused for this reason, and nothing changes.
-    fn refuses(&mut self, rt: &impl Abort, row: &Row, wanted: SubmitRefused) -> Result<bool, Fail> {
+    fn refuses(&mut self, row: &Row, wanted: SubmitRefused) -> Result<bool, Fail> {
         let (clock, len) = (self.clock(), self.table().len());
-        let is_refused = self.submit(rt, row)? == Err(wanted);
+        let is_refused = self.submit(row)? == Err(wanted);
         Ok(is_refused && self.clock() == clock && self.table().len() == len)
     }
 
-    /// Whether the server is stopped: the arrival of a row and a commit are refused, and the disk stays as it is.
-    fn is_stopped(&mut self, rt: &impl Abort, row: &Row) -> Result<bool, Fail> {
+    /// The bytes of the disk, and how many of its calls failed.
+    pub fn kept(&self) -> Result<Kept, Fail> {
         let content = Vec::from_slice(self.alloc, self.disk().content())?;
         let failures = self.disk().failures();
-        let refuses = self.refuses(rt, row, SubmitRefused::Stopped)?;
-        let fails = self.fails(CommitRefused::Stopped);
-        let is_same = self.disk().content() == content.as_slice();
-        Ok(refuses && fails && is_same && self.disk().failures() == failures)
+        Ok(Kept { content, failures })
+    }
+
+    /// Whether the disk is as it was, and no further call failed.
+    pub fn keeps(&self, kept: &Kept) -> bool {
+        self.disk().failures() == kept.failures && self.disk().content() == kept.content.as_slice()
+    }
+
+    /// Whether the server is stopped: the arrival of a row and a commit are refused, and the disk stays as it is.
+    fn is_stopped(&mut self, row: &Row) -> Result<bool, Fail> {
+        let kept = self.kept()?;
+        let refuses = self.refuses(row, SubmitRefused::Stopped)?;
+        Ok(refuses && self.fails(CommitRefused::Stopped) && self.keeps(&kept))
     }
 
     /// Whether a commit hands out nothing and makes no device call.
     pub fn is_idle(&mut self) -> Result<bool, Fail> {
-        let content = Vec::from_slice(self.alloc, self.disk().content())?;
-        let failures = self.disk().failures();
+        let kept = self.kept()?;
         self.disk().fail_call(1);
         let is_empty = self.hands_out(&[])?;
         // In place of the first one, which no call has met.
         self.disk().fail_call(u64::MAX);
-        let is_same = self.disk().content() == content.as_slice();
-        Ok(is_empty && is_same && self.disk().failures() == failures)
+        Ok(is_empty && self.keeps(&kept))
+    }
+
+    /// Lets the device call of this number fail, where 1 is the next one. There is no call 0.
+    fn fail_call(&self, call: u64) -> bool {
+        if call > 0 {
+            self.disk().fail_call(call);
+        }
+        call > 0
     }
 
     /// Whether a row that submits or commits goes as the test says.
-    fn goes(&mut self, rt: &impl Abort, row: &Row) -> Result<bool, Fail> {
+    fn goes(&mut self, row: &Row) -> Result<bool, Fail> {
         match row {
             Row::Ask(_, _, _, _, _) | Row::Client(_, _, _) | Row::Peer(_, _, _) => {
-                Ok(self.submit(rt, row)?.is_ok())
+                Ok(self.submit(row)?.is_ok())
             }
-            Row::Full(_, _, _) => self.refuses(rt, row, SubmitRefused::BatchFull),
+            Row::Full(_, _, _) => self.refuses(row, SubmitRefused::BatchFull),
             Row::Again(_) => {
-                Ok(
-                    self.submit(rt, row)?.is_ok()
-                        && self.hands_out(&[Sent::Client(FIRST, SUCCESS)])?,
-                )
+                Ok(self.submit(row)?.is_ok() && self.hands_out(&[Sent::Client(FIRST, SUCCESS)])?)
             }
-            Row::Stopped(_) => self.is_stopped(rt, row),
+            Row::Stopped(_) => self.is_stopped(row),
             Row::Commit(sent) => self.hands_out(sent),
             Row::Idle => self.is_idle(),
+            Row::FailCall(call) => Ok(self.fail_call(*call)),
             Row::Fails(refused) => Ok(self.fails(*refused)),
             found => self.finds(found),
         }
@@ -238,9 +268,9 @@ impl<A: Allocator + Copy, B: Allocator + Copy> Player<A, B> {
     }
 
     /// Plays rows in their order, and fails with the place of the first that goes otherwise.
-    pub fn play(&mut self, rt: &impl Abort, rows: &[Row]) -> Result<(), Fail> {
+    pub fn play(&mut self, rows: &[Row]) -> Result<(), Fail> {
         for (place, row) in rows.iter().enumerate() {
-            if !self.goes(rt, row)? || !self.keeps_ports() {
+            if !self.goes(row)? || !self.keeps_ports() {
                 return Err(Fail::new(place));
             }
         }
@@ -248,15 +278,31 @@ impl<A: Allocator + Copy, B: Allocator + Copy> Player<A, B> {
     }
 }
 
+impl<'a, B: Allocator + Copy> Player<&'a Refusing<Global>, B> {
+    /// Submits the arrival of a row, of which the growth after so many is refused, and returns whether one was: the result
+    /// has to say it.
+    pub fn lacks_memory(
+        &mut self,
+        refusing: &'a Refusing<Global>,
+        row: &Row,
+        served: u64,
+    ) -> Result<bool, Fail> {
+        refusing.arm(served);
+        let taken = self.submit(row)?;
+        let was_refused = refusing.has_refused();
+        refusing.arm(u64::MAX);
+        match taken {
+            Ok(()) if !was_refused => Ok(false),
+            Err(SubmitRefused::Memory) if was_refused => Ok(true),
+            _ => Err(Fail::new("another result")),
+        }
+    }
+}
+
 impl<A: Allocator + Copy> Player<A, A> {
     /// A server over an empty store.
-    pub fn new(
-        rt: &impl Abort,
-        inner: A,
-        alloc: Global,
-        setup: &Setup,
-    ) -> Result<Player<A, A>, Fail> {
-        let disk = setup.disk(rt, inner)?;
+    pub fn new(inner: A, alloc: Global, setup: &Setup) -> Result<Player<A, A>, Fail> {
+        let disk = setup.disk(inner)?;
         Player::open(inner, alloc, setup, disk)
     }
 }
@@ -270,6 +316,16 @@ impl Player {
         Player::open(alloc, alloc, &setup, disk)
     }
 
+    /// Crashes the disk, and plays rows at a server that opens it.
+    pub fn crash_and_play(self, outcome: Outcome, rows: &[Row]) -> Result<(), Fail> {
+        self.crash(outcome)?.play(rows)
+    }
+
+    /// Closes the server, and plays rows at one that opens the disk.
+    pub fn reopen_and_play(self, rows: &[Row]) -> Result<(), Fail> {
+        self.reopen()?.play(rows)
+    }
+
     /// Closes the server, and opens the disk again.
     pub fn reopen(self) -> Result<Player, Fail> {
         let (alloc, setup) = (self.alloc, self.setup);
@@ -277,7 +333,12 @@ impl Player {
     }
 }
 
+/// Plays rows at a server.
+pub fn play_on(mut player: Player, rows: &[Row]) -> Result<(), Fail> {
+    player.play(rows)
+}
+
 /// Plays rows at a new server.
-pub fn play(rt: &impl Abort, alloc: Global, setup: &Setup, rows: &[Row]) -> Result<(), Fail> {
-    Player::new(rt, alloc, alloc, setup)?.play(rt, rows)
+pub fn play(alloc: Global, setup: &Setup, rows: &[Row]) -> Result<(), Fail> {
+    Player::new(alloc, alloc, setup)?.play(rows)
 }

@@ -8,7 +8,6 @@ use crate::setup::{LARGE, SMALL, users};
 use crate::stops::act_of;
 use refusing::Refusing;
 use std::alloc::{Allocator, Global};
-use std::process::Abort;
 use std::test::Fail;
 use turn_disk::{Disk, MemoryDisk};
 use turn_engine::{CommitRefused, OpenRefused, SubmitRefused};
@@ -94,83 +93,89 @@ fn commit_alike<A: Allocator + Copy, B: Allocator + Copy>(
     first: &mut Player<A, B>,
     second: &mut Player<B, B>,
 ) -> Result<bool, Fail> {
-    match (first.commit(), second.commit()) {
-        (Ok(outs), Ok(others)) => {
-            let is_same = first.disk().content() == second.disk().content();
-            Ok(is_same && are_same(&outs, &others))
-        }
-        _ => Err(Fail::new("a refused commit")),
-    }
+    let outs = first.commit()?;
+    let others = second.commit()?;
+    Ok(first.disk().content() == second.disk().content() && are_same(&outs, &others))
+}
+
+/// Whether both hold.
+fn go_on_alike<A: Allocator + Copy, B: Allocator + Copy>(
+    first: &mut Player<A, B>,
+    second: &mut Player<B, B>,
+) -> Result<bool, Fail> {
+    Ok(are_alike(first, second) && commit_alike(first, second)?)
 }
 
 /// Whether a server that had no memory for an arrival goes on as another one that got a datagram without an answer in its
 /// place, at the same second: in what is handed out, and at the same arrival again.
 fn goes_on<A: Allocator + Copy, B: Allocator + Copy>(
-    rt: &impl Abort,
     player: &mut Player<A, B>,
     other: &mut Player<B, B>,
     row: &Row,
 ) -> Result<bool, Fail> {
-    other.play(rt, &[Row::Client(1001, FIRST, b"")])?;
-    let is_unchanged = are_alike(player, other) && commit_alike(player, other)?;
-    player.play(rt, &[*row])?;
-    other.play(rt, &[*row])?;
-    Ok(is_unchanged && are_alike(player, other) && commit_alike(player, other)?)
+    other.play(&[Row::Client(1001, FIRST, b"")])?;
+    if !go_on_alike(player, other)? {
+        return Ok(false);
+    }
+    player.play(&[*row])?;
+    other.play(&[*row])?;
+    go_on_alike(player, other)
 }
 
 /// Whether the growth after so many is refused, which the result says, and after which the server goes on.
 fn is_refused<'a>(
-    rt: &impl Abort,
     refusing: &'a Refusing<Global>,
     player: &mut Player<&'a Refusing<Global>, Global>,
     other: &mut Player,
     row: &Row,
     served: u64,
 ) -> Result<bool, Fail> {
-    refusing.arm(served);
-    let taken = player.submit(rt, row)?;
-    let was_refused = refusing.has_refused();
-    refusing.arm(u64::MAX);
-    if was_refused {
-        assert!(rt; taken == Err(SubmitRefused::Memory));
-        assert!(rt; goes_on(rt, player, other, row)?);
-    } else {
-        assert!(rt; taken == Ok(()));
+    let was_refused = player.lacks_memory(refusing, row, served)?;
+    if was_refused && !goes_on(player, other, row)? {
+        return Err(Fail::new("goes on otherwise"));
     }
     Ok(was_refused)
 }
 
+/// A new server after these rows.
+fn played(alloc: Global, rows: &[Row]) -> Result<Player, Fail> {
+    let mut player = Player::new(alloc, alloc, &LARGE)?;
+    player.play(rows)?;
+    Ok(player)
+}
+
 /// The same beside a new server, both after other rows.
 fn is_refused_after<'a>(
-    rt: &impl Abort,
     alloc: Global,
     refusing: &'a Refusing<Global>,
     player: &mut Player<&'a Refusing<Global>, Global>,
     (before, row): &(&[Row], Row),
     served: u64,
 ) -> Result<bool, Fail> {
-    player.play(rt, before)?;
-    let mut other = Player::new(rt, alloc, alloc, &LARGE)?;
-    other.play(rt, before)?;
-    is_refused(rt, refusing, player, &mut other, row, served)
+    player.play(before)?;
+    let mut other = played(alloc, before)?;
+    is_refused(refusing, player, &mut other, row, served)
 }
 
-fn is_refused_at_first(
-    rt: &impl Abort,
+fn is_refused_over<'a>(
     alloc: Global,
+    refusing: &'a Refusing<Global>,
     rows: &(&[Row], Row),
     served: u64,
 ) -> Result<bool, Fail> {
-    let disk = LARGE.disk(rt, alloc)?;
+    let mut player = Player::open(refusing, alloc, &LARGE, LARGE.disk(alloc)?)?;
+    is_refused_after(alloc, refusing, &mut player, rows, served)
+}
+
+fn is_refused_at_first(alloc: Global, rows: &(&[Row], Row), served: u64) -> Result<bool, Fail> {
     let refusing = Refusing::new(alloc, u64::MAX);
-    let mut player = Player::open(&refusing, alloc, &LARGE, disk)?;
-    is_refused_after(rt, alloc, &refusing, &mut player, rows, served)
+    is_refused_over(alloc, &refusing, rows, served)
 }
 
 /// How many growths an arrival takes, each of which is refused once.
-fn growths_of(rt: &impl Abort, alloc: Global, rows: &(&[Row], Row)) -> Result<u64, Fail> {
+fn growths_of(alloc: Global, rows: &(&[Row], Row)) -> Result<u64, Fail> {
     for served in 0..32u64 {
-        if !is_refused_at_first(rt, alloc, rows, served)? {
+        if !is_refused_at_first(alloc, rows, served)? {
             return Ok(served);
         }
     }
@@ -180,22 +185,24 @@ fn growths_of(rt: &impl Abort, alloc: Global, rows: &(&[Row], Row)) -> Result<u6
 #[test]
 fn arrival_that_lacks_memory_changes_the_moment_alone(rt: HostRuntime) -> Result<(), Fail> {
     for rows in &GROWTHS {
-        assert!(rt; growths_of(&rt, rt.alloc(), rows)? > 0);
+        if growths_of(rt.alloc(), rows)? == 0 {
+            return Err(Fail::new("no growth"));
+        }
     }
     Ok(())
 }
 
 // ---- Openings
 
-fn content_after(rt: &impl Abort, alloc: Global, player: &mut Player) -> Result<Vec<u8>, Fail> {
-    player.play(rt, BOUND)?;
+fn content_after(alloc: Global, player: &mut Player) -> Result<Vec<u8>, Fail> {
+    player.play(BOUND)?;
     Ok(Vec::from_slice(alloc, player.disk().content())?)
 }
 
 /// The content of a store of two frames: both allocations, and a channel.
-fn stored(rt: &impl Abort, alloc: Global) -> Result<Vec<u8>, Fail> {
-    let mut player = Player::new(rt, alloc, alloc, &LARGE)?;
-    content_after(rt, alloc, &mut player)
+fn stored(alloc: Global) -> Result<Vec<u8>, Fail> {
+    let mut player = Player::new(alloc, alloc, &LARGE)?;
+    content_after(alloc, &mut player)
 }
 
 /// Of a server over that store, whose handler knows alice.
@@ -206,66 +213,96 @@ const OPENED: [Row; 4] = [
     Row::Commit(&[Sent::Code(FIRST, 0)]),
 ];
 
+/// Whether a server goes on as `OPENED` says.
+fn plays_opened<A: Allocator + Copy>(mut player: Player<A, Global>) -> Result<bool, Fail> {
+    player.play(&OPENED)?;
+    Ok(true)
+}
+
 /// Whether what an opening returned after an allocation failure opens the store.
 fn opens_again<A: Allocator + Copy>(
-    rt: &impl Abort,
     inner: A,
     alloc: Global,
     config: &ServerConfig<A>,
-    content: &[u8],
     refused: Refused<Global>,
 ) -> Result<bool, Fail> {
     let OpenRefused {
-        fault,
         disk,
         handler,
         ports,
+        ..
     } = refused;
-    let is_same = disk.content() == content && disk.failures() == 0;
     match Player::try_open(inner, alloc, &LARGE, config, disk, handler, ports) {
-        Ok(mut player) => {
-            player.play(rt, &OPENED)?;
-            Ok(is_same && fault == OpenFault::Memory)
-        }
+        Ok(player) => plays_opened(player),
         Err(_) => Ok(false),
+    }
+}
+
+/// Whether a refusal is for memory, and the disk is as it was.
+fn is_for_memory(refused: &Refused<Global>, content: &[u8]) -> bool {
+    refused.fault == OpenFault::Memory
+        && refused.disk.content() == content
+        && refused.disk.failures() == 0
+}
+
+/// What an opening answers, if it is one of the store whose growth after so many is refused.
+type Answer<'a> = Result<Player<&'a Refusing<Global>, Global>, Refused<Global>>;
+
+fn open_refusing<'a>(
+    alloc: Global,
+    refusing: &'a Refusing<Global>,
+    config: &ServerConfig<&'a Refusing<Global>>,
+    content: &[u8],
+    served: u64,
+) -> Result<Answer<'a>, Fail> {
+    let disk = MemoryDisk::new(alloc, Vec::from_slice(alloc, content)?);
+    let (users, ports) = (users(alloc)?, LARGE.ports()?);
+    refusing.arm(served);
+    Ok(Player::try_open(refusing, alloc, &LARGE, config, disk, users, ports))
+}
+
+/// Whether an opening fails exactly if a growth was refused, and then succeeds.
+fn is_right<'a>(
+    alloc: Global,
+    refusing: &'a Refusing<Global>,
+    config: &ServerConfig<&'a Refusing<Global>>,
+    content: &[u8],
+    opened: Answer<'a>,
+    was_refused: bool,
+) -> Result<bool, Fail> {
+    match opened {
+        Ok(_) => Ok(!was_refused),
+        Err(refused) => {
+            let is_right = was_refused && is_for_memory(&refused, content);
+            Ok(opens_again(refusing, alloc, config, refused)? && is_right)
+        }
     }
 }
 
 /// Whether an opening is refused where the growth after so many is, after which it succeeds.
 fn opening_is_refused<'a>(
-    rt: &impl Abort,
     alloc: Global,
     refusing: &'a Refusing<Global>,
     config: &ServerConfig<&'a Refusing<Global>>,
     content: &[u8],
     served: u64,
 ) -> Result<bool, Fail> {
-    let ports = LARGE.ports()?;
-    let users = users(alloc)?;
-    let disk = MemoryDisk::new(alloc, Vec::from_slice(alloc, content)?);
-    refusing.arm(served);
-    let opened = Player::try_open(refusing, alloc, &LARGE, config, disk, users, ports);
+    let opened = open_refusing(alloc, refusing, config, content, served)?;
     let was_refused = refusing.has_refused();
     refusing.arm(u64::MAX);
-    match opened {
-        Ok(_) => {
-            assert!(rt; !was_refused);
-            Ok(false)
-        }
-        Err(refused) => {
-            assert!(rt; was_refused);
-            assert!(rt; opens_again(rt, refusing, alloc, config, content, refused)?);
-            Ok(true)
-        }
+    if is_right(alloc, refusing, config, content, opened, was_refused)? {
+        Ok(was_refused)
+    } else {
+        Err(Fail::new("another answer"))
     }
 }
 
 /// How many growths the opening takes, each of which is refused once.
-fn growths_of_an_opening(rt: &impl Abort, alloc: Global, content: &[u8]) -> Result<u64, Fail> {
+fn growths_of_an_opening(alloc: Global, content: &[u8]) -> Result<u64, Fail> {
     let refusing = Refusing::new(alloc, u64::MAX);
     let config = LARGE.config(&refusing)?;
     for served in 0..64u64 {
-        if !opening_is_refused(rt, alloc, &refusing, &config, content, served)? {
+        if !opening_is_refused(alloc, &refusing, &config, content, served)? {
             return Ok(served);
         }
     }
@@ -274,8 +311,10 @@ fn growths_of_an_opening(rt: &impl Abort, alloc: Global, content: &[u8]) -> Resu
 
 #[test]
 fn opening_that_lacks_memory_returns_what_it_was_passed(rt: HostRuntime) -> Result<(), Fail> {
-    let content = stored(&rt, rt.alloc())?;
-    assert!(rt; growths_of_an_opening(&rt, rt.alloc(), &content)? > 3);
+    let content = stored(rt.alloc())?;
+    if growths_of_an_opening(rt.alloc(), &content)? <= 3 {
+        return Err(Fail::new("few growths"));
+    }
     Ok(())
 }
 
@@ -283,12 +322,11 @@ fn opening_that_lacks_memory_returns_what_it_was_passed(rt: HostRuntime) -> Resu
 
 /// Commits an act, with no memory for any growth.
 fn commits_without_memory<'a>(
-    rt: &impl Abort,
     refusing: &'a Refusing<Global>,
     player: &mut Player<&'a Refusing<Global>, &'a Refusing<Global>>,
     act: &Row,
 ) -> Result<bool, Fail> {
-    player.play(rt, &[*act])?;
+    player.play(&[*act])?;
     refusing.arm(0);
     let is_handed_out = player.hands_out(&[Sent::Code(FIRST, 0)])?;
     let was_refused = refusing.has_refused();
@@ -298,12 +336,11 @@ fn commits_without_memory<'a>(
 
 /// Thirteen commits, two of which compact.
 fn commits_each<'a>(
-    rt: &impl Abort,
     refusing: &'a Refusing<Global>,
     player: &mut Player<&'a Refusing<Global>, &'a Refusing<Global>>,
 ) -> Result<bool, Fail> {
     for second in 1000..1013u64 {
-        if !commits_without_memory(rt, refusing, player, &act_of(second))? {
+        if !commits_without_memory(refusing, player, &act_of(second))? {
             return Ok(false);
         }
     }
@@ -311,67 +348,76 @@ fn commits_each<'a>(
 }
 
 /// A disk with an empty store, and with room for the record of all of these commits.
-fn reserved<A: Allocator + Copy>(rt: &impl Abort, alloc: A) -> Result<MemoryDisk<A>, Fail> {
-    let mut disk = SMALL.disk(rt, alloc)?;
+fn reserved<A: Allocator + Copy>(alloc: A) -> Result<MemoryDisk<A>, Fail> {
+    let mut disk = SMALL.disk(alloc)?;
     disk.reserve(128, 4096)?;
     Ok(disk)
 }
 
-fn takes_no_memory(rt: &impl Abort, alloc: Global) -> Result<bool, Fail> {
+fn takes_no_memory_of(alloc: Global, refusing: &Refusing<Global>) -> Result<bool, Fail> {
+    let mut player = Player::open(refusing, alloc, &SMALL, reserved(refusing)?)?;
+    commits_each(refusing, &mut player)
+}
+
+fn takes_no_memory(alloc: Global) -> Result<bool, Fail> {
     let refusing = Refusing::new(alloc, u64::MAX);
-    let disk = reserved(rt, &refusing)?;
-    let mut player = Player::open(&refusing, alloc, &SMALL, disk)?;
-    commits_each(rt, &refusing, &mut player)
+    takes_no_memory_of(alloc, &refusing)
 }
 
 #[test]
 fn commit_over_a_reserved_record_takes_no_memory(rt: HostRuntime) -> Result<(), Fail> {
-    assert!(rt; takes_no_memory(&rt, rt.alloc())?);
+    if !takes_no_memory(rt.alloc())? {
+        return Err(Fail::new("memory"));
+    }
     Ok(())
+}
+
+/// Fails if the server isn't stopped after one failed call.
+fn stays_stopped<A: Allocator + Copy>(player: &mut Player<Global, A>) -> Result<(), Fail> {
+    if player.disk().failures() != 1 {
+        return Err(Fail::new("another number of failed calls"));
+    }
+    player.play(&[Row::Stopped(1001)])
 }
 
 /// Whether a commit fails where the growth of the disk's record after so many is refused, after which the server is
 /// stopped.
 fn fails_at<'a>(
-    rt: &impl Abort,
     refusing: &'a Refusing<Global>,
     player: &mut Player<Global, &'a Refusing<Global>>,
     served: u64,
 ) -> Result<bool, Fail> {
-    player.play(rt, &[ALLOCATE])?;
+    player.play(&[ALLOCATE])?;
     refusing.arm(served);
     let fails = player.fails(CommitRefused::Device);
     let was_refused = refusing.has_refused();
     refusing.arm(u64::MAX);
-    assert!(rt; fails == was_refused);
+    if fails != was_refused {
+        return Err(Fail::new("another answer"));
+    }
     if fails {
-        assert!(rt; player.disk().failures() == 1);
-        player.play(rt, &[Row::Stopped(1001)])?;
+        stays_stopped(player)?;
     }
     Ok(fails)
 }
 
 /// A disk with an empty store, and without room for any record.
-fn unreserved<A: Allocator + Copy>(
-    rt: &impl Abort,
-    inner: A,
-    alloc: Global,
-) -> Result<MemoryDisk<A>, Fail> {
-    let disk = SMALL.disk(rt, alloc)?;
+fn unreserved<A: Allocator + Copy>(inner: A, alloc: Global) -> Result<MemoryDisk<A>, Fail> {
+    let disk = SMALL.disk(alloc)?;
     Ok(MemoryDisk::new(inner, Vec::from_slice(inner, disk.content())?))
 }
 
-fn fails_at_first(rt: &impl Abort, alloc: Global, served: u64) -> Result<bool, Fail> {
+fn fails_at_first(alloc: Global, served: u64) -> Result<bool, Fail> {
     let refusing = Refusing::new(alloc, u64::MAX);
-    let disk = unreserved(rt, &refusing, alloc)?;
+    let disk = unreserved(&refusing, alloc)?;
     let mut player = Player::open(alloc, alloc, &SMALL, disk)?;
-    fails_at(rt, &refusing, &mut player, served)
+    fails_at(&refusing, &mut player, served)
 }
 
 /// How many growths a commit takes over that disk, each of which is refused once.
-fn growths_of_a_commit(rt: &impl Abort, alloc: Global) -> Result<u64, Fail> {
+fn growths_of_a_commit(alloc: Global) -> Result<u64, Fail> {
     for served in 0..8u64 {
-        if !fails_at_first(rt, alloc, served)? {
+        if !fails_at_first(alloc, served)? {
             return Ok(served);
         }
     }
@@ -380,6 +426,8 @@ fn growths_of_a_commit(rt: &impl Abort, alloc: Global) -> Result<u64, Fail> {
 
 #[test]
 fn refused_growth_of_the_record_is_a_device_failure(rt: HostRuntime) -> Result<(), Fail> {
-    assert!(rt; growths_of_a_commit(&rt, rt.alloc())? > 0);
+    if growths_of_a_commit(rt.alloc())? == 0 {
+        return Err(Fail::new("no growth"));
+    }
     Ok(())
 }

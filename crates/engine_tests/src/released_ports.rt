@@ -7,9 +7,7 @@ use crate::setup::LARGE;
 use crate::stops::staged;
 use refusing::Refusing;
 use std::alloc::Global;
-use std::process::Abort;
 use std::test::Fail;
-use turn_engine::SubmitRefused;
 
 /// An allocation of bob at the second client for an hour from second 1000 on.
 const BOBS: Row = Row::Ask(1000, BOB, SECOND, Kind::Allocate, &[UDP, HOUR]);
@@ -32,7 +30,7 @@ const EXPIRED: [Row; 10] = [
 
 #[test]
 fn port_is_released_once_its_allocation_has_expired(rt: HostRuntime) -> Result<(), Fail> {
-    play(&rt, rt.alloc(), &LARGE, &EXPIRED)
+    play(rt.alloc(), &LARGE, &EXPIRED)
 }
 
 const DELETED: [Row; 12] = [
@@ -53,7 +51,7 @@ const DELETED: [Row; 12] = [
 // Neither by a second deletion nor at the second at which it would have expired.
 #[test]
 fn port_of_a_deleted_allocation_is_released_once(rt: HostRuntime) -> Result<(), Fail> {
-    play(&rt, rt.alloc(), &LARGE, &DELETED)
+    play(rt.alloc(), &LARGE, &DELETED)
 }
 
 const NOTHING_PICKED: [Row; 8] = [
@@ -69,7 +67,7 @@ const NOTHING_PICKED: [Row; 8] = [
 
 #[test]
 fn no_port_is_picked_that_no_allocation_gets(rt: HostRuntime) -> Result<(), Fail> {
-    play(&rt, rt.alloc(), &LARGE, &NOTHING_PICKED)
+    play(rt.alloc(), &LARGE, &NOTHING_PICKED)
 }
 
 /// Of a server that was opened with alice's allocation, whose port it has not picked.
@@ -88,9 +86,7 @@ const RECOVERED: [Row; 10] = [
 
 #[test]
 fn port_of_a_stored_allocation_is_released_once(rt: HostRuntime) -> Result<(), Fail> {
-    staged(&rt, rt.alloc(), 1001)?
-        .reopen()?
-        .play(&rt, &RECOVERED)
+    staged(rt.alloc(), 1001)?.reopen()?.play(&RECOVERED)
 }
 
 /// The port that was picked for an Allocate which then lacked memory. The same Allocate gets it afterwards.
@@ -103,27 +99,34 @@ const UNUSED: [Row; 6] = [
     Row::Commit(&[Sent::Code(SECOND, 0)]),
 ];
 
-/// Whether bob's Allocate beside alice's allocation lacks memory where the growth after so many is refused.
-fn lacks_memory(rt: &impl Abort, alloc: Global, served: u64) -> Result<bool, Fail> {
-    let refusing = Refusing::new(alloc, u64::MAX);
-    let mut player = Player::new(rt, &refusing, alloc, &LARGE)?;
-    player.play(rt, &[ALLOCATE, ALLOCATED])?;
-    refusing.arm(served);
-    let taken = player.submit(rt, &BOBS)?;
-    let was_refused = refusing.has_refused();
-    refusing.arm(u64::MAX);
-    assert!(rt; was_refused == (taken == Err(SubmitRefused::Memory)));
-    assert!(rt; player.keeps_ports());
+/// The same of a server that has the allocation.
+fn lacks_memory_beside<'a>(
+    refusing: &'a Refusing<Global>,
+    player: &mut Player<&'a Refusing<Global>, &'a Refusing<Global>>,
+    served: u64,
+) -> Result<bool, Fail> {
+    player.play(&[ALLOCATE, ALLOCATED])?;
+    let was_refused = player.lacks_memory(refusing, &BOBS, served)?;
+    if !player.keeps_ports() {
+        return Err(Fail::new("another port"));
+    }
     if was_refused {
-        player.play(rt, &UNUSED)?;
+        player.play(&UNUSED)?;
     }
     Ok(was_refused)
 }
 
+/// Whether bob's Allocate beside alice's allocation lacks memory where the growth after so many is refused.
+fn lacks_memory(alloc: Global, served: u64) -> Result<bool, Fail> {
+    let refusing = Refusing::new(alloc, u64::MAX);
+    let mut player = Player::new(&refusing, alloc, &LARGE)?;
+    lacks_memory_beside(&refusing, &mut player, served)
+}
+
 /// How many growths are refused, one after the other.
-fn refused_growths(rt: &impl Abort, alloc: Global) -> Result<u64, Fail> {
+fn refused_growths(alloc: Global) -> Result<u64, Fail> {
     for served in 0..32u64 {
-        if !lacks_memory(rt, alloc, served)? {
+        if !lacks_memory(alloc, served)? {
             return Ok(served);
         }
     }
@@ -132,6 +135,8 @@ fn refused_growths(rt: &impl Abort, alloc: Global) -> Result<u64, Fail> {
 
 #[test]
 fn picked_port_is_released_after_an_allocation_failure(rt: HostRuntime) -> Result<(), Fail> {
-    assert!(rt; refused_growths(&rt, rt.alloc())? > 1);
+    if refused_growths(rt.alloc())? <= 1 {
+        return Err(Fail::new("few growths"));
+    }
     Ok(())
 }

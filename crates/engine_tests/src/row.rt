@@ -33,6 +33,8 @@ pub enum Row {
     Again(u64),
     /// A commit, which hands out nothing and makes no device call.
     Idle,
+    /// From here on the device call of this number fails, 1 being the next one, if there is one.
+    FailCall(u64),
     /// A commit, which is refused.
     Fails(CommitRefused),
     /// Alice's first Allocate at a second, and a commit. Both are refused since the server is stopped, and the disk stays as

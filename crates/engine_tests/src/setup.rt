@@ -3,7 +3,6 @@
 use crate::ports::Ports;
 use crate::requests::{ALICE, BOB, REALM};
 use std::alloc::{Allocator, Global};
-use std::process::Abort;
 use std::test::Fail;
 use turn_cred::Users;
 use turn_disk::{Disk, MemoryDisk};
@@ -60,14 +59,11 @@ pub const LARGE: Setup = Setup {
     ..SMALL
 };
 
-fn format_disk<D: Disk>(
-    rt: &impl Abort,
-    disk: &mut D,
-    limits: Limits,
-    area: usize,
-) -> Result<(), Fail> {
+fn format_disk<D: Disk>(disk: &mut D, limits: Limits, area: usize) -> Result<(), Fail> {
     let size = disk.size();
-    assert!(rt; size >= 64 && size % 2 == 0 && (size - 64) / 2 == area);
+    if !(size >= 64 && size % 2 == 0 && (size - 64) / 2 == area) {
+        return Err(Fail::new("another size"));
+    }
     match format(disk, limits, area) {
         Ok(()) => Ok(()),
         Err(_) => Err(Fail::new("not formatted")),
@@ -104,17 +100,13 @@ impl Setup {
     }
 
     /// A disk with an empty store, which was formatted over zeros.
-    pub fn disk<A: Allocator + Copy>(
-        &self,
-        rt: &impl Abort,
-        alloc: A,
-    ) -> Result<MemoryDisk<A>, Fail> {
+    pub fn disk<A: Allocator + Copy>(&self, alloc: A) -> Result<MemoryDisk<A>, Fail> {
         if self.area > 2_000_000 {
             return Err(Fail::new("a large area"));
         }
         let content = Vec::from_elem(alloc, 0u8, 64 + 2 * self.area)?;
         let mut disk = MemoryDisk::new(alloc, content);
-        format_disk(rt, &mut disk, self.limits()?, self.area)?;
+        format_disk(&mut disk, self.limits()?, self.area)?;
         Ok(disk)
     }
 }

@@ -5,19 +5,7 @@ use crate::requests::{ALICE, FIRST, Kind};
 use crate::row::{ALLOCATE, ALLOCATED, Row, Sent};
 use crate::setup::SMALL;
 use std::alloc::Global;
-use std::process::Abort;
 use std::test::Fail;
-
-/// Alice's allocation, and her Refreshes for 600 seconds from second 1001 on, one a second, each with a commit.
-pub fn refreshed(rt: &impl Abort, alloc: Global, last: u64) -> Result<Player, Fail> {
-    let mut player = Player::new(rt, alloc, alloc, &SMALL)?;
-    player.play(rt, &[ALLOCATE, ALLOCATED])?;
-    for second in 1001..last {
-        player.play(rt, &[refresh(second), Row::Commit(&[Sent::Code(FIRST, 0)])])?;
-    }
-    player.play(rt, &[refresh(last)])?;
-    Ok(player)
-}
 
 /// Alice's Refresh.
 fn refresh(second: u64) -> Row {
@@ -33,12 +21,26 @@ pub fn act_of(second: u64) -> Row {
     }
 }
 
-/// A server whose acts up to this second are staged: alice's allocation at 1000, or a Refresh after those before it.
-pub fn staged(rt: &impl Abort, alloc: Global, second: u64) -> Result<Player, Fail> {
-    if second > 1000 {
-        return refreshed(rt, alloc, second);
+/// Alice's allocation, and her Refreshes for 600 seconds from second 1001 on, one a second, each with a commit but the last.
+fn stage_refreshes(player: &mut Player, last: u64) -> Result<(), Fail> {
+    player.play(&[ALLOCATE, ALLOCATED])?;
+    for second in 1001..last {
+        player.play(&[refresh(second), Row::Commit(&[Sent::Code(FIRST, 0)])])?;
     }
-    let mut player = Player::new(rt, alloc, alloc, &SMALL)?;
-    player.play(rt, &[ALLOCATE])?;
+    player.play(&[refresh(last)])
+}
+
+fn stage(player: &mut Player, second: u64) -> Result<(), Fail> {
+    if second > 1000 {
+        stage_refreshes(player, second)
+    } else {
+        player.play(&[ALLOCATE])
+    }
+}
+
+/// A server whose acts up to this second are staged: alice's allocation at 1000, or a Refresh after those before it.
+pub fn staged(alloc: Global, second: u64) -> Result<Player, Fail> {
+    let mut player = Player::new(alloc, alloc, &SMALL)?;
+    stage(&mut player, second)?;
     Ok(player)
 }

@@ -14,6 +14,7 @@ mod scenario;
 mod table_lines;
 
 pub use fault::ScenarioFault;
+pub use received::{Received, read_message};
 pub use report::Report;
 pub use request::{Attribute, Request, build_request, build_send};
 pub use scenario::replay;

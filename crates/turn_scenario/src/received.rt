@@ -1,4 +1,4 @@
-//! What a client receives, as text.
+//! What a client receives, and as text.
 
 use std::alloc::{AllocError, Allocator};
 use turn_codec::{AttributeType, ChannelData, Message, read_xor_address};
@@ -6,8 +6,8 @@ use turn_config::ShownEndpoint;
 use turn_types::{Addr, Class, Endpoint, Method};
 
 /// What a message to a client says.
-#[derive(Clone, Copy)]
-enum Received<'a> {
+#[derive(Clone, Copy, Debug)]
+pub enum Received<'a> {
     /// An Allocate success: the relayed port, and the lifetime in seconds.
     Allocated(u16, u32),
     /// A Refresh success: the lifetime in seconds.
@@ -62,7 +62,8 @@ fn error<'a>(message: &Message<'a>) -> Option<Received<'a>> {
     }
 }
 
-fn read_message<'a>(message: &Message<'a>) -> Option<Received<'a>> {
+/// What a message says. `None` for a request, and for a message without the attributes that its class and method need.
+pub fn read_message<'a>(message: &Message<'a>) -> Option<Received<'a>> {
     match message.class() {
         Class::Success => success(message),
         Class::Error => error(message),

@@ -1,17 +1,10 @@
 //! The program `turn`: the words of a command line to text and an exit status.
 #![tactic(auto)]
 
-mod command;
-mod fault;
-mod files;
-mod program;
-mod reply;
-
-use fault::Fault;
-use program::{report, run_words};
 use std::io::ErrorKind;
 use std::process::ExitCode;
 use std::{env, io};
+use turn_program::{Fault, report, run_words};
 
 /// The words of the command line, the program's name first. A word that isn't UTF-8 is a usage fault.
 fn words_of(rt: &HostRuntime) -> Result<Vec<String>, Fault> {
@@ -31,6 +24,3 @@ fn main(rt: HostRuntime) -> ExitCode {
     };
     ExitCode::from(status)
 }
-
-#[cfg(test)]
-mod tests;

@@ -1,0 +1,108 @@
+//! `turn replay`, over files of the folder that it runs in.
+
+use super::{USAGE, expect, expect_each};
+use std::alloc::Global;
+use std::fs;
+use std::test::Fail;
+use turn_program::{Fault, report};
+use turn_scenario::ScenarioFault;
+
+/// Settings, and the `format` line that opens a store.
+pub const SCENARIO: &str = "realm example.org
+user alice wonder
+secret 0000000000000000000000000000000000000000000000000000000000000000
+listen 192.0.2.100:3478
+relay 198.51.100.1 50000 50009
+limits 2 1 1 1 8
+format 238
+";
+
+/// Replays a file that has this content: the status and what is written.
+fn expect_file(
+    rt: &HostRuntime,
+    path: &str,
+    content: &[u8],
+    status: u8,
+    out: &str,
+    err: &str,
+) -> Result<(), Fail> {
+    fs::write(rt, path, content)?;
+    expect(rt, &["replay", path], status, out, err)?;
+    fs::remove_file(rt, path)?;
+    Ok(())
+}
+
+/// Lines after those of `SCENARIO`, and the status, the report and the fault that come of them.
+const REPORTS: [(&str, u8, &str, &str); 6] = [
+    ("", 0, "opened clock 0\n", ""),
+    (
+        "at 5\nask 192.0.2.1:5 alice 000000000000000000000001 allocate\ncommit\ntable\n",
+        0,
+        "opened clock 0\nclient 192.0.2.1:5 success allocate 000000000000000000000001 port=50000 life=600\ncommitted 1\n192.0.2.1:5 192.0.2.100:3478 616c696365 50000 605\nlive 1\n",
+        "",
+    ),
+    ("expect opened clock 0", 0, "opened clock 0\n", ""),
+    ("expect closed", 4, "", "turn: line 8: differs\n"),
+    ("commit\nfrobnicate", 1, "", "turn: line 9: bad line\n"),
+    ("\r\nexpect closed", 1, "", "turn: line 8: bad line\n"),
+];
+
+fn expect_report(rt: &HostRuntime, row: &(&str, u8, &str, &str)) -> Result<(), Fail> {
+    let (lines, status, out, err) = *row;
+    let content = format!(in rt.alloc(); "{SCENARIO}{lines}")?;
+    expect_file(
+        rt,
+        "turn_replay.report",
+        content.as_bytes(),
+        status,
+        out,
+        err,
+    )
+}
+
+#[test]
+fn a_report_is_printed_if_no_line_is_at_fault(rt: HostRuntime) -> Result<(), Fail> {
+    for row in &REPORTS {
+        expect_report(&rt, row)?;
+    }
+    Ok(())
+}
+
+/// A comment of so many bytes.
+fn expect_comment(rt: &HostRuntime, size: usize, status: u8, err: &str) -> Result<(), Fail> {
+    let alloc: Global = rt.alloc();
+    let content = Vec::from_elem(alloc, b'#', size)?;
+    expect_file(rt, "turn_replay.comment", &content, status, "", err)
+}
+
+#[test]
+fn a_file_of_more_than_16_mebibytes_is_a_device_fault(rt: HostRuntime) -> Result<(), Fail> {
+    expect_comment(&rt, 0, 0, "")?;
+    expect_comment(&rt, 16_777_216, 0, "")?;
+    expect_comment(&rt, 16_777_217, 3, "turn: device\n")
+}
+
+/// No such file, a folder, a file in a folder that is none, and no name.
+const UNREADABLE: [&[&str]; 4] = [
+    &["replay", "turn_replay.absent"],
+    &["replay", "."],
+    &["replay", "turn_replay.absent/scenario"],
+    &["replay", ""],
+];
+
+#[test]
+fn a_file_that_can_not_be_read_is_a_device_fault(rt: HostRuntime) -> Result<(), Fail> {
+    expect_each(&rt, &UNREADABLE, 3, "", "turn: device\n")
+}
+
+#[test]
+fn a_scenario_that_is_out_of_memory_has_status_5(rt: HostRuntime) {
+    let mut err = Vec::new(rt.alloc());
+    assert!(rt; report(Fault::from(ScenarioFault::Memory), &mut err) == 5);
+    assert!(rt; err.as_slice() == b"turn: memory\n".as_slice());
+}
+
+#[test]
+fn words_are_judged_before_the_file(rt: HostRuntime) -> Result<(), Fail> {
+    expect(&rt, &["replay", "turn_replay.absent", "--at"], 1, "", USAGE)
+}

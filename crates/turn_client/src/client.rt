@@ -1,0 +1,153 @@
+//! A client of a server.
+
+use crate::fault::ClientFault;
+use crate::socket::TimedSocket;
+use std::alloc::{Allocator, Global};
+use std::marker::Model;
+use std::net::Net;
+use turn_codec::{AttributeType, Builder, ChannelData, Message};
+use turn_mac::generate_auth_key;
+use turn_scenario::{Attribute, Received, Request, build_request, build_send, read_message};
+use turn_types::{Class, Endpoint, Method, TxId};
+
+/// Who a client is.
+#[derive(Clone, Copy, Debug)]
+pub struct Credentials<'c> {
+    pub user: &'c [u8],
+    pub realm: &'c [u8],
+    pub password: &'c [u8],
+}
+
+/// A client of one server, with the credentials of a user.
+#[derive(Drop)]
+pub struct Client<'c, A: Allocator = Global> {
+    alloc: A,
+    socket: TimedSocket<A>,
+    server: Endpoint,
+    credentials: Credentials<'c>,
+    // The nonce of the server's last challenge.
+    nonce: Vec<u8, A>,
+    // How many requests there were.
+    requests: u32,
+}
+
+// Clauses see nothing of it, which keeps the proofs of callers small.
+impl<'c, A: Allocator> Model for Client<'c, A> {
+    ghost Value = { Unit {0} };
+
+    ghost view = { λ _. tt };
+}
+
+impl<'c, A: Allocator + Copy> Client<'c, A> {
+    /// A client with a socket of its own. Port 0 is any free one.
+    pub fn open<R: Net>(
+        alloc: A,
+        net: &R,
+        at: Endpoint,
+        server: Endpoint,
+        credentials: Credentials<'c>,
+    ) -> Result<Client<'c, A>, ClientFault> {
+        Ok(Client {
+            alloc,
+            socket: TimedSocket::open(alloc, net, at)?,
+            server,
+            credentials,
+            nonce: Vec::new(alloc),
+            requests: 0,
+        })
+    }
+
+    pub fn local(&self) -> Endpoint {
+        self.socket.local()
+    }
+
+    /// From now on the server is at this address.
+    pub fn set_server(&mut self, server: Endpoint) {
+        self.server = server;
+    }
+
+    // A transaction id that no request before had.
+    fn next_tx(&mut self) -> TxId {
+        self.requests = self.requests.wrapping_add(1);
+        let [a, b, c, d] = self.requests.to_be_bytes();
+        TxId([0, 0, 0, 0, 0, 0, 0, 0, a, b, c, d])
+    }
+
+    /// A request without credentials and attributes, as it is sent.
+    pub fn plain_request(&mut self, method: Method) -> Result<Vec<u8, A>, ClientFault> {
+        let tx = self.next_tx();
+        Ok(Builder::new(self.alloc, Class::Request, method, tx)?.finish())
+    }
+
+    /// A request with the credentials and the nonce of the last challenge, as it is sent.
+    pub fn request(
+        &mut self,
+        method: Method,
+        attributes: &[Attribute],
+    ) -> Result<Vec<u8, A>, ClientFault> {
+        let Credentials {
+            user,
+            realm,
+            password,
+        } = self.credentials;
+        let request = Request {
+            method,
+            tx: self.next_tx(),
+            attributes,
+            user,
+            realm,
+        };
+        let key = generate_auth_key(user, realm, password);
+        Ok(build_request(self.alloc, &request, &key, &self.nonce)?)
+    }
+
+    /// Sends a datagram to the server.
+    pub fn send(&self, bytes: &[u8]) -> Result<(), ClientFault> {
+        self.socket.send(self.server, bytes)
+    }
+
+    /// Sends data to a peer, in a Send indication.
+    pub fn send_to_peer(&self, peer: Endpoint, payload: &[u8]) -> Result<(), ClientFault> {
+        self.send(&build_send(self.alloc, peer, payload)?)
+    }
+
+    /// Sends data over a channel.
+    pub fn send_over_channel(&self, number: u16, payload: &[u8]) -> Result<(), ClientFault> {
+        if number < 0x4000 || 0x8000 <= number || 0xffff < payload.len() {
+            return Err(ClientFault::TooLong);
+        }
+        let data = ChannelData { number, payload };
+        self.send(&data.write(self.alloc)?)
+    }
+
+    /// The next datagram of the server.
+    pub fn receive(&mut self) -> Result<&[u8], ClientFault> {
+        let server = self.server;
+        let (bytes, from) = self.socket.receive()?;
+        if from == server {
+            Ok(bytes)
+        } else {
+            Err(ClientFault::Unexpected)
+        }
+    }
+
+    /// The next message of the server.
+    pub fn receive_message(&mut self) -> Result<Message<'_>, ClientFault> {
+        Message::parse(self.receive()?).map_err(|_| ClientFault::Unexpected)
+    }
+
+    /// Receives a challenge. Returns its code, and keeps its nonce for the next requests.
+    pub fn take_challenge(&mut self) -> Result<u16, ClientFault> {
+        let alloc = self.alloc;
+        let challenge = self.receive_message()?;
+        let Some(Received::Error(code)) = read_message(&challenge) else {
+            return Err(ClientFault::Unexpected);
+        };
+        let nonce = challenge
+            .find(AttributeType::NONCE)
+            .ok_or(ClientFault::Unexpected)?;
+        let nonce = Vec::from_slice(alloc, nonce)?;
+        self.nonce = nonce;
+        Ok(code)
+    }
+}

@@ -1,0 +1,396 @@
+//! A client and a peer that talk over a server, all on the loopback and in one thread.
+
+use crate::client::{Client, Credentials};
+use crate::fault::ClientFault;
+use crate::socket::TimedSocket;
+use std::alloc::{AllocError, Allocator, Global};
+use std::marker::Model;
+use std::net::Net;
+use std::rt::Clock;
+use turn_codec::{ChannelData, Message};
+use turn_cred::Users;
+use turn_disk::Disk;
+use turn_mac::generate_auth_key;
+use turn_ports::PortRange;
+use turn_scenario::{Attribute, Received, read_message};
+use turn_serving::{Serving, Setup};
+use turn_types::{Bounds, ConfigError, Endpoint, Limits, Method, ServerConfig, Settings};
+
+/// 127.0.0.1.
+const LOOPBACK: u32 = 0x7F00_0001;
+
+/// Any free port of the loopback.
+const ANY_PORT: Endpoint = Endpoint {
+    ip: LOOPBACK,
+    port: 0,
+};
+
+const CREDENTIALS: Credentials<'static> = Credentials {
+    user: b"alice",
+    realm: b"example.org",
+    password: b"wonder",
+};
+
+/// The limits of the server: its store needs few bytes.
+pub fn limits() -> Limits {
+    let bounds = Bounds {
+        allocations: 4,
+        permissions: 4,
+        channels: 4,
+        acts: 4,
+        name_bytes: 16,
+    };
+    Limits::new(bounds).unwrap_or(Limits::MAX)
+}
+
+/// What is there also while no server runs: its configuration, a client, and a peer.
+#[derive(Drop)]
+pub struct Loopback<'a, R: Net, A: Allocator + Copy = Global> {
+    alloc: A,
+    net: &'a R,
+    config: ServerConfig<A>,
+    users: Users<A>,
+    ports: PortRange,
+    burst: u8,
+    // Where the server listens; port 0 before it ran.
+    listen: Endpoint,
+    client: Client<'static, A>,
+    peer: TimedSocket<A>,
+}
+
+// Clauses see nothing of it, which keeps the proofs of callers small.
+impl<'a, R: Net, A: Allocator + Copy> Model for Loopback<'a, R, A> {
+    ghost Value = { Unit {0} };
+
+    ghost view = { λ _. tt };
+}
+
+/// A server that runs, with a client and a peer. Each step sends one datagram, takes one turn of the server, and receives
+/// what comes of it.
+#[derive(Drop)]
+pub struct Conversation<'a, D: Disk + Drop, R: Net, A: Allocator + Copy = Global> {
+    alloc: A,
+    net: &'a R,
+    config: ServerConfig<A>,
+    ports: PortRange,
+    burst: u8,
+    serving: Serving<'a, D, Users<A>, R, A>,
+    client: Client<'static, A>,
+    peer: TimedSocket<A>,
+}
+
+// Clauses see nothing of it, which keeps the proofs of callers small.
+impl<'a, D: Disk + Drop, R: Net, A: Allocator + Copy> Model for Conversation<'a, D, R, A> {
+    ghost Value = { Unit {0} };
+
+    ghost view = { λ _. tt };
+}
+
+/// An Allocate, the success that it got, and what that says.
+#[derive(Drop)]
+pub struct Allocated<A: Allocator = Global> {
+    pub request: Vec<u8, A>,
+    pub response: Vec<u8, A>,
+    pub port: u16,
+    pub lifetime: u32,
+}
+
+/// A configuration whose relay ports begin at another place for each client, so that two conversations at once seldom ask for
+/// the same ports.
+fn make_config<A: Allocator + Copy>(
+    alloc: A,
+    client: Endpoint,
+) -> Result<ServerConfig<A>, AllocError> {
+    let mut secret = [0u8; 32];
+    let [high, low] = client.port.to_be_bytes();
+    secret[0] = high;
+    secret[1] = low;
+    let settings = Settings {
+        realm: CREDENTIALS.realm,
+        secret,
+        relay: LOOPBACK,
+        quota: 4,
+        denied: &[],
+        limits: limits(),
+    };
+    match ServerConfig::new(alloc, settings) {
+        Ok(config) => Ok(config),
+        Err(ConfigError::Memory) => Err(AllocError),
+        Err(_) => unreachable!(),
+    }
+}
+
+fn make_users<A: Allocator + Copy>(alloc: A) -> Result<Users<A>, AllocError> {
+    let Credentials {
+        user,
+        realm,
+        password,
+    } = CREDENTIALS;
+    let mut users = Users::new(alloc);
+    users.add(user, generate_auth_key(user, realm, password))?;
+    Ok(users)
+}
+
+impl<'a, R: Net + Drop, A: Allocator + Copy> Loopback<'a, R, A> {
+    /// A client and a peer with sockets of their own, and a server to be, with relay ports of a range, which takes up to so
+    /// many datagrams of a socket in a turn.
+    pub fn new(
+        alloc: A,
+        net: &'a R,
+        ports: PortRange,
+        burst: u8,
+    ) -> Result<Loopback<'a, R, A>, ClientFault> {
+        let client = Client::open(alloc, net, ANY_PORT, ANY_PORT, CREDENTIALS)?;
+        let peer = TimedSocket::open(alloc, net, ANY_PORT)?;
+        Ok(Loopback {
+            alloc,
+            net,
+            config: make_config(alloc, client.local())?,
+            users: make_users(alloc)?,
+            ports,
+            burst,
+            listen: ANY_PORT,
+            client,
+            peer,
+        })
+    }
+
+    /// Starts the server over a disk.
+    pub fn serve<D: Disk + Drop>(self, disk: D) -> Result<Conversation<'a, D, R, A>, ClientFault> {
+        let Loopback {
+            alloc,
+            net,
+            config,
+            users,
+            ports,
+            burst,
+            listen,
+            mut client,
+            peer,
+        } = self;
+        let setup = Setup {
+            config: &config,
+            listen,
+            ports,
+            relay_bind: None,
+            burst,
+        };
+        let serving = setup.start(alloc, net, disk, users)?;
+        client.set_server(serving.local());
+        Ok(Conversation {
+            alloc,
+            net,
+            config,
+            ports,
+            burst,
+            serving,
+            client,
+            peer,
+        })
+    }
+}
+
+impl<'a, D: Disk + Drop, R: Net + Drop, A: Allocator + Copy> Conversation<'a, D, R, A> {
+    /// Ends the server, and returns its disk.
+    pub fn end(self) -> (D, Loopback<'a, R, A>) {
+        let Conversation {
+            alloc,
+            net,
+            config,
+            ports,
+            burst,
+            serving,
+            client,
+            peer,
+        } = self;
+        let listen = serving.local();
+        let (disk, users) = serving.close();
+        let loopback = Loopback {
+            alloc,
+            net,
+            config,
+            users,
+            ports,
+            burst,
+            listen,
+            client,
+            peer,
+        };
+        (disk, loopback)
+    }
+
+    pub fn client(&mut self) -> &mut Client<'static, A> {
+        &mut self.client
+    }
+
+    /// One turn of the server.
+    pub fn turn<C: Clock>(&mut self, clock: &C) -> Result<(), ClientFault> {
+        self.serving.turn(clock)?;
+        Ok(())
+    }
+
+    /// The address of the peer.
+    pub fn peer(&self) -> Endpoint {
+        self.peer.local()
+    }
+
+    // Sends a datagram to the server, and returns its answer.
+    fn exchange<C: Clock>(&mut self, clock: &C, bytes: &[u8]) -> Result<Message<'_>, ClientFault> {
+        self.client.send(bytes)?;
+        self.serving.turn(clock)?;
+        self.client.receive_message()
+    }
+
+    /// An Allocate without credentials. Returns the code of the challenge, and keeps its nonce.
+    pub fn challenge<C: Clock>(&mut self, clock: &C) -> Result<u16, ClientFault> {
+        let request = self.client.plain_request(Method::ALLOCATE)?;
+        self.client.send(&request)?;
+        self.serving.turn(clock)?;
+        self.client.take_challenge()
+    }
+
+    pub fn allocate<C: Clock>(&mut self, clock: &C) -> Result<Allocated<A>, ClientFault> {
+        let alloc = self.alloc;
+        let request = self.client.request(Method::ALLOCATE, &[])?;
+        let message = self.exchange(clock, &request)?;
+        let Some(Received::Allocated(port, lifetime)) = read_message(&message) else {
+            return Err(ClientFault::Unexpected);
+        };
+        let response = Vec::from_slice(alloc, message.as_bytes())?;
+        Ok(Allocated {
+            request,
+            response,
+            port,
+            lifetime,
+        })
+    }
+
+    /// Sends an Allocate again. Returns whether the response is the same.
+    pub fn repeat<C: Clock>(
+        &mut self,
+        clock: &C,
+        first: &Allocated<A>,
+    ) -> Result<bool, ClientFault> {
+        let message = self.exchange(clock, &first.request)?;
+        Ok(message.as_bytes() == first.response.as_slice())
+    }
+
+    // A request that gets a success without values.
+    fn ask<C: Clock>(
+        &mut self,
+        clock: &C,
+        method: Method,
+        attributes: &[Attribute],
+    ) -> Result<(), ClientFault> {
+        let request = self.client.request(method, attributes)?;
+        let message = self.exchange(clock, &request)?;
+        match read_message(&message) {
+            Some(Received::Success) => Ok(()),
+            _ => Err(ClientFault::Unexpected),
+        }
+    }
+
+    /// A CreatePermission for the peer.
+    pub fn permit<C: Clock>(&mut self, clock: &C) -> Result<(), ClientFault> {
+        let peer = self.peer();
+        self.ask(clock, Method::CREATE_PERMISSION, &[Attribute::Peer(peer)])
+    }
+
+    /// A ChannelBind of a number to the peer.
+    pub fn bind<C: Clock>(&mut self, clock: &C, number: u16) -> Result<(), ClientFault> {
+        let peer = self.peer();
+        let attributes = [Attribute::Channel(number), Attribute::Peer(peer)];
+        self.ask(clock, Method::CHANNEL_BIND, &attributes)
+    }
+
+    /// A Refresh for a number of seconds. Returns how many are granted.
+    pub fn refresh<C: Clock>(&mut self, clock: &C, seconds: u32) -> Result<u32, ClientFault> {
+        let attributes = [Attribute::Lifetime(seconds)];
+        let request = self.client.request(Method::REFRESH, &attributes)?;
+        let message = self.exchange(clock, &request)?;
+        match read_message(&message) {
+            Some(Received::Refreshed(granted)) => Ok(granted),
+            _ => Err(ClientFault::Unexpected),
+        }
+    }
+
+    // What the peer gets from a relayed port.
+    fn at_peer<C: Clock>(&mut self, clock: &C, port: u16) -> Result<Vec<u8, A>, ClientFault> {
+        self.serving.turn(clock)?;
+        let alloc = self.alloc;
+        let (bytes, from) = self.peer.receive()?;
+        if from.ip != LOOPBACK || from.port != port {
+            return Err(ClientFault::Unexpected);
+        }
+        Ok(Vec::from_slice(alloc, bytes)?)
+    }
+
+    /// Sends data to the peer in a Send indication. Returns what the peer gets from this relayed port.
+    pub fn send<C: Clock>(
+        &mut self,
+        clock: &C,
+        port: u16,
+        payload: &[u8],
+    ) -> Result<Vec<u8, A>, ClientFault> {
+        self.client.send_to_peer(self.peer.local(), payload)?;
+        self.at_peer(clock, port)
+    }
+
+    /// Sends data over a channel. Returns what the peer gets from this relayed port.
+    pub fn send_over<C: Clock>(
+        &mut self,
+        clock: &C,
+        number: u16,
+        port: u16,
+        payload: &[u8],
+    ) -> Result<Vec<u8, A>, ClientFault> {
+        self.client.send_over_channel(number, payload)?;
+        self.at_peer(clock, port)
+    }
+
+    // The peer sends data to a relayed port.
+    fn send_back<C: Clock>(
+        &mut self,
+        clock: &C,
+        port: u16,
+        payload: &[u8],
+    ) -> Result<(), ClientFault> {
+        let relayed = Endpoint { ip: LOOPBACK, port };
+        self.peer.send(relayed, payload)?;
+        self.serving.turn(clock)?;
+        Ok(())
+    }
+
+    /// The peer sends data to a relayed port. Returns what the client gets in a Data indication.
+    pub fn receive<C: Clock>(
+        &mut self,
+        clock: &C,
+        port: u16,
+        payload: &[u8],
+    ) -> Result<Vec<u8, A>, ClientFault> {
+        self.send_back(clock, port, payload)?;
+        let (alloc, peer) = (self.alloc, self.peer());
+        let message = self.client.receive_message()?;
+        match read_message(&message) {
+            Some(Received::Data(from, bytes)) if from == peer => Ok(Vec::from_slice(alloc, bytes)?),
+            _ => Err(ClientFault::Unexpected),
+        }
+    }
+
+    /// The peer sends data to a relayed port. Returns what the client gets over a channel.
+    pub fn receive_over<C: Clock>(
+        &mut self,
+        clock: &C,
+        number: u16,
+        port: u16,
+        payload: &[u8],
+    ) -> Result<Vec<u8, A>, ClientFault> {
+        self.send_back(clock, port, payload)?;
+        let alloc = self.alloc;
+        let data = ChannelData::parse(self.client.receive()?).ok_or(ClientFault::Unexpected)?;
+        if data.number != number {
+            return Err(ClientFault::Unexpected);
+        }
+        Ok(Vec::from_slice(alloc, data.payload)?)
+    }
+}

@@ -1,0 +1,58 @@
+//! Why a client doesn't go on.
+
+use std::alloc::AllocError;
+use thiserror::Error;
+use turn_codec::PushError;
+use turn_serving::{StartFault, TurnFault};
+
+/// Why a client doesn't go on.
+#[derive(Clone, Copy, Debug, PartialEq, Eq, Error)]
+pub enum ClientFault {
+    /// A socket can't be bound or used.
+    #[error("socket")]
+    Socket,
+    /// Nothing came in time.
+    #[error("no answer")]
+    Silent,
+    /// Something else came than was expected.
+    #[error("another answer")]
+    Unexpected,
+    /// A request would be too long for a message.
+    #[error("too long")]
+    TooLong,
+    #[error("out of memory")]
+    Memory,
+    /// The server didn't start.
+    #[error("{0}")]
+    Start(StartFault),
+    /// A turn of the server failed.
+    #[error("{0}")]
+    Turn(TurnFault),
+}
+
+impl From<StartFault> for ClientFault {
+    fn from(fault: StartFault) -> ClientFault {
+        ClientFault::Start(fault)
+    }
+}
+
+impl From<TurnFault> for ClientFault {
+    fn from(fault: TurnFault) -> ClientFault {
+        ClientFault::Turn(fault)
+    }
+}
+
+impl From<AllocError> for ClientFault {
+    fn from(_: AllocError) -> ClientFault {
+        ClientFault::Memory
+    }
+}
+
+impl From<PushError> for ClientFault {
+    fn from(error: PushError) -> ClientFault {
+        match error {
+            PushError::TooLong => ClientFault::TooLong,
+            PushError::Memory => ClientFault::Memory,
+        }
+    }
+}

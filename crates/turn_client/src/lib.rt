@@ -1,0 +1,13 @@
+//! A TURN client over a UDP socket, with the credentials of one user (RFC 8656; RFC 8489, section 9.2), and a peer: for
+//! demonstrations and tests.
+#![tactic(auto)]
+
+mod client;
+mod conversation;
+mod fault;
+mod socket;
+
+pub use client::{Client, Credentials};
+pub use conversation::{Allocated, Conversation, Loopback, limits};
+pub use fault::ClientFault;
+pub use socket::TimedSocket;

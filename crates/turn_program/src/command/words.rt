@@ -1,0 +1,14 @@
+//! The words that a command takes.
+
+use clap::{Arg, ArgAction};
+use std::alloc::Global;
+
+/// A word with a value, as `--name VALUE`, at most once.
+pub fn option<'a>(alloc: Global, name: &'a str) -> Arg<'a> {
+    Arg::new(alloc, name).long(name).action(ArgAction::Set)
+}
+
+/// A word that is a value, and has to be there.
+pub fn value<'a>(alloc: Global, name: &'a str) -> Arg<'a> {
+    Arg::new(alloc, name).required(true).action(ArgAction::Set)
+}

@@ -1,0 +1,112 @@
+//! `turn format`.
+
+ghost use Rattle.std.specs.Prelude.{◌≡◌, [], ◌+◌, ◌*◌, ◌↔◌, ◌<◌, ◌≤◌, Err, IfErr, OnErr, OnOk, length};
+ghost use Rattle.turn_disk.specs.Counts.{CountOutcome, Rises};
+ghost use Rattle.turn_program.specs.declared.fault.Fault.TheVariants as faults;
+ghost use Rattle.turn_store.specs.Format.{IsFormatted};
+ghost use Rattle.turn_store.specs.Images.{EachImage, StandsForAt};
+ghost use Rattle.turn_store.specs.Superblock.{least_area};
+
+use crate::fault::Fault;
+use crate::files::read_whole;
+use crate::print::print_line;
+use std::alloc::Global;
+use std::fs::File;
+use std::io::Write;
+use std::rt::Files;
+use turn_config::read_config;
+use turn_disk::{DeviceFailed, Disk, FileDisk};
+use turn_store::{format, least_area};
+use turn_types::Limits;
+
+/// How many bytes of zeros are written at once.
+const PIECE: usize = 65_536;
+
+/// Writes this piece again and again, over all bytes of a disk.
+fn write_over<D: Disk>(disk: &mut D, piece: &[u8]) -> Result<(), DeviceFailed>
+    requires { 0 < length piece.now }
+    ensures size { D.capacity disk.new ≡ D.capacity disk.old }
+    ensures honest { D.is_honest disk.new ↔ D.is_honest disk.old }
+    ensures count { CountOutcome (D.failed disk.old) (D.failed disk.new) result }
+{
+    let size = disk.size();
+    let mut done = 0;
+    while done < size {
+        let count = piece.len().min(size - done);
+        disk.write_at(done, &piece[..count])?;
+        done += count;
+    }
+    Ok(())
+}
+
+/// Writes zeros over all bytes of a disk.
+fn write_zeros<D: Disk>(alloc: Global, disk: &mut D) -> Result<(), Fault>
+    ensures size { D.capacity disk.new ≡ D.capacity disk.old }
+    ensures honest { D.is_honest disk.new ↔ D.is_honest disk.old }
+    ensures count { OnOk result (D.failed disk.new ≡ D.failed disk.old) }
+    ensures device { result ≡ Err faults.Device → Rises (D.failed disk.old) (D.failed disk.new) }
+{
+    let zeros = Vec::from_elem(alloc, 0u8, PIECE)?;
+    write_over(disk, &zeros)?;
+    Ok(())
+}
+
+/// Makes a disk a store of these limits, which holds nothing. First it writes zeros over all its bytes, so that a device
+/// that has no room for them fails here.
+pub fn format_disk<D: Disk>(
+    alloc: Global,
+    disk: &mut D,
+    limits: Limits,
+    area: usize,
+) -> Result<(), Fault>
+    requires { 64 + 2 * area ≡ D.capacity disk.old }
+    ensures size { D.capacity disk.new ≡ D.capacity disk.old }
+    ensures honest { D.is_honest disk.new ↔ D.is_honest disk.old }
+    ensures count { OnOk result (D.failed disk.new ≡ D.failed disk.old) }
+
+    // The first area counts, with generation 1, and each image stands for the empty history.
+    ensures formatted { D.is_honest disk.old
+        → OnOk result (IsFormatted (record { bounds = limits; area = area }) (D.trace disk.new).now) }
+    ensures done { D.is_honest disk.old
+        → OnOk result (EachImage (D.trace disk.new).now (StandsForAt (record { bounds = limits; area = area }) [] 0)) }
+{
+    write_zeros(alloc, disk)?;
+    format(disk, limits, area)?;
+    Ok(())
+}
+
+/// The limits of a configuration.
+fn limits_in(alloc: Global, text: &[u8]) -> Result<Limits, Fault> {
+    let configured = read_config(alloc, text)?;
+    Ok(configured.config.limits())
+}
+
+/// Refuses an area that is below the min size under the limits.
+fn judge_area(limits: Limits, area: usize) -> Result<(), Fault>
+    ensures ok { OnOk result (least_area limits ≤ area) }
+    ensures refused { OnErr result (area < least_area limits) }
+    ensures fault { IfErr result (λ fault. fault ≡ faults.AreaTooSmall (least_area limits)) }
+{
+    let needed = least_area(limits);
+    if area < needed {
+        return Err(Fault::AreaTooSmall(needed));
+    }
+    Ok(())
+}
+
+/// Makes a file a store with the limits of a configuration. The file is not touched before the area was judged.
+pub fn run_format<R: Files<File = File> + AllocGlobal, W: Write>(
+    rt: &R,
+    config: &str,
+    store: &str,
+    area: u32,
+    out: &mut W,
+) -> Result<(), Fault> {
+    let text = read_whole(rt, rt.alloc(), config)?;
+    let limits = limits_in(rt.alloc(), &text)?;
+    let area = area as usize;
+    judge_area(limits, area)?;
+    let mut disk = FileDisk::create(rt, store, 64 + 2 * area).map_err(|_| Fault::Device)?;
+    format_disk(rt.alloc(), &mut disk, limits, area)?;
+    print_line("formatted", out)
+}

@@ -1,0 +1,21 @@
+//! The commands of the program `turn`: words to what is printed, what is written, and an exit status.
+#![tactic(auto)]
+
+mod answer;
+mod command;
+mod demo;
+mod fault;
+mod files;
+mod format;
+mod inspect;
+mod print;
+mod program;
+mod replay;
+mod reply;
+mod serve;
+
+pub use fault::Fault;
+pub use files::read_whole;
+pub use format::format_disk;
+pub use program::{report, run_words};
+pub use reply::reply_to;

@@ -1,0 +1,89 @@
+//! A whole run of the program, over its words and two writers.
+
+ghost use Rattle.std.specs.Prelude.{◌≡◌};
+ghost use Rattle.turn_program.specs.Status.{status_of, IsStatus};
+
+use crate::answer::run_answer;
+use crate::command::{Command, command_of};
+use crate::demo::run_demo;
+use crate::fault::Fault;
+use crate::format::run_format;
+use crate::inspect::run_inspect;
+use crate::replay::run_replay;
+use crate::serve::{Service, run_serve};
+use std::convert::AsStr;
+use std::fs::File;
+use std::io::Write;
+use std::net::Net;
+use std::rt::{Clock, Files};
+
+fn run_command<R: Files<File = File> + Net + Drop + AllocGlobal, C: Clock, W: Write>(
+    rt: &R,
+    clock: &C,
+    command: &Command,
+    out: &mut W,
+) -> Result<(), Fault> {
+    match command {
+        Command::Answer { from, at, datagram } => {
+            run_answer(rt.alloc(), *from, *at, datagram, out)
+        }
+        Command::Replay { file } => run_replay(rt, file, out),
+        Command::Format {
+            config,
+            store,
+            area,
+        } => run_format(rt, config, store, *area, out),
+        Command::Inspect { store, at } => run_inspect(rt, store, *at, out),
+        Command::Serve {
+            config,
+            store,
+            turns,
+            burst,
+            relay_bind,
+        } => {
+            let service = Service {
+                config,
+                store,
+                turns: *turns,
+                burst: *burst,
+                relay_bind: *relay_bind,
+            };
+            run_serve(rt, clock, service, out)
+        }
+        Command::Demo => run_demo(rt, clock, out),
+    }
+}
+
+fn try_words<R: Files<File = File> + Net + Drop + AllocGlobal, C: Clock, S: AsStr, W: Write>(
+    rt: &R,
+    clock: &C,
+    words: &[S],
+    out: &mut W,
+) -> Result<(), Fault> {
+    let command = command_of(rt.alloc(), words)?;
+    run_command(rt, clock, &command, out)
+}
+
+/// Prints the line of a fault, and gives its exit status. A standard error that takes nothing changes no status.
+pub fn report<E: Write>(fault: Fault, err: &mut E) -> u8
+    ensures { result ≡ status_of fault }
+{
+    let _ = writeln!(err, "{fault}");
+    fault.status()
+}
+
+/// Runs the program on its words, its name first, and gives the exit status.
+pub fn run_words<
+    R: Files<File = File> + Net + Drop + AllocGlobal,
+    C: Clock,
+    S: AsStr,
+    W: Write,
+    E: Write,
+>(rt: &R, clock: &C, words: &[S], out: &mut W, err: &mut E) -> u8
+    ensures { IsStatus result }
+{
+    match try_words(rt, clock, words, out) {
+        Ok(()) => 0,
+        Err(fault) => report(fault, err),
+    }
+}

@@ -1,0 +1,19 @@
+//! `turn replay`.
+
+use crate::fault::Fault;
+use crate::files::read_whole;
+use crate::print::print_lines;
+use std::io::Write;
+use std::rt::Files;
+use turn_scenario::replay;
+
+/// Prints the report of the scenario in a file.
+pub fn run_replay<R: Files + AllocGlobal, W: Write>(
+    rt: &R,
+    file: &str,
+    out: &mut W,
+) -> Result<(), Fault> {
+    let scenario = read_whole(rt, rt.alloc(), file)?;
+    let report = replay(rt.alloc(), &scenario)?;
+    print_lines(rt.alloc(), &report.lines, out)
+}

@@ -1,0 +1,6 @@
+use Rattle.std.proofs.Common.{◌≤◌}
+use Rattle.turn_engine.specs.State.{now_of}
+use Rattle.turn_serving.proofs.turn.Turn.take_all.Given as goal
+
+abbrev pub invariant-loop-place : goal.invariant-loop-place
+invariant-loop-place g l = now_of l.server ≤ l.self.moment

@@ -1,0 +1,54 @@
+//! Why a server over sockets didn't start, and why its turns ended.
+
+use std::alloc::{AllocError, AllocFailed};
+use thiserror::Error;
+use turn_engine::CommitRefused;
+use turn_store::OpenFault;
+
+/// Why a server was not started.
+#[derive(Clone, Copy, Debug, PartialEq, Eq, Error)]
+pub enum StartFault {
+    /// The store was not opened.
+    #[error("{0}")]
+    Store(OpenFault),
+    /// A relay port of a stored allocation, the relay address or the listening address can't be bound, or there are too many
+    /// open files.
+    #[error("a socket can't be bound")]
+    Socket,
+    #[error("out of memory")]
+    Memory,
+}
+
+impl From<AllocError> for StartFault {
+    fn from(_: AllocError) -> StartFault {
+        StartFault::Memory
+    }
+}
+
+/// Why a turn ended before its end. The server takes no further turn.
+#[derive(Clone, Copy, Debug, PartialEq, Eq, Error)]
+pub enum TurnFault {
+    /// What was accepted could not be written, so no response to it was sent.
+    #[error("{0}")]
+    Commit(CommitRefused),
+    /// The wait for datagrams failed.
+    #[error("sockets can't be waited for")]
+    Socket,
+    /// The system has no time.
+    #[error("no time")]
+    Clock,
+    #[error("out of memory")]
+    Memory,
+}
+
+impl From<CommitRefused> for TurnFault {
+    fn from(fault: CommitRefused) -> TurnFault {
+        TurnFault::Commit(fault)
+    }
+}
+
+impl<T: Drop> From<AllocFailed<T>> for TurnFault {
+    fn from(_: AllocFailed<T>) -> TurnFault {
+        TurnFault::Memory
+    }
+}

@@ -1,0 +1,13 @@
+//! A server over UDP sockets and any disk: how it is started, and turns, in each of which what came is submitted, committed
+//! and answered.
+#![tactic(auto)]
+
+mod fault;
+mod listening;
+mod serving;
+mod start;
+mod turn;
+
+pub use fault::{StartFault, TurnFault};
+pub use serving::Serving;
+pub use start::Setup;

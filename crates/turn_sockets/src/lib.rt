@@ -1,0 +1,17 @@
+//! What a server needs of UDP sockets (RFC 8656, over IPv4): relay ports with a socket each, the list of sockets that may
+//! have a datagram, datagrams as they are received, and the moment of a turn.
+#![tactic(auto)]
+
+mod address;
+mod buffer;
+mod moment;
+mod ports;
+mod ready;
+mod received;
+
+pub use address::{address_of, endpoint_of};
+pub use buffer::{RECEIVE_BUFFER, receive_buffer, set_receive_buffer};
+pub use moment::{moment_at, moment_now};
+pub use ports::{SocketPorts, first_port};
+pub use ready::Ready;
+pub use received::{Buffer, DataIds};

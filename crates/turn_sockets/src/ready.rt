@@ -1,0 +1,91 @@
+//! The sockets that may have a datagram.
+
+ghost use Rattle.std.specs.Prelude.{◌≡◌, ◌≤◌, ℕ, [], true, false, IfOk, IfSome, OnOk, OnErr, length, nat_eq, slice_get};
+ghost use Rattle.std.specs.List.{IsDistinct, list_any};
+ghost use Rattle.indexmap.specs.IndexSet.{insert_key};
+ghost use Rattle.turn_sockets.specs.Tokens.{IsWithout};
+
+use indexmap::IndexSet;
+use mio::Events;
+use std::alloc::{AllocError, AllocFailed, Allocator, Global};
+use std::hash::{BuildHasherDefault, FoldHasher};
+use std::marker::Model;
+
+/// How many tokens there are: one for each port, and that of the listening socket.
+const TOKENS: usize = 65_537;
+
+/// The tokens of the sockets that may have a datagram, each once.
+///
+/// `mio` reports a socket once when it gets a datagram, and not again before it was read until nothing was left. So a token
+/// that was reported stays here until a read of its socket finds nothing.
+#[derive(Drop)]
+pub struct Ready<A: Allocator = Global> {
+    tokens: IndexSet<usize, BuildHasherDefault<FoldHasher>, A>,
+}
+
+impl<A: Allocator> Model for Ready<A> {
+    ghost use Rattle.std.specs.Prelude.{ℕ, List, nat_eq};
+    ghost use Rattle.std.specs.List.{IsDistinct};
+
+    ghost Value = { List ℕ };
+
+    ghost view = { λ r. r.tokens.keys };
+
+    ghost invariant = { λ r. IsDistinct nat_eq r.tokens.keys };
+}
+
+impl<A: Allocator + Copy> Ready<A> {
+    /// No token, with room for all that there are, so that none is refused later.
+    pub fn new(alloc: A) -> Result<Ready<A>, AllocError>
+        ensures { IfOk result (λ r. r ≡ []) }
+    {
+        Ok(Ready {
+            tokens: IndexSet::with_capacity(alloc, TOKENS)?,
+        })
+    }
+}
+
+impl<A: Allocator> Ready<A> {
+    pub fn is_empty(&self) -> bool {
+        self.tokens.is_empty()
+    }
+
+    /// How many tokens there are.
+    pub fn len(&self) -> usize
+        ensures value { result ≡ length self.now }
+        ensures each_once { IsDistinct nat_eq self.now }
+    {
+        self.tokens.len()
+    }
+
+    /// The token at a place.
+    pub fn get(&self, place: usize) -> Option<usize>
+        ensures { result ≡ slice_get self.now place }
+    {
+        self.tokens.get_index(place).copied()
+    }
+
+    /// Adds a token that isn't there yet. It fails only if there is no room, and then changes nothing.
+    pub fn add(&mut self, token: usize) -> Result<(), AllocFailed<usize>>
+        ensures ok { OnOk result (self.new ≡ insert_key nat_eq self.old token) }
+        ensures err { OnErr result (self.new ≡ self.old) }
+    {
+        self.tokens.insert(token)?;
+        Ok(())
+    }
+
+    /// Adds the sockets that a wait reported.
+    pub fn add_all<B: Allocator>(&mut self, events: &Events<B>) -> Result<(), AllocFailed<usize>> {
+        for event in events.iter() {
+            self.add(event.token().0)?;
+        }
+        Ok(())
+    }
+
+    /// Removes the token at a place, which the last one takes.
+    pub fn remove(&mut self, place: usize)
+        ensures { IsWithout (slice_get self.old place) self.old self.new }
+    {
+        self.tokens.swap_remove_index(place);
+    }
+}
