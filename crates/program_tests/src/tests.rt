@@ -4,6 +4,7 @@ mod formats;
 mod full_disk;
 mod inspections;
 mod memory;
+mod moments;
 mod replay;
 mod serving;
 mod store_words;
