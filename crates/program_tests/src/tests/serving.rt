@@ -130,10 +130,9 @@ fn expect_serve(rt: &HostRuntime, case: &Case) -> Result<(), Fail> {
     Ok(())
 }
 
-#[test]
-fn faults_of_a_start_come_in_their_order(rt: HostRuntime) -> Result<(), Fail> {
+fn expect_starts(rt: &HostRuntime) -> Result<(), Fail> {
     for case in &STARTS {
-        expect_serve(&rt, case)?;
+        expect_serve(rt, case)?;
     }
     Ok(())
 }
@@ -175,13 +174,20 @@ const IN_USE: [(&str, Case); 3] = [
     ),
 ];
 
-#[test]
-fn a_port_in_use_is_a_socket_fault_if_it_is_needed(rt: HostRuntime) -> Result<(), Fail> {
+/// A port in use is a socket fault if it is needed.
+fn expect_ports_in_use(rt: &HostRuntime) -> Result<(), Fail> {
     for (address, case) in &IN_USE {
-        let _held = UdpSocket::bind(&rt, *address)?;
-        expect_serve(&rt, case)?;
+        let _held = UdpSocket::bind(rt, *address)?;
+        expect_serve(rt, case)?;
     }
     Ok(())
+}
+
+/// One test, since all starts have the same ports.
+#[test]
+fn faults_of_a_start_come_in_their_order(rt: HostRuntime) -> Result<(), Fail> {
+    expect_starts(&rt)?;
+    expect_ports_in_use(&rt)
 }
 
 /// The server's limits are others than the store's.
