@@ -1,11 +1,12 @@
 //! Tests of `turn_ports`.
 
-ghost use Rattle.std.specs.Prelude.{◌==◌, IfOk};
+ghost use Rattle.std.specs.Prelude.{◌==◌, ◌&&◌, IfOk, false, nat_le, true};
 ghost use Rattle.std.specs.List.{list_any};
-ghost use Rattle.turn_ports.specs.Ports.{MayPick};
+ghost use Rattle.turn_ports.specs.Ports.{IsLowestFree, MayPick};
 
 use refusing::Refusing;
 use std::alloc::{AllocError, Allocator};
+use std::cell::Cell;
 use std::test::Fail;
 use turn_ports::{PortRange, PortSet, RelayAddressGenerator};
 
@@ -19,6 +20,43 @@ impl PortSet for Taken<'_> {
 
     fn has(&self, port: u16) -> bool {
         self.ports.contains(&port)
+    }
+}
+
+/// The ports from one to another, both included. It finds a free port without asking for each, and counts how often it is
+/// asked for one.
+#[derive(Drop)]
+struct Block {
+    from: u16,
+    to: u16,
+    asked: Cell<u64>,
+}
+
+impl PortSet for Block {
+    ghost has = { λ s port. nat_le s.from port && nat_le port s.to };
+
+    fn has(&self, port: u16) -> bool {
+        self.asked.set(self.asked.get().wrapping_add(1));
+        self.from <= port && port <= self.to
+    }
+
+    fn lowest_free(&self, first: u16, last: u16, even: bool) -> Option<u16> {
+        let mut port = lowest_from(first, even)?;
+        if self.from <= port && port <= self.to {
+            port = lowest_from(self.to.checked_add(1)?, even)?;
+        }
+        if port <= last { Some(port) } else { None }
+    }
+}
+
+/// The lowest port from one on, and an even one where `even` asks for it.
+fn lowest_from(first: u16, even: bool) -> Option<u16>
+    ensures { IsLowestFree (first, 65535) (λ _. false) even result }
+{
+    if even {
+        first.checked_add(first % 2)
+    } else {
+        Some(first)
     }
 }
 
@@ -72,6 +110,16 @@ fn pick_from<G: RelayAddressGenerator, S: PortSet>(
     let before = generator.failures();
     let port = generator.pick(taken, even)?;
     Ok((port, before != generator.failures()))
+}
+
+/// The lowest free port, and the lowest even one.
+fn lowest<S: PortSet>(set: &S, range: (u16, u16)) -> (Option<u16>, Option<u16>)
+    ensures any { IsLowestFree range (S.has set.now) false result.0 }
+    ensures even { IsLowestFree range (S.has set.now) true result.1 }
+{
+    let any = set.lowest_free(range.0, range.1, false);
+    let even = set.lowest_free(range.0, range.1, true);
+    (any, even)
 }
 
 #[test]
@@ -137,6 +185,51 @@ fn picks(
 fn the_min_free_port_is_picked(rt: HostRuntime) -> Result<(), Fail> {
     for (range, taken, any, even) in PICKS {
         assert!(rt; picks(range, taken, any, even)?);
+    }
+    Ok(())
+}
+
+/// Ranges without a port.
+const NO_PORTS: [(u16, u16); 3] = [(2, 1), (50003, 50001), (65535, 0)];
+
+#[test]
+fn a_set_finds_the_lowest_free_port(rt: HostRuntime) {
+    for (range, taken, any, even) in PICKS {
+        assert!(rt; lowest(&Taken { ports: taken }, range) == (any, even));
+    }
+    for range in NO_PORTS {
+        assert!(rt; lowest(&NONE_TAKEN, range) == (None, None));
+    }
+}
+
+/// A range, the first and the last port of the block that is taken, the lowest free port, and the lowest even one.
+const BLOCKS: [((u16, u16), (u16, u16), Option<u16>, Option<u16>); 10] = [
+    ((50000, 50009), (50001, 50004), Some(50000), Some(50000)),
+    ((50000, 50009), (50000, 50004), Some(50005), Some(50006)),
+    ((50001, 50009), (50002, 50004), Some(50001), Some(50006)),
+    ((50000, 50009), (50000, 50008), Some(50009), None),
+    ((50000, 50009), (50000, 50009), None, None),
+    ((50000, 50009), (49000, 65535), None, None),
+    ((50001, 50001), (60000, 60001), Some(50001), None),
+    ((65534, 65535), (65534, 65534), Some(65535), None),
+    ((65535, 65535), (0, 65534), Some(65535), None),
+    ((50003, 50001), (60000, 60001), None, None),
+];
+
+#[test]
+fn a_set_may_find_the_lowest_free_port_itself(rt: HostRuntime) -> Result<(), Fail> {
+    for (range, (from, to), any, even) in BLOCKS {
+        let taken = Block {
+            from,
+            to,
+            asked: Cell::new(0),
+        };
+        assert!(rt; lowest(&taken, range) == (any, even));
+        if let Some(mut ports) = PortRange::new(range.0, range.1) {
+            assert!(rt; pick_from(&mut ports, &taken, false)? == (any, false));
+            assert!(rt; pick_from(&mut ports, &taken, true)? == (even, false));
+        }
+        assert!(rt; taken.asked.get() == 0);
     }
     Ok(())
 }

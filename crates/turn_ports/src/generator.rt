@@ -1,7 +1,7 @@
 //! What a server asks of a set of ports, and of a generator of relayed addresses.
 
 ghost use Rattle.std.specs.Prelude.{◌≡◌, ◌⊎◌, ℕ, Bool, IfOk, Ok, None};
-ghost use Rattle.turn_ports.specs.Ports.{Failed, MayPick, has_failed};
+ghost use Rattle.turn_ports.specs.Ports.{Failed, IsLowestFree, MayPick, has_failed};
 
 use std::alloc::AllocError;
 
@@ -11,6 +11,19 @@ pub trait PortSet {
 
     fn has(&self, port: u16) -> bool
         ensures { result ≡ has self.now port };
+
+    /// The lowest port from a first to a last, both included, that isn't in the set, and an even one where `even`
+    /// asks for it. The default asks for each port; a set that keeps its ports in order can override it.
+    fn lowest_free(&self, first: u16, last: u16, even: bool) -> Option<u16>
+        ensures { IsLowestFree (first, last) (has self.now) even result }
+    {
+        for port in first..=last {
+            if !self.has(port) && (!even || port % 2 == 0) {
+                return Some(port);
+            }
+        }
+        None
+    }
 }
 
 /// A generator of relayed addresses: the UDP ports of one address, from a first to a last, both included.

@@ -56,12 +56,7 @@ impl RelayAddressGenerator for PortRange {
         ensures lowest { IsOkAnd result (IsLowestFree self.old (S.has taken.now) even) }
         ensures unchanged { self.new ≡ self.old }
     {
-        for port in self.first..=self.last {
-            if !taken.has(port) && (!even || port % 2 == 0) {
-                return Ok(Some(port));
-            }
-        }
-        Ok(None)
+        Ok(taken.lowest_free(self.first, self.last, even))
     }
 
     fn release(&mut self, _port: u16)
