@@ -56,9 +56,15 @@ const BOBS: Row = Row::Ask(1001, BOB, SECOND, Kind::Allocate, &[UDP]);
 
 const REFRESH: Row = Row::Ask(1001, ALICE, FIRST, Kind::Refresh, &[]);
 
+/// A request of bob's that takes nothing. His key is remembered from then on: a refused growth of that would not be told.
+const ASKED: &[Row] = &[
+    Row::Ask(401, BOB, SECOND, Kind::Refresh, &[]),
+    Row::Commit(&[Sent::Code(SECOND, 437)]),
+];
+
 /// What is done before, and the arrival at second 1001 whose growths are refused.
 const GROWTHS: [(&[Row], Row); 14] = [
-    (&[], BOBS),
+    (ASKED, BOBS),
     (BOTH, BOBS),
     (PERMITTED, BOBS),
     (BOTH, REFRESH),

@@ -99,13 +99,22 @@ const UNUSED: [Row; 6] = [
     Row::Commit(&[Sent::Code(SECOND, 0)]),
 ];
 
+/// A request of bob's beside alice's allocation. His key is remembered from then on: a refused growth of that would not be
+/// told.
+const ASKED: [Row; 4] = [
+    ALLOCATE,
+    ALLOCATED,
+    Row::Ask(1000, BOB, SECOND, Kind::Refresh, &[]),
+    Row::Commit(&[Sent::Code(SECOND, 437)]),
+];
+
 /// The same of a server that has the allocation.
 fn lacks_memory_beside<'a>(
     refusing: &'a Refusing<Global>,
     player: &mut Player<&'a Refusing<Global>, &'a Refusing<Global>>,
     served: u64,
 ) -> Result<bool, Fail> {
-    player.play(&[ALLOCATE, ALLOCATED])?;
+    player.play(&ASKED)?;
     let was_refused = player.lacks_memory(refusing, &BOBS, served)?;
     if !player.keeps_ports() {
         return Err(Fail::new("another port"));

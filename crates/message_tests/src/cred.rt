@@ -2,4 +2,5 @@
 
 mod credentials;
 mod nonces;
+mod remembered;
 mod users;

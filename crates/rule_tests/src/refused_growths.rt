@@ -168,9 +168,15 @@ fn peers_data_takes_the_memory_of_the_datagram(rt: HostRuntime) -> Result<(), Fa
     Ok(())
 }
 
+/// A request of alice's that takes nothing. Her key is remembered from then on: a refused growth of that would not be told.
+const ASKED: Row = Row::Ask(1000, ALICE, FIRST, Kind::Refresh, &[], 437);
+
 /// What is done before, and the row at second 1001 whose growths are refused.
 const GROWTHS: [(&[Row], Row); 8] = [
-    (&[], Row::Ask(1001, ALICE, FIRST, Kind::Allocate, &[UDP], 0)),
+    (
+        &[ASKED],
+        Row::Ask(1001, ALICE, FIRST, Kind::Allocate, &[UDP], 0),
+    ),
     (
         &[ALLOCATED],
         Row::Ask(1001, ALICE, SECOND, Kind::Allocate, &[UDP], 0),

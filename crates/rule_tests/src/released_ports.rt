@@ -125,13 +125,20 @@ const UNUSED: [Row; 5] = [
     Row::Released(&[50001]),
 ];
 
+/// A request of bob's beside alice's allocation. His key is remembered from then on: a refused growth of that would not be
+/// told.
+const ASKED: [Row; 2] = [
+    ALLOCATED,
+    Row::Ask(1000, BOB, SECOND, Kind::Refresh, &[], 437),
+];
+
 /// Whether bob's Allocate beside alice's allocation lacks memory where the growth after so many is refused.
 fn lacks_memory(
     refusing: &Refusing<Global>,
     player: &mut Player<&Refusing<Global>>,
     served: u64,
 ) -> Result<bool, Fail> {
-    player.play(&[ALLOCATED])?;
+    player.play(&ASKED)?;
     refusing.arm(served);
     let is_taken = player.is_taken(&BOBS)?;
     refusing.arm(u64::MAX);

@@ -5,6 +5,7 @@ ghost use Rattle.turn_cred.specs.Credential.{user_key, verdict, policy_of};
 ghost use Rattle.turn_cred.specs.Found.{verdict_of};
 
 use crate::handler::AuthHandler;
+use crate::memo::Memo;
 use crate::nonce::Nonces;
 use std::alloc::{AllocFailed, Allocator, Global};
 use std::marker::Model;
@@ -25,18 +26,21 @@ pub enum Verdict<'a> {
     Stale438,
 }
 
-/// Checks the credentials of requests, under one realm.
+/// Checks the credentials of requests, under one realm. It remembers the keys of users who were asked for lately, on which
+/// no verdict depends.
 #[derive(Drop)]
 pub struct Checker<H: AuthHandler, A: Allocator = Global> {
     handler: H,
     realm: Vec<u8, A>,
     nonces: Nonces,
     name_bytes: u16,
+    memo: Memo<A>,
 }
 
 impl<H: AuthHandler, A: Allocator> Model for Checker<H, A> {
     ghost use Rattle.turn_cred.specs.Credential.{Policy};
     ghost use Rattle.turn_cred.specs.CheckerState.{CheckerState};
+    ghost use Rattle.turn_cred.specs.Memo.{AreKeysIn};
 
     ghost Value = { CheckerState H };
 
@@ -44,10 +48,13 @@ impl<H: AuthHandler, A: Allocator> Model for Checker<H, A> {
       policy = record { realm = c.realm.items; secret = c.nonces; name_bytes = c.name_bytes };
       handler = c.handler;
     } };
+
+    ghost invariant = { λ c. AreKeysIn (H.key_of c.handler) c.realm.items c.memo };
 }
 
 impl<H: AuthHandler, A: Allocator + Copy> Checker<H, A> {
     /// Copies the realm, the secret and the name limit. An allocation failure returns the handler in the error.
+    #[tactic(auto, using(crate::proofs::Remembered::right_at_first))]
     pub fn new<C: Allocator>(
         alloc: A,
         config: &ServerConfig<C>,
@@ -64,23 +71,15 @@ impl<H: AuthHandler, A: Allocator + Copy> Checker<H, A> {
             realm,
             nonces: Nonces::new(*config.secret()),
             name_bytes: config.limits().name_bytes(),
+            memo: Memo::new(alloc),
         })
-    }
-}
-
-impl<H: AuthHandler, A: Allocator> Checker<H, A> {
-    /// The handler that the checker was made with.
-    pub fn into_handler(self) -> H
-        ensures { result ≡ self.handler }
-    {
-        let Checker { handler, .. } = self;
-        handler
     }
 
     /// The key of the user whom a request names, if that is a known user of the realm.
-    #[tactic(auto, unfolding(crate::specs::Credential::user_key))]
-    fn key_of(&self, user: &[u8], realm: &[u8]) -> Option<[u8; 16]>
-        ensures { result ≡ user_key self.now.policy (H.key_of self.now.handler) user.now realm.now }
+    #[tactic(auto, using(crate::proofs::Remembered::known_is_right, crate::proofs::Remembered::right_after_get), unfolding(crate::specs::Credential::user_key))]
+    fn key_of(&mut self, user: &[u8], realm: &[u8]) -> Option<[u8; 16]>
+        ensures value { result ≡ user_key self.old.policy (H.key_of self.old.handler) user.now realm.now }
+        ensures same { self.new ≡ self.old }
     {
         if realm != self.realm.as_slice() {
             return None;
@@ -88,7 +87,12 @@ impl<H: AuthHandler, A: Allocator> Checker<H, A> {
         if user.is_empty() || user.len() > usize::from(self.name_bytes) {
             return None;
         }
-        self.handler.key(user, realm)
+        if let Some(key) = self.memo.get(user) {
+            return Some(key);
+        }
+        let key = self.handler.key(user, realm)?;
+        self.memo.keep(user, key);
+        Some(key)
     }
 
     /// Checks the credentials of a request from a client at a moment.
@@ -128,5 +132,15 @@ impl<H: AuthHandler, A: Allocator> Checker<H, A> {
             return Verdict::Stale438;
         }
         Verdict::Passed { user, key }
+    }
+}
+
+impl<H: AuthHandler, A: Allocator> Checker<H, A> {
+    /// The handler that the checker was made with.
+    pub fn into_handler(self) -> H
+        ensures { result ≡ self.handler }
+    {
+        let Checker { handler, .. } = self;
+        handler
     }
 }

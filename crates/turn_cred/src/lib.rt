@@ -4,6 +4,7 @@
 mod checker;
 mod handler;
 mod laws;
+mod memo;
 mod nonce;
 mod users;
 

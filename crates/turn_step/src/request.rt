@@ -25,7 +25,7 @@ use turn_types::{Endpoint, FiveTuple, Moment, ServerConfig};
 
 /// The outcome of the credential check, for the methods that ask for credentials.
 #[tactic(auto, unfolding(turn_rules::specs::Answer::judgement))]
-pub(crate) fn judge<'a, H: AuthHandler, A: Allocator>(
+pub(crate) fn judge<'a, H: AuthHandler, A: Allocator + Copy>(
     checker: &mut Checker<H, A>,
     message: &Message<'a>,
     client: Endpoint,

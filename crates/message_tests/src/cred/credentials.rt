@@ -7,7 +7,7 @@ use turn_cred::{AuthHandler, Checker, Nonces, Users, Verdict};
 use turn_mac::append_integrity;
 use turn_types::{Bounds, Class, Endpoint, Limits, Method, Moment, ServerConfig, Settings, TxId};
 
-const CLIENT: Endpoint = Endpoint {
+pub const CLIENT: Endpoint = Endpoint {
     ip: 0xC000_0201,
     port: 32853,
 };
@@ -20,14 +20,14 @@ const BOB: [u8; 16] = *b"\xb7\x06\x15\xa7\x4a\x52\x4b\xec\xc6\x96\x0f\x54\x06\x3
 const WRONG: [u8; 16] = *b"\xb1\xeb\xf1\x11\x86\xb7\xef\xf2\xa2\x4c\xe5\xbd\x6f\xef\x6c\x3d";
 
 /// The nonces of the seconds 1000 and 4600 for the client, under a secret of zeros.
-const OF_1000: &[u8; 80] = b"00000000000003e867b461aa60944ff2d53aa237\
+pub const OF_1000: &[u8; 80] = b"00000000000003e867b461aa60944ff2d53aa237\
     b6407c1ab6779c548e297976b3bed07840569489";
 
 const OF_4600: &[u8; 80] = b"00000000000011f8ae82317d7fa01e5b4dea76ec\
     0af7675c3d730e4c24cd95884b20b252480d4278";
 
 /// The realm is `example.org`, the secret is zeros, and a user's name has at most eight bytes.
-fn config<A: Allocator + Copy>(alloc: A) -> Result<ServerConfig<A>, Fail> {
+pub fn config<A: Allocator + Copy>(alloc: A) -> Result<ServerConfig<A>, Fail> {
     let limits = Limits::new(Bounds {
         allocations: 1,
         permissions: 1,
@@ -89,7 +89,7 @@ enum Part {
 }
 
 /// Adds MESSAGE-INTEGRITY to a message that has none.
-fn sign<A: Allocator + Copy>(builder: &mut Builder<A>, key: &[u8; 16]) -> Result<(), Fail> {
+pub fn sign<A: Allocator + Copy>(builder: &mut Builder<A>, key: &[u8; 16]) -> Result<(), Fail> {
     let message = Message::parse(builder.as_bytes())?;
     let None = message.before_integrity() else {
         return Err("a second integrity")?;
@@ -133,12 +133,12 @@ fn request<A: Allocator + Copy>(
     Ok(builder.finish())
 }
 
-fn at(second: u64) -> Result<Moment, Fail> {
+pub fn at(second: u64) -> Result<Moment, Fail> {
     Ok(Moment::new(second).ok_or("a moment")?)
 }
 
 /// The code by which a request is answered that doesn't pass, or `PASSED`.
-fn code_of(verdict: Verdict<'_>) -> u16 {
+pub fn code_of(verdict: Verdict<'_>) -> u16 {
     match verdict {
         Verdict::Passed { .. } => PASSED,
         Verdict::Challenge401 => 401,

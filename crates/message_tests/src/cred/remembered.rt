@@ -1,0 +1,207 @@
+//! What a checker remembers of users changes how often its handler is asked, and no verdict.
+
+ghost use Rattle.std.specs.FinMap as map;
+
+use crate::cred::credentials::{CLIENT, OF_1000, at, code_of, config, sign};
+use refusing::Refusing;
+use std::alloc::Allocator;
+use std::cell::Cell;
+use std::test::Fail;
+use turn_codec::{AttributeType, Builder, Message};
+use turn_cred::{AuthHandler, Checker, Users, Verdict};
+use turn_types::{Class, Method, TxId};
+
+/// Users, and how often one was asked for.
+#[derive(Drop)]
+struct Counting<A: Allocator> {
+    users: Users<A>,
+    asked: Cell<u64>,
+}
+
+impl<A: Allocator> AuthHandler for Counting<A> {
+    ghost key_of = { λ c name _. map.get c.users name };
+
+    fn key(&self, username: &[u8], realm: &[u8]) -> Option<[u8; 16]> {
+        self.asked.set(self.asked.get().wrapping_add(1));
+        self.users.key(username, realm)
+    }
+}
+
+/// The key of the user of a number.
+fn key_of(user: u16) -> [u8; 16] {
+    u128::from(user).to_be_bytes()
+}
+
+/// How many users are known.
+const KNOWN: u16 = 300;
+
+/// The users of the first numbers.
+fn known_users<A: Allocator + Copy>(alloc: A) -> Result<Counting<A>, Fail> {
+    let mut users = Users::new(alloc);
+    for user in 0..KNOWN {
+        users.add(&user.to_be_bytes(), key_of(user))?;
+    }
+    Ok(Counting {
+        users,
+        asked: Cell::new(0),
+    })
+}
+
+/// A checker of these users that remembers by an allocator of its own.
+fn checker<A: Allocator + Copy, B: Allocator + Copy>(
+    alloc: A,
+    inner: B,
+) -> Result<Checker<Counting<A>, B>, Fail> {
+    let checker = Checker::new(inner, &config(alloc)?, known_users(alloc)?);
+    Ok(checker.map_err(|_| "a checker")?)
+}
+
+/// A user's request, signed with a user's key.
+fn request<A: Allocator + Copy>(alloc: A, user: u16, signer: u16) -> Result<Vec<u8, A>, Fail> {
+    let mut builder = Builder::new(alloc, Class::Request, Method::REFRESH, TxId([9; 12]))?;
+    builder.push(AttributeType::USERNAME, &user.to_be_bytes())?;
+    builder.push(AttributeType::REALM, b"example.org")?;
+    builder.push(AttributeType::NONCE, OF_1000)?;
+    sign(&mut builder, &key_of(signer))?;
+    Ok(builder.finish())
+}
+
+/// Whether a verdict is that the user sent the request.
+fn is_of(verdict: Verdict<'_>, user: u16) -> bool {
+    match verdict {
+        Verdict::Passed { user: name, key } => {
+            name == user.to_be_bytes().as_slice() && key == key_of(user)
+        }
+        _ => false,
+    }
+}
+
+/// Whether a request of a user passes who is known, and no other one: under the user's own key alone.
+fn is_judged<A: Allocator + Copy, H: AuthHandler, B: Allocator + Copy>(
+    alloc: A,
+    checker: &mut Checker<H, B>,
+    user: u16,
+    signer: u16,
+) -> Result<bool, Fail> {
+    let bytes = request(alloc, user, signer)?;
+    let message = Message::parse(&bytes)?;
+    let verdict = checker.check(&message, CLIENT, at(1000)?);
+    Ok(if user < KNOWN && signer == user {
+        is_of(verdict, user)
+    } else {
+        code_of(verdict) == 401
+    })
+}
+
+/// Asks for users in turn, twice.
+fn ask<A: Allocator + Copy, H: AuthHandler, B: Allocator + Copy>(
+    alloc: A,
+    checker: &mut Checker<H, B>,
+    first: u16,
+    end: u16,
+) -> Result<(), Fail> {
+    for _ in 0..2u8 {
+        for user in first..end {
+            if !is_judged(alloc, checker, user, user)? {
+                return Err(Fail::new("a verdict"));
+            }
+        }
+    }
+    Ok(())
+}
+
+/// Users who are asked for in turn, twice, and how often the handler is: it knows the users below 300.
+const ASKED: [(u16, u16, u64); 6] = [
+    (0, 1, 1),
+    (0, 256, 256),
+    (44, 300, 256),
+    (0, 257, 514),
+    (0, 300, 600),
+    (300, 310, 20),
+];
+
+/// How often the handler is asked.
+fn asked<A: Allocator + Copy>(alloc: A, first: u16, end: u16) -> Result<u64, Fail> {
+    let mut checker = checker(alloc, alloc)?;
+    ask(alloc, &mut checker, first, end)?;
+    Ok(checker.into_handler().asked.get())
+}
+
+#[test]
+fn the_last_256_known_users_are_remembered(rt: HostRuntime) -> Result<(), Fail> {
+    for (first, end, calls) in &ASKED {
+        assert!(rt; asked(rt.alloc(), *first, *end)? == *calls);
+    }
+    Ok(())
+}
+
+/// Whether a checker without memory for any user has the verdict of one that remembers, and asks its handler.
+fn are_alike<A: Allocator + Copy>(
+    alloc: A,
+    refusing: &Refusing<A>,
+    remembering: &mut Checker<Counting<A>, A>,
+    forgetting: &mut Checker<Counting<A>, &Refusing<A>>,
+    user: u16,
+    signer: u16,
+) -> Result<bool, Fail> {
+    refusing.arm(0);
+    let is_right = is_judged(alloc, forgetting, user, signer)?;
+    let has_asked = refusing.has_refused() == (user < KNOWN);
+    Ok(is_right && has_asked && is_judged(alloc, remembering, user, signer)?)
+}
+
+/// Checks requests of users in turn, twice, under their own key and under one that isn't.
+fn stay_alike<A: Allocator + Copy>(alloc: A) -> Result<(), Fail> {
+    let refusing = Refusing::new(alloc, u64::MAX);
+    let mut remembering = checker(alloc, alloc)?;
+    let mut forgetting = checker(alloc, &refusing)?;
+    for number in 0..1240u16 {
+        let (user, signer) = (number / 2 % 310, number / 2 % 310 + number % 2);
+        if !are_alike(
+            alloc,
+            &refusing,
+            &mut remembering,
+            &mut forgetting,
+            user,
+            signer,
+        )? {
+            return Err(Fail::new("another verdict"));
+        }
+    }
+    if forgetting.into_handler().asked.get() != 1240 {
+        return Err(Fail::new("a user is remembered"));
+    }
+    Ok(())
+}
+
+#[test]
+fn what_is_remembered_changes_no_verdict(rt: HostRuntime) -> Result<(), Fail> {
+    stay_alike(rt.alloc())
+}
+
+/// Asks for some users where the growth after so many is refused, and says whether one was. Who is remembered takes no
+/// memory.
+fn is_refused<A: Allocator + Copy>(alloc: A, served: u64) -> Result<bool, Fail> {
+    let refusing = Refusing::new(alloc, u64::MAX);
+    let mut checker = checker(alloc, &refusing)?;
+    refusing.arm(served);
+    ask(alloc, &mut checker, 0, 4)?;
+    let was_refused = refusing.has_refused();
+    refusing.arm(0);
+    ask(alloc, &mut checker, 0, 4)?;
+    if refusing.has_refused() {
+        return Err(Fail::new("memory"));
+    }
+    Ok(was_refused)
+}
+
+#[test]
+fn a_refused_growth_is_made_up_for(rt: HostRuntime) -> Result<(), Fail> {
+    for served in 0..32u64 {
+        if !is_refused(rt.alloc(), served)? {
+            assert!(rt; served > 4);
+            return Ok(());
+        }
+    }
+    Err("some growth is always refused")?
+}
