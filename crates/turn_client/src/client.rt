@@ -7,7 +7,7 @@ use std::marker::Model;
 use std::net::Net;
 use turn_codec::{AttributeType, Builder, ChannelData, Message};
 use turn_mac::generate_auth_key;
-use turn_scenario::{Attribute, Received, Request, build_request, build_send, read_message};
+use turn_requests::{Attribute, Received, Request, build_request, build_send, read_message};
 use turn_types::{Class, Endpoint, Method, TxId};
 
 /// Who a client is.

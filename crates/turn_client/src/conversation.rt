@@ -12,7 +12,7 @@ use turn_cred::Users;
 use turn_disk::Disk;
 use turn_mac::generate_auth_key;
 use turn_ports::PortRange;
-use turn_scenario::{Attribute, Received, read_message};
+use turn_requests::{Attribute, Received, read_message};
 use turn_serving::{Serving, Setup};
 use turn_types::{Bounds, ConfigError, Endpoint, Limits, Method, ServerConfig, Settings};
 

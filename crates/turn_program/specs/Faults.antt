@@ -2,7 +2,7 @@
 use Rattle.turn_config.specs.declared.config.ConfigFault.{ConfigFault}
 use Rattle.turn_config.specs.declared.config.ConfigFault.TheVariants as config_faults
 use Rattle.turn_program.specs.declared.fault.Fault.{Fault}
-use Rattle.turn_program.specs.declared.fault.Fault.TheVariants.{BadLine, NotAStore, Damaged, LimitsDiffer, AreaTooSmall, Worn, Device, Differs, Memory}
+use Rattle.turn_program.specs.declared.fault.Fault.TheVariants.{Usage, BadDatagram, BadLine, NotAStore, Damaged, LimitsDiffer, AreaTooSmall, Worn, Device, Differs, Memory}
 use Rattle.turn_scenario.specs.declared.fault.ScenarioFault.{ScenarioFault}
 use Rattle.turn_scenario.specs.declared.fault.ScenarioFault.TheVariants as scenario_faults
 use Rattle.turn_store.specs.declared.fault.OpenFault.{OpenFault}
@@ -13,6 +13,13 @@ use Rattle.turn_store.specs.declared.formatting.FormatRefused.{FormatRefused}
 use Rattle.turn_store.specs.declared.formatting.FormatRefused.TheVariants as format_faults
 use Rattle.turn_store.specs.declared.superblock.LimitsRefused.{LimitsRefused}
 use Rattle.turn_store.specs.declared.superblock.LimitsRefused.TheVariants as limits_faults
+use Rattle.turn_words.specs.declared.fault.WordFault.{WordFault}
+use Rattle.turn_words.specs.declared.fault.WordFault.TheVariants as word_faults
+
+abbrev pub of_words : WordFault → Fault
+of_words word_faults.Usage = Usage
+of_words word_faults.BadDatagram = BadDatagram
+of_words word_faults.Memory = Memory
 
 abbrev pub of_config : ConfigFault → Fault
 of_config (config_faults.BadLine number) = BadLine number

@@ -1,4 +1,3 @@
-pub mod Command
 pub mod Faults
 pub mod Profile
 pub mod Status

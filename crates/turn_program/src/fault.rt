@@ -1,7 +1,7 @@
 //! Why a command ended without its answer.
 
 ghost use Rattle.std.specs.Prelude.{◌≡◌};
-ghost use Rattle.turn_program.specs.Faults.{of_config, of_format, of_limits, of_open, of_scenario, of_store};
+ghost use Rattle.turn_program.specs.Faults.{of_config, of_format, of_limits, of_open, of_scenario, of_store, of_words};
 ghost use Rattle.turn_program.specs.Status.{status_of};
 ghost use Rattle.turn_program.specs.declared.fault.Fault.TheVariants as faults;
 
@@ -13,6 +13,7 @@ use turn_disk::DeviceFailed;
 use turn_scenario::ScenarioFault;
 use turn_serving::{StartFault, TurnFault};
 use turn_store::{FormatRefused, LimitsRefused, OpenFault, StoreFault};
+use turn_words::WordFault;
 
 /// Why a command ended without its answer: shown as the line that is printed on standard error.
 #[derive(Clone, Copy, Debug, PartialEq, Eq, Error)]
@@ -67,6 +68,18 @@ impl From<DeviceFailed> for Fault {
 
     fn from(_error: DeviceFailed) -> Fault {
         Fault::Device
+    }
+}
+
+impl From<WordFault> for Fault {
+    ghost from_gives = { λ fault f. f ≡ of_words fault };
+
+    fn from(fault: WordFault) -> Fault {
+        match fault {
+            WordFault::Usage => Fault::Usage,
+            WordFault::BadDatagram => Fault::BadDatagram,
+            WordFault::Memory => Fault::Memory,
+        }
     }
 }
 

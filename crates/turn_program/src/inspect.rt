@@ -1,7 +1,6 @@
 //! `turn inspect`.
 
-ghost use Rattle.std.specs.Prelude.{◌≡◌, ◌≢◌, max};
-ghost use Rattle.std.specs.Option.{option_map_or};
+ghost use Rattle.std.specs.Prelude.{◌≡◌, ◌≢◌};
 ghost use Rattle.turn_program.specs.Faults.{of_open};
 ghost use Rattle.turn_program.specs.declared.fault.Fault.TheVariants as faults;
 ghost use Rattle.turn_store.specs.declared.fault.OpenFault.TheVariants as open_faults;
@@ -16,16 +15,7 @@ use turn_disk::{Disk, FileDisk};
 use turn_scenario::put_table;
 use turn_store::{Info, OpenFault, Opened, Store, limits};
 use turn_types::Moment;
-
-/// The moment at which a table is shown: that of `--at`, but none before the table's own.
-fn shown_at(at: Option<Moment>, clock: Moment) -> Moment
-    ensures { result ≡ option_map_or (λ second. max second clock) at clock }
-{
-    match at {
-        Some(at) if clock < at => at,
-        _ => clock,
-    }
-}
+use turn_words::shown_at;
 
 /// Why a store was not opened with its own limits. Other limits at a second reading are a device that failed.
 fn fault_of(fault: OpenFault) -> Fault

@@ -4,7 +4,6 @@ ghost use Rattle.std.specs.Prelude.{◌≡◌};
 ghost use Rattle.turn_program.specs.Status.{status_of, IsStatus};
 
 use crate::answer::run_answer;
-use crate::command::{Command, command_of};
 use crate::demo::run_demo;
 use crate::fault::Fault;
 use crate::format::run_format;
@@ -16,6 +15,7 @@ use std::fs::File;
 use std::io::Write;
 use std::net::Net;
 use std::rt::{Clock, Files};
+use turn_words::{Command, command_of};
 
 fn run_command<R: Files<File = File> + Net + Drop + AllocGlobal, C: Clock, W: Write>(
     rt: &R,

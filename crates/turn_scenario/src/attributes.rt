@@ -1,8 +1,8 @@
 //! The attributes of an `ask` line.
 
-use crate::request::Attribute;
 use std::alloc::{AllocError, Allocator};
 use turn_config::values::{endpoint, number, split_once};
+use turn_requests::Attribute;
 
 /// A channel number: four hex digits.
 fn channel_number(text: &[u8]) -> Option<u16> {

@@ -1,6 +1,6 @@
 //! What comes of steps, as text.
 
-use crate::received::{hex_text, received_text};
+use crate::datagrams::{hex_text, received_text};
 use std::alloc::{AllocError, Allocator};
 use turn_config::ShownEndpoint;
 use turn_engine::{CommitRefused, SubmitRefused};

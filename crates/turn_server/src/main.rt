@@ -1,13 +1,18 @@
 //! The program `turn`: the words of a command line to text and an exit status.
 #![tactic(auto)]
 
+ghost use Rattle.std.specs.Prelude.{◌≡◌, ◌⊎◌, IfErr};
+ghost use Rattle.turn_program.specs.declared.fault.Fault.TheVariants as faults;
+
 use std::io::ErrorKind;
 use std::process::ExitCode;
 use std::{env, io};
 use turn_program::{Fault, report, run_words};
 
 /// The words of the command line, the program's name first. A word that isn't UTF-8 is a usage fault.
-fn words_of(rt: &HostRuntime) -> Result<Vec<String>, Fault> {
+fn words_of(rt: &HostRuntime) -> Result<Vec<String>, Fault>
+    ensures { IfErr result (λ fault. (fault ≡ faults.Usage) ⊎ (fault ≡ faults.Memory)) }
+{
     match env::args(rt) {
         Ok(words) => Ok(words.collect(rt.alloc())?),
         Err(error) if error.kind() == ErrorKind::OutOfMemory => Err(Fault::Memory),

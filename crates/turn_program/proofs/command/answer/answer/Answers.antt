@@ -1,4 +1,0 @@
-use Rattle.turn_program.proofs.command.answer.answer.Goals as goal
-
-pub returns-in_default-clause-refused : goal.returns-in_default-clause-refused
-returns-in_default-clause-refused c form = let read = c.in_default.ensures.only form.endpoint form.is_endpoint in cc

@@ -1,0 +1,93 @@
+//! What the messages of a server say to a client.
+
+ghost use Rattle.std.specs.Prelude.{◌≡◌, IfSome, IfNone, option_map};
+ghost use Rattle.turn_requests.specs.Received.{Says, address_in, code_in, lifetime_in};
+ghost use Rattle.turn_requests.specs.declared.received.Received.{Received};
+ghost use Rattle.turn_types.specs.declared.message.Class.TheVariants as classes;
+
+use turn_codec::{AttributeType, Message, read_xor_address};
+use turn_types::{Addr, Class, Endpoint, Method};
+
+/// What a message to a client says.
+#[derive(Clone, Copy, Debug)]
+pub enum Received<'a> {
+    /// An Allocate success: the relayed port, and the lifetime in seconds.
+    Allocated(u16, u32),
+    /// A Refresh success: the lifetime in seconds.
+    Refreshed(u32),
+    /// A success of another method.
+    Success,
+    /// The code of an error response.
+    Error(u16),
+    /// Relayed data, and the peer that sent it.
+    Data(Endpoint, &'a [u8]),
+}
+
+/// The address that the first XOR address attribute of a type names, if that is IPv4.
+#[tactic(auto, unfolding(crate::specs::Received::address_in))]
+fn address(message: &Message<'_>, kind: AttributeType) -> Option<Endpoint>
+    ensures { result ≡ address_in kind message.now.content }
+{
+    let named = read_xor_address(message.find(kind)?, message.tx())?;
+    match named.ip {
+        Addr::V4(ip) => Some(Endpoint {
+            ip,
+            port: named.port,
+        }),
+        Addr::V6(_) => None,
+    }
+}
+
+/// The seconds of LIFETIME.
+#[tactic(auto, unfolding(crate::specs::Received::lifetime_in))]
+fn lifetime(message: &Message<'_>) -> Option<u32>
+    ensures { result ≡ lifetime_in message.now.content }
+{
+    match message.find(AttributeType::LIFETIME)? {
+        [a, b, c, d] => Some(u32::from_be_bytes([*a, *b, *c, *d])),
+        _ => None,
+    }
+}
+
+/// The code of ERROR-CODE.
+#[tactic(auto, unfolding(crate::specs::Received::code_in))]
+fn code(message: &Message<'_>) -> Option<u16>
+    ensures { result ≡ code_in message.now.content }
+{
+    match message.find(AttributeType::ERROR_CODE)? {
+        [_, _, hundreds, rest, ..] => Some(u16::from(*hundreds) * 100 + u16::from(*rest)),
+        _ => None,
+    }
+}
+
+fn success<'a>(message: &Message<'a>) -> Option<Received<'a>>
+    requires { message.now.content.class ≡ classes.Success }
+    ensures found { IfSome result (λ received. Says message.now.content received) }
+    ensures none { IfNone result ((received : Received) → ¬ (Says message.now.content received)) }
+{
+    let method = message.method();
+    if method == Method::ALLOCATE {
+        let relayed = address(message, AttributeType::XOR_RELAYED_ADDRESS)?;
+        return Some(Received::Allocated(relayed.port, lifetime(message)?));
+    }
+    if method == Method::REFRESH {
+        return Some(Received::Refreshed(lifetime(message)?));
+    }
+    Some(Received::Success)
+}
+
+/// What a message says. `None` for a request, and for a message without the attributes that its class and method need.
+pub fn read_message<'a>(message: &Message<'a>) -> Option<Received<'a>>
+    ensures found { IfSome result (λ received. Says message.now.content received) }
+    ensures none { IfNone result ((received : Received) → ¬ (Says message.now.content received)) }
+{
+    match message.class() {
+        Class::Success => success(message),
+        Class::Error => Some(Received::Error(code(message)?)),
+        Class::Indication => Some(Received::Data(
+            address(message, AttributeType::XOR_PEER_ADDRESS)?,
+            message.find(AttributeType::DATA)?,
+        )),
+        Class::Request => None,
+    }
+}

@@ -1,0 +1,160 @@
+//! Requests of a client, with the credentials of a user, and Send indications, as bytes.
+
+ghost use Rattle.std.specs.Prelude.{◌≡◌, ◌≢◌, [], IfOk, OnOk};
+ghost use Rattle.std.specs.List.{list_any};
+ghost use Rattle.turn_codec.specs.AttributeTypes.{message_integrity};
+ghost use Rattle.turn_codec.specs.Grammar.{Spells, from, with_attribute};
+ghost use Rattle.turn_mac.specs.Integrity.{IntegrityHolds};
+ghost use Rattle.turn_requests.specs.Sending.{is_transport, named, send_of, signed, with_one};
+
+use std::alloc::{AllocError, Allocator, Global};
+use turn_codec::{AttributeType, Builder, PushError, xor_address};
+use turn_mac::append_integrity;
+use turn_types::{Class, Endpoint, Method, TxId};
+
+/// The protocol number of UDP, the only transport between a server and peers (RFC 8656, section 14.7).
+const UDP: u8 = 17;
+
+/// DONT-FRAGMENT (RFC 8656, section 18.9).
+const DONT_FRAGMENT: u16 = 0x001A;
+
+/// An attribute of a request.
+#[derive(Clone, Copy, Debug)]
+pub enum Attribute {
+    /// LIFETIME, in seconds.
+    Lifetime(u32),
+    /// XOR-PEER-ADDRESS.
+    Peer(Endpoint),
+    /// CHANNEL-NUMBER.
+    Channel(u16),
+    /// REQUESTED-TRANSPORT of a protocol.
+    Transport(u8),
+    /// No REQUESTED-TRANSPORT, where an Allocate would have one.
+    NoTransport,
+    /// EVEN-PORT, which may ask to reserve the next higher port.
+    EvenPort { reserves: bool },
+    /// DONT-FRAGMENT.
+    DontFragment,
+}
+
+/// A request and who sends it.
+#[derive(Clone, Copy, Debug)]
+pub struct Request<'a> {
+    pub method: Method,
+    pub tx: TxId,
+    /// What it has before the credentials, in this order.
+    pub attributes: &'a [Attribute],
+    pub user: &'a [u8],
+    pub realm: &'a [u8],
+}
+
+/// A message that has no MESSAGE-INTEGRITY.
+#[derive(Drop)]
+struct Unsigned<A: Allocator = Global> {
+    builder: Builder<A>,
+    ghost unsigned: { from message_integrity builder.attributes ≡ [] },
+}
+
+impl<A: Allocator + Copy> Unsigned<A> {
+    fn new(alloc: A, class: Class, method: Method, tx: TxId) -> Result<Unsigned<A>, AllocError>
+        ensures { IfOk result (λ u. u.builder ≡ record { class = class; method = method; tx = tx.0; attributes = [] }) }
+    {
+        Ok(Unsigned {
+            builder: Builder::new(alloc, class, method, tx)?,
+        })
+    }
+
+    fn push(&mut self, kind: AttributeType, value: &[u8]) -> Result<(), PushError>
+        requires { kind ≢ message_integrity }
+        ensures { OnOk result (self.new.builder ≡ with_attribute self.old.builder kind value.now) }
+    {
+        self.builder.push(kind, value)
+    }
+
+    fn push_attribute(&mut self, attribute: &Attribute) -> Result<(), PushError>
+        ensures { OnOk result (self.new.builder ≡ with_one self.old.builder attribute.now) }
+    {
+        match attribute {
+            Attribute::Lifetime(seconds) => {
+                self.push(AttributeType::LIFETIME, &seconds.to_be_bytes())
+            }
+            Attribute::Peer(peer) => {
+                self.push(AttributeType::XOR_PEER_ADDRESS, &xor_address(*peer))
+            }
+            Attribute::Channel(number) => {
+                let [high, low] = number.to_be_bytes();
+                self.push(AttributeType::CHANNEL_NUMBER, &[high, low, 0, 0])
+            }
+            Attribute::Transport(protocol) => {
+                self.push(AttributeType::REQUESTED_TRANSPORT, &[*protocol, 0, 0, 0])
+            }
+            Attribute::NoTransport => Ok(()),
+            Attribute::EvenPort { reserves } => {
+                let value = if *reserves { 0x80 } else { 0 };
+                self.push(AttributeType::EVEN_PORT, &[value])
+            }
+            Attribute::DontFragment => self.push(AttributeType::new(DONT_FRAGMENT), &[]),
+        }
+    }
+
+    /// Signs the message, and returns its bytes.
+    #[tactic(auto, unfolding(crate::specs::Sending::signed))]
+    fn sign(self, key: &[u8; 16]) -> Result<Vec<u8, A>, PushError>
+        ensures content { IfOk result (λ v. Spells v.items (signed key.now self.builder)) }
+        ensures holds { IfOk result (λ v. IntegrityHolds key.now (record { bytes = v.items; content = signed key.now self.builder })) }
+    {
+        let Unsigned { mut builder } = self;
+        append_integrity(&mut builder, key)?;
+        Ok(builder.finish())
+    }
+}
+
+/// Whether the attributes say what the transport is.
+fn names_transport(attributes: &[Attribute]) -> bool
+    ensures { result ≡ list_any is_transport attributes.now }
+{
+    attributes.iter().any(|attribute| matches!(
+        attribute,
+        Attribute::Transport(_) | Attribute::NoTransport
+    ))
+}
+
+/// A request with its credentials: its attributes, then USERNAME, REALM, NONCE and MESSAGE-INTEGRITY (RFC 8489, section
+/// 9.2). An Allocate begins with a REQUESTED-TRANSPORT of UDP, unless its attributes say what the transport is.
+#[tactic(auto, using(std::proofs::lemmas::List::Sums::fold_more), unfolding(crate::specs::Sending::named))]
+pub fn build_request<A: Allocator + Copy>(
+    alloc: A,
+    request: &Request<'_>,
+    key: &[u8; 16],
+    nonce: &[u8],
+) -> Result<Vec<u8, A>, PushError>
+    ensures content { IfOk result (λ v. Spells v.items (signed key.now (named request.now nonce.now))) }
+    ensures holds { IfOk result (λ v. IntegrityHolds key.now
+        (record { bytes = v.items; content = signed key.now (named request.now nonce.now) })) }
+{
+    let mut message = Unsigned::new(alloc, Class::Request, request.method, request.tx)?;
+    if request.method == Method::ALLOCATE && !names_transport(request.attributes) {
+        message.push_attribute(&Attribute::Transport(UDP))?;
+    }
+    for attribute in request.attributes {
+        message.push_attribute(attribute)?;
+    }
+    message.push(AttributeType::USERNAME, request.user)?;
+    message.push(AttributeType::REALM, request.realm)?;
+    message.push(AttributeType::NONCE, nonce)?;
+    message.sign(key)
+}
+
+/// A Send indication with data for a peer, with transaction id zero (RFC 8656, section 11.1).
+pub fn build_send<A: Allocator + Copy>(
+    alloc: A,
+    peer: Endpoint,
+    payload: &[u8],
+) -> Result<Vec<u8, A>, PushError>
+    ensures { IfOk result (λ v. Spells v.items (send_of peer payload.now)) }
+{
+    let mut builder = Builder::new(alloc, Class::Indication, Method::SEND, TxId([0; 12]))?;
+    builder.push(AttributeType::XOR_PEER_ADDRESS, &xor_address(peer))?;
+    builder.push(AttributeType::DATA, payload)?;
+    Ok(builder.finish())
+}

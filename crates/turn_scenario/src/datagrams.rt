@@ -1,0 +1,66 @@
+//! Datagrams as text.
+
+use std::alloc::{AllocError, Allocator};
+use turn_codec::{ChannelData, Message};
+use turn_config::ShownEndpoint;
+use turn_requests::{Received, read_message};
+use turn_types::Method;
+
+/// The word of a method to which a server responds.
+fn method_word(method: Method) -> &'static str {
+    match method.number() {
+        0x001 => "binding",
+        0x003 => "allocate",
+        0x004 => "refresh",
+        0x008 => "permit",
+        _ => "bind",
+    }
+}
+
+fn message_text<A: Allocator + Copy>(
+    alloc: A,
+    message: &Message<'_>,
+    received: Received<'_>,
+) -> Result<String<A>, AllocError> {
+    let method = method_word(message.method());
+    let tx = hex::encode(alloc, &message.tx().0)?;
+    match received {
+        Received::Allocated(port, life) => {
+            format!(in alloc; "success {method} {tx} port={port} life={life}")
+        }
+        Received::Refreshed(life) => format!(in alloc; "success {method} {tx} life={life}"),
+        Received::Success => format!(in alloc; "success {method} {tx}"),
+        Received::Error(code) => format!(in alloc; "error {method} {tx} {code}"),
+        Received::Data(peer, payload) => {
+            let (peer, payload) = (ShownEndpoint(peer), hex_text(alloc, payload)?);
+            format!(in alloc; "data {peer} {payload}")
+        }
+    }
+}
+
+/// Bytes in hex, and `-` for none.
+pub(crate) fn hex_text<A: Allocator>(alloc: A, bytes: &[u8]) -> Result<String<A>, AllocError> {
+    if bytes.is_empty() {
+        String::from_str(alloc, "-")
+    } else {
+        hex::encode(alloc, bytes)
+    }
+}
+
+/// What a datagram says to a client. A server sends only those that have a meaning; any other is shown in hex.
+pub(crate) fn received_text<A: Allocator + Copy>(
+    alloc: A,
+    bytes: &[u8],
+) -> Result<String<A>, AllocError> {
+    if let Some(data) = ChannelData::parse(bytes) {
+        let (number, payload) = (data.number, hex_text(alloc, data.payload)?);
+        return format!(in alloc; "channel {number:04x} {payload}");
+    }
+    if let Ok(message) = Message::parse(bytes) {
+        if let Some(received) = read_message(&message) {
+            return message_text(alloc, &message, received);
+        }
+    }
+    let bytes = hex_text(alloc, bytes)?;
+    format!(in alloc; "datagram {bytes}")
+}

@@ -1,0 +1,4 @@
+use Rattle.turn_words.proofs.command.answer.answer.Goals as goal
+
+pub returns-in_default-clause-refused : goal.returns-in_default-clause-refused
+returns-in_default-clause-refused c form = let read = c.in_default.ensures.only form.endpoint form.is_endpoint in cc

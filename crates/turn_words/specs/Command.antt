@@ -1,0 +1,79 @@
+-- The commands, by the texts of their values.
+use Rattle.std.specs.Prelude.{ℕ, ◌≡◌, ◌≤◌, ◌-◌, ◌^◌, ⊤, List, Ok, IsErr, Option, Some, None, option_map}
+use Rattle.hex.specs.Hex.{decode_of}
+use Rattle.turn_types.specs.declared.address.Endpoint.{Endpoint}
+use Rattle.turn_words.specs.declared.command.Command.{Command}
+use Rattle.turn_words.specs.declared.command.Command.TheVariants.{Answer, Replay, Format, Inspect, Serve, Demo}
+use Rattle.turn_words.specs.declared.fault.WordFault.{WordFault}
+use Rattle.turn_words.specs.declared.fault.WordFault.TheVariants.{Usage, BadDatagram, Memory}
+use Rattle.turn_config.specs.Values.{number_of, IsNumberBelow, IsIp, IsEndpoint}
+
+-- the option is not there, or its text is a number below the bound
+abbrev pub IsBelowIfGiven : ℕ → Option (List ℕ) → Type 0
+IsBelowIfGiven bound None = ⊤
+IsBelowIfGiven bound (Some text) = IsNumberBelow bound text
+
+-- the option's number, if it is there
+abbrev pub number_if_given : Option (List ℕ) → Option ℕ
+number_if_given text = option_map number_of text
+
+-- the option `--at` is not there, or its text is that of a moment
+abbrev pub IsAt : Option (List ℕ) → Type 0
+IsAt at = IsBelowIfGiven (2 ^ 40 - 3600) at
+
+-- the moment that the option sets: 0 if it is not there
+abbrev pub seconds_at : Option (List ℕ) → ℕ
+seconds_at None = 0
+seconds_at (Some text) = number_of text
+
+-- the option `--burst` is not there, or its text is a number from 1 to 64
+abbrev pub IsBurst : Option (List ℕ) → Type 0
+IsBurst None = ⊤
+IsBurst (Some text) = IsNumberBelow 65 text × (1 ≤ number_of text)
+
+-- the burst that the option sets: 1 if it is not there
+abbrev pub burst_of : Option (List ℕ) → ℕ
+burst_of None = 1
+burst_of (Some text) = number_of text
+
+-- the option `--relay-bind` is not there and sets nothing, or its text is this address
+abbrev pub IsBind : Option (List ℕ) → Option ℕ → Type 0
+IsBind None None = ⊤
+IsBind None (Some ip) = ⊥
+IsBind (Some text) None = ⊥
+IsBind (Some text) (Some ip) = IsIp text ip
+
+-- ---- answer
+
+-- the texts of an endpoint and of a moment
+pub record AreWellFormed (from : List ℕ) (at : Option (List ℕ)) : Type 0 where
+  pub endpoint : Endpoint
+  pub is_endpoint : IsEndpoint from endpoint
+  pub is_at : IsAt at
+
+-- the command has the values that the texts are
+abbrev pub IsAnswer : List ℕ → Option (List ℕ) → List ℕ → Command → Type 0
+IsAnswer from at hex (Answer endpoint moment datagram) =
+    IsEndpoint from endpoint × IsAt at × (moment ≡ seconds_at at) × (decode_of hex ≡ Ok datagram.items)
+IsAnswer from at hex (Replay file) = ⊥
+IsAnswer from at hex (Format config store area) = ⊥
+IsAnswer from at hex (Inspect store moment) = ⊥
+IsAnswer from at hex (Serve config store turns burst bind) = ⊥
+IsAnswer from at hex Demo = ⊥
+
+-- why they make no command: a malformed text before a datagram that is not hex
+abbrev pub IsAnswerFault : List ℕ → Option (List ℕ) → List ℕ → WordFault → Type 0
+IsAnswerFault from at hex Usage = ¬ (AreWellFormed from at)
+IsAnswerFault from at hex BadDatagram = AreWellFormed from at × IsErr (decode_of hex)
+IsAnswerFault from at hex Memory = AreWellFormed from at
+
+-- ---- All commands
+
+-- a server takes 1 to 64 datagrams of a socket in a turn
+abbrev pub IsInRange : Command → Type 0
+IsInRange (Answer endpoint moment datagram) = ⊤
+IsInRange (Replay file) = ⊤
+IsInRange (Format config store area) = ⊤
+IsInRange (Inspect store moment) = ⊤
+IsInRange (Serve config store turns burst bind) = (1 ≤ burst) × (burst ≤ 64)
+IsInRange Demo = ⊤

@@ -1,0 +1,101 @@
+//! The words of a command line as a command with its values.
+
+ghost use Rattle.std.specs.Prelude.{◌≡◌, ◌≢◌, ◌↔◌, IfOk};
+ghost use Rattle.clap.specs.Values.{kind_of};
+ghost use Rattle.clap.specs.declared.error.ErrorKind.TheVariants.{OutOfMemory};
+ghost use Rattle.turn_words.specs.Command.{IsInRange};
+ghost use Rattle.turn_words.specs.declared.fault.WordFault.TheVariants as faults;
+
+mod answer;
+mod format;
+mod inspect;
+mod replay;
+mod serve;
+mod words;
+
+use crate::fault::WordFault;
+use answer::{answer_command, answer_of};
+use clap::error::ErrorKind;
+use format::{format_command, format_of};
+pub use inspect::shown_at;
+use inspect::{inspect_command, inspect_of};
+use replay::{replay_command, replay_of};
+use serve::{serve_command, serve_of};
+use std::alloc::{AllocError, Global};
+use std::convert::AsStr;
+use turn_types::{Endpoint, Moment};
+
+/// What a command line asks for.
+#[derive(Drop)]
+pub enum Command {
+    /// The answer to one datagram that a client sends at a moment.
+    Answer {
+        from: Endpoint,
+        at: Moment,
+        datagram: Vec<u8>,
+    },
+    /// The report of the scenario in a file.
+    Replay {
+        file: String,
+    },
+    /// A new store in a file, with the limits of a configuration and two areas of so many bytes.
+    Format {
+        config: String,
+        store: String,
+        area: u32,
+    },
+    /// What the store in a file holds.
+    Inspect {
+        store: String,
+        at: Option<Moment>,
+    },
+    /// A server over sockets and the store in a file, for so many turns if that is given.
+    Serve {
+        config: String,
+        store: String,
+        turns: Option<u64>,
+        burst: u8,
+        relay_bind: Option<u32>,
+    },
+    /// A server over sockets that shows what it does.
+    Demo,
+}
+
+fn turn_command<'a>(alloc: Global) -> Result<clap::Command<'a>, AllocError> {
+    clap::Command::new(alloc, "turn")
+        .subcommand_required(true)
+        .subcommand(answer_command(alloc)?)?
+        .subcommand(replay_command(alloc)?)?
+        .subcommand(format_command(alloc)?)?
+        .subcommand(inspect_command(alloc)?)?
+        .subcommand(serve_command(alloc)?)?
+        .subcommand(clap::Command::new(alloc, "demo"))
+}
+
+/// A refusal of the words, `--help` included, is a usage fault.
+fn fault_of(error: clap::Error) -> WordFault
+    ensures memory { (result ≡ faults.Memory) ↔ (kind_of error ≡ OutOfMemory) }
+    ensures words { result ≢ faults.BadDatagram }
+{
+    match error.kind() {
+        ErrorKind::OutOfMemory => WordFault::Memory,
+        _ => WordFault::Usage,
+    }
+}
+
+/// The command that the words make, the program's name first.
+pub fn command_of<S: AsStr>(alloc: Global, words: &[S]) -> Result<Command, WordFault>
+    ensures { IfOk result (λ command. IsInRange command) }
+{
+    let command = turn_command(alloc)?;
+    let matches = command.try_get_matches_from(words).map_err(fault_of)?;
+    match matches.subcommand() {
+        Some(("answer", found)) => answer_of(alloc, found),
+        Some(("replay", found)) => replay_of(alloc, found),
+        Some(("format", found)) => format_of(alloc, found),
+        Some(("inspect", found)) => inspect_of(alloc, found),
+        Some(("serve", found)) => serve_of(alloc, found),
+        Some(("demo", _)) => Ok(Command::Demo),
+        _ => Err(WordFault::Usage),
+    }
+}

@@ -1,0 +1,23 @@
+//! The words of `turn replay`.
+
+ghost use Rattle.std.specs.Prelude.{IfOk};
+ghost use Rattle.turn_words.specs.Command.{IsInRange};
+
+use super::Command;
+use super::words::value;
+use crate::fault::WordFault;
+use clap::ArgMatches;
+use std::alloc::{AllocError, Global};
+
+pub fn replay_command<'a>(alloc: Global) -> Result<clap::Command<'a>, AllocError> {
+    clap::Command::new(alloc, "replay").arg(value(alloc, "FILE"))
+}
+
+pub fn replay_of(alloc: Global, found: &ArgMatches<'_>) -> Result<Command, WordFault>
+    ensures { IfOk result (λ command. IsInRange command) }
+{
+    let file = found.get_str("FILE").ok_or(WordFault::Usage)?;
+    Ok(Command::Replay {
+        file: String::from_str(alloc, file)?,
+    })
+}

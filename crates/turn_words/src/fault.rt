@@ -1,0 +1,28 @@
+//! Why words make no command.
+
+ghost use Rattle.std.specs.Prelude.{◌≡◌};
+ghost use Rattle.turn_words.specs.declared.fault.WordFault.TheVariants.{Memory};
+
+use std::alloc::AllocError;
+use thiserror::Error;
+
+/// Why words make no command.
+#[derive(Clone, Copy, Debug, PartialEq, Eq, Error)]
+pub enum WordFault {
+    /// Words that make no command, or a value out of form or range.
+    #[error("usage")]
+    Usage,
+    /// A datagram that isn't written as pairs of hex digits.
+    #[error("bad datagram")]
+    BadDatagram,
+    #[error("memory")]
+    Memory,
+}
+
+impl From<AllocError> for WordFault {
+    ghost from_gives = { λ _ f. f ≡ Memory };
+
+    fn from(_error: AllocError) -> WordFault {
+        WordFault::Memory
+    }
+}
