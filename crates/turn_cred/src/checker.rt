@@ -28,13 +28,25 @@ pub enum Verdict<'a> {
 
 /// Checks the credentials of requests, under one realm. It remembers the keys of users who were asked for lately, on which
 /// no verdict depends.
-#[derive(Drop)]
 pub struct Checker<H: AuthHandler, A: Allocator = Global> {
     handler: H,
     realm: Vec<u8, A>,
     nonces: Nonces,
     name_bytes: u16,
     memo: Memo<A>,
+}
+
+// By hand: a derived drop is one step for each field in the proof of each caller.
+impl<H: AuthHandler + Drop, A: Allocator> Drop for Checker<H, A> {
+    fn drop(self) {
+        let Checker {
+            handler: _,
+            realm: _,
+            nonces: _,
+            name_bytes: _,
+            memo: _,
+        } = self;
+    }
 }
 
 impl<H: AuthHandler, A: Allocator> Model for Checker<H, A> {
@@ -140,7 +152,13 @@ impl<H: AuthHandler, A: Allocator> Checker<H, A> {
     pub fn into_handler(self) -> H
         ensures { result ≡ self.handler }
     {
-        let Checker { handler, .. } = self;
+        let Checker {
+            handler,
+            realm: _,
+            nonces: _,
+            name_bytes: _,
+            memo: _,
+        } = self;
         handler
     }
 }

@@ -42,7 +42,6 @@ use turn_types::{Moment, ServerConfig};
 /// `submit` takes an arrival: it is answered from all that was accepted so far, and what is to be sent is staged. `commit`
 /// writes the acts that were accepted since the last commit, and returns what is staged. So nothing is sent before what it
 /// rests on is on the disk. After a commit that failed each call answers `Stopped`.
-#[derive(Drop)]
 pub struct Server<D: Disk, H: AuthHandler, G: RelayAddressGenerator, A: Allocator = Global> {
     alloc: A,
     store: Store<D, A>,
@@ -51,6 +50,21 @@ pub struct Server<D: Disk, H: AuthHandler, G: RelayAddressGenerator, A: Allocato
     outgoing: Vec<Outgoing<A>, A>,
     // How many arrivals were taken since the last commit.
     arrivals: u16,
+}
+
+// By hand: a derived drop is one step for each field in the proof of each caller.
+impl<D: Disk + Drop, H: AuthHandler + Drop, G: RelayAddressGenerator + Drop, A: Allocator> Drop
+    for Server<D, H, G, A> {
+    fn drop(self) {
+        let Server {
+            alloc: _,
+            store: _,
+            machine: _,
+            batch: _,
+            outgoing: _,
+            arrivals: _,
+        } = self;
+    }
 }
 
 impl<D: Disk, H: AuthHandler, G: RelayAddressGenerator, A: Allocator> Model for Server<D, H, G, A> {
@@ -392,7 +406,14 @@ impl<D: Disk, H: AuthHandler, G: RelayAddressGenerator, A: Allocator + Copy> Ser
         ensures handler { result.1 ≡ self.machine.handler }
         ensures ports { result.2 ≡ self.machine.ports }
     {
-        let Server { store, machine, .. } = self;
+        let Server {
+            alloc: _,
+            store,
+            machine,
+            batch: _,
+            outgoing: _,
+            arrivals: _,
+        } = self;
         let Parts { handler, ports, .. } = machine.into_parts();
         (store.into_disk(), handler, ports)
     }

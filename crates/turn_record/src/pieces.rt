@@ -18,13 +18,25 @@ use turn_types::Limits;
 
 /// Reads a snapshot that comes in pieces, cut in any way. Beside the table that it restores it holds the bytes of the
 /// entry that isn't whole yet. Once it has refused, it refuses for the same reason for good, and the table is gone.
-#[derive(Drop)]
 pub struct SnapshotReader<A: Allocator = Global> {
     alloc: A,
     limits: Limits,
     refused: Option<ReadError>,
     restored: Option<Restored<A>>,
     held: Vec<u8, A>,
+}
+
+// By hand: a derived drop is one step for each field in the proof of each caller.
+impl<A: Allocator> Drop for SnapshotReader<A> {
+    fn drop(self) {
+        let SnapshotReader {
+            alloc: _,
+            limits: _,
+            refused: _,
+            restored: _,
+            held: _,
+        } = self;
+    }
 }
 
 impl<A: Allocator + Copy> SnapshotReader<A> {
@@ -73,9 +85,11 @@ impl<A: Allocator + Copy> SnapshotReader<A> {
         ensures for_good { (e : ReadError) → refusal self ≡ Some e → result ≡ Err e }
     {
         let SnapshotReader {
+            alloc: _,
+            limits: _,
             refused,
             restored,
-            ..
+            held: _,
         } = self;
         match refused {
             Some(error) => Err(error),

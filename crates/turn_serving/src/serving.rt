@@ -14,7 +14,6 @@ use turn_sockets::{Buffer, DataIds, SocketPorts, moment_now};
 use turn_types::Endpoint;
 
 /// A server with its sockets, which takes turns.
-#[derive(Drop)]
 pub struct Serving<
     'a,
     D: Disk + Drop,
@@ -29,6 +28,21 @@ pub struct Serving<
     ids: DataIds,
     // How many datagrams a turn takes of each socket.
     burst: u8,
+}
+
+// By hand: a derived drop is one step for each field in the proof of each caller.
+impl<'a, D: Disk + Drop, H: AuthHandler + Drop, R: Net, A: Allocator + Copy> Drop
+    for Serving<'a, D, H, R, A> {
+    fn drop(self) {
+        let Serving {
+            server: _,
+            listening: _,
+            waiting: _,
+            buffer: _,
+            ids: _,
+            burst: _,
+        } = self;
+    }
 }
 
 // Clauses see nothing of it, which keeps the proofs of callers small.
@@ -74,7 +88,14 @@ impl<'a, D: Disk + Drop, H: AuthHandler + Drop, R: Net + Drop, A: Allocator + Co
 
     /// Ends the server, and returns its disk and its handler. The sockets are closed.
     pub fn close(self) -> (D, H) {
-        let Serving { server, .. } = self;
+        let Serving {
+            server,
+            listening: _,
+            waiting: _,
+            buffer: _,
+            ids: _,
+            burst: _,
+        } = self;
         let (disk, handler, _) = server.close();
         (disk, handler)
     }

@@ -32,7 +32,6 @@ pub(crate) enum Search {
 ///
 /// The search for a free port goes on after the one that was picked last, so that it seldom takes more than one step and a
 /// port is not used again at once.
-#[derive(Drop)]
 pub struct SocketPorts<'a, R: Net, A: Allocator = Global> {
     net: &'a R,
     registry: Registry,
@@ -45,6 +44,22 @@ pub struct SocketPorts<'a, R: Net, A: Allocator = Global> {
     sockets: BTreeMap<u16, UdpSocket, A>,
     failures: u64,
     ghost ordered: { first ≤ next × next ≤ last },
+}
+
+// By hand: a derived drop is one step for each field in the proof of each caller.
+impl<'a, R: Net, A: Allocator> Drop for SocketPorts<'a, R, A> {
+    fn drop(self) {
+        let SocketPorts {
+            net: _,
+            registry: _,
+            ip: _,
+            first: _,
+            last: _,
+            next: _,
+            sockets: _,
+            failures: _,
+        } = self;
+    }
 }
 
 /// The port of a range at which the search begins, by the server's secret: it can't be told from outside (RFC 6056).

@@ -45,13 +45,26 @@ pub struct Parts<H: AuthHandler, G: RelayAddressGenerator, A: Allocator = Global
 ///
 /// Each port that was picked is released exactly once: when its allocation has expired, by a Refresh of 0, or, if no
 /// allocation came of it, after an allocation failure or by `abandon`.
-#[derive(Drop)]
 pub struct Machine<H: AuthHandler, G: RelayAddressGenerator, A: Allocator = Global> {
     alloc: A,
     config: ServerConfig<A>,
     checker: Checker<H, A>,
     ports: G,
     table: Table<A>,
+}
+
+// By hand: a derived drop is one step for each field in the proof of each caller.
+impl<H: AuthHandler + Drop, G: RelayAddressGenerator + Drop, A: Allocator> Drop
+    for Machine<H, G, A> {
+    fn drop(self) {
+        let Machine {
+            alloc: _,
+            config: _,
+            checker: _,
+            ports: _,
+            table: _,
+        } = self;
+    }
 }
 
 impl<H: AuthHandler, G: RelayAddressGenerator, A: Allocator> Model for Machine<H, G, A> {
@@ -136,7 +149,7 @@ impl<H: AuthHandler, G: RelayAddressGenerator, A: Allocator + Copy> Machine<H, G
             checker,
             ports,
             table,
-            ..
+            alloc: _,
         } = self;
         Parts {
             config,

@@ -30,7 +30,6 @@ use turn_table::Table;
 use turn_types::Limits;
 
 /// A snapshot of a table, and a log of the batches after it, on a disk.
-#[derive(Drop)]
 pub struct Store<D: Disk, A: Allocator = Global> {
     disk: D,
     limits: Limits,
@@ -43,6 +42,22 @@ pub struct Store<D: Disk, A: Allocator = Global> {
     // Whether the generation of the other area is below.
     other_is_below: bool,
     stopped: bool,
+}
+
+// By hand: a derived drop is one step for each field in the proof of each caller.
+impl<D: Disk + Drop, A: Allocator> Drop for Store<D, A> {
+    fn drop(self) {
+        let Store {
+            disk: _,
+            limits: _,
+            journal: _,
+            other: _,
+            generation: _,
+            frames: _,
+            other_is_below: _,
+            stopped: _,
+        } = self;
+    }
 }
 
 impl<D: Disk, A: Allocator> Model for Store<D, A> {
@@ -99,7 +114,17 @@ impl<D: Disk, A: Allocator + Copy> Store<D, A> {
     pub fn into_disk(self) -> D
         ensures { result ≡ self.disk }
     {
-        self.disk
+        let Store {
+            disk,
+            limits: _,
+            journal: _,
+            other: _,
+            generation: _,
+            frames: _,
+            other_is_below: _,
+            stopped: _,
+        } = self;
+        disk
     }
 
     // Why a call is refused before it reaches the disk, if it is.
