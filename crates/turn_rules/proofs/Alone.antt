@@ -104,7 +104,7 @@ none_is_some : {X : Type 0} {x : X} → ◌≡◌ {A = Option X} None (Some x) �
 none_is_some e = cc
 
 -- the entry of a five-tuple is that of its events
-entry_same : (h g : History) (t : ℕ) (f : FiveTuple) → events_of f h ≡ events_of f g → fin.get (table h t).entries f ≡ fin.get (table g t).entries f
+pub entry_same : (h g : History) (t : ℕ) (f : FiveTuple) → events_of f h ≡ events_of f g → fin.get (table h t).entries f ≡ fin.get (table g t).entries f
 entry_same h g t f events = table-events_of h t f ∙ ap (λ es. fin.get (table es t).entries f) events ∙ sym (table-events_of g t f)
 
 -- where no port is needed, the answers are those of the five-tuple's events

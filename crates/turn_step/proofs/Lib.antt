@@ -1,3 +1,4 @@
+pub mod Alone
 pub mod Clients
 pub mod Dropped
 pub mod Exclusion

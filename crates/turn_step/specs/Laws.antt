@@ -1,6 +1,11 @@
 -- Words of the laws.
-use Rattle.std.specs.Prelude.{◌≡◌, ◌≢◌, ℕ, List, Some, None}
+use Rattle.std.specs.Prelude.{◌≡◌, ◌≢◌, ℕ, List, Some, None, false}
 use Rattle.turn_types.specs.declared.address.FiveTuple.{FiveTuple}
+use Rattle.turn_codec.specs.Grammar.{Content, Spells}
+use Rattle.turn_history.specs.Table.{Contents}
+use Rattle.turn_rules.specs.Answer.{is_allocate, judgement, user_of}
+use Rattle.turn_rules.specs.Laws.{SameForOthers}
+use Rattle.turn_step.specs.Answer.{Setting}
 use Rattle.turn_step.specs.Outcome.{Outcome}
 use Rattle.turn_step.specs.Outcome.Sent.{ToClient}
 
@@ -8,3 +13,12 @@ use Rattle.turn_step.specs.Outcome.Sent.{ToClient}
 pub record HasNoReply (o : Outcome) : Type 0 where
   pub change : o.change ≡ None
   pub sent : (f : FiveTuple) (bytes : List ℕ) → o.sent ≢ Some (ToClient f bytes)
+
+-- the bytes spell no Allocate request
+abbrev pub SpellsNoAllocate : List ℕ → Type 0
+SpellsNoAllocate bytes = (m : Content) → Spells bytes m → is_allocate (record { bytes = bytes; content = m }) ≡ false
+
+-- if the bytes spell a message, two tables have as many allocations of its user, as many of all, and the same taken ports
+abbrev pub SameForAllocates : Setting → FiveTuple → ℕ → List ℕ → Contents → Contents → Type 0
+SameForAllocates s f t bytes c k =
+    (m : Content) → Spells bytes m → SameForOthers s.range (user_of (judgement s.config s.keys f.client t (record { bytes = bytes; content = m }))) c k

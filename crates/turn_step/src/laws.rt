@@ -1,16 +1,22 @@
 //! What holds of the definitions in specs/. Each law is a clause of a function that does nothing.
 
-ghost use Rattle.std.specs.Prelude.{◌≡◌, ◌≢◌, ℕ, Bool, List, None, Some, true, false};
+ghost use Rattle.std.specs.Prelude.{◌≡◌, ◌≢◌, ◌≤◌, ◌↔◌, ℕ, Bool, List, None, Some, true, false};
+ghost use Rattle.std.specs.FinMap as fin;
 ghost use Rattle.turn_codec.specs.Channel.{SpellsChannelData};
 ghost use Rattle.turn_codec.specs.Grammar.{Content, Spells};
-ghost use Rattle.turn_history.specs.History.{History};
+ghost use Rattle.turn_history.specs.Fitting.{IsFitting};
+ghost use Rattle.turn_history.specs.History.{History, clock};
+ghost use Rattle.turn_history.specs.Laws.{events_of};
+ghost use Rattle.turn_history.specs.Table.{Entry, table};
 ghost use Rattle.turn_rules.specs.Answer.{is_request};
-ghost use Rattle.turn_step.specs.Answer.{AnswersClient, Setting};
-ghost use Rattle.turn_step.specs.Laws.{HasNoReply};
+ghost use Rattle.turn_step.specs.Answer.{AnswersArrival, AnswersClient, Setting};
+ghost use Rattle.turn_step.specs.Laws.{HasNoReply, SpellsNoAllocate, SameForAllocates};
 ghost use Rattle.turn_step.specs.Outcome.{Outcome, nothing};
+ghost use Rattle.turn_step.specs.Outcome.Arrives.{FromClient, FromPeer};
 ghost use Rattle.turn_step.specs.Outcome.Sent.{ToPeer};
 ghost use Rattle.turn_types.specs.declared.address.Endpoint.{Endpoint};
 ghost use Rattle.turn_types.specs.declared.address.FiveTuple.{FiveTuple};
+ghost use Rattle.turn_types.specs.declared.limits.Bounds.{Bounds};
 
 /// A reply and relayed data exclude each other: a client's request sends nothing to a peer; a message that is no request,
 /// and a datagram that is no message, get no reply and do no act; and a datagram that is neither a message nor channel
@@ -26,4 +32,19 @@ pub fn replies_answer_requests()
     ensures unreadable { (s : Setting) (h : History) (t : ℕ) (failed : Bool) (f : FiveTuple) (bytes : List ℕ) (o : Outcome) →
         ((m : Content) → ¬ Spells bytes m) → ((number : ℕ) (payload : List ℕ) → ¬ SpellsChannelData bytes number payload) →
         AnswersClient s h t failed f bytes o → o ≡ nothing }
+{}
+
+/// What may be answered to a client is given by the events of its own five-tuple: the same may be sent and done after two
+/// histories that have the same events of it. For an Allocate, these are to have as many allocations of the user and of all,
+/// and the same taken ports too. So is what a peer's datagram at the relayed port of a live allocation sends.
+pub fn clients_stand_alone()
+    ensures client { (s : Setting) (h g : History) (t : ℕ) (failed : Bool) (f : FiveTuple) (bytes : List ℕ) (o : Outcome) →
+        events_of f h ≡ events_of f g → SpellsNoAllocate bytes →
+        (AnswersArrival s h t failed (FromClient f bytes) o ↔ AnswersArrival s g t failed (FromClient f bytes) o) }
+    ensures allocate { (s : Setting) (h g : History) (t : ℕ) (failed : Bool) (f : FiveTuple) (bytes : List ℕ) (o : Outcome) →
+        events_of f h ≡ events_of f g → SameForAllocates s f t bytes (table h t) (table g t) →
+        (AnswersArrival s h t failed (FromClient f bytes) o ↔ AnswersArrival s g t failed (FromClient f bytes) o) }
+    ensures peer { (s : Setting) (b : Bounds) (h g : History) (t : ℕ) (failed : Bool) (f : FiveTuple) (e : Entry) (from : Endpoint) (bytes id : List ℕ) (o : Outcome) →
+        IsFitting b h → IsFitting b g → clock h ≤ t → clock g ≤ t → events_of f h ≡ events_of f g → fin.get (table h t).entries f ≡ Some e →
+        (AnswersArrival s h t failed (FromPeer e.port from bytes id) o ↔ AnswersArrival s g t failed (FromPeer e.port from bytes id) o) }
 {}
