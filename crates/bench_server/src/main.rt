@@ -1,21 +1,26 @@
-//! Requests and relayed data of a server over a store in memory, timed beside the rules without a store, over a table of one
-//! allocation and of 1,000. Words: COUNT, how often each call is made in a round. Without words it does nothing.
+//! The reading of messages, and requests and relayed data of a server over a store in memory, timed beside the rules without a
+//! store, over a table of one allocation and of 1,000. Words: COUNT, how often each call is made in a round. Without words it does nothing.
 #![tactic(auto)]
 
 mod calls;
 mod datagrams;
+mod reading;
 mod servers;
 
 use bench_time::{Measured, best_of, number};
-use calls::{BATCH, Committed, Relayed, Stepped};
-use datagrams::{CLIENT, ID, PEER, channel_data, five_tuple, request};
-use servers::{Engine, PORT, Rules, make_engine, make_rules};
+use calls::{BATCH, Committed, Purged, Relayed, Released, Stepped};
+use datagrams::{CLIENT, ID, PEER, channel_data, client_at, five_tuple, key, lifetime};
+use reading::Reading;
+use servers::{Engine, PORT, Rules, make_engine, make_rules, make_table};
 use std::{env, io};
 use turn_step::Arrival;
 use turn_types::{Method, Moment};
 
 /// Rounds of which the best counts.
 const ROUNDS: usize = 5;
+
+/// 3,600 seconds, as an attribute has them.
+const HOUR: [u8; 4] = [0, 0, 14, 16];
 
 /// Prints and returns the nanoseconds of an arrival, of which each call has so many.
 fn measure<M: Measured>(
@@ -69,13 +74,51 @@ fn measure_arrival(
 
 fn measure_refresh(rt: &HostRuntime, servers: &mut Compared<'_>, moment: Moment) -> io::Result<()> {
     println!(rt; "a Refresh")?;
-    let bytes = request(rt.alloc(), Method::REFRESH, CLIENT, moment)?;
+    let bytes = lifetime(rt.alloc(), Method::REFRESH, CLIENT, moment, HOUR)?;
     let arrival = Arrival::Client {
         five_tuple: five_tuple(CLIENT),
         bytes: &bytes,
     };
     let (alone, stored) = measure_arrival(rt, servers, arrival, &[1, 4])?;
     println!(rt; "  {} %", stored.saturating_mul(100) / alone.max(1))
+}
+
+/// Measures an Allocate of a client that is not in the table, with the Refresh that ends it, by the rules alone.
+fn measure_allocate(
+    rt: &HostRuntime,
+    servers: &mut Compared<'_>,
+    moment: Moment,
+) -> io::Result<()> {
+    println!(rt; "an Allocate, and the Refresh that ends it")?;
+    let client = client_at(1023);
+    let allocate = lifetime(rt.alloc(), Method::ALLOCATE, client, moment, HOUR)?;
+    let release = lifetime(rt.alloc(), Method::REFRESH, client, moment, [0; 4])?;
+    let mut released = Released {
+        server: &mut *servers.rules,
+        allocate: Arrival::Client {
+            five_tuple: five_tuple(client),
+            bytes: &allocate,
+        },
+        release: Arrival::Client {
+            five_tuple: five_tuple(client),
+            bytes: &release,
+        },
+    };
+    measure(rt, "Machine::step", &mut released, servers.count, 1)?;
+    Ok(())
+}
+
+/// Measures a purge in which nothing has expired.
+fn measure_purge(
+    rt: &HostRuntime,
+    moment: Moment,
+    allocations: u16,
+    count: usize,
+) -> io::Result<()> {
+    println!(rt; "a purge of nothing, at a new second")?;
+    let table = make_table(rt.alloc(), moment, allocations)?;
+    measure(rt, "Table::purge", &mut Purged { table }, count, 1)?;
+    Ok(())
 }
 
 /// Measures data by the relay alone, and as an arrival.
@@ -123,6 +166,26 @@ fn measure_payload(rt: &HostRuntime, servers: &mut Compared<'_>, payload: &[u8])
     measure_data(rt, servers, arrival, &[0x40, 0])
 }
 
+fn measure_reading(rt: &HostRuntime, moment: Moment, count: usize) -> io::Result<()> {
+    let allocate = lifetime(rt.alloc(), Method::ALLOCATE, CLIENT, moment, HOUR)?;
+    let refresh = lifetime(rt.alloc(), Method::REFRESH, CLIENT, moment, HOUR)?;
+    let key = key();
+    for (name, mut call) in [
+        ("parse of an Allocate", Reading::Parse(&allocate)),
+        (
+            "parse and integrity_holds",
+            Reading::Integrity(&allocate, &key),
+        ),
+        (
+            "the three HMACs of a Refresh",
+            Reading::Digests(&refresh, &key),
+        ),
+    ] {
+        measure(rt, name, &mut call, count, 1)?;
+    }
+    Ok(())
+}
+
 fn measure_all(rt: &HostRuntime, moment: Moment, allocations: u16, count: usize) -> io::Result<()> {
     println!(rt; "---- {allocations} allocations")?;
     let commits = (count / BATCH).saturating_mul(ROUNDS);
@@ -134,6 +197,7 @@ fn measure_all(rt: &HostRuntime, moment: Moment, allocations: u16, count: usize)
         count,
     };
     measure_refresh(rt, &mut servers, moment)?;
+    measure_allocate(rt, &mut servers, moment)?;
     measure_payload(rt, &mut servers, &[7; 160])?;
     measure_payload(rt, &mut servers, &[7; 1200])
 }
@@ -147,7 +211,9 @@ fn main(rt: HostRuntime) -> io::Result<()> {
     let Some(moment) = Moment::new(1000) else {
         return Ok(());
     };
+    measure_reading(&rt, moment, count)?;
     for allocations in [1, 1000] {
+        measure_purge(&rt, moment, allocations, count)?;
         measure_all(&rt, moment, allocations, count)?;
     }
     Ok(())

@@ -18,6 +18,9 @@ pub const PEER: Endpoint = Endpoint {
     port: 7000,
 };
 
+/// The number of that channel.
+pub const CHANNEL: u16 = 0x4000;
+
 pub const ID: TxId = TxId([7; 12]);
 
 pub const REALM: &[u8] = b"example.org";
@@ -25,6 +28,14 @@ pub const REALM: &[u8] = b"example.org";
 pub const NAME: &[u8] = b"alice";
 
 pub const SECRET: [u8; 32] = [0; 32];
+
+/// The client of a place in the table; the first is the one whose datagrams are measured.
+pub fn client_at(place: u16) -> Endpoint {
+    Endpoint {
+        ip: CLIENT.ip ^ u32::from(place),
+        port: CLIENT.port,
+    }
+}
 
 /// The five-tuple of a client.
 pub fn five_tuple(client: Endpoint) -> FiveTuple {
@@ -40,58 +51,63 @@ pub fn key() -> [u8; 16] {
     generate_auth_key(NAME, REALM, b"wonder")
 }
 
-/// A request of alice at a client for 3,600 seconds, of 164 bytes before its MESSAGE-INTEGRITY.
-pub fn request(
+fn push_all(
+    builder: &mut Builder,
+    attributes: &[(AttributeType, &[u8])],
+) -> Result<(), AllocError> {
+    for (kind, value) in attributes {
+        builder.push(*kind, value).map_err(|_| AllocError)?;
+    }
+    Ok(())
+}
+
+/// A request of alice at a client, with these attributes before her credentials.
+fn request(
     alloc: Global,
     method: Method,
     client: Endpoint,
     moment: Moment,
+    attributes: &[(AttributeType, &[u8])],
 ) -> Result<Vec<u8>, AllocError> {
     let nonce = Nonces::new(SECRET).issue(client, moment);
+    let credentials = [
+        (AttributeType::USERNAME, NAME),
+        (AttributeType::REALM, REALM),
+        (AttributeType::NONCE, nonce.as_slice()),
+    ];
     let mut builder = Builder::new(alloc, Class::Request, method, ID)?;
-    builder
-        .push(AttributeType::REQUESTED_TRANSPORT, &[17, 0, 0, 0])
-        .map_err(|_| AllocError)?;
-    builder
-        .push(AttributeType::LIFETIME, &[0, 0, 14, 16])
-        .map_err(|_| AllocError)?;
-    builder
-        .push(AttributeType::USERNAME, NAME)
-        .map_err(|_| AllocError)?;
-    builder
-        .push(AttributeType::REALM, REALM)
-        .map_err(|_| AllocError)?;
-    builder
-        .push(AttributeType::NONCE, &nonce)
-        .map_err(|_| AllocError)?;
+    push_all(&mut builder, attributes)?;
+    push_all(&mut builder, &credentials)?;
     append_integrity(&mut builder, &key()).map_err(|_| AllocError)?;
     Ok(builder.finish())
 }
 
-/// Alice's ChannelBind at the client, of channel 0x4000 to 203.0.113.5:7000.
+/// An Allocate of alice or, by the method, a Refresh, for so many seconds in network byte order: 164 bytes before its
+/// MESSAGE-INTEGRITY.
+pub fn lifetime(
+    alloc: Global,
+    method: Method,
+    client: Endpoint,
+    moment: Moment,
+    seconds: [u8; 4],
+) -> Result<Vec<u8>, AllocError> {
+    let attributes: [(AttributeType, &[u8]); 2] = [
+        (AttributeType::REQUESTED_TRANSPORT, &[17, 0, 0, 0]),
+        (AttributeType::LIFETIME, seconds.as_slice()),
+    ];
+    request(alloc, method, client, moment, &attributes)
+}
+
+/// Alice's ChannelBind at the client, of the channel to the peer.
 pub fn bind(alloc: Global, moment: Moment) -> Result<Vec<u8>, AllocError> {
-    let nonce = Nonces::new(SECRET).issue(CLIENT, moment);
-    let mut builder = Builder::new(alloc, Class::Request, Method::CHANNEL_BIND, ID)?;
-    builder
-        .push(AttributeType::CHANNEL_NUMBER, &[0x40, 0, 0, 0])
-        .map_err(|_| AllocError)?;
-    builder
-        .push(
+    let attributes: [(AttributeType, &[u8]); 2] = [
+        (AttributeType::CHANNEL_NUMBER, &[0x40, 0, 0, 0]),
+        (
             AttributeType::XOR_PEER_ADDRESS,
             &[0, 1, 0x3A, 0x4A, 0xEA, 0x12, 0xD5, 0x47],
-        )
-        .map_err(|_| AllocError)?;
-    builder
-        .push(AttributeType::USERNAME, NAME)
-        .map_err(|_| AllocError)?;
-    builder
-        .push(AttributeType::REALM, REALM)
-        .map_err(|_| AllocError)?;
-    builder
-        .push(AttributeType::NONCE, &nonce)
-        .map_err(|_| AllocError)?;
-    append_integrity(&mut builder, &key()).map_err(|_| AllocError)?;
-    Ok(builder.finish())
+        ),
+    ];
+    request(alloc, Method::CHANNEL_BIND, CLIENT, moment, &attributes)
 }
 
 /// ChannelData of the channel.
@@ -99,6 +115,6 @@ pub fn channel_data(alloc: Global, payload: &[u8]) -> Result<Vec<u8>, AllocError
     if payload.len() > 1200 {
         return Err(AllocError);
     }
-    let number = 0x4000;
+    let number = CHANNEL;
     ChannelData { number, payload }.write(alloc)
 }

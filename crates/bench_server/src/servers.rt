@@ -1,15 +1,18 @@
 //! The servers whose calls are measured.
 
-use crate::datagrams::{CLIENT, NAME, PEER, REALM, SECRET, bind, five_tuple, key, request};
+use crate::datagrams::{
+    CHANNEL, CLIENT, ID, NAME, PEER, REALM, SECRET, bind, client_at, five_tuple, key, lifetime,
+};
 use std::alloc::{AllocError, Global};
 use turn_cred::Users;
 use turn_disk::{Disk, MemoryDisk};
 use turn_engine::Server;
+use turn_history::{Act, UserName};
 use turn_ports::PortRange;
 use turn_step::{Arrival, Machine};
 use turn_store::format;
 use turn_table::Table;
-use turn_types::{Endpoint, Limits, Method, Moment, ServerConfig, Settings};
+use turn_types::{Limits, Method, Moment, ServerConfig, Settings};
 
 /// A server over a store in memory.
 pub type Engine = Server<MemoryDisk, Users, PortRange>;
@@ -98,11 +101,8 @@ fn fill<T: Takes>(
     allocations: u16,
 ) -> Result<(), AllocError> {
     for place in 0..allocations {
-        let client = Endpoint {
-            ip: CLIENT.ip ^ u32::from(place),
-            port: CLIENT.port,
-        };
-        let bytes = request(alloc, Method::ALLOCATE, client, moment)?;
+        let client = client_at(place);
+        let bytes = lifetime(alloc, Method::ALLOCATE, client, moment, [0, 0, 14, 16])?;
         let arrival = Arrival::Client {
             five_tuple: five_tuple(client),
             bytes: &bytes,
@@ -118,7 +118,7 @@ fn fill<T: Takes>(
     };
     let is_taken = server.take(moment, &arrival);
     let table = server.live();
-    let is_bound = table.channel_to(five_tuple(CLIENT), PEER) == Some(0x4000);
+    let is_bound = table.channel_to(five_tuple(CLIENT), PEER) == Some(CHANNEL);
     if is_taken && is_bound && table.len() == usize::from(allocations) {
         Ok(())
     } else {
@@ -149,4 +149,24 @@ pub fn make_rules(alloc: Global, moment: Moment, allocations: u16) -> Result<Rul
     let mut server = Machine::new(alloc, config, users(alloc)?, ports()?, table)?;
     fill(alloc, &mut server, moment, allocations)?;
     Ok(server)
+}
+
+/// A table of so many allocations, none of which expires while it is purged.
+pub fn make_table(alloc: Global, moment: Moment, allocations: u16) -> Result<Table, AllocError> {
+    let mut table = Table::new(alloc, Limits::MAX, moment);
+    for place in 0..allocations.min(1024) {
+        let five_tuple = five_tuple(client_at(place));
+        let act = Act::Alloc {
+            user: UserName::from(Vec::from_slice(alloc, NAME)?),
+            port: PORT + place,
+            granted: u32::MAX,
+            tx: ID,
+        };
+        if !table.fits(five_tuple, &act) {
+            return Err(AllocError);
+        }
+        table.reserve_for(five_tuple, &act)?;
+        table.apply(moment, five_tuple, act);
+    }
+    Ok(table)
 }

@@ -6,6 +6,8 @@ use bench_time::Measured;
 use std::alloc::Global;
 use turn_relay::{from_client, from_peer};
 use turn_step::{Arrival, Outgoing};
+use turn_table::Table;
+use turn_types::Moment;
 
 /// How many arrivals a commit has.
 pub const BATCH: usize = 64;
@@ -51,12 +53,46 @@ pub struct Stepped<'a> {
     pub starts: &'static [u8],
 }
 
+/// Whether a step sends a datagram that starts with these bytes.
+fn step(server: &mut Rules, arrival: &Arrival<'_>, bytes: &[u8]) -> bool {
+    let moment = server.moment();
+    match server.step(moment, arrival) {
+        Ok(Some(out)) => starts(&out, bytes),
+        _ => false,
+    }
+}
+
 impl Measured for Stepped<'_> {
     fn make(&mut self) -> bool {
-        let moment = self.server.moment();
-        match self.server.step(moment, &self.arrival) {
-            Ok(Some(out)) => starts(&out, self.starts),
-            _ => false,
+        step(self.server, &self.arrival, self.starts)
+    }
+}
+
+/// The steps of an Allocate and of the Refresh that ends the allocation.
+#[derive(Drop)]
+pub struct Released<'a> {
+    pub server: &'a mut Rules,
+    pub allocate: Arrival<'a>,
+    pub release: Arrival<'a>,
+}
+
+impl Measured for Released<'_> {
+    fn make(&mut self) -> bool {
+        step(self.server, &self.allocate, &[1, 3]) && step(self.server, &self.release, &[1, 4])
+    }
+}
+
+/// The purge of a table, a second later each time, in which nothing has expired.
+#[derive(Drop)]
+pub struct Purged {
+    pub table: Table,
+}
+
+impl Measured for Purged {
+    fn make(&mut self) -> bool {
+        match Moment::new(self.table.moment().seconds() + 1) {
+            Some(moment) => self.table.purge(moment).is_none(),
+            None => false,
         }
     }
 }
