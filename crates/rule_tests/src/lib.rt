@@ -15,6 +15,8 @@ mod clients_data;
 #[cfg(test)]
 mod credentials;
 #[cfg(test)]
+mod full_tables;
+#[cfg(test)]
 mod judged;
 #[cfg(test)]
 mod needs_port;

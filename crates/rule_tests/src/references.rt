@@ -7,6 +7,7 @@ use std::alloc::{AllocError, Allocator};
 use std::collections::BTreeMap;
 use std::test::Fail;
 use turn_history::{Channel, Event};
+use turn_ports::PortSet;
 use turn_table::Table;
 use turn_types::{Bounds, FiveTuple, Limits, Moment, TxId};
 
@@ -215,6 +216,8 @@ const USERS: [&[u8]; 2] = [b"alice", b"bob"];
 
 const ADDRESSES: [u32; 4] = [PEER_IP, 1, 2, 3];
 
+const PORTS: (u16, u16) = (50000, 50003);
+
 const PERMITS: [&[u32]; 4] = [&[1], &[2, 3], &[3, 1], &[1, 2, 3]];
 
 fn is_same<A: Allocator + Copy>(entry: &turn_table::Entry<A>, reference: &Entry<A>) -> bool {
@@ -272,6 +275,30 @@ fn has_same_counts<A: Allocator + Copy>(table: &Table<A>, reference: &Reference<
     table.len() == reference.len()
 }
 
+fn has_port<A: Allocator>(reference: &Reference<A>, port: u16) -> bool {
+    reference.values().any(|entry| entry.port == port)
+}
+
+/// The lowest port that may be given and that the reference has not, and an even one where it is asked for.
+fn lowest_free<A: Allocator>(reference: &Reference<A>, even: bool) -> Option<u16> {
+    for port in PORTS.0..=PORTS.1 {
+        if (!even || port % 2 == 0) && !has_port(reference, port) {
+            return Some(port);
+        }
+    }
+    None
+}
+
+/// Whether a table gives the same ports as the reference.
+fn has_same_free_ports<A: Allocator + Copy>(table: &Table<A>, reference: &Reference<A>) -> bool {
+    for even in [false, true] {
+        if table.lowest_free(PORTS.0, PORTS.1, even) != lowest_free(reference, even) {
+            return false;
+        }
+    }
+    true
+}
+
 fn is_at_port<A: Allocator + Copy>(table: &Table<A>, port: u16, tuple: FiveTuple) -> bool {
     match table.by_port(port) {
         Some((found, _)) => found == tuple,
@@ -305,7 +332,11 @@ fn agrees<A: Allocator + Copy>(
     history: &[Event<A>],
 ) -> Result<bool, Fail> {
     let reference = table_at(alloc, history, table.moment())?;
-    Ok(has_same_counts(table, &reference) && has_same_entries(table, &reference))
+    Ok(
+        has_same_counts(table, &reference)
+            && has_same_free_ports(table, &reference)
+            && has_same_entries(table, &reference),
+    )
 }
 
 /// The next word of a linear congruential generator, whose higher bits serve.
@@ -320,7 +351,7 @@ fn step_of(word: u64) -> Step {
     let other = (word >> 38) % 4;
     let user = USERS[((word >> 40) % 2) as usize];
     match (word >> 33) % 8 {
-        0 | 1 => Step::Alloc(user, 50000 + some as u16, 600 + 300 * other as u32),
+        0 | 1 => Step::Alloc(user, PORTS.0 + some as u16, 600 + 300 * other as u32),
         2 => Step::Renew(600 * some as u32),
         3 | 4 => Step::Permit(PERMITS[some as usize]),
         _ => Step::Bind(0x4000 + some as u16, 1 + other as u16),
@@ -376,7 +407,7 @@ fn play<A: Allocator + Copy>(alloc: A, seed: u64, changes: u32) -> Result<(usize
 
 #[test]
 fn the_table_agrees_with_the_reference(rt: HostRuntime) -> Result<(), Fail> {
-    let (fitted, expired) = play(rt.alloc(), 1, 400)?;
-    assert!(rt; 100 < fitted && 10 < expired);
+    let (fitted, expired) = play(rt.alloc(), 1, 3000)?;
+    assert!(rt; 1000 < fitted && 100 < expired);
     Ok(())
 }

@@ -89,7 +89,7 @@ pub fn purge_to<A: Allocator + Copy>(
 }
 
 /// Does an act that fits at a table's moment, and returns the port that became free, 0 for none.
-fn apply<A: Allocator + Copy>(
+pub fn apply<A: Allocator + Copy>(
     table: &mut Table<A>,
     tuple: FiveTuple,
     act: Act<A>,
@@ -515,12 +515,12 @@ fn apply_refused<'a>(
 ) -> Result<bool, Fail> {
     refusing.arm(u64::MAX);
     let act = act_of(refusing, step)?;
-    for served in 0..growths {
-        if !fails(refusing, table, tuple, &act, served) {
+    for refusal in 0..growths {
+        // The growth that was refused before is served, and the next one refused.
+        if !fails(refusing, table, tuple, &act, refusal.min(1)) {
             return Ok(false);
         }
     }
-    // The growths before the last refused one were served.
     refusing.arm(growths.min(1));
     table.reserve_for(tuple, &act)?;
     if refusing.left() != 0 || !table.fits(tuple, &act) {
@@ -532,7 +532,7 @@ fn apply_refused<'a>(
 
 /// Acts in turn, how often each one's growth may be refused, and the table's expiry of the client after it.
 const GROWTHS: [(Step, u64, u64); 5] = [
-    (Step::Alloc(b"alice", 50000, 600), 1, 1600),
+    (Step::Alloc(b"alice", 50000, 600), 7, 1600),
     (Step::Renew(3600), 0, 4600),
     (Step::Bind(0x4000, 9), 2, 4600),
     (Step::Permit(&[1, 2, 3, 4, 5, 6, 7, 8]), 1, 4600),

@@ -1,15 +1,17 @@
--- Maps to values that expire.
-use Rattle.std.proofs.Common.{◌≡◌, ℕ, Bool, true, false, cond, List, ◌∙◌, ap, sym, Ok, Err, [], ltb, set, get_or}
+-- Maps in lists, after a change.
+use Rattle.std.proofs.Common.{◌≡◌, ℕ, Bool, true, false, cond, List, ◌∙◌, ap, sym, refl, Some, None, Ok, Err, [], ltb, set, get_or}
 use Rattle.std.specs.declared.cmp.Ordering.{Ordering}
 use Rattle.std.specs.Option.{option_and_then}
 use Rattle.std.specs.Cmp.{IsTotalOrder}
-use Rattle.std.specs.List.{filter, insert}
+use Rattle.std.specs.List.{AllByRecursion, filter, insert, remove}
+use Rattle.std.specs.Ordering.{eq_by_cmp}
 use Rattle.std.specs.FinMap as fin
-use Rattle.std.specs.FinMap.{FinMap, IsAntisymmetric, same_map, is_sorted, get-from_sorted, get-empty}
-use Rattle.turn_history.proofs.Maps.{get-map_of-all, outside_keys}
+use Rattle.std.specs.FinMap.{FinMap, IsAntisymmetric, same_map, is_sorted, get-from_sorted, get-empty, get-remove}
+use Rattle.turn_history.proofs.Entries.{find-all}
+use Rattle.turn_history.proofs.Maps.{from_eq, get-map_of-all, outside_keys}
 use Rattle.turn_table.specs.Sorted.{scan}
 use Rattle.turn_table.specs.Kept.{still, ahead_by}
-use Rattle.turn_table.proofs.Sorted.{shows_inserted, shows_set, key-at, shows_filter}
+use Rattle.turn_table.proofs.Sorted.{found-scan, holds, shows_inserted, shows_set, shows_removed, key-at, shows_filter}
 
 module _ {K V : Type 0} {R : K → K → Ordering} (o : IsTotalOrder R) (exact : IsAntisymmetric R) where
   pub from_sorted-none : fin.from_sorted {R = R} [] ≡ fin.empty {X = V}
@@ -38,6 +40,23 @@ module _ {K V : Type 0} {R : K → K → Ordering} (o : IsTotalOrder R) (exact :
       let shown = shows_set o exact xs k i v s e in
       let same : ys ≡ set xs i (k, v) = is ∙ ap (λ q. set xs i (q, v)) (sym (key-at o exact k xs i x e at)) in
       (ap (is_sorted R) same ∙ shown.sorted, ap fin.from_sorted same ∙ shown.map_is)
+
+  pub removed : (xs ys : List (K × V)) (k : K) (i : ℕ) → is_sorted R xs ≡ true → Ok i ≡ scan R k xs → ys ≡ remove xs i → (is_sorted R ys ≡ true) × (fin.from_sorted {R = R} ys ≡ fin.remove (fin.from_sorted xs) k)
+  removed xs ys k i s e is =
+      let shown = shows_removed o exact xs k i s (found-scan o exact k xs i e) in
+      (ap (is_sorted R) is ∙ shown.sorted, ap fin.from_sorted is ∙ shown.map_is)
+
+  -- without a key that isn't there, a map is the same
+  pub remove-absent : (m : FinMap R V) (k : K) → fin.get m k ≡ None → m ≡ fin.remove m k
+  remove-absent m k none = same_map o exact _ _ (λ q. by_test q (eq_by_cmp R q k) refl ∙ sym (get-remove o m k q))
+    where
+      by_test : (q : K) (b : Bool) → eq_by_cmp R q k ≡ b → fin.get m q ≡ cond (eq_by_cmp R q k) None (fin.get m q)
+      by_test q true same = ap (fin.get m) (from_eq R exact q k same) ∙ none ∙ ap (λ b. cond b None (fin.get m q)) (sym same)
+      by_test q false other = ap (λ b. cond b None (fin.get m q)) (sym other)
+
+  -- what holds of the values in a list holds of those of its map
+  pub of_items : (P : V → Type 0) (xs : List (K × V)) → is_sorted R xs ≡ true → AllByRecursion (λ e. P e.1) xs → (k : K) (v : V) → fin.get (fin.from_sorted {R = R} xs) k ≡ Some v → P v
+  of_items P xs s all k v is = find-all o exact (λ q x. P x) k xs v all (sym (get-from_sorted R xs k (holds _ s)) ∙ is)
 
 -- what a write that succeeded left
 pub on_success : {X : Type 0} (b : Bool) (after ok before : List X) → after ≡ cond b ok before → b ≡ true → after ≡ ok

@@ -25,6 +25,3 @@ module _ {X : Type 0} where
       let found = position_some p xs 0 i d (sym e) in
       let same : i ≡ found.0 = omega (arith, found.1) in
       (omega (arith, found.2), ap p (ap (λ k. get_or xs k d) same) ∙ found.3)
-
-  pub passes_at : (p : X → Bool) (xs : List X) (i : ℕ) (x : X) → Some i ≡ position_from p 0 xs → x ≡ get_or xs i x → (i < length xs) × (p x ≡ true)
-  passes_at p xs i x e is = let there = passes p xs i x e in (there.0, ap p is ∙ there.1)

@@ -1,28 +1,25 @@
 -- What purging removes.
-use Rattle.std.proofs.Common.{◌≡◌, ℕ, ◌+◌, ◌-◌, ◌<◌, ◌≤◌, Bool, true, false, cond, ◌&&◌, List, [], ◌∷◌, ◌++◌, take, drop, map, length, refl, sym, ap, ◌∙◌, subst, arith, is_some, Option, Some, None, get_or, eqb, lt-ltb}
-use Rattle.std.specs.Prelude.{nat_le}
+use Rattle.std.proofs.Common.{◌≡◌, ℕ, ◌+◌, ◌-◌, ◌<◌, ◌≤◌, Bool, true, false, cond, refl, sym, ap, ◌∙◌, subst, arith, is_some, Option, Some, None, eqb, lt-ltb}
+use Rattle.std.specs.Prelude.{IsSomeAnd}
 use Rattle.std.specs.Option.{option_and_then, option_map}
-use Rattle.std.specs.Ordering.{is_eq, is_lt, eq_by_cmp}
-use Rattle.std.proofs.lemmas.Cmp.{tied_itself}
-use Rattle.std.proofs.Math.ListN.{drop_of_length-le}
-use Rattle.std.proofs.lemmas.List.{take_all, append-nil, length-map}
-use Rattle.std.specs.List.{remove, position_from, AllByRecursion}
-use Rattle.std.proofs.lemmas.Bool.{le-ltb, leb-false, leb-true}
+use Rattle.std.specs.Ordering.{eq_by_cmp, nat_cmp}
+use Rattle.std.proofs.lemmas.Bool.{le-ltb}
 use Rattle.std.proofs.lemmas.Bool.Decides.{nat_tests}
+use Rattle.std.proofs.lemmas.Cmp.{nat_cmp_total}
 use Rattle.std.specs.FinMap as fin
-use Rattle.std.specs.FinMap.{same_map, is_sorted, get-from_sorted, get-remove, get-empty, find}
-use Rattle.std.specs.FinMap.Entries.{below_all}
+use Rattle.std.specs.FinMap.{FinMap, same_map, get-remove, get-empty, nat_cmp-IsAntisymmetric}
 use Rattle.turn_history.proofs.Maps.{tuple_total, tuple_exact, from_eq}
-use Rattle.turn_history.proofs.Reading.{get-purged, same_contents}
+use Rattle.turn_history.proofs.Reading.{get-purged, get-still_bound, get-still_permitted, same_contents}
 use Rattle.turn_types.specs.FiveTuple.{tuple_cmp, same_tuple}
-use Rattle.turn_history.specs.Table.{Entry, Entries, Contents, purged, kept, still_permitted, still_bound}
+use Rattle.turn_history.specs.Table.{Entry, Entries, Contents, ahead, channel_ahead, purged, kept, still_permitted, still_bound}
+use Rattle.turn_history.specs.declared.channel.Channel.{Channel}
 use Rattle.turn_types.specs.declared.address.FiveTuple.{FiveTuple}
-use Rattle.turn_table.specs.Kept.{still_pair, still_entry}
-use Rattle.turn_table.specs.State.{Held, pairs, pair_of}
-use Rattle.turn_table.specs.Table.{RemovesExpired, BecomesFree}
-use Rattle.turn_table.proofs.Lists.{Shown, get-at, get-all, removed-found}
-use Rattle.turn_table.proofs.Places.{passes_at, position_none}
-use Rattle.turn_table.proofs.Sorted.{holds}
+use Rattle.turn_table.specs.Kept.{still_entry}
+use Rattle.turn_table.specs.Live.{AreQuiet, Holdings, IsQuiet, entries_of}
+use Rattle.turn_table.specs.State.{State}
+use Rattle.turn_table.specs.Table.{BecomesFree, RemovesExpired, without_entry}
+use Rattle.turn_table.proofs.Held.{of_entry}
+use Rattle.turn_table.proofs.Tuples.{itself}
 
 -- ---- An entry that has expired
 
@@ -54,9 +51,6 @@ len-gone m f e is =
     let less : fin.len (fin.remove m f) ≡ fin.len m - 1 = fin.len-remove tuple_total m f ∙ ap (λ o. cond (is_some o) (fin.len m - 1) (fin.len m)) is in
     omega arith
 
-itself : (k : FiveTuple) → eq_by_cmp tuple_cmp k k ≡ true
-itself k = ap is_eq (tied_itself tuple_total k)
-
 -- the port of a removed entry was its alone, so it is free
 pub free-remove : (c : Contents) (f : FiveTuple) (e : Entry) → fin.get c.entries f ≡ Some e → BecomesFree c (record c { entries = fin.remove c.entries f }) e.port
 free-remove c f e is apart q v at same = by_test (eq_by_cmp tuple_cmp q f) refl
@@ -82,81 +76,55 @@ module _ (t : ℕ) (old new : Contents) (port : ℕ) (r : RemovesExpired t old n
   pub fewer_of : fin.len new.entries + 1 ≡ fin.len old.entries
   fewer_of = ap (λ c. fin.len c.entries + 1) r.gone ∙ len-gone old.entries r.tuple r.entry r.was
 
-module _ (xs : List (FiveTuple × Held)) (s : is_sorted tuple_cmp (pairs xs) ≡ true) (t : ℕ) where
-  pub removed_past : (i : ℕ) (x : FiveTuple × Held) → Some i ≡ position_from (λ p. nat_le p.1.entry.expiry t) 0 xs → x ≡ get_or xs i x → Shown (remove xs i) (fin.remove (fin.from_sorted (pairs xs)) x.0)
-  removed_past i x e is =
-      let place = passes_at (λ p. nat_le p.1.entry.expiry t) xs i x e is in
-      removed-found xs x.0 i s (get-at xs s i x place.0 is).0
+-- the entry of a five-tuple that has expired is gone
+pub removes : (t : ℕ) (old new : State) (f : FiveTuple) (port : ℕ) → IsSomeAnd (fin.get old.contents.entries f) (λ e. e.expiry ≤ t) → IsSomeAnd (fin.get old.contents.entries f) (λ e. e.port ≡ port) → new ≡ without_entry old f → RemovesExpired t old.contents new.contents port
+removes t old new f port past port_is is = by_entry (fin.get old.contents.entries f) refl past port_is
+  where
+    by_entry : (o : Option Entry) → fin.get old.contents.entries f ≡ o → IsSomeAnd o (λ e. e.expiry ≤ t) → IsSomeAnd o (λ e. e.port ≡ port) → RemovesExpired t old.contents new.contents port
+    by_entry None at past port_is = absurd past
+    by_entry (Some e) at past port_is = record { tuple = f; entry = e; was = at; past = past; port_is = port_is; gone = ap (λ s. s.contents) is }
 
-  pub removes_expired : (i : ℕ) (x : FiveTuple × Held) → Some i ≡ position_from (λ p. nat_le p.1.entry.expiry t) 0 xs → x ≡ get_or xs i x → (ys : List (FiveTuple × Held)) → ys ≡ remove xs i → RemovesExpired t (record { entries = fin.from_sorted (pairs xs) }) (record { entries = fin.from_sorted (pairs ys) }) x.1.entry.port
-  removes_expired i x e is ys ys_is =
-      let place = passes_at (λ p. nat_le p.1.entry.expiry t) xs i x e is in
-      record {
-        tuple = x.0;
-        entry = x.1.entry;
-        was = (get-at xs s i x place.0 is).1;
-        past = leb-true x.1.entry.expiry t place.1;
-        port_is = refl;
-        gone = ap (λ m. record { entries = m }) (ap (λ zs. fin.from_sorted (pairs zs)) ys_is ∙ (removed_past i x e is).map_is);
-      }
-
-  -- ---- Where no entry has expired
-
-  all_ahead : (zs : List (FiveTuple × Held)) → AllByRecursion (λ p. nat_le p.1.entry.expiry t ≡ false) zs → AllByRecursion (λ p. t < p.1.entry.expiry) zs
-  all_ahead [] h = tt
-  all_ahead (z ∷ zs) h = (leb-false z.1.entry.expiry t h.0, all_ahead zs h.1)
-
-  pub none_past : None ≡ position_from (λ p. nat_le p.1.entry.expiry t) 0 xs → (f : FiveTuple) (e : Entry) → fin.get (fin.from_sorted {R = tuple_cmp} (pairs xs)) f ≡ Some e → t < e.expiry
-  none_past none f e is =
-      get-all (λ v. t < v.expiry) xs s (all_ahead xs (position_none (λ p. nat_le p.1.entry.expiry t) xs 0 (sym none))) f e is
+-- ---- Where none has expired
 
 kept_ahead : (t : ℕ) (e : Entry) → t < e.expiry → kept t e ≡ Some (still_entry t e)
 kept_ahead t e ahead = ap (λ b. cond b (Some (record e { permissions = still_permitted t e.permissions; channels = still_bound t e.channels })) None) (lt-ltb t e.expiry ahead)
 
-below-still : (t : ℕ) (g : FiveTuple) (xs : List (FiveTuple × Entry)) → below_all tuple_cmp g (map (still_pair t) xs) ≡ below_all tuple_cmp g xs
-below-still t g [] = refl
-below-still t g (x ∷ xs) = ap (λ b. is_lt (tuple_cmp g x.0) && b) (below-still t g xs)
-
-sorted-still : (t : ℕ) (xs : List (FiveTuple × Entry)) → is_sorted tuple_cmp (map (still_pair t) xs) ≡ is_sorted tuple_cmp xs
-sorted-still t [] = refl
-sorted-still t (x ∷ xs) = λ j. below-still t x.0 xs j && sorted-still t xs j
-
-find-still : (t : ℕ) (q : FiveTuple) (xs : List (FiveTuple × Entry)) → find tuple_cmp q (map (still_pair t) xs) ≡ option_map (still_entry t) (find tuple_cmp q xs)
-find-still t q [] = refl
-find-still t q (x ∷ xs) = by_test (find-still t q xs) (eq_by_cmp tuple_cmp q x.0)
+-- then a table whose entries are without what has expired in them is the purged one
+pub purged_ahead : (t : ℕ) (c d : Contents) → ((f : FiveTuple) (e : Entry) → fin.get c.entries f ≡ Some e → t < e.expiry) → ((f : FiveTuple) → fin.get d.entries f ≡ option_map (still_entry t) (fin.get c.entries f)) → d ≡ purged t c
+purged_ahead t c d ahead still = same_contents _ _ (λ f. still f ∙ by_entry f (fin.get c.entries f) refl ∙ sym (get-purged t c f))
   where
-    by_test : find tuple_cmp q (map (still_pair t) xs) ≡ option_map (still_entry t) (find tuple_cmp q xs) → (b : Bool) → cond b (Some (still_entry t x.1)) (find tuple_cmp q (map (still_pair t) xs)) ≡ option_map (still_entry t) (cond b (Some x.1) (find tuple_cmp q xs))
-    by_test ih true = refl
-    by_test ih false = ih
+    by_entry : (f : FiveTuple) (o : Option Entry) → fin.get c.entries f ≡ o → option_map (still_entry t) o ≡ option_and_then (kept t) o
+    by_entry f None at = refl
+    by_entry f (Some e) at = sym (kept_ahead t e (ahead f e at))
 
--- the list without the permissions and channels that have expired shows the purged table
-pub purged_shown : (xs : List (FiveTuple × Held)) → is_sorted tuple_cmp (pairs xs) ≡ true → (t : ℕ) → None ≡ position_from (λ p. nat_le p.1.entry.expiry t) 0 xs → (ys : List (FiveTuple × Held)) → pairs ys ≡ map (still_pair t) (pairs xs) → Shown ys (purged t (record { entries = fin.from_sorted (pairs xs) })).entries
-purged_shown xs s t none ys is =
-    let m = fin.from_sorted {R = tuple_cmp} (pairs xs) in
-    let sorted_is : is_sorted tuple_cmp (pairs ys) ≡ true = ap (is_sorted tuple_cmp) is ∙ sorted-still t (pairs xs) ∙ s in
-    record {
-      sorted = sorted_is;
-      map_is = same_map tuple_total tuple_exact _ _ (λ q.
-          get-from_sorted tuple_cmp (pairs ys) q (holds _ sorted_is)
-          ∙ ap (find tuple_cmp q) is ∙ find-still t q (pairs xs)
-          ∙ ap (option_map (still_entry t)) (sym (get-from_sorted tuple_cmp (pairs xs) q (holds _ s)))
-          ∙ by_entry q (fin.get m q) refl
-          ∙ sym (get-purged t (record { entries = m }) q));
-    }
+still_permissions : (t : ℕ) (m : FinMap nat_cmp ℕ) → ((a x : ℕ) → fin.get m a ≡ Some x → t < x) → still_permitted t m ≡ m
+still_permissions t m all = same_map nat_cmp_total nat_cmp-IsAntisymmetric _ _ (λ a. get-still_permitted t m a ∙ by_value a (fin.get m a) refl)
   where
-    by_entry : (q : FiveTuple) (o : Option Entry) → fin.get (fin.from_sorted {R = tuple_cmp} (pairs xs)) q ≡ o → option_map (still_entry t) o ≡ option_and_then (kept t) o
-    by_entry q None e = refl
-    by_entry q (Some x) e = sym (kept_ahead t x (none_past xs s t none q x e))
+    by_value : (a : ℕ) (o : Option ℕ) → fin.get m a ≡ o → ahead t o ≡ o
+    by_value a None at = refl
+    by_value a (Some x) at = ap (λ b. cond b (Some x) None) (lt-ltb t x (all a x at))
 
--- a list of the same length that is written over a vector's elements is what it then has
-written_over : {X : Type 0} (n : ℕ) (xs ws : List X) → n ≡ length xs → length ws ≡ length xs → take n (ws ++ drop (length ws) xs) ≡ ws
-written_over n xs ws n_is same =
-    ap (λ ys. take n (ws ++ ys)) (drop_of_length-le xs {i = length ws} (omega arith)) ∙ ap (take n) (append-nil ws) ∙ take_all n ws (omega arith)
+still_channels : (t : ℕ) (m : FinMap nat_cmp Channel) → ((n : ℕ) (c : Channel) → fin.get m n ≡ Some c → t < c.expiry) → still_bound t m ≡ m
+still_channels t m all = same_map nat_cmp_total nat_cmp-IsAntisymmetric _ _ (λ n. get-still_bound t m n ∙ by_value n (fin.get m n) refl)
+  where
+    by_value : (n : ℕ) (o : Option Channel) → fin.get m n ≡ o → channel_ahead t o ≡ o
+    by_value n None at = refl
+    by_value n (Some c) at = ap (λ b. cond b (Some c) None) (lt-ltb t c.expiry (all n c at))
 
-length-still : (t : ℕ) (xs ys : List (FiveTuple × Held)) → pairs ys ≡ map (still_pair t) (pairs xs) → length ys ≡ length xs
-length-still t xs ys is = sym (length-map ys pair_of) ∙ ap length is ∙ length-map (pairs xs) (still_pair t) ∙ length-map xs pair_of
+-- before the moment at which something expires, a table is the purged one
+pub purged_quiet : (t u : ℕ) (m : Holdings) → t < u → AreQuiet u m → record { entries = entries_of m } ≡ purged t (record { entries = entries_of m })
+purged_quiet t u m before quiet =
+    purged_ahead t (record { entries = entries_of m }) (record { entries = entries_of m })
+    (λ f e is. let q = quiet_at f e is in omega (arith, q.entry, before))
+    (λ f. by_entry f (fin.get (entries_of m) f) refl)
+  where
+    quiet_at : (f : FiveTuple) (e : Entry) → fin.get (entries_of m) f ≡ Some e → IsQuiet u e
+    quiet_at f e is = let at = of_entry m f e is in subst (IsQuiet u) at.2 (quiet f at.0 at.1)
 
-pub purged_over : (n : ℕ) (xs : List (FiveTuple × Held)) → n ≡ length xs → is_sorted tuple_cmp (pairs xs) ≡ true → (t : ℕ) → None ≡ position_from (λ p. nat_le p.1.entry.expiry t) 0 xs → (ws : List (FiveTuple × Held)) → pairs ws ≡ map (still_pair t) (pairs xs) → Shown (take n (ws ++ drop (length ws) xs)) (purged t (record { entries = fin.from_sorted (pairs xs) })).entries
-purged_over n xs n_is s t none ws is =
-    subst (λ ys. Shown ys (purged t (record { entries = fin.from_sorted (pairs xs) })).entries) (sym (written_over n xs ws n_is (length-still t xs ws is)))
-    (purged_shown xs s t none ws is)
+    by_entry : (f : FiveTuple) (o : Option Entry) → fin.get (entries_of m) f ≡ o → o ≡ option_map (still_entry t) o
+    by_entry f None at = refl
+    by_entry f (Some e) at =
+        let q = quiet_at f e at in
+        let ps : still_permitted t e.permissions ≡ e.permissions = still_permissions t e.permissions (λ a x is. let le = q.permissions a x is in omega (arith, le, before)) in
+        let cs : still_bound t e.channels ≡ e.channels = still_channels t e.channels (λ n c is. let le = q.channels n c is in omega (arith, le, before)) in
+        λ j. Some (record e { permissions = sym ps j; channels = sym cs j })

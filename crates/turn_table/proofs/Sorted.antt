@@ -1,10 +1,11 @@
 -- Lists of entries whose keys rise, as maps.
-use Rattle.std.proofs.Common.{◌≡◌, ℕ, zero, suc, ◌+◌, set, ◌<◌, Bool, true, false, cond, List, [], ◌∷◌, length, refl, sym, ap, ◌∙◌, subst, arith, T, Option, Some, None, Result, Ok, Err, get_or, drop, add-one, add-zero, drop-cons}
+use Rattle.std.proofs.Common.{◌≡◌, ℕ, zero, suc, set, ◌<◌, ◌≤◌, Bool, true, false, cond, List, [], ◌∷◌, length, refl, sym, ap, ◌∙◌, subst, arith, T, Option, Some, None, Result, Ok, Err, get_or}
 use Rattle.std.specs.declared.cmp.Ordering.{Ordering}
 use Rattle.std.specs.declared.cmp.Ordering.TheVariants.{Less, Equal, Greater}
-use Rattle.std.specs.Ordering.{ordering_reverse, MatchOrdering, is_eq, eq_by_cmp}
+use Rattle.std.specs.Ordering.{ordering_reverse, ordering_index, is_eq, eq_by_cmp}
 use Rattle.std.specs.Cmp.{IsTotalOrder}
-use Rattle.std.specs.List.{insert, remove, filter}
+use Rattle.std.specs.List.{insert, remove, filter, HoldsAt}
+use Rattle.std.specs.List.Sorted.{IsSearchInRange, IsBinarySearchResult, IsNonDecreasingBy, IsPartitionPoint}
 use Rattle.std.specs.Option.{option_and_then}
 use Rattle.std.proofs.lemmas.Cmp.{tied_itself}
 use Rattle.std.specs.FinMap as fin
@@ -12,7 +13,7 @@ use Rattle.std.specs.FinMap.{FinMap, IsAntisymmetric, is_sorted, get-from_sorted
 use Rattle.std.specs.FinMap.Entries.{put, by_order, find, below_all, is_sorted-put, find-put}
 use Rattle.turn_history.proofs.Entries.{both, first, less, second, unfound}
 use Rattle.turn_history.proofs.Maps.{from_eq}
-use Rattle.turn_table.specs.Sorted.{scan, scan_on, further, advanced}
+use Rattle.turn_table.specs.Sorted.{scan, scan_on, further}
 
 pub holds : (b : Bool) → b ≡ true → T b
 holds b h = subst T (sym h) tt
@@ -21,21 +22,14 @@ pub yes : (b : Bool) → T b → b ≡ true
 yes true h = refl
 yes false h = absurd h
 
--- ---- A place among the entries
-
-module _ {K X : Type 0} (R : K → K → Ordering) where
-  pub scan-at : (f : K) (xs : List (K × X)) (i : ℕ) (x : K × X) → i < length xs → x ≡ get_or xs i x → scan R f (drop i xs) ≡ scan_on (R f x.0) (scan R f (drop (i + 1) xs))
-  scan-at f xs i x h is = rw (drop-cons xs i x h, add-one) (ap (λ y. scan_on (R f y.0) (scan R f (drop (suc i) xs))) (sym is))
-
-  -- what a comparison with the entry at a place says, where the entries before it are passed
-  pub scan_step : (f : K) (xs : List (K × X)) (i : ℕ) (x : K × X) → i < length xs → x ≡ get_or xs i x → advanced i (scan R f (drop i xs)) ≡ scan R f xs → (o : Ordering) → o ≡ R f x.0 → MatchOrdering o (Err i ≡ scan R f xs) (Ok i ≡ scan R f xs) (advanced (i + 1) (scan R f (drop (i + 1) xs)) ≡ scan R f xs)
-  scan_step f xs i x h is so Less e = rw add-zero at (ap (λ r. advanced i (scan_on r (scan R f (drop (i + 1) xs)))) e ∙ ap (advanced i) (sym (scan-at f xs i x h is)) ∙ so)
-  scan_step f xs i x h is so Equal e = rw add-zero at (ap (λ r. advanced i (scan_on r (scan R f (drop (i + 1) xs)))) e ∙ ap (advanced i) (sym (scan-at f xs i x h is)) ∙ so)
-  scan_step f xs i x h is so Greater e = one_more (scan R f (drop (i + 1) xs)) ∙ ap (λ r. advanced i (scan_on r (scan R f (drop (i + 1) xs)))) e ∙ ap (advanced i) (sym (scan-at f xs i x h is)) ∙ so
-    where
-      one_more : (r : Result ℕ ℕ) → advanced (i + 1) r ≡ advanced i (further r)
-      one_more (Ok k) = let e : (i + 1) + k ≡ i + suc k = omega arith in ap Ok e
-      one_more (Err k) = let e : (i + 1) + k ≡ i + suc k = omega arith in ap Err e
+module _ {K : Type 0} {R : K → K → Ordering} (o : IsTotalOrder R) where
+  -- a comparison with a later key ranks no lower
+  later_rank : (f x y : K) → R x y ≡ Less → (r : Ordering) → R x f ≡ r → ordering_index r ≤ ordering_index (R y f)
+  later_rank f x y lt Less e = omega arith
+  later_rank f x y lt Equal e =
+      let after : R y f ≡ Greater = o.antisymm y f ∙ ap ordering_reverse (sym (o.congr x f y e) ∙ lt) in omega (arith, ap ordering_index after)
+  later_rank f x y lt Greater e =
+      let after : R y f ≡ Greater = o.antisymm y f ∙ ap ordering_reverse (o.trans f x y (o.antisymm f x ∙ ap ordering_reverse e) lt) in omega (arith, ap ordering_index after)
 
 module _ {K X : Type 0} {R : K → K → Ordering} (o : IsTotalOrder R) (exact : IsAntisymmetric R) where
   -- a key below all of a list is not found in it
@@ -191,6 +185,37 @@ module _ {K X : Type 0} {R : K → K → Ordering} (o : IsTotalOrder R) (exact :
   found-at (x ∷ xs) (suc i) d s lt =
       let in_rest : i < length xs = omega arith in
       there (o.antisymm (get_or xs i d).0 x.0 ∙ ap ordering_reverse (below-at x.0 xs i d (first _ _ s) in_rest)) (found-at xs i d (second _ _ s) in_rest)
+
+  -- ---- A search by halves
+
+  -- along keys that rise, the comparisons with a key rise
+  ranks_rise : (f : K) (xs : List (K × X)) → T (is_sorted R xs) → IsNonDecreasingBy (λ x. ordering_index (R x.0 f)) xs
+  ranks_rise f [] s i j d le lt = absurd (omega arith)
+  ranks_rise f (x ∷ xs) s zero zero d le lt = omega arith
+  ranks_rise f (x ∷ xs) s zero (suc j) d le lt = later_rank o f x.0 (get_or xs j d).0 (below-at x.0 xs j d (first _ _ s) (omega arith)) (R x.0 f) refl
+  ranks_rise f (x ∷ xs) s (suc i) zero d le lt = absurd (omega arith)
+  ranks_rise f (x ∷ xs) s (suc i) (suc j) d le lt = ranks_rise f xs (second _ _ s) i j d (omega arith) (omega arith)
+
+  scan-tied : (f : K) (xs : List (K × X)) (i : ℕ) → T (is_sorted R xs) → i < length xs → HoldsAt (λ x. R x.0 f ≡ Equal) xs i → Ok i ≡ scan R f xs
+  scan-tied f [] i s lt at = absurd (omega arith)
+  scan-tied f (x ∷ xs) zero s lt at = ap (λ r. scan_on r (scan R f xs)) (sym (o.antisymm f x.0 ∙ ap ordering_reverse (at x)))
+  scan-tied f (x ∷ xs) (suc i) s lt at =
+      let in_rest : i < length xs = omega arith in
+      let before : R x.0 f ≡ Less = ap (R x.0) (sym (exact (get_or xs i x).0 f (at x))) ∙ below-at x.0 xs i x (first _ _ s) in_rest in
+      ap further (scan-tied f xs i (second _ _ s) in_rest at) ∙ ap (λ r. scan_on r (scan R f xs)) (sym (o.antisymm f x.0 ∙ ap ordering_reverse before))
+
+  scan-parted : (f : K) (xs : List (K × X)) (i : ℕ) → i ≤ length xs → IsPartitionPoint (λ x. R x.0 f ≡ Less) (λ x. R x.0 f ≡ Greater) xs i → Err i ≡ scan R f xs
+  scan-parted f [] zero le parted = refl
+  scan-parted f [] (suc i) le parted = absurd (omega arith)
+  scan-parted f (x ∷ xs) zero le parted = ap (λ r. scan_on r (scan R f xs)) (sym (o.antisymm f x.0 ∙ ap ordering_reverse (parted.1 zero x (omega arith) (omega arith))))
+  scan-parted f (x ∷ xs) (suc i) le parted =
+      ap further (scan-parted f xs i (omega arith) (λ k d a b. parted.0 (suc k) d (omega arith) (omega arith), λ k d a b. parted.1 (suc k) d (omega arith) (omega arith)))
+      ∙ ap (λ r. scan_on r (scan R f xs)) (sym (o.antisymm f x.0 ∙ ap ordering_reverse (parted.0 zero x (omega arith) (omega arith))))
+
+  -- a search by halves ends where a walk does
+  pub searched : (f : K) (xs : List (K × X)) (r : Result ℕ ℕ) → is_sorted R xs ≡ true → IsSearchInRange r (length xs) → IsBinarySearchResult (λ x. R x.0 f) xs r → r ≡ scan R f xs
+  searched f xs (Ok i) s lt at = scan-tied f xs i (holds _ s) lt at
+  searched f xs (Err i) s le parted = scan-parted f xs i le (parted (ranks_rise f xs (holds _ s)))
 
   -- ---- A filter by the values
 

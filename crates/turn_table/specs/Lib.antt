@@ -1,4 +1,7 @@
+pub mod ByUser
+pub mod Indexed
 pub mod Kept
+pub mod Live
 pub mod Order
 pub mod Sorted
 pub mod State

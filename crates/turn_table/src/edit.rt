@@ -1,19 +1,22 @@
 //! Changes of entries, and the room for them.
 
 ghost use Rattle.std.specs.Prelude.{◌≡◌, ◌≤◌, ◌<◌, ◌+◌, ◌^◌, ◌∷◌, [], OnOk, length, map};
-ghost use Rattle.std.specs.Vec.{vec_len, vec_capacity};
 ghost use Rattle.turn_table.specs.Kept.{still_pair, still_entry};
-ghost use Rattle.turn_table.specs.Order.{HasRoom, room_of};
+ghost use Rattle.turn_table.specs.Order.{room_of};
 ghost use Rattle.turn_table.specs.State.{pairs};
 ghost use Rattle.turn_table.specs.Table.{room_for};
 ghost use Rattle.turn_history.specs.Act.{act_of};
 ghost use Rattle.turn_history.specs.Table.{renewed, permitting, binding};
 
 use crate::entry::Entry;
-use crate::search::place_of;
+use indexmap::IndexMap;
 use std::alloc::{AllocError, Allocator};
+use std::hash::{BuildHasherDefault, FoldHasher};
 use turn_history::{Act, Channel};
 use turn_types::{Endpoint, FiveTuple};
+
+/// Entries by their five-tuples.
+pub(crate) type EntryMap<A> = IndexMap<FiveTuple, Entry<A>, BuildHasherDefault<FoldHasher>, A>;
 
 /// Room for an act of a five-tuple: for its entry, or for so many more permissions and channels in the entry that is
 /// there.
@@ -25,6 +28,17 @@ pub(crate) struct Reserved {
 }
 
 impl Reserved {
+    /// The room for an entry.
+    pub(crate) fn for_entry(tuple: FiveTuple) -> Reserved
+        ensures { room_of result ≡ record { tuple = tuple; permissions = 0; channels = 0 } }
+    {
+        Reserved {
+            tuple,
+            permissions: 0,
+            channels: 0,
+        }
+    }
+
     /// The room that an act needs, where none of its permissions and channels is there.
     pub(crate) fn for_act<A: Allocator>(tuple: FiveTuple, act: &Act<A>) -> Reserved
         ensures { room_of result ≡ room_for tuple (act_of act.now) }
@@ -44,7 +58,7 @@ impl Reserved {
 }
 
 /// Makes room for more permissions and channels.
-fn make_room<A: Allocator + Copy>(
+pub(crate) fn make_room<A: Allocator + Copy>(
     entry: &mut Entry<A>,
     permissions: usize,
     channels: usize,
@@ -55,20 +69,6 @@ fn make_room<A: Allocator + Copy>(
 {
     entry.permissions.reserve(permissions)?;
     entry.channels.reserve(channels)
-}
-
-/// Makes room in the entry of a five-tuple, or for one.
-pub(crate) fn make_room_for<A: Allocator + Copy>(
-    entries: &mut Vec<(FiveTuple, Entry<A>), A>,
-    room: Reserved,
-) -> Result<(), AllocError>
-    ensures same { pairs entries.new.items ≡ pairs entries.old.items }
-    ensures room { OnOk result (HasRoom (room_of room) entries.new.items (vec_len entries.new) (vec_capacity entries.new)) }
-{
-    match place_of(entries, &room.tuple) {
-        Ok(i) => make_room(&mut entries[i].1, room.permissions, room.channels),
-        Err(_) => entries.reserve(1),
-    }
 }
 
 /// Sets the expiry time of an entry, in seconds.
@@ -125,10 +125,10 @@ fn purge_entry<A: Allocator + Copy>(entry: &mut Entry<A>, moment: u64)
 }
 
 /// The same for each entry.
-pub(crate) fn purge_entries<A: Allocator + Copy>(entries: &mut [(FiveTuple, Entry<A>)], moment: u64)
-    ensures { pairs entries.new ≡ map (still_pair moment) (pairs entries.old) }
+pub(crate) fn purge_entries<A: Allocator + Copy>(entries: &mut EntryMap<A>, moment: u64)
+    ensures { pairs entries.new.entries ≡ map (still_pair moment) (pairs entries.old.entries) }
 {
-    for slot in entries.iter_mut() {
-        purge_entry(&mut slot.1, moment);
+    for i in 0..entries.len() {
+        purge_entry(&mut entries[i], moment);
     }
 }

@@ -2,6 +2,7 @@
 
 ghost use Rattle.std.specs.Prelude.{◌≡◌, ◌≤◌, ◌↔◌, ◌||◌, ℕ, true, IsTrue, is_some, not, MatchOption};
 ghost use Rattle.std.specs.Ordering.{nat_cmp};
+ghost use Rattle.turn_table.specs.Live.{IsQuiet};
 ghost use Rattle.turn_table.specs.Table.{IsChannelTo};
 ghost use Rattle.turn_history.specs.Fitting.{FitsChannel, exceeds, is_bound_elsewhere};
 ghost use Rattle.turn_history.specs.Table.{allocated, install};
@@ -9,7 +10,7 @@ ghost use Rattle.std.specs.FinMap as fin;
 
 use crate::fits::{fits_channel, fits_permissions, is_bound_elsewhere};
 use crate::search::number_to;
-use crate::timed::Timed;
+use crate::sorted_map::SortedMap;
 use std::alloc::{Allocator, Global};
 use std::marker::Model;
 use turn_history::{Channel, UserName};
@@ -24,8 +25,8 @@ pub struct Entry<A: Allocator = Global> {
     pub(crate) granted: u32,
     pub(crate) tx: TxId,
     pub(crate) expiry: u64,
-    pub(crate) permissions: Timed<u32, u64, A>,
-    pub(crate) channels: Timed<u16, Channel, A>,
+    pub(crate) permissions: SortedMap<u32, u64, A>,
+    pub(crate) channels: SortedMap<u16, Channel, A>,
 }
 
 /// The values of an entry: the fields that the Allocate request gave, the expiry time in seconds (exclusive), and the
@@ -132,8 +133,8 @@ impl<A: Allocator + Copy> Entry<A> {
             granted,
             tx,
             expiry,
-            permissions: Timed::from_sorted(permissions),
-            channels: Timed::from_sorted(channels),
+            permissions: SortedMap::from_sorted(permissions),
+            channels: SortedMap::from_sorted(channels),
         }
     }
 
@@ -154,8 +155,8 @@ impl<A: Allocator + Copy> Entry<A> {
             granted,
             tx,
             expiry: moment.seconds() + u64::from(granted),
-            permissions: Timed::new(alloc),
-            channels: Timed::new(alloc),
+            permissions: SortedMap::new(alloc),
+            channels: SortedMap::new(alloc),
         }
     }
 
@@ -197,6 +198,15 @@ impl<A: Allocator + Copy> Entry<A> {
             Some(i) => Some(channels[i].0),
             None => None,
         }
+    }
+
+    /// The least moment at which it or something in it expires.
+    pub(crate) fn earliest(&self) -> u64
+        ensures { IsQuiet result self.now.entry }
+    {
+        let permissions = self.permissions.earliest();
+        let channels = self.channels.earliest();
+        self.expiry.min(permissions).min(channels)
     }
 
     /// Whether it may have permissions of these addresses too, under the limit of permissions.

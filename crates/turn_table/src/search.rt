@@ -1,73 +1,76 @@
-//! Searches of the list of a table.
+//! Searches of lists.
 
-ghost use Rattle.std.specs.Prelude.{◌≡◌, ◌<◌, ◌≤◌, MatchResult, IfSome, length, nat_le, ◌==◌};
-ghost use Rattle.std.specs.List.{count_by, list_any, position_from};
-ghost use Rattle.std.specs.Str.{bytes_eq};
+ghost use Rattle.std.specs.Prelude.{◌≡◌, ◌<◌, ◌≤◌, true, is_some, MatchResult, IfSome, length, nat_le, ◌==◌};
+ghost use Rattle.std.specs.List.{AllByRecursion, position_from};
+ghost use Rattle.std.specs.FinMap as fin;
+ghost use Rattle.std.specs.Ordering.{nat_cmp};
 ghost use Rattle.turn_history.specs.Fitting.{is_peer};
+ghost use Rattle.turn_ports.specs.Ports.{IsLowestFree};
+ghost use Rattle.turn_table.specs.Live.{IsQuiet};
 ghost use Rattle.turn_table.specs.Sorted.{scan};
 
 use crate::entry::Entry;
+use crate::sorted_map::Key;
 use std::alloc::Allocator;
-use std::cmp::Ordering;
 use turn_history::Channel;
-use turn_types::{Endpoint, FiveTuple};
+use turn_types::Endpoint;
 
 /// The place of a key among keys that rise, or the place where it would be inserted.
-pub(crate) fn place_of<K: Ord, V>(items: &[(K, V)], key: &K) -> Result<usize, usize>
+pub(crate) fn place_of<K: Key, V>(items: &[(K, V)], key: &K) -> Result<usize, usize>
+    requires { fin.is_sorted K.cmp items.now ≡ true }
     ensures value { result ≡ scan K.cmp key.now items.now }
     ensures found { MatchResult result (λ i. i < length items.now) (λ i. i ≤ length items.now) }
 {
-    for (i, slot) in items.iter().enumerate() {
-        match key.cmp(&slot.0) {
-            Ordering::Less => return Err(i),
-            Ordering::Equal => return Ok(i),
-            Ordering::Greater => {}
-        }
-    }
-    Err(items.len())
+    items.binary_search_by(|slot| slot.0.cmp(key))
 }
 
-/// The first entry with a port.
-pub(crate) fn holder_of<A: Allocator>(entries: &[(FiveTuple, Entry<A>)], port: u16) -> Option<usize>
-    ensures value { result ≡ position_from (λ s. s.1.entry.port == port) 0 entries.now }
-    ensures found { IfSome result (λ i. i < length entries.now) }
+/// The lowest port from a first to a last that is not among ports that rise, and an even one where `even` asks for it.
+pub(crate) fn lowest_free<V>(ports: &[(u16, V)], first: u16, last: u16, even: bool) -> Option<u16>
+    requires { fin.is_sorted nat_cmp ports.now ≡ true }
+    ensures { IsLowestFree (first, last) (λ port. is_some (fin.get (fin.from_sorted {R = nat_cmp} ports.now) port)) even result }
 {
-    for (i, slot) in entries.iter().enumerate() {
-        if slot.1.port() == port {
+    let step = if even { 2 } else { 1 };
+    let mut lowest = u32::from(first);
+    if even {
+        lowest += lowest % 2;
+    }
+    for slot in ports {
+        let port = u32::from(slot.0);
+        if lowest < port {
+            break;
+        }
+        if lowest == port {
+            lowest += step;
+        }
+    }
+    if lowest <= u32::from(last) {
+        Some(lowest as u16)
+    } else {
+        None
+    }
+}
+
+/// The place of an entry that has expired.
+pub(crate) fn expired_of<A: Allocator>(entries: &[Entry<A>], seconds: u64) -> Option<usize>
+    ensures { result ≡ position_from (λ h. nat_le h.entry.expiry seconds) 0 entries.now }
+{
+    for (i, entry) in entries.iter().enumerate() {
+        if entry.expiry() <= seconds {
             return Some(i);
         }
     }
     None
 }
 
-/// Whether an entry has a port.
-pub(crate) fn has_port<A: Allocator>(entries: &[(FiveTuple, Entry<A>)], port: u16) -> bool
-    ensures { result ≡ list_any (λ s. s.1.entry.port == port) entries.now }
+/// The least moment at which something expires.
+pub(crate) fn earliest_of<A: Allocator + Copy>(entries: &[Entry<A>]) -> u64
+    ensures { AllByRecursion (λ h. IsQuiet result h.entry) entries.now }
 {
-    entries.iter().any(|slot| slot.1.port() == port)
-}
-
-/// The first entry that has expired.
-pub(crate) fn expired_of<A: Allocator>(
-    entries: &[(FiveTuple, Entry<A>)],
-    seconds: u64,
-) -> Option<usize>
-    ensures value { result ≡ position_from (λ s. nat_le s.1.entry.expiry seconds) 0 entries.now }
-    ensures found { IfSome result (λ i. i < length entries.now) }
-{
-    for (i, slot) in entries.iter().enumerate() {
-        if slot.1.expiry() <= seconds {
-            return Some(i);
-        }
+    let mut earliest = u64::MAX;
+    for entry in entries {
+        earliest = earliest.min(entry.earliest());
     }
-    None
-}
-
-/// How many entries a user made.
-pub(crate) fn count_of<A: Allocator>(entries: &[(FiveTuple, Entry<A>)], user: &[u8]) -> usize
-    ensures { result ≡ count_by (λ s. bytes_eq s.1.entry.user user.now) entries.now }
-{
-    entries.iter().filter(|slot| slot.1.user() == user).count()
+    earliest
 }
 
 /// The first channel to a peer.

@@ -6,6 +6,8 @@ ghost use Rattle.std.specs.Iterator.{YieldsFirstBy, item_count};
 ghost use Rattle.std.specs.List.{count_by};
 ghost use Rattle.std.specs.Option.{option_and_then};
 ghost use Rattle.std.specs.Str.{bytes_eq};
+ghost use Rattle.turn_ports.specs.Ports.{IsLowestFree};
+ghost use Rattle.turn_table.specs.Order.{room_of};
 ghost use Rattle.turn_table.specs.State.{State};
 ghost use Rattle.turn_table.specs.Table.{Agrees, AgreesOncePurged, BecomesFree, IsAbove, RemovesExpired, freed_by, room_for, with_entry, without_entry};
 ghost use Rattle.turn_history.specs.Act.{act_of};
@@ -16,10 +18,10 @@ ghost use Rattle.turn_history.specs.Table.{table, applied, purged, renewed, perm
 ghost use Rattle.turn_history.specs.Table as tables;
 ghost use Rattle.turn_types.specs.declared.address.FiveTuple.{FiveTuple};
 
-use crate::edit::{Reserved, bind, make_room_for, permit, purge_entries, set_expiry};
+use crate::allocations::Allocations;
+use crate::edit::Reserved;
 use crate::entry::Entry;
 use crate::fits::{fits_channel, fits_permissions, is_channel_number};
-use crate::search::{count_of, expired_of, has_port, holder_of, place_of};
 use std::alloc::{AllocError, Allocator, Global};
 use std::marker::Model;
 use turn_history::Act;
@@ -30,8 +32,24 @@ use turn_types::{Endpoint, FiveTuple, Limits, Moment};
 pub struct Table<A: Allocator = Global> {
     limits: Limits,
     moment: Moment,
-    entries: Vec<(FiveTuple, Entry<A>), A>,
+    /// The second before which nothing expires, so that a purge before it has nothing to look for.
+    quiet_until: u64,
+    allocations: Allocations<A>,
     room: Option<Reserved>,
+}
+
+impl<A: Allocator> Model for Table<A> {
+    ghost use Rattle.std.specs.Prelude.{option_map};
+    ghost use Rattle.turn_table.specs.Order.{state_of, room_of, IsReady};
+    ghost use Rattle.turn_table.specs.State.{State, state_code};
+
+    ghost Value = { State };
+
+    ghost coded = { state_code };
+
+    ghost view = { λ t. state_of t.limits t.moment t.allocations.held (option_map room_of t.room) };
+
+    ghost invariant = { λ t. IsReady t.quiet_until t.allocations (option_map room_of t.room) };
 }
 
 // By hand: a derived drop is one step for each field in the proof of each caller.
@@ -40,46 +58,37 @@ impl<A: Allocator> Drop for Table<A> {
         let Table {
             limits: _,
             moment: _,
-            entries: _,
+            quiet_until: _,
+            allocations: _,
             room: _,
         } = self;
     }
 }
 
-impl<A: Allocator> Model for Table<A> {
-    ghost use Rattle.std.specs.Prelude.{option_map};
-    ghost use Rattle.std.specs.Vec.{vec_len, vec_capacity};
-    ghost use Rattle.turn_table.specs.Order.{state_of, room_of, IsInOrder};
-    ghost use Rattle.turn_table.specs.State.{State, state_code};
-
-    ghost Value = { State };
-
-    ghost coded = { state_code };
-
-    ghost view = { λ t. state_of t.limits t.moment t.entries.items (option_map room_of t.room) };
-
-    ghost invariant = { λ t. IsInOrder t.entries.items (vec_len t.entries) (vec_capacity t.entries) (option_map room_of t.room) };
-}
-
 /// The entries of a table that are left, ascending by five-tuple.
 #[derive(Drop)]
 pub struct Entries<'a, A: Allocator = Global> {
-    rest: &'a [(FiveTuple, Entry<A>)],
+    rest: &'a [(FiveTuple, u16)],
+    allocations: &'a Allocations<A>,
 }
 
 impl<'a, A: Allocator> Model for Entries<'a, A> {
-    ghost use Rattle.std.specs.Prelude.{List};
+    ghost use Rattle.std.specs.Prelude.{List, IsSome};
     ghost use Rattle.std.specs.Coded.{coded×, coded_list};
+    ghost use Rattle.std.specs.FinMap as fin;
+    ghost use Rattle.std.specs.List.{AllByRecursion};
     ghost use Rattle.turn_history.specs.Codes.{tuple_code, entry_code};
     ghost use Rattle.turn_history.specs.Table.{Entry};
     ghost use Rattle.turn_types.specs.declared.address.FiveTuple.{FiveTuple};
-    ghost use Rattle.turn_table.specs.State.{pairs};
+    ghost use Rattle.turn_table.specs.Live.{listed};
 
     ghost Value = { List (FiveTuple × Entry) };
 
     ghost coded = { coded_list (coded× tuple_code entry_code) };
 
-    ghost view = { λ a. pairs a.rest.now };
+    ghost view = { λ a. listed a.allocations.now.held a.rest.now };
+
+    ghost invariant = { λ a. AllByRecursion (λ p. IsSome (fin.get a.allocations.now.held p.0)) a.rest.now };
 }
 
 impl<'a, A: Allocator> Iterator for Entries<'a, A> {
@@ -93,7 +102,8 @@ impl<'a, A: Allocator> Iterator for Entries<'a, A> {
         match self.rest {
             [first, rest @ ..] => {
                 self.rest = rest;
-                Some((first.0, &first.1))
+                let entry = self.allocations.get(first.0)?;
+                Some((first.0, entry))
             }
             [] => None,
         }
@@ -108,7 +118,8 @@ impl<A: Allocator + Copy> Table<A> {
         Table {
             limits,
             moment,
-            entries: Vec::new(alloc),
+            quiet_until: u64::MAX,
+            allocations: Allocations::new(alloc),
             room: None,
         }
     }
@@ -130,7 +141,7 @@ impl<A: Allocator + Copy> Table<A> {
     pub fn len(&self) -> usize
         ensures { result ≡ fin.len self.now.contents.entries }
     {
-        self.entries.len()
+        self.allocations.len()
     }
 
     pub fn is_empty(&self) -> bool
@@ -151,7 +162,8 @@ impl<A: Allocator + Copy> Table<A> {
         ensures { result ≡ fin.entries self.now.contents.entries }
     {
         Entries {
-            rest: &self.entries,
+            rest: self.allocations.order(),
+            allocations: &self.allocations,
         }
     }
 
@@ -160,7 +172,7 @@ impl<A: Allocator + Copy> Table<A> {
         ensures { let all = fin.entries self.now.contents.entries in
             result ≡ option_map (λ p. p.0) (slice_get all (length all - 1)) }
     {
-        match self.entries.last() {
+        match self.allocations.order().last() {
             Some(slot) => Some(slot.0),
             None => None,
         }
@@ -170,10 +182,7 @@ impl<A: Allocator + Copy> Table<A> {
     pub fn get(&self, tuple: FiveTuple) -> Option<&Entry<A>>
         ensures { option_map (λ e. e.entry) (option_copied result) ≡ fin.get self.now.contents.entries tuple }
     {
-        match place_of(&self.entries, &tuple) {
-            Ok(i) => Some(&self.entries[i].1),
-            Err(_) => None,
-        }
+        self.allocations.get(tuple)
     }
 
     /// An entry with a relayed port, and its five-tuple.
@@ -181,20 +190,14 @@ impl<A: Allocator + Copy> Table<A> {
         ensures { MatchOption result (PortIsFree self.now.contents port) (λ x.
             (fin.get self.now.contents.entries x.0 ≡ Some x.1.now.entry) × (x.1.now.entry.port ≡ port)) }
     {
-        match holder_of(&self.entries, port) {
-            Some(i) => {
-                let slot = &self.entries[i];
-                Some((slot.0, &slot.1))
-            }
-            None => None,
-        }
+        self.allocations.by_port(port)
     }
 
     /// How many entries a user made.
     pub fn count_of_user(&self, user: &[u8]) -> usize
         ensures { result ≡ count_by (λ p. bytes_eq p.1.user user.now) (fin.entries self.now.contents.entries) }
     {
-        count_of(&self.entries, user)
+        self.allocations.count_of_user(user)
     }
 
     /// Whether an address has a permission (RFC 8656, section 9).
@@ -260,16 +263,23 @@ impl<A: Allocator + Copy> Table<A> {
         ensures ok { OnOk result (self.new ≡ record self.old { room = Some (room_for tuple (act_of act.now)) }) }
         ensures err { OnErr result (self.new ≡ record self.old { room = None }) }
     {
+        self.reserve(Reserved::for_act(tuple, act))
+    }
+
+    /// Makes the room that was asked for.
+    fn reserve(&mut self, room: Reserved) -> Result<(), AllocError>
+        ensures ok { OnOk result (self.new ≡ record self.old { room = Some (room_of room) }) }
+        ensures err { OnErr result (self.new ≡ record self.old { room = None }) }
+    {
         self.room = None;
-        let room = Reserved::for_act(tuple, act);
-        make_room_for(&mut self.entries, room)?;
+        self.allocations.make_room(room)?;
         self.room = Some(room);
         Ok(())
     }
 
-    /// Adds the entry of a five-tuple that is above all others, without a search, so that a snapshot is restored in the
-    /// order of its entries. After an `Err` the limits, the moment and the entries are as before. There is room for no
-    /// act afterwards.
+    /// Adds the entry of a five-tuple that is above all others, so that a snapshot is restored in the order of its
+    /// entries. After an `Err` the limits, the moment and the entries are as before. There is room for no act
+    /// afterwards.
     pub fn restore(&mut self, tuple: FiveTuple, entry: Entry<A>) -> Result<(), AllocError>
         requires above { IsAbove self.old.contents tuple }
         requires free { PortIsFree self.old.contents entry.entry.port }
@@ -278,8 +288,8 @@ impl<A: Allocator + Copy> Table<A> {
         ensures entries { OnOk result (fin.entries self.new.contents.entries ≡ fin.entries self.old.contents.entries ++ (tuple, entry.entry) ∷ []) }
         ensures err { OnErr result (self.new ≡ record self.old { room = None }) }
     {
-        self.room = None;
-        self.entries.push((tuple, entry))?;
+        self.reserve(Reserved::for_entry(tuple))?;
+        self.insert_entry(tuple, entry);
         Ok(())
     }
 
@@ -287,17 +297,12 @@ impl<A: Allocator + Copy> Table<A> {
     fn insert_entry(&mut self, tuple: FiveTuple, entry: Entry<A>)
         requires room { IsSomeAnd self.old.room (λ r. r.tuple ≡ tuple) }
         requires absent { fin.get self.old.contents.entries tuple ≡ None }
+        requires free { PortIsFree self.old.contents entry.entry.port }
         ensures { self.new ≡ with_entry self.old tuple entry.entry }
     {
         self.room = None;
-        match place_of(&self.entries, &tuple) {
-            Err(i) => {
-                let Ok(()) = self.entries.insert(i, (tuple, entry)) else {
-                    unreachable!()
-                };
-            }
-            Ok(_) => unreachable!(),
-        }
+        self.quiet_until = self.quiet_until.min(entry.earliest());
+        self.allocations.insert(tuple, entry);
     }
 
     /// Removes the entry of a five-tuple, and returns its port.
@@ -307,13 +312,7 @@ impl<A: Allocator + Copy> Table<A> {
         ensures port { IsSomeAnd (fin.get self.old.contents.entries tuple) (λ e. e.port ≡ result) }
     {
         self.room = None;
-        match place_of(&self.entries, &tuple) {
-            Ok(i) => {
-                let (_, entry) = self.entries.remove(i);
-                entry.port()
-            }
-            Err(_) => unreachable!(),
-        }
+        self.allocations.remove(tuple).unwrap()
     }
 
     /// Sets the expiry time of an entry, in seconds.
@@ -322,10 +321,8 @@ impl<A: Allocator + Copy> Table<A> {
         ensures { IsSomeAnd (fin.get self.old.contents.entries tuple) (λ e. self.new ≡ with_entry self.old tuple (renewed expiry e)) }
     {
         self.room = None;
-        match place_of(&self.entries, &tuple) {
-            Ok(i) => set_expiry(&mut self.entries[i].1, expiry),
-            Err(_) => unreachable!(),
-        }
+        self.quiet_until = self.quiet_until.min(expiry);
+        self.allocations.renew(tuple, expiry);
     }
 
     /// Installs permissions in an entry.
@@ -335,10 +332,8 @@ impl<A: Allocator + Copy> Table<A> {
         ensures { IsSomeAnd (fin.get self.old.contents.entries tuple) (λ e. self.new ≡ with_entry self.old tuple (permitting expiry addresses.now e)) }
     {
         self.room = None;
-        match place_of(&self.entries, &tuple) {
-            Ok(i) => permit(&mut self.entries[i].1, addresses, expiry),
-            Err(_) => unreachable!(),
-        }
+        self.quiet_until = self.quiet_until.min(expiry);
+        self.allocations.permit(tuple, addresses, expiry);
     }
 
     /// Binds a channel of an entry.
@@ -348,10 +343,8 @@ impl<A: Allocator + Copy> Table<A> {
         ensures { IsSomeAnd (fin.get self.old.contents.entries tuple) (λ e. self.new ≡ with_entry self.old tuple (binding moment number peer e)) }
     {
         self.room = None;
-        match place_of(&self.entries, &tuple) {
-            Ok(i) => bind(&mut self.entries[i].1, number, peer, moment.seconds()),
-            Err(_) => unreachable!(),
-        }
+        self.quiet_until = self.quiet_until.min(moment.seconds() + 300);
+        self.allocations.bind(tuple, number, peer, moment.seconds());
     }
 
     /// Applies an act of a five-tuple at the table's moment, in the room that was made for it. Returns the port that
@@ -367,7 +360,7 @@ impl<A: Allocator + Copy> Table<A> {
             let e : Event = record { moment = moment; tuple = tuple; act = act_of act } in
             Follows self.old.bounds h e → Agrees self.old h → Agrees self.new (h ++ e ∷ []) }
     {
-        let alloc = *self.entries.allocator();
+        let alloc = self.allocations.allocator();
         match act {
             Act::Alloc {
                 user,
@@ -413,18 +406,36 @@ impl<A: Allocator + Copy> Table<A> {
         ensures agrees { (h : History) → AgreesOncePurged moment self.old h →
             MatchOption result (Agrees self.new h) (λ _. AgreesOncePurged moment self.new h) }
     {
-        match expired_of(&self.entries, moment.seconds()) {
-            Some(i) => {
-                self.room = None;
-                let (_, entry) = self.entries.remove(i);
-                Some(entry.port())
-            }
+        match self.expired(moment) {
+            Some(tuple) => Some(self.remove_entry(tuple)),
             None => {
-                self.room = None;
-                purge_entries(&mut self.entries, moment.seconds());
-                self.moment = moment;
+                self.settle(moment);
                 None
             }
+        }
+    }
+
+    /// A five-tuple whose entry has expired by a moment.
+    fn expired(&self, moment: Moment) -> Option<FiveTuple>
+        ensures { MatchOption result ((f : FiveTuple) (e : tables.Entry) → fin.get self.now.contents.entries f ≡ Some e → moment < e.expiry)
+            (λ f. IsSomeAnd (fin.get self.now.contents.entries f) (λ e. e.expiry ≤ moment)) }
+    {
+        if moment.seconds() < self.quiet_until {
+            return None;
+        }
+        self.allocations.expired(moment.seconds())
+    }
+
+    /// Moves a table without expired entries to a moment.
+    fn settle(&mut self, moment: Moment)
+        requires { (f : FiveTuple) (e : tables.Entry) → fin.get self.old.contents.entries f ≡ Some e → moment < e.expiry }
+        ensures { self.new ≡ record self.old { moment = moment; contents = purged moment self.old.contents; room = None } }
+    {
+        self.room = None;
+        self.moment = moment;
+        if self.quiet_until <= moment.seconds() {
+            self.allocations.purge(moment.seconds());
+            self.quiet_until = self.allocations.quiet_until();
         }
     }
 }
@@ -437,6 +448,13 @@ impl<A: Allocator + Copy> PortSet for Table<A> {
         ensures value { result ≡ is_taken self.now.contents port }
         ensures free { result ≡ false → PortIsFree self.now.contents port }
     {
-        has_port(&self.entries, port)
+        self.by_port(port).is_some()
+    }
+
+    /// One walk over the ports of the entries.
+    fn lowest_free(&self, first: u16, last: u16, even: bool) -> Option<u16>
+        ensures { IsLowestFree (first, last) (is_taken self.now.contents) even result }
+    {
+        self.allocations.lowest_free(first, last, even)
     }
 }

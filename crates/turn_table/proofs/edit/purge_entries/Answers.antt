@@ -1,17 +1,18 @@
-use Rattle.std.proofs.Common.{◌<◌, ap, sym, ◌∙◌, length, get_or, set, arith}
-use Rattle.std.proofs.lemmas.List.{length-map, map-set, get_or-map}
-use Rattle.std.proofs.lemmas.List.Edits.{map_over_more}
-use Rattle.turn_table.specs.Kept.{still_pair}
-use Rattle.turn_table.specs.State.{pairs, pair_of}
+use Rattle.std.proofs.Common.{◌<◌, ◌≤◌, length, ◌∙◌, arith}
+use Rattle.std.proofs.lemmas.List.{length-map}
+use Rattle.indexmap.proofs.CallerLemmas.{index_map_len-with_value_at}
+use Rattle.turn_table.specs.State.{pair_of, pairs}
+use Rattle.turn_table.proofs.Purged.{purged_end, purged_more}
 use Rattle.turn_table.proofs.edit.purge_entries.Goals as goal
 
-pub loop-slot-preserved : goal.loop-slot-preserved
-loop-slot-preserved g c =
-    let xs = c.loop-slot.entries in
-    let i = c.loop-slot.slot-index in
-    let x = c.slot-item.result in
-    let within : i < length xs = omega (arith, c.loop-slot-test.true, c.loop-slot.auto.entries) in
-    let inside : i < length (pairs c.args.entries.now) = rw length-map c.loop-slot-test.true in
-    map-set pair_of xs i ((get_or xs i x).0, c.purge_entry.new.entry)
-    ∙ ap (λ v. set (pairs xs) i ((get_or xs i x).0, v)) c.purge_entry.ensures
-    ∙ map_over_more (still_pair c.args.moment) (pairs c.args.entries.now) (pairs xs) i (pair_of (get_or xs i x)) inside c.loop-slot.invariant (sym (get_or-map pair_of xs i x (pair_of (get_or xs i x)) within))
+pub loop-i-preserved : goal.loop-i-preserved
+loop-i-preserved g c =
+    let within : c.loop-i.i < length (pairs c.args.entries.now.entries) = omega (arith, c.loop-i-test.true, c.len-i-end.ensures.len, length-map c.args.entries.now.entries pair_of) in (
+      index_map_len-with_value_at c.loop-i.entries c.loop-i.i c.purge_entry.new.entry ∙ c.loop-i.invariant.0,
+      purged_more c.args.moment (pairs c.args.entries.now.entries) c.loop-i.entries.entries c.loop-i.i c.index_mut.result.now c.purge_entry.new.entry within c.loop-i.invariant.1 c.index_mut.ensures.value c.purge_entry.ensures,
+    )
+
+pub returns : goal.returns
+returns g c =
+    let end : length (pairs c.args.entries.now.entries) ≤ c.loop-i.i = omega (arith, c.loop-i-test.false, c.len-i-end.ensures.len, length-map c.args.entries.now.entries pair_of) in
+    purged_end c.args.moment (pairs c.args.entries.now.entries) (pairs c.loop-i.entries.entries) c.loop-i.i end c.loop-i.invariant.1

@@ -1,7 +1,11 @@
 use Rattle.std.proofs.Common.{◌≡◌, ◌++◌, map, take, drop}
+use Rattle.indexmap.specs.IndexMap.{index_map_len}
 use Rattle.turn_table.specs.Kept.{still_pair}
 use Rattle.turn_table.specs.State.{pairs}
 use Rattle.turn_table.proofs.edit.purge_entries.Given as goal
 
-abbrev pub invariant-loop-slot : goal.invariant-loop-slot
-invariant-loop-slot g l = pairs l.entries ≡ map (still_pair l.moment) (take l.slot-index (pairs l.fn.entries)) ++ drop l.slot-index (pairs l.fn.entries)
+-- the entries before are purged
+abbrev pub invariant-loop-i : goal.invariant-loop-i
+invariant-loop-i g l =
+    (index_map_len l.entries ≡ index_map_len l.fn.entries)
+    × (pairs l.entries.entries ≡ map (still_pair l.moment) (take l.i (pairs l.fn.entries.entries)) ++ drop l.i (pairs l.fn.entries.entries))

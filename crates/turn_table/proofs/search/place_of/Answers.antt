@@ -1,7 +1,9 @@
-use Rattle.std.proofs.Common.{sym, ◌∙◌}
-use Rattle.turn_table.proofs.Sorted.{scan_step}
+use Rattle.std.proofs.Common.{rules}
+use Rattle.std.proofs.lemmas.Fn.{always_returns_same}
+use Rattle.turn_table.proofs.Sorted.{searched}
 use Rattle.turn_table.proofs.search.place_of.Goals as goal
 
-pub returns-in-Less-clause-value : goal.returns-in-Less-clause-value
-returns-in-Less-clause-value g c =
-    scan_step g.K.Ord.cmp c.args.key.now c.args.items.now c.loop-i.i c.index-items-i.result c.loop-i-test.true c.index-items-i.is c.loop-i.invariant _ (sym c.in-Less.is ∙ c.cmp.ensures)
+pub returns-clause-value : goal.returns-clause-value
+returns-clause-value g c =
+    searched g.met.K.Ord.total g.met.K.Key.exact c.args.key.now c.args.items.now c.binary_search_by.result c.requires c.binary_search_by.ensures.bound
+    (c.binary_search_by.ensures.position (λ slot. g.K.Ord.cmp slot.0 c.args.key.now) (always_returns_same _ _ _ (λ slot order f called. search rules)))

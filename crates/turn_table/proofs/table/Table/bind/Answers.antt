@@ -1,34 +1,27 @@
-use Rattle.std.proofs.Common.{ap, ◌∙◌, option_map}
-use Rattle.std.specs.FinMap as fin
-use Rattle.turn_types.specs.FiveTuple.{tuple_cmp}
+use Rattle.std.proofs.Common.{◌+◌, ap, ◌∙◌, arith, option_map, subst}
 use Rattle.turn_history.specs.Table.{binding}
+use Rattle.turn_table.specs.Live.{Changes}
 use Rattle.turn_table.specs.Order.{room_of}
-use Rattle.turn_table.specs.Sorted.{scan}
-use Rattle.turn_table.proofs.Edits.{in_order, is_none_some, changed, missed}
-use Rattle.turn_table.proofs.Lists.{written}
+use Rattle.turn_table.proofs.Quiet.{min_below}
+use Rattle.turn_table.proofs.Ready.{quiet_changes, quiet_binding}
+use Rattle.turn_table.proofs.States.{changed-is, no_room, room_inside, there_of}
 use Rattle.turn_table.proofs.table.Table.bind.Goals as goal
 
 pub invariant_of-self : goal.invariant_of-self
 invariant_of-self g c =
-    in_order _ _ _ _ (written c.self.inside.entries.items c.args.tuple c.in-Ok.i c.index_mut.result.now c.bind.new.entry c.self.invariant.sorted (c.in-Ok.ensures.value ∙ ap (scan tuple_cmp c.args.tuple) c.deref.ensures.value) c.index_mut.ensures.value)
-
-pub unreachable-requires : goal.unreachable-requires
-unreachable-requires g c =
-    is_none_some (fin.get c.args.self.now.contents.entries c.args.tuple) c.requires.there
-    (missed c.self.inside.limits c.self.inside.moment c.self.inside.entries.items (option_map room_of c.self.inside.room) c.args.self.now c.self.view_is c.self.invariant.sorted
-    c.args.tuple c.in-Err.field-0 (c.in-Err.ensures.value ∙ ap (scan tuple_cmp c.args.tuple) c.deref.ensures.value))
+    let least = min_below c.self.inside.quiet_until (c.seconds.result + 300) c.min-self-inside.result c.min-self-inside.ensures in
+    record {
+      quiet = quiet_changes c.min-self-inside.result c.self.inside.quiet_until c.self.inside.allocations.held c.bind.new.self.held c.args.tuple (binding c.args.moment c.args.number c.args.peer) least.0
+          (λ e. quiet_binding c.min-self-inside.result c.self.inside.quiet_until c.args.moment c.args.number c.args.peer e least.0 (omega (arith, least.1, c.seconds.ensures.value))) c.self.invariant.quiet (subst (λ t. Changes c.args.tuple (binding t c.args.number c.args.peer) c.self.inside.allocations.held c.bind.new.self.held) c.seconds-2.ensures.value c.bind.ensures);
+      spare = no_room c.bind.new.self;
+    }
 
 pub returns : goal.returns
 returns g c =
-    changed c.self.inside.limits c.self.inside.moment c.self.inside.entries.items (option_map room_of c.self.inside.room) c.args.self.now c.self.view_is c.self.invariant.sorted
-    c.args.tuple c.in-Ok.i c.index_mut.result.now c.bind.new.entry (binding c.args.moment c.args.number c.args.peer) (c.in-Ok.ensures.value ∙ ap (scan tuple_cmp c.args.tuple) c.deref.ensures.value) (rw c.deref.ensures.value at c.in-Ok.ensures.found) c.index_mut.ensures.value (c.bind.ensures ∙ ap (λ t. binding t c.args.number c.args.peer c.index_mut.result.now.1.entry) c.seconds.ensures.value)
+    changed-is c.self.inside.limits c.self.inside.moment c.self.inside.allocations.held (option_map room_of c.self.inside.room) c.args.self.now c.self.view_is
+    c.bind.new.self.held c.args.tuple (binding c.args.moment c.args.number c.args.peer) (subst (λ t. Changes c.args.tuple (binding t c.args.number c.args.peer) c.self.inside.allocations.held c.bind.new.self.held) c.seconds-2.ensures.value c.bind.ensures)
 
-pub bind-requires-clause-permissions : goal.bind-requires-clause-permissions
-bind-requires-clause-permissions g c =
-    ((c.self.invariant.spare _ (ap (λ s. s.room) c.self.view_is ∙ c.requires.room)).inside c.in-Ok.i c.index_mut.result.now
-    (c.in-Ok.ensures.value ∙ ap (scan tuple_cmp c.args.tuple) c.deref.ensures.value) c.index_mut.ensures.value).0
-
-pub bind-requires-clause-channels : goal.bind-requires-clause-channels
-bind-requires-clause-channels g c =
-    ((c.self.invariant.spare _ (ap (λ s. s.room) c.self.view_is ∙ c.requires.room)).inside c.in-Ok.i c.index_mut.result.now
-    (c.in-Ok.ensures.value ∙ ap (scan tuple_cmp c.args.tuple) c.deref.ensures.value) c.index_mut.ensures.value).1
+pub bind-requires-clause-room : goal.bind-requires-clause-room
+bind-requires-clause-room g c =
+    let room = c.self.invariant.spare _ (ap (λ s. s.room) c.self.view_is ∙ c.requires.room) in
+    room_inside _ c.self.inside.allocations room (there_of c.self.inside.allocations.held c.args.self.now.contents (ap (λ s. s.contents) c.self.view_is) c.args.tuple c.requires.there)

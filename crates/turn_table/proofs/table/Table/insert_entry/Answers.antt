@@ -1,39 +1,34 @@
-use Rattle.std.proofs.Common.{◌<◌, ap, sym, ◌∙◌, subst, arith, option_map}
-use Rattle.std.specs.FinMap as fin
-use Rattle.std.specs.Vec.{vec_len, vec_capacity}
-use Rattle.turn_types.specs.FiveTuple.{tuple_cmp}
+use Rattle.std.proofs.Common.{ap, sym, ◌∙◌, subst, option_map}
+use Rattle.turn_table.specs.Live.{AreQuiet}
 use Rattle.turn_table.specs.Order.{room_of}
-use Rattle.turn_table.specs.Sorted.{scan}
-use Rattle.turn_table.specs.State.{pairs}
-use Rattle.turn_table.proofs.Edits.{in_order, spare_for, with_entry-is}
-use Rattle.turn_table.proofs.Lists.{Shown, inserted, standing}
+use Rattle.turn_table.proofs.Quiet.{min_below, quiet_before}
+use Rattle.turn_table.proofs.Ready.{quiet_earlier, quiet_insert}
+use Rattle.turn_table.proofs.States.{absent_of, no_room, port_free_of, room_for, with_entry-is}
 use Rattle.turn_table.proofs.table.Table.insert_entry.Goals as goal
-use Rattle.turn_table.proofs.table.Table.insert_entry.Goals.{In-Ok-insert}
-use Rattle.turn_table.proofs.table.Table.insert_entry.Given.{Over}
 
-there : (g : Over) (c : In-Ok-insert g) → Shown c.insert.new.self.items (fin.insert (fin.from_sorted (pairs c.self.inside.entries.items)) c.args.tuple c.args.entry.entry)
-there g c =
-    subst (λ ys. Shown ys (fin.insert (fin.from_sorted (pairs c.self.inside.entries.items)) c.args.tuple c.args.entry.entry)) (sym c.in-Ok-insert.ensures.items)
-    (inserted c.self.inside.entries.items c.args.tuple c.in-Err.i c.args.entry c.self.invariant.sorted (c.in-Err.ensures.value ∙ ap (scan tuple_cmp c.args.tuple) c.deref.ensures.value))
+pub insert-requires-clause-room : goal.insert-requires-clause-room
+insert-requires-clause-room g c =
+    room_for c.self.inside.allocations c.args.tuple (absent_of c.self.inside.allocations.held c.args.self.now.contents (ap (λ s. s.contents) c.self.view_is) c.args.tuple c.requires.absent)
+    c.args.self.now.room (λ r is. c.self.invariant.spare r (ap (λ s. s.room) c.self.view_is ∙ is)) c.requires.room
+
+pub insert-requires-clause-absent : goal.insert-requires-clause-absent
+insert-requires-clause-absent g c = absent_of c.self.inside.allocations.held c.args.self.now.contents (ap (λ s. s.contents) c.self.view_is) c.args.tuple c.requires.absent
+
+pub insert-requires-clause-free : goal.insert-requires-clause-free
+insert-requires-clause-free g c = port_free_of c.self.inside.allocations.held c.args.self.now.contents (ap (λ s. s.contents) c.self.view_is) c.args.entry.entry.port c.requires.free
 
 pub invariant_of-self : goal.invariant_of-self
-invariant_of-self g c = in_order _ _ _ _ (there g c)
-
-pub unreachable-requires : goal.unreachable-requires
-unreachable-requires g c =
-    let spare : vec_len c.self.inside.entries < vec_capacity c.self.inside.entries =
-    spare_for c.self.inside.entries.items (vec_len c.self.inside.entries) (vec_capacity c.self.inside.entries) c.args.self.now.room
-    (λ r is. c.self.invariant.spare r (ap (λ s. s.room) c.self.view_is ∙ is)) c.args.tuple c.requires.room
-    c.in-Err.i (c.in-Err.ensures.value ∙ ap (scan tuple_cmp c.args.tuple) c.deref.ensures.value) in
-    omega (arith, spare, c.in_default.ensures.full)
-
-pub unreachable-requires-in-Ok : goal.unreachable-requires-in-Ok
-unreachable-requires-in-Ok g c =
-    standing c.self.inside.entries.items c.self.invariant.sorted c.args.tuple c.in-Ok.field-0
-    (c.in-Ok.ensures.value ∙ ap (scan tuple_cmp c.args.tuple) c.deref.ensures.value)
-    (ap (λ s. fin.get s.contents.entries c.args.tuple) c.self.view_is ∙ c.requires.absent)
+invariant_of-self g c =
+    let least = min_below c.self.inside.quiet_until c.earliest.result c.min-self-inside.result c.min-self-inside.ensures in
+    record {
+      quiet = subst (AreQuiet c.min-self-inside.result) (sym c.insert.ensures)
+          (quiet_insert c.min-self-inside.result c.self.inside.allocations.held c.args.tuple c.args.entry
+          (quiet_before c.min-self-inside.result c.earliest.result c.args.entry.entry least.1 c.earliest.ensures)
+          (quiet_earlier c.min-self-inside.result c.self.inside.quiet_until c.self.inside.allocations.held least.0 c.self.invariant.quiet));
+      spare = no_room c.insert.new.self;
+    }
 
 pub returns : goal.returns
 returns g c =
-    with_entry-is c.self.inside.limits c.self.inside.moment c.self.inside.entries.items (option_map room_of c.self.inside.room) c.args.self.now c.self.view_is
-    c.insert.new.self.items c.args.tuple c.args.entry.entry (there g c)
+    with_entry-is c.self.inside.limits c.self.inside.moment c.self.inside.allocations.held (option_map room_of c.self.inside.room) c.args.self.now c.self.view_is
+    c.insert.new.self.held c.args.tuple c.args.entry c.insert.ensures

@@ -1,29 +1,28 @@
-use Rattle.std.proofs.Common.{ap, ◌∙◌, option_map}
+use Rattle.std.proofs.Common.{◌≤◌, length, ap, ◌∙◌, option_map}
 use Rattle.std.specs.FinMap as fin
-use Rattle.turn_types.specs.FiveTuple.{tuple_cmp}
 use Rattle.turn_history.specs.Table.{permitting}
 use Rattle.turn_table.specs.Order.{room_of}
-use Rattle.turn_table.specs.Sorted.{scan}
-use Rattle.turn_table.proofs.Edits.{in_order, is_none_some, changed, missed}
-use Rattle.turn_table.proofs.Lists.{written}
+use Rattle.turn_table.proofs.Quiet.{min_below}
+use Rattle.turn_table.proofs.Ready.{quiet_changes, quiet_permitting}
+use Rattle.turn_table.proofs.States.{changed-is, no_room, room_inside, some_weaker, there_of}
 use Rattle.turn_table.proofs.table.Table.permit.Goals as goal
 
 pub invariant_of-self : goal.invariant_of-self
 invariant_of-self g c =
-    in_order _ _ _ _ (written c.self.inside.entries.items c.args.tuple c.in-Ok.i c.index_mut.result.now c.permit.new.entry c.self.invariant.sorted (c.in-Ok.ensures.value ∙ ap (scan tuple_cmp c.args.tuple) c.deref.ensures.value) c.index_mut.ensures.value)
-
-pub unreachable-requires : goal.unreachable-requires
-unreachable-requires g c =
-    is_none_some (fin.get c.args.self.now.contents.entries c.args.tuple) c.requires.there
-    (missed c.self.inside.limits c.self.inside.moment c.self.inside.entries.items (option_map room_of c.self.inside.room) c.args.self.now c.self.view_is c.self.invariant.sorted
-    c.args.tuple c.in-Err.field-0 (c.in-Err.ensures.value ∙ ap (scan tuple_cmp c.args.tuple) c.deref.ensures.value))
+    let least = min_below c.self.inside.quiet_until (c.args.expiry) c.min-self-inside.result c.min-self-inside.ensures in
+    record {
+      quiet = quiet_changes c.min-self-inside.result c.self.inside.quiet_until c.self.inside.allocations.held c.permit.new.self.held c.args.tuple (permitting c.args.expiry c.args.addresses.now) least.0
+          (λ e. quiet_permitting c.min-self-inside.result c.self.inside.quiet_until c.args.expiry c.args.addresses.now e least.0 least.1) c.self.invariant.quiet c.permit.ensures;
+      spare = no_room c.permit.new.self;
+    }
 
 pub returns : goal.returns
 returns g c =
-    changed c.self.inside.limits c.self.inside.moment c.self.inside.entries.items (option_map room_of c.self.inside.room) c.args.self.now c.self.view_is c.self.invariant.sorted
-    c.args.tuple c.in-Ok.i c.index_mut.result.now c.permit.new.entry (permitting c.args.expiry c.args.addresses.now) (c.in-Ok.ensures.value ∙ ap (scan tuple_cmp c.args.tuple) c.deref.ensures.value) (rw c.deref.ensures.value at c.in-Ok.ensures.found) c.index_mut.ensures.value c.permit.ensures
+    changed-is c.self.inside.limits c.self.inside.moment c.self.inside.allocations.held (option_map room_of c.self.inside.room) c.args.self.now c.self.view_is
+    c.permit.new.self.held c.args.tuple (permitting c.args.expiry c.args.addresses.now) c.permit.ensures
 
 pub permit-requires : goal.permit-requires
 permit-requires g c =
-    ((c.self.invariant.spare _ (ap (λ s. s.room) c.self.view_is ∙ c.requires.room)).inside c.in-Ok.i c.index_mut.result.now
-    (c.in-Ok.ensures.value ∙ ap (scan tuple_cmp c.args.tuple) c.deref.ensures.value) c.index_mut.ensures.value).0
+    let room = c.self.invariant.spare _ (ap (λ s. s.room) c.self.view_is ∙ c.requires.room) in
+    let inside = room_inside _ c.self.inside.allocations room (there_of c.self.inside.allocations.held c.args.self.now.contents (ap (λ s. s.contents) c.self.view_is) c.args.tuple c.requires.there) in
+    some_weaker _ (λ h. length c.args.addresses.now ≤ h.permission_room) (fin.get c.self.inside.allocations.held c.args.tuple) (λ h both. both.0) inside

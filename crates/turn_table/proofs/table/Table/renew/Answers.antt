@@ -1,24 +1,24 @@
-use Rattle.std.proofs.Common.{ap, ◌∙◌, option_map}
-use Rattle.std.specs.FinMap as fin
-use Rattle.turn_types.specs.FiveTuple.{tuple_cmp}
+use Rattle.std.proofs.Common.{ap, option_map}
 use Rattle.turn_history.specs.Table.{renewed}
 use Rattle.turn_table.specs.Order.{room_of}
-use Rattle.turn_table.specs.Sorted.{scan}
-use Rattle.turn_table.proofs.Edits.{in_order, is_none_some, changed, missed}
-use Rattle.turn_table.proofs.Lists.{written}
+use Rattle.turn_table.proofs.Quiet.{min_below}
+use Rattle.turn_table.proofs.Ready.{quiet_changes, quiet_renewed}
+use Rattle.turn_table.proofs.States.{changed-is, no_room, there_of}
 use Rattle.turn_table.proofs.table.Table.renew.Goals as goal
 
 pub invariant_of-self : goal.invariant_of-self
 invariant_of-self g c =
-    in_order _ _ _ _ (written c.self.inside.entries.items c.args.tuple c.in-Ok.i c.index_mut.result.now c.set_expiry.new.entry c.self.invariant.sorted (c.in-Ok.ensures.value ∙ ap (scan tuple_cmp c.args.tuple) c.deref.ensures.value) c.index_mut.ensures.value)
-
-pub unreachable-requires : goal.unreachable-requires
-unreachable-requires g c =
-    is_none_some (fin.get c.args.self.now.contents.entries c.args.tuple) c.requires
-    (missed c.self.inside.limits c.self.inside.moment c.self.inside.entries.items (option_map room_of c.self.inside.room) c.args.self.now c.self.view_is c.self.invariant.sorted
-    c.args.tuple c.in-Err.field-0 (c.in-Err.ensures.value ∙ ap (scan tuple_cmp c.args.tuple) c.deref.ensures.value))
+    let least = min_below c.self.inside.quiet_until (c.args.expiry) c.min-self-inside.result c.min-self-inside.ensures in
+    record {
+      quiet = quiet_changes c.min-self-inside.result c.self.inside.quiet_until c.self.inside.allocations.held c.renew.new.self.held c.args.tuple (renewed c.args.expiry) least.0
+          (λ e. quiet_renewed c.min-self-inside.result c.self.inside.quiet_until c.args.expiry e least.0 least.1) c.self.invariant.quiet c.renew.ensures;
+      spare = no_room c.renew.new.self;
+    }
 
 pub returns : goal.returns
 returns g c =
-    changed c.self.inside.limits c.self.inside.moment c.self.inside.entries.items (option_map room_of c.self.inside.room) c.args.self.now c.self.view_is c.self.invariant.sorted
-    c.args.tuple c.in-Ok.i c.index_mut.result.now c.set_expiry.new.entry (renewed c.args.expiry) (c.in-Ok.ensures.value ∙ ap (scan tuple_cmp c.args.tuple) c.deref.ensures.value) (rw c.deref.ensures.value at c.in-Ok.ensures.found) c.index_mut.ensures.value c.set_expiry.ensures
+    changed-is c.self.inside.limits c.self.inside.moment c.self.inside.allocations.held (option_map room_of c.self.inside.room) c.args.self.now c.self.view_is
+    c.renew.new.self.held c.args.tuple (renewed c.args.expiry) c.renew.ensures
+
+pub renew-requires : goal.renew-requires
+renew-requires g c = there_of c.self.inside.allocations.held c.args.self.now.contents (ap (λ s. s.contents) c.self.view_is) c.args.tuple c.requires

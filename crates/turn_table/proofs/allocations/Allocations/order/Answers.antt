@@ -1,0 +1,14 @@
+use Rattle.std.proofs.Common.{ap, ◌∙◌}
+use Rattle.turn_history.proofs.Maps.{tuple_total, tuple_exact}
+use Rattle.turn_types.specs.FiveTuple.{tuple_cmp}
+use Rattle.turn_table.specs.Indexed.{held_in}
+use Rattle.turn_table.specs.Kept.{map_in}
+use Rattle.turn_table.specs.Live.{placed}
+use Rattle.turn_table.proofs.Mapped.{entries-values_by}
+use Rattle.turn_table.proofs.allocations.Allocations.order.Goals as goal
+
+pub returns : goal.returns
+returns g c =
+    c.items.ensures
+    ∙ entries-values_by tuple_total tuple_exact (λ h. h.entry.port) (held_in c.self.inside.entries.entries) (map_in tuple_cmp c.self.inside.order) c.self.invariant.0.placed
+    ∙ ap (λ l. placed l.held) c.self.view_is

@@ -1,0 +1,19 @@
+use Rattle.std.proofs.Common.{ap, ◌∙◌}
+use Rattle.std.specs.FinMap as fin
+use Rattle.std.specs.Option.{option_map}
+use Rattle.turn_table.specs.Kept.{still_entry}
+use Rattle.turn_table.specs.Live.{entries_of}
+use Rattle.turn_table.proofs.Purged.{get-purged_entries, indexed_purged}
+use Rattle.turn_table.proofs.Users.{users_purged}
+use Rattle.turn_table.proofs.allocations.Allocations.purge.Goals as goal
+
+pub invariant_of-self : goal.invariant_of-self
+invariant_of-self g c = (
+  indexed_purged c.args.moment c.self.inside.entries.entries c.purge_entries.new.entries.entries c.purge_entries.ensures c.self.invariant.0,
+  users_purged c.args.moment c.self.inside.entries.entries c.purge_entries.new.entries.entries c.purge_entries.ensures c.self.inside.users.0 c.self.invariant.1,
+)
+
+pub returns : goal.returns
+returns g c f =
+    get-purged_entries c.args.moment c.self.inside.entries.entries c.purge_entries.new.entries.entries c.purge_entries.ensures f
+    ∙ ap (λ l. option_map (still_entry c.args.moment) (fin.get (entries_of l.held) f)) c.self.view_is

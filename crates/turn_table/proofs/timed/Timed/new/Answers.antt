@@ -1,7 +1,0 @@
-use Rattle.std.proofs.Common.{ap, ◌∙◌}
-use Rattle.std.specs.FinMap as fin
-use Rattle.turn_table.proofs.Keyed.{from_sorted-none}
-use Rattle.turn_table.proofs.timed.Timed.new.Goals as goal
-
-pub returns : goal.returns
-returns g c = ap fin.from_sorted c.new.ensures.items ∙ from_sorted-none g.met.K.Ord.total g.met.K.Key.exact
