@@ -7,7 +7,7 @@ use std::alloc::Global;
 use turn_relay::{from_client, from_peer};
 use turn_step::{Arrival, Outgoing};
 use turn_table::Table;
-use turn_types::Moment;
+use turn_types::{FiveTuple, Moment};
 
 /// How many arrivals a commit has.
 pub const BATCH: usize = 64;
@@ -68,17 +68,27 @@ impl Measured for Stepped<'_> {
     }
 }
 
-/// The steps of an Allocate and of the Refresh that ends the allocation.
+/// The steps of an Allocate and of the Refresh that ends the allocation, both of one client.
 #[derive(Drop)]
 pub struct Released<'a> {
     pub server: &'a mut Rules,
-    pub allocate: Arrival<'a>,
-    pub release: Arrival<'a>,
+    pub five_tuple: FiveTuple,
+    pub allocate: &'a [u8],
+    pub release: &'a [u8],
 }
 
 impl Measured for Released<'_> {
     fn make(&mut self) -> bool {
-        step(self.server, &self.allocate, &[1, 3]) && step(self.server, &self.release, &[1, 4])
+        let five_tuple = self.five_tuple;
+        let allocate = Arrival::Client {
+            five_tuple,
+            bytes: self.allocate,
+        };
+        let release = Arrival::Client {
+            five_tuple,
+            bytes: self.release,
+        };
+        step(self.server, &allocate, &[1, 3]) && step(self.server, &release, &[1, 4])
     }
 }
 

@@ -51,37 +51,6 @@ pub fn key() -> [u8; 16] {
     generate_auth_key(NAME, REALM, b"wonder")
 }
 
-fn push_all(
-    builder: &mut Builder,
-    attributes: &[(AttributeType, &[u8])],
-) -> Result<(), AllocError> {
-    for (kind, value) in attributes {
-        builder.push(*kind, value).map_err(|_| AllocError)?;
-    }
-    Ok(())
-}
-
-/// A request of alice at a client, with these attributes before her credentials.
-fn request(
-    alloc: Global,
-    method: Method,
-    client: Endpoint,
-    moment: Moment,
-    attributes: &[(AttributeType, &[u8])],
-) -> Result<Vec<u8>, AllocError> {
-    let nonce = Nonces::new(SECRET).issue(client, moment);
-    let credentials = [
-        (AttributeType::USERNAME, NAME),
-        (AttributeType::REALM, REALM),
-        (AttributeType::NONCE, nonce.as_slice()),
-    ];
-    let mut builder = Builder::new(alloc, Class::Request, method, ID)?;
-    push_all(&mut builder, attributes)?;
-    push_all(&mut builder, &credentials)?;
-    append_integrity(&mut builder, &key()).map_err(|_| AllocError)?;
-    Ok(builder.finish())
-}
-
 /// An Allocate of alice or, by the method, a Refresh, for so many seconds in network byte order: 164 bytes before its
 /// MESSAGE-INTEGRITY.
 pub fn lifetime(
@@ -91,23 +60,51 @@ pub fn lifetime(
     moment: Moment,
     seconds: [u8; 4],
 ) -> Result<Vec<u8>, AllocError> {
-    let attributes: [(AttributeType, &[u8]); 2] = [
-        (AttributeType::REQUESTED_TRANSPORT, &[17, 0, 0, 0]),
-        (AttributeType::LIFETIME, seconds.as_slice()),
-    ];
-    request(alloc, method, client, moment, &attributes)
+    let nonce = Nonces::new(SECRET).issue(client, moment);
+    let mut builder = Builder::new(alloc, Class::Request, method, ID)?;
+    builder
+        .push(AttributeType::REQUESTED_TRANSPORT, &[17, 0, 0, 0])
+        .map_err(|_| AllocError)?;
+    builder
+        .push(AttributeType::LIFETIME, &seconds)
+        .map_err(|_| AllocError)?;
+    builder
+        .push(AttributeType::USERNAME, NAME)
+        .map_err(|_| AllocError)?;
+    builder
+        .push(AttributeType::REALM, REALM)
+        .map_err(|_| AllocError)?;
+    builder
+        .push(AttributeType::NONCE, &nonce)
+        .map_err(|_| AllocError)?;
+    append_integrity(&mut builder, &key()).map_err(|_| AllocError)?;
+    Ok(builder.finish())
 }
 
 /// Alice's ChannelBind at the client, of the channel to the peer.
 pub fn bind(alloc: Global, moment: Moment) -> Result<Vec<u8>, AllocError> {
-    let attributes: [(AttributeType, &[u8]); 2] = [
-        (AttributeType::CHANNEL_NUMBER, &[0x40, 0, 0, 0]),
-        (
+    let nonce = Nonces::new(SECRET).issue(CLIENT, moment);
+    let mut builder = Builder::new(alloc, Class::Request, Method::CHANNEL_BIND, ID)?;
+    builder
+        .push(AttributeType::CHANNEL_NUMBER, &[0x40, 0, 0, 0])
+        .map_err(|_| AllocError)?;
+    builder
+        .push(
             AttributeType::XOR_PEER_ADDRESS,
             &[0, 1, 0x3A, 0x4A, 0xEA, 0x12, 0xD5, 0x47],
-        ),
-    ];
-    request(alloc, Method::CHANNEL_BIND, CLIENT, moment, &attributes)
+        )
+        .map_err(|_| AllocError)?;
+    builder
+        .push(AttributeType::USERNAME, NAME)
+        .map_err(|_| AllocError)?;
+    builder
+        .push(AttributeType::REALM, REALM)
+        .map_err(|_| AllocError)?;
+    builder
+        .push(AttributeType::NONCE, &nonce)
+        .map_err(|_| AllocError)?;
+    append_integrity(&mut builder, &key()).map_err(|_| AllocError)?;
+    Ok(builder.finish())
 }
 
 /// ChannelData of the channel.

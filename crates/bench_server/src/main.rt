@@ -95,14 +95,9 @@ fn measure_allocate(
     let release = lifetime(rt.alloc(), Method::REFRESH, client, moment, [0; 4])?;
     let mut released = Released {
         server: &mut *servers.rules,
-        allocate: Arrival::Client {
-            five_tuple: five_tuple(client),
-            bytes: &allocate,
-        },
-        release: Arrival::Client {
-            five_tuple: five_tuple(client),
-            bytes: &release,
-        },
+        five_tuple: five_tuple(client),
+        allocate: &allocate,
+        release: &release,
     };
     measure(rt, "Machine::step", &mut released, servers.count, 1)?;
     Ok(())

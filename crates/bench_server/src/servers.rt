@@ -12,7 +12,7 @@ use turn_ports::PortRange;
 use turn_step::{Arrival, Machine};
 use turn_store::format;
 use turn_table::Table;
-use turn_types::{Limits, Method, Moment, ServerConfig, Settings};
+use turn_types::{FiveTuple, Limits, Method, Moment, ServerConfig, Settings};
 
 /// A server over a store in memory.
 pub type Engine = Server<MemoryDisk, Users, PortRange>;
@@ -151,6 +151,17 @@ pub fn make_rules(alloc: Global, moment: Moment, allocations: u16) -> Result<Rul
     Ok(server)
 }
 
+/// Applies an act that fits.
+fn apply(table: &mut Table, five_tuple: FiveTuple, act: Act) -> Result<(), AllocError> {
+    let moment = table.moment();
+    if !table.fits(five_tuple, &act) {
+        return Err(AllocError);
+    }
+    table.reserve_for(five_tuple, &act)?;
+    table.apply(moment, five_tuple, act);
+    Ok(())
+}
+
 /// A table of so many allocations, none of which expires while it is purged.
 pub fn make_table(alloc: Global, moment: Moment, allocations: u16) -> Result<Table, AllocError> {
     let mut table = Table::new(alloc, Limits::MAX, moment);
@@ -162,11 +173,7 @@ pub fn make_table(alloc: Global, moment: Moment, allocations: u16) -> Result<Tab
             granted: u32::MAX,
             tx: ID,
         };
-        if !table.fits(five_tuple, &act) {
-            return Err(AllocError);
-        }
-        table.reserve_for(five_tuple, &act)?;
-        table.apply(moment, five_tuple, act);
+        apply(&mut table, five_tuple, act)?;
     }
     Ok(table)
 }
