@@ -43,11 +43,14 @@ module _ (xs : List (FiveTuple × Held)) (old : Holdings) (view_is : held_in xs 
         by_test true at = same ∙ ap of (sym (ap (fin.get (held_in xs)) (same_tuple-is q f at) ∙ get-held_in xs f ∙ was))
         by_test false at = refl
 
-    pub indexed_changed : {place : FiveTuple → Option ℕ} {holder : ℕ → Option FiveTuple} → IsIndexed (fin.get (held_in xs)) place holder → k.entry.port ≡ h.entry.port → IsIndexed (fin.get (held_in ys)) place holder
+    indexed_changed : {place : FiveTuple → Option ℕ} {holder : ℕ → Option FiveTuple} → IsIndexed (fin.get (held_in xs)) place holder → k.entry.port ≡ h.entry.port → IsIndexed (fin.get (held_in ys)) place holder
     indexed_changed ok same = indexed_ports ok (fin.get (held_in ys)) (same_at port_of (ap Some same))
 
-    pub users_changed : {us : List FiveTuple} → IsByUser user_of (held_in xs) us → k.entry.user ≡ h.entry.user → IsByUser user_of (held_in ys) us
+    users_changed : {us : List FiveTuple} → IsByUser user_of (held_in xs) us → k.entry.user ≡ h.entry.user → IsByUser user_of (held_in ys) us
     users_changed {us} by same = kept user_of user_of (held_in xs) (held_in ys) us (same_at (option_map user_of) (ap Some same)) by
+
+    pub lists_changed : {place : FiveTuple → Option ℕ} {holder : ℕ → Option FiveTuple} {us : List FiveTuple} → IsIndexed (fin.get (held_in xs)) place holder × IsByUser user_of (held_in xs) us → k.entry.port ≡ h.entry.port → k.entry.user ≡ h.entry.user → IsIndexed (fin.get (held_in ys)) place holder × IsByUser user_of (held_in ys) us
+    lists_changed lists port user = (indexed_changed lists.0 port, users_changed lists.1 user)
 
     pub entries_unchanged : k.entry ≡ h.entry → entries_of (held_in ys) ≡ entries_of old
     entries_unchanged same =

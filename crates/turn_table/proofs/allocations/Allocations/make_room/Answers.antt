@@ -3,21 +3,16 @@ use Rattle.std.specs.FinMap as fin
 use Rattle.std.specs.Option.{option_copied_mut}
 use Rattle.turn_table.specs.Indexed.{held_in}
 use Rattle.turn_table.specs.Order.{room_of}
-use Rattle.turn_table.proofs.Changing.{entries_unchanged, get-changed, indexed_changed, users_changed, on_ok_both, on_ok_map, room_for_new, room_inside}
+use Rattle.turn_table.proofs.Changing.{entries_unchanged, get-changed, lists_changed, on_ok_both, on_ok_map, room_for_new, room_inside}
 use Rattle.turn_table.proofs.Held.{get-held_in}
 use Rattle.turn_table.proofs.allocations.Allocations.make_room.Goals as goal
 
 pub invariant_of-self : goal.invariant_of-self
-invariant_of-self g c = (
-  indexed_changed c.self.inside.entries.entries c.args.self.now.held (ap (λ l. l.held) c.self.view_is) c.args.room.tuple c.in-Some.entry.now c.make_room.new.entry
-      (c.get_mut.follows.lender c.make_room.new.entry).entries (sym c.get_mut.ensures.value ∙ ap option_copied_mut c.in-Some.is)
-      (λ some. ((c.get_mut.follows.holds c.make_room.new.entry).3 some).0)
-      c.self.invariant.0 (ap (λ e. e.port) c.make_room.ensures.same),
-  users_changed c.self.inside.entries.entries c.args.self.now.held (ap (λ l. l.held) c.self.view_is) c.args.room.tuple c.in-Some.entry.now c.make_room.new.entry
-      (c.get_mut.follows.lender c.make_room.new.entry).entries (sym c.get_mut.ensures.value ∙ ap option_copied_mut c.in-Some.is)
-      (λ some. ((c.get_mut.follows.holds c.make_room.new.entry).3 some).0)
-      c.self.invariant.1 (ap (λ e. e.user) c.make_room.ensures.same),
-)
+invariant_of-self g c =
+    lists_changed c.self.inside.entries.entries c.args.self.now.held (ap (λ l. l.held) c.self.view_is) c.args.room.tuple c.in-Some.entry.now c.make_room.new.entry
+    (c.get_mut.follows.lender c.make_room.new.entry).entries (sym c.get_mut.ensures.value ∙ ap option_copied_mut c.in-Some.is)
+    (λ some. ((c.get_mut.follows.holds c.make_room.new.entry).3 some).0)
+    c.self.invariant (ap (λ e. e.port) c.make_room.ensures.same) (ap (λ e. e.user) c.make_room.ensures.same)
 
 pub returns-in-Some-clause-same : goal.returns-in-Some-clause-same
 returns-in-Some-clause-same g c =

@@ -3,7 +3,7 @@ use Rattle.std.proofs.Common.{◌≤◌, length, Some}
 use Rattle.std.specs.FinMap as fin
 use Rattle.std.specs.Option.{option_copied_mut}
 use Rattle.turn_history.specs.Table.{permitting}
-use Rattle.turn_table.proofs.Changing.{changes, get-view, indexed_changed, users_changed, is_some_none, some_at, some_is}
+use Rattle.turn_table.proofs.Changing.{changes, get-view, lists_changed, is_some_none, some_at, some_is}
 use Rattle.turn_table.proofs.allocations.Allocations.permit.Goals as goal
 
 pub unreachable-requires : goal.unreachable-requires
@@ -11,16 +11,11 @@ unreachable-requires g c =
     is_some_none (some_is _ _ c.requires) (get-view c.self.inside.entries.entries c.args.self.now.held (ap (λ l. l.held) c.self.view_is) c.args.tuple None (sym c.get_mut.ensures.value ∙ ap option_copied_mut c.in-None.is))
 
 pub invariant_of-self : goal.invariant_of-self
-invariant_of-self g c = (
-  indexed_changed c.self.inside.entries.entries c.args.self.now.held (ap (λ l. l.held) c.self.view_is) c.args.tuple c.in-Some.entry.now c.permit.new.entry
-      (c.get_mut.follows.lender c.permit.new.entry).entries (sym c.get_mut.ensures.value ∙ ap option_copied_mut c.in-Some.is)
-      (λ some. ((c.get_mut.follows.holds c.permit.new.entry).3 some).0)
-      c.self.invariant.0 (ap (λ e. e.port) c.permit.ensures),
-  users_changed c.self.inside.entries.entries c.args.self.now.held (ap (λ l. l.held) c.self.view_is) c.args.tuple c.in-Some.entry.now c.permit.new.entry
-      (c.get_mut.follows.lender c.permit.new.entry).entries (sym c.get_mut.ensures.value ∙ ap option_copied_mut c.in-Some.is)
-      (λ some. ((c.get_mut.follows.holds c.permit.new.entry).3 some).0)
-      c.self.invariant.1 (ap (λ e. e.user) c.permit.ensures),
-)
+invariant_of-self g c =
+    lists_changed c.self.inside.entries.entries c.args.self.now.held (ap (λ l. l.held) c.self.view_is) c.args.tuple c.in-Some.entry.now c.permit.new.entry
+    (c.get_mut.follows.lender c.permit.new.entry).entries (sym c.get_mut.ensures.value ∙ ap option_copied_mut c.in-Some.is)
+    (λ some. ((c.get_mut.follows.holds c.permit.new.entry).3 some).0)
+    c.self.invariant (ap (λ e. e.port) c.permit.ensures) (ap (λ e. e.user) c.permit.ensures)
 
 pub returns : goal.returns
 returns g c =
