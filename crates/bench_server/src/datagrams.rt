@@ -1,10 +1,11 @@
 //! What arrives: the datagrams of the clients, and their addresses.
 
 use std::alloc::{AllocError, Global};
-use turn_codec::{AttributeType, Builder, ChannelData};
+use turn_codec::ChannelData;
 use turn_cred::Nonces;
-use turn_mac::{append_integrity, generate_auth_key};
-use turn_types::{Class, Endpoint, FiveTuple, Method, Moment, TxId};
+use turn_mac::generate_auth_key;
+use turn_requests::{Attribute, Request, build_request};
+use turn_types::{Endpoint, FiveTuple, Method, Moment, TxId};
 
 /// The client whose datagrams are measured.
 pub const CLIENT: Endpoint = Endpoint {
@@ -51,60 +52,41 @@ pub fn key() -> [u8; 16] {
     generate_auth_key(NAME, REALM, b"wonder")
 }
 
-/// An Allocate of alice or, by the method, a Refresh, for so many seconds in network byte order: 164 bytes before its
-/// MESSAGE-INTEGRITY.
+/// A request of alice at a client, with a nonce of a moment.
+fn request(
+    alloc: Global,
+    method: Method,
+    client: Endpoint,
+    moment: Moment,
+    attributes: &[Attribute],
+) -> Result<Vec<u8>, AllocError> {
+    let nonce = Nonces::new(SECRET).issue(client, moment);
+    let request = Request {
+        method,
+        tx: ID,
+        attributes,
+        user: NAME,
+        realm: REALM,
+    };
+    build_request(alloc, &request, &key(), &nonce).map_err(|_| AllocError)
+}
+
+/// An Allocate of alice or, by the method, a Refresh, for so many seconds: 164 bytes before its MESSAGE-INTEGRITY.
 pub fn lifetime(
     alloc: Global,
     method: Method,
     client: Endpoint,
     moment: Moment,
-    seconds: [u8; 4],
+    seconds: u32,
 ) -> Result<Vec<u8>, AllocError> {
-    let nonce = Nonces::new(SECRET).issue(client, moment);
-    let mut builder = Builder::new(alloc, Class::Request, method, ID)?;
-    builder
-        .push(AttributeType::REQUESTED_TRANSPORT, &[17, 0, 0, 0])
-        .map_err(|_| AllocError)?;
-    builder
-        .push(AttributeType::LIFETIME, &seconds)
-        .map_err(|_| AllocError)?;
-    builder
-        .push(AttributeType::USERNAME, NAME)
-        .map_err(|_| AllocError)?;
-    builder
-        .push(AttributeType::REALM, REALM)
-        .map_err(|_| AllocError)?;
-    builder
-        .push(AttributeType::NONCE, &nonce)
-        .map_err(|_| AllocError)?;
-    append_integrity(&mut builder, &key()).map_err(|_| AllocError)?;
-    Ok(builder.finish())
+    let attributes = [Attribute::Transport(17), Attribute::Lifetime(seconds)];
+    request(alloc, method, client, moment, &attributes)
 }
 
 /// Alice's ChannelBind at the client, of the channel to the peer.
 pub fn bind(alloc: Global, moment: Moment) -> Result<Vec<u8>, AllocError> {
-    let nonce = Nonces::new(SECRET).issue(CLIENT, moment);
-    let mut builder = Builder::new(alloc, Class::Request, Method::CHANNEL_BIND, ID)?;
-    builder
-        .push(AttributeType::CHANNEL_NUMBER, &[0x40, 0, 0, 0])
-        .map_err(|_| AllocError)?;
-    builder
-        .push(
-            AttributeType::XOR_PEER_ADDRESS,
-            &[0, 1, 0x3A, 0x4A, 0xEA, 0x12, 0xD5, 0x47],
-        )
-        .map_err(|_| AllocError)?;
-    builder
-        .push(AttributeType::USERNAME, NAME)
-        .map_err(|_| AllocError)?;
-    builder
-        .push(AttributeType::REALM, REALM)
-        .map_err(|_| AllocError)?;
-    builder
-        .push(AttributeType::NONCE, &nonce)
-        .map_err(|_| AllocError)?;
-    append_integrity(&mut builder, &key()).map_err(|_| AllocError)?;
-    Ok(builder.finish())
+    let attributes = [Attribute::Channel(CHANNEL), Attribute::Peer(PEER)];
+    request(alloc, Method::CHANNEL_BIND, CLIENT, moment, &attributes)
 }
 
 /// ChannelData of the channel.

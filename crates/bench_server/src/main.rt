@@ -19,8 +19,8 @@ use turn_types::{Method, Moment};
 /// Rounds of which the best counts.
 const ROUNDS: usize = 5;
 
-/// 3,600 seconds, as an attribute has them.
-const HOUR: [u8; 4] = [0, 0, 14, 16];
+/// An hour, in seconds.
+const HOUR: u32 = 3600;
 
 /// Prints and returns the nanoseconds of an arrival, of which each call has so many.
 fn measure<M: Measured>(
@@ -92,7 +92,7 @@ fn measure_allocate(
     println!(rt; "an Allocate, and the Refresh that ends it")?;
     let client = client_at(1023);
     let allocate = lifetime(rt.alloc(), Method::ALLOCATE, client, moment, HOUR)?;
-    let release = lifetime(rt.alloc(), Method::REFRESH, client, moment, [0; 4])?;
+    let release = lifetime(rt.alloc(), Method::REFRESH, client, moment, 0)?;
     let mut released = Released {
         server: &mut *servers.rules,
         five_tuple: five_tuple(client),

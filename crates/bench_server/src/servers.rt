@@ -102,7 +102,7 @@ fn fill<T: Takes>(
 ) -> Result<(), AllocError> {
     for place in 0..allocations {
         let client = client_at(place);
-        let bytes = lifetime(alloc, Method::ALLOCATE, client, moment, [0, 0, 14, 16])?;
+        let bytes = lifetime(alloc, Method::ALLOCATE, client, moment, 3600)?;
         let arrival = Arrival::Client {
             five_tuple: five_tuple(client),
             bytes: &bytes,
