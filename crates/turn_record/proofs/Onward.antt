@@ -1,5 +1,5 @@
 -- What a step of a reader in pieces keeps.
-use Rattle.std.proofs.Common.{◌≡◌, ◌⊎◌, ℕ, zero, suc, ◌+◌, ◌-◌, ◌<◌, ◌≤◌, true, false, eqb, List, [], ◌∷◌, ◌++◌, length, Option, Some, None, Result, Ok, Err, refl, sym, ap, subst, ◌∙◌, arith, inl, inr}
+use Rattle.std.proofs.Common.{◌≡◌, ◌⊎◌, ℕ, zero, suc, ◌+◌, ◌-◌, ◌<◌, ◌≤◌, true, false, eqb, List, [], ◌∷◌, ◌++◌, append_assoc, length, Option, Some, None, Result, Ok, Err, refl, sym, ap, subst, ◌∙◌, arith, inl, inr}
 use Rattle.std.proofs.lemmas.Bool.{eqb-false, eqb-true, leb-true, ne_eqb}
 use Rattle.std.proofs.lemmas.List.{append-nil, length-append, nil_from_length}
 use Rattle.turn_record.specs.declared.fault.Malformed.{Malformed}
@@ -150,6 +150,33 @@ pub expected_end : (b : Bounds) (r : Option ReadError) (place : Option Place) (h
 expected_end b r place held fed is at =
     let now = subst (λ (q : Option ReadError). Expects b q place held fed) is at in
     (ap (snapshot_in b) (sym (append-nil fed)) ∙ now.0 [] ∙ ap (gives b place) (append-nil held), now.1)
+
+-- one piece more was fed
+pub refused_still : (b : Bounds) (r : Option ReadError) (e : ReadError) (place : Option Place) (held fed piece : List ℕ) → r ≡ Some e → Expects b r place held fed → Expects b r place held (fed ++ piece)
+refused_still b r e place held fed piece is at =
+    let was = subst (λ (q : Option ReadError). Expects b q place held fed) is at in
+    subst (λ (q : Option ReadError). Expects b q place held (fed ++ piece)) (sym is) (λ more. subst (λ (u : List ℕ). Fails e (snapshot_in b u)) (sym (append_assoc fed piece more)) (was (piece ++ more)))
+
+pub fed_more : (b l : Bounds) (r : Option ReadError) (place next : Option Place) (held after fed piece : List ℕ) → l ≡ b → r ≡ None → Expects b r place held fed
+    → ((more : List ℕ) → gives l place (held ++ (piece ++ more)) ≡ gives l next (after ++ more)) → IsWaiting l next after → Expects b r next after (fed ++ piece)
+fed_more b l r place next held after fed piece same none at goes waits =
+    let was = subst (λ (q : Option ReadError). Expects b q place held fed) none at in
+    subst (λ (q : Option ReadError). Expects b q next after (fed ++ piece)) (sym none) (
+      λ more. ap (snapshot_in b) (append_assoc fed piece more) ∙ was.0 (piece ++ more) ∙ subst (λ (m : Bounds). gives m place (held ++ (piece ++ more)) ≡ gives m next (after ++ more)) same (goes more),
+      subst (λ (m : Bounds). IsWaiting m next after) same waits,
+    )
+
+pub refused_now : (b l : Bounds) (r : Option ReadError) (e : ReadError) (place next : Option Place) (held after fed piece : List ℕ) → l ≡ b → r ≡ None → Expects b r place held fed
+    → ((more : List ℕ) → Fails e (gives l place (held ++ (piece ++ more)))) → Expects b (Some e) next after (fed ++ piece)
+refused_now b l r e place next held after fed piece same none at fails = λ more.
+    let was = subst (λ (q : Option ReadError). Expects b q place held fed) none at in
+    fails_same e _ _ (ap (snapshot_in b) (append_assoc fed piece more) ∙ was.0 (piece ++ more)) (subst (λ (m : Bounds). Fails e (gives m place (held ++ (piece ++ more)))) same (fails more))
+
+pub still_under : (b l : Bounds) (place taken next : Option Place) → l ≡ b → taken ≡ place → IfSome place (λ p. p.0.bounds ≡ b) → (IfSome taken (λ p. p.0.bounds ≡ l) → IfSome next (λ p. p.0.bounds ≡ l)) → IfSome next (λ p. p.0.bounds ≡ b)
+still_under b l place taken next same is under keeps =
+    let place_under = subst (λ (m : Bounds). IfSome place (λ p. p.0.bounds ≡ m)) (sym same) under in
+    let taken_under = subst (λ (o : Option Place). IfSome o (λ p. p.0.bounds ≡ l)) (sym is) place_under in
+    subst (λ (m : Bounds). IfSome next (λ p. p.0.bounds ≡ m)) same (keeps taken_under)
 
 pub less_last : {A : Type 0} (order : A → Ordering) (o : Option A) → passes (λ x. is_lt (order x)) o ≡ true → IfSome o (λ x. order x ≡ Less)
 less_last order None h = tt

@@ -11,6 +11,7 @@ use Rattle.turn_history.specs.declared.event.Event as accepted
 use Rattle.turn_record.specs.Views.{events_of}
 use Rattle.turn_record.proofs.Last.{length-map}
 use Rattle.turn_record.specs.Records.{IsBatch, max_act, max_payload}
+use Rattle.turn_types.specs.Limits.{AreInRange}
 use Rattle.turn_types.specs.declared.limits.Bounds.{Bounds}
 
 pub size_each : {A : Type 0} (s : A → List ℕ) (k : ℕ) → ((x : A) → length (s x) ≡ k) → (xs : List A) → length (each s xs) ≡ k * length xs
@@ -38,6 +39,13 @@ pub acts_at_most : {A : Type 0} (b : Bounds) (es : List (accepted.Event A)) → 
 acts_at_most b es h =
     let size = each_at_most act_entry (IsInRange b) (max_act b) (act_at_most b) (events_of es) h.in_range in
     rw (length-map event_of es) at size
+
+-- a batch has few events, so the size of its payload fits
+pub batch_at_most : {A : Type 0} (b : Bounds) → AreInRange b → (es : List (accepted.Event A)) → IsBatch b (events_of es) → length es ≤ 64
+batch_at_most b range es h = omega (arith, length-map event_of es, h.few, range.acts.1)
+
+pub product_at_most : (n m : ℕ) → n ≤ 64 → m ≤ 549 → n * m ≤ 35136
+product_at_most n m few small = omega (arith, mul-le-mul_right m few, small)
 
 pub payload_at_most : (b : Bounds) (es : List Event) → IsBatch b es → length (payload es) ≤ max_payload b
 payload_at_most b es h =
