@@ -1,6 +1,6 @@
 //! Searches of lists.
 
-ghost use Rattle.std.specs.Prelude.{◌≡◌, ◌<◌, ◌≤◌, true, is_some, MatchResult, IfSome, length, nat_le, ◌==◌};
+ghost use Rattle.std.specs.Prelude.{◌≡◌, ℕ, ◌+◌, ◌^◌, ◌<◌, ◌≤◌, true, is_some, MatchResult, IfSome, Some, option_map, slice_get, length, nat_le, ◌==◌};
 ghost use Rattle.std.specs.List.{AllByRecursion, position_from};
 ghost use Rattle.std.specs.FinMap as fin;
 ghost use Rattle.std.specs.Ordering.{nat_cmp};
@@ -24,17 +24,43 @@ pub(crate) fn place_of<K: Key, V>(items: &[(K, V)], key: &K) -> Result<usize, us
     items.binary_search_by(|slot| slot.0.cmp(key))
 }
 
+/// How many ports at the front of ports that rise are a first one and those that follow it.
+fn run_from<V>(ports: &[(u16, V)], first: u16) -> usize
+    requires { fin.is_sorted nat_cmp ports.now ≡ true }
+    ensures run { (i : ℕ) → i < result → option_map (λ s. s.0) (slice_get ports.now i) ≡ Some (first + i) }
+    ensures within { result ≤ length ports.now }
+    ensures fits { first + result ≤ 2 ^ 16 }
+{
+    if ports.is_empty() || ports[0].0 != first {
+        return 0;
+    }
+    let mut low = 0;
+    let mut high = ports.len();
+    while low < high {
+        let middle = low + (high - low) / 2;
+        let port = ports[middle].0;
+        if first <= port && usize::from(port - first) == middle {
+            low = middle + 1;
+        } else {
+            high = middle;
+        }
+    }
+    low
+}
+
 /// The lowest port from a first to a last that is not among ports that rise, and an even one where `even` asks for it.
 pub(crate) fn lowest_free<V>(ports: &[(u16, V)], first: u16, last: u16, even: bool) -> Option<u16>
     requires { fin.is_sorted nat_cmp ports.now ≡ true }
     ensures { IsLowestFree (first, last) (λ port. is_some (fin.get (fin.from_sorted {R = nat_cmp} ports.now) port)) even result }
 {
     let step = if even { 2 } else { 1 };
-    let mut lowest = u32::from(first);
+    let run = if even { 0 } else { run_from(ports, first) };
+    let mut lowest = u32::from(first) + run as u32;
     if even {
         lowest += lowest % 2;
     }
-    for slot in ports {
+    let left = &ports[run..];
+    for slot in left {
         let port = u32::from(slot.0);
         if lowest < port {
             break;
