@@ -1,20 +1,21 @@
 -- Machines after histories.
-use Rattle.std.proofs.Common.{◌≡◌, ◌≤◌, ◌++◌, ◌∷◌, [], ℕ, Option, Some, None, Result, Ok, Err, refl, sym, ap, subst, ◌∙◌, inl, inr, arith}
+use Rattle.std.proofs.Common.{◌≡◌, ◌≤◌, ◌<◌, ◌-◌, ◌^◌, ◌++◌, ◌∷◌, [], ℕ, Option, option_map, Some, None, Result, Ok, Err, refl, sym, ap, subst, ◌∙◌, inl, inr, arith}
 use Rattle.std.proofs.Math.Nat.{eq-or-lt_of_le}
 use Rattle.std.specs.Prelude.{IfOk, IfSome}
 use Rattle.turn_types.specs.Config.{Config}
 use Rattle.turn_types.specs.declared.limits.Bounds.{Bounds}
-use Rattle.turn_history.specs.Fitting.{Fits, Follows, IsFitting}
-use Rattle.turn_history.specs.History.{History, clock}
+use Rattle.turn_history.specs.Fitting.{Fits, Follows, IsActInRange, IsFitting, IsTuple}
+use Rattle.turn_history.specs.History.{History, PlainAct, clock}
 use Rattle.turn_history.specs.Table.{purged, table}
 use Rattle.turn_history.proofs.Histories.{clock-push, fitting-join}
 use Rattle.turn_history.proofs.Steps.{table-later}
 use Rattle.turn_cred.specs.Credential.{Keys}
 use Rattle.turn_ports.specs.Ports.{has_failed}
 use Rattle.turn_table.specs.State.{State}
-use Rattle.turn_table.specs.Table.{Agrees}
+use Rattle.turn_table.specs.Table.{Agrees, room_for}
+use Rattle.turn_types.specs.declared.address.FiveTuple.{FiveTuple}
 use Rattle.turn_step.specs.Answer.{AnswersArrival, Setting}
-use Rattle.turn_step.specs.Outcome.{Arrives, Change, Outcome, added, event_at}
+use Rattle.turn_step.specs.Outcome.{Arrives, Change, Outcome, added, change_of, event_at}
 use Rattle.turn_step.specs.State.{IsAfter, IsPurged, IsReady, IsSameTable, MachineState, MayBeNext, setting_of}
 
 -- ---- A later moment
@@ -92,3 +93,14 @@ answers_along s z h t x y n a b r same_s same_x same_a answers =
     subst (λ w. IfOk r (AnswersArrival w h t (has_failed y n) b)) same_s
     (subst (λ k. IfOk r (AnswersArrival s h t (has_failed k n) b)) same_x
     (subst (λ v. IfOk r (AnswersArrival s h t (has_failed x n) v)) same_a answers))
+
+-- a change for which a table was made ready
+pub may_be_next : (b : Bounds) (s new : State) (f : FiveTuple) (act : Option PlainAct) → s.bounds ≡ b → s.moment < 2 ^ 40 - 3600 → IfSome act (Fits s.bounds s.contents f) → IfSome act (IsActInRange b) → ((a : PlainAct) → act ≡ Some a → (new ≡ record s { room = Some (room_for f a) }) × IsTuple f) → IfSome (option_map (change_of f) act) (MayBeNext new)
+may_be_next b s new f None bounds moment fits in_range made = tt
+may_be_next b s new f (Some a) bounds moment fits in_range made =
+    subst (λ x. MayBeNext x (change_of f a)) (sym (made a refl).0)
+    (record {
+      room = refl;
+      fits = fits;
+      in_range = record { moment = moment; tuple = (made a refl).1; act = subst (λ x. IsActInRange x a) (sym bounds) in_range };
+    })

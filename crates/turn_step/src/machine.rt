@@ -262,7 +262,8 @@ impl<H: AuthHandler, G: RelayAddressGenerator, A: Allocator + Copy> Machine<H, G
         ensures count { G.failures self.new.ports ≡ G.failures self.old.ports }
     {
         let (act, outgoing) = step.into_parts();
-        if let Some((five_tuple, act)) = act {
+        if let Some(change) = act {
+            let (five_tuple, act) = Box::into_inner(change);
             let moment = self.table.moment();
             let freed = self.table.apply(moment, five_tuple, act);
             release(&mut self.ports, freed);
@@ -278,8 +279,10 @@ impl<H: AuthHandler, G: RelayAddressGenerator, A: Allocator + Copy> Machine<H, G
         ensures count { G.failures self.new.ports ≡ G.failures self.old.ports }
     {
         let (act, _) = step.into_parts();
-        if let Some((_, Act::Alloc { port, .. })) = act {
-            self.ports.release(port);
+        if let Some(change) = act {
+            if let (_, Act::Alloc { port, .. }) = Box::into_inner(change) {
+                self.ports.release(port);
+            }
         }
     }
 

@@ -9,8 +9,9 @@ ghost use Rattle.turn_cred.specs.Found.{verdict_of};
 ghost use Rattle.turn_ports.specs.Ports.{Failed, has_failed};
 ghost use Rattle.turn_rules.specs.Answer.{Decided, MayAnswer, MayHavePicked, decision, judgement, port_needed};
 ghost use Rattle.turn_rules.specs.Decided.{decided_of, verdict_in};
-ghost use Rattle.turn_step.specs.Outcome.{decided_for};
+ghost use Rattle.turn_step.specs.Outcome.{Sent, decided_for};
 ghost use Rattle.turn_step.specs.State.{MayBeNext};
+ghost use Rattle.turn_step.specs.Views.{sent_of};
 ghost use Rattle.turn_table.specs.Table.{Agrees};
 
 use crate::arrival::Outgoing;
@@ -63,20 +64,15 @@ pub(crate) fn pick<G: RelayAddressGenerator, A: Allocator + Copy>(
     }
 }
 
-/// A reply to a client, and an act on its allocation.
-fn step_of<A: Allocator>(five_tuple: FiveTuple, decision: Decision<A>) -> Step<A>
-    ensures { result ≡ decided_for five_tuple (decided_of decision) }
+/// A reply to a client. The clause `range` is what the five-tuple's type says of it.
+fn reply_to<A: Allocator>(five_tuple: FiveTuple, reply: Option<Vec<u8, A>>) -> Option<Outgoing<A>>
+    ensures sent { option_map sent_of result ≡ option_map (Sent.ToClient five_tuple) (option_map (λ b. b.items) reply) }
+    ensures range { IsTuple five_tuple }
 {
-    let Decision { reply, act } = decision;
-    let outgoing = match reply {
+    match reply {
         Some(bytes) => Some(Outgoing::ToClient { five_tuple, bytes }),
         None => None,
-    };
-    let act = match act {
-        Some(act) => Some((five_tuple, act)),
-        None => None,
-    };
-    Step::new(act, outgoing)
+    }
 }
 
 /// The step of a request, with room in the table for its act.
@@ -101,8 +97,13 @@ pub(crate) fn settle<A: Allocator + Copy>(
 {
     let _ = moment.seconds();
     let decision = decide(alloc, table, config, request, moment, port)?;
-    if let Some(act) = &decision.act {
-        table.reserve_for(request.five_tuple, act)?;
-    }
-    Ok(step_of(request.five_tuple, decision))
+    let Decision { reply, act } = decision;
+    let act = match act {
+        Some(act) => {
+            table.reserve_for(request.five_tuple, &act)?;
+            Some(Box::new(alloc, (request.five_tuple, act))?)
+        }
+        None => None,
+    };
+    Ok(Step::new(act, reply_to(request.five_tuple, reply)))
 }

@@ -14,7 +14,8 @@ use turn_types::FiveTuple;
 /// What is to be done about an arrival: at most one act, and at most one datagram to be sent. It holds the port that
 /// was picked for its act, so it can't be dropped: `Machine::apply` and `Machine::abandon` take it.
 pub struct Step<A: Allocator = Global> {
-    act: Option<(FiveTuple, Act<A>)>,
+    // In a box: relayed data has no act, and its step is moved often.
+    act: Option<Box<(FiveTuple, Act<A>), A>>,
     outgoing: Option<Outgoing<A>>,
 }
 
@@ -27,24 +28,27 @@ impl<A: Allocator> Model for Step<A> {
     ghost Value = { Outcome };
 
     ghost view = { λ s. record {
-      change = option_map (λ p. change_of p.0 (act_of p.1)) s.act;
+      change = option_map (λ b. change_of b.value.0 (act_of b.value.1)) s.act;
       sent = option_map sent_of s.outgoing;
     } };
 }
 
 impl<A: Allocator> Step<A> {
-    pub(crate) fn new(act: Option<(FiveTuple, Act<A>)>, outgoing: Option<Outgoing<A>>) -> Step<A>
+    pub(crate) fn new(
+        act: Option<Box<(FiveTuple, Act<A>), A>>,
+        outgoing: Option<Outgoing<A>>,
+    ) -> Step<A>
         ensures { result ≡ record {
-          change = option_map (λ p. change_of p.0 (act_of p.1)) act;
+          change = option_map (λ b. change_of b.value.0 (act_of b.value.1)) act;
           sent = option_map sent_of outgoing;
         } }
     {
         Step { act, outgoing }
     }
 
-    pub(crate) fn into_parts(self) -> (Option<(FiveTuple, Act<A>)>, Option<Outgoing<A>>)
+    pub(crate) fn into_parts(self) -> (Option<Box<(FiveTuple, Act<A>), A>>, Option<Outgoing<A>>)
         ensures { self ≡ record {
-          change = option_map (λ p. change_of p.0 (act_of p.1)) result.0;
+          change = option_map (λ b. change_of b.value.0 (act_of b.value.1)) result.0;
           sent = option_map sent_of result.1;
         } }
     {
@@ -57,7 +61,7 @@ impl<A: Allocator> Step<A> {
         ensures { option_map (λ p. change_of p.0 (act_of p.1.now)) result ≡ self.now.change }
     {
         match &self.act {
-            Some((five_tuple, act)) => Some((*five_tuple, act)),
+            Some(change) => Some((change.0, &change.1)),
             None => None,
         }
     }

@@ -1,5 +1,47 @@
+use Rattle.std.proofs.Common.{◌≡◌, arith, IfSome, Some, None, option_map, subst, sym, ap, ◌∙◌}
+use Rattle.std.proofs.lemmas.Option.{same_Some}
+use Rattle.turn_history.specs.Act.{act_of}
+use Rattle.turn_history.specs.Fitting.{IsActInRange, IsTuple}
+use Rattle.turn_history.specs.History.{PlainAct}
 use Rattle.turn_rules.specs.Decided.{decided_of}
+use Rattle.turn_table.specs.Table.{room_for}
+use Rattle.turn_step.specs.Outcome.{change_of, decided_for}
+use Rattle.turn_step.specs.State.{MayBeNext}
+use Rattle.turn_step.specs.Views.{sent_of}
+use Rattle.turn_step.proofs.Machines.{may_be_next}
+use Rattle.turn_step.proofs.request.settle.Given.{Over}
 use Rattle.turn_step.proofs.request.settle.Goals as goal
+use Rattle.turn_step.proofs.request.settle.Goals.{in-Some+in_ok-reserve_for-in-Some+in_ok-new-in-Some, in-None}
+
+step_is : (g : Over) (c : goal.After-new-2 g) → c.new-2.result ≡ decided_for c.args.request.now.five_tuple (decided_of c.in_ok-decision.decision)
+step_is g c =
+    let f = c.args.request.now.five_tuple in
+    let d = c.in_ok-decision.decision in
+    let change_is : option_map (λ b. change_of b.value.0 (act_of b.value.1)) c.match-act.act ≡ option_map (change_of f) (option_map act_of d.act) = elim c.match-act.branch [
+      | in-Some+in_ok-reserve_for-in-Some+in_ok-new-in-Some w ↦
+          ap (option_map (λ b. change_of b.value.0 (act_of b.value.1))) w.act-is
+          ∙ ap (λ p. Some (change_of p.0 (act_of p.1))) w.in_ok-new-in-Some.ensures.ok
+          ∙ ap (λ a. option_map (change_of f) (option_map act_of a)) (sym w.in-Some.is)
+      | in-None w ↦ ap (option_map (λ b. change_of b.value.0 (act_of b.value.1))) w.act-is ∙ ap (λ a. option_map (change_of f) (option_map act_of a)) (sym w.in-None.is)
+    ] in
+    c.new-2.ensures ∙ ap (λ x. record { change = x; sent = option_map sent_of c.reply_to.result }) change_is
+    ∙ ap (λ x. record { change = option_map (change_of f) (option_map act_of d.act); sent = x }) c.reply_to.ensures.sent
 
 pub returns-clause-answers : goal.returns-clause-answers
-returns-clause-answers g c = λ h range failed agrees picked. (decided_of c.in_ok-decision.decision, c.in_ok-decision.ensures.answers h range failed agrees picked, c.step_of.ensures)
+returns-clause-answers g c = λ h range failed agrees picked. (decided_of c.in_ok-decision.decision, c.in_ok-decision.ensures.answers h range failed agrees picked, step_is g c)
+
+pub returns-clause-ready : goal.returns-clause-ready
+returns-clause-ready g c = λ bounds free in_range.
+    let d = c.in_ok-decision.decision in
+    let act_in_range : IfSome (decided_of d).act (IsActInRange c.args.config.now.limits) = subst (λ x. IfSome x.act (IsActInRange c.args.config.now.limits)) (sym c.in_ok-decision.ensures.value) in_range in
+    let fits = c.in_ok-decision.ensures.fits bounds free in
+    let made : (a : PlainAct) → option_map act_of d.act ≡ Some a → (c.match-act.table ≡ record c.args.table.now { room = Some (room_for c.args.request.now.five_tuple a) }) × IsTuple c.args.request.now.five_tuple = elim c.match-act.branch [
+      | in-Some+in_ok-reserve_for-in-Some+in_ok-new-in-Some w ↦ λ a is.
+          let same : Some (act_of w.in-Some.act) ≡ Some a = ap (option_map act_of) (sym w.in-Some.is) ∙ is in
+          (w.table-is ∙ w.in_ok-reserve_for-in-Some.ensures.ok ∙ ap (λ x. record c.args.table.now { room = Some (room_for c.args.request.now.five_tuple x) }) (same_Some (act_of w.in-Some.act) a same), c.reply_to.ensures.range)
+      | in-None w ↦ λ a is.
+          let none : None ≡ Some a = ap (option_map act_of) (sym w.in-None.is) ∙ is in
+          absurd cc
+    ] in
+    subst (λ s. IfSome s.change (MayBeNext c.match-act.table)) (sym (step_is g c))
+    (may_be_next c.args.config.now.limits c.args.table.now c.match-act.table c.args.request.now.five_tuple (decided_of d).act bounds (omega (arith, c.seconds.ensures.range)) fits act_in_range made)
