@@ -51,7 +51,7 @@ fn users(alloc: Global) -> Result<Users, AllocError> {
 }
 
 fn ports() -> Result<PortRange, AllocError> {
-    PortRange::new(PORT, PORT + 1023).ok_or(AllocError)
+    PortRange::new(PORT, PORT + 1999).ok_or(AllocError)
 }
 
 /// A disk with an empty store, and with room for the record of so many commits.
