@@ -62,7 +62,8 @@ impl<'a, R: Net, A: Allocator> Drop for SocketPorts<'a, R, A> {
     }
 }
 
-/// The port of a range at which the search begins, by the server's secret: it can't be told from outside (RFC 6056).
+/// The port of a range at which the search begins, drawn from the server's secret. The search goes on after the port that was
+/// picked last, so who sees one port can guess the next; RFC 6056 asks for ports that are harder to guess.
 pub fn first_port(secret: &[u8; 32], ports: PortRange) -> u16
     ensures { (ports.0 ≤ result) × (result ≤ ports.1) }
 {
