@@ -4,6 +4,7 @@ mod examples;
 mod expects;
 mod memory;
 mod messages;
+mod players;
 mod rounds;
 mod settings;
 

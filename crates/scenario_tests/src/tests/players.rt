@@ -1,0 +1,93 @@
+//! Each growth of a player's steps refused in turn.
+
+use super::SETTINGS;
+use refusing::Refusing;
+use std::alloc::Global;
+use std::test::Fail;
+use turn_config::{Configured, read_config};
+use turn_disk::{MemoryDisk, Outcome};
+use turn_player::{Event, Player, Step};
+
+/// Five events, one more than the list's first growth has room for.
+const STEPS: [Step<'static>; 5] = [
+    Step::Reopen,
+    Step::Commit,
+    Step::Crash(Outcome::Kept),
+    Step::Commit,
+    Step::Reopen,
+];
+
+type Refused<'a> = Player<&'a Refusing<Global>>;
+
+/// A player over an empty store.
+fn player(refusing: &Refusing<Global>) -> Result<Refused<'_>, Fail> {
+    let Ok(configured) = read_config(refusing, SETTINGS.as_bytes()) else {
+        return Err(Fail::new("no configuration"));
+    };
+    let Configured {
+        config,
+        users,
+        ports,
+        ..
+    } = configured;
+    let mut disk = MemoryDisk::new(refusing, Vec::from_elem(refusing, 0u8, 540)?);
+    if turn_store::format(&mut disk, config.limits(), 238).is_err() {
+        return Err(Fail::new("no store"));
+    }
+    Ok(Player::new(refusing, disk, config, users, ports))
+}
+
+/// Whether no later call succeeds, and there is no server.
+fn is_spent(player: &mut Refused<'_>) -> bool {
+    player.run(&[]).is_err()
+        && player.run(&[Step::Reopen]).is_err()
+        && matches!(player.server(), Err(Event::Closed))
+}
+
+/// What came of the steps.
+#[derive(Clone, Copy, PartialEq, Eq)]
+enum Ran {
+    /// No growth was refused.
+    Whole,
+    /// A growth was refused, which an event may tell.
+    Told,
+    /// A growth of the list of events was refused.
+    Spent,
+}
+
+/// Runs the steps with the growth after so many refused.
+fn run_refused(refusing: &Refusing<Global>, served: u64) -> Result<Ran, Fail> {
+    let mut player = player(refusing)?;
+    refusing.arm(served);
+    let was_run = player.run(&STEPS).is_ok();
+    let was_refused = refusing.has_refused();
+    refusing.arm(u64::MAX);
+    match (was_run, was_refused) {
+        (true, false) => Ok(Ran::Whole),
+        (true, true) => Ok(Ran::Told),
+        (false, true) if is_spent(&mut player) => Ok(Ran::Spent),
+        _ => Err(Fail::new(served)),
+    }
+}
+
+/// How many growths of the list of events are refused, one after the other among all growths.
+fn spent_runs(alloc: Global) -> Result<u32, Fail> {
+    let refusing = Refusing::new(alloc, u64::MAX);
+    let mut spent = 0u32;
+    for served in 0..200u64 {
+        match run_refused(&refusing, served)? {
+            Ran::Whole => return Ok(spent),
+            Ran::Told => {}
+            Ran::Spent => spent = spent.wrapping_add(1),
+        }
+    }
+    Err(Fail::new("some growth is always refused"))
+}
+
+#[test]
+fn a_run_that_lacks_memory_leaves_no_server_for_good(rt: HostRuntime) -> Result<(), Fail> {
+    if spent_runs(rt.alloc())? < 2 {
+        return Err(Fail::new("few growths"));
+    }
+    Ok(())
+}
