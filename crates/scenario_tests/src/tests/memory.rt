@@ -27,28 +27,50 @@ fn are_same<A: Allocator, B: Allocator>(report: &Report<A>, other: &Report<B>) -
         && pairs.all(|(line, same)| line.as_str() == same.as_str())
 }
 
-/// Whether a report says that an allocation failed: in an arrival or an opening, or in the disk's record.
-fn says_so<A: Allocator>(report: &Report<A>) -> bool {
-    report.lines.iter().any(|line| line.as_str() == "memory" || line.as_str() == "device")
+/// Which lines of reports said that an allocation failed.
+#[derive(Clone, Copy)]
+struct Told {
+    /// In an arrival or an opening.
+    memory: bool,
+    /// In the disk's record.
+    device: bool,
+}
+
+fn has_line<A: Allocator>(report: &Report<A>, text: &str) -> bool {
+    report.lines.iter().any(|line| line.as_str() == text)
+}
+
+/// Whether a report is the whole one, or says that an allocation failed where one was refused. A failure that isn't told, in
+/// what is remembered of a user, leaves the report as it is without one.
+fn is_right<A: Allocator>(
+    report: &Report<A>,
+    whole: &Report,
+    was_refused: bool,
+    told: &mut Told,
+) -> bool {
+    let (memory, device) = (has_line(report, "memory"), has_line(report, "device"));
+    told.memory = told.memory || memory;
+    told.device = told.device || device;
+    if memory || device {
+        was_refused
+    } else {
+        are_same(report, whole)
+    }
 }
 
 /// Replays with one growth refused after so many. Returns whether none was refused. Any other outcome than an allocation
-/// failure fails. A failure that isn't told, in what is remembered of a user, leaves the report as it is without one.
+/// failure fails.
 fn replay_succeeds(
     alloc: Global,
     scenario: &[u8],
     whole: &Report,
     served: u64,
+    told: &mut Told,
 ) -> Result<bool, Fail> {
     let refusing = Refusing::new(alloc, served);
     match replay(&refusing, scenario) {
         Ok(report) => {
-            let is_right = if says_so(&report) {
-                refusing.has_refused()
-            } else {
-                are_same(&report, whole)
-            };
-            if !is_right {
+            if !is_right(&report, whole, refusing.has_refused(), told) {
                 return Err(Fail::new(served));
             }
         }
@@ -61,18 +83,28 @@ fn replay_succeeds(
     Ok(!refusing.has_refused())
 }
 
+/// Refuses one growth after the other, and returns which lines told it.
+fn refuse_each(alloc: Global, scenario: &[u8], whole: &Report) -> Result<Told, Fail> {
+    let mut told = Told {
+        memory: false,
+        device: false,
+    };
+    for served in 0..10_000u64 {
+        if replay_succeeds(alloc, scenario, whole, served, &mut told)? {
+            return Ok(told);
+        }
+    }
+    Err(Fail::new("some growth is always refused"))
+}
+
 #[test]
 fn each_growth_is_refused(rt: HostRuntime) -> Result<(), Fail> {
     let mut scenario = Vec::from_slice(rt.alloc(), SETTINGS.as_bytes())?;
     scenario.extend_from_slice(LINES.as_bytes())?;
     let whole = replay(rt.alloc(), &scenario).map_err(|_| "a report")?;
-    if replay_succeeds(rt.alloc(), &scenario, &whole, 0)? {
-        return Err(Fail::new("no growth"));
-    }
-    for served in 1..10_000u64 {
-        if replay_succeeds(rt.alloc(), &scenario, &whole, served)? {
-            return Ok(());
-        }
-    }
-    Err(Fail::new("some growth is always refused"))
+    let told = refuse_each(rt.alloc(), &scenario, &whole)?;
+    assert!(rt; told.memory);
+    // Of the disk's record.
+    assert!(rt; told.device);
+    Ok(())
 }
