@@ -8,6 +8,7 @@ mod moments;
 mod replay;
 mod serving;
 mod store_words;
+mod turns;
 mod values;
 mod words;
 mod writers;

@@ -1,0 +1,192 @@
+//! Turns of a server over a disk in memory: a commit that fails, datagrams that are none of a client's, and the ports of
+//! allocations.
+
+use std::test::Fail;
+use turn_client::{ClientFault, Conversation, Loopback, limits};
+use turn_disk::MemoryDisk;
+use turn_engine::CommitRefused;
+use turn_ports::PortRange;
+use turn_serving::{StartFault, TurnFault};
+use turn_store::{OpenFault, format, least_area};
+use turn_types::Method;
+
+type Talk<'a> = Conversation<'a, MemoryDisk, HostRuntime>;
+
+/// A server over a new store. The device call of this number from its start on fails, where 0 is none.
+fn begin(
+    rt: &HostRuntime,
+    call: u64,
+    first: u16,
+    last: u16,
+) -> Result<Result<Talk<'_>, ClientFault>, Fail> {
+    let area = least_area(limits());
+    let mut disk = MemoryDisk::new(rt.alloc(), Vec::from_elem(rt.alloc(), 0u8, 64 + 2 * area)?);
+    if format(&mut disk, limits(), area).is_err() {
+        return Err(Fail::new("format"));
+    }
+    if 0 < call {
+        disk.fail_call(call);
+    }
+    let ports = PortRange::new(first, last).ok_or("a range")?;
+    Ok(Loopback::new(rt.alloc(), rt, ports, 1)?.serve(disk))
+}
+
+/// Where a device call that fails is.
+#[derive(Clone, Copy, PartialEq, Eq)]
+enum Place {
+    Start,
+    /// In the commit of the first Allocate.
+    Commit,
+    Later,
+}
+
+/// A start opens the empty store twice, by 12 calls each: a sync, the superblock, four reads of each area's head, the snapshot
+/// and the gate after it. The commit of an Allocate makes four.
+const CALLS: [(u64, Place); 7] = [
+    (1, Place::Start),
+    (24, Place::Start),
+    (25, Place::Commit),
+    (26, Place::Commit),
+    (27, Place::Commit),
+    (28, Place::Commit),
+    (29, Place::Later),
+];
+
+/// Where a turn fails, of a challenge and an Allocate. If it is in the commit, the Allocate gets no answer, and there is no
+/// later turn.
+fn place_of(rt: &HostRuntime, talk: &mut Talk<'_>) -> Result<Place, Fail> {
+    talk.challenge(rt)?;
+    match talk.allocate(rt) {
+        Ok(_) => return Ok(Place::Later),
+        Err(ClientFault::Turn(TurnFault::Commit(CommitRefused::Device))) => {}
+        Err(_) => return Err(Fail::new("another fault")),
+    }
+    let is_silent = matches!(talk.client().receive(), Err(ClientFault::Silent));
+    let stopped = ClientFault::Turn(TurnFault::Commit(CommitRefused::Stopped));
+    if is_silent && talk.turn(rt) == Err(stopped) {
+        Ok(Place::Commit)
+    } else {
+        Err(Fail::new("an answer, or a later turn"))
+    }
+}
+
+fn expect_place(rt: &HostRuntime, call: u64, place: Place) -> Result<(), Fail> {
+    let found = match begin(rt, call, 62_000, 62_999)? {
+        Ok(mut talk) => {
+            let found = place_of(rt, &mut talk);
+            talk.end();
+            found?
+        }
+        Err(ClientFault::Start(StartFault::Store(OpenFault::Device))) => Place::Start,
+        Err(_) => return Err(Fail::new("another fault")),
+    };
+    if found == place {
+        Ok(())
+    } else {
+        Err(Fail::new(call))
+    }
+}
+
+#[test]
+fn a_turn_whose_commit_fails_answers_nothing(rt: HostRuntime) -> Result<(), Fail> {
+    for (call, place) in &CALLS {
+        expect_place(&rt, *call, *place)?;
+    }
+    Ok(())
+}
+
+/// No datagram of a client: nothing, texts, headers that are cut or of another length, a channel of no allocation, and an
+/// indication of no allocation.
+const STRANGE: [&[u8]; 8] = [
+    b"",
+    b"\x00",
+    b"GET / HTTP/1.1\r\n\r\n",
+    b"\xff\xff\xff\xff\xff\xff\xff\xff\xff\xff\xff\xff\xff\xff\xff\xff\xff\xff\xff\xff",
+    b"\x00\x01\x00\x00\x21\x12\xa4\x42\x01\x02\x03\x04\x05\x06\x07\x08\x09\x0a\x0b",
+    b"\x00\x01\xff\xfc\x21\x12\xa4\x42\x01\x02\x03\x04\x05\x06\x07\x08\x09\x0a\x0b\x0c",
+    b"\x40\x00\x00\x04abcd",
+    b"\x00\x16\x00\x00\x21\x12\xa4\x42\x01\x02\x03\x04\x05\x06\x07\x08\x09\x0a\x0b\x0c",
+];
+
+/// How many bytes a datagram over IPv4 has at most.
+const MAX_DATAGRAM: usize = 65_507;
+
+/// Sends a datagram, and a Binding request. Returns whether the request alone is answered.
+fn is_dropped(rt: &HostRuntime, talk: &mut Talk<'_>, bytes: &[u8]) -> Result<bool, ClientFault> {
+    talk.client().send(bytes)?;
+    talk.turn(rt)?;
+    let request = talk.client().plain_request(Method::BINDING)?;
+    talk.client().send(&request)?;
+    talk.turn(rt)?;
+    let answer = talk.client().receive()?;
+    // The type of a Binding success, and the request's transaction id.
+    Ok(answer.get(..2) == Some(b"\x01\x01".as_slice()) && answer.get(8..20) == request.get(8..20))
+}
+
+fn are_dropped(rt: &HostRuntime, talk: &mut Talk<'_>, longest: &[u8]) -> Result<bool, ClientFault> {
+    for bytes in &STRANGE {
+        if !is_dropped(rt, talk, bytes)? {
+            return Ok(false);
+        }
+    }
+    is_dropped(rt, talk, longest)
+}
+
+fn expect_dropped(rt: &HostRuntime) -> Result<(), Fail> {
+    let longest = Vec::from_elem(rt.alloc(), 0u8, MAX_DATAGRAM)?;
+    let mut talk = begin(rt, 0, 62_000, 62_999)??;
+    let dropped = are_dropped(rt, &mut talk, &longest);
+    talk.end();
+    if dropped? {
+        Ok(())
+    } else {
+        Err(Fail::new("another answer"))
+    }
+}
+
+#[test]
+fn a_datagram_of_no_client_is_dropped_and_the_next_is_answered(
+    rt: HostRuntime,
+) -> Result<(), Fail> {
+    expect_dropped(&rt)
+}
+
+/// The port after one of 63,011 to 63,013.
+fn port_after(port: u16) -> u16 {
+    if port < 63_013 {
+        port.wrapping_add(1)
+    } else {
+        63_011
+    }
+}
+
+/// Whether allocations, each deleted before the next, get one port after the other.
+fn go_on(rt: &HostRuntime, talk: &mut Talk<'_>) -> Result<bool, ClientFault> {
+    talk.challenge(rt)?;
+    let mut port = talk.allocate(rt)?.port;
+    for _ in 0..3u8 {
+        talk.refresh(rt, 0)?;
+        let next = talk.allocate(rt)?.port;
+        if next != port_after(port) {
+            return Ok(false);
+        }
+        port = next;
+    }
+    Ok(true)
+}
+
+fn expect_ports(rt: &HostRuntime) -> Result<(), Fail> {
+    let mut talk = begin(rt, 0, 63_011, 63_013)??;
+    let going = go_on(rt, &mut talk);
+    talk.end();
+    if going? {
+        Ok(())
+    } else {
+        Err(Fail::new("another port"))
+    }
+}
+
+#[test]
+fn ports_go_on_after_the_last_one_and_wrap(rt: HostRuntime) -> Result<(), Fail> {
+    expect_ports(&rt)
+}
