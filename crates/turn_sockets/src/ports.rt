@@ -225,20 +225,12 @@ impl<'a, R: Net, A: Allocator + Copy> RelayAddressGenerator for SocketPorts<'a, 
     {
         let upper = self.search(self.next, self.last, taken, even)?;
         if let Search::Found(port) = upper {
-            self.next = if port < self.last {
-                port + 1
-            } else {
-                self.first
-            };
+            self.go_on_after(port);
             return Ok(Some(port));
         }
         let lower = self.search(self.first, self.next, taken, even)?;
         if let Search::Found(port) = lower {
-            self.next = if port < self.last {
-                port + 1
-            } else {
-                self.first
-            };
+            self.go_on_after(port);
             return Ok(Some(port));
         }
         if matches!(upper, Search::Failed) || matches!(lower, Search::Failed) {
