@@ -1,6 +1,6 @@
 //! A table with as many allocations as the greatest limits allow.
 
-use crate::tables::{Step, act_of, apply, tuple};
+use crate::tables::{Step, act_of, apply, purge_to, tuple};
 use std::alloc::Allocator;
 use std::test::Fail;
 use turn_ports::PortSet;
@@ -104,5 +104,30 @@ fn what_ends_in_a_full_table_is_found_no_more(rt: HostRuntime) -> Result<(), Fai
     // Client 1,023 had the lowest of the ports that became free, and client 1,020 the lowest even one of them.
     assert!(rt; table.lowest_free(58976, 59999, false) == Some(58977));
     assert!(rt; table.lowest_free(58976, 59999, true) == Some(58980));
+    Ok(())
+}
+
+// ---- Allocations that expire one after the other
+
+/// The allocation of each client at a second of its own, the first at 1000, refreshed there for an hour.
+fn fill_in_turn<A: Allocator + Copy>(alloc: A) -> Result<Table<A>, Fail> {
+    let mut table = Table::new(alloc, Limits::MAX, Moment::new(0).ok_or("a moment")?);
+    for client in 1..=CLIENTS {
+        purge_to(&mut table, 999 + u64::from(client))?;
+        let step = Step::Alloc(user_of(client), port_of(client), 600);
+        apply(&mut table, tuple(client), act_of(alloc, step)?)?;
+        apply(&mut table, tuple(client), act_of(alloc, Step::Renew(3600))?)?;
+    }
+    Ok(table)
+}
+
+/// Second 4600 ends the first one alone.
+#[test]
+fn entries_of_a_full_table_expire_one_a_second(rt: HostRuntime) -> Result<(), Fail> {
+    let mut table = fill_in_turn(rt.alloc())?;
+    assert!(rt; purge_to(&mut table, 4599)? == (0, 0) && table.is_full());
+    assert!(rt; purge_to(&mut table, 4600)? == (1, 59999) && table.len() == 1023);
+    assert!(rt; is_found(&table, 1, false) && is_found(&table, 2, true));
+    assert!(rt; is_found(&table, CLIENTS, true) && count_rising(&table) == 1023);
     Ok(())
 }
