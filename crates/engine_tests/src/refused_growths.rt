@@ -40,7 +40,7 @@ const PERMITTED: &[Row] = both_and!(PERMIT);
 /// A channel, of whose binding nothing is staged any more.
 const BOUND: &[Row] = both_and!(BIND, Row::Commit(&[Sent::Code(FIRST, 0)]));
 
-/// As many datagrams as the first growth makes room for.
+/// Four arrivals of a batch of eight. The first of them made room for the datagrams of all eight.
 const FOUR_STAGED: &[Row] = both_and!(PERMIT, BIND, PERMIT, BIND);
 
 /// The text "hello" to 203.0.113.5:7000.
@@ -62,8 +62,8 @@ const ASKED: &[Row] = &[
     Row::Commit(&[Sent::Code(SECOND, 437)]),
 ];
 
-/// What is done before, and the arrival at second 1001 whose growths are refused.
-const GROWTHS: [(&[Row], Row); 14] = [
+/// What is done before, and the request at second 1001 whose growths are refused.
+const GROWTHS: [(&[Row], Row); 8] = [
     (ASKED, BOBS),
     (BOTH, BOBS),
     (PERMITTED, BOBS),
@@ -78,12 +78,17 @@ const GROWTHS: [(&[Row], Row); 14] = [
         PERMITTED,
         Row::Ask(1001, ALICE, FIRST, Kind::ChannelBind, &[LOWEST, PEER]),
     ),
-    (PERMITTED, Row::Client(1001, FIRST, SEND)),
-    (BOUND, Row::Client(1001, FIRST, SEND)),
-    (BOUND, Row::Client(1001, FIRST, ABC)),
-    (PERMITTED, Row::Peer(1001, PEER_ENDPOINT, b"hello")),
-    (BOUND, Row::Peer(1001, PEER_ENDPOINT, b"abc")),
-    (FOUR_STAGED, Row::Peer(1001, PEER_ENDPOINT, b"abc")),
+];
+
+/// The same of data that is relayed, with the number of its growths: one for the datagram, and the first of a batch has one
+/// more, for the list of the batch.
+const DATA_GROWTHS: [((&[Row], Row), u64); 6] = [
+    ((PERMITTED, Row::Client(1001, FIRST, SEND)), 1),
+    ((BOUND, Row::Client(1001, FIRST, SEND)), 2),
+    ((BOUND, Row::Client(1001, FIRST, ABC)), 2),
+    ((PERMITTED, Row::Peer(1001, PEER_ENDPOINT, b"hello")), 1),
+    ((BOUND, Row::Peer(1001, PEER_ENDPOINT, b"abc")), 2),
+    ((FOUR_STAGED, Row::Peer(1001, PEER_ENDPOINT, b"abc")), 1),
 ];
 
 /// Whether two servers have the same table at the same moment, and each holds the ports of its allocations.
@@ -193,6 +198,16 @@ fn arrival_that_lacks_memory_changes_the_moment_alone(rt: HostRuntime) -> Result
     for rows in &GROWTHS {
         if growths_of(rt.alloc(), rows)? == 0 {
             return Err(Fail::new("no growth"));
+        }
+    }
+    Ok(())
+}
+
+#[test]
+fn relayed_data_takes_one_growth_a_datagram_and_one_a_batch(rt: HostRuntime) -> Result<(), Fail> {
+    for (rows, growths) in &DATA_GROWTHS {
+        if growths_of(rt.alloc(), rows)? != *growths {
+            return Err(Fail::new(*growths));
         }
     }
     Ok(())
