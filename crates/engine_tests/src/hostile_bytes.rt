@@ -6,7 +6,7 @@ use crate::row::{ALLOCATE, ALLOCATED, REQUEST, Row};
 use crate::setup::SMALL;
 use std::alloc::Global;
 use std::test::Fail;
-use turn_codec::Message;
+use turn_codec::{Malformed, Message};
 use turn_disk::Disk;
 use turn_step::Outgoing;
 use turn_types::Method;
@@ -36,10 +36,23 @@ fn front(len: usize) -> &'static [u8] {
     }
 }
 
-/// Whether the Allocate that ends before a byte is dropped.
+/// Why the bytes before a place are no message: a header has 20 bytes, and the length in it is that of the whole Allocate.
+fn is_malformed(place: usize) -> bool {
+    let expected = if place < 20 {
+        Malformed::Short
+    } else {
+        Malformed::BadLength
+    };
+    match Message::parse(front(place)) {
+        Ok(_) => false,
+        Err(fault) => fault == expected,
+    }
+}
+
+/// Whether the Allocate that ends before a byte is no message, and is dropped.
 fn is_dropped(player: &mut Player, place: usize) -> Result<bool, Fail> {
     player.take(1000, &of_client(FIRST, front(place)))?;
-    player.is_idle()
+    Ok(is_malformed(place) && player.is_idle()?)
 }
 
 // ---- Flipped bits
