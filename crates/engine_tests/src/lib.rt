@@ -7,6 +7,8 @@ mod commits;
 #[cfg(test)]
 mod crashes;
 #[cfg(test)]
+mod examples;
+#[cfg(test)]
 mod hostile_bytes;
 #[cfg(test)]
 mod mixed_runs;

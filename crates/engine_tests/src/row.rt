@@ -11,6 +11,8 @@ pub enum Sent {
     Client(Endpoint, &'static [u8]),
     /// To a client, a response with this code, 0 for a success.
     Code(Endpoint, u16),
+    /// From port 50000 to a peer, these bytes.
+    Peer(Endpoint, &'static [u8]),
 }
 
 /// The client of an allocation, its port, and the second at which it expires.

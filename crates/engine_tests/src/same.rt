@@ -25,6 +25,9 @@ fn is_sent<A: Allocator>(out: &Outgoing<A>, wanted: &Sent) -> Result<bool, Fail>
             },
             Sent::Code(client, code),
         ) => Ok(*to == five_tuple(*client) && code_of(&Message::parse(bytes)?)? == *code),
+        (Outgoing::ToPeer { port, peer, bytes }, Sent::Peer(to, expected)) => {
+            Ok(*port == 50000 && *peer == *to && bytes.as_slice() == *expected)
+        }
         _ => Ok(false),
     }
 }
