@@ -9,7 +9,7 @@ use std::test::Fail;
 use turn_history::{Channel, Event};
 use turn_ports::PortSet;
 use turn_table::Table;
-use turn_types::{Bounds, FiveTuple, Limits, Moment, TxId};
+use turn_types::{Bounds, Endpoint, FiveTuple, Limits, Moment, TxId};
 
 type Reference<A> = BTreeMap<FiveTuple, Entry<A>, A>;
 
@@ -326,6 +326,93 @@ fn has_same_entries<A: Allocator + Copy>(table: &Table<A>, reference: &Reference
     entries.next().is_none()
 }
 
+/// Whether a table permits a five-tuple the same addresses as the reference's entry, if there is one.
+fn permits_same<A: Allocator + Copy>(
+    table: &Table<A>,
+    tuple: FiveTuple,
+    expected: Option<&Entry<A>>,
+) -> bool {
+    for ip in &ADDRESSES {
+        let is_permitted = match expected {
+            Some(entry) => entry.permissions.get(ip).is_some(),
+            None => false,
+        };
+        if table.permitted(tuple, *ip) != is_permitted {
+            return false;
+        }
+    }
+    true
+}
+
+/// The peer of a channel number.
+fn peer_of<A: Allocator>(expected: Option<&Entry<A>>, number: u16) -> Option<Endpoint> {
+    match expected?.channels.get(&number) {
+        Some(channel) => Some(channel.peer),
+        None => None,
+    }
+}
+
+/// The channel number of a peer.
+fn number_to<A: Allocator>(expected: Option<&Entry<A>>, peer: Endpoint) -> Option<u16> {
+    for (number, channel) in &expected?.channels {
+        if channel.peer == peer {
+            return Some(*number);
+        }
+    }
+    None
+}
+
+/// The same of its channels: each of four numbers, and each of four peers.
+fn binds_same<A: Allocator + Copy>(
+    table: &Table<A>,
+    tuple: FiveTuple,
+    expected: Option<&Entry<A>>,
+) -> bool {
+    for place in 0..4u16 {
+        let (number, peer) = (0x4000 + place, peer(1 + place));
+        if table.peer_of(tuple, number) != peer_of(expected, number)
+            || table.channel_to(tuple, peer) != number_to(expected, peer)
+        {
+            return false;
+        }
+    }
+    true
+}
+
+/// Whether each client is found as in the reference, or is in neither, which one of them never is.
+fn has_same_clients<A: Allocator + Copy>(table: &Table<A>, reference: &Reference<A>) -> bool {
+    for client in 1..=5u16 {
+        let tuple = tuple(client);
+        let expected = reference.get(&tuple);
+        if table.get(tuple).is_some() != expected.is_some()
+            || !permits_same(table, tuple, expected)
+            || !binds_same(table, tuple, expected)
+        {
+            return false;
+        }
+    }
+    true
+}
+
+/// Whether each port is taken as in the reference, or free in both, which the last one always is.
+fn has_same_ports<A: Allocator + Copy>(table: &Table<A>, reference: &Reference<A>) -> bool {
+    for port in PORTS.0..=PORTS.1 + 1 {
+        let is_taken = has_port(reference, port);
+        if table.has(port) != is_taken || table.by_port(port).is_some() != is_taken {
+            return false;
+        }
+    }
+    true
+}
+
+fn last_of<A: Allocator>(reference: &Reference<A>) -> Option<FiveTuple> {
+    let mut last = None;
+    for (tuple, _) in reference {
+        last = Some(*tuple);
+    }
+    last
+}
+
 fn agrees<A: Allocator + Copy>(
     alloc: A,
     table: &Table<A>,
@@ -335,7 +422,10 @@ fn agrees<A: Allocator + Copy>(
     Ok(
         has_same_counts(table, &reference)
             && has_same_free_ports(table, &reference)
-            && has_same_entries(table, &reference),
+            && has_same_entries(table, &reference)
+            && has_same_clients(table, &reference)
+            && has_same_ports(table, &reference)
+            && table.last() == last_of(&reference),
     )
 }
 
