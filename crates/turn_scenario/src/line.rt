@@ -1,5 +1,8 @@
 //! The lines after `format`.
 
+ghost use Rattle.std.specs.Prelude.{◌≡◌, ◌≢◌, ◌^◌, SomeIff};
+ghost use Rattle.turn_config.specs.Values.{IsNumberBelow, number_of};
+
 use turn_config::values::{endpoint, moment, number, port, split_once};
 use turn_disk::Outcome;
 use turn_types::{Endpoint, Method, Moment, TxId};
@@ -43,7 +46,9 @@ pub(crate) enum Line<'a> {
 }
 
 /// The number of a device call, at least 1.
-fn call(text: &[u8]) -> Option<u64> {
+fn call(text: &[u8]) -> Option<u64>
+    ensures { SomeIff result (IsNumberBelow (2 ^ 64) text.now × (number_of text.now ≢ 0)) (number_of text.now) }
+{
     let call = number(text)?;
     if call == 0 { None } else { Some(call) }
 }

@@ -1,5 +1,7 @@
 //! A scenario after its `format` line.
 
+ghost use Rattle.std.specs.Prelude.{◌≡◌, ◌≤◌, ◌<◌, OnOk, OnErr};
+
 use crate::attributes::attributes;
 use crate::events::event_text;
 use crate::fault::LineFault;
@@ -182,7 +184,11 @@ impl<'a, A: Allocator + Copy> Running<'a, A> {
         self.submit_from_peer(line.port, line.from, &bytes)
     }
 
-    fn go_to(&mut self, moment: Moment) -> Result<(), LineFault> {
+    // The moment of the lines never goes back.
+    fn go_to(&mut self, moment: Moment) -> Result<(), LineFault>
+        ensures ok { OnOk result ((self.old.moment ≤ moment) × (self.new.moment ≡ moment)) }
+        ensures refused { OnErr result ((moment < self.old.moment) × (self.new.moment ≡ self.old.moment)) }
+    {
         if moment < self.moment {
             return Err(LineFault::Bad);
         }

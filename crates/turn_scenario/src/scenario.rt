@@ -1,5 +1,8 @@
 //! A whole scenario.
 
+ghost use Rattle.std.specs.Prelude.{◌^◌, SomeIff};
+ghost use Rattle.turn_config.specs.Values.{IsNumberBelow, number_of};
+
 use crate::fault::{LineFault, ScenarioFault};
 use crate::report::{Lines, Report};
 use crate::running::Running;
@@ -31,7 +34,10 @@ fn format_line(line: &[u8]) -> Option<&[u8]> {
     }
 }
 
-fn area_of(text: &[u8]) -> Option<u32> {
+/// The size of an area, below 2^32.
+fn area_of(text: &[u8]) -> Option<u32>
+    ensures { SomeIff result (IsNumberBelow (2 ^ 32) text.now) (number_of text.now) }
+{
     u32::try_from(number(text)?).ok()
 }
 
