@@ -1,5 +1,7 @@
 //! A client of a server.
 
+ghost use Rattle.std.specs.Prelude.{◌≡◌, ◌≤◌, ◌<◌, ◌⊎◌, ◌↔◌, ◌^◌, Err, IfErr, length};
+
 use crate::fault::ClientFault;
 use crate::socket::TimedSocket;
 use std::alloc::{Allocator, Global};
@@ -115,7 +117,9 @@ impl<'c, A: Allocator + Copy> Client<'c, A> {
     }
 
     /// Sends a datagram to the server.
-    pub fn send(&self, bytes: &[u8]) -> Result<(), ClientFault> {
+    pub fn send(&self, bytes: &[u8]) -> Result<(), ClientFault>
+        ensures { IfErr result (λ fault. fault ≡ ClientFault.Socket) }
+    {
         self.socket.send(self.server, bytes)
     }
 
@@ -124,8 +128,11 @@ impl<'c, A: Allocator + Copy> Client<'c, A> {
         self.send(&build_send(self.alloc, peer, payload)?)
     }
 
-    /// Sends data over a channel.
-    pub fn send_over_channel(&self, number: u16, payload: &[u8]) -> Result<(), ClientFault> {
+    /// Sends data over a channel: a number from 0x4000 to 0x7FFF, and at most 65,535 bytes.
+    pub fn send_over_channel(&self, number: u16, payload: &[u8]) -> Result<(), ClientFault>
+        ensures { (result ≡ Err ClientFault.TooLong)
+            ↔ ((number < 2 ^ 14) ⊎ ((2 ^ 15 ≤ number) ⊎ (2 ^ 16 ≤ length payload.now))) }
+    {
         if number < 0x4000 || 0x8000 <= number || 0xffff < payload.len() {
             return Err(ClientFault::TooLong);
         }

@@ -1,5 +1,7 @@
 //! A client and a peer that talk over a server, all on the loopback and in one thread.
 
+ghost use Rattle.std.specs.Prelude.{◌≡◌};
+
 use crate::client::{Client, Credentials};
 use crate::fault::ClientFault;
 use crate::socket::TimedSocket;
@@ -32,7 +34,9 @@ const CREDENTIALS: Credentials<'static> = Credentials {
 };
 
 /// The limits of the server: its store needs few bytes.
-pub fn limits() -> Limits {
+pub fn limits() -> Limits
+    ensures { result ≡ record { allocations = 4; permissions = 4; channels = 4; acts = 4; name_bytes = 16 } }
+{
     let bounds = Bounds {
         allocations: 4,
         permissions: 4,

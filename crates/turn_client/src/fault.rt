@@ -1,5 +1,7 @@
 //! Why a client doesn't go on.
 
+ghost use Rattle.std.specs.Prelude.{◌≡◌};
+
 use std::alloc::AllocError;
 use thiserror::Error;
 use turn_codec::PushError;
@@ -43,7 +45,9 @@ impl From<TurnFault> for ClientFault {
 }
 
 impl From<AllocError> for ClientFault {
-    fn from(_: AllocError) -> ClientFault {
+    fn from(_: AllocError) -> ClientFault
+        ensures { result ≡ ClientFault.Memory }
+    {
         ClientFault::Memory
     }
 }

@@ -1,5 +1,7 @@
 //! A socket whose reads end after a time.
 
+ghost use Rattle.std.specs.Prelude.{◌≡◌, IfErr};
+
 use crate::fault::ClientFault;
 use std::alloc::{Allocator, Global};
 use std::marker::Model;
@@ -55,7 +57,9 @@ impl<A: Allocator> TimedSocket<A> {
         self.local
     }
 
-    pub fn send(&self, to: Endpoint, bytes: &[u8]) -> Result<(), ClientFault> {
+    pub fn send(&self, to: Endpoint, bytes: &[u8]) -> Result<(), ClientFault>
+        ensures { IfErr result (λ fault. fault ≡ ClientFault.Socket) }
+    {
         match self.socket.send_to(bytes, address_of(to)) {
             Ok(_) => Ok(()),
             Err(_) => Err(ClientFault::Socket),

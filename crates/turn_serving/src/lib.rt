@@ -3,11 +3,13 @@
 #![tactic(auto)]
 
 mod fault;
+mod laws;
 mod listening;
 mod serving;
 mod start;
 mod turn;
 
 pub use fault::{StartFault, TurnFault};
+pub use laws::turns_make_runs;
 pub use serving::Serving;
 pub use start::Setup;

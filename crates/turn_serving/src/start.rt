@@ -1,5 +1,9 @@
 //! How a server over sockets is started.
 
+ghost use Rattle.std.specs.Prelude.{◌≡◌, Ok, IfOk};
+ghost use Rattle.turn_engine.specs.Calls.{Opening};
+ghost use Rattle.turn_serving.specs.Starts.{IsKept, Started};
+
 use crate::fault::StartFault;
 use crate::listening::{Listening, Waiting};
 use crate::serving::Serving;
@@ -8,7 +12,7 @@ use std::alloc::{AllocError, Allocator, Global};
 use std::net::Net;
 use turn_cred::AuthHandler;
 use turn_disk::Disk;
-use turn_engine::{OpenRefused, Server};
+use turn_engine::Server;
 use turn_ports::{PortRange, RelayAddressGenerator};
 use turn_sockets::{Buffer, SocketPorts};
 use turn_table::Table;
@@ -28,11 +32,26 @@ pub struct Setup<'c, A: Allocator = Global> {
     pub burst: u8,
 }
 
-/// Why a store was not opened; the disk is let go.
-fn fault_of<D: Disk + Drop, H: AuthHandler + Drop, G: RelayAddressGenerator + Drop>(
-    refused: OpenRefused<D, H, G>,
-) -> StartFault {
-    StartFault::Store(refused.fault)
+/// Opens the store of a disk. A refusal lets the disk go.
+fn open<
+    D: Disk + Drop,
+    H: AuthHandler + Drop,
+    G: RelayAddressGenerator + Drop,
+    A: Allocator + Copy,
+>(
+    alloc: A,
+    disk: D,
+    config: &ServerConfig<A>,
+    handler: H,
+    ports: G,
+) -> Result<Server<D, H, G, A>, StartFault>
+    ensures opens { IfOk result (λ server. Opening D.Disk disk config.now handler ports (Ok server)) }
+    ensures kept { IfOk result (λ server. IsKept D.Disk disk server.store.disk) }
+{
+    match Server::open(alloc, disk, config, handler, ports) {
+        Ok(server) => Ok(server),
+        Err(refused) => Err(StartFault::Store(refused.fault)),
+    }
 }
 
 /// The ports of the allocations of a table.
@@ -44,11 +63,31 @@ fn ports_of<A: Allocator + Copy>(alloc: A, table: &Table<A>) -> Result<Vec<u16, 
     Ok(ports)
 }
 
+/// Opens the store of a disk, and closes it. Returns the ports of its allocations too.
+fn look_into<D: Disk + Drop, H: AuthHandler + Drop, A: Allocator + Copy>(
+    alloc: A,
+    disk: D,
+    config: &ServerConfig<A>,
+    handler: H,
+    ports: PortRange,
+) -> Result<(D, H, Vec<u16, A>), StartFault>
+    ensures kept { IfOk result (λ looked. IsKept D.Disk disk looked.0) }
+    ensures handler { IfOk result (λ looked. looked.1 ≡ handler) }
+{
+    let server = open(alloc, disk, config, handler, ports)?;
+    let ports = ports_of(alloc, server.table())?;
+    let (disk, handler, _) = server.close();
+    Ok((disk, handler, ports))
+}
+
 /// Binds each of these ports.
 fn bind_all<R: Net, A: Allocator + Copy>(
     sockets: &mut SocketPorts<'_, R, A>,
     ports: &[u16],
-) -> Result<(), StartFault> {
+) -> Result<(), StartFault>
+    ensures first { sockets.new.first ≡ sockets.old.first }
+    ensures last { sockets.new.last ≡ sockets.old.last }
+{
     for port in ports {
         if sockets.socket(*port).is_none() && !sockets.bind(*port)? {
             return Err(StartFault::Socket);
@@ -65,7 +104,9 @@ impl<'c, A: Allocator + Copy> Setup<'c, A> {
         net: &'a R,
         poll: &Poll,
         ports: &[u16],
-    ) -> Result<SocketPorts<'a, R, A>, StartFault> {
+    ) -> Result<SocketPorts<'a, R, A>, StartFault>
+        ensures { IfOk result (λ sockets. ⟦<SocketPorts<'a, R, A> as RelayAddressGenerator>⟧.range sockets ≡ self.now.ports) }
+    {
         let Ok(registry) = poll.registry().try_clone() else {
             return Err(StartFault::Socket);
         };
@@ -87,15 +128,16 @@ impl<'c, A: Allocator + Copy> Setup<'c, A> {
         net: &'a R,
         disk: D,
         handler: H,
-    ) -> Result<Serving<'a, D, H, R, A>, StartFault> {
-        let server = Server::open(alloc, disk, self.config, handler, self.ports).map_err(fault_of)?;
-        let ports = ports_of(alloc, server.table())?;
-        let (disk, handler, _) = server.close();
+    ) -> Result<Serving<'a, D, H, R, A>, StartFault>
+        ensures { IfOk result (λ serving. Started D.Disk H.AuthHandler ⟦<SocketPorts<'a, R, A> as RelayAddressGenerator>⟧
+            disk self.now.config.now handler self.now.ports serving.server) }
+    {
+        let (disk, handler, ports) = look_into(alloc, disk, self.config, handler, self.ports)?;
         let Ok(poll) = Poll::new(net) else {
             return Err(StartFault::Socket);
         };
         let sockets = self.bind_ports(alloc, net, &poll, &ports)?;
-        let server = Server::open(alloc, disk, self.config, handler, sockets).map_err(fault_of)?;
+        let server = open(alloc, disk, self.config, handler, sockets)?;
         let listening = Listening::open(net, &poll, self.listen)?;
         let waiting = Waiting::new(alloc, poll)?;
         let buffer = Buffer::new(alloc)?;

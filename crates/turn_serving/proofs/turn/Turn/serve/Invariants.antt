@@ -1,6 +1,7 @@
 use Rattle.std.proofs.Common.{◌≤◌}
 use Rattle.turn_engine.specs.State.{now_of}
+use Rattle.turn_serving.specs.Turns.{Served}
 use Rattle.turn_serving.proofs.turn.Turn.serve.Given as goal
 
 abbrev pub invariant-loop-taken : goal.invariant-loop-taken
-invariant-loop-taken g l = now_of l.server ≤ l.self.moment
+invariant-loop-taken g l = Served g.D.Disk g.H.AuthHandler g.G.RelayAddressGenerator l.fn.server l.server × (now_of l.server ≤ l.self.moment)

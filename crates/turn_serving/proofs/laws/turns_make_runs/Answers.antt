@@ -1,0 +1,9 @@
+use Rattle.turn_engine.proofs.Runs.{goes_on}
+use Rattle.turn_serving.proofs.Starts.{begins}
+use Rattle.turn_serving.proofs.laws.turns_make_runs.Goals as goal
+
+pub returns-clause-starts : goal.returns-clause-starts
+returns-clause-starts g c = begins g.D.Disk g.H.AuthHandler g.G.RelayAddressGenerator
+
+pub returns-clause-goes_on : goal.returns-clause-goes_on
+returns-clause-goes_on g c = λ s h t old new p is turn. goes_on g.D.Disk g.H.AuthHandler g.G.RelayAddressGenerator s h t old p turn.steps is turn.serves
