@@ -1,6 +1,7 @@
 //! Why a client doesn't go on.
 
 ghost use Rattle.std.specs.Prelude.{◌≡◌};
+ghost use Rattle.turn_client.specs.declared.fault.ClientFault.TheVariants as faults;
 
 use std::alloc::AllocError;
 use thiserror::Error;
@@ -45,9 +46,9 @@ impl From<TurnFault> for ClientFault {
 }
 
 impl From<AllocError> for ClientFault {
-    fn from(_: AllocError) -> ClientFault
-        ensures { result ≡ ClientFault.Memory }
-    {
+    ghost from_gives = { λ _ f. f ≡ faults.Memory };
+
+    fn from(_: AllocError) -> ClientFault {
         ClientFault::Memory
     }
 }
