@@ -20,6 +20,14 @@ class Failed(Exception):
     """An answer that isn't the one asked for, or none."""
 
 
+class Refused(Failed):
+    """An error response."""
+
+    def __init__(self, method, code):
+        super().__init__(f"method {method}: {code}")
+        self.code = code
+
+
 def packed_address(address):
     ip, port = address
     value = struct.unpack("!I", socket.inet_aton(ip))[0]
@@ -129,7 +137,7 @@ class Client:
                 self.learn(found)
                 continue
             break
-        raise Failed(f"method {method}: {code_of(found)}")
+        raise Refused(method, code_of(found))
 
     def allocate(self, lifetime=600):
         attributes = [(TRANSPORT, UDP), (LIFETIME, struct.pack("!I", lifetime))]

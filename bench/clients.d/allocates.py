@@ -9,17 +9,26 @@ import sys
 
 sys.dont_write_bytecode = True
 sys.path.insert(0, os.path.dirname(os.path.dirname(os.path.abspath(__file__))))
-from turn_client import Client, Failed
+from turn_client import Client, Failed, Refused
 
 MOST = 600
 LOCAL = "127.0.0.2"  # no other client's, so that no five-tuple has an allocation of a client that went without deleting it
+
+
+def end(client):
+    """Deletes an allocation. A 437 to a request that was sent again says that it is deleted: the success was lost with the server."""
+    try:
+        client.refresh(0)
+    except Refused as refused:
+        if refused.code != 437:
+            raise
 
 
 def main(port, user, password, again):
     clients = []
     while not os.path.exists(again) or len(clients) < 20:
         if len(clients) == MOST:
-            clients.pop(0).refresh(0)
+            end(clients.pop(0))
         client = Client(("127.0.0.1", int(port)), user, password, LOCAL)
         client.allocate()
         clients.append(client)
