@@ -25,7 +25,7 @@ impl From<AllocError> for StartFault {
     }
 }
 
-/// Why a turn ended before its end. The server takes no further turn.
+/// Why a turn ended before its end.
 #[derive(Clone, Copy, Debug, PartialEq, Eq, Error)]
 pub enum TurnFault {
     /// What was accepted could not be written, so no response to it was sent.

@@ -136,7 +136,7 @@ impl<'a, D: Disk + Drop, H: AuthHandler + Drop, R: Net + Drop, A: Allocator + Co
     /// are none it waits for one first, at most 50 ms. The moment is the system's second, or the server's clock if that is
     /// later.
     ///
-    /// After a fault nothing is sent that was not committed, and the server takes no further turn.
+    /// Nothing is sent that was not committed. After a commit that failed each later turn fails.
     pub fn turn<C: Clock>(&mut self, system: &C) -> Result<(), TurnFault>
         // Calls of `submit` and `commit`, each within its contract, the last of which leaves nothing staged.
         ensures served { Served D.Disk H.AuthHandler ⟦<SocketPorts<'a, R, A> as RelayAddressGenerator>⟧ self.old.server self.new.server }
