@@ -7,9 +7,11 @@ use crate::socket::TimedSocket;
 use std::alloc::{Allocator, Global};
 use std::marker::Model;
 use std::net::Net;
-use turn_codec::{AttributeType, Builder, ChannelData, Message};
+use turn_codec::{AttributeType, Builder, Message};
 use turn_mac::generate_auth_key;
-use turn_requests::{Attribute, Received, Request, build_request, build_send, read_message};
+use turn_requests::{
+    Attribute, Received, Request, build_request, build_send, channel_data, read_message,
+};
 use turn_types::{Class, Endpoint, Method, TxId};
 
 /// Who a client is.
@@ -133,10 +135,7 @@ impl<'c, A: Allocator + Copy> Client<'c, A> {
         ensures { (result ≡ Err ClientFault.TooLong)
             ↔ ((number < 2 ^ 14) ⊎ ((2 ^ 15 ≤ number) ⊎ (2 ^ 16 ≤ length payload.now))) }
     {
-        if number < 0x4000 || 0x8000 <= number || 0xffff < payload.len() {
-            return Err(ClientFault::TooLong);
-        }
-        let data = ChannelData { number, payload };
+        let data = channel_data(number, payload).ok_or(ClientFault::TooLong)?;
         self.send(&data.write(self.alloc)?)
     }
 

@@ -40,11 +40,13 @@ abbrev pub with_transport : Request → Content
 with_transport r =
     if (r.method == 0x003) && not (list_any is_transport r.attributes.now) then with_one (begun r) (Transport 17) else begun r
 
--- a request with what names its user (RFC 8489, section 9.2): its attributes, USERNAME, REALM and NONCE
+-- a message with what names the user of a request (RFC 8489, section 9.2): USERNAME, REALM and NONCE
+abbrev pub identified : Content → Request → List ℕ → Content
+identified m r nonce = with_attribute (with_attribute (with_attribute m types.username r.user.now) types.realm r.realm.now) types.nonce nonce
+
+-- a request with its attributes and what names its user
 unfoldable pub named : Request → List ℕ → Content
-named r nonce =
-    with_attribute (with_attribute (with_attribute (fold with_one (with_transport r) r.attributes.now)
-    types.username r.user.now) types.realm r.realm.now) types.nonce nonce
+named r nonce = identified (fold with_one (with_transport r) r.attributes.now) r nonce
 
 -- a message with the MESSAGE-INTEGRITY under a key at its end
 unfoldable pub signed : List ℕ → Content → Content

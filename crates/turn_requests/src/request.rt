@@ -1,14 +1,15 @@
-//! Requests of a client, with the credentials of a user, and Send indications, as bytes.
+//! Requests of a client, with the credentials of a user, and Send indications, as bytes, and data over channels.
 
-ghost use Rattle.std.specs.Prelude.{◌≡◌, ◌≢◌, [], IfOk, OnOk};
+ghost use Rattle.std.specs.Prelude.{◌≡◌, ◌≢◌, ◌≤◌, ◌<◌, ◌+◌, ◌^◌, ◌⊎◌, Err, [], fold, length, IfOk, IfNone, IfSome, OnOk};
 ghost use Rattle.std.specs.List.{list_any};
 ghost use Rattle.turn_codec.specs.AttributeTypes.{message_integrity};
-ghost use Rattle.turn_codec.specs.Grammar.{Spells, from, with_attribute};
+ghost use Rattle.turn_codec.specs.Channel.{IsChannel};
+ghost use Rattle.turn_codec.specs.Grammar.{Spells, body_size, from, with_attribute};
 ghost use Rattle.turn_mac.specs.Integrity.{IntegrityHolds};
-ghost use Rattle.turn_requests.specs.Sending.{is_transport, named, send_of, signed, with_one};
+ghost use Rattle.turn_requests.specs.Sending.{identified, is_transport, named, send_of, signed, with_one};
 
 use std::alloc::{AllocError, Allocator, Global};
-use turn_codec::{AttributeType, Builder, PushError, xor_address};
+use turn_codec::{AttributeType, Builder, ChannelData, PushError, xor_address};
 use turn_mac::append_integrity;
 use turn_types::{Class, Endpoint, Method, TxId};
 
@@ -66,13 +67,15 @@ impl<A: Allocator + Copy> Unsigned<A> {
 
     fn push(&mut self, kind: AttributeType, value: &[u8]) -> Result<(), PushError>
         requires { kind ≢ message_integrity }
-        ensures { OnOk result (self.new.builder ≡ with_attribute self.old.builder kind value.now) }
+        ensures ok { OnOk result (self.new.builder ≡ with_attribute self.old.builder kind value.now) }
+        ensures too_long { result ≡ Err PushError.TooLong → 65532 < body_size (with_attribute self.old.builder kind value.now) }
     {
         self.builder.push(kind, value)
     }
 
     fn push_attribute(&mut self, attribute: &Attribute) -> Result<(), PushError>
-        ensures { OnOk result (self.new.builder ≡ with_one self.old.builder attribute.now) }
+        ensures ok { OnOk result (self.new.builder ≡ with_one self.old.builder attribute.now) }
+        ensures too_long { result ≡ Err PushError.TooLong → 65532 < body_size (with_one self.old.builder attribute.now) }
     {
         match attribute {
             Attribute::Lifetime(seconds) => {
@@ -97,11 +100,34 @@ impl<A: Allocator + Copy> Unsigned<A> {
         }
     }
 
+    /// Adds attributes, in this order.
+    #[tactic(auto, using(std::proofs::lemmas::List::Sums::fold_more))]
+    fn push_all(&mut self, attributes: &[Attribute]) -> Result<(), PushError>
+        ensures ok { OnOk result (self.new.builder ≡ fold with_one self.old.builder attributes.now) }
+        ensures too_long { result ≡ Err PushError.TooLong → 65532 < body_size (fold with_one self.old.builder attributes.now) }
+    {
+        for attribute in attributes {
+            self.push_attribute(attribute)?;
+        }
+        Ok(())
+    }
+
+    /// Adds what names the user of a request.
+    fn identify(&mut self, request: &Request<'_>, nonce: &[u8]) -> Result<(), PushError>
+        ensures ok { OnOk result (self.new.builder ≡ identified self.old.builder request.now nonce.now) }
+        ensures too_long { result ≡ Err PushError.TooLong → 65532 < body_size (identified self.old.builder request.now nonce.now) }
+    {
+        self.push(AttributeType::USERNAME, request.user)?;
+        self.push(AttributeType::REALM, request.realm)?;
+        self.push(AttributeType::NONCE, nonce)
+    }
+
     /// Signs the message, and returns its bytes.
     #[tactic(auto, unfolding(crate::specs::Sending::signed))]
     fn sign(self, key: &[u8; 16]) -> Result<Vec<u8, A>, PushError>
         ensures content { IfOk result (λ v. Spells v.items (signed key.now self.builder)) }
         ensures holds { IfOk result (λ v. IntegrityHolds key.now (record { bytes = v.items; content = signed key.now self.builder })) }
+        ensures too_long { result ≡ Err PushError.TooLong → 65532 < body_size self.builder + 24 }
     {
         let Unsigned { mut builder } = self;
         append_integrity(&mut builder, key)?;
@@ -121,7 +147,7 @@ fn names_transport(attributes: &[Attribute]) -> bool
 
 /// A request with its credentials: its attributes, then USERNAME, REALM, NONCE and MESSAGE-INTEGRITY (RFC 8489, section
 /// 9.2). An Allocate begins with a REQUESTED-TRANSPORT of UDP, unless its attributes say what the transport is.
-#[tactic(auto, using(std::proofs::lemmas::List::Sums::fold_more), unfolding(crate::specs::Sending::named))]
+#[tactic(auto, unfolding(crate::specs::Sending::named))]
 pub fn build_request<A: Allocator + Copy>(
     alloc: A,
     request: &Request<'_>,
@@ -131,17 +157,14 @@ pub fn build_request<A: Allocator + Copy>(
     ensures content { IfOk result (λ v. Spells v.items (signed key.now (named request.now nonce.now))) }
     ensures holds { IfOk result (λ v. IntegrityHolds key.now
         (record { bytes = v.items; content = signed key.now (named request.now nonce.now) })) }
+    ensures too_long { result ≡ Err PushError.TooLong → 65532 < body_size (named request.now nonce.now) + 24 }
 {
     let mut message = Unsigned::new(alloc, Class::Request, request.method, request.tx)?;
     if request.method == Method::ALLOCATE && !names_transport(request.attributes) {
         message.push_attribute(&Attribute::Transport(UDP))?;
     }
-    for attribute in request.attributes {
-        message.push_attribute(attribute)?;
-    }
-    message.push(AttributeType::USERNAME, request.user)?;
-    message.push(AttributeType::REALM, request.realm)?;
-    message.push(AttributeType::NONCE, nonce)?;
+    message.push_all(request.attributes)?;
+    message.identify(request, nonce)?;
     message.sign(key)
 }
 
@@ -151,10 +174,24 @@ pub fn build_send<A: Allocator + Copy>(
     peer: Endpoint,
     payload: &[u8],
 ) -> Result<Vec<u8, A>, PushError>
-    ensures { IfOk result (λ v. Spells v.items (send_of peer payload.now)) }
+    ensures content { IfOk result (λ v. Spells v.items (send_of peer payload.now)) }
+    ensures too_long { result ≡ Err PushError.TooLong → 65532 < body_size (send_of peer payload.now) }
 {
     let mut builder = Builder::new(alloc, Class::Indication, Method::SEND, TxId([0; 12]))?;
     builder.push(AttributeType::XOR_PEER_ADDRESS, &xor_address(peer))?;
     builder.push(AttributeType::DATA, payload)?;
     Ok(builder.finish())
+}
+
+/// Data over a channel (RFC 8656, section 12.4). `None` where the number isn't one from 0x4000 to 0x7FFF, or there are
+/// more than 65,535 bytes.
+pub fn channel_data(number: u16, payload: &[u8]) -> Option<ChannelData<'_>>
+    ensures some { IfSome result (λ d. IsChannel d.number × (length d.payload.now < 2 ^ 16)
+        × (d.number ≡ number) × (d.payload.now ≡ payload.now)) }
+    ensures none { IfNone result ((number < 2 ^ 14) ⊎ ((2 ^ 15 ≤ number) ⊎ (2 ^ 16 ≤ length payload.now))) }
+{
+    if number < 0x4000 || 0x8000 <= number || 0xFFFF < payload.len() {
+        return None;
+    }
+    Some(ChannelData { number, payload })
 }
