@@ -15,7 +15,7 @@ use turn_disk::Disk;
 use turn_mac::generate_auth_key;
 use turn_ports::PortRange;
 use turn_requests::{Attribute, Received, read_message};
-use turn_serving::{Serving, Setup};
+use turn_serving::{Setup, SocketServing};
 use turn_types::{Bounds, ConfigError, Endpoint, Limits, Method, ServerConfig, Settings};
 
 /// 127.0.0.1.
@@ -78,7 +78,7 @@ pub struct Conversation<'a, D: Disk + Drop, R: Net, A: Allocator + Copy = Global
     config: ServerConfig<A>,
     ports: PortRange,
     burst: u8,
-    serving: Serving<'a, D, Users<A>, R, A>,
+    serving: SocketServing<'a, D, Users<A>, R, A>,
     client: Client<'static, A>,
     peer: TimedSocket<A>,
 }

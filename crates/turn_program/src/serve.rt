@@ -10,7 +10,7 @@ use std::rt::{Clock, Files};
 use turn_config::{Configured, ShownEndpoint, read_config};
 use turn_cred::Users;
 use turn_disk::FileDisk;
-use turn_serving::{Serving, Setup};
+use turn_serving::{Setup, SocketServing};
 
 /// What the words of `turn serve` say.
 #[derive(Clone, Copy)]
@@ -23,7 +23,7 @@ pub struct Service<'a> {
 }
 
 /// A server over the store in a file.
-type FileServing<'a, R> = Serving<'a, FileDisk<File>, Users, R>;
+type FileServing<'a, R> = SocketServing<'a, FileDisk<File>, Users, R>;
 
 fn start<'a, R: Files<File = File> + Net + Drop + AllocGlobal>(
     rt: &'a R,
@@ -49,17 +49,6 @@ fn start<'a, R: Files<File = File> + Net + Drop + AllocGlobal>(
     Ok(setup.start(alloc, rt, disk, users)?)
 }
 
-fn take_turns<R: Net + Drop, C: Clock>(
-    serving: &mut FileServing<'_, R>,
-    clock: &C,
-    turns: u64,
-) -> Result<(), Fault> {
-    for _ in 0..turns {
-        serving.turn(clock)?;
-    }
-    Ok(())
-}
-
 /// Says where the server listens, takes the turns, and says how many there were.
 fn tell<R: Net + Drop + AllocGlobal, C: Clock, W: Write>(
     rt: &R,
@@ -71,7 +60,7 @@ fn tell<R: Net + Drop + AllocGlobal, C: Clock, W: Write>(
     let local = ShownEndpoint(serving.local());
     print_line(&format!(in rt.alloc(); "listening {local}")?, out)?;
     // 2^64 turns of which each takes a microsecond are 580,000 years.
-    take_turns(serving, clock, turns.unwrap_or(u64::MAX))?;
+    serving.turns(clock, turns.unwrap_or(u64::MAX))?;
     match turns {
         Some(turns) => print_line(&format!(in rt.alloc(); "served {turns} turns")?, out),
         None => Ok(()),

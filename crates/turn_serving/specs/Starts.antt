@@ -1,5 +1,7 @@
 -- What a start makes of a disk.
-use Rattle.std.specs.Prelude.{◌≡◌, ◌≤◌, ◌↔◌, ℕ, false, length, take}
+use Rattle.std.specs.Prelude.{◌≡◌, ◌≤◌, ◌↔◌, ℕ, Bool, false, length, take}
+use Rattle.std.specs.FinMap as fin
+use Rattle.std.specs.List.{list_all}
 use Rattle.turn_cred.specs.declared.handler.AuthHandler as handlers
 use Rattle.turn_disk.specs.declared.disk.Disk as disks
 use Rattle.turn_engine.specs.Images.{AtLeast}
@@ -7,6 +9,7 @@ use Rattle.turn_engine.specs.Resting.{Opens}
 use Rattle.turn_engine.specs.Runs.{IsAt, start}
 use Rattle.turn_engine.specs.State.{ServerState, emptied, now_of}
 use Rattle.turn_history.specs.History.{History}
+use Rattle.turn_history.specs.Table.{Contents}
 use Rattle.turn_ports.specs.declared.generator.RelayAddressGenerator as generators
 use Rattle.turn_step.specs.Answer.{Setting}
 use Rattle.turn_step.specs.State.{setting_of}
@@ -29,6 +32,10 @@ pub record Started {D H G : Type 0} (disk : disks.Ghosts D) (handler : handlers.
   pub honest : disk.is_honest server.store.disk ↔ disk.is_honest old
   pub rests : disk.is_honest old → (form : Form) (h : History) (k m : ℕ) → form.bounds ≡ config.limits → EachImage (disk.trace old).now (AtLeast form h k m)
       → Opens form h k m (disk.trace old).now.bytes (disk.trace server.store.disk).now server
+
+-- the port of each allocation in a table passes a test
+abbrev pub have_ports : (ℕ → Bool) → Contents → Bool
+have_ports test c = list_all (λ p. test p.1.port) (fin.entries c.entries)
 
 -- a server is at the start of a run after the first events of a history, at least k of them
 pub record BeginsRun {D H G : Type 0} (disk : disks.Ghosts D) (handler : handlers.Ghosts H) (ports : generators.Ghosts G) (s : Setting) (h : History) (k : ℕ) (server : ServerState D H G) : Type 0 where

@@ -11,5 +11,6 @@ mod turn;
 
 pub use fault::{StartFault, TurnFault};
 pub use laws::turns_make_runs;
-pub use serving::Serving;
+pub use serving::{Serving, SocketServing};
 pub use start::Setup;
+pub use turn::RelaySockets;

@@ -6,26 +6,24 @@ ghost use Rattle.turn_serving.specs.Turns.{Served};
 
 use crate::fault::TurnFault;
 use crate::listening::{Listening, Waiting};
-use crate::turn::{Turn, flush};
+use crate::turn::{RelaySockets, Turn, flush};
 use std::alloc::{Allocator, Global};
-use std::net::Net;
+use std::marker::Model;
 use std::rt::Clock;
 use turn_cred::AuthHandler;
 use turn_disk::Disk;
 use turn_engine::Server;
-use turn_ports::RelayAddressGenerator;
 use turn_sockets::{Buffer, DataIds, SocketPorts, moment_now};
 use turn_types::Endpoint;
 
 /// A server with its sockets, which takes turns.
 pub struct Serving<
-    'a,
     D: Disk + Drop,
     H: AuthHandler + Drop,
-    R: Net,
+    G: RelaySockets + Drop,
     A: Allocator + Copy = Global,
 > {
-    server: Server<D, H, SocketPorts<'a, R, A>, A>,
+    server: Server<D, H, G, A>,
     listening: Listening,
     waiting: Waiting<A>,
     buffer: Buffer<A>,
@@ -34,9 +32,26 @@ pub struct Serving<
     burst: u8,
 }
 
+/// A server whose relay ports each have a socket.
+pub type SocketServing<'a, D, H, R, A = Global> = Serving<D, H, SocketPorts<'a, R, A>, A>;
+
+// Clauses see the server alone.
+impl<D: Disk + Drop, H: AuthHandler + Drop, G: RelaySockets + Drop, A: Allocator + Copy> Model
+    for Serving<D, H, G, A> {
+    ghost use Rattle.std.specs.Coded.{codes};
+    ghost use Rattle.turn_table.specs.State.{state_code};
+    ghost use Rattle.turn_engine.specs.State.{ServerState};
+
+    ghost Value = { ServerState D H G };
+
+    ghost coded = { Prim.hlevel (codes, state_code) };
+
+    ghost view = { λ s. s.server };
+}
+
 // By hand: a derived drop is one step for each field in the proof of each caller.
-impl<'a, D: Disk + Drop, H: AuthHandler + Drop, R: Net, A: Allocator + Copy> Drop
-    for Serving<'a, D, H, R, A> {
+impl<D: Disk + Drop, H: AuthHandler + Drop, G: RelaySockets + Drop, A: Allocator + Copy> Drop
+    for Serving<D, H, G, A> {
     fn drop(self) {
         let Serving {
             server: _,
@@ -49,21 +64,20 @@ impl<'a, D: Disk + Drop, H: AuthHandler + Drop, R: Net, A: Allocator + Copy> Dro
     }
 }
 
-impl<'a, D: Disk + Drop, H: AuthHandler + Drop, R: Net + Drop, A: Allocator + Copy> Serving<
-    'a,
+impl<D: Disk + Drop, H: AuthHandler + Drop, G: RelaySockets + Drop, A: Allocator + Copy> Serving<
     D,
     H,
-    R,
+    G,
     A,
 > {
     pub(crate) fn new(
-        server: Server<D, H, SocketPorts<'a, R, A>, A>,
+        server: Server<D, H, G, A>,
         listening: Listening,
         waiting: Waiting<A>,
         buffer: Buffer<A>,
         burst: u8,
-    ) -> Serving<'a, D, H, R, A>
-        ensures { result.server ≡ server.entry }
+    ) -> Serving<D, H, G, A>
+        ensures { result ≡ server }
     {
         Serving {
             server,
@@ -80,16 +94,16 @@ impl<'a, D: Disk + Drop, H: AuthHandler + Drop, R: Net + Drop, A: Allocator + Co
         self.listening.local
     }
 
-    pub fn server(&self) -> &Server<D, H, SocketPorts<'a, R, A>, A>
-        ensures { result.now ≡ self.now.server }
+    pub fn server(&self) -> &Server<D, H, G, A>
+        ensures { result.now ≡ self.now }
     {
         &self.server
     }
 
     /// Ends the server, and returns its disk and its handler. The sockets are closed.
     pub fn close(self) -> (D, H)
-        ensures disk { result.0 ≡ self.entry.server.store.disk }
-        ensures handler { result.1 ≡ self.entry.server.machine.handler }
+        ensures disk { result.0 ≡ self.store.disk }
+        ensures handler { result.1 ≡ self.machine.handler }
     {
         let Serving {
             server,
@@ -105,7 +119,7 @@ impl<'a, D: Disk + Drop, H: AuthHandler + Drop, R: Net + Drop, A: Allocator + Co
 
     // Takes up to `burst` datagrams of each socket that may have some. Returns whether there were any.
     fn take_all<C: Clock>(&mut self, system: &C) -> Result<bool, TurnFault>
-        ensures { Served D.Disk H.AuthHandler ⟦<SocketPorts<'a, R, A> as RelayAddressGenerator>⟧ self.old.server self.new.server }
+        ensures { Served D.Disk H.AuthHandler G.RelayAddressGenerator self.old self.new }
     {
         let turn = Turn {
             listening: &self.listening,
@@ -122,7 +136,7 @@ impl<'a, D: Disk + Drop, H: AuthHandler + Drop, R: Net + Drop, A: Allocator + Co
 
     // Takes what there is. If there is nothing it waits first, at most 50 ms.
     fn take<C: Clock>(&mut self, system: &C) -> Result<(), TurnFault>
-        ensures { Served D.Disk H.AuthHandler ⟦<SocketPorts<'a, R, A> as RelayAddressGenerator>⟧ self.old.server self.new.server }
+        ensures { Served D.Disk H.AuthHandler G.RelayAddressGenerator self.old self.new }
     {
         if self.take_all(system)? {
             return self.waiting.look();
@@ -139,12 +153,25 @@ impl<'a, D: Disk + Drop, H: AuthHandler + Drop, R: Net + Drop, A: Allocator + Co
     /// Nothing is sent that was not committed. After a commit that failed each later turn fails.
     pub fn turn<C: Clock>(&mut self, system: &C) -> Result<(), TurnFault>
         // Calls of `submit` and `commit`, each within its contract, the last of which leaves nothing staged.
-        ensures served { Served D.Disk H.AuthHandler ⟦<SocketPorts<'a, R, A> as RelayAddressGenerator>⟧ self.old.server self.new.server }
-        ensures clock { now_of self.old.server ≤ now_of self.new.server }
-        ensures done { OnOk result (self.new.server ≡ emptied self.new.server self.new.server.store) }
-        ensures runs { OnOk result (self.new.server.store.stopped ≡ false) }
+        ensures served { Served D.Disk H.AuthHandler G.RelayAddressGenerator self.old self.new }
+        ensures clock { now_of self.old ≤ now_of self.new }
+        ensures done { OnOk result (self.new ≡ emptied self.new self.new.store) }
+        ensures runs { OnOk result (self.new.store.stopped ≡ false) }
     {
         self.take(system)?;
         flush(&self.listening, &mut self.server)
+    }
+
+    /// So many turns, one after the other, or up to the first that fails.
+    pub fn turns<C: Clock>(&mut self, system: &C, count: u64) -> Result<(), TurnFault>
+        ensures served { Served D.Disk H.AuthHandler G.RelayAddressGenerator self.old self.new }
+        ensures clock { now_of self.old ≤ now_of self.new }
+        // A server in which nothing is staged has nothing staged after them.
+        ensures done { OnOk result (self.old ≡ emptied self.old self.old.store → self.new ≡ emptied self.new self.new.store) }
+    {
+        for _ in 0..count {
+            self.turn(system)?;
+        }
+        Ok(())
     }
 }

@@ -1,12 +1,14 @@
 //! How a server over sockets is started.
 
-ghost use Rattle.std.specs.Prelude.{◌≡◌, Ok, IfOk};
+ghost use Rattle.std.specs.Prelude.{◌≡◌, Ok, IfOk, is_some, true};
+ghost use Rattle.std.specs.BTreeMap.{get};
+ghost use Rattle.std.specs.Ordering.{nat_cmp};
 ghost use Rattle.turn_engine.specs.Calls.{Opening};
-ghost use Rattle.turn_serving.specs.Starts.{IsKept, Started};
+ghost use Rattle.turn_serving.specs.Starts.{IsKept, Started, have_ports};
 
 use crate::fault::StartFault;
 use crate::listening::{Listening, Waiting};
-use crate::serving::Serving;
+use crate::serving::{Serving, SocketServing};
 use mio::Poll;
 use std::alloc::{AllocError, Allocator, Global};
 use std::net::Net;
@@ -96,6 +98,20 @@ fn bind_all<R: Net, A: Allocator + Copy>(
     Ok(())
 }
 
+/// Whether the port of each allocation has a socket.
+fn have_sockets<D: Disk, H: AuthHandler, R: Net, A: Allocator + Copy>(
+    server: &Server<D, H, SocketPorts<'_, R, A>, A>,
+) -> bool
+    ensures { result ≡ have_ports (λ port. is_some (get nat_cmp server.now.machine.ports.sockets port)) server.now.machine.table.contents }
+{
+    for (_, entry) in server.table().entries() {
+        if server.ports().socket(entry.port()).is_none() {
+            return false;
+        }
+    }
+    true
+}
+
 impl<'c, A: Allocator + Copy> Setup<'c, A> {
     /// The relay ports, with a socket for each of these.
     fn bind_ports<'a, R: Net>(
@@ -128,9 +144,12 @@ impl<'c, A: Allocator + Copy> Setup<'c, A> {
         net: &'a R,
         disk: D,
         handler: H,
-    ) -> Result<Serving<'a, D, H, R, A>, StartFault>
-        ensures { IfOk result (λ serving. Started D.Disk H.AuthHandler ⟦<SocketPorts<'a, R, A> as RelayAddressGenerator>⟧
-            disk self.now.config.now handler self.now.ports serving.server) }
+    ) -> Result<SocketServing<'a, D, H, R, A>, StartFault>
+        ensures started { IfOk result (λ serving. Started D.Disk H.AuthHandler ⟦<SocketPorts<'a, R, A> as RelayAddressGenerator>⟧
+            disk self.now.config.now handler self.now.ports serving) }
+        // The relay port of each allocation has a socket.
+        ensures sockets { IfOk result (λ serving. have_ports (λ port. is_some (get nat_cmp serving.machine.ports.sockets port))
+            serving.machine.table.contents ≡ true) }
     {
         let (disk, handler, ports) = look_into(alloc, disk, self.config, handler, self.ports)?;
         let Ok(poll) = Poll::new(net) else {
@@ -138,6 +157,10 @@ impl<'c, A: Allocator + Copy> Setup<'c, A> {
         };
         let sockets = self.bind_ports(alloc, net, &poll, &ports)?;
         let server = open(alloc, disk, self.config, handler, sockets)?;
+        // A disk that failed between the two openings may have said something else.
+        if !have_sockets(&server) {
+            return Err(StartFault::Socket);
+        }
         let listening = Listening::open(net, &poll, self.listen)?;
         let waiting = Waiting::new(alloc, poll)?;
         let buffer = Buffer::new(alloc)?;

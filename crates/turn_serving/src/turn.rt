@@ -18,7 +18,7 @@ use turn_step::{Arrival, Outgoing};
 use turn_types::{FiveTuple, Moment};
 
 /// Relay ports with sockets.
-pub(crate) trait RelaySockets: RelayAddressGenerator {
+pub trait RelaySockets: RelayAddressGenerator {
     /// The socket of a port.
     fn socket(&self, port: u16) -> Option<&UdpSocket>;
 }
