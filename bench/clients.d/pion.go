@@ -59,7 +59,8 @@ func talkUntil(relay net.PacketConn, peer net.Addr, file string) error {
 }
 
 func call(port, peerPort, user, password, realm string, files []string) error {
-	conn, err := net.ListenPacket("udp4", "127.0.0.1:0")
+	// An address of its own, so that no five-tuple has an allocation of a client that went without deleting it.
+	conn, err := net.ListenPacket("udp4", "127.0.0.3:0")
 	if err != nil {
 		return err
 	}
