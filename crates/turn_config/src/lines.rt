@@ -1,6 +1,6 @@
 //! The lines of a configuration, one setting each.
 
-use crate::values::{endpoint, ip, number, port, split_once};
+use crate::values::{endpoint, ip, number_32, port, split_once};
 use std::alloc::{AllocError, Allocator, Global};
 use std::collections::BTreeMap;
 use turn_cred::Users;
@@ -94,7 +94,7 @@ fn relay_of(text: &[u8]) -> Option<Relay> {
 }
 
 fn quota_of(text: &[u8]) -> Option<u32> {
-    let quota = u32::try_from(number(text)?).ok()?;
+    let quota = number_32(text)?;
     if 1 <= quota && quota <= 1024 {
         Some(quota)
     } else {
@@ -118,7 +118,7 @@ fn limits_of(text: &[u8]) -> Option<Limits> {
     let (channels, rest) = split_once(rest, b' ')?;
     let (acts, name_bytes) = split_once(rest, b' ')?;
     Limits::new(Bounds {
-        allocations: u32::try_from(number(allocations)?).ok()?,
+        allocations: number_32(allocations)?,
         permissions: port(permissions)?,
         channels: port(channels)?,
         acts: port(acts)?,

@@ -32,10 +32,26 @@ pub fn moment(text: &[u8]) -> Option<Moment>
     Moment::new(number(text)?)
 }
 
-fn octet(text: &[u8]) -> Option<u8>
+/// A number of 8 bits, up to 255.
+pub fn octet(text: &[u8]) -> Option<u8>
     ensures { SomeIff result (IsNumberBelow 256 text.now) (number_of text.now) }
 {
     u8::try_from(number(text)?).ok()
+}
+
+/// A number of 32 bits, below 2^32.
+pub fn number_32(text: &[u8]) -> Option<u32>
+    ensures { SomeIff result (IsNumberBelow (2 ^ 32) text.now) (number_of text.now) }
+{
+    u32::try_from(number(text)?).ok()
+}
+
+/// A number that counts from 1 on, below 2^64.
+pub fn ordinal(text: &[u8]) -> Option<u64>
+    ensures { SomeIff result (IsNumberBelow (2 ^ 64) text.now × (number_of text.now ≢ 0)) (number_of text.now) }
+{
+    let ordinal = number(text)?;
+    if ordinal == 0 { None } else { Some(ordinal) }
 }
 
 /// A port, up to 65535.

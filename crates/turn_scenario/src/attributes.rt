@@ -1,7 +1,7 @@
 //! The attributes of an `ask` line.
 
 use std::alloc::{AllocError, Allocator};
-use turn_config::values::{endpoint, number, split_once};
+use turn_config::values::{endpoint, number_32, octet, split_once};
 use turn_requests::Attribute;
 
 /// A channel number: four hex digits.
@@ -14,7 +14,7 @@ fn channel_number(text: &[u8]) -> Option<u16> {
 fn transport(text: &[u8]) -> Option<Attribute> {
     match text {
         b"none" => Some(Attribute::NoTransport),
-        _ => Some(Attribute::Transport(u8::try_from(number(text)?).ok()?)),
+        _ => Some(Attribute::Transport(octet(text)?)),
     }
 }
 
@@ -27,7 +27,7 @@ fn attribute(word: &[u8]) -> Option<Attribute> {
     }
     let (name, value) = split_once(word, b'=')?;
     match name {
-        b"life" => Some(Attribute::Lifetime(u32::try_from(number(value)?).ok()?)),
+        b"life" => Some(Attribute::Lifetime(number_32(value)?)),
         b"peer" => Some(Attribute::Peer(endpoint(value)?)),
         b"chan" => Some(Attribute::Channel(channel_number(value)?)),
         b"transport" => transport(value),

@@ -1,9 +1,6 @@
 //! The lines after `format`.
 
-ghost use Rattle.std.specs.Prelude.{◌≡◌, ◌≢◌, ◌^◌, SomeIff};
-ghost use Rattle.turn_config.specs.Values.{IsNumberBelow, number_of};
-
-use turn_config::values::{endpoint, moment, number, port, split_once};
+use turn_config::values::{endpoint, moment, ordinal, port, split_once};
 use turn_disk::Outcome;
 use turn_types::{Endpoint, Method, Moment, TxId};
 
@@ -43,14 +40,6 @@ pub(crate) enum Line<'a> {
     Reopen,
     Table,
     Expect(&'a [u8]),
-}
-
-/// The number of a device call, at least 1.
-fn call(text: &[u8]) -> Option<u64>
-    ensures { SomeIff result (IsNumberBelow (2 ^ 64) text.now × (number_of text.now ≢ 0)) (number_of text.now) }
-{
-    let call = number(text)?;
-    if call == 0 { None } else { Some(call) }
 }
 
 fn outcome(text: &[u8]) -> Option<Outcome> {
@@ -131,8 +120,8 @@ fn with_values<'a>(word: &[u8], text: &'a [u8]) -> Option<Line<'a>> {
         b"ask" => ask_line(text),
         b"send" => send_line(text),
         b"peer" => peer_line(text),
-        b"fail" => Some(Line::Fail(call(text)?)),
-        b"stop" => Some(Line::Stop(call(text)?)),
+        b"fail" => Some(Line::Fail(ordinal(text)?)),
+        b"stop" => Some(Line::Stop(ordinal(text)?)),
         b"crash" => Some(Line::Crash(outcome(text)?)),
         b"expect" => Some(Line::Expect(text)),
         _ => None,

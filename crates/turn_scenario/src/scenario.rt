@@ -1,14 +1,11 @@
 //! A whole scenario.
 
-ghost use Rattle.std.specs.Prelude.{◌^◌, SomeIff};
-ghost use Rattle.turn_config.specs.Values.{IsNumberBelow, number_of};
-
 use crate::fault::{LineFault, ScenarioFault};
 use crate::report::{Lines, Report};
 use crate::running::Running;
 use std::alloc::{Allocator, Global};
 use std::mem;
-use turn_config::values::{number, split_once};
+use turn_config::values::{number_32, split_once};
 use turn_config::{ConfigLines, is_skipped};
 
 /// How far a scenario is.
@@ -34,20 +31,13 @@ fn format_line(line: &[u8]) -> Option<&[u8]> {
     }
 }
 
-/// The size of an area, below 2^32.
-fn area_of(text: &[u8]) -> Option<u32>
-    ensures { SomeIff result (IsNumberBelow (2 ^ 32) text.now) (number_of text.now) }
-{
-    u32::try_from(number(text)?).ok()
-}
-
 /// The scenario after its `format` line. A needed line that is missing makes the `format` line bad.
 fn start<'a, A: Allocator + Copy>(
     alloc: A,
     lines: ConfigLines<'a, A>,
     size: &[u8],
 ) -> Result<Stage<'a, A>, LineFault> {
-    let area = area_of(size).ok_or(LineFault::Bad)?;
+    let area = number_32(size).ok_or(LineFault::Bad)?;
     let configured = lines.finish()?.ok_or(LineFault::Bad)?;
     Ok(Stage::Running(Running::start(alloc, configured, area)?))
 }

@@ -1,7 +1,6 @@
 //! The words of `turn format`.
 
-ghost use Rattle.std.specs.Prelude.{◌^◌, IfOk, SomeIff};
-ghost use Rattle.turn_config.specs.Values.{IsNumberBelow, number_of};
+ghost use Rattle.std.specs.Prelude.{IfOk};
 ghost use Rattle.turn_words.specs.Command.{IsInRange};
 
 use super::Command;
@@ -9,20 +8,13 @@ use super::words::option;
 use crate::fault::WordFault;
 use clap::ArgMatches;
 use std::alloc::{AllocError, Global};
-use turn_config::values::number;
+use turn_config::values::number_32;
 
 pub fn format_command<'a>(alloc: Global) -> Result<clap::Command<'a>, AllocError> {
     clap::Command::new(alloc, "format")
         .arg(option(alloc, "config").required(true))?
         .arg(option(alloc, "store").required(true))?
         .arg(option(alloc, "area").required(true))
-}
-
-/// The size of an area, below 2^32.
-fn area_in(text: &[u8]) -> Option<u32>
-    ensures { SomeIff result (IsNumberBelow (2 ^ 32) text.now) (number_of text.now) }
-{
-    u32::try_from(number(text)?).ok()
 }
 
 pub fn format_of(alloc: Global, found: &ArgMatches<'_>) -> Result<Command, WordFault>
@@ -32,7 +24,7 @@ pub fn format_of(alloc: Global, found: &ArgMatches<'_>) -> Result<Command, WordF
     let store = found.get_str("store").ok_or(WordFault::Usage)?;
     let area = found.get_str("area").ok_or(WordFault::Usage)?;
     Ok(Command::Format {
-        area: area_in(area.as_bytes()).ok_or(WordFault::Usage)?,
+        area: number_32(area.as_bytes()).ok_or(WordFault::Usage)?,
         config: String::from_str(alloc, config)?,
         store: String::from_str(alloc, store)?,
     })
