@@ -1,14 +1,13 @@
 //! How a server over sockets is started.
 
-ghost use Rattle.std.specs.Prelude.{◌≡◌, Ok, IfOk, is_some, true};
-ghost use Rattle.std.specs.BTreeMap.{get};
-ghost use Rattle.std.specs.Ordering.{nat_cmp};
+ghost use Rattle.std.specs.Prelude.{◌≡◌, Ok, IfOk, true};
 ghost use Rattle.turn_engine.specs.Calls.{Opening};
 ghost use Rattle.turn_serving.specs.Starts.{IsKept, Started, have_ports};
 
 use crate::fault::StartFault;
 use crate::listening::{Listening, Waiting};
 use crate::serving::{Serving, SocketServing};
+use crate::turn::RelaySockets;
 use mio::Poll;
 use std::alloc::{AllocError, Allocator, Global};
 use std::net::Net;
@@ -99,10 +98,10 @@ fn bind_all<R: Net, A: Allocator + Copy>(
 }
 
 /// Whether the port of each allocation has a socket.
-fn have_sockets<D: Disk, H: AuthHandler, R: Net, A: Allocator + Copy>(
-    server: &Server<D, H, SocketPorts<'_, R, A>, A>,
+fn have_sockets<D: Disk, H: AuthHandler, G: RelaySockets, A: Allocator + Copy>(
+    server: &Server<D, H, G, A>,
 ) -> bool
-    ensures { result ≡ have_ports (λ port. is_some (get nat_cmp server.now.machine.ports.sockets port)) server.now.machine.table.contents }
+    ensures { result ≡ have_ports (G.has_socket server.now.machine.ports) server.now.machine.table.contents }
 {
     for (_, entry) in server.table().entries() {
         if server.ports().socket(entry.port()).is_none() {
@@ -148,7 +147,7 @@ impl<'c, A: Allocator + Copy> Setup<'c, A> {
         ensures started { IfOk result (λ serving. Started D.Disk H.AuthHandler ⟦<SocketPorts<'a, R, A> as RelayAddressGenerator>⟧
             disk self.now.config.now handler self.now.ports serving) }
         // The relay port of each allocation has a socket.
-        ensures sockets { IfOk result (λ serving. have_ports (λ port. is_some (get nat_cmp serving.machine.ports.sockets port))
+        ensures sockets { IfOk result (λ serving. have_ports (⟦<SocketPorts<'a, R, A> as RelaySockets>⟧.has_socket serving.machine.ports)
             serving.machine.table.contents ≡ true) }
     {
         let (disk, handler, ports) = look_into(alloc, disk, self.config, handler, self.ports)?;

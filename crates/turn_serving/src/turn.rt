@@ -1,6 +1,8 @@
 //! What a turn does with one socket.
 
-ghost use Rattle.std.specs.Prelude.{◌≡◌, ◌≤◌, OnOk, false};
+ghost use Rattle.std.specs.Prelude.{◌≡◌, ◌≤◌, ℕ, Bool, OnOk, false, is_some};
+ghost use Rattle.std.specs.BTreeMap.{get};
+ghost use Rattle.std.specs.Ordering.{nat_cmp};
 ghost use Rattle.turn_engine.specs.State.{emptied, now_of};
 ghost use Rattle.turn_serving.specs.Turns.{Served};
 
@@ -19,11 +21,17 @@ use turn_types::{FiveTuple, Moment};
 
 /// Relay ports with sockets.
 pub trait RelaySockets: RelayAddressGenerator {
+    // Whether a port has a socket.
+    ghost has_socket: { Self → ℕ → Bool };
+
     /// The socket of a port.
-    fn socket(&self, port: u16) -> Option<&UdpSocket>;
+    fn socket(&self, port: u16) -> Option<&UdpSocket>
+        ensures { is_some result ≡ has_socket self.now port };
 }
 
 impl<'a, R: Net, A: Allocator + Copy> RelaySockets for SocketPorts<'a, R, A> {
+    ghost has_socket = { λ ports port. is_some (get nat_cmp ports.sockets port) };
+
     fn socket(&self, port: u16) -> Option<&UdpSocket> {
         self.socket(port)
     }

@@ -1,5 +1,5 @@
 -- Relay ports with a socket each. A range is its first and its last port.
-use Rattle.std.specs.Prelude.{ℕ, ◌≡◌, ⊤, Bool, IsSome, Option, Some, None}
+use Rattle.std.specs.Prelude.{ℕ, ◌≡◌, ◌+◌, ⊤, Bool, IsSome, Option, Some, None, if◌then◌else◌, nat_lt}
 use Rattle.std.specs.Ordering.{nat_cmp}
 use Rattle.std.specs.BTreeMap.{BTreeMap, get, IsUnchanged}
 use Rattle.turn_ports.specs.Ports.{IsFree, NoneIsFree}
@@ -21,6 +21,15 @@ abbrev pub Searches : ℕ × ℕ → (ℕ → Bool) → Bool → Search → Type
 Searches range taken even (Found port) = IsFree range taken even port
 Searches range taken even Nothing = NoneIsFree range taken even
 Searches range taken even Failed = ⊤
+
+-- the port of a range after this one, which is the first one after the last
+abbrev pub next_after : ℕ × ℕ → ℕ → ℕ
+next_after range port = if nat_lt port range.1 then port + 1 else range.0
+
+-- where the next search begins once this port was picked; where it was to begin before, if none was
+abbrev pub next_once : ℕ × ℕ → ℕ → Option ℕ → ℕ
+next_once range next None = next
+next_once range next (Some port) = next_after range port
 
 -- the port that a search found
 abbrev pub found_port : Search → Option ℕ

@@ -4,7 +4,7 @@ ghost use Rattle.std.specs.Prelude.{◌≡◌, ◌≢◌, ◌≤◌, ◌⊎◌, 
 ghost use Rattle.std.specs.BTreeMap.{IsUnchanged, Updates, get};
 ghost use Rattle.std.specs.Ordering.{nat_cmp};
 ghost use Rattle.turn_ports.specs.Ports.{Failed, MayPick, has_failed};
-ghost use Rattle.turn_sockets.specs.Ports.{IsBound, BindsWhatIsPicked, Searches, found_port};
+ghost use Rattle.turn_sockets.specs.Ports.{IsBound, BindsWhatIsPicked, Searches, found_port, next_after, next_once};
 
 use crate::address::address_of;
 use crate::buffer::{RECEIVE_BUFFER, set_receive_buffer};
@@ -153,6 +153,7 @@ impl<'a, R: Net, A: Allocator + Copy> SocketPorts<'a, R, A> {
         requires { (self.old.first ≤ port) × (port ≤ self.old.last) }
         ensures first { self.new.first ≡ self.old.first }
         ensures last { self.new.last ≡ self.old.last }
+        ensures next { self.new.next ≡ next_after (self.old.first, self.old.last) port }
         ensures count { self.new.failures ≡ self.old.failures }
         ensures sockets { self.new.sockets ≡ self.old.sockets }
     {
@@ -220,6 +221,9 @@ impl<'a, R: Net, A: Allocator + Copy> RelayAddressGenerator for SocketPorts<'a, 
         ensures count { (self.new.failures ≡ self.old.failures) ⊎ ((result ≡ Ok None) × Failed self.old.failures self.new.failures) }
         ensures first { self.new.first ≡ self.old.first }
         ensures last { self.new.last ≡ self.old.last }
+        // The next search begins after the port that was picked.
+        ensures next { IfOk result (λ port. self.new.next ≡ next_once (self.old.first, self.old.last) self.old.next port) }
+        ensures next_err { OnErr result (self.new.next ≡ self.old.next) }
         ensures bound { IfOk result (BindsWhatIsPicked self.old.sockets self.new.sockets) }
         ensures err { OnErr result (IsUnchanged self.old.sockets self.new.sockets) }
     {
