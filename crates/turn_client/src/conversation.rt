@@ -241,7 +241,7 @@ impl<'a, D: Disk + Drop, R: Net + Drop, A: Allocator + Copy> Conversation<'a, D,
     // Sends a datagram to the server, and returns its answer.
     fn exchange<C: Clock>(&mut self, clock: &C, bytes: &[u8]) -> Result<Message<'_>, ClientFault> {
         self.client.send(bytes)?;
-        self.serving.turn(clock)?;
+        self.turn(clock)?;
         self.client.receive_message()
     }
 
@@ -249,7 +249,7 @@ impl<'a, D: Disk + Drop, R: Net + Drop, A: Allocator + Copy> Conversation<'a, D,
     pub fn challenge<C: Clock>(&mut self, clock: &C) -> Result<u16, ClientFault> {
         let request = self.client.plain_request(Method::ALLOCATE)?;
         self.client.send(&request)?;
-        self.serving.turn(clock)?;
+        self.turn(clock)?;
         self.client.take_challenge()
     }
 
@@ -320,7 +320,7 @@ impl<'a, D: Disk + Drop, R: Net + Drop, A: Allocator + Copy> Conversation<'a, D,
 
     // What the peer gets from a relayed port.
     fn at_peer<C: Clock>(&mut self, clock: &C, port: u16) -> Result<Vec<u8, A>, ClientFault> {
-        self.serving.turn(clock)?;
+        self.turn(clock)?;
         let alloc = self.alloc;
         let (bytes, from) = self.peer.receive()?;
         if from.ip != LOOPBACK || from.port != port {
@@ -361,7 +361,7 @@ impl<'a, D: Disk + Drop, R: Net + Drop, A: Allocator + Copy> Conversation<'a, D,
     ) -> Result<(), ClientFault> {
         let relayed = Endpoint { ip: LOOPBACK, port };
         self.peer.send(relayed, payload)?;
-        self.serving.turn(clock)?;
+        self.turn(clock)?;
         Ok(())
     }
 
