@@ -6,6 +6,7 @@ mod inspections;
 mod memory;
 mod moments;
 mod replay;
+mod second_openings;
 mod serving;
 mod store_words;
 mod turns;
