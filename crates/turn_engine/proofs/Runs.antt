@@ -99,26 +99,26 @@ module _ {D H G : Type 0} (disk : disks.Ghosts D) (handler : handlers.Ghosts H) 
       flags = flags;
     }
 
-    record Advances (p : Place) (x : Step D H G) : Type 0 where
+    record Advances (old : ServerState D H G) (p : Place) (x : Step D H G) : Type 0 where
       end : Place
       is_at : IsAt disk handler ports s h t (after_of x) end
       more : List Taken
       handed : end.handed ≡ p.handed ++ more
       sent : handed_by x ≡ sent_about more
-      arrivals : map asked (end.handed ++ end.recent) ≡ map asked (p.handed ++ p.recent) ++ asked_by x
+      arrivals : map asked (end.handed ++ end.recent) ≡ map asked (p.handed ++ p.recent) ++ asked_by ports old x
 
-    stays : (p : Place) (x : Step D H G) → IsAt disk handler ports s h t (after_of x) p → handed_by x ≡ [] → asked_by x ≡ [] → Advances p x
-    stays p x is none no_arrival = record {
+    stays : (old : ServerState D H G) (p : Place) (x : Step D H G) → IsAt disk handler ports s h t (after_of x) p → handed_by x ≡ [] → asked_by ports old x ≡ [] → Advances old p x
+    stays old p x is none no_arrival = record {
       end = p;
       is_at = is;
       more = [];
       handed = sym (append-nil p.handed);
       sent = none;
-      arrivals = sym (append-nil (map asked (p.handed ++ p.recent))) ∙ ap (λ (l : List (ℕ × Arrives)). map asked (p.handed ++ p.recent) ++ l) (sym no_arrival);
+      arrivals = sym (append-nil (map asked (p.handed ++ p.recent))) ∙ ap (λ (l : List (ℕ × Arrives × Bool)). map asked (p.handed ++ p.recent) ++ l) (sym no_arrival);
     }
 
     took : (old new : ServerState D H G) (p : Place) (moment : ℕ) (a : Arrives) (u : Unit) → IsAt disk handler ports s h t old p → Submits disk handler ports old new moment a (Ok u)
-        → Advances p (Submit moment a (Ok u) new)
+        → Advances old p (Submit moment a (Ok u) new)
     took old new p moment a u is call =
         let runs = runs_on old new moment a (Ok u) call (ok_is_no_error u Stopped) in
         let takes = call.takes (history_at h p) (count_at h p) (is.rests runs) in
@@ -163,7 +163,7 @@ module _ {D H G : Type 0} (disk : disks.Ghosts D) (handler : handlers.Ghosts H) 
         (subst (λ z. Rests (disk.trace z.disk).now new (history_at h p) (count_at h p)) (sym call.store) (call.rests (history_at h p) (count_at h p) (is.rests runs)))
         (ap (λ (v : ServerState D H G). v.outs) (call.memory refl) ∙ is.outs runs) (ap (λ (v : ServerState D H G). v.arrivals) (call.memory refl) ∙ is.arrivals runs) is.flags
 
-    committed : (old new : ServerState D H G) (p : Place) (outs : List Sent) → IsAt disk handler ports s h t old p → Commits disk old new (Ok outs) → Advances p (Commit (Ok outs) new)
+    committed : (old new : ServerState D H G) (p : Place) (outs : List Sent) → IsAt disk handler ports s h t old p → Commits disk old new (Ok outs) → Advances old p (Commit (Ok outs) new)
     committed old new p outs is call = elim (by_bool old.store.stopped) [
       | inl stopped ↦ absurd (ok_is_no_error outs faults.Stopped (call.stopped.1 stopped))
       | inr runs ↦
@@ -209,11 +209,11 @@ module _ {D H G : Type 0} (disk : disks.Ghosts D) (handler : handlers.Ghosts H) 
           }
     ]
 
-    advances : (server : ServerState D H G) (p : Place) (x : Step D H G) → IsAt disk handler ports s h t server p → IsCall disk handler ports server x → Advances p x
+    advances : (server : ServerState D H G) (p : Place) (x : Step D H G) → IsAt disk handler ports s h t server p → IsCall disk handler ports server x → Advances server p x
     advances server p (Submit moment a (Ok u) after) is call = took server after p moment a u is call
-    advances server p (Submit moment a (Err why) after) is call = stays p (Submit moment a (Err why) after) (refused server after p moment a why is call) refl refl
+    advances server p (Submit moment a (Err why) after) is call = stays server p (Submit moment a (Err why) after) (refused server after p moment a why is call) refl refl
     advances server p (Commit (Ok outs) after) is call = committed server after p outs is call
-    advances server p (Commit (Err why) after) is call = stays p (Commit (Err why) after) (failed server after p why is call) refl refl
+    advances server p (Commit (Err why) after) is call = stays server p (Commit (Err why) after) (failed server after p why is call) refl refl
 
     pub goes_on : (server : ServerState D H G) (p : Place) (steps : List (Step D H G)) → IsAt disk handler ports s h t server p → Serves disk handler ports server steps
         → Leads disk handler ports s h t server p steps
@@ -234,7 +234,8 @@ module _ {D H G : Type 0} (disk : disks.Ghosts D) (handler : handlers.Ghosts H) 
           more = one.more ++ rest.more;
           handed = rest.handed ∙ ap (λ (l : List Taken). l ++ rest.more) one.handed ∙ append_assoc p.handed one.more rest.more;
           sent = ap (λ (l : List Sent). l ++ handed_out xs) one.sent ∙ ap (λ (l : List Sent). sent_about one.more ++ l) rest.sent ∙ sym (sent_about-append one.more rest.more);
-          arrivals = rest.arrivals ∙ ap (λ (l : List (ℕ × Arrives)). l ++ all_asked xs) one.arrivals ∙ append_assoc (map asked (p.handed ++ p.recent)) (asked_by x) (all_asked xs);
+          arrivals = rest.arrivals ∙ ap (λ (l : List (ℕ × Arrives × Bool)). l ++ all_asked ports (after_of x) xs) one.arrivals
+              ∙ append_assoc (map asked (p.handed ++ p.recent)) (asked_by ports server x) (all_asked ports (after_of x) xs);
         }
 
     -- a stop in a call

@@ -1,5 +1,5 @@
 -- What the calls of a server do, as records over what contracts see.
-use Rattle.std.specs.Prelude.{◌≡◌, ◌≤◌, ◌↔◌, ◌+◌, ℕ, List, Result, Err, IsOk, IfOk, IfErr, OnOk, OnErr, true, false, length}
+use Rattle.std.specs.Prelude.{◌≡◌, ◌≢◌, ◌≤◌, ◌<◌, ◌↔◌, ◌+◌, ◌-◌, ◌^◌, ℕ, List, Result, Err, IsOk, IfOk, IfErr, OnOk, OnErr, true, false, length, take, drop}
 use Rattle.turn_cred.specs.declared.handler.AuthHandler as handlers
 use Rattle.turn_disk.specs.Counts.{Rises}
 use Rattle.turn_disk.specs.Disk.{EachImageSince}
@@ -8,12 +8,15 @@ use Rattle.turn_history.specs.History.{History}
 use Rattle.turn_ports.specs.Ports.{has_failed}
 use Rattle.turn_ports.specs.declared.generator.RelayAddressGenerator as generators
 use Rattle.turn_step.specs.Outcome.{Arrives, Sent}
-use Rattle.turn_step.specs.State.{KeepsSetting, setting_of}
+use Rattle.turn_step.specs.State.{CountsOne, IsPurged, KeepsSetting, setting_of}
 use Rattle.turn_types.specs.Config.{Config}
 use Rattle.turn_store.specs.Areas.{Form}
-use Rattle.turn_store.specs.Images.{EachImage}
-use Rattle.turn_store.specs.Refused.{IsPlain}
+use Rattle.turn_store.specs.Images.{EachImage, EitherBy, StandsBy}
+use Rattle.turn_store.specs.Opened.{IsOpened}
+use Rattle.turn_store.specs.Refused.{IsPlain, WhyRefused}
+use Rattle.turn_store.specs.Stages.{InStages}
 use Rattle.turn_store.specs.State.{form_of}
+use Rattle.turn_store.specs.Tables.{snapshot_of}
 use Rattle.turn_store.specs.declared.fault.OpenFault.TheVariants.{Device}
 use Rattle.turn_store.specs.declared.fault.StoreFault.{StoreFault}
 use Rattle.turn_store.specs.declared.fault.StoreFault.TheVariants as faults
@@ -30,12 +33,14 @@ pub record Submits {D H G : Type 0} (disk : disks.Ghosts D) (handler : handlers.
   pub few : old.arrivals ≤ (limits_of old).acts
   pub store : new.store ≡ old.store
   pub setting : KeepsSetting ports.range old.machine new.machine
+  pub count : CountsOne (ports.failures old.machine.ports) (ports.failures new.machine.ports)
   pub stopped : (result ≡ Err Stopped) ↔ (old.store.stopped ≡ true)
   pub full : (result ≡ Err BatchFull) ↔ ((old.store.stopped ≡ false) × (old.arrivals ≡ (limits_of old).acts))
   pub unchanged : result ≡ Err Stopped → new ≡ old
   pub unchanged_full : result ≡ Err BatchFull → new ≡ old
   pub memory : result ≡ Err Memory → new ≡ record old { machine = new.machine }
   pub memory_clock : result ≡ Err Memory → now_of new ≡ moment
+  pub memory_table : result ≡ Err Memory → IsPurged moment old.machine.table new.machine.table
   pub clock : OnOk result (now_of new ≡ moment)
   pub arrivals : OnOk result (new.arrivals ≡ old.arrivals + 1)
   pub takes : (h : History) (k : ℕ) → Rests (disk.trace old.store.disk).now old h k
@@ -52,15 +57,24 @@ pub record Commits {D H G : Type 0} (disk : disks.Ghosts D) (old new : ServerSta
   pub stops : OnErr result (new.store.stopped ≡ true)
   pub stopped : (result ≡ Err faults.Stopped) ↔ (old.store.stopped ≡ true)
   pub unchanged : old.store.stopped ≡ true → new ≡ old
-  pub nothing : old.store.stopped ≡ false → old.acts ≡ 0 → IsOk result
+  pub nothing : old.store.stopped ≡ false → old.acts ≡ 0 → IsOk result × (new.store ≡ old.store)
   pub honest : disk.is_honest new.store.disk ↔ disk.is_honest old.store.disk
   pub form : form_of new.store ≡ form_of old.store
+  pub count : OnOk result (disk.failed new.store.disk ≡ disk.failed old.store.disk)
+  pub device : result ≡ Err faults.Device → Rises (disk.failed old.store.disk) (disk.failed new.store.disk)
+  pub worn : (result ≡ Err faults.Worn) ↔ ((old.store.stopped ≡ false) × (1 ≤ old.acts) × (old.store.generation ≡ 2 ^ 64 - 1)
+      × (old.store.area.size < old.store.area.end + 6 + length old.payload))
+  pub untouched_worn : result ≡ Err faults.Worn → new.store.disk ≡ old.store.disk
+  pub stages : disk.is_honest old.store.disk → (h : History) (k : ℕ) → Rests (disk.trace old.store.disk).now old h k
+      → InStages (disk.trace old.store.disk) (disk.trace new.store.disk) (StandsBy (form_of old.store) (take k h) (now_of old))
+      (EitherBy (form_of old.store) (take k h) (drop k h) (now_of old))
   pub stop : disk.is_honest old.store.disk → (h : History) (k : ℕ) → Rests (disk.trace old.store.disk).now old h k
       → EachImageSince (disk.trace old.store.disk) (disk.trace new.store.disk) (AtLeast (form_of old.store) h k (now_of old))
   pub rests : disk.is_honest old.store.disk → (h : History) (k : ℕ) → Rests (disk.trace old.store.disk).now old h k
       → OnOk result (Rests (disk.trace new.store.disk).now new h (length h))
 
--- `open` of a disk, with a configuration, a handler and a generator, which answers a server or hands the three back
+-- `open` of a disk, with a configuration, a handler and a generator, which answers a server, or a fault with the disk, the handler
+-- and the generator
 pub record Opening {D H G : Type 0} (disk : disks.Ghosts D) (old : D) (config : Config) (handler : H) (ports : G) (result : Result (ServerState D H G) (OpenRefused D H G)) : Type 0 where
   pub machine : IfOk result (λ s. s.machine ≡ record { config = config; handler = handler; ports = ports; table = s.machine.table })
   pub nothing : IfOk result (λ s. s ≡ emptied s s.store)
@@ -68,7 +82,13 @@ pub record Opening {D H G : Type 0} (disk : disks.Ghosts D) (old : D) (config : 
   pub returned : IfErr result (λ r. (r.handler ≡ handler) × (r.ports ≡ ports))
   pub honest : IfOk result (λ s. disk.is_honest s.store.disk ↔ disk.is_honest old)
   pub honest_err : IfErr result (λ r. disk.is_honest r.disk ↔ disk.is_honest old)
+  pub count : IfOk result (λ s. disk.failed s.store.disk ≡ disk.failed old)
   pub device : IfErr result (λ r. r.fault ≡ Device → Rises (disk.failed old) (disk.failed r.disk))
+  pub count_not : IfErr result (λ r. r.fault ≢ Device → disk.failed r.disk ≡ disk.failed old)
+  pub opened : disk.is_honest old → IfOk result (λ s. IsOpened s.store (disk.trace s.store.disk).now (snapshot_of s.machine.table))
+  pub why : disk.is_honest old → IfErr result (λ r. WhyRefused config.limits (disk.trace old).now.bytes r.fault)
+  pub same : disk.is_honest old → IfOk result (λ s. (disk.trace s.store.disk).now.bytes ≡ (disk.trace old).now.bytes)
+  pub same_err : disk.is_honest old → IfErr result (λ r. (disk.trace r.disk).now.bytes ≡ (disk.trace old).now.bytes)
   pub rests : disk.is_honest old → (form : Form) (h : History) (k m : ℕ) → form.bounds ≡ config.limits → EachImage (disk.trace old).now (AtLeast form h k m)
       → IfOk result (λ s. Opens form h k m (disk.trace old).now.bytes (disk.trace s.store.disk).now s)
   pub sound : disk.is_honest old → (form : Form) (h : History) (k m : ℕ) → form.bounds ≡ config.limits → EachImage (disk.trace old).now (AtLeast form h k m)

@@ -6,6 +6,7 @@ use Rattle.turn_cred.specs.declared.handler.AuthHandler as handlers
 use Rattle.turn_disk.specs.Disk.{EachImageSince}
 use Rattle.turn_disk.specs.declared.disk.Disk as disks
 use Rattle.turn_history.specs.History.{History}
+use Rattle.turn_ports.specs.Ports.{has_failed}
 use Rattle.turn_ports.specs.declared.generator.RelayAddressGenerator as generators
 use Rattle.turn_step.specs.Answer.{AnswersArrival, Setting}
 use Rattle.turn_step.specs.Outcome.{Arrives, Outcome, Sent, added}
@@ -78,18 +79,18 @@ abbrev pub handed_out : {D H G : Type 0} → List (Step D H G) → List Sent
 handed_out [] = []
 handed_out (x ∷ xs) = handed_by x ++ handed_out xs
 
--- the moment and the arrival of what was taken, and of each call that took one
-abbrev pub asked : Taken → ℕ × Arrives
-asked x = (x.moment, x.arrival)
+-- the moment and the arrival of what was taken, and whether the generator's count of failures changed in the call that took it
+abbrev pub asked : Taken → ℕ × Arrives × Bool
+asked x = (x.moment, x.arrival, x.failed)
 
-abbrev pub asked_by : {D H G : Type 0} → Step D H G → List (ℕ × Arrives)
-asked_by (Submit moment arrival (Ok done) after) = (moment, arrival) ∷ []
-asked_by (Submit moment arrival (Err why) after) = []
-asked_by (Commit result after) = []
+abbrev pub asked_by : {D H G : Type 0} → generators.Ghosts G → ServerState D H G → Step D H G → List (ℕ × Arrives × Bool)
+asked_by ports old (Submit moment arrival (Ok done) after) = (moment, arrival, has_failed (ports.failures old.machine.ports) (ports.failures after.machine.ports)) ∷ []
+asked_by ports old (Submit moment arrival (Err why) after) = []
+asked_by ports old (Commit result after) = []
 
-abbrev pub all_asked : {D H G : Type 0} → List (Step D H G) → List (ℕ × Arrives)
-all_asked [] = []
-all_asked (x ∷ xs) = asked_by x ++ all_asked xs
+abbrev pub all_asked : {D H G : Type 0} → generators.Ghosts G → ServerState D H G → List (Step D H G) → List (ℕ × Arrives × Bool)
+all_asked ports server [] = []
+all_asked ports server (x ∷ xs) = asked_by ports server x ++ all_asked ports (after_of x) xs
 
 -- a call does what its contract says
 abbrev pub IsCall : {D H G : Type 0} → disks.Ghosts D → handlers.Ghosts H → generators.Ghosts G → ServerState D H G → Step D H G → Type 0
@@ -137,15 +138,15 @@ pub record IsAt {D H G : Type 0} (disk : disks.Ghosts D) (handler : handlers.Gho
   pub arrivals : server.store.stopped ≡ false → server.arrivals ≡ length p.recent
   pub flags : NeverFails ports → AllByRecursion (λ x. x.failed ≡ false) (p.handed ++ p.recent)
 
--- Calls led from one place to another. The arrivals of the run are those that the calls took, in order; what the calls
--- handed out is what the arrivals that were added to the handed ones were answered, in order, each once.
+-- Calls led from one place to another. The arrivals of the run are those that the calls took, in order, and the generator counts
+-- as failed at one exactly where its count differs after the call; what the calls handed out is what the arrivals that were added to the handed ones were answered, in order, each once.
 pub record Leads {D H G : Type 0} (disk : disks.Ghosts D) (handler : handlers.Ghosts H) (ports : generators.Ghosts G) (s : Setting) (h : History) (t : ℕ) (server : ServerState D H G) (p : Place) (steps : List (Step D H G)) : Type 0 where
   pub end : Place
   pub is_at : IsAt disk handler ports s h t (last_of server steps) end
   pub more : List Taken
   pub handed : end.handed ≡ p.handed ++ more
   pub sent : handed_out steps ≡ sent_about more
-  pub arrivals : map asked (end.handed ++ end.recent) ≡ map asked (p.handed ++ p.recent) ++ all_asked steps
+  pub arrivals : map asked (end.handed ++ end.recent) ≡ map asked (p.handed ++ p.recent) ++ all_asked ports server steps
 
 -- calls that hand nothing out and leave the server as it was
 pub record IsSilent {D H G : Type 0} (server : ServerState D H G) (steps : List (Step D H G)) : Type 0 where

@@ -62,8 +62,8 @@ pub fn stops_keep_what_was_handed_out<D: Disk, H: AuthHandler, G: RelayAddressGe
         → Lasts D.Disk s (h ++ accepted before) x (last_of server steps) (after_of call) }
 {}
 
-/// A stop at any moment of any call leaves a disk of which `Server::open` makes a server of the same run: each image of it
-/// stands for the first events of the run's history, and for no fewer than belong to what was handed out.
+/// A stop at any moment of a `submit` or a `commit` leaves a disk of which each image stands for the first events of the run's
+/// history, and for no fewer than belong to what was handed out: what `Server::open` asks for.
 pub fn stopped_servers_open_again<D: Disk, H: AuthHandler, G: RelayAddressGenerator>()
     ensures { (s : Setting) (h : History) (t : ℕ) (server : ServerState D H G) (p : Place) (x : Step D H G) (image : List ℕ) (state : State)
         → IsAt D.Disk H.AuthHandler G.RelayAddressGenerator s h t server p → IsCall D.Disk H.AuthHandler G.RelayAddressGenerator server x

@@ -44,6 +44,11 @@ returns-clause-call g c = record {
   nothing = search rules;
   honest = search rules;
   form = search rules;
+  count = search rules;
+  device = search rules;
+  worn = search rules;
+  untouched_worn = search rules;
+  stages = returns-clause-stages g c;
   stop = returns-clause-stop g c;
   rests = returns-clause-rests g c;
 }

@@ -104,6 +104,24 @@ returns-in-Err-new-clause-device g c = search rules
 pub returns-in-Err-new-clause-sound : goal.returns-in-Err-new-clause-sound
 returns-in-Err-new-clause-sound g c = search rules
 
+pub returns-in-Ok-new-clause-count : goal.returns-in-Ok-new-clause-count
+returns-in-Ok-new-clause-count g c = search rules
+
+pub returns-in-Ok-new-clause-same : goal.returns-in-Ok-new-clause-same
+returns-in-Ok-new-clause-same g c = c.in-Ok.ensures.same
+
+pub returns-in-Err-clause-count_not : goal.returns-in-Err-clause-count_not
+returns-in-Err-clause-count_not g c = search rules
+
+pub returns-in-Err-clause-same_err : goal.returns-in-Err-clause-same_err
+returns-in-Err-clause-same_err g c = search rules
+
+pub returns-in-Err-new-clause-count_not : goal.returns-in-Err-new-clause-count_not
+returns-in-Err-new-clause-count_not g c = search rules
+
+pub returns-in-Err-new-clause-why : goal.returns-in-Err-new-clause-why
+returns-in-Err-new-clause-why g c = search rules
+
 pub returns-in-Ok-new-clause-call : goal.returns-in-Ok-new-clause-call
 returns-in-Ok-new-clause-call g c = record {
   machine = returns-in-Ok-new-clause-machine g c;
@@ -112,7 +130,13 @@ returns-in-Ok-new-clause-call g c = record {
   returned = tt;
   honest = returns-in-Ok-new-clause-honest g c;
   honest_err = tt;
+  count = returns-in-Ok-new-clause-count g c;
   device = tt;
+  count_not = tt;
+  opened = returns-in-Ok-new-clause-opened g c;
+  why = λ honest. tt;
+  same = returns-in-Ok-new-clause-same g c;
+  same_err = λ honest. tt;
   rests = returns-in-Ok-new-clause-rests g c;
   sound = λ honest form h k m bounds images. tt;
   stop = returns-in-Ok-new-clause-stop g c;
@@ -127,7 +151,13 @@ returns-in-Err-clause-call g c = record {
   returned = returns-in-Err-clause-returned g c;
   honest = tt;
   honest_err = returns-in-Err-clause-honest_err g c;
+  count = tt;
   device = returns-in-Err-clause-device g c;
+  count_not = returns-in-Err-clause-count_not g c;
+  opened = λ honest. tt;
+  why = returns-in-Err-clause-why g c;
+  same = λ honest. tt;
+  same_err = returns-in-Err-clause-same_err g c;
   rests = λ honest form h k m bounds images. tt;
   sound = returns-in-Err-clause-sound g c;
   stop = λ honest form h k m images. tt;
@@ -142,7 +172,13 @@ returns-in-Err-new-clause-call g c = record {
   returned = returns-in-Err-new-clause-returned g c;
   honest = tt;
   honest_err = returns-in-Err-new-clause-honest_err g c;
+  count = tt;
   device = returns-in-Err-new-clause-device g c;
+  count_not = returns-in-Err-new-clause-count_not g c;
+  opened = λ honest. tt;
+  why = returns-in-Err-new-clause-why g c;
+  same = λ honest. tt;
+  same_err = returns-in-Err-new-clause-same_err g c;
   rests = λ honest form h k m bounds images. tt;
   sound = returns-in-Err-new-clause-sound g c;
   stop = λ honest form h k m images. tt;
