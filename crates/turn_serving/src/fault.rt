@@ -1,5 +1,9 @@
 //! Why a server over sockets didn't start, and why its turns ended.
 
+ghost use Rattle.std.specs.Prelude.{◌≡◌};
+ghost use Rattle.turn_serving.specs.declared.fault.StartFault.TheVariants as starts;
+ghost use Rattle.turn_serving.specs.declared.fault.TurnFault.TheVariants as turns;
+
 use std::alloc::{AllocError, AllocFailed};
 use thiserror::Error;
 use turn_engine::CommitRefused;
@@ -20,6 +24,8 @@ pub enum StartFault {
 }
 
 impl From<AllocError> for StartFault {
+    ghost from_gives = { λ _ f. f ≡ starts.Memory };
+
     fn from(_: AllocError) -> StartFault {
         StartFault::Memory
     }
@@ -42,12 +48,16 @@ pub enum TurnFault {
 }
 
 impl From<CommitRefused> for TurnFault {
+    ghost from_gives = { λ fault f. f ≡ turns.Commit fault };
+
     fn from(fault: CommitRefused) -> TurnFault {
         TurnFault::Commit(fault)
     }
 }
 
 impl<T: Drop> From<AllocFailed<T>> for TurnFault {
+    ghost from_gives = { λ _ f. f ≡ turns.Memory };
+
     fn from(_: AllocFailed<T>) -> TurnFault {
         TurnFault::Memory
     }

@@ -166,10 +166,12 @@ impl<D: Disk + Drop, H: AuthHandler + Drop, G: RelaySockets + Drop, A: Allocator
     pub fn turns<C: Clock>(&mut self, system: &C, count: u64) -> Result<(), TurnFault>
         ensures served { Served D.Disk H.AuthHandler G.RelayAddressGenerator self.old self.new }
         ensures clock { now_of self.old ≤ now_of self.new }
-        // A server in which nothing is staged has nothing staged after them.
-        ensures done { OnOk result (self.old ≡ emptied self.old self.old.store → self.new ≡ emptied self.new self.new.store) }
+        // No turn leaves the server as it was; one turn or more that ended well are what one is.
+        ensures none { count ≡ 0 → self.new ≡ self.old }
+        ensures done { 1 ≤ count → OnOk result (self.new ≡ emptied self.new self.new.store) }
+        ensures runs { 1 ≤ count → OnOk result (self.new.store.stopped ≡ false) }
     {
-        for _ in 0..count {
+        for turned in 0..count {
             self.turn(system)?;
         }
         Ok(())

@@ -1,7 +1,10 @@
 -- Relay ports with a socket each. A range is its first and its last port.
-use Rattle.std.specs.Prelude.{ℕ, ◌≡◌, ◌+◌, ⊤, Bool, IsSome, Option, Some, None, if◌then◌else◌, nat_lt}
+use Rattle.std.specs.Prelude.{ℕ, ◌≡◌, ◌+◌, ◌-◌, ◌%◌, ⊤, Bool, IsSome, List, [], ◌∷◌, Option, Some, None, if◌then◌else◌, nat_lt, take}
+use Rattle.std.specs.Int.{w32, from_be_bytes}
 use Rattle.std.specs.Ordering.{nat_cmp}
 use Rattle.std.specs.BTreeMap.{BTreeMap, get, IsUnchanged}
+use Rattle.sha2.specs.Sha256.{sha256}
+use Rattle.turn_mac.specs.Hmac.{hmac}
 use Rattle.turn_ports.specs.Ports.{IsFree, NoneIsFree}
 use Rattle.turn_sockets.specs.declared.ports.Search.{Search}
 use Rattle.turn_sockets.specs.declared.ports.Search.TheVariants.{Found, Nothing, Failed}
@@ -36,3 +39,11 @@ abbrev pub found_port : Search → Option ℕ
 found_port (Found port) = Some port
 found_port Nothing = None
 found_port Failed = None
+
+-- what is signed with a server's secret to draw a port: the bytes of `relay ports`
+abbrev pub drawn_text : List ℕ
+drawn_text = 114 ∷ 101 ∷ 108 ∷ 97 ∷ 121 ∷ 32 ∷ 112 ∷ 111 ∷ 114 ∷ 116 ∷ 115 ∷ []
+
+-- where the first search of a range begins: the first four bytes of the signature, modulo how many ports there are
+abbrev pub first_place : List ℕ → ℕ × ℕ → ℕ
+first_place secret range = range.0 + from_be_bytes w32 (take 4 (hmac sha256 secret drawn_text)) % (range.1 - range.0 + 1)

@@ -4,7 +4,7 @@ ghost use Rattle.std.specs.Prelude.{◌≡◌, ◌≢◌, ◌≤◌, ◌⊎◌, 
 ghost use Rattle.std.specs.BTreeMap.{IsUnchanged, Updates, get};
 ghost use Rattle.std.specs.Ordering.{nat_cmp};
 ghost use Rattle.turn_ports.specs.Ports.{Failed, MayPick, has_failed};
-ghost use Rattle.turn_sockets.specs.Ports.{IsBound, BindsWhatIsPicked, Searches, found_port, next_after, next_once};
+ghost use Rattle.turn_sockets.specs.Ports.{IsBound, BindsWhatIsPicked, Searches, first_place, found_port, next_after, next_once};
 
 use crate::address::address_of;
 use crate::buffer::{RECEIVE_BUFFER, set_receive_buffer};
@@ -65,7 +65,8 @@ impl<'a, R: Net, A: Allocator> Drop for SocketPorts<'a, R, A> {
 /// The port of a range at which the search begins, drawn from the server's secret. The search goes on after the port that was
 /// picked last, so who sees one port can guess the next; RFC 6056 asks for ports that are harder to guess.
 pub fn first_port(secret: &[u8; 32], ports: PortRange) -> u16
-    ensures { (ports.0 ≤ result) × (result ≤ ports.1) }
+    ensures place { result ≡ first_place secret.now ports }
+    ensures range { (ports.0 ≤ result) × (result ≤ ports.1) }
 {
     let (first, last) = ports.range();
     let digest = hmac_sha256(secret, b"relay ports");
@@ -86,6 +87,7 @@ impl<'a, R: Net, A: Allocator + Copy> SocketPorts<'a, R, A> {
     ) -> SocketPorts<'a, R, A>
         ensures first { result.first ≡ ports.0 }
         ensures last { result.last ≡ ports.1 }
+        ensures next { result.next ≡ first_place secret.now ports }
         ensures count { result.failures ≡ 0 }
         ensures empty { result.sockets.entries ≡ [] }
     {

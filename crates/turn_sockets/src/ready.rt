@@ -46,10 +46,6 @@ impl<A: Allocator + Copy> Ready<A> {
 }
 
 impl<A: Allocator> Ready<A> {
-    pub fn is_empty(&self) -> bool {
-        self.tokens.is_empty()
-    }
-
     /// How many tokens there are.
     pub fn len(&self) -> usize
         ensures value { result ≡ length self.now }

@@ -1,9 +1,10 @@
-use Rattle.std.proofs.Common.{◌≡◌}
+use Rattle.std.proofs.Common.{◌≡◌, ◌≤◌, false}
 use Rattle.turn_engine.specs.State.{emptied}
 use Rattle.turn_serving.specs.Turns.{Served}
 use Rattle.turn_serving.proofs.serving.Serving.turns.Given as goal
 
-abbrev pub invariant-loop : goal.invariant-loop
-invariant-loop g l =
+abbrev pub invariant-loop-turned : goal.invariant-loop-turned
+invariant-loop-turned g l =
     Served g.D.Disk g.H.AuthHandler g.G.RelayAddressGenerator l.fn.self l.self
-    × (l.fn.self ≡ emptied l.fn.self l.fn.self.store → l.self ≡ emptied l.self l.self.store)
+    × (l.turned ≡ 0 → l.self ≡ l.fn.self)
+    × (1 ≤ l.turned → (l.self ≡ emptied l.self l.self.store) × (l.self.store.stopped ≡ false))
