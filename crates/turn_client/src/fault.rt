@@ -34,12 +34,16 @@ pub enum ClientFault {
 }
 
 impl From<StartFault> for ClientFault {
+    ghost from_gives = { λ fault f. f ≡ faults.Start fault };
+
     fn from(fault: StartFault) -> ClientFault {
         ClientFault::Start(fault)
     }
 }
 
 impl From<TurnFault> for ClientFault {
+    ghost from_gives = { λ fault f. f ≡ faults.Turn fault };
+
     fn from(fault: TurnFault) -> ClientFault {
         ClientFault::Turn(fault)
     }

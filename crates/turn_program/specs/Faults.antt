@@ -1,10 +1,16 @@
 -- The faults of the crates below as faults of the program.
+use Rattle.turn_client.specs.declared.fault.ClientFault.{ClientFault}
+use Rattle.turn_client.specs.declared.fault.ClientFault.TheVariants as client_faults
 use Rattle.turn_config.specs.declared.config.ConfigFault.{ConfigFault}
 use Rattle.turn_config.specs.declared.config.ConfigFault.TheVariants as config_faults
 use Rattle.turn_program.specs.declared.fault.Fault.{Fault}
-use Rattle.turn_program.specs.declared.fault.Fault.TheVariants.{Usage, BadDatagram, BadLine, NotAStore, Damaged, LimitsDiffer, AreaTooSmall, Worn, Device, Differs, Memory}
+use Rattle.turn_program.specs.declared.fault.Fault.TheVariants.{Usage, BadDatagram, BadLine, NotAStore, Damaged, LimitsDiffer, AreaTooSmall, Worn, Device, Socket, Differs, Memory}
 use Rattle.turn_scenario.specs.declared.fault.ScenarioFault.{ScenarioFault}
 use Rattle.turn_scenario.specs.declared.fault.ScenarioFault.TheVariants as scenario_faults
+use Rattle.turn_serving.specs.declared.fault.StartFault.{StartFault}
+use Rattle.turn_serving.specs.declared.fault.StartFault.TheVariants as start_faults
+use Rattle.turn_serving.specs.declared.fault.TurnFault.{TurnFault}
+use Rattle.turn_serving.specs.declared.fault.TurnFault.TheVariants as turn_faults
 use Rattle.turn_store.specs.declared.fault.OpenFault.{OpenFault}
 use Rattle.turn_store.specs.declared.fault.OpenFault.TheVariants as open_faults
 use Rattle.turn_store.specs.declared.fault.StoreFault.{StoreFault}
@@ -50,3 +56,24 @@ abbrev pub of_store : StoreFault → Fault
 of_store store_faults.Device = Device
 of_store store_faults.Worn = Worn
 of_store store_faults.Stopped = Device
+
+abbrev pub of_start : StartFault → Fault
+of_start (start_faults.Store fault) = of_open fault
+of_start start_faults.Socket = Socket
+of_start start_faults.Memory = Memory
+
+abbrev pub of_turn : TurnFault → Fault
+of_turn (turn_faults.Commit fault) = of_store fault
+of_turn turn_faults.Socket = Socket
+of_turn turn_faults.Clock = Device
+of_turn turn_faults.Memory = Memory
+
+-- in the demonstration an answer that doesn't come, or another one, is a fault of the sockets
+abbrev pub of_client : ClientFault → Fault
+of_client (client_faults.Start fault) = of_start fault
+of_client (client_faults.Turn fault) = of_turn fault
+of_client client_faults.Memory = Memory
+of_client client_faults.Socket = Socket
+of_client client_faults.Silent = Socket
+of_client client_faults.Unexpected = Socket
+of_client client_faults.TooLong = Socket

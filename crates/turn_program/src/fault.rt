@@ -1,7 +1,7 @@
 //! Why a command ended without its answer.
 
 ghost use Rattle.std.specs.Prelude.{◌≡◌};
-ghost use Rattle.turn_program.specs.Faults.{of_config, of_format, of_limits, of_open, of_scenario, of_store, of_words};
+ghost use Rattle.turn_program.specs.Faults.{of_client, of_config, of_format, of_limits, of_open, of_scenario, of_start, of_store, of_turn, of_words};
 ghost use Rattle.turn_program.specs.Status.{status_of};
 ghost use Rattle.turn_program.specs.declared.fault.Fault.TheVariants as faults;
 
@@ -42,10 +42,10 @@ pub enum Fault {
     /// A store whose generation is the last one.
     #[error("turn: worn")]
     Worn,
-    /// A file that can't be read or written or is too long, or standard output took no more.
+    /// A file that can't be read or written or is too long, a system that tells no time, or standard output took no more.
     #[error("turn: device")]
     Device,
-    /// A socket that can't be opened or used.
+    /// A socket that can't be opened, used or waited for. In the demonstration also an answer that doesn't come.
     #[error("turn: socket")]
     Socket,
     /// A scenario's report is not what a line of it expects.
@@ -155,6 +155,8 @@ impl From<StoreFault> for Fault {
 }
 
 impl From<StartFault> for Fault {
+    ghost from_gives = { λ fault f. f ≡ of_start fault };
+
     fn from(fault: StartFault) -> Fault {
         match fault {
             StartFault::Store(fault) => Fault::from(fault),
@@ -165,6 +167,8 @@ impl From<StartFault> for Fault {
 }
 
 impl From<TurnFault> for Fault {
+    ghost from_gives = { λ fault f. f ≡ of_turn fault };
+
     fn from(fault: TurnFault) -> Fault {
         match fault {
             TurnFault::Commit(fault) => Fault::from(fault),
@@ -177,6 +181,8 @@ impl From<TurnFault> for Fault {
 
 /// In the demonstration an answer that doesn't come, or another one, is a fault of the sockets.
 impl From<ClientFault> for Fault {
+    ghost from_gives = { λ fault f. f ≡ of_client fault };
+
     fn from(fault: ClientFault) -> Fault {
         match fault {
             ClientFault::Start(fault) => Fault::from(fault),
