@@ -1,6 +1,6 @@
 //! The texts, in the order in which they are replayed.
 
-pub const NAMES: [&str; 74] = [
+pub const NAMES: [&str; 80] = [
     "example_kept",
     "example_lost",
     "rounds",
@@ -51,17 +51,23 @@ pub const NAMES: [&str; 74] = [
     "stops_of_a_compaction_fill_11",
     "stops_of_a_compaction_fill_a5",
     "stops_of_a_compaction_call_5_kept",
+    "stops_of_a_compaction_call_5_fill_a5",
     "stops_of_a_compaction_call_6_lost",
     "stops_of_a_compaction_call_6_kept",
+    "stops_of_a_compaction_call_6_fill_a5",
     "stops_of_later_compactions",
     "stops_after_a_stopped_compaction",
     "crashes_after_commits",
     "stops_of_pieces",
+    "stops_of_later_pieces",
     "failures_of_a_commit",
     "failures_and_crashes_of_a_commit",
     "failures_of_a_compaction",
+    "failures_of_a_compaction_call_5",
+    "failures_of_a_compaction_call_6",
     "failures_of_an_opening",
     "stops_of_an_opening",
+    "stops_of_the_reads_of_an_opening",
     "two_hundred_rounds",
     "small_area",
     "defaults",
