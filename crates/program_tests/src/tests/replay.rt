@@ -33,7 +33,7 @@ fn expect_file(
 }
 
 /// Lines after those of `SCENARIO`, and the status, the report and the fault that come of them.
-const REPORTS: [(&str, u8, &str, &str); 6] = [
+const REPORTS: [(&str, u8, &str, &str); 10] = [
     ("", 0, "opened clock 0\n", ""),
     (
         "at 5\nask 192.0.2.1:5 alice 000000000000000000000001 allocate\ncommit\ntable\n",
@@ -45,6 +45,92 @@ const REPORTS: [(&str, u8, &str, &str); 6] = [
     ("expect closed", 4, "", "turn: line 8: differs\n"),
     ("commit\nfrobnicate", 1, "", "turn: line 9: bad line\n"),
     ("\r\nexpect closed", 1, "", "turn: line 8: bad line\n"),
+    ("at 5\nat 4\n", 1, "", "turn: line 9: bad line\n"),
+    // A crash inside a commit keeps the batch, or loses it.
+    (
+        "at 1000
+ask 192.0.2.1:32853 alice 0102030405060708090a0b0c allocate
+stop 3
+commit
+crash kept
+table
+at 1200
+nonce 1000
+ask 192.0.2.1:32853 alice 0102030405060708090a0b0c allocate
+commit
+",
+        0,
+        "opened clock 0
+device
+opened clock 1000
+192.0.2.1:32853 192.0.2.100:3478 616c696365 50000 1600
+live 1
+client 192.0.2.1:32853 success allocate 0102030405060708090a0b0c port=50000 life=600
+committed 1
+",
+        "",
+    ),
+    (
+        "at 1000
+ask 192.0.2.1:32853 alice 0102030405060708090a0b0c allocate
+stop 3
+commit
+crash lost
+table
+at 1200
+nonce 1000
+ask 192.0.2.1:32853 alice 0102030405060708090a0b0c allocate
+commit
+table
+",
+        0,
+        "opened clock 0
+device
+opened clock 0
+live 0
+client 192.0.2.1:32853 success allocate 0102030405060708090a0b0c port=50000 life=600
+committed 1
+192.0.2.1:32853 192.0.2.100:3478 616c696365 50000 1800
+live 1
+",
+        "",
+    ),
+    // Three openings make one life.
+    (
+        "at 1000
+ask 192.0.2.1:32853 alice 0102030405060708090a0b0c allocate
+commit
+at 1100
+ask 192.0.2.1:32853 alice 000000000000000000000002 refresh life=1200
+stop 3
+commit
+crash lost
+nonce 1000
+ask 192.0.2.1:32853 alice 0102030405060708090a0b0c allocate
+commit
+at 1101
+ask 192.0.2.1:32853 alice 000000000000000000000003 permit peer=203.0.113.5:7000
+stop 4
+commit
+crash kept
+table
+",
+        0,
+        "opened clock 0
+client 192.0.2.1:32853 success allocate 0102030405060708090a0b0c port=50000 life=600
+committed 1
+device
+opened clock 1000
+client 192.0.2.1:32853 success allocate 0102030405060708090a0b0c port=50000 life=600
+committed 1
+device
+opened clock 1101
+192.0.2.1:32853 192.0.2.100:3478 616c696365 50000 1600
+ permit 203.0.113.5 1401
+live 1
+",
+        "",
+    ),
 ];
 
 fn expect_report(rt: &HostRuntime, row: &(&str, u8, &str, &str)) -> Result<(), Fail> {

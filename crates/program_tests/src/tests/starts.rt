@@ -1,17 +1,19 @@
-//! A start over a disk that has other allocations when it is opened again.
+//! A start over a disk that has other allocations when it is opened again, and the receive buffers of relay sockets.
 
 use super::formats::{fresh, put};
 use super::inspections::FRAME;
 use std::alloc::Global;
 use std::cell::Cell;
-use std::fs::{Metadata, OpenFile};
+use std::fs::{self, Metadata, OpenFile};
 use std::io;
 use std::io::{Error, ErrorKind};
 use std::os::unix::fs::FileExt;
 use std::test::Fail;
 use turn_config::read_config;
+use turn_config::values::{number_32, split_once};
 use turn_disk::FileDisk;
 use turn_serving::{Setup, StartFault};
+use turn_sockets::receive_buffer;
 
 /// A file that has one content up to its first sync, and another from its second sync on. An opening begins with a sync.
 #[derive(Drop)]
@@ -64,7 +66,7 @@ const CONFIG: &[u8] = b"realm example.org
 user alice wonder
 secret 0000000000000000000000000000000000000000000000000000000000000000
 listen 127.0.0.1:0
-relay 127.0.0.1 63010 63019
+relay 127.0.0.1 63014 63019
 limits 2 1 1 1 8
 ";
 
@@ -76,12 +78,18 @@ fn allocated(alloc: Global) -> Result<Vec<u8>, Fail> {
     Ok(bytes)
 }
 
-/// What a start over a file comes to that has these contents at its two openings, and whether both were made.
-fn outcome(
-    rt: &HostRuntime,
-    first: &[u8],
-    second: &[u8],
-) -> Result<(Option<StartFault>, bool), Fail> {
+/// What a start comes to.
+#[derive(Clone, Copy, PartialEq, Eq)]
+struct Came {
+    fault: Option<StartFault>,
+    /// Whether the store was opened twice.
+    twice: bool,
+    /// The receive buffer of the socket of port 63,019, if there is one.
+    buffer: Option<u32>,
+}
+
+/// What a start over a file comes to that has these contents at its two openings.
+fn outcome(rt: &HostRuntime, first: &[u8], second: &[u8]) -> Result<Came, Fail> {
     let configured = read_config(rt.alloc(), CONFIG).map_err(|_| "a configuration")?;
     let syncs = Cell::new(0);
     let file = ChangingFile {
@@ -97,21 +105,47 @@ fn outcome(
         burst: 1,
     };
     let disk = FileDisk::new(file, 540);
-    let fault = match setup.start(rt.alloc(), rt, disk, configured.users) {
+    let (fault, buffer) = match setup.start(rt.alloc(), rt, disk, configured.users) {
         Ok(serving) => {
+            let buffer = serving.server().ports().socket(63_019).map(receive_buffer);
             serving.close();
-            None
+            (None, buffer)
         }
-        Err(fault) => Some(fault),
+        Err(fault) => (Some(fault), None),
     };
-    Ok((fault, syncs.get() == 2))
+    Ok(Came {
+        fault,
+        twice: syncs.get() == 2,
+        buffer,
+    })
+}
+
+/// The receive buffer that Linux gives where 8 MiB are asked for: no more than its limit, and doubled.
+fn given_buffer(rt: &HostRuntime) -> Result<u32, Fail> {
+    let text = fs::read(rt, "/proc/sys/net/core/rmem_max")?;
+    let (limit, _) = split_once(&text, b'\n').ok_or("a line")?;
+    let limit = number_32(limit).ok_or("a number")?;
+    Ok(limit.min(8 << 20).wrapping_mul(2))
+}
+
+fn started(buffer: Option<u32>) -> Came {
+    Came {
+        fault: None,
+        twice: true,
+        buffer,
+    }
 }
 
 #[test]
 fn a_start_needs_a_socket_for_each_port_of_its_second_opening(rt: HostRuntime) -> Result<(), Fail> {
     let (empty, allocated) = (fresh(rt.alloc())?, allocated(rt.alloc())?);
-    assert!(rt; outcome(&rt, &allocated, &allocated)? == (None, true));
-    assert!(rt; outcome(&rt, &allocated, &empty)? == (None, true));
-    assert!(rt; outcome(&rt, &empty, &allocated)? == (Some(StartFault::Socket), true));
+    let buffer = Some(given_buffer(&rt)?);
+    assert!(rt; outcome(&rt, &allocated, &allocated)? == started(buffer));
+    assert!(rt; outcome(&rt, &allocated, &empty)? == started(buffer));
+    let refused = Came {
+        fault: Some(StartFault::Socket),
+        ..started(None)
+    };
+    assert!(rt; outcome(&rt, &empty, &allocated)? == refused);
     Ok(())
 }

@@ -10,14 +10,18 @@ use turn_serving::{StartFault, TurnFault};
 use turn_store::{OpenFault, format, least_area};
 use turn_types::Method;
 
-type Talk<'a> = Conversation<'a, MemoryDisk, HostRuntime>;
+pub type Talk<'a> = Conversation<'a, MemoryDisk, HostRuntime>;
 
-/// A server over a new store. The device call of this number from its start on fails, where 0 is none.
-fn begin(
+/// The relay ports of conversations.
+pub const PORTS: (u16, u16) = (62_000, 62_999);
+
+/// A server over a new store, whose turns take so many datagrams of a socket. The device call of this number from its start on
+/// fails, where 0 is none.
+pub fn begin(
     rt: &HostRuntime,
     call: u64,
-    first: u16,
-    last: u16,
+    (first, last): (u16, u16),
+    burst: u8,
 ) -> Result<Result<Talk<'_>, ClientFault>, Fail> {
     let area = least_area(limits());
     let mut disk = MemoryDisk::new(rt.alloc(), Vec::from_elem(rt.alloc(), 0u8, 64 + 2 * area)?);
@@ -28,7 +32,7 @@ fn begin(
         disk.fail_call(call);
     }
     let ports = PortRange::new(first, last).ok_or("a range")?;
-    Ok(Loopback::new(rt.alloc(), rt, ports, 1)?.serve(disk))
+    Ok(Loopback::new(rt.alloc(), rt, ports, burst)?.serve(disk))
 }
 
 /// Where a device call that fails is.
@@ -71,7 +75,7 @@ fn place_of(rt: &HostRuntime, talk: &mut Talk<'_>) -> Result<Place, Fail> {
 }
 
 fn expect_place(rt: &HostRuntime, call: u64, place: Place) -> Result<(), Fail> {
-    let found = match begin(rt, call, 62_000, 62_999)? {
+    let found = match begin(rt, call, PORTS, 1)? {
         Ok(mut talk) => {
             let found = place_of(rt, &mut talk);
             talk.end();
@@ -91,6 +95,40 @@ fn expect_place(rt: &HostRuntime, call: u64, place: Place) -> Result<(), Fail> {
 fn a_turn_whose_commit_fails_answers_nothing(rt: HostRuntime) -> Result<(), Fail> {
     for (call, place) in &CALLS {
         expect_place(&rt, *call, *place)?;
+    }
+    Ok(())
+}
+
+/// A burst, and a device call from the commits of two Refreshes on, the first one after an Allocate being 29: whether a turn fails
+/// of two after the Refreshes were sent. With a burst of 2 one commit of four calls has both.
+const REFRESHES: [(u8, u64, bool); 3] = [(1, 33, true), (2, 32, true), (2, 33, false)];
+
+/// Whether a turn fails of two after two Refreshes.
+fn fails(rt: &HostRuntime, talk: &mut Talk<'_>) -> Result<bool, ClientFault> {
+    talk.challenge(rt)?;
+    talk.allocate(rt)?;
+    for _ in 0..2u8 {
+        let request = talk.client().request(Method::REFRESH, &[])?;
+        talk.client().send(&request)?;
+    }
+    Ok(talk.turn(rt).is_err() || talk.turn(rt).is_err())
+}
+
+fn expect_failure(rt: &HostRuntime, burst: u8, call: u64, failure: bool) -> Result<(), Fail> {
+    let mut talk = begin(rt, call, PORTS, burst)??;
+    let found = fails(rt, &mut talk);
+    talk.end();
+    if found? == failure {
+        Ok(())
+    } else {
+        Err(Fail::new(call))
+    }
+}
+
+#[test]
+fn requests_of_one_turn_share_a_commit(rt: HostRuntime) -> Result<(), Fail> {
+    for (burst, call, failure) in &REFRESHES {
+        expect_failure(&rt, *burst, *call, *failure)?;
     }
     Ok(())
 }
@@ -134,7 +172,7 @@ fn are_dropped(rt: &HostRuntime, talk: &mut Talk<'_>, longest: &[u8]) -> Result<
 
 fn expect_dropped(rt: &HostRuntime) -> Result<(), Fail> {
     let longest = Vec::from_elem(rt.alloc(), 0u8, MAX_DATAGRAM)?;
-    let mut talk = begin(rt, 0, 62_000, 62_999)??;
+    let mut talk = begin(rt, 0, PORTS, 1)??;
     let dropped = are_dropped(rt, &mut talk, &longest);
     talk.end();
     if dropped? {
@@ -176,7 +214,7 @@ fn go_on(rt: &HostRuntime, talk: &mut Talk<'_>) -> Result<bool, ClientFault> {
 }
 
 fn expect_ports(rt: &HostRuntime) -> Result<(), Fail> {
-    let mut talk = begin(rt, 0, 63_011, 63_013)??;
+    let mut talk = begin(rt, 0, (63_011, 63_013), 1)??;
     let going = go_on(rt, &mut talk);
     talk.end();
     if going? {

@@ -6,16 +6,51 @@ use std::alloc::Global;
 use std::test::Fail;
 use turn_config::{Configured, read_config};
 use turn_disk::{MemoryDisk, Outcome};
+use turn_engine::{CommitRefused, SubmitRefused};
 use turn_player::{Event, Player, Step};
+use turn_step::Arrival;
+use turn_store::OpenFault;
+use turn_types::{Endpoint, FiveTuple, Moment};
 
-/// Five events, one more than the list's first growth has room for.
-const STEPS: [Step<'static>; 5] = [
-    Step::Reopen,
-    Step::Commit,
-    Step::Crash(Outcome::Kept),
-    Step::Commit,
-    Step::Reopen,
-];
+const BINDING: &[u8] =
+    b"\x00\x01\x00\x00\x21\x12\xA4\x42\x01\x02\x03\x04\x05\x06\x07\x08\x09\x0A\x0B\x0C";
+
+/// How many events the steps have, more than the list's first growth has room for.
+const EVENTS: usize = 6;
+
+/// An opening, a Binding request that a commit answers, a crash, and a batch of nothing.
+fn steps() -> Result<[Step<'static>; 6], Fail> {
+    let endpoint = Endpoint {
+        ip: 0xC000_0201,
+        port: 5,
+    };
+    let arrival = Arrival::Client {
+        five_tuple: FiveTuple {
+            client: endpoint,
+            server: endpoint,
+        },
+        bytes: BINDING,
+    };
+    let moment = Moment::new(5).ok_or("a moment")?;
+    Ok([
+        Step::Reopen,
+        Step::Arrive(moment, arrival),
+        Step::Commit,
+        Step::Crash(Outcome::Kept),
+        Step::Commit,
+        Step::Reopen,
+    ])
+}
+
+/// Whether an event tells that an allocation failed: of an arrival, of an opening, or of the disk's record.
+fn tells(event: &Event<&Refusing<Global>>) -> bool {
+    match event {
+        Event::Refused(fault) => *fault == SubmitRefused::Memory,
+        Event::Failed(fault) => *fault == CommitRefused::Device,
+        Event::NotOpened(fault) => matches!(fault, OpenFault::Memory | OpenFault::Device),
+        _ => false,
+    }
+}
 
 type Refused<'a> = Player<&'a Refusing<Global>>;
 
@@ -49,7 +84,7 @@ fn is_spent(player: &mut Refused<'_>) -> bool {
 enum Ran {
     /// No growth was refused.
     Whole,
-    /// A growth was refused, which an event may tell.
+    /// A growth was refused, and an event tells it, or all events came as without.
     Told,
     /// A growth of the list of events was refused.
     Spent,
@@ -58,14 +93,15 @@ enum Ran {
 /// Runs the steps with the growth after so many refused.
 fn run_refused(refusing: &Refusing<Global>, served: u64) -> Result<Ran, Fail> {
     let mut player = player(refusing)?;
+    let steps = steps()?;
     refusing.arm(served);
-    let was_run = player.run(&STEPS).is_ok();
+    let events = player.run(&steps);
     let was_refused = refusing.has_refused();
     refusing.arm(u64::MAX);
-    match (was_run, was_refused) {
-        (true, false) => Ok(Ran::Whole),
-        (true, true) => Ok(Ran::Told),
-        (false, true) if is_spent(&mut player) => Ok(Ran::Spent),
+    match (events, was_refused) {
+        (Ok(events), false) if events.len() == EVENTS => Ok(Ran::Whole),
+        (Ok(events), true) if events.len() == EVENTS || events.iter().any(tells) => Ok(Ran::Told),
+        (Err(_), true) if is_spent(&mut player) => Ok(Ran::Spent),
         _ => Err(Fail::new(served)),
     }
 }
