@@ -15,32 +15,18 @@ use turn_types::{Endpoint, FiveTuple, Moment};
 const BINDING: &[u8] =
     b"\x00\x01\x00\x00\x21\x12\xA4\x42\x01\x02\x03\x04\x05\x06\x07\x08\x09\x0A\x0B\x0C";
 
-/// How many events the steps have, more than the list's first growth has room for.
-const EVENTS: usize = 6;
+const CLIENT: Endpoint = Endpoint {
+    ip: 0xC000_0201,
+    port: 5,
+};
 
-/// An opening, a Binding request that a commit answers, a crash, and a batch of nothing.
-fn steps() -> Result<[Step<'static>; 6], Fail> {
-    let endpoint = Endpoint {
-        ip: 0xC000_0201,
-        port: 5,
-    };
-    let arrival = Arrival::Client {
-        five_tuple: FiveTuple {
-            client: endpoint,
-            server: endpoint,
-        },
-        bytes: BINDING,
-    };
-    let moment = Moment::new(5).ok_or("a moment")?;
-    Ok([
-        Step::Reopen,
-        Step::Arrive(moment, arrival),
-        Step::Commit,
-        Step::Crash(Outcome::Kept),
-        Step::Commit,
-        Step::Reopen,
-    ])
-}
+const ARRIVAL: Arrival<'static> = Arrival::Client {
+    five_tuple: FiveTuple {
+        client: CLIENT,
+        server: CLIENT,
+    },
+    bytes: BINDING,
+};
 
 /// Whether an event tells that an allocation failed: of an arrival, of an opening, or of the disk's record.
 fn tells(event: &Event<&Refusing<Global>>) -> bool {
@@ -90,18 +76,36 @@ enum Ran {
     Spent,
 }
 
+/// Runs an opening, a Binding request that a commit answers, a crash, and a batch of nothing. Returns whether all six events
+/// came, which are more than the list's first growth has room for, or one tells of an allocation failure; nothing if the list
+/// had no room.
+fn run(player: &mut Refused<'_>, moment: Moment) -> Option<bool> {
+    let run = player.run(&[
+        Step::Reopen,
+        Step::Arrive(moment, ARRIVAL),
+        Step::Commit,
+        Step::Crash(Outcome::Kept),
+        Step::Commit,
+        Step::Reopen,
+    ]);
+    let Ok(events) = run else {
+        return None;
+    };
+    Some(events.len() == 6 || events.iter().any(tells))
+}
+
 /// Runs the steps with the growth after so many refused.
 fn run_refused(refusing: &Refusing<Global>, served: u64) -> Result<Ran, Fail> {
     let mut player = player(refusing)?;
-    let steps = steps()?;
+    let moment = Moment::new(5).ok_or("a moment")?;
     refusing.arm(served);
-    let events = player.run(&steps);
+    let run = run(&mut player, moment);
     let was_refused = refusing.has_refused();
     refusing.arm(u64::MAX);
-    match (events, was_refused) {
-        (Ok(events), false) if events.len() == EVENTS => Ok(Ran::Whole),
-        (Ok(events), true) if events.len() == EVENTS || events.iter().any(tells) => Ok(Ran::Told),
-        (Err(_), true) if is_spent(&mut player) => Ok(Ran::Spent),
+    match (run, was_refused) {
+        (Some(true), false) => Ok(Ran::Whole),
+        (Some(true), true) => Ok(Ran::Told),
+        (None, true) if is_spent(&mut player) => Ok(Ran::Spent),
         _ => Err(Fail::new(served)),
     }
 }
