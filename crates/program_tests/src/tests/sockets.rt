@@ -230,11 +230,11 @@ fn call(client: &TimedSocket) {
 }
 
 /// Serves while a client calls: what is printed, or nothing after a fault.
-fn serve(
+fn serve<'x>(
     rt: &HostRuntime,
     client: &TimedSocket,
-    turns: &str,
-    burst: &str,
+    turns: &'x str,
+    burst: &'x str,
 ) -> Result<Option<Vec<u8>>, Fail> {
     let mut words = vec![in rt.alloc();
         "turn",

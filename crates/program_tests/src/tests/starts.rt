@@ -9,10 +9,12 @@ use std::io;
 use std::io::{Error, ErrorKind};
 use std::os::unix::fs::FileExt;
 use std::test::Fail;
-use turn_config::read_config;
 use turn_config::values::{number_32, split_once};
-use turn_disk::FileDisk;
-use turn_serving::{Setup, StartFault};
+use turn_config::{Configured, read_config};
+use turn_cred::AuthHandler;
+use turn_disk::{Disk, FileDisk};
+use turn_engine::Server;
+use turn_serving::{RelaySockets, Setup, StartFault};
 use turn_sockets::receive_buffer;
 
 /// A file that has one content up to its first sync, and another from its second sync on. An opening begins with a sync.
@@ -82,42 +84,62 @@ fn allocated(alloc: Global) -> Result<Vec<u8>, Fail> {
 #[derive(Clone, Copy, PartialEq, Eq)]
 struct Came {
     fault: Option<StartFault>,
-    /// Whether the store was opened twice.
-    twice: bool,
     /// The receive buffer of the socket of port 63,019, if there is one.
     buffer: Option<u32>,
 }
 
-/// What a start over a file comes to that has these contents at its two openings.
-fn outcome(rt: &HostRuntime, first: &[u8], second: &[u8]) -> Result<Came, Fail> {
-    let configured = read_config(rt.alloc(), CONFIG).map_err(|_| "a configuration")?;
-    let syncs = Cell::new(0);
-    let file = ChangingFile {
-        first,
-        second,
-        syncs: &syncs,
-    };
+/// The receive buffer of a port's socket, if it has one.
+fn buffer_at<D: Disk, H: AuthHandler, G: RelaySockets>(
+    server: &Server<D, H, G>,
+    port: u16,
+) -> Option<u32> {
+    server.ports().socket(port).map(receive_buffer)
+}
+
+/// What a start over a file comes to.
+fn start_over(rt: &HostRuntime, file: ChangingFile<'_>) -> Result<Came, Fail> {
+    let Configured {
+        config,
+        users,
+        listen,
+        ports,
+        ..
+    } = read_config(rt.alloc(), CONFIG).map_err(|_| "a configuration")?;
     let setup = Setup {
-        config: &configured.config,
-        listen: configured.listen,
-        ports: configured.ports,
+        config: &config,
+        listen,
+        ports,
         relay_bind: None,
         burst: 1,
     };
     let disk = FileDisk::new(file, 540);
-    let (fault, buffer) = match setup.start(rt.alloc(), rt, disk, configured.users) {
+    let (fault, buffer) = match setup.start(rt.alloc(), rt, disk, users) {
         Ok(serving) => {
-            let buffer = serving.server().ports().socket(63_019).map(receive_buffer);
+            let buffer = buffer_at(serving.server(), 63_019);
             serving.close();
             (None, buffer)
         }
         Err(fault) => (Some(fault), None),
     };
-    Ok(Came {
-        fault,
-        twice: syncs.get() == 2,
-        buffer,
-    })
+    Ok(Came { fault, buffer })
+}
+
+/// What a start comes to over a file that has these contents at its two openings, if both are made.
+fn outcome(rt: &HostRuntime, first: &[u8], second: &[u8]) -> Result<Came, Fail> {
+    let syncs = Cell::new(0);
+    let came = start_over(
+        rt,
+        ChangingFile {
+            first,
+            second,
+            syncs: &syncs,
+        },
+    )?;
+    if syncs.get() == 2 {
+        Ok(came)
+    } else {
+        Err(Fail::new("another number of openings"))
+    }
 }
 
 /// The receive buffer that Linux gives where 8 MiB are asked for: no more than its limit, and doubled.
@@ -131,7 +153,6 @@ fn given_buffer(rt: &HostRuntime) -> Result<u32, Fail> {
 fn started(buffer: Option<u32>) -> Came {
     Came {
         fault: None,
-        twice: true,
         buffer,
     }
 }
