@@ -20,7 +20,7 @@ pub mark_stands : (mark : ℕ) (front rest : List ℕ) → Without mark (front +
 mark_stands mark [] rest h = head_without mark mark rest h refl
 mark_stands mark (x ∷ front) rest h = mark_stands mark front rest (rest_without mark x (front ++ mark ∷ rest) h)
 
--- what stands before the first mark, and behind it
+-- what stands before the first mark, and after it
 pub one_split : (mark : ℕ) (a x b y : List ℕ) → Without mark a → Without mark b → a ++ mark ∷ x ≡ b ++ mark ∷ y
     → (a ≡ b) × (x ≡ y)
 one_split mark [] x [] y f g e = (refl, cc)

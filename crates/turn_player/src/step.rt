@@ -37,7 +37,7 @@ pub enum Event<A: Allocator = Global> {
     Committed(usize),
     /// A commit failed, and handed nothing out.
     Failed(CommitRefused),
-    /// A store was opened; the clock is the greatest moment that it holds.
+    /// A store was opened; the clock is the latest moment that it holds.
     Opened(Moment),
     /// A store was not opened. No store is open.
     NotOpened(OpenFault),

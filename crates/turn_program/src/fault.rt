@@ -18,7 +18,7 @@ use turn_words::WordFault;
 /// Why a command ended without its answer: shown as the line that is printed on standard error.
 #[derive(Clone, Copy, Debug, PartialEq, Eq, Error)]
 pub enum Fault {
-    /// Words that make no command, or a value out of form or range.
+    /// Words that make no command, or a value that is malformed or out of range.
     #[error("turn: usage")]
     Usage,
     /// A datagram that isn't written as pairs of hex digits.

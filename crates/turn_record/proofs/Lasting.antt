@@ -1,4 +1,4 @@
--- What a reader answers stays when bytes are added: a value, with the added bytes behind it, and a refusal other than Short.
+-- What a reader answers stays when bytes are added: a value, with the added bytes after it, and a refusal other than Short.
 use Rattle.std.proofs.Common.{◌≡◌, ℕ, zero, suc, ◌≤◌, Bool, true, false, cond, ltb, List, [], ◌∷◌, ◌++◌, length, take, drop, Result, Ok, Err, refl, arith}
 use Rattle.std.specs.Int.{Width, w16, w32, w64, byte_len, from_be_bytes}
 use Rattle.std.proofs.lemmas.Bool.{ltb-false, le-ltb}

@@ -9,7 +9,7 @@ ghost use Rattle.turn_record.specs.Records.{IsBatch, IsSnapshot, max_act, max_pa
 ghost use Rattle.turn_types.specs.Limits.{AreInRange};
 ghost use Rattle.turn_types.specs.declared.limits.Bounds.{Bounds};
 
-/// Bytes spell one event, one batch, or one table at one moment, at most, and no spelling of one is a proper prefix of
+/// Bytes encode one event, one batch, or one table at one moment, at most, and no encoding of one is a proper prefix of
 /// another's.
 pub fn spellings_are_one()
     ensures acts { (b : Bounds) → AreInRange b → (x y : Event) (u v : List ℕ) → IsInRange b x → IsInRange b y →

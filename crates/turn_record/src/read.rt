@@ -211,15 +211,15 @@ fn whole_payload<A: Allocator + Copy>(
     Ok(events)
 }
 
-/// The event that the bytes spell under the limits, all of the bytes.
+/// The event that the bytes encode under the limits, all of the bytes.
 pub fn read_act<A: Allocator + Copy>(
     alloc: A,
     limits: Limits,
     bytes: &[u8],
 ) -> Result<Event<A>, ReadError>
-    // What is read is spelled.
+    // What is read is what the bytes encode.
     ensures spelled { IfOk result (λ e. SpellsAct limits (event_of e) bytes.now) }
-    // What is spelled is read.
+    // What the bytes encode is read.
     ensures read { (e : histories.Event) → SpellsAct limits e bytes.now → Gives event_of result (Ok e) }
     // Else it is the first fault.
     ensures fault { Gives event_of result (act_in limits bytes.now) }
@@ -227,15 +227,15 @@ pub fn read_act<A: Allocator + Copy>(
     whole_act(alloc, limits.bounds(), bytes)
 }
 
-/// The events that the bytes of a payload spell under the limits, all of the bytes.
+/// The events that the bytes of a payload encode under the limits, all of the bytes.
 pub fn read_payload<A: Allocator + Copy>(
     alloc: A,
     limits: Limits,
     bytes: &[u8],
 ) -> Result<Vec<Event<A>, A>, ReadError>
-    // What is read is spelled.
+    // What is read is what the bytes encode.
     ensures spelled { IfOk result (λ v. SpellsPayload limits (events_of v.items) bytes.now) }
-    // What is spelled is read.
+    // What the bytes encode is read.
     ensures read { (es : List histories.Event) → SpellsPayload limits es bytes.now → Gives (λ v. events_of v.items) result (Ok es) }
     // Else it is the first fault.
     ensures fault { Gives (λ v. events_of v.items) result (payload_in limits bytes.now) }

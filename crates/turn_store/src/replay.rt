@@ -25,7 +25,7 @@ use turn_types::{Limits, Moment};
 pub enum FrameFault {
     Device,
     Memory,
-    /// Its payload spells no batch, or an event is before the table's moment or doesn't fit.
+    /// Its payload encodes no batch, or an event is before the table's moment or doesn't fit.
     Bad,
 }
 

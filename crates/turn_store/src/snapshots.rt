@@ -70,7 +70,7 @@ fn feed_piece<D: Disk, A: Allocator + Copy>(
     Ok(())
 }
 
-/// Reads the table that so many bytes of the disk spell.
+/// Reads the table that so many bytes of the disk encode.
 pub fn read_snapshot<D: Disk, A: Allocator + Copy>(
     alloc: A,
     disk: &mut D,

@@ -210,7 +210,7 @@ module _ {X : Type 0} (user : X → List ℕ) where
   named-remove : (m : FinMap tuple_cmp X) (tuple : FiveTuple) (f : FiveTuple) → same_tuple f tuple ≡ false → name_of user (fin.get (fin.remove m tuple)) f ≡ name_of user (fin.get m) f
   named-remove m tuple f is = ap (λ o. option_map_or user o []) (get-remove tuple_total m tuple f ∙ ap (λ b. cond b None (fin.get m f)) is)
 
-  -- a five-tuple that gets an entry goes behind the last of its user
+  -- a five-tuple that gets an entry goes after the last of its user
   pub inserted : (m : FinMap tuple_cmp X) (tuples : List FiveTuple) → IsByUser user m tuples → (tuple : FiveTuple) (v : X) (end : ℕ) → fin.get m tuple ≡ None → IsEndOf (name_of user (fin.get m)) (user v) tuples end → IsByUser user (fin.insert m tuple v) (insert tuples end tuple)
   inserted m tuples by tuple v end absent place =
       let old = name_of user (fin.get m) in

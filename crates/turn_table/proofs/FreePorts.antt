@@ -121,7 +121,7 @@ module _ {V : Type 0} where
   abbrev pub IsRun : ℕ → List (ℕ × V) → ℕ → Type 0
   IsRun from ports n = (i : ℕ) → i < n → option_map (λ s. s.0) (slice_get ports i) ≡ Some (from + i)
 
-  -- where a walk starts: at the first port, or at the even one behind it
+  -- where a walk starts: at the first port, or at the even one after it
   pub starts : (range : ℕ × ℕ) (even : Bool) (ports : List (ℕ × V)) (lowest : ℕ) → is_sorted nat_cmp ports ≡ true → range.0 ≤ lowest → (even ≡ true → (lowest % 2 ≡ 0) × (lowest ≤ range.0 + 1)) → (even ≡ false → lowest ≡ range.0) → Reaches range even ports ports lowest
   starts range even ports lowest s from is_even is_odd =
       record {
@@ -144,7 +144,7 @@ module _ {V : Type 0} where
   of_port None p e = absurd cc
   of_port (Some x) p e = (x, refl, cc)
 
-  -- behind a run
+  -- after a run
   pub after_run : (range : ℕ × ℕ) (ports : List (ℕ × V)) (n : ℕ) → is_sorted nat_cmp ports ≡ true → IsRun range.0 ports n → Reaches range false ports (drop n ports) (range.0 + n)
   after_run range ports zero s run = starts range false ports (range.0 + 0) s (omega arith) (λ e. cc) (λ e. omega arith)
   after_run range ports (suc n) s run =
@@ -157,7 +157,7 @@ module _ {V : Type 0} where
   all_taken : (ports : List (ℕ × V)) (n : ℕ) → take (length ports - n) (drop n ports) ≡ drop n ports
   all_taken ports n = ap (λ k. take k (drop n ports)) (sym (length-drop n ports)) ∙ take-length (drop n ports)
 
-  -- where the walk starts behind the run that it passes over, which is none where an even port is asked for
+  -- where the walk starts after the run that it passes over, which is none where an even port is asked for
   pub begins : (range : ℕ × ℕ) (even : Bool) (ports : List (ℕ × V)) (run lowest : ℕ) → is_sorted nat_cmp ports ≡ true → (even ≡ true → (run ≡ 0) × (lowest ≡ range.0 + range.0 % 2)) → (even ≡ false → IsRun range.0 ports run × (lowest ≡ range.0 + run)) → Reaches range even ports (take (length ports - run) (drop run ports)) lowest
   begins range true ports run lowest s is_even is_odd =
       let none : run ≡ 0 = (is_even refl).0 in

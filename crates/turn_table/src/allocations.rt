@@ -130,7 +130,7 @@ impl<A: Allocator + Copy> Allocations<A> {
         Some(*tuple)
     }
 
-    /// The least moment at which something expires.
+    /// The earliest moment at which something expires.
     pub(crate) fn quiet_until(&self) -> u64
         ensures { AreQuiet result self.now.held }
     {

@@ -200,7 +200,7 @@ impl<A: Allocator + Copy> Entry<A> {
         }
     }
 
-    /// The least moment at which it or something in it expires.
+    /// The earliest moment at which it or something in it expires.
     pub(crate) fn earliest(&self) -> u64
         ensures { IsQuiet result self.now.entry }
     {

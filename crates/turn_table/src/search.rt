@@ -88,7 +88,7 @@ pub(crate) fn expired_of<A: Allocator>(entries: &[Entry<A>], seconds: u64) -> Op
     None
 }
 
-/// The least moment at which something expires.
+/// The earliest moment at which something expires.
 pub(crate) fn earliest_of<A: Allocator + Copy>(entries: &[Entry<A>]) -> u64
     ensures { AllByRecursion (λ h. IsQuiet result h.entry) entries.now }
 {

@@ -64,7 +64,7 @@ fn keep_ahead<K: Key, V: Expires, A: Allocator>(items: &mut Vec<(K, V), A>, mome
     items.retain(|e| moment < e.1.expiry());
 }
 
-/// The least expiry.
+/// The earliest expiry.
 fn earliest<K: Key, V: Expires>(items: &[(K, V)]) -> u64
     ensures { AllByRecursion (λ e. result ≤ V.expiry e.1) items.now }
 {
@@ -177,7 +177,7 @@ impl<K: Key, V: Expires, A: Allocator + Copy> SortedMap<K, V, A> {
         keep_ahead(&mut self.items, moment);
     }
 
-    /// The least expiry of a value.
+    /// The earliest expiry of a value.
     pub(crate) fn earliest(&self) -> u64
         ensures { (k : K) (v : V) → fin.get (map_in K.cmp self.now) k ≡ Some v → result ≤ V.expiry v }
     {

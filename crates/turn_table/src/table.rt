@@ -167,7 +167,7 @@ impl<A: Allocator + Copy> Table<A> {
         }
     }
 
-    /// The greatest five-tuple that has an entry.
+    /// The last five-tuple, in their order, that has an entry.
     pub fn last(&self) -> Option<FiveTuple>
         ensures { let all = fin.entries self.now.contents.entries in
             result ≡ option_map (λ p. p.0) (slice_get all (length all - 1)) }
@@ -451,7 +451,7 @@ impl<A: Allocator + Copy> PortSet for Table<A> {
         self.by_port(port).is_some()
     }
 
-    /// One walk over the ports of the entries.
+    /// By halves over the ports that follow one another from the first on, then port by port.
     fn lowest_free(&self, first: u16, last: u16, even: bool) -> Option<u16>
         ensures { IsLowestFree (first, last) (is_taken self.now.contents) even result }
     {

@@ -20,7 +20,7 @@ fn name_at<'a, A: Allocator>(entries: &'a EntryMap<A>, tuple: &FiveTuple) -> &'a
     }
 }
 
-/// The place of the first five-tuple of a user, or where it would stand.
+/// The place of the first five-tuple of a user, or where it would be.
 fn first_of<A: Allocator>(tuples: &[FiveTuple], user: &[u8], entries: &EntryMap<A>) -> usize
     requires { NamesRise (names_in entries.now.entries) tuples.now }
     ensures { IsFirstOf (names_in entries.now.entries) user.now tuples.now result }
@@ -28,7 +28,7 @@ fn first_of<A: Allocator>(tuples: &[FiveTuple], user: &[u8], entries: &EntryMap<
     tuples.partition_point(|tuple| name_at(entries, tuple).cmp(user).is_lt())
 }
 
-/// The place behind the last five-tuple of a user.
+/// The place after the last five-tuple of a user.
 fn end_of<A: Allocator>(tuples: &[FiveTuple], user: &[u8], entries: &EntryMap<A>) -> usize
     requires { NamesRise (names_in entries.now.entries) tuples.now }
     ensures { IsEndOf (names_in entries.now.entries) user.now tuples.now result }
@@ -55,7 +55,7 @@ fn place_in<A: Allocator>(
     place
 }
 
-/// Five-tuples in the order of their users' names, with room for some more. Those of one user stand together.
+/// Five-tuples in the order of their users' names, with room for some more. Those of one user follow one another.
 #[derive(Drop)]
 pub(crate) struct UserOrder<A: Allocator = Global> {
     tuples: Vec<FiveTuple, A>,
@@ -102,7 +102,7 @@ impl<A: Allocator + Copy> UserOrder<A> {
         self.tuples.reserve(more)
     }
 
-    /// Adds a five-tuple behind the last of its user. It needs no entry of its own yet.
+    /// Adds a five-tuple after the last of its user. It needs no entry of its own yet.
     pub(crate) fn insert(&mut self, tuple: FiveTuple, user: &[u8], entries: &EntryMap<A>)
         requires room { 0 < self.old.1 }
         requires rises { NamesRise (names_in entries.now.entries) self.old.0 }

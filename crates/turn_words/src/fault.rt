@@ -9,7 +9,7 @@ use thiserror::Error;
 /// Why words make no command.
 #[derive(Clone, Copy, Debug, PartialEq, Eq, Error)]
 pub enum WordFault {
-    /// Words that make no command, or a value out of form or range.
+    /// Words that make no command, or a value that is malformed or out of range.
     #[error("usage")]
     Usage,
     /// A datagram that isn't written as pairs of hex digits.
