@@ -1,58 +1,17 @@
-//! Binding, its FINGERPRINT, and unknown types.
+//! FINGERPRINT of a Binding request, and unknown types.
 
-use crate::player::{Player, play};
+use crate::player::Player;
 use crate::requests::*;
-use crate::row::Row;
 use crate::setup::SETUP;
 use std::alloc::Global;
 use std::test::Fail;
 use turn_codec::{AttributeType, Builder, Message};
 use turn_types::{Class, Method, TxId};
 
-const BINDING: &[u8] =
-    b"\x00\x01\x00\x00\x21\x12\xa4\x42\x01\x02\x03\x04\x05\x06\x07\x08\x09\x0a\x0b\x0c";
-
-const SUCCESS: &[u8] =
-    b"\x01\x01\x00\x0c\x21\x12\xa4\x42\x01\x02\x03\x04\x05\x06\x07\x08\x09\x0a\x0b\x0c\
-    \x00\x20\x00\x08\x00\x01\xa1\x47\xe1\x12\xa6\x43";
-
-const WITH_AN_UNKNOWN_TYPE: &[u8] =
-    b"\x00\x01\x00\x08\x21\x12\xa4\x42\x01\x02\x03\x04\x05\x06\x07\x08\x09\x0a\x0b\x0c\
-    \x00\x03\x00\x04\x00\x00\x00\x00";
-
-const UNKNOWN_TYPE: &[u8] =
-    b"\x01\x11\x00\x24\x21\x12\xa4\x42\x01\x02\x03\x04\x05\x06\x07\x08\x09\x0a\x0b\x0c\
-    \x00\x09\x00\x15\x00\x00\x04\x14Unknown Attribute\x00\x00\x00\x00\x0a\x00\x02\x00\x03\x00\x00";
-
 /// A request with a FINGERPRINT, whose checksum is that of zlib.
 const FINGERPRINTED: &[u8; 28] =
     b"\x00\x01\x00\x08\x21\x12\xa4\x42\x01\x02\x03\x04\x05\x06\x07\x08\x09\x0a\x0b\x0c\
     \x80\x28\x00\x04\x5b\x20\xf9\xcc";
-
-const FINGERPRINTED_SUCCESS: &[u8] =
-    b"\x01\x01\x00\x14\x21\x12\xa4\x42\x01\x02\x03\x04\x05\x06\x07\x08\x09\x0a\x0b\x0c\
-    \x00\x20\x00\x08\x00\x01\xa1\x47\xe1\x12\xa6\x43\x80\x28\x00\x04\x50\x89\xd8\x98";
-
-const ANSWERED: [Row; 1] = [Row::Answer(0, BINDING, Some(SUCCESS))];
-
-#[test]
-fn binding_is_answered_by_the_mapped_address(rt: HostRuntime) -> Result<(), Fail> {
-    play(rt.alloc(), &SETUP, &ANSWERED)
-}
-
-const REFUSED: [Row; 1] = [Row::Answer(0, WITH_AN_UNKNOWN_TYPE, Some(UNKNOWN_TYPE))];
-
-#[test]
-fn binding_with_an_unknown_type_is_420(rt: HostRuntime) -> Result<(), Fail> {
-    play(rt.alloc(), &SETUP, &REFUSED)
-}
-
-const WITH_A_FINGERPRINT: [Row; 1] = [Row::Answer(0, FINGERPRINTED, Some(FINGERPRINTED_SUCCESS))];
-
-#[test]
-fn fingerprint_is_answered_by_one(rt: HostRuntime) -> Result<(), Fail> {
-    play(rt.alloc(), &SETUP, &WITH_A_FINGERPRINT)
-}
 
 /// The reply of a new server to a datagram, if there is one.
 fn reply(alloc: Global, bytes: &[u8]) -> Result<Option<Vec<u8>>, Fail> {

@@ -1,8 +1,7 @@
 //! Requests that ask for credentials.
 
-use crate::player::{Player, play};
+use crate::player::Player;
 use crate::requests::*;
-use crate::row::Row;
 use crate::setup::SETUP;
 use std::alloc::Global;
 use std::test::Fail;
@@ -13,23 +12,6 @@ use turn_types::{Class, Endpoint, Method};
 /// By HMAC-SHA256 of another program: the nonce of second 1000 for 192.0.2.1:32853 under a secret of 32 zero bytes.
 const NONCE: &[u8] =
     b"00000000000003e867b461aa60944ff2d53aa237b6407c1ab6779c548e297976b3bed07840569489";
-
-const ALLOCATE: &[u8] =
-    b"\x00\x03\x00\x00\x21\x12\xa4\x42\x01\x02\x03\x04\x05\x06\x07\x08\x09\x0a\x0b\x0c";
-
-/// 401 with the realm and that nonce.
-const CHALLENGE: &[u8] =
-    b"\x01\x13\x00\x7c\x21\x12\xa4\x42\x01\x02\x03\x04\x05\x06\x07\x08\x09\x0a\x0b\x0c\
-    \x00\x09\x00\x13\x00\x00\x04\x01Unauthenticated\x00\
-    \x00\x14\x00\x0bexample.org\x00\x00\x15\x00\x50\
-    00000000000003e867b461aa60944ff2d53aa237b6407c1ab6779c548e297976b3bed07840569489";
-
-const CHALLENGED: [Row; 1] = [Row::Answer(1000, ALLOCATE, Some(CHALLENGE))];
-
-#[test]
-fn request_without_credentials_is_challenged(rt: HostRuntime) -> Result<(), Fail> {
-    play(rt.alloc(), &SETUP, &CHALLENGED)
-}
 
 /// The reply of a new server to a datagram from a client at a second.
 fn reply(alloc: Global, bytes: &[u8], client: Endpoint, second: u64) -> Result<Vec<u8>, Fail> {
@@ -98,15 +80,6 @@ fn nonce_is_of_its_client_and_holds_for_an_hour(rt: HostRuntime) -> Result<(), F
     Ok(())
 }
 
-#[test]
-fn wrong_password_is_challenged(rt: HostRuntime) -> Result<(), Fail> {
-    let user = User::Impostor;
-    let bytes = signed(rt.alloc(), Kind::CreatePermission, ID, user, NONCE, &[])?;
-    let found = reply(rt.alloc(), &bytes, FIRST, 1000)?;
-    assert!(rt; is_challenge(&found, 401, NONCE)?);
-    Ok(())
-}
-
 /// A Refresh of alice without a nonce.
 fn without_nonce(alloc: Global) -> Result<Vec<u8>, Fail> {
     let mut builder = Builder::new(alloc, Class::Request, Method::REFRESH, ID)?;
@@ -137,28 +110,5 @@ fn is_bad(alloc: Global, bytes: &[u8]) -> Result<bool, Fail> {
 fn request_that_lacks_a_credential_is_400(rt: HostRuntime) -> Result<(), Fail> {
     assert!(rt; is_bad(rt.alloc(), &without_nonce(rt.alloc())?)?);
     assert!(rt; is_bad(rt.alloc(), &after_the_integrity(rt.alloc())?)?);
-    Ok(())
-}
-
-/// Bob's requests, and their codes where he has no allocation.
-const PASSED: [(Kind, &[Attribute], u16); 5] = [
-    (Kind::Allocate, &[], 400),
-    (Kind::Refresh, &[], 437),
-    (Kind::CreatePermission, &[], 437),
-    (Kind::ChannelBind, &[], 437),
-    (Kind::ChannelBind, &[FLAG], 420),
-];
-
-/// Whether bob's request with the nonce of second 1000 gets an error of a code under his key.
-fn passes(alloc: Global, kind: Kind, attributes: &[Attribute], code: u16) -> Result<bool, Fail> {
-    let bytes = signed(alloc, kind, ID, BOB, NONCE, attributes)?;
-    is_signed(&reply(alloc, &bytes, FIRST, 1000)?, code, BOB)
-}
-
-#[test]
-fn who_passed_is_answered_under_his_key(rt: HostRuntime) -> Result<(), Fail> {
-    for (kind, attributes, code) in &PASSED {
-        assert!(rt; passes(rt.alloc(), *kind, attributes, *code)?);
-    }
     Ok(())
 }

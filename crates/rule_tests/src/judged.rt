@@ -1,13 +1,12 @@
 //! The calls that judge a request, without a step.
 
 use crate::requests::*;
-use crate::setup::{SETUP, users};
+use crate::setup::users;
 use std::alloc::Global;
 use std::test::Fail;
 use turn_codec::Message;
 use turn_cred::Checker;
-use turn_rules::{Decision, Request, decide, is_protected};
-use turn_table::Table;
+use turn_rules::{Request, is_protected};
 use turn_types::{Moment, ServerConfig};
 
 /// A datagram of 192.0.2.1:32853, with the outcome of the credential check at a moment.
@@ -29,12 +28,4 @@ pub fn judged<'a>(
         five_tuple: five_tuple(FIRST),
         verdict,
     })
-}
-
-/// What is decided about a datagram of 192.0.2.1:32853 at a table's moment.
-pub fn decided(alloc: Global, table: &Table, bytes: &[u8]) -> Result<Decision, Fail> {
-    let config = SETUP.config(alloc)?;
-    let moment = table.moment();
-    let request = judged(alloc, &config, bytes, moment)?;
-    Ok(decide(alloc, table, &config, &request, moment, None)?)
 }

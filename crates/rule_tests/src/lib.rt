@@ -3,8 +3,6 @@
 #![tactic(auto)]
 
 #[cfg(test)]
-mod acts;
-#[cfg(test)]
 mod allocate;
 #[cfg(test)]
 mod binding;
@@ -18,8 +16,6 @@ mod credentials;
 mod full_tables;
 #[cfg(test)]
 mod judged;
-#[cfg(test)]
-mod needs_port;
 #[cfg(test)]
 mod peers_data;
 #[cfg(test)]

@@ -1,6 +1,6 @@
 //! What peers' datagrams send to clients.
 
-use crate::player::{Player, is_same, play};
+use crate::player::{Player, is_same};
 use crate::requests::*;
 use crate::row::{ALLOCATED, BOUND, PERMITTED, Row};
 use crate::setup::SETUP;
@@ -8,68 +8,7 @@ use std::alloc::Global;
 use std::test::Fail;
 use turn_types::Endpoint;
 
-/// XOR-PEER-ADDRESS of 203.0.113.5:7000, and the text "hello".
-const INDICATION: &[u8] =
-    b"\x00\x17\x00\x18\x21\x12\xa4\x42\x01\x02\x03\x04\x05\x06\x07\x08\x09\x0a\x0b\x0c\
-    \x00\x12\x00\x08\x00\x01\x3a\x4a\xea\x12\xd5\x47\
-    \x00\x13\x00\x05hello\x00\x00\x00";
-
-/// The same from port 7001.
-const INDICATION_OF_7001: &[u8] =
-    b"\x00\x17\x00\x18\x21\x12\xa4\x42\x01\x02\x03\x04\x05\x06\x07\x08\x09\x0a\x0b\x0c\
-    \x00\x12\x00\x08\x00\x01\x3a\x4b\xea\x12\xd5\x47\
-    \x00\x13\x00\x05hello\x00\x00\x00";
-
-const CHANNEL_DATA: &[u8] = b"\x40\x00\x00\x03abc";
-
 const P: Endpoint = PEER_ENDPOINT;
-
-const OTHER_PORT: Endpoint = Endpoint {
-    ip: PEER_IP,
-    port: 7001,
-};
-
-const OTHER_ADDRESS: Endpoint = Endpoint {
-    ip: 0xCB00_7106,
-    port: 7000,
-};
-
-const BY_PERMISSION: [Row; 8] = [
-    ALLOCATED,
-    Row::Receive(1000, P, b"hello", None),
-    PERMITTED,
-    Row::Receive(1299, P, b"hello", Some(INDICATION)),
-    // A permission is of an address, whatever the port.
-    Row::Receive(1299, OTHER_PORT, b"hello", Some(INDICATION_OF_7001)),
-    Row::Receive(1299, OTHER_ADDRESS, b"hello", None),
-    Row::DropAt(1299, 50001, P, b"hello"),
-    Row::Receive(1300, P, b"hello", None),
-];
-
-#[test]
-fn data_of_a_permitted_peer_is_indicated_for_300_seconds(rt: HostRuntime) -> Result<(), Fail> {
-    play(rt.alloc(), &SETUP, &BY_PERMISSION)
-}
-
-const BY_CHANNEL: [Row; 9] = [
-    ALLOCATED,
-    BOUND,
-    Row::Receive(1299, P, b"abc", Some(CHANNEL_DATA)),
-    Row::Receive(1299, P, b"", Some(b"\x40\x00\x00\x00")),
-    // The channel is bound to the peer's port.
-    Row::Receive(1299, OTHER_PORT, b"hello", Some(INDICATION_OF_7001)),
-    // The permission has expired, and the channel hasn't.
-    Row::Receive(1300, P, b"abc", None),
-    Row::Bound(1300, 7000, false),
-    // The channel has expired, and the permission was installed again.
-    Row::Ask(1599, ALICE, FIRST, Kind::CreatePermission, &[PEER], 0),
-    Row::Receive(1600, P, b"hello", Some(INDICATION)),
-];
-
-#[test]
-fn data_of_a_bound_peer_is_channel_data(rt: HostRuntime) -> Result<(), Fail> {
-    play(rt.alloc(), &SETUP, &BY_CHANNEL)
-}
 
 /// The bytes before the payload of a Data indication of 65,504 bytes.
 const LONGEST_INDICATION: &[u8] =

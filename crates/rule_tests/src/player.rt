@@ -221,17 +221,6 @@ impl<A: Allocator + Copy> Player<A> {
         }
     }
 
-    /// What a datagram from an address to a port sends.
-    fn receive(
-        &mut self,
-        second: u64,
-        port: u16,
-        from: Endpoint,
-        bytes: &[u8],
-    ) -> Result<Option<Outgoing<A>>, Fail> {
-        self.arrive(second, &of_peer(port, from, bytes))
-    }
-
     /// What the first client gets by a datagram to port 50000, if it gets anything.
     pub fn received(
         &mut self,
@@ -239,7 +228,7 @@ impl<A: Allocator + Copy> Player<A> {
         from: Endpoint,
         bytes: &[u8],
     ) -> Result<Option<Vec<u8, A>>, Fail> {
-        match self.receive(second, 50000, from, bytes)? {
+        match self.arrive(second, &of_peer(50000, from, bytes))? {
             Some(out) => to_client(FIRST, out),
             None => Ok(None),
         }
@@ -327,18 +316,12 @@ impl<A: Allocator + Copy> Player<A> {
                 let found = self.ask(ALICE, FIRST, *second, *kind, attributes)?;
                 Ok(found.as_slice() == *reply)
             }
-            Row::Answer(second, bytes, reply) => {
-                Ok(is_same(&self.reply(FIRST, *second, bytes)?, *reply))
-            }
             Row::Send(second, bytes, payload) => Ok(is_same(&self.sent(*second, bytes)?, *payload)),
             Row::Receive(second, from, bytes, datagram) => {
                 Ok(is_same(&self.received(*second, *from, bytes)?, *datagram))
             }
             Row::Drop(second, client, bytes) => {
                 Ok(self.submit(*client, *second, bytes)?.is_none())
-            }
-            Row::DropAt(second, port, from, bytes) => {
-                Ok(self.receive(*second, *port, *from, bytes)?.is_none())
             }
             found => self.finds(found),
         }

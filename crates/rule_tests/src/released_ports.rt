@@ -4,32 +4,12 @@ use crate::player::{Player, play};
 use crate::requests::*;
 use crate::row::{ALLOCATED, BOUND, PERMITTED, Row};
 use crate::setup::{SETUP, Setup};
-use refusing::Refusing;
-use std::alloc::Global;
 use std::test::Fail;
 
 const ALLOCATE: Kind = Kind::Allocate;
 
 /// An allocation of bob at the second client for 600 seconds from second 1000 on.
 const BOBS: Row = Row::Ask(1000, BOB, SECOND, ALLOCATE, &[UDP], 0);
-
-const EXPIRED: [Row; 9] = [
-    ALLOCATED,
-    BOBS,
-    Row::Picked(&[50000, 50001]),
-    Row::Drop(1599, FIRST, b""),
-    Row::Released(&[]),
-    // Bob's allocation expires, whatever arrives.
-    Row::Drop(1600, FIRST, b""),
-    Row::Released(&[50001]),
-    Row::Drop(4599, FIRST, b""),
-    Row::Released(&[50001]),
-];
-
-#[test]
-fn port_is_released_once_its_allocation_has_expired(rt: HostRuntime) -> Result<(), Fail> {
-    play(rt.alloc(), &SETUP, &EXPIRED)
-}
 
 const BOTH_EXPIRED: [Row; 6] = [
     ALLOCATED,
@@ -46,24 +26,6 @@ fn all_expired_ports_are_released_at_once(rt: HostRuntime) -> Result<(), Fail> {
     play(rt.alloc(), &SETUP, &BOTH_EXPIRED)
 }
 
-const DELETED: [Row; 9] = [
-    ALLOCATED,
-    BOBS,
-    Row::Ask(1001, ALICE, FIRST, Kind::Refresh, &[ZERO], 0),
-    Row::Released(&[50000]),
-    // Neither by a second deletion nor at the second at which it would have expired.
-    Row::Ask(1001, ALICE, FIRST, Kind::Refresh, &[ZERO], 437),
-    Row::Ask(1001, BOB, SECOND, Kind::Refresh, &[HOUR], 0),
-    Row::Drop(4600, FIRST, b""),
-    Row::Released(&[50000]),
-    Row::Entries(1),
-];
-
-#[test]
-fn port_of_a_deleted_allocation_is_released_once(rt: HostRuntime) -> Result<(), Fail> {
-    play(rt.alloc(), &SETUP, &DELETED)
-}
-
 const USED_AGAIN: [Row; 7] = [
     ALLOCATED,
     Row::Ask(1001, ALICE, FIRST, Kind::Refresh, &[ZERO], 0),
@@ -77,23 +39,6 @@ const USED_AGAIN: [Row; 7] = [
 #[test]
 fn released_port_is_picked_again(rt: HostRuntime) -> Result<(), Fail> {
     play(rt.alloc(), &SETUP, &USED_AGAIN)
-}
-
-// A repeated Allocate, and requests that are refused or keep the allocation.
-const NOTHING_PICKED: [Row; 8] = [
-    ALLOCATED,
-    ALLOCATED,
-    Row::Ask(1000, BOB, FIRST, ALLOCATE, &[UDP], 437),
-    Row::Ask(1000, ALICE, SECOND, ALLOCATE, &[], 400),
-    Row::Ask(1000, ALICE, FIRST, Kind::Refresh, &[], 0),
-    Row::Ask(1000, ALICE, FIRST, Kind::CreatePermission, &[PEER], 0),
-    Row::Picked(&[50000]),
-    Row::Released(&[]),
-];
-
-#[test]
-fn no_port_is_picked_that_no_allocation_gets(rt: HostRuntime) -> Result<(), Fail> {
-    play(rt.alloc(), &SETUP, &NOTHING_PICKED)
 }
 
 const NO_PORT: [Row; 5] = [
@@ -114,61 +59,6 @@ fn taken_port_is_not_released_where_there_is_no_other(rt: HostRuntime) -> Result
         },
         &NO_PORT,
     )
-}
-
-// The port that was picked for an Allocate which then lacks memory. The same Allocate gets it afterwards.
-const UNUSED: [Row; 5] = [
-    Row::Picked(&[50000, 50001]),
-    Row::Released(&[50001]),
-    BOBS,
-    Row::Picked(&[50000, 50001, 50001]),
-    Row::Released(&[50001]),
-];
-
-/// A request of bob's beside alice's allocation. His key is remembered from then on: a refused growth of that would not be
-/// told.
-const ASKED: [Row; 2] = [
-    ALLOCATED,
-    Row::Ask(1000, BOB, SECOND, Kind::Refresh, &[], 437),
-];
-
-/// Whether bob's Allocate beside alice's allocation lacks memory where the growth after so many is refused.
-fn lacks_memory(
-    refusing: &Refusing<Global>,
-    player: &mut Player<&Refusing<Global>>,
-    served: u64,
-) -> Result<bool, Fail> {
-    player.play(&ASKED)?;
-    refusing.arm(served);
-    let is_taken = player.is_taken(&BOBS)?;
-    refusing.arm(u64::MAX);
-    if !is_taken {
-        player.play(&UNUSED)?;
-    }
-    Ok(!is_taken)
-}
-
-/// The same at a new server.
-fn lacks_memory_at_first(alloc: Global, served: u64) -> Result<bool, Fail> {
-    let refusing = Refusing::new(alloc, u64::MAX);
-    let mut player = Player::new(&refusing, alloc, &SETUP)?;
-    lacks_memory(&refusing, &mut player, served)
-}
-
-/// How many growths are refused, one after the other.
-fn refused_growths(alloc: Global) -> Result<u64, Fail> {
-    for served in 0..16u64 {
-        if !lacks_memory_at_first(alloc, served)? {
-            return Ok(served);
-        }
-    }
-    Err(Fail::new("some growth is always refused"))
-}
-
-#[test]
-fn picked_port_is_released_after_an_allocation_failure(rt: HostRuntime) -> Result<(), Fail> {
-    assert!(rt; refused_growths(rt.alloc())? > 1);
-    Ok(())
 }
 
 /// What is done before, what is prepared and abandoned, and what is found then.

@@ -53,8 +53,6 @@ pub fn five_tuple(client: Endpoint) -> FiveTuple {
 pub enum User {
     Alice,
     Bob,
-    /// Alice, by another password than hers.
-    Impostor,
 }
 
 pub const ALICE: User = User::Alice;
@@ -64,7 +62,7 @@ pub const BOB: User = User::Bob;
 impl User {
     pub fn name(self) -> &'static [u8] {
         match self {
-            User::Alice | User::Impostor => b"alice",
+            User::Alice => b"alice",
             User::Bob => b"bob",
         }
     }
@@ -73,7 +71,6 @@ impl User {
         match self {
             User::Alice => generate_auth_key(b"alice", REALM, b"wonder"),
             User::Bob => generate_auth_key(b"bob", REALM, b"builder"),
-            User::Impostor => generate_auth_key(b"alice", REALM, b"wonderful"),
         }
     }
 }
@@ -113,7 +110,6 @@ pub enum Attribute {
     /// REQUESTED-TRANSPORT of a protocol.
     Transport(u8),
     Lifetime(u32),
-    EvenPort(u8),
     ChannelNumber(u16),
     /// XOR-PEER-ADDRESS of a masked port and a masked IPv4 address.
     Peer([u8; 6]),
@@ -122,9 +118,6 @@ pub enum Attribute {
 }
 
 pub const UDP: Attribute = Attribute::Transport(17);
-
-/// An even port.
-pub const EVEN: Attribute = Attribute::EvenPort(0);
 
 pub const FLAG: Attribute = Attribute::DontFragment;
 
@@ -146,7 +139,6 @@ impl Attribute {
         match self {
             Attribute::Transport(_) => AttributeType::REQUESTED_TRANSPORT,
             Attribute::Lifetime(_) => AttributeType::LIFETIME,
-            Attribute::EvenPort(_) => AttributeType::EVEN_PORT,
             Attribute::ChannelNumber(_) => AttributeType::CHANNEL_NUMBER,
             Attribute::Peer(_) => AttributeType::XOR_PEER_ADDRESS,
             Attribute::DontFragment => AttributeType::new(0x001A),
@@ -160,10 +152,6 @@ impl Attribute {
             Attribute::Transport(first) => {
                 bytes[0] = *first;
                 4
-            }
-            Attribute::EvenPort(first) => {
-                bytes[0] = *first;
-                1
             }
             Attribute::Lifetime(seconds) => {
                 bytes[..4].copy_from_slice(&seconds.to_be_bytes());
@@ -246,20 +234,6 @@ pub fn fingerprinted(alloc: Global, kind: Kind) -> Result<Vec<u8>, Fail> {
     builder.push(AttributeType::NONCE, &nonce_of(1000, FIRST)?)?;
     append_integrity(&mut builder, &ALICE.key())?;
     append_fingerprint(&mut builder)?;
-    Ok(builder.finish())
-}
-
-/// A request without credentials, with attributes by their types and values.
-pub fn unsigned(
-    alloc: Global,
-    class: Class,
-    method: Method,
-    attributes: &[(u16, &[u8])],
-) -> Result<Vec<u8>, Fail> {
-    let mut builder = Builder::new(alloc, class, method, ID)?;
-    for (kind, value) in attributes {
-        push_value(&mut builder, *kind, value)?;
-    }
     Ok(builder.finish())
 }
 

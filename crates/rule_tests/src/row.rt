@@ -10,16 +10,12 @@ pub enum Row {
     Ask(u64, User, Endpoint, Kind, &'static [Attribute], u16),
     /// Alice's request, and the bytes of its reply.
     Reply(u64, Kind, &'static [Attribute], &'static [u8]),
-    /// A datagram of the first client, and its reply, if it has one.
-    Answer(u64, &'static [u8], Option<&'static [u8]>),
     /// A datagram of the first client, and the payload that 203.0.113.5:7000 gets of it from port 50000, if it gets one.
     Send(u64, &'static [u8], Option<&'static [u8]>),
     /// A datagram to port 50000 from an address, and what the first client gets of it, if it gets anything.
     Receive(u64, Endpoint, &'static [u8], Option<&'static [u8]>),
     /// A client's datagram that sends nothing.
     Drop(u64, Endpoint, &'static [u8]),
-    /// A datagram from an address to a port that sends nothing.
-    DropAt(u64, u16, Endpoint, &'static [u8]),
     /// The port of a client's allocation, 0 for none.
     Port(u64, Endpoint, u16),
     /// The second at which the first client's allocation expires, 0 for none.

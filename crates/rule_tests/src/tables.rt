@@ -451,27 +451,31 @@ fn restored_entries_have_their_values(rt: HostRuntime) -> Result<(), Fail> {
 
 type Refused<'a> = &'a Refusing<Global>;
 
-/// Whether the growth for an entry of a client is refused, which changes nothing, and after which the entry is restored.
-fn restores_after_refusal<'a>(
+/// Restores the entry of a client, whose growths are refused one after the other, which changes nothing, and returns how
+/// many there were.
+fn restores_after_refusals<'a>(
     refusing: Refused<'a>,
     table: &mut Table<Refused<'a>>,
     client: u16,
-) -> Result<bool, Fail> {
+) -> Result<u64, Fail> {
     let (len, last) = (table.len(), table.last());
-    let entry = entry_with(refusing, client)?;
-    refusing.arm(0);
-    let is_restored = restore(table, client, entry)?;
-    let is_refused = refusing.has_refused();
-    refusing.arm(u64::MAX);
-    if is_restored {
-        return Ok(false);
+    for refusal in 0..8u64 {
+        refusing.arm(u64::MAX);
+        let entry = entry_with(refusing, client)?;
+        // The growth that was refused before is served, and the next one refused.
+        refusing.arm(refusal.min(1));
+        let is_restored = restore(table, client, entry)?;
+        if is_restored == refusing.has_refused() {
+            return Err(Fail::new(client));
+        }
+        if is_restored {
+            return Ok(refusal);
+        }
+        if table.len() != len || table.last() != last {
+            return Err(Fail::new(client));
+        }
     }
-    let is_same = table.len() == len && table.last() == last;
-    let entry = entry_with(refusing, client)?;
-    if !is_refused || !is_same || !restore(table, client, entry)? {
-        return Err(Fail::new(client));
-    }
-    Ok(true)
+    Err(Fail::new("some growth is always refused"))
 }
 
 #[test]
@@ -479,13 +483,12 @@ fn a_restore_that_lacks_memory_changes_nothing(rt: HostRuntime) -> Result<(), Fa
     let refusing = Refusing::new(rt.alloc(), u64::MAX);
     let moment = Moment::new(1000).ok_or("a moment")?;
     let mut table = Table::new(&refusing, Limits::MAX, moment);
-    let mut refused = 0u8;
-    for client in 1..10u16 {
-        if restores_after_refusal(&refusing, &mut table, client)? {
-            refused = refused.wrapping_add(1);
-        }
+    // A map, and a list by each order.
+    assert!(rt; 3 < restores_after_refusals(&refusing, &mut table, 1)?);
+    for client in 2..10u16 {
+        restores_after_refusals(&refusing, &mut table, client)?;
     }
-    assert!(rt; 1 < refused && table.len() == 9);
+    assert!(rt; table.len() == 9);
     Ok(())
 }
 
