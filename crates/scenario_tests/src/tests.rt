@@ -1,5 +1,7 @@
 mod bad_lines;
+mod blanks;
 mod configurations;
+mod events;
 mod examples;
 mod expects;
 mod memory;

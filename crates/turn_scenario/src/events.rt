@@ -52,8 +52,8 @@ fn sent_text<A: Allocator + Copy>(
     }
 }
 
-/// The line of an event.
-pub(crate) fn event_text<A: Allocator + Copy>(
+/// The line that a report has of an event.
+pub fn event_text<A: Allocator + Copy>(
     alloc: A,
     event: &Event<A>,
 ) -> Result<String<A>, AllocError> {

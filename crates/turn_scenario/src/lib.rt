@@ -12,6 +12,7 @@ mod running;
 mod scenario;
 mod table_lines;
 
+pub use events::event_text;
 pub use fault::ScenarioFault;
 pub use report::Report;
 pub use scenario::replay;

@@ -2,18 +2,11 @@
 
 use super::{BINDING, FROM, SUCCESS};
 use refusing::Refusing;
-use std::alloc::{AllocError, Global};
+use std::alloc::Global;
 use std::test::Fail;
 use turn_config::values::{bytes, endpoint};
-use turn_program::{Fault, reply_to, report};
+use turn_program::reply_to;
 use turn_types::{FiveTuple, Moment};
-
-#[test]
-fn out_of_memory_has_status_5(rt: HostRuntime) {
-    let mut err = Vec::new(rt.alloc());
-    assert!(rt; report(Fault::from(AllocError), &mut err) == 5);
-    assert!(rt; err.as_slice() == b"turn: memory\n".as_slice());
-}
 
 /// Reads hex with one growth refused after so many, and again. Returns whether none was refused.
 fn bytes_succeed(alloc: Global, served: u64) -> Result<bool, Fail> {

@@ -4,8 +4,6 @@ use super::{USAGE, expect, expect_each};
 use std::alloc::Global;
 use std::fs;
 use std::test::Fail;
-use turn_program::{Fault, report};
-use turn_scenario::ScenarioFault;
 
 /// Settings, and the `format` line that opens a store.
 pub const SCENARIO: &str = "realm example.org
@@ -168,6 +166,17 @@ fn a_file_of_more_than_16_mebibytes_is_a_device_fault(rt: HostRuntime) -> Result
     expect_comment(&rt, 16_777_217, 3, "turn: device\n")
 }
 
+/// The most lines that a file can have: empty ones, and one that is no line of a scenario.
+#[test]
+fn each_line_of_a_file_counts(rt: HostRuntime) -> Result<(), Fail> {
+    let mut content = Vec::from_elem(rt.alloc(), b'\n', 16_777_216)?;
+    if let [.., last] = content.as_mut_slice() {
+        *last = b'x';
+    }
+    let err = "turn: line 16777216: bad line\n";
+    expect_file(&rt, "turn_replay.lines", &content, 1, "", err)
+}
+
 /// No such file, a folder, a file in a folder that is none, and no name.
 const UNREADABLE: [&[&str]; 4] = [
     &["replay", "turn_replay.absent"],
@@ -179,13 +188,6 @@ const UNREADABLE: [&[&str]; 4] = [
 #[test]
 fn a_file_that_can_not_be_read_is_a_device_fault(rt: HostRuntime) -> Result<(), Fail> {
     expect_each(&rt, &UNREADABLE, 3, "", "turn: device\n")
-}
-
-#[test]
-fn a_scenario_that_is_out_of_memory_has_status_5(rt: HostRuntime) {
-    let mut err = Vec::new(rt.alloc());
-    assert!(rt; report(Fault::from(ScenarioFault::Memory), &mut err) == 5);
-    assert!(rt; err.as_slice() == b"turn: memory\n".as_slice());
 }
 
 #[test]

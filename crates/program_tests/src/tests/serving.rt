@@ -23,6 +23,10 @@ enum Content {
     Allocation,
     /// 64 zero bytes, which are no store.
     Zeros,
+    /// Its first area's gate is closed.
+    ClosedGate,
+    /// A byte at its end is missing.
+    Cut,
 }
 
 fn content_of(alloc: Global, content: Content) -> Result<Vec<u8>, Fail> {
@@ -36,6 +40,16 @@ fn content_of(alloc: Global, content: Content) -> Result<Vec<u8>, Fail> {
             Ok(bytes)
         }
         Content::Zeros => Ok(Vec::from_elem(alloc, 0u8, 64)?),
+        Content::ClosedGate => {
+            let mut bytes = fresh(alloc)?;
+            put(&mut bytes, 64, b"\x00");
+            Ok(bytes)
+        }
+        Content::Cut => {
+            let mut bytes = fresh(alloc)?;
+            let _ = bytes.pop();
+            Ok(bytes)
+        }
     }
 }
 
@@ -49,7 +63,7 @@ type Case = (
     &'static str,
 );
 
-const STARTS: [Case; 7] = [
+const STARTS: [Case; 9] = [
     (
         "listen 127.0.0.1:63001\nrelay 127.0.0.1 63002 63009\n",
         Content::Nothing,
@@ -99,6 +113,22 @@ const STARTS: [Case; 7] = [
         2,
         "",
         "turn: not a store\n",
+    ),
+    (
+        "listen 127.0.0.1:63001\nrelay 192.0.2.1 63002 63009\n",
+        Content::ClosedGate,
+        &["--turns", "0"],
+        2,
+        "",
+        "turn: damaged at 64\n",
+    ),
+    (
+        "listen 127.0.0.1:63001\nrelay 192.0.2.1 63002 63009\n",
+        Content::Cut,
+        &["--turns", "0"],
+        2,
+        "",
+        "turn: damaged at 8\n",
     ),
     (
         "listen 127.0.0.1:63001\nrelay 192.0.2.1 63009 63002\n",
@@ -190,9 +220,9 @@ fn faults_of_a_start_come_in_their_order(rt: HostRuntime) -> Result<(), Fail> {
     expect_ports_in_use(&rt)
 }
 
-/// The server's limits are others than the store's.
+/// The server's limits are others than the store's; then a file is absent or a folder.
 #[test]
-fn other_limits_are_refused(rt: HostRuntime) -> Result<(), Fail> {
+fn other_limits_and_files_are_refused(rt: HostRuntime) -> Result<(), Fail> {
     let config = format!(in rt.alloc();
         "{CONFIG}listen 127.0.0.1:63001\nrelay 127.0.0.1 63002 63009\n"
     )?;
@@ -208,8 +238,12 @@ fn other_limits_are_refused(rt: HostRuntime) -> Result<(), Fail> {
     expect(&rt, &words, 2, "", "turn: limits differ\n")?;
     fs::remove_file(&rt, "turn_limits.store")?;
     expect(&rt, &words, 3, "", "turn: device\n")?;
+    // Folders, as a store and as a configuration.
+    let words: [&str; 5] = ["serve", "--config", "turn_limits.conf", "--store", "."];
+    expect(&rt, &words, 3, "", "turn: device\n")?;
     fs::remove_file(&rt, "turn_limits.conf")?;
-    Ok(())
+    let words: [&str; 5] = ["serve", "--config", ".", "--store", "turn_limits.store"];
+    expect(&rt, &words, 3, "", "turn: device\n")
 }
 
 const DEMO: &str = "challenge 401

@@ -10,7 +10,7 @@ use turn_program::run_words;
 use turn_types::{Endpoint, Method};
 
 /// 127.0.0.1 and 127.0.0.2, which are both this machine's.
-const HOME: u32 = 0x7F00_0001;
+pub const HOME: u32 = 0x7F00_0001;
 
 const ELSEWHERE: u32 = 0x7F00_0002;
 
@@ -77,7 +77,7 @@ fn ask(talk: &mut Talk<'_>, count: u8) -> Result<(), ClientFault> {
 }
 
 /// A peer at any port of an address sends so many datagrams of this size to a relayed port.
-fn tell(rt: &HostRuntime, ip: u32, port: u16, size: usize, count: u8) -> Result<(), Fail> {
+pub fn tell(rt: &HostRuntime, ip: u32, port: u16, size: usize, count: u8) -> Result<(), Fail> {
     let peer = TimedSocket::open(rt.alloc(), rt, Endpoint { ip, port: 0 })?;
     let payload = Vec::from_elem(rt.alloc(), b'x', size)?;
     for _ in 0..count {

@@ -54,7 +54,8 @@ fn play(rt: &HostRuntime, words: &[&str]) -> Result<(), Fail> {
     let mut line = vec![in rt.alloc(); "turn"]?;
     line.extend_from_slice(words)?;
     let (mut out, mut err) = (Vec::new(rt.alloc()), Vec::new(rt.alloc()));
-    if run_words(rt, rt, line.as_slice(), &mut out, &mut err) != 3 || !out.is_empty() {
+    let status = run_words(rt, rt, line.as_slice(), &mut out, &mut err);
+    if status != 3 || !out.is_empty() || err.as_slice() != b"turn: device\n".as_slice() {
         return Err(Fail::new(format_args!("{words:?}")));
     }
     Ok(())

@@ -40,6 +40,19 @@ fn has_line<A: Allocator>(report: &Report<A>, text: &str) -> bool {
     report.lines.iter().any(|line| line.as_str() == text)
 }
 
+/// Whether the lines of a report up to the first one that tells of an allocation failure are those of another.
+fn begins_alike<A: Allocator>(report: &Report<A>, whole: &Report) -> bool {
+    for (line, same) in report.lines.iter().zip(whole.lines.iter()) {
+        if line.as_str() == "memory" || line.as_str() == "device" {
+            return true;
+        }
+        if line.as_str() != same.as_str() {
+            return false;
+        }
+    }
+    false
+}
+
 /// Whether a report is the whole one, or says that an allocation failed where one was refused. A failure that isn't told, in
 /// what is remembered of a user, leaves the report as it is without one.
 fn is_right<A: Allocator>(
@@ -52,7 +65,7 @@ fn is_right<A: Allocator>(
     told.memory = told.memory || memory;
     told.device = told.device || device;
     if memory || device {
-        was_refused
+        was_refused && begins_alike(report, whole)
     } else {
         are_same(report, whole)
     }

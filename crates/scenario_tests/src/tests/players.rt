@@ -2,12 +2,13 @@
 
 use super::SETTINGS;
 use refusing::Refusing;
-use std::alloc::Global;
+use std::alloc::{AllocError, Global};
 use std::test::Fail;
 use turn_config::{Configured, read_config};
 use turn_disk::{MemoryDisk, Outcome};
 use turn_engine::{CommitRefused, SubmitRefused};
 use turn_player::{Event, Player, Step};
+use turn_scenario::event_text;
 use turn_step::Arrival;
 use turn_store::OpenFault;
 use turn_types::{Endpoint, FiveTuple, Moment};
@@ -65,6 +66,32 @@ fn is_spent(player: &mut Refused<'_>) -> bool {
         && matches!(player.server(), Err(Event::Closed))
 }
 
+/// The lines of the events of the steps.
+const TEXTS: [&str; 6] = [
+    "opened clock 0",
+    "client 192.0.2.1:5 success binding 0102030405060708090a0b0c",
+    "committed 1",
+    "opened clock 0",
+    "committed 0",
+    "opened clock 0",
+];
+
+/// Whether events are those of the steps, up to the first one that tells of an allocation failure.
+fn are_right<'a>(
+    refusing: &'a Refusing<Global>,
+    events: &[Event<&'a Refusing<Global>>],
+) -> Result<bool, AllocError> {
+    for (event, text) in events.iter().zip(&TEXTS) {
+        if tells(event) {
+            return Ok(true);
+        }
+        if event_text(refusing, event)?.as_str() != *text {
+            return Ok(false);
+        }
+    }
+    Ok(events.len() == TEXTS.len())
+}
+
 /// What came of the steps.
 #[derive(Clone, Copy, PartialEq, Eq)]
 enum Ran {
@@ -76,22 +103,35 @@ enum Ran {
     Spent,
 }
 
-/// Runs an opening, a Binding request that a commit answers, a crash, and a batch of nothing. Returns whether all six events
-/// came, which are more than the list's first growth has room for, or one tells of an allocation failure; nothing if the list
-/// had no room.
-fn run(player: &mut Refused<'_>, moment: Moment) -> Option<bool> {
+/// Runs an opening, a Binding request that a commit answers, a crash, and a batch of nothing, with a failure and a stop of no
+/// call. Six events come of it, which are more than the list's first growth has room for. Nothing if the list had no room.
+fn run<'a>(
+    player: &mut Refused<'a>,
+    moment: Moment,
+) -> Option<Vec<Event<&'a Refusing<Global>>, &'a Refusing<Global>>> {
     let run = player.run(&[
         Step::Reopen,
         Step::Arrive(moment, ARRIVAL),
         Step::Commit,
         Step::Crash(Outcome::Kept),
         Step::Commit,
+        Step::Fail(0),
+        Step::Stop(0),
         Step::Reopen,
     ]);
-    let Ok(events) = run else {
-        return None;
-    };
-    Some(events.len() == 6 || events.iter().any(tells))
+    match run {
+        Ok(events) => Some(events),
+        Err(_) => None,
+    }
+}
+
+/// A run that ended for want of room for an event.
+fn spent(player: &mut Refused<'_>, was_refused: bool) -> Result<Ran, Fail> {
+    if was_refused && is_spent(player) {
+        Ok(Ran::Spent)
+    } else {
+        Err(Fail::new("another call"))
+    }
 }
 
 /// Runs the steps with the growth after so many refused.
@@ -102,10 +142,13 @@ fn run_refused(refusing: &Refusing<Global>, served: u64) -> Result<Ran, Fail> {
     let run = run(&mut player, moment);
     let was_refused = refusing.has_refused();
     refusing.arm(u64::MAX);
-    match (run, was_refused) {
-        (Some(true), false) => Ok(Ran::Whole),
-        (Some(true), true) => Ok(Ran::Told),
-        (None, true) if is_spent(&mut player) => Ok(Ran::Spent),
+    let is_right = match run {
+        Some(events) => are_right(refusing, &events)?,
+        None => return spent(&mut player, was_refused),
+    };
+    match (is_right, was_refused) {
+        (true, false) => Ok(Ran::Whole),
+        (true, true) => Ok(Ran::Told),
         _ => Err(Fail::new(served)),
     }
 }

@@ -45,7 +45,7 @@ fn a_text_without_format_has_an_empty_report(rt: HostRuntime) -> Result<(), Fail
     expect_each(rt.alloc(), &GOOD, "")
 }
 
-const BAD: [&[u8]; 85] = [
+const BAD: [&[u8]; 91] = [
     b" ",
     b"\t",
     b"\r",
@@ -123,6 +123,12 @@ const BAD: [&[u8]; 85] = [
     b"limits 1 1 1 65 1",
     b"limits 1 1 1 1 0",
     b"limits 1 1 1 1 509",
+    b"limits 4294967297 1 1 1 1",
+    b"limits 1 65537 1 1 1",
+    b"limits 1 1 65537 1 1",
+    b"limits 1 1 1 65537 1",
+    b"limits 1 1 1 1 65537",
+    b"limits 1 1 1 1 4294967297",
     b"format 238",
     b"format1 304",
     b"at 5",
