@@ -1,6 +1,6 @@
 //! The texts, in the order in which they are replayed.
 
-pub const NAMES: [&str; 80] = [
+pub const NAMES: [&str; 81] = [
     "example_kept",
     "example_lost",
     "rounds",
@@ -67,6 +67,7 @@ pub const NAMES: [&str; 80] = [
     "failures_of_a_compaction_call_6",
     "failures_of_an_opening",
     "stops_of_an_opening",
+    "stops_of_an_opening_after_a_compaction",
     "stops_of_the_reads_of_an_opening",
     "two_hundred_rounds",
     "small_area",
