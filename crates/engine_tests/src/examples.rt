@@ -49,11 +49,52 @@ fn requests_without_credentials_are_answered(rt: HostRuntime) -> Result<(), Fail
     play(rt.alloc(), &SMALL, &ANSWERED)
 }
 
-// ---- Data
+// ---- With credentials. Each HMAC-SHA1 is of another program.
 
 const FOR_AN_HOUR: Row = Row::Ask(1000, ALICE, FIRST, Kind::Allocate, &[UDP, HOUR]);
 
 const SUCCEEDS: Row = Row::Commit(&[Sent::Code(FIRST, 0)]);
+
+/// 420 with the type of DONT-FRAGMENT.
+const NOT_UNDERSTOOD: &[u8] =
+    b"\x01\x13\x00\x3c\x21\x12\xa4\x42\x01\x02\x03\x04\x05\x06\x07\x08\x09\x0a\x0b\x0c\
+    \x00\x09\x00\x15\x00\x00\x04\x14Unknown Attribute\x00\x00\x00\
+    \x00\x0a\x00\x02\x00\x1a\x00\x00\x00\x08\x00\x14\xf0\x32\x6a\xcd\x70\xda\xc4\xdd\xb9\xd3\x82\xee\
+    \x2a\xb0\xdc\xfa\xcc\xf7\x8a\x3b";
+
+const PERMITTED: &[u8] =
+    b"\x01\x08\x00\x18\x21\x12\xa4\x42\x01\x02\x03\x04\x05\x06\x07\x08\x09\x0a\x0b\x0c\
+    \x00\x08\x00\x14\xb5\xb6\xf3\xcb\x90\x10\x39\x94\x81\x25\xaa\x50\x6b\x31\xc5\xf9\xb0\xca\x15\x92";
+
+const BOUND: &[u8] =
+    b"\x01\x09\x00\x18\x21\x12\xa4\x42\x01\x02\x03\x04\x05\x06\x07\x08\x09\x0a\x0b\x0c\
+    \x00\x08\x00\x14\x5f\xfc\xe8\x52\x06\xad\x00\x4d\xd8\xef\xef\x6d\x77\xce\x83\x98\x46\x49\x09\x06";
+
+/// A lifetime of 0.
+const DELETED: &[u8] =
+    b"\x01\x04\x00\x20\x21\x12\xa4\x42\x01\x02\x03\x04\x05\x06\x07\x08\x09\x0a\x0b\x0c\
+    \x00\x0d\x00\x04\x00\x00\x00\x00\x00\x08\x00\x14\x9f\xe5\x25\x57\xf5\xda\x1a\xad\
+    \x31\x66\x1f\x18\x27\x70\xa8\x59\x8b\x3a\x96\xdf";
+
+const SIGNED: [Row; 10] = [
+    Row::Ask(1000, ALICE, FIRST, Kind::Allocate, &[UDP, FLAG]),
+    Row::Commit(&[Sent::Client(FIRST, NOT_UNDERSTOOD)]),
+    FOR_AN_HOUR,
+    SUCCEEDS,
+    Row::Ask(1000, ALICE, FIRST, Kind::CreatePermission, &[PEER]),
+    Row::Commit(&[Sent::Client(FIRST, PERMITTED)]),
+    Row::Ask(1000, ALICE, FIRST, Kind::ChannelBind, &[LOWEST, PEER]),
+    Row::Commit(&[Sent::Client(FIRST, BOUND)]),
+    Row::Ask(1000, ALICE, FIRST, Kind::Refresh, &[ZERO]),
+    Row::Commit(&[Sent::Client(FIRST, DELETED)]),
+];
+
+#[test]
+fn requests_of_a_user_are_answered(rt: HostRuntime) -> Result<(), Fail> {
+    play(rt.alloc(), &SMALL, &SIGNED)
+}
+
+// ---- Data
 
 /// XOR-PEER-ADDRESS of 203.0.113.5:7000, and the text "hello".
 const INDICATION: &[u8] =

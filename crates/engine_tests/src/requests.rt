@@ -111,9 +111,13 @@ pub enum Attribute {
     ChannelNumber(u16),
     /// XOR-PEER-ADDRESS of a masked port and a masked IPv4 address.
     Peer([u8; 6]),
+    /// Which the server doesn't understand.
+    DontFragment,
 }
 
 pub const UDP: Attribute = Attribute::Transport(17);
+
+pub const FLAG: Attribute = Attribute::DontFragment;
 
 pub const HOUR: Attribute = Attribute::Lifetime(3600);
 
@@ -142,6 +146,7 @@ fn push(builder: &mut Builder, attribute: &Attribute) -> Result<(), Fail> {
             let value = [0, 1, *a, *b, *c, *d, *e, *f];
             builder.push(AttributeType::XOR_PEER_ADDRESS, &value)?;
         }
+        Attribute::DontFragment => builder.push(AttributeType::new(0x001A), &[])?,
     }
     Ok(())
 }

@@ -7,8 +7,6 @@ mod allocate;
 #[cfg(test)]
 mod binding;
 #[cfg(test)]
-mod channels;
-#[cfg(test)]
 mod clients_data;
 #[cfg(test)]
 mod credentials;
@@ -19,15 +17,11 @@ mod judged;
 #[cfg(test)]
 mod peers_data;
 #[cfg(test)]
-mod permissions;
-#[cfg(test)]
 mod player;
 #[cfg(test)]
 mod ports;
 #[cfg(test)]
 mod references;
-#[cfg(test)]
-mod refresh;
 #[cfg(test)]
 mod refused_growths;
 #[cfg(test)]

@@ -312,10 +312,6 @@ impl<A: Allocator + Copy> Player<A> {
             Row::Ask(second, user, client, kind, attributes, code) => {
                 Ok(self.code(*user, *client, *second, *kind, attributes)? == *code)
             }
-            Row::Reply(second, kind, attributes, reply) => {
-                let found = self.ask(ALICE, FIRST, *second, *kind, attributes)?;
-                Ok(found.as_slice() == *reply)
-            }
             Row::Send(second, bytes, payload) => Ok(is_same(&self.sent(*second, bytes)?, *payload)),
             Row::Receive(second, from, bytes, datagram) => {
                 Ok(is_same(&self.received(*second, *from, bytes)?, *datagram))

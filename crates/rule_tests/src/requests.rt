@@ -113,13 +113,9 @@ pub enum Attribute {
     ChannelNumber(u16),
     /// XOR-PEER-ADDRESS of a masked port and a masked IPv4 address.
     Peer([u8; 6]),
-    /// Which the server doesn't understand.
-    DontFragment,
 }
 
 pub const UDP: Attribute = Attribute::Transport(17);
-
-pub const FLAG: Attribute = Attribute::DontFragment;
 
 pub const HOUR: Attribute = Attribute::Lifetime(3600);
 
@@ -141,7 +137,6 @@ impl Attribute {
             Attribute::Lifetime(_) => AttributeType::LIFETIME,
             Attribute::ChannelNumber(_) => AttributeType::CHANNEL_NUMBER,
             Attribute::Peer(_) => AttributeType::XOR_PEER_ADDRESS,
-            Attribute::DontFragment => AttributeType::new(0x001A),
         }
     }
 
@@ -166,7 +161,6 @@ impl Attribute {
                 bytes[2..8].copy_from_slice(masked);
                 8
             }
-            Attribute::DontFragment => 0,
         };
         (bytes, size)
     }

@@ -8,8 +8,6 @@ use turn_types::Endpoint;
 pub enum Row {
     /// A request of a user from a client, and the code of its reply, 0 for a success.
     Ask(u64, User, Endpoint, Kind, &'static [Attribute], u16),
-    /// Alice's request, and the bytes of its reply.
-    Reply(u64, Kind, &'static [Attribute], &'static [u8]),
     /// A datagram of the first client, and the payload that 203.0.113.5:7000 gets of it from port 50000, if it gets one.
     Send(u64, &'static [u8], Option<&'static [u8]>),
     /// A datagram to port 50000 from an address, and what the first client gets of it, if it gets anything.
