@@ -8,9 +8,12 @@ use std::test::Fail;
 /// Settings, and the `format` line that opens a store.
 pub const SCENARIO: &str = "realm example.org
 user alice wonder
+user bob builder
 secret 0000000000000000000000000000000000000000000000000000000000000000
 listen 192.0.2.100:3478
 relay 198.51.100.1 50000 50009
+quota 2
+deny 203.0.113.9 203.0.113.9
 limits 2 1 1 1 8
 format 238
 ";
@@ -40,10 +43,10 @@ const REPORTS: [(&str, u8, &str, &str); 10] = [
         "",
     ),
     ("expect opened clock 0", 0, "opened clock 0\n", ""),
-    ("expect closed", 4, "", "turn: line 8: differs\n"),
-    ("commit\nfrobnicate", 1, "", "turn: line 9: bad line\n"),
-    ("\r\nexpect closed", 1, "", "turn: line 8: bad line\n"),
-    ("at 5\nat 4\n", 1, "", "turn: line 9: bad line\n"),
+    ("expect closed", 4, "", "turn: line 11: differs\n"),
+    ("commit\nfrobnicate", 1, "", "turn: line 12: bad line\n"),
+    ("\r\nexpect closed", 1, "", "turn: line 11: bad line\n"),
+    ("at 5\nat 4\n", 1, "", "turn: line 12: bad line\n"),
     // A crash inside a commit keeps the batch, or loses it.
     (
         "at 1000
