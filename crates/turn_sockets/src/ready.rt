@@ -1,8 +1,10 @@
 //! The sockets that may have a datagram.
 
-ghost use Rattle.std.specs.Prelude.{◌≡◌, ◌≤◌, ℕ, [], true, false, IfOk, IfSome, OnOk, OnErr, length, nat_eq, slice_get};
+ghost use Rattle.std.specs.Prelude.{◌≡◌, ◌≤◌, ℕ, [], true, false, IfOk, IfSome, OnOk, OnErr, length, map, nat_eq, slice_get};
 ghost use Rattle.std.specs.List.{IsDistinct, list_any};
-ghost use Rattle.indexmap.specs.IndexSet.{insert_key};
+ghost use Rattle.indexmap.specs.IndexSet.{insert_all, insert_key};
+ghost use Rattle.mio.specs.Event.{event_token};
+ghost use Rattle.mio.specs.Events.{items};
 ghost use Rattle.turn_sockets.specs.Tokens.{IsWithout};
 
 use indexmap::IndexSet;
@@ -71,7 +73,9 @@ impl<A: Allocator> Ready<A> {
     }
 
     /// Adds the sockets that a wait reported.
-    pub fn add_all<B: Allocator>(&mut self, events: &Events<B>) -> Result<(), AllocFailed<usize>> {
+    pub fn add_all<B: Allocator>(&mut self, events: &Events<B>) -> Result<(), AllocFailed<usize>>
+        ensures { OnOk result (self.new ≡ insert_all nat_eq self.old (map (λ e. (event_token e).0) (items events.now))) }
+    {
         for event in events.iter() {
             self.add(event.token().0)?;
         }
