@@ -1,9 +1,10 @@
 //! The calls that are measured.
 
 use crate::datagrams::{CLIENT, ID, PEER, five_tuple};
-use crate::servers::{Engine, PORT, Rules};
+use crate::servers::{Engine, PORT, Rules, apply};
 use bench_time::Measured;
-use std::alloc::Global;
+use std::alloc::{AllocError, Global};
+use turn_history::{Act, Addresses};
 use turn_relay::{from_client, from_peer};
 use turn_step::{Arrival, Outgoing};
 use turn_table::Table;
@@ -104,6 +105,33 @@ impl Measured for Purged {
             Some(moment) => self.table.purge(moment).is_none(),
             None => false,
         }
+    }
+}
+
+/// The purge of a table in which one permission of a client has expired, so that all entries are walked, and the Permit that
+/// gives it anew. Each call is 300 seconds after the one before.
+#[derive(Drop)]
+pub struct Walked {
+    pub alloc: Global,
+    pub table: Table,
+    pub five_tuple: FiveTuple,
+}
+
+impl Walked {
+    fn permit(&mut self) -> Result<(), AllocError> {
+        let addresses = Addresses::from(Vec::from_slice(self.alloc, &[PEER.ip])?);
+        apply(&mut self.table, self.five_tuple, Act::Permit { addresses })
+    }
+}
+
+impl Measured for Walked {
+    fn make(&mut self) -> bool {
+        let Some(moment) = Moment::new(self.table.moment().seconds() + 300) else {
+            return false;
+        };
+        self.table.purge(moment).is_none()
+            && !self.table.permitted(self.five_tuple, PEER.ip)
+            && self.permit().is_ok()
     }
 }
 

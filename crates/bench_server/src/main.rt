@@ -8,7 +8,7 @@ mod reading;
 mod servers;
 
 use bench_time::{Measured, best_of, number};
-use calls::{BATCH, Committed, Purged, Relayed, Released, Stepped};
+use calls::{BATCH, Committed, Purged, Relayed, Released, Stepped, Walked};
 use datagrams::{CLIENT, ID, PEER, channel_data, client_at, five_tuple, key, lifetime};
 use reading::Reading;
 use servers::{Engine, PORT, Rules, make_engine, make_rules, make_table};
@@ -103,7 +103,7 @@ fn measure_allocate(
     Ok(())
 }
 
-/// Measures a purge in which nothing has expired.
+/// Measures a purge in which nothing has expired, and one in which a permission has.
 fn measure_purge(
     rt: &HostRuntime,
     moment: Moment,
@@ -113,6 +113,13 @@ fn measure_purge(
     println!(rt; "a purge of nothing, at a new second")?;
     let table = make_table(rt.alloc(), moment, allocations)?;
     measure(rt, "Table::purge", &mut Purged { table }, count, 1)?;
+    println!(rt; "a purge of one permission, which walks all entries, and a Permit")?;
+    let mut walked = Walked {
+        alloc: rt.alloc(),
+        table: make_table(rt.alloc(), moment, allocations)?,
+        five_tuple: five_tuple(CLIENT),
+    };
+    measure(rt, "Table::purge", &mut walked, count, 1)?;
     Ok(())
 }
 

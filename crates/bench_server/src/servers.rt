@@ -152,7 +152,7 @@ pub fn make_rules(alloc: Global, moment: Moment, allocations: u16) -> Result<Rul
 }
 
 /// Applies an act that fits.
-fn apply(table: &mut Table, five_tuple: FiveTuple, act: Act) -> Result<(), AllocError> {
+pub fn apply(table: &mut Table, five_tuple: FiveTuple, act: Act) -> Result<(), AllocError> {
     let moment = table.moment();
     if !table.fits(five_tuple, &act) {
         return Err(AllocError);

@@ -6,15 +6,12 @@ use refusing::Refusing;
 use std::alloc::{AllocError, Allocator};
 use std::collections::BTreeMap;
 use std::test::Fail;
-use turn_history::{Channel, Event};
+use turn_history::Event;
 use turn_ports::PortSet;
 use turn_table::Table;
-use turn_types::{Bounds, Endpoint, FiveTuple, Limits, Moment, TxId};
+use turn_types::{Bounds, Endpoint, FiveTuple, Limits, Moment};
 
 type Reference<A> = BTreeMap<FiveTuple, Entry<A>, A>;
-
-/// Moments in seconds, clients' ports and acts.
-type Steps<'a> = &'a [(u64, u16, Step)];
 
 fn event_of<A: Allocator + Copy>(
     alloc: A,
@@ -27,25 +24,32 @@ fn event_of<A: Allocator + Copy>(
     Ok(Event { moment, tuple, act })
 }
 
-/// The first of some events.
+// ---- The reference implementation by itself
+
+/// Seconds and acts of the first client. A permission of 1000 is installed again at 1250, and so is a channel's by its second
+/// Bind.
+const INSTALLED_AGAIN: [(u64, Step); 4] = [
+    (1000, Step::Alloc(b"alice", 50000, 3600)),
+    (1000, Step::Permit(&[PEER_IP])),
+    (1250, Step::Bind(0x4000, 9)),
+    (1800, Step::Bind(0x4000, 9)),
+];
+
 fn history_of<A: Allocator + Copy>(
     alloc: A,
-    steps: Steps<'_>,
-    count: usize,
+    steps: &[(u64, Step)],
 ) -> Result<Vec<Event<A>, A>, Fail> {
     let mut history = Vec::new(alloc);
-    for (seconds, client, step) in steps.iter().take(count) {
+    for (seconds, step) in steps {
         let moment = Moment::new(*seconds).ok_or("a moment")?;
-        history.push(event_of(alloc, moment, *client, *step)?)?;
+        history.push(event_of(alloc, moment, 1, *step)?)?;
     }
     Ok(history)
 }
 
-// ---- The reference implementation by itself
-
-/// The expiry of a client's entry, of the permission of the peers' address, and of channel 0x4000; 0 for none.
-fn expiries<A: Allocator>(table: &Reference<A>, client: u16) -> (u64, u64, u64) {
-    let Some(entry) = table.get(&tuple(client)) else {
+/// The expiry of the first client's entry, of the permission of the peers' address, and of channel 0x4000; 0 for none.
+fn expiries<A: Allocator>(table: &Reference<A>) -> (u64, u64, u64) {
+    let Some(entry) = table.get(&tuple(1)) else {
         return (0, 0, 0);
     };
     let permission = entry.permissions.get(&PEER_IP).copied().unwrap_or(0);
@@ -56,141 +60,10 @@ fn expiries<A: Allocator>(table: &Reference<A>, client: u16) -> (u64, u64, u64) 
     (entry.expiry, permission, channel)
 }
 
-const REFRESHED: [(u64, u16, Step); 2] = [
-    (1000, 1, Step::Alloc(b"alice", 50000, 600)),
-    (1100, 1, Step::Renew(1200)),
-];
-
-const PERMITTED: [(u64, u16, Step); 3] = [
-    (1000, 1, Step::Alloc(b"alice", 50000, 3600)),
-    (1000, 1, Step::Permit(&[PEER_IP])),
-    (1200, 1, Step::Permit(&[7])),
-];
-
-const BOUND: [(u64, u16, Step); 2] = [
-    (1000, 1, Step::Alloc(b"alice", 50000, 3600)),
-    (1000, 1, Step::Bind(0x4000, 9)),
-];
-
-const AGAIN: [(u64, u16, Step); 4] = [
-    (1000, 1, Step::Alloc(b"alice", 50000, 600)),
-    (1000, 1, Step::Bind(0x4000, 9)),
-    (1100, 1, Step::Renew(0)),
-    (1100, 1, Step::Alloc(b"alice", 50001, 600)),
-];
-
-/// What comes before any Alloc.
-const BEFORE: [(u64, u16, Step); 2] = [(1000, 1, Step::Bind(0x4000, 9)), (1100, 1, Step::Renew(0))];
-
-const PORT_AGAIN: [(u64, u16, Step); 2] = [
-    (1000, 1, Step::Alloc(b"alice", 50000, 600)),
-    (1600, 2, Step::Alloc(b"alice", 50000, 600)),
-];
-
-/// A permission of 1000 is installed again at 1250, and so is a channel's by its second Bind.
-const INSTALLED_AGAIN: [(u64, u16, Step); 4] = [
-    (1000, 1, Step::Alloc(b"alice", 50000, 3600)),
-    (1000, 1, Step::Permit(&[PEER_IP])),
-    (1250, 1, Step::Bind(0x4000, 9)),
-    (1800, 1, Step::Bind(0x4000, 9)),
-];
-
-/// How many of some events, a moment in seconds, a client, and the expiries of its entry then.
-const EXPIRIES: [(Steps<'static>, usize, u64, u16, (u64, u64, u64)); 20] = [
-    // 600 s at 1000, refreshed to 1200 s at 1100.
-    (&REFRESHED, 1, 1599, 1, (1600, 0, 0)),
-    (&REFRESHED, 1, 1600, 1, (0, 0, 0)),
-    (&REFRESHED, 2, 1600, 1, (2300, 0, 0)),
-    (&REFRESHED, 2, 2299, 1, (2300, 0, 0)),
-    (&REFRESHED, 2, 2300, 1, (0, 0, 0)),
-    (&REFRESHED, 2, 1600, 2, (0, 0, 0)),
-    // Permissions last 300 s.
-    (&PERMITTED, 3, 1299, 1, (4600, 1300, 0)),
-    (&PERMITTED, 3, 1300, 1, (4600, 0, 0)),
-    // A channel lasts 600 s, the permission that its Bind installs 300 s.
-    (&BOUND, 2, 1299, 1, (4600, 1300, 1600)),
-    (&BOUND, 2, 1300, 1, (4600, 0, 1600)),
-    (&BOUND, 2, 1599, 1, (4600, 0, 1600)),
-    (&BOUND, 2, 1600, 1, (4600, 0, 0)),
-    // A Refresh with 0 ends an allocation, and the next one keeps nothing of it.
-    (&AGAIN, 3, 1100, 1, (0, 0, 0)),
-    (&AGAIN, 4, 1100, 1, (1700, 0, 0)),
-    // A port is taken again at the moment when its allocation expires.
-    (&PORT_AGAIN, 2, 1600, 1, (0, 0, 0)),
-    (&PORT_AGAIN, 2, 1600, 2, (2200, 0, 0)),
-    (&INSTALLED_AGAIN, 3, 1549, 1, (4600, 1550, 1850)),
-    (&INSTALLED_AGAIN, 4, 1850, 1, (4600, 2100, 2400)),
-    // What comes before any Alloc does nothing.
-    (&BEFORE, 2, 1100, 1, (0, 0, 0)),
-    (&BEFORE, 0, 1000, 1, (0, 0, 0)),
-];
-
-/// Whether a client's entry has these expiries after some events.
-fn expires<A: Allocator + Copy>(
-    alloc: A,
-    history: &[Event<A>],
-    seconds: u64,
-    client: u16,
-    expected: (u64, u64, u64),
-) -> Result<bool, Fail> {
-    let moment = Moment::new(seconds).ok_or("a moment")?;
-    let table = table_at(alloc, history, moment)?;
-    Ok(expiries(&table, client) == expected)
-}
-
-#[test]
-fn the_reference_expires_as_granted(rt: HostRuntime) -> Result<(), Fail> {
-    for (steps, count, seconds, client, expected) in &EXPIRIES {
-        let history = history_of(rt.alloc(), steps, *count)?;
-        assert!(rt; expires(rt.alloc(), &history, *seconds, *client, *expected)?);
-    }
-    Ok(())
-}
-
-const FIELDS: [(u64, u16, Step); 5] = [
-    (1000, 2, Step::Alloc(b"alice", 50001, 600)),
-    (1000, 1, Step::Alloc(b"alice", 50000, 700)),
-    (1001, 1, Step::Permit(&[7])),
-    (1002, 1, Step::Bind(0x4FFF, 9)),
-    (1003, 1, Step::Renew(800)),
-];
-
-fn fields_are<A: Allocator>(entry: &Entry<A>) -> bool {
-    entry.user.as_slice() == b"alice".as_slice()
-        && (entry.port, entry.granted, entry.expiry) == (50000, 700, 1803)
-        && entry.tx == TxId([7; 12])
-}
-
-fn maps_are<A: Allocator>(entry: &Entry<A>) -> bool {
-    let channel = Channel {
-        peer: peer(9),
-        expiry: 1602,
-    };
-    entry.permissions.len() == 2
-        && entry.permissions.get(&7).copied() == Some(1301)
-        && entry.permissions.get(&PEER_IP).copied() == Some(1302)
-        && entry.channels.len() == 1
-        && entry.channels.get(&0x4FFF).copied() == Some(channel)
-}
-
-#[test]
-fn the_reference_has_each_field(rt: HostRuntime) -> Result<(), Fail> {
-    let history = history_of(rt.alloc(), &FIELDS, 5)?;
-    let moment = Moment::new(1003).ok_or("a moment")?;
-    let table = table_at(rt.alloc(), &history, moment)?;
-    let mut tuples = table.keys();
-    assert!(rt; tuples.next().copied() == Some(tuple(1)));
-    assert!(rt; tuples.next().copied() == Some(tuple(2)));
-    assert!(rt; tuples.next().is_none());
-    let entry = table.get(&tuple(1)).ok_or("an entry")?;
-    assert!(rt; fields_are(entry) && maps_are(entry));
-    Ok(())
-}
-
 #[test]
 fn the_reference_fails_only_without_memory(rt: HostRuntime) -> Result<(), Fail> {
     let refusing = Refusing::new(rt.alloc(), u64::MAX);
-    let history = history_of(&refusing, &INSTALLED_AGAIN, 4)?;
+    let history = history_of(&refusing, &INSTALLED_AGAIN)?;
     let moment = Moment::new(1800).ok_or("a moment")?;
     for served in 0..100u64 {
         refusing.arm(served);
@@ -199,7 +72,8 @@ fn the_reference_fails_only_without_memory(rt: HostRuntime) -> Result<(), Fail> 
             return Err(Fail::new(served));
         }
         refusing.arm(u64::MAX);
-        assert!(rt; expires(&refusing, &history, 1800, 1, (4600, 2100, 2400))?);
+        let table = table_at(&refusing, &history, moment)?;
+        assert!(rt; expiries(&table) == (4600, 2100, 2400));
         if !refused {
             assert!(rt; 3 < served);
             return Ok(());

@@ -629,21 +629,6 @@ fn every_prefix_of_a_snapshot_is_short(rt: HostRuntime) -> Result<(), Fail> {
     Ok(())
 }
 
-#[test]
-fn a_snapshot_is_looked_up(rt: HostRuntime) -> Result<(), Fail> {
-    let limits = limits(1)?;
-    let table = read_snapshot(rt.alloc(), limits, &SNAPSHOT)?;
-    assert!(rt; table.limits() == limits && table.is_full());
-    assert!(rt; holds(table.get(ALICE.tuple).ok_or("alice")?, &ALICE));
-    assert!(rt; holds(table.get(BOB.tuple).ok_or("bob")?, &BOB));
-    assert!(rt; table.get(U.tuple).is_none());
-    assert!(rt; table.permitted(ALICE.tuple, PEER.ip) && !table.permitted(BOB.tuple, PEER.ip));
-    assert!(rt; table.peer_of(ALICE.tuple, 0x4000) == Some(PEER));
-    assert!(rt; table.peer_of(ALICE.tuple, 0x4001).is_none());
-    assert!(rt; table.peer_of(BOB.tuple, 0x4000).is_none());
-    Ok(())
-}
-
 /// Adds the entry of a client, with all that the max limits allow: a name of 508 bytes, permissions for 203.0.113.0 to
 /// 203.0.113.31, and channels 0x4000 to 0x401F to them.
 fn push_max_entry(bytes: &mut Vec<u8>, client: u16) -> Result<(), Fail> {
