@@ -119,7 +119,7 @@ fn measure_purge(
         table: make_table(rt.alloc(), moment, allocations)?,
         five_tuple: five_tuple(CLIENT),
     };
-    measure(rt, "Table::purge", &mut walked, count, 1)?;
+    measure(rt, "Table::purge and apply", &mut walked, count, 1)?;
     Ok(())
 }
 
