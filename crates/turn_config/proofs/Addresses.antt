@@ -1,6 +1,7 @@
 -- The parts of an address as it is written are those that the splits at its marks give.
-use Rattle.std.proofs.Common.{◌≡◌, ◌≢◌, ℕ, List, [], ◌∷◌, ◌++◌, Some, map, refl, ◌∙◌, ap, arith}
+use Rattle.std.proofs.Common.{◌≡◌, ◌≢◌, ◌<◌, ℕ, List, [], ◌∷◌, ◌++◌, Some, map, refl, ◌∙◌, ap, arith}
 use Rattle.std.proofs.lemmas.List.Elements.{All-append}
+use Rattle.std.specs.Char.{digit_value}
 use Rattle.std.specs.Int.{w32, from_be_bytes}
 use Rattle.turn_types.specs.declared.address.Endpoint.{Endpoint}
 use Rattle.turn_config.specs.Values.{number_of, IsNumberBelow, IsIp, IsEndpoint}
@@ -34,19 +35,19 @@ same_bytes i j k l a b c d p q r s =
     let lists : i ∷ j ∷ k ∷ l ∷ [] ≡ map number_of (a ∷ b ∷ c ∷ d ∷ []) = cc in
     ap (λ x. from_be_bytes w32 x) lists
 
--- an address has no colon
-pub ip_without : (text : List ℕ) (address : ℕ) → IsIp text address → Without 58 text
-ip_without text address n =
-    let free : (part : List ℕ) → IsNumberBelow 256 part → Without 58 part
-    = λ part m. number_without 256 58 part (λ h. omega arith) m in
-    let dot : (part rest : List ℕ) → Without 58 part → Without 58 rest → Without 58 (part ++ 46 ∷ rest)
-    = λ part rest f g. All-append (λ byte. byte ≢ 58) part (46 ∷ rest) f (cons_without 58 46 rest (λ e. omega arith) g) in
+-- an address has no byte that is neither a digit nor a dot
+pub ip_without : (mark : ℕ) (text : List ℕ) (address : ℕ) → (digit_value mark < 10 → ⊥) → 46 ≢ mark → IsIp text address → Without mark text
+ip_without mark text address none other n =
+    let free : (part : List ℕ) → IsNumberBelow 256 part → Without mark part
+    = λ part m. number_without 256 mark part none m in
+    let dot : (part rest : List ℕ) → Without mark part → Without mark rest → Without mark (part ++ 46 ∷ rest)
+    = λ part rest f g. All-append (λ byte. byte ≢ mark) part (46 ∷ rest) f (cons_without mark 46 rest other g) in
     rw n.spelled (dot n.a _ (free n.a n.numbers.0) (dot n.b _ (free n.b n.numbers.1)
     (dot n.c n.d (free n.c n.numbers.2) (free n.d n.numbers.3))))
 
 pub colon : (text f r : List ℕ) (endpoint : Endpoint) (n : IsEndpoint text endpoint) → text ≡ f ++ 58 ∷ r → Without 58 f
     → (f ≡ n.ip) × (r ≡ n.port)
-colon text f r endpoint n e w = same_split 58 text f r n.ip n.port e n.spelled w (ip_without n.ip endpoint.ip n.address)
+colon text f r endpoint n e w = same_split 58 text f r n.ip n.port e n.spelled w (ip_without 58 n.ip endpoint.ip (λ h. omega arith) (λ h. omega arith) n.address)
 
 pub same_endpoint : (ip port : ℕ) (endpoint : Endpoint) → Some ip ≡ Some endpoint.ip → port ≡ endpoint.port
     → let read : Endpoint = record { ip = ip; port = port } in Some read ≡ Some endpoint

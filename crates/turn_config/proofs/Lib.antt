@@ -1,3 +1,5 @@
 pub mod Addresses
 pub mod Numbers
+pub mod Passwords
 pub mod Splits
+pub mod Words

@@ -3,6 +3,7 @@
 
 mod config;
 mod lines;
+mod settings;
 mod shown;
 pub mod values;
 

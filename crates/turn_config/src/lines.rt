@@ -1,28 +1,28 @@
 //! The lines of a configuration, one setting each.
 
-use crate::values::{endpoint, ip, number_32, port, split_once};
+ghost use Rattle.std.specs.Prelude.{◌≡◌, ◌≢◌, ◌&&◌, Ok, IfOk, MatchOption, OnErr, true, false, if◌then◌else◌, is_none, is_some};
+ghost use Rattle.turn_types.specs.Limits.{max_bounds};
+ghost use Rattle.turn_config.specs.Lines.{IsConfigured, IsRealm, Lacks, Lines, Says, Sets, no_lines, or_else, skipped};
+ghost use Rattle.turn_config.specs.declared.settings.Setting.TheVariants.{Deny, User};
+
+use crate::settings::{
+    Relay, Setting, limits_of, quota_of, range_of, realm_of, relay_of, secret_of, setting_of,
+    user_of,
+};
+use crate::values::{endpoint, split_once};
 use std::alloc::{AllocError, Allocator, Global};
 use std::collections::BTreeMap;
+use std::marker::Model;
 use turn_cred::Users;
 use turn_mac::generate_auth_key;
 use turn_ports::PortRange;
-use turn_types::{Bounds, ConfigError, Endpoint, IpRange, Limits, ServerConfig, Settings};
+use turn_types::{ConfigError, Endpoint, IpRange, Limits, ServerConfig, Settings};
 
 /// The quota of a configuration without a `quota` line.
 const QUOTA: u32 = 10;
 
 /// How many `deny` lines there may be.
 const MAX_DENIED: usize = 64;
-
-/// How many bytes a realm may have (RFC 8489, section 14.9).
-const MAX_REALM: usize = 127;
-
-/// A relay address and the range of its ports.
-#[derive(Clone, Copy)]
-struct Relay {
-    ip: u32,
-    ports: PortRange,
-}
 
 /// What the lines of a configuration say so far. The texts are slices of the lines.
 #[derive(Drop)]
@@ -36,6 +36,30 @@ pub struct ConfigLines<'a, A: Allocator = Global> {
     limits: Option<Limits>,
     denied: Vec<IpRange, A>,
     passwords: BTreeMap<Vec<u8, A>, &'a [u8], A>,
+}
+
+impl<'a, A: Allocator> Model for ConfigLines<'a, A> {
+    ghost use Rattle.std.specs.Coded.{codes};
+    ghost use Rattle.std.specs.Prelude.{option_map};
+    ghost use Rattle.turn_cred.specs.Users.{key_map_code};
+    ghost use Rattle.turn_config.specs.Lines.{CanBeUsed, Lines, passwords_of};
+
+    ghost Value = { Lines };
+
+    ghost coded = { Prim.hlevel (codes, key_map_code) };
+
+    ghost view = { λ c. record {
+      realm = option_map (λ r. r.now) c.realm;
+      secret = c.secret;
+      listen = c.listen;
+      relay = c.relay;
+      quota = c.quota;
+      limits = c.limits;
+      denied = c.denied.items;
+      passwords = passwords_of c.passwords.entries;
+    } };
+
+    ghost invariant = { λ c. CanBeUsed (option_map (λ r. r.now) c.realm) c.quota c.denied.items };
 }
 
 /// What a whole configuration says: what a server is made of, and the passwords that a client needs.
@@ -53,16 +77,17 @@ pub struct Configured<'a, A: Allocator = Global> {
 }
 
 /// Whether a line says nothing: it is empty, or a comment, which begins with `#`.
-pub fn is_skipped(line: &[u8]) -> bool {
+pub fn is_skipped(line: &[u8]) -> bool
+    ensures { result ≡ skipped line.now }
+{
     matches!(line, [] | [b'#', ..])
 }
 
-fn is_text(text: &[u8]) -> bool {
-    !text.is_empty() && text.iter().all(|byte| 0x21 <= *byte && *byte <= 0x7e)
-}
-
 /// Sets what is not set yet to a value, if there is one. Returns whether it did.
-fn set<T: Drop>(place: &mut Option<T>, value: Option<T>) -> bool {
+fn put<T: Drop>(place: &mut Option<T>, value: Option<T>) -> bool
+    ensures done { result ≡ (is_none place.old && is_some value) }
+    ensures new { place.new ≡ (if result then value else place.old) }
+{
     if place.is_some() || value.is_none() {
         return false;
     }
@@ -70,76 +95,11 @@ fn set<T: Drop>(place: &mut Option<T>, value: Option<T>) -> bool {
     true
 }
 
-fn realm_of(text: &[u8]) -> Option<&[u8]> {
-    if is_text(text) && text.len() <= MAX_REALM {
-        Some(text)
-    } else {
-        None
-    }
-}
-
-fn secret_of(text: &[u8]) -> Option<[u8; 32]> {
-    let mut secret = [0u8; 32];
-    hex::decode_to_slice(text, &mut secret).ok()?;
-    Some(secret)
-}
-
-fn relay_of(text: &[u8]) -> Option<Relay> {
-    let (address, rest) = split_once(text, b' ')?;
-    let (low, high) = split_once(rest, b' ')?;
-    Some(Relay {
-        ip: ip(address)?,
-        ports: PortRange::new(port(low)?, port(high)?)?,
-    })
-}
-
-fn quota_of(text: &[u8]) -> Option<u32> {
-    let quota = number_32(text)?;
-    if 1 <= quota && quota <= 1024 {
-        Some(quota)
-    } else {
-        None
-    }
-}
-
-fn range_of(text: &[u8]) -> Option<IpRange> {
-    let (first, last) = split_once(text, b' ')?;
-    let (first, last) = (ip(first)?, ip(last)?);
-    if first <= last {
-        Some(IpRange { first, last })
-    } else {
-        None
-    }
-}
-
-fn limits_of(text: &[u8]) -> Option<Limits> {
-    let (allocations, rest) = split_once(text, b' ')?;
-    let (permissions, rest) = split_once(rest, b' ')?;
-    let (channels, rest) = split_once(rest, b' ')?;
-    let (acts, name_bytes) = split_once(rest, b' ')?;
-    Limits::new(Bounds {
-        allocations: number_32(allocations)?,
-        permissions: port(permissions)?,
-        channels: port(channels)?,
-        acts: port(acts)?,
-        name_bytes: port(name_bytes)?,
-    })
-}
-
-/// The name and the password of a user.
-fn user_of(text: &[u8]) -> Option<(&[u8], &[u8])> {
-    let (name, password) = split_once(text, b' ')?;
-    let is_name = is_text(name) && name.iter().all(|byte| *byte != b':');
-    if is_name && is_text(password) {
-        Some((name, password))
-    } else {
-        None
-    }
-}
-
 impl<'a, A: Allocator + Copy> ConfigLines<'a, A> {
     /// No lines.
-    pub fn new(alloc: A) -> ConfigLines<'a, A> {
+    pub fn new(alloc: A) -> ConfigLines<'a, A>
+        ensures { result ≡ no_lines }
+    {
         ConfigLines {
             alloc,
             realm: None,
@@ -154,24 +114,45 @@ impl<'a, A: Allocator + Copy> ConfigLines<'a, A> {
     }
 
     /// Reads a line that is not skipped. False if it is bad: then it is as if it were not there.
-    pub fn take(&mut self, line: &'a [u8]) -> Result<bool, AllocError> {
-        let Some((word, rest)) = split_once(line, b' ') else {
+    pub fn take(&mut self, line: &'a [u8]) -> Result<bool, AllocError>
+        ensures good { result ≡ Ok true → Says line.now self.old self.new }
+        ensures bad { result ≡ Ok false → self.new ≡ self.old }
+        ensures only { (new : Lines) → Says line.now self.old new → result ≢ Ok false }
+        ensures memory { OnErr result (self.new ≡ self.old) }
+    {
+        let Some((word, text)) = split_once(line, b' ') else {
             return Ok(false);
         };
-        match word {
-            b"realm" => Ok(set(&mut self.realm, realm_of(rest))),
-            b"secret" => Ok(set(&mut self.secret, secret_of(rest))),
-            b"listen" => Ok(set(&mut self.listen, endpoint(rest))),
-            b"relay" => Ok(set(&mut self.relay, relay_of(rest))),
-            b"quota" => Ok(set(&mut self.quota, quota_of(rest))),
-            b"limits" => Ok(set(&mut self.limits, limits_of(rest))),
-            b"deny" => self.deny(rest),
-            b"user" => self.add_user(rest),
-            _ => Ok(false),
+        match setting_of(word) {
+            Some(setting) => self.set(setting, text),
+            None => Ok(false),
         }
     }
 
-    fn deny(&mut self, text: &'a [u8]) -> Result<bool, AllocError> {
+    fn set(&mut self, setting: Setting, text: &'a [u8]) -> Result<bool, AllocError>
+        ensures good { result ≡ Ok true → Sets setting text.now self.old self.new }
+        ensures bad { result ≡ Ok false → self.new ≡ self.old }
+        ensures only { (new : Lines) → Sets setting text.now self.old new → result ≢ Ok false }
+        ensures memory { OnErr result (self.new ≡ self.old) }
+    {
+        match setting {
+            Setting::Realm => Ok(put(&mut self.realm, realm_of(text))),
+            Setting::Secret => Ok(put(&mut self.secret, secret_of(text))),
+            Setting::Listen => Ok(put(&mut self.listen, endpoint(text))),
+            Setting::Relay => Ok(put(&mut self.relay, relay_of(text))),
+            Setting::Quota => Ok(put(&mut self.quota, quota_of(text))),
+            Setting::Limits => Ok(put(&mut self.limits, limits_of(text))),
+            Setting::Deny => self.deny(text),
+            Setting::User => self.add_user(text),
+        }
+    }
+
+    fn deny(&mut self, text: &'a [u8]) -> Result<bool, AllocError>
+        ensures good { result ≡ Ok true → Sets Deny text.now self.old self.new }
+        ensures bad { result ≡ Ok false → self.new ≡ self.old }
+        ensures only { (new : Lines) → Sets Deny text.now self.old new → result ≢ Ok false }
+        ensures memory { OnErr result (self.new ≡ self.old) }
+    {
         let Some(range) = range_of(text) else {
             return Ok(false);
         };
@@ -182,7 +163,12 @@ impl<'a, A: Allocator + Copy> ConfigLines<'a, A> {
         Ok(true)
     }
 
-    fn add_user(&mut self, text: &'a [u8]) -> Result<bool, AllocError> {
+    fn add_user(&mut self, text: &'a [u8]) -> Result<bool, AllocError>
+        ensures good { result ≡ Ok true → Sets User text.now self.old self.new }
+        ensures bad { result ≡ Ok false → self.new ≡ self.old }
+        ensures only { (new : Lines) → Sets User text.now self.old new → result ≢ Ok false }
+        ensures memory { OnErr result (self.new ≡ self.old) }
+    {
         let Some((name, password)) = user_of(text) else {
             return Ok(false);
         };
@@ -207,7 +193,17 @@ impl<'a, A: Allocator + Copy> ConfigLines<'a, A> {
         realm: &[u8],
         secret: [u8; 32],
         relay: u32,
-    ) -> Result<Option<ServerConfig<A>>, AllocError> {
+    ) -> Result<ServerConfig<A>, AllocError>
+        requires { IsRealm realm.now }
+        ensures { IfOk result (λ c. c ≡ record {
+          realm = realm.now;
+          secret = secret;
+          relay = relay;
+          quota = or_else 10 self.now.quota;
+          denied = self.now.denied;
+          limits = or_else max_bounds self.now.limits;
+        }) }
+    {
         let settings = Settings {
             realm,
             secret,
@@ -217,14 +213,16 @@ impl<'a, A: Allocator + Copy> ConfigLines<'a, A> {
             limits: self.limits.unwrap_or(Limits::MAX),
         };
         match ServerConfig::new(self.alloc, settings) {
-            Ok(config) => Ok(Some(config)),
+            Ok(config) => Ok(config),
             Err(ConfigError::Memory) => Err(AllocError),
-            Err(_) => Ok(None),
+            Err(_) => unreachable!(),
         }
     }
 
     /// What the lines say together. `None` if a needed line is missing: `realm`, `secret`, `listen` or `relay`.
-    pub fn finish(self) -> Result<Option<Configured<'a, A>>, AllocError> {
+    pub fn finish(self) -> Result<Option<Configured<'a, A>>, AllocError>
+        ensures { IfOk result (λ found. MatchOption found (Lacks self.entry) (λ c. IsConfigured self.entry c)) }
+    {
         let (Some(realm), Some(secret), Some(listen), Some(relay)) = (
             self.realm,
             self.secret,
@@ -233,11 +231,8 @@ impl<'a, A: Allocator + Copy> ConfigLines<'a, A> {
         ) else {
             return Ok(None);
         };
-        let Some(config) = self.server_config(realm, secret, relay.ip)? else {
-            return Ok(None);
-        };
         Ok(Some(Configured {
-            config,
+            config: self.server_config(realm, secret, relay.ip)?,
             users: self.users(realm)?,
             listen,
             ports: relay.ports,

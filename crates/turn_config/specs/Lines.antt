@@ -1,0 +1,158 @@
+-- What the lines of a configuration say after their first words.
+use Rattle.std.specs.Prelude.{ℕ, ◌≡◌, ◌≤◌, ◌<◌, ◌^◌, ◌&&◌, Bool, true, not, nat_eq, Option, Some, None, IfSome, Ok, ◌⊎◌, List, [], ◌∷◌, ◌++◌, length, Vec, map as each}
+use Rattle.std.specs.List.{list_all, list_any}
+use Rattle.std.specs.FinMap as map
+use denote.Bor.{Bor}
+use Rattle.hex.specs.Hex.{decode_sized}
+use Rattle.turn_cred.specs.Users.{KeyMap, key_map}
+use Rattle.turn_types.specs.Config.{is_between, is_ordered}
+use Rattle.turn_types.specs.Limits.{AreInRange, max_bounds}
+use Rattle.turn_types.specs.declared.address.Endpoint.{Endpoint}
+use Rattle.turn_types.specs.declared.config.IpRange.{IpRange}
+use Rattle.turn_types.specs.declared.limits.Bounds.{Bounds}
+use Rattle.turn_config.specs.Names.{name_of}
+use Rattle.turn_config.specs.Values.{number_of, IsEndpoint, IsNumberBelow, IsIp}
+use Rattle.turn_config.specs.declared.lines.Configured.{Configured}
+use Rattle.turn_config.specs.declared.settings.Relay.{Relay}
+use Rattle.turn_config.specs.declared.settings.Setting.{Setting}
+use Rattle.turn_config.specs.declared.settings.Setting.TheVariants as settings
+
+-- an empty line, or a comment, which begins with #
+abbrev pub skipped : List ℕ → Bool
+skipped [] = true
+skipped (byte ∷ bytes) = nat_eq byte 35
+
+-- from 0x21 to 0x7E
+abbrev pub is_visible : ℕ → Bool
+is_visible byte = is_between 33 126 byte
+
+-- one byte or more, each of them visible
+abbrev pub is_text : List ℕ → Bool
+is_text text = not (nat_eq (length text) 0) && list_all is_visible text
+
+-- a text without a colon, so that keys of two users are made of two texts
+abbrev pub is_name : List ℕ → Bool
+is_name text = is_text text && not (list_any (nat_eq 58) text)
+
+-- a realm has at most 127 bytes
+pub record IsRealm (text : List ℕ) : Type 0 where
+  pub visible : is_text text ≡ true
+  pub short : length text ≤ 127
+
+-- from 1 to 1,024
+pub record IsQuota (text : List ℕ) : Type 0 where
+  pub number : IsNumberBelow 1025 text
+  pub some : 1 ≤ number_of text
+
+-- a first address, a blank and a last address, which is not below the first
+pub record IsRange (text : List ℕ) (range : IpRange) : Type 0 where
+  pub first : List ℕ
+  pub last : List ℕ
+  pub from : IsIp first range.first
+  pub to : IsIp last range.last
+  pub ordered : range.first ≤ range.last
+  pub spelled : text ≡ first ++ 32 ∷ last
+
+-- an address, a first port and a last one, which is not below the first, with blanks between
+pub record IsRelay (text : List ℕ) (relay : Relay) : Type 0 where
+  pub ip : List ℕ
+  pub low : List ℕ
+  pub high : List ℕ
+  pub address : IsIp ip relay.ip
+  pub numbers : IsNumberBelow (2 ^ 16) low × IsNumberBelow (2 ^ 16) high
+  pub ordered : number_of low ≤ number_of high
+  pub spelled : text ≡ ip ++ 32 ∷ (low ++ 32 ∷ high)
+  pub ports : relay.ports ≡ (number_of low, number_of high)
+
+-- numbers of allocations, of permissions and channels of each, of acts of a frame, and of bytes of a name, with blanks between
+pub record IsLimits (text : List ℕ) (bounds : Bounds) : Type 0 where
+  pub a : List ℕ
+  pub p : List ℕ
+  pub c : List ℕ
+  pub f : List ℕ
+  pub n : List ℕ
+  pub first : IsNumberBelow (2 ^ 32) a
+  pub others : IsNumberBelow (2 ^ 16) p × IsNumberBelow (2 ^ 16) c × IsNumberBelow (2 ^ 16) f × IsNumberBelow (2 ^ 16) n
+  pub spelled : text ≡ a ++ 32 ∷ (p ++ 32 ∷ (c ++ 32 ∷ (f ++ 32 ∷ n)))
+  pub bounds_are : bounds ≡ record {
+    allocations = number_of a;
+    permissions = number_of p;
+    channels = number_of c;
+    acts = number_of f;
+    name_bytes = number_of n;
+  }
+  pub in_range : AreInRange bounds
+
+-- a name, a blank and a password
+pub record IsUser (text name password : List ℕ) : Type 0 where
+  pub named : is_name name ≡ true
+  pub visible : is_text password ≡ true
+  pub spelled : text ≡ name ++ 32 ∷ password
+
+-- what lines say so far
+pub record Lines : Type 0 where
+  pub realm : Option (List ℕ)
+  pub secret : Option (List ℕ)
+  pub listen : Option Endpoint
+  pub relay : Option Relay
+  pub quota : Option ℕ
+  pub limits : Option Bounds
+  pub denied : List IpRange
+  pub passwords : KeyMap
+
+abbrev pub no_lines : Lines
+no_lines = record { realm = None; secret = None; listen = None; relay = None; quota = None; limits = None; denied = []; passwords = map.empty }
+
+-- the passwords of a tree of names
+abbrev pub passwords_of : {A : Type 0} → List (Vec ℕ A × Bor (List ℕ)) → KeyMap
+passwords_of entries = key_map (each (λ e. (e.0, e.1.now)) entries)
+
+-- What a line does that sets this. A setting is set once, 64 ranges are denied at most, and a name is given once.
+abbrev pub Sets : Setting → List ℕ → Lines → Lines → Type 0
+Sets settings.Realm text old new = IsRealm text × (old.realm ≡ None) × (new ≡ record old { realm = Some text })
+Sets settings.Secret text old new =
+    (secret : List ℕ) × (decode_sized text 32 ≡ Ok secret) × (old.secret ≡ None) × (new ≡ record old { secret = Some secret })
+Sets settings.Listen text old new =
+    (endpoint : Endpoint) × IsEndpoint text endpoint × (old.listen ≡ None) × (new ≡ record old { listen = Some endpoint })
+Sets settings.Relay text old new = (relay : Relay) × IsRelay text relay × (old.relay ≡ None) × (new ≡ record old { relay = Some relay })
+Sets settings.Quota text old new = IsQuota text × (old.quota ≡ None) × (new ≡ record old { quota = Some (number_of text) })
+Sets settings.Limits text old new = (limits : Bounds) × IsLimits text limits × (old.limits ≡ None) × (new ≡ record old { limits = Some limits })
+Sets settings.Deny text old new =
+    (range : IpRange) × IsRange text range × (length old.denied < 64) × (new ≡ record old { denied = old.denied ++ range ∷ [] })
+Sets settings.User text old new = (name : List ℕ) × (password : List ℕ) × IsUser text name password × (map.get old.passwords name ≡ None)
+    × (new ≡ record old { passwords = map.insert old.passwords name password })
+
+-- a line is the word of what it sets, a blank, and the text
+pub record Says (line : List ℕ) (old new : Lines) : Type 0 where
+  pub setting : Setting
+  pub text : List ℕ
+  pub spelled : line ≡ name_of setting ++ 32 ∷ text
+  pub sets : Sets setting text old new
+
+-- the value, or another where there is none
+abbrev pub or_else : {T : Type 0} → T → Option T → T
+or_else other None = other
+or_else other (Some x) = x
+
+-- the settings in range that keep a configuration from being refused
+pub record CanBeUsed (realm : Option (List ℕ)) (quota : Option ℕ) (denied : List IpRange) : Type 0 where
+  pub text : IfSome realm IsRealm
+  pub number : IfSome quota (λ n. (1 ≤ n) × (n ≤ 1024))
+  pub few : length denied ≤ 64
+  pub ordered : list_all is_ordered denied ≡ true
+
+-- a needed line is missing
+abbrev pub Lacks : Lines → Type 0
+Lacks lines = (lines.realm ≡ None) ⊎ (lines.secret ≡ None) ⊎ (lines.listen ≡ None) ⊎ (lines.relay ≡ None)
+
+-- What the lines say together. Without a line, the quota is 10, and the limits are the max ones.
+pub record IsConfigured {A : Type 0} (lines : Lines) (c : Configured A) : Type 0 where
+  pub realm : lines.realm ≡ Some c.realm.now
+  pub listen : lines.listen ≡ Some c.listen
+  pub relay : lines.relay ≡ Some (record { ip = c.config.relay; ports = c.ports })
+  pub secret : lines.secret ≡ Some c.config.secret
+  pub same_realm : c.config.realm ≡ c.realm.now
+  pub quota : c.config.quota ≡ or_else 10 lines.quota
+  pub denied : c.config.denied ≡ lines.denied
+  pub limits : c.config.limits ≡ or_else max_bounds lines.limits
+  pub passwords : passwords_of c.passwords.entries ≡ lines.passwords
