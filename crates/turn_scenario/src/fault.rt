@@ -1,6 +1,7 @@
 //! Why a scenario ended without a report.
 
 ghost use Rattle.std.specs.Prelude.{◌≡◌};
+ghost use Rattle.turn_scenario.specs.Faults.{fault_of};
 ghost use Rattle.turn_scenario.specs.declared.fault.LineFault.TheVariants.{Memory};
 
 use std::alloc::{AllocError, AllocFailed};
@@ -56,6 +57,8 @@ impl<T: Drop> From<AllocFailed<T>> for LineFault {
 
 /// A datagram that would be too long makes its line bad.
 impl From<PushError> for LineFault {
+    ghost from_gives = { λ e f. f ≡ fault_of e };
+
     fn from(error: PushError) -> LineFault {
         match error {
             PushError::TooLong => LineFault::Bad,

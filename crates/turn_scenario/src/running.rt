@@ -1,6 +1,10 @@
 //! A scenario after its `format` line.
 
-ghost use Rattle.std.specs.Prelude.{◌≡◌, ◌≤◌, ◌<◌, OnOk, OnErr};
+ghost use Rattle.std.specs.Prelude.{◌≡◌, ◌≤◌, ◌<◌, ◌⊎◌, [], Ok, IfOk, IsErr, OnOk, OnErr};
+ghost use Rattle.turn_disk.specs.Counts.{Rises};
+ghost use Rattle.turn_store.specs.Superblock.{least_area};
+ghost use Rattle.turn_store.specs.Images.{EachImage, StandsForAt};
+ghost use Rattle.turn_scenario.specs.Lived.{IsRefused, Lived, LivesOn};
 
 use crate::attributes::attributes;
 use crate::events::event_text;
@@ -11,10 +15,11 @@ use crate::table_lines::put_table;
 use std::alloc::{AllocError, Allocator, Global};
 use std::collections::BTreeMap;
 use turn_config::{Configured, values};
-use turn_cred::Nonces;
-use turn_disk::MemoryDisk;
+use turn_cred::{AuthHandler, Nonces, Users};
+use turn_disk::{Disk, MemoryDisk};
 use turn_mac::generate_auth_key;
-use turn_player::{Player, Step};
+use turn_player::{Event, Player, Step};
+use turn_ports::{PortRange, RelayAddressGenerator};
 use turn_requests::{Request, build_request, build_send};
 use turn_step::Arrival;
 use turn_store::FormatRefused;
@@ -46,12 +51,28 @@ fn format_disk<A: Allocator + Copy>(
     alloc: A,
     limits: Limits,
     area: u32,
-) -> Result<(MemoryDisk<A>, Result<(), FormatRefused>), AllocError> {
+) -> Result<(MemoryDisk<A>, Result<(), FormatRefused>), AllocError>
+    ensures done { IfOk result (λ made. made.1 ≡ Ok tt
+        → EachImage made.0.trace.now (StandsForAt (record { bounds = limits; area = area }) [] 0)) }
+    ensures refused { IfOk result (λ made. IsErr made.1 → (area < least_area limits) ⊎ Rises 0 made.0.failures) }
+{
     let area = area as usize;
     let content = Vec::from_elem(alloc, 0u8, 64 + 2 * area)?;
     let mut disk = MemoryDisk::new(alloc, content);
     let outcome = turn_store::format(&mut disk, limits, area);
     Ok((disk, outcome))
+}
+
+/// Reports what came of steps.
+fn report<A: Allocator + Copy>(
+    alloc: A,
+    lines: &mut Lines<A>,
+    events: Vec<Event<A>, A>,
+) -> Result<(), LineFault> {
+    for event in events {
+        lines.push(event_text(alloc, &event)?)?;
+    }
+    Ok(())
 }
 
 /// The bytes of a word: `-` for none, or pairs of hex digits.
@@ -90,7 +111,10 @@ impl<'a, A: Allocator + Copy> Running<'a, A> {
         alloc: A,
         configured: Configured<'a, A>,
         area: u32,
-    ) -> Result<Running<'a, A>, LineFault> {
+    ) -> Result<Running<'a, A>, LineFault>
+        ensures { IfOk result (λ running. Lived ⟦<MemoryDisk<A> as Disk>⟧ ⟦<Users<A> as AuthHandler>⟧ ⟦<PortRange as RelayAddressGenerator>⟧ running.player
+            ⊎ IsRefused area running.player) }
+    {
         let Configured {
             config,
             users,
@@ -118,7 +142,11 @@ impl<'a, A: Allocator + Copy> Running<'a, A> {
         Ok(running)
     }
 
-    fn open(&mut self, formatted: Result<(), FormatRefused>) -> Result<(), LineFault> {
+    fn open(&mut self, formatted: Result<(), FormatRefused>) -> Result<(), LineFault>
+        ensures lives { OnOk result (formatted ≡ Ok tt → LivesOn ⟦<MemoryDisk<A> as Disk>⟧ ⟦<Users<A> as AuthHandler>⟧ ⟦<PortRange as RelayAddressGenerator>⟧
+            self.old.player self.new.player) }
+        ensures same { OnOk result (IsErr formatted → self.new.player ≡ self.old.player) }
+    {
         match formatted {
             Ok(()) => self.play(&[Step::Reopen]),
             Err(FormatRefused::Device) => self.say("device"),
@@ -130,20 +158,27 @@ impl<'a, A: Allocator + Copy> Running<'a, A> {
         }
     }
 
-    fn say(&mut self, text: &str) -> Result<(), LineFault> {
+    fn say(&mut self, text: &str) -> Result<(), LineFault>
+        ensures { OnOk result (self.new.player ≡ self.old.player) }
+    {
         self.lines.push(String::from_str(self.alloc, text)?)?;
         Ok(())
     }
 
     /// Makes steps, and reports what comes of them.
-    fn play(&mut self, steps: &[Step<'_>]) -> Result<(), LineFault> {
-        for event in self.player.run(steps)? {
-            self.lines.push(event_text(self.alloc, &event)?)?;
-        }
+    fn play(&mut self, steps: &[Step<'_>]) -> Result<(), LineFault>
+        ensures lives { OnOk result (LivesOn ⟦<MemoryDisk<A> as Disk>⟧ ⟦<Users<A> as AuthHandler>⟧ ⟦<PortRange as RelayAddressGenerator>⟧
+            self.old.player self.new.player) }
+    {
+        let events = self.player.run(steps)?;
+        report(self.alloc, &mut self.lines, events)?;
         Ok(())
     }
 
-    fn submit(&mut self, client: Endpoint, bytes: &[u8]) -> Result<(), LineFault> {
+    fn submit(&mut self, client: Endpoint, bytes: &[u8]) -> Result<(), LineFault>
+        ensures lives { OnOk result (LivesOn ⟦<MemoryDisk<A> as Disk>⟧ ⟦<Users<A> as AuthHandler>⟧ ⟦<PortRange as RelayAddressGenerator>⟧
+            self.old.player self.new.player) }
+    {
         let five_tuple = FiveTuple {
             client,
             server: self.server,
@@ -152,23 +187,27 @@ impl<'a, A: Allocator + Copy> Running<'a, A> {
         self.play(&[Step::Arrive(self.moment, arrival)])
     }
 
-    fn ask(&mut self, ask: &Ask<'_>) -> Result<(), LineFault> {
+    fn ask(&mut self, ask: &Ask<'_>) -> Result<(), LineFault>
+        ensures lives { OnOk result (LivesOn ⟦<MemoryDisk<A> as Disk>⟧ ⟦<Users<A> as AuthHandler>⟧ ⟦<PortRange as RelayAddressGenerator>⟧
+            self.old.player self.new.player) }
+    {
         let bytes = self.client.request(self.alloc, ask, self.moment)?;
         self.submit(ask.client, &bytes)
     }
 
-    fn send(&mut self, client: Endpoint, peer: Endpoint, word: &[u8]) -> Result<(), LineFault> {
+    fn send(&mut self, client: Endpoint, peer: Endpoint, word: &[u8]) -> Result<(), LineFault>
+        ensures lives { OnOk result (LivesOn ⟦<MemoryDisk<A> as Disk>⟧ ⟦<Users<A> as AuthHandler>⟧ ⟦<PortRange as RelayAddressGenerator>⟧
+            self.old.player self.new.player) }
+    {
         let payload = bytes_of(self.alloc, word)?;
         let bytes = build_send(self.alloc, peer, &payload)?;
         self.submit(client, &bytes)
     }
 
-    fn submit_from_peer(
-        &mut self,
-        port: u16,
-        from: Endpoint,
-        bytes: &[u8],
-    ) -> Result<(), LineFault> {
+    fn submit_from_peer(&mut self, port: u16, from: Endpoint, bytes: &[u8]) -> Result<(), LineFault>
+        ensures lives { OnOk result (LivesOn ⟦<MemoryDisk<A> as Disk>⟧ ⟦<Users<A> as AuthHandler>⟧ ⟦<PortRange as RelayAddressGenerator>⟧
+            self.old.player self.new.player) }
+    {
         let id = TxId([0; 12]);
         let arrival = Arrival::Peer {
             port,
@@ -179,7 +218,10 @@ impl<'a, A: Allocator + Copy> Running<'a, A> {
         self.play(&[Step::Arrive(self.moment, arrival)])
     }
 
-    fn peer(&mut self, line: &PeerLine<'_>) -> Result<(), LineFault> {
+    fn peer(&mut self, line: &PeerLine<'_>) -> Result<(), LineFault>
+        ensures lives { OnOk result (LivesOn ⟦<MemoryDisk<A> as Disk>⟧ ⟦<Users<A> as AuthHandler>⟧ ⟦<PortRange as RelayAddressGenerator>⟧
+            self.old.player self.new.player) }
+    {
         let bytes = bytes_of(self.alloc, line.hex)?;
         self.submit_from_peer(line.port, line.from, &bytes)
     }
@@ -188,6 +230,8 @@ impl<'a, A: Allocator + Copy> Running<'a, A> {
     fn go_to(&mut self, moment: Moment) -> Result<(), LineFault>
         ensures ok { OnOk result ((self.old.moment ≤ moment) × (self.new.moment ≡ moment)) }
         ensures refused { OnErr result ((moment < self.old.moment) × (self.new.moment ≡ self.old.moment)) }
+        ensures lives { OnOk result (LivesOn ⟦<MemoryDisk<A> as Disk>⟧ ⟦<Users<A> as AuthHandler>⟧ ⟦<PortRange as RelayAddressGenerator>⟧
+            self.old.player self.new.player) }
     {
         if moment < self.moment {
             return Err(LineFault::Bad);
@@ -197,7 +241,10 @@ impl<'a, A: Allocator + Copy> Running<'a, A> {
     }
 
     /// Reports the table at the moment, or at the server's clock where that is later.
-    fn table(&mut self) -> Result<(), LineFault> {
+    fn table(&mut self) -> Result<(), LineFault>
+        ensures lives { OnOk result (LivesOn ⟦<MemoryDisk<A> as Disk>⟧ ⟦<Users<A> as AuthHandler>⟧ ⟦<PortRange as RelayAddressGenerator>⟧
+            self.old.player self.new.player) }
+    {
         match self.player.server() {
             Ok(server) => {
                 let clock = server.clock();
@@ -213,7 +260,10 @@ impl<'a, A: Allocator + Copy> Running<'a, A> {
         Ok(())
     }
 
-    fn expect(&mut self, text: &[u8]) -> Result<(), LineFault> {
+    fn expect(&mut self, text: &[u8]) -> Result<(), LineFault>
+        ensures lives { OnOk result (LivesOn ⟦<MemoryDisk<A> as Disk>⟧ ⟦<Users<A> as AuthHandler>⟧ ⟦<PortRange as RelayAddressGenerator>⟧
+            self.old.player self.new.player) }
+    {
         if self.lines.compare(text) {
             Ok(())
         } else {
@@ -221,7 +271,10 @@ impl<'a, A: Allocator + Copy> Running<'a, A> {
         }
     }
 
-    fn do_line(&mut self, line: &Line<'_>) -> Result<(), LineFault> {
+    fn do_line(&mut self, line: &Line<'_>) -> Result<(), LineFault>
+        ensures lives { OnOk result (LivesOn ⟦<MemoryDisk<A> as Disk>⟧ ⟦<Users<A> as AuthHandler>⟧ ⟦<PortRange as RelayAddressGenerator>⟧
+            self.old.player self.new.player) }
+    {
         match line {
             Line::At(moment) => self.go_to(*moment),
             Line::Nonce(moment) => {
@@ -246,7 +299,10 @@ impl<'a, A: Allocator + Copy> Running<'a, A> {
     }
 
     /// Does what a line that is not skipped says.
-    pub(crate) fn take(&mut self, text: &[u8]) -> Result<(), LineFault> {
+    pub(crate) fn take(&mut self, text: &[u8]) -> Result<(), LineFault>
+        ensures lives { OnOk result (LivesOn ⟦<MemoryDisk<A> as Disk>⟧ ⟦<Users<A> as AuthHandler>⟧ ⟦<PortRange as RelayAddressGenerator>⟧
+            self.old.player self.new.player) }
+    {
         match read_line(text) {
             Some(line) => self.do_line(&line),
             None => Err(LineFault::Bad),
