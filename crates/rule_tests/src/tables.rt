@@ -87,17 +87,18 @@ pub fn purge_to<A: Allocator + Copy>(
     Err(Fail::new("more than 7 entries"))
 }
 
-/// Does an act that fits at a table's moment, and returns the port that became free, 0 for none.
+/// Does an act that fits at a table's moment.
 pub fn apply<A: Allocator + Copy>(
     table: &mut Table<A>,
     tuple: FiveTuple,
     act: Act<A>,
-) -> Result<u16, Fail> {
+) -> Result<(), Fail> {
     if !table.fits(tuple, &act) {
         return Err(Fail::new("the act does not fit"));
     }
     table.reserve_for(tuple, &act)?;
-    Ok(table.apply(table.moment(), tuple, act).unwrap_or(0))
+    table.apply(table.moment(), tuple, act);
+    Ok(())
 }
 
 /// An entry of a snapshot of second 1000, with a relayed port, two permissions and a channel.
