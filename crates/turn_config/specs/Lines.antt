@@ -2,6 +2,7 @@
 use Rattle.std.specs.Prelude.{ℕ, ◌≡◌, ◌≤◌, ◌<◌, ◌^◌, ◌&&◌, Bool, true, not, nat_eq, Option, Some, None, IfSome, Ok, ◌⊎◌, List, [], ◌∷◌, ◌++◌, length, Vec, map as each}
 use Rattle.std.specs.List.{list_all, list_any}
 use Rattle.std.specs.FinMap as map
+use Rattle.std.specs.Option.{unwrap_or}
 use denote.Bor.{Bor}
 use Rattle.hex.specs.Hex.{decode_sized}
 use Rattle.turn_cred.specs.Users.{KeyMap, key_map}
@@ -129,12 +130,7 @@ pub record Says (line : List ℕ) (old new : Lines) : Type 0 where
   pub spelled : line ≡ name_of setting ++ 32 ∷ text
   pub sets : Sets setting text old new
 
--- the value, or another where there is none
-abbrev pub or_else : {T : Type 0} → T → Option T → T
-or_else other None = other
-or_else other (Some x) = x
-
--- the settings in range that keep a configuration from being refused
+-- these settings are in range, so that no configuration with them is refused
 pub record CanBeUsed (realm : Option (List ℕ)) (quota : Option ℕ) (denied : List IpRange) : Type 0 where
   pub text : IfSome realm IsRealm
   pub number : IfSome quota (λ n. (1 ≤ n) × (n ≤ 1024))
@@ -152,7 +148,7 @@ pub record IsConfigured {A : Type 0} (lines : Lines) (c : Configured A) : Type 0
   pub relay : lines.relay ≡ Some (record { ip = c.config.relay; ports = c.ports })
   pub secret : lines.secret ≡ Some c.config.secret
   pub same_realm : c.config.realm ≡ c.realm.now
-  pub quota : c.config.quota ≡ or_else 10 lines.quota
+  pub quota : c.config.quota ≡ unwrap_or lines.quota 10
   pub denied : c.config.denied ≡ lines.denied
-  pub limits : c.config.limits ≡ or_else max_bounds lines.limits
+  pub limits : c.config.limits ≡ unwrap_or lines.limits max_bounds
   pub passwords : passwords_of c.passwords.entries ≡ lines.passwords

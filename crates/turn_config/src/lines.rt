@@ -1,8 +1,9 @@
 //! The lines of a configuration, one setting each.
 
 ghost use Rattle.std.specs.Prelude.{◌≡◌, ◌≢◌, ◌&&◌, Ok, IfOk, MatchOption, OnErr, true, false, if◌then◌else◌, is_none, is_some};
+ghost use Rattle.std.specs.Option.{unwrap_or};
 ghost use Rattle.turn_types.specs.Limits.{max_bounds};
-ghost use Rattle.turn_config.specs.Lines.{IsConfigured, IsRealm, Lacks, Lines, Says, Sets, no_lines, or_else, skipped};
+ghost use Rattle.turn_config.specs.Lines.{IsConfigured, IsRealm, Lacks, Lines, Says, Sets, no_lines, skipped};
 ghost use Rattle.turn_config.specs.declared.settings.Setting.TheVariants.{Deny, User};
 
 use crate::settings::{
@@ -199,9 +200,9 @@ impl<'a, A: Allocator + Copy> ConfigLines<'a, A> {
           realm = realm.now;
           secret = secret;
           relay = relay;
-          quota = or_else 10 self.now.quota;
+          quota = unwrap_or self.now.quota 10;
           denied = self.now.denied;
-          limits = or_else max_bounds self.now.limits;
+          limits = unwrap_or self.now.limits max_bounds;
         }) }
     {
         let settings = Settings {

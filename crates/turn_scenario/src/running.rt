@@ -64,7 +64,7 @@ fn format_disk<A: Allocator + Copy>(
 }
 
 /// Reports what came of steps.
-fn report<A: Allocator + Copy>(
+fn put_events<A: Allocator + Copy>(
     alloc: A,
     lines: &mut Lines<A>,
     events: Vec<Event<A>, A>,
@@ -171,7 +171,7 @@ impl<'a, A: Allocator + Copy> Running<'a, A> {
             self.old.player self.new.player) }
     {
         let events = self.player.run(steps)?;
-        report(self.alloc, &mut self.lines, events)?;
+        put_events(self.alloc, &mut self.lines, events)?;
         Ok(())
     }
 
