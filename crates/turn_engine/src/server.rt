@@ -1,6 +1,6 @@
 //! The server.
 
-ghost use Rattle.std.specs.Prelude.{◌≡◌, ◌≢◌, ◌+◌, ◌-◌, ◌^◌, ◌≤◌, ◌<◌, ◌↔◌, ◌++◌, ℕ, [], ◌∷◌, Ok, Err, IsOk, IfOk, IfErr, IfSome, OnOk, OnErr, true, false, length, map, take, drop, option_map, vec_len, vec_capacity, List};
+ghost use Rattle.std.specs.Prelude.{◌≡◌, ◌≢◌, ◌+◌, ◌-◌, ◌^◌, ◌≤◌, ◌<◌, ◌↔◌, ◌++◌, ℕ, [], ◌∷◌, Ok, Err, Some, IsOk, IfOk, IfErr, IfSome, IfNone, OnOk, OnErr, true, false, length, map, take, drop, option_map, vec_len, vec_capacity, List};
 ghost use Rattle.std.specs.Option.{option_to_list};
 ghost use Rattle.std.specs.Result.{result_map_both};
 ghost use Rattle.turn_disk.specs.Counts.{Rises};
@@ -201,6 +201,25 @@ impl<D: Disk, H: AuthHandler, G: RelayAddressGenerator, A: Allocator + Copy> Ser
         }
     }
 
+    // Why an arrival is refused before anything is done for it.
+    fn refusal(&self) -> Option<SubmitRefused>
+        ensures stopped { (result ≡ Some SubmitRefused.Stopped) ↔ (self.now.store.stopped ≡ true) }
+        ensures full { (result ≡ Some SubmitRefused.BatchFull)
+            ↔ ((self.now.store.stopped ≡ false) × (self.now.arrivals ≡ (limits_of self.now).acts)) }
+        ensures memory { result ≢ Some SubmitRefused.Memory }
+        ensures none { IfNone result (self.now.arrivals < (limits_of self.now).acts) }
+        ensures few { self.now.arrivals ≤ (limits_of self.now).acts }
+        ensures small { IfNone result (self.now.arrivals + 1 < 2 ^ 16) }
+    {
+        if self.store.is_stopped() {
+            return Some(SubmitRefused::Stopped);
+        }
+        if self.arrivals >= self.machine.config().limits().acts() {
+            return Some(SubmitRefused::BatchFull);
+        }
+        None
+    }
+
     // Takes an arrival, for which the batch has room.
     fn take(&mut self, moment: Moment, arrival: &Arrival<'_>) -> Result<(), AllocError>
         requires clock { now_of self.old ≤ moment }
@@ -270,11 +289,8 @@ impl<D: Disk, H: AuthHandler, G: RelayAddressGenerator, A: Allocator + Copy> Ser
         // All of this as one record, of which the laws of runs speak.
         ensures call { Submits D.Disk H.AuthHandler G.RelayAddressGenerator self.old self.new moment (arrival_of arrival.now) result }
     {
-        if self.store.is_stopped() {
-            return Err(SubmitRefused::Stopped);
-        }
-        if self.arrivals >= self.machine.config().limits().acts() {
-            return Err(SubmitRefused::BatchFull);
+        if let Some(refused) = self.refusal() {
+            return Err(refused);
         }
         match self.take(moment, arrival) {
             Ok(()) => Ok(()),

@@ -32,10 +32,19 @@ returns-clause-rests g c = λ honest h k rests.
     rests_later _ _ _ h (length h) done refl (ap (λ b. b.payload) c.clear.ensures) (ap (λ b. b.acts) c.clear.ensures) (omega (arith, same))
     (subst (λ m. IsAfter m h) (sym machine) rests.after)
 
+pub invariant_of-self : goal.invariant_of-self
+invariant_of-self g c = search rules
+
+pub returns-clause-handed : goal.returns-clause-handed
+returns-clause-handed g c = search rules
+
+pub returns-clause-ok : goal.returns-clause-ok
+returns-clause-ok g c = search rules
+
 pub returns-clause-call : goal.returns-clause-call
 returns-clause-call g c = record {
-  handed = search rules;
-  ok = search rules;
+  handed = returns-clause-handed g c;
+  ok = returns-clause-ok g c;
   err = tt;
   runs = search rules;
   stops = tt;

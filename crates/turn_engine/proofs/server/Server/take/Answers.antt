@@ -1,4 +1,4 @@
-use Rattle.std.proofs.Common.{◌≡◌, ◌≤◌, ◌+◌, ◌++◌, ℕ, length, map, option_map, sym, ap, ◌∙◌, subst, arith}
+use Rattle.std.proofs.Common.{rules, ◌≡◌, ◌≤◌, ◌+◌, ◌++◌, ℕ, length, map, option_map, sym, ap, ◌∙◌, subst, arith}
 use Rattle.std.specs.Option.{option_to_list}
 use Rattle.turn_ports.specs.Ports.{has_failed}
 use Rattle.turn_step.specs.Answer.{AnswersArrival}
@@ -86,3 +86,18 @@ returns-clause-ok g c = λ h k rests.
           (c.stage_act.ensures.acts ∙ ap (λ s. s.acts + length (added t change)) c.self.view_is) c.requires.clock
           (ap (λ (s : State). s.moment) c.apply-datagram.ensures.table ∙ moment_changed c.prepare.new.self.table change ∙ moment) after;
     }
+
+pub returns-in-Err-clause-clock : goal.returns-in-Err-clause-clock
+returns-in-Err-clause-clock g c = search rules
+
+pub returns-in-Err-clause-memory_table : goal.returns-in-Err-clause-memory_table
+returns-in-Err-clause-memory_table g c = search rules
+
+pub returns-then-is_err-clause-clock : goal.returns-then-is_err-clause-clock
+returns-then-is_err-clause-clock g c = search rules
+
+pub returns-then-is_err-clause-memory_table : goal.returns-then-is_err-clause-memory_table
+returns-then-is_err-clause-memory_table g c = search rules
+
+pub returns-clause-clock : goal.returns-clause-clock
+returns-clause-clock g c = search rules

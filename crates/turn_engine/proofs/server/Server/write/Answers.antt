@@ -1,4 +1,4 @@
-use Rattle.std.proofs.Common.{length, take, drop, sym, ap, ◌∙◌, subst, refl}
+use Rattle.std.proofs.Common.{rules, length, take, drop, sym, ap, ◌∙◌, subst, refl}
 use Rattle.turn_disk.specs.Disk.{EachImageSince}
 use Rattle.turn_store.specs.Areas.{Form}
 use Rattle.turn_store.specs.Images.{EitherBy, StandsBy}
@@ -72,3 +72,30 @@ returns-clause-done g c = λ honest h k old.
           (may_follow _ _ h k rests c.self.invariant.store_is c.self.invariant.snapshot.moment) (has_size _ _ h k rests (some_acts c.acts.result _ c.acts.ensures.value c.if-acts-eq0.false) (few_acts _ _ _ _ c.self.invariant.few c.self.invariant.capped (ap (λ (b : Bounds). b.acts) c.self.invariant.store_is))) rests.staged (contents_are _ _ h k rests))))
       | in-Err w ↦ rw w.result-is tt
     ]
+
+pub returns-then-is_stopped-clause-runs : goal.returns-then-is_stopped-clause-runs
+returns-then-is_stopped-clause-runs g c = tt
+
+pub returns-then-is_stopped-clause-stopped : goal.returns-then-is_stopped-clause-stopped
+returns-then-is_stopped-clause-stopped g c = search rules
+
+pub returns-then-acts-eq0-clause-stops : goal.returns-then-acts-eq0-clause-stops
+returns-then-acts-eq0-clause-stops g c = tt
+
+pub returns-then-acts-eq0-clause-nothing : goal.returns-then-acts-eq0-clause-nothing
+returns-then-acts-eq0-clause-nothing g c = search rules
+
+pub returns-then-acts-eq0-clause-device : goal.returns-then-acts-eq0-clause-device
+returns-then-acts-eq0-clause-device g c = search rules
+
+pub returns-clause-runs : goal.returns-clause-runs
+returns-clause-runs g c = search rules
+
+pub returns-clause-count : goal.returns-clause-count
+returns-clause-count g c = search rules
+
+pub returns-clause-worn : goal.returns-clause-worn
+returns-clause-worn g c = search rules
+
+pub returns-clause-untouched_worn : goal.returns-clause-untouched_worn
+returns-clause-untouched_worn g c = search rules
