@@ -1,9 +1,9 @@
 //! What a commit hands out and writes.
 
 use crate::player::play;
-use crate::requests::*;
 use crate::row::{ALLOCATE, REQUEST, Row, SUCCESS, Sent};
 use crate::setup::{PAIR, SMALL};
+use requests_for_tests::{BOB, FIRST, Kind, SECOND, UDP};
 use std::test::Fail;
 
 /// An open gate, version 1, generation 1, a snapshot of 12 bytes (moment 0, no entry), a closed gate.

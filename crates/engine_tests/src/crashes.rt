@@ -1,9 +1,9 @@
 //! Commits of one act, after which the disk crashes: the Allocate which was answered before is answered by the same bytes.
 
 use crate::player::{Player, play_on};
-use crate::requests::*;
 use crate::row::{Row, Sent};
 use crate::stops::staged;
+use requests_for_tests::FIRST;
 use std::alloc::Global;
 use std::test::Fail;
 use turn_disk::Outcome;

@@ -1,9 +1,9 @@
 //! Worked examples: what a commit hands out for each datagram, byte by byte.
 
 use crate::player::play;
-use crate::requests::*;
 use crate::row::{Row, Sent};
 use crate::setup::SMALL;
+use requests_for_tests::{ALICE, FIRST, FLAG, HOUR, Kind, LOWEST, PEER, PEER_ENDPOINT, UDP, ZERO};
 use std::test::Fail;
 
 // ---- Without credentials

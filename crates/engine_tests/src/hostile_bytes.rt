@@ -1,9 +1,9 @@
 //! Datagrams that are cut, or one of whose bits is flipped.
 
 use crate::player::{Player, of_client};
-use crate::requests::*;
 use crate::row::{ALLOCATE, ALLOCATED, REQUEST, Row};
 use crate::setup::SMALL;
+use requests_for_tests::{FIRST, code_of, five_tuple};
 use std::alloc::Global;
 use std::test::Fail;
 use turn_codec::{Malformed, Message};

@@ -15,13 +15,9 @@ mod mixed_runs;
 #[cfg(test)]
 mod player;
 #[cfg(test)]
-mod ports;
-#[cfg(test)]
 mod refused_growths;
 #[cfg(test)]
 mod released_ports;
-#[cfg(test)]
-mod requests;
 #[cfg(test)]
 mod row;
 #[cfg(test)]

@@ -1,10 +1,12 @@
 //! A server beside the rules alone, over a long mixed run.
 
 use crate::player::{Player, of_client};
-use crate::ports::Ports;
-use crate::requests::*;
 use crate::same::{are_same, is_same_table};
-use crate::setup::{LARGE, Setup, users};
+use crate::setup::{LARGE, Setup};
+use requests_for_tests::{
+    ALICE, Attribute, BOB, FIRST, HOUR, ID, Kind, LOWEST, PEER, PEER_ENDPOINT, Ports, SECOND, UDP,
+    ZERO, at, nonce_of, signed, users,
+};
 use std::alloc::Global;
 use std::test::Fail;
 use turn_cred::Users;
@@ -76,7 +78,7 @@ const REQUESTS: [(Kind, &[Attribute]); 12] = [
     (Kind::Allocate, &[UDP]),
     (Kind::Allocate, &[UDP, HOUR]),
     (Kind::Allocate, &[UDP]),
-    (Kind::Allocate, &[]),
+    (Kind::Allocate, &[Attribute::NoTransport]),
     (Kind::Refresh, &[]),
     (Kind::Refresh, &[HOUR]),
     (Kind::Refresh, &[ZERO]),
@@ -142,7 +144,8 @@ impl Run {
             None => (Kind::Refresh, REQUESTS[4].1),
         };
         let source = Source::Client(client);
-        let bytes = signed(self.alloc, self.second, user, client, kind, attributes)?;
+        let nonce = nonce_of(self.second, client)?;
+        let bytes = signed(self.alloc, user, kind, &nonce, attributes)?;
         self.last = Drawn {
             source,
             bytes: Vec::from_slice(self.alloc, &bytes)?,
@@ -282,21 +285,21 @@ impl Twins<'_> {
         self.commits()
     }
 
-    /// Takes a hundred arrivals, with a commit after every one to seven of them.
-    fn take_hundred(&mut self, run: &mut Run) -> Result<bool, Fail> {
-        for _ in 0..100u32 {
-            if !self.take_next(run)? {
-                return Ok(false);
-            }
+    /// Takes the next arrival of a run, with a commit after every one to seven of them. After each hundredth one there is a
+    /// commit, and the tables are compared.
+    fn goes_on(&mut self, run: &mut Run, count: u32) -> Result<bool, Fail> {
+        let is_right = self.take_next(run)?;
+        if count % 100 != 0 {
+            return Ok(is_right);
         }
-        Ok(self.commits()? && self.is_same())
+        Ok(is_right && self.commits()? && self.is_same())
     }
 }
 
 /// Takes 2,000 arrivals.
 fn take_thousands(twins: &mut Twins<'_>, run: &mut Run) -> Result<bool, Fail> {
-    for _ in 0..20u32 {
-        if !twins.take_hundred(run)? {
+    for count in 1..=2000u32 {
+        if !twins.goes_on(run, count)? {
             return Ok(false);
         }
     }

@@ -1,11 +1,10 @@
 //! A server over a disk in memory that plays the rows of a test.
 
-use crate::ports::Ports;
-use crate::requests::*;
 use crate::row::{REQUEST, Row, SUCCESS, Sent};
 use crate::same::{are_live, are_sent, has_at};
-use crate::setup::{Setup, users};
+use crate::setup::Setup;
 use refusing::Refusing;
+use requests_for_tests::{FIRST, ID, Ports, at, five_tuple, nonce_of, signed, users};
 use std::alloc::{Allocator, Global};
 use std::test::Fail;
 use turn_cred::Users;
@@ -164,7 +163,8 @@ impl<A: Allocator + Copy, B: Allocator + Copy> Player<A, B> {
     pub fn submit(&mut self, row: &Row) -> Result<Result<(), SubmitRefused>, Fail> {
         match row {
             Row::Ask(second, user, client, kind, attributes) => {
-                let bytes = signed(self.alloc, *second, *user, *client, *kind, attributes)?;
+                let nonce = nonce_of(*second, *client)?;
+                let bytes = signed(self.alloc, *user, *kind, &nonce, attributes)?;
                 self.submit_at(*second, &of_client(*client, &bytes))
             }
             Row::Client(second, client, bytes) | Row::Full(second, client, bytes) => {

@@ -1,16 +1,19 @@
 //! Each growth of memory refused in turn.
 
 use crate::player::{Player, Refused};
-use crate::requests::*;
-use crate::row::{ALLOCATE, Row, Sent};
+use crate::row::{Row, Sent};
 use crate::same::{are_same, is_same_table};
-use crate::setup::{LARGE, SMALL, users};
+use crate::setup::{LARGE, SMALL};
 use crate::stops::act_of;
 use refusing::Refusing;
+use requests_for_tests::{
+    ALICE, BOB, FIRST, HOUR, Kind, LOWEST, PEER, PEER_ENDPOINT, SECOND, UDP, ZERO, users,
+};
 use std::alloc::{Allocator, Global};
 use std::test::Fail;
 use turn_disk::{Disk, MemoryDisk};
-use turn_engine::{CommitRefused, OpenRefused, SubmitRefused};
+use turn_engine::OpenRefused;
+use turn_step::Outgoing;
 use turn_store::OpenFault;
 use turn_types::ServerConfig;
 
@@ -99,14 +102,22 @@ fn are_alike<A: Allocator + Copy, B: Allocator + Copy>(
     is_same_table(first.table(), second.table()) && first.keeps_ports() && second.keeps_ports()
 }
 
+/// Whether a commit hands out these datagrams.
+fn commits<A: Allocator + Copy, B: Allocator + Copy>(
+    player: &mut Player<B, B>,
+    wanted: &[Outgoing<A>],
+) -> Result<bool, Fail> {
+    let outs = player.commit()?;
+    Ok(are_same(wanted, &outs))
+}
+
 /// Whether commits of two servers hand out the same datagrams, and leave the same bytes on their disks.
 fn commit_alike<A: Allocator + Copy, B: Allocator + Copy>(
     first: &mut Player<A, B>,
     second: &mut Player<B, B>,
 ) -> Result<bool, Fail> {
     let outs = first.commit()?;
-    let others = second.commit()?;
-    Ok(first.disk().content() == second.disk().content() && are_same(&outs, &others))
+    Ok(commits(second, &outs)? && first.disk().content() == second.disk().content())
 }
 
 /// Whether both hold.
@@ -148,24 +159,29 @@ fn is_refused<'a>(
     Ok(was_refused)
 }
 
-/// A new server after these rows.
-fn played(alloc: Global, rows: &[Row]) -> Result<Player, Fail> {
-    let mut player = Player::new(alloc, alloc, &LARGE)?;
-    player.play(rows)?;
-    Ok(player)
-}
-
-/// The same beside a new server, both after other rows.
+/// The same of two servers after other rows.
 fn is_refused_after<'a>(
-    alloc: Global,
     refusing: &'a Refusing<Global>,
     player: &mut Player<&'a Refusing<Global>, Global>,
+    other: &mut Player,
     (before, row): &(&[Row], Row),
     served: u64,
 ) -> Result<bool, Fail> {
     player.play(before)?;
-    let mut other = played(alloc, before)?;
-    is_refused(refusing, player, &mut other, row, served)
+    other.play(before)?;
+    is_refused(refusing, player, other, row, served)
+}
+
+/// The same of two new servers, the first of which is given.
+fn is_refused_beside<'a>(
+    alloc: Global,
+    refusing: &'a Refusing<Global>,
+    player: &mut Player<&'a Refusing<Global>, Global>,
+    rows: &(&[Row], Row),
+    served: u64,
+) -> Result<bool, Fail> {
+    let mut other = Player::new(alloc, alloc, &LARGE)?;
+    is_refused_after(refusing, player, &mut other, rows, served)
 }
 
 fn is_refused_over<'a>(
@@ -175,7 +191,7 @@ fn is_refused_over<'a>(
     served: u64,
 ) -> Result<bool, Fail> {
     let mut player = Player::open(refusing, alloc, &LARGE, LARGE.disk(alloc)?)?;
-    is_refused_after(alloc, refusing, &mut player, rows, served)
+    is_refused_beside(alloc, refusing, &mut player, rows, served)
 }
 
 fn is_refused_at_first(alloc: Global, rows: &(&[Row], Row), served: u64) -> Result<bool, Fail> {
@@ -235,7 +251,7 @@ const OPENED: [Row; 4] = [
 ];
 
 /// Whether a server goes on as `OPENED` says.
-fn plays_opened<A: Allocator + Copy>(mut player: Player<A, Global>) -> Result<bool, Fail> {
+fn plays_opened<A: Allocator + Copy>(player: &mut Player<A, Global>) -> Result<bool, Fail> {
     player.play(&OPENED)?;
     Ok(true)
 }
@@ -254,7 +270,7 @@ fn opens_again<A: Allocator + Copy>(
         ..
     } = refused;
     match Player::try_open(inner, alloc, &LARGE, config, disk, handler, ports) {
-        Ok(player) => plays_opened(player),
+        Ok(mut player) => plays_opened(&mut player),
         Err(_) => Ok(false),
     }
 }
@@ -389,66 +405,6 @@ fn takes_no_memory(alloc: Global) -> Result<bool, Fail> {
 fn commit_over_a_reserved_record_takes_no_memory(rt: HostRuntime) -> Result<(), Fail> {
     if !takes_no_memory(rt.alloc())? {
         return Err(Fail::new("memory"));
-    }
-    Ok(())
-}
-
-/// Fails if the server isn't stopped after one failed call.
-fn stays_stopped<A: Allocator + Copy>(player: &mut Player<Global, A>) -> Result<(), Fail> {
-    if player.disk().failures() != 1 {
-        return Err(Fail::new("another number of failed calls"));
-    }
-    player.play(&[Row::Stopped(1001)])
-}
-
-/// Whether a commit fails where the growth of the disk's record after so many is refused, after which the server is
-/// stopped.
-fn fails_at<'a>(
-    refusing: &'a Refusing<Global>,
-    player: &mut Player<Global, &'a Refusing<Global>>,
-    served: u64,
-) -> Result<bool, Fail> {
-    player.play(&[ALLOCATE])?;
-    refusing.arm(served);
-    let fails = player.fails(CommitRefused::Device);
-    let was_refused = refusing.has_refused();
-    refusing.arm(u64::MAX);
-    if fails != was_refused {
-        return Err(Fail::new("another answer"));
-    }
-    if fails {
-        stays_stopped(player)?;
-    }
-    Ok(fails)
-}
-
-/// A disk with an empty store, and without room for any record.
-fn unreserved<A: Allocator + Copy>(inner: A, alloc: Global) -> Result<MemoryDisk<A>, Fail> {
-    let disk = SMALL.disk(alloc)?;
-    Ok(MemoryDisk::new(inner, Vec::from_slice(inner, disk.content())?))
-}
-
-fn fails_at_first(alloc: Global, served: u64) -> Result<bool, Fail> {
-    let refusing = Refusing::new(alloc, u64::MAX);
-    let disk = unreserved(&refusing, alloc)?;
-    let mut player = Player::open(alloc, alloc, &SMALL, disk)?;
-    fails_at(&refusing, &mut player, served)
-}
-
-/// How many growths a commit takes over that disk, each of which is refused once.
-fn growths_of_a_commit(alloc: Global) -> Result<u64, Fail> {
-    for served in 0..8u64 {
-        if !fails_at_first(alloc, served)? {
-            return Ok(served);
-        }
-    }
-    Err(Fail::new("some growth is always refused"))
-}
-
-#[test]
-fn refused_growth_of_the_record_is_a_device_failure(rt: HostRuntime) -> Result<(), Fail> {
-    if growths_of_a_commit(rt.alloc())? == 0 {
-        return Err(Fail::new("no growth"));
     }
     Ok(())
 }

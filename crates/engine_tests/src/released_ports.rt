@@ -1,11 +1,11 @@
 //! Which ports are picked and released. No contract says what a generator is asked.
 
 use crate::player::{Player, play};
-use crate::requests::*;
 use crate::row::{ALLOCATE, ALLOCATED, Row, Sent};
 use crate::setup::LARGE;
 use crate::stops::staged;
 use refusing::Refusing;
+use requests_for_tests::{ALICE, Attribute, BOB, FIRST, HOUR, Kind, PEER, SECOND, UDP, ZERO};
 use std::alloc::Global;
 use std::test::Fail;
 
@@ -58,7 +58,13 @@ const NOTHING_PICKED: [Row; 8] = [
     ALLOCATE,
     ALLOCATE,
     Row::Ask(1000, BOB, FIRST, Kind::Allocate, &[UDP]),
-    Row::Ask(1000, ALICE, SECOND, Kind::Allocate, &[]),
+    Row::Ask(
+        1000,
+        ALICE,
+        SECOND,
+        Kind::Allocate,
+        &[Attribute::NoTransport],
+    ),
     Row::Ask(1000, ALICE, FIRST, Kind::Refresh, &[]),
     Row::Ask(1000, ALICE, FIRST, Kind::CreatePermission, &[PEER]),
     Row::Picked(&[50000]),

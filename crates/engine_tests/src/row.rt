@@ -1,6 +1,6 @@
 //! Rows of tests.
 
-use crate::requests::*;
+use requests_for_tests::{Attribute, FIRST, Kind, User};
 use turn_engine::CommitRefused;
 use turn_types::Endpoint;
 

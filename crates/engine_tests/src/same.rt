@@ -1,7 +1,7 @@
 //! Datagrams, tables and bytes that are the same.
 
-use crate::requests::*;
 use crate::row::{Live, Sent};
+use requests_for_tests::{code_of, five_tuple};
 use std::alloc::Allocator;
 use std::test::Fail;
 use turn_codec::Message;

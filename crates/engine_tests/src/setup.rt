@@ -1,14 +1,12 @@
 //! What a server of a test is made of.
 
-use crate::ports::Ports;
-use crate::requests::{ALICE, BOB, REALM};
-use std::alloc::{Allocator, Global};
+use requests_for_tests::{Ports, config};
+use std::alloc::Allocator;
 use std::test::Fail;
-use turn_cred::Users;
 use turn_disk::{Disk, MemoryDisk};
 use turn_ports::PortRange;
 use turn_store::format;
-use turn_types::{Bounds, IpRange, Limits, ServerConfig, Settings};
+use turn_types::{Bounds, Limits, ServerConfig};
 
 /// What a server is made of, and its store.
 #[derive(Clone, Copy)]
@@ -75,23 +73,9 @@ impl Setup {
         Ok(Limits::new(self.bounds).ok_or("limits")?)
     }
 
-    /// A quota of 2; relays for 198.51.100.1, and denies the peer 203.0.113.9.
+    /// With a quota of 2.
     pub fn config<A: Allocator + Copy>(&self, alloc: A) -> Result<ServerConfig<A>, Fail> {
-        let denied = [IpRange {
-            first: 0xCB00_7109,
-            last: 0xCB00_7109,
-        }];
-        Ok(ServerConfig::new(
-            alloc,
-            Settings {
-                realm: REALM,
-                secret: [0; 32],
-                relay: 0xC633_6401,
-                quota: 2,
-                denied: &denied,
-                limits: self.limits()?,
-            },
-        )?)
+        config(alloc, 2, self.bounds)
     }
 
     pub fn ports(&self) -> Result<Ports, Fail> {
@@ -109,12 +93,4 @@ impl Setup {
         format_disk(&mut disk, self.limits()?, self.area)?;
         Ok(disk)
     }
-}
-
-/// Alice and bob.
-pub fn users(alloc: Global) -> Result<Users, Fail> {
-    let mut users = Users::new(alloc);
-    users.add(ALICE.name(), ALICE.key())?;
-    users.add(BOB.name(), BOB.key())?;
-    Ok(users)
 }

@@ -1,9 +1,9 @@
 //! Servers before a commit.
 
 use crate::player::Player;
-use crate::requests::{ALICE, FIRST, Kind};
 use crate::row::{ALLOCATE, ALLOCATED, Row, Sent};
 use crate::setup::SMALL;
+use requests_for_tests::{ALICE, FIRST, Kind};
 use std::alloc::Global;
 use std::test::Fail;
 

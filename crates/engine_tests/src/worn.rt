@@ -1,10 +1,10 @@
 //! The last generation.
 
 use crate::player::Player;
-use crate::requests::*;
 use crate::row::{Row, Sent};
 use crate::setup::SMALL;
 use crate::stops::staged;
+use requests_for_tests::{ALICE, FIRST, Kind};
 use std::alloc::Global;
 use std::test::Fail;
 use turn_disk::{Disk, MemoryDisk};

@@ -1,9 +1,9 @@
 //! Allocate where the generator of ports fails.
 
 use crate::player::play;
-use crate::requests::*;
 use crate::row::Row;
 use crate::setup::{SETUP, Setup};
+use requests_for_tests::{ALICE, FIRST, Kind, UDP};
 use std::test::Fail;
 
 const ALLOCATE: Kind = Kind::Allocate;

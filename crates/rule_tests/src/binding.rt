@@ -1,8 +1,8 @@
 //! FINGERPRINT of a Binding request, and unknown types.
 
 use crate::player::Player;
-use crate::requests::*;
 use crate::setup::SETUP;
+use requests_for_tests::{FIRST, code_of};
 use std::alloc::Global;
 use std::test::Fail;
 use turn_codec::{AttributeType, Builder, Message};
@@ -73,7 +73,7 @@ const NAMED: [(&[u16], &[u8]); 4] = [
 fn request_with(alloc: Global, types: &[u16]) -> Result<Vec<u8>, Fail> {
     let mut builder = Builder::new(alloc, Class::Request, Method::BINDING, TxId([9; 12]))?;
     for kind in types {
-        push_value(&mut builder, *kind, &[])?;
+        builder.push(AttributeType::new(*kind), &[])?;
     }
     Ok(builder.finish())
 }

@@ -1,8 +1,8 @@
 //! Requests that ask for credentials.
 
 use crate::player::Player;
-use crate::requests::*;
 use crate::setup::SETUP;
+use requests_for_tests::{ALICE, FIRST, ID, Kind, REALM, User, code_of, nonce_of, signed};
 use std::alloc::Global;
 use std::test::Fail;
 use turn_codec::{AttributeType, Builder, Message};
@@ -69,7 +69,7 @@ fn is_judged(
 
 #[test]
 fn nonce_is_of_its_client_and_holds_for_an_hour(rt: HostRuntime) -> Result<(), Fail> {
-    let bytes = signed(rt.alloc(), Kind::Refresh, ID, ALICE, NONCE, &[])?;
+    let bytes = signed(rt.alloc(), ALICE, Kind::Refresh, NONCE, &[])?;
     for (ip, port, second, code) in &JUDGED {
         let client = Endpoint {
             ip: *ip,

@@ -1,7 +1,6 @@
 //! The calls that judge a request, without a step.
 
-use crate::requests::*;
-use crate::setup::users;
+use requests_for_tests::{FIRST, five_tuple, users};
 use std::alloc::Global;
 use std::test::Fail;
 use turn_codec::Message;

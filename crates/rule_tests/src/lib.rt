@@ -19,15 +19,11 @@ mod peers_data;
 #[cfg(test)]
 mod player;
 #[cfg(test)]
-mod ports;
-#[cfg(test)]
 mod references;
 #[cfg(test)]
 mod refused_growths;
 #[cfg(test)]
 mod released_ports;
-#[cfg(test)]
-mod requests;
 #[cfg(test)]
 mod row;
 #[cfg(test)]

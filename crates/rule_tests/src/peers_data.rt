@@ -1,9 +1,9 @@
 //! What peers' datagrams send to clients.
 
 use crate::player::{Player, is_same};
-use crate::requests::*;
 use crate::row::{ALLOCATED, BOUND, PERMITTED, Row};
 use crate::setup::SETUP;
+use requests_for_tests::PEER_ENDPOINT;
 use std::alloc::Global;
 use std::test::Fail;
 use turn_types::Endpoint;

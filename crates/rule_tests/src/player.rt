@@ -1,9 +1,11 @@
 //! A server that plays the rows of a test.
 
-use crate::ports::Ports;
-use crate::requests::*;
 use crate::row::Row;
-use crate::setup::{Setup, users};
+use crate::setup::Setup;
+use requests_for_tests::{
+    Attribute, FIRST, ID, Kind, PEER_ENDPOINT, PEER_IP, Ports, THIRD, User, at, code_of,
+    five_tuple, nonce_of, signed, users,
+};
 use std::alloc::{Allocator, Global};
 use std::test::Fail;
 use turn_codec::Message;
@@ -167,7 +169,7 @@ impl<A: Allocator + Copy> Player<A> {
         match row {
             Row::Ask(second, user, client, kind, attributes, _) => {
                 let nonce = nonce_of(*second, *client)?;
-                signed(self.alloc, *kind, ID, *user, &nonce, attributes)
+                signed(self.alloc, *user, *kind, &nonce, attributes)
             }
             Row::Send(_, bytes, _) | Row::Receive(_, _, bytes, _) => {
                 Ok(Vec::from_slice(self.alloc, bytes)?)
@@ -252,7 +254,7 @@ impl<A: Allocator + Copy> Player<A> {
         attributes: &[Attribute],
     ) -> Result<Vec<u8, A>, Fail> {
         let nonce = nonce_of(second, client)?;
-        let bytes = signed(self.alloc, kind, ID, user, &nonce, attributes)?;
+        let bytes = signed(self.alloc, user, kind, &nonce, attributes)?;
         Ok(self.reply(client, second, &bytes)?.ok_or("a reply")?)
     }
 
@@ -267,7 +269,7 @@ impl<A: Allocator + Copy> Player<A> {
     ) -> Result<u16, Fail> {
         let reply = self.ask(user, client, second, kind, attributes)?;
         let message = Message::parse(&reply)?;
-        if message.tx() != ID || !integrity_holds(&message, &user.key()) {
+        if message.tx() != user.id() || !integrity_holds(&message, &user.key()) {
             return Err(Fail::new("another id, or a wrong integrity"));
         }
         code_of(&message)

@@ -2,16 +2,21 @@
 
 use crate::judged::judged;
 use crate::player::Player;
-use crate::requests::*;
 use crate::row::{ALLOCATED, BOUND, PERMITTED, Row};
 use crate::setup::SETUP;
 use refusing::Refusing;
+use requests_for_tests::{
+    ALICE, Attribute, FIRST, ID, Kind, LOWEST, OTHER, PEER, PEER_ENDPOINT, REALM, SECOND, UDP,
+    ZERO, at, five_tuple, nonce_of, signed,
+};
 use std::alloc::Global;
 use std::test::Fail;
-use turn_codec::{AttributeType, Message};
+use turn_codec::{AttributeType, Builder, Message};
+use turn_mac::{append_fingerprint, append_integrity};
 use turn_relay::{ToClient, from_client, from_peer};
 use turn_rules::{Decision, decide};
 use turn_table::Table;
+use turn_types::{Class, Method};
 
 /// Whether a reply has a FINGERPRINT.
 fn has_fingerprint(reply: &[u8]) -> Result<bool, Fail> {
@@ -73,7 +78,7 @@ const SECOND_1000: [Row; 1] = [Row::Drop(1000, FIRST, b"")];
 fn play_decisions(alloc: Global, player: &mut Player) -> Result<(), Fail> {
     player.play(&SECOND_1000)?;
     for (kind, attributes, port, count) in &DECISIONS {
-        let bytes = signed(alloc, *kind, ID, ALICE, &nonce_of(1000, FIRST)?, attributes)?;
+        let bytes = signed(alloc, ALICE, *kind, &nonce_of(1000, FIRST)?, attributes)?;
         if growths(alloc, player.table(), &bytes, *port)? != (*count, (true, false)) {
             return Err(Fail::new(*count));
         }
@@ -90,9 +95,20 @@ fn decision_takes_the_memory_of_the_reply_and_the_act(rt: HostRuntime) -> Result
     )
 }
 
+/// Alice's Refresh with the nonce of second 1000 and a FINGERPRINT.
+fn fingerprinted(alloc: Global) -> Result<Vec<u8>, Fail> {
+    let mut builder = Builder::new(alloc, Class::Request, Method::REFRESH, ID)?;
+    builder.push(AttributeType::USERNAME, ALICE.name())?;
+    builder.push(AttributeType::REALM, REALM)?;
+    builder.push(AttributeType::NONCE, &nonce_of(1000, FIRST)?)?;
+    append_integrity(&mut builder, &ALICE.key())?;
+    append_fingerprint(&mut builder)?;
+    Ok(builder.finish())
+}
+
 #[test]
 fn refusal_takes_the_memory_of_the_reply(rt: HostRuntime) -> Result<(), Fail> {
-    let bytes = fingerprinted(rt.alloc(), Kind::Refresh)?;
+    let bytes = fingerprinted(rt.alloc())?;
     let table = Table::new(rt.alloc(), SETUP.limits()?, at(1000)?);
     assert!(rt; growths(rt.alloc(), &table, &bytes, None)? == (1, (false, true)));
     Ok(())

@@ -1,9 +1,9 @@
 //! Which ports are released. No contract says what a generator is asked.
 
 use crate::player::{Player, play};
-use crate::requests::*;
 use crate::row::{ALLOCATED, BOUND, PERMITTED, Row};
 use crate::setup::{SETUP, Setup};
+use requests_for_tests::{ALICE, BOB, FIRST, HOUR, Kind, PEER_IP, SECOND, THIRD, UDP, ZERO};
 use std::test::Fail;
 
 const ALLOCATE: Kind = Kind::Allocate;

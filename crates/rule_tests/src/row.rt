@@ -1,6 +1,6 @@
 //! Rows of tests.
 
-use crate::requests::*;
+use requests_for_tests::{ALICE, Attribute, FIRST, HOUR, Kind, LOWEST, PEER, UDP, User};
 use turn_types::Endpoint;
 
 /// What a test does and finds, each at a second. Seconds never fall.

@@ -1,12 +1,10 @@
 //! What a server of a test is made of.
 
-use crate::ports::Ports;
-use crate::requests::{ALICE, BOB, REALM};
-use std::alloc::{Allocator, Global};
+use requests_for_tests::{Ports, config};
+use std::alloc::Allocator;
 use std::test::Fail;
-use turn_cred::Users;
 use turn_ports::PortRange;
-use turn_types::{Bounds, IpRange, Limits, ServerConfig, Settings};
+use turn_types::{Bounds, Limits, ServerConfig};
 
 /// What a server is made of.
 #[derive(Clone, Copy)]
@@ -38,35 +36,16 @@ impl Setup {
         Ok(Limits::new(self.bounds).ok_or("limits")?)
     }
 
-    /// Relays for 198.51.100.1, and denies the peer 203.0.113.9.
     pub fn config<A: Allocator + Copy>(&self, alloc: A) -> Result<ServerConfig<A>, Fail> {
-        let denied = [IpRange {
-            first: 0xCB00_7109,
-            last: 0xCB00_7109,
-        }];
-        Ok(ServerConfig::new(
-            alloc,
-            Settings {
-                realm: REALM,
-                secret: [0; 32],
-                relay: 0xC633_6401,
-                quota: self.quota,
-                denied: &denied,
-                limits: self.limits()?,
-            },
-        )?)
+        config(alloc, self.quota, self.bounds)
     }
 
     pub fn ports(&self) -> Result<Ports, Fail> {
         let range = PortRange::new(self.ports.0, self.ports.1).ok_or("a range")?;
-        Ok(Ports::new(range, self.fails))
+        Ok(if self.fails {
+            Ports::failing(range)
+        } else {
+            Ports::new(range)
+        })
     }
-}
-
-/// Alice and bob.
-pub fn users(alloc: Global) -> Result<Users, Fail> {
-    let mut users = Users::new(alloc);
-    users.add(ALICE.name(), ALICE.key())?;
-    users.add(BOB.name(), BOB.key())?;
-    Ok(users)
 }

@@ -59,19 +59,33 @@ impl Held {
     }
 }
 
-/// The ports of a range, the lowest first.
+/// The ports of a range, the lowest first, of which none can be had where it fails.
 #[derive(Drop)]
 pub struct Ports {
     range: PortRange,
+    fails: bool,
+    failures: u64,
     picked: Record,
     released: Record,
     held: Held,
 }
 
 impl Ports {
+    /// The ports of a range, each of which can be had.
     pub fn new(range: PortRange) -> Ports {
+        Ports::with(range, false)
+    }
+
+    /// The ports of a range, none of which can be had.
+    pub fn failing(range: PortRange) -> Ports {
+        Ports::with(range, true)
+    }
+
+    fn with(range: PortRange, fails: bool) -> Ports {
         Ports {
             range,
+            fails,
+            failures: 0,
             picked: Record::NONE,
             released: Record::NONE,
             held: Held {
@@ -105,13 +119,17 @@ impl Ports {
 impl RelayAddressGenerator for Ports {
     ghost range = { λ p. p.range };
 
-    ghost failures = { λ _. 0 };
+    ghost failures = { λ p. p.failures };
 
     fn range(&self) -> (u16, u16) {
         self.range.range()
     }
 
     fn pick<S: PortSet>(&mut self, taken: &S, even: bool) -> Result<Option<u16>, AllocError> {
+        if self.fails {
+            self.failures = self.failures.wrapping_add(1);
+            return Ok(None);
+        }
         let port = self.range.pick(taken, even)?;
         if let Some(port) = port {
             self.picked.add(port);
@@ -126,6 +144,6 @@ impl RelayAddressGenerator for Ports {
     }
 
     fn failures(&self) -> u64 {
-        0
+        self.failures
     }
 }

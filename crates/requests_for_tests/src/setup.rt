@@ -1,0 +1,38 @@
+//! What a server of a test is made of.
+
+use crate::requests::{ALICE, BOB, REALM};
+use std::alloc::{Allocator, Global};
+use std::test::Fail;
+use turn_cred::Users;
+use turn_types::{Bounds, IpRange, Limits, ServerConfig, Settings};
+
+/// A configuration with a quota and these limits. It relays for 198.51.100.1, and denies the peer 203.0.113.9.
+pub fn config<A: Allocator + Copy>(
+    alloc: A,
+    quota: u32,
+    bounds: Bounds,
+) -> Result<ServerConfig<A>, Fail> {
+    let denied = [IpRange {
+        first: 0xCB00_7109,
+        last: 0xCB00_7109,
+    }];
+    Ok(ServerConfig::new(
+        alloc,
+        Settings {
+            realm: REALM,
+            secret: [0; 32],
+            relay: 0xC633_6401,
+            quota,
+            denied: &denied,
+            limits: Limits::new(bounds).ok_or("limits")?,
+        },
+    )?)
+}
+
+/// Alice and bob.
+pub fn users(alloc: Global) -> Result<Users, Fail> {
+    let mut users = Users::new(alloc);
+    users.add(ALICE.name(), ALICE.key())?;
+    users.add(BOB.name(), BOB.key())?;
+    Ok(users)
+}
