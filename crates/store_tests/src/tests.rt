@@ -1,5 +1,6 @@
 mod area;
 mod batches;
+mod bytes;
 mod disk_crashes;
 mod disk_faults;
 mod disk_files;
@@ -10,6 +11,8 @@ mod disks;
 mod journal_area;
 mod journal_memory;
 mod journal_scan;
+mod limits;
+mod max_snapshots;
 mod records;
 mod snapshot_reads;
 mod snapshots;

@@ -9,10 +9,12 @@ use turn_journal::{AppendRefused, Area, Found, Journal, ScanRefused};
 pub const MAX_PAYLOAD: usize = 8;
 
 /// The journal of an area of this size that begins at position 3, with an empty log.
-pub fn journal_of<A: Allocator + Copy>(alloc: A, size: usize) -> Result<Journal<A>, AllocError> {
-    if size == 0 || size > 100 {
-        return Err(AllocError);
-    }
+pub fn journal_of<A: Allocator + Copy>(
+    rt: &impl Abort,
+    alloc: A,
+    size: usize,
+) -> Result<Journal<A>, AllocError> {
+    assert!(rt; 0 < size && size <= 100);
     let area = Area {
         start: 3,
         size,
@@ -23,10 +25,10 @@ pub fn journal_of<A: Allocator + Copy>(alloc: A, size: usize) -> Result<Journal<
 }
 
 /// A disk of zeros with such an area, and six bytes after it.
-pub fn empty(alloc: Global, size: usize) -> Result<(MemoryDisk, Journal), AllocError> {
-    let journal = journal_of(alloc, size)?;
-    let content = Vec::from_elem(alloc, 0u8, size.saturating_add(9))?;
-    Ok((MemoryDisk::new(alloc, content), journal))
+pub fn empty(rt: &impl Abort, alloc: Global, size: usize) -> (MemoryDisk, Journal) {
+    let journal = journal_of(rt, alloc, size).expect(rt, "memory");
+    let content = Vec::from_elem(alloc, 0u8, size.saturating_add(9)).expect(rt, "memory");
+    (MemoryDisk::new(alloc, content), journal)
 }
 
 pub fn append<D: Disk, A: Allocator>(

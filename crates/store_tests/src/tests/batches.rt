@@ -1,6 +1,7 @@
 //! Batches of one act under the limits of a small store: alice's allocation at 1000, and the Refreshes after it.
 
-use super::stores::{SnapshotTable, TestStore, small_limits};
+use super::limits::small_limits;
+use super::stores::{SnapshotTable, TestStore};
 use std::alloc::{Allocator, Global};
 use std::process::Abort;
 use turn_disk::{Disk, MemoryDisk, Outcome};

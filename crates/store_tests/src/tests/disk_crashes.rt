@@ -1,7 +1,6 @@
 use super::disks::{disk_of, write};
-use std::alloc::{AllocError, Global};
+use std::alloc::Global;
 use std::process::Abort;
-use std::test::Fail;
 use turn_disk::{Disk, MemoryDisk, Outcome};
 
 // Three writes that overlap, the newest within the other two. The images were worked out by hand.
@@ -22,41 +21,39 @@ const SYNCED_IMAGES: [(Outcome, &[u8; 10]); 4] = [
     (Outcome::Fill(b'*'), b"0abcde67**"),
 ];
 
-fn overlapping(rt: &impl Abort, alloc: Global) -> Result<MemoryDisk, AllocError> {
-    let mut disk = disk_of(alloc, b"0123456789")?;
+fn overlapping(rt: &impl Abort, alloc: Global) -> MemoryDisk {
+    let mut disk = disk_of(rt, alloc, b"0123456789");
     for (at, bytes) in &OVERLAPPING {
         assert!(rt; write(rt, &mut disk, *at, bytes));
     }
     assert!(rt; disk.content() == b"0amnoXYZ89".as_slice());
-    Ok(disk)
+    disk
 }
 
-fn synced(rt: &impl Abort, alloc: Global) -> Result<MemoryDisk, AllocError> {
-    let mut disk = disk_of(alloc, b"0123456789")?;
+fn synced(rt: &impl Abort, alloc: Global) -> MemoryDisk {
+    let mut disk = disk_of(rt, alloc, b"0123456789");
     assert!(rt; write(rt, &mut disk, 1, b"abcde"));
     assert!(rt; disk.sync().is_ok());
     assert!(rt; write(rt, &mut disk, 8, b"xy"));
-    Ok(disk)
+    disk
 }
 
 #[test]
-fn a_crash_leaves_a_part_of_each_pending_write(rt: HostRuntime) -> Result<(), Fail> {
+fn a_crash_leaves_a_part_of_each_pending_write(rt: HostRuntime) {
     for (outcome, image) in &OVERLAPPING_IMAGES {
-        let mut disk = overlapping(&rt, rt.alloc())?;
+        let mut disk = overlapping(&rt, rt.alloc());
         disk.crash(*outcome);
         assert!(rt; disk.content() == image.as_slice());
         disk.crash(Outcome::Lost);
         assert!(rt; disk.content() == image.as_slice());
     }
-    Ok(())
 }
 
 #[test]
-fn a_crash_keeps_what_was_synced(rt: HostRuntime) -> Result<(), Fail> {
+fn a_crash_keeps_what_was_synced(rt: HostRuntime) {
     for (outcome, image) in &SYNCED_IMAGES {
-        let mut disk = synced(&rt, rt.alloc())?;
+        let mut disk = synced(&rt, rt.alloc());
         disk.crash(*outcome);
         assert!(rt; disk.content() == image.as_slice());
     }
-    Ok(())
 }

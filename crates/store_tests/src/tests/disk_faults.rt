@@ -1,5 +1,5 @@
 use super::disks::{disk_of, read, write};
-use std::alloc::{AllocError, Global};
+use std::alloc::Global;
 use std::process::Abort;
 use turn_disk::{Disk, MemoryDisk, Outcome};
 
@@ -90,13 +90,8 @@ fn fail_call_and_stop_at_fail_the_named_calls(rt: HostRuntime) {
     }
 }
 
-fn fail_a_write(
-    rt: &impl Abort,
-    alloc: Global,
-    outcome: Outcome,
-    image: &[u8; 4],
-) -> Result<(), AllocError> {
-    let mut disk = disk_of(alloc, b"0123")?;
+fn fail_a_write(rt: &impl Abort, alloc: Global, outcome: Outcome, image: &[u8; 4]) {
+    let mut disk = disk_of(rt, alloc, b"0123");
     disk.stop_at(1);
     assert!(rt; !write(rt, &mut disk, 1, b"ab"));
     assert!(rt; disk.content() == b"0ab3".as_slice());
@@ -106,11 +101,10 @@ fn fail_a_write(
     assert!(rt; disk.failures() == 2);
     disk.crash(outcome);
     assert!(rt; disk.content() == image.as_slice());
-    Ok(())
 }
 
 #[test]
-fn a_failed_write_leaves_its_bytes_pending(rt: HostRuntime) -> Result<(), AllocError> {
-    fail_a_write(&rt, rt.alloc(), Outcome::Lost, b"0123")?;
-    fail_a_write(&rt, rt.alloc(), Outcome::Kept, b"0ab3")
+fn a_failed_write_leaves_its_bytes_pending(rt: HostRuntime) {
+    fail_a_write(&rt, rt.alloc(), Outcome::Lost, b"0123");
+    fail_a_write(&rt, rt.alloc(), Outcome::Kept, b"0ab3");
 }

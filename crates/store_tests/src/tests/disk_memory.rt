@@ -1,6 +1,6 @@
 use super::disks::{disk_of, write};
 use refusing::Refusing;
-use std::alloc::{AllocError, Allocator};
+use std::alloc::Allocator;
 use std::process::Abort;
 use turn_disk::{Disk, MemoryDisk, Outcome};
 
@@ -33,39 +33,32 @@ fn make_calls<A: Allocator, B: Allocator>(
     }
 }
 
-fn refuse<B: Allocator>(
-    rt: &impl Abort,
-    refusing: &Refusing<B>,
-    served: u64,
-) -> Result<(), AllocError> {
+fn refuse<B: Allocator>(rt: &impl Abort, refusing: &Refusing<B>, served: u64) {
     refusing.arm(u64::MAX);
-    let mut disk = disk_of(refusing, b"01234567")?;
+    let mut disk = disk_of(rt, refusing, b"01234567");
     refusing.arm(served);
     make_calls(rt, &mut disk, refusing);
     assert!(rt; (disk.failures() == 1) == refusing.has_refused());
     disk.crash(Outcome::Lost);
     assert!(rt; disk.content() == b"abcd4567".as_slice());
-    Ok(())
 }
 
 #[test]
-fn a_call_without_memory_for_its_record_changes_nothing(rt: HostRuntime) -> Result<(), AllocError> {
+fn a_call_without_memory_for_its_record_changes_nothing(rt: HostRuntime) {
     let refusing = Refusing::new(rt.alloc(), u64::MAX);
     for served in 0..16u64 {
-        refuse(&rt, &refusing, served)?;
+        refuse(&rt, &refusing, served);
     }
-    Ok(())
 }
 
 // A sync and three writes of four bytes.
 #[test]
-fn calls_in_room_that_was_reserved_take_no_memory(rt: HostRuntime) -> Result<(), AllocError> {
+fn calls_in_room_that_was_reserved_take_no_memory(rt: HostRuntime) {
     let refusing = Refusing::new(rt.alloc(), u64::MAX);
-    let mut disk = disk_of(&refusing, b"01234567")?;
-    disk.reserve(4, 12)?;
+    let mut disk = disk_of(&rt, &refusing, b"01234567");
+    assert!(rt; disk.reserve(4, 12).is_ok());
     refusing.arm(0);
     make_calls(&rt, &mut disk, &refusing);
     assert!(rt; !refusing.has_refused());
     assert!(rt; disk.failures() == 0);
-    Ok(())
 }

@@ -1,5 +1,5 @@
 use super::disks::disk_of;
-use std::alloc::{AllocError, Global};
+use std::alloc::Global;
 use std::process::Abort;
 use turn_disk::{
     Bytes, Chain, DeviceFailed, Disk, MemoryDisk, PIECE, read_array, write_produced, write_through,
@@ -29,48 +29,40 @@ fn write_both(
 }
 
 // A disk of four pieces, one call of which fails.
-fn failing_disk(rt: &impl Abort, alloc: Global, fail: u64) -> Result<MemoryDisk, AllocError> {
-    let content = Vec::from_elem(alloc, 0u8, 4 * PIECE)?;
+fn failing_disk(rt: &impl Abort, alloc: Global, fail: u64) -> MemoryDisk {
+    let content = Vec::from_elem(alloc, 0u8, 4 * PIECE).expect(rt, "memory");
     let disk = MemoryDisk::new(alloc, content);
     assert!(rt; fail > 0);
     disk.fail_call(fail);
-    Ok(disk)
+    disk
 }
 
 // Five zeros, the two parts, and a zero.
-fn written(alloc: Global, first: &[u8], second: &[u8]) -> Result<Vec<u8>, AllocError> {
-    let mut content = Vec::from_elem(alloc, 0u8, 5)?;
-    content.extend_from_slice(first)?;
-    content.extend_from_slice(second)?;
-    content.push(0)?;
-    Ok(content)
+fn written(rt: &impl Abort, alloc: Global, first: &[u8], second: &[u8]) -> Vec<u8> {
+    let mut content = Vec::from_elem(alloc, 0u8, 5).expect(rt, "memory");
+    content.extend_from_slice(first).expect(rt, "memory");
+    content.extend_from_slice(second).expect(rt, "memory");
+    content.push(0).expect(rt, "memory");
+    content
 }
 
-fn write_parts(
-    rt: &impl Abort,
-    alloc: Global,
-    first: &[u8],
-    second: &[u8],
-    calls: u64,
-) -> Result<(), AllocError> {
-    let content = written(alloc, first, second)?;
+fn write_parts(rt: &impl Abort, alloc: Global, first: &[u8], second: &[u8], calls: u64) {
+    let content = written(rt, alloc, first, second);
     for fail in 1..6u64 {
-        let mut disk = failing_disk(rt, alloc, fail)?;
+        let mut disk = failing_disk(rt, alloc, fail);
         let fails = write_both(rt, &mut disk, first, second).is_err();
         assert!(rt; fails == (fail <= calls));
         assert!(rt; fails || disk.content().starts_with(content.as_slice()));
     }
-    Ok(())
 }
 
 #[test]
-fn write_produced_writes_full_pieces_and_syncs_once(rt: HostRuntime) -> Result<(), AllocError> {
+fn write_produced_writes_full_pieces_and_syncs_once(rt: HostRuntime) {
     for (first, second, calls) in &ROWS {
-        let first = Vec::from_elem(rt.alloc(), 1u8, *first)?;
-        let second = Vec::from_elem(rt.alloc(), 2u8, *second)?;
-        write_parts(&rt, rt.alloc(), first.as_slice(), second.as_slice(), *calls)?;
+        let first = Vec::from_elem(rt.alloc(), 1u8, *first).expect(&rt, "memory");
+        let second = Vec::from_elem(rt.alloc(), 2u8, *second).expect(&rt, "memory");
+        write_parts(&rt, rt.alloc(), &first, &second, *calls);
     }
-    Ok(())
 }
 
 // A write with its sync.
@@ -84,8 +76,8 @@ fn read_four(rt: &impl Abort, disk: &mut MemoryDisk) -> Result<[u8; 4], DeviceFa
     read_array(disk, 2)
 }
 
-fn write_and_read(rt: &impl Abort, alloc: Global, fail: u64) -> Result<(), AllocError> {
-    let mut disk = disk_of(alloc, &[0; 16])?;
+fn write_and_read(rt: &impl Abort, alloc: Global, fail: u64) {
+    let mut disk = disk_of(rt, alloc, &[0; 16]);
     assert!(rt; fail > 0);
     disk.fail_call(fail);
     assert!(rt; write_abcd(rt, &mut disk).is_err() == (fail <= 2));
@@ -94,13 +86,11 @@ fn write_and_read(rt: &impl Abort, alloc: Global, fail: u64) -> Result<(), Alloc
         4 => assert!(rt; read_four(rt, &mut disk) == Ok(*b"\0abc")),
         _ => {}
     }
-    Ok(())
 }
 
 #[test]
-fn write_through_makes_two_calls_and_read_array_one(rt: HostRuntime) -> Result<(), AllocError> {
+fn write_through_makes_two_calls_and_read_array_one(rt: HostRuntime) {
     for fail in 1..5u64 {
-        write_and_read(&rt, rt.alloc(), fail)?;
+        write_and_read(&rt, rt.alloc(), fail);
     }
-    Ok(())
 }

@@ -1,16 +1,11 @@
 //! Disks in memory, and device calls whose range is checked when they run.
 
-use std::alloc::{AllocError, Allocator};
+use std::alloc::Allocator;
 use std::process::Abort;
 use turn_disk::{Disk, MemoryDisk};
 
 /// A disk with this content.
-pub fn disk_of<A: Allocator + Copy>(alloc: A, content: &[u8]) -> Result<MemoryDisk<A>, AllocError> {
-    Ok(MemoryDisk::new(alloc, Vec::from_slice(alloc, content)?))
-}
-
-/// A disk with this content.
-pub fn copy_of<A: Allocator + Copy>(rt: &impl Abort, alloc: A, content: &[u8]) -> MemoryDisk<A> {
+pub fn disk_of<A: Allocator + Copy>(rt: &impl Abort, alloc: A, content: &[u8]) -> MemoryDisk<A> {
     let content = Vec::from_slice(alloc, content).expect(rt, "memory");
     MemoryDisk::new(alloc, content)
 }

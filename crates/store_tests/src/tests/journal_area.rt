@@ -1,7 +1,7 @@
 //! Frames in areas of different sizes, as bytes.
 
 use super::area::{MAX_PAYLOAD, append, count_frames, empty};
-use std::alloc::{AllocError, Global};
+use std::alloc::Global;
 use std::fs::{File, Files};
 use std::process::Abort;
 use std::{fs, io};
@@ -9,8 +9,8 @@ use turn_disk::{Disk, FileDisk, MemoryDisk};
 use turn_journal::{AppendRefused, Area, Journal};
 
 #[test]
-fn frames_are_gate_length_and_payload(rt: HostRuntime) -> Result<(), AllocError> {
-    let (mut disk, mut journal) = empty(rt.alloc(), 20)?;
+fn frames_are_gate_length_and_payload(rt: HostRuntime) {
+    let (mut disk, mut journal) = empty(&rt, rt.alloc(), 20);
     assert!(rt; append(&rt, &mut journal, &mut disk, b"ab").is_ok());
     assert!(rt; journal.end() == 7);
     assert!(rt; append(&rt, &mut journal, &mut disk, b"wxyz").is_ok());
@@ -18,19 +18,13 @@ fn frames_are_gate_length_and_payload(rt: HostRuntime) -> Result<(), AllocError>
     let bytes = b"\0\0\0\xa5\0\0\0\x02ab\xa5\0\0\0\x04wxyz\0\0\0\0\0\0\0\0\0\0";
     assert!(rt; disk.content() == bytes.as_slice());
     assert!(rt; count_frames(&rt, &journal, &mut disk) == Some(2));
-    Ok(())
 }
 
-// A disk with an area that holds one frame, and its content.
-fn with_one_frame(
-    rt: &impl Abort,
-    alloc: Global,
-    size: usize,
-) -> Result<(MemoryDisk, Journal, Vec<u8>), AllocError> {
-    let (mut disk, mut journal) = empty(alloc, size)?;
+// A disk with an area that holds one frame.
+fn with_one_frame(rt: &impl Abort, alloc: Global, size: usize) -> (MemoryDisk, Journal) {
+    let (mut disk, mut journal) = empty(rt, alloc, size);
     assert!(rt; append(rt, &mut journal, &mut disk, b"ab").is_ok());
-    let content = Vec::from_slice(alloc, disk.content())?;
-    Ok((disk, journal, content))
+    (disk, journal)
 }
 
 // A refused append makes no device call, so the next call is the first.
@@ -41,40 +35,38 @@ fn append_when_full(rt: &impl Abort, disk: &mut MemoryDisk, journal: &mut Journa
     assert!(rt; disk.sync().is_err());
 }
 
+// The last gate is the last byte of the area, which six bytes follow.
 #[test]
-fn a_frame_that_just_fits_is_added(rt: HostRuntime) -> Result<(), AllocError> {
-    let (mut disk, mut journal, before) = with_one_frame(&rt, rt.alloc(), 17)?;
+fn a_frame_that_just_fits_is_added(rt: HostRuntime) {
+    let (mut disk, mut journal) = with_one_frame(&rt, rt.alloc(), 17);
     assert!(rt; journal.room(4));
     assert!(rt; append(&rt, &mut journal, &mut disk, b"wxyz") == Ok(()));
-    assert!(rt; disk.content() != before.as_slice());
+    let bytes = b"\0\0\0\xa5\0\0\0\x02ab\xa5\0\0\0\x04wxyz\0\0\0\0\0\0\0";
+    assert!(rt; disk.content() == bytes.as_slice());
     assert!(rt; journal.end() == 16);
     append_when_full(&rt, &mut disk, &mut journal);
-    Ok(())
 }
 
 #[test]
-fn a_frame_that_does_not_fit_is_full_without_a_device_call(
-    rt: HostRuntime,
-) -> Result<(), AllocError> {
-    let (mut disk, mut journal, before) = with_one_frame(&rt, rt.alloc(), 16)?;
+fn a_frame_that_does_not_fit_is_full_without_a_device_call(rt: HostRuntime) {
+    let (mut disk, mut journal) = with_one_frame(&rt, rt.alloc(), 16);
     assert!(rt; !journal.room(4));
     assert!(rt; append(&rt, &mut journal, &mut disk, b"wxyz") == Err(AppendRefused::Full));
-    assert!(rt; disk.content() == before.as_slice());
+    let bytes = b"\0\0\0\xa5\0\0\0\x02ab\0\0\0\0\0\0\0\0\0\0\0\0\0\0\0";
+    assert!(rt; disk.content() == bytes.as_slice());
     assert!(rt; journal.end() == 7);
     append_when_full(&rt, &mut disk, &mut journal);
-    Ok(())
 }
 
 #[test]
-fn a_journal_continues_in_another_area(rt: HostRuntime) -> Result<(), AllocError> {
-    let (mut disk, mut journal, _) = with_one_frame(&rt, rt.alloc(), 14)?;
+fn a_journal_continues_in_another_area(rt: HostRuntime) {
+    let (mut disk, mut journal) = with_one_frame(&rt, rt.alloc(), 14);
     assert!(rt; journal.size() == 14);
     journal.move_to(9, 1);
     assert!(rt; journal.start() == 9 && journal.end() == 1);
     assert!(rt; append(&rt, &mut journal, &mut disk, b"c").is_ok());
     let bytes = b"\0\0\0\xa5\0\0\0\x02ab\xa5\0\0\0\x01c\0\0\0\0\0\0\0";
     assert!(rt; disk.content() == bytes.as_slice());
-    Ok(())
 }
 
 const FILE_AREA: Area = Area {

@@ -1,37 +1,30 @@
 use super::area::{append, count_frames, journal_of};
 use super::disks::disk_of;
 use refusing::Refusing;
-use std::alloc::{AllocError, Allocator, Global};
+use std::alloc::{Allocator, Global};
 use std::process::Abort;
-use turn_disk::{Disk, MemoryDisk};
+use turn_disk::Disk;
 use turn_journal::AppendRefused;
 
 #[test]
-fn only_new_allocates(rt: HostRuntime) -> Result<(), AllocError> {
+fn only_new_allocates(rt: HostRuntime) {
     let refusing = Refusing::new(rt.alloc(), 0);
-    assert!(rt; journal_of(&refusing, 20).is_err());
+    assert!(rt; journal_of(&rt, &refusing, 20).is_err());
     assert!(rt; refusing.has_refused());
-    let mut journal = journal_of(&refusing, 20)?;
-    let mut disk = disk_of(rt.alloc(), &[0; 24])?;
+    let mut journal = journal_of(&rt, &refusing, 20).expect(&rt, "memory");
+    let mut disk = disk_of(&rt, rt.alloc(), &[0; 24]);
     refusing.arm(0);
     assert!(rt; append(&rt, &mut journal, &mut disk, b"ab").is_ok());
     assert!(rt; journal.room(4));
     assert!(rt; count_frames(&rt, &journal, &mut disk) == Some(1));
     assert!(rt; !refusing.has_refused());
-    Ok(())
 }
 
 // A refused growth of the disk's record is a failed device call, and the append succeeds when it is repeated.
-fn refuse<B: Allocator>(
-    rt: &impl Abort,
-    alloc: Global,
-    refusing: &Refusing<B>,
-    served: u64,
-) -> Result<(), AllocError> {
+fn refuse<B: Allocator>(rt: &impl Abort, alloc: Global, refusing: &Refusing<B>, served: u64) {
     refusing.arm(u64::MAX);
-    let content = Vec::from_elem(refusing, 0u8, 24)?;
-    let mut disk = MemoryDisk::new(refusing, content);
-    let mut journal = journal_of(alloc, 20)?;
+    let mut disk = disk_of(rt, refusing, &[0; 24]);
+    let mut journal = journal_of(rt, alloc, 20).expect(rt, "memory");
     refusing.arm(served);
     let added = append(rt, &mut journal, &mut disk, b"ab");
     assert!(rt; added.is_err() == refusing.has_refused());
@@ -41,16 +34,12 @@ fn refuse<B: Allocator>(
         assert!(rt; append(rt, &mut journal, &mut disk, b"ab").is_ok());
     }
     assert!(rt; count_frames(rt, &journal, &mut disk) == Some(1));
-    Ok(())
 }
 
 #[test]
-fn a_disk_without_memory_for_its_record_is_a_failed_device(
-    rt: HostRuntime,
-) -> Result<(), AllocError> {
+fn a_disk_without_memory_for_its_record_is_a_failed_device(rt: HostRuntime) {
     let refusing = Refusing::new(rt.alloc(), u64::MAX);
     for served in 0..16u64 {
-        refuse(&rt, rt.alloc(), &refusing, served)?;
+        refuse(&rt, rt.alloc(), &refusing, served);
     }
-    Ok(())
 }

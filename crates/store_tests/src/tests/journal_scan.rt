@@ -1,8 +1,8 @@
 use super::area::{MAX_PAYLOAD, scan};
 use super::disks::disk_of;
-use std::alloc::{AllocError, Global};
+use std::alloc::Global;
 use std::process::Abort;
-use turn_disk::{Disk, MemoryDisk};
+use turn_disk::Disk;
 use turn_journal::{Area, Found, Journal, ScanRefused};
 
 const AREA: Area = Area {
@@ -31,25 +31,24 @@ const ROWS: [(usize, &[u8; 5], Result<Found, ScanRefused>); 12] = [
 fn scan_row(
     rt: &impl Abort,
     alloc: Global,
-    row: &(usize, &[u8; 5], Result<Found, ScanRefused>),
-) -> Result<(), AllocError> {
-    let (at, bytes, found) = *row;
-    let mut content = Vec::from_elem(alloc, 7u8, at)?;
-    content.extend_from_slice(bytes.as_slice())?;
-    content.resize(16, 7)?;
-    let mut disk = MemoryDisk::new(alloc, content);
-    let journal = Journal::new(alloc, AREA)?;
+    at: usize,
+    bytes: &[u8; 5],
+    found: Result<Found, ScanRefused>,
+) {
+    assert!(rt; at < 12);
+    let mut content = [7; 16];
+    content[at..at + 5].copy_from_slice(bytes);
+    let mut disk = disk_of(rt, alloc, &content);
+    let journal = Journal::new(alloc, AREA).expect(rt, "memory");
     assert!(rt; scan(rt, &journal, &mut disk, at) == found);
     assert!(rt; disk.failures() == 0);
-    Ok(())
 }
 
 #[test]
-fn a_scan_reads_gate_and_length(rt: HostRuntime) -> Result<(), AllocError> {
-    for row in &ROWS {
-        scan_row(&rt, rt.alloc(), row)?;
+fn a_scan_reads_gate_and_length(rt: HostRuntime) {
+    for (at, bytes, found) in &ROWS {
+        scan_row(&rt, rt.alloc(), *at, bytes, *found);
     }
-    Ok(())
 }
 
 fn scan_with_a_failure(
@@ -57,19 +56,18 @@ fn scan_with_a_failure(
     alloc: Global,
     call: u64,
     found: Result<Found, ScanRefused>,
-) -> Result<(), AllocError> {
-    let mut disk = disk_of(alloc, b"\xa5\0\0\0\0\0")?;
-    let journal = Journal::new(alloc, Area { size: 6, ..AREA })?;
+) {
+    let mut disk = disk_of(rt, alloc, b"\xa5\0\0\0\0\0");
+    let journal = Journal::new(alloc, Area { size: 6, ..AREA }).expect(rt, "memory");
     assert!(rt; call > 0);
     disk.fail_call(call);
     assert!(rt; scan(rt, &journal, &mut disk, 0) == found);
     assert!(rt; disk.failures() == u64::from(call < 3));
-    Ok(())
 }
 
 #[test]
-fn a_scan_makes_two_device_calls_and_names_a_failed_one(rt: HostRuntime) -> Result<(), AllocError> {
-    scan_with_a_failure(&rt, rt.alloc(), 1, Err(ScanRefused::Device))?;
-    scan_with_a_failure(&rt, rt.alloc(), 2, Err(ScanRefused::Device))?;
-    scan_with_a_failure(&rt, rt.alloc(), 3, Ok(Found::Frame(0)))
+fn a_scan_makes_two_device_calls_and_names_a_failed_one(rt: HostRuntime) {
+    scan_with_a_failure(&rt, rt.alloc(), 1, Err(ScanRefused::Device));
+    scan_with_a_failure(&rt, rt.alloc(), 2, Err(ScanRefused::Device));
+    scan_with_a_failure(&rt, rt.alloc(), 3, Ok(Found::Frame(0)));
 }

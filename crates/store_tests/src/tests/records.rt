@@ -1,8 +1,10 @@
 //! Tests of `turn_record`: act entries and payloads. The bytes are written out by hand from the format.
 
+use super::bytes::replaced;
+use super::limits::{SMALL, limits_of};
 use refusing::Refusing;
 use std::alloc::{Allocator, Global};
-use std::test::Fail;
+use std::process::Abort;
 use turn_history::{Act, Addresses, Event, UserName};
 use turn_record::{Malformed, ReadError, read_act, read_payload, write_act, write_payload};
 use turn_types::{Bounds, Endpoint, FiveTuple, Limits, Moment, TxId};
@@ -34,15 +36,13 @@ const BIND: [u8; 29] =
     *b"\x04\x00\x00\x00\x00\x00\x00\x03\xe8\xc0\x00\x02\x01\x80\x55\xc0\x00\x02\x64\x0d\x96\
     \x40\x00\xcb\x00\x71\x05\x1b\x58";
 
-fn limits(permissions: u16, acts: u16) -> Result<Limits, Fail> {
+fn limits(rt: &impl Abort, permissions: u16, acts: u16) -> Limits {
     let bounds = Bounds {
-        allocations: 2,
         permissions,
-        channels: 1,
         acts,
-        name_bytes: 8,
+        ..SMALL
     };
-    Ok(Limits::new(bounds).ok_or("limits")?)
+    limits_of(rt, bounds)
 }
 
 /// The fault that an outcome is, if it is one.
@@ -54,15 +54,15 @@ fn fault_of<T: Drop>(outcome: Result<T, ReadError>) -> Option<Malformed> {
 }
 
 /// Bytes with a part written over.
-fn changed(alloc: Global, bytes: &[u8], place: usize, part: &[u8]) -> Result<Vec<u8>, Fail> {
-    if bytes.len() < place || bytes.len() - place < part.len() {
-        return Err(Fail::new("a place past the end"));
-    }
-    let (before, rest) = bytes.split_at(place);
-    let mut changed = Vec::from_slice(alloc, before)?;
-    changed.extend_from_slice(part)?;
-    changed.extend_from_slice(&rest[part.len()..])?;
-    Ok(changed)
+fn changed(rt: &impl Abort, alloc: Global, bytes: &[u8], place: usize, part: &[u8]) -> Vec<u8> {
+    replaced(
+        rt,
+        alloc,
+        bytes,
+        place,
+        place.saturating_add(part.len()),
+        part,
+    )
 }
 
 /// What a payload's bytes are refused for where these are written over from a place on, under the limits 2, 1, 1, 1, 8.
@@ -94,13 +94,12 @@ const PAYLOAD_CHANGES: [(usize, &[u8], Option<Malformed>); 14] = [
 ];
 
 #[test]
-fn the_first_fault_of_a_payload(rt: HostRuntime) -> Result<(), Fail> {
-    let limits = limits(1, 1)?;
+fn the_first_fault_of_a_payload(rt: HostRuntime) {
+    let limits = limits(&rt, 1, 1);
     for (place, part, fault) in &PAYLOAD_CHANGES {
-        let bytes = changed(rt.alloc(), &PAYLOAD, *place, part)?;
+        let bytes = changed(&rt, rt.alloc(), &PAYLOAD, *place, part);
         assert!(rt; fault_of(read_payload(rt.alloc(), limits, &bytes)) == *fault);
     }
-    Ok(())
 }
 
 /// The act entry, the place, the bytes written over, and the fault, under 2 permissions.
@@ -125,13 +124,12 @@ const ACT_CHANGES: [(&[u8], usize, &[u8], Option<Malformed>); 16] = [
 ];
 
 #[test]
-fn the_first_fault_of_an_act(rt: HostRuntime) -> Result<(), Fail> {
-    let limits = limits(2, 1)?;
+fn the_first_fault_of_an_act(rt: HostRuntime) {
+    let limits = limits(&rt, 2, 1);
     for (bytes, place, part, fault) in &ACT_CHANGES {
-        let bytes = changed(rt.alloc(), bytes, *place, part)?;
+        let bytes = changed(&rt, rt.alloc(), bytes, *place, part);
         assert!(rt; fault_of(read_act(rt.alloc(), limits, &bytes)) == *fault);
     }
-    Ok(())
 }
 
 /// The moment of the second act of the batch, whose first is of 1000.
@@ -145,95 +143,100 @@ const LATER: [(&[u8], Option<Malformed>); 3] = [
 ];
 
 #[test]
-fn moments_never_fall(rt: HostRuntime) -> Result<(), Fail> {
-    let limits = limits(1, 2)?;
+fn moments_never_fall(rt: HostRuntime) {
+    let limits = limits(&rt, 1, 2);
     for (moment, fault) in &LATER {
-        let bytes = changed(rt.alloc(), &BATCH, 48, moment)?;
+        let bytes = changed(&rt, rt.alloc(), &BATCH, 48, moment);
         assert!(rt; fault_of(read_payload(rt.alloc(), limits, &bytes)) == *fault);
     }
-    Ok(())
 }
 
 #[test]
-fn every_prefix_is_short_and_a_byte_more_is_trailing(rt: HostRuntime) -> Result<(), Fail> {
-    let limits = limits(1, 2)?;
+fn every_prefix_is_short_and_a_byte_more_is_trailing(rt: HostRuntime) {
+    let limits = limits(&rt, 1, 2);
     for size in 0..BATCH.len() {
-        assert!(rt;
-            fault_of(read_payload(rt.alloc(), limits, &BATCH[..size])) == Some(Malformed::Short)
-        );
+        let fault = fault_of(read_payload(rt.alloc(), limits, &BATCH[..size]));
+        assert!(rt; fault == Some(Malformed::Short));
     }
-    let mut longer = Vec::from_slice(rt.alloc(), &BATCH)?;
-    longer.push(0)?;
-    assert!(rt;
-        fault_of(read_payload(rt.alloc(), limits, &longer)) == Some(Malformed::TrailingBytes)
-    );
-    Ok(())
+    let longer = replaced(&rt, rt.alloc(), &BATCH, 91, 91, b"\0");
+    let fault = fault_of(read_payload(rt.alloc(), limits, &longer));
+    assert!(rt; fault == Some(Malformed::TrailingBytes));
 }
 
 /// Reads a payload and writes it again.
-fn again<A: Allocator + Copy>(alloc: A, bytes: &[u8]) -> Result<Vec<u8, A>, ReadError> {
-    let bounds = Bounds {
-        allocations: 2,
-        permissions: 1,
-        channels: 1,
-        acts: 2,
-        name_bytes: 8,
-    };
-    let Some(limits) = Limits::new(bounds) else {
-        return Err(ReadError::Memory);
-    };
+fn again<A: Allocator + Copy>(
+    alloc: A,
+    limits: Limits,
+    bytes: &[u8],
+) -> Result<Vec<u8, A>, ReadError> {
     let events = read_payload(alloc, limits, bytes)?;
     let mut out = Vec::new(alloc);
     write_payload(&mut out, limits, &events)?;
     Ok(out)
 }
 
-#[test]
-fn payloads_are_read_and_written_again(rt: HostRuntime) -> Result<(), Fail> {
-    assert!(rt; again(rt.alloc(), &PAYLOAD)?.as_slice() == PAYLOAD.as_slice());
-    assert!(rt; again(rt.alloc(), &BATCH)?.as_slice() == BATCH.as_slice());
-    Ok(())
+fn is_read_and_written<A: Allocator + Copy>(alloc: A, limits: Limits, bytes: &[u8]) -> bool {
+    match again(alloc, limits, bytes) {
+        Ok(written) => written.as_slice() == bytes,
+        Err(_) => false,
+    }
 }
 
-fn act_again(alloc: Global, bytes: &[u8]) -> Result<Vec<u8>, Fail> {
-    let limits = limits(2, 1)?;
+#[test]
+fn payloads_are_read_and_written_again(rt: HostRuntime) {
+    let limits = limits(&rt, 1, 2);
+    assert!(rt; is_read_and_written(rt.alloc(), limits, &PAYLOAD));
+    assert!(rt; is_read_and_written(rt.alloc(), limits, &BATCH));
+}
+
+fn act_again(alloc: Global, limits: Limits, bytes: &[u8]) -> Result<Vec<u8>, ReadError> {
     let event = read_act(alloc, limits, bytes)?;
     let mut out = Vec::new(alloc);
     write_act(&mut out, limits, event.moment, event.tuple, &event.act)?;
     Ok(out)
 }
 
-#[test]
-fn acts_are_read_and_written_again(rt: HostRuntime) -> Result<(), Fail> {
-    for bytes in [
-        &PAYLOAD[1..],
-        RENEW.as_slice(),
-        PERMIT.as_slice(),
-        BIND.as_slice(),
-    ] {
-        assert!(rt; act_again(rt.alloc(), bytes)?.as_slice() == bytes);
+fn act_is_read_and_written(rt: &impl Abort, alloc: Global, bytes: &[u8]) {
+    match act_again(alloc, limits(rt, 2, 1), bytes) {
+        Ok(written) => assert!(rt; written.as_slice() == bytes),
+        Err(_) => panic!(rt; "an act"),
     }
-    Ok(())
 }
 
 #[test]
-fn an_act_has_the_values_that_the_bytes_spell(rt: HostRuntime) -> Result<(), Fail> {
-    let event = read_act(rt.alloc(), limits(1, 1)?, &PAYLOAD[1..])?;
-    assert!(rt; event.moment.seconds() == 1000);
-    assert!(rt; event.tuple == FIVE_TUPLE);
-    let Act::Alloc {
-        user,
-        port,
-        granted,
-        tx,
-    } = &event.act
-    else {
-        return Err(Fail::new("another act"));
-    };
-    assert!(rt; user.as_slice() == b"alice".as_slice());
-    assert!(rt; (*port, *granted) == (50000, 600));
-    assert!(rt; *tx == TxId([1, 2, 3, 4, 5, 6, 7, 8, 9, 10, 11, 12]));
-    Ok(())
+fn acts_are_read_and_written_again(rt: HostRuntime) {
+    act_is_read_and_written(&rt, rt.alloc(), &PAYLOAD[1..]);
+    act_is_read_and_written(&rt, rt.alloc(), &RENEW);
+    act_is_read_and_written(&rt, rt.alloc(), &PERMIT);
+    act_is_read_and_written(&rt, rt.alloc(), &BIND);
+}
+
+fn is_alices_allocation(act: &Act) -> bool {
+    match act {
+        Act::Alloc {
+            user,
+            port,
+            granted,
+            tx,
+        } => {
+            user.as_slice() == b"alice".as_slice()
+                && (*port, *granted) == (50000, 600)
+                && *tx == TxId([1, 2, 3, 4, 5, 6, 7, 8, 9, 10, 11, 12])
+        }
+        _ => false,
+    }
+}
+
+#[test]
+fn an_act_has_the_values_that_the_bytes_spell(rt: HostRuntime) {
+    match read_act(rt.alloc(), limits(&rt, 1, 1), &PAYLOAD[1..]) {
+        Ok(event) => {
+            assert!(rt; event.moment.seconds() == 1000);
+            assert!(rt; event.tuple == FIVE_TUPLE);
+            assert!(rt; is_alices_allocation(&event.act));
+        }
+        Err(_) => panic!(rt; "an act"),
+    }
 }
 
 /// From 192.0.2.1:32853 to 192.0.2.100:3478.
@@ -248,17 +251,26 @@ const FIVE_TUPLE: FiveTuple = FiveTuple {
     },
 };
 
-#[test]
-fn each_growth_is_refused_in_turn(rt: HostRuntime) -> Result<(), Fail> {
-    for served in 0..16u64 {
-        let refusing = Refusing::new(rt.alloc(), served);
-        let outcome = again(&refusing, &BATCH);
-        if !refusing.has_refused() {
-            assert!(rt; outcome.is_ok());
-            return Ok(());
-        }
-        assert!(rt; matches!(outcome, Err(ReadError::Memory)));
-        assert!(rt; again(&refusing, &BATCH).is_ok());
+/// Whether some growth was refused, which is then what is answered, and the next reading succeeds; else this one does.
+fn is_refused(rt: &impl Abort, alloc: Global, served: u64) -> bool {
+    let refusing = Refusing::new(alloc, served);
+    let limits = limits(rt, 1, 2);
+    let outcome = again(&refusing, limits, &BATCH);
+    let is_refused = refusing.has_refused();
+    match outcome {
+        Ok(_) => assert!(rt; !is_refused),
+        Err(error) => assert!(rt; is_refused && error == ReadError::Memory),
     }
-    Err(Fail::new("some growth is always refused"))
+    assert!(rt; is_read_and_written(&refusing, limits, &BATCH) || !is_refused);
+    is_refused
+}
+
+#[test]
+fn each_growth_is_refused_in_turn(rt: HostRuntime) {
+    for served in 0..16u64 {
+        if !is_refused(&rt, rt.alloc(), served) {
+            return;
+        }
+    }
+    panic!(rt; "some growth is always refused");
 }

@@ -1,9 +1,10 @@
 //! Tests of `turn_record`: snapshots, read whole and in pieces. The bytes are written out by hand from the format.
 
+use super::bytes::replaced;
+use super::limits::{SMALL, limits_of};
 use refusing::Refusing;
 use std::alloc::{Allocator, Global};
 use std::process::Abort;
-use std::test::Fail;
 use turn_history::Channel;
 use turn_record::Malformed::{BadValue, OutOfOrder, Short, TrailingBytes};
 use turn_record::{Malformed, ReadError, SnapshotReader, read_snapshot};
@@ -114,6 +115,9 @@ const BOB: Listed<'_> = Listed {
     channels: &[],
 };
 
+/// The entries of `SNAPSHOT`.
+const BOTH: [Listed<'_>; 2] = [ALICE, BOB];
+
 /// With the first client, and another port of the server.
 const OTHER_BOB: Listed<'_> = Listed {
     tuple: FiveTuple {
@@ -169,166 +173,180 @@ const U: Listed<'_> = Listed {
 /// What is answered to the bytes of a snapshot.
 #[derive(Clone, Copy)]
 enum Answer<'a> {
-    Fault(Malformed),
+    Error(ReadError),
     Table(u64, &'a [Listed<'a>]),
 }
 
-/// The bytes from a place up to another one give way to a part.
-type Change = (usize, usize, &'static [u8]);
+/// A place, the place up to which the bytes are replaced, what replaces them, and the fault of the bytes then.
+type Fault = (usize, usize, &'static [u8], Malformed);
 
-/// What the bytes of `SNAPSHOT` are refused for when they are changed, under limits of 2, 1, 1, 1 and 8.
-const FAULTS: [(&[Change], Malformed); 69] = [
+/// The faults of `SNAPSHOT`, under limits of 2, 1, 1, 1 and 8.
+const FAULTS: [Fault; 62] = [
     // The moment: seven bytes, 2^40 - 3600, 2^63.
-    (&[(0, 132, b"\xff\xff\xff\xff\xff\xff\xff")], Short),
-    (&[(0, 8, b"\0\0\0\xff\xff\xff\xf1\xf0")], BadValue),
-    (&[(0, 8, b"\x80\0\0\0\0\0\0\0")], BadValue),
+    (0, 132, b"\xff\xff\xff\xff\xff\xff\xff", Short),
+    (0, 8, b"\0\0\0\xff\xff\xff\xf1\xf0", BadValue),
+    (0, 8, b"\x80\0\0\0\0\0\0\0", BadValue),
     // The count.
-    (&[(8, 12, b"\0\0\0\x03")], BadValue),
-    (&[(8, 12, b"\x01\0\0\x02")], BadValue),
-    (&[(8, 12, b"\0\0\0\x01")], TrailingBytes),
-    (&[(8, 12, b"\0\0\0\0")], TrailingBytes),
+    (8, 12, b"\0\0\0\x03", BadValue),
+    (8, 12, b"\x01\0\0\x02", BadValue),
+    (8, 12, b"\0\0\0\x01", TrailingBytes),
+    (8, 12, b"\0\0\0\0", TrailingBytes),
     // The second five-tuple: the first one again, then one that falls in the client's address or port or the server's.
     (
-        &[(87, 99, b"\xc0\0\x02\x01\x80\x55\xc0\0\x02\x64\x0d\x96")],
+        87,
+        99,
+        b"\xc0\0\x02\x01\x80\x55\xc0\0\x02\x64\x0d\x96",
         OutOfOrder,
     ),
     (
-        &[(87, 99, b"\xc0\0\x02\0\xff\xff\xff\xff\xff\xff\xff\xff")],
+        87,
+        99,
+        b"\xc0\0\x02\0\xff\xff\xff\xff\xff\xff\xff\xff",
         OutOfOrder,
     ),
     (
-        &[(87, 99, b"\xc0\0\x02\x01\x80\x54\xff\xff\xff\xff\xff\xff")],
+        87,
+        99,
+        b"\xc0\0\x02\x01\x80\x54\xff\xff\xff\xff\xff\xff",
         OutOfOrder,
     ),
     (
-        &[(87, 99, b"\xc0\0\x02\x01\x80\x55\xc0\0\x02\x63\xff\xff")],
+        87,
+        99,
+        b"\xc0\0\x02\x01\x80\x55\xc0\0\x02\x63\xff\xff",
         OutOfOrder,
     ),
     (
-        &[(87, 99, b"\xc0\0\x02\x01\x80\x55\xc0\0\x02\x64\x0d\x95")],
+        87,
+        99,
+        b"\xc0\0\x02\x01\x80\x55\xc0\0\x02\x64\x0d\x95",
         OutOfOrder,
     ),
     // The name.
-    (&[(24, 26, b"\0\0")], BadValue),
-    (&[(24, 31, b"\0\x09aliceabcd")], BadValue),
-    (&[(24, 31, b"\x01\x05alice")], BadValue),
-    (&[(99, 101, b"\0\0")], BadValue),
-    (&[(99, 104, b"\0\x09bobbobbob")], BadValue),
+    (24, 26, b"\0\0", BadValue),
+    (24, 31, b"\0\x09aliceabcd", BadValue),
+    (24, 31, b"\x01\x05alice", BadValue),
+    (99, 101, b"\0\0", BadValue),
+    (99, 104, b"\0\x09bobbobbob", BadValue),
     // The port of the first entry.
-    (&[(104, 106, b"\xc3\x50")], BadValue),
+    (104, 106, b"\xc3\x50", BadValue),
     // Granted: 599, 3601, 2^24 + 600.
-    (&[(33, 37, b"\0\0\x02\x57")], BadValue),
-    (&[(33, 37, b"\0\0\x0e\x11")], BadValue),
-    (&[(33, 37, b"\x01\0\x02\x58")], BadValue),
-    (&[(33, 37, b"\0\0\0\0")], BadValue),
-    (&[(106, 110, b"\0\0\x02\x57")], BadValue),
-    (&[(106, 110, b"\0\0\x0e\x11")], BadValue),
+    (33, 37, b"\0\0\x02\x57", BadValue),
+    (33, 37, b"\0\0\x0e\x11", BadValue),
+    (33, 37, b"\x01\0\x02\x58", BadValue),
+    (33, 37, b"\0\0\0\0", BadValue),
+    (106, 110, b"\0\0\x02\x57", BadValue),
+    (106, 110, b"\0\0\x0e\x11", BadValue),
     // The expiry of an entry: below the moment, at it, 3601 above it, 2^56 + 1600.
-    (&[(49, 57, b"\0\0\0\0\0\0\x03\xe7")], BadValue),
-    (&[(49, 57, b"\0\0\0\0\0\0\x03\xe8")], BadValue),
-    (&[(49, 57, b"\0\0\0\0\0\0\x11\xf9")], BadValue),
-    (&[(49, 57, b"\x01\0\0\0\0\0\x06\x40")], BadValue),
-    (&[(122, 130, b"\0\0\0\0\0\0\x03\xe8")], BadValue),
-    (&[(122, 130, b"\0\0\0\0\0\0\x11\xf9")], BadValue),
+    (49, 57, b"\0\0\0\0\0\0\x03\xe7", BadValue),
+    (49, 57, b"\0\0\0\0\0\0\x03\xe8", BadValue),
+    (49, 57, b"\0\0\0\0\0\0\x11\xf9", BadValue),
+    (49, 57, b"\x01\0\0\0\0\0\x06\x40", BadValue),
+    (122, 130, b"\0\0\0\0\0\0\x03\xe8", BadValue),
+    (122, 130, b"\0\0\0\0\0\0\x11\xf9", BadValue),
     // How many permissions. Where none are named, the byte after is the number of channels.
-    (&[(57, 58, b"\x02")], BadValue),
-    (&[(57, 58, b"\xff")], BadValue),
-    (&[(57, 58, b"\0")], BadValue),
-    (&[(130, 131, b"\x02")], BadValue),
-    (&[(130, 131, b"\x01")], Short),
+    (57, 58, b"\x02", BadValue),
+    (57, 58, b"\xff", BadValue),
+    (57, 58, b"\0", BadValue),
+    (130, 131, b"\x02", BadValue),
+    (130, 131, b"\x01", Short),
     // The expiry of a permission: at the moment, 301 above it.
-    (&[(62, 70, b"\0\0\0\0\0\0\x03\xe8")], BadValue),
-    (&[(62, 70, b"\0\0\0\0\0\0\x05\x15")], BadValue),
-    (&[(62, 70, b"\x01\0\0\0\0\0\x05\x14")], BadValue),
+    (62, 70, b"\0\0\0\0\0\0\x03\xe8", BadValue),
+    (62, 70, b"\0\0\0\0\0\0\x05\x15", BadValue),
+    (62, 70, b"\x01\0\0\0\0\0\x05\x14", BadValue),
     // How many channels.
-    (&[(70, 71, b"\x02")], BadValue),
-    (&[(70, 71, b"\xff")], BadValue),
-    (&[(131, 132, b"\x02")], BadValue),
-    (&[(131, 132, b"\x01")], Short),
+    (70, 71, b"\x02", BadValue),
+    (70, 71, b"\xff", BadValue),
+    (131, 132, b"\x02", BadValue),
+    (131, 132, b"\x01", Short),
     // The number of a channel.
-    (&[(71, 73, b"\x3f\xff")], BadValue),
-    (&[(71, 73, b"\x50\0")], BadValue),
-    (&[(71, 73, b"\0\0")], BadValue),
-    (&[(71, 73, b"\xff\xff")], BadValue),
+    (71, 73, b"\x3f\xff", BadValue),
+    (71, 73, b"\x50\0", BadValue),
+    (71, 73, b"\0\0", BadValue),
+    (71, 73, b"\xff\xff", BadValue),
     // The expiry of a channel: at the moment, 601 above it.
-    (&[(79, 87, b"\0\0\0\0\0\0\x03\xe8")], BadValue),
-    (&[(79, 87, b"\0\0\0\0\0\0\x06\x41")], BadValue),
-    (&[(79, 87, b"\x01\0\0\0\0\0\x06\x40")], BadValue),
+    (79, 87, b"\0\0\0\0\0\0\x03\xe8", BadValue),
+    (79, 87, b"\0\0\0\0\0\0\x06\x41", BadValue),
+    (79, 87, b"\x01\0\0\0\0\0\x06\x40", BadValue),
     // Bytes after the last field.
-    (&[(132, 132, b"\0")], TrailingBytes),
+    (132, 132, b"\0", TrailingBytes),
     (
-        &[(132, 132, b"\xc0\0\x02\x02\x9c\x40\xc0\0\x02\x64\x0d\x97")],
+        132,
+        132,
+        b"\xc0\0\x02\x02\x9c\x40\xc0\0\x02\x64\x0d\x97",
         TrailingBytes,
     ),
-    (&[(8, 132, b"\0\0\0\0\0")], TrailingBytes),
+    (8, 132, b"\0\0\0\0\0", TrailingBytes),
     // Of two faults the first one: a field out of its range, and then the end.
-    (&[(0, 132, b"\0\0\0\xff\xff\xff\xf1\xf0")], BadValue),
-    (&[(8, 132, b"\0\0\0\x03")], BadValue),
-    (&[(99, 132, b"\0\x09")], BadValue),
-    (&[(99, 132, b"\0\x08bobbobb")], Short),
-    (&[(104, 132, b"\xc3\x50\0")], BadValue),
-    (&[(122, 132, b"\0\0\0\0\0\0\x03\xe8")], BadValue),
-    (&[(130, 132, b"\x02")], BadValue),
-    // A five-tuple that doesn't rise, and then the end, an empty name, a port that is taken.
+    (0, 132, b"\0\0\0\xff\xff\xff\xf1\xf0", BadValue),
+    (8, 132, b"\0\0\0\x03", BadValue),
+    (99, 132, b"\0\x09", BadValue),
+    (99, 132, b"\0\x08bobbobb", Short),
+    (104, 132, b"\xc3\x50\0", BadValue),
+    (122, 132, b"\0\0\0\0\0\0\x03\xe8", BadValue),
+    (130, 132, b"\x02", BadValue),
+    // A five-tuple that doesn't rise, and then the end or an empty name.
     (
-        &[(87, 132, b"\xc0\0\x02\x01\x80\x55\xc0\0\x02\x64\x0d\x96")],
+        87,
+        132,
+        b"\xc0\0\x02\x01\x80\x55\xc0\0\x02\x64\x0d\x96",
         OutOfOrder,
     ),
     (
-        &[(87, 101, b"\xc0\0\x02\x01\x80\x55\xc0\0\x02\x64\x0d\x96\0\0")],
+        87,
+        101,
+        b"\xc0\0\x02\x01\x80\x55\xc0\0\x02\x64\x0d\x96\0\0",
         OutOfOrder,
     ),
-    (&[(90, 91, b"\0"), (104, 106, b"\xc3\x50")], OutOfOrder),
-    // A field of the first entry out of its range, and then a five-tuple that doesn't rise.
-    (&[(8, 12, b"\0\0\0\x03"), (90, 91, b"\0")], BadValue),
-    (&[(33, 37, b"\0\0\x02\x57"), (90, 91, b"\0")], BadValue),
-    (
-        &[(62, 70, b"\0\0\0\0\0\0\x05\x15"), (90, 91, b"\0")],
-        BadValue,
-    ),
-    (
-        &[(79, 87, b"\0\0\0\0\0\0\x06\x41"), (90, 91, b"\0")],
-        BadValue,
-    ),
-    // Each of the others, and then bytes after the last field.
-    (&[(90, 91, b"\0"), (132, 132, b"\0")], OutOfOrder),
-    (&[(131, 132, b"\x02"), (132, 132, b"\0")], BadValue),
-    (
-        &[(24, 26, b"\0\0"), (90, 91, b"\0"), (132, 132, b"\0")],
-        BadValue,
-    ),
+    // How many channels, and then bytes after the last field.
+    (131, 132, b"\x02\0", BadValue),
 ];
 
-/// The same of `WIDE`, under limits of 2, 2, 2, 1 and 8.
-const WIDE_FAULTS: [(&[Change], Malformed); 19] = [
-    (&[(57, 58, b"\x03")], BadValue),
-    (&[(82, 83, b"\x03")], BadValue),
+/// The faults of `SNAPSHOT` where its second five-tuple doesn't rise, under the same limits.
+const FALLING_FAULTS: [Fault; 6] = [
+    // That five-tuple, and then a port that is taken, or bytes after the last field.
+    (104, 106, b"\xc3\x50", OutOfOrder),
+    (132, 132, b"\0", OutOfOrder),
+    // A field of the first entry out of its range, and then that five-tuple.
+    (8, 12, b"\0\0\0\x03", BadValue),
+    (33, 37, b"\0\0\x02\x57", BadValue),
+    (62, 70, b"\0\0\0\0\0\0\x05\x15", BadValue),
+    (79, 87, b"\0\0\0\0\0\0\x06\x41", BadValue),
+];
+
+/// The faults where it doesn't rise and a byte is after the last field.
+const LONG_FALLING_FAULTS: [Fault; 1] = [(24, 26, b"\0\0", BadValue)];
+
+/// The faults of `WIDE`, under limits of 2, 2, 2, 1 and 8.
+const WIDE_FAULTS: [Fault; 19] = [
+    (57, 58, b"\x03", BadValue),
+    (82, 83, b"\x03", BadValue),
     // The second address: the first one again, one below it, one whose highest byte is below it.
-    (&[(70, 74, b"\xcb\0\x71\x05")], OutOfOrder),
-    (&[(70, 74, b"\xcb\0\x71\x04")], OutOfOrder),
-    (&[(70, 74, b"\x0a\xff\xff\xff")], OutOfOrder),
-    (&[(74, 82, b"\0\0\0\0\0\0\x03\xe8")], BadValue),
-    (&[(74, 82, b"\0\0\0\0\0\0\x05\x15")], BadValue),
+    (70, 74, b"\xcb\0\x71\x05", OutOfOrder),
+    (70, 74, b"\xcb\0\x71\x04", OutOfOrder),
+    (70, 74, b"\x0a\xff\xff\xff", OutOfOrder),
+    (74, 82, b"\0\0\0\0\0\0\x03\xe8", BadValue),
+    (74, 82, b"\0\0\0\0\0\0\x05\x15", BadValue),
     // The second number.
-    (&[(99, 101, b"\x40\x01")], OutOfOrder),
-    (&[(99, 101, b"\x40\0")], OutOfOrder),
-    (&[(83, 85, b"\x4f\xff")], OutOfOrder),
+    (99, 101, b"\x40\x01", OutOfOrder),
+    (99, 101, b"\x40\0", OutOfOrder),
+    (83, 85, b"\x4f\xff", OutOfOrder),
     // Two channels with one peer.
-    (&[(101, 107, b"\xcb\0\x71\x05\x1b\x58")], BadValue),
-    (&[(107, 115, b"\0\0\0\0\0\0\x03\xe8")], BadValue),
-    (&[(107, 115, b"\0\0\0\0\0\0\x06\x41")], BadValue),
+    (101, 107, b"\xcb\0\x71\x05\x1b\x58", BadValue),
+    (107, 115, b"\0\0\0\0\0\0\x03\xe8", BadValue),
+    (107, 115, b"\0\0\0\0\0\0\x06\x41", BadValue),
     // Of two faults the first one: a key that doesn't rise, and then an expiry, a peer or the end. A number below the one
     // before that is out of its range is so first of all.
+    (70, 82, b"\xcb\0\x71\x05\0\0\0\0\0\0\x03\xe8", OutOfOrder),
+    (70, 115, b"\xcb\0\x71\x05", OutOfOrder),
+    (99, 107, b"\x40\x01\xcb\0\x71\x05\x1b\x58", OutOfOrder),
+    (99, 101, b"\x3f\xff", BadValue),
+    (101, 115, b"\xcb\0\x71\x05\x1b\x58\0", BadValue),
+    // The expiry of the second permission out of its range, and then the second number, which doesn't rise.
     (
-        &[(70, 82, b"\xcb\0\x71\x05\0\0\0\0\0\0\x03\xe8")],
-        OutOfOrder,
-    ),
-    (&[(70, 115, b"\xcb\0\x71\x05")], OutOfOrder),
-    (&[(99, 107, b"\x40\x01\xcb\0\x71\x05\x1b\x58")], OutOfOrder),
-    (&[(99, 101, b"\x3f\xff")], BadValue),
-    (&[(101, 115, b"\xcb\0\x71\x05\x1b\x58\0")], BadValue),
-    (
-        &[(74, 82, b"\0\0\0\0\0\0\x05\x15"), (99, 101, b"\x40\x01")],
+        74,
+        101,
+        b"\0\0\0\0\0\0\x05\x15\x02\x40\x01\xcb\0\x71\x05\x1b\x58\0\0\0\0\0\0\x06\x40\x40\x01",
         BadValue,
     ),
 ];
@@ -358,122 +376,109 @@ fn with<'a>(listed: Listed<'a>, value: Value<'a>) -> Listed<'a> {
     }
 }
 
-/// Changes of the first entry of `SNAPSHOT`, and the value that it has by them.
-const FIRST: [(&[Change], Value<'_>); 12] = [
+/// A place, the place up to which the bytes are replaced, what replaces them, and a value that an entry has then.
+type Change = (usize, usize, &'static [u8], Value<'static>);
+
+/// Changes of the first entry of `SNAPSHOT`.
+const FIRST: [Change; 12] = [
     // Names of one byte and of eight, which may be any bytes.
-    (&[(24, 31, b"\0\x01\0")], Value::User(b"\0")),
-    (
-        &[(24, 31, b"\0\x08\xffliceabc")],
-        Value::User(b"\xffliceabc"),
-    ),
-    (&[(24, 31, b"\0\x03bob")], Value::User(b"bob")),
-    (&[(31, 33, b"\0\0")], Value::Port(0)),
-    (&[(31, 33, b"\xff\xff")], Value::Port(65535)),
-    (&[(33, 37, b"\0\0\x0e\x10")], Value::Granted(3600)),
+    (24, 31, b"\0\x01\0", Value::User(b"\0")),
+    (24, 31, b"\0\x08\xffliceabc", Value::User(b"\xffliceabc")),
+    (24, 31, b"\0\x03bob", Value::User(b"bob")),
+    (31, 33, b"\0\0", Value::Port(0)),
+    (31, 33, b"\xff\xff", Value::Port(65535)),
+    (33, 37, b"\0\0\x0e\x10", Value::Granted(3600)),
     // One second and 3600 above the moment.
-    (&[(49, 57, b"\0\0\0\0\0\0\x03\xe9")], Value::Expiry(1001)),
-    (&[(49, 57, b"\0\0\0\0\0\0\x11\xf8")], Value::Expiry(4600)),
-    (&[(57, 70, b"\0")], Value::Permissions(&[])),
+    (49, 57, b"\0\0\0\0\0\0\x03\xe9", Value::Expiry(1001)),
+    (49, 57, b"\0\0\0\0\0\0\x11\xf8", Value::Expiry(4600)),
+    (57, 70, b"\0", Value::Permissions(&[])),
     (
-        &[(62, 70, b"\0\0\0\0\0\0\x03\xe9")],
+        62,
+        70,
+        b"\0\0\0\0\0\0\x03\xe9",
         Value::Permissions(&[(0xCB00_7105, 1001)]),
     ),
-    (&[(70, 87, b"\0")], Value::Channels(&[])),
+    (70, 87, b"\0", Value::Channels(&[])),
     (
-        &[(
-            71,
-            87,
-            b"\x4f\xff\xcb\0\x71\x05\x1b\x59\0\0\0\0\0\0\x03\xe9",
-        )],
+        71,
+        87,
+        b"\x4f\xff\xcb\0\x71\x05\x1b\x59\0\0\0\0\0\0\x03\xe9",
         Value::Channels(&[(0x4FFF, OTHER_CHANNEL)]),
     ),
 ];
 
-/// Changes of the second one, and the value that it has by them.
-const SECOND: [(&[Change], Value<'_>); 6] = [
-    (&[], Value::User(b"bob")),
-    (&[(99, 104, b"\0\x05alice")], Value::User(b"alice")),
-    (&[(104, 106, b"\xff\xff")], Value::Port(65535)),
-    (&[(106, 110, b"\0\0\x02\x58")], Value::Granted(600)),
+/// Changes of the second one.
+const SECOND: [Change; 6] = [
+    (0, 0, b"", Value::User(b"bob")),
+    (99, 104, b"\0\x05alice", Value::User(b"alice")),
+    (104, 106, b"\xff\xff", Value::Port(65535)),
+    (106, 110, b"\0\0\x02\x58", Value::Granted(600)),
     (
-        &[(130, 131, b"\x01\0\0\0\0\0\0\0\0\0\0\x05\x14")],
+        130,
+        131,
+        b"\x01\0\0\0\0\0\0\0\0\0\0\x05\x14",
         Value::Permissions(&[(0, 1300)]),
     ),
     (
-        &[(
-            131,
-            132,
-            b"\x01\x40\0\xcb\0\x71\x05\x1b\x58\0\0\0\0\0\0\x06\x40",
-        )],
+        131,
+        132,
+        b"\x01\x40\0\xcb\0\x71\x05\x1b\x58\0\0\0\0\0\0\x06\x40",
         Value::Channels(&[(0x4000, CHANNEL)]),
     ),
 ];
 
-/// The bytes, their changes, and the moment and entries that are read, under limits of 2, 2, 2, 1 and 8.
-const READ: [(&[u8], &[Change], u64, &[Listed<'_>]); 8] = [
-    (&WIDE, &[], 1000, &[WIDE_ALICE]),
-    (&LAST, &[], 0xFF_FFFF_F1EF, &[U]),
+/// The bytes, what is replaced in them, and the moment and entries that are read, under limits of 2, 2, 2, 1 and 8.
+const READ: [(&[u8], usize, usize, &[u8], u64, &[Listed<'_>]); 8] = [
+    (&WIDE, 0, 0, b"", 1000, &[WIDE_ALICE]),
+    (&LAST, 0, 0, b"", 0xFF_FFFF_F1EF, &[U]),
     // No entries, at 0 and at the last moment.
-    (&LAST, &[(0, 55, b"\0\0\0\0\0\0\0\0\0\0\0\0")], 0, &[]),
-    (&LAST, &[(8, 55, b"\0\0\0\0")], 0xFF_FFFF_F1EF, &[]),
+    (&LAST, 0, 55, b"\0\0\0\0\0\0\0\0\0\0\0\0", 0, &[]),
+    (&LAST, 8, 55, b"\0\0\0\0", 0xFF_FFFF_F1EF, &[]),
+    // One of the two entries of `SNAPSHOT`.
     (
-        &SNAPSHOT,
-        &[(11, 12, b"\x01"), (87, 132, b"")],
+        &WIDE,
+        57,
+        115,
+        b"\x01\xcb\0\x71\x05\0\0\0\0\0\0\x05\x14\x01\x40\0\xcb\0\x71\x05\x1b\x58\0\0\0\0\0\0\x06\x40",
         1000,
         &[ALICE],
     ),
-    (&SNAPSHOT, &[(11, 12, b"\x01"), (12, 87, b"")], 1000, &[BOB]),
+    (&SNAPSHOT, 11, 87, b"\x01", 1000, &[BOB]),
     // The second five-tuple differs from the first one in the server's port alone.
     (
         &SNAPSHOT,
-        &[
-            (90, 98, b"\x01\x80\x55\xc0\0\x02\x64\x0d"),
-            (98, 99, b"\x97"),
-        ],
+        90,
+        99,
+        b"\x01\x80\x55\xc0\0\x02\x64\x0d\x97",
         1000,
         &[ALICE, OTHER_BOB],
     ),
     // Channels to one port of two addresses.
     (
         &WIDE,
-        &[(101, 107, b"\xcb\0\x71\x06\x1b\x58")],
+        101,
+        107,
+        b"\xcb\0\x71\x06\x1b\x58",
         1000,
         &[OTHER_ALICE],
     ),
 ];
 
 /// Limits of 2 allocations, so many permissions and channels, and names of 8 bytes.
-fn limits(each: u16) -> Result<Limits, Fail> {
+fn limits(rt: &impl Abort, each: u16) -> Limits {
     let bounds = Bounds {
-        allocations: 2,
         permissions: each,
         channels: each,
-        acts: 1,
-        name_bytes: 8,
+        ..SMALL
     };
-    Ok(Limits::new(bounds).ok_or("limits")?)
-}
-
-/// Bytes with their changes.
-fn changed(alloc: Global, bytes: &[u8], changes: &[Change]) -> Result<Vec<u8>, Fail> {
-    let mut changed = Vec::new(alloc);
-    let mut place = 0;
-    for (from, to, part) in changes {
-        let kept = bytes.get(place..*from).ok_or("places")?;
-        changed.extend_from_slice(kept)?;
-        changed.extend_from_slice(part)?;
-        place = *to;
-    }
-    changed.extend_from_slice(bytes.get(place..).ok_or("a place")?)?;
-    Ok(changed)
+    limits_of(rt, bounds)
 }
 
 fn holds<A: Allocator + Copy>(entry: &Entry<A>, listed: &Listed<'_>) -> bool {
+    let numbers = (entry.port(), entry.granted(), entry.expiry());
     entry.user() == listed.user
-        && entry.port() == listed.port
-        && entry.granted() == listed.granted
+        && numbers == (listed.port, listed.granted, listed.expiry)
         && entry.tx() == listed.tx
-        && entry.expiry() == listed.expiry
         && entry.permissions() == listed.permissions
         && entry.channels() == listed.channels
 }
@@ -493,7 +498,7 @@ fn lists<A: Allocator + Copy>(table: &Table<A>, listed: &[Listed<'_>]) -> bool {
 
 fn is<A: Allocator + Copy>(outcome: &Result<Table<A>, ReadError>, answer: Answer<'_>) -> bool {
     match (outcome, answer) {
-        (Err(ReadError::Malformed(fault)), Answer::Fault(expected)) => *fault == expected,
+        (Err(error), Answer::Error(expected)) => *error == expected,
         (Ok(table), Answer::Table(moment, listed)) => {
             table.moment().seconds() == moment && lists(table, listed)
         }
@@ -510,16 +515,17 @@ fn refused<A: Allocator + Copy>(
     let mut reader = reader;
     assert!(rt; reader.feed(&SNAPSHOT) == Err(error));
     assert!(rt; reader.feed(b"") == Err(error));
-    let outcome = reader.finish();
-    match &outcome {
-        Ok(_) => assert!(rt; false),
-        Err(again) => assert!(rt; *again == error),
+    match reader.finish() {
+        Ok(_) => panic!(rt; "a table of a refused reader"),
+        Err(again) => {
+            assert!(rt; again == error);
+            Err(again)
+        }
     }
-    outcome
 }
 
 /// Reads bytes cut at a place, and then into pieces of a size.
-fn read_cut<A: Allocator + Copy>(
+pub fn read_cut<A: Allocator + Copy>(
     rt: &impl Abort,
     alloc: A,
     limits: Limits,
@@ -542,7 +548,7 @@ fn read_cut<A: Allocator + Copy>(
     reader.finish()
 }
 
-const SIZES: [usize; 5] = [1, 2, 3, 7, 4096];
+pub const SIZES: [usize; 5] = [1, 2, 3, 7, 4096];
 
 /// Reads bytes whole, in pieces of each size, and cut in two at each place, each time with the same answer.
 fn play(rt: &impl Abort, alloc: Global, limits: Limits, bytes: &[u8], answer: Answer<'_>) {
@@ -555,222 +561,125 @@ fn play(rt: &impl Abort, alloc: Global, limits: Limits, bytes: &[u8], answer: An
     }
 }
 
-fn play_faults(
-    rt: &impl Abort,
-    alloc: Global,
-    limits: Limits,
-    bytes: &[u8],
-    rows: &[(&[Change], Malformed)],
-) -> Result<(), Fail> {
-    for (changes, fault) in rows {
-        let bytes = changed(alloc, bytes, changes)?;
-        play(rt, alloc, limits, &bytes, Answer::Fault(*fault));
+fn play_faults(rt: &impl Abort, alloc: Global, limits: Limits, bytes: &[u8], rows: &[Fault]) {
+    for (from, to, part, fault) in rows {
+        let bytes = replaced(rt, alloc, bytes, *from, *to, part);
+        let answer = Answer::Error(ReadError::Malformed(*fault));
+        play(rt, alloc, limits, &bytes, answer);
     }
-    Ok(())
 }
 
 #[test]
-fn the_first_fault_of_a_snapshot(rt: HostRuntime) -> Result<(), Fail> {
-    play_faults(&rt, rt.alloc(), limits(1)?, &SNAPSHOT, &FAULTS)?;
-    play_faults(&rt, rt.alloc(), limits(2)?, &WIDE, &WIDE_FAULTS)
+fn the_first_fault_of_a_snapshot(rt: HostRuntime) {
+    play_faults(&rt, rt.alloc(), limits(&rt, 1), &SNAPSHOT, &FAULTS);
+    play_faults(&rt, rt.alloc(), limits(&rt, 2), &WIDE, &WIDE_FAULTS);
 }
 
-fn play_read(rt: &impl Abort, alloc: Global) -> Result<(), Fail> {
-    for (bytes, changes, moment, listed) in &READ {
-        let bytes = changed(alloc, bytes, changes)?;
-        play(
-            rt,
-            alloc,
-            limits(2)?,
-            &bytes,
-            Answer::Table(*moment, *listed),
-        );
+#[test]
+fn the_first_of_several_faults_of_a_snapshot(rt: HostRuntime) {
+    let limits = limits(&rt, 1);
+    let falling = replaced(&rt, rt.alloc(), &SNAPSHOT, 90, 91, b"\0");
+    play_faults(&rt, rt.alloc(), limits, &falling, &FALLING_FAULTS);
+    let long = replaced(&rt, rt.alloc(), &falling, 132, 132, b"\0");
+    play_faults(&rt, rt.alloc(), limits, &long, &LONG_FALLING_FAULTS);
+}
+
+fn play_read(rt: &impl Abort, alloc: Global) {
+    let limits = limits(rt, 2);
+    for (bytes, from, to, part, moment, listed) in &READ {
+        let bytes = replaced(rt, alloc, bytes, *from, *to, part);
+        play(rt, alloc, limits, &bytes, Answer::Table(*moment, *listed));
     }
-    Ok(())
 }
 
-fn play_first(rt: &impl Abort, alloc: Global) -> Result<(), Fail> {
-    for (changes, value) in &FIRST {
-        let bytes = changed(alloc, &SNAPSHOT, changes)?;
+fn play_first(rt: &impl Abort, alloc: Global) {
+    let limits = limits(rt, 1);
+    for (from, to, part, value) in &FIRST {
+        let bytes = replaced(rt, alloc, &SNAPSHOT, *from, *to, part);
         let listed = [with(ALICE, *value), BOB];
-        play(rt, alloc, limits(1)?, &bytes, Answer::Table(1000, &listed));
+        play(rt, alloc, limits, &bytes, Answer::Table(1000, &listed));
     }
-    Ok(())
 }
 
-fn play_second(rt: &impl Abort, alloc: Global) -> Result<(), Fail> {
-    for (changes, value) in &SECOND {
-        let bytes = changed(alloc, &SNAPSHOT, changes)?;
+fn play_second(rt: &impl Abort, alloc: Global) {
+    let limits = limits(rt, 1);
+    for (from, to, part, value) in &SECOND {
+        let bytes = replaced(rt, alloc, &SNAPSHOT, *from, *to, part);
         let listed = [ALICE, with(BOB, *value)];
-        play(rt, alloc, limits(1)?, &bytes, Answer::Table(1000, &listed));
+        play(rt, alloc, limits, &bytes, Answer::Table(1000, &listed));
     }
-    Ok(())
 }
 
 #[test]
-fn a_snapshot_has_the_values_that_the_bytes_spell(rt: HostRuntime) -> Result<(), Fail> {
-    play_first(&rt, rt.alloc())?;
-    play_second(&rt, rt.alloc())?;
-    play_read(&rt, rt.alloc())
+fn a_snapshot_has_the_values_that_the_bytes_spell(rt: HostRuntime) {
+    play_first(&rt, rt.alloc());
+    play_second(&rt, rt.alloc());
+    play_read(&rt, rt.alloc());
 }
 
 #[test]
-fn every_prefix_of_a_snapshot_is_short(rt: HostRuntime) -> Result<(), Fail> {
-    let limits = limits(1)?;
+fn every_prefix_of_a_snapshot_is_short(rt: HostRuntime) {
+    let limits = limits(&rt, 1);
+    let answer = Answer::Error(ReadError::Malformed(Short));
     for size in 0..SNAPSHOT.len() {
-        play(
-            &rt,
-            rt.alloc(),
-            limits,
-            &SNAPSHOT[..size],
-            Answer::Fault(Short),
-        );
+        play(&rt, rt.alloc(), limits, &SNAPSHOT[..size], answer);
     }
-    Ok(())
 }
 
-/// Adds the entry of a client, with all that the max limits allow: a name of 508 bytes, permissions for 203.0.113.0 to
-/// 203.0.113.31, and channels 0x4000 to 0x401F to them.
-fn push_max_entry(bytes: &mut Vec<u8>, client: u16) -> Result<(), Fail> {
-    let [high, low] = client.to_be_bytes();
-    bytes.extend_from_slice(&[10, 0, high, low, 0x80, 0x55, 192, 0, 2, 100, 13, 150])?;
-    bytes.extend_from_slice(b"\x01\xfc")?;
-    for _ in 0..508 {
-        bytes.push(low)?;
-    }
-    bytes.extend_from_slice(&[high, low, 0, 0, 2, 88])?;
-    bytes.extend_from_slice(&[low; 12])?;
-    bytes.extend_from_slice(b"\0\0\0\0\0\0\x06\x40\x20")?;
-    for i in 0..32u8 {
-        bytes.extend_from_slice(&[203, 0, 113, i, 0, 0, 0, 0, 0, 0, 5, 20])?;
-    }
-    bytes.push(32)?;
-    for i in 0..32u8 {
-        bytes.extend_from_slice(&[64, i, 203, 0, 113, i, 27, 88, 0, 0, 0, 0, 0, 0, 6, 64])?;
-    }
-    Ok(())
-}
-
-/// So many of these entries at 1000.
-pub fn max_entries(alloc: Global, count: u16) -> Result<Vec<u8>, Fail> {
-    let mut bytes = Vec::from_slice(alloc, b"\0\0\0\0\0\0\x03\xe8\0\0")?;
-    bytes.extend_from_slice(&count.to_be_bytes())?;
-    for client in 0..count {
-        push_max_entry(&mut bytes, client)?;
-    }
-    Ok(bytes)
-}
-
-fn has_most(entry: &Entry, client: u16) -> bool {
-    let [_, low] = client.to_be_bytes();
-    for (permission, i) in entry.permissions().iter().zip(0..32u8) {
-        if *permission != (0xCB00_7100 + u32::from(i), 1300) {
-            return false;
-        }
-    }
-    for i in 0..32u8 {
-        let peer = Endpoint {
-            ip: 0xCB00_7100 + u32::from(i),
-            port: 7000,
-        };
-        if entry.channel(0x4000 + u16::from(i)) != Some(Channel { peer, expiry: 1600 }) {
-            return false;
-        }
-    }
-    entry.permissions().len() == 32
-        && entry.channels().len() == 32
-        && entry.user() == [low; 508].as_slice()
-        && (entry.port(), entry.granted(), entry.expiry()) == (client, 600, 1600)
-        && entry.tx() == TxId([low; 12])
-}
-
-/// Whether a table of so many of these entries is read.
-fn are_most(outcome: &Result<Table, ReadError>, count: u16) -> bool {
-    let Ok(table) = outcome else {
-        return false;
-    };
-    let mut entries = table.entries();
-    for client in 0..count {
-        match entries.next() {
-            Some((tuple, entry)) => {
-                if tuple.client.ip != 0x0A00_0000 + u32::from(client) || !has_most(entry, client) {
-                    return false;
-                }
-            }
-            None => return false,
-        }
-    }
-    entries.next().is_none() && table.moment().seconds() == 1000
-}
-
-#[test]
-fn max_entries_are_read_wherever_they_are_cut(rt: HostRuntime) -> Result<(), Fail> {
-    let bytes = max_entries(rt.alloc(), 2)?;
-    for cut in 0..bytes.len() {
-        let outcome = read_cut(&rt, rt.alloc(), Limits::MAX, &bytes, cut, 4096);
-        assert!(rt; are_most(&outcome, 2));
-    }
-    for size in &SIZES {
-        let outcome = read_cut(&rt, rt.alloc(), Limits::MAX, &bytes, 0, *size);
-        assert!(rt; are_most(&outcome, 2));
-    }
-    Ok(())
-}
-
-#[test]
-fn the_max_snapshot_is_read(rt: HostRuntime) -> Result<(), Fail> {
-    let bytes = max_entries(rt.alloc(), 1024)?;
-    assert!(rt; bytes.len() == 1_480_716);
-    assert!(rt; are_most(&read_snapshot(rt.alloc(), Limits::MAX, &bytes), 1024));
-    let outcome = read_cut(&rt, rt.alloc(), Limits::MAX, &bytes, 0, 4096);
-    assert!(rt; are_most(&outcome, 1024));
-    Ok(())
-}
-
-/// Whether some growth was refused, which is then what is answered; else the table is.
+/// Shows that an error for memory is what is answered where some growth was refused, and else the table. Returns whether
+/// one was.
 fn is_refused<A: Allocator + Copy>(
     rt: &impl Abort,
     refusing: &Refusing<Global>,
     outcome: &Result<Table<A>, ReadError>,
 ) -> bool {
     let is_refused = refusing.has_refused();
-    match outcome {
-        Ok(_) => assert!(rt; !is_refused && is(outcome, Answer::Table(1000, &[ALICE, BOB]))),
-        Err(error) => assert!(rt; is_refused && *error == ReadError::Memory),
-    }
+    let answer = if is_refused {
+        Answer::Error(ReadError::Memory)
+    } else {
+        Answer::Table(1000, &BOTH)
+    };
+    assert!(rt; is(outcome, answer));
     is_refused
 }
 
+fn refuse_whole(rt: &impl Abort, alloc: Global, limits: Limits, served: u64) -> bool {
+    let refusing = Refusing::new(alloc, served);
+    let outcome = read_snapshot(&refusing, limits, &SNAPSHOT);
+    is_refused(rt, &refusing, &outcome)
+}
+
 #[test]
-fn each_growth_of_a_snapshot_is_refused_in_turn(rt: HostRuntime) -> Result<(), Fail> {
-    let limits = limits(1)?;
+fn each_growth_of_a_snapshot_is_refused_in_turn(rt: HostRuntime) {
+    let limits = limits(&rt, 1);
     for served in 0..16u64 {
-        let refusing = Refusing::new(rt.alloc(), served);
-        let outcome = read_snapshot(&refusing, limits, &SNAPSHOT);
-        if !is_refused(&rt, &refusing, &outcome) {
-            return Ok(());
+        if !refuse_whole(&rt, rt.alloc(), limits, served) {
+            return;
         }
     }
-    Err(Fail::new("some growth is always refused"))
+    panic!(rt; "some growth is always refused");
+}
+
+fn refuse_piece(rt: &impl Abort, alloc: Global, limits: Limits, size: usize, served: u64) -> bool {
+    let refusing = Refusing::new(alloc, served);
+    let outcome = read_cut(rt, &refusing, limits, &SNAPSHOT, 0, size);
+    is_refused(rt, &refusing, &outcome)
 }
 
 /// Each growth of a reader in pieces of a size refused in turn.
-fn refuse_in_pieces(rt: &impl Abort, alloc: Global, size: usize) -> Result<(), Fail> {
-    let limits = limits(1)?;
+fn refuse_in_pieces(rt: &impl Abort, alloc: Global, size: usize) {
+    let limits = limits(rt, 1);
     for served in 0..1000u64 {
-        let refusing = Refusing::new(alloc, served);
-        let outcome = read_cut(rt, &refusing, limits, &SNAPSHOT, 0, size);
-        if !is_refused(rt, &refusing, &outcome) {
-            return Ok(());
+        if !refuse_piece(rt, alloc, limits, size, served) {
+            return;
         }
     }
-    Err(Fail::new("some growth is always refused"))
+    panic!(rt; "some growth is always refused");
 }
 
 #[test]
-fn each_growth_of_a_reader_is_refused_in_turn(rt: HostRuntime) -> Result<(), Fail> {
+fn each_growth_of_a_reader_is_refused_in_turn(rt: HostRuntime) {
     for size in &SIZES {
-        refuse_in_pieces(&rt, rt.alloc(), *size)?;
+        refuse_in_pieces(&rt, rt.alloc(), *size);
     }
-    Ok(())
 }

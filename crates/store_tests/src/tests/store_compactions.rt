@@ -1,9 +1,10 @@
 //! Tests of batches for which the area that counts has no room: the bytes, and each stop where the other area is closed.
 
 use super::batches::{OUTCOMES, Stops, append_at, expiry_in, stop_batch, store_after};
+use super::bytes::has_at;
 use super::disks::write;
-use super::store_format::has_at;
-use super::stores::{TestStore, small_limits};
+use super::limits::small_limits;
+use super::stores::TestStore;
 use std::alloc::Global;
 use std::process::Abort;
 use turn_disk::{Disk, Outcome};

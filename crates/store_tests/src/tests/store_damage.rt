@@ -1,9 +1,10 @@
 //! Tests of stores whose bytes were changed: what opening them is refused for.
 
 use super::batches::{append_at, append_with, expiry_in, store_after, table_at};
-use super::disks::{copy_of, write};
-use super::store_format::front;
-use super::stores::{TestStore, small_limits};
+use super::bytes::front;
+use super::disks::{disk_of, write};
+use super::limits::small_limits;
+use super::stores::TestStore;
 use std::alloc::Global;
 use std::process::Abort;
 use turn_disk::{Disk, MemoryDisk};
@@ -76,7 +77,7 @@ fn open_changed(
     place: usize,
     bytes: &[u8],
 ) -> Result<u64, OpenFault> {
-    let mut disk = copy_of(rt, alloc, content);
+    let mut disk = disk_of(rt, alloc, content);
     assert!(rt; write(rt, &mut disk, place, bytes));
     expiry_in(rt, alloc, disk)
 }
@@ -102,7 +103,7 @@ const CUTS: [(usize, OpenFault); 4] = [
 fn a_shorter_disk_is_refused(rt: HostRuntime) {
     let store = store_after(&rt, rt.alloc(), 1);
     for (len, fault) in &CUTS {
-        let disk = copy_of(&rt, rt.alloc(), front(store.disk().content(), *len));
+        let disk = disk_of(&rt, rt.alloc(), front(store.disk().content(), *len));
         assert!(rt; expiry_in(&rt, rt.alloc(), disk) == Err(*fault));
     }
 }

@@ -1,7 +1,8 @@
 //! Tests of batches that are appended as frames, in bytes, and of a stopped store.
 
 use super::batches::{append_at, append_with, expiry_in, store_after, table_at};
-use super::store_format::{SUPERBLOCK, has_at, is_zero_from};
+use super::bytes::{has_at, is_zero_from};
+use super::store_format::SUPERBLOCK;
 use super::stores::TestStore;
 use std::alloc::Global;
 use std::process::Abort;

@@ -1,7 +1,7 @@
 //! Tests of openings: each device call that fails, and each allocation that is refused.
 
 use super::batches::{expiry_in, store_after, try_open};
-use super::disks::copy_of;
+use super::disks::disk_of;
 use refusing::Refusing;
 use std::alloc::{Allocator, Global};
 use std::process::Abort;
@@ -10,7 +10,7 @@ use turn_store::OpenFault;
 
 // Opens a disk of this content, at which this device call fails, and then opens it again. Returns whether it was refused.
 fn refuse_call(rt: &impl Abort, alloc: Global, content: &[u8], call: u64) -> bool {
-    let disk = copy_of(rt, alloc, content);
+    let disk = disk_of(rt, alloc, content);
     assert!(rt; call > 0);
     disk.fail_call(call);
     let (outcome, disk) = try_open(rt, alloc, disk);
@@ -67,7 +67,7 @@ fn each_growth_of_an_opening_is_refused_in_turn(rt: HostRuntime) {
     let store = store_after(&rt, rt.alloc(), 8);
     let refusing = Refusing::new(rt.alloc(), u64::MAX);
     for served in 0..100u64 {
-        let disk = copy_of(&rt, &refusing, store.disk().content());
+        let disk = disk_of(&rt, &refusing, store.disk().content());
         if !refuse_growth(&rt, &refusing, &refusing, disk, served) {
             assert!(rt; served > 2);
             return;

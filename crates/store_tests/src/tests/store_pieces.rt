@@ -1,11 +1,11 @@
 //! Tests of compactions whose snapshot is written in pieces of 4,096 bytes.
 
-use super::snapshot_reads::max_entries;
-use super::store_format::has_at;
+use super::bytes::has_at;
+use super::limits::{SMALL, limits_of};
+use super::max_snapshots::max_entries;
 use super::stores::{SnapshotTable, TestStore};
 use std::alloc::Global;
 use std::process::Abort;
-use std::test::Fail;
 use turn_disk::MemoryDisk;
 use turn_store::{Store, StoreFault, least_area};
 use turn_types::{Bounds, Limits};
@@ -16,12 +16,9 @@ const AREA: usize = 10_066;
 fn limits(rt: &impl Abort) -> Limits {
     let bounds = Bounds {
         allocations: 128,
-        permissions: 1,
-        channels: 1,
-        acts: 1,
-        name_bytes: 8,
+        ..SMALL
     };
-    Limits::new(bounds).expect(rt, "limits")
+    limits_of(rt, bounds)
 }
 
 /// Alice's allocation at 1000. The port of the client ends at the sixth byte, the relayed port at the twenty-first one.
@@ -128,11 +125,10 @@ fn compact_most(rt: &impl Abort, alloc: Global, snapshot: &[u8]) -> MemoryDisk {
 }
 
 #[test]
-fn a_store_of_the_max_limits_holds_the_max_table(rt: HostRuntime) -> Result<(), Fail> {
-    let snapshot = max_entries(rt.alloc(), 1024)?;
+fn a_store_of_the_max_limits_holds_the_max_table(rt: HostRuntime) {
+    let snapshot = max_entries(&rt, rt.alloc(), 1024);
     let disk = compact_most(&rt, rt.alloc(), &snapshot);
     assert!(rt; has_at(disk.content(), 1_515_951, &snapshot));
     assert!(rt; has_at(disk.content(), 2_996_667, b"\x00\xee"));
     assert!(rt; count_in(&rt, rt.alloc(), disk, Limits::MAX) == 1024);
-    Ok(())
 }

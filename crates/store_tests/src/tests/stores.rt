@@ -2,40 +2,21 @@
 
 ghost use Rattle.std.specs.Prelude.{◌≡◌, ◌↔◌, IsTrue};
 
+use super::limits::small_limits;
 use std::alloc::{Allocator, Global};
 use std::marker::Model;
 use std::process::Abort;
-use std::test::Fail;
 use turn_disk::{Disk, MemoryDisk};
 use turn_record::{max_payload, read_snapshot};
 use turn_store::{FormatRefused, Info, Store, StoreFault, format};
 use turn_table::Table;
-use turn_types::{Bounds, Limits};
-
-pub fn limits_of(
-    allocations: u32,
-    permissions: u16,
-    channels: u16,
-    acts: u16,
-    name_bytes: u16,
-) -> Result<Limits, Fail> {
-    let bounds = Bounds {
-        allocations,
-        permissions,
-        channels,
-        acts,
-        name_bytes,
-    };
-    Ok(Limits::new(bounds).ok_or("limits")?)
-}
+use turn_types::Limits;
 
 /// A disk of zeros with areas of this size.
-pub fn zeros<A: Allocator + Copy>(alloc: A, area: usize) -> Result<MemoryDisk<A>, Fail> {
-    if area > 2_000_000 {
-        return Err(Fail::new("a large area"));
-    }
-    let content = Vec::from_elem(alloc, 0u8, 64 + 2 * area)?;
-    Ok(MemoryDisk::new(alloc, content))
+pub fn zeros<A: Allocator + Copy>(rt: &impl Abort, alloc: A, area: usize) -> MemoryDisk<A> {
+    assert!(rt; area <= 2_000_000);
+    let content = Vec::from_elem(alloc, 0u8, 64 + 2 * area).expect(rt, "memory");
+    MemoryDisk::new(alloc, content)
 }
 
 pub fn format_disk<D: Disk>(
@@ -50,25 +31,10 @@ pub fn format_disk<D: Disk>(
 }
 
 /// A formatted disk in memory, of the min size under the limits 2, 1, 1, 1, 8.
-pub fn small_store(rt: &impl Abort, alloc: Global) -> Result<MemoryDisk, Fail> {
-    let mut disk = zeros(alloc, 238)?;
-    let limits = limits_of(2, 1, 1, 1, 8)?;
-    if format_disk(rt, &mut disk, limits, 238).is_err() {
-        return Err(Fail::new("format"));
-    }
-    Ok(disk)
-}
-
-/// The limits 2, 1, 1, 1, 8.
-pub fn small_limits(rt: &impl Abort) -> Limits {
-    let bounds = Bounds {
-        allocations: 2,
-        permissions: 1,
-        channels: 1,
-        acts: 1,
-        name_bytes: 8,
-    };
-    Limits::new(bounds).expect(rt, "limits")
+pub fn small_store(rt: &impl Abort, alloc: Global) -> MemoryDisk {
+    let mut disk = zeros(rt, alloc, 238);
+    assert!(rt; format_disk(rt, &mut disk, small_limits(rt), 238).is_ok());
+    disk
 }
 
 /// A table that a snapshot can hold.
