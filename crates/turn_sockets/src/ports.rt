@@ -28,15 +28,21 @@ pub(crate) enum Search {
     Failed,
 }
 
+/// What opens the sockets of one address.
+#[derive(Drop)]
+pub(crate) struct Binder<'a, R: Net> {
+    net: &'a R,
+    registry: Registry,
+    // The address on which sockets are bound.
+    ip: u32,
+}
+
 /// The relay ports of one address. Each port that was picked has a socket, which `poll` watches with the port as its token.
 ///
 /// The search for a free port goes on after the one that was picked last, so that it seldom takes more than one step and a
 /// port is not used again at once.
 pub struct SocketPorts<'a, R: Net, A: Allocator = Global> {
-    net: &'a R,
-    registry: Registry,
-    // The address on which sockets are bound.
-    ip: u32,
+    binder: Binder<'a, R>,
     first: u16,
     last: u16,
     // Where the next search begins.
@@ -50,9 +56,7 @@ pub struct SocketPorts<'a, R: Net, A: Allocator = Global> {
 impl<'a, R: Net, A: Allocator> Drop for SocketPorts<'a, R, A> {
     fn drop(self) {
         let SocketPorts {
-            net: _,
-            registry: _,
-            ip: _,
+            binder: _,
             first: _,
             last: _,
             next: _,
@@ -75,6 +79,101 @@ pub fn first_port(secret: &[u8; 32], ports: PortRange) -> u16
     first + (drawn % count) as u16
 }
 
+impl<'a, R: Net> Binder<'a, R> {
+    fn open(&self, port: u16) -> io::Result<UdpSocket> {
+        let at = address_of(Endpoint { ip: self.ip, port });
+        let mut socket = UdpSocket::bind(self.net, at)?;
+        self.registry
+            .register(&mut socket, Token(usize::from(port)), Interest::READABLE)?;
+        // A smaller buffer is no fault.
+        let _ = set_receive_buffer(&socket, RECEIVE_BUFFER);
+        Ok(socket)
+    }
+
+    // Binds a port that has no socket yet. False if the system refuses, as where another program has the port.
+    fn bind<A: Allocator + Copy>(
+        &self,
+        sockets: &mut BTreeMap<u16, UdpSocket, A>,
+        port: u16,
+    ) -> Result<bool, AllocError>
+        requires { get nat_cmp sockets.old port ≡ None }
+        ensures bound { result ≡ Ok true → IsBound sockets.old sockets.new port }
+        ensures refused { result ≢ Ok true → IsUnchanged sockets.old sockets.new }
+    {
+        match self.open(port) {
+            Ok(socket) => {
+                sockets.insert(port, socket)?;
+                Ok(true)
+            }
+            Err(_) => Ok(false),
+        }
+    }
+
+    // Binds the first free port from one to another, both included.
+    fn search<A: Allocator + Copy, S: PortSet>(
+        &self,
+        sockets: &mut BTreeMap<u16, UdpSocket, A>,
+        from: u16,
+        to: u16,
+        taken: &S,
+        even: bool,
+    ) -> Result<Search, AllocError>
+        ensures found { IfOk result (Searches (from, to) (S.has taken.now) even) }
+        ensures bound { IfOk result (λ search. BindsWhatIsPicked sockets.old sockets.new (found_port search)) }
+        ensures err { OnErr result (IsUnchanged sockets.old sockets.new) }
+    {
+        let mut has_failed = false;
+        for port in from..=to {
+            if even && port % 2 == 1 {
+                continue;
+            }
+            // A look-up here costs less than one in the table.
+            if sockets.contains_key(&port) {
+                has_failed = true;
+                continue;
+            }
+            if taken.has(port) {
+                continue;
+            }
+            if self.bind(sockets, port)? {
+                return Ok(Search::Found(port));
+            }
+            has_failed = true;
+        }
+        if has_failed {
+            Ok(Search::Failed)
+        } else {
+            Ok(Search::Nothing)
+        }
+    }
+
+    // Binds the first free port of a range from one of its ports on, or else the first one below.
+    fn search_around<A: Allocator + Copy, S: PortSet>(
+        &self,
+        sockets: &mut BTreeMap<u16, UdpSocket, A>,
+        range: (u16, u16),
+        next: u16,
+        taken: &S,
+        even: bool,
+    ) -> Result<Search, AllocError>
+        requires { (range.0 ≤ next) × (next ≤ range.1) }
+        ensures found { IfOk result (Searches range (S.has taken.now) even) }
+        ensures bound { IfOk result (λ search. BindsWhatIsPicked sockets.old sockets.new (found_port search)) }
+        ensures err { OnErr result (IsUnchanged sockets.old sockets.new) }
+    {
+        let (first, last) = range;
+        let upper = self.search(sockets, next, last, taken, even)?;
+        if let Search::Found(_) = upper {
+            return Ok(upper);
+        }
+        let lower = self.search(sockets, first, next, taken, even)?;
+        match lower {
+            Search::Nothing => Ok(upper),
+            Search::Found(_) | Search::Failed => Ok(lower),
+        }
+    }
+}
+
 impl<'a, R: Net, A: Allocator + Copy> SocketPorts<'a, R, A> {
     /// The ports of a range, none of which is bound yet. Sockets are bound on the address and watched by the registry.
     pub fn new(
@@ -93,9 +192,7 @@ impl<'a, R: Net, A: Allocator + Copy> SocketPorts<'a, R, A> {
     {
         let (first, last) = ports.range();
         SocketPorts {
-            net,
-            registry,
-            ip,
+            binder: Binder { net, registry, ip },
             first,
             last,
             next: first_port(secret, ports),
@@ -111,23 +208,13 @@ impl<'a, R: Net, A: Allocator + Copy> SocketPorts<'a, R, A> {
         self.sockets.get(&port)
     }
 
-    fn open(&self, port: u16) -> io::Result<UdpSocket> {
-        let at = address_of(Endpoint { ip: self.ip, port });
-        let mut socket = UdpSocket::bind(self.net, at)?;
-        self.registry
-            .register(&mut socket, Token(usize::from(port)), Interest::READABLE)?;
-        // A smaller buffer is no fault.
-        let _ = set_receive_buffer(&socket, RECEIVE_BUFFER);
-        Ok(socket)
-    }
-
     /// Whether the address is one of this machine: a socket is bound at it, at any port, and released.
     pub fn has_address(&self) -> bool {
         let at = address_of(Endpoint {
-            ip: self.ip,
+            ip: self.binder.ip,
             port: 0,
         });
-        UdpSocket::bind(self.net, at).is_ok()
+        UdpSocket::bind(self.binder.net, at).is_ok()
     }
 
     /// Binds a port that has no socket yet, also outside the range. False if the system refuses, as where another program has
@@ -141,13 +228,7 @@ impl<'a, R: Net, A: Allocator + Copy> SocketPorts<'a, R, A> {
         ensures bound { result ≡ Ok true → IsBound self.old.sockets self.new.sockets port }
         ensures refused { result ≢ Ok true → IsUnchanged self.old.sockets self.new.sockets }
     {
-        match self.open(port) {
-            Ok(socket) => {
-                self.sockets.insert(port, socket)?;
-                Ok(true)
-            }
-            Err(_) => Ok(false),
-        }
+        self.binder.bind(&mut self.sockets, port)
     }
 
     // The next search begins after this port of the range.
@@ -164,47 +245,6 @@ impl<'a, R: Net, A: Allocator + Copy> SocketPorts<'a, R, A> {
         } else {
             self.first
         };
-    }
-
-    // Binds the first free port from one to another, both included.
-    fn search<S: PortSet>(
-        &mut self,
-        from: u16,
-        to: u16,
-        taken: &S,
-        even: bool,
-    ) -> Result<Search, AllocError>
-        ensures first { self.new.first ≡ self.old.first }
-        ensures last { self.new.last ≡ self.old.last }
-        ensures next { self.new.next ≡ self.old.next }
-        ensures count { self.new.failures ≡ self.old.failures }
-        ensures found { IfOk result (Searches (from, to) (S.has taken.now) even) }
-        ensures bound { IfOk result (λ search. BindsWhatIsPicked self.old.sockets self.new.sockets (found_port search)) }
-        ensures err { OnErr result (IsUnchanged self.old.sockets self.new.sockets) }
-    {
-        let mut has_failed = false;
-        for port in from..=to {
-            if even && port % 2 == 1 {
-                continue;
-            }
-            // A look-up here costs less than one in the table.
-            if self.sockets.contains_key(&port) {
-                has_failed = true;
-                continue;
-            }
-            if taken.has(port) {
-                continue;
-            }
-            if self.bind(port)? {
-                return Ok(Search::Found(port));
-            }
-            has_failed = true;
-        }
-        if has_failed {
-            Ok(Search::Failed)
-        } else {
-            Ok(Search::Nothing)
-        }
     }
 }
 
@@ -229,20 +269,21 @@ impl<'a, R: Net, A: Allocator + Copy> RelayAddressGenerator for SocketPorts<'a, 
         ensures bound { IfOk result (BindsWhatIsPicked self.old.sockets self.new.sockets) }
         ensures err { OnErr result (IsUnchanged self.old.sockets self.new.sockets) }
     {
-        let upper = self.search(self.next, self.last, taken, even)?;
-        if let Search::Found(port) = upper {
-            self.go_on_after(port);
-            return Ok(Some(port));
+        let range = (self.first, self.last);
+        let search = self
+            .binder
+            .search_around(&mut self.sockets, range, self.next, taken, even)?;
+        match search {
+            Search::Found(port) => {
+                self.go_on_after(port);
+                Ok(Some(port))
+            }
+            Search::Nothing => Ok(None),
+            Search::Failed => {
+                self.failures = self.failures.wrapping_add(1);
+                Ok(None)
+            }
         }
-        let lower = self.search(self.first, self.next, taken, even)?;
-        if let Search::Found(port) = lower {
-            self.go_on_after(port);
-            return Ok(Some(port));
-        }
-        if matches!(upper, Search::Failed) || matches!(lower, Search::Failed) {
-            self.failures = self.failures.wrapping_add(1);
-        }
-        Ok(None)
     }
 
     /// Closes the socket of a port.

@@ -1,12 +1,11 @@
 use Rattle.std.proofs.Common.{◌≡◌, ◌≤◌, ◌⊎◌, ℕ, true}
 use Rattle.std.specs.BTreeMap.{IsUnchanged}
 use Rattle.turn_ports.specs.Ports.{IsFree}
-use Rattle.turn_sockets.proofs.ports.SocketPorts.search.Given as goal
+use Rattle.turn_sockets.proofs.ports.Binder.search.Given as goal
 
 -- nothing has changed, and no free port was passed over unless it was noted
 abbrev pub invariant-loop-port : goal.invariant-loop-port
 invariant-loop-port g l =
-    (l.self.first ≡ l.initial.self.first) × (l.self.last ≡ l.initial.self.last) × (l.self.next ≡ l.initial.self.next)
-    × (l.self.failures ≡ l.initial.self.failures) × IsUnchanged l.initial.self.sockets l.self.sockets
+    IsUnchanged l.initial.sockets l.sockets
     × ((l.has_failed ≡ true)
     ⊎ ((other : ℕ) → IsFree (l.from, l.to) (g.S.PortSet.has l.taken) l.even other → l.port-counter ≤ other))
