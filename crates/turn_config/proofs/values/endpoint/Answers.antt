@@ -1,4 +1,4 @@
-use Rattle.std.proofs.Common.{ℕ, List, ap, sym, ◌∙◌}
+use Rattle.std.proofs.Common.{ℕ, List, ap, sym, ◌∙◌, rules}
 use Rattle.turn_config.specs.Values.{number_of}
 use Rattle.turn_config.proofs.Splits.{no_split}
 use Rattle.turn_config.proofs.Addresses.{colon, same_endpoint}
@@ -17,6 +17,9 @@ pub returns-in_err-port-clause-only : goal.returns-in_err-port-clause-only
 returns-in_err-port-clause-only c endpoint n =
     let parts = colon _ _ _ endpoint n c.in_ok-address.ensures.parts c.in_ok-address.ensures.first in
     absurd (c.in_err-port.ensures (rw parts.1 n.number))
+
+pub returns-clause-found : goal.returns-clause-found
+returns-clause-found c = search rules
 
 pub returns-clause-only : goal.returns-clause-only
 returns-clause-only c endpoint n =
