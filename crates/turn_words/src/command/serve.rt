@@ -11,6 +11,9 @@ use clap::ArgMatches;
 use std::alloc::{AllocError, Global};
 use turn_config::values::{ip, number};
 
+/// How many datagrams of a socket may be taken in a turn.
+const MAX_BURST: u64 = 64;
+
 pub fn serve_command<'a>(alloc: Global) -> Result<clap::Command<'a>, AllocError> {
     clap::Command::new(alloc, "serve")
         .arg(option(alloc, "config").required(true))?
@@ -39,7 +42,7 @@ fn burst_in(text: Option<&[u8]>) -> Option<u8>
         return Some(1);
     };
     let burst = number(text)?;
-    if 1 <= burst && burst <= 64 {
+    if 1 <= burst && burst <= MAX_BURST {
         Some(burst as u8)
     } else {
         None
