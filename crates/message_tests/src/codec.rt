@@ -1,7 +1,7 @@
 //! Tests of `turn_codec`.
 
 use refusing::Refusing;
-use std::alloc::Allocator;
+use std::alloc::{AllocError, Global};
 use std::test::Fail;
 use turn_codec::{
     AttributeType, Builder, ChannelData, Malformed, Message, PushError, read_xor_address,
@@ -58,8 +58,8 @@ fn a_header_is_read(rt: HostRuntime) -> Result<(), Fail> {
     let message = Message::parse(&REQUEST)?;
     assert!(rt; message.as_bytes() == REQUEST.as_slice());
     assert!(rt; message.tx() == ID);
-    for (first, second, class, method) in TYPES {
-        assert!(rt; reads_the_type(first, second, class, method));
+    for (first, second, class, method) in &TYPES {
+        assert!(rt; reads_the_type(*first, *second, *class, *method));
     }
     Ok(())
 }
@@ -98,8 +98,8 @@ fn what_is_no_message_is_refused_by_its_first_fault(rt: HostRuntime) {
     assert!(rt; fault_of(&[0xFF; 19]) == Some(Malformed::Short));
     assert!(rt; fault_of(&[0xFF; 20]) == Some(Malformed::NotStun));
     assert!(rt; fault_of(&LONGER) == Some(Malformed::BadLength));
-    for (place, byte, fault) in FAULTS {
-        assert!(rt; fault_with(place, byte) == Some(fault));
+    for (place, byte, fault) in &FAULTS {
+        assert!(rt; fault_with(*place, *byte) == Some(*fault));
     }
 }
 
@@ -112,14 +112,19 @@ fn faults_are_printed(rt: HostRuntime) -> Result<(), Fail> {
     Ok(())
 }
 
-/// How many bytes the user's name is read to have, in a message with 4 bytes after its attribute's header.
+/// A request with a user's name of no bytes, and 4 bytes after it.
+const NAMED: [u8; 28] =
+    *b"\x00\x01\x00\x08\x21\x12\xa4\x42\x01\x02\x03\x04\x05\x06\x07\x08\x09\x0a\x0b\x0c\
+    \x00\x06\x00\x00\xee\xee\xee\xee";
+
+/// How many bytes the name is read to have where its attribute has another length.
 fn name_size(size: u8) -> Result<Option<usize>, Malformed> {
-    let mut bytes = [0xEE; 28];
-    bytes[..20].copy_from_slice(&REQUEST);
-    bytes[3] = 8;
-    bytes[20..24].copy_from_slice(&[0, 6, 0, size]);
-    let message = Message::parse(&bytes)?;
-    Ok(message.find(AttributeType::USERNAME).map(|name| name.len()))
+    let mut bytes = NAMED;
+    bytes[23] = size;
+    match Message::parse(&bytes)?.find(AttributeType::USERNAME) {
+        Some(name) => Ok(Some(name.len())),
+        None => Ok(None),
+    }
 }
 
 #[test]
@@ -170,15 +175,29 @@ fn what_follows_the_integrity_is_not_seen(rt: HostRuntime) -> Result<(), Fail> {
     Ok(())
 }
 
+fn locates_the_integrity(message: &Message<'_>) -> bool {
+    match message.before_integrity() {
+        Some(integrity) => {
+            integrity.front == &SIGNED[..36]
+                && integrity.value == b"ABCDEFGHIJKLMNOPQRST".as_slice()
+                && !integrity.is_last
+        }
+        None => false,
+    }
+}
+
+fn is_realm_last(message: &Message<'_>) -> bool {
+    match message.locate(AttributeType::REALM) {
+        Some(realm) => realm.is_last,
+        None => false,
+    }
+}
+
 #[test]
 fn the_integrity_is_located(rt: HostRuntime) -> Result<(), Fail> {
     let message = Message::parse(&SIGNED)?;
-    let integrity = message.before_integrity().ok_or("an integrity")?;
-    assert!(rt; integrity.front == &SIGNED[..36]);
-    assert!(rt; integrity.value == b"ABCDEFGHIJKLMNOPQRST".as_slice());
-    assert!(rt; !integrity.is_last);
-    let realm = message.locate(AttributeType::REALM).ok_or("a realm")?;
-    assert!(rt; realm.is_last);
+    assert!(rt; locates_the_integrity(&message));
+    assert!(rt; is_realm_last(&message));
     assert!(rt; Message::parse(&REQUEST)?.before_integrity().is_none());
     Ok(())
 }
@@ -201,8 +220,8 @@ const UNDERSTOOD: [(u16, bool); 12] = [
 
 #[test]
 fn unknown_types_are_told_from_known_and_optional_ones(rt: HostRuntime) {
-    for (number, is_unknown) in UNDERSTOOD {
-        assert!(rt; AttributeType::new(number).is_unknown() == is_unknown);
+    for (number, is_unknown) in &UNDERSTOOD {
+        assert!(rt; AttributeType::new(*number).is_unknown() == *is_unknown);
     }
 }
 
@@ -230,8 +249,8 @@ const KINDS: [(AttributeType, u16); 19] = [
 
 #[test]
 fn types_have_the_numbers_of_the_standards(rt: HostRuntime) {
-    for (kind, number) in KINDS {
-        assert!(rt; kind.number() == number);
+    for (kind, number) in &KINDS {
+        assert!(rt; kind.number() == *number);
     }
 }
 
@@ -277,20 +296,22 @@ const NO_ADDRESSES: [&[u8]; 6] = [
 
 #[test]
 fn a_malformed_address_is_none(rt: HostRuntime) {
-    for value in NO_ADDRESSES {
+    for value in &NO_ADDRESSES {
         assert!(rt; read_xor_address(value, ID).is_none());
     }
 }
 
 /// Whether a value of so many bytes is refused as too long.
-fn is_too_long<A: Allocator + Copy, B: Allocator>(
-    alloc: B,
-    builder: &mut Builder<A>,
+fn is_too_long(
+    alloc: Global,
+    builder: &mut Builder<&Refusing<Global>>,
     size: usize,
-) -> Result<bool, Fail> {
+) -> Result<bool, AllocError> {
     let value = vec![in alloc; 0u8; size]?;
     Ok(builder.push(AttributeType::DATA, &value) == Err(PushError::TooLong))
 }
+
+const TOO_LONG: [usize; 4] = [65_529, 65_532, 65_535, 65_536];
 
 #[test]
 fn a_value_that_is_too_long_is_refused_before_memory_is_asked_for(
@@ -299,26 +320,55 @@ fn a_value_that_is_too_long_is_refused_before_memory_is_asked_for(
     let refusing = Refusing::new(rt.alloc(), u64::MAX);
     let mut builder = Builder::new(&refusing, Class::Request, Method::SEND, ID)?;
     refusing.arm(0);
-    assert!(rt; is_too_long(rt.alloc(), &mut builder, 65_529)?);
-    assert!(rt; is_too_long(rt.alloc(), &mut builder, 65_532)?);
-    assert!(rt; is_too_long(rt.alloc(), &mut builder, 65_535)?);
-    assert!(rt; is_too_long(rt.alloc(), &mut builder, 65_536)?);
+    for size in &TOO_LONG {
+        assert!(rt; is_too_long(rt.alloc(), &mut builder, *size)?);
+    }
     Ok(())
+}
+
+/// A value as long as a message has room for: the numbers below 32,764, so that bytes in a wrong place are found.
+fn longest_value(alloc: Global) -> Result<Vec<u8>, AllocError> {
+    let mut value = Vec::with_capacity(alloc, 65_528)?;
+    for number in 0..32_764u16 {
+        value.extend_from_slice(&number.to_be_bytes())?;
+    }
+    Ok(value)
+}
+
+/// Whether a push of an attribute has an outcome, after which the message has a size.
+fn has_outcome(
+    builder: &mut Builder<&Refusing<Global>>,
+    kind: AttributeType,
+    value: &[u8],
+    outcome: Result<(), PushError>,
+    size: usize,
+) -> bool {
+    builder.push(kind, value) == outcome && builder.as_bytes().len() == size
+}
+
+fn has_the_data(bytes: &[u8], data: &[u8]) -> bool {
+    match Message::parse(bytes) {
+        Ok(message) => message.find(AttributeType::DATA) == Some(data),
+        Err(_) => false,
+    }
+}
+
+/// Whether a value fills a message, after its growth is refused once.
+fn fills(builder: &mut Builder<&Refusing<Global>>, value: &[u8]) -> bool {
+    let (data, more) = (AttributeType::DATA, AttributeType::EVEN_PORT);
+    has_outcome(builder, data, value, Err(PushError::Memory), 20)
+        && has_outcome(builder, data, value, Ok(()), 65_552)
+        && has_outcome(builder, more, &[], Err(PushError::TooLong), 65_552)
 }
 
 #[test]
 fn the_longest_message_is_written(rt: HostRuntime) -> Result<(), Fail> {
+    let value = longest_value(rt.alloc())?;
     let refusing = Refusing::new(rt.alloc(), u64::MAX);
     let mut builder = Builder::new(&refusing, Class::Request, Method::SEND, ID)?;
     refusing.arm(0);
-    let value = vec![in rt.alloc(); 0u8; 65_528]?;
-    assert!(rt; builder.push(AttributeType::DATA, &value) == Err(PushError::Memory));
-    assert!(rt; builder.as_bytes().len() == 20);
-    builder.push(AttributeType::DATA, &value)?;
-    assert!(rt; builder.push(AttributeType::EVEN_PORT, &[]) == Err(PushError::TooLong));
-    let bytes = builder.finish();
-    assert!(rt; bytes.len() == 65_552);
-    assert!(rt; Message::parse(&bytes).is_ok());
+    assert!(rt; fills(&mut builder, &value));
+    assert!(rt; has_the_data(&builder.finish(), &value));
     Ok(())
 }
 
@@ -329,32 +379,38 @@ fn a_message_takes_memory_twice(rt: HostRuntime) -> Result<(), Fail> {
     refusing.arm(1);
     let mut builder = Builder::new(&refusing, Class::Error, Method::REFRESH, ID)?;
     assert!(rt; refusing.left() == 0);
-    assert!(rt; builder.push(AttributeType::REALM, b"example.org") == Err(PushError::Memory));
-    assert!(rt; builder.as_bytes().len() == 20);
-    refusing.arm(0);
     assert!(rt;
         builder
             .push_fitting(AttributeType::REALM, b"example.org")
             .is_err()
     );
     assert!(rt; builder.as_bytes().len() == 20);
+    let (kind, value) = (AttributeType::REALM, b"example.org");
+    refusing.arm(0);
+    assert!(rt; has_outcome(&mut builder, kind, value, Err(PushError::Memory), 20));
     refusing.arm(1);
-    builder.push(AttributeType::REALM, b"example.org")?;
-    assert!(rt; builder.as_bytes().len() == 36);
+    assert!(rt; has_outcome(&mut builder, kind, value, Ok(()), 36));
     assert!(rt; !refusing.has_refused());
     Ok(())
 }
+
+/// Attributes, and what their pushes return after one another where the message has room for 24 bytes and no more memory
+/// at first.
+const PUSHES: [(AttributeType, &[u8], Result<(), PushError>, usize); 4] = [
+    (AttributeType::REALM, b"example.org", Ok(()), 36),
+    (AttributeType::LIFETIME, &[0, 0, 2, 88], Ok(()), 44),
+    (AttributeType::EVEN_PORT, &[0], Err(PushError::Memory), 44),
+    (AttributeType::EVEN_PORT, &[0], Ok(()), 52),
+];
 
 #[test]
 fn a_message_with_a_capacity_takes_memory_once(rt: HostRuntime) -> Result<(), Fail> {
     let refusing = Refusing::new(rt.alloc(), 1);
     let mut builder = Builder::with_capacity(&refusing, Class::Request, Method::ALLOCATE, ID, 24)?;
-    builder.push(AttributeType::REALM, b"example.org")?;
-    builder.push(AttributeType::LIFETIME, &[0, 0, 2, 88])?;
-    assert!(rt; !refusing.has_refused());
-    assert!(rt; builder.push(AttributeType::EVEN_PORT, &[0]) == Err(PushError::Memory));
-    assert!(rt; builder.as_bytes().len() == 44);
-    builder.push(AttributeType::EVEN_PORT, &[0])?;
+    assert!(rt; refusing.left() == 0);
+    for (kind, value, outcome, size) in &PUSHES {
+        assert!(rt; has_outcome(&mut builder, *kind, value, *outcome, *size));
+    }
     assert!(rt; builder.finish().len() == 52);
     Ok(())
 }
@@ -374,13 +430,19 @@ const NO_CHANNEL_DATA: [&[u8]; 5] = [
     b"\x80\x00\x00\x00",
 ];
 
+fn reads_channel_data(bytes: &[u8], number: u16, payload: &[u8]) -> bool {
+    match ChannelData::parse(bytes) {
+        Some(data) => data.number == number && data.payload == payload,
+        None => false,
+    }
+}
+
 #[test]
 fn channel_data_is_read(rt: HostRuntime) {
-    for (bytes, number, payload) in CHANNEL_DATA {
-        let read = ChannelData::parse(bytes).map(|data| (data.number, data.payload));
-        assert!(rt; read == Some((number, payload)));
+    for (bytes, number, payload) in &CHANNEL_DATA {
+        assert!(rt; reads_channel_data(bytes, *number, payload));
     }
-    for bytes in NO_CHANNEL_DATA {
+    for bytes in &NO_CHANNEL_DATA {
         assert!(rt; ChannelData::parse(bytes).is_none());
     }
 }

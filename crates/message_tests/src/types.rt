@@ -1,7 +1,7 @@
 //! Tests of `turn_types`.
 
 use refusing::Refusing;
-use std::alloc::Allocator;
+use std::alloc::Global;
 use std::test::Fail;
 use turn_types::{
     Bounds, ConfigError, Endpoint, ErrorCode, FiveTuple, IpRange, Limits, Method, Moment,
@@ -65,8 +65,8 @@ const METHODS: [(Method, u16); 7] = [
 fn methods_have_12_bits(rt: HostRuntime) {
     assert!(rt; Method::new(0x0FFF).map(Method::number) == Some(0x0FFF));
     assert!(rt; Method::new(0x1000).is_none());
-    for (method, number) in METHODS {
-        assert!(rt; method.number() == number);
+    for (method, number) in &METHODS {
+        assert!(rt; method.number() == *number);
     }
 }
 
@@ -112,13 +112,13 @@ fn limits_are_bounds_in_range(rt: HostRuntime) {
     assert!(rt; Limits::default() == Limits::MAX);
     assert!(rt; Limits::MAX.bounds() == MAX_BOUNDS);
     assert!(rt; Limits::new(MIN_BOUNDS).map(|limits| limits.bounds()) == Some(MIN_BOUNDS));
-    for (allocations, permissions, channels, acts, name_bytes) in OUT_OF_RANGE {
+    for (allocations, permissions, channels, acts, name_bytes) in &OUT_OF_RANGE {
         let bounds = Bounds {
-            allocations,
-            permissions,
-            channels,
-            acts,
-            name_bytes,
+            allocations: *allocations,
+            permissions: *permissions,
+            channels: *channels,
+            acts: *acts,
+            name_bytes: *name_bytes,
         };
         assert!(rt; Limits::new(bounds).is_none());
     }
@@ -152,7 +152,7 @@ const SETTINGS: Settings<'static> = Settings {
     limits: Limits::MAX,
 };
 
-fn holds_the_settings<A: Allocator>(config: &ServerConfig<A>) -> bool {
+fn holds_the_settings(config: &ServerConfig) -> bool {
     config.realm() == b"example.org".as_slice()
         && *config.secret() == [7; 32]
         && config.relay() == 0xC633_6401
@@ -170,10 +170,13 @@ const ADDRESSES: [(u32, bool); 6] = [
     (0x0B00_0000, false),
 ];
 
-fn denies_the_addresses<A: Allocator>(config: &ServerConfig<A>) -> bool {
-    ADDRESSES
-        .iter()
-        .all(|(ip, denied)| config.is_denied(*ip) == *denied)
+fn denies_the_addresses(config: &ServerConfig) -> bool {
+    for (ip, denied) in &ADDRESSES {
+        if config.is_denied(*ip) != *denied {
+            return false;
+        }
+    }
+    true
 }
 
 #[test]
@@ -208,27 +211,28 @@ const FAULTS: [(&[u8], u32, &[IpRange], ConfigError); 7] = [
     (b"a", 1, &MOST, ConfigError::Memory),
 ];
 
-/// The fault of a realm, a quota and ranges where there is no memory.
-fn fault_of<A: Allocator>(
-    alloc: A,
+/// The fault of a realm, a quota and ranges.
+fn fault_of(
+    refusing: &Refusing<Global>,
     realm: &[u8],
     quota: u32,
     denied: &[IpRange],
 ) -> Option<ConfigError> {
-    let refusing = Refusing::new(alloc, 0);
     let settings = Settings {
         realm,
         quota,
         denied,
         ..SETTINGS
     };
-    ServerConfig::new(&refusing, settings).err()
+    ServerConfig::new(refusing, settings).err()
 }
 
 #[test]
 fn a_configuration_is_refused_by_its_first_fault(rt: HostRuntime) {
-    for (realm, quota, denied, fault) in FAULTS {
-        assert!(rt; fault_of(rt.alloc(), realm, quota, denied) == Some(fault));
+    let refusing = Refusing::new(rt.alloc(), 0);
+    for (realm, quota, denied, fault) in &FAULTS {
+        refusing.arm(0);
+        assert!(rt; fault_of(&refusing, realm, *quota, denied) == Some(*fault));
     }
 }
 
@@ -239,36 +243,33 @@ fn faults_of_configurations_are_printed(rt: HostRuntime) -> Result<(), Fail> {
     Ok(())
 }
 
-/// Whether a configuration is refused for memory at the growth after so many others, and made by a second call.
-fn is_refused_once<A: Allocator>(alloc: A, served: u64) -> bool {
-    let refusing = Refusing::new(alloc, served);
-    matches!(
-        ServerConfig::new(&refusing, SETTINGS),
-        Err(ConfigError::Memory)
-    ) && ServerConfig::new(&refusing, SETTINGS).is_ok()
+/// The fault of settings that are in range.
+fn fault_of_settings(refusing: &Refusing<Global>) -> Option<ConfigError> {
+    fault_of(refusing, SETTINGS.realm, SETTINGS.quota, SETTINGS.denied)
 }
 
-/// The same of a copy.
-fn is_copy_refused_once<A: Allocator, B: Allocator>(
-    config: &ServerConfig<A>,
-    alloc: B,
-    served: u64,
-) -> bool {
-    let refusing = Refusing::new(alloc, served);
-    config.try_clone(&refusing).is_err() && config.try_clone(&refusing).is_ok()
+/// Whether a copy is refused.
+fn is_copy_refused(config: &ServerConfig, refusing: &Refusing<Global>) -> bool {
+    config.try_clone(refusing).is_err()
 }
 
 #[test]
 fn a_configuration_takes_memory_twice(rt: HostRuntime) -> Result<(), Fail> {
-    assert!(rt; is_refused_once(rt.alloc(), 0));
-    assert!(rt; is_refused_once(rt.alloc(), 1));
-    let refusing = Refusing::new(rt.alloc(), 2);
-    let config = ServerConfig::new(&refusing, SETTINGS)?;
-    assert!(rt; !refusing.has_refused());
-    assert!(rt; is_copy_refused_once(&config, rt.alloc(), 0));
-    assert!(rt; is_copy_refused_once(&config, rt.alloc(), 1));
+    let config = ServerConfig::new(rt.alloc(), SETTINGS)?;
+    let refusing = Refusing::new(rt.alloc(), 0);
+    for served in 0..2u64 {
+        refusing.arm(served);
+        assert!(rt; fault_of_settings(&refusing) == Some(ConfigError::Memory));
+        assert!(rt; fault_of_settings(&refusing).is_none());
+        refusing.arm(served);
+        assert!(rt; is_copy_refused(&config, &refusing));
+        assert!(rt; !is_copy_refused(&config, &refusing));
+    }
     refusing.arm(2);
-    assert!(rt; config.try_clone(&refusing).is_ok());
+    assert!(rt; fault_of_settings(&refusing).is_none());
+    assert!(rt; !refusing.has_refused());
+    refusing.arm(2);
+    assert!(rt; !is_copy_refused(&config, &refusing));
     assert!(rt; !refusing.has_refused());
     Ok(())
 }
@@ -300,7 +301,7 @@ fn are_ordered(first: FiveTuple, last: FiveTuple) -> bool {
 
 #[test]
 fn five_tuples_are_ordered_by_client_then_server(rt: HostRuntime) {
-    for [first, last] in ORDERED {
-        assert!(rt; are_ordered(tuple(first), tuple(last)));
+    for [first, last] in &ORDERED {
+        assert!(rt; are_ordered(tuple(*first), tuple(*last)));
     }
 }

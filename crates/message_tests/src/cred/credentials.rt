@@ -1,6 +1,6 @@
 use Part::*;
 use refusing::Refusing;
-use std::alloc::Allocator;
+use std::alloc::{Allocator, Global};
 use std::test::Fail;
 use turn_codec::{AttributeType, Builder, Message};
 use turn_cred::{AuthHandler, Checker, Nonces, Users, Verdict};
@@ -27,7 +27,7 @@ const OF_4600: &[u8; 80] = b"00000000000011f8ae82317d7fa01e5b4dea76ec\
     0af7675c3d730e4c24cd95884b20b252480d4278";
 
 /// The realm is `example.org`, the secret is zeros, and a user's name has at most eight bytes.
-pub fn config<A: Allocator + Copy>(alloc: A) -> Result<ServerConfig<A>, Fail> {
+pub fn config(alloc: Global) -> Result<ServerConfig, Fail> {
     let limits = Limits::new(Bounds {
         allocations: 1,
         permissions: 1,
@@ -36,42 +36,49 @@ pub fn config<A: Allocator + Copy>(alloc: A) -> Result<ServerConfig<A>, Fail> {
         name_bytes: 8,
     })
     .ok_or("limits")?;
-    let config = ServerConfig::new(
-        alloc,
-        Settings {
-            realm: b"example.org",
-            secret: [0; 32],
-            relay: 0,
-            quota: 2,
-            denied: &[],
-            limits,
-        },
-    );
-    Ok(config.map_err(|_| "a configuration")?)
+    let settings = Settings {
+        realm: b"example.org",
+        secret: [0; 32],
+        relay: 0,
+        quota: 2,
+        denied: &[],
+        limits,
+    };
+    Ok(ServerConfig::new(alloc, settings)?)
 }
 
 /// Bob, and others who have Alice's key.
-fn users<A: Allocator + Copy>(alloc: A) -> Result<Users<A>, Fail> {
+const USERS: [(&[u8], [u8; 16]); 5] = [
+    (b"alice", ALICE),
+    (b"bob", BOB),
+    (b"", ALICE),
+    (b"eightest", ALICE),
+    (b"ninebytes", ALICE),
+];
+
+fn users(alloc: Global) -> Result<Users, Fail> {
     let mut users = Users::new(alloc);
-    users.add(b"alice", ALICE)?;
-    users.add(b"bob", BOB)?;
-    users.add(b"", ALICE)?;
-    users.add(b"eightest", ALICE)?;
-    users.add(b"ninebytes", ALICE)?;
+    for (name, key) in &USERS {
+        users.add(name, *key)?;
+    }
     Ok(users)
 }
 
-fn checker<A: Allocator + Copy>(alloc: A) -> Result<Checker<Users<A>, A>, Fail> {
-    let checker = Checker::new(alloc, &config(alloc)?, users(alloc)?);
-    Ok(checker.map_err(|_| "a checker")?)
+fn checker(alloc: Global) -> Result<Checker<Users>, Fail> {
+    match Checker::new(alloc, &config(alloc)?, users(alloc)?) {
+        Ok(checker) => Ok(checker),
+        Err(_) => Err(Fail::new("a checker")),
+    }
 }
 
 /// An attribute of a request.
 #[derive(Clone, Copy)]
-enum Part {
+pub enum Part {
     Alice,
     Bob,
     Carol,
+    /// A name of two bytes.
+    Numbered([u8; 2]),
     NoName,
     EightBytes,
     NineBytes,
@@ -89,7 +96,7 @@ enum Part {
 }
 
 /// Adds MESSAGE-INTEGRITY to a message that has none.
-pub fn sign<A: Allocator + Copy>(builder: &mut Builder<A>, key: &[u8; 16]) -> Result<(), Fail> {
+fn sign<A: Allocator + Copy>(builder: &mut Builder<A>, key: &[u8; 16]) -> Result<(), Fail> {
     let message = Message::parse(builder.as_bytes())?;
     let None = message.before_integrity() else {
         return Err("a second integrity")?;
@@ -98,11 +105,12 @@ pub fn sign<A: Allocator + Copy>(builder: &mut Builder<A>, key: &[u8; 16]) -> Re
     Ok(())
 }
 
-fn add<A: Allocator + Copy>(builder: &mut Builder<A>, part: Part) -> Result<(), Fail> {
+fn add(builder: &mut Builder, part: &Part) -> Result<(), Fail> {
     let (kind, value) = match part {
         Alice => (AttributeType::USERNAME, b"alice".as_slice()),
         Bob => (AttributeType::USERNAME, b"bob".as_slice()),
         Carol => (AttributeType::USERNAME, b"carol".as_slice()),
+        Numbered(name) => (AttributeType::USERNAME, name.as_slice()),
         NoName => (AttributeType::USERNAME, b"".as_slice()),
         EightBytes => (AttributeType::USERNAME, b"eightest".as_slice()),
         NineBytes => (AttributeType::USERNAME, b"ninebytes".as_slice()),
@@ -115,21 +123,23 @@ fn add<A: Allocator + Copy>(builder: &mut Builder<A>, part: Part) -> Result<(), 
         NoNonce => (AttributeType::NONCE, b"".as_slice()),
         Sha256 => (AttributeType::new(0x001C), [0; 32].as_slice()),
         Zeros => (AttributeType::MESSAGE_INTEGRITY, [0; 20].as_slice()),
-        Signed(key) => return sign(builder, &key),
+        Signed(key) => return sign(builder, key),
     };
     Ok(builder.push(kind, value)?)
 }
 
-/// A Refresh request, with these parts and those after them.
-fn request<A: Allocator + Copy>(
-    alloc: A,
-    parts: &[Part],
-    after: &[Part],
-) -> Result<Vec<u8, A>, Fail> {
-    let mut builder = Builder::new(alloc, Class::Request, Method::REFRESH, TxId([9; 12]))?;
-    for part in parts.iter().chain(after) {
-        add(&mut builder, *part)?;
+fn add_all(builder: &mut Builder, parts: &[Part]) -> Result<(), Fail> {
+    for part in parts {
+        add(builder, part)?;
     }
+    Ok(())
+}
+
+/// A Refresh request, with these parts and those after them.
+pub fn request(alloc: Global, parts: &[Part], after: &[Part]) -> Result<Vec<u8>, Fail> {
+    let mut builder = Builder::new(alloc, Class::Request, Method::REFRESH, TxId([9; 12]))?;
+    add_all(&mut builder, parts)?;
+    add_all(&mut builder, after)?;
     Ok(builder.finish())
 }
 
@@ -152,13 +162,23 @@ const PASSED: u16 = 0;
 /// A second, the code of a request at that second, and the request's attributes.
 type Row = (u64, u16, &'static [Part]);
 
+/// The code of a request from a client at a second.
+fn code_at(
+    checker: &mut Checker<Users>,
+    bytes: &[u8],
+    client: Endpoint,
+    second: u64,
+) -> Result<u16, Fail> {
+    let message = Message::parse(bytes)?;
+    Ok(code_of(checker.check(&message, client, at(second)?)))
+}
+
 /// Checks the requests of the client, each with some parts more after its own.
-fn play<A: Allocator + Copy>(alloc: A, rows: &[Row], after: &[Part]) -> Result<(), Fail> {
+fn play(alloc: Global, rows: &[Row], after: &[Part]) -> Result<(), Fail> {
     let mut checker = checker(alloc)?;
     for (second, code, parts) in rows {
         let bytes = request(alloc, parts, after)?;
-        let message = Message::parse(&bytes)?;
-        if code_of(checker.check(&message, CLIENT, at(*second)?)) != *code {
+        if code_at(&mut checker, &bytes, CLIENT, *second)? != *code {
             return Err(Fail::new("the outcome of a request"));
         }
     }
@@ -270,33 +290,47 @@ fn a_verdict_names_the_user_and_the_key(rt: HostRuntime) -> Result<(), Fail> {
     Ok(())
 }
 
-/// Checks Alice's request with two values of MESSAGE-INTEGRITY.
-fn code_with<A: Allocator + Copy>(alloc: A, first: &[u8], second: &[u8]) -> Result<u16, Fail> {
+/// Alice's request with two values of MESSAGE-INTEGRITY.
+fn signed_twice(alloc: Global, first: &[u8], second: &[u8]) -> Result<Vec<u8>, Fail> {
     let mut builder = Builder::new(alloc, Class::Request, Method::REFRESH, TxId([9; 12]))?;
-    for part in [Alice, Realm, Nonce1000] {
-        add(&mut builder, part)?;
+    add_all(&mut builder, &[Alice, Realm, Nonce1000])?;
+    for value in [first, second] {
+        builder.push(AttributeType::MESSAGE_INTEGRITY, value)?;
     }
-    builder.push(AttributeType::MESSAGE_INTEGRITY, first)?;
-    builder.push(AttributeType::MESSAGE_INTEGRITY, second)?;
-    let message = Message::parse(builder.as_bytes())?;
-    Ok(code_of(checker(alloc)?.check(&message, CLIENT, at(1000)?)))
+    Ok(builder.finish())
 }
 
-// A right MESSAGE-INTEGRITY, cut, lengthened, or after another one.
+fn code_with(alloc: Global, first: &[u8], second: &[u8]) -> Result<u16, Fail> {
+    let bytes = signed_twice(alloc, first, second)?;
+    let mut checker = checker(alloc)?;
+    code_at(&mut checker, &bytes, CLIENT, 1000)
+}
+
+/// The MESSAGE-INTEGRITY of Alice's request (made with the module hmac of Python).
+const RIGHT: &[u8] = b"\x01\x83\x35\x15\xe5\xa5\x2d\xc7\x01\xd4\xf2\x1b\x71\x4a\xcc\x3d\
+    \x6d\xfe\x64\x40";
+
+/// It without its last byte, and with a byte more.
+const SHORTER: &[u8] = b"\x01\x83\x35\x15\xe5\xa5\x2d\xc7\x01\xd4\xf2\x1b\x71\x4a\xcc\x3d\
+    \x6d\xfe\x64";
+
+const LONGER: &[u8] = b"\x01\x83\x35\x15\xe5\xa5\x2d\xc7\x01\xd4\xf2\x1b\x71\x4a\xcc\x3d\
+    \x6d\xfe\x64\x40\x00";
+
+/// Two values of MESSAGE-INTEGRITY, and the code of Alice's request with them.
+const INTEGRITIES: [(&[u8], &[u8], u16); 5] = [
+    (RIGHT, &[0; 20], PASSED),
+    (&[0; 20], RIGHT, 401),
+    (SHORTER, RIGHT, 401),
+    (LONGER, RIGHT, 401),
+    (b"", RIGHT, 401),
+];
+
 #[test]
 fn an_integrity_of_another_length_is_wrong(rt: HostRuntime) -> Result<(), Fail> {
-    let signed = request(rt.alloc(), ALICES, &[])?;
-    let message = Message::parse(&signed)?;
-    let right = message.find(AttributeType::MESSAGE_INTEGRITY);
-    let right = right.ok_or("an integrity")?;
-    assert!(rt; right.len() == 20);
-    let mut longer = [0; 21];
-    longer[..20].copy_from_slice(right);
-    assert!(rt; code_with(rt.alloc(), right, &[0; 20])? == PASSED);
-    assert!(rt; code_with(rt.alloc(), &[0; 20], right)? == 401);
-    assert!(rt; code_with(rt.alloc(), &right[..19], right)? == 401);
-    assert!(rt; code_with(rt.alloc(), &longer, right)? == 401);
-    assert!(rt; code_with(rt.alloc(), b"", right)? == 401);
+    for (first, second, code) in &INTEGRITIES {
+        assert!(rt; code_with(rt.alloc(), first, second)? == *code);
+    }
     Ok(())
 }
 
@@ -312,13 +346,12 @@ const CLIENTS: [(u32, u16, u16); 4] = [
 fn the_nonce_of_another_client_is_stale(rt: HostRuntime) -> Result<(), Fail> {
     let mut checker = checker(rt.alloc())?;
     let bytes = request(rt.alloc(), ALICES, &[])?;
-    let message = Message::parse(&bytes)?;
     for (ip, port, code) in &CLIENTS {
         let client = Endpoint {
             ip: *ip,
             port: *port,
         };
-        assert!(rt; code_of(checker.check(&message, client, at(1000)?)) == *code);
+        assert!(rt; code_at(&mut checker, &bytes, client, 1000)? == *code);
     }
     Ok(())
 }
@@ -326,41 +359,31 @@ fn the_nonce_of_another_client_is_stale(rt: HostRuntime) -> Result<(), Fail> {
 // A checker accepts the nonce of a challenge.
 #[test]
 fn a_nonce_that_is_issued_holds(rt: HostRuntime) -> Result<(), Fail> {
-    let config = config(rt.alloc())?;
-    let nonce = Nonces::new(*config.secret()).issue(CLIENT, at(77)?);
+    let nonce = Nonces::new(*config(rt.alloc())?.secret()).issue(CLIENT, at(77)?);
     let mut builder = Builder::new(rt.alloc(), Class::Request, Method::ALLOCATE, TxId([9; 12]))?;
     builder.push(AttributeType::NONCE, &nonce)?;
-    for part in [Bob, Realm, Signed(BOB)] {
-        add(&mut builder, part)?;
-    }
-    let message = Message::parse(builder.as_bytes())?;
+    add_all(&mut builder, &[Bob, Realm, Signed(BOB)])?;
     let mut checker = checker(rt.alloc())?;
-    assert!(rt; code_of(checker.check(&message, CLIENT, at(77)?)) == PASSED);
+    assert!(rt; code_at(&mut checker, builder.as_bytes(), CLIENT, 77)? == PASSED);
     Ok(())
 }
 
 /// Makes a checker where the growth after so many is refused, and says whether one was. A refusal returns the handler.
-fn is_refused<A: Allocator + Copy>(alloc: A, served: u64) -> Result<bool, Fail> {
+fn is_refused(alloc: Global, served: u64) -> Result<bool, Fail> {
     let config = config(alloc)?;
+    let users = users(alloc)?;
     let refusing = Refusing::new(alloc, served);
-    let handler = match Checker::new(&refusing, &config, users(alloc)?) {
-        Ok(checker) => {
-            let is_same = checker.into_handler().key(b"bob", b"") == Some(BOB);
-            return if is_same {
-                Ok(refusing.has_refused())
-            } else {
-                Err(Fail::new("a handler"))
-            };
-        }
-        Err(refused) => refused.value,
+    let (handler, is_refused) = match Checker::new(&refusing, &config, users) {
+        Ok(checker) => (checker.into_handler(), false),
+        Err(refused) => (refused.value, true),
     };
-    if !refusing.has_refused() || handler.key(b"bob", b"") != Some(BOB) {
-        return Err(Fail::new("a refusal"));
+    if is_refused != refusing.has_refused() || handler.key(b"bob", b"") != Some(BOB) {
+        return Err(Fail::new("a handler"));
     }
-    if Checker::new(&refusing, &config, handler).is_err() {
+    if is_refused && Checker::new(&refusing, &config, handler).is_err() {
         return Err(Fail::new("a second checker"));
     }
-    Ok(true)
+    Ok(is_refused)
 }
 
 #[test]

@@ -119,10 +119,10 @@ fn other_bytes_do_not_hold(rt: HostRuntime) -> Result<(), Fail> {
     let moment = at(1000)?;
     let nonce = nonces.issue(CLIENT, moment);
     assert!(rt; nonces.holds(&nonce, CLIENT, moment));
-    for (place, byte) in OTHER_BYTES {
+    for (place, byte) in &OTHER_BYTES {
         let mut other = nonce;
-        assert!(rt; place < 80);
-        other[place] = byte;
+        assert!(rt; *place < 80);
+        other[*place] = *byte;
         assert!(rt; !nonces.holds(&other, CLIENT, moment));
     }
     for bytes in &NO_NONCES {

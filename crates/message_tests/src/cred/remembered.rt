@@ -2,23 +2,23 @@
 
 ghost use Rattle.std.specs.FinMap as map;
 
-use crate::cred::credentials::{CLIENT, OF_1000, at, code_of, config, sign};
+use crate::cred::credentials::Part::{Nonce1000, Numbered, Realm, Signed};
+use crate::cred::credentials::{CLIENT, at, code_of, config, request};
 use refusing::Refusing;
-use std::alloc::Allocator;
+use std::alloc::{Allocator, Global};
 use std::cell::Cell;
 use std::test::Fail;
-use turn_codec::{AttributeType, Builder, Message};
+use turn_codec::Message;
 use turn_cred::{AuthHandler, Checker, Users, Verdict};
-use turn_types::{Class, Method, TxId};
 
 /// Users, and how often one was asked for.
 #[derive(Drop)]
-struct Counting<A: Allocator> {
-    users: Users<A>,
+struct Counting {
+    users: Users,
     asked: Cell<u64>,
 }
 
-impl<A: Allocator> AuthHandler for Counting<A> {
+impl AuthHandler for Counting {
     ghost key_of = { λ c name _. map.get c.users name };
 
     fn key(&self, username: &[u8], realm: &[u8]) -> Option<[u8; 16]> {
@@ -36,7 +36,7 @@ fn key_of(user: u16) -> [u8; 16] {
 const KNOWN: u16 = 300;
 
 /// The users of the first numbers.
-fn known_users<A: Allocator + Copy>(alloc: A) -> Result<Counting<A>, Fail> {
+fn known_users(alloc: Global) -> Result<Counting, Fail> {
     let mut users = Users::new(alloc);
     for user in 0..KNOWN {
         users.add(&user.to_be_bytes(), key_of(user))?;
@@ -48,22 +48,11 @@ fn known_users<A: Allocator + Copy>(alloc: A) -> Result<Counting<A>, Fail> {
 }
 
 /// A checker of these users that remembers by an allocator of its own.
-fn checker<A: Allocator + Copy, B: Allocator + Copy>(
-    alloc: A,
-    inner: B,
-) -> Result<Checker<Counting<A>, B>, Fail> {
-    let checker = Checker::new(inner, &config(alloc)?, known_users(alloc)?);
-    Ok(checker.map_err(|_| "a checker")?)
-}
-
-/// A user's request, signed with a user's key.
-fn request<A: Allocator + Copy>(alloc: A, user: u16, signer: u16) -> Result<Vec<u8, A>, Fail> {
-    let mut builder = Builder::new(alloc, Class::Request, Method::REFRESH, TxId([9; 12]))?;
-    builder.push(AttributeType::USERNAME, &user.to_be_bytes())?;
-    builder.push(AttributeType::REALM, b"example.org")?;
-    builder.push(AttributeType::NONCE, OF_1000)?;
-    sign(&mut builder, &key_of(signer))?;
-    Ok(builder.finish())
+fn checker<A: Allocator + Copy>(alloc: Global, inner: A) -> Result<Checker<Counting, A>, Fail> {
+    match Checker::new(inner, &config(alloc)?, known_users(alloc)?) {
+        Ok(checker) => Ok(checker),
+        Err(_) => Err(Fail::new("a checker")),
+    }
 }
 
 /// Whether a verdict is that the user sent the request.
@@ -77,13 +66,18 @@ fn is_of(verdict: Verdict<'_>, user: u16) -> bool {
 }
 
 /// Whether a request of a user passes who is known, and no other one: under the user's own key alone.
-fn is_judged<A: Allocator + Copy, H: AuthHandler, B: Allocator + Copy>(
-    alloc: A,
-    checker: &mut Checker<H, B>,
+fn is_judged<A: Allocator + Copy>(
+    alloc: Global,
+    checker: &mut Checker<Counting, A>,
     user: u16,
     signer: u16,
 ) -> Result<bool, Fail> {
-    let bytes = request(alloc, user, signer)?;
+    let name = Numbered(user.to_be_bytes());
+    let bytes = request(
+        alloc,
+        &[name, Realm, Nonce1000, Signed(key_of(signer))],
+        &[],
+    )?;
     let message = Message::parse(&bytes)?;
     let verdict = checker.check(&message, CLIENT, at(1000)?);
     Ok(if user < KNOWN && signer == user {
@@ -94,9 +88,9 @@ fn is_judged<A: Allocator + Copy, H: AuthHandler, B: Allocator + Copy>(
 }
 
 /// Asks for users in turn, twice.
-fn ask<A: Allocator + Copy, H: AuthHandler, B: Allocator + Copy>(
-    alloc: A,
-    checker: &mut Checker<H, B>,
+fn ask<A: Allocator + Copy>(
+    alloc: Global,
+    checker: &mut Checker<Counting, A>,
     first: u16,
     end: u16,
 ) -> Result<(), Fail> {
@@ -121,7 +115,7 @@ const ASKED: [(u16, u16, u64); 6] = [
 ];
 
 /// How often the handler is asked.
-fn asked<A: Allocator + Copy>(alloc: A, first: u16, end: u16) -> Result<u64, Fail> {
+fn asked(alloc: Global, first: u16, end: u16) -> Result<u64, Fail> {
     let mut checker = checker(alloc, alloc)?;
     ask(alloc, &mut checker, first, end)?;
     Ok(checker.into_handler().asked.get())
@@ -136,11 +130,11 @@ fn the_last_256_known_users_are_remembered(rt: HostRuntime) -> Result<(), Fail> 
 }
 
 /// Whether a checker without memory for any user has the verdict of one that remembers, and asks its handler.
-fn are_alike<A: Allocator + Copy>(
-    alloc: A,
-    refusing: &Refusing<A>,
-    remembering: &mut Checker<Counting<A>, A>,
-    forgetting: &mut Checker<Counting<A>, &Refusing<A>>,
+fn are_alike(
+    alloc: Global,
+    refusing: &Refusing<Global>,
+    remembering: &mut Checker<Counting>,
+    forgetting: &mut Checker<Counting, &Refusing<Global>>,
     user: u16,
     signer: u16,
 ) -> Result<bool, Fail> {
@@ -151,37 +145,34 @@ fn are_alike<A: Allocator + Copy>(
 }
 
 /// Checks requests of users in turn, twice, under their own key and under one that isn't.
-fn stay_alike<A: Allocator + Copy>(alloc: A) -> Result<(), Fail> {
-    let refusing = Refusing::new(alloc, u64::MAX);
-    let mut remembering = checker(alloc, alloc)?;
-    let mut forgetting = checker(alloc, &refusing)?;
+fn stay_alike(
+    alloc: Global,
+    refusing: &Refusing<Global>,
+    remembering: &mut Checker<Counting>,
+    forgetting: &mut Checker<Counting, &Refusing<Global>>,
+) -> Result<(), Fail> {
     for number in 0..1240u16 {
         let (user, signer) = (number / 2 % 310, number / 2 % 310 + number % 2);
-        if !are_alike(
-            alloc,
-            &refusing,
-            &mut remembering,
-            &mut forgetting,
-            user,
-            signer,
-        )? {
+        if !are_alike(alloc, refusing, remembering, forgetting, user, signer)? {
             return Err(Fail::new("another verdict"));
         }
-    }
-    if forgetting.into_handler().asked.get() != 1240 {
-        return Err(Fail::new("a user is remembered"));
     }
     Ok(())
 }
 
 #[test]
 fn what_is_remembered_changes_no_verdict(rt: HostRuntime) -> Result<(), Fail> {
-    stay_alike(rt.alloc())
+    let refusing = Refusing::new(rt.alloc(), u64::MAX);
+    let mut remembering = checker(rt.alloc(), rt.alloc())?;
+    let mut forgetting = checker(rt.alloc(), &refusing)?;
+    stay_alike(rt.alloc(), &refusing, &mut remembering, &mut forgetting)?;
+    assert!(rt; forgetting.into_handler().asked.get() == 1240);
+    Ok(())
 }
 
 /// Asks for some users where the growth after so many is refused, and says whether one was. Who is remembered takes no
 /// memory.
-fn is_refused<A: Allocator + Copy>(alloc: A, served: u64) -> Result<bool, Fail> {
+fn is_refused(alloc: Global, served: u64) -> Result<bool, Fail> {
     let refusing = Refusing::new(alloc, u64::MAX);
     let mut checker = checker(alloc, &refusing)?;
     refusing.arm(served);

@@ -1,5 +1,5 @@
 use refusing::Refusing;
-use std::alloc::Allocator;
+use std::alloc::Global;
 use std::test::Fail;
 use turn_cred::{AuthHandler, Users};
 
@@ -35,35 +35,30 @@ fn the_last_key_of_a_name_counts(rt: HostRuntime) -> Result<(), Fail> {
     Ok(())
 }
 
-/// Adds a key to a name that has one only where the number is odd. A refusal leaves the users as they were.
-fn add<A: Allocator + Copy>(
-    users: &mut Users<&Refusing<A>>,
-    refusing: &Refusing<A>,
-    number: u8,
-) -> Result<(), Fail> {
-    let name = [b'a', number / 2];
+/// Whether a key is added to a name that has one only where the number is odd. A refusal leaves the users as they were.
+fn is_added(users: &mut Users<&Refusing<Global>>, refusing: &Refusing<Global>, number: u8) -> bool {
+    let (name, key) = ([b'a', number / 2], [number; 16]);
     let before = users.key(&name, b"");
     if before.is_some() != (number % 2 == 1) {
-        return Err(Fail::new("a name"));
+        return false;
     }
-    if users.add(&name, [number; 16]).is_err() {
-        if !refusing.has_refused() || users.key(&name, b"") != before {
-            return Err(Fail::new("a refusal"));
+    if users.add(&name, key).is_err() {
+        let is_left = refusing.has_refused() && users.key(&name, b"") == before;
+        if !is_left || users.add(&name, key).is_err() {
+            return false;
         }
-        users.add(&name, [number; 16])?;
     }
-    if users.key(&name, b"") != Some([number; 16]) {
-        return Err(Fail::new("a key"));
-    }
-    Ok(())
+    users.key(&name, b"") == Some(key)
 }
 
 /// Makes forty additions where the growth after so many is refused, and says whether one was.
-fn is_refused<A: Allocator + Copy>(alloc: A, served: u64) -> Result<bool, Fail> {
+fn is_refused(alloc: Global, served: u64) -> Result<bool, Fail> {
     let refusing = Refusing::new(alloc, served);
     let mut users = Users::new(&refusing);
     for number in 0..40u8 {
-        add(&mut users, &refusing, number)?;
+        if !is_added(&mut users, &refusing, number) {
+            return Err(Fail::new("an addition"));
+        }
     }
     for name in 0..20u8 {
         if users.key(&[b'a', name], b"") != Some([2 * name + 1; 16]) {

@@ -1,7 +1,7 @@
 ghost use Rattle.std.specs.Prelude.{◌≡◌, [], IfOk};
 
 use refusing::Refusing;
-use std::alloc::{AllocError, Allocator};
+use std::alloc::{AllocError, Allocator, Global};
 use std::test::Fail;
 use turn_codec::{AttributeType, Builder, Message, PushError};
 use turn_mac::{append_fingerprint, append_integrity, fingerprint_holds, integrity_holds};
@@ -73,15 +73,21 @@ fn the_samples_of_the_rfc_are_right(rt: HostRuntime) -> Result<(), Fail> {
     Ok(())
 }
 
-// The long-term sample has zeros as padding, so it is written byte for byte.
-#[test]
-fn the_long_term_sample_is_written(rt: HostRuntime) -> Result<(), Fail> {
-    let sample = Message::parse(&SAMPLE_LONG_TERM_REQUEST)?;
-    let mut builder = Builder::new(rt.alloc(), Class::Request, Method::BINDING, sample.tx())?;
+fn write_the_long_term_sample(builder: &mut Builder) -> Result<(), PushError>
+    requires { builder.old.attributes ≡ [] }
+{
     builder.push(AttributeType::USERNAME, &SAMPLE_LONG_TERM_REQUEST[24..42])?;
     builder.push(AttributeType::NONCE, &SAMPLE_LONG_TERM_REQUEST[48..76])?;
     builder.push(AttributeType::REALM, b"example.org")?;
-    append_integrity(&mut builder, &MATRIX_KEY)?;
+    append_integrity(builder, &MATRIX_KEY)
+}
+
+// The long-term sample has zeros as padding, so it is written byte for byte.
+#[test]
+fn the_long_term_sample_is_written(rt: HostRuntime) -> Result<(), Fail> {
+    let id = Message::parse(&SAMPLE_LONG_TERM_REQUEST)?.tx();
+    let mut builder = Builder::new(rt.alloc(), Class::Request, Method::BINDING, id)?;
+    write_the_long_term_sample(&mut builder)?;
     assert!(rt; builder.finish().as_slice() == SAMPLE_LONG_TERM_REQUEST.as_slice());
     Ok(())
 }
@@ -142,8 +148,8 @@ const BITS: [u8; 8] = [1, 2, 4, 8, 16, 32, 64, 128];
 fn flipped_at(place: usize) -> Result<(u32, u32), Fail> {
     let mut messages = 0u32;
     let mut others = 0u32;
-    for bit in BITS {
-        if let Some(is_other) = flipped(place, bit)? {
+    for bit in &BITS {
+        if let Some(is_other) = flipped(place, *bit)? {
             messages = messages.wrapping_add(1);
             others = others.wrapping_add(u32::from(is_other));
         }
@@ -222,7 +228,7 @@ const JUDGED: [(Attributes, bool, bool); 13] = [
 ];
 
 /// Whether the integrity of a Binding request with these attributes holds, and whether its fingerprint does.
-fn judged<A: Allocator + Copy>(alloc: A, attributes: Attributes) -> Result<(bool, bool), Fail> {
+fn judged(alloc: Global, attributes: Attributes) -> Result<(bool, bool), Fail> {
     let mut builder = binding(alloc)?;
     for (kind, value) in attributes {
         builder.push(AttributeType::new(*kind), value)?;
@@ -260,7 +266,7 @@ fn is_added(outcome: Result<(), PushError>) -> Result<bool, Fail> {
 }
 
 /// Adds what fits to a message of one attribute. What doesn't leaves it as it was, and it can be read in any case.
-fn fits<A: Allocator + Copy>(alloc: A, size: usize) -> Result<(bool, bool), Fail> {
+fn fits(alloc: Global, size: usize) -> Result<(bool, bool), Fail> {
     let value = vec![in alloc; 0u8; size]?;
     let mut builder = binding(alloc)?;
     builder.push(AttributeType::DATA, &value)?;
@@ -292,7 +298,7 @@ fn what_makes_a_message_too_long_is_refused(rt: HostRuntime) -> Result<(), Fail>
 }
 
 /// Adds both where the growth after so many is refused, and says whether one was. A refusal leaves the message as it was.
-fn is_refused<A: Allocator + Copy>(alloc: A, served: u64) -> Result<bool, Fail> {
+fn is_refused(alloc: Global, served: u64) -> Result<bool, Fail> {
     let refusing = Refusing::new(alloc, u64::MAX);
     let mut builder = binding(&refusing)?;
     refusing.arm(served);
