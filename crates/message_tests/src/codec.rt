@@ -394,23 +394,21 @@ fn a_message_takes_memory_twice(rt: HostRuntime) -> Result<(), Fail> {
     Ok(())
 }
 
-/// Attributes, and what their pushes return after one another where the message has room for 24 bytes and no more memory
-/// at first.
-const PUSHES: [(AttributeType, &[u8], Result<(), PushError>, usize); 4] = [
-    (AttributeType::REALM, b"example.org", Ok(()), 36),
-    (AttributeType::LIFETIME, &[0, 0, 2, 88], Ok(()), 44),
-    (AttributeType::EVEN_PORT, &[0], Err(PushError::Memory), 44),
-    (AttributeType::EVEN_PORT, &[0], Ok(()), 52),
-];
+/// Whether a message with room for 24 bytes of attributes is filled without memory, and grows at a second try.
+fn fills_its_capacity(builder: &mut Builder<&Refusing<Global>>) -> bool {
+    let (seconds, more) = (AttributeType::LIFETIME, AttributeType::EVEN_PORT);
+    has_outcome(builder, AttributeType::REALM, b"example.org", Ok(()), 36)
+        && has_outcome(builder, seconds, &[0, 0, 2, 88], Ok(()), 44)
+        && has_outcome(builder, more, &[0], Err(PushError::Memory), 44)
+        && has_outcome(builder, more, &[0], Ok(()), 52)
+}
 
 #[test]
 fn a_message_with_a_capacity_takes_memory_once(rt: HostRuntime) -> Result<(), Fail> {
     let refusing = Refusing::new(rt.alloc(), 1);
     let mut builder = Builder::with_capacity(&refusing, Class::Request, Method::ALLOCATE, ID, 24)?;
     assert!(rt; refusing.left() == 0);
-    for (kind, value, outcome, size) in &PUSHES {
-        assert!(rt; has_outcome(&mut builder, *kind, value, *outcome, *size));
-    }
+    assert!(rt; fills_its_capacity(&mut builder));
     assert!(rt; builder.finish().len() == 52);
     Ok(())
 }

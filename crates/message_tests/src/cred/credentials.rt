@@ -20,7 +20,7 @@ const BOB: [u8; 16] = *b"\xb7\x06\x15\xa7\x4a\x52\x4b\xec\xc6\x96\x0f\x54\x06\x3
 const WRONG: [u8; 16] = *b"\xb1\xeb\xf1\x11\x86\xb7\xef\xf2\xa2\x4c\xe5\xbd\x6f\xef\x6c\x3d";
 
 /// The nonces of the seconds 1000 and 4600 for the client, under a secret of zeros.
-pub const OF_1000: &[u8; 80] = b"00000000000003e867b461aa60944ff2d53aa237\
+const OF_1000: &[u8; 80] = b"00000000000003e867b461aa60944ff2d53aa237\
     b6407c1ab6779c548e297976b3bed07840569489";
 
 const OF_4600: &[u8; 80] = b"00000000000011f8ae82317d7fa01e5b4dea76ec\
@@ -368,20 +368,26 @@ fn a_nonce_that_is_issued_holds(rt: HostRuntime) -> Result<(), Fail> {
     Ok(())
 }
 
-/// Makes a checker where the growth after so many is refused, and says whether one was. A refusal returns the handler.
-fn is_refused(alloc: Global, served: u64) -> Result<bool, Fail> {
-    let config = config(alloc)?;
-    let users = users(alloc)?;
-    let refusing = Refusing::new(alloc, served);
-    let (handler, is_refused) = match Checker::new(&refusing, &config, users) {
+/// Makes a checker, and returns its handler, and whether it was refused: a refusal returns the handler too.
+fn handler_of(refusing: &Refusing<Global>, config: &ServerConfig, handler: Users) -> (Users, bool) {
+    match Checker::new(refusing, config, handler) {
         Ok(checker) => (checker.into_handler(), false),
         Err(refused) => (refused.value, true),
-    };
-    if is_refused != refusing.has_refused() || handler.key(b"bob", b"") != Some(BOB) {
-        return Err(Fail::new("a handler"));
     }
-    if is_refused && Checker::new(&refusing, &config, handler).is_err() {
-        return Err(Fail::new("a second checker"));
+}
+
+/// Makes a checker where the growth after so many is refused, says whether one was, and makes another with its handler.
+fn is_refused(alloc: Global, served: u64) -> Result<bool, Fail> {
+    let config = config(alloc)?;
+    let refusing = Refusing::new(alloc, served);
+    let (handler, is_refused) = handler_of(&refusing, &config, users(alloc)?);
+    if is_refused != refusing.has_refused() {
+        return Err(Fail::new("a refusal"));
+    }
+    refusing.arm(u64::MAX);
+    let (handler, is_refused_again) = handler_of(&refusing, &config, handler);
+    if is_refused_again || handler.key(b"bob", b"") != Some(BOB) {
+        return Err(Fail::new("a handler"));
     }
     Ok(is_refused)
 }

@@ -160,13 +160,18 @@ fn stay_alike(
     Ok(())
 }
 
+/// How often the handler of a checker is asked that has no memory for any user.
+fn asked_without_memory(alloc: Global, remembering: &mut Checker<Counting>) -> Result<u64, Fail> {
+    let refusing = Refusing::new(alloc, u64::MAX);
+    let mut forgetting = checker(alloc, &refusing)?;
+    stay_alike(alloc, &refusing, remembering, &mut forgetting)?;
+    Ok(forgetting.into_handler().asked.get())
+}
+
 #[test]
 fn what_is_remembered_changes_no_verdict(rt: HostRuntime) -> Result<(), Fail> {
-    let refusing = Refusing::new(rt.alloc(), u64::MAX);
     let mut remembering = checker(rt.alloc(), rt.alloc())?;
-    let mut forgetting = checker(rt.alloc(), &refusing)?;
-    stay_alike(rt.alloc(), &refusing, &mut remembering, &mut forgetting)?;
-    assert!(rt; forgetting.into_handler().asked.get() == 1240);
+    assert!(rt; asked_without_memory(rt.alloc(), &mut remembering)? == 1240);
     Ok(())
 }
 
