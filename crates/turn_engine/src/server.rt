@@ -214,7 +214,8 @@ impl<D: Disk, H: AuthHandler, G: RelayAddressGenerator, A: Allocator + Copy> Ser
         if self.store.is_stopped() {
             return Some(SubmitRefused::Stopped);
         }
-        if self.arrivals >= self.machine.config().limits().acts() {
+        let is_full = self.arrivals >= self.machine.config().limits().acts();
+        if is_full {
             return Some(SubmitRefused::BatchFull);
         }
         None
