@@ -4,7 +4,6 @@ use crate::player::play;
 use crate::row::{ALLOCATE, REQUEST, Row, SUCCESS, Sent};
 use crate::setup::{PAIR, SMALL};
 use requests_for_tests::{BOB, FIRST, Kind, SECOND, UDP};
-use std::test::Fail;
 
 /// An open gate, version 1, generation 1, a snapshot of 12 bytes (moment 0, no entry), a closed gate.
 const FRESH_AREA: &[u8] = b"\xa5\x01\x00\x00\x00\x00\x00\x00\x00\x01\x00\x00\x00\x0c\
@@ -30,8 +29,8 @@ const FIRST_COMMIT: [Row; 10] = [
 
 // Nothing is written before the commit, and nothing is handed out twice.
 #[test]
-fn commit_writes_a_frame_and_hands_out_the_success(rt: HostRuntime) -> Result<(), Fail> {
-    play(rt.alloc(), &SMALL, &FIRST_COMMIT)
+fn commit_writes_a_frame_and_hands_out_the_success(rt: HostRuntime) {
+    play(&rt, rt.alloc(), &SMALL, &FIRST_COMMIT);
 }
 
 // ---- Two acts a batch
@@ -72,6 +71,6 @@ const TWO: [Row; 9] = [
 ];
 
 #[test]
-fn commit_writes_one_frame_of_two_acts(rt: HostRuntime) -> Result<(), Fail> {
-    play(rt.alloc(), &PAIR, &TWO)
+fn commit_writes_one_frame_of_two_acts(rt: HostRuntime) {
+    play(&rt, rt.alloc(), &PAIR, &TWO);
 }

@@ -5,7 +5,7 @@ use crate::row::{Row, Sent};
 use crate::stops::staged;
 use requests_for_tests::FIRST;
 use std::alloc::Global;
-use std::test::Fail;
+use std::process::Abort;
 use turn_disk::Outcome;
 
 /// The store has alice's allocation of 1000, and her Allocate at 1200 is answered by the same success.
@@ -29,21 +29,20 @@ const AT_1006: &[Row] = &[
 /// What was handed out, up to which second, and what is found after a crash.
 const HANDED_OUT: [(u64, &[Row]); 2] = [(1000, AT_1000), (1006, AT_1006)];
 
-fn commit_and_crash(mut player: Player, rows: &[Row]) -> Result<(), Fail> {
-    player.play(&[Row::Commit(&[Sent::Code(FIRST, 0)])])?;
-    player.crash_and_play(Outcome::Lost, rows)
+fn commit_and_crash(rt: &impl Abort, mut player: Player, rows: &[Row]) {
+    player.play(rt, &[Row::Commit(&[Sent::Code(FIRST, 0)])]);
+    player.crash_and_play(rt, Outcome::Lost, rows);
 }
 
-fn crash_after(alloc: Global, second: u64, rows: &[Row]) -> Result<(), Fail> {
-    commit_and_crash(staged(alloc, second)?, rows)
+fn crash_after(rt: &impl Abort, alloc: Global, second: u64, rows: &[Row]) {
+    commit_and_crash(rt, staged(rt, alloc, second), rows);
 }
 
 #[test]
-fn crash_leaves_what_was_handed_out(rt: HostRuntime) -> Result<(), Fail> {
+fn crash_leaves_what_was_handed_out(rt: HostRuntime) {
     for (second, rows) in &HANDED_OUT {
-        crash_after(rt.alloc(), *second, rows)?;
+        crash_after(&rt, rt.alloc(), *second, rows);
     }
-    Ok(())
 }
 
 // ---- The bytes
@@ -67,6 +66,6 @@ const COMPACTED: [Row; 4] = [
 ];
 
 #[test]
-fn commit_without_room_writes_a_snapshot(rt: HostRuntime) -> Result<(), Fail> {
-    play_on(staged(rt.alloc(), 1006)?, &COMPACTED)
+fn commit_without_room_writes_a_snapshot(rt: HostRuntime) {
+    play_on(&rt, staged(&rt, rt.alloc(), 1006), &COMPACTED);
 }

@@ -4,7 +4,6 @@ use crate::player::play;
 use crate::row::{Row, Sent};
 use crate::setup::SMALL;
 use requests_for_tests::{ALICE, FIRST, FLAG, HOUR, Kind, LOWEST, PEER, PEER_ENDPOINT, UDP, ZERO};
-use std::test::Fail;
 
 // ---- Without credentials
 
@@ -45,8 +44,8 @@ const ANSWERED: [Row; 6] = [
 ];
 
 #[test]
-fn requests_without_credentials_are_answered(rt: HostRuntime) -> Result<(), Fail> {
-    play(rt.alloc(), &SMALL, &ANSWERED)
+fn requests_without_credentials_are_answered(rt: HostRuntime) {
+    play(&rt, rt.alloc(), &SMALL, &ANSWERED);
 }
 
 // ---- With credentials. Each HMAC-SHA1 is of another program.
@@ -90,8 +89,8 @@ const SIGNED: [Row; 10] = [
 ];
 
 #[test]
-fn requests_of_a_user_are_answered(rt: HostRuntime) -> Result<(), Fail> {
-    play(rt.alloc(), &SMALL, &SIGNED)
+fn requests_of_a_user_are_answered(rt: HostRuntime) {
+    play(&rt, rt.alloc(), &SMALL, &SIGNED);
 }
 
 // ---- Data
@@ -114,8 +113,8 @@ const BY_PERMISSION: [Row; 8] = [
 ];
 
 #[test]
-fn data_of_a_permitted_peer_is_indicated(rt: HostRuntime) -> Result<(), Fail> {
-    play(rt.alloc(), &SMALL, &BY_PERMISSION)
+fn data_of_a_permitted_peer_is_indicated(rt: HostRuntime) {
+    play(&rt, rt.alloc(), &SMALL, &BY_PERMISSION);
 }
 
 const ABC: &[u8] = b"\x40\x00\x00\x03abc";
@@ -144,6 +143,6 @@ const BY_CHANNEL: [Row; 16] = [
 ];
 
 #[test]
-fn data_goes_both_ways_over_a_channel(rt: HostRuntime) -> Result<(), Fail> {
-    play(rt.alloc(), &SMALL, &BY_CHANNEL)
+fn data_goes_both_ways_over_a_channel(rt: HostRuntime) {
+    play(&rt, rt.alloc(), &SMALL, &BY_CHANNEL);
 }

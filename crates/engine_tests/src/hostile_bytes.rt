@@ -2,10 +2,10 @@
 
 use crate::player::{Player, of_client};
 use crate::row::{ALLOCATE, ALLOCATED, REQUEST, Row};
-use crate::setup::SMALL;
+use crate::setup::{SMALL, made};
 use requests_for_tests::{FIRST, code_of, five_tuple};
 use std::alloc::Global;
-use std::test::Fail;
+use std::process::Abort;
 use turn_codec::{Malformed, Message};
 use turn_disk::Disk;
 use turn_step::Outgoing;
@@ -30,10 +30,10 @@ enum Change {
 
 /// The first bytes of alice's Allocate.
 fn front(len: usize) -> &'static [u8] {
-    match REQUEST.split_at_checked(len) {
-        Some((front, _)) => front,
-        None => REQUEST,
+    if len > 164 {
+        return REQUEST;
     }
+    &REQUEST[..len]
 }
 
 /// Why the bytes before a place are no message: a header has 20 bytes, and the length in it is that of the whole Allocate.
@@ -50,9 +50,9 @@ fn is_malformed(place: usize) -> bool {
 }
 
 /// Whether the Allocate that ends before a byte is no message, and is dropped.
-fn is_dropped(player: &mut Player, place: usize) -> Result<bool, Fail> {
-    player.take(1000, &of_client(FIRST, front(place)))?;
-    Ok(is_malformed(place) && player.is_idle()?)
+fn is_dropped(rt: &impl Abort, player: &mut Player, place: usize) -> bool {
+    player.take(rt, 1000, &of_client(FIRST, front(place)));
+    is_malformed(place) && player.is_idle(rt)
 }
 
 // ---- Flipped bits
@@ -67,93 +67,93 @@ fn flipped(place: usize, bit: u32) -> [u8; 164] {
 }
 
 /// Whether a response is the success of a Binding request, or an error of another one.
-fn is_success_of_binding(message: &Message<'_>, is_binding: bool) -> Result<bool, Fail> {
-    let is_success = code_of(message)? == 0;
+fn is_success_of_binding(rt: &impl Abort, message: &Message<'_>, is_binding: bool) -> bool {
+    let is_success = made(rt, code_of(message), "a code") == 0;
     let is_of_binding = message.method() == Method::BINDING;
-    Ok(is_success == is_binding && is_of_binding == is_binding)
+    is_success == is_binding && is_of_binding == is_binding
 }
 
 /// The same of a datagram, which goes to alice's client.
-fn is_response(out: &Outgoing, is_binding: bool) -> Result<bool, Fail> {
+fn is_response(rt: &impl Abort, out: &Outgoing, is_binding: bool) -> bool {
     match out {
         Outgoing::ToClient {
             five_tuple: to,
             bytes,
-        } if *to == five_tuple(FIRST) => is_success_of_binding(&Message::parse(bytes)?, is_binding),
-        _ => Ok(false),
+        } if *to == five_tuple(FIRST) => {
+            let message = Message::parse(bytes).expect(rt, "a message");
+            is_success_of_binding(rt, &message, is_binding)
+        }
+        _ => false,
     }
 }
 
 /// Whether what goes out is nothing or an error, or, for a Binding request, its success.
-fn is_harmless(outs: &[Outgoing], is_binding: bool) -> Result<bool, Fail> {
+fn is_harmless(rt: &impl Abort, outs: &[Outgoing], is_binding: bool) -> bool {
     match outs {
-        [] => Ok(!is_binding),
-        [out] => is_response(out, is_binding),
-        _ => Ok(false),
+        [] => !is_binding,
+        [out] => is_response(rt, out, is_binding),
+        _ => false,
     }
 }
 
 /// Takes the Allocate with a flipped bit, whose commit makes no device call. The second bit of the second byte makes it a
 /// Binding request, which needs no credentials.
-fn is_flip_harmless(player: &mut Player, place: usize, bit: u32) -> Result<bool, Fail> {
+fn is_flip_harmless(rt: &impl Abort, player: &mut Player, place: usize, bit: u32) -> bool {
     let bytes = flipped(place, bit);
-    player.take(1000, &of_client(FIRST, &bytes))?;
+    player.take(rt, 1000, &of_client(FIRST, &bytes));
     player.disk().fail_call(1);
-    let outs = player.commit()?;
-    is_harmless(&outs, (place, bit) == (1, 1))
+    let outs = player.commit(rt);
+    is_harmless(rt, &outs, (place, bit) == (1, 1))
 }
 
 /// The same of each bit of a byte, by which the table stays empty.
-fn are_flips_harmless(player: &mut Player, place: usize) -> Result<bool, Fail> {
+fn are_flips_harmless(rt: &impl Abort, player: &mut Player, place: usize) -> bool {
     for bit in 0..8u32 {
-        if !is_flip_harmless(player, place, bit)? || !player.table().is_empty() {
-            return Ok(false);
+        if !is_flip_harmless(rt, player, place, bit) || !player.table().is_empty() {
+            return false;
         }
     }
-    Ok(true)
+    true
 }
 
 // ---- All places
 
-fn is_harmless_at(player: &mut Player, change: Change, place: usize) -> Result<bool, Fail> {
+fn is_harmless_at(rt: &impl Abort, player: &mut Player, change: Change, place: usize) -> bool {
     match change {
-        Change::Cut => is_dropped(player, place),
-        Change::Flip => are_flips_harmless(player, place),
+        Change::Cut => is_dropped(rt, player, place),
+        Change::Flip => are_flips_harmless(rt, player, place),
     }
 }
 
 /// Fails with the first place at which the change does something.
-fn try_places(player: &mut Player, change: Change) -> Result<(), Fail> {
+fn try_places(rt: &impl Abort, player: &mut Player, change: Change) {
     for place in 0..164usize {
-        if !is_harmless_at(player, change, place)? {
-            return Err(Fail::new(place));
+        if !is_harmless_at(rt, player, change, place) {
+            panic!(rt; "place {place}");
         }
     }
-    Ok(())
 }
 
 /// Tries the change at each byte. The server is then as at first, but for the clock, and goes on.
-fn try_all(player: &mut Player, change: Change) -> Result<(), Fail> {
-    let kept = player.kept()?;
-    try_places(player, change)?;
-    player.play(&UNCHANGED)?;
-    if !player.keeps(&kept) || player.disk().failures() > 0 {
-        return Err(Fail::new("another disk"));
-    }
-    player.play(&[ALLOCATE, ALLOCATED])
+fn try_all(rt: &impl Abort, player: &mut Player, change: Change) {
+    let kept = player.kept(rt);
+    try_places(rt, player, change);
+    player.play(rt, &UNCHANGED);
+    assert!(rt; player.keeps(&kept) && player.disk().failures() == 0);
+    player.play(rt, &[ALLOCATE, ALLOCATED]);
 }
 
-fn play_changes(alloc: Global, change: Change) -> Result<(), Fail> {
-    let mut player = Player::new(alloc, alloc, &SMALL)?;
-    try_all(&mut player, change)
-}
-
-#[test]
-fn each_front_of_a_request_is_dropped(rt: HostRuntime) -> Result<(), Fail> {
-    play_changes(rt.alloc(), Change::Cut)
+fn play_changes(rt: &impl Abort, alloc: Global, change: Change) {
+    let mut player = Player::new(rt, alloc, alloc, &SMALL);
+    try_all(rt, &mut player, change);
 }
 
 #[test]
-fn each_flipped_bit_of_a_request_leads_to_no_act(rt: HostRuntime) -> Result<(), Fail> {
-    play_changes(rt.alloc(), Change::Flip)
+fn each_front_of_a_request_is_dropped(rt: HostRuntime) {
+    play_changes(&rt, rt.alloc(), Change::Cut);
+}
+
+#[test]
+fn each_flipped_bit_of_a_request_leads_to_no_act(rt: HostRuntime) {
+    play_changes(&rt, rt.alloc(), Change::Flip);
 }

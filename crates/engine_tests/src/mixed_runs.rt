@@ -1,14 +1,14 @@
 //! A server beside the rules alone, over a long mixed run.
 
-use crate::player::{Player, of_client};
+use crate::player::{Player, moment, of_client};
 use crate::same::{are_same, is_same_table};
-use crate::setup::{LARGE, Setup};
+use crate::setup::{LARGE, Setup, made};
 use requests_for_tests::{
     ALICE, Attribute, BOB, FIRST, HOUR, ID, Kind, LOWEST, PEER, PEER_ENDPOINT, Ports, SECOND, UDP,
-    ZERO, at, nonce_of, signed, users,
+    ZERO, nonce_of, signed, users,
 };
 use std::alloc::Global;
-use std::test::Fail;
+use std::process::Abort;
 use turn_cred::Users;
 use turn_step::{Arrival, Machine, Outgoing};
 use turn_table::Table;
@@ -132,7 +132,7 @@ impl Run {
     }
 
     /// A request with the nonce of this second, mostly of the user whose address it comes from.
-    fn request(&mut self) -> Result<Drawn, Fail> {
+    fn request(&mut self, rt: &impl Abort) -> Drawn {
         let client = self.client();
         let user = if (client == FIRST) == (self.random.below(16) > 0) {
             ALICE
@@ -144,49 +144,51 @@ impl Run {
             None => (Kind::Refresh, REQUESTS[4].1),
         };
         let source = Source::Client(client);
-        let nonce = nonce_of(self.second, client)?;
-        let bytes = signed(self.alloc, user, kind, &nonce, attributes)?;
+        let nonce = made(rt, nonce_of(self.second, client), "a nonce");
+        let signed = signed(self.alloc, user, kind, &nonce, attributes);
         self.last = Drawn {
             source,
-            bytes: Vec::from_slice(self.alloc, &bytes)?,
+            bytes: made(rt, signed, "a request"),
         };
-        Ok(Drawn { source, bytes })
+        self.repeated(rt)
     }
 
     /// The last request again.
-    fn repeated(&self) -> Result<Drawn, Fail> {
-        Ok(Drawn {
+    fn repeated(&self, rt: &impl Abort) -> Drawn {
+        Drawn {
             source: self.last.source,
-            bytes: Vec::from_slice(self.alloc, &self.last.bytes)?,
-        })
+            bytes: Vec::from_slice(self.alloc, &self.last.bytes).expect(rt, "memory"),
+        }
     }
 
     /// The last request with a byte changed, or with its end cut.
-    fn malformed(&mut self) -> Result<Drawn, Fail> {
-        let mut drawn = self.repeated()?;
+    fn malformed(&mut self, rt: &impl Abort) -> Drawn {
+        let mut drawn = self.repeated(rt);
         let place = self.random.below(164) as usize;
         match drawn.bytes.get_mut(place) {
             Some(byte) if place % 2 == 0 => *byte ^= 0x11,
             _ => drawn.bytes.truncate(place),
         }
-        Ok(drawn)
+        drawn
     }
 
-    fn data(&mut self) -> Result<Drawn, Fail> {
+    fn port(&mut self) -> u16 {
+        if self.random.below(2) == 0 {
+            50000
+        } else {
+            50001
+        }
+    }
+
+    fn data(&mut self, rt: &impl Abort) -> Drawn {
         let place = self.random.below(3) as usize;
-        match DATA.get(place) {
-            Some(bytes) => Ok(Drawn {
-                source: Source::Client(self.client()),
-                bytes: Vec::from_slice(self.alloc, bytes)?,
-            }),
-            None => Ok(Drawn {
-                source: Source::Port(if self.random.below(2) == 0 {
-                    50000
-                } else {
-                    50001
-                }),
-                bytes: Vec::from_slice(self.alloc, b"hello")?,
-            }),
+        let (source, bytes) = match DATA.get(place) {
+            Some(bytes) => (Source::Client(self.client()), *bytes),
+            None => (Source::Port(self.port()), b"hello".as_slice()),
+        };
+        Drawn {
+            source,
+            bytes: Vec::from_slice(self.alloc, bytes).expect(rt, "memory"),
         }
     }
 
@@ -201,13 +203,13 @@ impl Run {
     }
 
     /// The next datagram, after up to seven seconds.
-    fn next(&mut self) -> Result<Drawn, Fail> {
+    fn next(&mut self, rt: &impl Abort) -> Drawn {
         self.second = self.second.saturating_add(u64::from(self.random.below(8)));
         match self.random.below(16) {
-            0..6 => self.request(),
-            6..8 => self.repeated(),
-            8 => self.malformed(),
-            _ => self.data(),
+            0..6 => self.request(rt),
+            6..8 => self.repeated(rt),
+            8 => self.malformed(rt),
+            _ => self.data(rt),
         }
     }
 }
@@ -215,22 +217,26 @@ impl Run {
 /// The rules of the server, without a store.
 type Rules = Machine<Users, Ports>;
 
-fn rules(alloc: Global, setup: &Setup) -> Result<Rules, Fail> {
-    let config = setup.config(alloc)?;
-    let table = Table::new(alloc, config.limits(), at(0)?);
-    match Machine::new(alloc, config, users(alloc)?, setup.ports()?, table) {
-        Ok(machine) => Ok(machine),
-        Err(_) => Err(Fail::new("memory")),
+fn rules(rt: &impl Abort, alloc: Global, setup: &Setup) -> Rules {
+    let (config, ports) = (setup.config(rt, alloc), setup.ports(rt));
+    let users = made(rt, users(alloc), "users");
+    let table = Table::new(alloc, config.limits(), moment(rt, 0));
+    match Machine::new(alloc, config, users, ports, table) {
+        Ok(machine) => machine,
+        Err(_) => panic!(rt; "memory"),
     }
 }
 
 /// What the rules answer to an arrival at a second.
-fn step(rules: &mut Rules, second: u64, arrival: &Arrival<'_>) -> Result<Option<Outgoing>, Fail> {
-    let moment = at(second)?;
-    if rules.moment() > moment {
-        return Err(Fail::new("a second before the last one"));
-    }
-    Ok(rules.step(moment, arrival)?)
+fn step(
+    rt: &impl Abort,
+    rules: &mut Rules,
+    second: u64,
+    arrival: &Arrival<'_>,
+) -> Option<Outgoing> {
+    let moment = moment(rt, second);
+    assert!(rt; rules.moment() <= moment);
+    rules.step(moment, arrival).expect(rt, "memory")
 }
 
 /// A server over a store, the same rules without a store, and what these sent since the last commit.
@@ -246,29 +252,28 @@ struct Twins<'a> {
 
 impl Twins<'_> {
     /// Gives both an arrival at a second.
-    fn take(&mut self, second: u64, arrival: &Arrival<'_>) -> Result<(), Fail> {
-        self.player.take(second, arrival)?;
-        match step(self.rules, second, arrival)? {
-            Some(out) => self.send(out),
-            None => Ok(()),
+    fn take(&mut self, rt: &impl Abort, second: u64, arrival: &Arrival<'_>) {
+        self.player.take(rt, second, arrival);
+        if let Some(out) = step(rt, self.rules, second, arrival) {
+            self.send(rt, out);
         }
     }
 
     /// Notes a datagram that the rules alone sent.
-    fn send(&mut self, out: Outgoing) -> Result<(), Fail> {
+    fn send(&mut self, rt: &impl Abort, out: Outgoing) {
         match &out {
             Outgoing::ToClient { .. } => self.to_clients = self.to_clients.wrapping_add(1),
             Outgoing::ToPeer { .. } => self.to_peers = self.to_peers.wrapping_add(1),
         }
-        Ok(self.sent.push(out)?)
+        self.sent.push(out).expect(rt, "memory");
     }
 
     /// Whether a commit hands out what the rules alone sent since the last one.
-    fn commits(&mut self) -> Result<bool, Fail> {
-        let outs = self.player.commit()?;
+    fn commits(&mut self, rt: &impl Abort) -> bool {
+        let outs = self.player.commit(rt);
         let is_same = are_same(&outs, &self.sent);
         self.sent.clear();
-        Ok(is_same)
+        is_same
     }
 
     fn is_same(&self) -> bool {
@@ -276,38 +281,31 @@ impl Twins<'_> {
     }
 
     /// Takes the next arrival of a run, and commits if it is the last one of its batch.
-    fn take_next(&mut self, run: &mut Run) -> Result<bool, Fail> {
-        let drawn = run.next()?;
-        self.take(run.second, &drawn.arrival())?;
-        if !run.ends_batch() {
-            return Ok(true);
-        }
-        self.commits()
+    fn take_next(&mut self, rt: &impl Abort, run: &mut Run) -> bool {
+        let drawn = run.next(rt);
+        self.take(rt, run.second, &drawn.arrival());
+        !run.ends_batch() || self.commits(rt)
     }
 
     /// Takes the next arrival of a run, with a commit after every one to seven of them. After each hundredth one there is a
     /// commit, and the tables are compared.
-    fn goes_on(&mut self, run: &mut Run, count: u32) -> Result<bool, Fail> {
-        let is_right = self.take_next(run)?;
-        if count % 100 != 0 {
-            return Ok(is_right);
-        }
-        Ok(is_right && self.commits()? && self.is_same())
+    fn goes_on(&mut self, rt: &impl Abort, run: &mut Run, count: u32) -> bool {
+        let is_right = self.take_next(rt, run);
+        is_right && (count % 100 != 0 || self.commits(rt) && self.is_same())
     }
 }
 
 /// Takes 2,000 arrivals.
-fn take_thousands(twins: &mut Twins<'_>, run: &mut Run) -> Result<bool, Fail> {
+fn take_thousands(rt: &impl Abort, twins: &mut Twins<'_>, run: &mut Run) {
     for count in 1..=2000u32 {
-        if !twins.goes_on(run, count)? {
-            return Ok(false);
+        if !twins.goes_on(rt, run, count) {
+            panic!(rt; "arrival {count}");
         }
     }
-    Ok(true)
 }
 
 /// Takes 2,000 arrivals, which send many datagrams to clients and to peers, and returns the last second.
-fn take_all(alloc: Global, player: &mut Player, rules: &mut Rules) -> Result<u64, Fail> {
+fn take_all(rt: &impl Abort, alloc: Global, player: &mut Player, rules: &mut Rules) -> u64 {
     let mut run = Run::new(alloc);
     let mut twins = Twins {
         player,
@@ -316,45 +314,38 @@ fn take_all(alloc: Global, player: &mut Player, rules: &mut Rules) -> Result<u64
         to_clients: 0,
         to_peers: 0,
     };
-    if !take_thousands(&mut twins, &mut run)? {
-        return Err(Fail::new("another answer"));
-    }
-    if twins.to_clients <= 800 || twins.to_peers <= 100 {
-        return Err(Fail::new("few datagrams"));
-    }
-    Ok(run.second)
+    take_thousands(rt, &mut twins, &mut run);
+    assert!(rt; twins.to_clients > 800 && twins.to_peers > 100);
+    run.second
 }
 
 /// Whether a server that was opened has this table at a second.
-fn has_table(player: &mut Player, second: u64, table: &Table) -> Result<bool, Fail> {
-    player.take(second, &of_client(FIRST, b""))?;
-    Ok(is_same_table(player.table(), table))
+fn has_table(rt: &impl Abort, player: &mut Player, second: u64, table: &Table) -> bool {
+    player.take(rt, second, &of_client(FIRST, b""));
+    is_same_table(player.table(), table)
 }
 
-fn is_stored(player: Player, second: u64, table: &Table) -> Result<bool, Fail> {
-    has_table(&mut player.reopen()?, second, table)
+fn is_stored(rt: &impl Abort, player: Player, second: u64, table: &Table) -> bool {
+    has_table(rt, &mut player.reopen(rt), second, table)
 }
 
 /// Takes the run, and opens the store.
-fn take_run(alloc: Global, mut player: Player, rules: &mut Rules) -> Result<bool, Fail> {
-    let second = take_all(alloc, &mut player, rules)?;
-    is_stored(player, second, rules.table())
+fn take_run(rt: &impl Abort, alloc: Global, mut player: Player, rules: &mut Rules) {
+    let second = take_all(rt, alloc, &mut player, rules);
+    assert!(rt; is_stored(rt, player, second, rules.table()));
 }
 
-fn take_run_of(alloc: Global, setup: &Setup) -> Result<bool, Fail> {
-    let mut rules = rules(alloc, setup)?;
-    take_run(alloc, Player::new(alloc, alloc, setup)?, &mut rules)
+fn take_run_of(rt: &impl Abort, alloc: Global, setup: &Setup) {
+    let mut rules = rules(rt, alloc, setup);
+    take_run(rt, alloc, Player::new(rt, alloc, alloc, setup), &mut rules);
 }
 
 /// Under the max limits, and in areas so small that commits compact.
 const SETUPS: [Setup; 2] = [HIGHEST, LARGE];
 
 #[test]
-fn server_answers_as_the_rules_without_a_store(rt: HostRuntime) -> Result<(), Fail> {
+fn server_answers_as_the_rules_without_a_store(rt: HostRuntime) {
     for setup in &SETUPS {
-        if !take_run_of(rt.alloc(), setup)? {
-            return Err(Fail::new("another table"));
-        }
+        take_run_of(&rt, rt.alloc(), setup);
     }
-    Ok(())
 }

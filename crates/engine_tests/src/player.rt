@@ -2,17 +2,21 @@
 
 use crate::row::{REQUEST, Row, SUCCESS, Sent};
 use crate::same::{are_live, are_sent, has_at};
-use crate::setup::Setup;
+use crate::setup::{Setup, made};
 use refusing::Refusing;
-use requests_for_tests::{FIRST, ID, Ports, at, five_tuple, nonce_of, signed, users};
+use requests_for_tests::{FIRST, ID, Ports, five_tuple, nonce_of, signed, users};
 use std::alloc::{Allocator, Global};
-use std::test::Fail;
+use std::process::Abort;
 use turn_cred::Users;
 use turn_disk::{Disk, MemoryDisk, Outcome};
-use turn_engine::{CommitRefused, OpenRefused, Server, SubmitRefused};
+use turn_engine::{CommitRefused, Server, SubmitRefused};
 use turn_step::{Arrival, Outgoing};
 use turn_table::Table;
-use turn_types::{Endpoint, Moment, ServerConfig};
+use turn_types::{Endpoint, Moment};
+
+pub fn moment(rt: &impl Abort, second: u64) -> Moment {
+    Moment::new(second).expect(rt, "a moment")
+}
 
 pub fn of_client<'a>(client: Endpoint, bytes: &'a [u8]) -> Arrival<'a> {
     Arrival::Client {
@@ -30,14 +34,17 @@ pub fn of_peer<'a>(from: Endpoint, bytes: &'a [u8]) -> Arrival<'a> {
     }
 }
 
-/// A server, and what makes its clients' requests. The disk may have an allocator of its own.
+/// What a player plays.
+pub type Played<A> = Server<MemoryDisk<A>, Users, Ports, A>;
+
+/// A server, and what makes its clients' requests.
 #[derive(Drop)]
-pub struct Player<A: Allocator + Copy = Global, B: Allocator + Copy = Global> {
+pub struct Player<A: Allocator + Copy = Global> {
     alloc: Global,
     setup: Setup,
     // Whether the store was empty, so that the generator picked each port of the table.
     is_fresh: bool,
-    server: Server<MemoryDisk<B>, Users, Ports, A>,
+    server: Played<A>,
 }
 
 /// The bytes of a disk, and how many of its calls failed.
@@ -47,55 +54,36 @@ pub struct Kept {
     failures: u64,
 }
 
-/// What a server is made of that was not opened.
-pub type Refused<B> = OpenRefused<MemoryDisk<B>, Users, Ports>;
+impl<A: Allocator + Copy> Player<A> {
+    /// Plays a server that was opened just now. The datagrams that it gets are made over `Global`.
+    pub fn of(alloc: Global, setup: &Setup, server: Played<A>) -> Player<A> {
+        Player {
+            alloc,
+            setup: *setup,
+            is_fresh: server.table().is_empty(),
+            server,
+        }
+    }
 
-impl<A: Allocator + Copy, B: Allocator + Copy> Player<A, B> {
-    /// Opens the store of a disk. The datagrams that the server gets are made over `Global`.
+    /// Opens the store of a disk.
     pub fn open(
+        rt: &impl Abort,
         inner: A,
         alloc: Global,
         setup: &Setup,
-        disk: MemoryDisk<B>,
-    ) -> Result<Player<A, B>, Fail> {
-        let config = setup.config(inner)?;
-        Player::open_with(inner, alloc, setup, &config, disk)
-    }
-
-    /// The same with a configuration that was made of the setup.
-    pub fn open_with(
-        inner: A,
-        alloc: Global,
-        setup: &Setup,
-        config: &ServerConfig<A>,
-        disk: MemoryDisk<B>,
-    ) -> Result<Player<A, B>, Fail> {
-        let (users, ports) = (users(alloc)?, setup.ports()?);
-        match Player::try_open(inner, alloc, setup, config, disk, users, ports) {
-            Ok(player) => Ok(player),
-            Err(_) => Err(Fail::new("not opened")),
+        disk: MemoryDisk<A>,
+    ) -> Player<A> {
+        let (config, ports) = (setup.config(rt, inner), setup.ports(rt));
+        let users = made(rt, users(alloc), "users");
+        match Server::open(inner, disk, &config, users, ports) {
+            Ok(server) => Player::of(alloc, setup, server),
+            Err(_) => panic!(rt; "not opened"),
         }
     }
 
-    /// The same over users and ports, which a refusal returns.
-    pub fn try_open(
-        inner: A,
-        alloc: Global,
-        setup: &Setup,
-        config: &ServerConfig<A>,
-        disk: MemoryDisk<B>,
-        users: Users,
-        ports: Ports,
-    ) -> Result<Player<A, B>, Refused<B>> {
-        match Server::open(inner, disk, config, users, ports) {
-            Ok(server) => Ok(Player {
-                alloc,
-                setup: *setup,
-                is_fresh: server.table().is_empty(),
-                server,
-            }),
-            Err(refused) => Err(refused),
-        }
+    /// A server over an empty store.
+    pub fn new(rt: &impl Abort, inner: A, alloc: Global, setup: &Setup) -> Player<A> {
+        Player::open(rt, inner, alloc, setup, setup.disk(rt, inner))
     }
 
     pub fn table(&self) -> &Table<A> {
@@ -106,7 +94,7 @@ impl<A: Allocator + Copy, B: Allocator + Copy> Player<A, B> {
         self.server.ports()
     }
 
-    pub fn disk(&self) -> &MemoryDisk<B> {
+    pub fn disk(&self) -> &MemoryDisk<A> {
         self.server.disk()
     }
 
@@ -115,7 +103,7 @@ impl<A: Allocator + Copy, B: Allocator + Copy> Player<A, B> {
     }
 
     /// The disk of the closed server.
-    pub fn close(self) -> MemoryDisk<B> {
+    pub fn close(self) -> MemoryDisk<A> {
         let (disk, _, _) = self.server.close();
         disk
     }
@@ -133,55 +121,74 @@ impl<A: Allocator + Copy, B: Allocator + Copy> Player<A, B> {
     /// Submits an arrival at a second that is not before the clock.
     pub fn submit_at(
         &mut self,
+        rt: &impl Abort,
         second: u64,
         arrival: &Arrival<'_>,
-    ) -> Result<Result<(), SubmitRefused>, Fail> {
-        let moment = at(second)?;
-        if self.server.clock() > moment {
-            return Err(Fail::new("a second before the clock"));
-        }
-        Ok(self.server.submit(moment, arrival))
+    ) -> Result<(), SubmitRefused> {
+        let moment = moment(rt, second);
+        assert!(rt; self.server.clock() <= moment);
+        self.server.submit(moment, arrival)
     }
 
     /// Submits an arrival that is taken.
-    pub fn take(&mut self, second: u64, arrival: &Arrival<'_>) -> Result<(), Fail> {
-        match self.submit_at(second, arrival)? {
-            Ok(()) => Ok(()),
-            Err(_) => Err(Fail::new("a refused arrival")),
-        }
+    pub fn take(&mut self, rt: &impl Abort, second: u64, arrival: &Arrival<'_>) {
+        assert!(rt; self.submit_at(rt, second, arrival).is_ok());
     }
 
     /// What a commit hands out.
-    pub fn commit(&mut self) -> Result<Vec<Outgoing<A>, A>, Fail> {
+    pub fn commit(&mut self, rt: &impl Abort) -> Vec<Outgoing<A>, A> {
         match self.server.commit() {
-            Ok(outs) => Ok(outs),
-            Err(_) => Err(Fail::new("a refused commit")),
+            Ok(outs) => outs,
+            Err(_) => panic!(rt; "a refused commit"),
         }
     }
 
     /// Submits the arrival of a row.
-    pub fn submit(&mut self, row: &Row) -> Result<Result<(), SubmitRefused>, Fail> {
+    pub fn submit(&mut self, rt: &impl Abort, row: &Row) -> Result<(), SubmitRefused> {
         match row {
             Row::Ask(second, user, client, kind, attributes) => {
-                let nonce = nonce_of(*second, *client)?;
-                let bytes = signed(self.alloc, *user, *kind, &nonce, attributes)?;
-                self.submit_at(*second, &of_client(*client, &bytes))
+                let nonce = made(rt, nonce_of(*second, *client), "a nonce");
+                let signed = signed(self.alloc, *user, *kind, &nonce, attributes);
+                let bytes = made(rt, signed, "a request");
+                self.submit_at(rt, *second, &of_client(*client, &bytes))
             }
             Row::Client(second, client, bytes) | Row::Full(second, client, bytes) => {
-                self.submit_at(*second, &of_client(*client, bytes))
+                self.submit_at(rt, *second, &of_client(*client, bytes))
             }
             Row::Again(second) | Row::Stopped(second) => {
-                self.submit_at(*second, &of_client(FIRST, REQUEST))
+                self.submit_at(rt, *second, &of_client(FIRST, REQUEST))
             }
-            Row::Peer(second, from, bytes) => { self.submit_at(*second, &of_peer(*from, bytes)) }
-            _ => Err(Fail::new("a row without an arrival")),
+            Row::Peer(second, from, bytes) => {
+                self.submit_at(rt, *second, &of_peer(*from, bytes))
+            }
+            _ => panic!(rt; "a row without an arrival"),
         }
     }
 
+    /// Submits the arrival of a row, of which the growth after so many is refused, and returns whether one was: the result
+    /// has to say it.
+    pub fn lacks_memory(
+        &mut self,
+        rt: &impl Abort,
+        refusing: &Refusing<Global>,
+        row: &Row,
+        served: u64,
+    ) -> bool {
+        refusing.arm(served);
+        let taken = self.submit(rt, row);
+        let was_refused = refusing.has_refused();
+        refusing.arm(u64::MAX);
+        match taken {
+            Ok(()) => assert!(rt; !was_refused),
+            Err(refused) => assert!(rt; was_refused && refused == SubmitRefused::Memory),
+        }
+        was_refused
+    }
+
     /// Whether a commit hands out these datagrams.
-    pub fn hands_out(&mut self, wanted: &[Sent]) -> Result<bool, Fail> {
-        let outs = self.commit()?;
-        are_sent(&outs, wanted)
+    pub fn hands_out(&mut self, rt: &impl Abort, wanted: &[Sent]) -> bool {
+        let outs = self.commit(rt);
+        are_sent(rt, &outs, wanted)
     }
 
     /// Whether a commit is refused for this reason.
@@ -193,17 +200,18 @@ impl<A: Allocator + Copy, B: Allocator + Copy> Player<A, B> {
     }
 
     /// Whether the arrival of a row is refused for this reason, and nothing changes.
-    fn refuses(&mut self, row: &Row, wanted: SubmitRefused) -> Result<bool, Fail> {
+    fn refuses(&mut self, rt: &impl Abort, row: &Row, wanted: SubmitRefused) -> bool {
         let (clock, len) = (self.clock(), self.table().len());
-        let is_refused = self.submit(row)? == Err(wanted);
-        Ok(is_refused && self.clock() == clock && self.table().len() == len)
+        let is_refused = self.submit(rt, row) == Err(wanted);
+        is_refused && self.clock() == clock && self.table().len() == len
     }
 
     /// The bytes of the disk, and how many of its calls failed.
-    pub fn kept(&self) -> Result<Kept, Fail> {
-        let content = Vec::from_slice(self.alloc, self.disk().content())?;
-        let failures = self.disk().failures();
-        Ok(Kept { content, failures })
+    pub fn kept(&self, rt: &impl Abort) -> Kept {
+        Kept {
+            content: Vec::from_slice(self.alloc, self.disk().content()).expect(rt, "memory"),
+            failures: self.disk().failures(),
+        }
     }
 
     /// Whether the disk is as it was, and no further call failed.
@@ -212,20 +220,20 @@ impl<A: Allocator + Copy, B: Allocator + Copy> Player<A, B> {
     }
 
     /// Whether the server is stopped: the arrival of a row and a commit are refused, and the disk stays as it is.
-    fn is_stopped(&mut self, row: &Row) -> Result<bool, Fail> {
-        let kept = self.kept()?;
-        let refuses = self.refuses(row, SubmitRefused::Stopped)?;
-        Ok(refuses && self.fails(CommitRefused::Stopped) && self.keeps(&kept))
+    fn is_stopped(&mut self, rt: &impl Abort, row: &Row) -> bool {
+        let kept = self.kept(rt);
+        let refuses = self.refuses(rt, row, SubmitRefused::Stopped);
+        refuses && self.fails(CommitRefused::Stopped) && self.keeps(&kept)
     }
 
     /// Whether a commit hands out nothing and makes no device call.
-    pub fn is_idle(&mut self) -> Result<bool, Fail> {
-        let kept = self.kept()?;
+    pub fn is_idle(&mut self, rt: &impl Abort) -> bool {
+        let kept = self.kept(rt);
         self.disk().fail_call(1);
-        let is_empty = self.hands_out(&[])?;
+        let is_empty = self.hands_out(rt, &[]);
         // In place of the first one, which no call has met.
         self.disk().fail_call(u64::MAX);
-        Ok(is_empty && self.keeps(&kept))
+        is_empty && self.keeps(&kept)
     }
 
     /// Lets the device call of this number fail, where 1 is the next one. There is no call 0.
@@ -237,108 +245,73 @@ impl<A: Allocator + Copy, B: Allocator + Copy> Player<A, B> {
     }
 
     /// Whether a row that submits or commits goes as the test says.
-    fn goes(&mut self, row: &Row) -> Result<bool, Fail> {
+    fn goes(&mut self, rt: &impl Abort, row: &Row) -> bool {
         match row {
             Row::Ask(_, _, _, _, _) | Row::Client(_, _, _) | Row::Peer(_, _, _) => {
-                Ok(self.submit(row)?.is_ok())
+                self.submit(rt, row).is_ok()
             }
-            Row::Full(_, _, _) => self.refuses(row, SubmitRefused::BatchFull),
+            Row::Full(_, _, _) => self.refuses(rt, row, SubmitRefused::BatchFull),
             Row::Again(_) => {
-                Ok(self.submit(row)?.is_ok() && self.hands_out(&[Sent::Client(FIRST, SUCCESS)])?)
+                self.submit(rt, row).is_ok() && self.hands_out(rt, &[Sent::Client(FIRST, SUCCESS)])
             }
-            Row::Stopped(_) => self.is_stopped(row),
-            Row::Commit(sent) => self.hands_out(sent),
-            Row::Idle => self.is_idle(),
-            Row::FailCall(call) => Ok(self.fail_call(*call)),
-            Row::Fails(refused) => Ok(self.fails(*refused)),
-            found => self.finds(found),
+            Row::Stopped(_) => self.is_stopped(rt, row),
+            Row::Commit(sent) => self.hands_out(rt, sent),
+            Row::Idle => self.is_idle(rt),
+            Row::FailCall(call) => self.fail_call(*call),
+            Row::Fails(refused) => self.fails(*refused),
+            found => self.finds(rt, found),
         }
     }
 
     /// Whether the state is what the test says.
-    fn finds(&self, row: &Row) -> Result<bool, Fail> {
+    fn finds(&self, rt: &impl Abort, row: &Row) -> bool {
         match row {
-            Row::Has(place, bytes) => Ok(has_at(self.disk().content(), *place, bytes)),
-            Row::Live(live) => Ok(are_live(self.table(), live)),
-            Row::Clock(second) => Ok(self.clock() == at(*second)?),
-            Row::Picked(ports) => Ok(self.ports().picked() == *ports),
-            Row::Released(ports) => Ok(self.ports().released() == *ports),
-            _ => Err(Fail::new("a row that submits or commits")),
+            Row::Has(place, bytes) => has_at(self.disk().content(), *place, bytes),
+            Row::Live(live) => are_live(self.table(), live),
+            Row::Clock(second) => self.clock() == moment(rt, *second),
+            Row::Picked(ports) => self.ports().picked() == *ports,
+            Row::Released(ports) => self.ports().released() == *ports,
+            _ => panic!(rt; "a row that submits or commits"),
         }
     }
 
     /// Plays rows in their order, and fails with the place of the first that goes otherwise.
-    pub fn play(&mut self, rows: &[Row]) -> Result<(), Fail> {
+    pub fn play(&mut self, rt: &impl Abort, rows: &[Row]) {
         for (place, row) in rows.iter().enumerate() {
-            if !self.goes(row)? || !self.keeps_ports() {
-                return Err(Fail::new(place));
+            if !self.goes(rt, row) || !self.keeps_ports() {
+                panic!(rt; "row {place}");
             }
         }
-        Ok(())
-    }
-}
-
-impl<'a, B: Allocator + Copy> Player<&'a Refusing<Global>, B> {
-    /// Submits the arrival of a row, of which the growth after so many is refused, and returns whether one was: the result
-    /// has to say it.
-    pub fn lacks_memory(
-        &mut self,
-        refusing: &'a Refusing<Global>,
-        row: &Row,
-        served: u64,
-    ) -> Result<bool, Fail> {
-        refusing.arm(served);
-        let taken = self.submit(row)?;
-        let was_refused = refusing.has_refused();
-        refusing.arm(u64::MAX);
-        match taken {
-            Ok(()) if !was_refused => Ok(false),
-            Err(SubmitRefused::Memory) if was_refused => Ok(true),
-            _ => Err(Fail::new("another result")),
-        }
-    }
-}
-
-impl<A: Allocator + Copy> Player<A, A> {
-    /// A server over an empty store.
-    pub fn new(inner: A, alloc: Global, setup: &Setup) -> Result<Player<A, A>, Fail> {
-        let disk = setup.disk(inner)?;
-        Player::open(inner, alloc, setup, disk)
     }
 }
 
 impl Player {
-    /// Closes the server, crashes the disk, and opens it again.
-    pub fn crash(self, outcome: Outcome) -> Result<Player, Fail> {
+    /// Crashes the disk of the closed server, and plays rows at a server that opens it.
+    pub fn crash_and_play(self, rt: &impl Abort, outcome: Outcome, rows: &[Row]) {
         let (alloc, setup) = (self.alloc, self.setup);
         let mut disk = self.close();
         disk.crash(outcome);
-        Player::open(alloc, alloc, &setup, disk)
-    }
-
-    /// Crashes the disk, and plays rows at a server that opens it.
-    pub fn crash_and_play(self, outcome: Outcome, rows: &[Row]) -> Result<(), Fail> {
-        self.crash(outcome)?.play(rows)
-    }
-
-    /// Closes the server, and plays rows at one that opens the disk.
-    pub fn reopen_and_play(self, rows: &[Row]) -> Result<(), Fail> {
-        self.reopen()?.play(rows)
+        play_on(rt, Player::open(rt, alloc, alloc, &setup, disk), rows);
     }
 
     /// Closes the server, and opens the disk again.
-    pub fn reopen(self) -> Result<Player, Fail> {
+    pub fn reopen(self, rt: &impl Abort) -> Player {
         let (alloc, setup) = (self.alloc, self.setup);
-        Player::open(alloc, alloc, &setup, self.close())
+        Player::open(rt, alloc, alloc, &setup, self.close())
+    }
+
+    /// Closes the server, and plays rows at one that opens the disk.
+    pub fn reopen_and_play(self, rt: &impl Abort, rows: &[Row]) {
+        play_on(rt, self.reopen(rt), rows);
     }
 }
 
 /// Plays rows at a server.
-pub fn play_on(mut player: Player, rows: &[Row]) -> Result<(), Fail> {
-    player.play(rows)
+pub fn play_on(rt: &impl Abort, mut player: Player, rows: &[Row]) {
+    player.play(rt, rows);
 }
 
 /// Plays rows at a new server.
-pub fn play(alloc: Global, setup: &Setup, rows: &[Row]) -> Result<(), Fail> {
-    Player::new(alloc, alloc, setup)?.play(rows)
+pub fn play(rt: &impl Abort, alloc: Global, setup: &Setup, rows: &[Row]) {
+    play_on(rt, Player::new(rt, alloc, alloc, setup), rows);
 }

@@ -6,8 +6,8 @@ use crate::setup::LARGE;
 use crate::stops::staged;
 use refusing::Refusing;
 use requests_for_tests::{ALICE, Attribute, BOB, FIRST, HOUR, Kind, PEER, SECOND, UDP, ZERO};
-use std::alloc::Global;
-use std::test::Fail;
+use std::alloc::{Allocator, Global};
+use std::process::Abort;
 
 /// An allocation of bob at the second client for an hour from second 1000 on.
 const BOBS: Row = Row::Ask(1000, BOB, SECOND, Kind::Allocate, &[UDP, HOUR]);
@@ -29,8 +29,8 @@ const EXPIRED: [Row; 10] = [
 ];
 
 #[test]
-fn port_is_released_once_its_allocation_has_expired(rt: HostRuntime) -> Result<(), Fail> {
-    play(rt.alloc(), &LARGE, &EXPIRED)
+fn port_is_released_once_its_allocation_has_expired(rt: HostRuntime) {
+    play(&rt, rt.alloc(), &LARGE, &EXPIRED);
 }
 
 const DELETED: [Row; 12] = [
@@ -50,8 +50,8 @@ const DELETED: [Row; 12] = [
 
 // Neither by a second deletion nor at the second at which it would have expired.
 #[test]
-fn port_of_a_deleted_allocation_is_released_once(rt: HostRuntime) -> Result<(), Fail> {
-    play(rt.alloc(), &LARGE, &DELETED)
+fn port_of_a_deleted_allocation_is_released_once(rt: HostRuntime) {
+    play(&rt, rt.alloc(), &LARGE, &DELETED);
 }
 
 const NOTHING_PICKED: [Row; 8] = [
@@ -72,8 +72,8 @@ const NOTHING_PICKED: [Row; 8] = [
 ];
 
 #[test]
-fn no_port_is_picked_that_no_allocation_gets(rt: HostRuntime) -> Result<(), Fail> {
-    play(rt.alloc(), &LARGE, &NOTHING_PICKED)
+fn no_port_is_picked_that_no_allocation_gets(rt: HostRuntime) {
+    play(&rt, rt.alloc(), &LARGE, &NOTHING_PICKED);
 }
 
 /// Of a server that was opened with alice's allocation, whose port it has not picked.
@@ -91,8 +91,8 @@ const RECOVERED: [Row; 10] = [
 ];
 
 #[test]
-fn port_of_a_stored_allocation_is_released_once(rt: HostRuntime) -> Result<(), Fail> {
-    staged(rt.alloc(), 1001)?.reopen()?.play(&RECOVERED)
+fn port_of_a_stored_allocation_is_released_once(rt: HostRuntime) {
+    staged(&rt, rt.alloc(), 1001).reopen_and_play(&rt, &RECOVERED);
 }
 
 /// The port that was picked for an Allocate which then lacked memory. The same Allocate gets it afterwards.
@@ -115,43 +115,39 @@ const ASKED: [Row; 4] = [
 ];
 
 /// The same of a server that has the allocation.
-fn lacks_memory_beside<'a>(
-    refusing: &'a Refusing<Global>,
-    player: &mut Player<&'a Refusing<Global>, &'a Refusing<Global>>,
+fn lacks_memory_beside<A: Allocator + Copy>(
+    rt: &impl Abort,
+    refusing: &Refusing<Global>,
+    player: &mut Player<A>,
     served: u64,
-) -> Result<bool, Fail> {
-    player.play(&ASKED)?;
-    let was_refused = player.lacks_memory(refusing, &BOBS, served)?;
-    if !player.keeps_ports() {
-        return Err(Fail::new("another port"));
-    }
+) -> bool {
+    player.play(rt, &ASKED);
+    let was_refused = player.lacks_memory(rt, refusing, &BOBS, served);
+    assert!(rt; player.keeps_ports());
     if was_refused {
-        player.play(&UNUSED)?;
+        player.play(rt, &UNUSED);
     }
-    Ok(was_refused)
+    was_refused
 }
 
 /// Whether bob's Allocate beside alice's allocation lacks memory where the growth after so many is refused.
-fn lacks_memory(alloc: Global, served: u64) -> Result<bool, Fail> {
+fn lacks_memory(rt: &impl Abort, alloc: Global, served: u64) -> bool {
     let refusing = Refusing::new(alloc, u64::MAX);
-    let mut player = Player::new(&refusing, alloc, &LARGE)?;
-    lacks_memory_beside(&refusing, &mut player, served)
+    let mut player = Player::new(rt, &refusing, alloc, &LARGE);
+    lacks_memory_beside(rt, &refusing, &mut player, served)
 }
 
 /// How many growths are refused, one after the other.
-fn refused_growths(alloc: Global) -> Result<u64, Fail> {
+fn refused_growths(rt: &impl Abort, alloc: Global) -> u64 {
     for served in 0..32u64 {
-        if !lacks_memory(alloc, served)? {
-            return Ok(served);
+        if !lacks_memory(rt, alloc, served) {
+            return served;
         }
     }
-    Err(Fail::new("some growth is always refused"))
+    panic!(rt; "some growth is always refused");
 }
 
 #[test]
-fn picked_port_is_released_after_an_allocation_failure(rt: HostRuntime) -> Result<(), Fail> {
-    if refused_growths(rt.alloc())? <= 1 {
-        return Err(Fail::new("few growths"));
-    }
-    Ok(())
+fn picked_port_is_released_after_an_allocation_failure(rt: HostRuntime) {
+    assert!(rt; refused_growths(&rt, rt.alloc()) > 1);
 }

@@ -1,15 +1,22 @@
 //! Datagrams, tables and bytes that are the same.
 
 use crate::row::{Live, Sent};
+use crate::setup::made;
 use requests_for_tests::{code_of, five_tuple};
 use std::alloc::Allocator;
-use std::test::Fail;
+use std::process::Abort;
 use turn_codec::Message;
 use turn_step::Outgoing;
 use turn_table::{Entry, Table};
 
+/// Whether a datagram is a response with this code.
+fn has_code(rt: &impl Abort, bytes: &[u8], code: u16) -> bool {
+    let message = Message::parse(bytes).expect(rt, "a message");
+    made(rt, code_of(&message), "a code") == code
+}
+
 /// Whether a datagram is the one that a test wants.
-fn is_sent<A: Allocator>(out: &Outgoing<A>, wanted: &Sent) -> Result<bool, Fail> {
+fn is_sent<A: Allocator>(rt: &impl Abort, out: &Outgoing<A>, wanted: &Sent) -> bool {
     match (out, wanted) {
         (
             Outgoing::ToClient {
@@ -17,29 +24,29 @@ fn is_sent<A: Allocator>(out: &Outgoing<A>, wanted: &Sent) -> Result<bool, Fail>
                 bytes,
             },
             Sent::Client(client, expected),
-        ) => Ok(*to == five_tuple(*client) && bytes.as_slice() == *expected),
+        ) => *to == five_tuple(*client) && bytes.as_slice() == *expected,
         (
             Outgoing::ToClient {
                 five_tuple: to,
                 bytes,
             },
             Sent::Code(client, code),
-        ) => Ok(*to == five_tuple(*client) && code_of(&Message::parse(bytes)?)? == *code),
+        ) => *to == five_tuple(*client) && has_code(rt, bytes, *code),
         (Outgoing::ToPeer { port, peer, bytes }, Sent::Peer(to, expected)) => {
-            Ok(*port == 50000 && *peer == *to && bytes.as_slice() == *expected)
+            *port == 50000 && *peer == *to && bytes.as_slice() == *expected
         }
-        _ => Ok(false),
+        _ => false,
     }
 }
 
 /// Whether datagrams are those that a test wants, in their order.
-pub fn are_sent<A: Allocator>(outs: &[Outgoing<A>], wanted: &[Sent]) -> Result<bool, Fail> {
+pub fn are_sent<A: Allocator>(rt: &impl Abort, outs: &[Outgoing<A>], wanted: &[Sent]) -> bool {
     for (out, sent) in outs.iter().zip(wanted.iter()) {
-        if !is_sent(out, sent)? {
-            return Ok(false);
+        if !is_sent(rt, out, sent) {
+            return false;
         }
     }
-    Ok(outs.len() == wanted.len())
+    outs.len() == wanted.len()
 }
 
 /// Whether a table has these allocations and no others, in this order.
@@ -51,7 +58,7 @@ pub fn are_live<A: Allocator + Copy>(table: &Table<A>, wanted: &[Live]) -> bool 
 }
 
 /// Whether two datagrams go to the same address by the same bytes.
-fn is_same<A: Allocator, B: Allocator>(first: &Outgoing<A>, second: &Outgoing<B>) -> bool {
+fn is_same<A: Allocator>(first: &Outgoing<A>, second: &Outgoing<A>) -> bool {
     match (first, second) {
         (
             Outgoing::ToClient { five_tuple, bytes },
@@ -73,7 +80,7 @@ fn is_same<A: Allocator, B: Allocator>(first: &Outgoing<A>, second: &Outgoing<B>
 }
 
 /// Whether two lists have the same datagrams in the same order.
-pub fn are_same<A: Allocator, B: Allocator>(first: &[Outgoing<A>], second: &[Outgoing<B>]) -> bool {
+pub fn are_same<A: Allocator>(first: &[Outgoing<A>], second: &[Outgoing<A>]) -> bool {
     first.len() == second.len()
         && first
             .iter()
@@ -81,10 +88,7 @@ pub fn are_same<A: Allocator, B: Allocator>(first: &[Outgoing<A>], second: &[Out
             .all(|(first, second)| is_same(first, second))
 }
 
-fn is_same_entry<A: Allocator + Copy, B: Allocator + Copy>(
-    first: &Entry<A>,
-    second: &Entry<B>,
-) -> bool {
+fn is_same_entry<A: Allocator + Copy>(first: &Entry<A>, second: &Entry<A>) -> bool {
     first.user() == second.user()
         && (first.port(), first.granted(), first.expiry())
             == (second.port(), second.granted(), second.expiry())
@@ -94,10 +98,7 @@ fn is_same_entry<A: Allocator + Copy, B: Allocator + Copy>(
 }
 
 /// Whether two tables have the same entries at the same moment.
-pub fn is_same_table<A: Allocator + Copy, B: Allocator + Copy>(
-    first: &Table<A>,
-    second: &Table<B>,
-) -> bool {
+pub fn is_same_table<A: Allocator + Copy>(first: &Table<A>, second: &Table<A>) -> bool {
     first.moment() == second.moment()
         && first.len() == second.len()
         && first.entries().zip(second.entries()).all(|((tuple, entry), (other, other_entry))| {

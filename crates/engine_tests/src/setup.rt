@@ -2,6 +2,7 @@
 
 use requests_for_tests::{Ports, config};
 use std::alloc::Allocator;
+use std::process::Abort;
 use std::test::Fail;
 use turn_disk::{Disk, MemoryDisk};
 use turn_ports::PortRange;
@@ -57,40 +58,40 @@ pub const LARGE: Setup = Setup {
     ..SMALL
 };
 
-fn format_disk<D: Disk>(disk: &mut D, limits: Limits, area: usize) -> Result<(), Fail> {
-    let size = disk.size();
-    if !(size >= 64 && size % 2 == 0 && (size - 64) / 2 == area) {
-        return Err(Fail::new("another size"));
-    }
-    match format(disk, limits, area) {
-        Ok(()) => Ok(()),
-        Err(_) => Err(Fail::new("not formatted")),
+/// What was made for a test, which fails without it.
+pub fn made<T>(rt: &impl Abort, outcome: Result<T, Fail>, what: &str) -> T {
+    match outcome {
+        Ok(value) => value,
+        Err(_) => panic!(rt; "{what}"),
     }
 }
 
+fn format_disk<D: Disk>(rt: &impl Abort, disk: &mut D, limits: Limits, area: usize) {
+    let size = disk.size();
+    assert!(rt; size >= 64 && size % 2 == 0 && (size - 64) / 2 == area);
+    assert!(rt; format(disk, limits, area).is_ok());
+}
+
 impl Setup {
-    fn limits(&self) -> Result<Limits, Fail> {
-        Ok(Limits::new(self.bounds).ok_or("limits")?)
+    fn limits(&self, rt: &impl Abort) -> Limits {
+        Limits::new(self.bounds).expect(rt, "limits")
     }
 
     /// With a quota of 2.
-    pub fn config<A: Allocator + Copy>(&self, alloc: A) -> Result<ServerConfig<A>, Fail> {
-        config(alloc, 2, self.bounds)
+    pub fn config<A: Allocator + Copy>(&self, rt: &impl Abort, alloc: A) -> ServerConfig<A> {
+        made(rt, config(alloc, 2, self.bounds), "a configuration")
     }
 
-    pub fn ports(&self) -> Result<Ports, Fail> {
-        let range = PortRange::new(self.ports.0, self.ports.1).ok_or("a range")?;
-        Ok(Ports::new(range))
+    pub fn ports(&self, rt: &impl Abort) -> Ports {
+        Ports::new(PortRange::new(self.ports.0, self.ports.1).expect(rt, "a range"))
     }
 
     /// A disk with an empty store, which was formatted over zeros.
-    pub fn disk<A: Allocator + Copy>(&self, alloc: A) -> Result<MemoryDisk<A>, Fail> {
-        if self.area > 2_000_000 {
-            return Err(Fail::new("a large area"));
-        }
-        let content = Vec::from_elem(alloc, 0u8, 64 + 2 * self.area)?;
+    pub fn disk<A: Allocator + Copy>(&self, rt: &impl Abort, alloc: A) -> MemoryDisk<A> {
+        assert!(rt; self.area <= 2_000_000);
+        let content = Vec::from_elem(alloc, 0u8, 64 + 2 * self.area).expect(rt, "memory");
         let mut disk = MemoryDisk::new(alloc, content);
-        format_disk(&mut disk, self.limits()?, self.area)?;
-        Ok(disk)
+        format_disk(rt, &mut disk, self.limits(rt), self.area);
+        disk
     }
 }

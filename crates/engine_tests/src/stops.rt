@@ -5,7 +5,7 @@ use crate::row::{ALLOCATE, ALLOCATED, Row, Sent};
 use crate::setup::SMALL;
 use requests_for_tests::{ALICE, FIRST, Kind};
 use std::alloc::Global;
-use std::test::Fail;
+use std::process::Abort;
 
 /// Alice's Refresh.
 fn refresh(second: u64) -> Row {
@@ -22,25 +22,25 @@ pub fn act_of(second: u64) -> Row {
 }
 
 /// Alice's allocation, and her Refreshes for 600 seconds from second 1001 on, one a second, each with a commit but the last.
-fn stage_refreshes(player: &mut Player, last: u64) -> Result<(), Fail> {
-    player.play(&[ALLOCATE, ALLOCATED])?;
+fn stage_refreshes(rt: &impl Abort, player: &mut Player, last: u64) {
+    player.play(rt, &[ALLOCATE, ALLOCATED]);
     for second in 1001..last {
-        player.play(&[refresh(second), Row::Commit(&[Sent::Code(FIRST, 0)])])?;
+        player.play(rt, &[refresh(second), Row::Commit(&[Sent::Code(FIRST, 0)])]);
     }
-    player.play(&[refresh(last)])
+    player.play(rt, &[refresh(last)]);
 }
 
-fn stage(player: &mut Player, second: u64) -> Result<(), Fail> {
+fn stage(rt: &impl Abort, player: &mut Player, second: u64) {
     if second > 1000 {
-        stage_refreshes(player, second)
+        stage_refreshes(rt, player, second);
     } else {
-        player.play(&[ALLOCATE])
+        player.play(rt, &[ALLOCATE]);
     }
 }
 
 /// A server whose acts up to this second are staged: alice's allocation at 1000, or a Refresh after those before it.
-pub fn staged(alloc: Global, second: u64) -> Result<Player, Fail> {
-    let mut player = Player::new(alloc, alloc, &SMALL)?;
-    stage(&mut player, second)?;
-    Ok(player)
+pub fn staged(rt: &impl Abort, alloc: Global, second: u64) -> Player {
+    let mut player = Player::new(rt, alloc, alloc, &SMALL);
+    stage(rt, &mut player, second);
+    player
 }

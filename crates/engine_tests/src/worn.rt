@@ -1,29 +1,28 @@
 //! The last generation.
 
-use crate::player::Player;
+use crate::player::{Player, play_on};
 use crate::row::{Row, Sent};
 use crate::setup::SMALL;
 use crate::stops::staged;
 use requests_for_tests::{ALICE, FIRST, Kind};
 use std::alloc::Global;
-use std::test::Fail;
+use std::process::Abort;
 use turn_disk::{Disk, MemoryDisk};
 use turn_engine::CommitRefused;
 
 /// The disk with the last generation in its first area.
-fn with_last_generation(alloc: Global, disk: &MemoryDisk) -> Result<MemoryDisk, Fail> {
-    let mut content = Vec::from_slice(alloc, disk.content())?;
-    if content.len() != 540 {
-        return Err(Fail::new("another size"));
-    }
+fn with_last_generation(rt: &impl Abort, alloc: Global, disk: &MemoryDisk) -> MemoryDisk {
+    let mut content = Vec::from_slice(alloc, disk.content()).expect(rt, "memory");
+    assert!(rt; content.len() == 540);
     content[66..74].fill(0xFF);
-    Ok(MemoryDisk::new(alloc, content))
+    MemoryDisk::new(alloc, content)
 }
 
 /// A server over the store before the act of a second, whose first area has the last generation.
-fn worn(alloc: Global, second: u64) -> Result<Player, Fail> {
-    let disk = staged(alloc, second)?.close();
-    Player::open(alloc, alloc, &SMALL, with_last_generation(alloc, &disk)?)
+fn worn(rt: &impl Abort, alloc: Global, second: u64) -> Player {
+    let disk = staged(rt, alloc, second).close();
+    let disk = with_last_generation(rt, alloc, &disk);
+    Player::open(rt, alloc, alloc, &SMALL, disk)
 }
 
 // The commit makes no device call.
@@ -43,24 +42,20 @@ const WORN: [Row; 9] = [
 const AS_BEFORE: [Row; 2] = [Row::Live(&[(FIRST, 50000, 1605)]), Row::Clock(1005)];
 
 /// Plays `WORN`, after which the disk is as before.
-fn play_worn(player: &mut Player) -> Result<(), Fail> {
-    let kept = player.kept()?;
-    player.play(&WORN)?;
-    if player.keeps(&kept) && player.disk().failures() == 0 {
-        Ok(())
-    } else {
-        Err(Fail::new("another disk"))
-    }
+fn play_worn(rt: &impl Abort, player: &mut Player) {
+    let kept = player.kept(rt);
+    player.play(rt, &WORN);
+    assert!(rt; player.keeps(&kept) && player.disk().failures() == 0);
 }
 
-fn play_worn_and_reopen(mut player: Player) -> Result<(), Fail> {
-    play_worn(&mut player)?;
-    player.reopen_and_play(&AS_BEFORE)
+fn play_worn_and_reopen(rt: &impl Abort, mut player: Player) {
+    play_worn(rt, &mut player);
+    player.reopen_and_play(rt, &AS_BEFORE);
 }
 
 #[test]
-fn commit_without_room_at_the_last_generation_is_worn(rt: HostRuntime) -> Result<(), Fail> {
-    play_worn_and_reopen(worn(rt.alloc(), 1006)?)
+fn commit_without_room_at_the_last_generation_is_worn(rt: HostRuntime) {
+    play_worn_and_reopen(&rt, worn(&rt, rt.alloc(), 1006));
 }
 
 const ROOM: [Row; 4] = [
@@ -71,6 +66,6 @@ const ROOM: [Row; 4] = [
 ];
 
 #[test]
-fn last_generation_takes_frames_as_long_as_there_is_room(rt: HostRuntime) -> Result<(), Fail> {
-    worn(rt.alloc(), 1005)?.play(&ROOM)
+fn last_generation_takes_frames_as_long_as_there_is_room(rt: HostRuntime) {
+    play_on(&rt, worn(&rt, rt.alloc(), 1005), &ROOM);
 }

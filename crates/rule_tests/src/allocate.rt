@@ -4,7 +4,6 @@ use crate::player::play;
 use crate::row::Row;
 use crate::setup::{SETUP, Setup};
 use requests_for_tests::{ALICE, FIRST, Kind, UDP};
-use std::test::Fail;
 
 const ALLOCATE: Kind = Kind::Allocate;
 
@@ -21,6 +20,6 @@ const NO_PORT: [Row; 4] = [
 ];
 
 #[test]
-fn allocate_is_508_where_the_generator_fails(rt: HostRuntime) -> Result<(), Fail> {
-    play(rt.alloc(), &FAILING, &NO_PORT)
+fn allocate_is_508_where_the_generator_fails(rt: HostRuntime) {
+    play(&rt, rt.alloc(), &FAILING, &NO_PORT);
 }

@@ -1,10 +1,10 @@
 //! FINGERPRINT of a Binding request, and unknown types.
 
 use crate::player::Player;
-use crate::setup::SETUP;
+use crate::setup::{SETUP, value_of};
 use requests_for_tests::{FIRST, code_of};
 use std::alloc::Global;
-use std::test::Fail;
+use std::process::Abort;
 use turn_codec::{AttributeType, Builder, Message};
 use turn_types::{Class, Method, TxId};
 
@@ -14,26 +14,22 @@ const FINGERPRINTED: &[u8; 28] =
     \x80\x28\x00\x04\x5b\x20\xf9\xcc";
 
 /// The reply of a new server to a datagram, if there is one.
-fn reply(alloc: Global, bytes: &[u8]) -> Result<Option<Vec<u8>>, Fail> {
-    Player::new(alloc, alloc, &SETUP)?.reply(FIRST, 0, bytes)
+fn reply(rt: &impl Abort, alloc: Global, bytes: &[u8]) -> Option<Vec<u8>> {
+    Player::new(rt, alloc, alloc, &SETUP).reply(rt, FIRST, 0, bytes)
 }
 
 /// The error code of the reply, 0 for a success, and whether it has a FINGERPRINT, or `None` where nothing is answered.
-fn kind_of_reply(alloc: Global, bytes: &[u8]) -> Result<Option<(u16, bool)>, Fail> {
-    let Some(found) = reply(alloc, bytes)? else {
-        return Ok(None);
-    };
-    let message = Message::parse(&found)?;
+fn kind_of_reply(rt: &impl Abort, alloc: Global, bytes: &[u8]) -> Option<(u16, bool)> {
+    let found = reply(rt, alloc, bytes)?;
+    let message = Message::parse(&found).expect(rt, "a message");
     let has_fingerprint = message.find(AttributeType::FINGERPRINT).is_some();
-    Ok(Some((code_of(&message)?, has_fingerprint)))
+    Some((value_of(rt, code_of(&message)), has_fingerprint))
 }
 
 /// Whether the request with a FINGERPRINT is dropped once a bit of a byte is flipped. A bit of the type of FINGERPRINT
 /// makes another attribute of it, of a type that has to be understood where the bit is the first one.
-fn is_judged(alloc: Global, place: usize, bit: u32) -> Result<bool, Fail> {
-    if place >= 28 || bit >= 8 {
-        return Err(Fail::new("a bit that isn't there"));
-    }
+fn is_judged(rt: &impl Abort, alloc: Global, place: usize, bit: u32) -> bool {
+    assert!(rt; place < 28 && bit < 8);
     let mut bytes = *FINGERPRINTED;
     bytes[place] ^= 1 << bit;
     let expected = match (place, bit) {
@@ -41,17 +37,16 @@ fn is_judged(alloc: Global, place: usize, bit: u32) -> Result<bool, Fail> {
         (20 | 21, _) => Some((0, false)),
         _ => None,
     };
-    Ok(kind_of_reply(alloc, &bytes)? == expected)
+    kind_of_reply(rt, alloc, &bytes) == expected
 }
 
 #[test]
-fn each_flipped_bit_under_a_fingerprint_is_dropped(rt: HostRuntime) -> Result<(), Fail> {
+fn each_flipped_bit_under_a_fingerprint_is_dropped(rt: HostRuntime) {
     for i in 0..224u32 {
-        if !is_judged(rt.alloc(), i as usize / 8, i % 8)? {
-            return Err(Fail::new(i));
+        if !is_judged(&rt, rt.alloc(), i as usize / 8, i % 8) {
+            panic!(rt; "bit {i}");
         }
     }
-    Ok(())
 }
 
 /// The types of empty attributes of a Binding request, and the value of UNKNOWN-ATTRIBUTES in the reply, empty for a
@@ -70,55 +65,59 @@ const NAMED: [(&[u16], &[u8]); 4] = [
 ];
 
 /// A Binding request with an empty attribute of each type.
-fn request_with(alloc: Global, types: &[u16]) -> Result<Vec<u8>, Fail> {
-    let mut builder = Builder::new(alloc, Class::Request, Method::BINDING, TxId([9; 12]))?;
+fn request_with(rt: &impl Abort, alloc: Global, types: &[u16]) -> Vec<u8> {
+    let mut builder = Builder::new(alloc, Class::Request, Method::BINDING, TxId([9; 12])).expect(
+        rt, "memory",
+    );
     for kind in types {
-        builder.push(AttributeType::new(*kind), &[])?;
+        builder
+            .push(AttributeType::new(*kind), &[])
+            .expect(rt, "room");
     }
-    Ok(builder.finish())
+    builder.finish()
 }
 
 /// Whether the reply to a Binding request with empty attributes names these types, or is a success where they are none.
-fn names(alloc: Global, types: &[u16], named: &[u8]) -> Result<bool, Fail> {
-    let bytes = request_with(alloc, types)?;
-    let found = reply(alloc, &bytes)?.ok_or("a reply")?;
-    let message = Message::parse(&found)?;
-    Ok(match message.find(AttributeType::UNKNOWN_ATTRIBUTES) {
+fn names(rt: &impl Abort, alloc: Global, types: &[u16], named: &[u8]) -> bool {
+    let bytes = request_with(rt, alloc, types);
+    let found = reply(rt, alloc, &bytes).expect(rt, "a reply");
+    let message = Message::parse(&found).expect(rt, "a message");
+    match message.find(AttributeType::UNKNOWN_ATTRIBUTES) {
         Some(value) => message.class() == Class::Error && value == named,
         None => message.class() == Class::Success && named.is_empty(),
-    })
+    }
 }
 
 #[test]
-fn each_unknown_type_is_named_once(rt: HostRuntime) -> Result<(), Fail> {
+fn each_unknown_type_is_named_once(rt: HostRuntime) {
     for (types, named) in &NAMED {
-        assert!(rt; names(rt.alloc(), types, named)?);
+        assert!(rt; names(&rt, rt.alloc(), types, named));
     }
-    Ok(())
 }
 
 /// The 80 types from 0x4000 on, with 0x4000 after each of them.
-fn eighty_types(alloc: Global) -> Result<Vec<u16>, Fail> {
+fn eighty_types(rt: &impl Abort, alloc: Global) -> Vec<u16> {
     let mut types = Vec::new(alloc);
     for kind in 0x4000..0x4050u16 {
-        types.push(kind)?;
-        types.push(0x4000)?;
+        types.push(kind).expect(rt, "memory");
+        types.push(0x4000).expect(rt, "memory");
     }
-    Ok(types)
+    types
 }
 
 /// The 64 types from 0x4000 on, in the bytes of UNKNOWN-ATTRIBUTES.
-fn first_64(alloc: Global) -> Result<Vec<u8>, Fail> {
+fn first_64(rt: &impl Abort, alloc: Global) -> Vec<u8> {
     let mut named = Vec::new(alloc);
     for kind in 0x4000..0x4040u16 {
-        named.extend_from_slice(&kind.to_be_bytes())?;
+        named
+            .extend_from_slice(&kind.to_be_bytes())
+            .expect(rt, "memory");
     }
-    Ok(named)
+    named
 }
 
 #[test]
-fn the_first_64_unknown_types_are_named(rt: HostRuntime) -> Result<(), Fail> {
-    let types = eighty_types(rt.alloc())?;
-    assert!(rt; names(rt.alloc(), &types, &first_64(rt.alloc())?)?);
-    Ok(())
+fn the_first_64_unknown_types_are_named(rt: HostRuntime) {
+    let types = eighty_types(&rt, rt.alloc());
+    assert!(rt; names(&rt, rt.alloc(), &types, &first_64(&rt, rt.alloc())));
 }

@@ -4,7 +4,7 @@ use crate::player::Player;
 use crate::row::{ALLOCATED, BOUND};
 use crate::setup::SETUP;
 use std::alloc::Global;
-use std::test::Fail;
+use std::process::Abort;
 
 /// The headers of ChannelData, its payload's size, and whether it is sent.
 const SIZES: [(&[u8; 4], usize, bool); 3] = [
@@ -15,36 +15,36 @@ const SIZES: [(&[u8; 4], usize, bool); 3] = [
 
 /// Whether ChannelData with a payload of so many bytes 0x5A is sent to the peer.
 fn is_sent(
+    rt: &impl Abort,
     alloc: Global,
     player: &mut Player,
     header: &[u8; 4],
     size: usize,
-) -> Result<bool, Fail> {
-    let payload = Vec::from_elem(alloc, 0x5Au8, size)?;
-    let mut datagram = Vec::from_slice(alloc, header)?;
-    datagram.extend_from_slice(&payload)?;
-    match player.sent(1000, &datagram)? {
-        Some(found) if found.as_slice() == payload.as_slice() => Ok(true),
-        Some(_) => Err(Fail::new("another payload")),
-        None => Ok(false),
+) -> bool {
+    let payload = Vec::from_elem(alloc, 0x5Au8, size).expect(rt, "memory");
+    let mut datagram = Vec::from_slice(alloc, header).expect(rt, "memory");
+    datagram.extend_from_slice(&payload).expect(rt, "memory");
+    match player.sent(rt, 1000, &datagram) {
+        Some(found) => {
+            assert!(rt; found.as_slice() == payload.as_slice());
+            true
+        }
+        None => false,
     }
 }
 
-fn play_sizes(alloc: Global, player: &mut Player) -> Result<(), Fail> {
-    player.play(&[ALLOCATED, BOUND])?;
+fn play_sizes(rt: &impl Abort, alloc: Global, player: &mut Player) {
+    player.play(rt, &[ALLOCATED, BOUND]);
     for (header, size, sent) in &SIZES {
-        if is_sent(alloc, player, header, *size)? != *sent {
-            return Err(Fail::new(*size));
+        if is_sent(rt, alloc, player, header, *size) != *sent {
+            panic!(rt; "{size} bytes");
         }
     }
-    Ok(())
 }
 
 // A datagram over UDP is never so long, but the limit is one of the payload.
 #[test]
-fn payloads_to_peers_have_up_to_65507_bytes(rt: HostRuntime) -> Result<(), Fail> {
-    play_sizes(
-        rt.alloc(),
-        &mut Player::new(rt.alloc(), rt.alloc(), &SETUP)?,
-    )
+fn payloads_to_peers_have_up_to_65507_bytes(rt: HostRuntime) {
+    let mut player = Player::new(&rt, rt.alloc(), rt.alloc(), &SETUP);
+    play_sizes(&rt, rt.alloc(), &mut player);
 }

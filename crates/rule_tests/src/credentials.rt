@@ -1,10 +1,10 @@
 //! Requests that ask for credentials.
 
 use crate::player::Player;
-use crate::setup::SETUP;
+use crate::setup::{SETUP, value_of};
 use requests_for_tests::{ALICE, FIRST, ID, Kind, REALM, User, code_of, nonce_of, signed};
 use std::alloc::Global;
-use std::test::Fail;
+use std::process::Abort;
 use turn_codec::{AttributeType, Builder, Message};
 use turn_mac::{append_integrity, integrity_holds};
 use turn_types::{Class, Endpoint, Method};
@@ -14,31 +14,28 @@ const NONCE: &[u8] =
     b"00000000000003e867b461aa60944ff2d53aa237b6407c1ab6779c548e297976b3bed07840569489";
 
 /// The reply of a new server to a datagram from a client at a second.
-fn reply(alloc: Global, bytes: &[u8], client: Endpoint, second: u64) -> Result<Vec<u8>, Fail> {
-    let found = Player::new(alloc, alloc, &SETUP)?.reply(client, second, bytes)?;
-    Ok(found.ok_or("a reply")?)
+fn reply(rt: &impl Abort, alloc: Global, bytes: &[u8], client: Endpoint, second: u64) -> Vec<u8> {
+    Player::new(rt, alloc, alloc, &SETUP)
+        .reply(rt, client, second, bytes)
+        .expect(rt, "a reply")
 }
 
 /// Whether a reply is an error with a code, the realm and a nonce, and without an integrity.
-fn is_challenge(reply: &[u8], code: u16, nonce: &[u8]) -> Result<bool, Fail> {
-    let message = Message::parse(reply)?;
-    Ok(
-        code_of(&message)? == code
-            && message.find(AttributeType::REALM) == Some(REALM)
-            && message.find(AttributeType::NONCE) == Some(nonce)
-            && message.before_integrity().is_none(),
-    )
+fn is_challenge(rt: &impl Abort, reply: &[u8], code: u16, nonce: &[u8]) -> bool {
+    let message = Message::parse(reply).expect(rt, "a message");
+    value_of(rt, code_of(&message)) == code
+        && message.find(AttributeType::REALM) == Some(REALM)
+        && message.find(AttributeType::NONCE) == Some(nonce)
+        && message.before_integrity().is_none()
 }
 
 /// Whether a reply is an error with a code and without a nonce, signed by a user's key.
-fn is_signed(reply: &[u8], code: u16, user: User) -> Result<bool, Fail> {
-    let message = Message::parse(reply)?;
-    Ok(
-        message.class() == Class::Error
-            && code_of(&message)? == code
-            && message.find(AttributeType::NONCE).is_none()
-            && integrity_holds(&message, &user.key()),
-    )
+fn is_signed(rt: &impl Abort, reply: &[u8], code: u16, user: User) -> bool {
+    let message = Message::parse(reply).expect(rt, "a message");
+    message.class() == Class::Error
+        && value_of(rt, code_of(&message)) == code
+        && message.find(AttributeType::NONCE).is_none()
+        && integrity_holds(&message, &user.key())
 }
 
 /// Addresses from which a Refresh with the nonce of second 1000 comes, seconds, and the codes of the replies.
@@ -54,61 +51,64 @@ const JUDGED: [(u32, u16, u64, u16); 7] = [
 
 /// Whether a datagram is refused with a new nonce at 438, and by a signed error else.
 fn is_judged(
+    rt: &impl Abort,
     alloc: Global,
     bytes: &[u8],
     client: Endpoint,
     second: u64,
     code: u16,
-) -> Result<bool, Fail> {
-    let found = reply(alloc, bytes, client, second)?;
+) -> bool {
+    let found = reply(rt, alloc, bytes, client, second);
     if code == 438 {
-        return is_challenge(&found, code, &nonce_of(second, client)?);
+        return is_challenge(rt, &found, code, &value_of(rt, nonce_of(second, client)));
     }
-    is_signed(&found, code, ALICE)
+    is_signed(rt, &found, code, ALICE)
 }
 
 #[test]
-fn nonce_is_of_its_client_and_holds_for_an_hour(rt: HostRuntime) -> Result<(), Fail> {
-    let bytes = signed(rt.alloc(), ALICE, Kind::Refresh, NONCE, &[])?;
+fn nonce_is_of_its_client_and_holds_for_an_hour(rt: HostRuntime) {
+    let bytes = value_of(&rt, signed(rt.alloc(), ALICE, Kind::Refresh, NONCE, &[]));
     for (ip, port, second, code) in &JUDGED {
         let client = Endpoint {
             ip: *ip,
             port: *port,
         };
-        assert!(rt; is_judged(rt.alloc(), &bytes, client, *second, *code)?);
+        assert!(rt; is_judged(&rt, rt.alloc(), &bytes, client, *second, *code));
     }
-    Ok(())
 }
 
 /// A Refresh of alice without a nonce.
-fn without_nonce(alloc: Global) -> Result<Vec<u8>, Fail> {
-    let mut builder = Builder::new(alloc, Class::Request, Method::REFRESH, ID)?;
-    builder.push(AttributeType::USERNAME, b"alice")?;
-    builder.push(AttributeType::REALM, REALM)?;
-    append_integrity(&mut builder, &ALICE.key())?;
-    Ok(builder.finish())
+fn without_nonce(rt: &impl Abort, alloc: Global) -> Vec<u8> {
+    let mut builder = Builder::new(alloc, Class::Request, Method::REFRESH, ID).expect(rt, "memory");
+    builder
+        .push(AttributeType::USERNAME, b"alice")
+        .expect(rt, "room");
+    builder.push(AttributeType::REALM, REALM).expect(rt, "room");
+    append_integrity(&mut builder, &ALICE.key()).expect(rt, "room");
+    builder.finish()
 }
 
 /// A Refresh of alice with name, realm and nonce after the integrity.
-fn after_the_integrity(alloc: Global) -> Result<Vec<u8>, Fail> {
-    let mut builder = Builder::new(alloc, Class::Request, Method::REFRESH, ID)?;
-    append_integrity(&mut builder, &ALICE.key())?;
-    builder.push(AttributeType::USERNAME, b"alice")?;
-    builder.push(AttributeType::REALM, REALM)?;
-    builder.push(AttributeType::NONCE, NONCE)?;
-    Ok(builder.finish())
+fn after_the_integrity(rt: &impl Abort, alloc: Global) -> Vec<u8> {
+    let mut builder = Builder::new(alloc, Class::Request, Method::REFRESH, ID).expect(rt, "memory");
+    append_integrity(&mut builder, &ALICE.key()).expect(rt, "room");
+    builder
+        .push(AttributeType::USERNAME, b"alice")
+        .expect(rt, "room");
+    builder.push(AttributeType::REALM, REALM).expect(rt, "room");
+    builder.push(AttributeType::NONCE, NONCE).expect(rt, "room");
+    builder.finish()
 }
 
 /// Whether a datagram gets 400 and no other attribute.
-fn is_bad(alloc: Global, bytes: &[u8]) -> Result<bool, Fail> {
-    let found = reply(alloc, bytes, FIRST, 1000)?;
-    let message = Message::parse(&found)?;
-    Ok(code_of(&message)? == 400 && message.attributes().count() == 1)
+fn is_bad(rt: &impl Abort, alloc: Global, bytes: &[u8]) -> bool {
+    let found = reply(rt, alloc, bytes, FIRST, 1000);
+    let message = Message::parse(&found).expect(rt, "a message");
+    value_of(rt, code_of(&message)) == 400 && message.attributes().count() == 1
 }
 
 #[test]
-fn request_that_lacks_a_credential_is_400(rt: HostRuntime) -> Result<(), Fail> {
-    assert!(rt; is_bad(rt.alloc(), &without_nonce(rt.alloc())?)?);
-    assert!(rt; is_bad(rt.alloc(), &after_the_integrity(rt.alloc())?)?);
-    Ok(())
+fn request_that_lacks_a_credential_is_400(rt: HostRuntime) {
+    assert!(rt; is_bad(&rt, rt.alloc(), &without_nonce(&rt, rt.alloc())));
+    assert!(rt; is_bad(&rt, rt.alloc(), &after_the_integrity(&rt, rt.alloc())));
 }

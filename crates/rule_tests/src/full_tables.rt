@@ -1,11 +1,12 @@
 //! A table with as many allocations as the greatest limits allow.
 
+use crate::setup::moment_at;
 use crate::tables::{Step, act_of, apply, purge_to, tuple};
 use std::alloc::Allocator;
-use std::test::Fail;
+use std::process::Abort;
 use turn_ports::PortSet;
 use turn_table::Table;
-use turn_types::{Limits, Moment};
+use turn_types::Limits;
 
 const CLIENTS: u16 = 1024;
 
@@ -20,24 +21,37 @@ fn port_of(client: u16) -> u16 {
     60000u16.wrapping_sub(client)
 }
 
-fn fill<A: Allocator + Copy>(alloc: A) -> Result<Table<A>, Fail> {
-    let moment = Moment::new(1000).ok_or("a moment")?;
-    let mut table = Table::new(alloc, Limits::MAX, moment);
+fn fill<A: Allocator + Copy>(rt: &impl Abort, alloc: A) -> Table<A> {
+    let mut table = Table::new(alloc, Limits::MAX, moment_at(rt, 1000));
     for client in 1..=CLIENTS {
-        let step = Step::Alloc(user_of(client), port_of(client), 600);
-        apply(&mut table, tuple(client), act_of(alloc, step)?)?;
+        allocate(rt, alloc, &mut table, client);
     }
-    Ok(table)
+    table
+}
+
+fn allocate<A: Allocator + Copy>(rt: &impl Abort, alloc: A, table: &mut Table<A>, client: u16) {
+    let step = Step::Alloc(user_of(client), port_of(client), 600);
+    apply(rt, table, tuple(client), act_of(rt, alloc, step));
+}
+
+fn renew<A: Allocator + Copy>(
+    rt: &impl Abort,
+    alloc: A,
+    table: &mut Table<A>,
+    client: u16,
+    granted: u32,
+) {
+    let act = act_of(rt, alloc, Step::Renew(granted));
+    apply(rt, table, tuple(client), act);
 }
 
 /// Ends each third allocation, all of one user.
-fn end_thirds<A: Allocator + Copy>(alloc: A, table: &mut Table<A>) -> Result<(), Fail> {
+fn end_thirds<A: Allocator + Copy>(rt: &impl Abort, alloc: A, table: &mut Table<A>) {
     for client in 1..=CLIENTS {
         if client % 3 == 0 {
-            apply(table, tuple(client), act_of(alloc, Step::Renew(0))?)?;
+            renew(rt, alloc, table, client, 0);
         }
     }
-    Ok(())
 }
 
 /// Whether a client's entry is found by its five-tuple and by its port, or by neither.
@@ -84,50 +98,56 @@ fn counts<A: Allocator + Copy>(table: &Table<A>) -> (usize, usize, usize) {
     )
 }
 
-#[test]
-fn a_full_table_finds_each_entry(rt: HostRuntime) -> Result<(), Fail> {
-    let table = fill(rt.alloc())?;
-    assert!(rt; table.is_full() && are_found(&table, true));
-    assert!(rt; counts(&table) == (342, 341, 341) && table.count_of_user(b"al") == 0);
-    assert!(rt; count_rising(&table) == 1024 && table.last() == Some(tuple(CLIENTS)));
+fn finds_all(rt: &impl Abort, table: &Table) {
+    assert!(rt; table.is_full() && are_found(table, true));
+    assert!(rt; counts(table) == (342, 341, 341) && table.count_of_user(b"al") == 0);
+    assert!(rt; count_rising(table) == 1024 && table.last() == Some(tuple(CLIENTS)));
     assert!(rt; table.lowest_free(58976, 59999, false).is_none());
     assert!(rt; table.lowest_free(58975, 60001, true) == Some(60000));
-    Ok(())
 }
 
 #[test]
-fn what_ends_in_a_full_table_is_found_no_more(rt: HostRuntime) -> Result<(), Fail> {
-    let mut table = fill(rt.alloc())?;
-    end_thirds(rt.alloc(), &mut table)?;
-    assert!(rt; table.len() == 683 && are_found(&table, false));
-    assert!(rt; counts(&table) == (342, 341, 0) && count_rising(&table) == 683);
+fn a_full_table_finds_each_entry(rt: HostRuntime) {
+    finds_all(&rt, &fill(&rt, rt.alloc()));
+}
+
+fn finds_what_is_left(rt: &impl Abort, table: &Table) {
+    assert!(rt; table.len() == 683 && are_found(table, false));
+    assert!(rt; counts(table) == (342, 341, 0) && count_rising(table) == 683);
     // Client 1,023 had the lowest of the ports that became free, and client 1,020 the lowest even one of them.
     assert!(rt; table.lowest_free(58976, 59999, false) == Some(58977));
     assert!(rt; table.lowest_free(58976, 59999, true) == Some(58980));
-    Ok(())
+}
+
+#[test]
+fn what_ends_in_a_full_table_is_found_no_more(rt: HostRuntime) {
+    let mut table = fill(&rt, rt.alloc());
+    end_thirds(&rt, rt.alloc(), &mut table);
+    finds_what_is_left(&rt, &table);
 }
 
 // ---- Allocations that expire one after the other
 
 /// The allocation of each client at a second of its own, the first at 1000, refreshed there for an hour.
-fn fill_in_turn<A: Allocator + Copy>(alloc: A) -> Result<Table<A>, Fail> {
-    let mut table = Table::new(alloc, Limits::MAX, Moment::new(0).ok_or("a moment")?);
+fn fill_in_turn<A: Allocator + Copy>(rt: &impl Abort, alloc: A) -> Table<A> {
+    let mut table = Table::new(alloc, Limits::MAX, moment_at(rt, 0));
     for client in 1..=CLIENTS {
-        purge_to(&mut table, 999 + u64::from(client))?;
-        let step = Step::Alloc(user_of(client), port_of(client), 600);
-        apply(&mut table, tuple(client), act_of(alloc, step)?)?;
-        apply(&mut table, tuple(client), act_of(alloc, Step::Renew(3600))?)?;
+        purge_to(rt, &mut table, 999 + u64::from(client));
+        allocate(rt, alloc, &mut table, client);
+        renew(rt, alloc, &mut table, client, 3600);
     }
-    Ok(table)
+    table
 }
 
 /// Second 4600 ends the first one alone.
+fn end_the_first(rt: &impl Abort, table: &mut Table) {
+    assert!(rt; purge_to(rt, table, 4599) == (0, 0) && table.is_full());
+    assert!(rt; purge_to(rt, table, 4600) == (1, 59999) && table.len() == 1023);
+    assert!(rt; is_found(table, 1, false) && is_found(table, 2, true));
+    assert!(rt; is_found(table, CLIENTS, true) && count_rising(table) == 1023);
+}
+
 #[test]
-fn entries_of_a_full_table_expire_one_a_second(rt: HostRuntime) -> Result<(), Fail> {
-    let mut table = fill_in_turn(rt.alloc())?;
-    assert!(rt; purge_to(&mut table, 4599)? == (0, 0) && table.is_full());
-    assert!(rt; purge_to(&mut table, 4600)? == (1, 59999) && table.len() == 1023);
-    assert!(rt; is_found(&table, 1, false) && is_found(&table, 2, true));
-    assert!(rt; is_found(&table, CLIENTS, true) && count_rising(&table) == 1023);
-    Ok(())
+fn entries_of_a_full_table_expire_one_a_second(rt: HostRuntime) {
+    end_the_first(&rt, &mut fill_in_turn(&rt, rt.alloc()));
 }

@@ -1,8 +1,9 @@
 //! The calls that judge a request, without a step.
 
+use crate::setup::value_of;
 use requests_for_tests::{FIRST, five_tuple, users};
 use std::alloc::Global;
-use std::test::Fail;
+use std::process::Abort;
 use turn_codec::Message;
 use turn_cred::Checker;
 use turn_rules::{Request, is_protected};
@@ -10,21 +11,25 @@ use turn_types::{Moment, ServerConfig};
 
 /// A datagram of 192.0.2.1:32853, with the outcome of the credential check at a moment.
 pub fn judged<'a>(
+    rt: &impl Abort,
     alloc: Global,
     config: &ServerConfig,
     bytes: &'a [u8],
     moment: Moment,
-) -> Result<Request<'a>, Fail> {
-    let mut checker = Checker::new(alloc, config, users(alloc)?).map_err(|_| "memory")?;
-    let message = Message::parse(bytes)?;
+) -> Request<'a> {
+    let message = Message::parse(bytes).expect(rt, "a message");
     let verdict = if is_protected(message.method()) {
-        Some(checker.check(&message, FIRST, moment))
+        let users = value_of(rt, users(alloc));
+        match Checker::new(alloc, config, users) {
+            Ok(mut checker) => Some(checker.check(&message, FIRST, moment)),
+            Err(_) => panic!(rt; "memory"),
+        }
     } else {
         None
     };
-    Ok(Request {
+    Request {
         message,
         five_tuple: five_tuple(FIRST),
         verdict,
-    })
+    }
 }

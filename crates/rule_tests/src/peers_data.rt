@@ -5,7 +5,7 @@ use crate::row::{ALLOCATED, BOUND, PERMITTED, Row};
 use crate::setup::SETUP;
 use requests_for_tests::PEER_ENDPOINT;
 use std::alloc::Global;
-use std::test::Fail;
+use std::process::Abort;
 use turn_types::Endpoint;
 
 const P: Endpoint = PEER_ENDPOINT;
@@ -26,40 +26,39 @@ const SIZES: [(&[Row], usize, Option<&[u8]>); 4] = [
 ];
 
 /// These bytes, and then so many bytes 0x5A.
-fn padded(alloc: Global, front: &[u8], size: usize) -> Result<Vec<u8>, Fail> {
-    let mut bytes = Vec::from_slice(alloc, front)?;
-    bytes.extend_from_slice(&Vec::from_elem(alloc, 0x5Au8, size)?)?;
-    Ok(bytes)
+fn padded(rt: &impl Abort, alloc: Global, front: &[u8], size: usize) -> Vec<u8> {
+    let padding = Vec::from_elem(alloc, 0x5Au8, size).expect(rt, "memory");
+    let mut bytes = Vec::from_slice(alloc, front).expect(rt, "memory");
+    bytes.extend_from_slice(&padding).expect(rt, "memory");
+    bytes
 }
 
 /// Whether the client gets a payload of so many bytes 0x5A after these bytes, or gets nothing.
 fn is_received(
+    rt: &impl Abort,
     alloc: Global,
     player: &mut Player,
     size: usize,
     front: Option<&[u8]>,
-) -> Result<bool, Fail> {
-    let found = player.received(1000, P, &padded(alloc, &[], size)?)?;
+) -> bool {
+    let found = player.received(rt, 1000, P, &padded(rt, alloc, &[], size));
     match front {
-        Some(front) => Ok(is_same(&found, Some(&padded(alloc, front, size)?))),
-        None => Ok(found.is_none()),
+        Some(front) => is_same(&found, Some(&padded(rt, alloc, front, size))),
+        None => found.is_none(),
     }
 }
 
-fn play_sizes(alloc: Global, player: &mut Player) -> Result<(), Fail> {
+fn play_sizes(rt: &impl Abort, alloc: Global, player: &mut Player) {
     for (rows, size, front) in &SIZES {
-        player.play(rows)?;
-        if !is_received(alloc, player, *size, *front)? {
-            return Err(Fail::new(*size));
+        player.play(rt, rows);
+        if !is_received(rt, alloc, player, *size, *front) {
+            panic!(rt; "{size} bytes");
         }
     }
-    Ok(())
 }
 
 #[test]
-fn datagrams_to_clients_have_up_to_65507_bytes(rt: HostRuntime) -> Result<(), Fail> {
-    play_sizes(
-        rt.alloc(),
-        &mut Player::new(rt.alloc(), rt.alloc(), &SETUP)?,
-    )
+fn datagrams_to_clients_have_up_to_65507_bytes(rt: HostRuntime) {
+    let mut player = Player::new(&rt, rt.alloc(), rt.alloc(), &SETUP);
+    play_sizes(&rt, rt.alloc(), &mut player);
 }

@@ -1,13 +1,13 @@
 //! A server that plays the rows of a test.
 
 use crate::row::Row;
-use crate::setup::Setup;
+use crate::setup::{Setup, moment_at, value_of};
 use requests_for_tests::{
-    Attribute, FIRST, ID, Kind, PEER_ENDPOINT, PEER_IP, Ports, THIRD, User, at, code_of,
-    five_tuple, nonce_of, signed, users,
+    Attribute, FIRST, ID, Kind, PEER_ENDPOINT, PEER_IP, Ports, THIRD, User, code_of, five_tuple,
+    nonce_of, signed, users,
 };
 use std::alloc::{Allocator, Global};
-use std::test::Fail;
+use std::process::Abort;
 use turn_codec::Message;
 use turn_cred::Users;
 use turn_mac::integrity_holds;
@@ -33,12 +33,12 @@ fn of_peer<'a>(port: u16, from: Endpoint, bytes: &'a [u8]) -> Arrival<'a> {
 }
 
 /// The second of a row, and its arrival, whose datagram is given.
-fn arrival_of<'a>(row: &Row, bytes: &'a [u8]) -> Result<(u64, Arrival<'a>), Fail> {
+fn arrival_of<'a>(rt: &impl Abort, row: &Row, bytes: &'a [u8]) -> (u64, Arrival<'a>) {
     match row {
-        Row::Ask(second, _, client, _, _, _) => Ok((*second, of_client(*client, bytes))),
-        Row::Send(second, _, _) => Ok((*second, of_client(FIRST, bytes))),
-        Row::Receive(second, from, _, _) => Ok((*second, of_peer(50000, *from, bytes))),
-        _ => Err(Fail::new("a row without an arrival")),
+        Row::Ask(second, _, client, _, _, _) => (*second, of_client(*client, bytes)),
+        Row::Send(second, _, _) => (*second, of_client(FIRST, bytes)),
+        Row::Receive(second, from, _, _) => (*second, of_peer(50000, *from, bytes)),
+        _ => panic!(rt; "a row without an arrival"),
     }
 }
 
@@ -55,31 +55,27 @@ pub struct State {
 }
 
 /// What goes to a client.
-fn to_client<A: Allocator>(client: Endpoint, out: Outgoing<A>) -> Result<Option<Vec<u8, A>>, Fail> {
+fn to_client<A: Allocator>(rt: &impl Abort, client: Endpoint, out: Outgoing<A>) -> Vec<u8, A> {
     match out {
         Outgoing::ToClient {
             five_tuple: to,
             bytes,
         } => {
-            if to != five_tuple(client) {
-                return Err(Fail::new("a datagram to another client"));
-            }
-            Ok(Some(bytes))
+            assert!(rt; to == five_tuple(client));
+            bytes
         }
-        Outgoing::ToPeer { .. } => Err(Fail::new("a datagram to a peer")),
+        Outgoing::ToPeer { .. } => panic!(rt; "a datagram to a peer"),
     }
 }
 
 /// What goes from port 50000 to 203.0.113.5:7000.
-fn to_peer<A: Allocator>(out: Outgoing<A>) -> Result<Option<Vec<u8, A>>, Fail> {
+fn to_peer<A: Allocator>(rt: &impl Abort, out: Outgoing<A>) -> Vec<u8, A> {
     match out {
         Outgoing::ToPeer { port, peer, bytes } => {
-            if port != 50000 || peer != PEER_ENDPOINT {
-                return Err(Fail::new("another port or peer"));
-            }
-            Ok(Some(bytes))
+            assert!(rt; port == 50000 && peer == PEER_ENDPOINT);
+            bytes
         }
-        Outgoing::ToClient { .. } => Err(Fail::new("a reply")),
+        Outgoing::ToClient { .. } => panic!(rt; "a reply"),
     }
 }
 
@@ -92,12 +88,14 @@ pub struct Player<A: Allocator + Copy = Global> {
 
 impl<A: Allocator + Copy> Player<A> {
     /// A server at second 0, over an allocator. The datagrams that it gets are made over `Global`.
-    pub fn new(inner: A, alloc: Global, setup: &Setup) -> Result<Player<A>, Fail> {
-        let config = setup.config(inner)?;
-        let table = Table::new(inner, config.limits(), at(0)?);
-        match Machine::new(inner, config, users(alloc)?, setup.ports()?, table) {
-            Ok(machine) => Ok(Player { alloc, machine }),
-            Err(_) => Err(Fail::new("memory")),
+    pub fn new(rt: &impl Abort, inner: A, alloc: Global, setup: &Setup) -> Player<A> {
+        let users = value_of(rt, users(alloc));
+        let ports = setup.ports(rt);
+        let config = setup.config(rt, inner);
+        let table = Table::new(inner, config.limits(), moment_at(rt, 0));
+        match Machine::new(inner, config, users, ports, table) {
+            Ok(machine) => Player { alloc, machine },
+            Err(_) => panic!(rt; "memory"),
         }
     }
 
@@ -144,135 +142,141 @@ impl<A: Allocator + Copy> Player<A> {
     /// What an arrival at a second sends.
     pub fn arrive(
         &mut self,
+        rt: &impl Abort,
         second: u64,
         arrival: &Arrival<'_>,
-    ) -> Result<Option<Outgoing<A>>, Fail> {
-        let moment = at(second)?;
-        if moment < self.machine.moment() {
-            return Err(Fail::new("an earlier moment"));
-        }
-        Ok(self.machine.step(moment, arrival)?)
+    ) -> Option<Outgoing<A>> {
+        let moment = moment_at(rt, second);
+        assert!(rt; self.machine.moment() <= moment);
+        self.machine.step(moment, arrival).expect(rt, "memory")
     }
 
     /// What a client's datagram at a second sends.
     pub fn submit(
         &mut self,
+        rt: &impl Abort,
         client: Endpoint,
         second: u64,
         bytes: &[u8],
-    ) -> Result<Option<Outgoing<A>>, Fail> {
-        self.arrive(second, &of_client(client, bytes))
+    ) -> Option<Outgoing<A>> {
+        self.arrive(rt, second, &of_client(client, bytes))
     }
 
     /// The datagram of a row.
-    fn datagram(&self, row: &Row) -> Result<Vec<u8>, Fail> {
+    fn datagram(&self, rt: &impl Abort, row: &Row) -> Vec<u8> {
         match row {
             Row::Ask(second, user, client, kind, attributes, _) => {
-                let nonce = nonce_of(*second, *client)?;
-                signed(self.alloc, *user, *kind, &nonce, attributes)
+                self.request(rt, *user, *client, *second, *kind, attributes)
             }
             Row::Send(_, bytes, _) | Row::Receive(_, _, bytes, _) => {
-                Ok(Vec::from_slice(self.alloc, bytes)?)
+                Vec::from_slice(self.alloc, bytes).expect(rt, "memory")
             }
-            _ => Err(Fail::new("a row without a datagram")),
+            _ => panic!(rt; "a row without a datagram"),
         }
+    }
+
+    /// A request of a user with the nonce of a second.
+    fn request(
+        &self,
+        rt: &impl Abort,
+        user: User,
+        client: Endpoint,
+        second: u64,
+        kind: Kind,
+        attributes: &[Attribute],
+    ) -> Vec<u8> {
+        let nonce = value_of(rt, nonce_of(second, client));
+        value_of(rt, signed(self.alloc, user, kind, &nonce, attributes))
     }
 
     /// Whether the arrival of a row is taken: it isn't after an allocation failure.
-    pub fn is_taken(&mut self, row: &Row) -> Result<bool, Fail> {
-        let bytes = self.datagram(row)?;
-        let (second, arrival) = arrival_of(row, &bytes)?;
-        let moment = at(second)?;
-        if moment < self.machine.moment() {
-            return Err(Fail::new("an earlier moment"));
-        }
-        Ok(self.machine.step(moment, &arrival).is_ok())
+    pub fn is_taken(&mut self, rt: &impl Abort, row: &Row) -> bool {
+        let bytes = self.datagram(rt, row);
+        let (second, arrival) = arrival_of(rt, row, &bytes);
+        let moment = moment_at(rt, second);
+        assert!(rt; self.machine.moment() <= moment);
+        self.machine.step(moment, &arrival).is_ok()
     }
 
     /// Prepares the arrival of a row, and abandons it.
-    pub fn abandon(&mut self, row: &Row) -> Result<(), Fail> {
-        let bytes = self.datagram(row)?;
-        let (second, arrival) = arrival_of(row, &bytes)?;
-        let moment = at(second)?;
-        if moment < self.machine.moment() {
-            return Err(Fail::new("an earlier moment"));
-        }
-        let step = self.machine.prepare(moment, &arrival)?;
+    pub fn abandon(&mut self, rt: &impl Abort, row: &Row) {
+        let bytes = self.datagram(rt, row);
+        let (second, arrival) = arrival_of(rt, row, &bytes);
+        let moment = moment_at(rt, second);
+        assert!(rt; self.machine.moment() <= moment);
+        let step = self.machine.prepare(moment, &arrival).expect(rt, "memory");
         self.machine.abandon(step);
-        Ok(())
     }
 
     /// The reply to a client's datagram at a second, if there is one.
     pub fn reply(
         &mut self,
+        rt: &impl Abort,
         client: Endpoint,
         second: u64,
         bytes: &[u8],
-    ) -> Result<Option<Vec<u8, A>>, Fail> {
-        match self.submit(client, second, bytes)? {
-            Some(out) => to_client(client, out),
-            None => Ok(None),
+    ) -> Option<Vec<u8, A>> {
+        match self.submit(rt, client, second, bytes) {
+            Some(out) => Some(to_client(rt, client, out)),
+            None => None,
         }
     }
 
     /// The payload that 203.0.113.5:7000 gets from port 50000 by a datagram of the first client, if it gets one.
-    pub fn sent(&mut self, second: u64, bytes: &[u8]) -> Result<Option<Vec<u8, A>>, Fail> {
-        match self.submit(FIRST, second, bytes)? {
-            Some(out) => to_peer(out),
-            None => Ok(None),
+    pub fn sent(&mut self, rt: &impl Abort, second: u64, bytes: &[u8]) -> Option<Vec<u8, A>> {
+        match self.submit(rt, FIRST, second, bytes) {
+            Some(out) => Some(to_peer(rt, out)),
+            None => None,
         }
     }
 
     /// What the first client gets by a datagram to port 50000, if it gets anything.
     pub fn received(
         &mut self,
+        rt: &impl Abort,
         second: u64,
         from: Endpoint,
         bytes: &[u8],
-    ) -> Result<Option<Vec<u8, A>>, Fail> {
-        match self.arrive(second, &of_peer(50000, from, bytes))? {
-            Some(out) => to_client(FIRST, out),
-            None => Ok(None),
+    ) -> Option<Vec<u8, A>> {
+        match self.arrive(rt, second, &of_peer(50000, from, bytes)) {
+            Some(out) => Some(to_client(rt, FIRST, out)),
+            None => None,
         }
     }
 
     /// Lets time pass until a second, by a datagram that sends nothing.
-    fn wait(&mut self, second: u64) -> Result<(), Fail> {
-        if self.submit(THIRD, second, &[])?.is_some() {
-            return Err(Fail::new("the empty datagram sends something"));
-        }
-        Ok(())
+    fn wait(&mut self, rt: &impl Abort, second: u64) {
+        assert!(rt; self.submit(rt, THIRD, second, &[]).is_none());
     }
 
     /// The reply to a request of a user with the nonce of its second.
     pub fn ask(
         &mut self,
+        rt: &impl Abort,
         user: User,
         client: Endpoint,
         second: u64,
         kind: Kind,
         attributes: &[Attribute],
-    ) -> Result<Vec<u8, A>, Fail> {
-        let nonce = nonce_of(second, client)?;
-        let bytes = signed(self.alloc, user, kind, &nonce, attributes)?;
-        Ok(self.reply(client, second, &bytes)?.ok_or("a reply")?)
+    ) -> Vec<u8, A> {
+        let bytes = self.request(rt, user, client, second, kind, attributes);
+        self.reply(rt, client, second, &bytes).expect(rt, "a reply")
     }
 
     /// The error code of such a reply, which is signed under the user's key, 0 for a success.
     fn code(
         &mut self,
+        rt: &impl Abort,
         user: User,
         client: Endpoint,
         second: u64,
         kind: Kind,
         attributes: &[Attribute],
-    ) -> Result<u16, Fail> {
-        let reply = self.ask(user, client, second, kind, attributes)?;
-        let message = Message::parse(&reply)?;
-        if message.tx() != user.id() || !integrity_holds(&message, &user.key()) {
-            return Err(Fail::new("another id, or a wrong integrity"));
-        }
-        code_of(&message)
+    ) -> u16 {
+        let reply = self.ask(rt, user, client, second, kind, attributes);
+        let message = Message::parse(&reply).expect(rt, "a message");
+        assert!(rt; message.tx() == user.id() && integrity_holds(&message, &user.key()));
+        value_of(rt, code_of(&message))
     }
 
     /// The second at which the first client's allocation expires, 0 for none.
@@ -292,15 +296,15 @@ impl<A: Allocator + Copy> Player<A> {
     }
 
     /// The port to which 0x4000 is bound at 203.0.113.5, 0 for none.
-    fn bound(&self) -> Result<u16, Fail> {
+    fn bound(&self, rt: &impl Abort) -> u16 {
         let tuple = five_tuple(FIRST);
         match self.table().peer_of(tuple, 0x4000) {
-            Some(peer) if peer.ip != PEER_IP => Err(Fail::new("another address")),
-            Some(peer) if self.table().channel_to(tuple, peer) != Some(0x4000) => {
-                Err(Fail::new("another channel to the peer"))
+            Some(peer) => {
+                assert!(rt; peer.ip == PEER_IP);
+                assert!(rt; self.table().channel_to(tuple, peer) == Some(0x4000));
+                peer.port
             }
-            Some(peer) => Ok(peer.port),
-            None => Ok(0),
+            None => 0,
         }
     }
 
@@ -309,57 +313,56 @@ impl<A: Allocator + Copy> Player<A> {
     }
 
     /// Whether a row that sends something goes as the test says.
-    pub fn goes(&mut self, row: &Row) -> Result<bool, Fail> {
+    pub fn goes(&mut self, rt: &impl Abort, row: &Row) -> bool {
         match row {
             Row::Ask(second, user, client, kind, attributes, code) => {
-                Ok(self.code(*user, *client, *second, *kind, attributes)? == *code)
+                self.code(rt, *user, *client, *second, *kind, attributes) == *code
             }
-            Row::Send(second, bytes, payload) => Ok(is_same(&self.sent(*second, bytes)?, *payload)),
+            Row::Send(second, bytes, payload) => is_same(&self.sent(rt, *second, bytes), *payload),
             Row::Receive(second, from, bytes, datagram) => {
-                Ok(is_same(&self.received(*second, *from, bytes)?, *datagram))
+                is_same(&self.received(rt, *second, *from, bytes), *datagram)
             }
             Row::Drop(second, client, bytes) => {
-                Ok(self.submit(*client, *second, bytes)?.is_none())
+                self.submit(rt, *client, *second, bytes).is_none()
             }
-            found => self.finds(found),
+            found => self.finds(rt, found),
         }
     }
 
     /// Whether the state is what the test says.
-    fn finds(&mut self, row: &Row) -> Result<bool, Fail> {
+    fn finds(&mut self, rt: &impl Abort, row: &Row) -> bool {
         match row {
             Row::Port(second, client, port) => {
-                self.wait(*second)?;
-                Ok(self.port_of(*client) == *port)
+                self.wait(rt, *second);
+                self.port_of(*client) == *port
             }
             Row::Expiry(second, expiry) => {
-                self.wait(*second)?;
-                Ok(self.expiry() == *expiry)
+                self.wait(rt, *second);
+                self.expiry() == *expiry
             }
             Row::Permitted(second, ip, permitted) => {
-                self.wait(*second)?;
-                Ok(self.permitted(*ip) == *permitted)
+                self.wait(rt, *second);
+                self.permitted(*ip) == *permitted
             }
             Row::Bound(second, port, permitted) => {
-                self.wait(*second)?;
-                Ok(self.bound()? == *port && self.permitted(PEER_IP) == *permitted)
+                self.wait(rt, *second);
+                self.bound(rt) == *port && self.permitted(PEER_IP) == *permitted
             }
-            Row::Entries(count) => Ok(self.table().len() == *count),
-            Row::Released(ports) => Ok(are_the_same(self.ports().released(), ports)),
-            Row::Picked(ports) => Ok(self.ports().picked() == *ports),
-            Row::Failures(count) => Ok(self.ports().failures() == *count),
-            _ => Err(Fail::new("a row that sends something")),
+            Row::Entries(count) => self.table().len() == *count,
+            Row::Released(ports) => are_the_same(self.ports().released(), ports),
+            Row::Picked(ports) => self.ports().picked() == *ports,
+            Row::Failures(count) => self.ports().failures() == *count,
+            _ => panic!(rt; "a row that sends something"),
         }
     }
 
-    /// Plays rows in their order, and fails with the place of the first that goes otherwise.
-    pub fn play(&mut self, rows: &[Row]) -> Result<(), Fail> {
+    /// Plays rows in their order, and ends the test with the place of the first that goes otherwise.
+    pub fn play(&mut self, rt: &impl Abort, rows: &[Row]) {
         for (place, row) in rows.iter().enumerate() {
-            if !self.goes(row)? || !self.keeps_ports() {
-                return Err(Fail::new(place));
+            if !self.goes(rt, row) || !self.keeps_ports() {
+                panic!(rt; "row {place}");
             }
         }
-        Ok(())
     }
 }
 
@@ -385,6 +388,6 @@ fn count_of(ports: &[u16], port: u16) -> usize {
 }
 
 /// Plays rows at a new server.
-pub fn play(alloc: Global, setup: &Setup, rows: &[Row]) -> Result<(), Fail> {
-    Player::new(alloc, alloc, setup)?.play(rows)
+pub fn play(rt: &impl Abort, alloc: Global, setup: &Setup, rows: &[Row]) {
+    Player::new(rt, alloc, alloc, setup).play(rt, rows);
 }

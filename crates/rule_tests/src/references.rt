@@ -1,11 +1,12 @@
 //! The reference implementation of tables, and the table against it.
 
+use crate::setup::moment_at;
 use crate::tables::{PEER_IP, Step, act_of, peer, purge_to, tuple};
 use history_tables::{Entry, table_at};
 use refusing::Refusing;
-use std::alloc::{AllocError, Allocator};
+use std::alloc::{Allocator, Global};
 use std::collections::BTreeMap;
-use std::test::Fail;
+use std::process::Abort;
 use turn_history::Event;
 use turn_ports::PortSet;
 use turn_table::Table;
@@ -14,14 +15,17 @@ use turn_types::{Bounds, Endpoint, FiveTuple, Limits, Moment};
 type Reference<A> = BTreeMap<FiveTuple, Entry<A>, A>;
 
 fn event_of<A: Allocator + Copy>(
+    rt: &impl Abort,
     alloc: A,
     moment: Moment,
     client: u16,
     step: Step,
-) -> Result<Event<A>, AllocError> {
-    let act = act_of(alloc, step)?;
-    let tuple = tuple(client);
-    Ok(Event { moment, tuple, act })
+) -> Event<A> {
+    Event {
+        moment,
+        tuple: tuple(client),
+        act: act_of(rt, alloc, step),
+    }
 }
 
 // ---- The reference implementation by itself
@@ -36,15 +40,16 @@ const INSTALLED_AGAIN: [(u64, Step); 4] = [
 ];
 
 fn history_of<A: Allocator + Copy>(
+    rt: &impl Abort,
     alloc: A,
     steps: &[(u64, Step)],
-) -> Result<Vec<Event<A>, A>, Fail> {
+) -> Vec<Event<A>, A> {
     let mut history = Vec::new(alloc);
     for (seconds, step) in steps {
-        let moment = Moment::new(*seconds).ok_or("a moment")?;
-        history.push(event_of(alloc, moment, 1, *step)?)?;
+        let event = event_of(rt, alloc, moment_at(rt, *seconds), 1, *step);
+        history.push(event).expect(rt, "memory");
     }
-    Ok(history)
+    history
 }
 
 /// The expiry of the first client's entry, of the permission of the peers' address, and of channel 0x4000; 0 for none.
@@ -60,26 +65,46 @@ fn expiries<A: Allocator>(table: &Reference<A>) -> (u64, u64, u64) {
     (entry.expiry, permission, channel)
 }
 
-#[test]
-fn the_reference_fails_only_without_memory(rt: HostRuntime) -> Result<(), Fail> {
-    let refusing = Refusing::new(rt.alloc(), u64::MAX);
-    let history = history_of(&refusing, &INSTALLED_AGAIN)?;
-    let moment = Moment::new(1800).ok_or("a moment")?;
+/// Whether the reference fails, which it does only where a growth is refused. It then succeeds with all memory.
+fn is_refused<'a>(
+    rt: &impl Abort,
+    refusing: &'a Refusing<Global>,
+    history: &[Event<&'a Refusing<Global>>],
+    served: u64,
+) -> bool {
+    let moment = moment_at(rt, 1800);
+    refusing.arm(served);
+    let is_refused = table_at(refusing, history, moment).is_err();
+    if is_refused != refusing.has_refused() {
+        panic!(rt; "{served} served");
+    }
+    refusing.arm(u64::MAX);
+    match table_at(refusing, history, moment) {
+        Ok(table) => assert!(rt; expiries(&table) == (4600, 2100, 2400)),
+        Err(_) => panic!(rt; "memory"),
+    }
+    is_refused
+}
+
+/// How many growths the reference takes, each of which is refused once.
+fn growths_of<'a>(
+    rt: &impl Abort,
+    refusing: &'a Refusing<Global>,
+    history: &[Event<&'a Refusing<Global>>],
+) -> u64 {
     for served in 0..100u64 {
-        refusing.arm(served);
-        let refused = table_at(&refusing, &history, moment).is_err();
-        if refused != refusing.has_refused() {
-            return Err(Fail::new(served));
-        }
-        refusing.arm(u64::MAX);
-        let table = table_at(&refusing, &history, moment)?;
-        assert!(rt; expiries(&table) == (4600, 2100, 2400));
-        if !refused {
-            assert!(rt; 3 < served);
-            return Ok(());
+        if !is_refused(rt, refusing, history, served) {
+            return served;
         }
     }
-    Err(Fail::new("some growth is always refused"))
+    panic!(rt; "some growth is always refused");
+}
+
+#[test]
+fn the_reference_fails_only_without_memory(rt: HostRuntime) {
+    let refusing = Refusing::new(rt.alloc(), u64::MAX);
+    let history = history_of(&rt, &refusing, &INSTALLED_AGAIN);
+    assert!(rt; 3 < growths_of(&rt, &refusing, &history));
 }
 
 // ---- The table against the reference
@@ -289,20 +314,26 @@ fn last_of<A: Allocator>(reference: &Reference<A>) -> Option<FiveTuple> {
     last
 }
 
-fn agrees<A: Allocator + Copy>(
+fn agrees<A: Allocator + Copy>(table: &Table<A>, reference: &Reference<A>) -> bool {
+    has_same_counts(table, reference)
+        && has_same_free_ports(table, reference)
+        && has_same_entries(table, reference)
+        && has_same_clients(table, reference)
+        && has_same_ports(table, reference)
+        && table.last() == last_of(reference)
+}
+
+/// Whether a table agrees with the reference after a history.
+fn agrees_after<A: Allocator + Copy>(
+    rt: &impl Abort,
     alloc: A,
     table: &Table<A>,
     history: &[Event<A>],
-) -> Result<bool, Fail> {
-    let reference = table_at(alloc, history, table.moment())?;
-    Ok(
-        has_same_counts(table, &reference)
-            && has_same_free_ports(table, &reference)
-            && has_same_entries(table, &reference)
-            && has_same_clients(table, &reference)
-            && has_same_ports(table, &reference)
-            && table.last() == last_of(&reference),
-    )
+) -> bool {
+    match table_at(alloc, history, table.moment()) {
+        Ok(reference) => agrees(table, &reference),
+        Err(_) => panic!(rt; "memory"),
+    }
 }
 
 /// The next word of a linear congruential generator, whose higher bits serve.
@@ -326,59 +357,77 @@ fn step_of(word: u64) -> Step {
 
 /// Applies an act to a table and adds it to the history, if it fits.
 fn change<A: Allocator + Copy>(
+    rt: &impl Abort,
     alloc: A,
     table: &mut Table<A>,
     history: &mut Vec<Event<A>, A>,
     client: u16,
     step: Step,
-) -> Result<(), AllocError> {
-    let act = act_of(alloc, step)?;
+) {
+    let act = act_of(rt, alloc, step);
     let tuple = tuple(client);
-    if !table.fits(tuple, &act) {
-        return Ok(());
+    if table.fits(tuple, &act) {
+        table.reserve_for(tuple, &act).expect(rt, "memory");
+        let event = event_of(rt, alloc, table.moment(), client, step);
+        history.push(event).expect(rt, "memory");
+        table.apply(table.moment(), tuple, act);
     }
-    table.reserve_for(tuple, &act)?;
-    history.push(event_of(alloc, table.moment(), client, step)?)?;
-    table.apply(table.moment(), tuple, act);
-    Ok(())
+}
+
+/// Lets time pass, plays the act of a word, and returns how many entries expired.
+fn play_word<A: Allocator + Copy>(
+    rt: &impl Abort,
+    alloc: A,
+    table: &mut Table<A>,
+    history: &mut Vec<Event<A>, A>,
+    word: u64,
+) -> usize {
+    // All moments and expiry times are multiples of 100, so that many fall together.
+    let seconds = table.moment().seconds() + 100 * ((word >> 56) % 4);
+    let (removed, _) = purge_to(rt, table, seconds);
+    let client = 1 + ((word >> 42) % CLIENTS) as u16;
+    change(rt, alloc, table, history, client, step_of(word));
+    removed
 }
 
 /// Plays the acts that a seed makes until so many fitted, compares after each, and returns how many entries expired.
-fn play<A: Allocator + Copy>(alloc: A, seed: u64, changes: usize) -> Result<usize, Fail> {
-    let bounds = Bounds {
-        allocations: 3,
-        permissions: 3,
-        channels: 2,
-        acts: 1,
-        name_bytes: 8,
-    };
-    let limits = Limits::new(bounds).ok_or("limits")?;
-    let mut table = Table::new(alloc, limits, Moment::new(1000).ok_or("a moment")?);
+fn play<A: Allocator + Copy>(
+    rt: &impl Abort,
+    alloc: A,
+    table: &mut Table<A>,
+    seed: u64,
+    changes: usize,
+) -> usize {
     let mut history = Vec::new(alloc);
     let (mut word, mut expired) = (seed, 0usize);
     for place in 0..20_000u32 {
         if history.len() == changes {
-            return Ok(expired);
+            return expired;
         }
         word = next_word(word);
-        // All moments and expiry times are multiples of 100, so that many fall together.
-        let seconds = table.moment().seconds() + 100 * ((word >> 56) % 4);
-        let (removed, _) = purge_to(&mut table, seconds)?;
-        let client = 1 + ((word >> 42) % CLIENTS) as u16;
-        change(alloc, &mut table, &mut history, client, step_of(word))?;
+        let removed = play_word(rt, alloc, table, &mut history, word);
         expired = expired.wrapping_add(removed);
-        if !agrees(alloc, &table, &history)? {
-            return Err(Fail::new(place));
+        if !agrees_after(rt, alloc, table, &history) {
+            panic!(rt; "act {place} of seed {seed}");
         }
     }
-    Err(Fail::new("few acts fit"))
+    panic!(rt; "few acts fit");
 }
 
+const BOUNDS: Bounds = Bounds {
+    allocations: 3,
+    permissions: 3,
+    channels: 2,
+    acts: 1,
+    name_bytes: 8,
+};
+
 #[test]
-fn the_table_agrees_with_the_reference(rt: HostRuntime) -> Result<(), Fail> {
+fn the_table_agrees_with_the_reference(rt: HostRuntime) {
+    let limits = Limits::new(BOUNDS).expect(&rt, "limits");
     // 3,000 acts in all. The reference implementation plays the whole history after each of them.
     for seed in 1..=30u64 {
-        assert!(rt; 3 < play(rt.alloc(), seed, 100)?);
+        let mut table = Table::new(rt.alloc(), limits, moment_at(&rt, 1000));
+        assert!(rt; 3 < play(&rt, rt.alloc(), &mut table, seed, 100));
     }
-    Ok(())
 }

@@ -1,66 +1,92 @@
 //! Each growth of memory refused in turn.
 
 use crate::judged::judged;
-use crate::player::Player;
+use crate::player::{Player, is_same};
 use crate::row::{ALLOCATED, BOUND, PERMITTED, Row};
-use crate::setup::SETUP;
+use crate::setup::{SETUP, moment_at, value_of};
 use refusing::Refusing;
 use requests_for_tests::{
     ALICE, Attribute, FIRST, ID, Kind, LOWEST, OTHER, PEER, PEER_ENDPOINT, REALM, SECOND, UDP,
-    ZERO, at, five_tuple, nonce_of, signed,
+    ZERO, five_tuple, nonce_of, signed,
 };
 use std::alloc::Global;
-use std::test::Fail;
+use std::process::Abort;
 use turn_codec::{AttributeType, Builder, Message};
 use turn_mac::{append_fingerprint, append_integrity};
 use turn_relay::{ToClient, from_client, from_peer};
-use turn_rules::{Decision, decide};
+use turn_rules::{Decision, Request, decide};
 use turn_table::Table;
-use turn_types::{Class, Method};
+use turn_types::{Class, Method, ServerConfig};
 
-/// Whether a reply has a FINGERPRINT.
-fn has_fingerprint(reply: &[u8]) -> Result<bool, Fail> {
-    let message = Message::parse(reply)?;
-    Ok(message.find(AttributeType::FINGERPRINT).is_some())
+fn has_fingerprint(rt: &impl Abort, reply: &[u8]) -> bool {
+    let message = Message::parse(reply).expect(rt, "a message");
+    message.find(AttributeType::FINGERPRINT).is_some()
 }
 
 /// What is decided about a request: whether there is an act, and whether the reply has a FINGERPRINT.
-fn found(decided: &Decision<&Refusing<Global>>) -> Result<(bool, bool), Fail> {
+fn found(rt: &impl Abort, decided: &Decision<&Refusing<Global>>) -> (bool, bool) {
     match &decided.reply {
-        Some(reply) => Ok((decided.act.is_some(), has_fingerprint(reply)?)),
-        None => Err(Fail::new("no reply")),
+        Some(reply) => (decided.act.is_some(), has_fingerprint(rt, reply)),
+        None => panic!(rt; "no reply"),
     }
 }
 
-/// What is decided about a datagram of the first client at a table's moment, and how many growths that takes. Each of
-/// them is refused once, which gives an error and is answered at the next call.
+/// What is decided about a request at a table's moment, or `None` where a growth is refused, after which the next call
+/// answers it.
+fn decided(
+    rt: &impl Abort,
+    refusing: &Refusing<Global>,
+    table: &Table,
+    config: &ServerConfig,
+    request: &Request<'_>,
+    port: Option<u16>,
+) -> Option<(bool, bool)> {
+    let moment = table.moment();
+    match decide(refusing, table, config, request, moment, port) {
+        Ok(decided) => {
+            assert!(rt; refusing.left() == 0);
+            Some(found(rt, &decided))
+        }
+        Err(_) => {
+            assert!(rt; refusing.has_refused());
+            let again = decide(refusing, table, config, request, moment, port);
+            assert!(rt; again.expect(rt, "memory").reply.is_some());
+            None
+        }
+    }
+}
+
+/// How many growths that takes, and what is decided. Each growth is refused once, which gives an error and is answered at
+/// the next call.
+fn growths_with(
+    rt: &impl Abort,
+    alloc: Global,
+    table: &Table,
+    config: &ServerConfig,
+    request: &Request<'_>,
+    port: Option<u16>,
+) -> (u64, (bool, bool)) {
+    let refusing = Refusing::new(alloc, u64::MAX);
+    for served in 0..8u64 {
+        refusing.arm(served);
+        if let Some(found) = decided(rt, &refusing, table, config, request, port) {
+            return (served, found);
+        }
+    }
+    panic!(rt; "some growth is always refused");
+}
+
+/// The same for a datagram of the first client.
 fn growths(
+    rt: &impl Abort,
     alloc: Global,
     table: &Table,
     bytes: &[u8],
     port: Option<u16>,
-) -> Result<(u64, (bool, bool)), Fail> {
-    let config = SETUP.config(alloc)?;
-    let moment = table.moment();
-    let request = judged(alloc, &config, bytes, moment)?;
-    for served in 0..8u64 {
-        let refusing = Refusing::new(alloc, served);
-        let first = decide(&refusing, table, &config, &request, moment, port);
-        if !refusing.has_refused() {
-            if refusing.left() != 0 {
-                return Err(Fail::new("a growth fewer"));
-            }
-            return Ok((served, found(&first?)?));
-        }
-        if first.is_ok() {
-            return Err(Fail::new("a refused growth is not told"));
-        }
-        let again = decide(&refusing, table, &config, &request, moment, port)?;
-        if again.reply.is_none() {
-            return Err(Fail::new("no reply"));
-        }
-    }
-    Err(Fail::new("some growth is always refused"))
+) -> (u64, (bool, bool)) {
+    let config = SETUP.config(rt, alloc);
+    let request = judged(rt, alloc, &config, bytes, table.moment());
+    growths_with(rt, alloc, table, &config, &request, port)
 }
 
 /// Alice's requests in their order, the port that each has, and the growths of a decision: one for the reply, and one
@@ -75,43 +101,45 @@ const DECISIONS: [(Kind, &[Attribute], Option<u16>, u64); 5] = [
 
 const SECOND_1000: [Row; 1] = [Row::Drop(1000, FIRST, b"")];
 
-fn play_decisions(alloc: Global, player: &mut Player) -> Result<(), Fail> {
-    player.play(&SECOND_1000)?;
-    for (kind, attributes, port, count) in &DECISIONS {
-        let bytes = signed(alloc, ALICE, *kind, &nonce_of(1000, FIRST)?, attributes)?;
-        if growths(alloc, player.table(), &bytes, *port)? != (*count, (true, false)) {
-            return Err(Fail::new(*count));
+fn play_decisions(rt: &impl Abort, alloc: Global, player: &mut Player) {
+    player.play(rt, &SECOND_1000);
+    let nonce = value_of(rt, nonce_of(1000, FIRST));
+    for (place, (kind, attributes, port, count)) in DECISIONS.iter().enumerate() {
+        let bytes = value_of(rt, signed(alloc, ALICE, *kind, &nonce, attributes));
+        if growths(rt, alloc, player.table(), &bytes, *port) != (*count, (true, false)) {
+            panic!(rt; "decision {place}");
         }
-        player.play(&[Row::Ask(1000, ALICE, FIRST, *kind, attributes, 0)])?;
+        player.play(rt, &[Row::Ask(1000, ALICE, FIRST, *kind, attributes, 0)]);
     }
-    Ok(())
 }
 
 #[test]
-fn decision_takes_the_memory_of_the_reply_and_the_act(rt: HostRuntime) -> Result<(), Fail> {
-    play_decisions(
-        rt.alloc(),
-        &mut Player::new(rt.alloc(), rt.alloc(), &SETUP)?,
-    )
+fn decision_takes_the_memory_of_the_reply_and_the_act(rt: HostRuntime) {
+    let mut player = Player::new(&rt, rt.alloc(), rt.alloc(), &SETUP);
+    play_decisions(&rt, rt.alloc(), &mut player);
 }
 
 /// Alice's Refresh with the nonce of second 1000 and a FINGERPRINT.
-fn fingerprinted(alloc: Global) -> Result<Vec<u8>, Fail> {
-    let mut builder = Builder::new(alloc, Class::Request, Method::REFRESH, ID)?;
-    builder.push(AttributeType::USERNAME, ALICE.name())?;
-    builder.push(AttributeType::REALM, REALM)?;
-    builder.push(AttributeType::NONCE, &nonce_of(1000, FIRST)?)?;
-    append_integrity(&mut builder, &ALICE.key())?;
-    append_fingerprint(&mut builder)?;
-    Ok(builder.finish())
+fn fingerprinted(rt: &impl Abort, alloc: Global) -> Vec<u8> {
+    let nonce = value_of(rt, nonce_of(1000, FIRST));
+    let mut builder = Builder::new(alloc, Class::Request, Method::REFRESH, ID).expect(rt, "memory");
+    builder
+        .push(AttributeType::USERNAME, ALICE.name())
+        .expect(rt, "room");
+    builder.push(AttributeType::REALM, REALM).expect(rt, "room");
+    builder
+        .push(AttributeType::NONCE, &nonce)
+        .expect(rt, "room");
+    append_integrity(&mut builder, &ALICE.key()).expect(rt, "room");
+    append_fingerprint(&mut builder).expect(rt, "room");
+    builder.finish()
 }
 
 #[test]
-fn refusal_takes_the_memory_of_the_reply(rt: HostRuntime) -> Result<(), Fail> {
-    let bytes = fingerprinted(rt.alloc())?;
-    let table = Table::new(rt.alloc(), SETUP.limits()?, at(1000)?);
-    assert!(rt; growths(rt.alloc(), &table, &bytes, None)? == (1, (false, true)));
-    Ok(())
+fn refusal_takes_the_memory_of_the_reply(rt: HostRuntime) {
+    let bytes = fingerprinted(&rt, rt.alloc());
+    let table = Table::new(rt.alloc(), SETUP.limits(&rt), moment_at(&rt, 1000));
+    assert!(rt; growths(&rt, rt.alloc(), &table, &bytes, None) == (1, (false, true)));
 }
 
 /// The text "hello" to and from 203.0.113.5:7000.
@@ -129,59 +157,59 @@ const CHANNEL_DATA: &[u8] = b"\x40\x00\x00\x05hello";
 
 /// The client's datagram, or `None` after an allocation failure.
 fn written<'a>(
+    rt: &impl Abort,
     refusing: &'a Refusing<Global>,
     out: &ToClient<'_>,
-) -> Result<Option<Vec<u8, &'a Refusing<Global>>>, Fail> {
+) -> Option<Vec<u8, &'a Refusing<Global>>> {
     match out.channel {
-        Some(number) if number < 0x4000 || 0x8000 <= number || out.bytes.len() > 65503 => {
-            Err(Fail::new("a datagram that can be written"))
+        Some(number) => {
+            assert!(rt; 0x4000 <= number && number < 0x8000 && out.bytes.len() <= 65503);
         }
-        None if out.bytes.len() > 65468 => Err(Fail::new("a datagram that can be written")),
-        _ => match out.write(refusing, ID) {
-            Ok(bytes) => Ok(Some(bytes)),
-            Err(_) => Ok(None),
-        },
+        None => assert!(rt; out.bytes.len() <= 65468),
+    }
+    match out.write(refusing, ID) {
+        Ok(bytes) => Some(bytes),
+        Err(_) => None,
     }
 }
 
-/// Whether a peer's "hello" is judged without memory, and written as these bytes with one growth, after which all
-/// memory is served. Data of a client takes none.
-fn is_written_at_once(
+/// A peer's "hello" is judged without memory, and written as these bytes with one growth, after which all memory is
+/// served. Data of a client takes none.
+fn write_at_once(
+    rt: &impl Abort,
     refusing: &Refusing<Global>,
     table: &Table<&Refusing<Global>>,
     wanted: &[u8],
-) -> Result<bool, Fail> {
+) {
     let moment = table.moment();
     refusing.arm(0);
-    let out = from_peer(table, 50000, PEER_ENDPOINT, b"hello", moment).ok_or("a datagram")?;
-    let sent = from_client(table, five_tuple(FIRST), SEND, moment).ok_or("a payload")?;
-    let took_none = refusing.left() == 0 && sent.bytes == b"hello".as_slice();
-    let is_refused = written(refusing, &out)?.is_none() && refusing.has_refused();
+    let out = from_peer(table, 50000, PEER_ENDPOINT, b"hello", moment).expect(rt, "a datagram");
+    let sent = from_client(table, five_tuple(FIRST), SEND, moment).expect(rt, "a payload");
+    assert!(rt; refusing.left() == 0 && sent.bytes == b"hello".as_slice());
+    assert!(rt; written(rt, refusing, &out).is_none() && refusing.has_refused());
     refusing.arm(1);
-    let bytes = written(refusing, &out)?.ok_or("a datagram")?;
-    let took_one = refusing.left() == 0 && bytes.as_slice() == wanted;
+    assert!(rt; is_same(&written(rt, refusing, &out), Some(wanted)));
+    assert!(rt; refusing.left() == 0);
     refusing.arm(u64::MAX);
-    Ok(took_none && is_refused && took_one)
 }
 
-/// Whether peers' data is written at once, as an indication and over a channel.
-fn writes_at_once(
+/// Peers' data is written at once, as an indication and over a channel.
+fn write_both(
+    rt: &impl Abort,
     refusing: &Refusing<Global>,
     player: &mut Player<&Refusing<Global>>,
-) -> Result<bool, Fail> {
-    player.play(&[ALLOCATED, PERMITTED])?;
-    let indicated = is_written_at_once(refusing, player.table(), INDICATION)?;
-    player.play(&[BOUND])?;
-    let channelled = is_written_at_once(refusing, player.table(), CHANNEL_DATA)?;
-    Ok(indicated && channelled)
+) {
+    player.play(rt, &[ALLOCATED, PERMITTED]);
+    write_at_once(rt, refusing, player.table(), INDICATION);
+    player.play(rt, &[BOUND]);
+    write_at_once(rt, refusing, player.table(), CHANNEL_DATA);
 }
 
 #[test]
-fn peers_data_takes_the_memory_of_the_datagram(rt: HostRuntime) -> Result<(), Fail> {
+fn peers_data_takes_the_memory_of_the_datagram(rt: HostRuntime) {
     let refusing = Refusing::new(rt.alloc(), u64::MAX);
-    let mut player = Player::new(&refusing, rt.alloc(), &SETUP)?;
-    assert!(rt; writes_at_once(&refusing, &mut player)?);
-    Ok(())
+    let mut player = Player::new(&rt, &refusing, rt.alloc(), &SETUP);
+    write_both(&rt, &refusing, &mut player);
 }
 
 /// A request of alice's that takes nothing. Her key is remembered from then on: a refused growth of that would not be told.
@@ -233,53 +261,55 @@ const GROWTHS: [(&[Row], Row); 8] = [
 /// Whether the growth after so many is refused, which changes nothing but the moment, and after which the same arrival
 /// is answered. Where no growth is left to be refused the row is taken at once.
 fn is_refused(
+    rt: &impl Abort,
     refusing: &Refusing<Global>,
     player: &mut Player<&Refusing<Global>>,
     row: &Row,
     served: u64,
-) -> Result<bool, Fail> {
+) -> bool {
     let state = player.state();
     refusing.arm(served);
-    let is_taken = player.is_taken(row)?;
-    let was_refused = refusing.has_refused();
+    let is_taken = player.is_taken(rt, row);
+    assert!(rt; is_taken != refusing.has_refused());
     refusing.arm(u64::MAX);
     if is_taken {
-        return if was_refused {
-            Err(Fail::new("a refused growth is not told"))
-        } else {
-            Ok(false)
-        };
+        return false;
     }
     let is_same = player.state() == state && player.keeps_ports();
-    if !was_refused || !is_same || player.moment() != at(1001)? {
-        return Err(Fail::new(served));
+    if !is_same || player.moment().seconds() != 1001 {
+        panic!(rt; "{served} served");
     }
-    player.play(&[*row])?;
-    Ok(true)
+    player.play(rt, &[*row]);
+    true
 }
 
 /// The same at a new server, after other rows.
-fn is_refused_after(alloc: Global, before: &[Row], row: &Row, served: u64) -> Result<bool, Fail> {
+fn is_refused_after(
+    rt: &impl Abort,
+    alloc: Global,
+    before: &[Row],
+    row: &Row,
+    served: u64,
+) -> bool {
     let refusing = Refusing::new(alloc, u64::MAX);
-    let mut player = Player::new(&refusing, alloc, &SETUP)?;
-    player.play(before)?;
-    is_refused(&refusing, &mut player, row, served)
+    let mut player = Player::new(rt, &refusing, alloc, &SETUP);
+    player.play(rt, before);
+    is_refused(rt, &refusing, &mut player, row, served)
 }
 
 /// How many growths a row takes, each of which is refused once.
-fn growths_of(alloc: Global, before: &[Row], row: &Row) -> Result<u64, Fail> {
+fn growths_of(rt: &impl Abort, alloc: Global, before: &[Row], row: &Row) -> u64 {
     for served in 0..16u64 {
-        if !is_refused_after(alloc, before, row, served)? {
-            return Ok(served);
+        if !is_refused_after(rt, alloc, before, row, served) {
+            return served;
         }
     }
-    Err(Fail::new("some growth is always refused"))
+    panic!(rt; "some growth is always refused");
 }
 
 #[test]
-fn step_that_lacks_memory_changes_nothing(rt: HostRuntime) -> Result<(), Fail> {
+fn step_that_lacks_memory_changes_nothing(rt: HostRuntime) {
     for (before, row) in &GROWTHS {
-        assert!(rt; growths_of(rt.alloc(), before, row)? > 0);
+        assert!(rt; growths_of(&rt, rt.alloc(), before, row) > 0);
     }
-    Ok(())
 }

@@ -4,7 +4,7 @@ use crate::player::{Player, play};
 use crate::row::{ALLOCATED, BOUND, PERMITTED, Row};
 use crate::setup::{SETUP, Setup};
 use requests_for_tests::{ALICE, BOB, FIRST, HOUR, Kind, PEER_IP, SECOND, THIRD, UDP, ZERO};
-use std::test::Fail;
+use std::process::Abort;
 
 const ALLOCATE: Kind = Kind::Allocate;
 
@@ -22,8 +22,8 @@ const BOTH_EXPIRED: [Row; 6] = [
 ];
 
 #[test]
-fn all_expired_ports_are_released_at_once(rt: HostRuntime) -> Result<(), Fail> {
-    play(rt.alloc(), &SETUP, &BOTH_EXPIRED)
+fn all_expired_ports_are_released_at_once(rt: HostRuntime) {
+    play(&rt, rt.alloc(), &SETUP, &BOTH_EXPIRED);
 }
 
 const USED_AGAIN: [Row; 7] = [
@@ -37,8 +37,8 @@ const USED_AGAIN: [Row; 7] = [
 ];
 
 #[test]
-fn released_port_is_picked_again(rt: HostRuntime) -> Result<(), Fail> {
-    play(rt.alloc(), &SETUP, &USED_AGAIN)
+fn released_port_is_picked_again(rt: HostRuntime) {
+    play(&rt, rt.alloc(), &SETUP, &USED_AGAIN);
 }
 
 const NO_PORT: [Row; 5] = [
@@ -49,16 +49,14 @@ const NO_PORT: [Row; 5] = [
     Row::Failures(0),
 ];
 
+const ONE_PORT: Setup = Setup {
+    ports: (50000, 50000),
+    ..SETUP
+};
+
 #[test]
-fn taken_port_is_not_released_where_there_is_no_other(rt: HostRuntime) -> Result<(), Fail> {
-    play(
-        rt.alloc(),
-        &Setup {
-            ports: (50000, 50000),
-            ..SETUP
-        },
-        &NO_PORT,
-    )
+fn taken_port_is_not_released_where_there_is_no_other(rt: HostRuntime) {
+    play(&rt, rt.alloc(), &ONE_PORT, &NO_PORT);
 }
 
 /// What is done before, what is prepared and abandoned, and what is found then.
@@ -102,17 +100,16 @@ const ABANDONED: [(&[Row], Row, &[Row]); 5] = [
 ];
 
 /// Plays rows, abandons one, and plays others.
-fn play_abandoned(player: &mut Player, rows: &(&[Row], Row, &[Row])) -> Result<(), Fail> {
-    let (before, row, after) = rows;
-    player.play(before)?;
-    player.abandon(row)?;
-    player.play(after)
+fn play_abandoned(rt: &impl Abort, player: &mut Player, before: &[Row], row: &Row, after: &[Row]) {
+    player.play(rt, before);
+    player.abandon(rt, row);
+    player.play(rt, after);
 }
 
 #[test]
-fn abandoned_step_releases_its_port_and_changes_nothing(rt: HostRuntime) -> Result<(), Fail> {
-    for rows in &ABANDONED {
-        play_abandoned(&mut Player::new(rt.alloc(), rt.alloc(), &SETUP)?, rows)?;
+fn abandoned_step_releases_its_port_and_changes_nothing(rt: HostRuntime) {
+    for (before, row, after) in &ABANDONED {
+        let mut player = Player::new(&rt, rt.alloc(), rt.alloc(), &SETUP);
+        play_abandoned(&rt, &mut player, before, row, after);
     }
-    Ok(())
 }

@@ -2,9 +2,10 @@
 
 use requests_for_tests::{Ports, config};
 use std::alloc::Allocator;
+use std::process::Abort;
 use std::test::Fail;
 use turn_ports::PortRange;
-use turn_types::{Bounds, Limits, ServerConfig};
+use turn_types::{Bounds, Limits, Moment, ServerConfig};
 
 /// What a server is made of.
 #[derive(Clone, Copy)]
@@ -32,20 +33,32 @@ pub const SETUP: Setup = Setup {
 };
 
 impl Setup {
-    pub fn limits(&self) -> Result<Limits, Fail> {
-        Ok(Limits::new(self.bounds).ok_or("limits")?)
+    pub fn limits(&self, rt: &impl Abort) -> Limits {
+        Limits::new(self.bounds).expect(rt, "limits")
     }
 
-    pub fn config<A: Allocator + Copy>(&self, alloc: A) -> Result<ServerConfig<A>, Fail> {
-        config(alloc, self.quota, self.bounds)
+    pub fn config<A: Allocator + Copy>(&self, rt: &impl Abort, alloc: A) -> ServerConfig<A> {
+        value_of(rt, config(alloc, self.quota, self.bounds))
     }
 
-    pub fn ports(&self) -> Result<Ports, Fail> {
-        let range = PortRange::new(self.ports.0, self.ports.1).ok_or("a range")?;
-        Ok(if self.fails {
+    pub fn ports(&self, rt: &impl Abort) -> Ports {
+        let range = PortRange::new(self.ports.0, self.ports.1).expect(rt, "a range");
+        if self.fails {
             Ports::failing(range)
         } else {
             Ports::new(range)
-        })
+        }
+    }
+}
+
+pub fn moment_at(rt: &impl Abort, seconds: u64) -> Moment {
+    Moment::new(seconds).expect(rt, "a moment")
+}
+
+/// The value of an outcome that has to be one. A `Fail` can't be printed, so `expect` doesn't take it.
+pub fn value_of<T>(rt: &impl Abort, outcome: Result<T, Fail>) -> T {
+    match outcome {
+        Ok(value) => value,
+        Err(_) => panic!(rt; "a call of requests_for_tests fails"),
     }
 }

@@ -3,12 +3,13 @@
 ghost use Rattle.std.specs.Prelude.{IsTrue};
 ghost use Rattle.turn_table.specs.Table.{IsAbove};
 
+use crate::setup::moment_at;
 use refusing::Refusing;
-use std::alloc::{AllocError, Allocator, Global};
-use std::test::Fail;
+use std::alloc::{Allocator, Global};
+use std::process::Abort;
 use turn_history::{Act, Addresses, Channel, UserName};
 use turn_table::{Entry, EntryParts, Table, above_the_last};
-use turn_types::{Endpoint, FiveTuple, Limits, Moment, TxId};
+use turn_types::{Endpoint, FiveTuple, Limits, TxId};
 
 pub const SERVER: Endpoint = Endpoint {
     ip: 0xC000_0264,
@@ -44,78 +45,82 @@ pub enum Step {
     Bind(u16, u16),
 }
 
-pub fn act_of<A: Allocator + Copy>(alloc: A, step: Step) -> Result<Act<A>, AllocError> {
+pub fn act_of<A: Allocator + Copy>(rt: &impl Abort, alloc: A, step: Step) -> Act<A> {
     match step {
-        Step::Alloc(user, port, granted) => {
-            let user = UserName::from(Vec::from_slice(alloc, user)?);
-            let tx = TxId([7; 12]);
-            Ok(Act::Alloc {
-                user,
-                port,
-                granted,
-                tx,
-            })
-        }
-        Step::Renew(granted) => Ok(Act::Renew { granted }),
-        Step::Permit(addresses) => {
-            let addresses = Addresses::from(Vec::from_slice(alloc, addresses)?);
-            Ok(Act::Permit { addresses })
-        }
-        Step::Bind(number, port) => Ok(Act::Bind {
+        Step::Alloc(user, port, granted) => Act::Alloc {
+            user: UserName::from(Vec::from_slice(alloc, user).expect(rt, "memory")),
+            port,
+            granted,
+            tx: TxId([7; 12]),
+        },
+        Step::Renew(granted) => Act::Renew { granted },
+        Step::Permit(addresses) => Act::Permit {
+            addresses: Addresses::from(Vec::from_slice(alloc, addresses).expect(rt, "memory")),
+        },
+        Step::Bind(number, port) => Act::Bind {
             number,
             peer: peer(port),
-        }),
+        },
     }
 }
 
 /// Purges a table to a second, and returns how many entries that removed, and the port of the last one, 0 for none.
 pub fn purge_to<A: Allocator + Copy>(
+    rt: &impl Abort,
     table: &mut Table<A>,
     seconds: u64,
-) -> Result<(usize, u16), Fail> {
-    let moment = Moment::new(seconds).ok_or("a moment")?;
+) -> (usize, u16) {
+    let moment = moment_at(rt, seconds);
     let mut last = 0;
     for removed in 0..8usize {
-        if moment < table.moment() {
-            return Err(Fail::new("an earlier moment"));
-        }
+        assert!(rt; table.moment() <= moment);
         match table.purge(moment) {
             Some(port) => last = port,
-            None => return Ok((removed, last)),
+            None => return (removed, last),
         }
     }
-    Err(Fail::new("more than 7 entries"))
+    panic!(rt; "more than 7 entries");
 }
 
 /// Does an act that fits at a table's moment.
 pub fn apply<A: Allocator + Copy>(
+    rt: &impl Abort,
     table: &mut Table<A>,
     tuple: FiveTuple,
     act: Act<A>,
-) -> Result<(), Fail> {
-    if !table.fits(tuple, &act) {
-        return Err(Fail::new("the act does not fit"));
-    }
-    table.reserve_for(tuple, &act)?;
+) {
+    assert!(rt; table.fits(tuple, &act));
+    table.reserve_for(tuple, &act).expect(rt, "memory");
     table.apply(table.moment(), tuple, act);
-    Ok(())
 }
 
-/// An entry of a snapshot of second 1000, with a relayed port, two permissions and a channel.
-fn entry_with<A: Allocator + Copy>(alloc: A, port: u16) -> Result<Entry<A>, AllocError> {
-    let channel = Channel {
-        peer: peer(9),
+const PERMISSIONS: [(u32, u64); 2] = [(1, 1300), (PEER_IP, 1200)];
+
+const CHANNELS: [(u16, Channel); 1] = [(
+    0x4000,
+    Channel {
+        peer: Endpoint {
+            ip: PEER_IP,
+            port: 9,
+        },
         expiry: 1500,
-    };
-    Ok(Entry::new(EntryParts {
-        user: UserName::from(Vec::from_slice(alloc, b"alice")?),
+    },
+)];
+
+/// An entry of a snapshot of second 1000, with a relayed port, two permissions and a channel.
+fn entry_with<A: Allocator + Copy>(rt: &impl Abort, alloc: A, port: u16) -> Entry<A> {
+    let user = Vec::from_slice(alloc, b"alice").expect(rt, "memory");
+    let permissions = Vec::from_slice(alloc, &PERMISSIONS).expect(rt, "memory");
+    let channels = Vec::from_slice(alloc, &CHANNELS).expect(rt, "memory");
+    Entry::new(EntryParts {
+        user: UserName::from(user),
         port,
         granted: 700,
         tx: TxId([7; 12]),
         expiry: 1600,
-        permissions: Vec::from_slice(alloc, &[(1, 1300), (PEER_IP, 1200)])?,
-        channels: Vec::from_slice(alloc, &[(0x4000, channel)])?,
-    }))
+        permissions,
+        channels,
+    })
 }
 
 /// Whether a five-tuple comes after all of a table.
@@ -131,16 +136,17 @@ fn comes_last<A: Allocator + Copy>(table: &Table<A>, tuple: FiveTuple) -> bool
 
 /// Restores the entry of a client, which may be the table's last, and returns whether there was memory.
 fn restore<A: Allocator + Copy>(
+    rt: &impl Abort,
     table: &mut Table<A>,
     client: u16,
     entry: Entry<A>,
-) -> Result<bool, Fail> {
+) -> bool {
     let tuple = tuple(client);
     let is_free = table.by_port(entry.port()).is_none();
     if !is_free || table.is_full() || !comes_last(table, tuple) {
-        return Err(Fail::new(client));
+        panic!(rt; "client {client} can't be restored");
     }
-    Ok(table.restore(tuple, entry).is_ok())
+    table.restore(tuple, entry).is_ok()
 }
 
 fn expiry_of<A: Allocator + Copy>(table: &Table<A>, client: u16) -> u64 {
@@ -159,45 +165,56 @@ fn peer_is<A: Allocator + Copy>(table: &Table<A>, client: u16, number: u16, port
 
 type Refused<'a> = &'a Refusing<Global>;
 
-/// Restores the entry of a client, whose growths are refused one after the other, which changes nothing, and returns how
-/// many there were.
-fn restores_after_refusals<'a>(
+/// Restores the entry of a client where a growth may be refused, which changes nothing, and returns whether it is restored.
+fn is_restored<'a>(
+    rt: &impl Abort,
     refusing: Refused<'a>,
     table: &mut Table<Refused<'a>>,
     client: u16,
-) -> Result<u64, Fail> {
+    served: u64,
+) -> bool {
     let (len, last) = (table.len(), table.last());
+    refusing.arm(u64::MAX);
+    let entry = entry_with(rt, refusing, client);
+    refusing.arm(served);
+    let is_restored = restore(rt, table, client, entry);
+    let is_same = table.len() == len && table.last() == last;
+    if is_restored == refusing.has_refused() || !is_restored && !is_same {
+        panic!(rt; "client {client}");
+    }
+    is_restored
+}
+
+/// Restores the entry of a client, whose growths are refused one after the other, and returns how many there were.
+fn restores_after_refusals<'a>(
+    rt: &impl Abort,
+    refusing: Refused<'a>,
+    table: &mut Table<Refused<'a>>,
+    client: u16,
+) -> u64 {
     for refusal in 0..8u64 {
-        refusing.arm(u64::MAX);
-        let entry = entry_with(refusing, client)?;
         // The growth that was refused before is served, and the next one refused.
-        refusing.arm(refusal.min(1));
-        let is_restored = restore(table, client, entry)?;
-        if is_restored == refusing.has_refused() {
-            return Err(Fail::new(client));
-        }
-        if is_restored {
-            return Ok(refusal);
-        }
-        if table.len() != len || table.last() != last {
-            return Err(Fail::new(client));
+        if is_restored(rt, refusing, table, client, refusal.min(1)) {
+            return refusal;
         }
     }
-    Err(Fail::new("some growth is always refused"))
+    panic!(rt; "some growth is always refused for {client}");
+}
+
+fn restore_all<'a>(rt: &impl Abort, refusing: Refused<'a>, table: &mut Table<Refused<'a>>) {
+    // A map, and a list by each order.
+    assert!(rt; 3 < restores_after_refusals(rt, refusing, table, 1));
+    for client in 2..10u16 {
+        restores_after_refusals(rt, refusing, table, client);
+    }
+    assert!(rt; table.len() == 9);
 }
 
 #[test]
-fn a_restore_that_lacks_memory_changes_nothing(rt: HostRuntime) -> Result<(), Fail> {
+fn a_restore_that_lacks_memory_changes_nothing(rt: HostRuntime) {
     let refusing = Refusing::new(rt.alloc(), u64::MAX);
-    let moment = Moment::new(1000).ok_or("a moment")?;
-    let mut table = Table::new(&refusing, Limits::MAX, moment);
-    // A map, and a list by each order.
-    assert!(rt; 3 < restores_after_refusals(&refusing, &mut table, 1)?);
-    for client in 2..10u16 {
-        restores_after_refusals(&refusing, &mut table, client)?;
-    }
-    assert!(rt; table.len() == 9);
-    Ok(())
+    let mut table = Table::new(&refusing, Limits::MAX, moment_at(&rt, 1000));
+    restore_all(&rt, &refusing, &mut table);
 }
 
 /// Whether a reservation fails after so many served growths, and leaves the table as it was.
@@ -216,29 +233,38 @@ fn fails<'a>(
         && table.fits(tuple, act)
 }
 
+/// Refuses the growth for an act so many times.
+fn refuse<'a>(
+    rt: &impl Abort,
+    refusing: Refused<'a>,
+    table: &mut Table<Refused<'a>>,
+    tuple: FiveTuple,
+    act: &Act<Refused<'a>>,
+    growths: u64,
+) {
+    for refusal in 0..growths {
+        // The growth that was refused before is served, and the next one refused.
+        assert!(rt; fails(refusing, table, tuple, act, refusal.min(1)));
+    }
+}
+
 /// Makes room for an act, whose growth is refused so many times, and applies it without memory.
 fn apply_refused<'a>(
+    rt: &impl Abort,
     refusing: Refused<'a>,
     table: &mut Table<Refused<'a>>,
     tuple: FiveTuple,
     step: Step,
     growths: u64,
-) -> Result<bool, Fail> {
+) {
     refusing.arm(u64::MAX);
-    let act = act_of(refusing, step)?;
-    for refusal in 0..growths {
-        // The growth that was refused before is served, and the next one refused.
-        if !fails(refusing, table, tuple, &act, refusal.min(1)) {
-            return Ok(false);
-        }
-    }
+    let act = act_of(rt, refusing, step);
+    refuse(rt, refusing, table, tuple, &act, growths);
     refusing.arm(growths.min(1));
-    table.reserve_for(tuple, &act)?;
-    if refusing.left() != 0 || !table.fits(tuple, &act) {
-        return Ok(false);
-    }
+    table.reserve_for(tuple, &act).expect(rt, "memory");
+    assert!(rt; refusing.left() == 0 && table.fits(tuple, &act));
     table.apply(table.moment(), tuple, act);
-    Ok(refusing.left() == 0)
+    assert!(rt; refusing.left() == 0);
 }
 
 /// Acts in turn, how often each one's growth may be refused, and the table's expiry of the client after it.
@@ -250,19 +276,21 @@ const GROWTHS: [(Step, u64, u64); 5] = [
     (Step::Renew(0), 0, 0),
 ];
 
-#[test]
-fn each_growth_is_refused_in_turn(rt: HostRuntime) -> Result<(), Fail> {
-    let refusing = Refusing::new(rt.alloc(), u64::MAX);
-    let moment = Moment::new(1000).ok_or("a moment")?;
-    let mut table = Table::new(&refusing, Limits::MAX, moment);
+fn apply_all<'a>(rt: &impl Abort, refusing: Refused<'a>, table: &mut Table<Refused<'a>>) {
     for (step, growths, expiry) in &GROWTHS {
-        assert!(rt; apply_refused(&refusing, &mut table, tuple(32853), *step, *growths)?);
-        assert!(rt; expiry_of(&table, 32853) == *expiry);
+        apply_refused(rt, refusing, table, tuple(32853), *step, *growths);
+        assert!(rt; expiry_of(table, 32853) == *expiry);
         let bound = 4600 == *expiry && *growths == 2;
-        assert!(rt; !bound || peer_is(&table, 32853, 0x4000, 9));
+        assert!(rt; !bound || peer_is(table, 32853, 0x4000, 9));
         let permitted = 4600 == *expiry && *growths == 1;
         assert!(rt; !permitted || table.permitted(tuple(32853), 8));
     }
     assert!(rt; table.is_empty());
-    Ok(())
+}
+
+#[test]
+fn each_growth_is_refused_in_turn(rt: HostRuntime) {
+    let refusing = Refusing::new(rt.alloc(), u64::MAX);
+    let mut table = Table::new(&refusing, Limits::MAX, moment_at(&rt, 1000));
+    apply_all(&rt, &refusing, &mut table);
 }
