@@ -55,7 +55,7 @@ returns-clause-call g c = record {
   form = search rules;
   count = search rules;
   device = search rules;
-  worn = search rules;
+  worn = (λ e. cc, λ facts. let e = c.in-Ok.ensures.worn.1 facts in cc);
   untouched_worn = search rules;
   stages = returns-clause-stages g c;
   stop = returns-clause-stop g c;

@@ -1,9 +1,9 @@
-use Rattle.std.proofs.Common.{rules, ◌≡◌, ◌≤◌, ◌+◌, ◌++◌, ℕ, length, map, option_map, sym, ap, ◌∙◌, subst, arith}
+use Rattle.std.proofs.Common.{◌≡◌, ◌≤◌, ◌+◌, ◌++◌, ℕ, length, map, option_map, sym, ap, ◌∙◌, subst, arith}
 use Rattle.std.specs.Option.{option_to_list}
 use Rattle.turn_ports.specs.Ports.{has_failed}
 use Rattle.turn_step.specs.Answer.{AnswersArrival}
 use Rattle.turn_step.specs.Outcome.{added}
-use Rattle.turn_step.specs.State.{CountsOne, IsAfter, setting_of}
+use Rattle.turn_step.specs.State.{CountsOne, IsAfter, IsPurged, setting_of}
 use Rattle.turn_step.specs.Views.{arrival_of, sent_of}
 use Rattle.turn_types.specs.Config.{Config}
 use Rattle.turn_table.specs.State.{State}
@@ -88,16 +88,18 @@ returns-clause-ok g c = λ h k rests.
     }
 
 pub returns-in-Err-clause-clock : goal.returns-in-Err-clause-clock
-returns-in-Err-clause-clock g c = search rules
+returns-in-Err-clause-clock g c = c.prepare.ensures.table.moment
 
 pub returns-in-Err-clause-memory_table : goal.returns-in-Err-clause-memory_table
-returns-in-Err-clause-memory_table g c = search rules
+returns-in-Err-clause-memory_table g c = subst (λ s. IsPurged c.args.moment s.machine.table c.prepare.new.self.table) c.self.view_is c.prepare.ensures.table
 
 pub returns-then-is_err-clause-clock : goal.returns-then-is_err-clause-clock
-returns-then-is_err-clause-clock g c = search rules
+returns-then-is_err-clause-clock g c = ap (λ (s : State). s.moment) c.abandon.ensures.table ∙ c.prepare.ensures.table.moment
 
 pub returns-then-is_err-clause-memory_table : goal.returns-then-is_err-clause-memory_table
-returns-then-is_err-clause-memory_table g c = search rules
+returns-then-is_err-clause-memory_table g c =
+    rw c.abandon.ensures.table (subst (λ s. IsPurged c.args.moment s.machine.table c.prepare.new.self.table) c.self.view_is c.prepare.ensures.table)
 
 pub returns-clause-clock : goal.returns-clause-clock
-returns-clause-clock g c = search rules
+returns-clause-clock g c =
+    ap (λ (s : State). s.moment) c.apply-datagram.ensures.table ∙ moment_changed c.prepare.new.self.table c.in-Ok.step.change ∙ c.prepare.ensures.table.moment

@@ -77,7 +77,8 @@ pub returns-then-is_stopped-clause-runs : goal.returns-then-is_stopped-clause-ru
 returns-then-is_stopped-clause-runs g c = tt
 
 pub returns-then-is_stopped-clause-stopped : goal.returns-then-is_stopped-clause-stopped
-returns-then-is_stopped-clause-stopped g c = search rules
+returns-then-is_stopped-clause-stopped g c =
+    (λ _. ap (λ s. s.store.stopped) (sym c.self.view_is) ∙ sym c.is_stopped.ensures ∙ c.if-is_stopped.true, λ _. refl)
 
 pub returns-then-acts-eq0-clause-stops : goal.returns-then-acts-eq0-clause-stops
 returns-then-acts-eq0-clause-stops g c = tt
