@@ -10,9 +10,9 @@ mod players;
 mod rounds;
 mod settings;
 
-use std::alloc::{AllocError, Allocator, Global};
-use std::test::Fail;
-use turn_scenario::replay;
+use std::alloc::Global;
+use std::process::Abort;
+use turn_scenario::{Report, replay};
 
 /// The settings of the realm example.org with alice and bob, ten relay ports, a denied address, and the min limits but two
 /// allocations and names of eight bytes. These are nine lines.
@@ -27,53 +27,86 @@ deny 203.0.113.9 203.0.113.9
 limits 2 1 1 1 8
 ";
 
-/// The lines of a scenario's report, each with a newline, or the fault's text and a newline.
-fn outcome_of<A: Allocator + Copy>(alloc: A, scenario: &[u8]) -> Result<String<A>, AllocError> {
+/// The settings without their last line, the limits.
+fn without_limits(rt: &impl Abort) -> &'static str {
+    let end = SETTINGS.len().wrapping_sub(17);
+    SETTINGS.get(..end).expect(rt, "settings without limits")
+}
+
+/// Texts, one after the other.
+fn joined(rt: &impl Abort, alloc: Global, parts: &[&str]) -> String {
     let mut text = String::new(alloc);
+    for part in parts {
+        text.push_str(part).expect(rt, "memory");
+    }
+    text
+}
+
+/// A text so many times.
+fn repeated(rt: &impl Abort, alloc: Global, part: &str, count: u32) -> String {
+    let mut text = String::new(alloc);
+    for _ in 0..count {
+        text.push_str(part).expect(rt, "memory");
+    }
+    text
+}
+
+/// The settings and `format 238`.
+fn with_format(rt: &impl Abort, alloc: Global) -> String {
+    joined(rt, alloc, &[SETTINGS, "format 238\n"])
+}
+
+/// The lines of a report, each with a newline.
+fn text_of(rt: &impl Abort, alloc: Global, report: &Report) -> String {
+    let mut text = String::new(alloc);
+    for line in &report.lines {
+        text.push_str(line).expect(rt, "memory");
+        text.push_str("\n").expect(rt, "memory");
+    }
+    text
+}
+
+/// The lines of a scenario's report, each with a newline, or the fault's text and a newline.
+fn outcome_of(rt: &impl Abort, alloc: Global, scenario: &[u8]) -> String {
     match replay(alloc, scenario) {
-        Ok(report) => {
-            for line in &report.lines {
-                text.push_str(line)?;
-                text.push_str("\n")?;
-            }
-        }
-        Err(fault) => text = format!(in alloc; "{fault}\n")?,
+        Ok(report) => text_of(rt, alloc, &report),
+        Err(fault) => format!(in alloc; "{fault}\n").expect(rt, "memory"),
     }
-    Ok(text)
 }
 
-/// A scenario, after the settings above or others, has this outcome.
-fn expect(alloc: Global, settings: &str, lines: &[u8], outcome: &str) -> Result<(), Fail> {
-    let mut scenario = Vec::from_slice(alloc, settings.as_bytes())?;
-    scenario.extend_from_slice(lines)?;
-    let found = outcome_of(alloc, &scenario)?;
+/// A scenario, after the settings above or others, has this outcome. The test fails with the lines and what came of them.
+fn expect(rt: &impl Abort, alloc: Global, settings: &str, lines: &[u8], outcome: &str) {
+    let mut scenario = Vec::from_slice(alloc, settings.as_bytes()).expect(rt, "memory");
+    scenario.extend_from_slice(lines).expect(rt, "memory");
+    let found = outcome_of(rt, alloc, &scenario);
     if found.as_str() != outcome {
-        return Err(Fail::new(format_args!("{found:?}")));
+        let lines = lines.escape_ascii();
+        panic!(rt; "{lines}: {found:?}");
     }
-    Ok(())
 }
 
-/// Each scenario without settings has this outcome.
-fn expect_each(alloc: Global, rows: &[&[u8]], outcome: &str) -> Result<(), Fail> {
+/// A scenario whose lines after the settings are of these parts has this outcome.
+fn expect_parts(rt: &impl Abort, alloc: Global, settings: &str, parts: &[&str], outcome: &str) {
+    let lines = joined(rt, alloc, parts);
+    expect(rt, alloc, settings, lines.as_bytes(), outcome);
+}
+
+/// Each scenario after these settings has this outcome.
+fn expect_each(rt: &impl Abort, alloc: Global, settings: &str, rows: &[&[u8]], outcome: &str) {
     for lines in rows {
-        expect(alloc, "", lines, outcome)?;
+        expect(rt, alloc, settings, lines, outcome);
     }
-    Ok(())
 }
 
 /// Each scenario after the settings has the outcome beside it.
-fn expect_rows(alloc: Global, rows: &[(&str, &str)]) -> Result<(), Fail> {
+fn expect_rows(rt: &impl Abort, alloc: Global, rows: &[(&str, &str)]) {
     for (lines, outcome) in rows {
-        expect(alloc, SETTINGS, lines.as_bytes(), outcome)?;
+        expect(rt, alloc, SETTINGS, lines.as_bytes(), outcome);
     }
-    Ok(())
 }
 
 /// Each line after the settings and `format 238` has this outcome.
-fn expect_lines(alloc: Global, rows: &[&[u8]], outcome: &str) -> Result<(), Fail> {
-    let settings = format!(in alloc; "{SETTINGS}format 238\n")?;
-    for line in rows {
-        expect(alloc, &settings, line, outcome)?;
-    }
-    Ok(())
+fn expect_lines(rt: &impl Abort, alloc: Global, rows: &[&[u8]], outcome: &str) {
+    let settings = with_format(rt, alloc);
+    expect_each(rt, alloc, &settings, rows, outcome);
 }

@@ -1,8 +1,8 @@
 //! Lines after `format`.
 
-use super::{SETTINGS, expect, expect_lines, expect_rows};
-use std::alloc::{AllocError, Global};
-use std::test::Fail;
+use super::{SETTINGS, expect_lines, expect_parts, expect_rows, repeated};
+use std::alloc::Global;
+use std::process::Abort;
 
 const GOOD: [&[u8]; 33] = [
     b"",
@@ -41,8 +41,8 @@ const GOOD: [&[u8]; 33] = [
 ];
 
 #[test]
-fn lines_up_to_the_commit_report_nothing(rt: HostRuntime) -> Result<(), Fail> {
-    expect_lines(rt.alloc(), &GOOD, "opened clock 0\n")
+fn lines_up_to_the_commit_report_nothing(rt: HostRuntime) {
+    expect_lines(&rt, rt.alloc(), &GOOD, "opened clock 0\n");
 }
 
 const BAD: [&[u8]; 60] = [
@@ -109,8 +109,8 @@ const BAD: [&[u8]; 60] = [
 ];
 
 #[test]
-fn a_malformed_line_is_a_bad_line(rt: HostRuntime) -> Result<(), Fail> {
-    expect_lines(rt.alloc(), &BAD, "line 11: bad line\n")
+fn a_malformed_line_is_a_bad_line(rt: HostRuntime) {
+    expect_lines(&rt, rt.alloc(), &BAD, "line 11: bad line\n");
 }
 
 const BAD_FAILURES: [&[u8]; 22] = [
@@ -139,8 +139,8 @@ const BAD_FAILURES: [&[u8]; 22] = [
 ];
 
 #[test]
-fn a_malformed_failure_is_a_bad_line(rt: HostRuntime) -> Result<(), Fail> {
-    expect_lines(rt.alloc(), &BAD_FAILURES, "line 11: bad line\n")
+fn a_malformed_failure_is_a_bad_line(rt: HostRuntime) {
+    expect_lines(&rt, rt.alloc(), &BAD_FAILURES, "line 11: bad line\n");
 }
 
 const BAD_ASKS: [&[u8]; 42] = [
@@ -189,8 +189,8 @@ const BAD_ASKS: [&[u8]; 42] = [
 ];
 
 #[test]
-fn a_malformed_request_is_a_bad_line(rt: HostRuntime) -> Result<(), Fail> {
-    expect_lines(rt.alloc(), &BAD_ASKS, "line 11: bad line\n")
+fn a_malformed_request_is_a_bad_line(rt: HostRuntime) {
+    expect_lines(&rt, rt.alloc(), &BAD_ASKS, "line 11: bad line\n");
 }
 
 const EARLIER: [(&str, &str); 3] = [
@@ -200,37 +200,28 @@ const EARLIER: [(&str, &str); 3] = [
 ];
 
 #[test]
-fn an_earlier_moment_is_a_bad_line(rt: HostRuntime) -> Result<(), Fail> {
-    expect_rows(rt.alloc(), &EARLIER)
-}
-
-/// The settings, `format 238`, and a line that repeats a word.
-fn repeated(alloc: Global, front: &str, word: &str, count: u32) -> Result<String, AllocError> {
-    let mut line = String::from_str(alloc, front)?;
-    for _ in 0..count {
-        line.push_str(word)?;
-    }
-    Ok(line)
+fn an_earlier_moment_is_a_bad_line(rt: HostRuntime) {
+    expect_rows(&rt, rt.alloc(), &EARLIER);
 }
 
 /// A `send` with so many bytes of data has this outcome. Its attributes have 16 bytes, the data and padding.
-fn expect_send(alloc: Global, count: u32, outcome: &str) -> Result<(), Fail> {
+fn expect_send(rt: &impl Abort, alloc: Global, count: u32, outcome: &str) {
     let front = "format 238\nsend 1.2.3.4:5 1.2.3.4:5 ";
-    let line = repeated(alloc, front, "00", count)?;
-    expect(alloc, SETTINGS, line.as_bytes(), outcome)
+    let data = repeated(rt, alloc, "00", count);
+    expect_parts(rt, alloc, SETTINGS, &[front, &data], outcome);
 }
 
 /// An `ask` with so many peers has this outcome. Its attributes have 136 bytes and 12 of each peer.
-fn expect_peers(alloc: Global, count: u32, outcome: &str) -> Result<(), Fail> {
+fn expect_peers(rt: &impl Abort, alloc: Global, count: u32, outcome: &str) {
     let front = "format 238\nask 1.2.3.4:5 alice 000000000000000000000000 permit";
-    let line = repeated(alloc, front, " peer=1.2.3.4:5", count)?;
-    expect(alloc, SETTINGS, line.as_bytes(), outcome)
+    let peers = repeated(rt, alloc, " peer=1.2.3.4:5", count);
+    expect_parts(rt, alloc, SETTINGS, &[front, &peers], outcome);
 }
 
 #[test]
-fn attributes_of_more_than_65532_bytes_are_a_bad_line(rt: HostRuntime) -> Result<(), Fail> {
-    expect_send(rt.alloc(), 65516, "opened clock 0\n")?;
-    expect_send(rt.alloc(), 65517, "line 11: bad line\n")?;
-    expect_peers(rt.alloc(), 5449, "opened clock 0\n")?;
-    expect_peers(rt.alloc(), 5450, "line 11: bad line\n")
+fn attributes_of_more_than_65532_bytes_are_a_bad_line(rt: HostRuntime) {
+    expect_send(&rt, rt.alloc(), 65516, "opened clock 0\n");
+    expect_send(&rt, rt.alloc(), 65517, "line 11: bad line\n");
+    expect_peers(&rt, rt.alloc(), 5449, "opened clock 0\n");
+    expect_peers(&rt, rt.alloc(), 5450, "line 11: bad line\n");
 }

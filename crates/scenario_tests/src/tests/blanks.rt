@@ -1,8 +1,8 @@
 //! Lines of each kind with a blank, a tab, a carriage return or a word too many, or cut after the first word.
 
-use super::{SETTINGS, expect};
+use super::{SETTINGS, expect_parts, with_format};
 use std::alloc::Global;
-use std::test::Fail;
+use std::process::Abort;
 
 /// The first word of a line, and the words after it.
 type Kind = (&'static str, &'static str);
@@ -59,60 +59,52 @@ const MALFORMED_WORDS: [(&str, &str); 5] = [
 const CUT: [&str; 2] = ["", " "];
 
 /// Each malformed form of a line after these lines has this outcome.
-fn expect_kind(alloc: Global, before: &str, kind: &Kind, outcome: &str) -> Result<(), Fail> {
+fn expect_kind(rt: &impl Abort, alloc: Global, before: &str, kind: &Kind, outcome: &str) {
     let (word, rest) = *kind;
     for (front, between, end) in &MALFORMED {
-        let line = format!(in alloc; "{front}{word}{between}{rest}{end}")?;
-        expect(alloc, before, line.as_bytes(), outcome)?;
+        let parts = [*front, word, *between, rest, *end];
+        expect_parts(rt, alloc, before, &parts, outcome);
     }
-    Ok(())
 }
 
-fn expect_cut(alloc: Global, before: &str, word: &str, outcome: &str) -> Result<(), Fail> {
+fn expect_cut(rt: &impl Abort, alloc: Global, before: &str, word: &str, outcome: &str) {
     for end in &CUT {
-        let line = format!(in alloc; "{word}{end}")?;
-        expect(alloc, before, line.as_bytes(), outcome)?;
+        expect_parts(rt, alloc, before, &[word, *end], outcome);
     }
-    Ok(())
 }
 
-fn expect_word(alloc: Global, before: &str, word: &str, outcome: &str) -> Result<(), Fail> {
+fn expect_word(rt: &impl Abort, alloc: Global, before: &str, word: &str, outcome: &str) {
     for (front, end) in &MALFORMED_WORDS {
-        let line = format!(in alloc; "{front}{word}{end}")?;
-        expect(alloc, before, line.as_bytes(), outcome)?;
+        expect_parts(rt, alloc, before, &[*front, word, *end], outcome);
     }
-    Ok(())
+}
+
+/// Each malformed form of lines of these kinds has this outcome, and so has each of these lines that is cut.
+fn expect_kinds(rt: &impl Abort, alloc: Global, before: &str, kinds: &[Kind], outcome: &str) {
+    for kind in kinds {
+        expect_kind(rt, alloc, before, kind, outcome);
+        expect_cut(rt, alloc, before, kind.0, outcome);
+    }
 }
 
 #[test]
-fn a_setting_has_single_blanks_and_all_its_words(rt: HostRuntime) -> Result<(), Fail> {
-    for kind in &SETTING_KINDS {
-        expect_kind(rt.alloc(), "", kind, "line 1: bad line\n")?;
-        expect_cut(rt.alloc(), "", kind.0, "line 1: bad line\n")?;
-    }
-    Ok(())
+fn a_setting_has_single_blanks_and_all_its_words(rt: HostRuntime) {
+    expect_kinds(&rt, rt.alloc(), "", &SETTING_KINDS, "line 1: bad line\n");
 }
 
 #[test]
-fn a_line_has_single_blanks_and_all_its_words(rt: HostRuntime) -> Result<(), Fail> {
-    let before = format!(in rt.alloc(); "{SETTINGS}format 238\n")?;
-    for kind in &LINE_KINDS {
-        expect_kind(rt.alloc(), &before, kind, "line 11: bad line\n")?;
-        expect_cut(rt.alloc(), &before, kind.0, "line 11: bad line\n")?;
-    }
-    Ok(())
+fn a_line_has_single_blanks_and_all_its_words(rt: HostRuntime) {
+    let before = with_format(&rt, rt.alloc());
+    expect_kinds(&rt, rt.alloc(), &before, &LINE_KINDS, "line 11: bad line\n");
 }
 
+const FORMAT: Kind = ("format", "238");
+
 #[test]
-fn a_line_of_one_word_is_this_word(rt: HostRuntime) -> Result<(), Fail> {
-    let before = format!(in rt.alloc(); "{SETTINGS}format 238\n")?;
+fn a_line_of_one_word_is_this_word(rt: HostRuntime) {
+    let before = with_format(&rt, rt.alloc());
     for word in &WORDS {
-        expect_word(rt.alloc(), &before, word, "line 11: bad line\n")?;
+        expect_word(&rt, rt.alloc(), &before, word, "line 11: bad line\n");
     }
-    expect_kind(
-        rt.alloc(),
-        SETTINGS,
-        &("format", "238"),
-        "line 10: bad line\n",
-    )
+    expect_kind(&rt, rt.alloc(), SETTINGS, &FORMAT, "line 10: bad line\n");
 }

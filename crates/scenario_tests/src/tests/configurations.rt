@@ -2,7 +2,7 @@
 
 use refusing::Refusing;
 use std::alloc::{Allocator, Global};
-use std::test::Fail;
+use std::process::Abort;
 use turn_config::{ConfigFault, Configured, read_config};
 use turn_cred::AuthHandler;
 use turn_ports::RelayAddressGenerator;
@@ -30,14 +30,12 @@ const BAD: [(&[u8], u64); 12] = [
 ];
 
 #[test]
-fn the_first_bad_line_or_the_one_after_the_last_is_named(rt: HostRuntime) -> Result<(), Fail> {
-    for (text, line) in &BAD {
-        match read_config(rt.alloc(), text) {
-            Err(fault) if fault == ConfigFault::BadLine(*line) => {}
-            _ => return Err(Fail::new(*line)),
+fn the_first_bad_line_or_the_one_after_the_last_is_named(rt: HostRuntime) {
+    for (place, (text, line)) in BAD.iter().enumerate() {
+        if read_config(rt.alloc(), text).err() != Some(ConfigFault::BadLine(*line)) {
+            panic!(rt; "row {place}");
         }
     }
-    Ok(())
 }
 
 /// Quota and limits are left out.
@@ -81,32 +79,34 @@ fn has_users<A: Allocator + Copy>(found: &Configured<'_, A>) -> bool {
         && found.passwords.len() == 1
 }
 
-/// Reads the configuration with one allocation refused after so many. Returns whether none was refused.
-fn read_succeeds(alloc: Global, served: u64) -> Result<bool, Fail> {
-    let refusing = Refusing::new(alloc, served);
-    match read_config(&refusing, WHOLE) {
-        Ok(found) => {
-            if refusing.has_refused() || !is_whole(&found) || !has_users(&found) {
-                return Err(Fail::new(served));
-            }
-            Ok(true)
-        }
-        Err(fault) => {
-            if fault != ConfigFault::Memory || !refusing.has_refused() {
-                return Err(Fail::new(served));
-            }
-            Ok(false)
-        }
+/// Whether the configuration is read whole, or an allocation is refused and the fault says it.
+fn is_right(refusing: &Refusing<Global>) -> bool {
+    match read_config(refusing, WHOLE) {
+        Ok(found) => !refusing.has_refused() && is_whole(&found) && has_users(&found),
+        Err(fault) => refusing.has_refused() && fault == ConfigFault::Memory,
     }
 }
 
-#[test]
-fn a_configuration_is_read_whole_or_is_out_of_memory(rt: HostRuntime) -> Result<(), Fail> {
-    assert!(rt; !read_succeeds(rt.alloc(), 0)?);
-    for served in 1..100u64 {
-        if read_succeeds(rt.alloc(), served)? {
-            return Ok(());
+/// Reads the configuration with one allocation refused after so many. Returns whether one was refused.
+fn is_refused(rt: &impl Abort, alloc: Global, served: u64) -> bool {
+    let refusing = Refusing::new(alloc, served);
+    if !is_right(&refusing) {
+        panic!(rt; "{served} served");
+    }
+    refusing.has_refused()
+}
+
+/// How many allocations the configuration takes, each of which is refused once.
+fn allocations(rt: &impl Abort, alloc: Global) -> u64 {
+    for served in 0..100u64 {
+        if !is_refused(rt, alloc, served) {
+            return served;
         }
     }
-    Err(Fail::new("some allocation is always refused"))
+    panic!(rt; "some allocation is always refused");
+}
+
+#[test]
+fn a_configuration_is_read_whole_or_is_out_of_memory(rt: HostRuntime) {
+    assert!(rt; allocations(&rt, rt.alloc()) > 0);
 }

@@ -1,7 +1,7 @@
 //! The lines of events that no text of a scenario comes to: a store that others changed, and the last generation.
 
 use std::alloc::Global;
-use std::test::Fail;
+use std::process::Abort;
 use turn_engine::CommitRefused;
 use turn_player::Event;
 use turn_scenario::event_text;
@@ -21,20 +21,27 @@ const FAILED: [(CommitRefused, &str); 3] = [
     (CommitRefused::Stopped, "stopped"),
 ];
 
-fn expect_text(alloc: Global, event: Event, text: &str) -> Result<(), Fail> {
-    if event_text(alloc, &event)?.as_str() != text {
-        return Err(Fail::new(format_args!("{text:?}")));
+fn expect_text(rt: &impl Abort, alloc: Global, event: Event, text: &str) {
+    let found = event_text(alloc, &event).expect(rt, "memory");
+    if found.as_str() != text {
+        panic!(rt; "{text}");
     }
-    Ok(())
+}
+
+fn expect_not_opened(rt: &impl Abort, alloc: Global) {
+    for (fault, text) in &NOT_OPENED {
+        expect_text(rt, alloc, Event::NotOpened(*fault), text);
+    }
+}
+
+fn expect_failed(rt: &impl Abort, alloc: Global) {
+    for (fault, text) in &FAILED {
+        expect_text(rt, alloc, Event::Failed(*fault), text);
+    }
 }
 
 #[test]
-fn each_fault_of_an_opening_and_of_a_commit_has_a_line(rt: HostRuntime) -> Result<(), Fail> {
-    for (fault, text) in &NOT_OPENED {
-        expect_text(rt.alloc(), Event::NotOpened(*fault), text)?;
-    }
-    for (fault, text) in &FAILED {
-        expect_text(rt.alloc(), Event::Failed(*fault), text)?;
-    }
-    Ok(())
+fn each_fault_of_an_opening_and_of_a_commit_has_a_line(rt: HostRuntime) {
+    expect_not_opened(&rt, rt.alloc());
+    expect_failed(&rt, rt.alloc());
 }

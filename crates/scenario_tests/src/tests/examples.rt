@@ -1,7 +1,6 @@
 //! Whole scenarios, each report compared whole.
 
 use super::expect_rows;
-use std::test::Fail;
 
 /// A stopped server reports so until the store is opened again. A `fail` call fails once: the commit's first call, then the
 /// sync of an opening. A stop moves only nearer, and a later `fail` takes the place of an earlier one. An empty batch makes
@@ -104,8 +103,8 @@ opened clock 0
 ];
 
 #[test]
-fn device_calls_fail_as_the_lines_say(rt: HostRuntime) -> Result<(), Fail> {
-    expect_rows(rt.alloc(), &FAILURES)
+fn device_calls_fail_as_the_lines_say(rt: HostRuntime) {
+    expect_rows(&rt, rt.alloc(), &FAILURES);
 }
 
 /// What was staged is lost with `reopen` and `crash`.
@@ -121,6 +120,6 @@ const STAGED: [(&str, &str); 2] = [
 ];
 
 #[test]
-fn a_batch_that_was_not_committed_is_lost(rt: HostRuntime) -> Result<(), Fail> {
-    expect_rows(rt.alloc(), &STAGED)
+fn a_batch_that_was_not_committed_is_lost(rt: HostRuntime) {
+    expect_rows(&rt, rt.alloc(), &STAGED);
 }

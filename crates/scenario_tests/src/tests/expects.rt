@@ -1,7 +1,6 @@
 //! `expect` lines, and which fault counts.
 
 use super::expect_rows;
-use std::test::Fail;
 
 const MET: [(&str, &str); 5] = [
     ("format 238\nexpect opened clock 0", "opened clock 0\n"),
@@ -24,8 +23,8 @@ const MET: [(&str, &str); 5] = [
 ];
 
 #[test]
-fn an_expectation_that_is_met_changes_nothing(rt: HostRuntime) -> Result<(), Fail> {
-    expect_rows(rt.alloc(), &MET)
+fn an_expectation_that_is_met_changes_nothing(rt: HostRuntime) {
+    expect_rows(&rt, rt.alloc(), &MET);
 }
 
 /// Another text, a line that was compared, no line yet, another order.
@@ -59,8 +58,8 @@ const DIFFERS: [(&str, &str); 11] = [
 ];
 
 #[test]
-fn an_expectation_that_is_not_met_differs(rt: HostRuntime) -> Result<(), Fail> {
-    expect_rows(rt.alloc(), &DIFFERS)
+fn an_expectation_that_is_not_met_differs(rt: HostRuntime) {
+    expect_rows(&rt, rt.alloc(), &DIFFERS);
 }
 
 const FIRST_FAULTS: [(&str, &str); 5] = [
@@ -75,6 +74,6 @@ const FIRST_FAULTS: [(&str, &str); 5] = [
 ];
 
 #[test]
-fn the_first_fault_counts(rt: HostRuntime) -> Result<(), Fail> {
-    expect_rows(rt.alloc(), &FIRST_FAULTS)
+fn the_first_fault_counts(rt: HostRuntime) {
+    expect_rows(&rt, rt.alloc(), &FIRST_FAULTS);
 }

@@ -1,9 +1,9 @@
 //! Each growth refused in turn.
 
-use super::SETTINGS;
+use super::{SETTINGS, joined};
 use refusing::Refusing;
 use std::alloc::{Allocator, Global};
-use std::test::Fail;
+use std::process::Abort;
 use turn_scenario::{Report, ScenarioFault, replay};
 
 const LINES: &str = "format 238
@@ -21,9 +21,9 @@ table
 ";
 
 /// Whether two reports have the same lines.
-fn are_same<A: Allocator, B: Allocator>(report: &Report<A>, other: &Report<B>) -> bool {
-    let mut pairs = report.lines.iter().zip(other.lines.iter());
-    report.lines.len() == other.lines.len()
+fn are_same<A: Allocator>(report: &Report<A>, whole: &Report) -> bool {
+    let mut pairs = report.lines.iter().zip(whole.lines.iter());
+    report.lines.len() == whole.lines.len()
         && pairs.all(|(line, same)| line.as_str() == same.as_str())
 }
 
@@ -71,53 +71,56 @@ fn is_right<A: Allocator>(
     }
 }
 
+/// Whether a scenario is replayed as `is_right` says, or its fault says that a growth was refused.
+fn goes_right(
+    refusing: &Refusing<Global>,
+    scenario: &[u8],
+    whole: &Report,
+    told: &mut Told,
+) -> bool {
+    match replay(refusing, scenario) {
+        Ok(report) => is_right(&report, whole, refusing.has_refused(), told),
+        Err(fault) => fault == ScenarioFault::Memory && refusing.has_refused(),
+    }
+}
+
 /// Replays with one growth refused after so many. Returns whether none was refused. Any other outcome than an allocation
 /// failure fails.
 fn replay_succeeds(
+    rt: &impl Abort,
     alloc: Global,
     scenario: &[u8],
     whole: &Report,
     served: u64,
     told: &mut Told,
-) -> Result<bool, Fail> {
+) -> bool {
     let refusing = Refusing::new(alloc, served);
-    match replay(&refusing, scenario) {
-        Ok(report) => {
-            if !is_right(&report, whole, refusing.has_refused(), told) {
-                return Err(Fail::new(served));
-            }
-        }
-        Err(fault) => {
-            if fault != ScenarioFault::Memory || !refusing.has_refused() {
-                return Err(Fail::new(served));
-            }
-        }
+    if !goes_right(&refusing, scenario, whole, told) {
+        panic!(rt; "{served} served");
     }
-    Ok(!refusing.has_refused())
+    !refusing.has_refused()
 }
 
 /// Refuses one growth after the other, and returns which lines told it.
-fn refuse_each(alloc: Global, scenario: &[u8], whole: &Report) -> Result<Told, Fail> {
+fn refuse_each(rt: &impl Abort, alloc: Global, scenario: &[u8], whole: &Report) -> Told {
     let mut told = Told {
         memory: false,
         device: false,
     };
     for served in 0..10_000u64 {
-        if replay_succeeds(alloc, scenario, whole, served, &mut told)? {
-            return Ok(told);
+        if replay_succeeds(rt, alloc, scenario, whole, served, &mut told) {
+            return told;
         }
     }
-    Err(Fail::new("some growth is always refused"))
+    panic!(rt; "some growth is always refused");
 }
 
 #[test]
-fn each_growth_is_refused(rt: HostRuntime) -> Result<(), Fail> {
-    let mut scenario = Vec::from_slice(rt.alloc(), SETTINGS.as_bytes())?;
-    scenario.extend_from_slice(LINES.as_bytes())?;
-    let whole = replay(rt.alloc(), &scenario).map_err(|_| "a report")?;
-    let told = refuse_each(rt.alloc(), &scenario, &whole)?;
+fn each_growth_is_refused(rt: HostRuntime) {
+    let scenario = joined(&rt, rt.alloc(), &[SETTINGS, LINES]);
+    let whole = replay(rt.alloc(), scenario.as_bytes()).expect(&rt, "a report");
+    let told = refuse_each(&rt, rt.alloc(), scenario.as_bytes(), &whole);
     assert!(rt; told.memory);
     // Of the disk's record.
     assert!(rt; told.device);
-    Ok(())
 }

@@ -1,8 +1,8 @@
 //! Each form of a line on a datagram that was handed out, and of a table's line.
 
-use super::{SETTINGS, expect, expect_rows};
+use super::{SETTINGS, expect, expect_parts, expect_rows, joined, without_limits};
 use std::alloc::Global;
-use std::test::Fail;
+use std::process::Abort;
 
 /// Eight acts a batch, and room for more: these settings come in place of the limits of two.
 const LARGE: &str = "limits 8 4 4 8 8
@@ -11,16 +11,13 @@ at 1000
 ";
 
 /// A scenario after the settings, with larger limits, has this outcome.
-fn expect_large(alloc: Global, lines: &str, outcome: &str) -> Result<(), Fail> {
-    let end = SETTINGS.len().wrapping_sub(17);
-    let settings = SETTINGS.get(..end).ok_or("settings without limits")?;
-    let settings = format!(in alloc; "{settings}{LARGE}")?;
-    expect(alloc, &settings, lines.as_bytes(), outcome)
+fn expect_large(rt: &impl Abort, alloc: Global, lines: &str, outcome: &str) {
+    let settings = joined(rt, alloc, &[without_limits(rt), LARGE]);
+    expect(rt, alloc, &settings, lines.as_bytes(), outcome);
 }
 
 /// Data both ways, over a permission and over a channel. A batch has eight arrivals.
-const DATA: [(&str, &str); 1] = [(
-    "raw 192.0.2.1:32853 000100002112a4420102030405060708090a0b0c
+const DATA: &str = "raw 192.0.2.1:32853 000100002112a4420102030405060708090a0b0c
 ask 192.0.2.1:32853 alice 0102030405060708090a0b0c allocate life=3600
 ask 192.0.2.1:32853 alice 000000000000000000000002 permit peer=203.0.113.5:7000
 ask 192.0.2.1:32853 alice 000000000000000000000003 bind chan=4Abc peer=203.0.113.6:7001
@@ -49,8 +46,9 @@ at 4600
 table
 ask 192.0.2.1:32853 alice 000000000000000000000004 refresh life=0
 commit
-",
-    "opened clock 0
+";
+
+const DATA_REPORT: &str = "opened clock 0
 batch full
 client 192.0.2.1:32853 success binding 0102030405060708090a0b0c
 client 192.0.2.1:32853 success allocate 0102030405060708090a0b0c port=50000 life=3600
@@ -82,18 +80,15 @@ committed 0
 live 0
 client 192.0.2.1:32853 error refresh 000000000000000000000004 437
 committed 1
-",
-)];
+";
 
 #[test]
-fn datagrams_are_shown_by_what_they_say(rt: HostRuntime) -> Result<(), Fail> {
-    let (lines, outcome) = DATA[0];
-    expect_large(rt.alloc(), lines, outcome)
+fn datagrams_are_shown_by_what_they_say(rt: HostRuntime) {
+    expect_large(&rt, rt.alloc(), DATA, DATA_REPORT);
 }
 
 /// Two users: the order is by the client's address. Refresh without LIFETIME, with one, and with 0.
-const REFRESHES: [(&str, &str); 1] = [(
-    "ask 192.0.2.2:40000 bob 000000000000000000000001 allocate even
+const REFRESHES: &str = "ask 192.0.2.2:40000 bob 000000000000000000000001 allocate even
 ask 192.0.2.1:32853 alice 000000000000000000000002 allocate transport=17
 ask 192.0.2.1:32853 alice 000000000000000000000003 refresh
 ask 192.0.2.2:40000 bob 000000000000000000000004 refresh life=1200
@@ -104,8 +99,9 @@ commit
 table
 crash kept
 table
-",
-    "opened clock 0
+";
+
+const REFRESHES_REPORT: &str = "opened clock 0
 client 192.0.2.2:40000 success allocate 000000000000000000000001 port=50000 life=600
 client 192.0.2.1:32853 success allocate 000000000000000000000002 port=50001 life=600
 client 192.0.2.1:32853 success refresh 000000000000000000000003 life=600
@@ -121,13 +117,11 @@ live 1
 opened clock 1000
 192.0.2.2:40000 192.0.2.100:3478 626f62 50000 2200
 live 1
-",
-)];
+";
 
 #[test]
-fn a_table_is_shown_by_five_tuple(rt: HostRuntime) -> Result<(), Fail> {
-    let (lines, outcome) = REFRESHES[0];
-    expect_large(rt.alloc(), lines, outcome)
+fn a_table_is_shown_by_five_tuple(rt: HostRuntime) {
+    expect_large(&rt, rt.alloc(), REFRESHES, REFRESHES_REPORT);
 }
 
 /// What is asked without an allocation, and the end of the response's line. A name of nine bytes is longer than the limit.
@@ -238,84 +232,96 @@ const WITH: [(&str, &str); 17] = [
     ),
 ];
 
-/// An `ask` of 192.0.2.1:5 after other lines, whose report lines come before, is answered by an error.
-fn expect_error(alloc: Global, lines: (&str, &str), row: &(&str, &str)) -> Result<(), Fail> {
-    let (settings, (front, reported), (asked, answered)) = (SETTINGS, lines, *row);
-    let lines = format!(in alloc;
-        "user robertson x\nformat 238\n{front}ask 192.0.2.1:5 {asked}\ncommit\n"
-    )?;
-    let outcome = format!(in alloc;
-        "opened clock 0\n{reported}client 192.0.2.1:5 error {answered}\ncommitted 1\n"
-    )?;
-    expect(alloc, settings, lines.as_bytes(), &outcome)
+/// An `ask` of 192.0.2.1:5 after other lines, of which these lines are reported, is answered by an error.
+fn expect_error(
+    rt: &impl Abort,
+    alloc: Global,
+    front: &str,
+    reported: &str,
+    asked: &str,
+    answered: &str,
+) {
+    let outcome = joined(
+        rt,
+        alloc,
+        &[
+            "opened clock 0\n",
+            reported,
+            "client 192.0.2.1:5 error ",
+            answered,
+            "\ncommitted 1\n",
+        ],
+    );
+    let parts = [
+        "user robertson x\nformat 238\n",
+        front,
+        "ask 192.0.2.1:5 ",
+        asked,
+        "\ncommit\n",
+    ];
+    expect_parts(rt, alloc, SETTINGS, &parts, &outcome);
+}
+
+/// Each row is answered by its error.
+fn expect_errors(
+    rt: &impl Abort,
+    alloc: Global,
+    front: &str,
+    reported: &str,
+    rows: &[(&str, &str)],
+) {
+    for (asked, answered) in rows {
+        expect_error(rt, alloc, front, reported, asked, answered);
+    }
 }
 
 #[test]
-fn errors_have_their_codes(rt: HostRuntime) -> Result<(), Fail> {
-    for row in &WITHOUT {
-        expect_error(rt.alloc(), ("", ""), row)?;
-    }
-    Ok(())
+fn errors_have_their_codes(rt: HostRuntime) {
+    expect_errors(&rt, rt.alloc(), "", "", &WITHOUT);
 }
 
-const ALLOCATED: (&str, &str) = (
-    "ask 192.0.2.1:5 alice 000000000000000000000001 allocate\ncommit\n",
-    "client 192.0.2.1:5 success allocate 000000000000000000000001 port=50000 life=600\ncommitted 1\n",
-);
+const ALLOCATE: &str = "ask 192.0.2.1:5 alice 000000000000000000000001 allocate\ncommit\n";
+
+const ALLOCATED: &str =
+    "client 192.0.2.1:5 success allocate 000000000000000000000001 port=50000 life=600\ncommitted 1\n";
 
 #[test]
-fn errors_of_an_allocation_have_their_codes(rt: HostRuntime) -> Result<(), Fail> {
-    for row in &WITH {
-        expect_error(rt.alloc(), ALLOCATED, row)?;
-    }
-    Ok(())
+fn errors_of_an_allocation_have_their_codes(rt: HostRuntime) {
+    expect_errors(&rt, rt.alloc(), ALLOCATE, ALLOCATED, &WITH);
 }
 
-/// The nonce of a moment holds for 3,600 seconds, and `nonce` lasts through `crash` and `reopen`.
-const NONCES: [((&str, &str), (&str, &str)); 5] = [
+/// Lines, their report, and the end of the response's line to a Refresh after them. The nonce of a moment holds for 3,600
+/// seconds, and `nonce` lasts through `crash` and `reopen`.
+const NONCES: [(&str, &str, &str); 5] = [
     (
-        ("at 3599\nnonce 0\n", ""),
-        (
-            "alice 00000000000000000000000a refresh",
-            "refresh 00000000000000000000000a 437",
-        ),
+        "at 3599\nnonce 0\n",
+        "",
+        "refresh 00000000000000000000000a 437",
     ),
     (
-        ("at 3600\nnonce 0\n", ""),
-        (
-            "alice 00000000000000000000000a refresh",
-            "refresh 00000000000000000000000a 438",
-        ),
+        "at 3600\nnonce 0\n",
+        "",
+        "refresh 00000000000000000000000a 438",
+    ),
+    ("nonce 1\n", "", "refresh 00000000000000000000000a 438"),
+    (
+        "nonce 1\nreopen\n",
+        "opened clock 0\n",
+        "refresh 00000000000000000000000a 438",
     ),
     (
-        ("nonce 1\n", ""),
-        (
-            "alice 00000000000000000000000a refresh",
-            "refresh 00000000000000000000000a 438",
-        ),
-    ),
-    (
-        ("nonce 1\nreopen\n", "opened clock 0\n"),
-        (
-            "alice 00000000000000000000000a refresh",
-            "refresh 00000000000000000000000a 438",
-        ),
-    ),
-    (
-        ("nonce 1\ncrash lost\n", "opened clock 0\n"),
-        (
-            "alice 00000000000000000000000a refresh",
-            "refresh 00000000000000000000000a 438",
-        ),
+        "nonce 1\ncrash lost\n",
+        "opened clock 0\n",
+        "refresh 00000000000000000000000a 438",
     ),
 ];
 
 #[test]
-fn a_nonce_is_that_of_its_line(rt: HostRuntime) -> Result<(), Fail> {
-    for (lines, row) in &NONCES {
-        expect_error(rt.alloc(), *lines, row)?;
+fn a_nonce_is_that_of_its_line(rt: HostRuntime) {
+    let asked = "alice 00000000000000000000000a refresh";
+    for (front, reported, answered) in &NONCES {
+        expect_error(&rt, rt.alloc(), front, reported, asked, answered);
     }
-    Ok(())
 }
 
 /// A challenge, an error response without MESSAGE-INTEGRITY.
@@ -325,6 +331,6 @@ const CHALLENGES: [(&str, &str); 1] = [(
 )];
 
 #[test]
-fn a_request_without_credentials_is_challenged(rt: HostRuntime) -> Result<(), Fail> {
-    expect_rows(rt.alloc(), &CHALLENGES)
+fn a_request_without_credentials_is_challenged(rt: HostRuntime) {
+    expect_rows(&rt, rt.alloc(), &CHALLENGES);
 }

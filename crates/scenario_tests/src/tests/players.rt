@@ -2,16 +2,16 @@
 
 use super::SETTINGS;
 use refusing::Refusing;
-use std::alloc::{AllocError, Global};
-use std::test::Fail;
+use std::alloc::Global;
+use std::process::Abort;
 use turn_config::{Configured, read_config};
-use turn_disk::{MemoryDisk, Outcome};
+use turn_disk::{Disk, MemoryDisk, Outcome};
 use turn_engine::{CommitRefused, SubmitRefused};
 use turn_player::{Event, Player, Step};
 use turn_scenario::event_text;
 use turn_step::Arrival;
-use turn_store::OpenFault;
-use turn_types::{Endpoint, FiveTuple, Moment};
+use turn_store::{OpenFault, format};
+use turn_types::{Endpoint, FiveTuple, Limits, Moment};
 
 const BINDING: &[u8] =
     b"\x00\x01\x00\x00\x21\x12\xA4\x42\x01\x02\x03\x04\x05\x06\x07\x08\x09\x0A\x0B\x0C";
@@ -41,22 +41,34 @@ fn tells(event: &Event<&Refusing<Global>>) -> bool {
 
 type Refused<'a> = Player<&'a Refusing<Global>>;
 
+fn format_disk(rt: &impl Abort, disk: &mut MemoryDisk<&Refusing<Global>>, limits: Limits) {
+    assert!(rt; disk.size() == 540);
+    assert!(rt; format(disk, limits, 238).is_ok());
+}
+
+/// A disk with an empty store.
+fn disk<'a>(
+    rt: &impl Abort,
+    refusing: &'a Refusing<Global>,
+    limits: Limits,
+) -> MemoryDisk<&'a Refusing<Global>> {
+    let content = Vec::from_elem(refusing, 0u8, 540).expect(rt, "memory");
+    let mut disk = MemoryDisk::new(refusing, content);
+    format_disk(rt, &mut disk, limits);
+    disk
+}
+
 /// A player over an empty store.
-fn player(refusing: &Refusing<Global>) -> Result<Refused<'_>, Fail> {
-    let Ok(configured) = read_config(refusing, SETTINGS.as_bytes()) else {
-        return Err(Fail::new("no configuration"));
-    };
+fn player<'a>(rt: &impl Abort, refusing: &'a Refusing<Global>) -> Refused<'a> {
+    let configured = read_config(refusing, SETTINGS.as_bytes()).expect(rt, "a configuration");
     let Configured {
         config,
         users,
         ports,
         ..
     } = configured;
-    let mut disk = MemoryDisk::new(refusing, Vec::from_elem(refusing, 0u8, 540)?);
-    if turn_store::format(&mut disk, config.limits(), 238).is_err() {
-        return Err(Fail::new("no store"));
-    }
-    Ok(Player::new(refusing, disk, config, users, ports))
+    let disk = disk(rt, refusing, config.limits());
+    Player::new(refusing, disk, config, users, ports)
 }
 
 /// Whether no later call succeeds, and there is no server.
@@ -76,24 +88,35 @@ const TEXTS: [&str; 6] = [
     "opened clock 0",
 ];
 
+fn has_text<'a>(
+    rt: &impl Abort,
+    refusing: &'a Refusing<Global>,
+    event: &Event<&'a Refusing<Global>>,
+    text: &str,
+) -> bool {
+    let found = event_text(refusing, event).expect(rt, "memory");
+    found.as_str() == text
+}
+
 /// Whether events are those of the steps, up to the first one that tells of an allocation failure.
 fn are_right<'a>(
+    rt: &impl Abort,
     refusing: &'a Refusing<Global>,
     events: &[Event<&'a Refusing<Global>>],
-) -> Result<bool, AllocError> {
+) -> bool {
     for (event, text) in events.iter().zip(&TEXTS) {
         if tells(event) {
-            return Ok(true);
+            return true;
         }
-        if event_text(refusing, event)?.as_str() != *text {
-            return Ok(false);
+        if !has_text(rt, refusing, event, text) {
+            return false;
         }
     }
-    Ok(events.len() == TEXTS.len())
+    events.len() == TEXTS.len()
 }
 
 /// What came of the steps.
-#[derive(Clone, Copy, PartialEq, Eq)]
+#[derive(Clone, Copy)]
 enum Ran {
     /// No growth was refused.
     Whole,
@@ -103,12 +126,23 @@ enum Ran {
     Spent,
 }
 
+impl Ran {
+    fn of(has_events: bool, was_refused: bool) -> Ran {
+        match (has_events, was_refused) {
+            (true, false) => Ran::Whole,
+            (true, true) => Ran::Told,
+            (false, _) => Ran::Spent,
+        }
+    }
+}
+
 /// Runs an opening, a Binding request that a commit answers, a crash, and a batch of nothing, with a failure and a stop of no
 /// call. Six events come of it, which are more than the list's first growth has room for. Nothing if the list had no room.
 fn run<'a>(
+    rt: &impl Abort,
     player: &mut Refused<'a>,
-    moment: Moment,
 ) -> Option<Vec<Event<&'a Refusing<Global>>, &'a Refusing<Global>>> {
+    let moment = Moment::new(5).expect(rt, "a moment");
     let run = player.run(&[
         Step::Reopen,
         Step::Arrive(moment, ARRIVAL),
@@ -125,52 +159,49 @@ fn run<'a>(
     }
 }
 
-/// A run that ended for want of room for an event.
-fn spent(player: &mut Refused<'_>, was_refused: bool) -> Result<Ran, Fail> {
-    if was_refused && is_spent(player) {
-        Ok(Ran::Spent)
-    } else {
-        Err(Fail::new("another call"))
-    }
-}
-
-/// Runs the steps with the growth after so many refused.
-fn run_refused(refusing: &Refusing<Global>, served: u64) -> Result<Ran, Fail> {
-    let mut player = player(refusing)?;
-    let moment = Moment::new(5).ok_or("a moment")?;
+/// What came of the steps with the growth after so many refused. A run that ended for want of room for an event leaves no
+/// server.
+fn run_refused<'a>(
+    rt: &impl Abort,
+    refusing: &'a Refusing<Global>,
+    player: &mut Refused<'a>,
+    served: u64,
+) -> Ran {
     refusing.arm(served);
-    let run = run(&mut player, moment);
+    let events = run(rt, player);
     let was_refused = refusing.has_refused();
     refusing.arm(u64::MAX);
-    let is_right = match run {
-        Some(events) => are_right(refusing, &events)?,
-        None => return spent(&mut player, was_refused),
+    let is_right = match &events {
+        Some(events) => are_right(rt, refusing, events),
+        None => was_refused && is_spent(player),
     };
-    match (is_right, was_refused) {
-        (true, false) => Ok(Ran::Whole),
-        (true, true) => Ok(Ran::Told),
-        _ => Err(Fail::new(served)),
+    if !is_right {
+        panic!(rt; "{served} served");
     }
+    Ran::of(events.is_some(), was_refused)
+}
+
+/// The same of a new player.
+fn run_new(rt: &impl Abort, refusing: &Refusing<Global>, served: u64) -> Ran {
+    let mut player = player(rt, refusing);
+    run_refused(rt, refusing, &mut player, served)
 }
 
 /// How many growths of the list of events are refused, one after the other among all growths.
-fn spent_runs(alloc: Global) -> Result<u32, Fail> {
+fn spent_runs(rt: &impl Abort, alloc: Global) -> u32 {
     let refusing = Refusing::new(alloc, u64::MAX);
     let mut spent = 0u32;
     for served in 0..200u64 {
-        match run_refused(&refusing, served)? {
-            Ran::Whole => return Ok(spent),
+        match run_new(rt, &refusing, served) {
+            Ran::Whole => return spent,
             Ran::Told => {}
             Ran::Spent => spent = spent.wrapping_add(1),
         }
     }
-    Err(Fail::new("some growth is always refused"))
+    panic!(rt; "some growth is always refused");
 }
 
 #[test]
-fn a_run_that_lacks_memory_leaves_no_server_for_good(rt: HostRuntime) -> Result<(), Fail> {
-    if spent_runs(rt.alloc())? < 2 {
-        return Err(Fail::new("few growths"));
-    }
-    Ok(())
+fn a_run_that_lacks_memory_leaves_no_server_for_good(rt: HostRuntime) {
+    assert!(rt; 2 <= spent_runs(&rt, rt.alloc()));
 }

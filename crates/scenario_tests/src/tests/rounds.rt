@@ -6,8 +6,8 @@
 //! a sync.
 
 use super::{SETTINGS, expect};
-use std::alloc::{AllocError, Global};
-use std::test::Fail;
+use std::alloc::Global;
+use std::process::Abort;
 
 /// What a crash leaves of a gate that was to be opened, and of a generation that was to be the next one.
 #[derive(Clone, Copy)]
@@ -47,7 +47,7 @@ const OUTCOMES: [Left; 5] = [
 ];
 
 /// A store as far as the calls of a commit depend on it, and the moment of the last Refresh that it holds.
-#[derive(Drop)]
+#[derive(Clone, Copy)]
 struct Model {
     /// Where the next frame's gate is in the area that counts.
     end: u32,
@@ -113,24 +113,26 @@ struct Rounds {
 }
 
 impl Rounds {
-    fn play(&mut self, model: &mut Model, round: u32, left: &Left) -> Result<(), AllocError> {
+    fn play(&mut self, rt: &impl Abort, model: &mut Model, round: u32, left: &Left) {
         let (moment, call) = (round.wrapping_add(1001), (round % 6).wrapping_add(1));
         let outcome = left.text;
         write!(
             self.lines,
             "at {moment}\nask 192.0.2.1:5 alice {moment:024} refresh\nstop {call}\ncommit\ncrash {outcome}\ntable\n"
-        )?;
+        )
+        .expect(rt, "memory");
         if model.commit(call, left, moment) {
             let line = "client 192.0.2.1:5 success refresh";
-            write!(self.report, "{line} {moment:024} life=600\ncommitted 1\n")?;
+            write!(self.report, "{line} {moment:024} life=600\ncommitted 1\n").expect(rt, "memory");
         } else {
-            self.report.push_str("device\n")?;
+            self.report.push_str("device\n").expect(rt, "memory");
         }
         let (last, expiry) = (model.moment, model.moment.wrapping_add(600));
         write!(
             self.report,
             "opened clock {last}\n192.0.2.1:5 192.0.2.100:3478 616c696365 50000 {expiry}\nlive 1\n"
         )
+        .expect(rt, "memory");
     }
 }
 
@@ -145,11 +147,8 @@ client 192.0.2.1:5 success allocate 000000000000000000000001 port=50000 life=600
 committed 1
 ";
 
-fn expect_rounds(alloc: Global, count: u32) -> Result<(), Fail> {
-    let mut rounds = Rounds {
-        lines: String::from_str(alloc, FIRST)?,
-        report: String::from_str(alloc, FIRST_REPORT)?,
-    };
+/// Adds so many rounds, the first of which comes after the allocation.
+fn play_rounds(rt: &impl Abort, rounds: &mut Rounds, count: u32) {
     let mut model = Model {
         end: 78,
         closes: true,
@@ -157,12 +156,20 @@ fn expect_rounds(alloc: Global, count: u32) -> Result<(), Fail> {
     };
     for round in 0..count {
         let left = &OUTCOMES[(round % 5) as usize];
-        rounds.play(&mut model, round, left)?;
+        rounds.play(rt, &mut model, round, left);
     }
-    expect(alloc, SETTINGS, rounds.lines.as_bytes(), &rounds.report)
+}
+
+fn expect_rounds(rt: &impl Abort, alloc: Global, count: u32) {
+    let mut rounds = Rounds {
+        lines: String::from_str(alloc, FIRST).expect(rt, "memory"),
+        report: String::from_str(alloc, FIRST_REPORT).expect(rt, "memory"),
+    };
+    play_rounds(rt, &mut rounds, count);
+    expect(rt, alloc, SETTINGS, rounds.lines.as_bytes(), &rounds.report);
 }
 
 #[test]
-fn two_hundred_rounds_keep_what_was_handed_out(rt: HostRuntime) -> Result<(), Fail> {
-    expect_rounds(rt.alloc(), 200)
+fn two_hundred_rounds_keep_what_was_handed_out(rt: HostRuntime) {
+    expect_rounds(&rt, rt.alloc(), 200);
 }

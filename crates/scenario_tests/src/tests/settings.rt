@@ -1,8 +1,8 @@
 //! Configuration lines, and `format`.
 
-use super::{SETTINGS, expect, expect_each, expect_rows};
-use std::alloc::{AllocError, Global};
-use std::test::Fail;
+use super::{expect, expect_each, expect_rows, repeated, without_limits};
+use std::alloc::Global;
+use std::process::Abort;
 
 const REALM_127: &[u8] =
     b"realm 1234567890123456789012345678901234567890123456789012345678901234567890123456789012345678901234567890123456789012345678901234567";
@@ -41,8 +41,8 @@ const GOOD: [&[u8]; 27] = [
 ];
 
 #[test]
-fn a_text_without_format_has_an_empty_report(rt: HostRuntime) -> Result<(), Fail> {
-    expect_each(rt.alloc(), &GOOD, "")
+fn a_text_without_format_has_an_empty_report(rt: HostRuntime) {
+    expect_each(&rt, rt.alloc(), "", &GOOD, "");
 }
 
 const BAD: [&[u8]; 91] = [
@@ -140,8 +140,8 @@ const BAD: [&[u8]; 91] = [
 ];
 
 #[test]
-fn a_malformed_setting_is_a_bad_line(rt: HostRuntime) -> Result<(), Fail> {
-    expect_each(rt.alloc(), &BAD, "line 1: bad line\n")
+fn a_malformed_setting_is_a_bad_line(rt: HostRuntime) {
+    expect_each(&rt, rt.alloc(), "", &BAD, "line 1: bad line\n");
 }
 
 const REPEATED: [&[u8]; 8] = [
@@ -156,29 +156,20 @@ const REPEATED: [&[u8]; 8] = [
 ];
 
 #[test]
-fn a_setting_that_was_made_is_a_bad_line(rt: HostRuntime) -> Result<(), Fail> {
-    expect_each(rt.alloc(), &REPEATED, "line 2: bad line\n")
+fn a_setting_that_was_made_is_a_bad_line(rt: HostRuntime) {
+    expect_each(&rt, rt.alloc(), "", &REPEATED, "line 2: bad line\n");
 }
 
-/// So many `deny` lines.
-fn deny_lines(alloc: Global, count: u32) -> Result<String, AllocError> {
-    let mut lines = String::new(alloc);
-    for _ in 0..count {
-        lines.push_str("deny 1.2.3.4 1.2.3.5\n")?;
-    }
-    Ok(lines)
+/// So many `deny` lines have this outcome.
+fn expect_denied(rt: &impl Abort, alloc: Global, count: u32, outcome: &str) {
+    let lines = repeated(rt, alloc, "deny 1.2.3.4 1.2.3.5\n", count);
+    expect(rt, alloc, "", lines.as_bytes(), outcome);
 }
 
 #[test]
-fn at_most_64_ranges_are_denied(rt: HostRuntime) -> Result<(), Fail> {
-    let alloc = rt.alloc();
-    expect(alloc, "", deny_lines(alloc, 64)?.as_bytes(), "")?;
-    expect(
-        alloc,
-        "",
-        deny_lines(alloc, 65)?.as_bytes(),
-        "line 65: bad line\n",
-    )
+fn at_most_64_ranges_are_denied(rt: HostRuntime) {
+    expect_denied(&rt, rt.alloc(), 64, "");
+    expect_denied(&rt, rt.alloc(), 65, "line 65: bad line\n");
 }
 
 const MISSING: [&[u8]; 4] = [
@@ -189,8 +180,8 @@ const MISSING: [&[u8]; 4] = [
 ];
 
 #[test]
-fn a_missing_setting_makes_format_a_bad_line(rt: HostRuntime) -> Result<(), Fail> {
-    expect_each(rt.alloc(), &MISSING, "line 5: bad line\n")
+fn a_missing_setting_makes_format_a_bad_line(rt: HostRuntime) {
+    expect_each(&rt, rt.alloc(), "", &MISSING, "line 5: bad line\n");
 }
 
 const FORMATS: [(&str, &str); 16] = [
@@ -216,20 +207,20 @@ const FORMATS: [(&str, &str); 16] = [
 ];
 
 #[test]
-fn format_opens_a_store_or_says_why_not(rt: HostRuntime) -> Result<(), Fail> {
-    expect_rows(rt.alloc(), &FORMATS)
+fn format_opens_a_store_or_says_why_not(rt: HostRuntime) {
+    expect_rows(&rt, rt.alloc(), &FORMATS);
 }
 
 /// The min area of the max limits has 1,515,873 bytes, and that of the settings 238.
+const AREAS: [(&[u8], &str); 2] = [
+    (b"format 1515872", "area too small 1515873\n"),
+    (b"format 1515873", "opened clock 0\n"),
+];
+
 #[test]
-fn the_limits_are_the_max_ones_if_none_are_set(rt: HostRuntime) -> Result<(), Fail> {
-    let end = SETTINGS.len().wrapping_sub(17);
-    let settings = SETTINGS.get(..end).ok_or("settings without limits")?;
-    expect(
-        rt.alloc(),
-        settings,
-        b"format 1515872",
-        "area too small 1515873\n",
-    )?;
-    expect(rt.alloc(), settings, b"format 1515873", "opened clock 0\n")
+fn the_limits_are_the_max_ones_if_none_are_set(rt: HostRuntime) {
+    let settings = without_limits(&rt);
+    for (line, outcome) in &AREAS {
+        expect(&rt, rt.alloc(), settings, line, outcome);
+    }
 }

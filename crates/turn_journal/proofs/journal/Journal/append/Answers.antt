@@ -1,4 +1,4 @@
-use Rattle.std.proofs.Common.{◌≡◌, ◌+◌, ◌≤◌, ◌<◌, ◌^◌, ◌++◌, [], ◌∷◌, ℕ, List, length, take, arith, ap, ◌∙◌, refl}
+use Rattle.std.proofs.Common.{◌≡◌, ◌+◌, ◌≤◌, ◌<◌, ◌^◌, ◌++◌, [], ◌∷◌, ℕ, List, length, take, arith, ap, ◌∙◌, refl, rules}
 use Rattle.turn_disk.proofs.Since.{since_same, since_join, since_weaken, image_settled}
 use Rattle.turn_journal.specs.declared.area.Area.{Area}
 use Rattle.turn_journal.specs.Frames.{framed, HoldsWithout, HoldsWithOrWithout}
@@ -125,3 +125,6 @@ returns-clause-stages g c = rw (← c.self.view_is) (λ honest settled from payl
       since_weaken _ _ _ _ (in_stage from payloads payload gate _ limit _ size) (c.write_after.ensures.stop honest settled from payloads limit is),
       since_weaken _ _ _ _ (in_second from payloads payload gate _ limit _ size _ wrote.content) (c.open_gate.ensures.stop still wrote.settled from payloads payload limit held waits),
     ))
+
+pub returns-clause-appended : goal.returns-clause-appended
+returns-clause-appended g c = search rules

@@ -1,4 +1,4 @@
-use Rattle.std.proofs.Common.{arith}
+use Rattle.std.proofs.Common.{arith, rules}
 use Rattle.turn_serving.proofs.Turns.{in_time, no_call, then}
 use Rattle.turn_serving.proofs.serving.Serving.turns.Goals as goal
 
@@ -14,3 +14,9 @@ loop-turned-preserved g c =
 
 pub returns-clause-clock : goal.returns-clause-clock
 returns-clause-clock g c = in_time c.loop-turned.invariant.0
+
+pub returns-clause-done : goal.returns-clause-done
+returns-clause-done g c = search rules
+
+pub returns-clause-runs : goal.returns-clause-runs
+returns-clause-runs g c = search rules

@@ -1,4 +1,4 @@
-use Rattle.std.proofs.Common.{◌∙◌, ap, arith}
+use Rattle.std.proofs.Common.{◌∙◌, ap, arith, rules}
 use Rattle.turn_store.proofs.Appends.{frame_stages, frame_done, rest_stages, snapshot_stages, snapshot_done}
 use Rattle.turn_store.proofs.store.Store.append.Goals as goal
 
@@ -36,3 +36,6 @@ returns-in_ok-replace_snapshot-clause-done g c = λ honest at h es rests follows
       snapshot_done _ _ at h es _ rests follows c.args.table.now.contents contents _ _ (ap (λ st. st.bounds) after) (ap (λ st. st.stopped) after ∙ rests.runs)
           (c.in_ok-replace_snapshot.ensures.shown honest rests.snapshot rests.payloads rests.shows),
     )
+
+pub returns-in-Some-clause-worn : goal.returns-in-Some-clause-worn
+returns-in-Some-clause-worn g c = search rules

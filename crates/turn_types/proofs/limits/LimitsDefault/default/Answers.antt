@@ -1,0 +1,5 @@
+use Rattle.std.proofs.Common.{rules}
+use Rattle.turn_types.proofs.limits.LimitsDefault.default.Goals as goal
+
+pub returns : goal.returns
+returns c = search rules
