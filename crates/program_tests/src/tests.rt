@@ -15,17 +15,8 @@ mod values;
 mod words;
 mod writers;
 
-use std::alloc::AllocGlobal;
-use std::fs::{self, File, Files};
-use std::net::Net;
-use std::process::Abort;
-use std::rt::Clock;
+use std::test::Fail;
 use turn_program::run_words;
-
-/// What a test is handed: memory, files, sockets, the time, and a way to end it.
-trait Host: Abort + AllocGlobal + Files<File = File> + Net + Clock + Drop {}
-
-impl<R: Abort + AllocGlobal + Files<File = File> + Net + Clock + Drop> Host for R {}
 
 const FROM: &str = "192.0.2.1:32853";
 
@@ -35,42 +26,38 @@ const SUCCESS: &str = "0101000c2112a4420102030405060708090a0b0c002000080001a147e
 
 const USAGE: &str = "turn: usage\n";
 
-/// Runs the program on the words after its name: whether its status and what it writes are these.
-fn gives(rt: &impl Host, words: &[&str], status: u8, out: &str, err: &str) -> bool {
-    let mut line = vec![in rt.alloc(); "turn"].expect(rt, "memory");
-    line.extend_from_slice(words).expect(rt, "memory");
+/// Runs the program on the words after its name, and fails with the words if its status or what it writes differs.
+fn expect(rt: &HostRuntime, words: &[&str], status: u8, out: &str, err: &str) -> Result<(), Fail> {
+    let mut line = vec![in rt.alloc(); "turn"]?;
+    line.extend_from_slice(words)?;
     let (mut written, mut said) = (Vec::new(rt.alloc()), Vec::new(rt.alloc()));
     let got = run_words(rt, rt, line.as_slice(), &mut written, &mut said);
-    got == status && written.as_slice() == out.as_bytes() && said.as_slice() == err.as_bytes()
-}
-
-/// Fails with the words if the program's status or what it writes differs.
-fn expect(rt: &impl Host, words: &[&str], status: u8, out: &str, err: &str) {
-    if !gives(rt, words, status, out, err) {
-        panic!(rt; "{words:?}");
+    if got != status || written.as_slice() != out.as_bytes() || said.as_slice() != err.as_bytes() {
+        return Err(Fail::new(format_args!("{words:?}")));
     }
+    Ok(())
 }
 
 /// Each row of words has the same outcome.
-fn expect_each(rt: &impl Host, rows: &[&[&str]], status: u8, out: &str, err: &str) {
+fn expect_each(
+    rt: &HostRuntime,
+    rows: &[&[&str]],
+    status: u8,
+    out: &str,
+    err: &str,
+) -> Result<(), Fail> {
     for words in rows {
-        expect(rt, words, status, out, err);
+        expect(rt, words, status, out, err)?;
     }
+    Ok(())
 }
 
 /// Each datagram, without `--at`, has the output beside it.
-fn expect_replies(rt: &impl Host, rows: &[(&str, &str)]) {
+fn expect_replies(rt: &HostRuntime, rows: &[(&str, &str)]) -> Result<(), Fail> {
     for (datagram, out) in rows {
-        expect(rt, &["answer", "--from", FROM, datagram], 0, out, "");
+        expect(rt, &["answer", "--from", FROM, datagram], 0, out, "")?;
     }
-}
-
-fn write_file(rt: &impl Host, path: &str, content: &[u8]) {
-    fs::write(rt, path, content).expect(rt, "a file");
-}
-
-fn remove_file(rt: &impl Host, path: &str) {
-    fs::remove_file(rt, path).expect(rt, "a file");
+    Ok(())
 }
 
 /// A 401 after its type, with the nonce of second 1000 by HMAC-SHA256 of another program.
@@ -85,19 +72,15 @@ const PROTECTED: [(&str, &str); 4] = [
     ("0009", "0119"),
 ];
 
-fn expect_challenge(rt: &impl Host, request: &str, response: &str) {
-    let datagram = format!(in rt.alloc(); "{request}00002112a4420102030405060708090a0b0c");
-    let challenge = format!(in rt.alloc(); "{response}{CHALLENGE}\n");
-    let datagram = datagram.expect(rt, "memory");
-    let words = ["answer", "--from", FROM, "--at", "1000", &datagram];
-    expect(rt, &words, 0, &challenge.expect(rt, "memory"), "");
-}
-
 #[test]
-fn other_requests_than_binding_are_challenged(rt: HostRuntime) {
+fn other_requests_than_binding_are_challenged(rt: HostRuntime) -> Result<(), Fail> {
     for (request, response) in &PROTECTED {
-        expect_challenge(&rt, request, response);
+        let datagram = format!(in rt.alloc(); "{request}00002112a4420102030405060708090a0b0c")?;
+        let challenge = format!(in rt.alloc(); "{response}{CHALLENGE}\n")?;
+        let words = ["answer", "--from", FROM, "--at", "1000", &datagram];
+        expect(&rt, &words, 0, &challenge, "")?;
     }
+    Ok(())
 }
 
 /// An Allocate, and its 401 with the nonce of second 0 by HMAC-SHA256 of another program: the text of the nonce begins
@@ -108,8 +91,8 @@ const AT_SECOND_0: [(&str, &str); 1] = [(
 )];
 
 #[test]
-fn without_at_the_moment_is_0(rt: HostRuntime) {
-    expect_replies(&rt, &AT_SECOND_0);
+fn without_at_the_moment_is_0(rt: HostRuntime) -> Result<(), Fail> {
+    expect_replies(&rt, &AT_SECOND_0)
 }
 
 /// The checksums are zlib's.
@@ -125,8 +108,8 @@ const WITH_FINGERPRINT: [(&str, &str); 2] = [
 ];
 
 #[test]
-fn a_wrong_fingerprint_is_dropped(rt: HostRuntime) {
-    expect_replies(&rt, &WITH_FINGERPRINT);
+fn a_wrong_fingerprint_is_dropped(rt: HostRuntime) -> Result<(), Fail> {
+    expect_replies(&rt, &WITH_FINGERPRINT)
 }
 
 /// A Binding request, and one with a comprehension-required attribute of type 3, which is not known.
@@ -139,8 +122,8 @@ const BINDINGS: [(&str, &str); 2] = [
 ];
 
 #[test]
-fn binding_is_answered_without_credentials(rt: HostRuntime) {
-    expect_replies(&rt, &BINDINGS);
+fn binding_is_answered_without_credentials(rt: HostRuntime) -> Result<(), Fail> {
+    expect_replies(&rt, &BINDINGS)
 }
 
 /// Too short, another length than the header's, and bytes after the message; a wrong cookie, a ChannelData number, an
@@ -161,6 +144,6 @@ const DROPPED: [(&str, &str); 9] = [
 ];
 
 #[test]
-fn other_datagrams_than_requests_are_dropped(rt: HostRuntime) {
-    expect_replies(&rt, &DROPPED);
+fn other_datagrams_than_requests_are_dropped(rt: HostRuntime) -> Result<(), Fail> {
+    expect_replies(&rt, &DROPPED)
 }

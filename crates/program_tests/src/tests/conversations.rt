@@ -1,18 +1,18 @@
 //! A client and a peer over sockets of 127.0.0.1, and a server over a store in a file that is dropped and opened again.
 
-use super::{Host, remove_file};
-use std::fs::File;
-use turn_client::{Allocated, Client, ClientFault, Conversation, Loopback, limits};
+use std::fs::{self, File};
+use std::test::Fail;
+use turn_client::{Allocated, ClientFault, Conversation, Loopback, limits};
 use turn_disk::FileDisk;
 use turn_ports::PortRange;
 use turn_program::format_disk;
 use turn_store::least_area;
 use turn_types::Method;
 
-type Talk<'a, R> = Conversation<'a, FileDisk<File>, R>;
+type Talk<'a> = Conversation<'a, FileDisk<File>, HostRuntime>;
 
 /// What happens after the Allocate.
-#[derive(Clone, Copy, Debug)]
+#[derive(Clone, Copy)]
 enum Step {
     Permit,
     Send(&'static [u8]),
@@ -40,142 +40,194 @@ const STEPS: [Step; 12] = [
     Step::Refresh(0, 0),
 ];
 
-fn are_got(got: Result<Vec<u8>, ClientFault>, bytes: &[u8]) -> bool {
-    match got {
-        Ok(got) => got.as_slice() == bytes,
-        Err(_) => false,
-    }
-}
-
 /// Takes a step, and says whether what came of it is right.
-fn is_right<R: Host>(rt: &R, talk: &mut Talk<'_, R>, first: &Allocated, step: Step) -> bool {
+fn is_right(
+    rt: &HostRuntime,
+    talk: &mut Talk<'_>,
+    first: &Allocated,
+    step: Step,
+) -> Result<bool, ClientFault> {
     let port = first.port;
     match step {
-        Step::Permit => talk.permit(rt).is_ok(),
-        Step::Send(bytes) => are_got(talk.send(rt, port, bytes), bytes),
-        Step::Receive(bytes) => are_got(talk.receive(rt, port, bytes), bytes),
-        Step::Bind(number) => talk.bind(rt, number).is_ok(),
-        Step::SendOver(number, bytes) => are_got(talk.send_over(rt, number, port, bytes), bytes),
-        Step::ReceiveOver(number, bytes) => {
-            are_got(talk.receive_over(rt, number, port, bytes), bytes)
+        Step::Permit => {
+            talk.permit(rt)?;
+            Ok(true)
         }
-        Step::Repeat => talk.repeat(rt, first) == Ok(true),
-        Step::Refresh(seconds, granted) => talk.refresh(rt, seconds) == Ok(granted),
-        Step::Challenge => talk.challenge(rt) == Ok(401),
+        Step::Send(bytes) => Ok(talk.send(rt, port, bytes)?.as_slice() == bytes),
+        Step::Receive(bytes) => Ok(talk.receive(rt, port, bytes)?.as_slice() == bytes),
+        Step::Bind(number) => {
+            talk.bind(rt, number)?;
+            Ok(true)
+        }
+        Step::SendOver(number, bytes) => {
+            Ok(talk.send_over(rt, number, port, bytes)?.as_slice() == bytes)
+        }
+        Step::ReceiveOver(number, bytes) => {
+            Ok(talk.receive_over(rt, number, port, bytes)?.as_slice() == bytes)
+        }
+        Step::Repeat => talk.repeat(rt, first),
+        Step::Refresh(seconds, granted) => Ok(talk.refresh(rt, seconds)? == granted),
+        Step::Challenge => Ok(talk.challenge(rt)? == 401),
     }
 }
 
 /// Drops the server, and opens it again over the store in its file.
-fn reopen<'a, R: Host>(rt: &'a R, talk: Talk<'a, R>, path: &str) -> Talk<'a, R> {
+fn reopen<'a>(rt: &'a HostRuntime, talk: Talk<'a>, path: &str) -> Result<Talk<'a>, Fail> {
     let (disk, loopback) = talk.end();
     drop(disk);
-    let disk = FileDisk::open(rt, path).expect(rt, "a file");
-    loopback.serve(disk).expect(rt, "a start")
+    Ok(loopback.serve(FileDisk::open(rt, path)?)?)
 }
 
-fn make_disk(rt: &impl Host, path: &str) -> FileDisk<File> {
+fn make_disk(rt: &HostRuntime, path: &str) -> Result<FileDisk<File>, Fail> {
     let area = least_area(limits());
-    let mut disk = FileDisk::create(rt, path, 64 + 2 * area).expect(rt, "a file");
-    assert!(rt; format_disk(rt.alloc(), &mut disk, limits(), area).is_ok());
-    disk
+    let mut disk = FileDisk::create(rt, path, 64 + 2 * area)?;
+    match format_disk(rt.alloc(), &mut disk, limits(), area) {
+        Ok(()) => Ok(disk),
+        Err(_) => Err(Fail::new("format")),
+    }
 }
 
 /// A server over a new store in a file.
-fn begin<'a, R: Host>(rt: &'a R, path: &str, burst: u8) -> Talk<'a, R> {
-    let disk = make_disk(rt, path);
-    let ports = PortRange::new(62_000, 62_999).expect(rt, "a range");
-    let loopback = Loopback::new(rt.alloc(), rt, ports, burst).expect(rt, "sockets");
-    loopback.serve(disk).expect(rt, "a start")
+fn begin<'a>(rt: &'a HostRuntime, path: &str, burst: u8) -> Result<Talk<'a>, Fail> {
+    let disk = make_disk(rt, path)?;
+    let ports = PortRange::new(62_000, 62_999).ok_or("a range")?;
+    Ok(Loopback::new(rt.alloc(), rt, ports, burst)?.serve(disk)?)
 }
 
-fn allocate<R: Host>(rt: &R, talk: &mut Talk<'_, R>) -> Allocated {
-    assert!(rt; talk.challenge(rt) == Ok(401));
-    let allocated = talk.allocate(rt).expect(rt, "an allocation");
-    assert!(rt; allocated.lifetime == 600);
-    allocated
-}
-
-fn take_step<R: Host>(rt: &R, talk: &mut Talk<'_, R>, first: &Allocated, step: Step) {
-    if !is_right(rt, talk, first, step) {
-        panic!(rt; "{step:?}");
+fn allocate(rt: &HostRuntime, talk: &mut Talk<'_>) -> Result<Allocated, Fail> {
+    if talk.challenge(rt)? != 401 {
+        return Err(Fail::new("challenge"));
     }
+    let allocated = talk.allocate(rt)?;
+    if allocated.lifetime != 600 {
+        return Err(Fail::new("lifetime"));
+    }
+    Ok(allocated)
+}
+
+/// Takes the steps from one place to another.
+fn take_steps(
+    rt: &HostRuntime,
+    talk: &mut Talk<'_>,
+    first: &Allocated,
+    steps: &[Step],
+) -> Result<(), Fail> {
+    for step in steps {
+        if !is_right(rt, talk, first, *step)? {
+            return Err(Fail::new("a step"));
+        }
+    }
+    Ok(())
 }
 
 /// Each step comes out right in one conversation.
-fn expect_steps(rt: &impl Host, path: &str) {
-    let mut talk = begin(rt, path, 1);
-    let first = allocate(rt, &mut talk);
-    for step in &STEPS {
-        take_step(rt, &mut talk, &first, *step);
-    }
+fn expect_steps(rt: &HostRuntime, path: &str) -> Result<(), Fail> {
+    let mut talk = begin(rt, path, 1)?;
+    let taken = match allocate(rt, &mut talk) {
+        Ok(first) => take_steps(rt, &mut talk, &first, &STEPS),
+        Err(fail) => Err(fail),
+    };
     talk.end();
-    remove_file(rt, path);
+    let _ = fs::remove_file(rt, path);
+    taken
 }
 
 /// Takes a step of a server that was opened again.
-fn take_again<'a, R: Host>(
-    rt: &'a R,
-    talk: Talk<'a, R>,
+fn take_again<'a>(
+    rt: &'a HostRuntime,
+    talk: Talk<'a>,
     path: &str,
     first: &Allocated,
     step: Step,
-) -> Talk<'a, R> {
-    let mut talk = reopen(rt, talk, path);
-    take_step(rt, &mut talk, first, step);
-    talk
+) -> Result<Talk<'a>, Fail> {
+    let mut talk = reopen(rt, talk, path)?;
+    match is_right(rt, &mut talk, first, step) {
+        Ok(true) => Ok(talk),
+        _ => {
+            talk.end();
+            Err(Fail::new("a step"))
+        }
+    }
+}
+
+/// Takes all steps, each of a server that was opened again.
+fn take_all_again<'a>(
+    rt: &'a HostRuntime,
+    talk: Talk<'a>,
+    path: &str,
+    first: &Allocated,
+) -> Result<(), Fail> {
+    let mut talk = talk;
+    for step in &STEPS {
+        talk = take_again(rt, talk, path, first, *step)?;
+    }
+    talk.end();
+    Ok(())
 }
 
 /// Each step comes out right, if the server is dropped and opened again before it.
-fn expect_steps_again(rt: &impl Host, path: &str) {
-    let mut talk = begin(rt, path, 1);
-    let first = allocate(rt, &mut talk);
-    for step in &STEPS {
-        talk = take_again(rt, talk, path, &first, *step);
-    }
-    talk.end();
-    remove_file(rt, path);
+fn expect_steps_again(rt: &HostRuntime, path: &str) -> Result<(), Fail> {
+    let mut talk = begin(rt, path, 1)?;
+    let taken = match allocate(rt, &mut talk) {
+        Ok(first) => take_all_again(rt, talk, path, &first),
+        Err(fail) => {
+            talk.end();
+            Err(fail)
+        }
+    };
+    let _ = fs::remove_file(rt, path);
+    taken
 }
 
 #[test]
-fn a_conversation_over_a_file(rt: HostRuntime) {
-    expect_steps(&rt, "turn_talk.store");
+fn a_conversation_over_a_file(rt: HostRuntime) -> Result<(), Fail> {
+    expect_steps(&rt, "turn_talk.store")
 }
 
 #[test]
-fn a_conversation_goes_on_when_the_server_is_opened_again(rt: HostRuntime) {
-    expect_steps_again(&rt, "turn_again.store");
+fn a_conversation_goes_on_when_the_server_is_opened_again(rt: HostRuntime) -> Result<(), Fail> {
+    expect_steps_again(&rt, "turn_again.store")
 }
 
-/// Sends so many Binding requests.
-pub fn ask(rt: &impl Host, client: &mut Client<'_>, count: u8) {
-    for _ in 0..count {
-        let request = client.plain_request(Method::BINDING);
-        let sent = client.send(&request.expect(rt, "a request"));
-        sent.expect(rt, "a datagram");
+/// Sends so many Binding requests, takes one turn, and receives the responses to as many as it should have taken.
+fn is_answered(
+    rt: &HostRuntime,
+    talk: &mut Talk<'_>,
+    sent: u8,
+    taken: u8,
+) -> Result<bool, ClientFault> {
+    for _ in 0..sent {
+        let request = talk.client().plain_request(Method::BINDING)?;
+        talk.client().send(&request)?;
     }
-}
-
-/// Sends so many Binding requests, takes one turn, and receives as many responses as it should have taken requests.
-fn expect_responses<R: Host>(rt: &R, talk: &mut Talk<'_, R>, sent: u8, taken: u8) {
-    ask(rt, talk.client(), sent);
-    talk.turn(rt).expect(rt, "a turn");
+    talk.turn(rt)?;
     for _ in 0..taken {
-        assert!(rt; talk.client().receive_message().is_ok());
+        talk.client().receive_message()?;
     }
-    assert!(rt; talk.client().receive().is_err());
+    Ok(talk.client().receive().is_err())
 }
 
-fn take_turn(rt: &impl Host, path: &str, burst: u8, sent: u8, taken: u8) {
-    let mut talk = begin(rt, path, burst);
-    expect_responses(rt, &mut talk, sent, taken);
+fn expect_responses(
+    rt: &HostRuntime,
+    path: &str,
+    burst: u8,
+    sent: u8,
+    taken: u8,
+) -> Result<(), Fail> {
+    let mut talk = begin(rt, path, burst)?;
+    let answered = is_answered(rt, &mut talk, sent, taken);
     talk.end();
-    remove_file(rt, path);
+    fs::remove_file(rt, path)?;
+    match answered {
+        Ok(true) => Ok(()),
+        _ => Err(Fail::new(burst)),
+    }
 }
 
 /// A batch of the server takes four arrivals: a turn that takes more commits in the middle.
 #[test]
-fn a_turn_takes_as_many_datagrams_as_its_burst(rt: HostRuntime) {
-    take_turn(&rt, "turn_burst.store", 1, 3, 1);
-    take_turn(&rt, "turn_burst.store", 3, 3, 3);
-    take_turn(&rt, "turn_burst.store", 64, 9, 9);
+fn a_turn_takes_as_many_datagrams_as_its_burst(rt: HostRuntime) -> Result<(), Fail> {
+    expect_responses(&rt, "turn_burst.store", 1, 3, 1)?;
+    expect_responses(&rt, "turn_burst.store", 3, 3, 3)?;
+    expect_responses(&rt, "turn_burst.store", 64, 9, 9)
 }

@@ -1,6 +1,6 @@
 //! The line and the status of each fault.
 
-use super::Host;
+use std::test::Fail;
 use turn_program::{Fault, report};
 
 const FAULTS: [(Fault, u8, &str); 12] = [
@@ -26,16 +26,19 @@ const FAULTS: [(Fault, u8, &str); 12] = [
     (Fault::Memory, 5, "turn: memory\n"),
 ];
 
-fn play(rt: &impl Host, fault: Fault, status: u8, line: &str) {
+fn play(rt: &HostRuntime, row: &(Fault, u8, &str)) -> Result<(), Fail> {
+    let (fault, status, line) = *row;
     let mut err = Vec::new(rt.alloc());
     if report(fault, &mut err) != status || err.as_slice() != line.as_bytes() {
-        panic!(rt; "{line}");
+        return Err(Fail::new(line));
     }
+    Ok(())
 }
 
 #[test]
-fn each_fault_has_a_line_and_a_status(rt: HostRuntime) {
-    for (fault, status, line) in &FAULTS {
-        play(&rt, *fault, *status, line);
+fn each_fault_has_a_line_and_a_status(rt: HostRuntime) -> Result<(), Fail> {
+    for row in &FAULTS {
+        play(&rt, row)?;
     }
+    Ok(())
 }

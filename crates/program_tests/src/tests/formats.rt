@@ -1,7 +1,9 @@
 //! `turn format`, over files of the folder that it runs in.
 
-use super::{Host, USAGE, expect, remove_file, write_file};
+use super::{USAGE, expect};
+use std::alloc::{AllocError, Global};
 use std::fs;
+use std::test::Fail;
 
 /// A configuration with two allocations, names of eight bytes, and the min limits else.
 const CONFIG: &str = "realm example.org
@@ -19,11 +21,6 @@ const SUPERBLOCK: &[u8] = b"\x52\x54\x55\x52\x4E\x53\x54\x31\x00\x00\x00\x00\x00
 /// An open gate, version 1, generation 1, a snapshot of 12 bytes.
 const FIRST_AREA: &[u8] = b"\xA5\x01\x00\x00\x00\x00\x00\x00\x00\x01\x00\x00\x00\x0C";
 
-/// The same byte, so many times.
-pub fn filled(rt: &impl Host, byte: u8, size: usize) -> Vec<u8> {
-    Vec::from_elem(rt.alloc(), byte, size).expect(rt, "memory")
-}
-
 /// Writes bytes over those from a position on.
 pub fn put(content: &mut [u8], at: usize, bytes: &[u8]) {
     for (place, byte) in content.iter_mut().skip(at).zip(bytes) {
@@ -32,15 +29,15 @@ pub fn put(content: &mut [u8], at: usize, bytes: &[u8]) {
 }
 
 /// A store of two areas of 238 bytes that holds nothing: what is not written here is zeros.
-pub fn fresh(rt: &impl Host) -> Vec<u8> {
-    let mut content = filled(rt, 0, 540);
+pub fn fresh(alloc: Global) -> Result<Vec<u8>, AllocError> {
+    let mut content = Vec::from_elem(alloc, 0u8, 540)?;
     put(&mut content, 0, SUPERBLOCK);
     put(&mut content, 64, FIRST_AREA);
-    content
+    Ok(content)
 }
 
 /// The content of a file, which is then removed, or nothing if there is no such file.
-fn taken(rt: &impl Host, path: &str) -> Vec<u8> {
+fn taken(rt: &HostRuntime, path: &str) -> Vec<u8> {
     match fs::read(rt, path) {
         Ok(content) => {
             let _ = fs::remove_file(rt, path);
@@ -52,18 +49,18 @@ fn taken(rt: &impl Host, path: &str) -> Vec<u8> {
 
 /// Formats a file that has a content before, or that is absent if that is empty: what it has then.
 fn format(
-    rt: &impl Host,
+    rt: &HostRuntime,
     names: (&str, &str),
     config: &[u8],
     area: &str,
     before: &[u8],
     fault: (u8, &str),
-) -> Vec<u8> {
+) -> Result<Vec<u8>, Fail> {
     let (config_file, store) = names;
     let (status, err) = fault;
-    write_file(rt, config_file, config);
+    fs::write(rt, config_file, config)?;
     if !before.is_empty() {
-        write_file(rt, store, before);
+        fs::write(rt, store, before)?;
     }
     let out = if status == 0 { "formatted\n" } else { "" };
     let words: [&str; 7] = [
@@ -75,30 +72,35 @@ fn format(
         "--area",
         area,
     ];
-    expect(rt, &words, status, out, err);
-    remove_file(rt, config_file);
-    taken(rt, store)
+    expect(rt, &words, status, out, err)?;
+    fs::remove_file(rt, config_file)?;
+    Ok(taken(rt, store))
 }
 
 /// A store is fresh after `format`, whatever the file had before.
-fn expect_fresh(rt: &impl Host, before: &[u8]) {
+fn expect_fresh(rt: &HostRuntime, before: &[u8]) -> Result<(), Fail> {
     let names = ("turn_format.conf", "turn_format.store");
-    let content = format(rt, names, CONFIG.as_bytes(), "238", before, (0, ""));
-    assert!(rt; content.as_slice() == fresh(rt).as_slice());
+    let content = format(rt, names, CONFIG.as_bytes(), "238", before, (0, ""))?;
+    if content.as_slice() != fresh(rt.alloc())?.as_slice() {
+        return Err(Fail::new(before.len()));
+    }
+    Ok(())
 }
 
 #[test]
-fn format_makes_a_store_that_holds_nothing(rt: HostRuntime) {
-    expect_fresh(&rt, &[]);
-    expect_fresh(&rt, b"old");
-    expect_fresh(&rt, &filled(&rt, 9, 1000));
+fn format_makes_a_store_that_holds_nothing(rt: HostRuntime) -> Result<(), Fail> {
+    expect_fresh(&rt, &[])?;
+    expect_fresh(&rt, b"old")?;
+    let longer = Vec::from_elem(rt.alloc(), 9u8, 1000)?;
+    expect_fresh(&rt, &longer)
 }
 
 #[test]
-fn a_larger_area_makes_a_larger_file(rt: HostRuntime) {
+fn a_larger_area_makes_a_larger_file(rt: HostRuntime) -> Result<(), Fail> {
     let names = ("turn_larger.conf", "turn_larger.store");
-    let content = format(&rt, names, CONFIG.as_bytes(), "100000", &[], (0, ""));
+    let content = format(&rt, names, CONFIG.as_bytes(), "100000", &[], (0, ""))?;
     assert!(rt; content.len() == 200_064);
+    Ok(())
 }
 
 /// A configuration, an area, and the status and the fault that come of them.
@@ -125,33 +127,39 @@ const REFUSED: [Case; 7] = [
 ];
 
 /// A refusal leaves the file as it is, and makes none.
-fn expect_refused(rt: &impl Host, config: &str, area: &str, fault: (u8, &str)) {
+fn expect_refused(rt: &HostRuntime, case: &Case) -> Result<(), Fail> {
+    let (config, area, status, err) = *case;
     let names = ("turn_refused.conf", "turn_refused.store");
-    let kept = format(rt, names, config.as_bytes(), area, b"old", fault);
-    let none = format(rt, names, config.as_bytes(), area, &[], fault);
+    let kept = format(rt, names, config.as_bytes(), area, b"old", (status, err))?;
+    let none = format(rt, names, config.as_bytes(), area, &[], (status, err))?;
     if kept.as_slice() != b"old".as_slice() || !none.is_empty() {
-        panic!(rt; "{config} with an area of {area}");
+        return Err(Fail::new(area));
     }
+    Ok(())
 }
 
 #[test]
-fn a_refused_format_leaves_the_file_as_it_is(rt: HostRuntime) {
-    for (config, area, status, err) in &REFUSED {
-        expect_refused(&rt, config, area, (*status, err));
+fn a_refused_format_leaves_the_file_as_it_is(rt: HostRuntime) -> Result<(), Fail> {
+    for case in &REFUSED {
+        expect_refused(&rt, case)?;
     }
+    Ok(())
 }
 
 /// A configuration that is a comment of so many bytes.
-fn expect_comment(rt: &impl Host, size: usize, status: u8, err: &str) {
-    let config = filled(rt, b'#', size);
+fn expect_comment(rt: &HostRuntime, size: usize, status: u8, err: &str) -> Result<(), Fail> {
+    let config = Vec::from_elem(rt.alloc(), b'#', size)?;
     let names = ("turn_comment.conf", "turn_comment.store");
-    format(rt, names, &config, "238", &[], (status, err));
+    format(rt, names, &config, "238", &[], (status, err))?;
+    Ok(())
 }
 
 #[test]
-fn a_configuration_of_more_than_16_mebibytes_is_a_device_fault(rt: HostRuntime) {
-    expect_comment(&rt, 16_777_216, 1, "turn: line 2: bad line\n");
-    expect_comment(&rt, 16_777_217, 3, "turn: device\n");
+fn a_configuration_of_more_than_16_mebibytes_is_a_device_fault(
+    rt: HostRuntime,
+) -> Result<(), Fail> {
+    expect_comment(&rt, 16_777_216, 1, "turn: line 2: bad line\n")?;
+    expect_comment(&rt, 16_777_217, 3, "turn: device\n")
 }
 
 /// Configurations that can't be read: an absent one, one in an absent folder, a folder, and no name.
@@ -163,7 +171,7 @@ const UNREADABLE: [&str; 4] = [
 ];
 
 #[test]
-fn a_configuration_that_can_not_be_read_is_a_device_fault(rt: HostRuntime) {
+fn a_configuration_that_can_not_be_read_is_a_device_fault(rt: HostRuntime) -> Result<(), Fail> {
     for config in &UNREADABLE {
         let words: [&str; 7] = [
             "format",
@@ -174,8 +182,9 @@ fn a_configuration_that_can_not_be_read_is_a_device_fault(rt: HostRuntime) {
             "--area",
             "0",
         ];
-        expect(&rt, &words, 3, "", "turn: device\n");
+        expect(&rt, &words, 3, "", "turn: device\n")?;
     }
+    Ok(())
 }
 
 /// A file that can't be made, an area, and the status and the fault: the area is judged first.
@@ -187,14 +196,15 @@ const UNMADE: [(&str, &str, u8, &str); 4] = [
 ];
 
 #[test]
-fn a_store_that_can_not_be_made_is_a_device_fault(rt: HostRuntime) {
+fn a_store_that_can_not_be_made_is_a_device_fault(rt: HostRuntime) -> Result<(), Fail> {
     let config = "turn_unmade.conf";
-    write_file(&rt, config, CONFIG.as_bytes());
+    fs::write(&rt, config, CONFIG)?;
     for (store, area, status, err) in &UNMADE {
         let words: [&str; 7] = [
             "format", "--config", config, "--store", store, "--area", area,
         ];
-        expect(&rt, &words, *status, "", err);
+        expect(&rt, &words, *status, "", err)?;
     }
-    remove_file(&rt, config);
+    fs::remove_file(&rt, config)?;
+    Ok(())
 }

@@ -1,12 +1,12 @@
 //! A device without room for a whole store.
 
-use super::Host;
 use std::alloc::Global;
 use std::cell::Cell;
 use std::fs::{Metadata, OpenFile};
 use std::io;
 use std::io::{Error, ErrorKind};
 use std::os::unix::fs::FileExt;
+use std::test::Fail;
 use turn_disk::FileDisk;
 use turn_program::{Fault, format_disk};
 use turn_types::{Bounds, Limits};
@@ -62,41 +62,37 @@ const ROOMS: [(u64, bool); 6] = [
     (0, false),
 ];
 
-const BOUNDS: Bounds = Bounds {
-    allocations: 2,
-    permissions: 1,
-    channels: 1,
-    acts: 1,
-    name_bytes: 8,
-};
-
-/// What formatting a device with so much room gives, and whether a byte other than 0 was written.
-fn format_full(alloc: Global, room: u64, limits: Limits) -> (Result<(), Fault>, bool) {
+fn play(alloc: Global, room: u64, is_formatted: bool) -> Result<(), Fail> {
+    let limits = Limits::new(Bounds {
+        allocations: 2,
+        permissions: 1,
+        channels: 1,
+        acts: 1,
+        name_bytes: 8,
+    })
+    .ok_or("limits")?;
     let is_marked = Cell::new(false);
     let file = FullFile {
         room,
         is_marked: &is_marked,
     };
     let mut disk = FileDisk::new(file, 200_064);
-    let got = format_disk(alloc, &mut disk, limits, 100_000);
-    (got, is_marked.get())
-}
-
-fn play(rt: &impl Host, room: u64, is_formatted: bool) {
-    let limits = Limits::new(BOUNDS).expect(rt, "limits");
     let expected = if is_formatted {
         Ok(())
     } else {
         Err(Fault::Device)
     };
-    if format_full(rt.alloc(), room, limits) != (expected, is_formatted) {
-        panic!(rt; "room for {room}");
+    let got = format_disk(alloc, &mut disk, limits, 100_000);
+    if got != expected || is_marked.get() != is_formatted {
+        return Err(Fail::new(room));
     }
+    Ok(())
 }
 
 #[test]
-fn a_device_without_room_for_the_zeros_is_a_device_fault(rt: HostRuntime) {
+fn a_device_without_room_for_the_zeros_is_a_device_fault(rt: HostRuntime) -> Result<(), Fail> {
     for (room, is_formatted) in &ROOMS {
-        play(&rt, *room, *is_formatted);
+        play(rt.alloc(), *room, *is_formatted)?;
     }
+    Ok(())
 }

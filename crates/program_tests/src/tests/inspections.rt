@@ -1,8 +1,9 @@
 //! `turn inspect`, over files of the folder that it runs in.
 
-use super::formats::{filled, fresh, put};
-use super::{Host, expect, remove_file, write_file};
+use super::expect;
+use super::formats::{fresh, put};
 use std::fs;
+use std::test::Fail;
 
 /// A frame with alice's allocation at 1000 for 600 seconds, and the closed gate after it. It is at 90, after the fresh
 /// store's snapshot.
@@ -57,59 +58,65 @@ const CASES: [Case; 13] = [
 
 /// Inspects a file of this content, with the words of a moment: it stays as it is.
 fn inspect<'a>(
-    rt: &impl Host,
+    rt: &HostRuntime,
     path: &'a str,
     content: &[u8],
     moment: &[&'a str],
     outcome: (u8, &str, &str),
-) {
+) -> Result<(), Fail> {
     let (status, out, err) = outcome;
-    write_file(rt, path, content);
-    let mut words = vec![in rt.alloc(); "inspect", "--store", path].expect(rt, "memory");
-    words.extend_from_slice(moment).expect(rt, "memory");
-    expect(rt, words.as_slice(), status, out, err);
-    let after = fs::read(rt, path).expect(rt, "a file");
-    remove_file(rt, path);
-    assert!(rt; after.as_slice() == content);
+    fs::write(rt, path, content)?;
+    let mut words = vec![in rt.alloc(); "inspect", "--store", path]?;
+    words.extend_from_slice(moment)?;
+    expect(rt, words.as_slice(), status, out, err)?;
+    let after = fs::read(rt, path)?;
+    fs::remove_file(rt, path)?;
+    if after.as_slice() != content {
+        return Err(Fail::new(path));
+    }
+    Ok(())
 }
 
-fn play(rt: &impl Host, case: &Case) {
+fn play(rt: &HostRuntime, case: &Case) -> Result<(), Fail> {
     let (place, bytes, at, status, out, err) = *case;
-    let mut content = fresh(rt);
+    let mut content = fresh(rt.alloc())?;
     put(&mut content, place, bytes);
     let moment = ["--at", at];
-    inspect(rt, "turn_inspect.at", &content, &moment, (status, out, err));
+    inspect(rt, "turn_inspect.at", &content, &moment, (status, out, err))
 }
 
 #[test]
-fn a_store_is_shown_at_a_moment_from_its_clock_on(rt: HostRuntime) {
+fn a_store_is_shown_at_a_moment_from_its_clock_on(rt: HostRuntime) -> Result<(), Fail> {
     for case in &CASES {
-        play(&rt, case);
+        play(&rt, case)?;
     }
+    Ok(())
 }
 
 #[test]
-fn without_at_a_store_is_shown_at_its_clock(rt: HostRuntime) {
-    let mut content = fresh(&rt);
-    inspect(&rt, "turn_inspect.clock", &content, &[], (0, FRESH, ""));
+fn without_at_a_store_is_shown_at_its_clock(rt: HostRuntime) -> Result<(), Fail> {
+    let mut content = fresh(rt.alloc())?;
+    inspect(&rt, "turn_inspect.clock", &content, &[], (0, FRESH, ""))?;
     put(&mut content, 90, FRAME);
-    inspect(&rt, "turn_inspect.clock", &content, &[], (0, LIVE, ""));
+    inspect(&rt, "turn_inspect.clock", &content, &[], (0, LIVE, ""))
 }
 
 /// How many zero bytes a file has.
 const ZEROS: [usize; 4] = [0, 63, 64, 540];
 
-fn expect_no_store(rt: &impl Host, zeros: usize) {
-    let content = filled(rt, 0, zeros);
-    let outcome = (2, "", "turn: not a store\n");
-    inspect(rt, "turn_inspect.zeros", &content, &[], outcome);
-}
-
 #[test]
-fn a_file_of_zeros_is_not_a_store(rt: HostRuntime) {
+fn a_file_of_zeros_is_not_a_store(rt: HostRuntime) -> Result<(), Fail> {
     for size in &ZEROS {
-        expect_no_store(&rt, *size);
+        let content = Vec::from_elem(rt.alloc(), 0u8, *size)?;
+        inspect(
+            &rt,
+            "turn_inspect.zeros",
+            &content,
+            &[],
+            (2, "", "turn: not a store\n"),
+        )?;
     }
+    Ok(())
 }
 
 /// The size of a store that was cut or has bytes after it, and the fault.
@@ -120,25 +127,27 @@ const SIZES: [(usize, &str); 4] = [
     (541, "turn: damaged at 8\n"),
 ];
 
-fn inspect_resized(rt: &impl Host, size: usize, err: &str) {
-    let mut content = filled(rt, 0, size);
-    put(&mut content, 0, &fresh(rt));
-    inspect(rt, "turn_inspect.sizes", &content, &[], (2, "", err));
+fn resized(rt: &HostRuntime, size: usize, err: &str) -> Result<(), Fail> {
+    let mut content = Vec::from_elem(rt.alloc(), 0u8, size)?;
+    put(&mut content, 0, &fresh(rt.alloc())?);
+    inspect(rt, "turn_inspect.sizes", &content, &[], (2, "", err))
 }
 
 #[test]
-fn a_store_of_another_size_is_damaged(rt: HostRuntime) {
+fn a_store_of_another_size_is_damaged(rt: HostRuntime) -> Result<(), Fail> {
     for (size, err) in &SIZES {
-        inspect_resized(&rt, *size, err);
+        resized(&rt, *size, err)?;
     }
+    Ok(())
 }
 
 /// No such file, a folder, a file in a folder that is none, and no name.
 const UNREADABLE: [&str; 4] = ["turn_inspect.absent", ".", "turn_inspect.absent/s", ""];
 
 #[test]
-fn a_store_that_can_not_be_opened_is_a_device_fault(rt: HostRuntime) {
+fn a_store_that_can_not_be_opened_is_a_device_fault(rt: HostRuntime) -> Result<(), Fail> {
     for store in &UNREADABLE {
-        expect(&rt, &["inspect", "--store", store], 3, "", "turn: device\n");
+        expect(&rt, &["inspect", "--store", store], 3, "", "turn: device\n")?;
     }
+    Ok(())
 }

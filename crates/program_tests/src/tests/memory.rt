@@ -1,61 +1,68 @@
 //! Each growth refused in turn.
 
-use super::{BINDING, FROM, Host, SUCCESS};
+use super::{BINDING, FROM, SUCCESS};
 use refusing::Refusing;
+use std::alloc::Global;
+use std::test::Fail;
 use turn_config::values::{bytes, endpoint};
 use turn_program::reply_to;
 use turn_types::{FiveTuple, Moment};
 
 /// Reads hex with one growth refused after so many, and again. Returns whether none was refused.
-fn bytes_succeed(rt: &impl Host, served: u64) -> bool {
-    let refusing = Refusing::new(rt.alloc(), served);
+fn bytes_succeed(alloc: Global, served: u64) -> Result<bool, Fail> {
+    let refusing = Refusing::new(alloc, served);
     let Ok(found) = bytes(&refusing, b"00fF7a") else {
-        let again = bytes(&refusing, b"00fF7a").expect(rt, "memory");
-        assert!(rt; refusing.has_refused() && again.is_some());
-        return false;
+        let again = bytes(&refusing, b"00fF7a")?;
+        return if refusing.has_refused() && again.is_some() {
+            Ok(false)
+        } else {
+            Err(Fail::new(served))
+        };
     };
-    let read = found.expect(rt, "bytes");
-    assert!(rt; !refusing.has_refused() && read.as_slice() == b"\x00\xFF\x7A".as_slice());
-    true
+    let read = found.ok_or("bytes")?;
+    if refusing.has_refused() || read.as_slice() != b"\x00\xFF\x7A".as_slice() {
+        return Err(Fail::new(served));
+    }
+    Ok(true)
 }
 
 #[test]
-fn bytes_take_memory_once(rt: HostRuntime) {
-    assert!(rt; !bytes_succeed(&rt, 0));
-    assert!(rt; bytes_succeed(&rt, 1));
+fn bytes_take_memory_once(rt: HostRuntime) -> Result<(), Fail> {
+    assert!(rt; !bytes_succeed(rt.alloc(), 0)?);
+    assert!(rt; bytes_succeed(rt.alloc(), 1)?);
+    Ok(())
 }
 
 /// Makes the reply to a Binding request with one growth refused after so many, and again. Returns whether none was refused.
-fn reply_succeeds(rt: &impl Host, datagram: &[u8], served: u64) -> bool {
-    let client = endpoint(FROM.as_bytes()).expect(rt, "an endpoint");
+fn reply_succeeds(alloc: Global, served: u64) -> Result<bool, Fail> {
+    let client = endpoint(FROM.as_bytes()).ok_or("an endpoint")?;
     let server = client;
     let five_tuple = FiveTuple { client, server };
-    let moment = Moment::new(0).expect(rt, "a moment");
-    let refusing = Refusing::new(rt.alloc(), served);
-    let Ok(found) = reply_to(&refusing, five_tuple, moment, datagram) else {
-        let again = reply_to(&refusing, five_tuple, moment, datagram).expect(rt, "memory");
-        assert!(rt; refusing.has_refused() && again.is_some());
-        return false;
+    let moment = Moment::new(0).ok_or("a moment")?;
+    let datagram = bytes(alloc, BINDING.as_bytes())?.ok_or("a datagram")?;
+    let refusing = Refusing::new(alloc, served);
+    let Ok(found) = reply_to(&refusing, five_tuple, moment, &datagram) else {
+        let again = reply_to(&refusing, five_tuple, moment, &datagram)?;
+        return if refusing.has_refused() && again.is_some() {
+            Ok(false)
+        } else {
+            Err(Fail::new(served))
+        };
     };
-    let reply = found.expect(rt, "a reply");
-    let text = hex::encode(rt.alloc(), reply.as_slice()).expect(rt, "memory");
-    assert!(rt; !refusing.has_refused() && text.as_bytes() == SUCCESS.trim_end().as_bytes());
-    true
-}
-
-fn refuse_each(rt: &impl Host) {
-    let request = bytes(rt.alloc(), BINDING.as_bytes()).expect(rt, "memory");
-    let datagram = request.expect(rt, "a datagram");
-    assert!(rt; !reply_succeeds(rt, &datagram, 0));
-    for served in 1..16u64 {
-        if reply_succeeds(rt, &datagram, served) {
-            return;
-        }
+    let text = hex::encode(alloc, found.ok_or("a reply")?.as_slice())?;
+    if refusing.has_refused() || text.as_bytes() != SUCCESS.trim_end().as_bytes() {
+        return Err(Fail::new(served));
     }
-    panic!(rt; "some growth is always refused");
+    Ok(true)
 }
 
 #[test]
-fn a_reply_is_refused_at_each_growth(rt: HostRuntime) {
-    refuse_each(&rt);
+fn a_reply_is_refused_at_each_growth(rt: HostRuntime) -> Result<(), Fail> {
+    assert!(rt; !reply_succeeds(rt.alloc(), 0)?);
+    for served in 1..16u64 {
+        if reply_succeeds(rt.alloc(), served)? {
+            return Ok(());
+        }
+    }
+    Err(Fail::new("some growth is always refused"))
 }

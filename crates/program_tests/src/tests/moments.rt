@@ -1,10 +1,10 @@
 //! The moment of a turn, by a system whose time stands still.
 
-use super::Host;
 use super::sockets::{HOME, tell};
-use super::turns::{PORTS, Talk, allocate, begun};
+use super::turns::{PORTS, Talk, begin};
 use std::io::{self, ErrorKind};
 use std::rt::Clock;
+use std::test::Fail;
 use std::time::Duration;
 use turn_client::ClientFault;
 use turn_serving::TurnFault;
@@ -45,12 +45,13 @@ fn seconds_at(system: Option<u64>, clock: u64) -> Option<u64> {
 }
 
 #[test]
-fn the_moment_is_the_systems_second_or_the_clock(rt: HostRuntime) {
-    for row in &MOMENTS {
-        if seconds_at(row.0, row.1) != row.2 {
-            panic!(rt; "{row:?}");
+fn the_moment_is_the_systems_second_or_the_clock(_rt: HostRuntime) -> Result<(), Fail> {
+    for (system, clock, moment) in &MOMENTS {
+        if seconds_at(*system, *clock) != *moment {
+            return Err(Fail::new(*clock));
         }
     }
+    Ok(())
 }
 
 /// The system's second when a peer sends data, and the transaction id of the Data indication: the moment in eight bytes, and how
@@ -73,47 +74,54 @@ const DATA: [(u64, Option<&[u8; 12]>); 4] = [
 const LATER: &[u8; 12] = b"\x00\x00\x00\x00\x00\x00\x05\x14\x00\x00\x00\x04";
 
 /// A peer sends a datagram, which a turn at a second takes. Returns whether the client gets it under this id, or nothing.
-fn is_indicated<R: Host>(
-    rt: &R,
-    talk: &mut Talk<'_, R>,
+fn is_indicated(
+    rt: &HostRuntime,
+    talk: &mut Talk<'_>,
     port: u16,
     second: u64,
     id: Option<&[u8; 12]>,
-) -> bool {
-    tell(rt, HOME, port, 3, 1);
-    talk.turn(&Still(Some(second))).expect(rt, "a turn");
+) -> Result<bool, Fail> {
+    tell(rt, HOME, port, 3, 1)?;
+    talk.turn(&Still(Some(second)))?;
     match (talk.client().receive(), id) {
-        (Ok(bytes), Some(id)) => {
+        (Ok(bytes), Some(id)) => Ok(
             bytes.get(..2) == Some(b"\x00\x17".as_slice())
-                && bytes.get(8..20) == Some(id.as_slice())
-        }
-        (Err(ClientFault::Silent), None) => true,
-        _ => false,
+                && bytes.get(8..20) == Some(id.as_slice()),
+        ),
+        (Err(ClientFault::Silent), None) => Ok(true),
+        _ => Ok(false),
     }
 }
 
-/// The permission for the peer is from second 1,000 on.
-fn relay<R: Host>(rt: &R, talk: &mut Talk<'_, R>) {
+/// An allocation with a permission for its peer from second 1,000 on. Returns the relayed port.
+fn allocate(talk: &mut Talk<'_>) -> Result<u16, ClientFault> {
     let system = Still(Some(1_000));
-    let port = allocate(rt, &system, talk);
-    talk.permit(&system).expect(rt, "a permission");
-    for (second, id) in &DATA {
-        if !is_indicated(rt, talk, port, *second, *id) {
-            panic!(rt; "second {second}");
-        }
-    }
-    talk.permit(&Still(Some(1_200))).expect(rt, "a permission");
-    assert!(rt; is_indicated(rt, talk, port, 1_200, Some(LATER)));
-    assert!(rt; talk.turn(&Still(None)) == Err(ClientFault::Turn(TurnFault::Clock)));
+    talk.challenge(&system)?;
+    let port = talk.allocate(&system)?.port;
+    talk.permit(&system)?;
+    Ok(port)
 }
 
-fn relay_by_clocks(rt: &impl Host) {
-    let mut talk = begun(rt, 0, PORTS, 1);
-    relay(rt, &mut talk);
-    talk.end();
+fn relay(rt: &HostRuntime, talk: &mut Talk<'_>) -> Result<bool, Fail> {
+    let port = allocate(talk)?;
+    for (second, id) in &DATA {
+        if !is_indicated(rt, talk, port, *second, *id)? {
+            return Ok(false);
+        }
+    }
+    talk.permit(&Still(Some(1_200)))?;
+    let is_later = is_indicated(rt, talk, port, 1_200, Some(LATER))?;
+    Ok(is_later && talk.turn(&Still(None)) == Err(ClientFault::Turn(TurnFault::Clock)))
 }
 
 #[test]
-fn a_turn_is_at_the_systems_second_or_the_clock(rt: HostRuntime) {
-    relay_by_clocks(&rt);
+fn a_turn_is_at_the_systems_second_or_the_clock(rt: HostRuntime) -> Result<(), Fail> {
+    let mut talk = begin(&rt, 0, PORTS, 1)??;
+    let relayed = relay(&rt, &mut talk);
+    talk.end();
+    if relayed? {
+        Ok(())
+    } else {
+        Err(Fail::new("another moment or id"))
+    }
 }

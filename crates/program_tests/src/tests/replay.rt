@@ -1,7 +1,9 @@
 //! `turn replay`, over files of the folder that it runs in.
 
-use super::formats::filled;
-use super::{Host, USAGE, expect, expect_each, remove_file, write_file};
+use super::{USAGE, expect, expect_each};
+use std::alloc::Global;
+use std::fs;
+use std::test::Fail;
 
 /// Settings, and the `format` line that opens a store.
 pub const SCENARIO: &str = "realm example.org
@@ -17,10 +19,18 @@ format 238
 ";
 
 /// Replays a file that has this content: the status and what is written.
-fn expect_file(rt: &impl Host, path: &str, content: &[u8], status: u8, out: &str, err: &str) {
-    write_file(rt, path, content);
-    expect(rt, &["replay", path], status, out, err);
-    remove_file(rt, path);
+fn expect_file(
+    rt: &HostRuntime,
+    path: &str,
+    content: &[u8],
+    status: u8,
+    out: &str,
+    err: &str,
+) -> Result<(), Fail> {
+    fs::write(rt, path, content)?;
+    expect(rt, &["replay", path], status, out, err)?;
+    fs::remove_file(rt, path)?;
+    Ok(())
 }
 
 /// Lines after those of `SCENARIO`, and the status, the report and the fault that come of them.
@@ -124,9 +134,9 @@ live 1
     ),
 ];
 
-fn expect_report(rt: &impl Host, row: &(&str, u8, &str, &str)) {
+fn expect_report(rt: &HostRuntime, row: &(&str, u8, &str, &str)) -> Result<(), Fail> {
     let (lines, status, out, err) = *row;
-    let content = format!(in rt.alloc(); "{SCENARIO}{lines}").expect(rt, "memory");
+    let content = format!(in rt.alloc(); "{SCENARIO}{lines}")?;
     expect_file(
         rt,
         "turn_replay.report",
@@ -134,38 +144,40 @@ fn expect_report(rt: &impl Host, row: &(&str, u8, &str, &str)) {
         status,
         out,
         err,
-    );
+    )
 }
 
 #[test]
-fn a_report_is_printed_if_no_line_is_at_fault(rt: HostRuntime) {
+fn a_report_is_printed_if_no_line_is_at_fault(rt: HostRuntime) -> Result<(), Fail> {
     for row in &REPORTS {
-        expect_report(&rt, row);
+        expect_report(&rt, row)?;
     }
+    Ok(())
 }
 
 /// A comment of so many bytes.
-fn expect_comment(rt: &impl Host, size: usize, status: u8, err: &str) {
-    let content = filled(rt, b'#', size);
-    expect_file(rt, "turn_replay.comment", &content, status, "", err);
+fn expect_comment(rt: &HostRuntime, size: usize, status: u8, err: &str) -> Result<(), Fail> {
+    let alloc: Global = rt.alloc();
+    let content = Vec::from_elem(alloc, b'#', size)?;
+    expect_file(rt, "turn_replay.comment", &content, status, "", err)
 }
 
 #[test]
-fn a_file_of_more_than_16_mebibytes_is_a_device_fault(rt: HostRuntime) {
-    expect_comment(&rt, 0, 0, "");
-    expect_comment(&rt, 16_777_216, 0, "");
-    expect_comment(&rt, 16_777_217, 3, "turn: device\n");
+fn a_file_of_more_than_16_mebibytes_is_a_device_fault(rt: HostRuntime) -> Result<(), Fail> {
+    expect_comment(&rt, 0, 0, "")?;
+    expect_comment(&rt, 16_777_216, 0, "")?;
+    expect_comment(&rt, 16_777_217, 3, "turn: device\n")
 }
 
 /// The most lines that a file can have: empty ones, and one that is no line of a scenario.
 #[test]
-fn each_line_of_a_file_counts(rt: HostRuntime) {
-    let mut content = filled(&rt, b'\n', 16_777_216);
+fn each_line_of_a_file_counts(rt: HostRuntime) -> Result<(), Fail> {
+    let mut content = Vec::from_elem(rt.alloc(), b'\n', 16_777_216)?;
     if let [.., last] = content.as_mut_slice() {
         *last = b'x';
     }
     let err = "turn: line 16777216: bad line\n";
-    expect_file(&rt, "turn_replay.lines", &content, 1, "", err);
+    expect_file(&rt, "turn_replay.lines", &content, 1, "", err)
 }
 
 /// No such file, a folder, a file in a folder that is none, and no name.
@@ -177,11 +189,11 @@ const UNREADABLE: [&[&str]; 4] = [
 ];
 
 #[test]
-fn a_file_that_can_not_be_read_is_a_device_fault(rt: HostRuntime) {
-    expect_each(&rt, &UNREADABLE, 3, "", "turn: device\n");
+fn a_file_that_can_not_be_read_is_a_device_fault(rt: HostRuntime) -> Result<(), Fail> {
+    expect_each(&rt, &UNREADABLE, 3, "", "turn: device\n")
 }
 
 #[test]
-fn words_are_judged_before_the_file(rt: HostRuntime) {
-    expect(&rt, &["replay", "turn_replay.absent", "--at"], 1, "", USAGE);
+fn words_are_judged_before_the_file(rt: HostRuntime) -> Result<(), Fail> {
+    expect(&rt, &["replay", "turn_replay.absent", "--at"], 1, "", USAGE)
 }

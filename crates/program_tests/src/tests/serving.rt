@@ -1,9 +1,12 @@
 //! `turn serve` and `turn demo`: what is printed, and the faults of a start in their order. Ports are from 63,000 on.
 
-use super::formats::{filled, fresh, put};
+use super::expect;
+use super::formats::{fresh, put};
 use super::inspections::FRAME;
-use super::{Host, expect, remove_file, write_file};
+use std::alloc::Global;
+use std::fs;
 use std::net::UdpSocket;
+use std::test::Fail;
 
 const CONFIG: &str = "realm example.org
 user alice wonder
@@ -26,22 +29,28 @@ enum Content {
     Cut,
 }
 
-fn content_of(rt: &impl Host, content: Content) -> Vec<u8> {
-    let mut bytes = fresh(rt);
+fn content_of(alloc: Global, content: Content) -> Result<Vec<u8>, Fail> {
     match content {
-        Content::Nothing => {}
+        Content::Nothing => Ok(fresh(alloc)?),
         Content::Allocation => {
+            let mut bytes = fresh(alloc)?;
             put(&mut bytes, 90, FRAME);
             // The port is the two bytes before the lifetime and the id.
             put(&mut bytes, 90 + 34, b"\xF6\x21");
+            Ok(bytes)
         }
-        Content::Zeros => return filled(rt, 0, 64),
-        Content::ClosedGate => put(&mut bytes, 64, b"\x00"),
+        Content::Zeros => Ok(Vec::from_elem(alloc, 0u8, 64)?),
+        Content::ClosedGate => {
+            let mut bytes = fresh(alloc)?;
+            put(&mut bytes, 64, b"\x00");
+            Ok(bytes)
+        }
         Content::Cut => {
+            let mut bytes = fresh(alloc)?;
             let _ = bytes.pop();
+            Ok(bytes)
         }
     }
-    bytes
 }
 
 /// The last lines of a configuration, a store, words, the status, the output and the fault.
@@ -132,29 +141,30 @@ const STARTS: [Case; 9] = [
 ];
 
 /// Serves by a configuration with these last lines, and this store.
-fn expect_serve(rt: &impl Host, case: &Case) {
+fn expect_serve(rt: &HostRuntime, case: &Case) -> Result<(), Fail> {
     let (lines, content, more, status, out, err) = *case;
-    let config = format!(in rt.alloc(); "{CONFIG}{LIMITS}{lines}").expect(rt, "memory");
-    write_file(rt, "turn_serve.conf", config.as_bytes());
-    write_file(rt, "turn_serve.store", &content_of(rt, content));
+    let config = format!(in rt.alloc(); "{CONFIG}{LIMITS}{lines}")?;
+    fs::write(rt, "turn_serve.conf", config.as_bytes())?;
+    fs::write(rt, "turn_serve.store", content_of(rt.alloc(), content)?)?;
     let mut words = vec![in rt.alloc();
         "serve",
         "--config",
         "turn_serve.conf",
         "--store",
         "turn_serve.store",
-    ]
-    .expect(rt, "memory");
-    words.extend_from_slice(more).expect(rt, "memory");
-    expect(rt, words.as_slice(), status, out, err);
-    remove_file(rt, "turn_serve.conf");
-    remove_file(rt, "turn_serve.store");
+    ]?;
+    words.extend_from_slice(more)?;
+    expect(rt, words.as_slice(), status, out, err)?;
+    fs::remove_file(rt, "turn_serve.conf")?;
+    fs::remove_file(rt, "turn_serve.store")?;
+    Ok(())
 }
 
-fn expect_starts(rt: &impl Host) {
+fn expect_starts(rt: &HostRuntime) -> Result<(), Fail> {
     for case in &STARTS {
-        expect_serve(rt, case);
+        expect_serve(rt, case)?;
     }
+    Ok(())
 }
 
 /// The port of the allocation in the store, the listening port, and both while the store holds nothing.
@@ -195,27 +205,29 @@ const IN_USE: [(&str, Case); 3] = [
 ];
 
 /// A port in use is a socket fault if it is needed.
-fn expect_ports_in_use(rt: &impl Host) {
+fn expect_ports_in_use(rt: &HostRuntime) -> Result<(), Fail> {
     for (address, case) in &IN_USE {
-        let _held = UdpSocket::bind(rt, *address).expect(rt, "a socket");
-        expect_serve(rt, case);
+        let _held = UdpSocket::bind(rt, *address)?;
+        expect_serve(rt, case)?;
     }
+    Ok(())
 }
 
 /// One test, since all starts have the same ports.
 #[test]
-fn faults_of_a_start_come_in_their_order(rt: HostRuntime) {
-    expect_starts(&rt);
-    expect_ports_in_use(&rt);
+fn faults_of_a_start_come_in_their_order(rt: HostRuntime) -> Result<(), Fail> {
+    expect_starts(&rt)?;
+    expect_ports_in_use(&rt)
 }
 
 /// The server's limits are others than the store's; then a file is absent or a folder.
-fn refuse_files(rt: &impl Host) {
+#[test]
+fn other_limits_and_files_are_refused(rt: HostRuntime) -> Result<(), Fail> {
     let config = format!(in rt.alloc();
         "{CONFIG}listen 127.0.0.1:63001\nrelay 127.0.0.1 63002 63009\n"
-    ).expect(rt, "memory");
-    write_file(rt, "turn_limits.conf", config.as_bytes());
-    write_file(rt, "turn_limits.store", &fresh(rt));
+    )?;
+    fs::write(&rt, "turn_limits.conf", config.as_bytes())?;
+    fs::write(&rt, "turn_limits.store", fresh(rt.alloc())?)?;
     let words: [&str; 5] = [
         "serve",
         "--config",
@@ -223,20 +235,15 @@ fn refuse_files(rt: &impl Host) {
         "--store",
         "turn_limits.store",
     ];
-    expect(rt, &words, 2, "", "turn: limits differ\n");
-    remove_file(rt, "turn_limits.store");
-    expect(rt, &words, 3, "", "turn: device\n");
+    expect(&rt, &words, 2, "", "turn: limits differ\n")?;
+    fs::remove_file(&rt, "turn_limits.store")?;
+    expect(&rt, &words, 3, "", "turn: device\n")?;
     // Folders, as a store and as a configuration.
     let words: [&str; 5] = ["serve", "--config", "turn_limits.conf", "--store", "."];
-    expect(rt, &words, 3, "", "turn: device\n");
-    remove_file(rt, "turn_limits.conf");
+    expect(&rt, &words, 3, "", "turn: device\n")?;
+    fs::remove_file(&rt, "turn_limits.conf")?;
     let words: [&str; 5] = ["serve", "--config", ".", "--store", "turn_limits.store"];
-    expect(rt, &words, 3, "", "turn: device\n");
-}
-
-#[test]
-fn other_limits_and_files_are_refused(rt: HostRuntime) {
-    refuse_files(&rt);
+    expect(&rt, &words, 3, "", "turn: device\n")
 }
 
 const DEMO: &str = "challenge 401
@@ -250,6 +257,6 @@ refresh 0
 ";
 
 #[test]
-fn the_demonstration_has_eight_lines(rt: HostRuntime) {
-    expect(&rt, &["demo"], 0, DEMO, "");
+fn the_demonstration_has_eight_lines(rt: HostRuntime) -> Result<(), Fail> {
+    expect(&rt, &["demo"], 0, DEMO, "")
 }

@@ -1,13 +1,13 @@
 //! What a turn takes of which sockets, and what `turn serve` hands on of its words to the turns.
 
-use super::conversations::ask;
-use super::formats::{filled, fresh};
-use super::turns::{PORTS, Talk, allocate, begun};
-use super::{Host, remove_file, write_file};
-use std::io::{self, Write};
-use turn_client::{Client, TimedSocket};
+use super::formats::fresh;
+use super::turns::{PORTS, Talk, begin};
+use std::io::Write;
+use std::test::Fail;
+use std::{fs, io};
+use turn_client::{ClientFault, TimedSocket};
 use turn_program::run_words;
-use turn_types::Endpoint;
+use turn_types::{Endpoint, Method};
 
 /// 127.0.0.1 and 127.0.0.2, which are both this machine's.
 pub const HOME: u32 = 0x7F00_0001;
@@ -16,12 +16,23 @@ const ELSEWHERE: u32 = 0x7F00_0002;
 
 /// A client with an allocation and a permission for its peer's address, over a server whose turns take so many datagrams of a
 /// socket. The last turn found nothing. The relayed port is beside it.
-fn begin_relaying<R: Host>(rt: &R, burst: u8) -> (Talk<'_, R>, u16) {
-    let mut talk = begun(rt, 0, PORTS, burst);
-    let port = allocate(rt, rt, &mut talk);
-    talk.permit(rt).expect(rt, "a permission");
-    talk.turn(rt).expect(rt, "a turn");
-    (talk, port)
+fn begin_relaying(rt: &HostRuntime, burst: u8) -> Result<(Talk<'_>, u16), Fail> {
+    let mut talk = begin(rt, 0, PORTS, burst)??;
+    match prepare(rt, &mut talk) {
+        Ok(port) => Ok((talk, port)),
+        Err(fault) => {
+            talk.end();
+            Err(fault.into())
+        }
+    }
+}
+
+fn prepare(rt: &HostRuntime, talk: &mut Talk<'_>) -> Result<u16, ClientFault> {
+    talk.challenge(rt)?;
+    let port = talk.allocate(rt)?.port;
+    talk.permit(rt)?;
+    talk.turn(rt)?;
+    Ok(port)
 }
 
 /// How many Binding successes and Data indications a client got, and whether it got anything else.
@@ -40,11 +51,11 @@ fn got(successes: u8, data: u8) -> Received {
     }
 }
 
-/// What a client has got by now.
-fn receive_all(client: &mut Client<'_>) -> Received {
+/// What the client has got by now.
+fn receive_all(talk: &mut Talk<'_>) -> Received {
     let mut all = got(0, 0);
     for _ in 0..64u8 {
-        let Ok(bytes) = client.receive() else {
+        let Ok(bytes) = talk.client().receive() else {
             return all;
         };
         match bytes.get(..2) {
@@ -56,48 +67,57 @@ fn receive_all(client: &mut Client<'_>) -> Received {
     all
 }
 
-/// A peer at any port of an address sends so many datagrams of this size to a relayed port.
-pub fn tell(rt: &impl Host, ip: u32, port: u16, size: usize, count: u8) {
-    let peer = TimedSocket::open(rt.alloc(), rt, Endpoint { ip, port: 0 });
-    let peer = peer.expect(rt, "a socket");
-    let payload = filled(rt, b'x', size);
+/// The client sends so many Binding requests.
+fn ask(talk: &mut Talk<'_>, count: u8) -> Result<(), ClientFault> {
     for _ in 0..count {
-        let sent = peer.send(Endpoint { ip: HOME, port }, &payload);
-        sent.expect(rt, "a datagram");
+        let request = talk.client().plain_request(Method::BINDING)?;
+        talk.client().send(&request)?;
     }
+    Ok(())
 }
 
-fn turns<R: Host>(rt: &R, talk: &mut Talk<'_, R>, count: u8) {
+/// A peer at any port of an address sends so many datagrams of this size to a relayed port.
+pub fn tell(rt: &HostRuntime, ip: u32, port: u16, size: usize, count: u8) -> Result<(), Fail> {
+    let peer = TimedSocket::open(rt.alloc(), rt, Endpoint { ip, port: 0 })?;
+    let payload = Vec::from_elem(rt.alloc(), b'x', size)?;
     for _ in 0..count {
-        talk.turn(rt).expect(rt, "a turn");
+        peer.send(Endpoint { ip: HOME, port }, &payload)?;
     }
+    Ok(())
+}
+
+fn turns(rt: &HostRuntime, talk: &mut Talk<'_>, count: u8) -> Result<(), ClientFault> {
+    for _ in 0..count {
+        talk.turn(rt)?;
+    }
+    Ok(())
 }
 
 /// One turn takes a datagram of the client and one of the peer.
-fn take_both<R: Host>(rt: &R, talk: &mut Talk<'_, R>, port: u16) -> bool {
-    ask(rt, talk.client(), 1);
-    tell(rt, HOME, port, 3, 1);
-    turns(rt, talk, 1);
-    receive_all(talk.client()) == got(1, 1)
+fn take_both(rt: &HostRuntime, talk: &mut Talk<'_>, port: u16) -> Result<bool, Fail> {
+    ask(talk, 1)?;
+    tell(rt, HOME, port, 3, 1)?;
+    turns(rt, talk, 1)?;
+    Ok(receive_all(talk) == got(1, 1))
 }
 
 /// Of 20 datagrams of the client a turn takes one. The peer's comes in between, and is taken at the latest in the turn after
 /// the look that each sixteenth turn has.
-fn look<R: Host>(rt: &R, talk: &mut Talk<'_, R>, port: u16) -> bool {
-    ask(rt, talk.client(), 20);
-    turns(rt, talk, 1);
-    tell(rt, HOME, port, 3, 1);
-    turns(rt, talk, 17);
-    receive_all(talk.client()) == got(18, 1)
+fn look(rt: &HostRuntime, talk: &mut Talk<'_>, port: u16) -> Result<bool, Fail> {
+    ask(talk, 20)?;
+    turns(rt, talk, 1)?;
+    tell(rt, HOME, port, 3, 1)?;
+    turns(rt, talk, 17)?;
+    Ok(receive_all(talk) == got(18, 1))
 }
 
 /// Of three datagrams of a peer a turn takes two.
-fn take_two<R: Host>(rt: &R, talk: &mut Talk<'_, R>, port: u16) -> bool {
-    tell(rt, HOME, port, 3, 3);
-    turns(rt, talk, 1);
-    let first = receive_all(talk.client());
-    turns(rt, talk, 1);
-    first == got(0, 2) && receive_all(talk.client()) == got(0, 1)
+fn take_two(rt: &HostRuntime, talk: &mut Talk<'_>, port: u16) -> Result<bool, Fail> {
+    tell(rt, HOME, port, 3, 3)?;
+    turns(rt, talk, 1)?;
+    let first = receive_all(talk);
+    turns(rt, talk, 1)?;
+    Ok(first == got(0, 2) && receive_all(talk) == got(0, 1))
 }
 
 /// A peer's address, the size of its datagram, and how many Data indications come of it: an empty one is relayed, one of an
@@ -109,15 +129,15 @@ const STRANGE: [(u32, usize, u8); 4] = [
     (HOME, 3, 1),
 ];
 
-fn relay_strange<R: Host>(rt: &R, talk: &mut Talk<'_, R>, port: u16) -> bool {
+fn relay_strange(rt: &HostRuntime, talk: &mut Talk<'_>, port: u16) -> Result<bool, Fail> {
     for (ip, size, data) in &STRANGE {
-        tell(rt, *ip, port, *size, 1);
-        turns(rt, talk, 1);
-        if receive_all(talk.client()) != got(0, *data) {
-            return false;
+        tell(rt, *ip, port, *size, 1)?;
+        turns(rt, talk, 1)?;
+        if receive_all(talk) != got(0, *data) {
+            return Ok(false);
         }
     }
-    true
+    Ok(true)
 }
 
 /// What is tried with a conversation.
@@ -129,8 +149,8 @@ enum Trial {
     Strange,
 }
 
-fn try_it(rt: &impl Host, burst: u8, trial: Trial) {
-    let (mut talk, port) = begin_relaying(rt, burst);
+fn try_it(rt: &HostRuntime, burst: u8, trial: Trial) -> Result<(), Fail> {
+    let (mut talk, port) = begin_relaying(rt, burst)?;
     let is_right = match trial {
         Trial::TakeBoth => take_both(rt, &mut talk, port),
         Trial::Look => look(rt, &mut talk, port),
@@ -138,27 +158,31 @@ fn try_it(rt: &impl Host, burst: u8, trial: Trial) {
         Trial::Strange => relay_strange(rt, &mut talk, port),
     };
     talk.end();
-    assert!(rt; is_right);
+    if is_right? {
+        Ok(())
+    } else {
+        Err(Fail::new("another number of datagrams"))
+    }
 }
 
 #[test]
-fn a_turn_takes_of_each_socket_that_has_a_datagram(rt: HostRuntime) {
-    try_it(&rt, 1, Trial::TakeBoth);
+fn a_turn_takes_of_each_socket_that_has_a_datagram(rt: HostRuntime) -> Result<(), Fail> {
+    try_it(&rt, 1, Trial::TakeBoth)
 }
 
 #[test]
-fn a_peer_gets_through_while_a_client_sends_without_a_pause(rt: HostRuntime) {
-    try_it(&rt, 1, Trial::Look);
+fn a_peer_gets_through_while_a_client_sends_without_a_pause(rt: HostRuntime) -> Result<(), Fail> {
+    try_it(&rt, 1, Trial::Look)
 }
 
 #[test]
-fn a_turn_takes_as_many_datagrams_of_a_peer_as_its_burst(rt: HostRuntime) {
-    try_it(&rt, 2, Trial::TakeTwo);
+fn a_turn_takes_as_many_datagrams_of_a_peer_as_its_burst(rt: HostRuntime) -> Result<(), Fail> {
+    try_it(&rt, 2, Trial::TakeTwo)
 }
 
 #[test]
-fn a_peers_datagram_is_relayed_if_it_is_permitted_and_fits(rt: HostRuntime) {
-    try_it(&rt, 1, Trial::Strange);
+fn a_peers_datagram_is_relayed_if_it_is_permitted_and_fits(rt: HostRuntime) -> Result<(), Fail> {
+    try_it(&rt, 1, Trial::Strange)
 }
 
 const CONFIG: &[u8] = b"realm example.org
@@ -205,28 +229,30 @@ fn call(client: &TimedSocket) {
     }
 }
 
-/// Serves while a client calls: what is printed, without a fault.
-fn serve(rt: &impl Host, client: &TimedSocket, turns: &str, burst: &str) -> Vec<u8> {
-    let words: [&str; 10] = [
+/// Serves while a client calls: what is printed, or nothing after a fault.
+fn serve<'x>(
+    rt: &HostRuntime,
+    client: &TimedSocket,
+    turns: &'x str,
+    burst: &'x str,
+) -> Result<Option<Vec<u8>>, Fail> {
+    let mut words = vec![in rt.alloc();
         "turn",
         "serve",
         "--config",
         "turn_sockets.conf",
         "--store",
         "turn_sockets.store",
-        "--turns",
-        turns,
-        "--burst",
-        burst,
-    ];
+    ]?;
+    words.extend_from_slice(&["--turns", turns, "--burst", burst])?;
     let mut out = Caller {
         client,
         called: false,
         printed: Vec::new(rt.alloc()),
     };
     let mut err = Vec::new(rt.alloc());
-    assert!(rt; run_words(rt, rt, &words, &mut out, &mut err) == 0);
-    out.printed
+    let status = run_words(rt, rt, words.as_slice(), &mut out, &mut err);
+    Ok(if status == 0 { Some(out.printed) } else { None })
 }
 
 /// How many Binding successes a socket has got by now.
@@ -249,31 +275,28 @@ const SERVED: [(&str, &str, u8); 5] = [
     ("3", "1", 3),
 ];
 
-/// What is printed, and how many of three requests are answered.
-fn call_and_serve(rt: &impl Host, turns: &str, burst: &str) -> (Vec<u8>, u8) {
-    write_file(rt, "turn_sockets.conf", CONFIG);
-    write_file(rt, "turn_sockets.store", &fresh(rt));
-    let any = Endpoint { ip: HOME, port: 0 };
-    let mut client = TimedSocket::open(rt.alloc(), rt, any).expect(rt, "a socket");
-    let printed = serve(rt, &client, turns, burst);
-    remove_file(rt, "turn_sockets.conf");
-    remove_file(rt, "turn_sockets.store");
-    (printed, count_answers(&mut client))
-}
-
-fn expect_served(rt: &impl Host, row: &(&str, &str, u8)) {
+fn expect_served(rt: &HostRuntime, row: &(&str, &str, u8)) -> Result<(), Fail> {
     let (turns, burst, answers) = *row;
-    let expected = format!(in rt.alloc(); "listening 127.0.0.1:63021\nserved {turns} turns\n");
-    let expected = expected.expect(rt, "memory");
-    let (printed, answered) = call_and_serve(rt, turns, burst);
-    if printed.as_slice() != expected.as_bytes() || answered != answers {
-        panic!(rt; "{row:?}");
+    fs::write(rt, "turn_sockets.conf", CONFIG)?;
+    fs::write(rt, "turn_sockets.store", fresh(rt.alloc())?)?;
+    let any = Endpoint { ip: HOME, port: 0 };
+    let mut client = TimedSocket::open(rt.alloc(), rt, any)?;
+    let printed = serve(rt, &client, turns, burst)?;
+    fs::remove_file(rt, "turn_sockets.conf")?;
+    fs::remove_file(rt, "turn_sockets.store")?;
+    let expected = format!(in rt.alloc(); "listening 127.0.0.1:63021\nserved {turns} turns\n")?;
+    let told = printed.ok_or("a fault")?;
+    if told.as_slice() == expected.as_bytes() && count_answers(&mut client) == answers {
+        Ok(())
+    } else {
+        Err(Fail::new(format_args!("{row:?}")))
     }
 }
 
 #[test]
-fn serve_takes_so_many_turns_of_so_many_datagrams(rt: HostRuntime) {
+fn serve_takes_so_many_turns_of_so_many_datagrams(rt: HostRuntime) -> Result<(), Fail> {
     for row in &SERVED {
-        expect_served(&rt, row);
+        expect_served(&rt, row)?;
     }
+    Ok(())
 }

@@ -1,13 +1,14 @@
 //! A start over a disk that has other allocations when it is opened again, and the receive buffers of relay sockets.
 
-use super::Host;
 use super::formats::{fresh, put};
 use super::inspections::FRAME;
+use std::alloc::Global;
 use std::cell::Cell;
 use std::fs::{self, Metadata, OpenFile};
 use std::io;
 use std::io::{Error, ErrorKind};
 use std::os::unix::fs::FileExt;
+use std::test::Fail;
 use turn_config::values::{number_32, split_once};
 use turn_config::{Configured, read_config};
 use turn_cred::AuthHandler;
@@ -72,11 +73,11 @@ limits 2 1 1 1 8
 ";
 
 /// A store with alice's allocation at relayed port 63,019.
-fn allocated(rt: &impl Host) -> Vec<u8> {
-    let mut bytes = fresh(rt);
+fn allocated(alloc: Global) -> Result<Vec<u8>, Fail> {
+    let mut bytes = fresh(alloc)?;
     put(&mut bytes, 90, FRAME);
     put(&mut bytes, 90 + 34, b"\xF6\x2B");
-    bytes
+    Ok(bytes)
 }
 
 /// What a start comes to.
@@ -96,19 +97,14 @@ fn buffer_at<D: Disk, H: AuthHandler, G: RelaySockets>(
 }
 
 /// What a start over a file comes to.
-fn start_over(rt: &impl Host, file: ChangingFile<'_>) -> Came {
-    let Ok(
-        Configured {
-            config,
-            users,
-            listen,
-            ports,
-            ..
-        },
-    ) = read_config(rt.alloc(), CONFIG)
-    else {
-        panic!(rt; "a configuration");
-    };
+fn start_over(rt: &HostRuntime, file: ChangingFile<'_>) -> Result<Came, Fail> {
+    let Configured {
+        config,
+        users,
+        listen,
+        ports,
+        ..
+    } = read_config(rt.alloc(), CONFIG).map_err(|_| "a configuration")?;
     let setup = Setup {
         config: &config,
         listen,
@@ -125,11 +121,11 @@ fn start_over(rt: &impl Host, file: ChangingFile<'_>) -> Came {
         }
         Err(fault) => (Some(fault), None),
     };
-    Came { fault, buffer }
+    Ok(Came { fault, buffer })
 }
 
 /// What a start comes to over a file that has these contents at its two openings, if both are made.
-fn outcome(rt: &impl Host, first: &[u8], second: &[u8]) -> Came {
+fn outcome(rt: &HostRuntime, first: &[u8], second: &[u8]) -> Result<Came, Fail> {
     let syncs = Cell::new(0);
     let came = start_over(
         rt,
@@ -138,17 +134,20 @@ fn outcome(rt: &impl Host, first: &[u8], second: &[u8]) -> Came {
             second,
             syncs: &syncs,
         },
-    );
-    assert!(rt; syncs.get() == 2);
-    came
+    )?;
+    if syncs.get() == 2 {
+        Ok(came)
+    } else {
+        Err(Fail::new("another number of openings"))
+    }
 }
 
 /// The receive buffer that Linux gives where 8 MiB are asked for: no more than its limit, and doubled.
-fn given_buffer(rt: &impl Host) -> u32 {
-    let text = fs::read(rt, "/proc/sys/net/core/rmem_max").expect(rt, "a file");
-    let (limit, _) = split_once(&text, b'\n').expect(rt, "a line");
-    let limit = number_32(limit).expect(rt, "a number");
-    limit.min(8 << 20).wrapping_mul(2)
+fn given_buffer(rt: &HostRuntime) -> Result<u32, Fail> {
+    let text = fs::read(rt, "/proc/sys/net/core/rmem_max")?;
+    let (limit, _) = split_once(&text, b'\n').ok_or("a line")?;
+    let limit = number_32(limit).ok_or("a number")?;
+    Ok(limit.min(8 << 20).wrapping_mul(2))
 }
 
 fn started(buffer: Option<u32>) -> Came {
@@ -158,18 +157,16 @@ fn started(buffer: Option<u32>) -> Came {
     }
 }
 
-fn start_each(rt: &impl Host, empty: &[u8], allocated: &[u8]) {
-    let with_buffer = started(Some(given_buffer(rt)));
-    assert!(rt; outcome(rt, allocated, allocated) == with_buffer);
-    assert!(rt; outcome(rt, allocated, empty) == with_buffer);
+#[test]
+fn a_start_needs_a_socket_for_each_port_of_its_second_opening(rt: HostRuntime) -> Result<(), Fail> {
+    let (empty, allocated) = (fresh(rt.alloc())?, allocated(rt.alloc())?);
+    let buffer = Some(given_buffer(&rt)?);
+    assert!(rt; outcome(&rt, &allocated, &allocated)? == started(buffer));
+    assert!(rt; outcome(&rt, &allocated, &empty)? == started(buffer));
     let refused = Came {
         fault: Some(StartFault::Socket),
         ..started(None)
     };
-    assert!(rt; outcome(rt, empty, allocated) == refused);
-}
-
-#[test]
-fn a_start_needs_a_socket_for_each_port_of_its_second_opening(rt: HostRuntime) {
-    start_each(&rt, &fresh(&rt), &allocated(&rt));
+    assert!(rt; outcome(&rt, &empty, &allocated)? == refused);
+    Ok(())
 }

@@ -1,6 +1,8 @@
 //! Every form of the words of `format`, `inspect`, `serve` and `demo`.
 
-use super::{USAGE, expect, expect_each};
+use super::{USAGE, expect_each};
+use std::test::Fail;
+use turn_program::run_words;
 
 /// Words that make a command over files that are absent.
 const TAKEN: [&[&str]; 11] = [
@@ -48,9 +50,23 @@ const TAKEN: [&[&str]; 11] = [
     ],
 ];
 
+fn play(rt: &HostRuntime, words: &[&str]) -> Result<(), Fail> {
+    let mut line = vec![in rt.alloc(); "turn"]?;
+    line.extend_from_slice(words)?;
+    let (mut out, mut err) = (Vec::new(rt.alloc()), Vec::new(rt.alloc()));
+    let status = run_words(rt, rt, line.as_slice(), &mut out, &mut err);
+    if status != 3 || !out.is_empty() || err.as_slice() != b"turn: device\n".as_slice() {
+        return Err(Fail::new(format_args!("{words:?}")));
+    }
+    Ok(())
+}
+
 #[test]
-fn good_words_come_to_the_files(rt: HostRuntime) {
-    expect_each(&rt, &TAKEN, 3, "", "turn: device\n");
+fn good_words_come_to_the_files(rt: HostRuntime) -> Result<(), Fail> {
+    for words in &TAKEN {
+        play(&rt, words)?;
+    }
+    Ok(())
 }
 
 const MISSING_OR_TWICE: [&[&str]; 22] = [
@@ -106,8 +122,8 @@ const MISSING_OR_TWICE: [&[&str]; 22] = [
 ];
 
 #[test]
-fn a_missing_or_repeated_option_is_a_usage_fault(rt: HostRuntime) {
-    expect_each(&rt, &MISSING_OR_TWICE, 1, "", USAGE);
+fn a_missing_or_repeated_option_is_a_usage_fault(rt: HostRuntime) -> Result<(), Fail> {
+    expect_each(&rt, &MISSING_OR_TWICE, 1, "", USAGE)
 }
 
 const UNKNOWN: [&[&str]; 16] = [
@@ -142,8 +158,8 @@ const UNKNOWN: [&[&str]; 16] = [
 ];
 
 #[test]
-fn an_unknown_option_of_a_store_command_is_a_usage_fault(rt: HostRuntime) {
-    expect_each(&rt, &UNKNOWN, 1, "", USAGE);
+fn an_unknown_option_of_a_store_command_is_a_usage_fault(rt: HostRuntime) -> Result<(), Fail> {
+    expect_each(&rt, &UNKNOWN, 1, "", USAGE)
 }
 
 const NO_AREAS: [&str; 8] = [
@@ -158,28 +174,25 @@ const NO_AREAS: [&str; 8] = [
 ];
 
 #[test]
-fn an_area_is_a_number_below_2_to_the_32nd(rt: HostRuntime) {
+fn an_area_is_a_number_below_2_to_the_32nd(rt: HostRuntime) -> Result<(), Fail> {
     for area in &NO_AREAS {
         let words: [&str; 7] = [
             "format", "--config", "no/c", "--store", "no/s", "--area", area,
         ];
-        expect(&rt, &words, 1, "", USAGE);
+        expect_each(&rt, &[&words], 1, "", USAGE)?;
     }
+    Ok(())
 }
 
 const NO_MOMENTS: [&str; 4] = ["1099511624176", "", "now", "-1"];
 
 #[test]
-fn a_moment_to_inspect_at_is_below_2_to_the_40th_less_3600(rt: HostRuntime) {
+fn a_moment_to_inspect_at_is_below_2_to_the_40th_less_3600(rt: HostRuntime) -> Result<(), Fail> {
     for at in &NO_MOMENTS {
-        expect(
-            &rt,
-            &["inspect", "--store", "no/s", "--at", at],
-            1,
-            "",
-            USAGE,
-        );
+        let words: [&str; 5] = ["inspect", "--store", "no/s", "--at", at];
+        expect_each(&rt, &[&words], 1, "", USAGE)?;
     }
+    Ok(())
 }
 
 /// Options of `serve` with values that are malformed or out of range.
@@ -203,9 +216,10 @@ const NO_SERVICE: [(&str, &str); 16] = [
 ];
 
 #[test]
-fn a_value_of_serve_out_of_range_is_a_usage_fault(rt: HostRuntime) {
+fn a_value_of_serve_out_of_range_is_a_usage_fault(rt: HostRuntime) -> Result<(), Fail> {
     for (name, text) in &NO_SERVICE {
         let words: [&str; 7] = ["serve", "--config", "no/c", "--store", "no/s", name, text];
-        expect(&rt, &words, 1, "", USAGE);
+        expect_each(&rt, &[&words], 1, "", USAGE)?;
     }
+    Ok(())
 }

@@ -1,9 +1,7 @@
 //! Turns of a server over a disk in memory: a commit that fails, datagrams that are none of a client's, and the ports of
 //! allocations.
 
-use super::Host;
-use super::formats::filled;
-use std::rt::Clock;
+use std::test::Fail;
 use turn_client::{ClientFault, Conversation, Loopback, limits};
 use turn_disk::MemoryDisk;
 use turn_engine::CommitRefused;
@@ -12,40 +10,29 @@ use turn_serving::{StartFault, TurnFault};
 use turn_store::{OpenFault, format, least_area};
 use turn_types::Method;
 
-pub type Talk<'a, R> = Conversation<'a, MemoryDisk, R>;
+pub type Talk<'a> = Conversation<'a, MemoryDisk, HostRuntime>;
 
 /// The relay ports of conversations.
 pub const PORTS: (u16, u16) = (62_000, 62_999);
 
 /// A server over a new store, whose turns take so many datagrams of a socket. The device call of this number from its start on
 /// fails, where 0 is none.
-pub fn begin<R: Host>(
-    rt: &R,
+pub fn begin(
+    rt: &HostRuntime,
     call: u64,
     (first, last): (u16, u16),
     burst: u8,
-) -> Result<Talk<'_, R>, ClientFault> {
+) -> Result<Result<Talk<'_>, ClientFault>, Fail> {
     let area = least_area(limits());
-    let content = Vec::from_elem(rt.alloc(), 0u8, 64 + 2 * area).expect(rt, "memory");
-    let mut disk = MemoryDisk::new(rt.alloc(), content);
-    assert!(rt; format(&mut disk, limits(), area).is_ok());
+    let mut disk = MemoryDisk::new(rt.alloc(), Vec::from_elem(rt.alloc(), 0u8, 64 + 2 * area)?);
+    if format(&mut disk, limits(), area).is_err() {
+        return Err(Fail::new("format"));
+    }
     if 0 < call {
         disk.fail_call(call);
     }
-    let ports = PortRange::new(first, last).expect(rt, "a range");
-    let loopback = Loopback::new(rt.alloc(), rt, ports, burst).expect(rt, "sockets");
-    loopback.serve(disk)
-}
-
-/// The same with a start that succeeds.
-pub fn begun<R: Host>(rt: &R, call: u64, ports: (u16, u16), burst: u8) -> Talk<'_, R> {
-    begin(rt, call, ports, burst).expect(rt, "a start")
-}
-
-/// Asks for a nonce, and allocates. Returns the relayed port.
-pub fn allocate<C: Clock, R: Host>(rt: &R, clock: &C, talk: &mut Talk<'_, R>) -> u16 {
-    talk.challenge(clock).expect(rt, "a challenge");
-    talk.allocate(clock).expect(rt, "an allocation").port
+    let ports = PortRange::new(first, last).ok_or("a range")?;
+    Ok(Loopback::new(rt.alloc(), rt, ports, burst)?.serve(disk))
 }
 
 /// Where a device call that fails is.
@@ -71,42 +58,45 @@ const CALLS: [(u64, Place); 7] = [
 
 /// Where a turn fails, of a challenge and an Allocate. If it is in the commit, the Allocate gets no answer, and there is no
 /// later turn.
-fn place_of<R: Host>(rt: &R, talk: &mut Talk<'_, R>) -> Place {
-    talk.challenge(rt).expect(rt, "a challenge");
-    let Err(fault) = talk.allocate(rt) else {
-        return Place::Later;
-    };
-    let device = ClientFault::Turn(TurnFault::Commit(CommitRefused::Device));
+fn place_of(rt: &HostRuntime, talk: &mut Talk<'_>) -> Result<Place, Fail> {
+    talk.challenge(rt)?;
+    match talk.allocate(rt) {
+        Ok(_) => return Ok(Place::Later),
+        Err(ClientFault::Turn(TurnFault::Commit(CommitRefused::Device))) => {}
+        Err(_) => return Err(Fail::new("another fault")),
+    }
+    let is_silent = matches!(talk.client().receive(), Err(ClientFault::Silent));
     let stopped = ClientFault::Turn(TurnFault::Commit(CommitRefused::Stopped));
-    assert!(rt; fault == device);
-    assert!(rt; matches!(talk.client().receive(), Err(ClientFault::Silent)));
-    assert!(rt; talk.turn(rt) == Err(stopped));
-    Place::Commit
+    if is_silent && talk.turn(rt) == Err(stopped) {
+        Ok(Place::Commit)
+    } else {
+        Err(Fail::new("an answer, or a later turn"))
+    }
 }
 
-/// Where the device call of this number is.
-fn found(rt: &impl Host, call: u64) -> Place {
-    match begin(rt, call, PORTS, 1) {
+fn expect_place(rt: &HostRuntime, call: u64, place: Place) -> Result<(), Fail> {
+    let found = match begin(rt, call, PORTS, 1)? {
         Ok(mut talk) => {
-            let place = place_of(rt, &mut talk);
+            let found = place_of(rt, &mut talk);
             talk.end();
-            place
+            found?
         }
-        Err(fault) => {
-            let device = ClientFault::Start(StartFault::Store(OpenFault::Device));
-            assert!(rt; fault == device);
-            Place::Start
-        }
+        Err(ClientFault::Start(StartFault::Store(OpenFault::Device))) => Place::Start,
+        Err(_) => return Err(Fail::new("another fault")),
+    };
+    if found == place {
+        Ok(())
+    } else {
+        Err(Fail::new(call))
     }
 }
 
 #[test]
-fn a_turn_whose_commit_fails_answers_nothing(rt: HostRuntime) {
+fn a_turn_whose_commit_fails_answers_nothing(rt: HostRuntime) -> Result<(), Fail> {
     for (call, place) in &CALLS {
-        if found(&rt, *call) != *place {
-            panic!(rt; "call {call}");
-        }
+        expect_place(&rt, *call, *place)?;
     }
+    Ok(())
 }
 
 /// A burst, and a device call from the commits of two Refreshes on, the first one after an Allocate being 29: whether a turn fails
@@ -114,30 +104,33 @@ fn a_turn_whose_commit_fails_answers_nothing(rt: HostRuntime) {
 const REFRESHES: [(u8, u64, bool); 3] = [(1, 33, true), (2, 32, true), (2, 33, false)];
 
 /// Whether a turn fails of two after two Refreshes.
-fn fails<R: Host>(rt: &R, talk: &mut Talk<'_, R>) -> bool {
-    allocate(rt, rt, talk);
+fn fails(rt: &HostRuntime, talk: &mut Talk<'_>) -> Result<bool, ClientFault> {
+    talk.challenge(rt)?;
+    talk.allocate(rt)?;
     for _ in 0..2u8 {
-        let request = talk.client().request(Method::REFRESH, &[]);
-        let sent = talk.client().send(&request.expect(rt, "a request"));
-        sent.expect(rt, "a datagram");
+        let request = talk.client().request(Method::REFRESH, &[])?;
+        talk.client().send(&request)?;
     }
-    talk.turn(rt).is_err() || talk.turn(rt).is_err()
+    Ok(talk.turn(rt).is_err() || talk.turn(rt).is_err())
 }
 
-fn expect_failure(rt: &impl Host, burst: u8, call: u64, failure: bool) {
-    let mut talk = begun(rt, call, PORTS, burst);
+fn expect_failure(rt: &HostRuntime, burst: u8, call: u64, failure: bool) -> Result<(), Fail> {
+    let mut talk = begin(rt, call, PORTS, burst)??;
     let found = fails(rt, &mut talk);
     talk.end();
-    if found != failure {
-        panic!(rt; "call {call}");
+    if found? == failure {
+        Ok(())
+    } else {
+        Err(Fail::new(call))
     }
 }
 
 #[test]
-fn requests_of_one_turn_share_a_commit(rt: HostRuntime) {
+fn requests_of_one_turn_share_a_commit(rt: HostRuntime) -> Result<(), Fail> {
     for (burst, call, failure) in &REFRESHES {
-        expect_failure(&rt, *burst, *call, *failure);
+        expect_failure(&rt, *burst, *call, *failure)?;
     }
+    Ok(())
 }
 
 /// No datagram of a client: nothing, texts, headers that are cut or of another length, a channel of no allocation, and an
@@ -157,36 +150,43 @@ const STRANGE: [&[u8]; 8] = [
 const MAX_DATAGRAM: usize = 65_507;
 
 /// Sends a datagram, and a Binding request. Returns whether the request alone is answered.
-fn is_dropped<R: Host>(rt: &R, talk: &mut Talk<'_, R>, bytes: &[u8]) -> bool {
-    talk.client().send(bytes).expect(rt, "a datagram");
-    talk.turn(rt).expect(rt, "a turn");
-    let request = talk.client().plain_request(Method::BINDING);
-    let request = request.expect(rt, "a request");
-    talk.client().send(&request).expect(rt, "a datagram");
-    talk.turn(rt).expect(rt, "a turn");
-    let answer = talk.client().receive().expect(rt, "an answer");
+fn is_dropped(rt: &HostRuntime, talk: &mut Talk<'_>, bytes: &[u8]) -> Result<bool, ClientFault> {
+    talk.client().send(bytes)?;
+    talk.turn(rt)?;
+    let request = talk.client().plain_request(Method::BINDING)?;
+    talk.client().send(&request)?;
+    talk.turn(rt)?;
+    let answer = talk.client().receive()?;
     // The type of a Binding success, and the request's transaction id.
-    answer.get(..2) == Some(b"\x01\x01".as_slice()) && answer.get(8..20) == request.get(8..20)
+    Ok(answer.get(..2) == Some(b"\x01\x01".as_slice()) && answer.get(8..20) == request.get(8..20))
 }
 
-fn are_dropped<R: Host>(rt: &R, talk: &mut Talk<'_, R>) {
+fn are_dropped(rt: &HostRuntime, talk: &mut Talk<'_>, longest: &[u8]) -> Result<bool, ClientFault> {
     for bytes in &STRANGE {
-        if !is_dropped(rt, talk, bytes) {
-            panic!(rt; "{bytes:?}");
+        if !is_dropped(rt, talk, bytes)? {
+            return Ok(false);
         }
     }
-    assert!(rt; is_dropped(rt, talk, &filled(rt, 0, MAX_DATAGRAM)));
+    is_dropped(rt, talk, longest)
 }
 
-fn expect_dropped(rt: &impl Host) {
-    let mut talk = begun(rt, 0, PORTS, 1);
-    are_dropped(rt, &mut talk);
+fn expect_dropped(rt: &HostRuntime) -> Result<(), Fail> {
+    let longest = Vec::from_elem(rt.alloc(), 0u8, MAX_DATAGRAM)?;
+    let mut talk = begin(rt, 0, PORTS, 1)??;
+    let dropped = are_dropped(rt, &mut talk, &longest);
     talk.end();
+    if dropped? {
+        Ok(())
+    } else {
+        Err(Fail::new("another answer"))
+    }
 }
 
 #[test]
-fn a_datagram_of_no_client_is_dropped_and_the_next_is_answered(rt: HostRuntime) {
-    expect_dropped(&rt);
+fn a_datagram_of_no_client_is_dropped_and_the_next_is_answered(
+    rt: HostRuntime,
+) -> Result<(), Fail> {
+    expect_dropped(&rt)
 }
 
 /// The port after one of 63,011 to 63,013.
@@ -198,29 +198,33 @@ fn port_after(port: u16) -> u16 {
     }
 }
 
-/// Deletes the allocation, and makes another one. Returns its port.
-fn allocate_again<R: Host>(rt: &R, talk: &mut Talk<'_, R>) -> u16 {
-    talk.refresh(rt, 0).expect(rt, "a deletion");
-    talk.allocate(rt).expect(rt, "an allocation").port
+/// Whether allocations, each deleted before the next, get one port after the other.
+fn go_on(rt: &HostRuntime, talk: &mut Talk<'_>) -> Result<bool, ClientFault> {
+    talk.challenge(rt)?;
+    let mut port = talk.allocate(rt)?.port;
+    for _ in 0..3u8 {
+        talk.refresh(rt, 0)?;
+        let next = talk.allocate(rt)?.port;
+        if next != port_after(port) {
+            return Ok(false);
+        }
+        port = next;
+    }
+    Ok(true)
 }
 
-/// Allocations, each deleted before the next, get one port after the other.
-fn go_on<R: Host>(rt: &R, talk: &mut Talk<'_, R>) {
-    let mut port = allocate(rt, rt, talk);
-    for _ in 0..3u8 {
-        let next = allocate_again(rt, talk);
-        assert!(rt; next == port_after(port));
-        port = next;
+fn expect_ports(rt: &HostRuntime) -> Result<(), Fail> {
+    let mut talk = begin(rt, 0, (63_011, 63_013), 1)??;
+    let going = go_on(rt, &mut talk);
+    talk.end();
+    if going? {
+        Ok(())
+    } else {
+        Err(Fail::new("another port"))
     }
 }
 
-fn expect_ports(rt: &impl Host) {
-    let mut talk = begun(rt, 0, (63_011, 63_013), 1);
-    go_on(rt, &mut talk);
-    talk.end();
-}
-
 #[test]
-fn ports_go_on_after_the_last_one_and_wrap(rt: HostRuntime) {
-    expect_ports(&rt);
+fn ports_go_on_after_the_last_one_and_wrap(rt: HostRuntime) -> Result<(), Fail> {
+    expect_ports(&rt)
 }

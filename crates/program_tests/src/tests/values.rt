@@ -1,6 +1,7 @@
 //! Every form of a value.
 
-use super::{BINDING, FROM, Host, SUCCESS, USAGE, expect};
+use super::{BINDING, FROM, SUCCESS, USAGE, expect};
+use std::test::Fail;
 use turn_config::values::{endpoint, ip, moment, number};
 
 const NUMBERS: [(&str, Option<u64>); 15] = [
@@ -22,28 +23,31 @@ const NUMBERS: [(&str, Option<u64>); 15] = [
 ];
 
 #[test]
-fn a_number_is_1_to_20_digits(rt: HostRuntime) {
+fn a_number_is_1_to_20_digits(_rt: HostRuntime) -> Result<(), Fail> {
     for (text, value) in &NUMBERS {
         if number(text.as_bytes()) != *value {
-            panic!(rt; "{text}");
+            return Err(Fail::new(*text));
         }
     }
+    Ok(())
 }
 
 #[test]
-fn an_address_has_four_numbers_and_a_port(rt: HostRuntime) {
+fn an_address_has_four_numbers_and_a_port(rt: HostRuntime) -> Result<(), Fail> {
     assert!(rt; ip(b"192.0.2.1") == Some(0xC000_0201));
     assert!(rt; ip(b"192.0.2").is_none());
-    let read = endpoint(b"1.2.3.4:5").expect(&rt, "an endpoint");
+    let read = endpoint(b"1.2.3.4:5").ok_or("an endpoint")?;
     assert!(rt; read.ip == 0x0102_0304 && read.port == 5);
     assert!(rt; endpoint(b"1.2.3.4").is_none());
+    Ok(())
 }
 
 #[test]
-fn a_moment_is_below_2_to_the_40th_less_3600(rt: HostRuntime) {
-    let last = moment(b"1099511624175").expect(&rt, "a moment");
+fn a_moment_is_below_2_to_the_40th_less_3600(rt: HostRuntime) -> Result<(), Fail> {
+    let last = moment(b"1099511624175").ok_or("a moment")?;
     assert!(rt; last.seconds() == 1_099_511_624_175);
     assert!(rt; moment(b"1099511624176").is_none());
+    Ok(())
 }
 
 /// Endpoints, and port and address of the answer, masked.
@@ -56,18 +60,15 @@ const ENDPOINTS: [(&str, &str); 3] = [
     ),
 ];
 
-fn expect_address(rt: &impl Host, from: &str, address: &str) {
-    let out = format!(in rt.alloc();
-        "0101000c2112a4420102030405060708090a0b0c002000080001{address}\n"
-    ).expect(rt, "memory");
-    expect(rt, &["answer", "--from", from, BINDING], 0, &out, "");
-}
-
 #[test]
-fn endpoints_up_to_the_greatest_are_taken(rt: HostRuntime) {
+fn endpoints_up_to_the_greatest_are_taken(rt: HostRuntime) -> Result<(), Fail> {
     for (from, address) in &ENDPOINTS {
-        expect_address(&rt, from, address);
+        let out = format!(in rt.alloc();
+            "0101000c2112a4420102030405060708090a0b0c002000080001{address}\n"
+        )?;
+        expect(&rt, &["answer", "--from", from, BINDING], 0, &out, "")?;
     }
+    Ok(())
 }
 
 const NO_ENDPOINTS: [&str; 34] = [
@@ -108,10 +109,11 @@ const NO_ENDPOINTS: [&str; 34] = [
 ];
 
 #[test]
-fn a_malformed_endpoint_is_a_usage_fault(rt: HostRuntime) {
+fn a_malformed_endpoint_is_a_usage_fault(rt: HostRuntime) -> Result<(), Fail> {
     for from in &NO_ENDPOINTS {
-        expect(&rt, &["answer", "--from", from, BINDING], 1, "", USAGE);
+        expect(&rt, &["answer", "--from", from, BINDING], 1, "", USAGE)?;
     }
+    Ok(())
 }
 
 const MOMENTS: [&str; 4] = [
@@ -138,21 +140,28 @@ const NO_MOMENTS: [&str; 13] = [
 ];
 
 /// Each text as the value of `--at`, with a Binding request.
-fn expect_at(rt: &impl Host, texts: &[&str], status: u8, out: &str, err: &str) {
+fn expect_at(
+    rt: &HostRuntime,
+    texts: &[&str],
+    status: u8,
+    out: &str,
+    err: &str,
+) -> Result<(), Fail> {
     for at in texts {
         let words = ["answer", "--from", FROM, "--at", at, BINDING];
-        expect(rt, &words, status, out, err);
+        expect(rt, &words, status, out, err)?;
     }
+    Ok(())
 }
 
 #[test]
-fn moments_up_to_the_greatest_are_taken(rt: HostRuntime) {
-    expect_at(&rt, &MOMENTS, 0, SUCCESS, "");
+fn moments_up_to_the_greatest_are_taken(rt: HostRuntime) -> Result<(), Fail> {
+    expect_at(&rt, &MOMENTS, 0, SUCCESS, "")
 }
 
 #[test]
-fn a_malformed_moment_is_a_usage_fault(rt: HostRuntime) {
-    expect_at(&rt, &NO_MOMENTS, 1, "", USAGE);
+fn a_malformed_moment_is_a_usage_fault(rt: HostRuntime) -> Result<(), Fail> {
+    expect_at(&rt, &NO_MOMENTS, 1, "", USAGE)
 }
 
 const HEX: [&str; 2] = [
@@ -176,18 +185,25 @@ const NO_HEX: [&str; 12] = [
 ];
 
 /// Each text as the datagram.
-fn expect_hex(rt: &impl Host, texts: &[&str], status: u8, out: &str, err: &str) {
+fn expect_hex(
+    rt: &HostRuntime,
+    texts: &[&str],
+    status: u8,
+    out: &str,
+    err: &str,
+) -> Result<(), Fail> {
     for hex in texts {
-        expect(rt, &["answer", "--from", FROM, hex], status, out, err);
+        expect(rt, &["answer", "--from", FROM, hex], status, out, err)?;
     }
+    Ok(())
 }
 
 #[test]
-fn hex_digits_have_either_case(rt: HostRuntime) {
-    expect_hex(&rt, &HEX, 0, SUCCESS, "");
+fn hex_digits_have_either_case(rt: HostRuntime) -> Result<(), Fail> {
+    expect_hex(&rt, &HEX, 0, SUCCESS, "")
 }
 
 #[test]
-fn other_text_than_pairs_of_hex_digits_is_a_bad_datagram(rt: HostRuntime) {
-    expect_hex(&rt, &NO_HEX, 1, "", "turn: bad datagram\n");
+fn other_text_than_pairs_of_hex_digits_is_a_bad_datagram(rt: HostRuntime) -> Result<(), Fail> {
+    expect_hex(&rt, &NO_HEX, 1, "", "turn: bad datagram\n")
 }

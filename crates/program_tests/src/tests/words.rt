@@ -1,6 +1,7 @@
 //! Every form of a command line.
 
 use super::{BINDING, FROM, SUCCESS, USAGE, expect_each};
+use std::test::Fail;
 
 const TAKEN: [&[&str]; 7] = [
     &["answer", "--at", "5", "--from", FROM, BINDING],
@@ -13,8 +14,8 @@ const TAKEN: [&[&str]; 7] = [
 ];
 
 #[test]
-fn options_come_in_any_order(rt: HostRuntime) {
-    expect_each(&rt, &TAKEN, 0, SUCCESS, "");
+fn options_come_in_any_order(rt: HostRuntime) -> Result<(), Fail> {
+    expect_each(&rt, &TAKEN, 0, SUCCESS, "")
 }
 
 const HELP: [&[&str]; 16] = [
@@ -37,8 +38,8 @@ const HELP: [&[&str]; 16] = [
 ];
 
 #[test]
-fn help_and_version_are_usage_faults(rt: HostRuntime) {
-    expect_each(&rt, &HELP, 1, "", USAGE);
+fn help_and_version_are_usage_faults(rt: HostRuntime) -> Result<(), Fail> {
+    expect_each(&rt, &HELP, 1, "", USAGE)
 }
 
 const NO_COMMAND: [&[&str]; 10] = [
@@ -55,8 +56,8 @@ const NO_COMMAND: [&[&str]; 10] = [
 ];
 
 #[test]
-fn words_without_the_command_are_a_usage_fault(rt: HostRuntime) {
-    expect_each(&rt, &NO_COMMAND, 1, "", USAGE);
+fn words_without_the_command_are_a_usage_fault(rt: HostRuntime) -> Result<(), Fail> {
+    expect_each(&rt, &NO_COMMAND, 1, "", USAGE)
 }
 
 const MISSING_OR_TWICE: [&[&str]; 17] = [
@@ -80,8 +81,8 @@ const MISSING_OR_TWICE: [&[&str]; 17] = [
 ];
 
 #[test]
-fn a_missing_or_repeated_word_is_a_usage_fault(rt: HostRuntime) {
-    expect_each(&rt, &MISSING_OR_TWICE, 1, "", USAGE);
+fn a_missing_or_repeated_word_is_a_usage_fault(rt: HostRuntime) -> Result<(), Fail> {
+    expect_each(&rt, &MISSING_OR_TWICE, 1, "", USAGE)
 }
 
 const UNKNOWN: [&[&str]; 10] = [
@@ -98,8 +99,8 @@ const UNKNOWN: [&[&str]; 10] = [
 ];
 
 #[test]
-fn an_unknown_option_is_a_usage_fault(rt: HostRuntime) {
-    expect_each(&rt, &UNKNOWN, 1, "", USAGE);
+fn an_unknown_option_is_a_usage_fault(rt: HostRuntime) -> Result<(), Fail> {
+    expect_each(&rt, &UNKNOWN, 1, "", USAGE)
 }
 
 const FIRST_FAULT: [&[&str]; 4] = [
@@ -110,6 +111,6 @@ const FIRST_FAULT: [&[&str]; 4] = [
 ];
 
 #[test]
-fn a_malformed_option_comes_before_a_bad_datagram(rt: HostRuntime) {
-    expect_each(&rt, &FIRST_FAULT, 1, "", USAGE);
+fn a_malformed_option_comes_before_a_bad_datagram(rt: HostRuntime) -> Result<(), Fail> {
+    expect_each(&rt, &FIRST_FAULT, 1, "", USAGE)
 }

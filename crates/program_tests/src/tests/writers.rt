@@ -1,8 +1,10 @@
 //! Writers that fail.
 
 use super::replay::SCENARIO;
-use super::{BINDING, FROM, Host, SUCCESS, remove_file, write_file};
-use std::io::{self, ErrorKind, Write};
+use super::{BINDING, FROM, SUCCESS};
+use std::io::{ErrorKind, Write};
+use std::test::Fail;
+use std::{fs, io};
 use turn_program::run_words;
 
 /// A device with room for so many bytes, which takes at most `step` of them at once. If it buffers what it took until
@@ -36,7 +38,7 @@ impl Write for Device {
 }
 
 /// Runs `turn answer` with a datagram, over two devices: the status.
-fn answer(rt: &impl Host, datagram: &str, out: &mut Device, err: &mut Device) -> u8 {
+fn answer(rt: &HostRuntime, datagram: &str, out: &mut Device, err: &mut Device) -> u8 {
     let words = ["turn", "answer", "--from", FROM, datagram];
     run_words(rt, rt, &words, out, err)
 }
@@ -53,7 +55,7 @@ const CASES: [Case; 6] = [
     (65, 65, false, 3),
 ];
 
-fn is_printed(rt: &impl Host, case: &Case) -> bool {
+fn play(rt: &HostRuntime, case: &Case) -> Result<(), Fail> {
     let (room, step, flushes, status) = *case;
     let mut out = Device {
         bytes: Vec::new(rt.alloc()),
@@ -69,22 +71,25 @@ fn is_printed(rt: &impl Host, case: &Case) -> bool {
     };
     let got = answer(rt, BINDING, &mut out, &mut err);
     let said = if status == 0 { "" } else { "turn: device\n" };
-    got == status
-        && Some(out.bytes.as_slice()) == SUCCESS.as_bytes().get(..room)
-        && err.bytes.as_slice() == said.as_bytes()
+    if got != status
+        || Some(out.bytes.as_slice()) != SUCCESS.as_bytes().get(..room)
+        || err.bytes.as_slice() != said.as_bytes()
+    {
+        return Err(Fail::new(room));
+    }
+    Ok(())
 }
 
 #[test]
-fn a_full_standard_output_is_a_device_fault(rt: HostRuntime) {
+fn a_full_standard_output_is_a_device_fault(rt: HostRuntime) -> Result<(), Fail> {
     for case in &CASES {
-        if !is_printed(&rt, case) {
-            panic!(rt; "{case:?}");
-        }
+        play(&rt, case)?;
     }
+    Ok(())
 }
 
 /// The status of a datagram over two devices that take nothing.
-fn silent_status(rt: &impl Host, datagram: &str) -> u8 {
+fn silent_status(rt: &HostRuntime, datagram: &str) -> u8 {
     let mut out = Device {
         bytes: Vec::new(rt.alloc()),
         room: 0,
@@ -107,7 +112,7 @@ fn a_full_standard_error_changes_no_status(rt: HostRuntime) {
 }
 
 /// The status of a replay whose report has 15 bytes, over a device with room for so many that may flush.
-fn replay_status(rt: &impl Host, path: &str, room: usize, flushes: bool) -> u8 {
+fn replay_status(rt: &HostRuntime, path: &str, room: usize, flushes: bool) -> u8 {
     let mut out = Device {
         bytes: Vec::new(rt.alloc()),
         room,
@@ -119,12 +124,12 @@ fn replay_status(rt: &impl Host, path: &str, room: usize, flushes: bool) -> u8 {
 }
 
 #[test]
-fn a_report_that_is_not_taken_is_a_device_fault(rt: HostRuntime) {
+fn a_report_that_is_not_taken_is_a_device_fault(rt: HostRuntime) -> io::Result<()> {
     let path = "turn_replay.written";
-    write_file(&rt, path, SCENARIO.as_bytes());
+    fs::write(&rt, path, SCENARIO)?;
     assert!(rt; replay_status(&rt, path, 15, true) == 0);
     assert!(rt; replay_status(&rt, path, 14, true) == 3);
     assert!(rt; replay_status(&rt, path, 0, true) == 3);
     assert!(rt; replay_status(&rt, path, 15, false) == 3);
-    remove_file(&rt, path);
+    fs::remove_file(&rt, path)
 }
