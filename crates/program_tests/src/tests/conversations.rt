@@ -40,34 +40,28 @@ const STEPS: [Step; 12] = [
     Step::Refresh(0, 0),
 ];
 
+fn are_got(got: Result<Vec<u8>, ClientFault>, bytes: &[u8]) -> bool {
+    match got {
+        Ok(got) => got.as_slice() == bytes,
+        Err(_) => false,
+    }
+}
+
 /// Takes a step, and says whether what came of it is right.
-fn is_right(
-    rt: &HostRuntime,
-    talk: &mut Talk<'_>,
-    first: &Allocated,
-    step: Step,
-) -> Result<bool, ClientFault> {
+fn is_right(rt: &HostRuntime, talk: &mut Talk<'_>, first: &Allocated, step: Step) -> bool {
     let port = first.port;
     match step {
-        Step::Permit => {
-            talk.permit(rt)?;
-            Ok(true)
-        }
-        Step::Send(bytes) => Ok(talk.send(rt, port, bytes)?.as_slice() == bytes),
-        Step::Receive(bytes) => Ok(talk.receive(rt, port, bytes)?.as_slice() == bytes),
-        Step::Bind(number) => {
-            talk.bind(rt, number)?;
-            Ok(true)
-        }
-        Step::SendOver(number, bytes) => {
-            Ok(talk.send_over(rt, number, port, bytes)?.as_slice() == bytes)
-        }
+        Step::Permit => talk.permit(rt).is_ok(),
+        Step::Send(bytes) => are_got(talk.send(rt, port, bytes), bytes),
+        Step::Receive(bytes) => are_got(talk.receive(rt, port, bytes), bytes),
+        Step::Bind(number) => talk.bind(rt, number).is_ok(),
+        Step::SendOver(number, bytes) => are_got(talk.send_over(rt, number, port, bytes), bytes),
         Step::ReceiveOver(number, bytes) => {
-            Ok(talk.receive_over(rt, number, port, bytes)?.as_slice() == bytes)
+            are_got(talk.receive_over(rt, number, port, bytes), bytes)
         }
-        Step::Repeat => talk.repeat(rt, first),
-        Step::Refresh(seconds, granted) => Ok(talk.refresh(rt, seconds)? == granted),
-        Step::Challenge => Ok(talk.challenge(rt)? == 401),
+        Step::Repeat => talk.repeat(rt, first) == Ok(true),
+        Step::Refresh(seconds, granted) => talk.refresh(rt, seconds) == Ok(granted),
+        Step::Challenge => talk.challenge(rt) == Ok(401),
     }
 }
 
@@ -105,31 +99,25 @@ fn allocate(rt: &HostRuntime, talk: &mut Talk<'_>) -> Result<Allocated, Fail> {
     Ok(allocated)
 }
 
-/// Takes the steps from one place to another.
-fn take_steps(
-    rt: &HostRuntime,
-    talk: &mut Talk<'_>,
-    first: &Allocated,
-    steps: &[Step],
-) -> Result<(), Fail> {
-    for step in steps {
-        if !is_right(rt, talk, first, *step)? {
-            return Err(Fail::new("a step"));
-        }
-    }
-    Ok(())
+/// Whether all steps come out right.
+fn are_right(rt: &HostRuntime, talk: &mut Talk<'_>, first: &Allocated) -> bool {
+    STEPS.iter().all(|step| is_right(rt, talk, first, *step))
 }
 
 /// Each step comes out right in one conversation.
 fn expect_steps(rt: &HostRuntime, path: &str) -> Result<(), Fail> {
     let mut talk = begin(rt, path, 1)?;
-    let taken = match allocate(rt, &mut talk) {
-        Ok(first) => take_steps(rt, &mut talk, &first, &STEPS),
+    let right = match allocate(rt, &mut talk) {
+        Ok(first) => Ok(are_right(rt, &mut talk, &first)),
         Err(fail) => Err(fail),
     };
     talk.end();
     let _ = fs::remove_file(rt, path);
-    taken
+    if right? {
+        Ok(())
+    } else {
+        Err(Fail::new("a step"))
+    }
 }
 
 /// Takes a step of a server that was opened again.
@@ -141,13 +129,11 @@ fn take_again<'a>(
     step: Step,
 ) -> Result<Talk<'a>, Fail> {
     let mut talk = reopen(rt, talk, path)?;
-    match is_right(rt, &mut talk, first, step) {
-        Ok(true) => Ok(talk),
-        _ => {
-            talk.end();
-            Err(Fail::new("a step"))
-        }
+    if is_right(rt, &mut talk, first, step) {
+        return Ok(talk);
     }
+    talk.end();
+    Err(Fail::new("a step"))
 }
 
 /// Takes all steps, each of a server that was opened again.

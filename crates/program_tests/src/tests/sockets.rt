@@ -230,29 +230,27 @@ fn call(client: &TimedSocket) {
 }
 
 /// Serves while a client calls: what is printed, or nothing after a fault.
-fn serve<'x>(
-    rt: &HostRuntime,
-    client: &TimedSocket,
-    turns: &'x str,
-    burst: &'x str,
-) -> Result<Option<Vec<u8>>, Fail> {
-    let mut words = vec![in rt.alloc();
+fn serve(rt: &HostRuntime, client: &TimedSocket, turns: &str, burst: &str) -> Option<Vec<u8>> {
+    let words: [&str; 10] = [
         "turn",
         "serve",
         "--config",
         "turn_sockets.conf",
         "--store",
         "turn_sockets.store",
-    ]?;
-    words.extend_from_slice(&["--turns", turns, "--burst", burst])?;
+        "--turns",
+        turns,
+        "--burst",
+        burst,
+    ];
     let mut out = Caller {
         client,
         called: false,
         printed: Vec::new(rt.alloc()),
     };
     let mut err = Vec::new(rt.alloc());
-    let status = run_words(rt, rt, words.as_slice(), &mut out, &mut err);
-    Ok(if status == 0 { Some(out.printed) } else { None })
+    let status = run_words(rt, rt, &words, &mut out, &mut err);
+    if status == 0 { Some(out.printed) } else { None }
 }
 
 /// How many Binding successes a socket has got by now.
@@ -281,7 +279,7 @@ fn expect_served(rt: &HostRuntime, row: &(&str, &str, u8)) -> Result<(), Fail> {
     fs::write(rt, "turn_sockets.store", fresh(rt.alloc())?)?;
     let any = Endpoint { ip: HOME, port: 0 };
     let mut client = TimedSocket::open(rt.alloc(), rt, any)?;
-    let printed = serve(rt, &client, turns, burst)?;
+    let printed = serve(rt, &client, turns, burst);
     fs::remove_file(rt, "turn_sockets.conf")?;
     fs::remove_file(rt, "turn_sockets.store")?;
     let expected = format!(in rt.alloc(); "listening 127.0.0.1:63021\nserved {turns} turns\n")?;

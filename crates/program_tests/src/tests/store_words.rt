@@ -2,7 +2,6 @@
 
 use super::{USAGE, expect_each};
 use std::test::Fail;
-use turn_program::run_words;
 
 /// Words that make a command over files that are absent.
 const TAKEN: [&[&str]; 11] = [
@@ -50,23 +49,9 @@ const TAKEN: [&[&str]; 11] = [
     ],
 ];
 
-fn play(rt: &HostRuntime, words: &[&str]) -> Result<(), Fail> {
-    let mut line = vec![in rt.alloc(); "turn"]?;
-    line.extend_from_slice(words)?;
-    let (mut out, mut err) = (Vec::new(rt.alloc()), Vec::new(rt.alloc()));
-    let status = run_words(rt, rt, line.as_slice(), &mut out, &mut err);
-    if status != 3 || !out.is_empty() || err.as_slice() != b"turn: device\n".as_slice() {
-        return Err(Fail::new(format_args!("{words:?}")));
-    }
-    Ok(())
-}
-
 #[test]
 fn good_words_come_to_the_files(rt: HostRuntime) -> Result<(), Fail> {
-    for words in &TAKEN {
-        play(&rt, words)?;
-    }
-    Ok(())
+    expect_each(&rt, &TAKEN, 3, "", "turn: device\n")
 }
 
 const MISSING_OR_TWICE: [&[&str]; 22] = [
