@@ -12,7 +12,7 @@ use Rattle.turn_record.proofs.Kept.{snapshot-purged, snapshot-applied}
 use Rattle.turn_record.specs.Bytes as bytes
 use Rattle.turn_record.specs.Records.{IsSnapshot}
 use Rattle.turn_step.specs.Outcome.{Change, added, event_at}
-use Rattle.turn_step.specs.State.{CountsOne, IsAfter, IsPurged, MachineState, MayBeNext, changed}
+use Rattle.turn_step.specs.State.{CountsOne, IsAfter, IsPurged, KeepsSetting, MachineState, MayBeNext, changed}
 use Rattle.turn_store.specs.State.{RestsAt}
 use Rattle.turn_table.specs.State.{State}
 use Rattle.turn_table.specs.Table.{Agrees}
@@ -76,6 +76,13 @@ sound_changed b limits store batch larger acts more arrivals t old new change is
 
 pub counts_same : (old mid new : ℕ) → CountsOne old mid → new ≡ mid → CountsOne old new
 counts_same old mid new counts same = subst (λ (n : ℕ). CountsOne old n) (sym same) counts
+
+pub keeps_both : {H G : Type 0} (range : G → ℕ × ℕ) (old mid new : MachineState H G) → KeepsSetting range old mid → KeepsSetting range mid new → KeepsSetting range old new
+keeps_both range old mid new first second = record {
+  config = second.config ∙ first.config;
+  handler = second.handler ∙ first.handler;
+  range_is = second.range_is ∙ first.range_is;
+}
 
 -- ---- What it rests on
 

@@ -340,6 +340,16 @@ impl<D: Disk, H: AuthHandler, G: RelayAddressGenerator, A: Allocator + Copy> Ser
         }
     }
 
+    // Returns what is staged, in order, and empties the batch.
+    fn hand_out(&mut self) -> Vec<Outgoing<A>, A>
+        ensures handed { map sent_of result.items ≡ self.old.outs }
+        ensures emptied { self.new ≡ emptied self.old self.old.store }
+    {
+        self.batch.clear();
+        self.arrivals = 0;
+        mem::replace(&mut self.outgoing, Vec::new(self.alloc))
+    }
+
     /// Writes the acts that were accepted since the last commit, and returns what is to be sent, in order.
     pub fn commit(&mut self) -> Result<Vec<Outgoing<A>, A>, StoreFault>
         ensures handed { IfOk result (λ outs. map sent_of outs.items ≡ self.old.outs) }
@@ -376,13 +386,8 @@ impl<D: Disk, H: AuthHandler, G: RelayAddressGenerator, A: Allocator + Copy> Ser
         // All of this as one record, of which the laws of runs speak.
         ensures call { Commits D.Disk self.old self.new (result_map_both (λ outs. map sent_of outs.items) (λ fault. fault) result) }
     {
-        match self.write() {
-            Ok(()) => {}
-            Err(fault) => return Err(fault),
-        }
-        self.batch.clear();
-        self.arrivals = 0;
-        Ok(mem::replace(&mut self.outgoing, Vec::new(self.alloc)))
+        self.write()?;
+        Ok(self.hand_out())
     }
 
     /// The moment of the last arrival that was taken or refused for memory; after an opening the latest one in the store.

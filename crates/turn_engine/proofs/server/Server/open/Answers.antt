@@ -1,4 +1,4 @@
-use Rattle.std.proofs.Common.{rules, ◌≡◌, ◌∷◌, [], List, map, take, sym, ap, ◌∙◌, subst}
+use Rattle.std.proofs.Common.{rules, ◌≡◌, ◌↔◌, refl, ◌∷◌, [], List, map, take, sym, ap, ◌∙◌, subst}
 use Rattle.turn_disk.specs.Disk.{EachImageSince}
 use Rattle.turn_step.specs.Outcome.{Sent}
 use Rattle.turn_step.specs.Views.{sent_of}
@@ -78,46 +78,46 @@ returns-in-Ok-new-clause-nothing g c =
     ap (opened outs) c.in-Ok-Ok.ensures' ∙ ap (λ (l : List _). opened (map sent_of l) (record { bounds = c.limits-limits.result; payload = 0 ∷ []; acts = 0 })) c.new-in-Ok-new.ensures.items
 
 pub returns-in-Ok-new-clause-runs : goal.returns-in-Ok-new-clause-runs
-returns-in-Ok-new-clause-runs g c = search rules
+returns-in-Ok-new-clause-runs g c = c.in-Ok.ensures.runs
 
 pub returns-in-Ok-new-clause-honest : goal.returns-in-Ok-new-clause-honest
 returns-in-Ok-new-clause-honest g c = c.in-Ok.ensures.honest
 
 pub returns-in-Err-clause-returned : goal.returns-in-Err-clause-returned
-returns-in-Err-clause-returned g c = search rules
+returns-in-Err-clause-returned g c = (refl, refl)
 
 pub returns-in-Err-clause-honest_err : goal.returns-in-Err-clause-honest_err
-returns-in-Err-clause-honest_err g c = search rules
+returns-in-Err-clause-honest_err g c = c.in-Err.ensures.honest_err
 
 pub returns-in-Err-clause-device : goal.returns-in-Err-clause-device
-returns-in-Err-clause-device g c = search rules
+returns-in-Err-clause-device g c = c.in-Err.ensures.device
 
 pub returns-in-Err-new-clause-returned : goal.returns-in-Err-new-clause-returned
-returns-in-Err-new-clause-returned g c = search rules
+returns-in-Err-new-clause-returned g c = (ap (λ p. p.handler) c.in-Err-new.ensures.err, ap (λ p. p.ports) c.in-Err-new.ensures.err)
 
 pub returns-in-Err-new-clause-honest_err : goal.returns-in-Err-new-clause-honest_err
-returns-in-Err-new-clause-honest_err g c = search rules
+returns-in-Err-new-clause-honest_err g c = subst (λ d. g.D.Disk.is_honest d ↔ g.D.Disk.is_honest c.args.disk) (sym c.into_disk.ensures) c.in-Ok.ensures.honest
 
 pub returns-in-Err-new-clause-device : goal.returns-in-Err-new-clause-device
-returns-in-Err-new-clause-device g c = search rules
+returns-in-Err-new-clause-device g c = λ e. cc
 
 pub returns-in-Err-new-clause-sound : goal.returns-in-Err-new-clause-sound
 returns-in-Err-new-clause-sound g c = search rules
 
 pub returns-in-Ok-new-clause-count : goal.returns-in-Ok-new-clause-count
-returns-in-Ok-new-clause-count g c = search rules
+returns-in-Ok-new-clause-count g c = c.in-Ok.ensures.count
 
 pub returns-in-Ok-new-clause-same : goal.returns-in-Ok-new-clause-same
 returns-in-Ok-new-clause-same g c = c.in-Ok.ensures.same
 
 pub returns-in-Err-clause-count_not : goal.returns-in-Err-clause-count_not
-returns-in-Err-clause-count_not g c = search rules
+returns-in-Err-clause-count_not g c = c.in-Err.ensures.count_not
 
 pub returns-in-Err-clause-same_err : goal.returns-in-Err-clause-same_err
-returns-in-Err-clause-same_err g c = search rules
+returns-in-Err-clause-same_err g c = c.in-Err.ensures.same_err
 
 pub returns-in-Err-new-clause-count_not : goal.returns-in-Err-new-clause-count_not
-returns-in-Err-new-clause-count_not g c = search rules
+returns-in-Err-new-clause-count_not g c = λ _. ap g.D.Disk.failed c.into_disk.ensures ∙ c.in-Ok.ensures.count
 
 pub returns-in-Err-new-clause-why : goal.returns-in-Err-new-clause-why
 returns-in-Err-new-clause-why g c = search rules

@@ -3,14 +3,14 @@ use Rattle.std.specs.Option.{option_to_list}
 use Rattle.turn_ports.specs.Ports.{has_failed}
 use Rattle.turn_step.specs.Answer.{AnswersArrival}
 use Rattle.turn_step.specs.Outcome.{added}
-use Rattle.turn_step.specs.State.{CountsOne, IsAfter, IsPurged, setting_of}
+use Rattle.turn_step.specs.State.{CountsOne, IsAfter, IsPurged, KeepsSetting, setting_of}
 use Rattle.turn_step.specs.Views.{arrival_of, sent_of}
 use Rattle.turn_types.specs.Config.{Config}
 use Rattle.turn_table.specs.State.{State}
 use Rattle.turn_engine.proofs.Lists.{room_for_one, when_ok}
-use Rattle.turn_engine.proofs.Taken.{after_same, counts_same, moment_changed, rests_later, rests_taken, sound_changed, sound_later}
+use Rattle.turn_engine.proofs.Taken.{after_same, counts_same, keeps_both, moment_changed, rests_later, rests_taken, sound_changed, sound_later}
 use Rattle.turn_types.specs.declared.limits.Bounds.{Bounds}
-use Rattle.turn_engine.specs.State.{limits_of, now_of}
+use Rattle.turn_engine.specs.State.{ServerState, limits_of, now_of}
 use Rattle.turn_engine.proofs.server.Server.take.Goals as goal
 
 pub invariant_of-self : goal.invariant_of-self
@@ -103,3 +103,45 @@ returns-then-is_err-clause-memory_table g c =
 pub returns-clause-clock : goal.returns-clause-clock
 returns-clause-clock g c =
     ap (λ (s : State). s.moment) c.apply-datagram.ensures.table ∙ moment_changed c.prepare.new.self.table c.in-Ok.step.change ∙ c.prepare.ensures.table.moment
+
+pub returns-in-Err-clause-store : goal.returns-in-Err-clause-store
+returns-in-Err-clause-store g c = ap (λ s. s.store) c.self.view_is
+
+pub returns-in-Err-clause-setting : goal.returns-in-Err-clause-setting
+returns-in-Err-clause-setting g c = subst (λ s. KeepsSetting g.G.RelayAddressGenerator.range s.machine c.prepare.new.self) c.self.view_is c.prepare.ensures.setting
+
+pub returns-in-Err-clause-count : goal.returns-in-Err-clause-count
+returns-in-Err-clause-count g c =
+    let failures = g.G.RelayAddressGenerator.failures in
+    subst (λ s. CountsOne (failures s.machine.ports) (failures c.prepare.new.self.ports)) c.self.view_is c.prepare.ensures.count
+
+pub returns-in-Err-clause-memory : goal.returns-in-Err-clause-memory
+returns-in-Err-clause-memory g c = ap (λ (s : ServerState _ _ _). record s { machine = c.prepare.new.self }) c.self.view_is
+
+pub returns-then-is_err-clause-store : goal.returns-then-is_err-clause-store
+returns-then-is_err-clause-store g c = ap (λ s. s.store) c.self.view_is
+
+pub returns-then-is_err-clause-setting : goal.returns-then-is_err-clause-setting
+returns-then-is_err-clause-setting g c =
+    subst (λ s. KeepsSetting g.G.RelayAddressGenerator.range s.machine c.abandon.new.self) c.self.view_is (keeps_both _ _ _ _ c.prepare.ensures.setting c.abandon.ensures.setting)
+
+pub returns-then-is_err-clause-count : goal.returns-then-is_err-clause-count
+returns-then-is_err-clause-count g c =
+    let failures = g.G.RelayAddressGenerator.failures in
+    counts_same _ (failures c.prepare.new.self.ports) _ (subst (λ s. CountsOne (failures s.machine.ports) (failures c.prepare.new.self.ports)) c.self.view_is c.prepare.ensures.count)
+    c.abandon.ensures.count
+
+pub returns-then-is_err-clause-memory : goal.returns-then-is_err-clause-memory
+returns-then-is_err-clause-memory g c =
+    ap (λ o. record { store = c.self.inside.store; machine = c.abandon.new.self; payload = c.self.inside.batch.payload; acts = c.self.inside.batch.acts; outs = map sent_of o; arrivals = c.self.inside.arrivals }) c.reserve.ensures.items
+    ∙ ap (λ (s : ServerState _ _ _). record s { machine = c.abandon.new.self }) c.self.view_is
+
+pub returns-clause-store : goal.returns-clause-store
+returns-clause-store g c = ap (λ s. s.store) c.self.view_is
+
+pub returns-clause-setting : goal.returns-clause-setting
+returns-clause-setting g c =
+    subst (λ s. KeepsSetting g.G.RelayAddressGenerator.range s.machine c.apply-datagram.new.self) c.self.view_is (keeps_both _ _ _ _ c.prepare.ensures.setting c.apply-datagram.ensures.setting)
+
+pub returns-clause-arrivals : goal.returns-clause-arrivals
+returns-clause-arrivals g c = ap (λ s. s.arrivals + 1) c.self.view_is
