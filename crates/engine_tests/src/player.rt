@@ -4,7 +4,9 @@ use crate::row::{REQUEST, Row, SUCCESS, Sent};
 use crate::same::{are_live, are_sent, has_at};
 use crate::setup::{Setup, made};
 use refusing::Refusing;
-use requests_for_tests::{FIRST, ID, Ports, five_tuple, nonce_of, signed, users};
+use requests_for_tests::{
+    Attribute, FIRST, ID, Kind, Ports, User, five_tuple, nonce_of, signed, users,
+};
 use std::alloc::{Allocator, Global};
 use std::process::Abort;
 use turn_cred::Users;
@@ -143,14 +145,27 @@ impl<A: Allocator + Copy> Player<A> {
         }
     }
 
+    /// Submits a user's request from a client at a second, with the nonce of that second.
+    fn ask(
+        &mut self,
+        rt: &impl Abort,
+        second: u64,
+        user: User,
+        client: Endpoint,
+        kind: Kind,
+        attributes: &[Attribute],
+    ) -> Result<(), SubmitRefused> {
+        let nonce = made(rt, nonce_of(second, client), "a nonce");
+        let signed = signed(self.alloc, user, kind, &nonce, attributes);
+        let bytes = made(rt, signed, "a request");
+        self.submit_at(rt, second, &of_client(client, &bytes))
+    }
+
     /// Submits the arrival of a row.
     pub fn submit(&mut self, rt: &impl Abort, row: &Row) -> Result<(), SubmitRefused> {
         match row {
             Row::Ask(second, user, client, kind, attributes) => {
-                let nonce = made(rt, nonce_of(*second, *client), "a nonce");
-                let signed = signed(self.alloc, *user, *kind, &nonce, attributes);
-                let bytes = made(rt, signed, "a request");
-                self.submit_at(rt, *second, &of_client(*client, &bytes))
+                self.ask(rt, *second, *user, *client, *kind, attributes)
             }
             Row::Client(second, client, bytes) | Row::Full(second, client, bytes) => {
                 self.submit_at(rt, *second, &of_client(*client, bytes))

@@ -66,33 +66,64 @@ const ASKED: &[Row] = &[
     Row::Commit(&[Sent::Code(SECOND, 437)]),
 ];
 
+/// What is done before.
+#[derive(Clone, Copy)]
+enum Before {
+    Asked,
+    Both,
+    Permitted,
+    Bound,
+    FourStaged,
+}
+
+impl Before {
+    fn rows(self) -> &'static [Row] {
+        match self {
+            Before::Asked => ASKED,
+            Before::Both => BOTH,
+            Before::Permitted => PERMITTED,
+            Before::Bound => BOUND,
+            Before::FourStaged => FOUR_STAGED,
+        }
+    }
+}
+
 /// What is done before, and the request at second 1001 whose growths are refused.
-const GROWTHS: [(&[Row], Row); 8] = [
-    (ASKED, BOBS),
-    (BOTH, BOBS),
-    (PERMITTED, BOBS),
-    (BOTH, REFRESH),
-    (FOUR_STAGED, REFRESH),
-    (BOUND, Row::Ask(1001, ALICE, FIRST, Kind::Refresh, &[ZERO])),
+const GROWTHS: [(Before, Row); 8] = [
+    (Before::Asked, BOBS),
+    (Before::Both, BOBS),
+    (Before::Permitted, BOBS),
+    (Before::Both, REFRESH),
+    (Before::FourStaged, REFRESH),
     (
-        BOTH,
+        Before::Bound,
+        Row::Ask(1001, ALICE, FIRST, Kind::Refresh, &[ZERO]),
+    ),
+    (
+        Before::Both,
         Row::Ask(1001, ALICE, FIRST, Kind::CreatePermission, &[PEER]),
     ),
     (
-        PERMITTED,
+        Before::Permitted,
         Row::Ask(1001, ALICE, FIRST, Kind::ChannelBind, &[LOWEST, PEER]),
     ),
 ];
 
 /// The same of data that is relayed, with the number of its growths: one for the datagram, and the first of a batch has one
 /// more, for the list of the batch.
-const DATA_GROWTHS: [((&[Row], Row), u64); 6] = [
-    ((PERMITTED, Row::Client(1001, FIRST, SEND)), 1),
-    ((BOUND, Row::Client(1001, FIRST, SEND)), 2),
-    ((BOUND, Row::Client(1001, FIRST, ABC)), 2),
-    ((PERMITTED, Row::Peer(1001, PEER_ENDPOINT, b"hello")), 1),
-    ((BOUND, Row::Peer(1001, PEER_ENDPOINT, b"abc")), 2),
-    ((FOUR_STAGED, Row::Peer(1001, PEER_ENDPOINT, b"abc")), 1),
+const DATA_GROWTHS: [((Before, Row), u64); 6] = [
+    ((Before::Permitted, Row::Client(1001, FIRST, SEND)), 1),
+    ((Before::Bound, Row::Client(1001, FIRST, SEND)), 2),
+    ((Before::Bound, Row::Client(1001, FIRST, ABC)), 2),
+    (
+        (Before::Permitted, Row::Peer(1001, PEER_ENDPOINT, b"hello")),
+        1,
+    ),
+    ((Before::Bound, Row::Peer(1001, PEER_ENDPOINT, b"abc")), 2),
+    (
+        (Before::FourStaged, Row::Peer(1001, PEER_ENDPOINT, b"abc")),
+        1,
+    ),
 ];
 
 /// Whether two servers have the same table at the same moment, and each holds the ports of its allocations.
@@ -141,11 +172,11 @@ fn is_refused<A: Allocator + Copy>(
     refusing: &Refusing<Global>,
     player: &mut Player<A>,
     other: &mut Player<A>,
-    (before, row): &(&[Row], Row),
+    (before, row): &(Before, Row),
     served: u64,
 ) -> bool {
-    player.play(rt, before);
-    other.play(rt, before);
+    player.play(rt, before.rows());
+    other.play(rt, before.rows());
     let was_refused = player.lacks_memory(rt, refusing, row, served);
     if was_refused {
         go_on(rt, player, other, row);
@@ -154,7 +185,7 @@ fn is_refused<A: Allocator + Copy>(
 }
 
 /// The same of two new servers.
-fn is_refused_at_first(rt: &impl Abort, alloc: Global, rows: &(&[Row], Row), served: u64) -> bool {
+fn is_refused_at_first(rt: &impl Abort, alloc: Global, rows: &(Before, Row), served: u64) -> bool {
     let refusing = Refusing::new(alloc, u64::MAX);
     let mut player = Player::new(rt, &refusing, alloc, &LARGE);
     let mut other = Player::new(rt, &refusing, alloc, &LARGE);
@@ -162,7 +193,7 @@ fn is_refused_at_first(rt: &impl Abort, alloc: Global, rows: &(&[Row], Row), ser
 }
 
 /// How many growths an arrival takes, each of which is refused once.
-fn growths_of(rt: &impl Abort, alloc: Global, rows: &(&[Row], Row)) -> u64 {
+fn growths_of(rt: &impl Abort, alloc: Global, rows: &(Before, Row)) -> u64 {
     for served in 0..32u64 {
         if !is_refused_at_first(rt, alloc, rows, served) {
             return served;

@@ -8,6 +8,7 @@ use std::process::Abort;
 use turn_codec::Message;
 use turn_step::Outgoing;
 use turn_table::{Entry, Table};
+use turn_types::FiveTuple;
 
 /// Whether a datagram is a response with this code.
 fn has_code(rt: &impl Abort, bytes: &[u8], code: u16) -> bool {
@@ -49,12 +50,18 @@ pub fn are_sent<A: Allocator>(rt: &impl Abort, outs: &[Outgoing<A>], wanted: &[S
     outs.len() == wanted.len()
 }
 
+fn is_live<A: Allocator + Copy>(found: (FiveTuple, &Entry<A>), wanted: &Live) -> bool {
+    let ((tuple, entry), (client, port, expiry)) = (found, wanted);
+    tuple == five_tuple(*client) && (entry.port(), entry.expiry()) == (*port, *expiry)
+}
+
 /// Whether a table has these allocations and no others, in this order.
 pub fn are_live<A: Allocator + Copy>(table: &Table<A>, wanted: &[Live]) -> bool {
     table.len() == wanted.len()
-        && table.entries().zip(wanted.iter()).all(|((tuple, entry), (client, port, expiry))| {
-            tuple == five_tuple(*client) && (entry.port(), entry.expiry()) == (*port, *expiry)
-        })
+        && table
+            .entries()
+            .zip(wanted.iter())
+            .all(|(found, wanted)| is_live(found, wanted))
 }
 
 /// Whether two datagrams go to the same address by the same bytes.
@@ -101,9 +108,8 @@ fn is_same_entry<A: Allocator + Copy>(first: &Entry<A>, second: &Entry<A>) -> bo
 pub fn is_same_table<A: Allocator + Copy>(first: &Table<A>, second: &Table<A>) -> bool {
     first.moment() == second.moment()
         && first.len() == second.len()
-        && first.entries().zip(second.entries()).all(|((tuple, entry), (other, other_entry))| {
-            tuple == other && is_same_entry(entry, other_entry)
-        })
+        && first.entries().zip(second.entries()).all(|(first, second)| first.0 == second.0
+            && is_same_entry(first.1, second.1))
 }
 
 /// Whether bytes have these from a position on.

@@ -90,12 +90,12 @@ pub returns-clause-rest : goal.returns-clause-rest
 returns-clause-rest g c = ap (λ (s : ServerState _ _ _). record s { store = c.append.new.self }) c.self.view_is
 
 pub returns-clause-runs : goal.returns-clause-runs
-returns-clause-runs g c = 
+returns-clause-runs g c =
     let kept = runs_kept c.self.inside.store c.append.new.self _ _ c.append.result c.append.ensures.framed c.append.ensures.compacted (sym c.is_stopped.ensures ∙ c.if-is_stopped.false) in
-    elim c.match-append.branch [ | in-Ok w ↦ rw w.result-is (rw w.in-Ok.is at kept) | in-Err w ↦ rw w.result-is tt ]
+    elim c.match-append.branch [ in-Ok w ↦ rw w.result-is (rw w.in-Ok.is at kept) | in-Err w ↦ rw w.result-is tt ]
 
 pub returns-clause-stopped : goal.returns-clause-stopped
-returns-clause-stopped g c = 
+returns-clause-stopped g c =
     let runs = sym c.is_stopped.ensures ∙ c.if-is_stopped.false in
     elim c.match-append.branch [
       | in-Ok w ↦ rw (w.result-is, ← c.self.view_is) (λ e. cc, λ is. cc)
@@ -106,7 +106,7 @@ pub returns-clause-nothing : goal.returns-clause-nothing
 returns-clause-nothing g c = λ runs none. absurd (omega (arith, none, some_acts c.acts.result _ (c.acts.ensures.value ∙ ap (λ s. s.acts) c.self.view_is) c.if-acts-eq0.false))
 
 pub returns-clause-count : goal.returns-clause-count
-returns-clause-count g c = elim c.match-append.branch [ | in-Ok w ↦ rw (w.result-is, ← c.self.view_is) w.in-Ok.ensures.count | in-Err w ↦ rw w.result-is tt ]
+returns-clause-count g c = elim c.match-append.branch [ in-Ok w ↦ rw (w.result-is, ← c.self.view_is) w.in-Ok.ensures.count | in-Err w ↦ rw w.result-is tt ]
 
 pub returns-clause-device : goal.returns-clause-device
 returns-clause-device g c = elim c.match-append.branch [
@@ -115,7 +115,7 @@ returns-clause-device g c = elim c.match-append.branch [
 ]
 
 pub returns-clause-worn : goal.returns-clause-worn
-returns-clause-worn g c = 
+returns-clause-worn g c =
     let some = some_acts c.acts.result _ c.acts.ensures.value c.if-acts-eq0.false in
     let worn = rw c.payload.ensures.value at c.append.ensures.worn in
     elim c.match-append.branch [
