@@ -1,8 +1,8 @@
-use Rattle.std.proofs.Common.{◌≡◌, ◌≤◌, ◌+◌, ◌++◌, ℕ, length, map, option_map, sym, ap, ◌∙◌, subst, arith}
+use Rattle.std.proofs.Common.{◌≡◌, ◌≤◌, ◌+◌, ◌++◌, ℕ, List, length, map, option_map, sym, ap, ◌∙◌, subst, arith}
 use Rattle.std.specs.Option.{option_to_list}
 use Rattle.turn_ports.specs.Ports.{has_failed}
 use Rattle.turn_step.specs.Answer.{AnswersArrival}
-use Rattle.turn_step.specs.Outcome.{added}
+use Rattle.turn_step.specs.Outcome.{Sent, added}
 use Rattle.turn_step.specs.State.{CountsOne, IsAfter, IsPurged, KeepsSetting, setting_of}
 use Rattle.turn_step.specs.Views.{arrival_of, sent_of}
 use Rattle.turn_types.specs.Config.{Config}
@@ -19,6 +19,26 @@ invariant_of-self g c =
     sound_later _ _ _ _ _ _ c.args.moment c.self.inside.machine.table c.prepare.new.self.table c.seconds.ensures.range le c.prepare.ensures.table
     (ap (λ (x : Config). x.limits) c.prepare.ensures.setting.config) c.self.invariant
 
+pub returns-in-Err-clause-store : goal.returns-in-Err-clause-store
+returns-in-Err-clause-store g c = ap (λ s. s.store) c.self.view_is
+
+pub returns-in-Err-clause-clock : goal.returns-in-Err-clause-clock
+returns-in-Err-clause-clock g c = c.prepare.ensures.table.moment
+
+pub returns-in-Err-clause-setting : goal.returns-in-Err-clause-setting
+returns-in-Err-clause-setting g c = subst (λ s. KeepsSetting g.G.RelayAddressGenerator.range s.machine c.prepare.new.self) c.self.view_is c.prepare.ensures.setting
+
+pub returns-in-Err-clause-count : goal.returns-in-Err-clause-count
+returns-in-Err-clause-count g c =
+    let failures = g.G.RelayAddressGenerator.failures in
+    subst (λ s. CountsOne (failures s.machine.ports) (failures c.prepare.new.self.ports)) c.self.view_is c.prepare.ensures.count
+
+pub returns-in-Err-clause-memory : goal.returns-in-Err-clause-memory
+returns-in-Err-clause-memory g c = ap (λ (s : ServerState _ _ _). record s { machine = c.prepare.new.self }) c.self.view_is
+
+pub returns-in-Err-clause-memory_table : goal.returns-in-Err-clause-memory_table
+returns-in-Err-clause-memory_table g c = subst (λ s. IsPurged c.args.moment s.machine.table c.prepare.new.self.table) c.self.view_is c.prepare.ensures.table
+
 pub returns-in-Err-clause-memory_rests : goal.returns-in-Err-clause-memory_rests
 returns-in-Err-clause-memory_rests g c = λ h k rests.
     let moment = c.prepare.ensures.table.moment in
@@ -30,6 +50,39 @@ invariant_of-self-then-is_err g c =
     let le = subst (λ s. now_of s ≤ c.args.moment) (sym c.self.view_is) c.requires.clock in
     rw c.abandon.ensures.table (sound_later _ _ _ _ _ _ c.args.moment c.self.inside.machine.table c.prepare.new.self.table c.seconds.ensures.range le c.prepare.ensures.table
     (ap (λ (x : Config). x.limits) (c.abandon.ensures.setting.config ∙ c.prepare.ensures.setting.config)) c.self.invariant)
+
+pub returns-then-is_err-clause-store : goal.returns-then-is_err-clause-store
+returns-then-is_err-clause-store g c = ap (λ s. s.store) c.self.view_is
+
+pub returns-then-is_err-clause-clock : goal.returns-then-is_err-clause-clock
+returns-then-is_err-clause-clock g c = ap (λ (s : State). s.moment) c.abandon.ensures.table ∙ c.prepare.ensures.table.moment
+
+pub returns-then-is_err-clause-setting : goal.returns-then-is_err-clause-setting
+returns-then-is_err-clause-setting g c =
+    subst (λ s. KeepsSetting g.G.RelayAddressGenerator.range s.machine c.abandon.new.self) c.self.view_is (keeps_both _ _ _ _ c.prepare.ensures.setting c.abandon.ensures.setting)
+
+pub returns-then-is_err-clause-count : goal.returns-then-is_err-clause-count
+returns-then-is_err-clause-count g c =
+    let failures = g.G.RelayAddressGenerator.failures in
+    counts_same _ (failures c.prepare.new.self.ports) _ (subst (λ s. CountsOne (failures s.machine.ports) (failures c.prepare.new.self.ports)) c.self.view_is c.prepare.ensures.count)
+    c.abandon.ensures.count
+
+pub returns-then-is_err-clause-memory : goal.returns-then-is_err-clause-memory
+returns-then-is_err-clause-memory g c =
+    let inside = c.self.inside in
+    let with : List Sent → ServerState _ _ _ = λ outs. record {
+      store = inside.store;
+      machine = c.abandon.new.self;
+      payload = inside.batch.payload;
+      acts = inside.batch.acts;
+      outs = outs;
+      arrivals = inside.arrivals;
+    } in
+    ap (λ l. with (map sent_of l)) c.reserve.ensures.items ∙ ap (λ (s : ServerState _ _ _). record s { machine = c.abandon.new.self }) c.self.view_is
+
+pub returns-then-is_err-clause-memory_table : goal.returns-then-is_err-clause-memory_table
+returns-then-is_err-clause-memory_table g c =
+    rw c.abandon.ensures.table (subst (λ s. IsPurged c.args.moment s.machine.table c.prepare.new.self.table) c.self.view_is c.prepare.ensures.table)
 
 pub returns-then-is_err-clause-memory_rests : goal.returns-then-is_err-clause-memory_rests
 returns-then-is_err-clause-memory_rests g c = λ h k rests.
@@ -60,11 +113,25 @@ invariant_of-self-2 g c =
     sound_changed _ _ _ _ _ _ _ _ c.args.moment c.prepare.new.self.table c.apply-datagram.new.self.table c.in-Ok.step.change c.apply-datagram.ensures.table c.in-Ok.ensures.ready
     (ap (λ (x : Config). x.limits) c.apply-datagram.ensures.setting.config) c.stage_act.ensures.bounds c.stage_act.ensures.acts (omega (arith, room, same)) later
 
+pub returns-clause-store : goal.returns-clause-store
+returns-clause-store g c = ap (λ s. s.store) c.self.view_is
+
+pub returns-clause-clock : goal.returns-clause-clock
+returns-clause-clock g c =
+    ap (λ (s : State). s.moment) c.apply-datagram.ensures.table ∙ moment_changed c.prepare.new.self.table c.in-Ok.step.change ∙ c.prepare.ensures.table.moment
+
+pub returns-clause-setting : goal.returns-clause-setting
+returns-clause-setting g c =
+    subst (λ s. KeepsSetting g.G.RelayAddressGenerator.range s.machine c.apply-datagram.new.self) c.self.view_is (keeps_both _ _ _ _ c.prepare.ensures.setting c.apply-datagram.ensures.setting)
+
 pub returns-clause-count : goal.returns-clause-count
 returns-clause-count g c =
     let failures = g.G.RelayAddressGenerator.failures in
     counts_same _ (failures c.prepare.new.self.ports) _ (subst (λ s. CountsOne (failures s.machine.ports) (failures c.prepare.new.self.ports)) c.self.view_is c.prepare.ensures.count)
     c.apply-datagram.ensures.count
+
+pub returns-clause-arrivals : goal.returns-clause-arrivals
+returns-clause-arrivals g c = ap (λ s. s.arrivals + 1) c.self.view_is
 
 pub returns-clause-ok : goal.returns-clause-ok
 returns-clause-ok g c = λ h k rests.
@@ -86,62 +153,3 @@ returns-clause-ok g c = λ h k rests.
           (c.stage_act.ensures.acts ∙ ap (λ s. s.acts + length (added t change)) c.self.view_is) c.requires.clock
           (ap (λ (s : State). s.moment) c.apply-datagram.ensures.table ∙ moment_changed c.prepare.new.self.table change ∙ moment) after;
     }
-
-pub returns-in-Err-clause-clock : goal.returns-in-Err-clause-clock
-returns-in-Err-clause-clock g c = c.prepare.ensures.table.moment
-
-pub returns-in-Err-clause-memory_table : goal.returns-in-Err-clause-memory_table
-returns-in-Err-clause-memory_table g c = subst (λ s. IsPurged c.args.moment s.machine.table c.prepare.new.self.table) c.self.view_is c.prepare.ensures.table
-
-pub returns-then-is_err-clause-clock : goal.returns-then-is_err-clause-clock
-returns-then-is_err-clause-clock g c = ap (λ (s : State). s.moment) c.abandon.ensures.table ∙ c.prepare.ensures.table.moment
-
-pub returns-then-is_err-clause-memory_table : goal.returns-then-is_err-clause-memory_table
-returns-then-is_err-clause-memory_table g c =
-    rw c.abandon.ensures.table (subst (λ s. IsPurged c.args.moment s.machine.table c.prepare.new.self.table) c.self.view_is c.prepare.ensures.table)
-
-pub returns-clause-clock : goal.returns-clause-clock
-returns-clause-clock g c =
-    ap (λ (s : State). s.moment) c.apply-datagram.ensures.table ∙ moment_changed c.prepare.new.self.table c.in-Ok.step.change ∙ c.prepare.ensures.table.moment
-
-pub returns-in-Err-clause-store : goal.returns-in-Err-clause-store
-returns-in-Err-clause-store g c = ap (λ s. s.store) c.self.view_is
-
-pub returns-in-Err-clause-setting : goal.returns-in-Err-clause-setting
-returns-in-Err-clause-setting g c = subst (λ s. KeepsSetting g.G.RelayAddressGenerator.range s.machine c.prepare.new.self) c.self.view_is c.prepare.ensures.setting
-
-pub returns-in-Err-clause-count : goal.returns-in-Err-clause-count
-returns-in-Err-clause-count g c =
-    let failures = g.G.RelayAddressGenerator.failures in
-    subst (λ s. CountsOne (failures s.machine.ports) (failures c.prepare.new.self.ports)) c.self.view_is c.prepare.ensures.count
-
-pub returns-in-Err-clause-memory : goal.returns-in-Err-clause-memory
-returns-in-Err-clause-memory g c = ap (λ (s : ServerState _ _ _). record s { machine = c.prepare.new.self }) c.self.view_is
-
-pub returns-then-is_err-clause-store : goal.returns-then-is_err-clause-store
-returns-then-is_err-clause-store g c = ap (λ s. s.store) c.self.view_is
-
-pub returns-then-is_err-clause-setting : goal.returns-then-is_err-clause-setting
-returns-then-is_err-clause-setting g c =
-    subst (λ s. KeepsSetting g.G.RelayAddressGenerator.range s.machine c.abandon.new.self) c.self.view_is (keeps_both _ _ _ _ c.prepare.ensures.setting c.abandon.ensures.setting)
-
-pub returns-then-is_err-clause-count : goal.returns-then-is_err-clause-count
-returns-then-is_err-clause-count g c =
-    let failures = g.G.RelayAddressGenerator.failures in
-    counts_same _ (failures c.prepare.new.self.ports) _ (subst (λ s. CountsOne (failures s.machine.ports) (failures c.prepare.new.self.ports)) c.self.view_is c.prepare.ensures.count)
-    c.abandon.ensures.count
-
-pub returns-then-is_err-clause-memory : goal.returns-then-is_err-clause-memory
-returns-then-is_err-clause-memory g c =
-    ap (λ o. record { store = c.self.inside.store; machine = c.abandon.new.self; payload = c.self.inside.batch.payload; acts = c.self.inside.batch.acts; outs = map sent_of o; arrivals = c.self.inside.arrivals }) c.reserve.ensures.items
-    ∙ ap (λ (s : ServerState _ _ _). record s { machine = c.abandon.new.self }) c.self.view_is
-
-pub returns-clause-store : goal.returns-clause-store
-returns-clause-store g c = ap (λ s. s.store) c.self.view_is
-
-pub returns-clause-setting : goal.returns-clause-setting
-returns-clause-setting g c =
-    subst (λ s. KeepsSetting g.G.RelayAddressGenerator.range s.machine c.apply-datagram.new.self) c.self.view_is (keeps_both _ _ _ _ c.prepare.ensures.setting c.apply-datagram.ensures.setting)
-
-pub returns-clause-arrivals : goal.returns-clause-arrivals
-returns-clause-arrivals g c = ap (λ s. s.arrivals + 1) c.self.view_is
