@@ -2,7 +2,7 @@
 use Rattle.std.proofs.Common.{inl, ◌≡◌, ◌≢◌, ◌≤◌, ◌<◌, ◌-◌, ◌^◌, ⊎_elim, ℕ, Bool, true, false, List, [], ◌∷◌, ◌++◌, length, take, drop, Result, Ok, Err, refl, sym, ap, ◌∙◌, subst, arith, append-nil}
 use Rattle.std.proofs.lemmas.List.{take-append-drop}
 use Rattle.std.proofs.Math.Seq.{take-length, drop-length}
-use Rattle.std.specs.Prelude.{OnErr, OnOk}
+use Rattle.std.specs.Prelude.{OnErr}
 use Rattle.turn_disk.specs.Disk.{State, Trace, IsImage, EachImageSince}
 use Rattle.turn_disk.proofs.Since.{image_settled, since_same}
 use Rattle.turn_history.specs.Fitting.{IsFitting}
@@ -29,13 +29,6 @@ pub form_kept : {D : Type 0} (old new : StoreState D) (count size : ℕ) (result
 form_kept old new count size (Ok false) one two err = ap form_of (one refl)
 form_kept old new count size (Ok true) one two err = ap form_of (two refl)
 form_kept old new count size (Err e) one two err = ap form_of err
-
--- a store that isn't stopped is not after an append that succeeds
-pub runs_kept : {D : Type 0} (old new : StoreState D) (count size : ℕ) (result : Result Bool StoreFault) → (result ≡ Ok false → new ≡ framed old count new.disk)
-    → (result ≡ Ok true → new ≡ swapped old size new.disk) → old.stopped ≡ false → OnOk result (new.stopped ≡ false)
-runs_kept old new count size (Ok false) one two runs = ap (λ s. s.stopped) (one refl) ∙ runs
-runs_kept old new count size (Ok true) one two runs = ap (λ s. s.stopped) (two refl) ∙ runs
-runs_kept old new count size (Err e) one two runs = tt
 
 -- ---- Images
 

@@ -1,4 +1,4 @@
-use Rattle.std.proofs.Common.{◌↔◌, arith, length, take, drop, sym, ap, ◌∙◌, subst, refl}
+use Rattle.std.proofs.Common.{rules, ◌↔◌, arith, length, take, drop, sym, ap, ◌∙◌, subst, refl}
 use Rattle.turn_disk.specs.Disk.{EachImageSince}
 use Rattle.turn_store.specs.Areas.{Form}
 use Rattle.turn_store.specs.Images.{EitherBy, StandsBy}
@@ -8,7 +8,7 @@ use Rattle.turn_types.specs.declared.limits.Bounds.{Bounds}
 use Rattle.turn_engine.specs.Images.{AtLeast}
 use Rattle.turn_engine.specs.Resting.{Rests}
 use Rattle.turn_engine.specs.State.{ServerState, emptied, now_of}
-use Rattle.turn_engine.proofs.Written.{all_stored, contents_are, few_acts, form_kept, has_size, may_follow, none_staged, not_written, runs_kept, some_acts, stages_none, stages_written, written}
+use Rattle.turn_engine.proofs.Written.{all_stored, contents_are, few_acts, form_kept, has_size, may_follow, none_staged, not_written, some_acts, stages_none, stages_written, written}
 use Rattle.turn_engine.proofs.server.Server.write.Goals as goal
 use Rattle.turn_engine.proofs.server.Server.write.Goals.{in-Ok, in-Err}
 
@@ -36,17 +36,17 @@ returns-then-is_stopped-clause-stages g c = λ honest h k rests. stages_none _ _
 pub returns-then-is_stopped-clause-stop : goal.returns-then-is_stopped-clause-stop
 returns-then-is_stopped-clause-stop g c = λ honest h k rests. not_written _ _ c.args.self.now h k refl rests
 
-pub returns-then-acts-eq0-clause-runs : goal.returns-then-acts-eq0-clause-runs
-returns-then-acts-eq0-clause-runs g c = ap (λ s. s.store.stopped) (sym c.self.view_is) ∙ sym c.is_stopped.ensures ∙ c.if-is_stopped.false
+pub returns-then-acts-eq0-clause-nothing : goal.returns-then-acts-eq0-clause-nothing
+returns-then-acts-eq0-clause-nothing g c = λ _ _. (refl, refl)
 
 pub returns-then-acts-eq0-clause-stops : goal.returns-then-acts-eq0-clause-stops
 returns-then-acts-eq0-clause-stops g c = tt
 
+pub returns-then-acts-eq0-clause-runs : goal.returns-then-acts-eq0-clause-runs
+returns-then-acts-eq0-clause-runs g c = ap (λ s. s.store.stopped) (sym c.self.view_is) ∙ sym c.is_stopped.ensures ∙ c.if-is_stopped.false
+
 pub returns-then-acts-eq0-clause-stopped : goal.returns-then-acts-eq0-clause-stopped
 returns-then-acts-eq0-clause-stopped g c = let runs = returns-then-acts-eq0-clause-runs g c in (λ e. cc, λ is. cc)
-
-pub returns-then-acts-eq0-clause-nothing : goal.returns-then-acts-eq0-clause-nothing
-returns-then-acts-eq0-clause-nothing g c = λ _ _. (refl, refl)
 
 pub returns-then-acts-eq0-clause-device : goal.returns-then-acts-eq0-clause-device
 returns-then-acts-eq0-clause-device g c = λ e. cc
@@ -90,46 +90,25 @@ pub returns-clause-rest : goal.returns-clause-rest
 returns-clause-rest g c = ap (λ (s : ServerState _ _ _). record s { store = c.append.new.self }) c.self.view_is
 
 pub returns-clause-runs : goal.returns-clause-runs
-returns-clause-runs g c =
-    let kept = runs_kept c.self.inside.store c.append.new.self _ _ c.append.result c.append.ensures.framed c.append.ensures.compacted (sym c.is_stopped.ensures ∙ c.if-is_stopped.false) in
-    elim c.match-append.branch [ in-Ok w ↦ rw w.result-is (rw w.in-Ok.is at kept) | in-Err w ↦ rw w.result-is tt ]
+returns-clause-runs g c = search rules
 
 pub returns-clause-stopped : goal.returns-clause-stopped
-returns-clause-stopped g c =
-    let runs = sym c.is_stopped.ensures ∙ c.if-is_stopped.false in
-    elim c.match-append.branch [
-      | in-Ok w ↦ rw (w.result-is, ← c.self.view_is) (λ e. cc, λ is. cc)
-      | in-Err w ↦ rw (w.result-is, ← c.self.view_is) (λ e. w.in-Err.ensures.stopped.0 cc, λ is. cc)
-    ]
+returns-clause-stopped g c = search rules
 
 pub returns-clause-nothing : goal.returns-clause-nothing
 returns-clause-nothing g c = λ runs none. absurd (omega (arith, none, some_acts c.acts.result _ (c.acts.ensures.value ∙ ap (λ s. s.acts) c.self.view_is) c.if-acts-eq0.false))
 
 pub returns-clause-count : goal.returns-clause-count
-returns-clause-count g c = elim c.match-append.branch [ in-Ok w ↦ rw (w.result-is, ← c.self.view_is) w.in-Ok.ensures.count | in-Err w ↦ rw w.result-is tt ]
+returns-clause-count g c = search rules
 
 pub returns-clause-device : goal.returns-clause-device
-returns-clause-device g c = elim c.match-append.branch [
-  | in-Ok w ↦ rw w.result-is (λ e. cc)
-  | in-Err w ↦ rw (w.result-is, ← c.self.view_is) (λ e. w.in-Err.ensures.device cc)
-]
+returns-clause-device g c = search rules
 
 pub returns-clause-worn : goal.returns-clause-worn
-returns-clause-worn g c =
-    let some = some_acts c.acts.result _ c.acts.ensures.value c.if-acts-eq0.false in
-    let worn = rw c.payload.ensures.value at c.append.ensures.worn in
-    elim c.match-append.branch [
-      | in-Ok w ↦ rw (w.result-is, ← c.self.view_is) (λ e. cc, λ facts. let e = worn.1 (facts.0, facts.2, facts.3) in let is = w.in-Ok.is in cc)
-      | in-Err w ↦
-          let is = w.in-Err.is in
-          rw (w.result-is, ← c.self.view_is) (λ e. let facts = worn.0 cc in (facts.0, some, facts.1, facts.2), λ facts. let e = worn.1 (facts.0, facts.2, facts.3) in cc)
-    ]
+returns-clause-worn g c = search rules
 
 pub returns-clause-untouched_worn : goal.returns-clause-untouched_worn
-returns-clause-untouched_worn g c = elim c.match-append.branch [
-  | in-Ok w ↦ rw w.result-is (λ e. cc)
-  | in-Err w ↦ rw (w.result-is, ← c.self.view_is) (λ e. w.in-Err.ensures.untouched_worn cc)
-]
+returns-clause-untouched_worn g c = search rules
 
 pub returns-clause-stages : goal.returns-clause-stages
 returns-clause-stages g c = λ honest h k old.
