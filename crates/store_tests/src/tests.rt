@@ -1,5 +1,6 @@
 mod area;
 mod batches;
+mod beside;
 mod bytes;
 mod disk_crashes;
 mod disk_faults;
@@ -13,6 +14,8 @@ mod journal_memory;
 mod journal_scan;
 mod limits;
 mod max_snapshots;
+mod readings;
+mod recorded;
 mod records;
 mod snapshot_reads;
 mod snapshots;

@@ -1,10 +1,11 @@
 //! A disk over a file. Nothing is claimed of what the file holds, so it isn't honest.
 
-ghost use Rattle.std.specs.Prelude.{◌≡◌, [], IfOk};
+ghost use Rattle.std.specs.Prelude.{◌≡◌, [], IfErr, IfOk};
 ghost use Rattle.turn_disk.specs.Counts.{CountOutcome};
 
 use crate::disk::{DeviceFailed, Disk};
 use crate::failures::raise;
+use crate::opened::{FileRefused, lock, open_apart};
 use std::fs::{File, Files, OpenFile, OpenOptions};
 use std::io;
 use std::marker::Model;
@@ -42,31 +43,57 @@ impl<F: FileExt + OpenFile> FileDisk<F> {
 }
 
 impl FileDisk<File> {
-    /// Makes the file anew, with so many zero bytes. The content of a file of that name is lost.
+    /// Makes the file, or makes it anew, with so many zero bytes, and takes its lock. The content of a file of that name is
+    /// lost, unless the file is in use.
     pub fn create<R: Files<File = File>>(
         files: &R,
         path: &str,
         size: usize,
-    ) -> io::Result<FileDisk<File>>
+    ) -> Result<FileDisk<File>, FileRefused>
         ensures size { IfOk result (λ disk. disk.size ≡ size) }
         ensures failures { IfOk result (λ disk. disk.failures ≡ 0) }
     {
         let mut options = OpenOptions::new();
-        options.read(true).write(true).create(true).truncate(true);
-        let file = options.open(files, path)?;
+        options.read(true).write(true).create(true);
+        let file = open_apart(files, path, &options)?;
+        lock(&file)?;
+        file.set_len(0)?;
         file.set_len(size as u64)?;
         Ok(FileDisk::new(file, size))
     }
 
-    /// Opens an existing file.
-    pub fn open<R: Files<File = File>>(files: &R, path: &str) -> io::Result<FileDisk<File>>
+    /// Opens an existing file, and takes its lock.
+    pub fn open<R: Files<File = File>>(files: &R, path: &str) -> Result<FileDisk<File>, FileRefused>
         ensures failures { IfOk result (λ disk. disk.failures ≡ 0) }
     {
         let mut options = OpenOptions::new();
         options.read(true).write(true);
-        let file = options.open(files, path)?;
-        let len = file.metadata()?.len() as usize;
-        Ok(FileDisk::new(file, len))
+        let file = open_apart(files, path, &options)?;
+        lock(&file)?;
+        FileDisk::whole(file)
+    }
+
+    /// Opens an existing file to be read alone, whoever has its lock. Each write fails.
+    pub fn open_to_read<R: Files<File = File>>(
+        files: &R,
+        path: &str,
+    ) -> Result<FileDisk<File>, FileRefused>
+        ensures failures { IfOk result (λ disk. disk.failures ≡ 0) }
+        ensures unlocked { IfErr result (λ refused. refused ≡ FileRefused.Device) }
+    {
+        let mut options = OpenOptions::new();
+        options.read(true);
+        let file = open_apart(files, path, &options)?;
+        FileDisk::whole(file)
+    }
+
+    // A disk of all bytes of a file.
+    fn whole(file: File) -> Result<FileDisk<File>, FileRefused>
+        ensures failures { IfOk result (λ disk. disk.failures ≡ 0) }
+        ensures device { IfErr result (λ refused. refused ≡ FileRefused.Device) }
+    {
+        let len = file.metadata()?.len();
+        Ok(FileDisk::new(file, len as usize))
     }
 }
 

@@ -7,40 +7,40 @@ use std::io::{Error, ErrorKind};
 use std::os::unix::fs::FileExt;
 use std::process::Abort;
 use std::{fs, io};
-use turn_disk::{Disk, FileDisk};
+use turn_disk::{Disk, FileDisk, FileRefused};
 
-fn write_a_file<R: Abort + Files<File = File>>(rt: &R, path: &str) -> io::Result<()> {
-    let mut disk = FileDisk::create(rt, path, 64)?;
+fn write_a_file<R: Abort + Files<File = File>>(rt: &R, path: &str) {
+    let mut disk = FileDisk::create(rt, path, 64).expect(rt, "made");
     assert!(rt; disk.size() == 64);
     assert!(rt; write(rt, &mut disk, 60, b"abcd"));
     assert!(rt; disk.sync().is_ok());
     assert!(rt; disk.failures() == 0);
-    Ok(())
 }
 
-fn read_a_file<R: Abort + Files<File = File>>(rt: &R, path: &str) -> io::Result<()> {
-    let mut disk = FileDisk::open(rt, path)?;
+fn read_a_file<R: Abort + Files<File = File>>(rt: &R, disk: FileDisk) {
+    let mut disk = disk;
     assert!(rt; disk.size() == 64);
     let mut buffer = [9; 6];
     assert!(rt; read(rt, &mut disk, 58, &mut buffer));
     assert!(rt; buffer == *b"\0\0abcd");
-    Ok(())
 }
 
 #[test]
 fn a_file_holds_what_was_written(rt: HostRuntime) -> io::Result<()> {
     let path = "turn_disk.holds";
-    write_a_file(&rt, path)?;
-    read_a_file(&rt, path)?;
+    write_a_file(&rt, path);
+    read_a_file(&rt, FileDisk::open(&rt, path).expect(&rt, "opened"));
+    read_a_file(&rt, FileDisk::open_to_read(&rt, path).expect(&rt, "opened"));
     fs::remove_file(&rt, path)
 }
 
 // A disk over a file of 64 bytes, which is then made anew with 16.
-fn shortened<R: Abort + Files<File = File>>(rt: &R, path: &str) -> io::Result<FileDisk> {
-    let disk = FileDisk::create(rt, path, 64)?;
-    let shorter = FileDisk::create(rt, path, 16)?;
+fn shortened<R: Abort + Files<File = File>>(rt: &R, path: &str) -> FileDisk {
+    drop(FileDisk::create(rt, path, 64).expect(rt, "made"));
+    let disk = FileDisk::open_to_read(rt, path).expect(rt, "opened");
+    let shorter = FileDisk::create(rt, path, 16).expect(rt, "made anew");
     assert!(rt; shorter.size() == 16);
-    Ok(disk)
+    disk
 }
 
 fn read_past_the_end<D: Disk>(rt: &impl Abort, disk: &mut D) {
@@ -54,19 +54,61 @@ fn read_past_the_end<D: Disk>(rt: &impl Abort, disk: &mut D) {
 #[test]
 fn a_disk_has_the_size_of_its_file(rt: HostRuntime) -> io::Result<()> {
     let path = "turn_disk.size";
-    let mut disk = shortened(&rt, path)?;
-    assert!(rt; FileDisk::open(&rt, path)?.size() == 16);
+    let mut disk = shortened(&rt, path);
+    assert!(rt; FileDisk::open(&rt, path).expect(&rt, "opened").size() == 16);
     read_past_the_end(&rt, &mut disk);
     fs::remove_file(&rt, path)
 }
 
+// What comes of opening a path in each way: to make it anew, to write, and to read.
+fn refusals<R: Files<File = File>>(rt: &R, path: &str) -> [Option<FileRefused>; 3] {
+    [
+        FileDisk::create(rt, path, 64).err(),
+        FileDisk::open(rt, path).err(),
+        FileDisk::open_to_read(rt, path).err(),
+    ]
+}
+
 #[test]
-fn a_folder_and_an_absent_file_are_refused(rt: HostRuntime) {
-    for path in [".", "turn_disk.absent/store"] {
-        assert!(rt; FileDisk::create(&rt, path, 64).is_err());
-        assert!(rt; FileDisk::open(&rt, path).is_err());
+fn what_is_no_regular_file_is_refused(rt: HostRuntime) {
+    for path in [".", "/dev/null", "/dev/zero", "turn_disk.absent/store", ""] {
+        assert!(rt; refusals(&rt, path) == [Some(FileRefused::Device); 3]);
     }
     assert!(rt; FileDisk::open(&rt, "turn_disk.absent").is_err());
+    assert!(rt; FileDisk::open_to_read(&rt, "turn_disk.absent").is_err());
+}
+
+// While a disk is open to be written, its file can be opened to be read alone, and stays as it is.
+fn open_beside<R: Abort + Files<File = File>>(rt: &R, path: &str, disk: FileDisk) {
+    let in_use = Some(FileRefused::InUse);
+    assert!(rt; refusals(rt, path) == [in_use, in_use, None]);
+    read_a_file(rt, FileDisk::open_to_read(rt, path).expect(rt, "opened"));
+    drop(disk);
+    assert!(rt; FileDisk::open(rt, path).is_ok());
+}
+
+#[test]
+fn a_file_is_opened_once_to_be_written(rt: HostRuntime) -> io::Result<()> {
+    let path = "turn_disk.lock";
+    write_a_file(&rt, path);
+    open_beside(&rt, path, FileDisk::open(&rt, path).expect(&rt, "opened"));
+    let made = FileDisk::create(&rt, path, 64).expect(&rt, "made");
+    let in_use = Some(FileRefused::InUse);
+    assert!(rt; refusals(&rt, path) == [in_use, in_use, None]);
+    drop(made);
+    fs::remove_file(&rt, path)
+}
+
+#[test]
+fn a_disk_that_is_opened_to_be_read_is_not_written(rt: HostRuntime) -> io::Result<()> {
+    let path = "turn_disk.read";
+    write_a_file(&rt, path);
+    let mut disk = FileDisk::open_to_read(&rt, path).expect(&rt, "opened");
+    assert!(rt; disk.sync().is_ok());
+    assert!(rt; !write(&rt, &mut disk, 60, b"efgh"));
+    assert!(rt; disk.failures() == 1);
+    read_a_file(&rt, disk);
+    fs::remove_file(&rt, path)
 }
 
 // A file that reads and writes one byte a call. Every other call is interrupted, and a sync fails.

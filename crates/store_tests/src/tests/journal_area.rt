@@ -81,7 +81,7 @@ fn append_to_a_file<R: Abort + Files<File = File>>(
     alloc: Global,
     path: &str,
 ) -> io::Result<Journal> {
-    let mut disk = FileDisk::create(rt, path, 40)?;
+    let mut disk = FileDisk::create(rt, path, 40).expect(rt, "made");
     let mut journal = Journal::new(alloc, FILE_AREA)?;
     assert!(rt; append(rt, &mut journal, &mut disk, b"ab").is_ok());
     assert!(rt; append(rt, &mut journal, &mut disk, b"").is_ok());
@@ -92,7 +92,7 @@ fn append_to_a_file<R: Abort + Files<File = File>>(
 fn a_file_holds_frames(rt: HostRuntime) -> io::Result<()> {
     let path = "turn_journal.file";
     let journal = append_to_a_file(&rt, rt.alloc(), path)?;
-    let mut disk = FileDisk::open(&rt, path)?;
+    let mut disk = FileDisk::open(&rt, path).expect(&rt, "opened");
     assert!(rt; count_frames(&rt, &journal, &mut disk) == Some(2));
     fs::remove_file(&rt, path)
 }

@@ -1,0 +1,197 @@
+//! Which fault is told of a store that is refused again and again, and which are tried again at all.
+
+use super::batches::store_after;
+use super::recorded::{copy_at, put_at};
+use super::stores::small_store;
+use refusing::Refusing;
+use std::alloc::Global;
+use std::cell::Cell;
+use std::fs::{Metadata, OpenFile};
+use std::io::{self, Error, ErrorKind};
+use std::os::unix::fs::FileExt;
+use std::process::Abort;
+use std::rt::Clock;
+use std::time::Duration;
+use turn_disk::FileDisk;
+use turn_reading::{ReadingFault, read_store};
+
+/// Counts the pauses of 10 ms, which take none.
+#[derive(Drop)]
+struct Counter {
+    pauses: Cell<u32>,
+}
+
+impl Clock for Counter {
+    fn monotonic(&self) -> io::Result<Duration> {
+        Err(Error::from(ErrorKind::Unsupported))
+    }
+
+    fn since_1970(&self) -> io::Result<Duration> {
+        Err(Error::from(ErrorKind::Unsupported))
+    }
+
+    fn sleep(&self, duration: Duration) {
+        if duration == Duration::from_millis(10) {
+            self.pauses.set(self.pauses.get().wrapping_add(1));
+        }
+    }
+}
+
+/// A file that has one content up to its first sync, and another from its second sync on. A reading begins with the limits, then
+/// it syncs.
+#[derive(Drop)]
+struct Changing<'a> {
+    first: &'a [u8],
+    second: &'a [u8],
+    syncs: Cell<u32>,
+}
+
+impl FileExt for Changing<'_> {
+    fn read_at(&self, buf: &mut [u8], offset: u64) -> io::Result<usize> {
+        let content = if self.syncs.get() < 2 {
+            self.first
+        } else {
+            self.second
+        };
+        Ok(copy_at(content, buf, offset))
+    }
+
+    fn write_at(&self, _buf: &[u8], _offset: u64) -> io::Result<usize> {
+        Err(Error::from(ErrorKind::Other))
+    }
+}
+
+impl OpenFile for Changing<'_> {
+    fn metadata(&self) -> io::Result<Metadata> {
+        Err(Error::from(ErrorKind::Other))
+    }
+
+    fn set_len(&self, _size: u64) -> io::Result<()> {
+        Err(Error::from(ErrorKind::Other))
+    }
+
+    fn sync_all(&self) -> io::Result<()> {
+        self.sync_data()
+    }
+
+    fn sync_data(&self) -> io::Result<()> {
+        self.syncs.set(self.syncs.get().wrapping_add(1));
+        Ok(())
+    }
+}
+
+/// Bytes that are written over in a fresh store from a position on.
+type Edit = (usize, &'static [u8]);
+
+const SAME: Edit = (0, b"");
+
+/// The first area's gate is closed.
+const CLOSED: Edit = (64, b"\x00");
+
+/// A frame of zero bytes after the snapshot.
+const BAD_FRAME: Edit = (90, b"\xA5");
+
+const SECOND_GENERATION: Edit = (66, b"\x00\x00\x00\x00\x00\x00\x00\x02");
+
+const NO_STORE: Edit = (0, b"\x53");
+
+/// What a file holds up to its first sync, what it holds from its second one on, how many bytes it has, the generation that is
+/// read or the fault, and how many pauses there are.
+type Case = (Edit, Edit, usize, Result<u64, ReadingFault>, u32);
+
+const CASES: [Case; 8] = [
+    (SAME, SAME, 540, Ok(1), 0),
+    // The first of three readings is of another generation than the other two.
+    (SAME, SECOND_GENERATION, 540, Ok(2), 1),
+    (CLOSED, SAME, 540, Ok(1), 1),
+    (CLOSED, CLOSED, 540, Err(ReadingFault::Damaged(64)), 10),
+    (
+        BAD_FRAME,
+        BAD_FRAME,
+        540,
+        Err(ReadingFault::Damaged(90)),
+        10,
+    ),
+    (CLOSED, BAD_FRAME, 540, Err(ReadingFault::Changing), 10),
+    (NO_STORE, NO_STORE, 540, Err(ReadingFault::NotAStore), 10),
+    // A device that fails is not tried again.
+    (SAME, SAME, 100, Err(ReadingFault::Device), 0),
+];
+
+/// The small store with an edit, as far as so many bytes.
+fn edited(rt: &impl Abort, alloc: Global, edit: Edit, size: usize) -> Vec<u8> {
+    let (at, bytes) = edit;
+    let disk = small_store(rt, alloc);
+    let mut content = Vec::from_slice(alloc, disk.content()).expect(rt, "memory");
+    put_at(&mut content, at, bytes);
+    content.truncate(size);
+    content
+}
+
+fn make_counter() -> Counter {
+    Counter {
+        pauses: Cell::new(0),
+    }
+}
+
+fn play(rt: &impl Abort, alloc: Global, case: &Case) {
+    let (first, second, size, expected, pauses) = *case;
+    let (first, second) = (
+        edited(rt, alloc, first, size),
+        edited(rt, alloc, second, size),
+    );
+    let file = Changing {
+        first: &first,
+        second: &second,
+        syncs: Cell::new(0),
+    };
+    let clock = make_counter();
+    let got = match read_store(alloc, &clock, FileDisk::new(file, 540)) {
+        Ok(reading) => Ok(reading.info.generation),
+        Err(fault) => Err(fault),
+    };
+    assert!(rt; got == expected);
+    assert!(rt; clock.pauses.get() == pauses);
+}
+
+#[test]
+fn a_store_that_changes_is_told_from_one_that_is_refused(rt: HostRuntime) {
+    for case in &CASES {
+        play(&rt, rt.alloc(), case);
+    }
+}
+
+/// Reads a store with an allocation and a frame, with so many allocations before one is refused. Returns whether one was.
+fn refuse_growth(rt: &impl Abort, alloc: Global, content: &[u8], served: u64) -> bool {
+    let file = Changing {
+        first: content,
+        second: content,
+        syncs: Cell::new(0),
+    };
+    let clock = make_counter();
+    let refusing = Refusing::new(alloc, served);
+    let got = match read_store(&refusing, &clock, FileDisk::new(file, 540)) {
+        Ok(reading) => Ok(reading.table.len()),
+        Err(fault) => Err(fault),
+    };
+    let expected = if refusing.has_refused() {
+        Err(ReadingFault::Memory)
+    } else {
+        Ok(1)
+    };
+    assert!(rt; got == expected);
+    assert!(rt; clock.pauses.get() == 0);
+    refusing.has_refused()
+}
+
+#[test]
+fn each_growth_of_a_reading_is_refused_in_turn(rt: HostRuntime) {
+    let store = store_after(&rt, rt.alloc(), 8);
+    for served in 0..100u64 {
+        if !refuse_growth(&rt, rt.alloc(), store.disk().content(), served) {
+            assert!(rt; served > 6);
+            return;
+        }
+    }
+    panic!(rt; "some growth is always refused");
+}

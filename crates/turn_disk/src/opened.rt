@@ -1,0 +1,81 @@
+//! How the file of a disk is opened.
+
+ghost use Rattle.std.specs.Fd.{file_raw_fd};
+ghost use Rattle.std.specs.Prelude.{◌≡◌, ◌≤ℤ◌, ◌↔◌, pos, IfErr, IfOk, IsTrue};
+ghost use Rattle.turn_disk.specs.declared.opened.FileRefused.TheVariants.{Device};
+
+use std::fs::{self, File, Files, OpenOptions, TryLockError};
+use std::io::{self, ErrorKind};
+use std::os::fd::{AsRawFd, RawFd};
+use thiserror::Error;
+
+/// Why a file isn't opened as a disk.
+#[derive(Clone, Copy, Debug, PartialEq, Eq, Error)]
+pub enum FileRefused {
+    /// The file's lock is held by whoever has it open as a disk to write to.
+    #[error("the file is in use")]
+    InUse,
+    /// The file can't be made or opened, isn't a regular file, or would have the descriptor of a standard stream.
+    #[error("the file can't be opened")]
+    Device,
+}
+
+impl From<io::Error> for FileRefused {
+    ghost from_gives = { λ _ refused. refused ≡ Device };
+
+    fn from(_error: io::Error) -> FileRefused {
+        FileRefused::Device
+    }
+}
+
+/// For programs that report errors of files alone, as the standard library has it for a lock.
+impl From<FileRefused> for io::Error {
+    fn from(refused: FileRefused) -> io::Error {
+        match refused {
+            FileRefused::InUse => io::Error::from(ErrorKind::WouldBlock),
+            FileRefused::Device => io::Error::from(ErrorKind::Other),
+        }
+    }
+}
+
+/// Whether a descriptor is none of standard input, output and error. What is printed would be written into a file that has
+/// one of these.
+pub fn is_apart(descriptor: RawFd) -> bool
+    ensures { IsTrue result ↔ (pos 3 ≤ℤ descriptor) }
+{
+    descriptor >= 3
+}
+
+/// Opens a file, unless something else than a regular file has its name: a folder, or a FIFO or a device, which may block or
+/// have no end.
+pub fn open_regular<R: Files>(files: &R, path: &str, options: &OpenOptions) -> io::Result<R::File> {
+    match fs::metadata(files, path) {
+        Ok(there) if !there.is_file() => Err(io::Error::from(ErrorKind::InvalidInput)),
+        _ => options.open(files, path),
+    }
+}
+
+/// Opens a regular file whose descriptor is none of a standard stream.
+pub fn open_apart<R: Files<File = File>>(
+    files: &R,
+    path: &str,
+    options: &OpenOptions,
+) -> Result<File, FileRefused>
+    ensures apart { IfOk result (λ file. pos 3 ≤ℤ file_raw_fd file) }
+    ensures device { IfErr result (λ refused. refused ≡ FileRefused.Device) }
+{
+    let file = open_regular(files, path, options)?;
+    if !is_apart(file.as_raw_fd()) {
+        return Err(FileRefused::Device);
+    }
+    Ok(file)
+}
+
+/// Takes the lock of a file, which lasts as long as the file is open.
+pub fn lock(file: &File) -> Result<(), FileRefused> {
+    match file.try_lock() {
+        Ok(()) => Ok(()),
+        Err(TryLockError::WouldBlock) => Err(FileRefused::InUse),
+        Err(TryLockError::Error(_)) => Err(FileRefused::Device),
+    }
+}

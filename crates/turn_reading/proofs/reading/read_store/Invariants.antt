@@ -1,0 +1,15 @@
+use Rattle.std.proofs.Common.{◌≡◌, ◌↔◌, ℕ}
+use Rattle.std.specs.Prelude.{IfSome}
+use Rattle.turn_history.specs.History.{History}
+use Rattle.turn_reading.specs.Readings.{IsUnread}
+use Rattle.turn_reading.proofs.reading.read_store.Given as goal
+use Rattle.turn_store.specs.Areas.{Form}
+use Rattle.turn_store.specs.Images.{StandsForAt}
+
+abbrev pub invariant-loop : goal.invariant-loop
+invariant-loop g l = record {
+  honest : g.D.Disk.is_honest l.disk ↔ g.D.Disk.is_honest l.initial.disk;
+  same : g.D.Disk.is_honest l.initial.disk → (g.D.Disk.trace l.disk).now.bytes ≡ (g.D.Disk.trace l.initial.disk).now.bytes;
+  unread : g.D.Disk.is_honest l.initial.disk → (form : Form) (h : History) (clock : ℕ)
+      → StandsForAt form h clock (g.D.Disk.trace l.initial.disk).now.bytes → IfSome l.last IsUnread;
+}
