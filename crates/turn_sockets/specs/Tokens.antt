@@ -1,9 +1,7 @@
 -- Lists of tokens.
-use Rattle.std.specs.Prelude.{ℕ, ◌≡◌, List, Option, Some, None, cond, false, nat_eq}
+use Rattle.std.specs.Prelude.{ℕ, ◌≡◌, List, cond, false, nat_eq}
 use Rattle.std.specs.List.{list_any}
 
 -- the token is gone, and the others stay
-abbrev pub IsWithout : Option ℕ → List ℕ → List ℕ → Type 0
-IsWithout None old new = new ≡ old
-IsWithout (Some token) old new =
-    (other : ℕ) → list_any (nat_eq other) new ≡ cond (nat_eq token other) false (list_any (nat_eq other) old)
+abbrev pub IsWithout : ℕ → List ℕ → List ℕ → Type 0
+IsWithout token old new = (other : ℕ) → list_any (nat_eq other) new ≡ cond (nat_eq token other) false (list_any (nat_eq other) old)

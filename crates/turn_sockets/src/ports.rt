@@ -1,22 +1,37 @@
 //! Relay ports, each with a socket.
 
-ghost use Rattle.std.specs.Prelude.{◌≡◌, ◌≢◌, ◌≤◌, ◌⊎◌, [], Ok, None, IsSome, IfOk, OnErr, option_map, true};
+ghost use Rattle.std.specs.Prelude.{◌≡◌, ◌≢◌, ◌≤◌, ◌⊎◌, [], Ok, Some, None, IfOk, OnErr, option_map};
 ghost use Rattle.std.specs.BTreeMap.{IsUnchanged, Updates, get};
 ghost use Rattle.std.specs.Ordering.{nat_cmp};
+ghost use Rattle.rand_chacha.specs.ChaCha.{next_word, of_seed};
 ghost use Rattle.turn_ports.specs.Ports.{Failed, MayPick, has_failed};
-ghost use Rattle.turn_sockets.specs.Ports.{IsBound, BindsWhatIsPicked, Searches, first_place, found_port, next_after, next_once};
+ghost use Rattle.turn_sockets.specs.Ports.{IsBound, BindsWhatIsPicked, Searches, drawn_place, found_port};
+ghost use Rattle.turn_sockets.specs.declared.ports.Bound.TheVariants as binds;
 
 use crate::address::address_of;
 use crate::buffer::{RECEIVE_BUFFER, set_receive_buffer};
 use mio::net::UdpSocket;
 use mio::{Interest, Registry, Token};
+use rand_chacha::ChaCha20Rng;
+use rand_core::SeedableRng;
+use rand_core::utils::NextWord;
 use std::alloc::{AllocError, Allocator, Global};
 use std::collections::BTreeMap;
-use std::io;
+use std::io::{self, Error, ErrorKind};
 use std::net::Net;
-use turn_mac::hmac_sha256;
 use turn_ports::{PortRange, PortSet, RelayAddressGenerator};
 use turn_types::Endpoint;
+
+/// What came of binding a port.
+#[derive(Clone, Copy, Debug, PartialEq, Eq)]
+pub enum Bound {
+    /// It has a socket.
+    Done,
+    /// This port can't be bound now, as if another program has it; others may be.
+    Unavailable,
+    /// The system has no socket for any port, as if too many files are open.
+    Exhausted,
+}
 
 /// What a search for a free port came to.
 #[derive(Clone, Copy)]
@@ -26,6 +41,8 @@ pub(crate) enum Search {
     Nothing,
     /// None was found, but some were left out: they can't be bound, or have a socket and no allocation.
     Failed,
+    /// The search ended since the system has no socket for any port.
+    Exhausted,
 }
 
 /// What opens the sockets of one address.
@@ -39,17 +56,17 @@ pub(crate) struct Binder<'a, R: Net> {
 
 /// The relay ports of one address. Each port that was picked has a socket, which `poll` watches with the port as its token.
 ///
-/// The search for a free port goes on after the one that was picked last, so that it seldom takes more than one step and a
-/// port is not used again at once.
+/// The search for a free port begins at one that is drawn at random, so that nobody can guess which port the next allocation has
+/// (RFC 8656, section 7.2; RFC 6056, section 3.3.1).
 pub struct SocketPorts<'a, R: Net, A: Allocator = Global> {
     binder: Binder<'a, R>,
     first: u16,
     last: u16,
-    // Where the next search begins.
-    next: u16,
+    // What ports are drawn by.
+    draws: ChaCha20Rng,
     sockets: BTreeMap<u16, UdpSocket, A>,
     failures: u64,
-    ghost ordered: { first ≤ next × next ≤ last },
+    ghost ordered: { first ≤ last },
 }
 
 // By hand: a derived drop is one step for each field in the proof of each caller.
@@ -59,24 +76,19 @@ impl<'a, R: Net, A: Allocator> Drop for SocketPorts<'a, R, A> {
             binder: _,
             first: _,
             last: _,
-            next: _,
+            draws: _,
             sockets: _,
             failures: _,
         } = self;
     }
 }
 
-/// The port of a range at which the search begins, drawn from the server's secret. The search goes on after the port that was
-/// picked last, so who sees one port can guess the next; RFC 6056 asks for ports that are harder to guess.
-pub fn first_port(secret: &[u8; 32], ports: PortRange) -> u16
-    ensures place { result ≡ first_place secret.now ports }
-    ensures range { (ports.0 ≤ result) × (result ≤ ports.1) }
-{
-    let (first, last) = ports.range();
-    let digest = hmac_sha256(secret, b"relay ports");
-    let drawn = u32::from_be_bytes([digest[0], digest[1], digest[2], digest[3]]);
-    let count = u32::from(last - first) + 1;
-    first + (drawn % count) as u16
+/// Whether an error of a bind is of its port alone.
+fn is_of_port(error: &Error) -> bool {
+    matches!(
+        error.kind(),
+        ErrorKind::AddrInUse | ErrorKind::PermissionDenied
+    )
 }
 
 impl<'a, R: Net> Binder<'a, R> {
@@ -90,26 +102,31 @@ impl<'a, R: Net> Binder<'a, R> {
         Ok(socket)
     }
 
-    // Binds a port that has no socket yet. False if the system refuses, as where another program has the port.
+    // Binds a port that has no socket yet. Port 0 isn't bound, since the system would take another one.
     fn bind<A: Allocator + Copy>(
         &self,
         sockets: &mut BTreeMap<u16, UdpSocket, A>,
         port: u16,
-    ) -> Result<bool, AllocError>
+    ) -> Result<Bound, AllocError>
         requires { get nat_cmp sockets.old port ≡ None }
-        ensures bound { result ≡ Ok true → IsBound sockets.old sockets.new port }
-        ensures refused { result ≢ Ok true → IsUnchanged sockets.old sockets.new }
+        ensures bound { result ≡ Ok binds.Done → IsBound sockets.old sockets.new port }
+        ensures refused { result ≢ Ok binds.Done → IsUnchanged sockets.old sockets.new }
+        ensures never { port ≡ 0 → result ≢ Ok binds.Done }
     {
+        if port == 0 {
+            return Ok(Bound::Unavailable);
+        }
         match self.open(port) {
             Ok(socket) => {
                 sockets.insert(port, socket)?;
-                Ok(true)
+                Ok(Bound::Done)
             }
-            Err(_) => Ok(false),
+            Err(error) if is_of_port(&error) => Ok(Bound::Unavailable),
+            Err(_) => Ok(Bound::Exhausted),
         }
     }
 
-    // Binds the first free port from one to another, both included.
+    // Binds the first free port from one to another, both included. Ends where the system has no socket for any port.
     fn search<A: Allocator + Copy, S: PortSet>(
         &self,
         sockets: &mut BTreeMap<u16, UdpSocket, A>,
@@ -120,6 +137,7 @@ impl<'a, R: Net> Binder<'a, R> {
     ) -> Result<Search, AllocError>
         ensures found { IfOk result (Searches (from, to) (S.has taken.now) even) }
         ensures bound { IfOk result (λ search. BindsWhatIsPicked sockets.old sockets.new (found_port search)) }
+        ensures never { IfOk result (λ search. found_port search ≢ Some 0) }
         ensures err { OnErr result (IsUnchanged sockets.old sockets.new) }
     {
         let mut has_failed = false;
@@ -135,10 +153,11 @@ impl<'a, R: Net> Binder<'a, R> {
             if taken.has(port) {
                 continue;
             }
-            if self.bind(sockets, port)? {
-                return Ok(Search::Found(port));
+            match self.bind(sockets, port)? {
+                Bound::Done => return Ok(Search::Found(port)),
+                Bound::Unavailable => has_failed = true,
+                Bound::Exhausted => return Ok(Search::Exhausted),
             }
-            has_failed = true;
         }
         if has_failed {
             Ok(Search::Failed)
@@ -152,41 +171,43 @@ impl<'a, R: Net> Binder<'a, R> {
         &self,
         sockets: &mut BTreeMap<u16, UdpSocket, A>,
         range: (u16, u16),
-        next: u16,
+        from: u16,
         taken: &S,
         even: bool,
     ) -> Result<Search, AllocError>
-        requires { (range.0 ≤ next) × (next ≤ range.1) }
+        requires { (range.0 ≤ from) × (from ≤ range.1) }
         ensures found { IfOk result (Searches range (S.has taken.now) even) }
         ensures bound { IfOk result (λ search. BindsWhatIsPicked sockets.old sockets.new (found_port search)) }
+        ensures never { IfOk result (λ search. found_port search ≢ Some 0) }
         ensures err { OnErr result (IsUnchanged sockets.old sockets.new) }
     {
         let (first, last) = range;
-        let upper = self.search(sockets, next, last, taken, even)?;
-        if let Search::Found(_) = upper {
+        let upper = self.search(sockets, from, last, taken, even)?;
+        if let Search::Found(_) | Search::Exhausted = upper {
             return Ok(upper);
         }
-        let lower = self.search(sockets, first, next, taken, even)?;
+        let lower = self.search(sockets, first, from, taken, even)?;
         match lower {
             Search::Nothing => Ok(upper),
-            Search::Found(_) | Search::Failed => Ok(lower),
+            Search::Found(_) | Search::Failed | Search::Exhausted => Ok(lower),
         }
     }
 }
 
 impl<'a, R: Net, A: Allocator + Copy> SocketPorts<'a, R, A> {
-    /// The ports of a range, none of which is bound yet. Sockets are bound on the address and watched by the registry.
+    /// The ports of a range, none of which is bound yet. Sockets are bound on the address and watched by the registry. Ports are
+    /// drawn by ChaCha with 20 rounds from a seed, which is as secret as the ports are to be.
     pub fn new(
         alloc: A,
         net: &'a R,
         registry: Registry,
         ip: u32,
         ports: PortRange,
-        secret: &[u8; 32],
+        seed: [u8; 32],
     ) -> SocketPorts<'a, R, A>
         ensures first { result.first ≡ ports.0 }
         ensures last { result.last ≡ ports.1 }
-        ensures next { result.next ≡ first_place secret.now ports }
+        ensures draws { result.draws ≡ of_seed seed }
         ensures count { result.failures ≡ 0 }
         ensures empty { result.sockets.entries ≡ [] }
     {
@@ -195,7 +216,7 @@ impl<'a, R: Net, A: Allocator + Copy> SocketPorts<'a, R, A> {
             binder: Binder { net, registry, ip },
             first,
             last,
-            next: first_port(secret, ports),
+            draws: ChaCha20Rng::from_seed(seed),
             sockets: BTreeMap::new(alloc),
             failures: 0,
         }
@@ -208,43 +229,43 @@ impl<'a, R: Net, A: Allocator + Copy> SocketPorts<'a, R, A> {
         self.sockets.get(&port)
     }
 
-    /// Whether the address is one of this machine: a socket is bound at it, at any port, and released.
-    pub fn has_address(&self) -> bool {
-        let at = address_of(Endpoint {
-            ip: self.binder.ip,
-            port: 0,
-        });
+    /// Whether an address is one of this machine: a socket is bound at it, at any port, and released.
+    pub fn is_local(&self, ip: u32) -> bool {
+        let at = address_of(Endpoint { ip, port: 0 });
         UdpSocket::bind(self.binder.net, at).is_ok()
     }
 
-    /// Binds a port that has no socket yet, also outside the range. False if the system refuses, as where another program has
-    /// the port.
-    pub fn bind(&mut self, port: u16) -> Result<bool, AllocError>
+    /// Whether the address of the relay ports is one of this machine.
+    pub fn has_address(&self) -> bool {
+        self.is_local(self.binder.ip)
+    }
+
+    /// Binds a port that has no socket yet, also outside the range. Port 0 is never bound.
+    pub fn bind(&mut self, port: u16) -> Result<Bound, AllocError>
         requires { get nat_cmp self.old.sockets port ≡ None }
         ensures first { self.new.first ≡ self.old.first }
         ensures last { self.new.last ≡ self.old.last }
-        ensures next { self.new.next ≡ self.old.next }
+        ensures draws { self.new.draws ≡ self.old.draws }
         ensures count { self.new.failures ≡ self.old.failures }
-        ensures bound { result ≡ Ok true → IsBound self.old.sockets self.new.sockets port }
-        ensures refused { result ≢ Ok true → IsUnchanged self.old.sockets self.new.sockets }
+        ensures bound { result ≡ Ok binds.Done → IsBound self.old.sockets self.new.sockets port }
+        ensures refused { result ≢ Ok binds.Done → IsUnchanged self.old.sockets self.new.sockets }
+        ensures never { port ≡ 0 → result ≢ Ok binds.Done }
     {
         self.binder.bind(&mut self.sockets, port)
     }
 
-    // The next search begins after this port of the range.
-    fn go_on_after(&mut self, port: u16)
-        requires { (self.old.first ≤ port) × (port ≤ self.old.last) }
+    // The port of the range at which a search begins.
+    fn draw(&mut self) -> u16
+        ensures place { result ≡ drawn_place (self.old.first, self.old.last) self.old.draws }
+        ensures range { (self.old.first ≤ result) × (result ≤ self.old.last) }
         ensures first { self.new.first ≡ self.old.first }
         ensures last { self.new.last ≡ self.old.last }
-        ensures next { self.new.next ≡ next_after (self.old.first, self.old.last) port }
+        ensures draws { self.new.draws ≡ (next_word 10 self.old.draws).1 }
         ensures count { self.new.failures ≡ self.old.failures }
         ensures sockets { self.new.sockets ≡ self.old.sockets }
     {
-        self.next = if port < self.last {
-            port + 1
-        } else {
-            self.first
-        };
+        let ports = u32::from(self.last - self.first) + 1;
+        self.first + (self.draws.next_word() % ports) as u16
     }
 }
 
@@ -263,23 +284,20 @@ impl<'a, R: Net, A: Allocator + Copy> RelayAddressGenerator for SocketPorts<'a, 
         ensures count { (self.new.failures ≡ self.old.failures) ⊎ ((result ≡ Ok None) × Failed self.old.failures self.new.failures) }
         ensures first { self.new.first ≡ self.old.first }
         ensures last { self.new.last ≡ self.old.last }
-        // The next search begins after the port that was picked.
-        ensures next { IfOk result (λ port. self.new.next ≡ next_once (self.old.first, self.old.last) self.old.next port) }
-        ensures next_err { OnErr result (self.new.next ≡ self.old.next) }
+        ensures draws { self.new.draws ≡ (next_word 10 self.old.draws).1 }
+        ensures never { result ≢ Ok (Some 0) }
         ensures bound { IfOk result (BindsWhatIsPicked self.old.sockets self.new.sockets) }
         ensures err { OnErr result (IsUnchanged self.old.sockets self.new.sockets) }
     {
         let range = (self.first, self.last);
+        let from = self.draw();
         let search = self
             .binder
-            .search_around(&mut self.sockets, range, self.next, taken, even)?;
+            .search_around(&mut self.sockets, range, from, taken, even)?;
         match search {
-            Search::Found(port) => {
-                self.go_on_after(port);
-                Ok(Some(port))
-            }
+            Search::Found(port) => Ok(Some(port)),
             Search::Nothing => Ok(None),
-            Search::Failed => {
+            Search::Failed | Search::Exhausted => {
                 self.failures = self.failures.wrapping_add(1);
                 Ok(None)
             }

@@ -1,6 +1,6 @@
 //! The sockets that may have a datagram.
 
-ghost use Rattle.std.specs.Prelude.{◌≡◌, ◌≤◌, ℕ, [], true, false, IfOk, IfSome, OnOk, OnErr, length, map, nat_eq, slice_get};
+ghost use Rattle.std.specs.Prelude.{◌≡◌, ◌<◌, [], IfOk, OnOk, OnErr, length, map, nat_eq, slice_index};
 ghost use Rattle.std.specs.List.{IsDistinct, list_any};
 ghost use Rattle.indexmap.specs.IndexSet.{insert_all, insert_key};
 ghost use Rattle.mio.specs.Event.{event_token};
@@ -13,7 +13,7 @@ use std::alloc::{AllocError, AllocFailed, Allocator, Global};
 use std::hash::{BuildHasherDefault, FoldHasher};
 use std::marker::Model;
 
-/// How many tokens there are: one for each port, and that of the listening socket.
+/// How many tokens there are: one for each port, and that of a listening socket.
 const TOKENS: usize = 65_537;
 
 /// The tokens of the sockets that may have a datagram, each once.
@@ -57,10 +57,11 @@ impl<A: Allocator> Ready<A> {
     }
 
     /// The token at a place.
-    pub fn get(&self, place: usize) -> Option<usize>
-        ensures { result ≡ slice_get self.now place }
+    pub fn at(&self, place: usize) -> usize
+        requires { place < length self.now }
+        ensures { result ≡ slice_index self.now place }
     {
-        self.tokens.get_index(place).copied()
+        self.tokens[place]
     }
 
     /// Adds a token that isn't there yet. It fails only if there is no room, and then changes nothing.
@@ -82,10 +83,17 @@ impl<A: Allocator> Ready<A> {
         Ok(())
     }
 
-    /// Removes the token at a place, which the last one takes.
-    pub fn remove(&mut self, place: usize)
-        ensures { IsWithout (slice_get self.old place) self.old self.new }
+    /// Whether a token is listed.
+    pub fn has(&self, token: usize) -> bool
+        ensures { result ≡ list_any (nat_eq token) self.now }
     {
-        self.tokens.swap_remove_index(place);
+        self.tokens.contains(&token)
+    }
+
+    /// Removes a token, whose place the last one takes.
+    pub fn remove(&mut self, token: usize)
+        ensures { IsWithout token self.old self.new }
+    {
+        self.tokens.swap_remove(&token);
     }
 }

@@ -1,11 +1,16 @@
 //! Datagrams as they are received, and the ids of Data indications.
 
-ghost use Rattle.std.specs.Prelude.{◌≡◌, ◌+◌, ◌%◌, ◌^◌, ◌++◌};
+ghost use Rattle.std.specs.Prelude.{◌≡◌, ◌+◌, ◌%◌, ◌^◌, ◌++◌, ◌↔◌};
 ghost use Rattle.std.specs.Int.{to_be_bytes, w32, w64};
+ghost use Rattle.std.specs.IoError.{error_kind};
+ghost use Rattle.std.specs.declared.io.ErrorKind.TheVariants.{WouldBlock};
+ghost use Rattle.turn_sockets.specs.declared.received.Received.TheVariants as received;
 
 use crate::address::endpoint_of;
 use mio::net::UdpSocket;
 use std::alloc::{AllocError, Allocator, Global};
+use std::io::{self, Error, ErrorKind};
+use std::net::SocketAddr;
 use turn_types::{Endpoint, Moment, TxId};
 
 /// How many bytes a datagram over UDP may have, with some to spare: what doesn't fit into a buffer is lost.
@@ -37,6 +42,41 @@ impl DataIds {
     }
 }
 
+/// A socket that datagrams are received from.
+pub trait DatagramSocket {
+    /// Receives a datagram into a buffer: its size, and who sent it. A datagram that doesn't fit loses its end. An error whose kind
+    /// is `WouldBlock` says that none waits.
+    fn receive(&self, buffer: &mut [u8]) -> io::Result<(usize, SocketAddr)>;
+}
+
+impl DatagramSocket for UdpSocket {
+    fn receive(&self, buffer: &mut [u8]) -> io::Result<(usize, SocketAddr)> {
+        self.recv_from(buffer)
+    }
+}
+
+/// What was received of a socket.
+#[derive(Clone, Copy, Debug)]
+pub enum Received<'b> {
+    /// A datagram, and who sent it.
+    Datagram { bytes: &'b [u8], from: Endpoint },
+    /// Nothing, though more may wait: the system failed, or the sender has no IPv4 address.
+    Failed,
+    /// None waits. The socket is reported again once something arrives.
+    Nothing,
+}
+
+/// What an error of a receive says. One that reports something else than that none waits, as an ICMP message or a lack of memory,
+/// says nothing of what waits.
+fn failure_of<'b>(error: &Error) -> Received<'b>
+    ensures { (result ≡ received.Nothing) ↔ (error_kind error.now ≡ WouldBlock) }
+{
+    match error.kind() {
+        ErrorKind::WouldBlock => Received::Nothing,
+        _ => Received::Failed,
+    }
+}
+
 /// The room for one datagram.
 #[derive(Drop)]
 pub struct Buffer<A: Allocator = Global> {
@@ -50,11 +90,15 @@ impl<A: Allocator> Buffer<A> {
         })
     }
 
-    /// The datagram that waits at a socket, and who sent it. `None` if none waits, and for whatever else the system says: a
-    /// socket is asked again once something new arrives.
-    pub fn receive(&mut self, socket: &UdpSocket) -> Option<(&[u8], Endpoint)> {
-        let (size, from) = socket.recv_from(self.bytes.as_mut_slice()).ok()?;
-        let bytes = self.bytes.as_slice().get(..size)?;
-        Some((bytes, endpoint_of(from)?))
+    /// Receives a datagram of a socket.
+    pub fn receive<S: DatagramSocket>(&mut self, socket: &S) -> Received<'_> {
+        let (size, from) = match socket.receive(self.bytes.as_mut_slice()) {
+            Ok(found) => found,
+            Err(error) => return failure_of(&error),
+        };
+        match (self.bytes.as_slice().get(..size), endpoint_of(from)) {
+            (Some(bytes), Some(from)) => Received::Datagram { bytes, from },
+            _ => Received::Failed,
+        }
     }
 }
