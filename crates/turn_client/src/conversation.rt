@@ -15,7 +15,7 @@ use turn_disk::Disk;
 use turn_mac::generate_auth_key;
 use turn_ports::PortRange;
 use turn_requests::{Attribute, Received, read_message};
-use turn_serving::{Setup, SocketServing};
+use turn_serving::{Commits, Setup, SocketServing};
 use turn_types::{Bounds, ConfigError, Endpoint, Limits, Method, ServerConfig, Settings};
 
 /// 127.0.0.1.
@@ -56,6 +56,7 @@ pub struct Loopback<'a, R: Net, A: Allocator + Copy = Global> {
     users: Users<A>,
     ports: PortRange,
     burst: u8,
+    commits: Commits,
     // Where the server listens; port 0 before it ran.
     listen: Endpoint,
     client: Client<'static, A>,
@@ -78,6 +79,7 @@ pub struct Conversation<'a, D: Disk + Drop, R: Net, A: Allocator + Copy = Global
     config: ServerConfig<A>,
     ports: PortRange,
     burst: u8,
+    commits: Commits,
     serving: SocketServing<'a, D, Users<A>, R, A>,
     client: Client<'static, A>,
     peer: TimedSocket<A>,
@@ -99,19 +101,10 @@ pub struct Allocated<A: Allocator = Global> {
     pub lifetime: u32,
 }
 
-/// A configuration whose relay ports begin at another place for each client, so that two conversations at once seldom ask for
-/// the same ports.
-fn make_config<A: Allocator + Copy>(
-    alloc: A,
-    client: Endpoint,
-) -> Result<ServerConfig<A>, AllocError> {
-    let mut secret = [0u8; 32];
-    let [high, low] = client.port.to_be_bytes();
-    secret[0] = high;
-    secret[1] = low;
+fn make_config<A: Allocator + Copy>(alloc: A) -> Result<ServerConfig<A>, AllocError> {
     let settings = Settings {
         realm: CREDENTIALS.realm,
-        secret,
+        secret: [0; 32],
         relay: LOOPBACK,
         quota: 4,
         denied: &[],
@@ -122,6 +115,15 @@ fn make_config<A: Allocator + Copy>(
         Err(ConfigError::Memory) => Err(AllocError),
         Err(_) => unreachable!(),
     }
+}
+
+/// What relay ports are drawn from: other bytes for each client, so that two conversations at once seldom ask for the same ports.
+fn seed_of(client: Endpoint) -> [u8; 32] {
+    let [high, low] = client.port.to_be_bytes();
+    let mut seed = [0u8; 32];
+    seed[0] = high;
+    seed[1] = low;
+    seed
 }
 
 fn make_users<A: Allocator + Copy>(alloc: A) -> Result<Users<A>, AllocError> {
@@ -137,30 +139,36 @@ fn make_users<A: Allocator + Copy>(alloc: A) -> Result<Users<A>, AllocError> {
 
 impl<'a, R: Net + Drop, A: Allocator + Copy> Loopback<'a, R, A> {
     /// A client and a peer with sockets of their own, and a server to be, with relay ports of a range, which takes up to so
-    /// many datagrams of a socket in a turn.
+    /// many datagrams of a socket in a turn, and commits so.
     pub fn new(
         alloc: A,
         net: &'a R,
         ports: PortRange,
         burst: u8,
+        commits: Commits,
     ) -> Result<Loopback<'a, R, A>, ClientFault> {
         let client = Client::open(alloc, net, ANY_PORT, ANY_PORT, CREDENTIALS)?;
         let peer = TimedSocket::open(alloc, net, ANY_PORT)?;
         Ok(Loopback {
             alloc,
             net,
-            config: make_config(alloc, client.local())?,
+            config: make_config(alloc)?,
             users: make_users(alloc)?,
             ports,
             burst,
+            commits,
             listen: ANY_PORT,
             client,
             peer,
         })
     }
 
-    /// Starts the server over a disk.
-    pub fn serve<D: Disk + Drop>(self, disk: D) -> Result<Conversation<'a, D, R, A>, ClientFault> {
+    /// Starts the server over a disk. The clock is for pauses where a port is in use.
+    pub fn serve<D: Disk + Drop, C: Clock>(
+        self,
+        system: &C,
+        disk: D,
+    ) -> Result<Conversation<'a, D, R, A>, ClientFault> {
         let Loopback {
             alloc,
             net,
@@ -168,6 +176,7 @@ impl<'a, R: Net + Drop, A: Allocator + Copy> Loopback<'a, R, A> {
             users,
             ports,
             burst,
+            commits,
             listen,
             mut client,
             peer,
@@ -178,8 +187,10 @@ impl<'a, R: Net + Drop, A: Allocator + Copy> Loopback<'a, R, A> {
             ports,
             relay_bind: None,
             burst,
+            commits,
+            seed: seed_of(client.local()),
         };
-        let serving = setup.start(alloc, net, disk, users)?;
+        let serving = setup.start(alloc, net, system, disk, users)?;
         client.set_server(serving.local());
         Ok(Conversation {
             alloc,
@@ -187,6 +198,7 @@ impl<'a, R: Net + Drop, A: Allocator + Copy> Loopback<'a, R, A> {
             config,
             ports,
             burst,
+            commits,
             serving,
             client,
             peer,
@@ -203,6 +215,7 @@ impl<'a, D: Disk + Drop, R: Net + Drop, A: Allocator + Copy> Conversation<'a, D,
             config,
             ports,
             burst,
+            commits,
             serving,
             client,
             peer,
@@ -216,6 +229,7 @@ impl<'a, D: Disk + Drop, R: Net + Drop, A: Allocator + Copy> Conversation<'a, D,
             users,
             ports,
             burst,
+            commits,
             listen,
             client,
             peer,
@@ -231,6 +245,11 @@ impl<'a, D: Disk + Drop, R: Net + Drop, A: Allocator + Copy> Conversation<'a, D,
     pub fn turn<C: Clock>(&mut self, clock: &C) -> Result<(), ClientFault> {
         self.serving.turn(clock)?;
         Ok(())
+    }
+
+    /// The address of the server.
+    pub fn server(&self) -> Endpoint {
+        self.serving.local()
     }
 
     /// The address of the peer.

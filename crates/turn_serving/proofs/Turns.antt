@@ -57,6 +57,9 @@ module _ {D H G : Type 0} {disk : disks.Ghosts D} {handler : handlers.Ghosts H} 
   pub from : {old same new : ServerState D H G} → same ≡ old → Served disk handler ports same new → Served disk handler ports old new
   from {new = new} is served = subst (λ s. Served disk handler ports s new) is served
 
+  pub to : {old new same : ServerState D H G} → same ≡ new → Served disk handler ports old new → Served disk handler ports old same
+  to {old = old} is served = subst (λ s. Served disk handler ports old s) (sym is) served
+
   pub in_time : {old new : ServerState D H G} → Served disk handler ports old new → now_of old ≤ now_of new
   in_time {old = old} served = subst (λ s. now_of old ≤ now_of s) served.last (calls_in_time disk handler ports old served.steps served.serves)
 

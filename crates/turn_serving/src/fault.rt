@@ -55,6 +55,14 @@ impl From<CommitRefused> for TurnFault {
     }
 }
 
+impl From<AllocError> for TurnFault {
+    ghost from_gives = { λ _ f. f ≡ turns.Memory };
+
+    fn from(_: AllocError) -> TurnFault {
+        TurnFault::Memory
+    }
+}
+
 impl<T: Drop> From<AllocFailed<T>> for TurnFault {
     ghost from_gives = { λ _ f. f ≡ turns.Memory };
 

@@ -9,6 +9,7 @@ ghost use Rattle.turn_step.specs.Answer.{Setting};
 ghost use Rattle.turn_store.specs.Areas.{Form};
 ghost use Rattle.turn_store.specs.Images.{EachImage};
 ghost use Rattle.turn_types.specs.Config.{Config};
+ghost use Rattle.turn_serving.specs.Requests.{OthersChangeNothing};
 ghost use Rattle.turn_serving.specs.Starts.{BeginsRun, Started};
 ghost use Rattle.turn_serving.specs.Turns.{Served};
 
@@ -26,4 +27,10 @@ pub fn turns_make_runs<D: Disk, H: AuthHandler, G: RelayAddressGenerator>()
     ensures goes_on { (s : Setting) (h : History) (t : ℕ) (old new : ServerState D H G) (p : Place)
         → IsAt D.Disk H.AuthHandler G.RelayAddressGenerator s h t old p → (turn : Served D.Disk H.AuthHandler G.RelayAddressGenerator old new)
         → Leads D.Disk H.AuthHandler G.RelayAddressGenerator s h t old p turn.steps }
+{}
+
+/// A datagram that isn't a request of a method that asks for credentials changes nothing, so its commit makes no device call: data,
+/// indications and Bindings don't wait for a sync.
+pub fn others_change_nothing()
+    ensures { OthersChangeNothing }
 {}

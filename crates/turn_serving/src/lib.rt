@@ -3,6 +3,7 @@
 #![tactic(auto)]
 
 mod fault;
+mod kept;
 mod laws;
 mod listening;
 mod serving;
@@ -10,7 +11,8 @@ mod start;
 mod turn;
 
 pub use fault::{StartFault, TurnFault};
-pub use laws::turns_make_runs;
-pub use serving::{Serving, SocketServing};
+pub use kept::may_change;
+pub use laws::{others_change_nothing, turns_make_runs};
+pub use serving::{Commits, Serving, SocketServing};
 pub use start::Setup;
 pub use turn::RelaySockets;

@@ -5,16 +5,46 @@ ghost use Rattle.turn_engine.specs.State.{emptied, now_of};
 ghost use Rattle.turn_serving.specs.Turns.{Served};
 
 use crate::fault::TurnFault;
-use crate::listening::{Listening, Waiting};
-use crate::turn::{RelaySockets, Turn, flush};
-use std::alloc::{Allocator, Global};
+use crate::kept::Kept;
+use crate::listening::{Listening, WAIT_MILLIS, Waiting};
+use crate::turn::{RelaySockets, Taken, Turn, Work, flush, send_all, submit_kept};
+use std::alloc::{AllocError, Allocator, Global};
 use std::marker::Model;
 use std::rt::Clock;
+use std::time::Duration;
 use turn_cred::AuthHandler;
 use turn_disk::Disk;
 use turn_engine::Server;
-use turn_sockets::{Buffer, DataIds, SocketPorts, moment_now};
-use turn_types::Endpoint;
+use turn_sockets::{Pace, SocketPorts, moment_now};
+use turn_types::{Endpoint, Limits};
+
+/// When the requests of clients are committed.
+#[derive(Clone, Copy, Debug, PartialEq, Eq)]
+pub enum Commits {
+    /// At the end of each turn, with all else that the turn took.
+    EachTurn,
+    /// Together, so that a sync seldom holds up data: what came is sent at once where it needs no write, and requests wait. They are
+    /// submitted and committed if no data came since the last commit, if the pause after that is over (four times as long as it
+    /// took, at most 50 ms), or if as many wait as a batch has (at most 64).
+    Paced,
+}
+
+/// How many requests may wait at most.
+const MAX_KEPT: u16 = 64;
+
+impl Commits {
+    /// The place for requests that wait.
+    pub(crate) fn places<A: Allocator + Copy>(
+        self,
+        alloc: A,
+        limits: Limits,
+    ) -> Result<Kept<A>, AllocError> {
+        match self {
+            Commits::EachTurn => Kept::new(alloc, 0),
+            Commits::Paced => Kept::new(alloc, usize::from(limits.acts().min(MAX_KEPT))),
+        }
+    }
+}
 
 /// A server with its sockets, which takes turns.
 pub struct Serving<
@@ -26,10 +56,12 @@ pub struct Serving<
     server: Server<D, H, G, A>,
     listening: Listening,
     waiting: Waiting<A>,
-    buffer: Buffer<A>,
-    ids: DataIds,
+    work: Work<A>,
     // How many datagrams a turn takes of each socket.
     burst: u8,
+    pace: Pace,
+    // Whether data came since the last commit of requests that waited.
+    has_data: bool,
 }
 
 /// A server whose relay ports each have a socket.
@@ -57,9 +89,10 @@ impl<D: Disk + Drop, H: AuthHandler + Drop, G: RelaySockets + Drop, A: Allocator
             server: _,
             listening: _,
             waiting: _,
-            buffer: _,
-            ids: _,
+            work: _,
             burst: _,
+            pace: _,
+            has_data: _,
         } = self;
     }
 }
@@ -74,7 +107,7 @@ impl<D: Disk + Drop, H: AuthHandler + Drop, G: RelaySockets + Drop, A: Allocator
         server: Server<D, H, G, A>,
         listening: Listening,
         waiting: Waiting<A>,
-        buffer: Buffer<A>,
+        work: Work<A>,
         burst: u8,
     ) -> Serving<D, H, G, A>
         ensures { result ≡ server }
@@ -83,15 +116,16 @@ impl<D: Disk + Drop, H: AuthHandler + Drop, G: RelaySockets + Drop, A: Allocator
             server,
             listening,
             waiting,
-            buffer,
-            ids: DataIds::new(),
+            work,
             burst,
+            pace: Pace::new(),
+            has_data: false,
         }
     }
 
     /// The address that clients send to, with the port that the system chose if it was to choose one.
     pub fn local(&self) -> Endpoint {
-        self.listening.local
+        self.listening.own.listening
     }
 
     pub fn server(&self) -> &Server<D, H, G, A>
@@ -109,16 +143,17 @@ impl<D: Disk + Drop, H: AuthHandler + Drop, G: RelaySockets + Drop, A: Allocator
             server,
             listening: _,
             waiting: _,
-            buffer: _,
-            ids: _,
+            work: _,
             burst: _,
+            pace: _,
+            has_data: _,
         } = self;
         let (disk, handler, _) = server.close();
         (disk, handler)
     }
 
-    // Takes up to `burst` datagrams of each socket that may have some. Returns whether there were any.
-    fn take_all<C: Clock>(&mut self, system: &C) -> Result<bool, TurnFault>
+    // Takes up to `burst` datagrams of each socket that may have some.
+    fn take_all<C: Clock>(&mut self, system: &C) -> Result<Taken, TurnFault>
         ensures { Served D.Disk H.AuthHandler G.RelayAddressGenerator self.old self.new }
     {
         let turn = Turn {
@@ -126,29 +161,100 @@ impl<D: Disk + Drop, H: AuthHandler + Drop, G: RelaySockets + Drop, A: Allocator
             moment: moment_now(system, self.server.clock()).ok_or(TurnFault::Clock)?,
             burst: self.burst,
         };
+        self.waiting.plan()?;
         turn.take_all(
             &mut self.server,
-            &mut self.buffer,
-            &mut self.ids,
+            &mut self.work,
+            &self.waiting.order,
             &mut self.waiting.ready,
         )
     }
 
-    // Takes what there is. If there is nothing it waits first, at most 50 ms.
-    fn take<C: Clock>(&mut self, system: &C) -> Result<(), TurnFault>
+    // For how long nothing is to be done unless a datagram comes: at most 50 ms, and no longer than requests wait.
+    fn rest<C: Clock>(&self, system: &C) -> Duration {
+        let most = Duration::from_millis(WAIT_MILLIS);
+        if self.work.kept.is_empty() {
+            return most;
+        }
+        if self.work.kept.is_full() || !self.has_data {
+            return Duration::ZERO;
+        }
+        // Without a clock they don't wait.
+        match system.monotonic() {
+            Ok(now) => self.pace.rest(now).min(most),
+            Err(_) => Duration::ZERO,
+        }
+    }
+
+    // Takes what there is. If there is nothing it waits first.
+    fn take<C: Clock>(&mut self, system: &C) -> Result<Taken, TurnFault>
         ensures { Served D.Disk H.AuthHandler G.RelayAddressGenerator self.old self.new }
     {
-        if self.take_all(system)? {
-            return self.waiting.look();
+        let taken = self.take_all(system)?;
+        if taken.any {
+            self.waiting.look_sometimes()?;
+            return Ok(taken);
         }
-        self.waiting.wait()?;
+        let rest = self.rest(system);
+        self.waiting.wait(rest)?;
+        self.take_all(system)
+    }
+
+    // If `share` is set, takes what came by now: it would wait for the commit that follows anyway. No request of it is kept.
+    fn take_late<C: Clock>(&mut self, system: &C, share: bool) -> Result<(), TurnFault>
+        ensures { Served D.Disk H.AuthHandler G.RelayAddressGenerator self.old self.new }
+    {
+        if !share {
+            return Ok(());
+        }
+        self.waiting.look_if(true)?;
+        self.work.kept.set_open(false);
         self.take_all(system)?;
+        self.work.kept.set_open(true);
         Ok(())
+    }
+
+    // Submits the requests that waited. To submit several takes a while, so what came meanwhile is taken too.
+    fn submit_waiting<C: Clock>(&mut self, system: &C) -> Result<(), TurnFault>
+        ensures { Served D.Disk H.AuthHandler G.RelayAddressGenerator self.old self.new }
+    {
+        let moment = moment_now(system, self.server.clock()).ok_or(TurnFault::Clock)?;
+        submit_kept(&self.listening, &mut self.server, moment, &self.work.kept)?;
+        let share = self.work.kept.clear();
+        self.take_late(system, share)
+    }
+
+    // Submits the requests that waited, and commits them. Notes how long the commit took.
+    fn commit_kept<C: Clock>(&mut self, system: &C) -> Result<(), TurnFault>
+        ensures served { Served D.Disk H.AuthHandler G.RelayAddressGenerator self.old self.new }
+        ensures done { OnOk result (self.new ≡ emptied self.new self.new.store) }
+        ensures runs { OnOk result (self.new.store.stopped ≡ false) }
+    {
+        self.submit_waiting(system)?;
+        self.has_data = false;
+        let began = system.monotonic().ok();
+        let outgoing = self.server.commit()?;
+        self.pace.note(began, system.monotonic().ok());
+        send_all(&self.listening, self.server.ports(), &outgoing);
+        Ok(())
+    }
+
+    // Commits the requests that waited, if they are due.
+    fn commit_due<C: Clock>(&mut self, system: &C) -> Result<bool, TurnFault>
+        ensures served { Served D.Disk H.AuthHandler G.RelayAddressGenerator self.old self.new }
+        ensures done { self.old ≡ emptied self.old self.old.store → OnOk result (self.new ≡ emptied self.new self.new.store) }
+        ensures runs { self.old.store.stopped ≡ false → OnOk result (self.new.store.stopped ≡ false) }
+    {
+        let is_due = !self.work.kept.is_empty() && self.rest(system) == Duration::ZERO;
+        if is_due {
+            self.commit_kept(system)?;
+        }
+        Ok(is_due)
     }
 
     /// One turn: takes up to `burst` datagrams of each socket that has some, commits, and sends what came of them. If there
     /// are none it waits for one first, at most 50 ms. The moment is the system's second, or the server's clock if that is
-    /// later.
+    /// later. Under `Commits::Paced` requests are kept, and committed at the end of the turn in which they are due.
     ///
     /// Nothing is sent that was not committed. After a commit that failed each later turn fails.
     pub fn turn<C: Clock>(&mut self, system: &C) -> Result<(), TurnFault>
@@ -158,8 +264,12 @@ impl<D: Disk + Drop, H: AuthHandler + Drop, G: RelaySockets + Drop, A: Allocator
         ensures done { OnOk result (self.new ≡ emptied self.new self.new.store) }
         ensures runs { OnOk result (self.new.store.stopped ≡ false) }
     {
-        self.take(system)?;
-        flush(&self.listening, &mut self.server)
+        let taken = self.take(system)?;
+        self.has_data |= taken.data;
+        flush(&self.listening, &mut self.server)?;
+        // While a commit wrote, the other sockets may have got datagrams.
+        let has_committed = self.commit_due(system)?;
+        self.waiting.look_if(has_committed || taken.submitted)
     }
 
     /// So many turns, one after the other, or up to the first that fails.

@@ -1,21 +1,22 @@
 //! How a server over sockets is started.
 
-ghost use Rattle.std.specs.Prelude.{◌≡◌, Ok, IfOk, true};
+ghost use Rattle.std.specs.Prelude.{◌≡◌, Ok, IfOk, true, unwrap_or};
 ghost use Rattle.turn_engine.specs.Calls.{Opening};
 ghost use Rattle.turn_serving.specs.Starts.{IsKept, Started, have_ports};
 
 use crate::fault::StartFault;
-use crate::listening::{Listening, Waiting};
-use crate::serving::{Serving, SocketServing};
-use crate::turn::RelaySockets;
+use crate::listening::{ATTEMPTS, Listening, Waiting, pause};
+use crate::serving::{Commits, Serving, SocketServing};
+use crate::turn::{RelaySockets, Work};
 use mio::Poll;
 use std::alloc::{AllocError, Allocator, Global};
 use std::net::Net;
+use std::rt::Clock;
 use turn_cred::AuthHandler;
 use turn_disk::Disk;
 use turn_engine::Server;
 use turn_ports::{PortRange, RelayAddressGenerator};
-use turn_sockets::{Buffer, SocketPorts};
+use turn_sockets::{Bound, Buffer, DataIds, OwnAddresses, SocketPorts};
 use turn_table::Table;
 use turn_types::{Endpoint, ServerConfig};
 
@@ -31,6 +32,9 @@ pub struct Setup<'c, A: Allocator = Global> {
     pub relay_bind: Option<u32>,
     /// How many datagrams a turn takes of each socket.
     pub burst: u8,
+    pub commits: Commits,
+    /// What relay ports are drawn from: random bytes, new at each start.
+    pub seed: [u8; 32],
 }
 
 /// Opens the store of a disk. A refusal lets the disk go.
@@ -81,18 +85,39 @@ fn look_into<D: Disk + Drop, H: AuthHandler + Drop, A: Allocator + Copy>(
     Ok((disk, handler, ports))
 }
 
-/// Binds each of these ports.
-fn bind_all<R: Net, A: Allocator + Copy>(
+/// Binds a port, if it has no socket yet. While it is in use it tries again, up to two seconds.
+fn bind<R: Net, A: Allocator + Copy, C: Clock>(
     sockets: &mut SocketPorts<'_, R, A>,
+    system: &C,
+    port: u16,
+) -> Result<(), StartFault>
+    ensures first { sockets.new.first ≡ sockets.old.first }
+    ensures last { sockets.new.last ≡ sockets.old.last }
+{
+    for _attempt in 0..ATTEMPTS {
+        if sockets.socket(port).is_some() {
+            return Ok(());
+        }
+        match sockets.bind(port)? {
+            Bound::Done => return Ok(()),
+            Bound::Unavailable => pause(system),
+            Bound::Exhausted => return Err(StartFault::Socket),
+        }
+    }
+    Err(StartFault::Socket)
+}
+
+/// Binds each of these ports.
+fn bind_all<R: Net, A: Allocator + Copy, C: Clock>(
+    sockets: &mut SocketPorts<'_, R, A>,
+    system: &C,
     ports: &[u16],
 ) -> Result<(), StartFault>
     ensures first { sockets.new.first ≡ sockets.old.first }
     ensures last { sockets.new.last ≡ sockets.old.last }
 {
     for port in ports {
-        if sockets.socket(*port).is_none() && !sockets.bind(*port)? {
-            return Err(StartFault::Socket);
-        }
+        bind(sockets, system, *port)?;
     }
     Ok(())
 }
@@ -112,11 +137,34 @@ fn have_sockets<D: Disk, H: AuthHandler, G: RelaySockets, A: Allocator + Copy>(
 }
 
 impl<'c, A: Allocator + Copy> Setup<'c, A> {
+    /// The address on which relay sockets are bound.
+    fn bound(&self) -> u32
+        ensures { result ≡ unwrap_or self.now.relay_bind self.now.config.now.relay }
+    {
+        self.relay_bind.unwrap_or(self.config.relay())
+    }
+
+    /// The server's own addresses.
+    fn own(&self) -> OwnAddresses
+        ensures listening { result.listening ≡ self.now.listen }
+        ensures relay { result.relay ≡ self.now.config.now.relay }
+        ensures bound { result.bound ≡ unwrap_or self.now.relay_bind self.now.config.now.relay }
+        ensures ports { result.ports ≡ self.now.ports }
+    {
+        OwnAddresses {
+            listening: self.listen,
+            relay: self.config.relay(),
+            bound: self.bound(),
+            ports: self.ports,
+        }
+    }
+
     /// The relay ports, with a socket for each of these.
-    fn bind_ports<'a, R: Net>(
+    fn bind_ports<'a, R: Net, C: Clock>(
         &self,
         alloc: A,
         net: &'a R,
+        system: &C,
         poll: &Poll,
         ports: &[u16],
     ) -> Result<SocketPorts<'a, R, A>, StartFault>
@@ -125,22 +173,23 @@ impl<'c, A: Allocator + Copy> Setup<'c, A> {
         let Ok(registry) = poll.registry().try_clone() else {
             return Err(StartFault::Socket);
         };
-        let ip = self.relay_bind.unwrap_or(self.config.relay());
-        let secret = self.config.secret();
-        let mut sockets = SocketPorts::new(alloc, net, registry, ip, self.ports, secret);
+        let ip = self.bound();
+        let mut sockets = SocketPorts::new(alloc, net, registry, ip, self.ports, self.seed);
         if !sockets.has_address() {
             return Err(StartFault::Socket);
         }
-        bind_all(&mut sockets, ports)?;
+        bind_all(&mut sockets, system, ports)?;
         Ok(sockets)
     }
 
     /// Opens the store of a disk, binds the relay ports of its allocations, opens it again over them, and binds the listening
-    /// socket: so a fault of the store comes before one of a socket.
-    pub fn start<'a, D: Disk + Drop, H: AuthHandler + Drop, R: Net + Drop>(
+    /// socket: so a fault of the store comes before one of a socket. A port that is in use is tried again for two seconds, in
+    /// pauses by the system's clock.
+    pub fn start<'a, D: Disk + Drop, H: AuthHandler + Drop, R: Net + Drop, C: Clock>(
         &self,
         alloc: A,
         net: &'a R,
+        system: &C,
         disk: D,
         handler: H,
     ) -> Result<SocketServing<'a, D, H, R, A>, StartFault>
@@ -154,15 +203,19 @@ impl<'c, A: Allocator + Copy> Setup<'c, A> {
         let Ok(poll) = Poll::new(net) else {
             return Err(StartFault::Socket);
         };
-        let sockets = self.bind_ports(alloc, net, &poll, &ports)?;
+        let sockets = self.bind_ports(alloc, net, system, &poll, &ports)?;
         let server = open(alloc, disk, self.config, handler, sockets)?;
         // A disk that failed between the two openings may have said something else.
         if !have_sockets(&server) {
             return Err(StartFault::Socket);
         }
-        let listening = Listening::open(net, &poll, self.listen)?;
+        let listening = Listening::open(net, system, &poll, self.own())?;
         let waiting = Waiting::new(alloc, poll)?;
-        let buffer = Buffer::new(alloc)?;
-        Ok(Serving::new(server, listening, waiting, buffer, self.burst))
+        let work = Work {
+            buffer: Buffer::new(alloc)?,
+            ids: DataIds::new(),
+            kept: self.commits.places(alloc, self.config.limits())?,
+        };
+        Ok(Serving::new(server, listening, waiting, work, self.burst))
     }
 }

@@ -1,23 +1,27 @@
 //! What a turn does with one socket.
 
-ghost use Rattle.std.specs.Prelude.{◌≡◌, ◌≤◌, ℕ, Bool, OnOk, false, is_some};
+ghost use Rattle.std.specs.Prelude.{◌≡◌, ◌≢◌, ◌≤◌, ◌↔◌, ℕ, Bool, IsTrue, OnOk, false, is_some};
 ghost use Rattle.std.specs.BTreeMap.{get};
 ghost use Rattle.std.specs.Ordering.{nat_cmp};
 ghost use Rattle.turn_engine.specs.State.{emptied, now_of};
 ghost use Rattle.turn_serving.specs.Turns.{Served};
+ghost use Rattle.turn_sockets.specs.Own.{IsListening};
 
 use crate::fault::TurnFault;
+use crate::kept::{Kept, may_change};
 use crate::listening::Listening;
 use mio::net::UdpSocket;
-use std::alloc::Allocator;
+use std::alloc::{Allocator, Global};
 use std::net::Net;
 use turn_cred::AuthHandler;
 use turn_disk::Disk;
 use turn_engine::{Server, SubmitRefused};
 use turn_ports::RelayAddressGenerator;
-use turn_sockets::{Buffer, DataIds, Ready, SocketPorts, address_of};
+use turn_sockets::{
+    Buffer, DataIds, Order, OwnAddresses, Ready, Received, SocketPorts, address_of,
+};
 use turn_step::{Arrival, Outgoing};
-use turn_types::{FiveTuple, Moment};
+use turn_types::{Endpoint, Moment};
 
 /// Relay ports with sockets.
 pub trait RelaySockets: RelayAddressGenerator {
@@ -27,6 +31,9 @@ pub trait RelaySockets: RelayAddressGenerator {
     /// The socket of a port.
     fn socket(&self, port: u16) -> Option<&UdpSocket>
         ensures { is_some result ≡ has_socket self.now port };
+
+    /// Whether an address is one of this machine.
+    fn is_local(&self, ip: u32) -> bool;
 }
 
 impl<'a, R: Net, A: Allocator + Copy> RelaySockets for SocketPorts<'a, R, A> {
@@ -35,9 +42,22 @@ impl<'a, R: Net, A: Allocator + Copy> RelaySockets for SocketPorts<'a, R, A> {
     fn socket(&self, port: u16) -> Option<&UdpSocket> {
         self.socket(port)
     }
+
+    fn is_local(&self, ip: u32) -> bool {
+        self.is_local(ip)
+    }
 }
 
-/// Sends a datagram. One that can't be sent is lost, as on any link.
+/// Whether what a relay port sends to a peer would come to the socket that clients send to. Where that has the address 0.0.0.0, the
+/// peer's has to be one of this machine.
+fn is_listening<G: RelaySockets>(own: &OwnAddresses, ports: &G, peer: Endpoint) -> bool
+    ensures only { IsTrue result → IsListening own.now peer }
+    ensures named { own.now.listening.ip ≢ 0 → (IsTrue result ↔ IsListening own.now peer) }
+{
+    own.is_listening(peer) && (own.listening.ip != 0 || ports.is_local(peer.ip))
+}
+
+/// Sends a datagram. One that can't be sent is lost, as on any link, and so is one from a relay port to the server itself.
 fn send<G: RelaySockets, A: Allocator>(listening: &Listening, ports: &G, outgoing: &Outgoing<A>) {
     match outgoing {
         Outgoing::ToClient { five_tuple, bytes } => {
@@ -45,10 +65,24 @@ fn send<G: RelaySockets, A: Allocator>(listening: &Listening, ports: &G, outgoin
             let _ = listening.socket.send_to(bytes.as_slice(), to);
         }
         Outgoing::ToPeer { port, peer, bytes } => {
+            if is_listening(&listening.own, ports, *peer) {
+                return;
+            }
             if let Some(socket) = ports.socket(*port) {
                 let _ = socket.send_to(bytes.as_slice(), address_of(*peer));
             }
         }
+    }
+}
+
+/// Sends what a commit handed out, in its order.
+pub(crate) fn send_all<G: RelaySockets, A: Allocator>(
+    listening: &Listening,
+    ports: &G,
+    outgoing: &[Outgoing<A>],
+) {
+    for datagram in outgoing {
+        send(listening, ports, datagram);
     }
 }
 
@@ -63,14 +97,12 @@ pub(crate) fn flush<D: Disk, H: AuthHandler, G: RelaySockets, A: Allocator + Cop
     ensures clock { now_of server.new ≡ now_of server.old }
 {
     let outgoing = server.commit()?;
-    for datagram in &outgoing {
-        send(listening, server.ports(), datagram);
-    }
+    send_all(listening, server.ports(), &outgoing);
     Ok(())
 }
 
 /// Submits an arrival. Where the batch is full, it is committed first. An arrival that is refused for memory is dropped.
-fn submit<D: Disk, H: AuthHandler, G: RelaySockets, A: Allocator + Copy>(
+pub(crate) fn submit<D: Disk, H: AuthHandler, G: RelaySockets, A: Allocator + Copy>(
     listening: &Listening,
     server: &mut Server<D, H, G, A>,
     moment: Moment,
@@ -87,6 +119,76 @@ fn submit<D: Disk, H: AuthHandler, G: RelaySockets, A: Allocator + Copy>(
     Ok(())
 }
 
+/// Submits requests that waited, in their order.
+pub(crate) fn submit_kept<D: Disk, H: AuthHandler, G: RelaySockets, A: Allocator + Copy>(
+    listening: &Listening,
+    server: &mut Server<D, H, G, A>,
+    moment: Moment,
+    kept: &Kept<A>,
+) -> Result<(), TurnFault>
+    requires { now_of server.old ≤ moment }
+    ensures served { Served D.Disk H.AuthHandler G.RelayAddressGenerator server.old server.new }
+    ensures clock { now_of server.new ≤ moment }
+{
+    for request in kept.requests() {
+        let arrival = Arrival::Client {
+            five_tuple: request.five_tuple,
+            bytes: request.bytes.as_slice(),
+        };
+        submit(listening, server, moment, &arrival)?;
+    }
+    Ok(())
+}
+
+/// What a turn works with, beside the server.
+#[derive(Drop)]
+pub(crate) struct Work<A: Allocator = Global> {
+    pub(crate) buffer: Buffer<A>,
+    pub(crate) ids: DataIds,
+    pub(crate) kept: Kept<A>,
+}
+
+/// What came of a look at a socket.
+#[derive(Clone, Copy)]
+enum Took {
+    /// Something that is answered or relayed without a write to the disk.
+    Data,
+    /// A request that is kept.
+    Kept,
+    /// A request that was submitted, whose commit may write.
+    Submitted,
+    /// Nothing for now, though more may wait: the system failed, or as many requests are kept as may be.
+    Later,
+    /// None waits, or there is no socket any more.
+    Nothing,
+}
+
+/// What was taken of some sockets.
+#[derive(Clone, Copy)]
+pub(crate) struct Taken {
+    /// Whether anything was.
+    pub(crate) any: bool,
+    pub(crate) data: bool,
+    /// Whether requests were submitted.
+    pub(crate) submitted: bool,
+}
+
+impl Taken {
+    pub(crate) const NOTHING: Taken = Taken {
+        any: false,
+        data: false,
+        submitted: false,
+    };
+
+    fn and(self, took: Took) -> Taken {
+        Taken {
+            any: self.any || matches!(took, Took::Data | Took::Kept | Took::Submitted),
+            data: self.data || matches!(took, Took::Data),
+            submitted: self.submitted || matches!(took, Took::Submitted),
+        }
+    }
+}
+
 /// What a turn does with each socket.
 #[derive(Clone, Copy)]
 pub(crate) struct Turn<'l> {
@@ -96,45 +198,74 @@ pub(crate) struct Turn<'l> {
 }
 
 impl<'l> Turn<'l> {
-    // Takes a datagram of the listening socket. False if there is none.
-    fn take_of_client<D: Disk, H: AuthHandler, G: RelaySockets, A: Allocator + Copy>(
+    // Submits a client's datagram, or keeps it if it is a request and there is a place. One of the server itself is lost.
+    fn take_from_client<D: Disk, H: AuthHandler, G: RelaySockets, A: Allocator + Copy>(
         &self,
         server: &mut Server<D, H, G, A>,
-        buffer: &mut Buffer<A>,
-    ) -> Result<bool, TurnFault>
+        kept: &mut Kept<A>,
+        bytes: &[u8],
+        from: Endpoint,
+    ) -> Result<Took, TurnFault>
         requires { now_of server.old ≤ self.now.moment }
         ensures served { Served D.Disk H.AuthHandler G.RelayAddressGenerator server.old server.new }
         ensures clock { now_of server.new ≤ self.now.moment }
     {
-        let Some((bytes, client)) = buffer.receive(&self.listening.socket) else {
-            return Ok(false);
+        let Some(five_tuple) = self.listening.five_tuple_of(from) else {
+            return Ok(Took::Data);
         };
-        let five_tuple = FiveTuple {
-            client,
-            server: self.listening.local,
-        };
+        let is_request = may_change(bytes);
+        if is_request && kept.keep(five_tuple, bytes) {
+            return Ok(Took::Kept);
+        }
         let arrival = Arrival::Client { five_tuple, bytes };
         submit(self.listening, server, self.moment, &arrival)?;
-        Ok(true)
+        Ok(if is_request {
+            Took::Submitted
+        } else {
+            Took::Data
+        })
     }
 
-    // Takes a datagram of a relay socket. False if there is none, or no socket any more.
+    // Takes a datagram of the listening socket.
+    fn take_of_client<D: Disk, H: AuthHandler, G: RelaySockets, A: Allocator + Copy>(
+        &self,
+        server: &mut Server<D, H, G, A>,
+        buffer: &mut Buffer<A>,
+        kept: &mut Kept<A>,
+    ) -> Result<Took, TurnFault>
+        requires { now_of server.old ≤ self.now.moment }
+        ensures served { Served D.Disk H.AuthHandler G.RelayAddressGenerator server.old server.new }
+        ensures clock { now_of server.new ≤ self.now.moment }
+    {
+        if kept.is_full() {
+            return Ok(Took::Later);
+        }
+        match buffer.receive(&self.listening.socket) {
+            Received::Datagram { bytes, from } => self.take_from_client(server, kept, bytes, from),
+            Received::Failed => Ok(Took::Later),
+            Received::Nothing => Ok(Took::Nothing),
+        }
+    }
+
+    // Takes a datagram of a relay socket.
     fn take_of_peer<D: Disk, H: AuthHandler, G: RelaySockets, A: Allocator + Copy>(
         &self,
         server: &mut Server<D, H, G, A>,
         buffer: &mut Buffer<A>,
         ids: &mut DataIds,
         port: u16,
-    ) -> Result<bool, TurnFault>
+    ) -> Result<Took, TurnFault>
         requires { now_of server.old ≤ self.now.moment }
         ensures served { Served D.Disk H.AuthHandler G.RelayAddressGenerator server.old server.new }
         ensures clock { now_of server.new ≤ self.now.moment }
     {
         let Some(socket) = server.ports().socket(port) else {
-            return Ok(false);
+            return Ok(Took::Nothing);
         };
-        let Some((bytes, from)) = buffer.receive(socket) else {
-            return Ok(false);
+        let (bytes, from) = match buffer.receive(socket) {
+            Received::Datagram { bytes, from } => (bytes, from),
+            Received::Failed => return Ok(Took::Later),
+            Received::Nothing => return Ok(Took::Nothing),
         };
         let arrival = Arrival::Peer {
             port,
@@ -143,71 +274,83 @@ impl<'l> Turn<'l> {
             id: ids.next(self.moment),
         };
         submit(self.listening, server, self.moment, &arrival)?;
-        Ok(true)
+        Ok(Took::Data)
     }
 
-    // Takes a datagram of the socket of a token. False if there is none.
+    // Takes a datagram of the socket of a token.
     fn take<D: Disk, H: AuthHandler, G: RelaySockets, A: Allocator + Copy>(
         &self,
         server: &mut Server<D, H, G, A>,
-        buffer: &mut Buffer<A>,
-        ids: &mut DataIds,
+        work: &mut Work<A>,
         token: usize,
-    ) -> Result<bool, TurnFault>
+    ) -> Result<Took, TurnFault>
         requires { now_of server.old ≤ self.now.moment }
         ensures served { Served D.Disk H.AuthHandler G.RelayAddressGenerator server.old server.new }
         ensures clock { now_of server.new ≤ self.now.moment }
     {
         match u16::try_from(token) {
-            Ok(port) => self.take_of_peer(server, buffer, ids, port),
-            Err(_) => self.take_of_client(server, buffer),
+            Ok(port) => self.take_of_peer(server, &mut work.buffer, &mut work.ids, port),
+            Err(_) => self.take_of_client(server, &mut work.buffer, &mut work.kept),
         }
     }
 
-    /// Takes up to `burst` datagrams of the socket of a token. Returns how many there were.
+    // Takes up to `burst` datagrams of the socket of a token, and adds what was taken. False if no more waits.
     fn serve<D: Disk, H: AuthHandler, G: RelaySockets, A: Allocator + Copy>(
         &self,
         server: &mut Server<D, H, G, A>,
-        buffer: &mut Buffer<A>,
-        ids: &mut DataIds,
+        work: &mut Work<A>,
         token: usize,
-    ) -> Result<u8, TurnFault>
-        requires { now_of server.old ≤ self.now.moment }
-        ensures served { Served D.Disk H.AuthHandler G.RelayAddressGenerator server.old server.new }
-        ensures clock { now_of server.new ≤ self.now.moment }
-    {
-        for taken in 0..self.burst {
-            if !self.take(server, buffer, ids, token)? {
-                return Ok(taken);
-            }
-        }
-        Ok(self.burst)
-    }
-
-    /// Takes up to `burst` datagrams of each listed socket, and removes those that have no more. Returns whether there were
-    /// any.
-    pub(crate) fn take_all<D: Disk, H: AuthHandler, G: RelaySockets, A: Allocator + Copy>(
-        &self,
-        server: &mut Server<D, H, G, A>,
-        buffer: &mut Buffer<A>,
-        ids: &mut DataIds,
-        ready: &mut Ready<A>,
+        taken: &mut Taken,
     ) -> Result<bool, TurnFault>
         requires { now_of server.old ≤ self.now.moment }
         ensures served { Served D.Disk H.AuthHandler G.RelayAddressGenerator server.old server.new }
         ensures clock { now_of server.new ≤ self.now.moment }
     {
-        let mut took = false;
-        for place in (0..ready.len()).rev() {
-            let Some(token) = ready.get(place) else {
-                continue;
-            };
-            let taken = self.serve(server, buffer, ids, token)?;
-            took |= 0 < taken;
-            if taken < self.burst {
-                ready.remove(place);
+        for _turn in 0..self.burst {
+            let took = self.take(server, work, token)?;
+            *taken = taken.and(took);
+            if let Took::Nothing = took {
+                return Ok(false);
             }
         }
-        Ok(took)
+        Ok(true)
+    }
+
+    // Takes up to `burst` datagrams of the socket of a token, if it is listed, and removes it if no more waits.
+    fn serve_listed<D: Disk, H: AuthHandler, G: RelaySockets, A: Allocator + Copy>(
+        &self,
+        server: &mut Server<D, H, G, A>,
+        work: &mut Work<A>,
+        ready: &mut Ready<A>,
+        token: usize,
+        taken: &mut Taken,
+    ) -> Result<(), TurnFault>
+        requires { now_of server.old ≤ self.now.moment }
+        ensures served { Served D.Disk H.AuthHandler G.RelayAddressGenerator server.old server.new }
+        ensures clock { now_of server.new ≤ self.now.moment }
+    {
+        if ready.has(token) && !self.serve(server, work, token, taken)? {
+            ready.remove(token);
+        }
+        Ok(())
+    }
+
+    /// Takes up to `burst` datagrams of each socket of an order that is listed, and removes those that have no more.
+    pub(crate) fn take_all<D: Disk, H: AuthHandler, G: RelaySockets, A: Allocator + Copy>(
+        &self,
+        server: &mut Server<D, H, G, A>,
+        work: &mut Work<A>,
+        order: &Order<A>,
+        ready: &mut Ready<A>,
+    ) -> Result<Taken, TurnFault>
+        requires { now_of server.old ≤ self.now.moment }
+        ensures served { Served D.Disk H.AuthHandler G.RelayAddressGenerator server.old server.new }
+        ensures clock { now_of server.new ≤ self.now.moment }
+    {
+        let mut taken = Taken::NOTHING;
+        for place in 0..order.len() {
+            self.serve_listed(server, work, ready, order.at(place), &mut taken)?;
+        }
+        Ok(taken)
     }
 }

@@ -1,14 +1,14 @@
 use Rattle.turn_serving.proofs.Turns.{no_call, then}
 use Rattle.turn_serving.proofs.turn.Turn.serve.Goals as goal
 
-pub loop-taken-init : goal.loop-taken-init
-loop-taken-init g c = (no_call _, c.requires)
+pub loop-turn-init : goal.loop-turn-init
+loop-turn-init g c = (no_call _, c.requires)
 
-pub returns-in_err-take-clause-served : goal.returns-in_err-take-clause-served
-returns-in_err-take-clause-served g c = then c.loop-taken.invariant.0 c.take.ensures.served
+pub returns-in_err-took-clause-served : goal.returns-in_err-took-clause-served
+returns-in_err-took-clause-served g c = then c.loop-turn.invariant.0 c.take.ensures.served
 
-pub returns-then-not-branch-clause-served : goal.returns-then-not-branch-clause-served
-returns-then-not-branch-clause-served g c = then c.loop-taken.invariant.0 c.take.ensures.served
+pub returns-in-Nothing-clause-served : goal.returns-in-Nothing-clause-served
+returns-in-Nothing-clause-served g c = then c.loop-turn.invariant.0 c.take.ensures.served
 
-pub loop-taken-preserved : goal.loop-taken-preserved
-loop-taken-preserved g c = (then c.loop-taken.invariant.0 c.take.ensures.served, c.take.ensures.clock)
+pub loop-turn-preserved : goal.loop-turn-preserved
+loop-turn-preserved g c = (then c.loop-turn.invariant.0 c.take.ensures.served, c.take.ensures.clock)

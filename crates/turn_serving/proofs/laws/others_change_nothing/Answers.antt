@@ -1,0 +1,5 @@
+use Rattle.turn_serving.proofs.Requests.{others}
+use Rattle.turn_serving.proofs.laws.others_change_nothing.Goals as goal
+
+pub returns : goal.returns
+returns c = others
