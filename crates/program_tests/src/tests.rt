@@ -3,18 +3,24 @@ mod faults;
 mod formats;
 mod full_disk;
 mod inspections;
+mod kinds;
+mod locks;
 mod memory;
 mod moments;
+mod own;
+mod paced;
 mod replay;
 mod serving;
 mod sockets;
 mod starts;
 mod store_words;
+mod streams;
 mod turns;
 mod values;
 mod words;
 mod writers;
 
+use std::rt::Clock;
 use std::test::Fail;
 use turn_program::run_words;
 
@@ -26,16 +32,27 @@ const SUCCESS: &str = "0101000c2112a4420102030405060708090a0b0c002000080001a147e
 
 const USAGE: &str = "turn: usage\n";
 
-/// Runs the program on the words after its name, and fails with the words if its status or what it writes differs.
-fn expect(rt: &HostRuntime, words: &[&str], status: u8, out: &str, err: &str) -> Result<(), Fail> {
+/// Runs the program by a clock on the words after its name, and fails with the words if its status or what it writes differs.
+fn expect_by<C: Clock>(
+    rt: &HostRuntime,
+    clock: &C,
+    words: &[&str],
+    status: u8,
+    out: &str,
+    err: &str,
+) -> Result<(), Fail> {
     let mut line = vec![in rt.alloc(); "turn"]?;
     line.extend_from_slice(words)?;
     let (mut written, mut said) = (Vec::new(rt.alloc()), Vec::new(rt.alloc()));
-    let got = run_words(rt, rt, line.as_slice(), &mut written, &mut said);
+    let got = run_words(rt, clock, line.as_slice(), &mut written, &mut said);
     if got != status || written.as_slice() != out.as_bytes() || said.as_slice() != err.as_bytes() {
         return Err(Fail::new(format_args!("{words:?}")));
     }
     Ok(())
+}
+
+fn expect(rt: &HostRuntime, words: &[&str], status: u8, out: &str, err: &str) -> Result<(), Fail> {
+    expect_by(rt, rt, words, status, out, err)
 }
 
 /// Each row of words has the same outcome.

@@ -3,8 +3,12 @@ use Rattle.turn_client.specs.declared.fault.ClientFault.{ClientFault}
 use Rattle.turn_client.specs.declared.fault.ClientFault.TheVariants as client_faults
 use Rattle.turn_config.specs.declared.config.ConfigFault.{ConfigFault}
 use Rattle.turn_config.specs.declared.config.ConfigFault.TheVariants as config_faults
+use Rattle.turn_disk.specs.declared.opened.FileRefused.{FileRefused}
+use Rattle.turn_disk.specs.declared.opened.FileRefused.TheVariants as file_faults
 use Rattle.turn_program.specs.declared.fault.Fault.{Fault}
-use Rattle.turn_program.specs.declared.fault.Fault.TheVariants.{Usage, BadDatagram, BadLine, NotAStore, Damaged, LimitsDiffer, AreaTooSmall, Worn, Device, Socket, Differs, Memory}
+use Rattle.turn_program.specs.declared.fault.Fault.TheVariants.{Usage, BadDatagram, BadLine, NotAStore, Damaged, LimitsDiffer, AreaTooSmall, Worn, StoreInUse, Device, Socket, Differs, Memory}
+use Rattle.turn_reading.specs.declared.fault.ReadingFault.{ReadingFault}
+use Rattle.turn_reading.specs.declared.fault.ReadingFault.TheVariants as reading_faults
 use Rattle.turn_scenario.specs.declared.fault.ScenarioFault.{ScenarioFault}
 use Rattle.turn_scenario.specs.declared.fault.ScenarioFault.TheVariants as scenario_faults
 use Rattle.turn_serving.specs.declared.fault.StartFault.{StartFault}
@@ -17,10 +21,12 @@ use Rattle.turn_store.specs.declared.fault.StoreFault.{StoreFault}
 use Rattle.turn_store.specs.declared.fault.StoreFault.TheVariants as store_faults
 use Rattle.turn_store.specs.declared.formatting.FormatRefused.{FormatRefused}
 use Rattle.turn_store.specs.declared.formatting.FormatRefused.TheVariants as format_faults
-use Rattle.turn_store.specs.declared.superblock.LimitsRefused.{LimitsRefused}
-use Rattle.turn_store.specs.declared.superblock.LimitsRefused.TheVariants as limits_faults
 use Rattle.turn_words.specs.declared.fault.WordFault.{WordFault}
 use Rattle.turn_words.specs.declared.fault.WordFault.TheVariants as word_faults
+
+abbrev pub of_file : FileRefused → Fault
+of_file file_faults.InUse = StoreInUse
+of_file file_faults.Device = Device
 
 abbrev pub of_words : WordFault → Fault
 of_words word_faults.Usage = Usage
@@ -36,9 +42,13 @@ of_scenario (scenario_faults.BadLine number) = BadLine number
 of_scenario (scenario_faults.Differs number) = Differs number
 of_scenario scenario_faults.Memory = Memory
 
-abbrev pub of_limits : LimitsRefused → Fault
-of_limits limits_faults.Device = Device
-of_limits limits_faults.NotAStore = NotAStore
+-- a store that changes is one that a server has open
+abbrev pub of_reading : ReadingFault → Fault
+of_reading reading_faults.Device = Device
+of_reading reading_faults.Memory = Memory
+of_reading reading_faults.NotAStore = NotAStore
+of_reading (reading_faults.Damaged place) = Damaged place
+of_reading reading_faults.Changing = StoreInUse
 
 abbrev pub of_open : OpenFault → Fault
 of_open open_faults.Device = Device

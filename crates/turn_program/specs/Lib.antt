@@ -1,3 +1,4 @@
 pub mod Faults
 pub mod Profile
+pub mod Serving
 pub mod Status

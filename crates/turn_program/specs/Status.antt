@@ -1,9 +1,9 @@
 -- The exit status of the program.
 use Rattle.std.specs.Prelude.{ℕ, ◌≡◌, ◌⊎◌}
 use Rattle.turn_program.specs.declared.fault.Fault.{Fault}
-use Rattle.turn_program.specs.declared.fault.Fault.TheVariants.{Usage, BadDatagram, BadLine, NotAStore, Damaged, LimitsDiffer, AreaTooSmall, Worn, Device, Socket, Differs, Memory}
+use Rattle.turn_program.specs.declared.fault.Fault.TheVariants.{Usage, BadDatagram, BadLine, NotAStore, Damaged, LimitsDiffer, AreaTooSmall, Worn, StoreInUse, Device, Socket, Differs, Memory}
 
--- 1: what was asked; 2: the store; 3: the device or a socket; 4: a scenario that differs; 5: memory
+-- 1: what was asked; 2: the store; 3: a store in use, the device or a socket; 4: a scenario that differs; 5: memory
 abbrev pub status_of : Fault → ℕ
 status_of Usage = 1
 status_of BadDatagram = 1
@@ -13,6 +13,7 @@ status_of (Damaged place) = 2
 status_of LimitsDiffer = 2
 status_of (AreaTooSmall needed) = 2
 status_of Worn = 2
+status_of StoreInUse = 3
 status_of Device = 3
 status_of Socket = 3
 status_of (Differs number) = 4

@@ -10,6 +10,7 @@ use std::rt::{Clock, Files};
 use turn_client::{Allocated, ClientFault, Conversation, Loopback, limits};
 use turn_disk::{Disk, MemoryDisk, Outcome};
 use turn_ports::PortRange;
+use turn_serving::Commits;
 use turn_store::{format, least_area};
 
 /// The relay ports are above those that Linux gives to other sockets by default.
@@ -27,7 +28,7 @@ fn make_disk(alloc: Global) -> Result<MemoryDisk, Fault> {
 
 fn make_loopback<R: Net + Drop>(alloc: Global, net: &R) -> Result<Loopback<'_, R>, Fault> {
     let ports = PortRange::new(FIRST_PORT, LAST_PORT).ok_or(Fault::Socket)?;
-    Ok(Loopback::new(alloc, net, ports, 1)?)
+    Ok(Loopback::new(alloc, net, ports, 1, Commits::EachTurn)?)
 }
 
 /// A step of the demonstration, after the Allocate.
@@ -104,12 +105,13 @@ fn allocate<D: Disk + Drop, R: Net + Drop, C: Clock, W: Write>(
 }
 
 /// The server crashes: what was not synced is lost.
-fn restart<R: Net + Drop>(
-    talk: Conversation<'_, MemoryDisk, R>,
-) -> Result<Conversation<'_, MemoryDisk, R>, ClientFault> {
+fn restart<'a, R: Net + Drop, C: Clock>(
+    talk: Conversation<'a, MemoryDisk, R>,
+    clock: &C,
+) -> Result<Conversation<'a, MemoryDisk, R>, ClientFault> {
     let (mut disk, loopback) = talk.end();
     disk.crash(Outcome::Lost);
-    loopback.serve(disk)
+    loopback.serve(clock, disk)
 }
 
 /// What is said before the crash.
@@ -147,9 +149,9 @@ pub fn run_demo<R: Files<File = File> + Net + Drop + AllocGlobal, C: Clock, W: W
 ) -> Result<(), Fault> {
     let alloc = rt.alloc();
     let disk = make_disk(alloc)?;
-    let mut talk = make_loopback(alloc, rt)?.serve(disk)?;
+    let mut talk = make_loopback(alloc, rt)?.serve(clock, disk)?;
     let first = say_first(alloc, &mut talk, clock, out);
-    let mut talk = restart(talk)?;
+    let mut talk = restart(talk, clock)?;
     let last = say_last(alloc, &mut talk, clock, first, out);
     talk.end();
     last

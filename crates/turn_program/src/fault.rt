@@ -1,7 +1,7 @@
 //! Why a command ended without its answer.
 
 ghost use Rattle.std.specs.Prelude.{◌≡◌};
-ghost use Rattle.turn_program.specs.Faults.{of_client, of_config, of_format, of_limits, of_open, of_scenario, of_start, of_store, of_turn, of_words};
+ghost use Rattle.turn_program.specs.Faults.{of_client, of_config, of_file, of_format, of_open, of_reading, of_scenario, of_start, of_store, of_turn, of_words};
 ghost use Rattle.turn_program.specs.Status.{status_of};
 ghost use Rattle.turn_program.specs.declared.fault.Fault.TheVariants as faults;
 
@@ -9,10 +9,11 @@ use std::alloc::AllocError;
 use thiserror::Error;
 use turn_client::ClientFault;
 use turn_config::ConfigFault;
-use turn_disk::DeviceFailed;
+use turn_disk::{DeviceFailed, FileRefused};
+use turn_reading::ReadingFault;
 use turn_scenario::ScenarioFault;
 use turn_serving::{StartFault, TurnFault};
-use turn_store::{FormatRefused, LimitsRefused, OpenFault, StoreFault};
+use turn_store::{FormatRefused, OpenFault, StoreFault};
 use turn_words::WordFault;
 
 /// Why a command ended without its answer: shown as the line that is printed on standard error.
@@ -42,6 +43,9 @@ pub enum Fault {
     /// A store whose generation is the last one.
     #[error("turn: worn")]
     Worn,
+    /// A store that another process has open to write to, or that was changed each time it was read.
+    #[error("turn: store in use")]
+    StoreInUse,
     /// A file that can't be read or written or is too long, a system that tells no time, or standard output took no more.
     #[error("turn: device")]
     Device,
@@ -68,6 +72,17 @@ impl From<DeviceFailed> for Fault {
 
     fn from(_error: DeviceFailed) -> Fault {
         Fault::Device
+    }
+}
+
+impl From<FileRefused> for Fault {
+    ghost from_gives = { λ refused f. f ≡ of_file refused };
+
+    fn from(refused: FileRefused) -> Fault {
+        match refused {
+            FileRefused::InUse => Fault::StoreInUse,
+            FileRefused::Device => Fault::Device,
+        }
     }
 }
 
@@ -106,13 +121,17 @@ impl From<ConfigFault> for Fault {
     }
 }
 
-impl From<LimitsRefused> for Fault {
-    ghost from_gives = { λ fault f. f ≡ of_limits fault };
+impl From<ReadingFault> for Fault {
+    ghost from_gives = { λ fault f. f ≡ of_reading fault };
 
-    fn from(fault: LimitsRefused) -> Fault {
+    fn from(fault: ReadingFault) -> Fault {
         match fault {
-            LimitsRefused::Device => Fault::Device,
-            LimitsRefused::NotAStore => Fault::NotAStore,
+            ReadingFault::Device => Fault::Device,
+            ReadingFault::Memory => Fault::Memory,
+            ReadingFault::NotAStore => Fault::NotAStore,
+            ReadingFault::Damaged(place) => Fault::Damaged(place),
+            // A server writes to it.
+            ReadingFault::Changing => Fault::StoreInUse,
         }
     }
 }
@@ -202,7 +221,7 @@ impl Fault {
             Fault::Usage | Fault::BadDatagram | Fault::BadLine(_) => 1,
             Fault::NotAStore | Fault::Damaged(_) | Fault::LimitsDiffer => 2,
             Fault::AreaTooSmall(_) | Fault::Worn => 2,
-            Fault::Device | Fault::Socket => 3,
+            Fault::StoreInUse | Fault::Device | Fault::Socket => 3,
             Fault::Differs(_) => 4,
             Fault::Memory => 5,
         }

@@ -94,7 +94,8 @@ fn judge_area(limits: Limits, area: usize) -> Result<(), Fault>
     Ok(())
 }
 
-/// Makes a file a store with the limits of a configuration. The file is not touched before the area was judged.
+/// Makes a file a store with the limits of a configuration. The file is not touched before the area was judged, nor if it is in
+/// use.
 pub fn run_format<R: Files<File = File> + AllocGlobal, W: Write>(
     rt: &R,
     config: &str,
@@ -106,7 +107,7 @@ pub fn run_format<R: Files<File = File> + AllocGlobal, W: Write>(
     let limits = limits_in(rt.alloc(), &text)?;
     let area = area as usize;
     judge_area(limits, area)?;
-    let mut disk = FileDisk::create(rt, store, 64 + 2 * area).map_err(|_| Fault::Device)?;
+    let mut disk = FileDisk::create(rt, store, 64 + 2 * area)?;
     format_disk(rt.alloc(), &mut disk, limits, area)?;
     print_line("formatted", out)
 }

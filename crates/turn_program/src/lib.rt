@@ -12,9 +12,11 @@ mod program;
 mod replay;
 mod reply;
 mod serve;
+mod streams;
 
 pub use fault::Fault;
-pub use files::read_whole;
+pub use files::{read_scenario, read_whole};
 pub use format::format_disk;
 pub use program::{report, run_words};
 pub use reply::reply_to;
+pub use streams::fill_streams;

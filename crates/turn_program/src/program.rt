@@ -14,10 +14,11 @@ use std::convert::AsStr;
 use std::fs::File;
 use std::io::Write;
 use std::net::Net;
+use std::random::RandomSource;
 use std::rt::{Clock, Files};
 use turn_words::{Command, command_of};
 
-fn run_command<R: Files<File = File> + Net + Drop + AllocGlobal, C: Clock, W: Write>(
+fn run_command<R: Files<File = File> + Net + RandomSource + Drop + AllocGlobal, C: Clock, W: Write>(
     rt: &R,
     clock: &C,
     command: &Command,
@@ -33,7 +34,7 @@ fn run_command<R: Files<File = File> + Net + Drop + AllocGlobal, C: Clock, W: Wr
             store,
             area,
         } => run_format(rt, config, store, *area, out),
-        Command::Inspect { store, at } => run_inspect(rt, store, *at, out),
+        Command::Inspect { store, at } => run_inspect(rt, clock, store, *at, out),
         Command::Serve {
             config,
             store,
@@ -54,12 +55,12 @@ fn run_command<R: Files<File = File> + Net + Drop + AllocGlobal, C: Clock, W: Wr
     }
 }
 
-fn try_words<R: Files<File = File> + Net + Drop + AllocGlobal, C: Clock, S: AsStr, W: Write>(
-    rt: &R,
-    clock: &C,
-    words: &[S],
-    out: &mut W,
-) -> Result<(), Fault> {
+fn try_words<
+    R: Files<File = File> + Net + RandomSource + Drop + AllocGlobal,
+    C: Clock,
+    S: AsStr,
+    W: Write,
+>(rt: &R, clock: &C, words: &[S], out: &mut W) -> Result<(), Fault> {
     let command = command_of(rt.alloc(), words)?;
     run_command(rt, clock, &command, out)
 }
@@ -74,7 +75,7 @@ pub fn report<E: Write>(fault: Fault, err: &mut E) -> u8
 
 /// Runs the program on its words, its name first, and gives the exit status.
 pub fn run_words<
-    R: Files<File = File> + Net + Drop + AllocGlobal,
+    R: Files<File = File> + Net + RandomSource + Drop + AllocGlobal,
     C: Clock,
     S: AsStr,
     W: Write,

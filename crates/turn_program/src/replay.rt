@@ -1,7 +1,7 @@
 //! `turn replay`.
 
 use crate::fault::Fault;
-use crate::files::read_whole;
+use crate::files::read_scenario;
 use crate::print::print_lines;
 use std::io::Write;
 use std::rt::Files;
@@ -13,7 +13,7 @@ pub fn run_replay<R: Files + AllocGlobal, W: Write>(
     file: &str,
     out: &mut W,
 ) -> Result<(), Fault> {
-    let scenario = read_whole(rt, rt.alloc(), file)?;
+    let scenario = read_scenario(rt, rt.alloc(), file)?;
     let report = replay(rt.alloc(), &scenario)?;
     print_lines(rt.alloc(), &report.lines, out)
 }

@@ -7,7 +7,7 @@ ghost use Rattle.turn_program.specs.declared.fault.Fault.TheVariants as faults;
 use std::io::ErrorKind;
 use std::process::ExitCode;
 use std::{env, io};
-use turn_program::{Fault, report, run_words};
+use turn_program::{Fault, fill_streams, report, run_words};
 
 /// The words of the command line, the program's name first. A word that isn't UTF-8 is a usage fault.
 fn words_of(rt: &HostRuntime) -> Result<Vec<String>, Fault>
@@ -21,6 +21,8 @@ fn words_of(rt: &HostRuntime) -> Result<Vec<String>, Fault>
 }
 
 fn main(rt: HostRuntime) -> ExitCode {
+    // Before anything else is opened.
+    fill_streams(&rt);
     let mut out = io::writer(&rt);
     let mut err = rt.stderr();
     let status = match words_of(&rt) {

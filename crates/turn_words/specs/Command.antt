@@ -31,10 +31,15 @@ abbrev pub IsBurst : Option (List ℕ) → Type 0
 IsBurst None = ⊤
 IsBurst (Some text) = IsNumberBelow 65 text × (1 ≤ number_of text)
 
--- the burst that the option sets: 1 if it is not there
-abbrev pub burst_of : Option (List ℕ) → ℕ
-burst_of None = 1
-burst_of (Some text) = number_of text
+-- the burst where there is no such option: 1 where turns are counted, and else the greatest
+abbrev pub default_burst : Option ℕ → ℕ
+default_burst None = 64
+default_burst (Some turns) = 1
+
+-- the burst that the option sets
+abbrev pub burst_of : Option ℕ → Option (List ℕ) → ℕ
+burst_of turns None = default_burst turns
+burst_of turns (Some text) = number_of text
 
 -- the option `--relay-bind` is not there and sets nothing, or its text is this address
 abbrev pub IsBind : Option (List ℕ) → Option ℕ → Type 0

@@ -6,6 +6,7 @@ use turn_client::{Allocated, ClientFault, Conversation, Loopback, limits};
 use turn_disk::FileDisk;
 use turn_ports::PortRange;
 use turn_program::format_disk;
+use turn_serving::Commits;
 use turn_store::least_area;
 use turn_types::Method;
 
@@ -69,7 +70,7 @@ fn is_right(rt: &HostRuntime, talk: &mut Talk<'_>, first: &Allocated, step: Step
 fn reopen<'a>(rt: &'a HostRuntime, talk: Talk<'a>, path: &str) -> Result<Talk<'a>, Fail> {
     let (disk, loopback) = talk.end();
     drop(disk);
-    Ok(loopback.serve(FileDisk::open(rt, path)?)?)
+    Ok(loopback.serve(rt, FileDisk::open(rt, path)?)?)
 }
 
 fn make_disk(rt: &HostRuntime, path: &str) -> Result<FileDisk<File>, Fail> {
@@ -85,7 +86,8 @@ fn make_disk(rt: &HostRuntime, path: &str) -> Result<FileDisk<File>, Fail> {
 fn begin<'a>(rt: &'a HostRuntime, path: &str, burst: u8) -> Result<Talk<'a>, Fail> {
     let disk = make_disk(rt, path)?;
     let ports = PortRange::new(62_000, 62_999).ok_or("a range")?;
-    Ok(Loopback::new(rt.alloc(), rt, ports, burst)?.serve(disk)?)
+    let loopback = Loopback::new(rt.alloc(), rt, ports, burst, Commits::EachTurn)?;
+    Ok(loopback.serve(rt, disk)?)
 }
 
 fn allocate(rt: &HostRuntime, talk: &mut Talk<'_>) -> Result<Allocated, Fail> {

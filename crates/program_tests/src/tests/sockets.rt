@@ -111,6 +111,20 @@ fn look(rt: &HostRuntime, talk: &mut Talk<'_>, port: u16) -> Result<bool, Fail> 
     Ok(receive_all(talk) == got(18, 1))
 }
 
+/// The client's Refreshes are answered one in each turn. A peer's datagram that comes before the second is taken at the latest in the
+/// third: behind a turn that wrote all sockets are looked at.
+fn look_after_writes(rt: &HostRuntime, talk: &mut Talk<'_>, port: u16) -> Result<bool, Fail> {
+    for _ in 0..5u8 {
+        let request = talk.client().request(Method::REFRESH, &[])?;
+        talk.client().send(&request)?;
+    }
+    turns(rt, talk, 1)?;
+    tell(rt, HOME, port, 3, 1)?;
+    turns(rt, talk, 2)?;
+    let received = receive_all(talk);
+    Ok(received.data == 1)
+}
+
 /// Of three datagrams of a peer a turn takes two.
 fn take_two(rt: &HostRuntime, talk: &mut Talk<'_>, port: u16) -> Result<bool, Fail> {
     tell(rt, HOME, port, 3, 3)?;
@@ -145,6 +159,7 @@ fn relay_strange(rt: &HostRuntime, talk: &mut Talk<'_>, port: u16) -> Result<boo
 enum Trial {
     TakeBoth,
     Look,
+    LookAfterWrites,
     TakeTwo,
     Strange,
 }
@@ -154,6 +169,7 @@ fn try_it(rt: &HostRuntime, burst: u8, trial: Trial) -> Result<(), Fail> {
     let is_right = match trial {
         Trial::TakeBoth => take_both(rt, &mut talk, port),
         Trial::Look => look(rt, &mut talk, port),
+        Trial::LookAfterWrites => look_after_writes(rt, &mut talk, port),
         Trial::TakeTwo => take_two(rt, &mut talk, port),
         Trial::Strange => relay_strange(rt, &mut talk, port),
     };
@@ -173,6 +189,11 @@ fn a_turn_takes_of_each_socket_that_has_a_datagram(rt: HostRuntime) -> Result<()
 #[test]
 fn a_peer_gets_through_while_a_client_sends_without_a_pause(rt: HostRuntime) -> Result<(), Fail> {
     try_it(&rt, 1, Trial::Look)
+}
+
+#[test]
+fn a_peer_gets_through_while_requests_are_committed(rt: HostRuntime) -> Result<(), Fail> {
+    try_it(&rt, 1, Trial::LookAfterWrites)
 }
 
 #[test]

@@ -14,7 +14,7 @@ use turn_config::{Configured, read_config};
 use turn_cred::AuthHandler;
 use turn_disk::{Disk, FileDisk};
 use turn_engine::Server;
-use turn_serving::{RelaySockets, Setup, StartFault};
+use turn_serving::{Commits, RelaySockets, Setup, StartFault};
 use turn_sockets::receive_buffer;
 
 /// A file that has one content up to its first sync, and another from its second sync on. An opening begins with a sync.
@@ -111,9 +111,11 @@ fn start_over(rt: &HostRuntime, file: ChangingFile<'_>) -> Result<Came, Fail> {
         ports,
         relay_bind: None,
         burst: 1,
+        commits: Commits::EachTurn,
+        seed: [0; 32],
     };
     let disk = FileDisk::new(file, 540);
-    let (fault, buffer) = match setup.start(rt.alloc(), rt, disk, users) {
+    let (fault, buffer) = match setup.start(rt.alloc(), rt, rt, disk, users) {
         Ok(serving) => {
             let buffer = buffer_at(serving.server(), 63_019);
             serving.close();

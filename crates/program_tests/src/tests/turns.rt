@@ -1,12 +1,11 @@
-//! Turns of a server over a disk in memory: a commit that fails, datagrams that are none of a client's, and the ports of
-//! allocations.
+//! Turns of a server over a disk in memory: a commit that fails, and datagrams that are none of a client's.
 
 use std::test::Fail;
 use turn_client::{ClientFault, Conversation, Loopback, limits};
 use turn_disk::MemoryDisk;
 use turn_engine::CommitRefused;
 use turn_ports::PortRange;
-use turn_serving::{StartFault, TurnFault};
+use turn_serving::{Commits, StartFault, TurnFault};
 use turn_store::{OpenFault, format, least_area};
 use turn_types::Method;
 
@@ -23,6 +22,17 @@ pub fn begin(
     (first, last): (u16, u16),
     burst: u8,
 ) -> Result<Result<Talk<'_>, ClientFault>, Fail> {
+    begin_so(rt, call, (first, last), burst, Commits::EachTurn)
+}
+
+/// The same with a way to commit.
+pub fn begin_so(
+    rt: &HostRuntime,
+    call: u64,
+    (first, last): (u16, u16),
+    burst: u8,
+    commits: Commits,
+) -> Result<Result<Talk<'_>, ClientFault>, Fail> {
     let area = least_area(limits());
     let mut disk = MemoryDisk::new(rt.alloc(), Vec::from_elem(rt.alloc(), 0u8, 64 + 2 * area)?);
     if format(&mut disk, limits(), area).is_err() {
@@ -32,7 +42,7 @@ pub fn begin(
         disk.fail_call(call);
     }
     let ports = PortRange::new(first, last).ok_or("a range")?;
-    Ok(Loopback::new(rt.alloc(), rt, ports, burst)?.serve(disk))
+    Ok(Loopback::new(rt.alloc(), rt, ports, burst, commits)?.serve(rt, disk))
 }
 
 /// Where a device call that fails is.
@@ -187,44 +197,4 @@ fn a_datagram_of_no_client_is_dropped_and_the_next_is_answered(
     rt: HostRuntime,
 ) -> Result<(), Fail> {
     expect_dropped(&rt)
-}
-
-/// The port after one of 63,011 to 63,013.
-fn port_after(port: u16) -> u16 {
-    if port < 63_013 {
-        port.wrapping_add(1)
-    } else {
-        63_011
-    }
-}
-
-/// Whether allocations, each deleted before the next, get one port after the other.
-fn go_on(rt: &HostRuntime, talk: &mut Talk<'_>) -> Result<bool, ClientFault> {
-    talk.challenge(rt)?;
-    let mut port = talk.allocate(rt)?.port;
-    for _ in 0..3u8 {
-        talk.refresh(rt, 0)?;
-        let next = talk.allocate(rt)?.port;
-        if next != port_after(port) {
-            return Ok(false);
-        }
-        port = next;
-    }
-    Ok(true)
-}
-
-fn expect_ports(rt: &HostRuntime) -> Result<(), Fail> {
-    let mut talk = begin(rt, 0, (63_011, 63_013), 1)??;
-    let going = go_on(rt, &mut talk);
-    talk.end();
-    if going? {
-        Ok(())
-    } else {
-        Err(Fail::new("another port"))
-    }
-}
-
-#[test]
-fn ports_go_on_after_the_last_one_and_wrap(rt: HostRuntime) -> Result<(), Fail> {
-    expect_ports(&rt)
 }

@@ -110,3 +110,71 @@ fn allocations(rt: &impl Abort, alloc: Global) -> u64 {
 fn a_configuration_is_read_whole_or_is_out_of_memory(rt: HostRuntime) {
     assert!(rt; allocations(&rt, rt.alloc()) > 0);
 }
+
+/// How many users are added to the configuration.
+const ADDED: u32 = 4000;
+
+/// The first of them, one in the middle and the last: name, password, and key, made as the one above.
+const SAMPLES: [(&[u8], &[u8], [u8; 16]); 3] = [
+    (
+        b"name0",
+        b"word0",
+        [
+            0x55, 0xea, 0xef, 0xac, 0xbb, 0x13, 0xba, 0x1b, 0x8a, 0x38, 0xa6, 0x3f, 0x51, 0x53,
+            0x94, 0xa3,
+        ],
+    ),
+    (
+        b"name2000",
+        b"word2000",
+        [
+            0xa5, 0x6d, 0xbe, 0x19, 0x33, 0xbb, 0xe7, 0x5b, 0x62, 0x25, 0xc4, 0xb4, 0x71, 0x76,
+            0x81, 0x03,
+        ],
+    ),
+    (
+        b"name3999",
+        b"word3999",
+        [
+            0xf1, 0x18, 0x75, 0x2b, 0x27, 0x44, 0xcd, 0x69, 0x75, 0x19, 0x5c, 0xb4, 0x0f, 0x3c,
+            0x34, 0x54,
+        ],
+    ),
+];
+
+/// The configuration with these users: 4,008 lines.
+fn with_users(rt: &impl Abort, alloc: Global) -> Vec<u8> {
+    let mut text = Vec::from_slice(alloc, WHOLE).expect(rt, "memory");
+    for number in 0..ADDED {
+        let line = format!(in alloc; "\nuser name{number} word{number}").expect(rt, "memory");
+        text.extend_from_slice(line.as_bytes()).expect(rt, "memory");
+    }
+    text
+}
+
+fn has_user(found: &Configured<'_>, name: &[u8], password: &[u8], key: [u8; 16]) -> bool {
+    found.users.key(name, b"realm") == Some(key) && found.passwords.get(name) == Some(&password)
+}
+
+#[test]
+fn thousands_of_users_have_their_passwords_and_keys(rt: HostRuntime) {
+    let text = with_users(&rt, rt.alloc());
+    let found = read_config(rt.alloc(), &text).expect(&rt, "a configuration");
+    assert!(rt; is_whole(&found) && found.passwords.len() == 4001);
+    for (name, password, key) in &SAMPLES {
+        assert!(rt; has_user(&found, name, password, *key));
+    }
+}
+
+#[test]
+fn a_name_that_is_given_again_after_thousands_is_a_bad_line(rt: HostRuntime) {
+    let mut text = with_users(&rt, rt.alloc());
+    let end = text.len();
+    for (name, _, _) in &SAMPLES {
+        text.truncate(end);
+        for part in [b"\nuser ".as_slice(), name, b" other"] {
+            text.extend_from_slice(part).expect(&rt, "memory");
+        }
+        assert!(rt; read_config(rt.alloc(), &text).err() == Some(ConfigFault::BadLine(4009)));
+    }
+}

@@ -33,13 +33,16 @@ fn turns_in(text: Option<&[u8]>) -> Option<Option<u64>>
     }
 }
 
-/// How many datagrams of a socket are taken in a turn: 1 to 64, and 1 if there is no such option.
-fn burst_in(text: Option<&[u8]>) -> Option<u8>
-    ensures value { SomeIff result (IsBurst (option_copied text.entry)) (burst_of (option_copied text.entry)) }
+/// How many datagrams of a socket are taken in a turn: 1 to 64. If there is no such option, 1 where turns are counted and else 64.
+fn burst_in(text: Option<&[u8]>, turns: Option<u64>) -> Option<u8>
+    ensures value { SomeIff result (IsBurst (option_copied text.entry)) (burst_of turns (option_copied text.entry)) }
     ensures range { IfSome result (λ burst. (1 ≤ burst) × (burst ≤ 64)) }
 {
     let Some(text) = text else {
-        return Some(1);
+        return match turns {
+            Some(_) => Some(1),
+            None => Some(MAX_BURST as u8),
+        };
     };
     let burst = number(text)?;
     if 1 <= burst && burst <= MAX_BURST {
@@ -70,9 +73,10 @@ pub fn serve_of(alloc: Global, found: &ArgMatches<'_>) -> Result<Command, WordFa
 {
     let config = found.get_str("config").ok_or(WordFault::Usage)?;
     let store = found.get_str("store").ok_or(WordFault::Usage)?;
+    let turns = turns_in(text_of(found, "turns")).ok_or(WordFault::Usage)?;
     Ok(Command::Serve {
-        turns: turns_in(text_of(found, "turns")).ok_or(WordFault::Usage)?,
-        burst: burst_in(text_of(found, "burst")).ok_or(WordFault::Usage)?,
+        turns,
+        burst: burst_in(text_of(found, "burst"), turns).ok_or(WordFault::Usage)?,
         relay_bind: bind_in(text_of(found, "relay-bind")).ok_or(WordFault::Usage)?,
         config: String::from_str(alloc, config)?,
         store: String::from_str(alloc, store)?,

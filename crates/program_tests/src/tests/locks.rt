@@ -1,0 +1,205 @@
+//! The lock of a store: who has it, who waits for it, and who needs none.
+
+use super::expect_by;
+use super::formats::{fresh, put};
+use super::inspections::FRAME;
+use std::cell::Cell;
+use std::fs::{self, File};
+use std::io::{self, Write};
+use std::rt::Clock;
+use std::test::Fail;
+use std::time::Duration;
+use turn_disk::{FileDisk, FileRefused};
+use turn_program::run_words;
+
+const CONFIG: &str = "realm example.org
+secret 0000000000000000000000000000000000000000000000000000000000000000
+listen 127.0.0.1:0
+relay 127.0.0.1 63041 63049
+limits 2 1 1 1 8
+";
+
+const STORE: &str = "turn_lock.store";
+
+/// The system's time, and pauses that take none. After so many of them a lock is released.
+#[derive(Drop)]
+struct Pauses<'a> {
+    rt: &'a HostRuntime,
+    count: Cell<u32>,
+    last: u32,
+    held: Cell<Option<FileDisk<File>>>,
+}
+
+impl Clock for Pauses<'_> {
+    fn monotonic(&self) -> io::Result<Duration> {
+        self.rt.monotonic()
+    }
+
+    fn since_1970(&self) -> io::Result<Duration> {
+        self.rt.since_1970()
+    }
+
+    fn sleep(&self, duration: Duration) {
+        if duration == Duration::from_millis(50) {
+            self.count.set(self.count.get().wrapping_add(1));
+        }
+        if self.count.get() == self.last {
+            drop(self.held.take());
+        }
+    }
+}
+
+/// A store with alice's allocation at relayed port 63,049.
+fn make_store(rt: &HostRuntime) -> Result<Vec<u8>, Fail> {
+    let mut content = fresh(rt.alloc())?;
+    put(&mut content, 90, FRAME);
+    put(&mut content, 90 + 34, b"\xF6\x49");
+    fs::write(rt, STORE, &content)?;
+    Ok(content)
+}
+
+const SERVE: [&str; 7] = [
+    "serve",
+    "--config",
+    "turn_lock.conf",
+    "--store",
+    STORE,
+    "--turns",
+    "0",
+];
+
+const FORMAT: [&str; 7] = [
+    "format",
+    "--config",
+    "turn_lock.conf",
+    "--store",
+    STORE,
+    "--area",
+    "238",
+];
+
+/// Words while a store is in use, the status, the output, the fault, and how many pauses there are.
+type Case = (&'static [&'static str], u8, &'static str, &'static str, u32);
+
+const IN_USE: [Case; 5] = [
+    (&SERVE, 3, "", "turn: store in use\n", 40),
+    (&FORMAT, 3, "", "turn: store in use\n", 0),
+    // Faults of the configuration and of the area come first.
+    (
+        &["serve", "--config", STORE, "--store", STORE],
+        1,
+        "",
+        "turn: line 1: bad line\n",
+        0,
+    ),
+    (
+        &[
+            "format",
+            "--config",
+            "turn_lock.conf",
+            "--store",
+            STORE,
+            "--area",
+            "237",
+        ],
+        2,
+        "",
+        "turn: area too small, needs 238\n",
+        0,
+    ),
+    (
+        &["inspect", "--store", STORE],
+        0,
+        "store generation 1 frames 1 clock 1000
+192.0.2.1:32853 192.0.2.100:3478 616c696365 63049 1600
+live 1
+",
+        "",
+        0,
+    ),
+];
+
+fn make_pauses<'a>(rt: &'a HostRuntime, last: u32, held: FileDisk<File>) -> Pauses<'a> {
+    Pauses {
+        rt,
+        count: Cell::new(0),
+        last,
+        held: Cell::new(Some(held)),
+    }
+}
+
+fn expect_in_use(rt: &HostRuntime, case: &Case) -> Result<(), Fail> {
+    let (words, status, out, err, count) = *case;
+    let content = make_store(rt)?;
+    let clock = make_pauses(rt, u32::MAX, FileDisk::open(rt, STORE)?);
+    expect_by(rt, &clock, words, status, out, err)?;
+    if clock.count.get() != count || fs::read(rt, STORE)?.as_slice() != content.as_slice() {
+        return Err(Fail::new(format_args!("{words:?}")));
+    }
+    Ok(())
+}
+
+/// Whether `serve` starts after so many pauses, if the lock is released in the last of them.
+fn starts_after(rt: &HostRuntime, last: u32) -> Result<bool, Fail> {
+    make_store(rt)?;
+    let clock = make_pauses(rt, last, FileDisk::open(rt, STORE)?);
+    let mut line = vec![in rt.alloc(); "turn"]?;
+    line.extend_from_slice(&SERVE)?;
+    let (mut out, mut err) = (Vec::new(rt.alloc()), Vec::new(rt.alloc()));
+    let status = run_words(rt, &clock, line.as_slice(), &mut out, &mut err);
+    Ok(status == 0 && clock.count.get() == last)
+}
+
+/// A standard output that tries to take the store's lock at each write.
+#[derive(Drop)]
+struct Prober<'a> {
+    rt: &'a HostRuntime,
+    writes: u32,
+    refused: u32,
+}
+
+impl Write for Prober<'_> {
+    fn write(&mut self, buf: &[u8]) -> io::Result<usize> {
+        self.writes = self.writes.wrapping_add(1);
+        if let Err(FileRefused::InUse) = FileDisk::open(self.rt, STORE) {
+            self.refused = self.refused.wrapping_add(1);
+        }
+        Ok(buf.len())
+    }
+
+    fn flush(&mut self) -> io::Result<()> {
+        Ok(())
+    }
+}
+
+/// Whether a command prints something, has the store's lock at each write, and releases it at its end.
+fn has_lock(rt: &HostRuntime, words: &[&str]) -> Result<bool, Fail> {
+    make_store(rt)?;
+    let mut line = vec![in rt.alloc(); "turn"]?;
+    line.extend_from_slice(words)?;
+    let mut out = Prober {
+        rt,
+        writes: 0,
+        refused: 0,
+    };
+    let mut err = Vec::new(rt.alloc());
+    let status = run_words(rt, rt, line.as_slice(), &mut out, &mut err);
+    let is_free = FileDisk::open(rt, STORE).is_ok();
+    Ok(status == 0 && 0 < out.writes && out.writes == out.refused && is_free)
+}
+
+/// One test, since all have the same file.
+#[test]
+fn a_store_in_use_is_refused_and_stays_as_it_is(rt: HostRuntime) -> Result<(), Fail> {
+    fs::write(&rt, "turn_lock.conf", CONFIG)?;
+    for case in &IN_USE {
+        expect_in_use(&rt, case)?;
+    }
+    assert!(rt; starts_after(&rt, 1)?);
+    assert!(rt; starts_after(&rt, 40)?);
+    assert!(rt; has_lock(&rt, &SERVE)?);
+    assert!(rt; has_lock(&rt, &FORMAT)?);
+    fs::remove_file(&rt, "turn_lock.conf")?;
+    fs::remove_file(&rt, STORE)?;
+    Ok(())
+}
