@@ -2,6 +2,7 @@
 //
 // words: flood to-peer SECONDS PID CPU CPU     datagrams as fast as they go, in one direction
 //        flood to-client SECONDS PID CPU CPU
+//        spray SECONDS CPU                     datagrams from the peer to the relayed ports, which nobody counts
 //        ping RATE SECONDS CPU CPU             round trips over the first client's channel and an echo at the peer
 //        ask COUNT                             requests, COUNT of them in flight
 //
@@ -192,6 +193,14 @@ static void flood(int to_peer, double seconds, const char *pid, int send_cpu, in
     pthread_join(receiving, NULL);
 }
 
+static void spray(double seconds, int cpu) {
+    pthread_t sending;
+    pthread_create(&sending, NULL, send_from_peer, &cpu);
+    usleep((useconds_t)(seconds * 1e6));
+    is_over = 1;
+    pthread_join(sending, NULL);
+}
+
 static void *echo(void *cpu) {
     run_on(*(int *)cpu);
     struct timeval wait = {.tv_usec = 100000};
@@ -211,30 +220,48 @@ static int by_size(const void *left, const void *right) {
     return (a > b) - (a < b);
 }
 
-// Prints: round trips, lost ones, p50 and p99 in nanoseconds.
-static void ping(double rate, double seconds, int send_cpu, int echo_cpu) {
-    pthread_t echoing;
-    pthread_create(&echoing, NULL, echo, &echo_cpu);
-    run_on(send_cpu);
-    int count = (int)(rate * seconds), done = 0;
-    long *times = calloc(count, sizeof *times), next = nanos();
-    struct timeval wait = {.tv_sec = 1};
-    int socket = clients[0].socket;
-    if (!times || setsockopt(socket, SOL_SOCKET, SO_RCVTIMEO, &wait, sizeof wait)) fail("a ping");
-    for (int i = 0; i < count; i++) {
-        unsigned char bytes[ROOM] = {clients[0].channel >> 8, clients[0].channel, 0, PAYLOAD};
+struct pings {
+    double rate;
+    int count, cpu;
+    long *sent;
+};
+
+// Sends each ping at its time, whether or not the ones before came back.
+static void *send_pings(void *word) {
+    struct pings *pings = word;
+    run_on(pings->cpu);
+    long next = nanos();
+    for (int i = 0; i < pings->count; i++) {
+        unsigned char bytes[4 + PAYLOAD] = {clients[0].channel >> 8, clients[0].channel, 0, PAYLOAD};
         memcpy(bytes + 4, &i, sizeof i);
-        next += (long)(1e9 / rate);
+        next += (long)(1e9 / pings->rate);
         struct timespec until = {next / 1000000000L, next % 1000000000L};
         clock_nanosleep(CLOCK_MONOTONIC, TIMER_ABSTIME, &until, NULL);
-        long start = nanos();
-        if (send(socket, bytes, 4 + PAYLOAD, 0) < 0) continue;
-        while (recv(socket, bytes, sizeof bytes, 0) >= 4 + PAYLOAD) {
-            if (memcmp(bytes + 4, &i, sizeof i)) continue;
-            times[done++] = nanos() - start;
-            break;
-        }
+        pings->sent[i] = nanos();
+        send(clients[0].socket, bytes, sizeof bytes, 0);
     }
+    return NULL;
+}
+
+// Prints: round trips, lost ones, p50 and p99 in nanoseconds.
+static void ping(double rate, double seconds, int send_cpu, int echo_cpu) {
+    pthread_t echoing, sending;
+    int count = (int)(rate * seconds), done = 0, socket = clients[0].socket;
+    struct pings pings = {rate, count, send_cpu, calloc(count, sizeof(long))};
+    long *times = calloc(count, sizeof *times);
+    struct timeval wait = {.tv_sec = 1};
+    if (!times || !pings.sent || setsockopt(socket, SOL_SOCKET, SO_RCVTIMEO, &wait, sizeof wait)) fail("a ping");
+    pthread_create(&echoing, NULL, echo, &echo_cpu);
+    pthread_create(&sending, NULL, send_pings, &pings);
+    run_on(send_cpu);
+    unsigned char bytes[ROOM];
+    // Up to the last one, or a second without any.
+    while (done < count && recv(socket, bytes, sizeof bytes, 0) >= 4 + PAYLOAD) {
+        int i;
+        memcpy(&i, bytes + 4, sizeof i);
+        if (i >= 0 && i < count && pings.sent[i]) times[done++] = nanos() - pings.sent[i];
+    }
+    pthread_join(sending, NULL);
     is_over = 1;
     pthread_join(echoing, NULL);
     qsort(times, done, sizeof *times, by_size);
@@ -283,6 +310,8 @@ int main(int count, char **words) {
     read_setup();
     if (count == 7 && !strcmp(words[1], "flood") && client_count) {
         flood(!strcmp(words[2], "to-peer"), atof(words[3]), words[4], atoi(words[5]), atoi(words[6]));
+    } else if (count == 4 && !strcmp(words[1], "spray") && client_count) {
+        spray(atof(words[2]), atoi(words[3]));
     } else if (count == 6 && !strcmp(words[1], "ping") && client_count) {
         ping(atof(words[2]), atof(words[3]), atoi(words[4]), atoi(words[5]));
     } else if (count == 3 && !strcmp(words[1], "ask")) {
