@@ -1,3 +1,4 @@
 pub mod Maps
 pub mod Raw
+pub mod ReservedPorts
 pub mod Tables

@@ -15,7 +15,7 @@ use Rattle.std.specs.Prelude.{nat_eq, nat_lt}
 use Rattle.std.proofs.lemmas.Cmp.{nat_cmp_total}
 use Rattle.std.proofs.lemmas.List.Folds.{list_any-append}
 use Rattle.std.specs.FinMap as fin
-use Rattle.std.specs.FinMap.{FinMap, IsAntisymmetric, find, get-insert, get-from_entries, same_map, nat_cmp-IsAntisymmetric}
+use Rattle.std.specs.FinMap.{FinMap, IsAntisymmetric, find, get-insert, get-remove, get-from_entries, same_map, nat_cmp-IsAntisymmetric}
 use Rattle.turn_history.specs.Table.{install, ahead, channel_ahead, still_permitted, still_bound}
 use Rattle.turn_history.specs.declared.channel.Channel.{Channel}
 use Rattle.turn_history.proofs.Reading.{nat_same, get-still_permitted, get-still_bound}
@@ -48,6 +48,13 @@ module _ {K X : Type 0} (R : K → K → Ordering) (o : IsTotalOrder R) (exact :
 -- the same at numbers
 pub from_insert-nat : {X : Type 0} (es fs : List (ℕ × X)) (k : ℕ) (v : X) → ((q : ℕ) → lookup (is_at (nat_cmp q)) fs ≡ cond (is_at (nat_cmp k) q) (Some v) (lookup (is_at (nat_cmp q)) es)) → fin.from_entries {R = nat_cmp} fs ≡ fin.insert (fin.from_entries es) k v
 from_insert-nat es fs k v u = from_insert nat_cmp nat_cmp_total nat_cmp-IsAntisymmetric es fs k v u
+
+-- and without one
+pub from_remove-nat : {X : Type 0} (es fs : List (ℕ × X)) (k : ℕ) → ((q : ℕ) → lookup (is_at (nat_cmp q)) fs ≡ cond (is_at (nat_cmp k) q) None (lookup (is_at (nat_cmp q)) es)) → fin.from_entries {R = nat_cmp} fs ≡ fin.remove (fin.from_entries es) k
+from_remove-nat es fs k u = same_map nat_cmp_total nat_cmp-IsAntisymmetric _ _ (λ q.
+    get-from_entries nat_cmp_total fs q ∙ find-lookup nat_cmp nat_cmp_total nat_cmp-IsAntisymmetric fs q ∙ u q
+    ∙ ap (λ b. cond b None (lookup (is_at (nat_cmp q)) es)) ((eq_by_cmp_equiv nat_cmp_total).symm k q)
+    ∙ sym (get-remove nat_cmp_total (fin.from_entries es) k q ∙ ap (cond (eq_by_cmp nat_cmp q k) None) (get-from_entries nat_cmp_total es q ∙ find-lookup nat_cmp nat_cmp_total nat_cmp-IsAntisymmetric es q)))
 
 -- what `install` does with one address more
 pub install_push : (x : ℕ) (ks : List ℕ) (a : ℕ) (m : FinMap nat_cmp ℕ) → install x (ks ++ a ∷ []) m ≡ fin.insert (install x ks m) a x

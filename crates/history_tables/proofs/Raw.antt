@@ -88,15 +88,15 @@ spanned [] a is = cc
 spanned (e ∷ es) a is = by_act e.act (spanned es a) is
   where
     by_act : (d : PlainAct) → (first_some allocation_at es ≡ Some a → IsSome (first_some span_at es)) → first_some allocation_at (event e.moment e.tuple d ∷ es) ≡ Some a → IsSome (first_some span_at (event e.moment e.tuple d ∷ es))
-    by_act (Allocates user port granted tx) ih is = refl
+    by_act (Allocates user port granted tx token) ih is = refl
     by_act (Renews granted) ih is = refl
     by_act (Permits addresses) ih is = ih is
     by_act (Binds number peer) ih is = ih is
 
 pub raw_in-more : (m : ℕ) (f : FiveTuple) (d : PlainAct) (es : List Event) → raw_in (event m f d ∷ es) ≡ replayed m d (raw_in es)
 unfolding raw_in
-raw_in-more m f (Allocates user port granted tx) es =
-    λ i. Some (record { user = user; port = port; granted = granted; tx = tx; expiry = m + granted; permissions = raw_permissions-none i; channels = raw_channels-none i })
+raw_in-more m f (Allocates user port granted tx token) es =
+    λ i. Some (record { user = user; port = port; granted = granted; tx = tx; token = token; expiry = m + granted; permissions = raw_permissions-none i; channels = raw_channels-none i })
 raw_in-more m f (Renews granted) es = renew (first_some allocation_at es) refl (first_some span_at es) refl
   where
     since : List Event
@@ -105,7 +105,7 @@ raw_in-more m f (Renews granted) es = renew (first_some allocation_at es) refl (
     renew : (a : Option Allocation) → first_some allocation_at es ≡ a → (x : Option ℕ) → first_some span_at es ≡ x → entry_with (raw_permissions (event m f (Renews granted) ∷ since)) (raw_channels (event m f (Renews granted) ∷ since)) a (Some (m + granted)) ≡ option_map (renewed (m + granted)) (entry_with (raw_permissions since) (raw_channels since) a x)
     renew None ea x ex = refl
     renew (Some a) ea None ex = let no : false ≡ true = sym (ap is_some ex) ∙ spanned es a ea in cc
-    renew (Some a) ea (Some x) ex = λ i. Some (record { user = a.user; port = a.port; granted = a.granted; tx = a.tx; expiry = m + granted; permissions = raw_permissions-more m f (Renews granted) since i; channels = raw_channels-renew m f granted since i })
+    renew (Some a) ea (Some x) ex = λ i. Some (record { user = a.user; port = a.port; granted = a.granted; tx = a.tx; token = a.token; expiry = m + granted; permissions = raw_permissions-more m f (Renews granted) since i; channels = raw_channels-renew m f granted since i })
 raw_in-more m f (Permits addresses) es = permit (first_some allocation_at es) (first_some span_at es)
   where
     since : List Event
@@ -114,7 +114,7 @@ raw_in-more m f (Permits addresses) es = permit (first_some allocation_at es) (f
     permit : (a : Option Allocation) (x : Option ℕ) → entry_with (raw_permissions (event m f (Permits addresses) ∷ since)) (raw_channels (event m f (Permits addresses) ∷ since)) a x ≡ option_map (permitting (m + 300) addresses) (entry_with (raw_permissions since) (raw_channels since) a x)
     permit None x = refl
     permit (Some a) None = refl
-    permit (Some a) (Some x) = λ i. Some (record { user = a.user; port = a.port; granted = a.granted; tx = a.tx; expiry = x; permissions = raw_permissions-more m f (Permits addresses) since i; channels = raw_channels-permit m f addresses since i })
+    permit (Some a) (Some x) = λ i. Some (record { user = a.user; port = a.port; granted = a.granted; tx = a.tx; token = a.token; expiry = x; permissions = raw_permissions-more m f (Permits addresses) since i; channels = raw_channels-permit m f addresses since i })
 raw_in-more m f (Binds number peer) es = bind (first_some allocation_at es) (first_some span_at es)
   where
     since : List Event
@@ -123,7 +123,7 @@ raw_in-more m f (Binds number peer) es = bind (first_some allocation_at es) (fir
     bind : (a : Option Allocation) (x : Option ℕ) → entry_with (raw_permissions (event m f (Binds number peer) ∷ since)) (raw_channels (event m f (Binds number peer) ∷ since)) a x ≡ option_map (binding m number peer) (entry_with (raw_permissions since) (raw_channels since) a x)
     bind None x = refl
     bind (Some a) None = refl
-    bind (Some a) (Some x) = λ i. Some (record { user = a.user; port = a.port; granted = a.granted; tx = a.tx; expiry = x; permissions = raw_permissions-more m f (Binds number peer) since i; channels = raw_channels-bound m f number peer since i })
+    bind (Some a) (Some x) = λ i. Some (record { user = a.user; port = a.port; granted = a.granted; tx = a.tx; token = a.token; expiry = x; permissions = raw_permissions-more m f (Binds number peer) since i; channels = raw_channels-bound m f number peer since i })
 
 -- ---- What is left of it at a moment
 
@@ -147,6 +147,6 @@ raw_in-at t es = by_parts (first_some allocation_at es) (first_some span_at es)
     by_parts (Some a) None = refl
     by_parts (Some a) (Some x) = by_test (ltb t x)
       where
-        by_test : (b : Bool) → cond b (Some (record { user = a.user; port = a.port; granted = a.granted; tx = a.tx; expiry = x; permissions = still_permitted t (raw_permissions since); channels = still_bound t (raw_channels since) })) None ≡ entry_with (permissions_in t since) (channels_in t since) (Some a) (cond b (Some x) None)
-        by_test true = λ i. Some (record { user = a.user; port = a.port; granted = a.granted; tx = a.tx; expiry = x; permissions = permissions_at t since i; channels = channels_at t since i })
+        by_test : (b : Bool) → cond b (Some (record { user = a.user; port = a.port; granted = a.granted; tx = a.tx; token = a.token; expiry = x; permissions = still_permitted t (raw_permissions since); channels = still_bound t (raw_channels since) })) None ≡ entry_with (permissions_in t since) (channels_in t since) (Some a) (cond b (Some x) None)
+        by_test true = λ i. Some (record { user = a.user; port = a.port; granted = a.granted; tx = a.tx; token = a.token; expiry = x; permissions = permissions_at t since i; channels = channels_at t since i })
         by_test false = refl

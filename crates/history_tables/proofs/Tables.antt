@@ -9,14 +9,14 @@ use Rattle.std.specs.List.Sorted.{IsStrictlySortedBy}
 use Rattle.std.specs.Option.{option_map, option_and_then}
 use Rattle.std.specs.Cmp.{eq_by_cmp_equiv}
 use Rattle.std.specs.FinMap as fin
-use Rattle.std.specs.FinMap.{find, get-from_entries}
+use Rattle.std.specs.FinMap.{find, get-from_entries, same_map}
 use Rattle.turn_history.specs.Act.{act_of, event_of}
 use Rattle.turn_types.specs.FiveTuple.{tuple_cmp, same_tuple}
 use Rattle.turn_history.specs.History.{History, own}
-use Rattle.turn_history.specs.Table.{Contents, kept, table}
+use Rattle.turn_history.specs.Table.{kept, table}
 use Rattle.turn_types.specs.declared.address.FiveTuple.{FiveTuple}
 use Rattle.turn_history.proofs.Maps.{tuple_total, tuple_exact, from_eq}
-use Rattle.turn_history.proofs.Reading.{own-push, get-table, same_contents}
+use Rattle.turn_history.proofs.Reading.{own-push, get-table}
 use Rattle.history_tables.specs.Replay.{replayed, still}
 use Rattle.turn_history.specs.declared.event.Event.{Event}
 use Rattle.history_tables.specs.View.{entry_of, pair_of}
@@ -57,8 +57,8 @@ module _ {A : Type 0} where
             ∙ sym (find-views tuple_cmp entry_of es f) ∙ holds f
 
   -- without what has expired it is the table
-  pub table_of : {F : Type 0} (T : F → FiveTuple → Entry A → Bool → Entry A → F → Type 0) (g : F) (h : History) (t : ℕ) (es left : List (FiveTuple × Entry A)) → Holds es h → Decides T entry_of (λ e. nat_lt t e.expiry) (still t) g → IsStrictlySortedBy tuple_cmp (keys_of es) → RetainsPairs T g es left → ◌≡◌ {A = Contents} (record { entries = fin.from_entries (map pair_of left) }) (table h t)
-  table_of T g h t es left holds says sorted r = same_contents _ _ (λ f.
+  pub table_of : {F : Type 0} (T : F → FiveTuple → Entry A → Bool → Entry A → F → Type 0) (g : F) (h : History) (t : ℕ) (es left : List (FiveTuple × Entry A)) → Holds es h → Decides T entry_of (λ e. nat_lt t e.expiry) (still t) g → IsStrictlySortedBy tuple_cmp (keys_of es) → RetainsPairs T g es left → fin.from_entries (map pair_of left) ≡ (table h t).entries
+  table_of T g h t es left holds says sorted r = same_map tuple_total tuple_exact _ _ (λ f.
       get-from_entries tuple_total (map pair_of left) f
       ∙ retained tuple_cmp tuple_exact T entry_of (λ e. nat_lt t e.expiry) (still t) g es left says sorted r f
       ∙ ap (option_and_then (kept t)) (holds f) ∙ raw_in-at t (own h f) ∙ sym (get-table h t f))

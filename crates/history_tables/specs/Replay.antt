@@ -5,7 +5,7 @@ use Rattle.turn_history.specs.History.{PlainAct, Allocates, Renews, Permits, Bin
 use Rattle.turn_history.specs.Table.{Entry, allocated, renewed, permitting, binding, still_permitted, still_bound}
 
 abbrev pub replayed : ℕ → PlainAct → Option Entry → Option Entry
-replayed t (Allocates user port granted tx) o = Some (allocated t user port granted tx)
+replayed t (Allocates user port granted tx token) o = Some (allocated t user port granted tx token)
 replayed t (Renews granted) o = option_map (renewed (t + granted)) o
 replayed t (Permits addresses) o = option_map (permitting (t + 300) addresses) o
 replayed t (Binds number peer) o = option_map (binding t number peer) o

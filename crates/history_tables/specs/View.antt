@@ -1,4 +1,4 @@
--- What clauses see of the code's entries and tables.
+-- What clauses see of the code's entries.
 use Rattle.std.specs.Prelude.{map}
 use Rattle.std.specs.BTreeMap.{BTreeMap}
 use Rattle.std.specs.FinMap as fin
@@ -13,6 +13,7 @@ entry_of e =
       port = e.port;
       granted = e.granted;
       tx = e.tx;
+      token = e.token;
       expiry = e.expiry;
       permissions = fin.from_entries e.permissions.entries;
       channels = fin.from_entries e.channels.entries;
@@ -21,5 +22,5 @@ entry_of e =
 abbrev pub pair_of : {A : Type 0} → FiveTuple × Entry A → FiveTuple × tables.Entry
 pair_of p = (p.0, entry_of p.1)
 
-abbrev pub contents_of : {A : Type 0} → BTreeMap FiveTuple (Entry A) → tables.Contents
-contents_of m = record { entries = fin.from_entries (map pair_of m.entries) }
+abbrev pub entries_in : {A : Type 0} → BTreeMap FiveTuple (Entry A) → tables.Entries
+entries_in m = fin.from_entries (map pair_of m.entries)

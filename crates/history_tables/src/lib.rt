@@ -1,18 +1,20 @@
-//! A reference implementation of the table of a history at a moment, for tests: every act in turn changes one map, and
-//! at the end what has expired is removed. By the definition, in turn_history, nothing is changed or removed.
+//! A reference implementation of the table of a history at a moment, for tests: every act in turn changes a map, and at
+//! the end what has expired is removed. By the definition, in turn_history, nothing is changed or removed.
 #![tactic(auto)]
 
 ghost use Rattle.std.specs.Prelude.{◌≡◌, ◌<◌, ◌^◌, IfOk, OnOk, map};
+ghost use Rattle.std.specs.FinMap as fin;
+ghost use Rattle.std.specs.Ordering.{nat_cmp};
 ghost use Rattle.std.specs.Option.{option_map};
 ghost use Rattle.turn_history.specs.Act.{act_of, event_of};
-ghost use Rattle.turn_history.specs.Table.{table, permitting, binding};
+ghost use Rattle.turn_history.specs.Table.{table, allocated, permitting, binding, reserving};
 ghost use Rattle.history_tables.specs.Replay.{replayed, still};
-ghost use Rattle.history_tables.specs.View.{entry_of, contents_of};
+ghost use Rattle.history_tables.specs.View.{entry_of, entries_in};
 
 use std::alloc::{AllocError, Allocator, Global};
 use std::collections::BTreeMap;
-use turn_history::{Act, Channel, Event, UserName};
-use turn_types::{Endpoint, FiveTuple, Moment, TxId};
+use turn_history::{Act, Channel, Event, Reservation, UserName};
+use turn_types::{Endpoint, FiveTuple, Moment, Token, TxId};
 
 /// What a table holds of a live five-tuple. Permissions are by address and channels by number. Each expiry is a time in
 /// seconds (exclusive).
@@ -22,9 +24,35 @@ pub struct Entry<A: Allocator = Global> {
     pub port: u16,
     pub granted: u32,
     pub tx: TxId,
+    pub token: Option<Token>,
     pub expiry: u64,
     pub permissions: BTreeMap<u32, u64, A>,
     pub channels: BTreeMap<u16, Channel, A>,
+}
+
+/// The entry of a new allocation.
+fn allocated<A: Allocator + Copy>(
+    alloc: A,
+    moment: u64,
+    user: &UserName<A>,
+    port: u16,
+    granted: u32,
+    tx: TxId,
+    token: Option<Token>,
+) -> Result<Entry<A>, AllocError>
+    requires { moment < 2 ^ 40 }
+    ensures { IfOk result (λ e. entry_of e ≡ allocated moment user.now port granted tx token) }
+{
+    Ok(Entry {
+        user: UserName::from(Vec::from_slice(alloc, user.as_slice())?),
+        port,
+        granted,
+        tx,
+        token,
+        expiry: moment + u64::from(granted),
+        permissions: BTreeMap::new(alloc),
+        channels: BTreeMap::new(alloc),
+    })
 }
 
 fn permit<A: Allocator + Copy>(
@@ -74,21 +102,26 @@ fn replay<A: Allocator + Copy>(
         tx,
     } = &event.act
     {
-        return Ok(Some(Entry {
-            user: UserName::from(Vec::from_slice(alloc, user.as_slice())?),
-            port: *port,
-            granted: *granted,
-            tx: *tx,
-            expiry: moment + *granted as u64,
-            permissions: BTreeMap::new(alloc),
-            channels: BTreeMap::new(alloc),
-        }));
+        let made = allocated(alloc, moment, user, *port, *granted, *tx, None)?;
+        return Ok(Some(made));
+    }
+    if let Act::AllocEven {
+        user,
+        port,
+        granted,
+        tx,
+        token,
+    } = &event.act
+    {
+        let pair = allocated(alloc, moment, user, *port, *granted, *tx, Some(*token))?;
+        return Ok(Some(pair));
     }
     let Some(mut entry) = before else {
         return Ok(None);
     };
     match &event.act {
         Act::Alloc { .. } => {}
+        Act::AllocEven { .. } => {}
         Act::Renew { granted } => entry.expiry = moment + *granted as u64,
         Act::Permit { addresses } => permit(&mut entry, addresses.as_slice(), moment + 300)?,
         Act::Bind { number, peer } => bind(&mut entry, *number, *peer, moment)?,
@@ -103,13 +136,13 @@ fn purge<A: Allocator>(entry: &mut Entry<A>, now: u64)
     entry.channels.retain(|_, channel| now < channel.expiry);
 }
 
-/// The table of a history, the oldest event first, at a moment.
+/// The entries of the table of a history, the oldest event first, at a moment.
 pub fn table_at<A: Allocator + Copy>(
     alloc: A,
     history: &[Event<A>],
     moment: Moment,
 ) -> Result<BTreeMap<FiveTuple, Entry<A>, A>, AllocError>
-    ensures { IfOk result (λ m. contents_of m ≡ table (map event_of history.now) moment) }
+    ensures { IfOk result (λ m. entries_in m ≡ (table (map event_of history.now) moment).entries) }
 {
     let mut entries = BTreeMap::new(alloc);
     for event in history {
@@ -125,4 +158,51 @@ pub fn table_at<A: Allocator + Copy>(
         now < entry.expiry
     });
     Ok(entries)
+}
+
+/// Does an act at a second to the reserved ports: an Alloc ends the reservation of its port, and may make one of the next.
+fn reserve<A: Allocator + Copy>(
+    reserved: &mut BTreeMap<u32, Reservation, A>,
+    moment: u64,
+    act: &Act<A>,
+) -> Result<(), AllocError>
+    requires { moment < 2 ^ 40 }
+    ensures { OnOk result (fin.from_entries {R = nat_cmp} reserved.new.entries ≡ reserving moment (act_of act.now) (fin.from_entries reserved.old.entries)) }
+{
+    match act {
+        Act::Alloc { port, .. } => {
+            let _ = reserved.remove(&u32::from(*port));
+        }
+        Act::AllocEven { port, token, .. } => {
+            let even = u32::from(*port);
+            let _ = reserved.remove(&even);
+            let reservation = Reservation {
+                token: *token,
+                expiry: moment + 30,
+            };
+            reserved.insert(even + 1, reservation)?;
+        }
+        Act::Renew { .. } => {}
+        Act::Permit { .. } => {}
+        Act::Bind { .. } => {}
+    }
+    Ok(())
+}
+
+/// The reserved ports of the table of a history, the oldest event first, at a moment. The history may be any, so a port
+/// can be 2^16.
+pub fn reserved_at<A: Allocator + Copy>(
+    alloc: A,
+    history: &[Event<A>],
+    moment: Moment,
+) -> Result<BTreeMap<u32, Reservation, A>, AllocError>
+    ensures { IfOk result (λ m. fin.from_entries m.entries ≡ (table (map event_of history.now) moment).reserved) }
+{
+    let mut reserved = BTreeMap::new(alloc);
+    for event in history {
+        reserve(&mut reserved, event.moment.seconds(), &event.act)?;
+    }
+    let now = moment.seconds();
+    reserved.retain(|_, reservation| now < reservation.expiry);
+    Ok(reserved)
 }

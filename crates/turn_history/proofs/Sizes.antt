@@ -15,14 +15,16 @@ use Rattle.std.specs.FinMap.Entries.{below_all}
 use Rattle.turn_types.specs.FiveTuple.{tuple_cmp, same_tuple}
 use Rattle.turn_types.specs.declared.limits.Bounds.{Bounds}
 use Rattle.turn_history.specs.History.{PlainAct, Allocates, Renews, Permits, Binds, Event, History, own, clock}
-use Rattle.turn_history.specs.Table.{Entry, Contents, ahead, channel_ahead, still_permitted, still_bound, kept, purged, install, renewed, permitting, binding, applied_to, allocated, map_of, entry_in, applied, table}
-use Rattle.turn_history.specs.Fitting.{Fits, FitsChannel, IsChannelNumber, FitsAfter, IsFitting}
+use Rattle.turn_history.specs.Table.{Entry, Contents, ahead, channel_ahead, still_permitted, still_bound, kept, purged, install, renewed, permitting, binding, applied_to, allocated, map_of, entry_in, applied, table, reservation_ahead, reservations, with_reservation}
+use Rattle.turn_history.specs.Fitting.{Fits, FitsReservation, FitsChannel, IsChannelNumber, FitsAfter, IsFitting}
 use Rattle.turn_history.specs.Laws.{IsWithin}
 use Rattle.turn_types.specs.declared.address.FiveTuple.{FiveTuple}
 use Rattle.turn_history.specs.declared.channel.Channel.{Channel}
+use Rattle.turn_history.specs.declared.reservation.Reservation.{Reservation}
+use Rattle.turn_types.specs.declared.message.Token.{Token}
 use Rattle.turn_history.proofs.Histories.{NextFrom, next_fits, below_first, below_rest, next_zero, table-follows}
 use Rattle.turn_history.proofs.Maps.{tuple_total, tuple_exact, from_eq}
-use Rattle.turn_history.proofs.Reading.{get-still_permitted, get-still_bound, get-purged, get-applied, get-table, purged_from, Makes, all_applied}
+use Rattle.turn_history.proofs.Reading.{get-still_permitted, get-still_bound, get-purged, get-purged_reserved, get-applied, get-table, purged_from, Makes, all_applied}
 use Rattle.turn_history.proofs.Steps.{get-install, table-later}
 
 -- ---- A map without keys that another one lacks is no larger
@@ -96,9 +98,17 @@ some_kept : (t : ℕ) (o : Option Entry) → is_some (option_and_then (kept t) o
 some_kept t None h = cc
 some_kept t (Some e) h = refl
 
+some_reserved : (t : ℕ) (o : Option Reservation) → is_some (reservation_ahead t o) ≡ true → is_some o ≡ true
+some_reserved t None h = cc
+some_reserved t (Some r) h = refl
+
+reserved-purged : (t : ℕ) (c : Contents) → fin.len (purged t c).reserved ≤ fin.len c.reserved
+reserved-purged t c = nat_len-le (purged t c).reserved c.reserved (λ q has. some_reserved t (fin.get c.reserved q) (sym (ap is_some (get-purged_reserved t c q)) ∙ has))
+
 pub within-purged : (b : Bounds) (t : ℕ) (c : Contents) → IsWithin b c → IsWithin b (purged t c)
 within-purged b t c w = record {
   allocations = (let le = len-le tuple_total tuple_exact (purged t c).entries c.entries (λ q has. some_kept t (fin.get c.entries q) (sym (ap is_some (get-purged t c q)) ∙ has)) in let all = w.allocations in omega arith);
+  reserved = (let le = reserved-purged t c in let all = w.reserved in omega arith);
   permissions = (λ f e is.
       let x = purged_from t c f e is in
       let le = nat_len-le (still_permitted t x.0.permissions) x.0.permissions (λ q has. some_ahead t (fin.get x.0.permissions q) (sym (ap is_some (get-still_permitted t x.0.permissions q)) ∙ has)) in
@@ -138,8 +148,8 @@ inserted_alike x y k m = nat_len-le (fin.insert m k x) (fin.insert m k y) (λ q 
 module _ (b : Bounds) (t : ℕ) (f : FiveTuple) (c : Contents) (w : IsWithin b c) where
   allocations-applied : (d : PlainAct) → Fits b c f d → fin.len (applied t f d c).entries ≤ b.allocations
   unfolding applied
-  allocations-applied (Allocates user port granted tx) fits =
-      let more : fin.len (applied t f (Allocates user port granted tx) c).entries ≡ fin.len c.entries + 1 = len-insert tuple_total c.entries f (allocated t user port granted tx) ∙ ap (λ o. cond (is_some o) (fin.len c.entries) (fin.len c.entries + 1)) fits.0 in
+  allocations-applied (Allocates user port granted tx token) fits =
+      let more : fin.len (applied t f (Allocates user port granted tx token) c).entries ≡ fin.len c.entries + 1 = len-insert tuple_total c.entries f (allocated t user port granted tx token) ∙ ap (λ o. cond (is_some o) (fin.len c.entries) (fin.len c.entries + 1)) fits.0 in
       omega (arith, fits.2)
   allocations-applied (Renews granted) fits = let le = no_new t f (Renews granted) c (λ o h. renews (granted == 0) o h) in let all = w.allocations in omega arith
     where
@@ -149,6 +159,28 @@ module _ (b : Bounds) (t : ℕ) (f : FiveTuple) (c : Contents) (w : IsWithin b c
   allocations-applied (Permits addresses) fits = let le = no_new t f (Permits addresses) c (some_mapped (permitting (t + 300) addresses)) in let all = w.allocations in omega arith
   allocations-applied (Binds number peer) fits = let le = no_new t f (Binds number peer) c (some_mapped (binding t number peer)) in let all = w.allocations in omega arith
 
+  no_more_reserved : (port : ℕ) → fin.len (fin.remove c.reserved port) ≤ fin.len c.reserved
+  no_more_reserved port = nat_len-le (fin.remove c.reserved port) c.reserved (λ q has. was q (eq_by_cmp nat_cmp q port) (sym (ap is_some (get-remove nat_cmp_total c.reserved port q)) ∙ has))
+    where
+      was : (q : ℕ) (i : Bool) → is_some (cond i None (fin.get c.reserved q)) ≡ true → is_some (fin.get c.reserved q) ≡ true
+      was q true h = cc
+      was q false h = h
+
+  reserved-applied : (d : PlainAct) → Fits b c f d → fin.len (applied t f d c).reserved ≤ b.allocations
+  unfolding applied
+  reserved-applied (Allocates user port granted tx token) fits = by_token token fits.3
+    where
+      by_token : (token : Option Token) → FitsReservation b c port token → fin.len (with_reservation t port token (fin.remove c.reserved port)) ≤ b.allocations
+      by_token None room = let le = no_more_reserved port in let all = w.reserved in omega arith
+      by_token (Some k) room = grow (is_some (fin.get (fin.remove c.reserved port) (port + 1))) (len-insert nat_cmp_total (fin.remove c.reserved port) (port + 1) (record { token = k; expiry = t + 30 }))
+        where
+          grow : (i : Bool) → fin.len (fin.insert (fin.remove c.reserved port) (port + 1) (record { token = k; expiry = t + 30 })) ≡ cond i (fin.len (fin.remove c.reserved port)) (fin.len (fin.remove c.reserved port) + 1) → fin.len (fin.insert (fin.remove c.reserved port) (port + 1) (record { token = k; expiry = t + 30 })) ≤ b.allocations
+          grow true is = let le = no_more_reserved port in let few = room.3 in omega arith
+          grow false is = let le = no_more_reserved port in let few = room.3 in omega arith
+  reserved-applied (Renews granted) fits = w.reserved
+  reserved-applied (Permits addresses) fits = w.reserved
+  reserved-applied (Binds number peer) fits = w.reserved
+
   abbrev pub Small : Entry → Type 0
   Small e = (fin.len e.permissions ≤ b.permissions) × (fin.len e.channels ≤ b.channels)
 
@@ -156,7 +188,7 @@ module _ (b : Bounds) (t : ℕ) (f : FiveTuple) (c : Contents) (w : IsWithin b c
   was_small q e is = (w.permissions q e is, w.channels q e is)
 
   made_small : (d : PlainAct) → Fits b c f d → Makes Small t d (fin.get c.entries f)
-  made_small (Allocates user port granted tx) fits = let ps = len-empty nat_cmp ℕ in let cs = len-empty nat_cmp Channel in (omega arith, omega arith)
+  made_small (Allocates user port granted tx token) fits = let ps = len-empty nat_cmp ℕ in let cs = len-empty nat_cmp Channel in (omega arith, omega arith)
   made_small (Renews granted) fits = λ some x is. was_small f x is
   made_small (Permits addresses) fits = λ x is.
       let room = subst (λ o. IsSomeAnd o (λ e. fin.len (install 0 addresses e.permissions) ≤ b.permissions)) is fits in
@@ -173,7 +205,7 @@ module _ (b : Bounds) (t : ℕ) (f : FiveTuple) (c : Contents) (w : IsWithin b c
   pub within-applied : (d : PlainAct) → Fits b c f d → IsWithin b (applied t f d c)
   within-applied d fits =
       let small = all_applied (λ q e. Small e) t f d c was_small (made_small d fits) in
-      record { allocations = allocations-applied d fits; permissions = λ q e is. (small q e is).0; channels = λ q e is. (small q e is).1 }
+      record { allocations = allocations-applied d fits; reserved = reserved-applied d fits; permissions = λ q e is. (small q e is).0; channels = λ q e is. (small q e is).1 }
 
 -- ---- A history
 
@@ -193,9 +225,10 @@ unfolding own entry_in
 none f = get-table [] 0 f
 
 within-none : (b : Bounds) → IsWithin b (table [] 0)
-unfolding table map_of
+unfolding table map_of reservations
 within-none b = record {
   allocations = (let size = len-empty tuple_cmp Entry in omega arith);
+  reserved = (let size = len-empty nat_cmp Reservation in omega arith);
   permissions = (λ f e is. let no : None ≡ Some e = sym (none f) ∙ is in cc);
   channels = (λ f e is. let no : None ≡ Some e = sym (none f) ∙ is in cc);
 }

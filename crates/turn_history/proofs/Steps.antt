@@ -1,22 +1,25 @@
 -- The table of a history after one more event, and at a later moment.
-use Rattle.std.proofs.Common.{◌≡◌, ℕ, ◌+◌, ◌≤◌, Bool, true, false, cond, ◌||◌, is_some, Option, Some, None, List, [], ◌∷◌, ◌++◌, refl, sym, ap, ◌∙◌, subst, arith, ltb, eqb, lt-ltb}
+use Rattle.std.proofs.Common.{◌≡◌, ℕ, ◌+◌, ◌≤◌, Bool, true, false, cond, ◌||◌, is_some, Option, Some, None, List, [], ◌∷◌, ◌++◌, refl, sym, ap, ◌∙◌, subst, arith, ltb, eqb, lt-ltb, reverse}
 use Rattle.std.specs.Prelude.{nat_eq, IsSome}
 use Rattle.std.specs.Option.{option_or, option_and_then, option_map}
 use Rattle.std.specs.Ordering.{nat_cmp}
 use Rattle.std.proofs.lemmas.Cmp.{nat_cmp_total}
 use Rattle.std.specs.List.{list_any}
+use Rattle.std.proofs.lemmas.Bool.{eqb-true}
 use Rattle.std.proofs.lemmas.Bool.Decides.{nat_tests}
 use Rattle.std.specs.FinMap as fin
 use Rattle.std.specs.FinMap.{FinMap, get-insert, same_map, nat_cmp-IsAntisymmetric}
 use Rattle.turn_types.specs.declared.address.Endpoint.{Endpoint}
 use Rattle.turn_types.specs.declared.address.FiveTuple.{FiveTuple}
 use Rattle.turn_history.specs.declared.channel.Channel.{Channel}
+use Rattle.turn_history.specs.declared.reservation.Reservation.{Reservation}
+use Rattle.turn_types.specs.declared.message.Token.{Token}
 use Rattle.turn_types.specs.declared.limits.Bounds.{Bounds}
 use Rattle.turn_history.specs.Fitting.{IsActInRange}
 use Rattle.turn_types.specs.FiveTuple.{tuple_cmp, same_tuple}
-use Rattle.turn_history.specs.History.{PlainAct, Allocates, Renews, Permits, Binds, Event, History, first_some, own, Allocation, allocation_at, span_at, until_first, addresses_of, permission_at, channel_at}
-use Rattle.turn_history.specs.Table.{ahead, channel_ahead, map_of, Entry, permissions_in, channels_in, entry_with, entry_in, entry_of, table, install, still_permitted, still_bound, kept, purged, renewed, permitting, binding, applied_to, applied}
-use Rattle.turn_history.proofs.Reading.{nat_same, own-push, get-permissions_in, get-channels_in, get-table, get-still_permitted, get-still_bound, get-purged, get-applied, same_contents}
+use Rattle.turn_history.specs.History.{PlainAct, Allocates, Renews, Permits, Binds, Event, History, first_some, own, Allocation, allocation_at, span_at, until_first, addresses_of, permission_at, channel_at, reservation_with, reservation_by, reservation_at, flat, reservation}
+use Rattle.turn_history.specs.Table.{ahead, channel_ahead, map_of, Entry, permissions_in, channels_in, entry_with, entry_in, entry_of, table, install, still_permitted, still_bound, kept, purged, renewed, permitting, binding, applied_to, applied, reservation_ahead, reserving}
+use Rattle.turn_history.proofs.Reading.{nat_same, own-push, get-permissions_in, get-channels_in, get-table, get-still_permitted, get-still_bound, get-purged, get-applied, same_contents, get-reserved, get-purged_reserved, applied-reserved, reservation-push, at_alloc, get-with_reservation}
 use Rattle.turn_history.proofs.Maps.{tuple_exact, from_eq}
 
 -- ---- At a later moment
@@ -50,6 +53,14 @@ still_bound-later t u le es = same_map nat_cmp_total nat_cmp-IsAntisymmetric _ _
     get-still_bound u (channels_in t es) n ∙ ap (channel_ahead u) (get-channels_in t es n)
     ∙ channel_ahead-later t u le (first_some (channel_at n) es) ∙ sym (get-channels_in u es n))
 
+reservation_ahead-later : (t u : ℕ) → t ≤ u → (o : Option Reservation) → reservation_ahead u (reservation_ahead t o) ≡ reservation_ahead u o
+reservation_ahead-later t u le None = refl
+reservation_ahead-later t u le (Some r) = by_test (ltb t r.expiry) refl
+  where
+    by_test : (b : Bool) → ltb t r.expiry ≡ b → reservation_ahead u (cond b (Some r) None) ≡ reservation_ahead u (Some r)
+    by_test true e = refl
+    by_test false e = ap (λ b. cond b (Some r) None) (sym (still_past t u r.expiry le e))
+
 -- an entry at a later moment is what of it has not expired
 pub entry_in-later : (t u : ℕ) → t ≤ u → (es : List Event) → option_and_then (kept u) (entry_in t es) ≡ entry_in u es
 unfolding entry_in
@@ -63,8 +74,8 @@ entry_in-later t u le es = by_parts (first_some allocation_at es) (first_some sp
     by_parts (Some a) None = refl
     by_parts (Some a) (Some x) = by_test (ltb t x) refl
       where
-        inner : (b : Bool) → cond b (Some (record { user = a.user; port = a.port; granted = a.granted; tx = a.tx; expiry = x; permissions = still_permitted u (permissions_in t since); channels = still_bound u (channels_in t since) })) None ≡ entry_with (permissions_in u since) (channels_in u since) (Some a) (cond b (Some x) None)
-        inner true = λ i. Some (record { user = a.user; port = a.port; granted = a.granted; tx = a.tx; expiry = x; permissions = still_permitted-later t u le since i; channels = still_bound-later t u le since i })
+        inner : (b : Bool) → cond b (Some (record { user = a.user; port = a.port; granted = a.granted; tx = a.tx; token = a.token; expiry = x; permissions = still_permitted u (permissions_in t since); channels = still_bound u (channels_in t since) })) None ≡ entry_with (permissions_in u since) (channels_in u since) (Some a) (cond b (Some x) None)
+        inner true = λ i. Some (record { user = a.user; port = a.port; granted = a.granted; tx = a.tx; token = a.token; expiry = x; permissions = still_permitted-later t u le since i; channels = still_bound-later t u le since i })
         inner false = refl
 
         by_test : (b : Bool) → ltb t x ≡ b → option_and_then (kept u) (entry_with (permissions_in t since) (channels_in t since) (Some a) (cond b (Some x) None)) ≡ entry_with (permissions_in u since) (channels_in u since) (Some a) (ahead u (Some x))
@@ -74,6 +85,7 @@ entry_in-later t u le es = by_parts (first_some allocation_at es) (first_some sp
 pub table-later : (h : History) (t u : ℕ) → t ≤ u → purged u (table h t) ≡ table h u
 table-later h t u le = same_contents _ _ (λ f.
     get-purged u (table h t) f ∙ ap (option_and_then (kept u)) (get-table h t f) ∙ entry_in-later t u le (own h f) ∙ sym (get-table h u f))
+    (λ q. get-purged_reserved u (table h t) q ∙ ap (reservation_ahead u) (get-reserved h t q) ∙ reservation_ahead-later t u le (reservation h q) ∙ sym (get-reserved h u q))
 
 -- ---- After one more event
 
@@ -136,7 +148,7 @@ channels_in-permit m f addresses es = refl
 
 -- an act that is no Alloc needs an entry
 abbrev pub Acts : PlainAct → Option Entry → Type 0
-Acts (Allocates user port granted tx) o = Unit {0}
+Acts (Allocates user port granted tx token) o = Unit {0}
 Acts (Renews granted) o = IsSome o
 Acts (Permits addresses) o = IsSome o
 Acts (Binds number peer) o = IsSome o
@@ -154,9 +166,9 @@ some_granted m granted e = grind (arith, nat_tests)
 -- the entry after one more act of its five-tuple
 pub entry_in-more : (b : Bounds) (m : ℕ) (f : FiveTuple) (d : PlainAct) (es : List Event) → IsActInRange b d → Acts d (entry_in m es) → entry_in m (event m f d ∷ es) ≡ applied_to m d (entry_in m es)
 unfolding entry_in
-entry_in-more b m f (Allocates user port granted tx) es in_range acts =
-    ap (λ b. entry_with (permissions_in m []) (channels_in m []) (Some (record { user = user; port = port; granted = granted; tx = tx })) (cond b (Some (m + granted)) None)) (lt-ltb m (m + granted) (omega (arith, in_range.2.0)))
-    ∙ (λ i. Some (record { user = user; port = port; granted = granted; tx = tx; expiry = m + granted; permissions = no_permissions m i; channels = no_channels m i }))
+entry_in-more b m f (Allocates user port granted tx token) es in_range acts =
+    ap (λ b. entry_with (permissions_in m []) (channels_in m []) (Some (record { user = user; port = port; granted = granted; tx = tx; token = token })) (cond b (Some (m + granted)) None)) (lt-ltb m (m + granted) (omega (arith, in_range.2.0)))
+    ∙ (λ i. Some (record { user = user; port = port; granted = granted; tx = tx; token = token; expiry = m + granted; permissions = no_permissions m i; channels = no_channels m i }))
 entry_in-more b m f (Renews granted) es in_range acts = by_test (eqb granted 0) refl
   where
     since : List Event
@@ -165,7 +177,7 @@ entry_in-more b m f (Renews granted) es in_range acts = by_test (eqb granted 0) 
     renew : (a : Option Allocation) (o : Option ℕ) → IsSome (entry_with (permissions_in m since) (channels_in m since) a o) → entry_with (permissions_in m (event m f (Renews granted) ∷ since)) (channels_in m (event m f (Renews granted) ∷ since)) a (Some (m + granted)) ≡ option_map (renewed (m + granted)) (entry_with (permissions_in m since) (channels_in m since) a o)
     renew None o h = cc
     renew (Some a) None h = cc
-    renew (Some a) (Some x) h = λ i. Some (record { user = a.user; port = a.port; granted = a.granted; tx = a.tx; expiry = m + granted; permissions = permissions_in-more m f (Renews granted) since i; channels = channels_in-quiet m f granted since i })
+    renew (Some a) (Some x) h = λ i. Some (record { user = a.user; port = a.port; granted = a.granted; tx = a.tx; token = a.token; expiry = m + granted; permissions = permissions_in-more m f (Renews granted) since i; channels = channels_in-quiet m f granted since i })
 
     spanned : Option ℕ → Option Entry
     spanned o = entry_with (permissions_in m (event m f (Renews granted) ∷ since)) (channels_in m (event m f (Renews granted) ∷ since)) (first_some allocation_at es) o
@@ -181,7 +193,7 @@ entry_in-more b m f (Permits addresses) es in_range acts = permit (first_some al
     permit : (a : Option Allocation) (o : Option ℕ) → entry_with (permissions_in m (event m f (Permits addresses) ∷ since)) (channels_in m (event m f (Permits addresses) ∷ since)) a o ≡ option_map (permitting (m + 300) addresses) (entry_with (permissions_in m since) (channels_in m since) a o)
     permit None o = refl
     permit (Some a) None = refl
-    permit (Some a) (Some x) = λ i. Some (record { user = a.user; port = a.port; granted = a.granted; tx = a.tx; expiry = x; permissions = permissions_in-more m f (Permits addresses) since i; channels = channels_in-permit m f addresses since i })
+    permit (Some a) (Some x) = λ i. Some (record { user = a.user; port = a.port; granted = a.granted; tx = a.tx; token = a.token; expiry = x; permissions = permissions_in-more m f (Permits addresses) since i; channels = channels_in-permit m f addresses since i })
 entry_in-more b m f (Binds number peer) es in_range acts = bind (first_some allocation_at es) (ahead m (first_some span_at es))
   where
     since : List Event
@@ -190,13 +202,54 @@ entry_in-more b m f (Binds number peer) es in_range acts = bind (first_some allo
     bind : (a : Option Allocation) (o : Option ℕ) → entry_with (permissions_in m (event m f (Binds number peer) ∷ since)) (channels_in m (event m f (Binds number peer) ∷ since)) a o ≡ option_map (binding m number peer) (entry_with (permissions_in m since) (channels_in m since) a o)
     bind None o = refl
     bind (Some a) None = refl
-    bind (Some a) (Some x) = λ i. Some (record { user = a.user; port = a.port; granted = a.granted; tx = a.tx; expiry = x; permissions = permissions_in-more m f (Binds number peer) since i; channels = channels_in-bound m f number peer since i })
+    bind (Some a) (Some x) = λ i. Some (record { user = a.user; port = a.port; granted = a.granted; tx = a.tx; token = a.token; expiry = x; permissions = permissions_in-more m f (Binds number peer) since i; channels = channels_in-bound m f number peer since i })
+
+-- the reservation of a port after one more act
+reservation-more : (h : History) (e : Event) (q : ℕ) → fin.get (table (h ++ e ∷ []) e.moment).reserved q ≡ fin.get (applied e.moment e.tuple e.act (table h e.moment)).reserved q
+unfolding reservation
+reservation-more h e q =
+    get-reserved (h ++ e ∷ []) e.moment q ∙ ap (reservation_ahead e.moment) (reservation-push h e q)
+    ∙ by_act e.act
+    ∙ sym (ap (λ m. fin.get m q) (applied-reserved e.moment e.tuple e.act (table h e.moment)))
+  where
+    rest : Option (Option Reservation)
+    rest = first_some (reservation_at q) (reverse h)
+
+    before : reservation_ahead e.moment (flat rest) ≡ fin.get (table h e.moment).reserved q
+    before = sym (get-reserved h e.moment q)
+
+    fresh : (r : Reservation) → r.expiry ≡ e.moment + 30 → reservation_ahead e.moment (Some r) ≡ Some r
+    fresh r is = ap (λ b. cond b (Some r) None) (lt-ltb e.moment r.expiry (omega (arith, is)))
+
+    by_port : (port : ℕ) (token : Option Token) → reservation_ahead e.moment (flat (option_or (cond (nat_eq q port) (Some None) (reservation_with q e.moment port token)) rest)) ≡ at_alloc e.moment q port token (fin.get (table h e.moment).reserved q)
+    by_port port None = by_test (nat_eq q port)
+      where
+        by_test : (b : Bool) → reservation_ahead e.moment (flat (option_or (cond b (Some None) None) rest)) ≡ cond b None (fin.get (table h e.moment).reserved q)
+        by_test true = refl
+        by_test false = before
+    by_port port (Some token) = by_tests (nat_eq q port) refl (nat_eq q (port + 1)) refl
+      where
+        made : Reservation
+        made = record { token = token; expiry = e.moment + 30 }
+
+        by_tests : (a : Bool) → nat_eq q port ≡ a → (b : Bool) → nat_eq q (port + 1) ≡ b → reservation_ahead e.moment (flat (option_or (cond a (Some None) (cond b (Some (Some made)) None)) rest)) ≡ cond b (Some made) (cond a None (fin.get (table h e.moment).reserved q))
+        by_tests true ea true eb = let one = eqb-true q port ea in let other = eqb-true q (port + 1) eb in absurd (omega (arith, one, other))
+        by_tests true ea false eb = refl
+        by_tests false ea true eb = fresh made refl
+        by_tests false ea false eb = before
+
+    by_act : (d : PlainAct) → reservation_ahead e.moment (flat (option_or (reservation_by q e.moment d) rest)) ≡ fin.get (reserving e.moment d (table h e.moment).reserved) q
+    by_act (Allocates user port granted tx token) = by_port port token ∙ sym (get-with_reservation e.moment q port token (table h e.moment).reserved)
+    by_act (Renews granted) = before
+    by_act (Permits addresses) = before
+    by_act (Binds number peer) = before
 
 pub table-more : (b : Bounds) (h : History) (e : Event) → IsActInRange b e.act → Acts e.act (fin.get (table h e.moment).entries e.tuple) → table (h ++ e ∷ []) e.moment ≡ applied e.moment e.tuple e.act (table h e.moment)
 table-more b h e in_range acts = same_contents _ _ (λ f.
     get-table (h ++ e ∷ []) e.moment f ∙ ap (entry_in e.moment) (own-push h e f)
     ∙ by_test f (same_tuple f e.tuple) refl
     ∙ sym (get-applied e.moment e.tuple e.act (table h e.moment) f ∙ ap (λ o. cond (same_tuple f e.tuple) (applied_to e.moment e.act o) (fin.get (table h e.moment).entries f)) (get-table h e.moment e.tuple) ∙ ap (cond (same_tuple f e.tuple) (applied_to e.moment e.act (entry_of h e.moment e.tuple))) (get-table h e.moment f)))
+    (reservation-more h e)
   where
     by_test : (f : FiveTuple) (t : Bool) → same_tuple f e.tuple ≡ t → entry_in e.moment (cond t (e ∷ own h f) (own h f)) ≡ cond t (applied_to e.moment e.act (entry_of h e.moment e.tuple)) (entry_of h e.moment f)
     by_test f false is = refl

@@ -1,7 +1,8 @@
 -- Which acts may follow a history.
-use Rattle.std.specs.Prelude.{◌≡◌, ◌≢◌, ◌⊎◌, ℕ, ◌+◌, ◌-◌, ◌^◌, ◌≤◌, ◌<◌, ◌==◌, ◌&&◌, ◌||◌, nat_eq, nat_lt, not, Bool, if◌then◌else◌, None, Some, List, [], ◌∷◌, ◌++◌, length, IsSome, IsSomeAnd, All}
+use Rattle.std.specs.Prelude.{◌≡◌, ◌≢◌, ◌⊎◌, ℕ, ◌+◌, ◌-◌, ◌^◌, ◌≤◌, ◌<◌, ◌==◌, ◌&&◌, ◌||◌, nat_eq, nat_lt, not, Bool, if◌then◌else◌, None, Some, List, [], ◌∷◌, ◌++◌, length, take, is_some, ◌%◌, IsSome, IsSomeAnd, IfSome, Option, All}
 use Rattle.std.specs.List.{IsDistinct, list_all, list_any}
 use Rattle.std.specs.FinMap as fin
+use Rattle.std.specs.Int.{to_be_bytes, w16}
 use Rattle.turn_history.specs.History.{PlainAct, Allocates, Renews, Permits, Binds, Event, History, clock}
 use Rattle.turn_types.specs.declared.limits.Bounds.{Bounds}
 use Rattle.turn_history.specs.Table.{Entry, Contents, install, table}
@@ -9,6 +10,8 @@ pub use Rattle.turn_types.specs.FiveTuple.{IsEndpoint, IsTuple}
 use Rattle.turn_types.specs.declared.address.Endpoint.{Endpoint}
 use Rattle.turn_types.specs.declared.address.FiveTuple.{FiveTuple}
 use Rattle.turn_history.specs.declared.channel.Channel.{Channel}
+use Rattle.turn_history.specs.declared.reservation.Reservation.{Reservation}
+use Rattle.turn_types.specs.declared.message.Token.{Token}
 
 -- ---- The ranges of an event's values
 
@@ -20,13 +23,24 @@ IsLifetime granted = (600 ≤ granted) × (granted ≤ 3600)
 abbrev pub IsChannelNumber : ℕ → Type 0
 IsChannelNumber n = (0x4000 ≤ n) × (n ≤ 0x4FFF)
 
+-- a token has eight bytes, and begins with the two of its port
+pub record IsTokenOf (port : ℕ) (token : Token) : Type 0 where
+  pub size : length token.0 ≡ 8
+  pub bytes : All (λ x. x < 256) token.0
+  pub begins : take 2 token.0 ≡ to_be_bytes w16 port
+
+-- a token for the port after an even one
+abbrev pub IsTokenAfter : ℕ → Token → Type 0
+IsTokenAfter port token = (port % 2 ≡ 0) × IsTokenOf (port + 1) token
+
 -- the values of an act are in their ranges under the limits
 abbrev pub IsActInRange : Bounds → PlainAct → Type 0
-IsActInRange b (Allocates user port granted tx) =
+IsActInRange b (Allocates user port granted tx token) =
     ((1 ≤ length user) × (length user ≤ b.name_bytes) × All (λ x. x < 256) user)
     × (port < 2 ^ 16)
     × IsLifetime granted
     × ((length tx.0 ≡ 12) × All (λ x. x < 256) tx.0)
+    × IfSome token (IsTokenAfter port)
 IsActInRange b (Renews granted) = (granted ≡ 0) ⊎ IsLifetime granted
 IsActInRange b (Permits addresses) =
     ((1 ≤ length addresses) × (length addresses ≤ b.permissions) × All (λ x. x < 2 ^ 32) addresses)
@@ -40,7 +54,7 @@ pub record IsInRange (b : Bounds) (e : Event) : Type 0 where
 
 -- the values of an entry of a table at the moment t are in their ranges under the limits
 pub record IsEntryInRange (b : Bounds) (t : ℕ) (e : Entry) : Type 0 where
-  pub made : IsActInRange b (Allocates e.user e.port e.granted e.tx)
+  pub made : IsActInRange b (Allocates e.user e.port e.granted e.tx e.token)
   pub expiry : (t < e.expiry) × (e.expiry ≤ t + 3600)
   pub permissions : (a x : ℕ) → fin.get e.permissions a ≡ Some x → (a < 2 ^ 32) × (t < x) × (x ≤ t + 300)
   pub channels : (n : ℕ) (c : Channel) → fin.get e.channels n ≡ Some c → IsChannelNumber n × IsEndpoint c.peer × (t < c.expiry) × (c.expiry ≤ t + 600)
@@ -49,6 +63,15 @@ pub record IsEntryInRange (b : Bounds) (t : ℕ) (e : Entry) : Type 0 where
 abbrev pub AreEntriesInRange : Bounds → ℕ → Contents → Type 0
 AreEntriesInRange b t c = (f : FiveTuple) (e : Entry) → fin.get c.entries f ≡ Some e → IsTuple f × IsEntryInRange b t e
 
+-- a reservation of an odd port in a table at the moment t
+pub record IsReservationInRange (t q : ℕ) (r : Reservation) : Type 0 where
+  pub port : (q < 2 ^ 16) × (q % 2 ≡ 1)
+  pub token : IsTokenOf q r.token
+  pub expiry : (t < r.expiry) × (r.expiry ≤ t + 30)
+
+abbrev pub AreReservationsInRange : ℕ → Contents → Type 0
+AreReservationsInRange t c = (q : ℕ) (r : Reservation) → fin.get c.reserved q ≡ Some r → IsReservationInRange t q r
+
 -- ---- Fitting
 
 -- no entry has the port (RFC 8656, section 7.2)
@@ -56,8 +79,21 @@ abbrev pub PortIsFree : Contents → ℕ → Type 0
 PortIsFree c port = (f : FiveTuple) (e : Entry) → fin.get c.entries f ≡ Some e → e.port ≢ port
 
 -- whether an entry has the port: the test of which `PortIsFree` is the fact
+abbrev pub has_port : Contents → ℕ → Bool
+has_port c port = list_any (λ p. p.1.port == port) (fin.entries c.entries)
+
+-- the port is not reserved
+abbrev pub IsUnreserved : Contents → ℕ → Type 0
+IsUnreserved c port = fin.get c.reserved port ≡ None
+
+-- whether an entry has the port, or it is reserved: ports that a new allocation doesn't get unless it names a token
 abbrev pub is_taken : Contents → ℕ → Bool
-is_taken c port = list_any (λ p. p.1.port == port) (fin.entries c.entries)
+is_taken c port = has_port c port || is_some (fin.get c.reserved port)
+
+-- the port after this one may be reserved, if there is a token: it is a port, it is neither allocated nor reserved, and the limits hold afterwards
+abbrev pub FitsReservation : Bounds → Contents → ℕ → Option Token → Type 0
+FitsReservation b c port None = Unit {0}
+FitsReservation b c port (Some token) = (port + 1 < 2 ^ 16) × PortIsFree c (port + 1) × IsUnreserved c (port + 1) × (fin.len c.reserved < b.allocations)
 
 -- number n may be bound to the peer p (RFC 8656, section 12.2): the limits hold afterwards, n is bound to no other peer, and p to no other number
 abbrev pub FitsChannel : Bounds → ℕ → Endpoint → Entry → Type 0
@@ -84,10 +120,12 @@ exceeds b n p e =
     nat_lt b.permissions (fin.len (fin.insert e.permissions p.ip 0))
     || nat_lt b.channels (fin.len (fin.insert e.channels n (record { peer = p; expiry = 0 })))
 
--- an act of f fits a table (RFC 8656, sections 7.2, 8.2, 10.2 and 12.2): an Alloc, where f is not live, the port is nobody's and the table is not full; the others,
+-- an act of f fits a table (RFC 8656, sections 7.2, 8.2, 10.2 and 12.2): an Alloc, where f is not live, the port is nobody's, also a reserved one, the table is not full, and
+-- with a token the next port may be reserved; the others,
 -- where f is live and the limits hold afterwards
 abbrev pub Fits : Bounds → Contents → FiveTuple → PlainAct → Type 0
-Fits b c f (Allocates user port granted tx) = (fin.get c.entries f ≡ None) × PortIsFree c port × (fin.len c.entries < b.allocations)
+Fits b c f (Allocates user port granted tx token) =
+    (fin.get c.entries f ≡ None) × PortIsFree c port × (fin.len c.entries < b.allocations) × FitsReservation b c port token
 Fits b c f (Renews granted) = IsSome (fin.get c.entries f)
 Fits b c f (Permits addresses) = IsSomeAnd (fin.get c.entries f) (λ e. fin.len (install 0 addresses e.permissions) ≤ b.permissions)
 Fits b c f (Binds number peer) = IsSomeAnd (fin.get c.entries f) (λ e. FitsChannel b number peer e × IsChannelNumber number)

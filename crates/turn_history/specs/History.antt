@@ -8,15 +8,17 @@ use Rattle.turn_types.specs.declared.address.Endpoint.{Endpoint}
 use Rattle.turn_types.specs.declared.address.FiveTuple.{FiveTuple}
 use Rattle.turn_history.specs.declared.channel.Channel.{Channel}
 use Rattle.turn_types.specs.declared.message.TxId.{TxId}
+use Rattle.turn_types.specs.declared.message.Token.{Token}
+use Rattle.turn_history.specs.declared.reservation.Reservation.{Reservation}
 
 -- ---- Acts and histories
 
 -- What an accepted request does to the allocation of its five-tuple, with lists where the code has vectors: an
--- Allocate makes it (section 7), a Refresh sets its time to expiry and with 0 deletes it (section 8), a
+-- Allocate makes it, and with a token reserves the next port too (section 7), a Refresh sets its time to expiry and with 0 deletes it (section 8), a
 -- CreatePermission installs permissions (section 10), and a ChannelBind binds a channel and installs the permission
 -- of the peer's address (section 12).
 pub data PlainAct : Type 0 where
-  Allocates : (user : List ℕ) (port granted : ℕ) (tx : TxId) → PlainAct
+  Allocates : (user : List ℕ) (port granted : ℕ) (tx : TxId) (token : Option Token) → PlainAct
   Renews : (granted : ℕ) → PlainAct
   Permits : (addresses : List ℕ) → PlainAct
   Binds : (number : ℕ) (peer : Endpoint) → PlainAct
@@ -60,16 +62,17 @@ pub record Allocation : Type 0 where
   pub port : ℕ
   pub granted : ℕ
   pub tx : TxId
+  pub token : Option Token
 
 abbrev pub allocation_by : PlainAct → Option Allocation
-allocation_by (Allocates user port granted tx) = Some (record { user = user; port = port; granted = granted; tx = tx })
+allocation_by (Allocates user port granted tx token) = Some (record { user = user; port = port; granted = granted; tx = tx; token = token })
 allocation_by (Renews granted) = None
 allocation_by (Permits addresses) = None
 allocation_by (Binds number peer) = None
 
 -- for how many seconds an allocation lasts from here
 abbrev pub granted_by : PlainAct → Option ℕ
-granted_by (Allocates user port granted tx) = Some granted
+granted_by (Allocates user port granted tx token) = Some granted
 granted_by (Renews granted) = Some granted
 granted_by (Permits addresses) = None
 granted_by (Binds number peer) = None
@@ -101,14 +104,14 @@ since_alloc h f = until_first (λ e. is_some (allocation_at e)) (own h f)
 
 -- the addresses whose permission an act installs
 abbrev pub addresses_of : PlainAct → List ℕ
-addresses_of (Allocates user port granted tx) = []
+addresses_of (Allocates user port granted tx token) = []
 addresses_of (Renews granted) = []
 addresses_of (Permits addresses) = addresses
 addresses_of (Binds number peer) = peer.ip ∷ []
 
 -- the channel number that an act binds
 abbrev pub numbers_of : PlainAct → List ℕ
-numbers_of (Allocates user port granted tx) = []
+numbers_of (Allocates user port granted tx token) = []
 numbers_of (Renews granted) = []
 numbers_of (Permits addresses) = []
 numbers_of (Binds number peer) = number ∷ []
@@ -117,7 +120,7 @@ abbrev pub permission_at : ℕ → Event → Option ℕ
 permission_at a e = if list_any (nat_eq a) (addresses_of e.act) then Some (e.moment + 300) else None
 
 abbrev pub channel_by : ℕ → ℕ → PlainAct → Option Channel
-channel_by n m (Allocates user port granted tx) = None
+channel_by n m (Allocates user port granted tx token) = None
 channel_by n m (Renews granted) = None
 channel_by n m (Permits addresses) = None
 channel_by n m (Binds number peer) = if n == number then Some (record { peer = peer; expiry = m + 600 }) else None
@@ -132,3 +135,38 @@ permission h f a = first_some (permission_at a) (since_alloc h f)
 -- the peer of a channel, and when it expires: 600 s after it was last bound, if that was after the last Alloc
 abbrev pub channel : History → FiveTuple → ℕ → Option Channel
 channel h f n = first_some (channel_at n) (since_alloc h f)
+
+-- ---- Reservations (section 7.2: an Allocate may reserve the port after its own; a reservation lasts 30 seconds, and
+-- the next Alloc of the port ends it)
+
+-- the ports that an act reserves
+abbrev pub reserved_by : PlainAct → List ℕ
+reserved_by (Allocates user port granted tx None) = []
+reserved_by (Allocates user port granted tx (Some token)) = (port + 1) ∷ []
+reserved_by (Renews granted) = []
+reserved_by (Permits addresses) = []
+reserved_by (Binds number peer) = []
+
+-- the reservation of the port q by an Alloc of another port at the moment m, if it makes one
+abbrev pub reservation_with : ℕ → ℕ → ℕ → Option Token → Option (Option Reservation)
+reservation_with q m port None = None
+reservation_with q m port (Some token) = if q == port + 1 then Some (Some (record { token = token; expiry = m + 30 })) else None
+
+-- what an act at the moment m says of the reservation of the port q: an Alloc of q ends it, an Alloc of the port before it
+-- may make one, and the others say nothing
+abbrev pub reservation_by : ℕ → ℕ → PlainAct → Option (Option Reservation)
+reservation_by q m (Allocates user port granted tx token) = if q == port then Some None else reservation_with q m port token
+reservation_by q m (Renews granted) = None
+reservation_by q m (Permits addresses) = None
+reservation_by q m (Binds number peer) = None
+
+abbrev pub reservation_at : ℕ → Event → Option (Option Reservation)
+reservation_at q e = reservation_by q e.moment e.act
+
+abbrev pub flat : {X : Type 0} → Option (Option X) → Option X
+flat None = None
+flat (Some o) = o
+
+-- the reservation of a port: by the last event that says something of it
+unfoldable pub reservation : History → ℕ → Option Reservation
+reservation h q = flat (first_some (reservation_at q) (reverse h))

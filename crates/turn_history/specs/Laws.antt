@@ -3,7 +3,10 @@ use Rattle.std.specs.Prelude.{◌≡◌, ℕ, ◌+◌, ◌≤◌, ◌<◌, Optio
 use Rattle.std.specs.List.{list_any, filter, AllByRecursion}
 use Rattle.std.specs.FinMap as fin
 use Rattle.turn_types.specs.FiveTuple.{same_tuple}
-use Rattle.turn_history.specs.History.{Binds, Event, History, Allocation, allocation_at, addresses_of, made, span, IsLive}
+use Rattle.turn_history.specs.Fitting.{PortIsFree}
+use Rattle.turn_history.specs.declared.reservation.Reservation.{Reservation}
+use Rattle.turn_types.specs.declared.message.Token.{Token}
+use Rattle.turn_history.specs.History.{PlainAct, Allocates, Renews, Permits, Binds, Event, History, Allocation, allocation_at, addresses_of, made, span, IsLive}
 use Rattle.turn_types.specs.declared.limits.Bounds.{Bounds}
 use Rattle.turn_history.specs.Table.{Entry, Contents}
 use Rattle.turn_types.specs.declared.address.Endpoint.{Endpoint}
@@ -35,7 +38,7 @@ pub record IsLast {X : Type 0} (g : Event → Option X) (h : History) (f : FiveT
 
 -- what the Allocate of an entry gave
 abbrev pub allocation_of : Entry → Allocation
-allocation_of e = record { user = e.user; port = e.port; granted = e.granted; tx = e.tx }
+allocation_of e = record { user = e.user; port = e.port; granted = e.granted; tx = e.tx; token = e.token }
 
 -- an event of f is after the last Alloc of f
 pub record IsAfterAlloc (h : History) (f : FiveTuple) (e : Event) : Type 0 where
@@ -110,14 +113,56 @@ ChannelEnds c f n p x = IsSomeAnd (fin.get c.entries f) (λ e. fin.get e.channel
 abbrev pub PortsApart : Contents → Type 0
 PortsApart c = (f g : FiveTuple) (x y : Entry) → fin.get c.entries f ≡ Some x → fin.get c.entries g ≡ Some y → x.port ≡ y.port → f ≡ g
 
+-- no entry of a table has a reserved port
+abbrev pub ReservedApart : Contents → Type 0
+ReservedApart c = (q : ℕ) (r : Reservation) → fin.get c.reserved q ≡ Some r → PortIsFree c q
+
 -- in no entry of a table two channels have one peer
 abbrev pub PeersApart : Contents → Type 0
 PeersApart c =
     (f : FiveTuple) (e : Entry) → fin.get c.entries f ≡ Some e →
     (n k : ℕ) (x y : Channel) → fin.get e.channels n ≡ Some x → fin.get e.channels k ≡ Some y → x.peer ≡ y.peer → n ≡ k
 
--- a table has no more entries, and in each no more permissions and channels, than the limits allow
+-- a table has no more entries and reserved ports, and in each entry no more permissions and channels, than the limits allow
 pub record IsWithin (b : Bounds) (c : Contents) : Type 0 where
   pub allocations : fin.len c.entries ≤ b.allocations
+  pub reserved : fin.len c.reserved ≤ b.allocations
   pub permissions : (f : FiveTuple) (e : Entry) → fin.get c.entries f ≡ Some e → fin.len e.permissions ≤ b.permissions
   pub channels : (f : FiveTuple) (e : Entry) → fin.get c.entries f ≡ Some e → fin.len e.channels ≤ b.channels
+
+-- an Alloc of the port
+abbrev pub IsAllocOf : ℕ → PlainAct → Type 0
+IsAllocOf q (Allocates user port granted tx token) = port ≡ q
+IsAllocOf q (Renews granted) = ⊥
+IsAllocOf q (Permits addresses) = ⊥
+IsAllocOf q (Binds number peer) = ⊥
+
+-- an Alloc of the port before q that reserves q with this token
+abbrev pub Reserves : ℕ → Token → PlainAct → Type 0
+Reserves q token (Allocates user port granted tx its) = (port + 1 ≡ q) × (its ≡ Some token)
+Reserves q token (Renews granted) = ⊥
+Reserves q token (Permits addresses) = ⊥
+Reserves q token (Binds number peer) = ⊥
+
+-- some event at the moment m reserves the port with this token, no Alloc of the port is after it, and it is less than 30 seconds old at t
+pub record ReservedAt (h : History) (t q : ℕ) (token : Token) (m : ℕ) : Type 0 where
+  pub before : History
+  pub event : Event
+  pub after : History
+  pub place : h ≡ before ++ event ∷ after
+  pub reserves : Reserves q token event.act
+  pub moment : event.moment ≡ m
+  pub untaken : AllByRecursion (λ e. IsAllocOf q e.act → ⊥) after
+  pub ahead : t < m + 30
+
+-- an act that reserves no port
+abbrev pub ReservesNone : PlainAct → Type 0
+ReservesNone (Allocates user port granted tx token) = token ≡ None
+ReservesNone (Renews granted) = Unit {0}
+ReservesNone (Permits addresses) = Unit {0}
+ReservesNone (Binds number peer) = Unit {0}
+
+-- no port of a table is reserved, and no entry has a token
+pub record HasNoTokens (c : Contents) : Type 0 where
+  pub reserved : (q : ℕ) → fin.get c.reserved q ≡ None
+  pub entries : (f : FiveTuple) (e : Entry) → fin.get c.entries f ≡ Some e → e.token ≡ None

@@ -7,11 +7,13 @@ use Rattle.std.specs.List.{flat_map}
 use Rattle.std.specs.FinMap as fin
 use Rattle.std.specs.FinMap.{FinMap}
 use Rattle.turn_types.specs.FiveTuple.{tuple_cmp}
-use Rattle.turn_history.specs.History.{PlainAct, Allocates, Renews, Permits, Binds, Event, History, own, first_some, until_first, Allocation, allocation_at, span_at, addresses_of, numbers_of, permission_at, channel_at}
+use Rattle.turn_history.specs.History.{PlainAct, Allocates, Renews, Permits, Binds, Event, History, own, first_some, until_first, Allocation, allocation_at, span_at, addresses_of, numbers_of, permission_at, channel_at, reserved_by, reservation}
 use Rattle.turn_types.specs.declared.address.Endpoint.{Endpoint}
 use Rattle.turn_types.specs.declared.address.FiveTuple.{FiveTuple}
 use Rattle.turn_history.specs.declared.channel.Channel.{Channel}
 use Rattle.turn_types.specs.declared.message.TxId.{TxId}
+use Rattle.turn_types.specs.declared.message.Token.{Token}
+use Rattle.turn_history.specs.declared.reservation.Reservation.{Reservation}
 
 -- ---- What a table holds
 
@@ -22,6 +24,7 @@ pub record Entry : Type 0 where
   pub port : ℕ
   pub granted : ℕ
   pub tx : TxId
+  pub token : Option Token
   pub expiry : ℕ
   pub permissions : FinMap nat_cmp ℕ
   pub channels : FinMap nat_cmp Channel
@@ -30,11 +33,16 @@ pub record Entry : Type 0 where
 abbrev pub Entries : Type 0
 Entries = FinMap tuple_cmp Entry
 
+-- the reserved ports, each with its token and when the reservation expires (RFC 8656, section 7.2)
+abbrev pub Reservations : Type 0
+Reservations = FinMap nat_cmp Reservation
+
 pub record Contents : Type 0 where
   pub entries : Entries
+  pub reserved : Reservations
 
 unfoldable pub no_contents : Contents
-no_contents = record { entries = fin.empty }
+no_contents = record { entries = fin.empty; reserved = fin.empty }
 
 -- ---- What has not expired
 
@@ -46,6 +54,10 @@ ahead t (Some x) = if nat_lt t x then Some x else None
 abbrev pub channel_ahead : ℕ → Option Channel → Option Channel
 channel_ahead t None = None
 channel_ahead t (Some c) = if nat_lt t c.expiry then Some c else None
+
+abbrev pub reservation_ahead : ℕ → Option Reservation → Option Reservation
+reservation_ahead t None = None
+reservation_ahead t (Some r) = if nat_lt t r.expiry then Some r else None
 
 -- ---- The table of a history
 
@@ -70,7 +82,7 @@ abbrev pub entry_with : FinMap nat_cmp ℕ → FinMap nat_cmp Channel → Option
 entry_with ps cs None x = None
 entry_with ps cs (Some a) None = None
 entry_with ps cs (Some a) (Some x) =
-    Some (record { user = a.user; port = a.port; granted = a.granted; tx = a.tx; expiry = x; permissions = ps; channels = cs })
+    Some (record { user = a.user; port = a.port; granted = a.granted; tx = a.tx; token = a.token; expiry = x; permissions = ps; channels = cs })
 
 -- the entry of a five-tuple at a moment, read off its own events, the newest first
 unfoldable pub entry_in : ℕ → List Event → Option Entry
@@ -81,9 +93,13 @@ entry_in t es =
 abbrev pub entry_of : History → ℕ → FiveTuple → Option Entry
 entry_of h t f = entry_in t (own h f)
 
--- the map from each live five-tuple to its entry (RFC 8656, section 6)
+-- the reserved ports at a moment
+unfoldable pub reservations : History → ℕ → Reservations
+reservations h t = map_of nat_cmp (flat_map (λ e. reserved_by e.act) h) (λ q. reservation_ahead t (reservation h q))
+
+-- the map from each live five-tuple to its entry (RFC 8656, section 6), and the reserved ports
 unfoldable pub table : History → ℕ → Contents
-table h t = record { entries = map_of tuple_cmp (map (λ e. e.tuple) h) (entry_of h t) }
+table h t = record { entries = map_of tuple_cmp (map (λ e. e.tuple) h) (entry_of h t); reserved = reservations h t }
 
 -- ---- What the time that passes does to a table
 
@@ -99,9 +115,16 @@ kept t e =
     then Some (record e { permissions = still_permitted t e.permissions; channels = still_bound t e.channels })
     else None
 
--- what of a table has an expiry above t: of its entries, and in them of their permissions and channels
+unfoldable pub still_reserved : ℕ → Reservations → Reservations
+still_reserved t m = map_of nat_cmp (fin.keys m) (λ q. reservation_ahead t (fin.get m q))
+
+-- what of a table has an expiry above t: of its entries, in them of their permissions and channels, and of its reserved ports
 unfoldable pub purged : ℕ → Contents → Contents
-purged t c = record c { entries = map_of tuple_cmp (fin.keys c.entries) (λ f. option_and_then (kept t) (fin.get c.entries f)) }
+purged t c =
+    record c {
+      entries = map_of tuple_cmp (fin.keys c.entries) (λ f. option_and_then (kept t) (fin.get c.entries f));
+      reserved = still_reserved t c.reserved;
+    }
 
 -- ---- What one more act does to a table
 
@@ -111,9 +134,9 @@ install x [] m = m
 install x (a ∷ more) m = fin.insert (install x more m) a x
 
 -- a new allocation (RFC 8656, section 7.2)
-abbrev pub allocated : ℕ → List ℕ → ℕ → ℕ → TxId → Entry
-allocated t user port granted tx =
-    record { user = user; port = port; granted = granted; tx = tx; expiry = t + granted; permissions = fin.empty; channels = fin.empty }
+abbrev pub allocated : ℕ → List ℕ → ℕ → ℕ → TxId → Option Token → Entry
+allocated t user port granted tx token =
+    record { user = user; port = port; granted = granted; tx = tx; token = token; expiry = t + granted; permissions = fin.empty; channels = fin.empty }
 
 -- an allocation that expires at another moment (RFC 8656, section 8.2)
 abbrev pub renewed : ℕ → Entry → Entry
@@ -133,7 +156,7 @@ binding t number peer e =
 
 -- an act done at the moment t to the entry of its five-tuple
 abbrev pub applied_to : ℕ → PlainAct → Option Entry → Option Entry
-applied_to t (Allocates user port granted tx) o = Some (allocated t user port granted tx)
+applied_to t (Allocates user port granted tx token) o = Some (allocated t user port granted tx token)
 applied_to t (Renews granted) o = if granted == 0 then None else option_map (renewed (t + granted)) o
 applied_to t (Permits addresses) o = option_map (permitting (t + 300) addresses) o
 applied_to t (Binds number peer) o = option_map (binding t number peer) o
@@ -143,6 +166,19 @@ abbrev pub with_entry : Entries → FiveTuple → Option Entry → Entries
 with_entry m f None = fin.remove m f
 with_entry m f (Some e) = fin.insert m f e
 
+-- the reserved ports with the one after a port, if there is a token (RFC 8656, section 7.2)
+abbrev pub with_reservation : ℕ → ℕ → Option Token → Reservations → Reservations
+with_reservation t port None m = m
+with_reservation t port (Some token) m = fin.insert m (port + 1) (record { token = token; expiry = t + 30 })
+
+-- an act done at the moment t to the reserved ports: an Alloc ends the reservation of its port
+abbrev pub reserving : ℕ → PlainAct → Reservations → Reservations
+reserving t (Allocates user port granted tx token) m = with_reservation t port token (fin.remove m port)
+reserving t (Renews granted) m = m
+reserving t (Permits addresses) m = m
+reserving t (Binds number peer) m = m
+
 -- an act of the five-tuple f done to a table at the moment t
 unfoldable pub applied : ℕ → FiveTuple → PlainAct → Contents → Contents
-applied t f d c = record c { entries = with_entry c.entries f (applied_to t d (fin.get c.entries f)) }
+applied t f d c =
+    record c { entries = with_entry c.entries f (applied_to t d (fin.get c.entries f)); reserved = reserving t d c.reserved }

@@ -4,7 +4,7 @@ ghost use Rattle.std.specs.Prelude.{◌≡◌};
 
 use std::alloc::{Allocator, Global};
 use std::marker::Model;
-use turn_types::{Endpoint, TxId};
+use turn_types::{Endpoint, Token, TxId};
 
 /// A user's name, in bytes.
 #[derive(Drop)]
@@ -92,6 +92,14 @@ pub enum Act<A: Allocator = Global> {
         port: u16,
         granted: u32,
         tx: TxId,
+    },
+    /// A new allocation with an even port, which reserves the next port for 30 seconds for who names the token.
+    AllocEven {
+        user: UserName<A>,
+        port: u16,
+        granted: u32,
+        tx: TxId,
+        token: Token,
     },
     /// The allocation expires so many seconds from now; 0 deletes it.
     Renew {

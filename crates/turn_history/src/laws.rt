@@ -1,13 +1,14 @@
 //! What holds of the tables of histories. The definitions stand in specs/; each law is a clause of a function
 //! that does nothing.
 
-ghost use Rattle.std.specs.Prelude.{◌≡◌, ◌≤◌, ◌++◌, ◌∷◌, [], ◌↔◌, ℕ, List, Some, IsSome, IfSome, Bool, true, false, max};
+ghost use Rattle.std.specs.Prelude.{◌≡◌, ◌+◌, ◌≤◌, ◌++◌, ◌∷◌, [], ◌↔◌, ℕ, List, Some, IsSome, IfSome, Bool, true, false, max};
 ghost use Rattle.std.specs.List.{AllByRecursion, list_all};
 ghost use Rattle.std.specs.FinMap as fin;
-ghost use Rattle.turn_history.specs.Fitting.{Follows, FitsAfter, FitsChannel, IsFitting, IsInRange, IsTuple, IsEntryInRange, PortIsFree, exceeds, is_bound_elsewhere, is_taken};
-ghost use Rattle.turn_history.specs.History.{History, Event, Allocation, clock, made, span, allocation_at, span_at, IsLive};
-ghost use Rattle.turn_history.specs.Laws.{AllFrom, NeverFall, PortsApart, PeersApart, IsWithin, events_of, IsLast, IsEntryOf, InstalledAt, BoundAt, IsPermitted, IsBound, IsAfterLatest, HasPermission, PermissionEnds, HasChannel, ChannelEnds};
+ghost use Rattle.turn_history.specs.Fitting.{Follows, FitsAfter, FitsChannel, IsFitting, IsInRange, IsTuple, IsEntryInRange, AreReservationsInRange, IsUnreserved, PortIsFree, exceeds, is_bound_elsewhere, is_taken};
+ghost use Rattle.turn_history.specs.History.{History, Event, PlainAct, Allocation, clock, made, span, allocation_at, span_at, IsLive};
+ghost use Rattle.turn_history.specs.Laws.{AllFrom, HasNoTokens, NeverFall, PortsApart, ReservedApart, ReservedAt, ReservesNone, PeersApart, IsWithin, events_of, IsLast, IsEntryOf, InstalledAt, BoundAt, IsPermitted, IsBound, IsAfterLatest, HasPermission, PermissionEnds, HasChannel, ChannelEnds};
 ghost use Rattle.turn_types.specs.declared.limits.Bounds.{Bounds};
+ghost use Rattle.turn_types.specs.declared.message.Token.{Token};
 ghost use Rattle.turn_history.specs.Table.{Contents, Entry, table, purged, applied};
 ghost use Rattle.turn_types.specs.declared.address.Endpoint.{Endpoint};
 ghost use Rattle.turn_types.specs.declared.address.FiveTuple.{FiveTuple};
@@ -63,10 +64,12 @@ pub fn entries_stand_alone()
         fin.get (table h t).entries f ≡ fin.get (table (events_of f h) t).entries f }
 {}
 
-/// No two live five-tuples have one port, and in an entry no two channels have one peer.
+/// The ports of live five-tuples and the reserved ports are all distinct, and in an entry no two channels have one peer.
 pub fn ports_and_peers_differ()
     ensures ports { (b : Bounds) (h : History) (t : ℕ) →
         IsFitting b h → clock h ≤ t → PortsApart (table h t) }
+    ensures reserved { (b : Bounds) (h : History) (t : ℕ) →
+        IsFitting b h → clock h ≤ t → ReservedApart (table h t) }
     ensures peers { (b : Bounds) (h : History) (t : ℕ) →
         IsFitting b h → clock h ≤ t → PeersApart (table h t) }
 {}
@@ -106,6 +109,23 @@ pub fn tables_hold_the_bound()
         (IsLive h t f × IsAfterLatest 600 (BoundAt h t f n p) x)) }
 {}
 
+/// A port is reserved in a table, with a token and until a moment, exactly if some event less than 30 seconds old
+/// reserves it with that token, and no Alloc of the port is after it. The reservation lasts 30 seconds, whatever becomes
+/// of the allocation that made it.
+pub fn tables_hold_the_reserved()
+    ensures { (b : Bounds) (h : History) (t q : ℕ) (token : Token) (x : ℕ) → IsFitting b h → clock h ≤ t →
+        ((fin.get (table h t).reserved q ≡ Some (record { token = token; expiry = x })) ↔
+        ((m : ℕ) × (x ≡ m + 30) × ReservedAt h t q token m)) }
+{}
+
+/// A table without tokens is one at a later moment, and after an act that reserves no port. So is the table of a history
+/// of such acts.
+pub fn tables_without_tokens_stay()
+    ensures later { (t : ℕ) (c : Contents) → HasNoTokens c → HasNoTokens (purged t c) }
+    ensures acts { (t : ℕ) (f : FiveTuple) (d : PlainAct) (c : Contents) → ReservesNone d → HasNoTokens c → HasNoTokens (applied t f d c) }
+    ensures all { (b : Bounds) (h : History) (t : ℕ) → IsFitting b h → clock h ≤ t → AllByRecursion (λ e. ReservesNone e.act) h → HasNoTokens (table h t) }
+{}
+
 /// The values in the table of a fitting history are in their ranges: each entry has an Alloc's, ends within 3600
 /// seconds, and has permissions that end within 300 seconds and channels that end within 600. And there are no
 /// more entries, permissions and channels than the limits allow.
@@ -113,6 +133,8 @@ pub fn tables_are_in_range()
     ensures values { (b : Bounds) (h : History) (t : ℕ) (f : FiveTuple) (e : Entry) →
         IsFitting b h → clock h ≤ t → fin.get (table h t).entries f ≡ Some e →
         IsTuple f × IsEntryInRange b t e }
+    ensures reserved { (b : Bounds) (h : History) (t : ℕ) →
+        IsFitting b h → clock h ≤ t → AreReservationsInRange t (table h t) }
     ensures counts { (b : Bounds) (h : History) (t : ℕ) →
         IsFitting b h → clock h ≤ t → IsWithin b (table h t) }
 {}
@@ -120,7 +142,7 @@ pub fn tables_are_in_range()
 /// The tests by which requests are answered decide the facts: a port is free exactly if no entry has it, and a
 /// channel fits exactly if neither the number nor the peer is bound elsewhere and no limit is exceeded.
 pub fn tests_decide()
-    ensures port { (c : Contents) (port : ℕ) → (is_taken c port ≡ false) ↔ PortIsFree c port }
+    ensures port { (c : Contents) (port : ℕ) → (is_taken c port ≡ false) ↔ (PortIsFree c port × IsUnreserved c port) }
     ensures channel { (b : Bounds) (n : ℕ) (p : Endpoint) (e : Entry) →
         ((is_bound_elsewhere n p e ≡ false) × (exceeds b n p e ≡ false)) ↔ FitsChannel b n p e }
 {}

@@ -6,6 +6,7 @@ mod act;
 mod channel;
 mod event;
 mod laws;
+mod reservation;
 
 pub use act::{Act, Addresses, UserName};
 pub use channel::Channel;
@@ -13,5 +14,7 @@ pub use event::Event;
 pub use laws::{
     acts_change_tables, entries_stand_alone, fitting_histories_grow, histories_join,
     maps_list_entries, ports_and_peers_differ, tables_are_in_range, tables_expire,
-    tables_hold_the_bound, tables_hold_the_live, tables_hold_the_permitted, tests_decide,
+    tables_hold_the_bound, tables_hold_the_live, tables_hold_the_permitted,
+    tables_hold_the_reserved, tables_without_tokens_stay, tests_decide,
 };
+pub use reservation::Reservation;

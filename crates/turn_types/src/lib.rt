@@ -1,5 +1,5 @@
-//! Plain types of a TURN server: addresses, moments, the class, method and transaction id of a message, error codes,
-//! limits and the configuration (RFC 8489, RFC 8656).
+//! Plain types of a TURN server: addresses, moments, the class, method and transaction id of a message, tokens of
+//! reservations, error codes, limits and the configuration (RFC 8489, RFC 8656).
 #![tactic(auto)]
 
 mod address;
@@ -15,5 +15,5 @@ pub use config::{ConfigError, IpRange, ServerConfig, Settings};
 pub use error::ErrorCode;
 pub use laws::tuples_go_by_bytes;
 pub use limits::{Bounds, Limits};
-pub use message::{Class, Method, TxId};
+pub use message::{Class, Method, Token, TxId};
 pub use moment::Moment;

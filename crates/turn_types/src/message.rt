@@ -1,4 +1,5 @@
-//! The class, the method and the transaction id of a STUN message (RFC 8489, section 5).
+//! The class, the method and the transaction id of a STUN message (RFC 8489, section 5), and the token of a
+//! reservation.
 
 ghost use Rattle.std.specs.Prelude.{◌≡◌, ◌<◌, ◌^◌, ℕ, SomeIff};
 ghost use Rattle.turn_types.specs.Methods.{known_methods};
@@ -21,6 +22,10 @@ pub enum Class {
 /// The transaction id of a message, by which a response is matched to its request.
 #[derive(Clone, Copy, Debug, PartialEq, Eq)]
 pub struct TxId(pub [u8; 12]);
+
+/// The token of a reservation, by which a later Allocate names the reserved port (RFC 8656, section 18.10).
+#[derive(Clone, Copy, Debug, PartialEq, Eq)]
+pub struct Token(pub [u8; 8]);
 
 /// The method of a message: a number of 12 bits.
 #[derive(Clone, Copy, Debug, PartialEq, Eq)]

@@ -11,6 +11,7 @@ returns g c =
       port = c.args.entry.now.port;
       granted = c.args.entry.now.granted;
       tx = c.args.entry.now.tx;
+      token = c.args.entry.now.token;
       expiry = c.args.entry.now.expiry;
       permissions = ps i;
       channels = cs i;

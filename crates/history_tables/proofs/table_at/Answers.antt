@@ -4,7 +4,7 @@ use Rattle.std.specs.Option.{option_map}
 use Rattle.turn_history.specs.Act.{act_of, event_of}
 use Rattle.turn_history.specs.Table.{table}
 use Rattle.history_tables.specs.Replay.{replayed}
-use Rattle.history_tables.specs.View.{entry_of, contents_of}
+use Rattle.history_tables.specs.View.{entry_of, entries_in}
 use Rattle.history_tables.proofs.Tables.{Holds, puts_none, one_more, table_of, events_more, holds_first}
 use Rattle.history_tables.proofs.table_at.Goals as goal
 
@@ -40,5 +40,5 @@ pub returns : goal.returns
 returns g c =
     let xs = c.args.history.now in
     let all = subst (λ l. Holds c.loop-event.entries.entries (map event_of l)) (take_all c.loop-event.event-index xs c.loop-event-test.false) c.loop-event.invariant in
-    subst (λ t. contents_of c.retain.new.self ≡ table (map event_of xs) t) c.seconds-now.ensures.value
+    subst (λ t. entries_in c.retain.new.self ≡ (table (map event_of xs) t).entries) c.seconds-now.ensures.value
     (table_of _ _ (map event_of xs) c.seconds-now.result c.loop-event.entries.entries c.retain.new.self.entries all (λ k v b w f' t. search rules) c.retain.ensures.was_ordered c.retain.ensures.filtered)

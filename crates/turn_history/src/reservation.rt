@@ -1,0 +1,11 @@
+//! Reservations.
+
+use turn_types::Token;
+
+/// The token that a port is reserved with (RFC 8656, section 7.2), and the expiry time of the reservation in seconds
+/// (exclusive).
+#[derive(Clone, Copy, Debug, PartialEq, Eq)]
+pub struct Reservation {
+    pub token: Token,
+    pub expiry: u64,
+}
