@@ -1,6 +1,8 @@
 //! Which ports are picked, and how often the system is asked.
 
 use mio::Poll;
+use refusing::Refusing;
+use std::alloc::Allocator;
 use std::cell::Cell;
 use std::io::{self, Error, ErrorKind};
 use std::net::{Net, SocketAddr, TcpListener, TcpStream, UdpSocket};
@@ -25,14 +27,16 @@ impl PortSet for Empty {
     }
 }
 
-/// A network that gives no UDP socket, for this reason.
+/// A network that gives no UDP socket at some ports, for this reason, and counts how often it is asked.
 #[derive(Drop)]
-struct Refusing<'a> {
+struct RefusingNet<'a> {
+    net: &'a HostRuntime,
     code: i32,
+    refused: &'a [u16],
     calls: &'a Cell<u32>,
 }
 
-impl Net for Refusing<'_> {
+impl Net for RefusingNet<'_> {
     type Stream = TcpStream;
 
     type Listener = TcpListener;
@@ -45,9 +49,12 @@ impl Net for Refusing<'_> {
         Err(Error::from(ErrorKind::Unsupported))
     }
 
-    fn bind_udp(&self, _addr: SocketAddr) -> io::Result<UdpSocket> {
+    fn bind_udp(&self, addr: SocketAddr) -> io::Result<UdpSocket> {
         self.calls.set(self.calls.get().wrapping_add(1));
-        Err(Error::from_raw_os_error(self.code))
+        if self.refused.contains(&addr.port()) {
+            return Err(Error::from_raw_os_error(self.code));
+        }
+        self.net.bind_udp(addr)
     }
 }
 
@@ -57,11 +64,18 @@ const SEED: [u8; 32] = [
     26, 27, 28, 29, 30, 31,
 ];
 
-/// How often a network is asked for a socket while no port is found, if it refuses each for this reason.
+/// The ports from 63,041 to 63,049.
+const NINE: [u16; 9] = [
+    63_041, 63_042, 63_043, 63_044, 63_045, 63_046, 63_047, 63_048, 63_049,
+];
+
+/// How often a network is asked for a socket while no port is found, if it refuses each of nine for this reason.
 fn calls_of(rt: &HostRuntime, code: i32, first: u16, last: u16) -> Result<u32, Fail> {
     let calls = Cell::new(0);
-    let net = Refusing {
+    let net = RefusingNet {
+        net: rt,
         code,
+        refused: &NINE,
         calls: &calls,
     };
     let poll = Poll::new(rt)?;
@@ -114,4 +128,171 @@ fn ports_are_drawn_from_the_seed(rt: HostRuntime) -> Result<(), Fail> {
         }
     }
     Ok(())
+}
+
+/// The pairs that are picked from 63,071 to 63,079 by the same draws: from the second port on, the last, the third, and the last.
+const PAIRS: [u16; 4] = [63_072, 63_074, 63_076, 63_078];
+
+/// Whether these pairs are picked, one after the other, and then none, with a failure; and the second one again, only once both of its
+/// ports are released.
+fn picks_in_order<R: Net, A: Allocator + Copy>(ports: &mut SocketPorts<'_, R, A>) -> bool {
+    for pair in &PAIRS {
+        if pick_from(ports) != Some(*pair) {
+            return false;
+        }
+    }
+    let is_full = pick_from(ports).is_none() && ports.failures() == 1;
+    ports.release(63_074);
+    let is_half_free = pick_from(ports).is_none() && ports.failures() == 2;
+    ports.release(63_075);
+    is_full && is_half_free && pick_from(ports) == Some(63_074) && ports.failures() == 2
+}
+
+/// The pair that is picked, `None` after an allocation failure too.
+fn pick_from<R: Net, A: Allocator + Copy>(ports: &mut SocketPorts<'_, R, A>) -> Option<u16> {
+    match ports.pick_pair(&Empty) {
+        Ok(pair) => pair,
+        Err(_) => None,
+    }
+}
+
+#[test]
+fn pairs_pass_over_ports_that_have_a_socket(rt: HostRuntime) -> Result<(), Fail> {
+    let poll = Poll::new(&rt)?;
+    let range = PortRange::new(63_071, 63_079).ok_or("a range")?;
+    let registry = poll.registry().try_clone()?;
+    let mut ports = SocketPorts::new(rt.alloc(), &rt, registry, HOME, range, SEED);
+    assert!(rt; picks_in_order(&mut ports));
+    Ok(())
+}
+
+/// Whether the ports of a pair have a socket, and no other one of the range.
+fn has_only<R: Net, A: Allocator + Copy>(ports: &SocketPorts<'_, R, A>, pair: Option<u16>) -> bool {
+    let (first, last) = ports.range();
+    (first..=last).all(|port| {
+        let is_of_pair = match pair {
+            Some(even) => port == even || port == even.wrapping_add(1),
+            None => false,
+        };
+        ports.socket(port).is_some() == is_of_pair
+    })
+}
+
+/// Whether a pair is picked from a range while a network refuses some ports, with so many failures.
+fn picks_pair(
+    rt: &HostRuntime,
+    net: &RefusingNet<'_>,
+    range: (u16, u16),
+    pair: Option<u16>,
+    failures: u64,
+) -> Result<bool, Fail> {
+    let poll = Poll::new(rt)?;
+    let range = PortRange::new(range.0, range.1).ok_or("a range")?;
+    let registry = poll.registry().try_clone()?;
+    let mut ports = SocketPorts::new(rt.alloc(), net, registry, HOME, range, SEED);
+    let picked = pick_from(&mut ports);
+    Ok(picked == pair && ports.failures() == failures && has_only(&ports, pair))
+}
+
+/// A reason of the system, the ports that it refuses, the pair that is picked from 63,071 to 63,079, where the search begins at the
+/// second port, and how often it is asked. The first port of a pair is released where the second is refused.
+const REFUSED_PAIRS: [(i32, &[u16], Option<u16>, u32); 8] = [
+    (98, &[], Some(63_072), 2),
+    (98, &[63_073], Some(63_074), 4),
+    (13, &[63_072, 63_075], Some(63_076), 5),
+    (98, &[63_073, 63_075, 63_077], Some(63_078), 8),
+    (98, &[63_073, 63_075, 63_077, 63_079], None, 8),
+    (24, &[63_072], None, 1),
+    (24, &[63_073], None, 2),
+    (99, &[63_075], Some(63_072), 2),
+];
+
+#[test]
+fn neither_port_of_a_pair_is_bound_where_one_is_refused(rt: HostRuntime) -> Result<(), Fail> {
+    for (code, refused, pair, asked) in &REFUSED_PAIRS {
+        let calls = Cell::new(0);
+        let net = RefusingNet {
+            net: &rt,
+            code: *code,
+            refused,
+            calls: &calls,
+        };
+        let failures = u64::from(pair.is_none());
+        assert!(rt; picks_pair(&rt, &net, (63_071, 63_079), *pair, failures)?);
+        assert!(rt; calls.get() == *asked);
+    }
+    Ok(())
+}
+
+/// A range, the pair that is picked from it, and how many failures are counted: none where the range has no pair.
+const RANGES: [((u16, u16), Option<u16>, u64); 7] = [
+    ((63_081, 63_081), None, 0),
+    ((63_082, 63_082), None, 0),
+    ((63_081, 63_082), None, 0),
+    ((63_082, 63_083), Some(63_082), 0),
+    ((63_081, 63_083), Some(63_082), 0),
+    ((63_082, 63_084), Some(63_082), 0),
+    ((0, 1), None, 1),
+];
+
+#[test]
+fn both_ports_of_a_pair_are_of_the_range(rt: HostRuntime) -> Result<(), Fail> {
+    let calls = Cell::new(0);
+    let net = RefusingNet {
+        net: &rt,
+        code: 0,
+        refused: &[],
+        calls: &calls,
+    };
+    for (range, pair, failures) in &RANGES {
+        assert!(rt; picks_pair(&rt, &net, *range, *pair, *failures)?);
+    }
+    Ok(())
+}
+
+/// How many ports of the range have a socket.
+fn bound<R: Net, A: Allocator + Copy>(ports: &SocketPorts<'_, R, A>) -> usize {
+    let (first, last) = ports.range();
+    (first..=last)
+        .filter(|port| ports.socket(*port).is_some())
+        .count()
+}
+
+/// Picks twelve pairs, or until an allocation failure. Whether that left the ports of the pairs before it alone with a socket, and no
+/// failure is counted; `None` without one.
+fn keeps_pairs<R: Net, A: Allocator + Copy>(ports: &mut SocketPorts<'_, R, A>) -> Option<bool> {
+    for pairs in 0..12usize {
+        match ports.pick_pair(&Empty) {
+            Ok(Some(_)) => {}
+            Ok(None) => return Some(false),
+            Err(_) => return Some(bound(ports) == 2 * pairs && ports.failures() == 0),
+        }
+    }
+    None
+}
+
+/// Whether pairs are kept where so many growths are served and the next one is refused.
+fn keeps_pairs_after(rt: &HostRuntime, served: u64) -> Result<Option<bool>, Fail> {
+    let refusing = Refusing::new(rt.alloc(), served);
+    let poll = Poll::new(rt)?;
+    let range = PortRange::new(63_102, 63_125).ok_or("a range")?;
+    let registry = poll.registry().try_clone()?;
+    let mut ports = SocketPorts::new(&refusing, rt, registry, HOME, range, SEED);
+    Ok(keeps_pairs(&mut ports))
+}
+
+#[test]
+fn a_refused_growth_leaves_no_port_of_a_pair(rt: HostRuntime) -> Result<(), Fail> {
+    // The map of sockets grows at the first socket and at later ones, such as the second one of a pair.
+    for served in 0..16u64 {
+        match keeps_pairs_after(&rt, served)? {
+            Some(is_kept) => assert!(rt; is_kept),
+            None => return if served > 2 {
+                Ok(())
+            } else {
+                Err(Fail::new(served))
+            },
+        }
+    }
+    Err(Fail::new("no end"))
 }

@@ -1,7 +1,7 @@
 //! What a server asks of a set of ports, and of a generator of relayed addresses.
 
-ghost use Rattle.std.specs.Prelude.{◌≡◌, ◌⊎◌, ℕ, Bool, IfOk, Ok, None};
-ghost use Rattle.turn_ports.specs.Ports.{Failed, IsLowestFree, MayPick, has_failed};
+ghost use Rattle.std.specs.Prelude.{◌≡◌, ◌⊎◌, ℕ, Bool, IfOk, OnErr, Ok, None, true};
+ghost use Rattle.turn_ports.specs.Ports.{Failed, IsLowestFree, IsLowestFreePair, MayPick, MayPickPair, has_failed, with_pair, with_port, without_port};
 
 use std::alloc::AllocError;
 
@@ -24,6 +24,19 @@ pub trait PortSet {
         }
         None
     }
+
+    /// The lowest even port from a first to a last that isn't in the set, and whose next port isn't either and is at most
+    /// the last.
+    fn lowest_free_pair(&self, first: u16, last: u16) -> Option<u16>
+        ensures { IsLowestFreePair (first, last) (has self.now) result }
+    {
+        for port in first..last {
+            if port % 2 == 0 && !self.has(port) && !self.has(port + 1) {
+                return Some(port);
+            }
+        }
+        None
+    }
 }
 
 /// A generator of relayed addresses: the UDP ports of one address, from a first to a last, both included.
@@ -34,6 +47,9 @@ pub trait RelayAddressGenerator {
     ghost range: { Self → ℕ × ℕ };
 
     ghost failures: { Self → ℕ };
+
+    // The generator holds something for each port of this set, and for no other. One that never holds anything says it of every set.
+    ghost holds: { Self → (ℕ → Bool) → Type 0 };
 
     /// The first and the last port.
     fn range(&self) -> (u16, u16)
@@ -46,14 +62,28 @@ pub trait RelayAddressGenerator {
         ensures answer { IfOk result (MayPick (range self.old) (S.has taken.now) even (has_failed (failures self.old) (failures self.new))) }
         // The generator fails only where it answers none.
         ensures count { (failures self.new ≡ failures self.old) ⊎ ((result ≡ Ok None) × Failed (failures self.old) (failures self.new)) }
-        ensures range { range self.new ≡ range self.old };
+        ensures range { range self.new ≡ range self.old }
+        // The port that was picked is held too.
+        ensures picked { (held : ℕ → Bool) → holds self.old held → IfOk result (λ port. holds self.new (with_port held port)) }
+        ensures err { (held : ℕ → Bool) → holds self.old held → OnErr result (holds self.new held) };
 
-    /// Releases a port. Nothing happens where the port wasn't given out.
+    /// An even port of the range that isn't taken, whose next port is of the range and isn't taken (EVEN-PORT with the R bit:
+    /// RFC 8656, section 7.2). Both are given out. `None` and `Err` are as from `pick`: then neither is.
+    fn pick_pair<S: PortSet>(&mut self, taken: &S) -> Result<Option<u16>, AllocError>
+        ensures answer { IfOk result (MayPickPair (range self.old) (S.has taken.now) (has_failed (failures self.old) (failures self.new))) }
+        ensures count { (failures self.new ≡ failures self.old) ⊎ ((result ≡ Ok None) × Failed (failures self.old) (failures self.new)) }
+        ensures range { range self.new ≡ range self.old }
+        // Both ports are held too.
+        ensures picked { (held : ℕ → Bool) → holds self.old held → IfOk result (λ port. holds self.new (with_pair held port)) }
+        ensures err { (held : ℕ → Bool) → holds self.old held → OnErr result (holds self.new held) };
+
+    /// Releases a port that is held. Of one that isn't held nothing is promised but the range and the count.
     fn release(&mut self, port: u16)
         ensures range { range self.new ≡ range self.old }
-        ensures count { failures self.new ≡ failures self.old };
+        ensures count { failures self.new ≡ failures self.old }
+        ensures released { (held : ℕ → Bool) → holds self.old held → held port ≡ true → holds self.new (without_port held port) };
 
-    /// How many calls of `pick` failed, modulo 2^64.
+    /// How many calls of `pick` and `pick_pair` failed, modulo 2^64.
     fn failures(&self) -> u64
         ensures { result ≡ failures self.now };
 }

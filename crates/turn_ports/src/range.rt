@@ -1,7 +1,7 @@
 //! The ports of a range, in ascending order.
 
-ghost use Rattle.std.specs.Prelude.{◌≡◌, ◌≤◌, IsOkAnd, SomeIff};
-ghost use Rattle.turn_ports.specs.Ports.{IsLowestFree};
+ghost use Rattle.std.specs.Prelude.{◌≡◌, ◌≤◌, ⊤, IsOkAnd, SomeIff};
+ghost use Rattle.turn_ports.specs.Ports.{IsLowestFree, IsLowestFreePair};
 
 use crate::generator::{PortSet, RelayAddressGenerator};
 use std::alloc::AllocError;
@@ -44,6 +44,8 @@ impl RelayAddressGenerator for PortRange {
 
     ghost failures = { λ _. 0 };
 
+    ghost holds = { λ _ _. ⊤ };
+
     fn range(&self) -> (u16, u16)
         ensures value { result ≡ self.now }
         ensures ordered { result.0 ≤ result.1 }
@@ -57,6 +59,14 @@ impl RelayAddressGenerator for PortRange {
         ensures unchanged { self.new ≡ self.old }
     {
         Ok(taken.lowest_free(self.first, self.last, even))
+    }
+
+    /// The lowest free pair, and `None` only where there is none. Takes no memory.
+    fn pick_pair<S: PortSet>(&mut self, taken: &S) -> Result<Option<u16>, AllocError>
+        ensures lowest { IsOkAnd result (IsLowestFreePair self.old (S.has taken.now)) }
+        ensures unchanged { self.new ≡ self.old }
+    {
+        Ok(taken.lowest_free_pair(self.first, self.last))
     }
 
     fn release(&mut self, _port: u16)

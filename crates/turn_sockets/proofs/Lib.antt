@@ -1,2 +1,3 @@
 pub mod Addresses
+pub mod Finding
 pub mod Served

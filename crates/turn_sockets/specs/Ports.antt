@@ -1,35 +1,83 @@
 -- Relay ports with a socket each. A range is its first and its last port.
-use Rattle.std.specs.Prelude.{ℕ, ◌≡◌, ◌+◌, ◌-◌, ◌%◌, ⊤, Bool, IsSome, Option, Some, None}
+use Rattle.std.specs.Prelude.{ℕ, ◌≡◌, ◌+◌, ◌-◌, ◌%◌, ⊤, Bool, false, IsSome, is_some, Option, Some, None}
 use Rattle.std.specs.Ordering.{nat_cmp}
-use Rattle.std.specs.BTreeMap.{BTreeMap, get, IsUnchanged}
+use Rattle.std.specs.BTreeMap.{BTreeMap, get, insert_entry, IsUnchanged}
 use Rattle.rand_chacha.specs.ChaCha.{ChaCha, next_word}
-use Rattle.turn_ports.specs.Ports.{IsFree, NoneIsFree}
+use Rattle.turn_ports.specs.Ports.{IsFree, IsFreePair}
+use Rattle.turn_sockets.specs.declared.ports.Bound.{Bound}
+use Rattle.turn_sockets.specs.declared.ports.Bound.TheVariants as bound
+use Rattle.turn_sockets.specs.declared.ports.Bound.TheVariants.{Done, Unavailable}
 use Rattle.turn_sockets.specs.declared.ports.Search.{Search}
 use Rattle.turn_sockets.specs.declared.ports.Search.TheVariants.{Found, Nothing, Failed, Exhausted}
+use Rattle.turn_sockets.specs.declared.ports.Wanted.{Wanted}
+use Rattle.turn_sockets.specs.declared.ports.Wanted.TheVariants.{Port, Pair}
 
 -- a port of which there was no socket has one, and each other port is as before
 abbrev pub IsBound : {X : Type 0} → BTreeMap ℕ X → BTreeMap ℕ X → ℕ → Type 0
 IsBound old new port = (get nat_cmp old port ≡ None) × IsSome (get nat_cmp new port)
     × ((other : ℕ) → ¬ (other ≡ port) → get nat_cmp new other ≡ get nat_cmp old other)
 
--- the port that was picked is bound; where none was, the sockets are as before
-abbrev pub BindsWhatIsPicked : {X : Type 0} → BTreeMap ℕ X → BTreeMap ℕ X → Option ℕ → Type 0
-BindsWhatIsPicked old new None = IsUnchanged old new
-BindsWhatIsPicked old new (Some port) = IsBound old new port
+-- the entries are as before, with one of a port in its place
+abbrev pub Inserts : {X : Type 0} → BTreeMap ℕ X → BTreeMap ℕ X → ℕ → Type 0
+Inserts {X} old new port = (socket : X) × (new.entries ≡ insert_entry nat_cmp old.entries port socket)
 
--- what a search of a range came to: a free port, none where none is free, or a failure
-abbrev pub Searches : ℕ × ℕ → (ℕ → Bool) → Bool → Search → Type 0
-Searches range taken even (Found port) = IsFree range taken even port
-Searches range taken even Nothing = NoneIsFree range taken even
-Searches range taken even Failed = ⊤
-Searches range taken even Exhausted = ⊤
+-- of a port and the next one there was no socket, both have one, and each other port is as before
+abbrev pub AreBound : {X : Type 0} → BTreeMap ℕ X → BTreeMap ℕ X → ℕ → Type 0
+AreBound old new port = (get nat_cmp old port ≡ None) × (get nat_cmp old (port + 1) ≡ None)
+    × IsSome (get nat_cmp new port) × IsSome (get nat_cmp new (port + 1))
+    × ((other : ℕ) → ¬ (other ≡ port) → ¬ (other ≡ port + 1) → get nat_cmp new other ≡ get nat_cmp old other)
 
--- the port that a search found
+-- what was found is bound, a port or a port and the next one; where nothing was, the sockets are as before
+abbrev pub Binds : {X : Type 0} → Wanted → BTreeMap ℕ X → BTreeMap ℕ X → Option ℕ → Type 0
+Binds wanted old new None = IsUnchanged old new
+Binds (Port even) old new (Some port) = IsBound old new port
+Binds Pair old new (Some port) = AreBound old new port
+
+-- these ports have a socket, and no other
+abbrev pub HaveSockets : {X : Type 0} → BTreeMap ℕ X → (ℕ → Bool) → Type 0
+HaveSockets sockets held = (port : ℕ) → is_some (get nat_cmp sockets port) ≡ held port
+
+-- what is wanted begins at a port: a free port, or a free pair
+abbrev pub IsWanted : ℕ × ℕ → (ℕ → Bool) → Wanted → ℕ → Type 0
+IsWanted range taken (Port even) port = IsFree range taken even port
+IsWanted range taken Pair port = IsFreePair range taken port
+
+-- nothing that is wanted is free
+abbrev pub NoneIsWanted : ℕ × ℕ → (ℕ → Bool) → Wanted → Type 0
+NoneIsWanted range taken wanted = (port : ℕ) → ¬ IsWanted range taken wanted port
+
+-- what came of a port: bound since it is free, none since it isn't, or refused
+abbrev pub Tries : ℕ × ℕ → (ℕ → Bool) → Wanted → ℕ → Option Bound → Type 0
+Tries range taken wanted port None = ¬ IsWanted range taken wanted port
+Tries range taken wanted port (Some Done) = IsWanted range taken wanted port
+Tries range taken wanted port (Some Unavailable) = ⊤
+Tries range taken wanted port (Some bound.Exhausted) = ⊤
+
+-- the port, if it was bound
+abbrev pub bound_port : ℕ → Option Bound → Option ℕ
+bound_port port None = None
+bound_port port (Some Done) = Some port
+bound_port port (Some Unavailable) = None
+bound_port port (Some bound.Exhausted) = None
+
+-- what a search of a range came to: what is wanted, none where none is free, or a failure
+abbrev pub Searches : ℕ × ℕ → (ℕ → Bool) → Wanted → Search → Type 0
+Searches range taken wanted (Found port) = IsWanted range taken wanted port
+Searches range taken wanted Nothing = NoneIsWanted range taken wanted
+Searches range taken wanted Failed = ⊤
+Searches range taken wanted Exhausted = ⊤
+
+-- the port that a search found, of a pair the first
 abbrev pub found_port : Search → Option ℕ
 found_port (Found port) = Some port
 found_port Nothing = None
 found_port Failed = None
 found_port Exhausted = None
+
+-- what may be found: what is wanted and free; none only where nothing is or the generator failed
+abbrev pub MayFind : ℕ × ℕ → (ℕ → Bool) → Wanted → Bool → Option ℕ → Type 0
+MayFind range taken wanted failed (Some port) = IsWanted range taken wanted port
+MayFind range taken wanted failed None = failed ≡ false → NoneIsWanted range taken wanted
 
 -- where a search of a range begins: the next word of a generator, modulo how many ports there are
 abbrev pub drawn_place : ℕ × ℕ → ChaCha → ℕ

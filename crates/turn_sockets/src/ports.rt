@@ -1,12 +1,13 @@
 //! Relay ports, each with a socket.
 
-ghost use Rattle.std.specs.Prelude.{◌≡◌, ◌≢◌, ◌≤◌, ◌⊎◌, [], Ok, Some, None, IfOk, OnErr, option_map};
+ghost use Rattle.std.specs.Prelude.{◌≡◌, ◌≢◌, ◌<◌, ◌≤◌, ◌+◌, ◌^◌, ◌⊎◌, ℕ, Bool, true, [], Ok, Some, None, IfOk, OnErr, option_map};
 ghost use Rattle.std.specs.BTreeMap.{IsUnchanged, Updates, get};
 ghost use Rattle.std.specs.Ordering.{nat_cmp};
 ghost use Rattle.rand_chacha.specs.ChaCha.{next_word, of_seed};
-ghost use Rattle.turn_ports.specs.Ports.{Failed, MayPick, has_failed};
-ghost use Rattle.turn_sockets.specs.Ports.{IsBound, BindsWhatIsPicked, Searches, drawn_place, found_port};
+ghost use Rattle.turn_ports.specs.Ports.{Failed, MayPick, MayPickPair, has_failed, with_pair, with_port, without_port};
+ghost use Rattle.turn_sockets.specs.Ports.{AreBound, Binds, HaveSockets, Inserts, IsBound, MayFind, Searches, Tries, bound_port, drawn_place, found_port};
 ghost use Rattle.turn_sockets.specs.declared.ports.Bound.TheVariants as binds;
+ghost use Rattle.turn_sockets.specs.declared.ports.Wanted.TheVariants as wants;
 
 use crate::address::address_of;
 use crate::buffer::{RECEIVE_BUFFER, set_receive_buffer};
@@ -33,11 +34,21 @@ pub enum Bound {
     Exhausted,
 }
 
-/// What a search for a free port came to.
+/// What a search is for.
+#[derive(Clone, Copy)]
+pub(crate) enum Wanted {
+    /// A port, and an even one where `even` asks for it.
+    Port { even: bool },
+    /// An even port and the next one.
+    Pair,
+}
+
+/// What a search for free ports came to.
 #[derive(Clone, Copy)]
 pub(crate) enum Search {
+    // The port, or the first one of the pair.
     Found(u16),
-    /// No port is free.
+    /// Nothing that is wanted is free.
     Nothing,
     /// None was found, but some were left out: they can't be bound, or have a socket and no allocation.
     Failed,
@@ -110,6 +121,7 @@ impl<'a, R: Net> Binder<'a, R> {
     ) -> Result<Bound, AllocError>
         requires { get nat_cmp sockets.old port ≡ None }
         ensures bound { result ≡ Ok binds.Done → IsBound sockets.old sockets.new port }
+        ensures inserted { result ≡ Ok binds.Done → Inserts sockets.old sockets.new port }
         ensures refused { result ≢ Ok binds.Done → IsUnchanged sockets.old sockets.new }
         ensures never { port ≡ 0 → result ≢ Ok binds.Done }
     {
@@ -126,37 +138,126 @@ impl<'a, R: Net> Binder<'a, R> {
         }
     }
 
-    // Binds the first free port from one to another, both included. Ends where the system has no socket for any port.
+    // Binds a port and the next one, which have no socket yet, or neither of them.
+    fn bind_both<A: Allocator + Copy>(
+        &self,
+        sockets: &mut BTreeMap<u16, UdpSocket, A>,
+        port: u16,
+    ) -> Result<Bound, AllocError>
+        requires next { port + 1 < 2 ^ 16 }
+        requires unbound { (get nat_cmp sockets.old port ≡ None) × (get nat_cmp sockets.old (port + 1) ≡ None) }
+        ensures bound { result ≡ Ok binds.Done → AreBound sockets.old sockets.new port }
+        ensures refused { result ≢ Ok binds.Done → IsUnchanged sockets.old sockets.new }
+        ensures never { port ≡ 0 → result ≢ Ok binds.Done }
+    {
+        let first = self.bind(sockets, port)?;
+        if first != Bound::Done {
+            return Ok(first);
+        }
+        let second = self.bind(sockets, port + 1);
+        let is_bound = second == Ok(Bound::Done);
+        if !is_bound {
+            let _ = sockets.remove(&port);
+        }
+        second
+    }
+
+    // Binds a port if it is free, and even where `even` asks for it; `None` where it isn't.
+    fn bind_free<A: Allocator + Copy, S: PortSet>(
+        &self,
+        sockets: &mut BTreeMap<u16, UdpSocket, A>,
+        range: (u16, u16),
+        port: u16,
+        taken: &S,
+        even: bool,
+    ) -> Result<Option<Bound>, AllocError>
+        requires { (range.0 ≤ port) × (port ≤ range.1) }
+        ensures tried { IfOk result (Tries range (S.has taken.now) (wants.Port even) port) }
+        ensures bound { IfOk result (λ tried. Binds (wants.Port even) sockets.old sockets.new (bound_port port tried)) }
+        ensures never { IfOk result (λ tried. bound_port port tried ≢ Some 0) }
+        ensures err { OnErr result (IsUnchanged sockets.old sockets.new) }
+    {
+        if even && port % 2 == 1 {
+            return Ok(None);
+        }
+        // A look-up here costs less than one in the table.
+        if sockets.contains_key(&port) {
+            return Ok(Some(Bound::Unavailable));
+        }
+        if taken.has(port) {
+            return Ok(None);
+        }
+        Ok(Some(self.bind(sockets, port)?))
+    }
+
+    // Binds a port and the next one if they are a free pair; `None` where they aren't.
+    fn bind_pair<A: Allocator + Copy, S: PortSet>(
+        &self,
+        sockets: &mut BTreeMap<u16, UdpSocket, A>,
+        range: (u16, u16),
+        port: u16,
+        taken: &S,
+    ) -> Result<Option<Bound>, AllocError>
+        requires { (range.0 ≤ port) × (port ≤ range.1) }
+        ensures tried { IfOk result (Tries range (S.has taken.now) wants.Pair port) }
+        ensures bound { IfOk result (λ tried. Binds wants.Pair sockets.old sockets.new (bound_port port tried)) }
+        ensures never { IfOk result (λ tried. bound_port port tried ≢ Some 0) }
+        ensures err { OnErr result (IsUnchanged sockets.old sockets.new) }
+    {
+        if port % 2 == 1 || range.1 <= port {
+            return Ok(None);
+        }
+        if sockets.contains_key(&port) || sockets.contains_key(&(port + 1)) {
+            return Ok(Some(Bound::Unavailable));
+        }
+        if taken.has(port) || taken.has(port + 1) {
+            return Ok(None);
+        }
+        Ok(Some(self.bind_both(sockets, port)?))
+    }
+
+    // Binds what is wanted at a port of a range; `None` where it isn't free. What has a socket and no allocation isn't available.
+    fn bind_wanted<A: Allocator + Copy, S: PortSet>(
+        &self,
+        sockets: &mut BTreeMap<u16, UdpSocket, A>,
+        range: (u16, u16),
+        port: u16,
+        taken: &S,
+        wanted: Wanted,
+    ) -> Result<Option<Bound>, AllocError>
+        requires { (range.0 ≤ port) × (port ≤ range.1) }
+        ensures tried { IfOk result (Tries range (S.has taken.now) wanted port) }
+        ensures bound { IfOk result (λ tried. Binds wanted sockets.old sockets.new (bound_port port tried)) }
+        ensures never { IfOk result (λ tried. bound_port port tried ≢ Some 0) }
+        ensures err { OnErr result (IsUnchanged sockets.old sockets.new) }
+    {
+        match wanted {
+            Wanted::Port { even } => self.bind_free(sockets, range, port, taken, even),
+            Wanted::Pair => self.bind_pair(sockets, range, port, taken),
+        }
+    }
+
+    // Binds what is wanted at the first port from one to another, both included. Ends where the system has no socket for any port.
     fn search<A: Allocator + Copy, S: PortSet>(
         &self,
         sockets: &mut BTreeMap<u16, UdpSocket, A>,
         from: u16,
         to: u16,
         taken: &S,
-        even: bool,
+        wanted: Wanted,
     ) -> Result<Search, AllocError>
-        ensures found { IfOk result (Searches (from, to) (S.has taken.now) even) }
-        ensures bound { IfOk result (λ search. BindsWhatIsPicked sockets.old sockets.new (found_port search)) }
+        ensures found { IfOk result (Searches (from, to) (S.has taken.now) wanted) }
+        ensures bound { IfOk result (λ search. Binds wanted sockets.old sockets.new (found_port search)) }
         ensures never { IfOk result (λ search. found_port search ≢ Some 0) }
         ensures err { OnErr result (IsUnchanged sockets.old sockets.new) }
     {
         let mut has_failed = false;
         for port in from..=to {
-            if even && port % 2 == 1 {
-                continue;
-            }
-            // A look-up here costs less than one in the table.
-            if sockets.contains_key(&port) {
-                has_failed = true;
-                continue;
-            }
-            if taken.has(port) {
-                continue;
-            }
-            match self.bind(sockets, port)? {
-                Bound::Done => return Ok(Search::Found(port)),
-                Bound::Unavailable => has_failed = true,
-                Bound::Exhausted => return Ok(Search::Exhausted),
+            match self.bind_wanted(sockets, (from, to), port, taken, wanted)? {
+                None => {}
+                Some(Bound::Done) => return Ok(Search::Found(port)),
+                Some(Bound::Unavailable) => has_failed = true,
+                Some(Bound::Exhausted) => return Ok(Search::Exhausted),
             }
         }
         if has_failed {
@@ -166,27 +267,29 @@ impl<'a, R: Net> Binder<'a, R> {
         }
     }
 
-    // Binds the first free port of a range from one of its ports on, or else the first one below.
+    // Binds what is wanted at the first port of a range from one of its ports on, or else at the first one below. A pair that begins
+    // below that port ends at it or below, so it is in one of both parts.
+    #[tactic(auto, using(crate::proofs::Finding::searched))]
     fn search_around<A: Allocator + Copy, S: PortSet>(
         &self,
         sockets: &mut BTreeMap<u16, UdpSocket, A>,
         range: (u16, u16),
         from: u16,
         taken: &S,
-        even: bool,
+        wanted: Wanted,
     ) -> Result<Search, AllocError>
         requires { (range.0 ≤ from) × (from ≤ range.1) }
-        ensures found { IfOk result (Searches range (S.has taken.now) even) }
-        ensures bound { IfOk result (λ search. BindsWhatIsPicked sockets.old sockets.new (found_port search)) }
+        ensures found { IfOk result (Searches range (S.has taken.now) wanted) }
+        ensures bound { IfOk result (λ search. Binds wanted sockets.old sockets.new (found_port search)) }
         ensures never { IfOk result (λ search. found_port search ≢ Some 0) }
         ensures err { OnErr result (IsUnchanged sockets.old sockets.new) }
     {
         let (first, last) = range;
-        let upper = self.search(sockets, from, last, taken, even)?;
+        let upper = self.search(sockets, from, last, taken, wanted)?;
         if let Search::Found(_) | Search::Exhausted = upper {
             return Ok(upper);
         }
-        let lower = self.search(sockets, first, from, taken, even)?;
+        let lower = self.search(sockets, first, from, taken, wanted)?;
         match lower {
             Search::Nothing => Ok(upper),
             Search::Found(_) | Search::Failed | Search::Exhausted => Ok(lower),
@@ -267,12 +370,40 @@ impl<'a, R: Net, A: Allocator + Copy> SocketPorts<'a, R, A> {
         let ports = u32::from(self.last - self.first) + 1;
         self.first + (self.draws.next_word() % ports) as u16
     }
+
+    // What is wanted and free, with sockets bound.
+    fn find<S: PortSet>(&mut self, taken: &S, wanted: Wanted) -> Result<Option<u16>, AllocError>
+        ensures answer { IfOk result (MayFind (self.old.first, self.old.last) (S.has taken.now) wanted (has_failed self.old.failures self.new.failures)) }
+        ensures count { (self.new.failures ≡ self.old.failures) ⊎ ((result ≡ Ok None) × Failed self.old.failures self.new.failures) }
+        ensures first { self.new.first ≡ self.old.first }
+        ensures last { self.new.last ≡ self.old.last }
+        ensures draws { self.new.draws ≡ (next_word 10 self.old.draws).1 }
+        ensures never { result ≢ Ok (Some 0) }
+        ensures bound { IfOk result (Binds wanted self.old.sockets self.new.sockets) }
+        ensures err { OnErr result (IsUnchanged self.old.sockets self.new.sockets) }
+    {
+        let range = (self.first, self.last);
+        let from = self.draw();
+        let search = self
+            .binder
+            .search_around(&mut self.sockets, range, from, taken, wanted)?;
+        match search {
+            Search::Found(port) => Ok(Some(port)),
+            Search::Nothing => Ok(None),
+            Search::Failed | Search::Exhausted => {
+                self.failures = self.failures.wrapping_add(1);
+                Ok(None)
+            }
+        }
+    }
 }
 
 impl<'a, R: Net, A: Allocator + Copy> RelayAddressGenerator for SocketPorts<'a, R, A> {
     ghost range = { λ s. (s.first, s.last) };
 
     ghost failures = { λ s. s.failures };
+
+    ghost holds = { λ s held. HaveSockets s.sockets held };
 
     fn range(&self) -> (u16, u16) {
         (self.first, self.last)
@@ -286,22 +417,29 @@ impl<'a, R: Net, A: Allocator + Copy> RelayAddressGenerator for SocketPorts<'a, 
         ensures last { self.new.last ≡ self.old.last }
         ensures draws { self.new.draws ≡ (next_word 10 self.old.draws).1 }
         ensures never { result ≢ Ok (Some 0) }
-        ensures bound { IfOk result (BindsWhatIsPicked self.old.sockets self.new.sockets) }
-        ensures err { OnErr result (IsUnchanged self.old.sockets self.new.sockets) }
+        ensures bound { IfOk result (Binds (wants.Port even) self.old.sockets self.new.sockets) }
+        ensures unbound { OnErr result (IsUnchanged self.old.sockets self.new.sockets) }
+        ensures picked { (held : ℕ → Bool) → HaveSockets self.old.sockets held → IfOk result (λ port. HaveSockets self.new.sockets (with_port held port)) }
+        ensures err { (held : ℕ → Bool) → HaveSockets self.old.sockets held → OnErr result (HaveSockets self.new.sockets held) }
     {
-        let range = (self.first, self.last);
-        let from = self.draw();
-        let search = self
-            .binder
-            .search_around(&mut self.sockets, range, from, taken, even)?;
-        match search {
-            Search::Found(port) => Ok(Some(port)),
-            Search::Nothing => Ok(None),
-            Search::Failed | Search::Exhausted => {
-                self.failures = self.failures.wrapping_add(1);
-                Ok(None)
-            }
-        }
+        self.find(taken, Wanted::Port { even })
+    }
+
+    /// A free pair, with a socket bound for each port. Where one of the two can't be bound neither is, and the search goes on; if no
+    /// other pair is free, that is one failure.
+    fn pick_pair<S: PortSet>(&mut self, taken: &S) -> Result<Option<u16>, AllocError>
+        ensures answer { IfOk result (MayPickPair (self.old.first, self.old.last) (S.has taken.now) (has_failed self.old.failures self.new.failures)) }
+        ensures count { (self.new.failures ≡ self.old.failures) ⊎ ((result ≡ Ok None) × Failed self.old.failures self.new.failures) }
+        ensures first { self.new.first ≡ self.old.first }
+        ensures last { self.new.last ≡ self.old.last }
+        ensures draws { self.new.draws ≡ (next_word 10 self.old.draws).1 }
+        ensures never { result ≢ Ok (Some 0) }
+        ensures bound { IfOk result (Binds wants.Pair self.old.sockets self.new.sockets) }
+        ensures unbound { OnErr result (IsUnchanged self.old.sockets self.new.sockets) }
+        ensures picked { (held : ℕ → Bool) → HaveSockets self.old.sockets held → IfOk result (λ port. HaveSockets self.new.sockets (with_pair held port)) }
+        ensures err { (held : ℕ → Bool) → HaveSockets self.old.sockets held → OnErr result (HaveSockets self.new.sockets held) }
+    {
+        self.find(taken, Wanted::Pair)
     }
 
     /// Closes the socket of a port.
@@ -309,7 +447,8 @@ impl<'a, R: Net, A: Allocator + Copy> RelayAddressGenerator for SocketPorts<'a, 
         ensures first { self.new.first ≡ self.old.first }
         ensures last { self.new.last ≡ self.old.last }
         ensures count { self.new.failures ≡ self.old.failures }
-        ensures released { Updates nat_cmp self.old.sockets self.new.sockets port None }
+        ensures updated { Updates nat_cmp self.old.sockets self.new.sockets port None }
+        ensures released { (held : ℕ → Bool) → HaveSockets self.old.sockets held → held port ≡ true → HaveSockets self.new.sockets (without_port held port) }
     {
         let _ = self.sockets.remove(&port);
     }

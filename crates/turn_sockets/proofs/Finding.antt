@@ -1,0 +1,103 @@
+-- What is wanted in a range and in its parts; an entry that is inserted and removed.
+use Rattle.std.proofs.Common.{◌≡◌, ◌≤◌, ◌<◌, ◌+◌, ◌⊎◌, ℕ, Bool, true, refl, cond, List, [], ◌∷◌, Some, None, ap, subst, ◌∙◌, arith, inl, inr}
+use Rattle.std.specs.declared.cmp.Ordering.{Ordering}
+use Rattle.std.specs.declared.cmp.Ordering.TheVariants.{Less, Equal, Greater}
+use Rattle.std.specs.Ordering.{nat_cmp, match_ordering, is_eq}
+use Rattle.std.proofs.lemmas.Bool.{cases_lt}
+use Rattle.std.proofs.lemmas.Bool.Decides.{nat_tests}
+use Rattle.std.specs.Map.{lookup, remove_entry}
+use Rattle.std.specs.BTreeMap.{BTreeMap, IsUnchanged, get, insert_entry, is_at}
+use Rattle.turn_ports.specs.Ports.{IsFree, IsFreePair}
+use Rattle.turn_sockets.specs.declared.ports.Search.{Search}
+use Rattle.turn_sockets.specs.declared.ports.Search.TheVariants.{Found, Nothing, Failed, Exhausted}
+use Rattle.turn_sockets.specs.declared.ports.Wanted.{Wanted}
+use Rattle.turn_sockets.specs.declared.ports.Wanted.TheVariants.{Port, Pair}
+use Rattle.turn_sockets.specs.Ports.{Inserts, IsWanted, NoneIsWanted, Searches}
+
+widened_port : (range wider : ℕ × ℕ) (taken : ℕ → Bool) (even : Bool) (port : ℕ) → wider.0 ≤ range.0 → range.1 ≤ wider.1
+    → IsFree range taken even port → IsFree wider taken even port
+widened_port range wider taken even port low high free = record {
+  is_port = free.is_port;
+  in_range = (omega (arith, free.in_range.0), omega (arith, free.in_range.1));
+  untaken = free.untaken;
+  parity = free.parity;
+}
+
+-- what is wanted in a part of a range is wanted in the range
+pub widened : (range wider : ℕ × ℕ) (taken : ℕ → Bool) (wanted : Wanted) (port : ℕ) → wider.0 ≤ range.0 → range.1 ≤ wider.1
+    → IsWanted range taken wanted port → IsWanted wider taken wanted port
+widened range wider taken (Port even) port low high free = widened_port range wider taken even port low high free
+widened range wider taken Pair port low high free = record {
+  first = widened_port range wider taken _ port low high free.first;
+  second = widened_port range wider taken _ (port + 1) low high free.second;
+}
+
+free_in : (low high : ℕ) (range : ℕ × ℕ) (taken : ℕ → Bool) (even : Bool) (port : ℕ) → low ≤ port → port ≤ high
+    → IsFree range taken even port → IsFree (low, high) taken even port
+free_in low high range taken even port above below free = record {
+  is_port = free.is_port;
+  in_range = (above, below);
+  untaken = free.untaken;
+  parity = free.parity;
+}
+
+-- what is wanted in a range is wanted from one of its ports on, or up to it
+pub parted : (range : ℕ × ℕ) (from : ℕ) (taken : ℕ → Bool) (wanted : Wanted) (port : ℕ) → IsWanted range taken wanted port
+    → IsWanted (from, range.1) taken wanted port ⊎ IsWanted (range.0, from) taken wanted port
+parted range from taken (Port even) port free = by_place (cases_lt port from)
+  where
+    by_place : (port < from) ⊎ (from ≤ port) → IsFree (from, range.1) taken even port ⊎ IsFree (range.0, from) taken even port
+    by_place (inl below) = inr (free_in range.0 from range taken even port free.in_range.0 (omega arith) free)
+    by_place (inr above) = inl (free_in from range.1 range taken even port above free.in_range.1 free)
+parted range from taken Pair port free = by_place (cases_lt port from)
+  where
+    by_place : (port < from) ⊎ (from ≤ port) → IsFreePair (from, range.1) taken port ⊎ IsFreePair (range.0, from) taken port
+    by_place (inl below) = inr (record {
+      first = free_in range.0 from range taken true port free.first.in_range.0 (omega arith) free.first;
+      second = free_in range.0 from range taken _ (port + 1) free.second.in_range.0 (omega arith) free.second;
+    })
+    by_place (inr above) = inl (record {
+      first = free_in from range.1 range taken true port above free.first.in_range.1 free.first;
+      second = free_in from range.1 range taken _ (port + 1) (omega arith) free.second.in_range.1 free.second;
+    })
+
+-- where nothing is wanted in both parts nothing is in the range
+pub none_in_both : (range : ℕ × ℕ) (from : ℕ) (taken : ℕ → Bool) (wanted : Wanted) → NoneIsWanted (from, range.1) taken wanted
+    → NoneIsWanted (range.0, from) taken wanted → NoneIsWanted range taken wanted
+none_in_both range from taken wanted upper lower port free =
+    elim (parted range from taken wanted port free) [ inl above ↦ upper port above | inr below ↦ lower port below ]
+
+-- what both parts of a range came to, where nothing is wanted in the lower one
+pub searched : (range : ℕ × ℕ) (from : ℕ) (taken : ℕ → Bool) (wanted : Wanted) (upper lower : Search) → range.0 ≤ from
+    → Searches (from, range.1) taken wanted upper → Searches (range.0, from) taken wanted lower → lower ≡ Nothing
+    → Searches range taken wanted upper
+searched range from taken wanted (Found port) lower low above below none =
+    widened (from, range.1) range taken wanted port low (omega arith) above
+searched range from taken wanted Nothing lower low above below none =
+    none_in_both range from taken wanted above (subst (Searches (range.0, from) taken wanted) none below)
+searched range from taken wanted Failed lower low above below none = tt
+searched range from taken wanted Exhausted lower low above below none = tt
+
+at_itself : (k : ℕ) → is_eq (nat_cmp k k) ≡ true
+at_itself k = grind (arith, nat_tests)
+
+-- an entry of a new key, inserted and removed
+inserted_and_removed : {X : Type 0} (k : ℕ) (v : X) (es : List (ℕ × X)) → lookup (is_at (nat_cmp k)) es ≡ None
+    → remove_entry (is_at (nat_cmp k)) (insert_entry nat_cmp es k v) ≡ es
+inserted_and_removed {X} k v [] new = ap (λ b. cond b [] ((k, v) ∷ [])) (at_itself k)
+inserted_and_removed {X} k v (e ∷ es) new = by_order (nat_cmp k e.0) refl new (inserted_and_removed k v es)
+  where
+    by_order : (o : Ordering) → nat_cmp k e.0 ≡ o → cond (is_eq o) (Some e.1) (lookup (is_at (nat_cmp k)) es) ≡ None
+        → (lookup (is_at (nat_cmp k)) es ≡ None → remove_entry (is_at (nat_cmp k)) (insert_entry nat_cmp es k v) ≡ es)
+        → remove_entry (is_at (nat_cmp k)) (match_ordering o ((k, v) ∷ e ∷ es) ((e.0, v) ∷ es) (e ∷ insert_entry nat_cmp es k v)) ≡ e ∷ es
+    by_order Less is none rest = ap (λ b. cond b (e ∷ es) ((k, v) ∷ remove_entry (is_at (nat_cmp k)) (e ∷ es))) (at_itself k)
+    by_order Equal is none rest = absurd cc
+    by_order Greater is none rest =
+        ap (λ o. cond (is_eq o) (insert_entry nat_cmp es k v) (e ∷ remove_entry (is_at (nat_cmp k)) (insert_entry nat_cmp es k v))) is
+        ∙ ap (λ r. e ∷ r) (rest none)
+
+-- a map without the entry that was inserted
+pub restored : {X : Type 0} (port : ℕ) (old mid new : BTreeMap ℕ X) → Inserts old mid port → get nat_cmp old port ≡ None
+    → new.entries ≡ remove_entry (is_at (nat_cmp port)) mid.entries → IsUnchanged old new
+restored port old mid new inserted none removed =
+    removed ∙ ap (remove_entry (is_at (nat_cmp port))) inserted.1 ∙ inserted_and_removed port inserted.0 old.entries none
