@@ -4,7 +4,7 @@ use Rattle.std.specs.Prelude.{IsSomeAnd}
 use Rattle.turn_history.proofs.Histories.{table-follows}
 use Rattle.turn_history.specs.Fitting.{Follows}
 use Rattle.turn_history.specs.History.{PlainAct, Renews, Event, History}
-use Rattle.turn_history.specs.Table.{Entry, Contents, applied, applied_to, with_entry, table}
+use Rattle.turn_history.specs.Table.{Entry, Contents, Reservations, applied, applied_to, reserving, with_entry, table}
 use Rattle.turn_types.specs.declared.address.FiveTuple.{FiveTuple}
 use Rattle.std.specs.FinMap as fin
 use Rattle.turn_table.specs.State.{State}
@@ -12,24 +12,24 @@ use Rattle.turn_table.specs.Table.{Agrees, BecomesFree, freed_by, without_entry}
 use Rattle.turn_table.specs.Table as calls
 use Rattle.turn_table.proofs.Purging.{free-remove}
 
--- an act makes this of the entry that is there
-pub applied-is : (t : ℕ) (f : FiveTuple) (d : PlainAct) (c : Contents) (o : Option Entry) → applied_to t d (fin.get c.entries f) ≡ o → applied t f d c ≡ record c { entries = with_entry c.entries f o }
+-- an act makes this of the entry that is there, and of the reserved ports
+pub applied-is : (t : ℕ) (f : FiveTuple) (d : PlainAct) (c : Contents) (o : Option Entry) (q : Reservations) → applied_to t d (fin.get c.entries f) ≡ o → reserving t d c.reserved ≡ q → applied t f d c ≡ record { entries = with_entry c.entries f o; reserved = q }
 unfolding applied
-applied-is t f d c o is = ap (λ v. record c { entries = with_entry c.entries f v }) is
+applied-is t f d c o q is left = λ i. record { entries = with_entry c.entries f (is i); reserved = left i }
 
 -- and this of the table
-pub done : (s : State) (t : ℕ) (f : FiveTuple) (d e : PlainAct) → d ≡ e → (o : Option Entry) → applied_to t e (fin.get s.contents.entries f) ≡ o → record s { contents = applied t f d s.contents; room = None } ≡ record s { contents = record { entries = with_entry s.contents.entries f o }; room = None }
-done s t f d e is o gives =
+pub done : (s : State) (t : ℕ) (f : FiveTuple) (d e : PlainAct) → d ≡ e → (o : Option Entry) (q : Reservations) → applied_to t e (fin.get s.contents.entries f) ≡ o → reserving t e s.contents.reserved ≡ q → record s { contents = applied t f d s.contents; room = None } ≡ record s { contents = record { entries = with_entry s.contents.entries f o; reserved = q }; room = None }
+done s t f d e is o q gives left =
     ap (λ x. record s { contents = applied t f x s.contents; room = None }) is
-    ∙ ap (λ k. record s { contents = k; room = None }) (applied-is t f e s.contents o gives)
+    ∙ ap (λ k. record s { contents = k; room = None }) (applied-is t f e s.contents o q gives left)
 
--- where an act changes the entry that is there
-pub changed_by : (s new : State) (t : ℕ) (f : FiveTuple) (d e : PlainAct) → d ≡ e → (h : Entry → Entry) → ((v : Entry) → applied_to t e (Some v) ≡ Some (h v)) → IsSomeAnd (fin.get s.contents.entries f) (λ v. new ≡ calls.with_entry s f (h v)) → new ≡ record s { contents = applied t f d s.contents; room = None }
-changed_by s new t f d e is h gives some = by_entry (fin.get s.contents.entries f) refl some
+-- where an act changes the entry that is there, and no reserved port
+pub changed_by : (s new : State) (t : ℕ) (f : FiveTuple) (d e : PlainAct) → d ≡ e → (h : Entry → Entry) → ((v : Entry) → applied_to t e (Some v) ≡ Some (h v)) → reserving t e s.contents.reserved ≡ s.contents.reserved → IsSomeAnd (fin.get s.contents.entries f) (λ v. new ≡ calls.with_entry s f (h v)) → new ≡ record s { contents = applied t f d s.contents; room = None }
+changed_by s new t f d e is h gives left some = by_entry (fin.get s.contents.entries f) refl some
   where
     by_entry : (o : Option Entry) → fin.get s.contents.entries f ≡ o → IsSomeAnd o (λ v. new ≡ calls.with_entry s f (h v)) → new ≡ record s { contents = applied t f d s.contents; room = None }
     by_entry None at none = absurd none
-    by_entry (Some v) at new_is = new_is ∙ sym (done s t f d e is (Some (h v)) (ap (applied_to t e) at ∙ gives v))
+    by_entry (Some v) at new_is = new_is ∙ sym (done s t f d e is (Some (h v)) s.contents.reserved (ap (applied_to t e) at ∙ gives v) left)
 
 -- the port of the entry that an act removes is free
 pub free_end : (s new : State) (f : FiveTuple) (port : ℕ) → new ≡ without_entry s f → IsSomeAnd (fin.get s.contents.entries f) (λ e. e.port ≡ port) → BecomesFree s.contents new.contents port
@@ -39,7 +39,7 @@ free_end s new f port is some = by_entry (fin.get s.contents.entries f) refl som
     by_entry None at none = absurd none
     by_entry (Some v) at port_is =
         subst (λ c. BecomesFree s.contents c port) (sym (ap (λ x. x.contents) is))
-        (subst (λ p. BecomesFree s.contents (record { entries = fin.remove s.contents.entries f }) p) port_is (free-remove s.contents f v at))
+        (subst (λ p. BecomesFree s.contents (record s.contents { entries = fin.remove s.contents.entries f }) p) port_is (free-remove s.contents f v at))
 
 -- and it is what the act gives
 pub freed_end : (o : Option Entry) (granted port : ℕ) (d : PlainAct) → eqb granted 0 ≡ true → d ≡ Renews granted → IsSomeAnd o (λ e. e.port ≡ port) → Some port ≡ freed_by d o

@@ -12,7 +12,7 @@ use Rattle.turn_types.specs.FiveTuple.{tuple_cmp, same_tuple}
 use Rattle.turn_types.specs.declared.address.FiveTuple.{FiveTuple}
 use Rattle.turn_history.proofs.Reading.{nat_same}
 use Rattle.turn_history.proofs.Tests.{free_port_is, port_is_free}
-use Rattle.turn_history.specs.Fitting.{is_taken}
+use Rattle.turn_history.specs.Fitting.{has_port}
 use Rattle.turn_table.specs.Live.{Holdings, entries_of}
 use Rattle.turn_table.specs.Indexed.{IsIndexed, held_in}
 use Rattle.turn_table.specs.State.{Held}
@@ -169,18 +169,18 @@ indexed_empty xs order ports none orders are = record {
 -- ---- Ports that no entry has
 
 module _ (m : Holdings) (place : FiveTuple → Option ℕ) (holder : ℕ → Option FiveTuple) (ok : IsIndexed (fin.get m) place holder) where
-  pub taken-is : (port : ℕ) → is_some (holder port) ≡ is_taken (record { entries = entries_of m }) port
+  pub taken-is : (port : ℕ) → is_some (holder port) ≡ has_port (record { entries = entries_of m; reserved = fin.empty }) port
   taken-is port = by_holder (holder port) refl
     where
-      by_holder : (o : Option FiveTuple) → holder port ≡ o → is_some o ≡ is_taken (record { entries = entries_of m }) port
-      by_holder None none = sym (free_port_is (record { entries = entries_of m }) port (λ f e is same.
+      by_holder : (o : Option FiveTuple) → holder port ≡ o → is_some o ≡ has_port (record { entries = entries_of m; reserved = fin.empty }) port
+      by_holder None none = sym (free_port_is (record { entries = entries_of m; reserved = fin.empty }) port (λ f e is same.
           let at = of_entry m f e is in
           let some : holder port ≡ Some f = ap holder (sym (ap (λ x. x.port) at.2 ∙ same)) ∙ found-holder ok f at.0 at.1 in
           let no : ◌≡◌ {A = Option FiveTuple} (Some f) None = sym some ∙ none in cc))
-      by_holder (Some f) some = by_test (is_taken (record { entries = entries_of m }) port) refl
+      by_holder (Some f) some = by_test (has_port (record { entries = entries_of m; reserved = fin.empty }) port) refl
         where
-          by_test : (b : Bool) → is_taken (record { entries = entries_of m }) port ≡ b → true ≡ is_taken (record { entries = entries_of m }) port
+          by_test : (b : Bool) → has_port (record { entries = entries_of m; reserved = fin.empty }) port ≡ b → true ≡ has_port (record { entries = entries_of m; reserved = fin.empty }) port
           by_test true is = sym is
           by_test false is =
               let at = holder-found ok f port some in
-              absurd (port_is_free (record { entries = entries_of m }) port is f at.0.entry (entry_at m f at.0 at.1) at.2)
+              absurd (port_is_free (record { entries = entries_of m; reserved = fin.empty }) port is f at.0.entry (entry_at m f at.0 at.1) at.2)

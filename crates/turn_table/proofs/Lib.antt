@@ -1,4 +1,5 @@
 pub mod Acts
+pub mod Apart
 pub mod ByUser
 pub mod Changing
 pub mod ChannelPeers
@@ -15,6 +16,7 @@ pub mod Purged
 pub mod Purging
 pub mod Quiet
 pub mod Ready
+pub mod ReservedPorts
 pub mod Searches
 pub mod Sorted
 pub mod States

@@ -20,7 +20,7 @@ use Rattle.turn_table.proofs.Held.{entry_at, of_entry}
 use Rattle.turn_table.proofs.Quiet.{quiet_before}
 
 -- what a map answers, if a value or nothing came in at a key
-or_new : {X : Type 0} (P : X → Type 0) (b : Bool) (new old : Option X) (x : X) → cond b new old ≡ Some x → (new ≡ Some x → P x) → (old ≡ Some x → P x) → P x
+pub or_new : {X : Type 0} (P : X → Type 0) (b : Bool) (new old : Option X) (x : X) → cond b new old ≡ Some x → (new ≡ Some x → P x) → (old ≡ Some x → P x) → P x
 or_new P true new old x is at_new at_old = at_new is
 or_new P false new old x is at_new at_old = at_old is
 

@@ -1,5 +1,5 @@
 -- A table after a change.
-use Rattle.std.proofs.Common.{◌≡◌, ℕ, ◌≤◌, ◌<◌, Bool, true, false, is_some, List, length, ◌-◌, slice_get, refl, sym, ap, ◌∙◌, subst, Option, Some, None}
+use Rattle.std.proofs.Common.{◌≡◌, ℕ, ◌≤◌, ◌<◌, Bool, true, false, ◌||◌, is_some, List, length, ◌-◌, slice_get, refl, sym, ap, ◌∙◌, subst, Option, Some, None}
 use Rattle.std.specs.Prelude.{IsSome, IsSomeAnd, MatchOption}
 use Rattle.std.specs.Option.{option_map}
 use Rattle.std.proofs.lemmas.List.{length-map}
@@ -7,20 +7,20 @@ use Rattle.std.proofs.lemmas.Option.{slice_get-map}
 use Rattle.std.specs.FinMap as fin
 use Rattle.turn_history.proofs.Maps.{tuple_total, tuple_exact}
 use Rattle.turn_history.proofs.Tests.{free_port_is, port_is_free}
-use Rattle.turn_history.specs.Fitting.{PortIsFree, is_taken}
-use Rattle.turn_history.specs.Table.{Contents, Entry}
+use Rattle.turn_history.specs.Fitting.{PortIsFree, has_port, is_taken}
+use Rattle.turn_history.specs.Table.{Contents, Entry, Reservations, with_reservation}
 use Rattle.turn_types.specs.FiveTuple.{tuple_cmp}
 use Rattle.turn_types.specs.declared.limits.Bounds.{Bounds}
 use Rattle.turn_types.specs.declared.address.FiveTuple.{FiveTuple}
 use Rattle.turn_table.specs.Live.{Changes, HasRoom, Holdings, Live, entries_of, placed}
 use Rattle.turn_table.specs.Order.{state_of}
 use Rattle.turn_table.specs.State.{Held, Room, State}
-use Rattle.turn_table.specs.Table.{with_entry, without_entry}
+use Rattle.turn_table.specs.Table.{with_allocation, with_entry, without_entry}
 use Rattle.turn_table.proofs.Held.{entries_of-insert, entries_of-remove, entry_at, get-entries_of, of_entry}
 use Rattle.turn_table.proofs.Mapped.{entries-values_by, values_by}
 
-pub no_room : (l : Live) (r : Room) → ◌≡◌ {A = Option Room} None (Some r) → HasRoom r l
-no_room l r e = cc
+pub no_room : (l : Live) (places : ℕ) (r : Room) → ◌≡◌ {A = Option Room} None (Some r) → HasRoom r l × (r.ports ≤ places)
+no_room l places r e = cc
 
 -- ---- Look-ups
 
@@ -28,7 +28,7 @@ pub matched : {X : Type 0} {P P' : Type 0} {Q Q' : X → Type 0} (r : Option X) 
 matched None p q m = p m
 matched (Some x) p q m = q x m
 
-module _ (m : Holdings) (old : Contents) (view_is : record { entries = entries_of m } ≡ old) where
+module _ (m : Holdings) {q : Reservations} (old : Contents) (view_is : record { entries = entries_of m; reserved = q } ≡ old) where
   -- an entry, with its rooms
   pub held_of : (f : FiveTuple) (e : Entry) → fin.get old.entries f ≡ Some e → (h : Held) × (fin.get m f ≡ Some h) × (h.entry ≡ e)
   held_of f e is = of_entry m f e (ap (λ c. fin.get c.entries f) view_is ∙ is)
@@ -82,26 +82,34 @@ last-placed m =
 
 -- ---- Changes
 
-module _ (b : Bounds) (t : ℕ) (m : Holdings) (r : Option Room) (old : State) (view_is : state_of b t m r ≡ old) where
-  pub with_entry-is : (n : Holdings) (f : FiveTuple) (h : Held) → n ≡ fin.insert m f h → state_of b t n None ≡ with_entry old f h.entry
+module _ (b : Bounds) (t : ℕ) (m : Holdings) {q : Reservations} (r : Option Room) (old : State) (view_is : state_of b t m q r ≡ old) where
+  pub with_entry-is : (n : Holdings) (f : FiveTuple) (h : Held) → n ≡ fin.insert m f h → state_of b t n q None ≡ with_entry old f h.entry
   with_entry-is n f h is =
-      ap (λ k. state_of b t k None) is
-      ∙ ap (λ es. record { bounds = b; moment = t; contents = record { entries = es }; room = None }) (entries_of-insert m f h)
+      ap (λ k. state_of b t k q None) is
+      ∙ ap (λ es. record { bounds = b; moment = t; contents = record { entries = es; reserved = q }; room = None }) (entries_of-insert m f h)
       ∙ ap (λ s. with_entry s f h.entry) view_is
 
-  pub without_entry-is : (n : Holdings) (f : FiveTuple) → n ≡ fin.remove m f → state_of b t n None ≡ without_entry old f
+  pub without_entry-is : (n : Holdings) (f : FiveTuple) → n ≡ fin.remove m f → state_of b t n q None ≡ without_entry old f
   without_entry-is n f is =
-      ap (λ k. state_of b t k None) is
-      ∙ ap (λ es. record { bounds = b; moment = t; contents = record { entries = es }; room = None }) (entries_of-remove m f)
+      ap (λ k. state_of b t k q None) is
+      ∙ ap (λ es. record { bounds = b; moment = t; contents = record { entries = es; reserved = q }; room = None }) (entries_of-remove m f)
       ∙ ap (λ s. without_entry s f) view_is
 
-  pub changed-is : (n : Holdings) (f : FiveTuple) (change : Entry → Entry) → Changes f change m n → IsSomeAnd (fin.get old.contents.entries f) (λ e. state_of b t n None ≡ with_entry old f (change e))
+  pub with_allocation-is : (moment : ℕ) (n : Holdings) (f : FiveTuple) (h : Held) → n ≡ fin.insert m f h → (p : Reservations) → p ≡ with_reservation moment h.entry.port h.entry.token (fin.remove q h.entry.port) → state_of b t n p None ≡ with_allocation moment old f h.entry
+  with_allocation-is moment n f h is p reserved =
+      let after : Reservations = with_reservation moment h.entry.port h.entry.token (fin.remove q h.entry.port) in
+      ap (λ k. state_of b t n k None) reserved
+      ∙ ap (λ k. state_of b t k after None) is
+      ∙ ap (λ es. record { bounds = b; moment = t; contents = record { entries = es; reserved = after }; room = None }) (entries_of-insert m f h)
+      ∙ ap (λ s. with_allocation moment s f h.entry) view_is
+
+  pub changed-is : (n : Holdings) (f : FiveTuple) (change : Entry → Entry) → Changes f change m n → IsSomeAnd (fin.get old.contents.entries f) (λ e. state_of b t n q None ≡ with_entry old f (change e))
   changed-is n f change changes = by_held (fin.get m f) refl changes
     where
-      by_held : (o : Option Held) → fin.get m f ≡ o → IsSomeAnd o (λ h. (k : Held) × (k.entry ≡ change h.entry) × (n ≡ fin.insert m f k)) → IsSomeAnd (fin.get old.contents.entries f) (λ e. state_of b t n None ≡ with_entry old f (change e))
+      by_held : (o : Option Held) → fin.get m f ≡ o → IsSomeAnd o (λ h. (k : Held) × (k.entry ≡ change h.entry) × (n ≡ fin.insert m f k)) → IsSomeAnd (fin.get old.contents.entries f) (λ e. state_of b t n q None ≡ with_entry old f (change e))
       by_held None at c = absurd c
       by_held (Some h) at c =
-          subst (λ o. IsSomeAnd o (λ e. state_of b t n None ≡ with_entry old f (change e)))
+          subst (λ o. IsSomeAnd o (λ e. state_of b t n q None ≡ with_entry old f (change e)))
           (sym (ap (λ s. fin.get s.contents.entries f) (sym view_is) ∙ entry_at m f h at))
           (with_entry-is n f c.0 c.2 ∙ ap (with_entry old f) c.1)
 
@@ -125,7 +133,7 @@ pub port_of_some : (o : Option Held) → IsSome o → IsSome (option_map (λ h. 
 port_of_some None some = cc
 port_of_some (Some h) some = refl
 
-pub removed_port : (m : Holdings) (old : Contents) (view_is : record { entries = entries_of m } ≡ old) (f : FiveTuple) (port : ℕ) → Some port ≡ option_map (λ h. h.entry.port) (fin.get m f) → IsSomeAnd (fin.get old.entries f) (λ e. e.port ≡ port)
+pub removed_port : (m : Holdings) {q : Reservations} (old : Contents) (view_is : record { entries = entries_of m; reserved = q } ≡ old) (f : FiveTuple) (port : ℕ) → Some port ≡ option_map (λ h. h.entry.port) (fin.get m f) → IsSomeAnd (fin.get old.entries f) (λ e. e.port ≡ port)
 removed_port m old view_is f port is = by_held (fin.get m f) refl is
   where
     by_held : (o : Option Held) → fin.get m f ≡ o → Some port ≡ option_map (λ h. h.entry.port) o → IsSomeAnd (fin.get old.entries f) (λ e. e.port ≡ port)
@@ -137,20 +145,28 @@ some_weaker P Q None weaker some = absurd some
 some_weaker P Q (Some x) weaker some = weaker x some
 
 -- what holds of what is held holds of the entry
-pub some_of : (m : Holdings) (old : Contents) (view_is : record { entries = entries_of m } ≡ old) (P : Entry → Type 0) (f : FiveTuple) → IsSomeAnd (fin.get m f) (λ h. P h.entry) → IsSomeAnd (fin.get old.entries f) P
+pub some_of : (m : Holdings) {q : Reservations} (old : Contents) (view_is : record { entries = entries_of m; reserved = q } ≡ old) (P : Entry → Type 0) (f : FiveTuple) → IsSomeAnd (fin.get m f) (λ h. P h.entry) → IsSomeAnd (fin.get old.entries f) P
 some_of m old view_is P f some = by_held (fin.get m f) refl some
   where
     by_held : (o : Option Held) → fin.get m f ≡ o → IsSomeAnd o (λ h. P h.entry) → IsSomeAnd (fin.get old.entries f) P
     by_held None at some = absurd some
     by_held (Some h) at some = subst (λ o. IsSomeAnd o P) (sym (entry_of m old view_is f h at)) some
 
-pub settled-is : (b : Bounds) (s t : ℕ) (m : Holdings) (r : Option Room) (old : State) → state_of b s m r ≡ old → (n : Holdings) (c : Contents) → record { entries = entries_of n } ≡ c → state_of b t n None ≡ record old { moment = t; contents = c; room = None }
+pub settled-is : (b : Bounds) (s t : ℕ) (m : Holdings) {q : Reservations} (r : Option Room) (old : State) → state_of b s m q r ≡ old → (n : Holdings) {p : Reservations} (c : Contents) → record { entries = entries_of n; reserved = p } ≡ c → state_of b t n p None ≡ record old { moment = t; contents = c; room = None }
 settled-is b s t m r old view_is n c is = λ j. record { bounds = (view_is j).bounds; moment = t; contents = is j; room = None }
 
-pub taken_by : {X : Type 0} (c : Contents) (port : ℕ) (entry : X → FiveTuple × Entry) (r : Option X) → MatchOption r (PortIsFree c port) (λ x. (fin.get c.entries (entry x).0 ≡ Some (entry x).1) × ((entry x).1.port ≡ port)) → is_some r ≡ is_taken c port
-taken_by c port entry None free = sym (free_port_is c port free)
-taken_by c port entry (Some x) found = by_test (is_taken c port) refl
+-- where a port isn't reserved, it is taken exactly if an entry has it
+pub taken_unreserved : (c : Contents) (port : ℕ) → fin.get c.reserved port ≡ None → has_port c port ≡ is_taken c port
+taken_unreserved c port none = by_test (has_port c port) ∙ ap (λ o. has_port c port || is_some o) (sym none)
   where
-    by_test : (b : Bool) → is_taken c port ≡ b → true ≡ is_taken c port
+    by_test : (b : Bool) → b ≡ b || false
+    by_test true = refl
+    by_test false = refl
+
+pub taken_by : {X : Type 0} (c : Contents) (port : ℕ) (entry : X → FiveTuple × Entry) (r : Option X) → MatchOption r (PortIsFree c port) (λ x. (fin.get c.entries (entry x).0 ≡ Some (entry x).1) × ((entry x).1.port ≡ port)) → is_some r ≡ has_port c port
+taken_by c port entry None free = sym (free_port_is c port free)
+taken_by c port entry (Some x) found = by_test (has_port c port) refl
+  where
+    by_test : (b : Bool) → has_port c port ≡ b → true ≡ has_port c port
     by_test true is = sym is
     by_test false is = absurd (port_is_free c port is (entry x).0 (entry x).1 found.0 found.1)

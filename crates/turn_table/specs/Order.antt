@@ -1,17 +1,31 @@
 -- What holds of a table.
-use Rattle.std.specs.Prelude.{ℕ, ◌≡◌, Some, Option}
+use Rattle.std.specs.Prelude.{ℕ, ◌≡◌, ◌≤◌, ◌<◌, ◌^◌, Some, Option}
+use Rattle.std.specs.FinMap as fin
+use Rattle.turn_history.specs.declared.reservation.Reservation.{Reservation}
 use Rattle.turn_types.specs.declared.limits.Bounds.{Bounds}
 use Rattle.turn_table.specs.declared.edit.Reserved.{Reserved}
-use Rattle.turn_table.specs.Live.{AreQuiet, HasRoom, Holdings, Live, entries_of}
+use Rattle.turn_table.specs.Live.{AreQuiet, HasRoom, Holdings, Live, PortIsUnused, entries_of}
+use Rattle.turn_history.specs.Table.{Reservations}
 use Rattle.turn_table.specs.State.{Room, State}
 
 abbrev pub room_of : Reserved → Room
-room_of r = record { tuple = r.tuple; permissions = r.permissions; channels = r.channels }
+room_of r = record { tuple = r.tuple; permissions = r.permissions; channels = r.channels; ports = r.ports }
 
-abbrev pub state_of : Bounds → ℕ → Holdings → Option Room → State
-state_of b t m r = record { bounds = b; moment = t; contents = record { entries = entries_of m }; room = r }
+abbrev pub state_of : Bounds → ℕ → Holdings → Reservations → Option Room → State
+state_of b t m q r = record { bounds = b; moment = t; contents = record { entries = entries_of m; reserved = q }; room = r }
 
--- nothing expires before a moment, and where room was made there is some
-pub record IsReady (quiet_until : ℕ) (l : Live) (room : Option Room) : Type 0 where
+-- no reservation expires before t
+abbrev pub AreReservationsQuiet : ℕ → Reservations → Type 0
+AreReservationsQuiet t m = (q : ℕ) (r : Reservation) → fin.get m q ≡ Some r → t ≤ r.expiry
+
+-- reserved ports are ports, and nothing that is held has one
+abbrev pub HeldApart : Holdings → Reservations → Type 0
+HeldApart m q = (port : ℕ) (r : Reservation) → fin.get q port ≡ Some r → (port < 2 ^ 16) × PortIsUnused m port
+
+-- nothing expires before a moment, where room was made there is some, for so many more reserved ports too, and no entry
+-- has a reserved port
+pub record IsReady (quiet_until : ℕ) (l : Live) (reserved : Reservations) (places : ℕ) (room : Option Room) : Type 0 where
   pub quiet : AreQuiet quiet_until l.held
-  pub spare : (r : Room) → room ≡ Some r → HasRoom r l
+  pub reserved_quiet : AreReservationsQuiet quiet_until reserved
+  pub spare : (r : Room) → room ≡ Some r → HasRoom r l × (r.ports ≤ places)
+  pub apart : HeldApart l.held reserved

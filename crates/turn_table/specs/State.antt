@@ -12,11 +12,12 @@ pub record Held : Type 0 where
   pub permission_room : ℕ
   pub channel_room : ℕ
 
--- room for an act of a five-tuple: for an entry of it, or for so many more permissions and channels in the one that is there
+-- room for an act of a five-tuple: for an entry of it, or for so many more permissions and channels in the one that is there, and for so many more reserved ports
 pub record Room : Type 0 where
   pub tuple : FiveTuple
   pub permissions : ℕ
   pub channels : ℕ
+  pub ports : ℕ
 
 -- a table: its limits, its moment, what it holds, and for which act there is room. A table is "as it was" where the
 -- first three are: the room is not spoken of then.
@@ -44,9 +45,9 @@ held_code =
 
 abbrev pub room_code : Coded Room
 room_code =
-    code_by (FiveTuple × (ℕ × ℕ)) (coded× tuple_code (coded× coded_ℕ coded_ℕ))
-    (λ r. (r.tuple, (r.permissions, r.channels)))
-    (λ p. record { tuple = p.0; permissions = p.1.0; channels = p.1.1 })
+    code_by (FiveTuple × (ℕ × (ℕ × ℕ))) (coded× tuple_code (coded× coded_ℕ (coded× coded_ℕ coded_ℕ)))
+    (λ r. (r.tuple, (r.permissions, (r.channels, r.ports))))
+    (λ p. record { tuple = p.0; permissions = p.1.0; channels = p.1.1.0; ports = p.1.1.1 })
     (λ _. refl)
 
 abbrev pub state_code : Coded State

@@ -5,7 +5,7 @@ ghost use Rattle.std.specs.FinMap as fin;
 ghost use Rattle.std.specs.List.{count_by};
 ghost use Rattle.std.specs.Option.{option_map};
 ghost use Rattle.std.specs.Str.{bytes_eq};
-ghost use Rattle.turn_history.specs.Fitting.{is_taken};
+ghost use Rattle.turn_history.specs.Fitting.{has_port};
 ghost use Rattle.turn_history.specs.Table.{renewed, permitting, binding};
 ghost use Rattle.turn_ports.specs.Ports.{IsLowestFree};
 ghost use Rattle.turn_types.specs.declared.address.FiveTuple.{FiveTuple};
@@ -108,7 +108,7 @@ impl<A: Allocator + Copy> Allocations<A> {
 
     /// The lowest port from a first to a last that no entry has, and an even one where `even` asks for it.
     pub(crate) fn lowest_free(&self, first: u16, last: u16, even: bool) -> Option<u16>
-        ensures { IsLowestFree (first, last) (is_taken (record { entries = entries_of self.now.held })) even result }
+        ensures { IsLowestFree (first, last) (has_port (record { entries = entries_of self.now.held; reserved = fin.empty })) even result }
     {
         self.ports.lowest_free(first, last, even)
     }

@@ -19,23 +19,25 @@ use turn_types::{Endpoint, FiveTuple};
 pub(crate) type EntryMap<A> = IndexMap<FiveTuple, Entry<A>, BuildHasherDefault<FoldHasher>, A>;
 
 /// Room for an act of a five-tuple: for its entry, or for so many more permissions and channels in the entry that is
-/// there.
+/// there; and for so many more reserved ports.
 #[derive(Clone, Copy)]
 pub(crate) struct Reserved {
     pub(crate) tuple: FiveTuple,
     pub(crate) permissions: usize,
     pub(crate) channels: usize,
+    pub(crate) ports: usize,
 }
 
 impl Reserved {
     /// The room for an entry.
     pub(crate) fn for_entry(tuple: FiveTuple) -> Reserved
-        ensures { room_of result ≡ record { tuple = tuple; permissions = 0; channels = 0 } }
+        ensures { room_of result ≡ record { tuple = tuple; permissions = 0; channels = 0; ports = 0 } }
     {
         Reserved {
             tuple,
             permissions: 0,
             channels: 0,
+            ports: 0,
         }
     }
 
@@ -43,16 +45,18 @@ impl Reserved {
     pub(crate) fn for_act<A: Allocator>(tuple: FiveTuple, act: &Act<A>) -> Reserved
         ensures { room_of result ≡ room_for tuple (act_of act.now) }
     {
-        let (permissions, channels) = match act {
-            Act::Alloc { .. } => (0, 0),
-            Act::Renew { .. } => (0, 0),
-            Act::Permit { addresses } => (addresses.as_slice().len(), 0),
-            Act::Bind { .. } => (1, 1),
+        let (permissions, channels, ports) = match act {
+            Act::Alloc { .. } => (0, 0, 0),
+            Act::AllocEven { .. } => (0, 0, 1),
+            Act::Renew { .. } => (0, 0, 0),
+            Act::Permit { addresses } => (addresses.as_slice().len(), 0, 0),
+            Act::Bind { .. } => (1, 1, 0),
         };
         Reserved {
             tuple,
             permissions,
             channels,
+            ports,
         }
     }
 }

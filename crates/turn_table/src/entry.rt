@@ -14,16 +14,17 @@ use crate::sorted_map::SortedMap;
 use std::alloc::{Allocator, Global};
 use std::marker::Model;
 use turn_history::{Channel, UserName};
-use turn_types::{Endpoint, Limits, Moment, TxId};
+use turn_types::{Endpoint, Limits, Moment, Token, TxId};
 
-/// The user, relayed port, lifetime in seconds and transaction id that the Allocate request gave, the
-/// expiry time in seconds (exclusive), and the permissions and channels.
+/// The user, relayed port, lifetime in seconds and transaction id that the Allocate request gave, the token with which it
+/// reserved the next port, if it did, the expiry time in seconds (exclusive), and the permissions and channels.
 #[derive(Drop)]
 pub struct Entry<A: Allocator = Global> {
     pub(crate) user: UserName<A>,
     pub(crate) port: u16,
     pub(crate) granted: u32,
     pub(crate) tx: TxId,
+    pub(crate) token: Option<Token>,
     pub(crate) expiry: u64,
     pub(crate) permissions: SortedMap<u32, u64, A>,
     pub(crate) channels: SortedMap<u16, Channel, A>,
@@ -37,6 +38,7 @@ pub struct EntryParts<A: Allocator = Global> {
     pub port: u16,
     pub granted: u32,
     pub tx: TxId,
+    pub token: Option<Token>,
     pub expiry: u64,
     pub permissions: Vec<(u32, u64), A>,
     pub channels: Vec<(u16, Channel), A>,
@@ -57,6 +59,7 @@ impl<A: Allocator> Model for Entry<A> {
         port = e.port;
         granted = e.granted;
         tx = e.tx;
+        token = e.token;
         expiry = e.expiry;
         permissions = map_in nat_cmp e.permissions;
         channels = map_in nat_cmp e.channels;
@@ -95,6 +98,13 @@ impl<A: Allocator> Entry<A> {
         self.tx
     }
 
+    /// The token with which the Allocate request reserved the next port, if it did.
+    pub fn token(&self) -> Option<Token>
+        ensures { result ≡ self.now.entry.token }
+    {
+        self.token
+    }
+
     /// The expiry time of the allocation, in seconds (exclusive).
     pub fn expiry(&self) -> u64
         ensures { result ≡ self.now.entry.expiry }
@@ -113,6 +123,7 @@ impl<A: Allocator + Copy> Entry<A> {
           port = parts.port;
           granted = parts.granted;
           tx = parts.tx;
+          token = parts.token;
           expiry = parts.expiry;
           permissions = fin.from_sorted {R = nat_cmp} parts.permissions.items;
           channels = fin.from_sorted {R = nat_cmp} parts.channels.items;
@@ -123,6 +134,7 @@ impl<A: Allocator + Copy> Entry<A> {
             port,
             granted,
             tx,
+            token,
             expiry,
             permissions,
             channels,
@@ -132,6 +144,7 @@ impl<A: Allocator + Copy> Entry<A> {
             port,
             granted,
             tx,
+            token,
             expiry,
             permissions: SortedMap::from_sorted(permissions),
             channels: SortedMap::from_sorted(channels),
@@ -146,14 +159,16 @@ impl<A: Allocator + Copy> Entry<A> {
         port: u16,
         granted: u32,
         tx: TxId,
+        token: Option<Token>,
     ) -> Entry<A>
-        ensures { result.entry ≡ allocated moment user port granted tx }
+        ensures { result.entry ≡ allocated moment user port granted tx token }
     {
         Entry {
             user,
             port,
             granted,
             tx,
+            token,
             expiry: moment.seconds() + u64::from(granted),
             permissions: SortedMap::new(alloc),
             channels: SortedMap::new(alloc),

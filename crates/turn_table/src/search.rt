@@ -4,6 +4,7 @@ ghost use Rattle.std.specs.Prelude.{◌≡◌, ℕ, ◌+◌, ◌^◌, ◌<◌, �
 ghost use Rattle.std.specs.List.{AllByRecursion, position_from};
 ghost use Rattle.std.specs.FinMap as fin;
 ghost use Rattle.std.specs.Ordering.{nat_cmp};
+ghost use Rattle.std.specs.Str.{bytes_eq};
 ghost use Rattle.turn_history.specs.Fitting.{is_peer};
 ghost use Rattle.turn_ports.specs.Ports.{IsLowestFree};
 ghost use Rattle.turn_table.specs.Live.{IsQuiet};
@@ -12,8 +13,8 @@ ghost use Rattle.turn_table.specs.Sorted.{scan};
 use crate::entry::Entry;
 use crate::sorted_map::Key;
 use std::alloc::Allocator;
-use turn_history::Channel;
-use turn_types::Endpoint;
+use turn_history::{Channel, Reservation};
+use turn_types::{Endpoint, Token};
 
 /// The place of a key among keys that rise, or the place where it would be inserted.
 pub(crate) fn place_of<K: Key, V>(items: &[(K, V)], key: &K) -> Result<usize, usize>
@@ -82,6 +83,32 @@ pub(crate) fn expired_of<A: Allocator>(entries: &[Entry<A>], seconds: u64) -> Op
 {
     for (i, entry) in entries.iter().enumerate() {
         if entry.expiry() <= seconds {
+            return Some(i);
+        }
+    }
+    None
+}
+
+/// The place of a reservation that has expired.
+pub(crate) fn expired_port_of(ports: &[(u16, Reservation)], seconds: u64) -> Option<usize>
+    ensures value { result ≡ position_from (λ p. nat_le p.1.expiry seconds) 0 ports.now }
+    ensures found { IfSome result (λ i. i < length ports.now) }
+{
+    for (i, slot) in ports.iter().enumerate() {
+        if slot.1.expiry <= seconds {
+            return Some(i);
+        }
+    }
+    None
+}
+
+/// The place of the first reservation with a token.
+pub(crate) fn named_port_of(ports: &[(u16, Reservation)], token: &Token) -> Option<usize>
+    ensures value { result ≡ position_from (λ p. bytes_eq p.1.token.0 token.now.0) 0 ports.now }
+    ensures found { IfSome result (λ i. i < length ports.now) }
+{
+    for (i, slot) in ports.iter().enumerate() {
+        if slot.1.token.0 == token.0 {
             return Some(i);
         }
     }

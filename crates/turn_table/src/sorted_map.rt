@@ -13,7 +13,7 @@ ghost use Rattle.turn_table.specs.Kept.{map_in, still};
 use crate::search::{lowest_free, place_of};
 use std::alloc::{AllocError, Allocator, Global};
 use std::marker::Model;
-use turn_history::Channel;
+use turn_history::{Channel, Reservation};
 use turn_types::FiveTuple;
 
 /// A key: keys that compare alike are one.
@@ -51,6 +51,14 @@ impl Expires for u64 {
 
 impl Expires for Channel {
     ghost expiry = { λ c. c.expiry };
+
+    fn expiry(&self) -> u64 {
+        self.expiry
+    }
+}
+
+impl Expires for Reservation {
+    ghost expiry = { λ r. r.expiry };
 
     fn expiry(&self) -> u64 {
         self.expiry

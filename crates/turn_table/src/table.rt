@@ -1,6 +1,6 @@
 //! The table.
 
-ghost use Rattle.std.specs.Prelude.{◌≡◌, ℕ, ◌+◌, ◌-◌, ◌≤◌, ◌<◌, ◌↔◌, IsTrue, IsSome, IsSomeAnd, IfSome, IfNone, OnSome, OnOk, OnErr, MatchOption, Some, None, false, ◌==◌, ◌++◌, ◌∷◌, [], length, slice_get, option_map, option_copied};
+ghost use Rattle.std.specs.Prelude.{◌≡◌, ℕ, ◌+◌, ◌-◌, ◌^◌, ◌≤◌, ◌<◌, ◌↔◌, IsTrue, IsSome, IsSomeAnd, IfSome, IfNone, OnSome, OnOk, OnErr, MatchOption, Some, None, false, ◌==◌, ◌++◌, ◌∷◌, [], length, slice_get, option_map, option_copied};
 ghost use Rattle.std.specs.FinMap as fin;
 ghost use Rattle.std.specs.Iterator.{YieldsFirstBy, item_count};
 ghost use Rattle.std.specs.List.{count_by};
@@ -9,11 +9,13 @@ ghost use Rattle.std.specs.Str.{bytes_eq};
 ghost use Rattle.turn_ports.specs.Ports.{IsLowestFree};
 ghost use Rattle.turn_table.specs.Order.{room_of};
 ghost use Rattle.turn_table.specs.State.{State};
-ghost use Rattle.turn_table.specs.Table.{Agrees, AgreesOncePurged, BecomesFree, IsAbove, RemovesExpired, freed_by, room_for, with_entry, without_entry};
+ghost use Rattle.turn_table.specs.Table.{Agrees, AgreesOncePurged, BecomesFree, IsAbove, IsAboveReserved, RemovesExpired, RemovesReservation, freed_by, port_of_token, room_for, with_allocation, with_entry, with_reserved, without_entry};
 ghost use Rattle.turn_history.specs.Act.{act_of};
-ghost use Rattle.turn_history.specs.Fitting.{Fits, Follows, PortIsFree, is_taken};
+ghost use Rattle.turn_history.specs.Fitting.{Fits, FitsReservation, Follows, IsUnreserved, PortIsFree, has_port, is_taken};
+ghost use Rattle.turn_history.specs.declared.reservation.Reservation.{Reservation};
+ghost use Rattle.turn_types.specs.declared.message.Token.{Token};
 ghost use Rattle.turn_history.specs.History.{History, Event, Permits, Binds};
-ghost use Rattle.turn_history.specs.Laws.{HasChannel, HasPermission};
+ghost use Rattle.turn_history.specs.Laws.{HasChannel, HasPermission, ReservedApart};
 ghost use Rattle.turn_history.specs.Table.{table, applied, purged, renewed, permitting, binding, no_contents};
 ghost use Rattle.turn_history.specs.Table as tables;
 ghost use Rattle.turn_types.specs.declared.address.FiveTuple.{FiveTuple};
@@ -22,24 +24,29 @@ use crate::allocations::Allocations;
 use crate::edit::Reserved;
 use crate::entry::Entry;
 use crate::fits::{fits_channel, fits_permissions, is_channel_number};
+use crate::search::{expired_port_of, named_port_of};
+use crate::sorted_map::SortedMap;
 use std::alloc::{AllocError, Allocator, Global};
 use std::marker::Model;
-use turn_history::Act;
+use turn_history::{Act, Reservation};
 use turn_ports::PortSet;
-use turn_types::{Endpoint, FiveTuple, Limits, Moment};
+use turn_types::{Endpoint, FiveTuple, Limits, Moment, Token};
 
-/// The allocations that live at a moment.
+/// The allocations that live at a moment, and the reserved ports.
 pub struct Table<A: Allocator = Global> {
     limits: Limits,
     moment: Moment,
     /// The second before which nothing expires, so that a purge before it has nothing to look for.
     quiet_until: u64,
     allocations: Allocations<A>,
+    reserved: SortedMap<u16, Reservation, A>,
     room: Option<Reserved>,
 }
 
 impl<A: Allocator> Model for Table<A> {
     ghost use Rattle.std.specs.Prelude.{option_map};
+    ghost use Rattle.std.specs.Ordering.{nat_cmp};
+    ghost use Rattle.turn_table.specs.Kept.{map_in};
     ghost use Rattle.turn_table.specs.Order.{state_of, room_of, IsReady};
     ghost use Rattle.turn_table.specs.State.{State, state_code};
 
@@ -47,9 +54,9 @@ impl<A: Allocator> Model for Table<A> {
 
     ghost coded = { state_code };
 
-    ghost view = { λ t. state_of t.limits t.moment t.allocations.held (option_map room_of t.room) };
+    ghost view = { λ t. state_of t.limits t.moment t.allocations.held (map_in nat_cmp t.reserved) (option_map room_of t.room) };
 
-    ghost invariant = { λ t. IsReady t.quiet_until t.allocations (option_map room_of t.room) };
+    ghost invariant = { λ t. IsReady t.quiet_until t.allocations (map_in nat_cmp t.reserved) t.reserved.1 (option_map room_of t.room) };
 }
 
 // By hand: a derived drop is one step for each field in the proof of each caller.
@@ -60,6 +67,7 @@ impl<A: Allocator> Drop for Table<A> {
             moment: _,
             quiet_until: _,
             allocations: _,
+            reserved: _,
             room: _,
         } = self;
     }
@@ -120,6 +128,7 @@ impl<A: Allocator + Copy> Table<A> {
             moment,
             quiet_until: u64::MAX,
             allocations: Allocations::new(alloc),
+            reserved: SortedMap::new(alloc),
             room: None,
         }
     }
@@ -148,6 +157,13 @@ impl<A: Allocator + Copy> Table<A> {
         ensures { IsTrue result ↔ (fin.len self.now.contents.entries ≡ 0) }
     {
         self.len() == 0
+    }
+
+    /// How many ports are reserved.
+    pub fn reserved_len(&self) -> usize
+        ensures { result ≡ fin.len self.now.contents.reserved }
+    {
+        self.reserved.len()
     }
 
     /// Whether it has as many entries as its limits allow.
@@ -193,6 +209,40 @@ impl<A: Allocator + Copy> Table<A> {
         self.allocations.by_port(port)
     }
 
+    /// Whether an entry has a relayed port.
+    pub fn has_port(&self, port: u16) -> bool
+        ensures value { result ≡ has_port self.now.contents port }
+        ensures free { result ≡ false → PortIsFree self.now.contents port }
+    {
+        self.by_port(port).is_some()
+    }
+
+    /// The reservation of a port (RFC 8656, section 7.2).
+    pub fn reserved(&self, port: u16) -> Option<Reservation>
+        ensures { result ≡ fin.get self.now.contents.reserved port }
+    {
+        self.reserved.get(port)
+    }
+
+    /// The reserved ports, ascending, each with its reservation.
+    pub fn reserved_ports(&self) -> &[(u16, Reservation)]
+        ensures { result.now ≡ fin.entries self.now.contents.reserved }
+    {
+        self.reserved.items()
+    }
+
+    /// The reserved port that a token names. No entry has it.
+    pub fn by_token(&self, token: &Token) -> Option<u16>
+        ensures port { result ≡ port_of_token self.now.contents token.now.0 }
+        ensures free { IfSome result (PortIsFree self.now.contents) }
+    {
+        let ports = self.reserved.items();
+        match named_port_of(ports, token) {
+            Some(i) => Some(ports[i].0),
+            None => None,
+        }
+    }
+
     /// How many entries a user made.
     pub fn count_of_user(&self, user: &[u8]) -> usize
         ensures { result ≡ count_by (λ p. bytes_eq p.1.user user.now) (fin.entries self.now.contents.entries) }
@@ -233,13 +283,32 @@ impl<A: Allocator + Copy> Table<A> {
         }
     }
 
+    /// Whether a five-tuple may get an allocation with a port.
+    fn fits_allocation(&self, tuple: FiveTuple, port: u16) -> bool
+        ensures { IsTrue result ↔ ((fin.get self.now.contents.entries tuple ≡ None) × PortIsFree self.now.contents port
+            × (fin.len self.now.contents.entries < self.now.bounds.allocations)) }
+    {
+        self.get(tuple).is_none() && self.by_port(port).is_none() && !self.is_full()
+    }
+
+    /// Whether the port after one may be reserved.
+    fn fits_reservation(&self, port: u16) -> bool
+        ensures { (token : Token) → (IsTrue result ↔ FitsReservation self.now.bounds self.now.contents port (Some token)) }
+    {
+        port < u16::MAX
+            && self.by_port(port + 1).is_none()
+            && self.reserved(port + 1).is_none()
+            && self.reserved_len() < self.limits.allocations() as usize
+    }
+
     /// Whether an act of a five-tuple may be the next change.
     pub fn fits(&self, tuple: FiveTuple, act: &Act<A>) -> bool
         ensures { IsTrue result ↔ Fits self.now.bounds self.now.contents tuple (act_of act.now) }
     {
         match act {
-            Act::Alloc { port, .. } => {
-                self.get(tuple).is_none() && self.by_port(*port).is_none() && !self.is_full()
+            Act::Alloc { port, .. } => self.fits_allocation(tuple, *port),
+            Act::AllocEven { port, .. } => {
+                self.fits_allocation(tuple, *port) && self.fits_reservation(*port)
             }
             Act::Renew { .. } => self.get(tuple).is_some(),
             Act::Permit { addresses } => match self.get(tuple) {
@@ -273,6 +342,7 @@ impl<A: Allocator + Copy> Table<A> {
     {
         self.room = None;
         self.allocations.make_room(room)?;
+        self.reserved.reserve(room.ports)?;
         self.room = Some(room);
         Ok(())
     }
@@ -283,6 +353,7 @@ impl<A: Allocator + Copy> Table<A> {
     pub fn restore(&mut self, tuple: FiveTuple, entry: Entry<A>) -> Result<(), AllocError>
         requires above { IsAbove self.old.contents tuple }
         requires free { PortIsFree self.old.contents entry.entry.port }
+        requires unreserved { IsUnreserved self.old.contents entry.entry.port }
         requires few { fin.len self.old.contents.entries < self.old.bounds.allocations }
         ensures ok { OnOk result (self.new ≡ with_entry self.old tuple entry.entry) }
         ensures entries { OnOk result (fin.entries self.new.contents.entries ≡ fin.entries self.old.contents.entries ++ (tuple, entry.entry) ∷ []) }
@@ -298,11 +369,63 @@ impl<A: Allocator + Copy> Table<A> {
         requires room { IsSomeAnd self.old.room (λ r. r.tuple ≡ tuple) }
         requires absent { fin.get self.old.contents.entries tuple ≡ None }
         requires free { PortIsFree self.old.contents entry.entry.port }
+        requires unreserved { IsUnreserved self.old.contents entry.entry.port }
         ensures { self.new ≡ with_entry self.old tuple entry.entry }
     {
         self.room = None;
         self.quiet_until = self.quiet_until.min(entry.earliest());
         self.allocations.insert(tuple, entry);
+    }
+
+    /// Reserves a port that is above all reserved ports, so that a snapshot is restored in the order of its ports. After
+    /// an `Err` the limits, the moment, the entries and the reserved ports are as before. There is room for no act
+    /// afterwards.
+    pub fn restore_reserved(
+        &mut self,
+        port: u16,
+        reservation: Reservation,
+    ) -> Result<(), AllocError>
+        requires above { IsAboveReserved self.old.contents port }
+        requires free { PortIsFree self.old.contents port }
+        requires few { fin.len self.old.contents.reserved < self.old.bounds.allocations }
+        ensures ok { OnOk result (self.new ≡ with_reserved self.old port reservation) }
+        ensures ports { OnOk result (fin.entries self.new.contents.reserved ≡ fin.entries self.old.contents.reserved ++ (port, reservation) ∷ []) }
+        ensures err { OnErr result (self.new ≡ record self.old { room = None }) }
+    {
+        self.room = None;
+        self.reserved.reserve(1)?;
+        self.quiet_until = self.quiet_until.min(reservation.expiry);
+        self.reserved.put(port, reservation);
+        Ok(())
+    }
+
+    /// Adds the entry of a new allocation. It ends the reservation of its port, and makes one of the next port if it has
+    /// a token.
+    fn allocate(&mut self, tuple: FiveTuple, entry: Entry<A>, moment: Moment)
+        requires room { IsSomeAnd self.old.room (λ r. (r.tuple ≡ tuple) × IfSome entry.entry.token (λ _. 1 ≤ r.ports)) }
+        requires absent { fin.get self.old.contents.entries tuple ≡ None }
+        requires free { PortIsFree self.old.contents entry.entry.port }
+        requires next { FitsReservation self.old.bounds self.old.contents entry.entry.port entry.entry.token }
+        ensures { self.new ≡ with_allocation moment self.old tuple entry.entry }
+    {
+        let (port, token) = (entry.port(), entry.token());
+        self.room = None;
+        self.quiet_until = self.quiet_until.min(entry.earliest());
+        self.allocations.insert(tuple, entry);
+        self.reserved.remove(port);
+        if let Some(token) = token {
+            let expiry = moment.seconds() + 30;
+            self.quiet_until = self.quiet_until.min(expiry);
+            self.reserved.put(port + 1, Reservation { token, expiry });
+        }
+    }
+
+    /// Removes the reservation of a port.
+    fn end_reservation(&mut self, reserved_port: u16)
+        ensures { self.new ≡ record self.old { contents = record self.old.contents { reserved = fin.remove self.old.contents.reserved reserved_port }; room = None } }
+    {
+        self.room = None;
+        self.reserved.remove(reserved_port);
     }
 
     /// Removes the entry of a five-tuple, and returns its port.
@@ -368,8 +491,19 @@ impl<A: Allocator + Copy> Table<A> {
                 granted,
                 tx,
             } => {
-                let entry = Entry::allocated(alloc, moment, user, port, granted, tx);
-                self.insert_entry(tuple, entry);
+                let entry = Entry::allocated(alloc, moment, user, port, granted, tx, None);
+                self.allocate(tuple, entry, moment);
+                None
+            }
+            Act::AllocEven {
+                user,
+                port,
+                granted,
+                tx,
+                token,
+            } => {
+                let entry = Entry::allocated(alloc, moment, user, port, granted, tx, Some(token));
+                self.allocate(tuple, entry, moment);
                 None
             }
             Act::Renew { granted } => {
@@ -390,8 +524,8 @@ impl<A: Allocator + Copy> Table<A> {
         }
     }
 
-    /// Removes an entry that has expired by a moment that is not before the table's, and returns its port. If no such
-    /// entry is left, drops the permissions and channels that have expired, and moves the table to the moment. Call it
+    /// Removes an entry, and if there is none a reservation, that has expired by a moment that is not before the table's,
+    /// and returns its port. If neither is left, drops the permissions and channels that have expired, and moves the table to the moment. Call it
     /// until `None`; in between the table agrees with no history, but would once it is purged.
     pub fn purge(&mut self, moment: Moment) -> Option<u16>
         requires { self.old.moment ≤ moment }
@@ -399,15 +533,34 @@ impl<A: Allocator + Copy> Table<A> {
         ensures free { IfSome result (BecomesFree self.old.contents self.new.contents) }
         ensures others { OnSome result (self.new ≡ record self.old { contents = self.new.contents; room = None }) }
         ensures rest { OnSome result (purged moment self.new.contents ≡ purged moment self.old.contents) }
-        ensures fewer { OnSome result (fin.len self.new.contents.entries + 1 ≡ fin.len self.old.contents.entries) }
+        ensures fewer { OnSome result (fin.len self.new.contents.entries + fin.len self.new.contents.reserved + 1
+            ≡ fin.len self.old.contents.entries + fin.len self.old.contents.reserved) }
         ensures all { IfNone result (self.new ≡ record self.old { moment = moment; contents = purged moment self.old.contents; room = None }) }
-        ensures kept { IfNone result ((f : FiveTuple) (e : tables.Entry) → fin.get self.old.contents.entries f ≡ Some e → moment < e.expiry) }
+        ensures kept { IfNone result (((f : FiveTuple) (e : tables.Entry) → fin.get self.old.contents.entries f ≡ Some e → moment < e.expiry)
+            × ((port : ℕ) (r : Reservation) → fin.get self.old.contents.reserved port ≡ Some r → moment < r.expiry)) }
         ensures begins { (h : History) → Agrees self.old h → AgreesOncePurged moment self.old h }
         ensures agrees { (h : History) → AgreesOncePurged moment self.old h →
             MatchOption result (Agrees self.new h) (λ _. AgreesOncePurged moment self.new h) }
     {
         match self.expired(moment) {
             Some(tuple) => Some(self.remove_entry(tuple)),
+            None => self.purge_reserved(moment),
+        }
+    }
+
+    /// The same of reservations, where no entry has expired.
+    fn purge_reserved(&mut self, moment: Moment) -> Option<u16>
+        requires { (f : FiveTuple) (e : tables.Entry) → fin.get self.old.contents.entries f ≡ Some e → moment < e.expiry }
+        ensures one { IfSome result (RemovesReservation moment self.old.contents self.new.contents) }
+        ensures others { OnSome result (self.new ≡ record self.old { contents = self.new.contents; room = None }) }
+        ensures all { IfNone result (self.new ≡ record self.old { moment = moment; contents = purged moment self.old.contents; room = None }) }
+        ensures kept { IfNone result ((port : ℕ) (r : Reservation) → fin.get self.old.contents.reserved port ≡ Some r → moment < r.expiry) }
+    {
+        match self.expired_reservation(moment) {
+            Some(port) => {
+                self.end_reservation(port);
+                Some(port)
+            }
             None => {
                 self.settle(moment);
                 None
@@ -426,16 +579,32 @@ impl<A: Allocator + Copy> Table<A> {
         self.allocations.expired(moment.seconds())
     }
 
-    /// Moves a table without expired entries to a moment.
+    /// A port whose reservation has expired by a moment.
+    fn expired_reservation(&self, moment: Moment) -> Option<u16>
+        ensures { MatchOption result ((port : ℕ) (r : Reservation) → fin.get self.now.contents.reserved port ≡ Some r → moment < r.expiry)
+            (λ port. IsSomeAnd (fin.get self.now.contents.reserved port) (λ r. r.expiry ≤ moment)) }
+    {
+        if moment.seconds() < self.quiet_until {
+            return None;
+        }
+        let ports = self.reserved.items();
+        match expired_port_of(ports, moment.seconds()) {
+            Some(i) => Some(ports[i].0),
+            None => None,
+        }
+    }
+
+    /// Moves a table without expired entries and reservations to a moment.
     fn settle(&mut self, moment: Moment)
-        requires { (f : FiveTuple) (e : tables.Entry) → fin.get self.old.contents.entries f ≡ Some e → moment < e.expiry }
+        requires reserved { (port : ℕ) (r : Reservation) → fin.get self.old.contents.reserved port ≡ Some r → moment < r.expiry }
+        requires entries { (f : FiveTuple) (e : tables.Entry) → fin.get self.old.contents.entries f ≡ Some e → moment < e.expiry }
         ensures { self.new ≡ record self.old { moment = moment; contents = purged moment self.old.contents; room = None } }
     {
         self.room = None;
         self.moment = moment;
         if self.quiet_until <= moment.seconds() {
             self.allocations.purge(moment.seconds());
-            self.quiet_until = self.allocations.quiet_until();
+            self.quiet_until = self.allocations.quiet_until().min(self.reserved.earliest());
         }
     }
 }
@@ -443,18 +612,37 @@ impl<A: Allocator + Copy> Table<A> {
 impl<A: Allocator + Copy> PortSet for Table<A> {
     ghost has = { λ t port. is_taken t.contents port };
 
-    /// Whether an entry has the port.
+    /// Whether an entry has the port, or it is reserved.
     fn has(&self, port: u16) -> bool
         ensures value { result ≡ is_taken self.now.contents port }
         ensures free { result ≡ false → PortIsFree self.now.contents port }
+        ensures unreserved { result ≡ false → IsUnreserved self.now.contents port }
     {
-        self.by_port(port).is_some()
+        self.has_port(port) || self.reserved.get(port).is_some()
     }
 
-    /// By halves over the ports that follow one another from the first on, then port by port.
+    /// By halves over the ports that follow one another from the first on, then port by port; after a reserved port again.
     fn lowest_free(&self, first: u16, last: u16, even: bool) -> Option<u16>
         ensures { IsLowestFree (first, last) (is_taken self.now.contents) even result }
     {
-        self.allocations.lowest_free(first, last, even)
+        let mut from = first;
+        loop {
+            let port = self.allocations.lowest_free(from, last, even)?;
+            if self.reserved.get(port).is_none() {
+                return Some(port);
+            }
+            if port == last {
+                return None;
+            }
+            from = port + 1;
+        }
     }
+}
+
+/// No entry has a reserved port, and reserved ports are ports, whichever history a table agrees with.
+pub fn reserved_ports_are_apart<A: Allocator + Copy>(table: &Table<A>)
+    ensures apart { ReservedApart table.now.contents }
+    ensures ports { (port : ℕ) → IsSome (fin.get table.now.contents.reserved port) → port < 2 ^ 16 }
+{
+    let _ports = table.reserved.items();
 }

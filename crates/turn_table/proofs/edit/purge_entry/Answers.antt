@@ -12,6 +12,7 @@ returns g c =
       port = e.port;
       granted = e.granted;
       tx = e.tx;
+      token = e.token;
       expiry = e.expiry;
       permissions = (c.purge.ensures ∙ still-permissions c.args.moment (map_in nat_cmp e.permissions)) j;
       channels = (c.purge-2.ensures ∙ still-channels c.args.moment (map_in nat_cmp e.channels)) j;

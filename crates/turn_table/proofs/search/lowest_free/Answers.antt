@@ -1,4 +1,4 @@
-use Rattle.std.proofs.Common.{◌≡◌, ℕ, ◌+◌, ◌-◌, ◌%◌, Bool, true, false, arith, cond, drop, take, length, sym, ap, subst, ◌∙◌, rules}
+use Rattle.std.proofs.Common.{◌≡◌, ◌+◌, ◌-◌, ◌%◌, true, false, arith, cond, drop, take, length, sym, ap, subst, ◌∙◌, rules}
 use Rattle.turn_table.proofs.FreePorts.{IsRun, begins, pass, step, gap, end, lowest_is}
 use Rattle.turn_table.proofs.search.lowest_free.Goals as goal
 use Rattle.turn_table.proofs.search.lowest_free.Goals.{then-even, else-even, then-even-2, else-even-2, then-even-3, else-even-3, then-lowest-port-2, else-lowest-port-2, else-loop-slot-test, then-loop-slot-test+then-lowest-port}

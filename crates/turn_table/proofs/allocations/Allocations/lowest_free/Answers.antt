@@ -1,7 +1,7 @@
 use Rattle.std.proofs.Common.{subst}
 use Rattle.std.specs.FinMap as fin
 use Rattle.std.specs.Ordering.{nat_cmp}
-use Rattle.turn_history.specs.Fitting.{is_taken}
+use Rattle.turn_history.specs.Fitting.{has_port}
 use Rattle.turn_ports.specs.Ports.{IsLowestFree}
 use Rattle.turn_types.specs.FiveTuple.{tuple_cmp}
 use Rattle.turn_table.specs.Indexed.{held_in}
@@ -12,7 +12,7 @@ use Rattle.turn_table.proofs.allocations.Allocations.lowest_free.Goals as goal
 
 pub returns : goal.returns
 returns g c =
-    subst (λ l. IsLowestFree (c.args.first, c.args.last) (is_taken (record { entries = entries_of l.held })) c.args.even c.lowest_free.result) c.self.view_is
+    subst (λ l. IsLowestFree (c.args.first, c.args.last) (has_port (record { entries = entries_of l.held; reserved = fin.empty })) c.args.even c.lowest_free.result) c.self.view_is
     (subst (λ taken. IsLowestFree (c.args.first, c.args.last) taken c.args.even c.lowest_free.result)
     (λ j port. taken-is (held_in c.self.inside.entries.entries) (fin.get (map_in tuple_cmp c.self.inside.order)) (fin.get (map_in nat_cmp c.self.inside.ports)) c.self.invariant.0 port j)
     c.lowest_free.ensures)

@@ -7,6 +7,7 @@ returns g c = λ j. record {
   port = c.args.port;
   granted = c.args.granted;
   tx = c.args.tx;
+  token = c.args.token;
   expiry = c.seconds.ensures.value j + c.from.ensures j;
   permissions = c.new.ensures j;
   channels = c.new-2.ensures j;

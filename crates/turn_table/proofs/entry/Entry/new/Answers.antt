@@ -7,6 +7,7 @@ returns g c = λ j. record {
   port = c.args.parts.port;
   granted = c.args.parts.granted;
   tx = c.args.parts.tx;
+  token = c.args.parts.token;
   expiry = c.args.parts.expiry;
   permissions = fin.from_sorted (c.from_sorted.ensures j);
   channels = fin.from_sorted (c.from_sorted-2.ensures j);

@@ -4,25 +4,35 @@ use Rattle.std.specs.FinMap as fin
 use Rattle.turn_history.specs.Act.{act_of}
 use Rattle.turn_history.specs.History.{Allocates, Renews, Permits, Binds}
 use Rattle.turn_history.specs.Table.{renewed, permitting, binding}
-use Rattle.turn_table.specs.Table.{with_entry}
+use Rattle.turn_table.specs.Table.{with_allocation}
 use Rattle.turn_table.proofs.Acts.{done, changed_by, agrees_after, free_end, freed_end}
 use Rattle.turn_table.proofs.table.Table.apply.Goals as goal
 
 pub returns-in-Alloc-clause-state : goal.returns-in-Alloc-clause-state
 returns-in-Alloc-clause-state g c =
-    c.insert_entry.ensures ∙ ap (with_entry c.args.self.now c.args.tuple) c.allocated-entry.ensures
-    ∙ sym (done c.args.self.now c.args.moment c.args.tuple (act_of c.args.act) (Allocates c.in-Alloc.user c.in-Alloc.port c.in-Alloc.granted c.in-Alloc.tx) (ap act_of c.in-Alloc.is) _ refl)
+    c.allocate.ensures ∙ ap (with_allocation c.args.moment c.args.self.now c.args.tuple) c.allocated-entry.ensures
+    ∙ sym (done c.args.self.now c.args.moment c.args.tuple (act_of c.args.act) (Allocates c.in-Alloc.user c.in-Alloc.port c.in-Alloc.granted c.in-Alloc.tx None) (ap act_of c.in-Alloc.is) _ _ refl refl)
 
 pub returns-in-Alloc-clause-agrees : goal.returns-in-Alloc-clause-agrees
 returns-in-Alloc-clause-agrees g c = agrees_after c.args.self.now _ c.args.moment c.args.tuple (act_of c.args.act) c.requires.purged (returns-in-Alloc-clause-state g c)
+
+-- ---- An AllocEven
+
+pub returns-in-AllocEven-clause-state : goal.returns-in-AllocEven-clause-state
+returns-in-AllocEven-clause-state g c =
+    c.allocate-in-AllocEven.ensures ∙ ap (with_allocation c.args.moment c.args.self.now c.args.tuple) c.allocated-entry-in-AllocEven.ensures
+    ∙ sym (done c.args.self.now c.args.moment c.args.tuple (act_of c.args.act) (Allocates c.in-AllocEven.user c.in-AllocEven.port c.in-AllocEven.granted c.in-AllocEven.tx (Some c.in-AllocEven.token)) (ap act_of c.in-AllocEven.is) _ _ refl refl)
+
+pub returns-in-AllocEven-clause-agrees : goal.returns-in-AllocEven-clause-agrees
+returns-in-AllocEven-clause-agrees g c = agrees_after c.args.self.now _ c.args.moment c.args.tuple (act_of c.args.act) c.requires.purged (returns-in-AllocEven-clause-state g c)
 
 -- ---- A Renew
 
 pub returns-then-granted-eq0-clause-state : goal.returns-then-granted-eq0-clause-state
 returns-then-granted-eq0-clause-state g c =
     c.remove_entry.ensures.state
-    ∙ sym (done c.args.self.now c.args.moment c.args.tuple (act_of c.args.act) (Renews c.in-Renew.granted) (ap act_of c.in-Renew.is) None
-    (ap (λ b. cond b None (option_map (renewed (c.args.moment + c.in-Renew.granted)) (fin.get c.args.self.now.contents.entries c.args.tuple))) (eq-eqb c.in-Renew.granted 0 c.if-granted-eq0.true)))
+    ∙ sym (done c.args.self.now c.args.moment c.args.tuple (act_of c.args.act) (Renews c.in-Renew.granted) (ap act_of c.in-Renew.is) None c.args.self.now.contents.reserved
+    (ap (λ b. cond b None (option_map (renewed (c.args.moment + c.in-Renew.granted)) (fin.get c.args.self.now.contents.entries c.args.tuple))) (eq-eqb c.in-Renew.granted 0 c.if-granted-eq0.true)) refl)
 
 pub returns-then-granted-eq0-clause-freed : goal.returns-then-granted-eq0-clause-freed
 returns-then-granted-eq0-clause-freed g c =
@@ -40,7 +50,7 @@ returns-else-granted-eq0-clause-state g c =
     changed_by c.args.self.now c.renew.new.self c.args.moment c.args.tuple (act_of c.args.act) (Renews c.in-Renew.granted) (ap act_of c.in-Renew.is)
     (renewed (c.seconds.result + c.from.result))
     (λ v. ap (λ b. cond b None (Some (renewed (c.args.moment + c.in-Renew.granted) v))) (ne_eqb c.in-Renew.granted 0 c.if-granted-eq0.false) ∙ ap (λ x. Some (renewed x v)) (sym expiry))
-    c.renew.ensures
+    refl c.renew.ensures
 
 pub returns-else-granted-eq0-clause-agrees : goal.returns-else-granted-eq0-clause-agrees
 returns-else-granted-eq0-clause-agrees g c = agrees_after c.args.self.now _ c.args.moment c.args.tuple (act_of c.args.act) c.requires.purged (returns-else-granted-eq0-clause-state g c)
@@ -52,7 +62,7 @@ returns-in-Permit-clause-state g c =
     changed_by c.args.self.now c.permit.new.self c.args.moment c.args.tuple (act_of c.args.act) (Permits c.in-Permit.addresses) (ap act_of c.in-Permit.is)
     (permitting (c.seconds-in-Permit.result + 300) c.as_slice.result.now)
     (λ v. ap (λ as'. Some (permitting (c.args.moment + 300) as' v)) (sym c.as_slice.ensures) ∙ ap (λ t. Some (permitting (t + 300) c.as_slice.result.now v)) (sym c.seconds-in-Permit.ensures.value))
-    c.permit.ensures
+    refl c.permit.ensures
 
 pub returns-in-Permit-clause-agrees : goal.returns-in-Permit-clause-agrees
 returns-in-Permit-clause-agrees g c = agrees_after c.args.self.now _ c.args.moment c.args.tuple (act_of c.args.act) c.requires.purged (returns-in-Permit-clause-state g c)
@@ -62,7 +72,7 @@ returns-in-Permit-clause-agrees g c = agrees_after c.args.self.now _ c.args.mome
 pub returns-in-Bind-clause-state : goal.returns-in-Bind-clause-state
 returns-in-Bind-clause-state g c =
     changed_by c.args.self.now c.bind.new.self c.args.moment c.args.tuple (act_of c.args.act) (Binds c.in-Bind.number c.in-Bind.peer) (ap act_of c.in-Bind.is)
-    (binding c.args.moment c.in-Bind.number c.in-Bind.peer) (λ v. refl) c.bind.ensures
+    (binding c.args.moment c.in-Bind.number c.in-Bind.peer) (λ v. refl) refl c.bind.ensures
 
 pub returns-in-Bind-clause-agrees : goal.returns-in-Bind-clause-agrees
 returns-in-Bind-clause-agrees g c = agrees_after c.args.self.now _ c.args.moment c.args.tuple (act_of c.args.act) c.requires.purged (returns-in-Bind-clause-state g c)

@@ -1,13 +1,17 @@
-use Rattle.std.proofs.Common.{ap, ◌∙◌}
+use Rattle.std.proofs.Common.{inl, inr, ◌≡◌, ℕ, ap, sym, ◌∙◌, Option, Some, None}
+use Rattle.std.specs.Prelude.{IfNone, IfSome, MatchOption, OnSome}
 use Rattle.turn_history.proofs.Steps.{table-later}
-use Rattle.turn_history.specs.Table.{purged}
+use Rattle.turn_history.specs.History.{History}
+use Rattle.turn_history.specs.Table.{purged, table}
+use Rattle.turn_table.specs.State.{State}
+use Rattle.turn_table.specs.Table.{Agrees, AgreesOncePurged, RemovesReservation}
 use Rattle.turn_table.proofs.Purging.{fewer_of, free_of, removes, rest_of}
 use Rattle.turn_table.proofs.table.Table.purge.Goals as goal
 
 -- ---- An entry that has expired
 
 pub returns-in-Some-clause-one : goal.returns-in-Some-clause-one
-returns-in-Some-clause-one g c = removes c.args.moment c.args.self.now c.remove_entry.new.self c.in-Some.tuple c.remove_entry.result c.in-Some.ensures c.remove_entry.ensures.port c.remove_entry.ensures.state
+returns-in-Some-clause-one g c = inl (removes c.args.moment c.args.self.now c.remove_entry.new.self c.in-Some.tuple c.remove_entry.result c.in-Some.ensures c.remove_entry.ensures.port c.remove_entry.ensures.state)
 
 pub returns-in-Some-clause-free : goal.returns-in-Some-clause-free
 returns-in-Some-clause-free g c = free_of _ _ _ _ (returns-in-Some-clause-one g c)
@@ -24,7 +28,37 @@ returns-in-Some-clause-begins g c h same = ap (purged c.args.moment) same ∙ ta
 pub returns-in-Some-clause-agrees : goal.returns-in-Some-clause-agrees
 returns-in-Some-clause-agrees g c h same = returns-in-Some-clause-rest g c ∙ same
 
--- ---- None has expired
+-- ---- No entry has expired
+
+-- what holds of a result holds of it as another fact
+some_as : {X : Type 0} {P Q : X → Type 0} (o : Option X) → ((x : X) → P x → Q x) → IfSome o P → IfSome o Q
+some_as None to some = tt
+some_as (Some x) to some = to x some
+
+on_some : {X : Type 0} {P : X → Type 0} {Q : Type 0} (o : Option X) → ((x : X) → P x → Q) → IfSome o P → OnSome o Q
+on_some None to some = tt
+on_some (Some x) to some = to x some
+
+pub returns-in-None-clause-one : goal.returns-in-None-clause-one
+returns-in-None-clause-one g c = some_as c.purge_reserved.result (λ port r. inr r) c.purge_reserved.ensures.one
+
+pub returns-in-None-clause-free : goal.returns-in-None-clause-free
+returns-in-None-clause-free g c = some_as c.purge_reserved.result (λ port r. free_of _ _ _ port (inr r)) c.purge_reserved.ensures.one
+
+pub returns-in-None-clause-rest : goal.returns-in-None-clause-rest
+returns-in-None-clause-rest g c = on_some c.purge_reserved.result (λ port r. rest_of _ _ _ port (inr r)) c.purge_reserved.ensures.one
+
+pub returns-in-None-clause-fewer : goal.returns-in-None-clause-fewer
+returns-in-None-clause-fewer g c = on_some c.purge_reserved.result (λ port r. fewer_of _ _ _ port (inr r)) c.purge_reserved.ensures.one
 
 pub returns-in-None-clause-begins : goal.returns-in-None-clause-begins
 returns-in-None-clause-begins g c h same = ap (purged c.args.moment) same ∙ table-later h c.args.self.now.moment c.args.moment c.requires
+
+agrees_by : (o : Option ℕ) (t : ℕ) (old new : State) (h : History) → IfSome o (RemovesReservation t old.contents new.contents)
+    → IfNone o (new ≡ record old { moment = t; contents = purged t old.contents; room = None }) → AgreesOncePurged t old h → MatchOption o (Agrees new h) (λ _. AgreesOncePurged t new h)
+agrees_by None t old new h one all same = ap (λ s. s.contents) all ∙ same ∙ ap (λ s. table h s.moment) (sym all)
+agrees_by (Some port) t old new h one all same = rest_of t old.contents new.contents port (inr one) ∙ same
+
+pub returns-in-None-clause-agrees : goal.returns-in-None-clause-agrees
+returns-in-None-clause-agrees g c h same =
+    agrees_by c.purge_reserved.result c.args.moment c.args.self.now c.purge_reserved.new.self h c.purge_reserved.ensures.one c.purge_reserved.ensures.all same

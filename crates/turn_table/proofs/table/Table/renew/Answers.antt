@@ -1,6 +1,9 @@
-use Rattle.std.proofs.Common.{ap, option_map}
+use Rattle.std.proofs.Common.{refl, ap, option_map}
 use Rattle.turn_history.specs.Table.{renewed}
+use Rattle.std.specs.Ordering.{nat_cmp}
+use Rattle.turn_table.specs.Kept.{map_in}
 use Rattle.turn_table.specs.Order.{room_of}
+use Rattle.turn_table.proofs.Apart.{apart_changes, reserved_earlier}
 use Rattle.turn_table.proofs.Quiet.{min_below}
 use Rattle.turn_table.proofs.Ready.{quiet_changes, quiet_renewed}
 use Rattle.turn_table.proofs.States.{changed-is, no_room, there_of}
@@ -12,7 +15,9 @@ invariant_of-self g c =
     record {
       quiet = quiet_changes c.min-self-inside.result c.self.inside.quiet_until c.self.inside.allocations.held c.renew.new.self.held c.args.tuple (renewed c.args.expiry) least.0
           (λ e. quiet_renewed c.min-self-inside.result c.self.inside.quiet_until c.args.expiry e least.0 least.1) c.self.invariant.quiet c.renew.ensures;
-      spare = no_room c.renew.new.self;
+      reserved_quiet = reserved_earlier c.min-self-inside.result c.self.inside.quiet_until (map_in nat_cmp c.self.inside.reserved) least.0 c.self.invariant.reserved_quiet;
+      spare = no_room c.renew.new.self c.self.inside.reserved.1;
+      apart = apart_changes c.self.inside.allocations.held (map_in nat_cmp c.self.inside.reserved) c.self.invariant.apart c.renew.new.self.held c.args.tuple (renewed c.args.expiry) (λ e. refl) c.renew.ensures;
     }
 
 pub returns : goal.returns
