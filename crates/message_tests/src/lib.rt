@@ -10,4 +10,6 @@ mod mac;
 #[cfg(test)]
 mod ports;
 #[cfg(test)]
+mod requests;
+#[cfg(test)]
 mod types;

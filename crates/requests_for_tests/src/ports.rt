@@ -117,9 +117,13 @@ impl Ports {
 }
 
 impl RelayAddressGenerator for Ports {
+    ghost use Rattle.std.specs.Prelude.{⊤};
+
     ghost range = { λ p. p.range };
 
     ghost failures = { λ p. p.failures };
+
+    ghost holds = { λ _ _. ⊤ };
 
     fn range(&self) -> (u16, u16) {
         self.range.range()
@@ -134,6 +138,21 @@ impl RelayAddressGenerator for Ports {
         if let Some(port) = port {
             self.picked.add(port);
             self.held.set(port, true);
+        }
+        Ok(port)
+    }
+
+    fn pick_pair<S: PortSet>(&mut self, taken: &S) -> Result<Option<u16>, AllocError> {
+        if self.fails {
+            self.failures = self.failures.wrapping_add(1);
+            return Ok(None);
+        }
+        let port = self.range.pick_pair(taken)?;
+        if let Some(port) = port {
+            self.picked.add(port);
+            self.held.set(port, true);
+            self.picked.add(port + 1);
+            self.held.set(port + 1, true);
         }
         Ok(port)
     }

@@ -84,6 +84,13 @@ pub fn hmac_sha256(key: &[u8], text: &[u8]) -> [u8; 32]
     hmac_of::<Sha256, 32>(key, &[text])
 }
 
+/// The same of a text that comes in pieces.
+pub fn hmac_sha256_of(key: &[u8], pieces: &[&[u8]]) -> [u8; 32]
+    ensures { result ≡ hmac sha256 key.now (concat (map (λ piece. piece.now) pieces.now)) }
+{
+    hmac_of::<Sha256, 32>(key, pieces)
+}
+
 /// The long-term key of a user: MD5 of the name, the realm and the password, with colons between
 /// (RFC 8489, section 9.2.2).
 pub fn generate_auth_key(user: &[u8], realm: &[u8], password: &[u8]) -> [u8; 16]

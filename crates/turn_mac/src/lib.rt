@@ -11,7 +11,7 @@ mod laws;
 
 pub use crc::crc32;
 pub use fingerprint::{has_fingerprint, has_wrong_fingerprint};
-pub use hmac::{generate_auth_key, hmac_sha1, hmac_sha256};
+pub use hmac::{generate_auth_key, hmac_sha1, hmac_sha256, hmac_sha256_of};
 pub use integrity::{
     append_fingerprint, append_fingerprint_fitting, append_integrity, append_integrity_fitting,
     digests_agree, fingerprint_holds, integrity_holds,

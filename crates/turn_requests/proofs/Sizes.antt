@@ -4,7 +4,7 @@ use Rattle.std.specs.Prelude.{fold}
 use Rattle.std.proofs.lemmas.List.Sums.{sum_by_push, fold-append, fold_more}
 use Rattle.turn_codec.specs.Grammar.{Content, body_size, size_of, with_attribute}
 use Rattle.turn_requests.specs.declared.request.Attribute.{Attribute}
-use Rattle.turn_requests.specs.declared.request.Attribute.TheVariants.{Lifetime, Peer, Channel, Transport, NoTransport, EvenPort, DontFragment}
+use Rattle.turn_requests.specs.declared.request.Attribute.TheVariants.{Lifetime, Peer, Channel, Transport, NoTransport, EvenPort, DontFragment, ReservationToken}
 use Rattle.turn_requests.specs.Sending.{with_one}
 
 pub more : (m : Content) (kind : ℕ) (value : List ℕ) → body_size m ≤ body_size (with_attribute m kind value)
@@ -18,6 +18,7 @@ one_more m (Transport protocol) = more m _ _
 one_more m NoTransport = omega arith
 one_more m (EvenPort reserves) = more m _ _
 one_more m DontFragment = more m _ _
+one_more m (ReservationToken token) = more m _ _
 
 pub all_more : (attributes : List Attribute) (m : Content) → body_size m ≤ body_size (fold with_one m attributes)
 all_more [] m = omega arith

@@ -1,4 +1,4 @@
--- What the messages of a server say (RFC 8489, section 14.8; RFC 8656, sections 18.2 to 18.5).
+-- What the messages of a server say (RFC 8489, section 14.8; RFC 8656, sections 18.2 to 18.5 and 18.10).
 use Rattle.std.specs.Prelude.{ℕ, ◌≡◌, ◌≢◌, ◌==◌, ◌+◌, ◌*◌, nat_le, if◌then◌else◌, Option, Some, None, option_map, option_and_then, List, length, slice_index}
 use Rattle.std.specs.Int.{w32, from_be_bytes}
 use Rattle.turn_types.specs.declared.address.Addr.{Addr}
@@ -6,8 +6,9 @@ use Rattle.turn_types.specs.declared.address.Addr.TheVariants.{V4, V6}
 use Rattle.turn_types.specs.declared.address.Endpoint.{Endpoint}
 use Rattle.turn_types.specs.declared.address.PeerAddress.{PeerAddress}
 use Rattle.turn_types.specs.declared.message.Class.TheVariants as classes
+use Rattle.turn_types.specs.declared.message.Token.{Token}
 use Rattle.turn_codec.specs.Address.{address_of}
-use Rattle.turn_codec.specs.AttributeTypes.{error_code, lifetime, payload, xor_peer_address, xor_relayed_address}
+use Rattle.turn_codec.specs.AttributeTypes.{error_code, lifetime, payload, reservation_token, xor_peer_address, xor_relayed_address}
 use Rattle.turn_codec.specs.Grammar.{Content, value_of}
 use Rattle.turn_requests.specs.declared.received.Received.{Received}
 use Rattle.turn_requests.specs.declared.received.Received.TheVariants.{Allocated, Refreshed, Success, Error, Data}
@@ -32,6 +33,14 @@ seconds_of (Some value) = if length value == 4 then Some (from_be_bytes w32 valu
 unfoldable pub lifetime_in : Content → Option ℕ
 lifetime_in m = seconds_of (value_of lifetime m.attributes)
 
+abbrev pub token_of : Option (List ℕ) → Option Token
+token_of None = None
+token_of (Some value) = if length value == 8 then Some (record { 0 = value }) else None
+
+-- the token in RESERVATION-TOKEN, eight bytes
+unfoldable pub token_in : Content → Option Token
+token_in m = token_of (value_of reservation_token m.attributes)
+
 abbrev pub code_of : Option (List ℕ) → Option ℕ
 code_of None = None
 code_of (Some value) = if nat_le 4 (length value) then Some (slice_index value 2 * 100 + slice_index value 3) else None
@@ -42,8 +51,9 @@ code_in m = code_of (value_of error_code m.attributes)
 
 -- what a message says, by its class and its method
 abbrev pub Says : Content → Received → Type 0
-Says m (Allocated port life) = (m.class ≡ classes.Success) × (m.method ≡ 0x003)
+Says m (Allocated port life token) = (m.class ≡ classes.Success) × (m.method ≡ 0x003)
     × (option_map (λ e. e.port) (address_in xor_relayed_address m) ≡ Some port) × (lifetime_in m ≡ Some life)
+    × (token ≡ token_in m)
 Says m (Refreshed life) = (m.class ≡ classes.Success) × (m.method ≡ 0x004) × (lifetime_in m ≡ Some life)
 Says m Success = (m.class ≡ classes.Success) × (m.method ≢ 0x003) × (m.method ≢ 0x004)
 Says m (Error code) = (m.class ≡ classes.Error) × (code_in m ≡ Some code)

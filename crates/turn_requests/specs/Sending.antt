@@ -9,7 +9,7 @@ use Rattle.turn_codec.specs.AttributeTypes as types
 use Rattle.turn_codec.specs.Grammar.{Content, canonical, with_attribute}
 use Rattle.turn_mac.specs.Integrity.{integrity_of}
 use Rattle.turn_requests.specs.declared.request.Attribute.{Attribute}
-use Rattle.turn_requests.specs.declared.request.Attribute.TheVariants.{Lifetime, Peer, Channel, Transport, NoTransport, EvenPort, DontFragment}
+use Rattle.turn_requests.specs.declared.request.Attribute.TheVariants.{Lifetime, Peer, Channel, Transport, NoTransport, EvenPort, DontFragment, ReservationToken}
 use Rattle.turn_requests.specs.declared.request.Request.{Request}
 
 -- a message with an attribute more (RFC 8656, section 18)
@@ -21,6 +21,7 @@ with_one m (Transport protocol) = with_attribute m types.requested_transport (pr
 with_one m NoTransport = m
 with_one m (EvenPort reserves) = with_attribute m types.even_port ((if reserves then 0x80 else 0) ∷ [])
 with_one m DontFragment = with_attribute m 0x001A []
+with_one m (ReservationToken token) = with_attribute m types.reservation_token token.0
 
 -- an attribute says what the transport is
 abbrev pub is_transport : Attribute → Bool
@@ -31,6 +32,7 @@ is_transport (Transport protocol) = true
 is_transport NoTransport = true
 is_transport (EvenPort reserves) = false
 is_transport DontFragment = false
+is_transport (ReservationToken token) = false
 
 abbrev pub begun : Request → Content
 begun r = record { class = classes.Request; method = r.method; tx = r.tx.0; attributes = [] }

@@ -1,18 +1,25 @@
 //! What the messages of a server say to a client.
 
 ghost use Rattle.std.specs.Prelude.{◌≡◌, IfSome, IfNone, option_map};
-ghost use Rattle.turn_requests.specs.Received.{Says, address_in, code_in, lifetime_in};
+ghost use Rattle.turn_requests.specs.Received.{Says, address_in, code_in, lifetime_in, token_in};
 ghost use Rattle.turn_requests.specs.declared.received.Received.{Received};
 ghost use Rattle.turn_types.specs.declared.message.Class.TheVariants as classes;
 
 use turn_codec::{AttributeType, Message, read_xor_address};
-use turn_types::{Addr, Class, Endpoint, Method};
+use turn_types::{Addr, Class, Endpoint, Method, Token};
 
 /// What a message to a client says.
 #[derive(Clone, Copy, Debug)]
 pub enum Received<'a> {
-    /// An Allocate success: the relayed port, and the lifetime in seconds.
-    Allocated(u16, u32),
+    /// An Allocate success.
+    Allocated {
+        /// The relayed port.
+        port: u16,
+        /// In seconds.
+        lifetime: u32,
+        /// What the next higher port is reserved with, if it is.
+        token: Option<Token>,
+    },
     /// A Refresh success: the lifetime in seconds.
     Refreshed(u32),
     /// A success of another method.
@@ -49,6 +56,18 @@ fn lifetime(message: &Message<'_>) -> Option<u32>
     }
 }
 
+/// The token of RESERVATION-TOKEN, if it has eight bytes.
+#[tactic(auto, unfolding(crate::specs::Received::token_in))]
+fn token(message: &Message<'_>) -> Option<Token>
+    ensures { result ≡ token_in message.now.content }
+{
+    let token = message.find(AttributeType::RESERVATION_TOKEN)?;
+    match token.try_into() {
+        Ok(token) => Some(Token(token)),
+        Err(_) => None,
+    }
+}
+
 /// The code of ERROR-CODE.
 #[tactic(auto, unfolding(crate::specs::Received::code_in))]
 fn code(message: &Message<'_>) -> Option<u16>
@@ -68,7 +87,11 @@ fn success<'a>(message: &Message<'a>) -> Option<Received<'a>>
     let method = message.method();
     if method == Method::ALLOCATE {
         let relayed = address(message, AttributeType::XOR_RELAYED_ADDRESS)?;
-        return Some(Received::Allocated(relayed.port, lifetime(message)?));
+        return Some(Received::Allocated {
+            port: relayed.port,
+            lifetime: lifetime(message)?,
+            token: token(message),
+        });
     }
     if method == Method::REFRESH {
         return Some(Received::Refreshed(lifetime(message)?));

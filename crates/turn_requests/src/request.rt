@@ -11,7 +11,7 @@ ghost use Rattle.turn_requests.specs.Sending.{identified, is_transport, named, s
 use std::alloc::{AllocError, Allocator, Global};
 use turn_codec::{AttributeType, Builder, ChannelData, PushError, xor_address};
 use turn_mac::append_integrity;
-use turn_types::{Class, Endpoint, Method, TxId};
+use turn_types::{Class, Endpoint, Method, Token, TxId};
 
 /// The protocol number of UDP, the only transport between a server and peers (RFC 8656, section 14.7).
 const UDP: u8 = 17;
@@ -36,6 +36,8 @@ pub enum Attribute {
     EvenPort { reserves: bool },
     /// DONT-FRAGMENT.
     DontFragment,
+    /// RESERVATION-TOKEN.
+    ReservationToken(Token),
 }
 
 /// A request and who sends it.
@@ -97,6 +99,9 @@ impl<A: Allocator + Copy> Unsigned<A> {
                 self.push(AttributeType::EVEN_PORT, &[value])
             }
             Attribute::DontFragment => self.push(AttributeType::new(DONT_FRAGMENT), &[]),
+            Attribute::ReservationToken(token) => {
+                self.push(AttributeType::RESERVATION_TOKEN, &token.0)
+            }
         }
     }
 

@@ -1,5 +1,5 @@
 -- The acts that are decided are in range.
-use Rattle.std.proofs.Common.{◌≡◌, ◌⊎◌, inl, inr, ℕ, ◌^◌, ◌≤◌, ◌<◌, Bool, true, false, not, ◌||◌, ◌&&◌, is_some, is_none, arith, List, [], ◌∷◌, ◌++◌, length, length-take, length-drop, take, drop, get_or, refl, sym, subst, Option, Some, None}
+use Rattle.std.proofs.Common.{◌≡◌, ◌⊎◌, inl, inr, ℕ, ◌+◌, ◌^◌, ◌≤◌, ◌<◌, Bool, true, false, not, ◌||◌, ◌&&◌, is_some, is_none, arith, List, [], ◌∷◌, ◌++◌, length, length-take, length-drop, take, drop, get_or, refl, sym, subst, Option, Some, None}
 use Rattle.std.specs.Prelude.{◌==◌, if◌then◌else◌, filter, map, nat_eq, nat_lt, slice_index, All, IfSome, bit_xor}
 use Rattle.std.specs.Int.{w16, w32, w128, from_be_bytes, to_be_bytes}
 use Rattle.std.specs.List.{IsDistinct, flat_map, list_any}
@@ -14,7 +14,8 @@ use Rattle.turn_types.specs.declared.address.Addr.TheVariants.{V4, V6}
 use Rattle.turn_types.specs.declared.address.Endpoint.{Endpoint}
 use Rattle.turn_types.specs.declared.address.FiveTuple.{FiveTuple}
 use Rattle.turn_types.specs.declared.address.PeerAddress.{PeerAddress}
-use Rattle.turn_history.specs.Fitting.{IsActInRange, IsLifetime}
+use Rattle.turn_types.specs.declared.message.Token.{Token}
+use Rattle.turn_history.specs.Fitting.{IsActInRange, IsLifetime, IsTokenAfter}
 use Rattle.turn_history.specs.History.{Permits}
 use Rattle.turn_history.specs.Table.{Contents}
 use Rattle.std.proofs.lemmas.Bool.{and_parts}
@@ -25,18 +26,22 @@ use Rattle.turn_codec.specs.Seen.{is_seen, seen, seen_value, values_of}
 use Rattle.turn_cred.specs.Credential.{Verdict}
 use Rattle.turn_rules.specs.declared.outcome.Outcome.{Outcome}
 use Rattle.turn_rules.specs.declared.outcome.Outcome.TheVariants.{Drop, Refuse, RefuseUnknown, Challenge, MappedAddress, RepeatedAllocate, Allocate, Renew, Permit, Bind}
-use Rattle.turn_rules.specs.Answer.{decision, outcome_of, user_of}
+use Rattle.turn_rules.specs.Allocate.{asks_for_next_port, needed_for, token_of}
+use Rattle.turn_rules.specs.Answer.{decision, outcome_of, port_needed, user_of}
 use Rattle.turn_rules.specs.Channel.{named_peer}
 use Rattle.turn_rules.specs.Distinct.{each_once}
 use Rattle.turn_rules.specs.Fields.{granted, lifetime_of}
-use Rattle.turn_rules.specs.Laws.{IsMadeOfBytes, NamesInRange}
+use Rattle.turn_rules.specs.Laws.{AreReservedPorts, IsMadeOfBytes, IsPicked, NamesInRange}
 use Rattle.turn_rules.specs.Outcome.{act_by}
 use Rattle.turn_rules.specs.Peers.{ipv4_in, ipv4_of, is_ipv6, named_in, named_peers}
 use Rattle.turn_rules.specs.Permission.{named_addresses}
 use Rattle.turn_rules.specs.Refresh.{renewed_for}
+use Rattle.turn_rules.specs.Token.{token_for}
 use Rattle.turn_rules.proofs.Acts.{quiet_fits}
 use Rattle.turn_rules.proofs.EachOnce.{many, once_distinct}
-use Rattle.turn_rules.proofs.Reached.{Known, Reached, known}
+use Rattle.turn_rules.proofs.Chosen.{needed_is, next_free, port_is_port}
+use Rattle.turn_rules.proofs.Reached.{IsNew, Known, Reached, known}
+use Rattle.turn_rules.proofs.Tokens.{token_is_of}
 
 -- ---- Lifetimes
 
@@ -239,17 +244,32 @@ module _ (s : Config) (c : Contents) (f : FiveTuple) (m : Content) (bytes : IsMa
   unfolding named_addresses seen_value
   some_named present well_formed of_ipv4 = once_some (flat_map ipv4_in (named_peers m)) (some_ipv4 m.tx (seen m) present well_formed of_ipv4)
 
-  module _ (port : Option ℕ) (below : IfSome port (λ p. p < 2 ^ 16)) (user : List ℕ) (name : (1 ≤ length user) × (length user ≤ s.limits.name_bytes) × All (λ x. x < 256) user) where
-    reached_in_range : (o : Outcome) → Reached s c f m port o → IfSome (act_by user m o) (IsActInRange s.limits)
+  module _ (pairs : Bool) (t : ℕ) (port : Option ℕ) (user : List ℕ) (ports : AreReservedPorts c)
+      (picked : (p seconds : ℕ) (token : Option Token) → IsNew pairs s c f t user m port p seconds token → IsPicked c (needed_for c m) port)
+      (name : (1 ≤ length user) × (length user ≤ s.limits.name_bytes) × All (λ x. x < 256) user) where
+    token_in_range : (p seconds : ℕ) (token : Option Token) → IsNew pairs s c f t user m port p seconds token → IfSome token (IsTokenAfter p)
+    unfolding token_of
+    token_in_range p seconds token is = subst (λ o. IfSome o (IsTokenAfter p)) (sym is.token_is) (by_asks (asks_for_next_port m) refl)
+      where
+        by_asks : (b : Bool) → asks_for_next_port m ≡ b → IfSome (if b then Some (token_for s.secret t f m.tx (p + 1)) else None) (IsTokenAfter p)
+        by_asks true asks = let next = next_free is (picked p seconds token is) asks in (next.even, token_is_of s.secret t f m.tx (p + 1) next.is_port)
+        by_asks false asks = tt
+
+    reached_in_range : (o : Outcome) → Reached pairs s c f t user m port o → IfSome (act_by user m o) (IsActInRange s.limits)
     unfolding named_addresses
     reached_in_range Drop is = tt
     reached_in_range (Refuse code) is = tt
     reached_in_range RefuseUnknown is = tt
     reached_in_range (Challenge code) is = tt
     reached_in_range MappedAddress is = tt
-    reached_in_range (RepeatedAllocate p seconds) is = tt
-    reached_in_range (Allocate p seconds) is =
-        (name, subst (λ o. IfSome o (λ p. p < 2 ^ 16)) is.port_is below, subst IsLifetime (sym is.granted_is) (lifetime (lifetime_of m)), (bytes.tx_size, bytes.tx))
+    reached_in_range (RepeatedAllocate p seconds token) is = tt
+    reached_in_range (Allocate p seconds token) is = (
+      name,
+      port_is_port is (picked p seconds token is) ports,
+      subst IsLifetime (sym is.granted_is) (lifetime (lifetime_of m)),
+      (bytes.tx_size, bytes.tx),
+      token_in_range p seconds token is,
+    )
     reached_in_range (Renew seconds) is = subst (λ n. (n ≡ 0) ⊎ IsLifetime n) (sym is.granted_is) (renewed (lifetime_of m))
     reached_in_range (Permit addresses) is = subst (λ xs. IsActInRange s.limits (Permits xs)) (sym is.named) ((some_named is.present is.well_formed is.of_ipv4, few, named_addresses_in_range), distinct)
       where
@@ -260,13 +280,14 @@ module _ (s : Config) (c : Contents) (f : FiveTuple) (m : Content) (bytes : IsMa
         few = omega (arith, many (named_addresses m) is.entry.permissions distinct, is.within)
     reached_in_range (Bind n p) is = (is.number, peer_in_range p is.peer)
 
-pub decided_in_range : (s : Config) (c : Contents) (f : FiveTuple) (t : ℕ) (d : Datagram) (v : Option Verdict) (port : Option ℕ) → IsMadeOfBytes d.content → IfSome port (λ p. p < 2 ^ 16) → NamesInRange s.limits v
-    → IfSome (decision s c f t d v port).act (IsActInRange s.limits)
+pub decided_in_range : (pairs : Bool) (s : Config) (c : Contents) (f : FiveTuple) (t : ℕ) (d : Datagram) (v : Option Verdict) (port : Option ℕ) → IsMadeOfBytes d.content → AreReservedPorts c
+    → IsPicked c (port_needed pairs s c f d v) port → NamesInRange s.limits v → IfSome (decision pairs s c f t d v port).act (IsActInRange s.limits)
 unfolding decision
-decided_in_range s c f t d v port bytes below names = by_known (outcome_of s c f d v port) (known s c f d port v)
+decided_in_range pairs s c f t d v port bytes ports picked names = by_known (outcome_of pairs s c f t d v port) (known pairs s c f t d port v)
   where
-    by_known : (o : Outcome) → Known s c f d v port o → IfSome (act_by (user_of v) d.content o) (IsActInRange s.limits)
+    by_known : (o : Outcome) → Known pairs s c f t d v port o → IfSome (act_by (user_of v) d.content o) (IsActInRange s.limits)
     by_known o (inl quiet) = quiet_fits (IsActInRange s.limits) (user_of v) d.content o quiet
     by_known o (inr of_user) =
         subst (λ w. IfSome (act_by (user_of w) d.content o) (IsActInRange s.limits)) (sym of_user.verdict)
-        (reached_in_range s c f d.content bytes port below of_user.user (names of_user.user of_user.key of_user.verdict) o of_user.reached)
+        (reached_in_range s c f d.content bytes pairs t port of_user.user ports (λ p seconds token is. subst (λ n. IsPicked c n port) (needed_is of_user is) picked)
+        (names of_user.user of_user.key of_user.verdict) o of_user.reached)

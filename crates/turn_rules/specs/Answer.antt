@@ -7,22 +7,20 @@ use Rattle.turn_types.specs.declared.error.ErrorCode.TheVariants.{BadRequest, Un
 use Rattle.turn_types.specs.declared.message.Class.{Class}
 use Rattle.turn_types.specs.declared.message.Class.TheVariants.{Request, Indication, Success, Error}
 use Rattle.turn_types.specs.Config.{Config}
-use Rattle.turn_history.specs.Fitting.{is_taken}
 use Rattle.turn_history.specs.History.{PlainAct, History}
 use Rattle.turn_types.specs.Methods.{binding, allocate, refresh, create_permission, channel_bind}
 use Rattle.turn_types.specs.Rows.{first_row}
 use Rattle.turn_history.specs.Table.{Contents, table}
-use Rattle.turn_codec.specs.AttributeTypes.{even_port}
 use Rattle.turn_codec.specs.Grammar.{Content, Datagram, canonical}
-use Rattle.turn_codec.specs.Seen.{is_seen}
 use Rattle.turn_mac.specs.Fingerprint.{has_wrong_fingerprint}
 use Rattle.turn_cred.specs.Credential.{Keys, Verdict, policy_of, verdict}
 use Rattle.turn_cred.specs.Credential.Verdict.{Challenge401, Bad400, Stale438, Passed}
-use Rattle.turn_ports.specs.Ports.{MayPick}
+use Rattle.turn_rules.specs.declared.need.Need.{Need}
 use Rattle.turn_rules.specs.declared.outcome.Outcome.{Outcome}
 use Rattle.turn_rules.specs.declared.outcome.Outcome.TheVariants.{Drop, Refuse, Challenge}
-use Rattle.turn_rules.specs.Allocate.{allocate_outcome, before_port}
+use Rattle.turn_rules.specs.Allocate.{allocate_outcome, before_port, needed_for}
 use Rattle.turn_rules.specs.Binding.{binding_outcome}
+use Rattle.turn_rules.specs.Need.{MayHavePicked}
 use Rattle.turn_rules.specs.Outcome.{act_by, response_of}
 use Rattle.turn_rules.specs.Owner.{owner_outcome}
 
@@ -47,24 +45,24 @@ abbrev pub is_allocate : Datagram → Bool
 is_allocate d = is_request d.content.class && (d.content.method == allocate)
 
 -- a request whose credentials hold: an Allocate by all of the table, the others by the five-tuple's entry
-abbrev pub passed_outcome : Config → Contents → FiveTuple → List ℕ → Content → Option ℕ → Outcome
-passed_outcome s c f user m port =
-    if m.method == allocate then allocate_outcome s c f user m port else owner_outcome s (fin.get c.entries f) user m
+abbrev pub passed_outcome : Bool → Config → Contents → FiveTuple → ℕ → List ℕ → Content → Option ℕ → Outcome
+passed_outcome pairs s c f t user m port =
+    if m.method == allocate then allocate_outcome pairs s c f t user m port else owner_outcome s (fin.get c.entries f) user m
 
 -- by the outcome of the credential check, which is None where they aren't checked
-abbrev pub by_verdict : Config → Contents → FiveTuple → Content → Option Verdict → Option ℕ → Outcome
-by_verdict s c f m None port = Drop
-by_verdict s c f m (Some Challenge401) port = Challenge Unauthenticated
-by_verdict s c f m (Some Bad400) port = Refuse BadRequest
-by_verdict s c f m (Some Stale438) port = Challenge StaleNonce
-by_verdict s c f m (Some (Passed user key)) port = passed_outcome s c f user m port
+abbrev pub by_verdict : Bool → Config → Contents → FiveTuple → ℕ → Content → Option Verdict → Option ℕ → Outcome
+by_verdict pairs s c f t m None port = Drop
+by_verdict pairs s c f t m (Some Challenge401) port = Challenge Unauthenticated
+by_verdict pairs s c f t m (Some Bad400) port = Refuse BadRequest
+by_verdict pairs s c f t m (Some Stale438) port = Challenge StaleNonce
+by_verdict pairs s c f t m (Some (Passed user key)) port = passed_outcome pairs s c f t user m port
 
--- the outcome of a datagram, with the port that was picked for it, if one was
-unfoldable pub outcome_of : Config → Contents → FiveTuple → Datagram → Option Verdict → Option ℕ → Outcome
-outcome_of s c f d v port = first_row (
+-- the outcome of a datagram at a moment, with the port that was picked for it, if one was; `pairs` says whether ports may be reserved
+unfoldable pub outcome_of : Bool → Config → Contents → FiveTuple → ℕ → Datagram → Option Verdict → Option ℕ → Outcome
+outcome_of pairs s c f t d v port = first_row (
     (is_dropped d, Drop) ∷
     (d.content.method == binding, binding_outcome d.content) ∷
-    (is_protected d.content.method, by_verdict s c f d.content v port) ∷ []) Drop
+    (is_protected d.content.method, by_verdict pairs s c f t d.content v port) ∷ []) Drop
 
 -- ---- What is decided
 
@@ -93,9 +91,9 @@ pub record Decided : Type 0 where
   pub act : Option PlainAct
 
 -- the reply is the canonical spelling of the outcome's response
-unfoldable pub decision : Config → Contents → FiveTuple → ℕ → Datagram → Option Verdict → Option ℕ → Decided
-decision s c f t d v port =
-    let outcome = outcome_of s c f d v port in
+unfoldable pub decision : Bool → Config → Contents → FiveTuple → ℕ → Datagram → Option Verdict → Option ℕ → Decided
+decision pairs s c f t d v port =
+    let outcome = outcome_of pairs s c f t d v port in
     record {
       reply = option_map canonical (response_of s f.client t d.content (key_of d.content v) outcome);
       act = act_by (user_of v) d.content outcome;
@@ -103,36 +101,32 @@ decision s c f t d v port =
 
 -- ---- Which port
 
--- a port is needed for an Allocate to which no outcome before applies: an even one where EVEN-PORT is seen
-abbrev pub needed_if_passed : Config → Contents → FiveTuple → Content → Option Verdict → Option Bool
-needed_if_passed s c f m None = None
-needed_if_passed s c f m (Some Challenge401) = None
-needed_if_passed s c f m (Some Bad400) = None
-needed_if_passed s c f m (Some Stale438) = None
-needed_if_passed s c f m (Some (Passed user key)) = if is_none (before_port s c f user m) then Some (is_seen m even_port) else None
+-- a port is needed for an Allocate to which no outcome before applies, unless a token names one
+abbrev pub needed_if_passed : Bool → Config → Contents → FiveTuple → Content → Option Verdict → Option Need
+needed_if_passed pairs s c f m None = None
+needed_if_passed pairs s c f m (Some Challenge401) = None
+needed_if_passed pairs s c f m (Some Bad400) = None
+needed_if_passed pairs s c f m (Some Stale438) = None
+needed_if_passed pairs s c f m (Some (Passed user key)) = if is_none (before_port pairs s c f user m) then needed_for c m else None
 
-unfoldable pub port_needed : Config → Contents → FiveTuple → Datagram → Option Verdict → Option Bool
-port_needed s c f d v = first_row (
+unfoldable pub port_needed : Bool → Config → Contents → FiveTuple → Datagram → Option Verdict → Option Need
+port_needed pairs s c f d v = first_row (
     (is_dropped d, None) ∷
-    (d.content.method == allocate, needed_if_passed s c f d.content v) ∷ []) None
-
--- a port that may be picked: where one is needed, a free one of the range, or none where there is none or the generator failed
-abbrev pub MayHavePicked : ℕ × ℕ → Bool → Contents → Option Bool → Option ℕ → Type 0
-MayHavePicked range failed c needed port = (even : Bool) → needed ≡ Some even → MayPick range (is_taken c) even failed port
+    (d.content.method == allocate, needed_if_passed pairs s c f d.content v) ∷ []) None
 
 -- ---- The answer
 
 -- what may be answered to a datagram of the five-tuple f at the moment t after a history, by the outcome of the credential
 -- check: nothing but the port is left free
-pub record MayAnswer (s : Config) (range : ℕ × ℕ) (h : History) (t : ℕ) (failed : Bool) (f : FiveTuple) (d : Datagram) (v : Option Verdict) (o : Decided) : Type 0 where
+pub record MayAnswer (pairs : Bool) (s : Config) (range : ℕ × ℕ) (h : History) (t : ℕ) (failed : Bool) (f : FiveTuple) (d : Datagram) (v : Option Verdict) (o : Decided) : Type 0 where
   pub port : Option ℕ
-  pub picked : MayHavePicked range failed (table h t) (port_needed s (table h t) f d v) port
-  pub decided : o ≡ decision s (table h t) f t d v port
+  pub picked : MayHavePicked range failed (table h t) (port_needed pairs s (table h t) f d v) port
+  pub decided : o ≡ decision pairs s (table h t) f t d v port
 
 -- the credentials are checked for the protected methods alone
 unfoldable pub judgement : Config → Keys → Endpoint → ℕ → Datagram → Option Verdict
 judgement s keys client t d = if is_protected d.content.method then Some (verdict (policy_of s) keys d client t) else None
 
 -- the same, with the credentials checked
-abbrev pub Answers : Config → Keys → ℕ × ℕ → History → ℕ → Bool → FiveTuple → Datagram → Decided → Type 0
-Answers s keys range h t failed f d o = MayAnswer s range h t failed f d (judgement s keys f.client t d) o
+abbrev pub Answers : Bool → Config → Keys → ℕ × ℕ → History → ℕ → Bool → FiveTuple → Datagram → Decided → Type 0
+Answers pairs s keys range h t failed f d o = MayAnswer pairs s range h t failed f d (judgement s keys f.client t d) o

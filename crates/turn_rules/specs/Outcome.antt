@@ -7,10 +7,11 @@ use Rattle.turn_types.specs.declared.address.Endpoint.{Endpoint}
 use Rattle.turn_types.specs.declared.error.ErrorCode.{ErrorCode}
 use Rattle.turn_types.specs.declared.error.ErrorCode.TheVariants.{UnknownAttribute}
 use Rattle.turn_types.specs.declared.message.Class.{Class}
+use Rattle.turn_types.specs.declared.message.Token.{Token}
 use Rattle.turn_types.specs.declared.message.Class.TheVariants.{Success, Error}
 use Rattle.turn_history.specs.History.{PlainAct, Allocates, Renews, Permits, Binds}
 use Rattle.turn_codec.specs.Address.{xor_value}
-use Rattle.turn_codec.specs.AttributeTypes.{lifetime, nonce, realm, unknown_attributes, xor_mapped_address, xor_relayed_address}
+use Rattle.turn_codec.specs.AttributeTypes.{lifetime, nonce, realm, reservation_token, unknown_attributes, xor_mapped_address, xor_relayed_address}
 use Rattle.turn_codec.specs.Grammar.{Attribute, Content}
 use Rattle.turn_cred.specs.Nonce.{nonce_of}
 use Rattle.turn_rules.specs.declared.outcome.Outcome.{Outcome}
@@ -31,12 +32,17 @@ challenge s client t code = error_attribute code ∷ attribute realm s.realm ∷
 abbrev pub lifetime_attribute : ℕ → Attribute
 lifetime_attribute seconds = attribute lifetime (to_be_bytes w32 seconds)
 
--- the relayed address, the seconds that are granted, and the client's address (RFC 8656, section 7.2)
-abbrev pub allocated : Config → Endpoint → ℕ → ℕ → List Attribute
-allocated s client port seconds =
+-- the token of a reserved port, if there is one (RFC 8656, section 18.10)
+abbrev pub token_attributes : Option Token → List Attribute
+token_attributes None = []
+token_attributes (Some token) = attribute reservation_token token.0 ∷ []
+
+-- the relayed address, the seconds that are granted, the client's address, and the token (RFC 8656, section 7.2)
+abbrev pub allocated : Config → Endpoint → ℕ → ℕ → Option Token → List Attribute
+allocated s client port seconds token =
     attribute xor_relayed_address (xor_value (record { ip = s.relay; port = port })) ∷
     lifetime_attribute seconds ∷
-    attribute xor_mapped_address (xor_value client) ∷ []
+    attribute xor_mapped_address (xor_value client) ∷ token_attributes token
 
 -- ---- Responses
 
@@ -47,8 +53,8 @@ attributes_of s client t m (Refuse code) = Some (Error, error_attribute code ∷
 attributes_of s client t m RefuseUnknown = Some (Error, error_attribute UnknownAttribute ∷ unknown_attribute m ∷ [])
 attributes_of s client t m (Challenge code) = Some (Error, challenge s client t code)
 attributes_of s client t m MappedAddress = Some (Success, attribute xor_mapped_address (xor_value client) ∷ [])
-attributes_of s client t m (RepeatedAllocate port granted) = Some (Success, allocated s client port granted)
-attributes_of s client t m (Allocate port granted) = Some (Success, allocated s client port granted)
+attributes_of s client t m (RepeatedAllocate port granted token) = Some (Success, allocated s client port granted token)
+attributes_of s client t m (Allocate port granted token) = Some (Success, allocated s client port granted token)
 attributes_of s client t m (Renew granted) = Some (Success, lifetime_attribute granted ∷ [])
 attributes_of s client t m (Permit addresses) = Some (Success, [])
 attributes_of s client t m (Bind number peer) = Some (Success, [])
@@ -66,8 +72,8 @@ act_by user m (Refuse code) = None
 act_by user m RefuseUnknown = None
 act_by user m (Challenge code) = None
 act_by user m MappedAddress = None
-act_by user m (RepeatedAllocate port granted) = None
-act_by user m (Allocate port granted) = Some (Allocates user port granted (record { 0 = m.tx }))
+act_by user m (RepeatedAllocate port granted token) = None
+act_by user m (Allocate port granted token) = Some (Allocates user port granted (record { 0 = m.tx }) token)
 act_by user m (Renew granted) = Some (Renews granted)
 act_by user m (Permit addresses) = Some (Permits addresses)
 act_by user m (Bind number peer) = Some (Binds number peer)

@@ -1,16 +1,19 @@
 //! What a client's message is answered.
 
-ghost use Rattle.std.specs.Prelude.{◌≡◌, ◌<◌, ◌^◌, ℕ, Bool, IfOk, IfSome};
-ghost use Rattle.turn_rules.specs.Answer.{MayAnswer, MayHavePicked, decision, is_dropped, is_protected, key_of, outcome_of, passed_outcome, port_needed, user_of};
+ghost use Rattle.std.specs.Prelude.{◌≡◌, ℕ, Bool, false, IfOk, IfSome};
+ghost use Rattle.turn_rules.specs.Answer.{MayAnswer, decision, is_dropped, is_protected, key_of, outcome_of, passed_outcome, port_needed, user_of};
 ghost use Rattle.turn_rules.specs.Decided.{decided_of, verdict_in};
-ghost use Rattle.turn_rules.specs.Laws.{IsMadeOfBytes, NamesInRange};
+ghost use Rattle.turn_rules.specs.Laws.{IsMadeOfBytes, IsPicked, NamesInRange};
+ghost use Rattle.turn_rules.specs.Need.{MayHavePicked};
 ghost use Rattle.turn_table.specs.Table.{Agrees};
-ghost use Rattle.turn_history.specs.Fitting.{Fits, IsActInRange, PortIsFree};
+ghost use Rattle.turn_history.specs.Fitting.{Fits, IsActInRange};
 ghost use Rattle.turn_history.specs.History.{History};
+ghost use Rattle.turn_history.specs.Laws.{ReservesNone};
 ghost use Rattle.turn_history.specs.Table as tables;
 
-use crate::allocate::{allocate_outcome, before_port};
+use crate::allocate::{allocate_outcome, needed_port};
 use crate::binding::binding_outcome;
+use crate::need::Need;
 use crate::outcome::Outcome;
 use crate::owner::owner_outcome;
 use crate::write::{make_act, write};
@@ -19,7 +22,7 @@ use turn_codec::{AttributeType, Message};
 use turn_cred::Verdict;
 use turn_history::Act;
 use turn_mac::has_wrong_fingerprint;
-use turn_table::Table;
+use turn_table::{Table, reserved_ports_are_apart};
 use turn_types::{Class, ErrorCode, FiveTuple, Method, Moment, ServerConfig};
 
 /// A message from a client.
@@ -62,12 +65,14 @@ fn passed_outcome<C: Allocator, T: Allocator + Copy>(
     table: &Table<T>,
     request: &Request<'_>,
     user: &[u8],
+    moment: Moment,
     port: Option<u16>,
+    pairs: bool,
 ) -> Outcome
-    ensures { result ≡ passed_outcome config.now table.now.contents request.now.five_tuple user.now request.now.message.content port }
+    ensures { result ≡ passed_outcome pairs config.now table.now.contents request.now.five_tuple moment user.now request.now.message.content port }
 {
     if request.message.method() == Method::ALLOCATE {
-        return allocate_outcome(config, table, request, user, port);
+        return allocate_outcome(config, table, request, user, moment, port, pairs);
     }
     owner_outcome(config, table, request.five_tuple, user, &request.message)
 }
@@ -78,9 +83,11 @@ fn outcome_of<C: Allocator, T: Allocator + Copy>(
     config: &ServerConfig<C>,
     table: &Table<T>,
     request: &Request<'_>,
+    moment: Moment,
     port: Option<u16>,
+    pairs: bool,
 ) -> Outcome
-    ensures { result ≡ outcome_of config.now table.now.contents request.now.five_tuple request.now.message (verdict_in request.now) port }
+    ensures { result ≡ outcome_of pairs config.now table.now.contents request.now.five_tuple moment request.now.message (verdict_in request.now) port }
 {
     // RFC 8489, section 6.3: a wrong FINGERPRINT, or a class or a method that isn't expected: silently discarded.
     if is_dropped(&request.message) {
@@ -99,7 +106,9 @@ fn outcome_of<C: Allocator, T: Allocator + Copy>(
         Some(Verdict::Challenge401) => Outcome::Challenge(ErrorCode::Unauthenticated),
         Some(Verdict::Bad400) => Outcome::Refuse(ErrorCode::BadRequest),
         Some(Verdict::Stale438) => Outcome::Challenge(ErrorCode::StaleNonce),
-        Some(Verdict::Passed { user, .. }) => passed_outcome(config, table, request, user, port),
+        Some(Verdict::Passed { user, .. }) => {
+            passed_outcome(config, table, request, user, moment, port, pairs)
+        }
     }
 }
 
@@ -126,19 +135,21 @@ fn key_of(request: &Request<'_>) -> Option<[u8; 16]>
     }
 }
 
-/// Whether a relayed port is needed for a message at a moment, and whether an even one. None is needed for a message
-/// that is dropped, for another request than Allocate, and for one that is answered whatever the port.
+/// What a message at a moment needs of the generator of ports, if it needs anything. It doesn't if it is dropped, if it
+/// is another request than Allocate, if it is answered whatever the port, or if its RESERVATION-TOKEN names a port. `pairs` says
+/// whether ports may be reserved: then EVEN-PORT with the R bit needs a pair.
 #[tactic(auto, unfolding(crate::specs::Answer::port_needed))]
 pub fn needs_port<C: Allocator, T: Allocator + Copy>(
     table: &Table<T>,
     config: &ServerConfig<C>,
     request: &Request<'_>,
     moment: Moment,
-) -> Option<bool>
+    pairs: bool,
+) -> Option<Need>
     requires purged { table.now.moment ≡ moment }
-    ensures value { result ≡ port_needed config.now table.now.contents request.now.five_tuple request.now.message (verdict_in request.now) }
+    ensures value { result ≡ port_needed pairs config.now table.now.contents request.now.five_tuple request.now.message (verdict_in request.now) }
     ensures answers { (h : History) → Agrees table.now h →
-        result ≡ port_needed config.now (tables.table h moment) request.now.five_tuple request.now.message (verdict_in request.now) }
+        result ≡ port_needed pairs config.now (tables.table h moment) request.now.five_tuple request.now.message (verdict_in request.now) }
 {
     if is_dropped(&request.message) || request.message.method() != Method::ALLOCATE {
         return None;
@@ -146,15 +157,12 @@ pub fn needs_port<C: Allocator, T: Allocator + Copy>(
     let Some(Verdict::Passed { user, .. }) = request.verdict else {
         return None;
     };
-    if before_port(config, table, request, user).is_some() {
-        return None;
-    }
-    Some(request.message.is_seen(AttributeType::EVEN_PORT))
+    needed_port(config, table, request, user, pairs)
 }
 
 /// The answer to a client's message at a moment, with the port that was picked for it, if one was: where one is
-/// needed, none means 508, and where none is needed it doesn't count. It takes the memory of the reply and of the act,
-/// and no other.
+/// needed, none means 508, and where none is needed it doesn't count. Of a pair it is the even port. It takes the memory of the
+/// reply and of the act, and no other.
 #[tactic(auto, unfolding(crate::specs::Answer::decision))]
 pub fn decide<A: Allocator + Copy, C: Allocator, T: Allocator + Copy>(
     alloc: A,
@@ -163,23 +171,29 @@ pub fn decide<A: Allocator + Copy, C: Allocator, T: Allocator + Copy>(
     request: &Request<'_>,
     moment: Moment,
     port: Option<u16>,
+    pairs: bool,
 ) -> Result<Decision<A>, AllocError>
     requires purged { table.now.moment ≡ moment }
     ensures value { IfOk result (λ d. decided_of d
-        ≡ decision config.now table.now.contents request.now.five_tuple moment request.now.message (verdict_in request.now) port) }
+        ≡ decision pairs config.now table.now.contents request.now.five_tuple moment request.now.message (verdict_in request.now) port) }
     // After every history with which the table agrees it is an answer, if the port is one that may be picked.
     ensures answers { (h : History) (range : ℕ × ℕ) (failed : Bool) → Agrees table.now h →
         MayHavePicked range failed table.now.contents
-        (port_needed config.now table.now.contents request.now.five_tuple request.now.message (verdict_in request.now)) port →
-        IfOk result (λ d. MayAnswer config.now range h moment failed request.now.five_tuple request.now.message (verdict_in request.now) (decided_of d)) }
-    // What is done fits the table, if the port is free.
-    ensures fits { table.now.bounds ≡ config.now.limits → IfSome port (PortIsFree table.now.contents) →
+        (port_needed pairs config.now table.now.contents request.now.five_tuple request.now.message (verdict_in request.now)) port →
+        IfOk result (λ d. MayAnswer pairs config.now range h moment failed request.now.five_tuple request.now.message (verdict_in request.now) (decided_of d)) }
+    // What is done fits the table, if what was picked is free for what is needed.
+    ensures fits { table.now.bounds ≡ config.now.limits →
+        IsPicked table.now.contents (port_needed pairs config.now table.now.contents request.now.five_tuple request.now.message (verdict_in request.now)) port →
         IfOk result (λ d. IfSome (decided_of d).act (Fits table.now.bounds table.now.contents request.now.five_tuple)) }
     // What is done is in range, if the message's values are bytes and the user's name is in range.
-    ensures in_range { IsMadeOfBytes request.now.message.content → IfSome port (λ p. p < 2 ^ 16) → NamesInRange config.now.limits (verdict_in request.now) →
+    ensures in_range { IsMadeOfBytes request.now.message.content → NamesInRange config.now.limits (verdict_in request.now) →
+        IsPicked table.now.contents (port_needed pairs config.now table.now.contents request.now.five_tuple request.now.message (verdict_in request.now)) port →
         IfOk result (λ d. IfSome (decided_of d).act (IsActInRange config.now.limits)) }
+    // Without pairs no port is reserved.
+    ensures no_pairs { pairs ≡ false → IfOk result (λ d. IfSome (decided_of d).act ReservesNone) }
 {
-    let outcome = outcome_of(config, table, request, port);
+    reserved_ports_are_apart(table);
+    let outcome = outcome_of(config, table, request, moment, port, pairs);
     Ok(Decision {
         reply: write(alloc, config, request, moment, &outcome, key_of(request))?,
         act: make_act(alloc, &request.message, user_of(request), &outcome)?,

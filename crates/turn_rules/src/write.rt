@@ -5,6 +5,7 @@ ghost use Rattle.turn_codec.specs.Address.{xor_value};
 ghost use Rattle.turn_codec.specs.AttributeTypes as types;
 ghost use Rattle.turn_codec.specs.Grammar.{canonical};
 ghost use Rattle.turn_history.specs.Act.{act_of};
+ghost use Rattle.turn_history.specs.History.{Allocates};
 ghost use Rattle.turn_rules.specs.Outcome.{act_by, allocated, challenge, lifetime_attribute, response_of, unknown_attribute};
 ghost use Rattle.turn_rules.specs.Response.{attribute, attribute_of, error_attribute, response};
 
@@ -17,7 +18,7 @@ use std::alloc::{AllocError, Allocator};
 use turn_codec::{AttributeType, Message, xor_address};
 use turn_cred::Nonces;
 use turn_history::{Act, Addresses, UserName};
-use turn_types::{Class, Endpoint, ErrorCode, Moment, ServerConfig};
+use turn_types::{Class, Endpoint, ErrorCode, Moment, ServerConfig, Token};
 
 type Key = Option<[u8; 16]>;
 
@@ -142,6 +143,37 @@ fn allocated_attributes<'a>(
     ]
 }
 
+// The same, and the token of the reserved port.
+fn reserved_attributes<'a>(
+    relayed: &'a [u8],
+    lifetime: &'a [u8],
+    mapped: &'a [u8],
+    token: &'a [u8],
+) -> [OwnAttribute<'a>; 4]
+    ensures { map attribute_of result
+        ≡ attribute types.xor_relayed_address relayed.now ∷ attribute types.lifetime lifetime.now ∷ attribute types.xor_mapped_address mapped.now ∷
+        attribute types.reservation_token token.now ∷ [] }
+{
+    [
+        OwnAttribute {
+            kind: AttributeType::XOR_RELAYED_ADDRESS,
+            value: relayed,
+        },
+        OwnAttribute {
+            kind: AttributeType::LIFETIME,
+            value: lifetime,
+        },
+        OwnAttribute {
+            kind: AttributeType::XOR_MAPPED_ADDRESS,
+            value: mapped,
+        },
+        OwnAttribute {
+            kind: AttributeType::RESERVATION_TOKEN,
+            value: token,
+        },
+    ]
+}
+
 fn write_allocated<A: Allocator + Copy, C: Allocator>(
     alloc: A,
     config: &ServerConfig<C>,
@@ -149,9 +181,10 @@ fn write_allocated<A: Allocator + Copy, C: Allocator>(
     key: Key,
     port: u16,
     granted: u32,
+    token: Option<Token>,
 ) -> Result<Vec<u8, A>, AllocError>
     ensures { IfOk result (λ v. v.items ≡ canonical (response request.now.message.content Class.Success key
-        (allocated config.now request.now.five_tuple.client port granted))) }
+        (allocated config.now request.now.five_tuple.client port granted token))) }
 {
     let relayed = xor_address(Endpoint {
         ip: config.relay(),
@@ -159,8 +192,17 @@ fn write_allocated<A: Allocator + Copy, C: Allocator>(
     });
     let lifetime = granted.to_be_bytes();
     let client = xor_address(request.five_tuple.client);
-    let own = allocated_attributes(&relayed, &lifetime, &client);
-    respond(alloc, &request.message, Class::Success, key, &own)
+    match token {
+        None => {
+            let own = allocated_attributes(&relayed, &lifetime, &client);
+            respond(alloc, &request.message, Class::Success, key, &own)
+        }
+        Some(token) => {
+            let token = token.0;
+            let own = reserved_attributes(&relayed, &lifetime, &client, &token);
+            respond(alloc, &request.message, Class::Success, key, &own)
+        }
+    }
 }
 
 fn write_lifetime<A: Allocator + Copy>(
@@ -210,9 +252,16 @@ pub(crate) fn write<A: Allocator + Copy, C: Allocator>(
             Some(write_challenge(alloc, config, request, moment, *code, key)?)
         }
         Outcome::MappedAddress => Some(write_mapped(alloc, request, key)?),
-        Outcome::RepeatedAllocate { port, granted } | Outcome::Allocate { port, granted } => {
-            Some(write_allocated(alloc, config, request, key, *port, *granted)?)
+        Outcome::RepeatedAllocate {
+            port,
+            granted,
+            token,
         }
+        | Outcome::Allocate {
+            port,
+            granted,
+            token,
+        } => Some(write_allocated(alloc, config, request, key, *port, *granted, *token)?),
         Outcome::Renew { granted } => Some(write_lifetime(alloc, message, key, *granted)?),
         Outcome::Permit(_) | Outcome::Bind { .. } => Some(write_success(alloc, message, key)?),
     })
@@ -222,6 +271,35 @@ fn make_name<A: Allocator + Copy>(alloc: A, user: &[u8]) -> Result<UserName<A>, 
     ensures { IfOk result (λ n. n ≡ user.now) }
 {
     Ok(UserName::from(Vec::from_slice(alloc, user)?))
+}
+
+fn make_alloc<A: Allocator + Copy>(
+    alloc: A,
+    message: &Message<'_>,
+    user: &[u8],
+    port: u16,
+    granted: u32,
+    token: Option<Token>,
+) -> Result<Act<A>, AllocError>
+    ensures { IfOk result (λ a. act_of a ≡ Allocates user.now port granted (record { 0 = message.now.content.tx }) token) }
+{
+    let user = make_name(alloc, user)?;
+    let tx = message.tx();
+    Ok(match token {
+        None => Act::Alloc {
+            user,
+            port,
+            granted,
+            tx,
+        },
+        Some(token) => Act::AllocEven {
+            user,
+            port,
+            granted,
+            tx,
+            token,
+        },
+    })
 }
 
 fn make_addresses<A: Allocator + Copy>(alloc: A, ips: &[u32]) -> Result<Addresses<A>, AllocError>
@@ -240,12 +318,11 @@ pub(crate) fn make_act<A: Allocator + Copy>(
     ensures { IfOk result (λ a. option_map act_of a ≡ act_by user.now message.now.content outcome.now) }
 {
     Ok(match outcome {
-        Outcome::Allocate { port, granted } => Some(Act::Alloc {
-            user: make_name(alloc, user)?,
-            port: *port,
-            granted: *granted,
-            tx: message.tx(),
-        }),
+        Outcome::Allocate {
+            port,
+            granted,
+            token,
+        } => Some(make_alloc(alloc, message, user, *port, *granted, *token)?),
         Outcome::Renew { granted } => Some(Act::Renew { granted: *granted }),
         Outcome::Permit(addresses) => Some(Act::Permit {
             addresses: make_addresses(alloc, addresses.as_slice())?,
