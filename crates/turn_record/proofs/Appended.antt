@@ -11,6 +11,11 @@ appended before now after field fields p q = q ∙ ap (λ (u : List ℕ). u ++ j
 pub no_more : (now : List ℕ) → now ≡ now ++ joined []
 no_more now = sym (append-nil now)
 
+-- the first element is taken, and the others are left with what follows them
+pub first_taken : {A : Type 0} (s : A → List ℕ) (x : A) (rest all : List A) (held tail whole : List ℕ) → held ≡ s x → all ≡ x ∷ rest → each s all ++ tail ≡ whole → held ++ (each s rest ++ tail) ≡ whole
+first_taken s x rest all held tail whole is step was =
+    ap (λ (u : List ℕ). u ++ (each s rest ++ tail)) is ∙ sym (append_assoc (s x) (each s rest) tail) ∙ ap (λ (xs : List _). each s xs ++ tail) (sym step) ∙ was
+
 -- the elements from here on are this one and those from the next one on
 pub each-drop : {A : Type 0} (s : A → List ℕ) (xs : List A) (i : ℕ) (d : A) → i < length xs → each s (drop i xs) ≡ s (get_or xs i d) ++ each s (drop (i + 1) xs)
 each-drop s xs i d lt =

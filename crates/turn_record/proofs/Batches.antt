@@ -8,9 +8,11 @@ use Rattle.turn_history.specs.History.{Event}
 use Rattle.turn_history.specs.Laws.{AllFrom, NeverFall}
 use Rattle.turn_record.specs.Bytes.{act_entry, payload}
 use Rattle.turn_record.specs.Reading.{Gives, last_passes, passes, event_at, events_at, act_in, payload_in}
-use Rattle.turn_record.specs.Records.{IsBatch, SpellsAct, SpellsPayload}
+use Rattle.turn_record.specs.Records.{IsBatch, SpellsAct, SpellsPayload, Writes}
 use Rattle.turn_record.specs.declared.fault.Malformed.{Malformed}
 use Rattle.turn_record.specs.declared.fault.ReadError.{ReadError}
+use Rattle.turn_record.specs.declared.version.Version.{Version}
+use Rattle.turn_record.specs.declared.version.Version.TheVariants.{V2}
 use Rattle.turn_types.specs.Limits.{AreInRange}
 use Rattle.turn_types.specs.declared.limits.Bounds.{Bounds}
 use Rattle.turn_record.proofs.Acts.{FitsAfter, FitsPayload, reads_event, reads_events}
@@ -34,17 +36,17 @@ from_weaker : (s t : ℕ) (es : List Event) → s ≤ t → AllFrom t es → All
 from_weaker s t [] le h = tt
 from_weaker s t (e ∷ es) le h = (omega (arith, le, h.0), from_weaker s t es le h.1)
 
-all_from : (b : Bounds) (before : List Event) (e : Event) (es : List Event) → EachAfter (FitsAfter b) (before ++ e ∷ []) es → AllFrom e.moment es
-all_from b before e [] h = tt
-all_from b before e (x ∷ xs) h =
+all_from : (v : Version) (b : Bounds) (before : List Event) (e : Event) (es : List Event) → EachAfter (FitsAfter v b) (before ++ e ∷ []) es → AllFrom e.moment es
+all_from v b before e [] h = tt
+all_from v b before e (x ∷ xs) h =
     let le : e.moment ≤ x.moment = leb-true _ _ (sym (last_test before e x.moment) ∙ h.0.later) in
-    (le, from_weaker e.moment x.moment xs le (all_from b (before ++ e ∷ []) x xs h.1))
+    (le, from_weaker e.moment x.moment xs le (all_from v b (before ++ e ∷ []) x xs h.1))
 
-never_fall : (b : Bounds) (before es : List Event) → EachAfter (FitsAfter b) before es → AllByRecursion (IsInRange b) es × NeverFall es
-never_fall b before [] h = (tt, tt)
-never_fall b before (e ∷ es) h =
-    let rest = never_fall b (before ++ e ∷ []) es h.1 in
-    ((h.0.fits, rest.0), (all_from b before e es h.1, rest.1))
+never_fall : (v : Version) (b : Bounds) (before es : List Event) → EachAfter (FitsAfter v b) before es → AllByRecursion (IsInRange b) es × NeverFall es × AllByRecursion (λ e. Writes v e.act) es
+never_fall v b before [] h = (tt, tt, tt)
+never_fall v b before (e ∷ es) h =
+    let rest = never_fall v b (before ++ e ∷ []) es h.1 in
+    ((h.0.fits, rest.0), (all_from v b before e es h.1, rest.1), (h.0.writes, rest.2))
 
 -- the first moment is not below that of the last one before
 abbrev IsNext : List Event → List Event → Type 0
@@ -55,53 +57,65 @@ next_after : (before : List Event) (e : Event) (es : List Event) → AllFrom e.m
 next_after before e [] h = tt
 next_after before e (x ∷ xs) h = last_test before e x.moment ∙ le-leb _ _ h.0
 
-each_after : (b : Bounds) (before es : List Event) → AllByRecursion (IsInRange b) es → NeverFall es → IsNext before es → EachAfter (FitsAfter b) before es
-each_after b before [] range later next = tt
-each_after b before (e ∷ es) range later next =
-    (record { fits = range.0; later = next }, each_after b (before ++ e ∷ []) es range.1 later.1 (next_after before e es later.0))
+each_after : (v : Version) (b : Bounds) (before es : List Event) → AllByRecursion (IsInRange b) es → NeverFall es → AllByRecursion (λ e. Writes v e.act) es → IsNext before es → EachAfter (FitsAfter v b) before es
+each_after v b before [] range later writes next = tt
+each_after v b before (e ∷ es) range later writes next =
+    (record { writes = writes.0; fits = range.0; later = next }, each_after v b (before ++ e ∷ []) es range.1 later.1 writes.1 (next_after before e es later.0))
 
 starts : (es : List Event) → IsNext [] es
 starts [] = tt
 starts (e ∷ es) = refl
 
-batch_of : (b : Bounds) (es : List Event) → FitsPayload b es → IsBatch b es
-batch_of b es h = let p = never_fall b [] es h.each in record { some = omega (arith, h.some); few = h.few; in_range = p.0; later = p.1 }
+batch_of : (v : Version) (b : Bounds) (es : List Event) → FitsPayload v b es → IsBatch v b es
+batch_of v b es h = let p = never_fall v b [] es h.each in record { some = omega (arith, h.some); few = h.few; in_range = p.0; later = p.1; writes = p.2 }
 
-of_batch : (b : Bounds) (es : List Event) → IsBatch b es → FitsPayload b es
-of_batch b es h = record { some = omega (arith, h.some); few = h.few; each = each_after b [] es h.in_range h.later (starts es) }
+of_batch : (v : Version) (b : Bounds) (es : List Event) → IsBatch v b es → FitsPayload v b es
+of_batch v b es h = record { some = omega (arith, h.some); few = h.few; each = each_after v b [] es h.in_range h.later h.writes (starts es) }
 
 -- ---- Readers
 
-reads_act : (b : Bounds) → AreInRange b → Reads (event_at b []) act_entry (IsInRange b)
-reads_act b range = in_words (event_at b []) act_entry act_entry (FitsAfter b []) (IsInRange b) (reads_event b range []) (λ e. refl) (λ e h. h.fits) (λ e h. record { fits = h; later = refl })
+-- an event that a reader takes
+abbrev IsRead : Version → Bounds → Event → Type 0
+IsRead v b e = IsInRange b e × Writes v e.act
 
-reads_payload : (b : Bounds) → AreInRange b → Reads (events_at b) payload (IsBatch b)
-reads_payload b range = in_words (events_at b) payload payload (FitsPayload b) (IsBatch b) (reads_events b range) (λ es. refl) (batch_of b) (of_batch b)
+reads_act : (v : Version) (b : Bounds) → AreInRange b → Reads (event_at v b []) act_entry (IsRead v b)
+reads_act v b range =
+    in_words (event_at v b []) act_entry act_entry (FitsAfter v b []) (IsRead v b) (reads_event v b range []) (λ e. refl) (λ e h. (h.fits, h.writes)) (λ e h. record { writes = h.1; fits = h.0; later = refl })
+
+reads_payload : (v : Version) (b : Bounds) → AreInRange b → Reads (events_at v b) payload (IsBatch v b)
+reads_payload v b range = in_words (events_at v b) payload payload (FitsPayload v b) (IsBatch v b) (reads_events v b range) (λ es. refl) (batch_of v b) (of_batch v b)
 
 -- from what reading gives to what a function returned
 pub found : {X Y : Type 0} (view : X → Y) (r : Result X ReadError) (read : Result Y Malformed) (P : Y → Type 0) → ((y : Y) → read ≡ Ok y → P y) → Gives view r read → IfOk r (λ x. P (view x))
 found view (Ok x) read P h given = h (view x) given
 found view (Err e) read P h given = tt
 
-pub act_found : (b : Bounds) → AreInRange b → (bytes : List ℕ) → IsBytes bytes → (e : Event) → act_in b bytes ≡ Ok e → SpellsAct b e bytes
+pub act_found : (v : Version) (b : Bounds) → AreInRange b → (bytes : List ℕ) → IsBytes bytes → (e : Event) → act_in v b bytes ≡ Ok e → SpellsAct v b e bytes
 unfolding act_in
-act_found b range bytes fits e h = let p = whole_takes (event_at b []) act_entry (IsInRange b) (reads_act b range) bytes e fits h in record { in_range = p.0; is = p.1 }
+act_found v b range bytes fits e h = let p = whole_takes (event_at v b []) act_entry (IsRead v b) (reads_act v b range) bytes e fits h in record { writes = p.0.1; in_range = p.0.0; is = p.1 }
 
-pub act_again : (b : Bounds) → AreInRange b → (bytes : List ℕ) (e : Event) → SpellsAct b e bytes → act_in b bytes ≡ Ok e
+pub act_again : (v : Version) (b : Bounds) → AreInRange b → (bytes : List ℕ) (e : Event) → SpellsAct v b e bytes → act_in v b bytes ≡ Ok e
 unfolding act_in
-act_again b range bytes e h = ap (act_in b) h.is ∙ whole_again (event_at b []) act_entry (IsInRange b) (reads_act b range) e h.in_range
+act_again v b range bytes e h = ap (act_in v b) h.is ∙ whole_again (event_at v b []) act_entry (IsRead v b) (reads_act v b range) e (h.in_range, h.writes)
 
-pub payload_found : (b : Bounds) → AreInRange b → (bytes : List ℕ) → IsBytes bytes → (es : List Event) → payload_in b bytes ≡ Ok es → SpellsPayload b es bytes
+pub payload_found : (v : Version) (b : Bounds) → AreInRange b → (bytes : List ℕ) → IsBytes bytes → (es : List Event) → payload_in v b bytes ≡ Ok es → SpellsPayload v b es bytes
 unfolding payload_in
-payload_found b range bytes fits es h = let p = whole_takes (events_at b) payload (IsBatch b) (reads_payload b range) bytes es fits h in record { batch = p.0; is = p.1 }
+payload_found v b range bytes fits es h = let p = whole_takes (events_at v b) payload (IsBatch v b) (reads_payload v b range) bytes es fits h in record { batch = p.0; is = p.1 }
 
-pub payload_again : (b : Bounds) → AreInRange b → (bytes : List ℕ) (es : List Event) → SpellsPayload b es bytes → payload_in b bytes ≡ Ok es
+pub payload_again : (v : Version) (b : Bounds) → AreInRange b → (bytes : List ℕ) (es : List Event) → SpellsPayload v b es bytes → payload_in v b bytes ≡ Ok es
 unfolding payload_in
-payload_again b range bytes es h = ap (payload_in b) h.is ∙ whole_again (events_at b) payload (IsBatch b) (reads_payload b range) es h.batch
+payload_again v b range bytes es h = ap (payload_in v b) h.is ∙ whole_again (events_at v b) payload (IsBatch v b) (reads_payload v b range) es h.batch
 
--- no spelling begins another's
+-- no spelling begins another's, whatever the version
 pub one_act : (b : Bounds) → AreInRange b → (x y : Event) (u v : List ℕ) → IsInRange b x → IsInRange b y → act_entry x ++ u ≡ act_entry y ++ v → (x ≡ y) × (u ≡ v)
-one_act b range = one_spelling (event_at b []) act_entry (IsInRange b) (reads_act b range)
+one_act b range x y u v p q = one_spelling (event_at V2 b []) act_entry (IsRead V2 b) (reads_act V2 b range) x y u v (p, tt) (q, tt)
 
-pub one_payload : (b : Bounds) → AreInRange b → (x y : List Event) (u v : List ℕ) → IsBatch b x → IsBatch b y → payload x ++ u ≡ payload y ++ v → (x ≡ y) × (u ≡ v)
-one_payload b range = one_spelling (events_at b) payload (IsBatch b) (reads_payload b range)
+all_written : (es : List Event) → AllByRecursion (λ e. Writes V2 e.act) es
+all_written [] = tt
+all_written (e ∷ es) = (tt, all_written es)
+
+batch_carries_over : (v : Version) (b : Bounds) (es : List Event) → IsBatch v b es → IsBatch V2 b es
+batch_carries_over v b es h = record { some = h.some; few = h.few; in_range = h.in_range; later = h.later; writes = all_written es }
+
+pub one_payload : (b : Bounds) → AreInRange b → (v w : Version) (x y : List Event) (s t : List ℕ) → IsBatch v b x → IsBatch w b y → payload x ++ s ≡ payload y ++ t → (x ≡ y) × (s ≡ t)
+one_payload b range v w x y s t p q = one_spelling (events_at V2 b) payload (IsBatch V2 b) (reads_payload V2 b range) x y s t (batch_carries_over v b x p) (batch_carries_over w b y q)

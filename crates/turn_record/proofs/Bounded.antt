@@ -1,8 +1,8 @@
 -- How many bytes a reader takes at most: fewer alone can be too short for it.
-use Rattle.std.proofs.Common.{◌≡◌, ℕ, zero, suc, ◌+◌, ◌*◌, ◌≤◌, ◌<◌, ◌-◌, ◌^◌, ◌&&◌, Bool, true, false, cond, not, leb, ltb, List, [], ◌∷◌, ◌++◌, length, take, drop, Option, Some, None, Result, Ok, Err, refl, sym, ap, subst, ◌∙◌, arith, inl, inr}
+use Rattle.std.proofs.Common.{◌≡◌, ℕ, zero, suc, ◌+◌, ◌*◌, ◌≤◌, ◌<◌, ◌-◌, ◌^◌, ◌&&◌, ◌||◌, Bool, true, false, cond, not, eqb, leb, ltb, List, [], ◌∷◌, ◌++◌, length, take, drop, Option, Some, None, Result, Ok, Err, refl, sym, ap, subst, ◌∙◌, arith, inl, inr}
 use Rattle.std.specs.Int.{Width, w16, w32, w64, byte_len, from_be_bytes}
 use Rattle.std.proofs.Math.Nat.{mul-le-mul_right}
-use Rattle.std.proofs.lemmas.Bool.{leb-true, ltb-false, ltb-true}
+use Rattle.std.proofs.lemmas.Bool.{leb-true, ltb-true}
 use Rattle.std.proofs.lemmas.List.{length-drop}
 use Rattle.std.specs.Prelude.{IfSome}
 use Rattle.std.specs.List.{list_any}
@@ -11,11 +11,17 @@ use Rattle.std.specs.FinMap as fin
 use Rattle.turn_history.specs.Fitting.{is_peer}
 use Rattle.turn_history.specs.Table.{Entry}
 use Rattle.turn_history.specs.declared.channel.Channel.{Channel}
+use Rattle.turn_history.specs.declared.reservation.Reservation.{Reservation}
+use Rattle.turn_table.specs.State.{State}
+use Rattle.turn_record.specs.declared.restored.Remaining.{Remaining}
+use Rattle.turn_record.specs.declared.restored.Remaining.TheVariants.{Entries, Reserved}
+use Rattle.turn_record.specs.declared.version.Version.{Version}
+use Rattle.turn_record.specs.declared.version.Version.TheVariants.{V1, V2}
 use Rattle.turn_record.specs.Pieces.{Expects}
-use Rattle.turn_record.specs.Places.{IsWaitingAt, Place, is_short}
-use Rattle.turn_record.specs.Reading.{◌>>=◌, Field, judged, byte_at, number_at, bytes_at, many, moment_at, endpoint_at, tuple_at, name_len_at, name_at, port_at, granted_at, tx_at, allocation_at, channel_number_at, count_at, last_passes}
-use Rattle.turn_record.specs.Records.{max_entry}
-use Rattle.turn_record.specs.Snapshots.{expiry_at, address_after, permission_at, permission_list_at, permissions_at, number_after, other_peer_at, channel_at, channel_list_at, channels_at, tuple_after, is_free_after, entry_at, entry_count_at, head_at}
+use Rattle.turn_record.specs.Places.{IsCut, IsWaitingAt, Place, is_short}
+use Rattle.turn_record.specs.Reading.{◌>>=◌, Field, judged, byte_at, number_at, bytes_at, many, moment_at, endpoint_at, tuple_at, name_len_at, name_at, port_at, granted_at, tx_at, begins_with, is_even, token_bytes_at, token_at, allocation_at, channel_number_at, count_at, last_passes}
+use Rattle.turn_record.specs.Records.{entry_size, max_entry}
+use Rattle.turn_record.specs.Snapshots.{expiry_at, address_after, permission_at, permission_list_at, permissions_at, number_after, other_peer_at, channel_at, channel_list_at, channels_at, tuple_after, is_free_after, mark_byte_at, some_token_at, token_if_at, mark_at, entry_at, total_at, odd_port_at, reserved_port_after, reservation_at, head_at}
 use Rattle.turn_record.specs.declared.fault.Malformed.{Malformed}
 use Rattle.turn_record.specs.declared.fault.ReadError.{ReadError}
 use Rattle.turn_record.specs.declared.fault.Malformed.TheVariants.{Short, BadTag, BadValue, OutOfOrder, TrailingBytes}
@@ -228,30 +234,89 @@ at_most_tuple_after : (before : List (FiveTuple × Entry)) → IsAtMost (tuple_a
 unfolding tuple_after
 at_most_tuple_after before = within _ _ Any 12 12 (at_most_judged tuple_at (λ f. last_passes (λ last. is_lt (tuple_cmp last.0 f)) before) OutOfOrder Any 12 refl at_most_tuple) (omega arith) (λ x h. tt)
 
-pub at_most_entry : (b : Bounds) (t : ℕ) (before : List (FiveTuple × Entry)) → IsAtMost (entry_at b t before) Any (max_entry b)
+at_most_token_bytes : IsAtMost token_bytes_at Any 8
+unfolding token_bytes_at
+at_most_token_bytes = bind (bytes_at 8) _ Any Any 8 0 (at_most_bytes 8 8 (omega arith)) (λ k h. end _)
+
+at_most_token : (port : ℕ) → IsAtMost (token_at port) Any 8
+unfolding token_at
+at_most_token port = within _ _ Any 8 8 (at_most_judged token_bytes_at (begins_with port) BadValue Any 8 refl at_most_token_bytes) (omega arith) (λ k h. tt)
+
+at_most_mark_byte : (port : ℕ) → IsAtMost (mark_byte_at port) Any 1
+unfolding mark_byte_at
+at_most_mark_byte port = within _ _ Any 1 1 (at_most_judged byte_at (λ m. eqb m 0 || (eqb m 1 && is_even port)) BadValue Any 1 refl at_most_byte) (omega arith) (λ m h. tt)
+
+at_most_either : {A : Type 0} (test : Bool) (r s : List ℕ → Field A) (P : A → Type 0) (n : ℕ) → IsAtMost r P n → IsAtMost s P n → IsAtMost (λ bytes. cond test (r bytes) (s bytes)) P n
+at_most_either true r s P n p q = p
+at_most_either false r s P n p q = q
+
+at_most_token_if : (port mark : ℕ) → IsAtMost (token_if_at port mark) Any 8
+unfolding token_if_at
+at_most_token_if port mark =
+    at_most_either (eqb mark 0) _ (some_token_at (port + 1)) Any 8 (within _ Any Any 0 8 (end None) (omega arith) (λ x h. tt))
+    (bind (token_at (port + 1)) _ Any Any 8 0 (at_most_token (port + 1)) (λ k h. end _))
+
+-- of a mark and its token
+abbrev mark_most : Version → ℕ
+mark_most V1 = 0
+mark_most V2 = 9
+
+at_most_mark : (v : Version) (port : ℕ) → IsAtMost (mark_at v port) Any (mark_most v)
+unfolding mark_at
+at_most_mark V1 port = end None
+at_most_mark V2 port = bind (mark_byte_at port) _ Any Any 1 8 (at_most_mark_byte port) (λ m h. at_most_token_if port m)
+
+mark_room : (v : Version) → 42 + mark_most v ≡ entry_size v
+mark_room V1 = refl
+mark_room V2 = refl
+
+pub at_most_entry : (v : Version) (b : Bounds) (t : ℕ) (before : List (FiveTuple × Entry)) → IsAtMost (entry_at v b t before) Any (max_entry v b)
 unfolding entry_at
-at_most_entry b t before =
+at_most_entry v b t before =
     let ps = (1 + b.permissions * 12) + 0 in
     let cs = (1 + b.channels * 16) + 0 in
-    within _ Any Any (12 + (((2 + b.name_bytes) + 18) + (8 + (ps + (cs + 0))))) (max_entry b)
+    let k = mark_most v in
+    within _ Any Any (12 + (((2 + b.name_bytes) + 18) + (k + (8 + (ps + (cs + 0)))))) (max_entry v b)
     (bind (tuple_after before) _ Any Any 12 _ (at_most_tuple_after before) (λ f h0. bind (allocation_at b (is_free_after before)) _ Any Any ((2 + b.name_bytes) + 18) _ (at_most_allocation b (is_free_after before)) (λ a h1.
-    bind (expiry_at t 3600) _ Any Any 8 _ (at_most_expiry t 3600) (λ x h2. bind (permissions_at b t) _ Any Any ps _ (at_most_permissions b t) (λ p h3. bind (channels_at b t) _ Any Any cs 0 (at_most_channels b t) (λ c h4. end _))))))
-    (omega arith) (λ x h. tt)
+    bind (mark_at v a.port) _ Any Any k _ (at_most_mark v a.port) (λ token h. bind (expiry_at t 3600) _ Any Any 8 _ (at_most_expiry t 3600) (λ x h2. bind (permissions_at b t) _ Any Any ps _ (at_most_permissions b t) (λ p h3. bind (channels_at b t) _ Any Any cs 0 (at_most_channels b t) (λ c h4. end _)))))))
+    (omega (arith, mark_room v)) (λ x h. tt)
+
+at_most_total : (b : Bounds) → IsAtMost (total_at b) (λ n. leb n b.allocations ≡ true) 4
+unfolding total_at
+at_most_total b = at_most_judged (number_at w32) (λ n. leb n b.allocations) BadValue Any 4 refl (at_most_number w32)
 
 pub at_most_head : (b : Bounds) → IsAtMost (head_at b) Any 12
-unfolding head_at entry_count_at
+unfolding head_at
 at_most_head b =
-    bind moment_at _ (λ m. ltb m (2 ^ 40 - 3600) ≡ true) Any 8 4 at_most_moment (λ t h. bind (entry_count_at b) _ (λ n. leb n b.allocations ≡ true) Any 4 0 (at_most_judged (number_at w32) (λ n. leb n b.allocations) BadValue Any 4 refl (at_most_number w32)) (λ n h2. end _))
+    bind moment_at _ (λ m. ltb m (2 ^ 40 - 3600) ≡ true) Any 8 4 at_most_moment (λ t h. bind (total_at b) _ (λ n. leb n b.allocations ≡ true) Any 4 0 (at_most_total b) (λ n h2. end _))
+
+at_most_port_after : (entries : List (FiveTuple × Entry)) (before : List (ℕ × Reservation)) → IsAtMost (reserved_port_after entries before) Any 2
+unfolding reserved_port_after odd_port_at
+at_most_port_after entries before =
+    within _ _ Any 2 2 (at_most_judged (odd_port_at entries) (λ q. last_passes (λ last. ltb last.0 q) before) OutOfOrder (λ q. (not (is_even q) && is_free_after entries q) ≡ true) 2 refl
+    (at_most_judged (number_at w16) (λ q. not (is_even q) && is_free_after entries q) BadValue Any 2 refl (at_most_number w16))) (omega arith) (λ x h. tt)
+
+at_most_reservation : (t : ℕ) (entries : List (FiveTuple × Entry)) (before : List (ℕ × Reservation)) → IsAtMost (reservation_at t entries before) Any 18
+unfolding reservation_at
+at_most_reservation t entries before =
+    bind (reserved_port_after entries before) _ Any Any 2 16 (at_most_port_after entries before) (λ q h. bind (token_at q) _ Any Any 8 8 (at_most_token q) (λ k h2. bind (expiry_at t 30) _ Any Any 8 0 (at_most_expiry t 30) (λ x h3. end _)))
 
 -- ---- What a reader holds
 
-held_at : (b : Bounds) (p : Place) (held : List ℕ) → p.0.bounds ≡ b → IsWaitingAt p held → length held < max_entry b
-held_at b p held under (inl none) = let empty = ap length none.1 in omega (arith, empty)
-held_at b p held under (inr h) =
-    let lt = (at_most_entry p.0.bounds p.0.moment (fin.entries p.0.contents.entries)).short held h.1 in
-    subst (λ c. length held < max_entry c) under lt
+entry_size_some : (v : Version) → 42 ≤ entry_size v
+entry_size_some V1 = omega arith
+entry_size_some V2 = omega arith
 
-pub held_is_short : (b : Bounds) (refused : Option ReadError) (place : Option Place) (held fed : List ℕ) → refused ≡ None → IfSome place (λ p. p.0.bounds ≡ b) → Expects b refused place held fed → length held < max_entry b
-held_is_short b (Some e) place held fed is under h = absurd cc
-held_is_short b None None held fed is under h = let lt = (at_most_head b).short held h.1 in omega (arith, lt)
-held_is_short b None (Some p) held fed is under h = held_at b p held under h.1
+cut_at : (v : Version) (s : State) (r : Remaining) (held : List ℕ) → IsCut v s r held → length held < max_entry v s.bounds
+cut_at v s (Entries zero) held cut = let lt = (at_most_total s.bounds).short held cut in omega (arith, lt, entry_size_some v)
+cut_at v s (Entries (suc n)) held cut = (at_most_entry v s.bounds s.moment (fin.entries s.contents.entries)).short held cut
+cut_at v s (Reserved n) held cut = let lt = (at_most_reservation s.moment (fin.entries s.contents.entries) (fin.entries s.contents.reserved)).short held cut in omega (arith, lt, entry_size_some v)
+
+held_at : (v : Version) (b : Bounds) (p : Place) (held : List ℕ) → p.0.bounds ≡ b → IsWaitingAt v p held → length held < max_entry v b
+held_at v b p held under (inl none) = let empty = ap length none.1 in omega (arith, empty, entry_size_some v)
+held_at v b p held under (inr h) = subst (λ c. length held < max_entry v c) under (cut_at v p.0 p.1 held h.1)
+
+pub held_is_short : (v : Version) (b : Bounds) (refused : Option ReadError) (place : Option Place) (held fed : List ℕ) → refused ≡ None → IfSome place (λ p. p.0.bounds ≡ b) → Expects v b refused place held fed → length held < max_entry v b
+held_is_short v b (Some e) place held fed is under h = absurd cc
+held_is_short v b None None held fed is under h = let lt = (at_most_head b).short held h.1 in omega (arith, lt, entry_size_some v)
+held_is_short v b None (Some p) held fed is under h = held_at v b p held under h.1

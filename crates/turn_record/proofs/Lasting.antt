@@ -1,5 +1,5 @@
 -- What a reader answers stays when bytes are added: a value, with the added bytes after it, and a refusal other than Short.
-use Rattle.std.proofs.Common.{◌≡◌, ℕ, zero, suc, ◌≤◌, Bool, true, false, cond, ltb, List, [], ◌∷◌, ◌++◌, length, take, drop, Result, Ok, Err, refl, arith}
+use Rattle.std.proofs.Common.{◌≡◌, ℕ, zero, suc, ◌+◌, ◌≤◌, Bool, true, false, cond, eqb, ltb, None, List, [], ◌∷◌, ◌++◌, length, take, drop, Result, Ok, Err, refl, arith}
 use Rattle.std.specs.Int.{Width, w16, w32, w64, byte_len, from_be_bytes}
 use Rattle.std.proofs.lemmas.Bool.{ltb-false, le-ltb}
 use Rattle.std.proofs.lemmas.List.{take-append-le, drop-append-le, length-append}
@@ -7,10 +7,13 @@ use Rattle.turn_record.specs.declared.fault.Malformed.{Malformed}
 use Rattle.turn_record.specs.declared.fault.Malformed.TheVariants.{Short, BadTag, BadValue, OutOfOrder, TrailingBytes}
 use Rattle.turn_history.specs.Table.{Entry}
 use Rattle.turn_history.specs.declared.channel.Channel.{Channel}
-use Rattle.turn_record.specs.Reading.{◌>>=◌, Field, judged, byte_at, number_at, bytes_at, many, moment_at, endpoint_at, tuple_at, name_len_at, name_at, port_at, granted_at, tx_at, allocation_at, channel_number_at, count_at}
-use Rattle.turn_record.specs.Snapshots.{expiry_at, address_after, permission_at, permission_list_at, permissions_at, number_after, other_peer_at, channel_at, channel_list_at, channels_at, tuple_after, is_free_after, entry_at, entry_count_at, head_at}
+use Rattle.turn_history.specs.declared.reservation.Reservation.{Reservation}
+use Rattle.turn_record.specs.Reading.{◌>>=◌, Field, judged, byte_at, number_at, bytes_at, many, moment_at, endpoint_at, tuple_at, name_len_at, name_at, port_at, granted_at, tx_at, token_bytes_at, token_at, allocation_at, channel_number_at, count_at}
+use Rattle.turn_record.specs.Snapshots.{expiry_at, address_after, permission_at, permission_list_at, permissions_at, number_after, other_peer_at, channel_at, channel_list_at, channels_at, tuple_after, is_free_after, mark_byte_at, some_token_at, token_if_at, mark_at, entry_at, total_at, odd_port_at, reserved_port_after, reservation_at, head_at}
 use Rattle.turn_types.specs.declared.address.FiveTuple.{FiveTuple}
 use Rattle.turn_types.specs.declared.limits.Bounds.{Bounds}
+use Rattle.turn_record.specs.declared.version.Version.{Version}
+use Rattle.turn_record.specs.declared.version.Version.TheVariants.{V1, V2}
 
 abbrev pub Stays : {A : Type 0} → Malformed → Result A Malformed → Type 0
 Stays Short after = Unit {0}
@@ -177,16 +180,56 @@ lasts_tuple_after : (before : List (FiveTuple × Entry)) → Lasts (tuple_after 
 unfolding tuple_after
 lasts_tuple_after before = lasts_judged _ _ _ lasts_tuple
 
-pub lasts_entry : (b : Bounds) (t : ℕ) (before : List (FiveTuple × Entry)) → Lasts (entry_at b t before)
-unfolding entry_at
-lasts_entry b t before =
-    bind _ _ (lasts_tuple_after before) (λ f. bind _ _ (lasts_allocation b (is_free_after before)) (λ a. bind _ _ (lasts_expiry t 3600) (λ x.
-    bind _ _ (lasts_permissions b t) (λ ps. bind _ _ (lasts_channels b t) (λ cs. end _)))))
+lasts_token_bytes : Lasts token_bytes_at
+unfolding token_bytes_at
+lasts_token_bytes = bind _ _ (lasts_bytes 8) (λ k. end _)
 
-lasts_entry_count : (b : Bounds) → Lasts (entry_count_at b)
-unfolding entry_count_at
-lasts_entry_count b = lasts_judged _ _ _ (lasts_number w32)
+lasts_token : (port : ℕ) → Lasts (token_at port)
+unfolding token_at
+lasts_token port = lasts_judged _ _ _ lasts_token_bytes
+
+lasts_mark_byte : (port : ℕ) → Lasts (mark_byte_at port)
+unfolding mark_byte_at
+lasts_mark_byte port = lasts_judged _ _ _ lasts_byte
+
+-- one reader or another
+lasts_either : {A : Type 0} (test : Bool) (r s : List ℕ → Field A) → Lasts r → Lasts s → Lasts (λ bytes. cond test (r bytes) (s bytes))
+lasts_either true r s p q = p
+lasts_either false r s p q = q
+
+lasts_token_if : (port mark : ℕ) → Lasts (token_if_at port mark)
+unfolding token_if_at
+lasts_token_if port mark = lasts_either (eqb mark 0) _ (some_token_at (port + 1)) (end None) (bind _ _ (lasts_token (port + 1)) (λ k. end _))
+
+lasts_mark : (v : Version) (port : ℕ) → Lasts (mark_at v port)
+unfolding mark_at
+lasts_mark V1 port = end None
+lasts_mark V2 port = bind _ _ (lasts_mark_byte port) (λ m. lasts_token_if port m)
+
+pub lasts_entry : (v : Version) (b : Bounds) (t : ℕ) (before : List (FiveTuple × Entry)) → Lasts (entry_at v b t before)
+unfolding entry_at
+lasts_entry v b t before =
+    bind _ _ (lasts_tuple_after before) (λ f. bind _ _ (lasts_allocation b (is_free_after before)) (λ a. bind _ _ (lasts_mark v a.port) (λ k. bind _ _ (lasts_expiry t 3600) (λ x.
+    bind _ _ (lasts_permissions b t) (λ ps. bind _ _ (lasts_channels b t) (λ cs. end _))))))
+
+pub lasts_total : (b : Bounds) → Lasts (total_at b)
+unfolding total_at
+lasts_total b = lasts_judged _ _ _ (lasts_number w32)
 
 pub lasts_head : (b : Bounds) → Lasts (head_at b)
 unfolding head_at
-lasts_head b = bind _ _ lasts_moment (λ t. bind _ _ (lasts_entry_count b) (λ n. end _))
+lasts_head b = bind _ _ lasts_moment (λ t. bind _ _ (lasts_total b) (λ n. end _))
+
+-- ---- Reserved ports
+
+lasts_odd_port : (entries : List (FiveTuple × Entry)) → Lasts (odd_port_at entries)
+unfolding odd_port_at
+lasts_odd_port entries = lasts_judged _ _ _ (lasts_number w16)
+
+lasts_port_after : (entries : List (FiveTuple × Entry)) (before : List (ℕ × Reservation)) → Lasts (reserved_port_after entries before)
+unfolding reserved_port_after
+lasts_port_after entries before = lasts_judged _ _ _ (lasts_odd_port entries)
+
+pub lasts_reservation : (t : ℕ) (entries : List (FiveTuple × Entry)) (before : List (ℕ × Reservation)) → Lasts (reservation_at t entries before)
+unfolding reservation_at
+lasts_reservation t entries before = bind _ _ (lasts_port_after entries before) (λ q. bind _ _ (lasts_token q) (λ k. bind _ _ (lasts_expiry t 30) (λ x. end _)))

@@ -3,6 +3,7 @@ pub mod Apart
 pub mod Appended
 pub mod Batches
 pub mod Bounded
+pub mod Histories
 pub mod Kept
 pub mod Last
 pub mod Lasting
@@ -10,8 +11,10 @@ pub mod Many
 pub mod Once
 pub mod Onward
 pub mod Readers
+pub mod Reserves
 pub mod Rising
 pub mod Shorts
 pub mod Sizes
 pub mod SnapshotSizes
+pub mod Snapshots
 pub mod Tables

@@ -1,5 +1,5 @@
 -- What a step of a reader in pieces keeps.
-use Rattle.std.proofs.Common.{◌≡◌, ◌⊎◌, ℕ, zero, suc, ◌+◌, ◌-◌, ◌<◌, ◌≤◌, true, false, eqb, List, [], ◌∷◌, ◌++◌, append_assoc, length, Option, Some, None, Result, Ok, Err, refl, sym, ap, subst, ◌∙◌, arith, inl, inr}
+use Rattle.std.proofs.Common.{◌≡◌, ◌⊎◌, ℕ, zero, suc, ◌+◌, ◌-◌, ◌<◌, ◌≤◌, Bool, true, false, eqb, List, [], ◌∷◌, ◌++◌, append_assoc, length, Option, Some, None, Result, Ok, Err, refl, sym, ap, subst, ◌∙◌, arith, inl, inr}
 use Rattle.std.proofs.lemmas.Bool.{eqb-false, eqb-true, leb-true, ne_eqb}
 use Rattle.std.proofs.lemmas.List.{append-nil, length-append, nil_from_length}
 use Rattle.turn_record.specs.declared.fault.Malformed.{Malformed}
@@ -13,10 +13,17 @@ use Rattle.std.specs.declared.cmp.Ordering.TheVariants.{Less, Equal, Greater}
 use Rattle.std.specs.Int.{w32}
 use Rattle.std.specs.FinMap as fin
 use Rattle.std.specs.FinMap.{len-empty, len-entries}
-use Rattle.turn_history.specs.Table.{Entry, no_contents}
+use Rattle.turn_history.specs.Table.{Contents, Entry, Reservations, no_contents}
+use Rattle.turn_history.specs.declared.reservation.Reservation.{Reservation}
+use Rattle.std.specs.Ordering.{nat_cmp}
 use Rattle.turn_record.specs.Pieces.{Expects}
-use Rattle.turn_record.specs.Places.{Place, IsWaiting, IsWaitingAt, gives, is_short, more_at}
-use Rattle.turn_record.specs.Snapshots.{Head, entry_at, entry_count_at, head_at, snapshot_at, snapshot_in, table_at}
+use Rattle.turn_record.specs.Places.{HasRoom, IsCut, Place, IsWaiting, IsWaitingAt, ends_with_entries, gives, is_done, is_short, more_at}
+use Rattle.turn_record.specs.Snapshots.{Head, entry_at, total_at, reservation_at, reserving_at, reserved_at, head_at, snapshot_at, snapshot_in, table_at}
+use Rattle.turn_record.specs.declared.restored.Remaining.{Remaining}
+use Rattle.turn_record.specs.declared.restored.Remaining.TheVariants.{Entries, Reserved}
+use Rattle.turn_record.specs.declared.version.Version.{Version}
+use Rattle.turn_record.specs.declared.version.Version.TheVariants.{V1, V2}
+use Rattle.turn_record.proofs.Snapshots.{nothing_there}
 use Rattle.turn_record.proofs.Readers.{bind_ok, judged_ok, ok_is}
 use Rattle.turn_record.proofs.Tables.{map_again}
 use Rattle.turn_table.specs.State.{State}
@@ -90,87 +97,161 @@ fails_same (errors.Malformed f) r s is h = is ∙ h
 
 -- ---- Places
 
--- one entry more is in the table
-pub took : (p q : Place) (x : FiveTuple × Entry) (bytes rest more : List ℕ) → 0 < p.1 → q.1 ≡ p.1 - 1 → q.0.bounds ≡ p.0.bounds → q.0.moment ≡ p.0.moment
-    → fin.entries q.0.contents.entries ≡ fin.entries p.0.contents.entries ++ x ∷ []
-    → entry_at p.0.bounds p.0.moment (fin.entries p.0.contents.entries) (bytes ++ more) ≡ Ok (x, rest ++ more)
-    → more_at p (bytes ++ more) ≡ more_at q (rest ++ more)
-unfolding table_at
-took p q x bytes rest more some left bounds moment entries read =
-    let one = many_more (entry_at p.0.bounds p.0.moment) p.1 (fin.entries p.0.contents.entries) (bytes ++ more) x (rest ++ more) some read in
-    rw (one, left, bounds, moment, entries) refl
+module _ (v : Version) (s next : State) (bounds : next.bounds ≡ s.bounds) (moment : next.moment ≡ s.moment) where
+  -- one entry more is in the table
+  pub took_entry : (n : ℕ) (x : FiveTuple × Entry) (bytes rest more : List ℕ) → 0 < n → fin.entries next.contents.entries ≡ fin.entries s.contents.entries ++ x ∷ []
+      → entry_at v s.bounds s.moment (fin.entries s.contents.entries) (bytes ++ more) ≡ Ok (x, rest ++ more)
+      → more_at v (s, Entries n) (bytes ++ more) ≡ more_at v (next, Entries (n - 1)) (rest ++ more)
+  unfolding table_at
+  took_entry n x bytes rest more some entries read =
+      let one = many_more (entry_at v s.bounds s.moment) n (fin.entries s.contents.entries) (bytes ++ more) x (rest ++ more) some read in
+      rw (one, bounds, moment, entries) refl
 
-pub refused_entry : (p : Place) (e : ReadError) (bytes : List ℕ) → 0 < p.1 → Fails e (entry_at p.0.bounds p.0.moment (fin.entries p.0.contents.entries) bytes) → Fails e (more_at p bytes)
-unfolding table_at
-refused_entry p errors.Memory bytes some h = tt
-refused_entry p (errors.Malformed f) bytes some h = rw (many_err (entry_at p.0.bounds p.0.moment) p.1 (fin.entries p.0.contents.entries) bytes f some h) refl
+  -- one reserved port more is in the table
+  pub took_reserved : (n : ℕ) (r : ℕ × Reservation) (bytes rest more : List ℕ) → 0 < n → fin.entries next.contents.entries ≡ fin.entries s.contents.entries
+      → fin.entries next.contents.reserved ≡ fin.entries s.contents.reserved ++ r ∷ []
+      → reservation_at s.moment (fin.entries s.contents.entries) (fin.entries s.contents.reserved) (bytes ++ more) ≡ Ok (r, rest ++ more)
+      → more_at v (s, Reserved n) (bytes ++ more) ≡ more_at v (next, Reserved (n - 1)) (rest ++ more)
+  unfolding reserving_at
+  took_reserved n r bytes rest more some same reserved read =
+      let one = many_more (reservation_at s.moment (fin.entries s.contents.entries)) n (fin.entries s.contents.reserved) (bytes ++ more) r (rest ++ more) some read in
+      rw (one, moment, same, reserved) refl
 
-pub all_there : (p : Place) (bytes : List ℕ) → p.1 ≡ 0 → more_at p bytes ≡ Ok ((p.0.moment, p.0.contents), bytes)
+-- after the last entry the count of the reserved ports follows
+after_entries : (v : Version) (b : Bounds) (t : ℕ) (before : List (FiveTuple × Entry)) (bytes : List ℕ) → table_at v b t 0 before bytes ≡ reserved_at v b t before bytes
 unfolding table_at
-all_there p bytes none =
-    let same = map_again tuple_cmp p.0.contents.entries in
-    rw (many_none (entry_at p.0.bounds p.0.moment) p.1 (fin.entries p.0.contents.entries) bytes none, ← same) refl
+after_entries v b t before bytes = rw (many_none (entry_at v b t) 0 before bytes refl) refl
 
--- what is given at the end
-pub given_none : (b : Bounds) (bytes : List ℕ) → head_at b bytes ≡ Err Short → gives b None bytes ≡ Err Short
+pub took_total : (v : Version) (s : State) (n : ℕ) (bytes rest more : List ℕ) → ends_with_entries v ≡ false → fin.entries s.contents.reserved ≡ []
+    → total_at s.bounds (bytes ++ more) ≡ Ok (n, rest ++ more) → more_at v (s, Entries 0) (bytes ++ more) ≡ more_at v (s, Reserved n) (rest ++ more)
+unfolding reserved_at
+took_total V1 s n bytes rest more follows none read = absurd cc
+took_total V2 s n bytes rest more follows none read = after_entries V2 s.bounds s.moment (fin.entries s.contents.entries) (bytes ++ more) ∙ rw (read, none) refl
+
+pub refused_entry : (v : Version) (s : State) (n : ℕ) (e : ReadError) (bytes : List ℕ) → 0 < n → Fails e (entry_at v s.bounds s.moment (fin.entries s.contents.entries) bytes) → Fails e (more_at v (s, Entries n) bytes)
+unfolding table_at
+refused_entry v s n errors.Memory bytes some h = tt
+refused_entry v s n (errors.Malformed f) bytes some h = rw (many_err (entry_at v s.bounds s.moment) n (fin.entries s.contents.entries) bytes f some h) refl
+
+pub refused_reserved : (v : Version) (s : State) (n : ℕ) (e : ReadError) (bytes : List ℕ) → 0 < n → Fails e (reservation_at s.moment (fin.entries s.contents.entries) (fin.entries s.contents.reserved) bytes) → Fails e (more_at v (s, Reserved n) bytes)
+unfolding reserving_at
+refused_reserved v s n errors.Memory bytes some h = tt
+refused_reserved v s n (errors.Malformed f) bytes some h = rw (many_err (reservation_at s.moment (fin.entries s.contents.entries)) n (fin.entries s.contents.reserved) bytes f some h) refl
+
+pub refused_total : (v : Version) (s : State) (e : ReadError) (bytes : List ℕ) → ends_with_entries v ≡ false → Fails e (total_at s.bounds bytes) → Fails e (more_at v (s, Entries 0) bytes)
+unfolding reserved_at
+refused_total V1 s e bytes follows h = absurd cc
+refused_total V2 s errors.Memory bytes follows h = tt
+refused_total V2 s (errors.Malformed f) bytes follows h = after_entries V2 s.bounds s.moment (fin.entries s.contents.entries) bytes ∙ rw h refl
+
+-- ---- Where nothing is still to come
+
+last_entry : (v : Version) (n : ℕ) → is_done v (Entries n) ≡ true → (v ≡ V1) × (n ≡ 0)
+last_entry V1 n e = (refl, eqb-true n 0 e)
+last_entry V2 n e = absurd cc
+
+ends_here : (b : Bounds) (t : ℕ) (entries : List (FiveTuple × Entry)) (bytes : List ℕ) → reserved_at V1 b t entries bytes ≡ Ok ((t, record { entries = fin.from_sorted entries; reserved = fin.from_sorted [] }), bytes)
+unfolding reserved_at
+ends_here b t entries bytes = refl
+
+-- a table is that of its lists
+contents_again : (c : Contents) (rs : List (ℕ × Reservation)) → fin.entries c.reserved ≡ rs → record { entries = fin.from_sorted (fin.entries c.entries); reserved = fin.from_sorted rs } ≡ c
+contents_again c rs is = λ i. record {
+  entries = sym (map_again tuple_cmp c.entries) i;
+  reserved = sym (map_again nat_cmp c.reserved ∙ ap (λ (es : List (ℕ × Reservation)). fin.from_sorted {R = nat_cmp} es) is) i;
+}
+
+pub all_there : (v : Version) (s : State) (r : Remaining) (bytes : List ℕ) → is_done v r ≡ true → HasRoom s r → more_at v (s, r) bytes ≡ Ok ((s.moment, s.contents), bytes)
+unfolding reserving_at
+all_there v s (Entries n) bytes done room =
+    let last = last_entry v n done in
+    let one : more_at v (s, Entries n) bytes ≡ reserved_at V1 s.bounds s.moment (fin.entries s.contents.entries) bytes = rw (last.0, last.1) (after_entries V1 s.bounds s.moment (fin.entries s.contents.entries) bytes) in
+    one ∙ ends_here s.bounds s.moment (fin.entries s.contents.entries) bytes ∙ ap (λ (c : Contents). Ok ((s.moment, c), bytes)) (contents_again s.contents [] room.1)
+all_there v s (Reserved n) bytes done room =
+    let one : more_at v (s, Reserved n) bytes ≡ Ok ((s.moment, record { entries = fin.from_sorted (fin.entries s.contents.entries); reserved = fin.from_sorted (fin.entries s.contents.reserved) }), bytes) =
+    rw (many_none (reservation_at s.moment (fin.entries s.contents.entries)) n (fin.entries s.contents.reserved) bytes (eqb-true n 0 done)) refl in
+    one ∙ ap (λ (c : Contents). Ok ((s.moment, c), bytes)) (contents_again s.contents (fin.entries s.contents.reserved) refl)
+
+-- ---- What is given at the end
+
+pub given_none : (v : Version) (b : Bounds) (bytes : List ℕ) → head_at b bytes ≡ Err Short → gives v b None bytes ≡ Err Short
 unfolding gives snapshot_in snapshot_at
-given_none b bytes h = rw h refl
+given_none v b bytes h = rw h refl
 
-pub given_short : (b : Bounds) (p : Place) (bytes : List ℕ) → IsWaitingAt p bytes → 0 < p.1 → gives b (Some p) bytes ≡ Err Short
-unfolding gives
-given_short b p bytes (inl none) some = absurd (omega (arith, none.0, some))
-given_short b p bytes (inr h) some = rw (refused_entry p (errors.Malformed Short) bytes some h.1) refl
+some_left : (n : ℕ) → eqb n 0 ≡ false → 0 < n
+some_left zero e = absurd (eqb-false 0 0 e refl)
+some_left (suc n) e = omega arith
 
-pub given_all : (b : Bounds) (p : Place) (bytes : List ℕ) → IsWaitingAt p bytes → p.1 ≡ 0 → gives b (Some p) bytes ≡ Ok (p.0.moment, p.0.contents)
+cut_short : (v : Version) (s : State) (r : Remaining) (bytes : List ℕ) → is_done v r ≡ false → IsCut v s r bytes → more_at v (s, r) bytes ≡ Err Short
+cut_short V1 s (Entries zero) bytes more cut = absurd cc
+cut_short V2 s (Entries zero) bytes more cut = refused_total V2 s (errors.Malformed Short) bytes refl cut
+cut_short v s (Entries (suc n)) bytes more cut = refused_entry v s (suc n) (errors.Malformed Short) bytes (omega arith) cut
+cut_short v s (Reserved n) bytes more cut = refused_reserved v s n (errors.Malformed Short) bytes (some_left n more) cut
+
+-- no place is both
+not_both : (b : Bool) → b ≡ true → b ≡ false → ⊥
+not_both true p q = cc
+not_both false p q = cc
+
+pub given_short : (v : Version) (b : Bounds) (p : Place) (bytes : List ℕ) → IsWaitingAt v p bytes → is_done v p.1 ≡ false → gives v b (Some p) bytes ≡ Err Short
 unfolding gives
-given_all b p bytes (inl none) no_more = rw (all_there p bytes no_more, none.1) refl
-given_all b p bytes (inr h) no_more = absurd (omega (arith, h.0, no_more))
+given_short v b p bytes (inl none) more = absurd (not_both _ none.0 more)
+given_short v b p bytes (inr h) more = rw (cut_short v p.0 p.1 bytes more h.1) refl
+
+pub given_all : (v : Version) (b : Bounds) (p : Place) (bytes : List ℕ) → IsWaitingAt v p bytes → is_done v p.1 ≡ true → HasRoom p.0 p.1 → gives v b (Some p) bytes ≡ Ok (p.0.moment, p.0.contents)
+unfolding gives
+given_all v b p bytes (inl none) done room = rw (all_there v p.0 p.1 bytes done room, none.1) refl
+given_all v b p bytes (inr h) done room = absurd (not_both _ done h.0)
 
 -- a snapshot begins with its head
-pub begun : (b : Bounds) (bytes : List ℕ) (h : Head) (rest : List ℕ) → head_at b bytes ≡ Ok (h, rest) → gives b None bytes ≡ whole (table_at b h.moment h.count [] rest)
+pub begun : (v : Version) (b : Bounds) (bytes : List ℕ) (h : Head) (rest : List ℕ) → head_at b bytes ≡ Ok (h, rest) → gives v b None bytes ≡ whole (table_at v b h.moment h.count [] rest)
 unfolding gives snapshot_in snapshot_at
-begun b bytes h rest e = rw e refl
+begun v b bytes h rest e = rw e refl
 
-pub not_begun : (b : Bounds) (e : ReadError) (bytes : List ℕ) → Fails e (head_at b bytes) → Fails e (gives b None bytes)
+pub not_begun : (v : Version) (b : Bounds) (e : ReadError) (bytes : List ℕ) → Fails e (head_at b bytes) → Fails e (gives v b None bytes)
 unfolding gives snapshot_in snapshot_at
-not_begun b errors.Memory bytes h = tt
-not_begun b (errors.Malformed f) bytes h = rw h refl
+not_begun v b errors.Memory bytes h = tt
+not_begun v b (errors.Malformed f) bytes h = rw h refl
 
 -- ---- What a reader is to give
 
-pub fed_nothing : (b : Bounds) (held : List ℕ) → held ≡ [] → Expects b None None held []
+pub fed_nothing : (v : Version) (b : Bounds) (held : List ℕ) → held ≡ [] → Expects v b None None held []
 unfolding gives head_at moment_at
-fed_nothing b held none = (λ more. rw none refl, rw none refl)
+fed_nothing v b held none = (λ more. rw none refl, rw none refl)
 
-pub refused_end : (b : Bounds) (r : Option ReadError) (e : ReadError) (place : Option Place) (held fed : List ℕ) → r ≡ Some e → Expects b r place held fed → Fails e (snapshot_in b fed)
-refused_end b r e place held fed is at =
-    subst (λ (u : List ℕ). Fails e (snapshot_in b u)) (append-nil fed) ((subst (λ (q : Option ReadError). Expects b q place held fed) is at) [])
+pub refused_end : (v : Version) (b : Bounds) (r : Option ReadError) (e : ReadError) (place : Option Place) (held fed : List ℕ) → r ≡ Some e → Expects v b r place held fed → Fails e (snapshot_in v b fed)
+refused_end v b r e place held fed is at =
+    subst (λ (u : List ℕ). Fails e (snapshot_in v b u)) (append-nil fed) ((subst (λ (q : Option ReadError). Expects v b q place held fed) is at) [])
 
-pub expected_end : (b : Bounds) (r : Option ReadError) (place : Option Place) (held fed : List ℕ) → r ≡ None → Expects b r place held fed → (snapshot_in b fed ≡ gives b place held) × IsWaiting b place held
-expected_end b r place held fed is at =
-    let now = subst (λ (q : Option ReadError). Expects b q place held fed) is at in
-    (ap (snapshot_in b) (sym (append-nil fed)) ∙ now.0 [] ∙ ap (gives b place) (append-nil held), now.1)
+pub expected_end : (v : Version) (b : Bounds) (r : Option ReadError) (place : Option Place) (held fed : List ℕ) → r ≡ None → Expects v b r place held fed → (snapshot_in v b fed ≡ gives v b place held) × IsWaiting v b place held
+expected_end v b r place held fed is at =
+    let now = subst (λ (q : Option ReadError). Expects v b q place held fed) is at in
+    (ap (snapshot_in v b) (sym (append-nil fed)) ∙ now.0 [] ∙ ap (gives v b place) (append-nil held), now.1)
 
 -- one piece more was fed
-pub refused_still : (b : Bounds) (r : Option ReadError) (e : ReadError) (place : Option Place) (held fed piece : List ℕ) → r ≡ Some e → Expects b r place held fed → Expects b r place held (fed ++ piece)
-refused_still b r e place held fed piece is at =
-    let was = subst (λ (q : Option ReadError). Expects b q place held fed) is at in
-    subst (λ (q : Option ReadError). Expects b q place held (fed ++ piece)) (sym is) (λ more. subst (λ (u : List ℕ). Fails e (snapshot_in b u)) (sym (append_assoc fed piece more)) (was (piece ++ more)))
+pub refused_still : (v : Version) (b : Bounds) (r : Option ReadError) (e : ReadError) (place : Option Place) (held fed piece : List ℕ) → r ≡ Some e → Expects v b r place held fed → Expects v b r place held (fed ++ piece)
+refused_still v b r e place held fed piece is at =
+    let was = subst (λ (q : Option ReadError). Expects v b q place held fed) is at in
+    subst (λ (q : Option ReadError). Expects v b q place held (fed ++ piece)) (sym is) (λ more. subst (λ (u : List ℕ). Fails e (snapshot_in v b u)) (sym (append_assoc fed piece more)) (was (piece ++ more)))
 
-pub fed_more : (b l : Bounds) (r : Option ReadError) (place next : Option Place) (held after fed piece : List ℕ) → l ≡ b → r ≡ None → Expects b r place held fed
-    → ((more : List ℕ) → gives l place (held ++ (piece ++ more)) ≡ gives l next (after ++ more)) → IsWaiting l next after → Expects b r next after (fed ++ piece)
-fed_more b l r place next held after fed piece same none at goes waits =
-    let was = subst (λ (q : Option ReadError). Expects b q place held fed) none at in
-    subst (λ (q : Option ReadError). Expects b q next after (fed ++ piece)) (sym none) (
-      λ more. ap (snapshot_in b) (append_assoc fed piece more) ∙ was.0 (piece ++ more) ∙ subst (λ (m : Bounds). gives m place (held ++ (piece ++ more)) ≡ gives m next (after ++ more)) same (goes more),
-      subst (λ (m : Bounds). IsWaiting m next after) same waits,
+-- said of the version and the limits that a reader was made with
+at_own : (P : Version → Bounds → Type 0) (v w : Version) (b l : Bounds) → w ≡ v → l ≡ b → P w l → P v b
+at_own P v w b l version limits p = subst (λ (x : Version). P x b) version (subst (P w) limits p)
+
+pub fed_more : (v w : Version) (b l : Bounds) (r : Option ReadError) (place next : Option Place) (held after fed piece : List ℕ) → w ≡ v → l ≡ b → r ≡ None → Expects v b r place held fed
+    → ((more : List ℕ) → gives w l place (held ++ (piece ++ more)) ≡ gives w l next (after ++ more)) → IsWaiting w l next after → Expects v b r next after (fed ++ piece)
+fed_more v w b l r place next held after fed piece version same none at goes waits =
+    let was = subst (λ (q : Option ReadError). Expects v b q place held fed) none at in
+    subst (λ (q : Option ReadError). Expects v b q next after (fed ++ piece)) (sym none) (
+      λ more. ap (snapshot_in v b) (append_assoc fed piece more) ∙ was.0 (piece ++ more) ∙ at_own (λ x m. gives x m place (held ++ (piece ++ more)) ≡ gives x m next (after ++ more)) v w b l version same (goes more),
+      at_own (λ x m. IsWaiting x m next after) v w b l version same waits,
     )
 
-pub refused_now : (b l : Bounds) (r : Option ReadError) (e : ReadError) (place next : Option Place) (held after fed piece : List ℕ) → l ≡ b → r ≡ None → Expects b r place held fed
-    → ((more : List ℕ) → Fails e (gives l place (held ++ (piece ++ more)))) → Expects b (Some e) next after (fed ++ piece)
-refused_now b l r e place next held after fed piece same none at fails = λ more.
-    let was = subst (λ (q : Option ReadError). Expects b q place held fed) none at in
-    fails_same e _ _ (ap (snapshot_in b) (append_assoc fed piece more) ∙ was.0 (piece ++ more)) (subst (λ (m : Bounds). Fails e (gives m place (held ++ (piece ++ more)))) same (fails more))
+pub refused_now : (v w : Version) (b l : Bounds) (r : Option ReadError) (e : ReadError) (place next : Option Place) (held after fed piece : List ℕ) → w ≡ v → l ≡ b → r ≡ None → Expects v b r place held fed
+    → ((more : List ℕ) → Fails e (gives w l place (held ++ (piece ++ more)))) → Expects v b (Some e) next after (fed ++ piece)
+refused_now v w b l r e place next held after fed piece version same none at fails = λ more.
+    let was = subst (λ (q : Option ReadError). Expects v b q place held fed) none at in
+    fails_same e _ _ (ap (snapshot_in v b) (append_assoc fed piece more) ∙ was.0 (piece ++ more)) (at_own (λ x m. Fails e (gives x m place (held ++ (piece ++ more)))) v w b l version same (fails more))
 
 pub still_under : (b l : Bounds) (place taken next : Option Place) → l ≡ b → taken ≡ place → IfSome place (λ p. p.0.bounds ≡ b) → (IfSome taken (λ p. p.0.bounds ≡ l) → IfSome next (λ p. p.0.bounds ≡ l)) → IfSome next (λ p. p.0.bounds ≡ b)
 still_under b l place taken next same is under keeps =
@@ -189,31 +270,58 @@ less_last order (Some x) h = by_order (order x) refl h
 
 -- ---- Steps
 
-pub room_kept : (p q : State) (x : FiveTuple × Entry) (left : ℕ) → fin.entries q.contents.entries ≡ fin.entries p.contents.entries ++ x ∷ [] → q.bounds ≡ p.bounds
-    → fin.len p.contents.entries + left ≤ p.bounds.allocations → 0 < left → fin.len q.contents.entries + (left - 1) ≤ q.bounds.allocations
-room_kept p q x left entries bounds room some =
-    let size : length (fin.entries q.contents.entries) ≡ length (fin.entries p.contents.entries) + 1 = ap length entries ∙ length-append (fin.entries p.contents.entries) (x ∷ []) in
+-- a table without room for an act has what it had
+pub room_same : (s next : State) (r : Remaining) → next ≡ record s { room = None } → HasRoom s r → HasRoom next r
+room_same s next (Entries n) is room = rw is room
+room_same s next (Reserved n) is room = rw is room
+
+pub entry_room : (s next : State) (x : FiveTuple × Entry) (n : ℕ) → fin.entries next.contents.entries ≡ fin.entries s.contents.entries ++ x ∷ [] → next.bounds ≡ s.bounds → next.contents.reserved ≡ s.contents.reserved
+    → HasRoom s (Entries n) → 0 < n → HasRoom next (Entries (n - 1))
+entry_room s next x n entries bounds same room some =
+    let size : length (fin.entries next.contents.entries) ≡ length (fin.entries s.contents.entries) + 1 = ap length entries ∙ length-append (fin.entries s.contents.entries) (x ∷ []) in
     let most = ap (λ (b : Bounds). b.allocations) bounds in
-    omega (arith, size, most, len-entries p.contents.entries, len-entries q.contents.entries, room, some)
+    (omega (arith, size, most, len-entries s.contents.entries, len-entries next.contents.entries, room.0, some), ap (λ (m : Reservations). fin.entries m) same ∙ room.1)
 
-pub trailing : (b : Bounds) (p q : Place) (bytes rest more : List ℕ) → more_at p (bytes ++ more) ≡ more_at q (rest ++ more) → q.1 ≡ 0 → 0 < length rest → gives b (Some p) (bytes ++ more) ≡ Err TrailingBytes
+pub total_room : (s : State) (n count : ℕ) → HasRoom s (Entries n) → count ≤ s.bounds.allocations → HasRoom s (Reserved count)
+total_room s n count room few = omega (arith, len-entries s.contents.reserved, ap length room.1, few)
+
+pub reserved_room : (s next : State) (r : ℕ × Reservation) (n : ℕ) → fin.entries next.contents.reserved ≡ fin.entries s.contents.reserved ++ r ∷ [] → next.bounds ≡ s.bounds → HasRoom s (Reserved n) → 0 < n → HasRoom next (Reserved (n - 1))
+reserved_room s next r n reserved bounds room some =
+    let size : length (fin.entries next.contents.reserved) ≡ length (fin.entries s.contents.reserved) + 1 = ap length reserved ∙ length-append (fin.entries s.contents.reserved) (r ∷ []) in
+    let most = ap (λ (b : Bounds). b.allocations) bounds in
+    omega (arith, size, most, len-entries s.contents.reserved, len-entries next.contents.reserved, room, some)
+
+pub trailing : (v : Version) (b : Bounds) (p q : Place) (bytes rest more : List ℕ) → more_at v p (bytes ++ more) ≡ more_at v q (rest ++ more) → is_done v q.1 ≡ true → HasRoom q.0 q.1 → 0 < length rest → gives v b (Some p) (bytes ++ more) ≡ Err TrailingBytes
 unfolding gives
-trailing b p q bytes rest more goes none some = trails (more_at p (bytes ++ more)) _ rest more (goes ∙ all_there q (rest ++ more) none) some
+trailing v b p q bytes rest more goes done room some = trails (more_at v p (bytes ++ more)) _ rest more (goes ∙ all_there v q.0 q.1 (rest ++ more) done room) some
 
-pub goes_on_at : (b : Bounds) (p q : Place) (bytes rest more : List ℕ) → more_at p (bytes ++ more) ≡ more_at q (rest ++ more) → gives b (Some p) (bytes ++ more) ≡ gives b (Some q) (rest ++ more)
+pub goes_on_at : (v : Version) (b : Bounds) (p q : Place) (bytes rest more : List ℕ) → more_at v p (bytes ++ more) ≡ more_at v q (rest ++ more) → gives v b (Some p) (bytes ++ more) ≡ gives v b (Some q) (rest ++ more)
 unfolding gives
-goes_on_at b p q bytes rest more goes = ap whole goes
+goes_on_at v b p q bytes rest more goes = ap whole goes
 
-pub fails_at : (b : Bounds) (p : Place) (e : ReadError) (bytes : List ℕ) → Fails e (more_at p bytes) → Fails e (gives b (Some p) bytes)
+pub fails_at : (v : Version) (b : Bounds) (p : Place) (e : ReadError) (bytes : List ℕ) → Fails e (more_at v p bytes) → Fails e (gives v b (Some p) bytes)
 unfolding gives
-fails_at b p e bytes h = fails_whole e (more_at p bytes) h
+fails_at v b p e bytes h = fails_whole e (more_at v p bytes) h
 
-pub empty_waits : (p : Place) (bytes : List ℕ) → p.1 ≡ 0 → true ≡ eqb (length bytes) 0 → IsWaitingAt p bytes
-empty_waits p bytes none e = inl (none, nil_from_length bytes (eqb-true _ _ (sym e)))
+pub empty_waits : (v : Version) (p : Place) (bytes : List ℕ) → is_done v p.1 ≡ true → true ≡ eqb (length bytes) 0 → IsWaitingAt v p bytes
+empty_waits v p bytes done e = inl (done, nil_from_length bytes (eqb-true _ _ (sym e)))
 
-pub still_waits : (p : Place) (bytes : List ℕ) → 0 < p.1 → (p.1 ≡ 0) ⊎ IsWaitingAt p bytes → IsWaitingAt p bytes
-still_waits p bytes some (inl none) = absurd (omega (arith, some, none))
-still_waits p bytes some (inr h) = h
+pub still_waits : (v : Version) (p : Place) (bytes : List ℕ) → is_done v p.1 ≡ false → (is_done v p.1 ≡ true) ⊎ IsWaitingAt v p bytes → IsWaitingAt v p bytes
+still_waits v p bytes more (inl done) = absurd (not_both _ done more)
+still_waits v p bytes more (inr h) = h
+
+-- an item that is cut is waited for
+pub cut_waits : (v : Version) (p : Place) (bytes : List ℕ) → is_done v p.1 ≡ false → IsCut v p.0 p.1 bytes → IsWaitingAt v p bytes
+cut_waits v p bytes more cut = inr (more, cut)
+
+pub cut_entry : (v : Version) (s : State) (n : ℕ) (bytes : List ℕ) → 0 < n → entry_at v s.bounds s.moment (fin.entries s.contents.entries) bytes ≡ Err Short → IsCut v s (Entries n) bytes
+cut_entry v s zero bytes some cut = absurd (omega arith)
+cut_entry v s (suc n) bytes some cut = cut
+
+-- where something follows the last entry
+pub follows_last : (v : Version) → is_done v (Entries 0) ≡ false → ends_with_entries v ≡ false
+follows_last V1 more = absurd cc
+follows_last V2 more = refl
 
 -- a table without entries
 abbrev pub nothing : Bounds → ℕ → State
@@ -223,31 +331,40 @@ no_entries : fin.entries no_contents.entries ≡ []
 unfolding no_contents
 no_entries = nil_from_length _ (sym (len-entries _) ∙ len-empty tuple_cmp Entry)
 
-pub begun_at : (b : Bounds) (bytes rest more : List ℕ) (t n : ℕ) (s : State) → s ≡ nothing b t → head_at b (bytes ++ more) ≡ Ok (record { moment = t; count = n }, rest ++ more)
-    → gives b None (bytes ++ more) ≡ gives b (Some (s, n)) (rest ++ more)
+no_reserved : fin.entries no_contents.reserved ≡ []
+unfolding no_contents
+no_reserved = nothing_there
+
+pub begun_at : (v : Version) (b : Bounds) (bytes rest more : List ℕ) (t n : ℕ) (s : State) → s ≡ nothing b t → head_at b (bytes ++ more) ≡ Ok (record { moment = t; count = n }, rest ++ more)
+    → gives v b None (bytes ++ more) ≡ gives v b (Some (s, Entries n)) (rest ++ more)
 unfolding gives
-begun_at b bytes rest more t n s is e =
-    let one : gives b None (bytes ++ more) ≡ whole (table_at b t n [] (rest ++ more)) = begun b (bytes ++ more) (record { moment = t; count = n }) (rest ++ more) e in
+begun_at v b bytes rest more t n s is e =
+    let one : gives v b None (bytes ++ more) ≡ whole (table_at v b t n [] (rest ++ more)) = begun v b (bytes ++ more) (record { moment = t; count = n }) (rest ++ more) e in
     one ∙ rw (is, no_entries) refl
 
+pub total_count : (b : Bounds) (bytes : List ℕ) (n : ℕ) (rest : List ℕ) → total_at b bytes ≡ Ok (n, rest) → n ≤ b.allocations
+unfolding total_at
+total_count b bytes n rest e =
+    let c = bind_ok (number_at w32 bytes) _ (n, rest) e in
+    let j = judged_ok _ _ _ _ c.2 in
+    let first : c.0.0 ≡ n = ap (λ (x : ℕ × List ℕ). x.0) j.1 in
+    omega (arith, leb-true _ _ j.0, first)
+
 pub head_count : (b : Bounds) (bytes : List ℕ) (h : Head) (rest : List ℕ) → head_at b bytes ≡ Ok (h, rest) → h.count ≤ b.allocations
-unfolding head_at entry_count_at
+unfolding head_at
 head_count b bytes h rest e =
     let t = bind_ok (moment_at bytes) _ (h, rest) e in
-    let n = bind_ok (entry_count_at b t.0.1) _ (h, rest) t.2 in
-    let c = bind_ok (number_at w32 t.0.1) _ n.0 n.1 in
-    let j = judged_ok _ _ _ _ c.2 in
+    let n = bind_ok (total_at b t.0.1) _ (h, rest) t.2 in
     let same : n.0.0 ≡ h.count = ap (λ (x : Head × List ℕ). x.0.count) (ok_is _ (h, rest) n.2) in
-    let first : c.0.0 ≡ n.0.0 = ap (λ (x : ℕ × List ℕ). x.0) j.1 in
-    omega (arith, leb-true _ _ j.0, same, first)
+    omega (arith, total_count b t.0.1 n.0.0 n.0.1 n.1, same)
 
-pub room_begun : (b : Bounds) (t n : ℕ) (s : State) → s ≡ nothing b t → n ≤ b.allocations → fin.len s.contents.entries + n ≤ s.bounds.allocations
-room_begun b t n s is few = rw is (omega (arith, len-entries no_contents.entries, ap length no_entries, few))
+pub room_begun : (b : Bounds) (t n : ℕ) (s : State) → s ≡ nothing b t → n ≤ b.allocations → HasRoom s (Entries n)
+room_begun b t n s is few = rw is (omega (arith, len-entries no_contents.entries, ap length no_entries, few), no_reserved)
 
-pub ended : (b : Bounds) (place : Option Place) (bytes rest : List ℕ) → ((more : List ℕ) → gives b None (bytes ++ more) ≡ gives b place (rest ++ more)) → snapshot_in b bytes ≡ gives b place rest
+pub ended : (v : Version) (b : Bounds) (place : Option Place) (bytes rest : List ℕ) → ((more : List ℕ) → gives v b None (bytes ++ more) ≡ gives v b place (rest ++ more)) → snapshot_in v b bytes ≡ gives v b place rest
 unfolding gives
-ended b place bytes rest goes = ap (snapshot_in b) (sym (append-nil bytes)) ∙ goes [] ∙ ap (gives b place) (append-nil rest)
+ended v b place bytes rest goes = ap (snapshot_in v b) (sym (append-nil bytes)) ∙ goes [] ∙ ap (gives v b place) (append-nil rest)
 
-pub ended_in : (b : Bounds) (e : ReadError) (bytes : List ℕ) → ((more : List ℕ) → Fails e (gives b None (bytes ++ more))) → Fails e (snapshot_in b bytes)
+pub ended_in : (v : Version) (b : Bounds) (e : ReadError) (bytes : List ℕ) → ((more : List ℕ) → Fails e (gives v b None (bytes ++ more))) → Fails e (snapshot_in v b bytes)
 unfolding gives
-ended_in b e bytes h = subst (λ (u : List ℕ). Fails e (snapshot_in b u)) (append-nil bytes) (h [])
+ended_in v b e bytes h = subst (λ (u : List ℕ). Fails e (snapshot_in v b u)) (append-nil bytes) (h [])

@@ -104,6 +104,13 @@ reads_wide w limit wide = record {
       rw (long, take_at (to_be_bytes w n) rest (byte_len w) len, drop_at (to_be_bytes w n) rest (byte_len w) len, wide.again n lt) refl;
 }
 
+-- the first two bytes as a number, and as bytes
+pub two_bytes : (n : ℕ) (bytes : List ℕ) → IsBytes bytes → 2 ≤ length bytes → from_be_bytes w16 (take 2 bytes) ≡ n → take 2 bytes ≡ to_be_bytes w16 n
+two_bytes n bytes fits long is = sym (wide16.back (take 2 bytes) (omega (arith, length-take 2 bytes, long)) (IsBytes-take 2 bytes fits)) ∙ ap (to_be_bytes w16) is
+
+pub two_bytes_again : (n : ℕ) (bytes : List ℕ) → n < 2 ^ 16 → take 2 bytes ≡ to_be_bytes w16 n → from_be_bytes w16 (take 2 bytes) ≡ n
+two_bytes_again n bytes lt is = ap (from_be_bytes w16) is ∙ wide16.again n lt
+
 pub reads16 : Reads (number_at w16) (to_be_bytes w16) (λ n. n < 2 ^ 16)
 reads16 = reads_wide w16 (2 ^ 16) wide16
 

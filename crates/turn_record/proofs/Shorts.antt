@@ -12,7 +12,7 @@ use Rattle.turn_types.specs.Limits.{AreInRange}
 use Rattle.turn_types.specs.declared.limits.Bounds.{Bounds}
 
 pub short : (b : Bounds) → AreInRange b → (d : PlainAct) → IsActInRange b d → HasShortParts d
-short b range (Allocates user port granted tx) h = (omega (arith, h.0.1, range.name_bytes.1), h.3.0)
+short b range (Allocates user port granted tx token) h = (omega (arith, h.0.1, range.name_bytes.1), h.3.0)
 short b range (Renews granted) h = tt
 short b range (Permits xs) h = omega (arith, h.0.1, range.permissions.1)
 short b range (Binds number peer) h = tt

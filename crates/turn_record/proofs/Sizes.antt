@@ -1,6 +1,7 @@
 -- How many bytes spellings have.
 use Rattle.std.proofs.Common.{◌≡◌, ℕ, ◌+◌, ◌*◌, ◌≤◌, List, [], ◌∷◌, length, refl, arith, length-append}
 use Rattle.std.proofs.Math.Nat.{mul-le-mul_right}
+use Rattle.std.specs.Prelude.{None, Option, Some}
 use Rattle.std.specs.Int.{w32, to_be_bytes}
 use Rattle.std.specs.List.{AllByRecursion}
 use Rattle.turn_history.specs.Fitting.{IsActInRange, IsInRange}
@@ -10,9 +11,13 @@ use Rattle.turn_history.specs.Act.{event_of}
 use Rattle.turn_history.specs.declared.event.Event as accepted
 use Rattle.turn_record.specs.Views.{events_of}
 use Rattle.turn_record.proofs.Last.{length-map}
-use Rattle.turn_record.specs.Records.{IsBatch, max_act, max_payload}
+use Rattle.turn_record.specs.Records.{IsBatch, Writes, max_act, max_payload}
+use Rattle.turn_record.specs.declared.version.Version.{Version}
+use Rattle.turn_record.specs.declared.version.Version.TheVariants.{V1, V2}
 use Rattle.turn_types.specs.Limits.{AreInRange}
 use Rattle.turn_types.specs.declared.limits.Bounds.{Bounds}
+use Rattle.turn_types.specs.declared.message.Token.{Token}
+use Rattle.turn_types.specs.declared.message.TxId.{TxId}
 
 pub size_each : {A : Type 0} (s : A → List ℕ) (k : ℕ) → ((x : A) → length (s x) ≡ k) → (xs : List A) → length (each s xs) ≡ k * length xs
 size_each s k h [] = omega arith
@@ -25,30 +30,56 @@ each_at_most : {A : Type 0} (s : A → List ℕ) (P : A → Type 0) (k : ℕ) �
 each_at_most s P k h [] all = omega arith
 each_at_most s P k h (x ∷ xs) all = omega (arith, length-append (s x) (each s xs), h x all.0, each_at_most s P k h xs all.1)
 
-body_at_most : (b : Bounds) (d : PlainAct) → IsActInRange b d → 21 + length (body d) ≤ max_act b
-body_at_most b (Allocates user port granted tx) h = simp length-append (omega (arith, h.0.1, h.3.0))
-body_at_most b (Renews granted) h = omega arith
-body_at_most b (Permits xs) h = omega (arith, h.0.1, size_addresses xs)
-body_at_most b (Binds number peer) h = omega arith
+-- an event of a batch
+abbrev IsWritten : Version → Bounds → Event → Type 0
+IsWritten v b e = IsInRange b e × Writes v e.act
 
-pub act_at_most : (b : Bounds) (e : Event) → IsInRange b e → length (act_entry e) ≤ max_act b
-act_at_most b e h = omega (arith, length-append (body e.act) [], body_at_most b e.act h.act)
+are_written : (v : Version) (b : Bounds) (es : List Event) → AllByRecursion (IsInRange b) es → AllByRecursion (λ e. Writes v e.act) es → AllByRecursion (IsWritten v b) es
+are_written v b [] ranges writes = tt
+are_written v b (e ∷ es) ranges writes = ((ranges.0, writes.0), are_written v b es ranges.1 writes.1)
+
+abbrev token_len : Option Token → ℕ
+token_len None = 0
+token_len (Some k) = 8
+
+token_short : (token : Option Token) → token_len token ≤ 8
+token_short None = omega arith
+token_short (Some k) = omega arith
+
+-- of an Alloc after its tag, moment and five-tuple
+alloc_at_most : (b : Bounds) (user : List ℕ) (port granted : ℕ) (tx : TxId) (token : Option Token) → IsActInRange b (Allocates user port granted tx token) → length (body (Allocates user port granted tx token)) ≤ 20 + b.name_bytes + token_len token
+alloc_at_most b user port granted tx None h = simp length-append (omega (arith, h.0.1, h.3.0))
+alloc_at_most b user port granted tx (Some k) h = simp length-append (omega (arith, h.0.1, h.3.0, h.4.1.size))
+
+body_at_most : (v : Version) (b : Bounds) (d : PlainAct) → Writes v d → IsActInRange b d → 21 + length (body d) ≤ max_act v b
+body_at_most V1 b (Allocates user port granted tx None) writes h = omega (arith, alloc_at_most b user port granted tx None h)
+body_at_most V1 b (Allocates user port granted tx (Some k)) writes h = absurd cc
+body_at_most V2 b (Allocates user port granted tx token) writes h = omega (arith, alloc_at_most b user port granted tx token h, token_short token)
+body_at_most v b (Renews granted) writes h = omega arith
+body_at_most v b (Permits xs) writes h = omega (arith, h.0.1, size_addresses xs)
+body_at_most v b (Binds number peer) writes h = omega arith
+
+pub act_at_most : (v : Version) (b : Bounds) (e : Event) → Writes v e.act → IsInRange b e → length (act_entry e) ≤ max_act v b
+act_at_most v b e writes h = omega (arith, length-append (body e.act) [], body_at_most v b e.act writes h.act)
+
+events_at_most : (v : Version) (b : Bounds) (es : List Event) → IsBatch v b es → length (each act_entry es) ≤ length es * max_act v b
+events_at_most v b es h = each_at_most act_entry (IsWritten v b) (max_act v b) (λ e p. act_at_most v b e p.1 p.0) es (are_written v b es h.in_range h.writes)
 
 -- of the code's events
-pub acts_at_most : {A : Type 0} (b : Bounds) (es : List (accepted.Event A)) → IsBatch b (events_of es) → length (each act_entry (events_of es)) ≤ length es * max_act b
-acts_at_most b es h =
-    let size = each_at_most act_entry (IsInRange b) (max_act b) (act_at_most b) (events_of es) h.in_range in
+pub acts_at_most : {A : Type 0} (v : Version) (b : Bounds) (es : List (accepted.Event A)) → IsBatch v b (events_of es) → length (each act_entry (events_of es)) ≤ length es * max_act v b
+acts_at_most v b es h =
+    let size = events_at_most v b (events_of es) h in
     rw (length-map event_of es) at size
 
 -- a batch has few events, so the size of its payload fits
-pub batch_at_most : {A : Type 0} (b : Bounds) → AreInRange b → (es : List (accepted.Event A)) → IsBatch b (events_of es) → length es ≤ 64
-batch_at_most b range es h = omega (arith, length-map event_of es, h.few, range.acts.1)
+pub batch_at_most : {A : Type 0} (v : Version) (b : Bounds) → AreInRange b → (es : List (accepted.Event A)) → IsBatch v b (events_of es) → length es ≤ 64
+batch_at_most v b range es h = omega (arith, length-map event_of es, h.few, range.acts.1)
 
-pub product_at_most : (n m : ℕ) → n ≤ 64 → m ≤ 549 → n * m ≤ 35136
+pub product_at_most : (n m : ℕ) → n ≤ 64 → m ≤ 557 → n * m ≤ 35648
 product_at_most n m few small = omega (arith, mul-le-mul_right m few, small)
 
-pub payload_at_most : (b : Bounds) (es : List Event) → IsBatch b es → length (payload es) ≤ max_payload b
-payload_at_most b es h =
-    let one : length (each act_entry es) ≤ length es * max_act b = each_at_most act_entry (IsInRange b) (max_act b) (act_at_most b) es h.in_range in
-    let two : length es * max_act b ≤ b.acts * max_act b = mul-le-mul_right (max_act b) h.few in
+pub payload_at_most : (v : Version) (b : Bounds) (es : List Event) → IsBatch v b es → length (payload es) ≤ max_payload v b
+payload_at_most v b es h =
+    let one : length (each act_entry es) ≤ length es * max_act v b = events_at_most v b es h in
+    let two : length es * max_act v b ≤ b.acts * max_act v b = mul-le-mul_right (max_act v b) h.few in
     omega (arith, one, two)

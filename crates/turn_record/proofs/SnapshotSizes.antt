@@ -1,23 +1,30 @@
 -- How many bytes snapshots have.
-use Rattle.std.proofs.Common.{◌≡◌, ℕ, ◌+◌, ◌*◌, ◌≤◌, List, [], ◌∷◌, ◌++◌, length, refl, sym, ap, arith, length-append}
+use Rattle.std.proofs.Common.{◌≡◌, ℕ, ◌+◌, ◌*◌, ◌≤◌, List, [], ◌∷◌, ◌++◌, length, refl, sym, ap, ◌∙◌, arith, length-append}
 use Rattle.std.proofs.Math.Nat.{mul-le-mul_right}
 use Rattle.std.specs.FinMap as fin
-use Rattle.std.specs.FinMap.{FinMap, len-entries}
-use Rattle.std.specs.Int.{w64, to_be_bytes}
+use Rattle.std.specs.FinMap.{FinMap, len-entries, nat_cmp-IsAntisymmetric}
+use Rattle.std.specs.Prelude.{IfSome, None, Option, Some}
+use Rattle.std.proofs.lemmas.Cmp.{nat_cmp_total}
+use Rattle.std.specs.Int.{w32, w64, to_be_bytes}
 use Rattle.std.specs.List.{AllByRecursion}
 use Rattle.std.specs.Ordering.{nat_cmp}
 use Rattle.turn_history.proofs.Entries.{all_entries}
 use Rattle.turn_history.proofs.Maps.{tuple_total, tuple_exact}
+use Rattle.turn_history.specs.Fitting.{AreReservationsInRange, IsTokenAfter}
 use Rattle.turn_history.specs.Laws.{allocation_of}
 use Rattle.turn_history.specs.Table.{Contents, Entry}
 use Rattle.turn_history.specs.declared.channel.Channel.{Channel}
+use Rattle.turn_history.specs.declared.reservation.Reservation.{Reservation}
 use Rattle.turn_record.proofs.Sizes.{size_each}
-use Rattle.turn_record.specs.Bytes.{joined, each, five_tuple, allocation, permission, permissions, channel, channels, entry, head, snapshot}
-use Rattle.turn_record.specs.Records.{IsSnapshot, max_entry, max_snapshot}
+use Rattle.turn_record.specs.Bytes.{joined, each, five_tuple, allocation, mark, permission, permissions, channel, channels, entry, head, reservation, reserved, snapshot}
+use Rattle.turn_record.specs.Records.{IsSnapshot, entry_size, max_entry, max_reserved, max_snapshot}
+use Rattle.turn_record.specs.declared.version.Version.{Version}
+use Rattle.turn_record.specs.declared.version.Version.TheVariants.{V1, V2}
 use Rattle.turn_record.specs.Written.{IsShort, AreShort}
 use Rattle.turn_types.specs.Limits.{AreInRange, max_bounds}
 use Rattle.turn_types.specs.declared.address.FiveTuple.{FiveTuple}
 use Rattle.turn_types.specs.declared.limits.Bounds.{Bounds}
+use Rattle.turn_types.specs.declared.message.Token.{Token}
 
 -- ---- A list of permissions or channels, as a map has it
 
@@ -28,6 +35,11 @@ permissions_are m = ap (λ n. (n ∷ []) ++ each permission (fin.entries m)) (sy
 pub channels_are : (m : FinMap nat_cmp Channel) → (length (fin.entries m) ∷ []) ++ each channel (fin.entries m) ≡ channels m
 unfolding channels
 channels_are m = ap (λ n. (n ∷ []) ++ each channel (fin.entries m)) (sym (len-entries m))
+
+pub reserved_are : (rs : List (ℕ × Reservation)) (m : FinMap nat_cmp Reservation) → rs ≡ fin.entries m → to_be_bytes w32 (length rs) ++ each reservation rs ≡ reserved V2 m
+unfolding reserved
+reserved_are rs m is =
+    ap (λ (es : List (ℕ × Reservation)). to_be_bytes w32 (length es) ++ each reservation es) is ∙ ap (λ (n : ℕ). to_be_bytes w32 n ++ each reservation (fin.entries m)) (sym (len-entries m))
 
 -- ---- Sizes
 
@@ -46,62 +58,103 @@ size_channels : (m : FinMap nat_cmp Channel) → length (channels m) ≡ 1 + 16 
 unfolding channels
 size_channels m = omega (arith, size_each channel 16 (λ x. refl) (fin.entries m), len-entries m)
 
-size5 : (a b c d e : List ℕ) → length (joined (a ∷ b ∷ c ∷ d ∷ e ∷ [])) ≡ length a + (length b + (length c + (length d + length e)))
-size5 a b c d e = simp length-append (omega arith)
+size6 : (a b c d e f : List ℕ) → length (joined (a ∷ b ∷ c ∷ d ∷ e ∷ f ∷ [])) ≡ length a + (length b + (length c + (length d + (length e + length f))))
+size6 a b c d e f = simp length-append (omega arith)
 
 pub size_allocation : (e : Entry) → length e.tx.0 ≡ 12 → length (allocation (allocation_of e)) ≡ 20 + length e.user
 size_allocation e tx = simp length-append (omega arith)
 
-pub size_entry : (f : FiveTuple) (e : Entry) → length e.tx.0 ≡ 12 → length (entry (f, e)) ≡ 42 + length e.user + 12 * fin.len e.permissions + 16 * fin.len e.channels
+pub size_entry : (v : Version) (f : FiveTuple) (e : Entry) → length e.tx.0 ≡ 12 → length (entry v (f, e)) ≡ 42 + length (mark v e.token) + length e.user + 12 * fin.len e.permissions + 16 * fin.len e.channels
 unfolding entry
-size_entry f e tx =
-    let all = size5 (five_tuple f) (allocation (allocation_of e)) (to_be_bytes w64 e.expiry) (permissions e.permissions) (channels e.channels) in
+size_entry v f e tx =
+    let all = size6 (five_tuple f) (allocation (allocation_of e)) (mark v e.token) (to_be_bytes w64 e.expiry) (permissions e.permissions) (channels e.channels) in
     let made = size_allocation e tx in
     let ps = size_permissions e.permissions in
     let cs = size_channels e.channels in
     omega arith
 
-pub some_bytes : (f : FiveTuple) (e : Entry) → 12 ≤ length (entry (f, e))
+pub some_bytes : (v : Version) (f : FiveTuple) (e : Entry) → 12 ≤ length (entry v (f, e))
 unfolding entry
-some_bytes f e = omega (arith, size5 (five_tuple f) (allocation (allocation_of e)) (to_be_bytes w64 e.expiry) (permissions e.permissions) (channels e.channels))
+some_bytes v f e = omega (arith, size6 (five_tuple f) (allocation (allocation_of e)) (mark v e.token) (to_be_bytes w64 e.expiry) (permissions e.permissions) (channels e.channels))
 
-entry_at_most : (b : Bounds) (p : FiveTuple × Entry) → IsShort b p.1 → length (entry p) ≤ max_entry b
-entry_at_most b p s = omega (arith, size_entry p.0 p.1 s.tx, s.user, s.permissions, s.channels)
+pub mark_at_most : (v : Version) (o : Option Token) → IfSome o (λ k. length k.0 ≡ 8) → 42 + length (mark v o) ≤ entry_size v
+mark_at_most V1 o h = omega arith
+mark_at_most V2 None h = omega arith
+mark_at_most V2 (Some k) h = omega (arith, h)
+
+pub entry_size_most : (v : Version) → entry_size v ≤ 51
+entry_size_most V1 = omega arith
+entry_size_most V2 = omega arith
+
+entry_at_most : (v : Version) (b : Bounds) (p : FiveTuple × Entry) → IsShort b p.1 → length (entry v p) ≤ max_entry v b
+entry_at_most v b p s = omega (arith, size_entry v p.0 p.1 s.tx, mark_at_most v p.1.token s.token, s.user, s.permissions, s.channels)
 
 each_at_most : {A : Type 0} (s : A → List ℕ) (P : A → Type 0) (k : ℕ) → ((x : A) → P x → length (s x) ≤ k) → (xs : List A) → AllByRecursion P xs → length (each s xs) ≤ length xs * k
 each_at_most s P k h [] all = omega arith
 each_at_most s P k h (x ∷ xs) all = omega (arith, length-append (s x) (each s xs), h x all.0, each_at_most s P k h xs all.1)
 
+token_sized : (port : ℕ) (o : Option Token) → IfSome o (IsTokenAfter port) → IfSome o (λ k. length k.0 ≡ 8)
+token_sized port None h = tt
+token_sized port (Some k) h = h.1.size
+
 -- the entries of what has a snapshot
-short_under : (b : Bounds) (t : ℕ) (c : Contents) → IsSnapshot b t c → AllByRecursion (λ p. IsShort b p.1) (fin.entries c.entries)
-short_under b t c s =
+short_under : (v : Version) (b : Bounds) (t : ℕ) (c : Contents) → IsSnapshot v b t c → AllByRecursion (λ p. IsShort b p.1) (fin.entries c.entries)
+short_under v b t c s =
     all_entries tuple_total tuple_exact (λ p. IsShort b p.1) c.entries
-    (λ f e is. let v = s.values f e is in record { user = v.1.made.0.1; tx = v.1.made.3.0; permissions = s.within.permissions f e is; channels = s.within.channels f e is })
+    (λ f e is. let w = s.values f e is in record { user = w.1.made.0.1; tx = w.1.made.3.0; token = token_sized e.port e.token w.1.made.4; permissions = s.within.permissions f e is; channels = s.within.channels f e is })
 
-pub size_snapshot : (t : ℕ) (c : Contents) → length (snapshot t c) ≡ 12 + length (each entry (fin.entries c.entries))
+-- ---- Reserved ports
+
+size_reservation : (r : ℕ × Reservation) → length r.1.token.0 ≡ 8 → length (reservation r) ≡ 18
+size_reservation r size = simp length-append (omega arith)
+
+size_each_of : {A : Type 0} (s : A → List ℕ) (P : A → Type 0) (k : ℕ) → ((x : A) → P x → length (s x) ≡ k) → (xs : List A) → AllByRecursion P xs → length (each s xs) ≡ k * length xs
+size_each_of s P k h [] all = omega arith
+size_each_of s P k h (x ∷ xs) all = omega (arith, length-append (s x) (each s xs), h x all.0, size_each_of s P k h xs all.1)
+
+pub size_reserved : (c : Contents) (t : ℕ) → AreReservationsInRange t c → length (reserved V2 c.reserved) ≡ 4 + 18 * fin.len c.reserved
+unfolding reserved
+size_reserved c t range =
+    let all = all_entries nat_cmp_total nat_cmp-IsAntisymmetric (λ (r : ℕ × Reservation). length r.1.token.0 ≡ 8) c.reserved (λ q r is. (range q r is).token.size) in
+    let one = size_each_of reservation (λ (r : ℕ × Reservation). length r.1.token.0 ≡ 8) 18 size_reservation (fin.entries c.reserved) all in
+    omega (arith, one, len-entries c.reserved, length-append (to_be_bytes w32 (fin.len c.reserved)) (each reservation (fin.entries c.reserved)))
+
+pub reserved_at_most : (v : Version) (b : Bounds) (t : ℕ) (c : Contents) → IsSnapshot v b t c → length (reserved v c.reserved) ≤ max_reserved v b
+unfolding reserved
+reserved_at_most V1 b t c s = omega arith
+reserved_at_most V2 b t c s = omega (arith, size_reserved c t s.reserved, s.within.reserved)
+
+pub max_reserved_small : (v : Version) (b : Bounds) → AreInRange b → max_reserved v b ≤ 18436
+max_reserved_small V1 b range = omega arith
+max_reserved_small V2 b range = omega (arith, range.allocations.1)
+
+-- ---- Snapshots
+
+pub size_snapshot : (v : Version) (t : ℕ) (c : Contents) → length (snapshot v t c) ≡ 12 + length (each (entry v) (fin.entries c.entries)) + length (reserved v c.reserved)
 unfolding snapshot
-size_snapshot t c = length-append (head t (fin.len c.entries)) (each entry (fin.entries c.entries))
+size_snapshot v t c =
+    omega (arith, length-append (head t (fin.len c.entries)) (each (entry v) (fin.entries c.entries) ++ reserved v c.reserved), length-append (each (entry v) (fin.entries c.entries)) (reserved v c.reserved))
 
-pub snapshot_at_most : (b : Bounds) (t : ℕ) (c : Contents) → IsSnapshot b t c → length (snapshot t c) ≤ max_snapshot b
-snapshot_at_most b t c s =
-    let one : length (each entry (fin.entries c.entries)) ≤ length (fin.entries c.entries) * max_entry b = each_at_most entry (λ p. IsShort b p.1) (max_entry b) (entry_at_most b) (fin.entries c.entries) (short_under b t c s) in
+pub snapshot_at_most : (v : Version) (b : Bounds) (t : ℕ) (c : Contents) → IsSnapshot v b t c → length (snapshot v t c) ≤ max_snapshot v b
+snapshot_at_most v b t c s =
+    let one : length (each (entry v) (fin.entries c.entries)) ≤ length (fin.entries c.entries) * max_entry v b = each_at_most (entry v) (λ p. IsShort b p.1) (max_entry v b) (entry_at_most v b) (fin.entries c.entries) (short_under v b t c s) in
     let few : length (fin.entries c.entries) ≤ b.allocations = omega (arith, len-entries c.entries, s.within.allocations) in
-    let two : length (fin.entries c.entries) * max_entry b ≤ b.allocations * max_entry b = mul-le-mul_right (max_entry b) few in
-    omega (arith, one, two, size_snapshot t c)
+    let two : length (fin.entries c.entries) * max_entry v b ≤ b.allocations * max_entry v b = mul-le-mul_right (max_entry v b) few in
+    omega (arith, one, two, size_snapshot v t c, reserved_at_most v b t c s)
 
 -- whatever the limits are
-pub snapshot_small : (b : Bounds) (t : ℕ) (c : Contents) → AreInRange b → IsSnapshot b t c → length (snapshot t c) ≤ 1480716
-snapshot_small b t c range s =
-    let one : b.allocations * max_entry b ≤ 1024 * max_entry b = mul-le-mul_right (max_entry b) range.allocations.1 in
-    omega (arith, one, snapshot_at_most b t c s, range.name_bytes.1, range.permissions.1, range.channels.1)
+pub snapshot_small : (v : Version) (b : Bounds) (t : ℕ) (c : Contents) → AreInRange b → IsSnapshot v b t c → length (snapshot v t c) ≤ 1508368
+snapshot_small v b t c range s =
+    let one : b.allocations * max_entry v b ≤ 1024 * max_entry v b = mul-le-mul_right (max_entry v b) range.allocations.1 in
+    omega (arith, one, snapshot_at_most v b t c s, range.name_bytes.1, range.permissions.1, range.channels.1, entry_size_most v, max_reserved_small v b range)
 
 -- under the max limits too
 all_more : {A : Type 0} (P Q : A → Type 0) → ((x : A) → P x → Q x) → (xs : List A) → AllByRecursion P xs → AllByRecursion Q xs
 all_more P Q h [] all = tt
 all_more P Q h (x ∷ xs) all = (h x all.0, all_more P Q h xs all.1)
 
-pub are_short : (b : Bounds) (t : ℕ) (c : Contents) → AreInRange b → IsSnapshot b t c → AreShort (fin.entries c.entries)
-are_short b t c range s =
+pub are_short : (v : Version) (b : Bounds) (t : ℕ) (c : Contents) → AreInRange b → IsSnapshot v b t c → AreShort (fin.entries c.entries)
+are_short v b t c range s =
     all_more (λ (p : FiveTuple × Entry). IsShort b p.1) (λ p. IsShort max_bounds p.1)
-    (λ p h. record { user = omega (arith, h.user, range.name_bytes); tx = h.tx; permissions = omega (arith, h.permissions, range.permissions); channels = omega (arith, h.channels, range.channels) })
-    (fin.entries c.entries) (short_under b t c s)
+    (λ p h. record { user = omega (arith, h.user, range.name_bytes); tx = h.tx; token = h.token; permissions = omega (arith, h.permissions, range.permissions); channels = omega (arith, h.channels, range.channels) })
+    (fin.entries c.entries) (short_under v b t c s)

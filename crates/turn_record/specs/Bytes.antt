@@ -1,5 +1,5 @@
 -- The bytes of act entries, payloads and snapshots. Numbers have their highest byte first.
-use Rattle.std.specs.Prelude.{ℕ, List, [], ◌∷◌, ◌++◌, length}
+use Rattle.std.specs.Prelude.{ℕ, List, [], ◌∷◌, ◌++◌, length, Option, None, Some}
 use Rattle.std.specs.Int.{to_be_bytes, w16, w32, w64}
 use Rattle.std.specs.Ordering.{nat_cmp}
 use Rattle.std.specs.FinMap as fin
@@ -8,8 +8,12 @@ use Rattle.turn_history.specs.History.{PlainAct, Allocates, Renews, Permits, Bin
 use Rattle.turn_history.specs.Laws.{allocation_of}
 use Rattle.turn_history.specs.Table.{Entry, Contents}
 use Rattle.turn_history.specs.declared.channel.Channel.{Channel}
+use Rattle.turn_history.specs.declared.reservation.Reservation.{Reservation}
+use Rattle.turn_record.specs.declared.version.Version.{Version}
+use Rattle.turn_record.specs.declared.version.Version.TheVariants.{V1, V2}
 use Rattle.turn_types.specs.declared.address.Endpoint.{Endpoint}
 use Rattle.turn_types.specs.declared.address.FiveTuple.{FiveTuple}
+use Rattle.turn_types.specs.declared.message.Token.{Token}
 
 -- the fields, one after the other
 abbrev pub joined : List (List ℕ) → List ℕ
@@ -31,10 +35,11 @@ five_tuple f = joined (endpoint f.client ∷ endpoint f.server ∷ [])
 abbrev pub name : List ℕ → List ℕ
 name user = to_be_bytes w16 (length user) ++ user
 
--- ---- Act entries
+-- ---- Act entries, of which version 1 has those without a token alone
 
 abbrev pub tag : PlainAct → ℕ
-tag (Allocates user port granted tx) = 1
+tag (Allocates user port granted tx None) = 1
+tag (Allocates user port granted tx (Some token)) = 5
 tag (Renews granted) = 2
 tag (Permits addresses) = 3
 tag (Binds number peer) = 4
@@ -47,7 +52,8 @@ addresses xs = (length xs ∷ []) ++ each (to_be_bytes w32) xs
 
 -- what follows the five-tuple
 abbrev pub body : PlainAct → List ℕ
-body (Allocates user port granted tx) = allocation (record { user = user; port = port; granted = granted; tx = tx })
+body (Allocates user port granted tx None) = allocation (record { user = user; port = port; granted = granted; tx = tx; token = None })
+body (Allocates user port granted tx (Some token)) = allocation (record { user = user; port = port; granted = granted; tx = tx; token = Some token }) ++ token.0
 body (Renews granted) = to_be_bytes w32 granted
 body (Permits xs) = addresses xs
 body (Binds number peer) = joined (to_be_bytes w16 number ∷ endpoint peer ∷ [])
@@ -78,14 +84,29 @@ channel c = joined (to_be_bytes w16 c.0 ∷ endpoint c.1.peer ∷ to_be_bytes w6
 unfoldable pub channels : FinMap nat_cmp Channel → List ℕ
 channels m = (fin.len m ∷ []) ++ each channel (fin.entries m)
 
-unfoldable pub entry : FiveTuple × Entry → List ℕ
-entry p =
-    joined (five_tuple p.0 ∷ allocation (allocation_of p.1) ∷ to_be_bytes w64 p.1.expiry ∷ permissions p.1.permissions ∷ channels p.1.channels ∷ [])
+-- whether an entry has a token, and which: in version 2 alone
+abbrev pub mark : Version → Option Token → List ℕ
+mark V1 token = []
+mark V2 None = 0 ∷ []
+mark V2 (Some token) = 1 ∷ token.0
+
+unfoldable pub entry : Version → FiveTuple × Entry → List ℕ
+entry v p =
+    joined (five_tuple p.0 ∷ allocation (allocation_of p.1) ∷ mark v p.1.token ∷ to_be_bytes w64 p.1.expiry ∷ permissions p.1.permissions ∷ channels p.1.channels ∷ [])
 
 -- a moment, and the number of entries
 abbrev pub head : ℕ → ℕ → List ℕ
 head t count = joined (to_be_bytes w64 t ∷ to_be_bytes w32 count ∷ [])
 
--- a table at a moment, ascending by five-tuple, which is by its twelve bytes
-unfoldable pub snapshot : ℕ → Contents → List ℕ
-snapshot t c = head t (fin.len c.entries) ++ each entry (fin.entries c.entries)
+-- a reserved port, its token, and when the reservation expires
+abbrev pub reservation : ℕ × Reservation → List ℕ
+reservation r = joined (to_be_bytes w16 r.0 ∷ r.1.token.0 ∷ to_be_bytes w64 r.1.expiry ∷ [])
+
+-- the reserved ports, ascending: in version 2 alone
+unfoldable pub reserved : Version → FinMap nat_cmp Reservation → List ℕ
+reserved V1 m = []
+reserved V2 m = to_be_bytes w32 (fin.len m) ++ each reservation (fin.entries m)
+
+-- a table at a moment, ascending by five-tuple, which is by its twelve bytes, and the reserved ports after the entries
+unfoldable pub snapshot : Version → ℕ → Contents → List ℕ
+snapshot v t c = head t (fin.len c.entries) ++ (each (entry v) (fin.entries c.entries) ++ reserved v c.reserved)

@@ -1,27 +1,53 @@
 -- A snapshot that is read as far as a place: what the bytes give that follow.
-use Rattle.std.specs.Prelude.{◌≡◌, ◌⊎◌, ℕ, ◌<◌, List, [], ◌++◌, Bool, true, false, Option, Some, None, Result, Ok, Err}
+use Rattle.std.specs.Prelude.{◌≡◌, ◌⊎◌, ℕ, zero, suc, ◌+◌, ◌<◌, ◌≤◌, ◌==◌, ◌&&◌, List, [], ◌++◌, Bool, true, false, Option, Some, None, Result, Ok, Err, refl}
+use Rattle.std.proofs.Common.{inl, inr}
+use Rattle.std.specs.Coded.{Coded, code_by, coded⊎, coded_ℕ}
 use Rattle.std.specs.FinMap as fin
 use Rattle.turn_history.specs.Table.{Contents}
 use Rattle.turn_record.specs.declared.fault.Malformed.{Malformed}
 use Rattle.turn_record.specs.declared.fault.Malformed.TheVariants.{Short, BadTag, BadValue, OutOfOrder, TrailingBytes}
 use Rattle.turn_record.specs.declared.fault.ReadError.{ReadError}
+use Rattle.turn_record.specs.declared.restored.Remaining.{Remaining}
+use Rattle.turn_record.specs.declared.restored.Remaining.TheVariants.{Entries, Reserved}
+use Rattle.turn_record.specs.declared.version.Version.{Version}
+use Rattle.turn_record.specs.declared.version.Version.TheVariants.{V1, V2}
 use Rattle.turn_record.specs.Reading.{Field, Fails, whole}
-use Rattle.turn_record.specs.Snapshots.{entry_at, head_at, table_at, snapshot_in}
+use Rattle.turn_record.specs.Snapshots.{entry_at, total_at, reservation_at, head_at, table_at, reserving_at, snapshot_in}
 use Rattle.turn_table.specs.State.{State}
 use Rattle.turn_types.specs.declared.limits.Bounds.{Bounds}
 
--- a table that is being restored, and how many entries are still to come
-abbrev pub Place : Type 0
-Place = State × ℕ
+-- the code of what is still to come, for the model of the type that holds it
+abbrev pub remaining_cases : Remaining → ℕ ⊎ ℕ
+remaining_cases (Entries n) = inl n
+remaining_cases (Reserved n) = inr n
 
--- the entries that are still to come, read after those of the table
-abbrev pub more_at : Place → List ℕ → Field (ℕ × Contents)
-more_at p bytes = table_at p.0.bounds p.0.moment p.1 (fin.entries p.0.contents.entries) bytes
+abbrev pub remaining_of : ℕ ⊎ ℕ → Remaining
+remaining_of (inl n) = Entries n
+remaining_of (inr n) = Reserved n
+
+abbrev pub remaining_again : (r : Remaining) → remaining_of (remaining_cases r) ≡ r
+remaining_again (Entries n) = refl
+remaining_again (Reserved n) = refl
+
+abbrev pub remaining_code : Coded Remaining
+remaining_code = code_by (ℕ ⊎ ℕ) (coded⊎ coded_ℕ coded_ℕ) remaining_cases remaining_of remaining_again
+
+-- a table that is being restored, and what is still to come
+abbrev pub Place : Type 0
+Place = State × Remaining
+
+abbrev pub remaining_at : Version → State → Remaining → List ℕ → Field (ℕ × Contents)
+remaining_at v s (Entries n) bytes = table_at v s.bounds s.moment n (fin.entries s.contents.entries) bytes
+remaining_at v s (Reserved n) bytes = reserving_at s.moment n (fin.entries s.contents.entries) (fin.entries s.contents.reserved) bytes
+
+-- what is still to come, read after what the table has
+abbrev pub more_at : Version → Place → List ℕ → Field (ℕ × Contents)
+more_at v p bytes = remaining_at v p.0 p.1 bytes
 
 -- what bytes give that follow those that led to a place; with none, not even the first twelve bytes were whole
-unfoldable pub gives : Bounds → Option Place → List ℕ → Result (ℕ × Contents) Malformed
-gives b None bytes = snapshot_in b bytes
-gives b (Some p) bytes = whole (more_at p bytes)
+unfoldable pub gives : Version → Bounds → Option Place → List ℕ → Result (ℕ × Contents) Malformed
+gives v b None bytes = snapshot_in v b bytes
+gives v b (Some p) bytes = whole (more_at v p bytes)
 
 -- What a step returned: the same is given from there on, or what was given is this refusal.
 abbrev pub Steps : {X Y : Type 0} → (X → Result Y Malformed) → Result X ReadError → Result Y Malformed → Type 0
@@ -41,16 +67,42 @@ is_short BadValue = false
 is_short OutOfOrder = false
 is_short TrailingBytes = false
 
--- these bytes are the front of an entry, and not a whole one; or the last entry was read
-abbrev pub IsWaitingAt : Place → List ℕ → Type 0
-IsWaitingAt p bytes = ((p.1 ≡ 0) × (bytes ≡ [])) ⊎ ((0 < p.1) × (entry_at p.0.bounds p.0.moment (fin.entries p.0.contents.entries) bytes ≡ Err Short))
+-- a table has room for what is still to come, and no reserved ports before all entries are there
+abbrev pub HasRoom : State → Remaining → Type 0
+HasRoom s (Entries n) = (fin.len s.contents.entries + n ≤ s.bounds.allocations) × (fin.entries s.contents.reserved ≡ [])
+HasRoom s (Reserved n) = fin.len s.contents.reserved + n ≤ s.bounds.allocations
 
-abbrev pub IsWaiting : Bounds → Option Place → List ℕ → Type 0
-IsWaiting b None bytes = head_at b bytes ≡ Err Short
-IsWaiting b (Some p) bytes = IsWaitingAt p bytes
+-- after the last entry nothing follows
+abbrev pub ends_with_entries : Version → Bool
+ends_with_entries V1 = true
+ends_with_entries V2 = false
 
--- What taking one entry from the front of bytes came to: the table has it, and the rest is read on from there; or it isn't whole yet; or a refusal.
-abbrev pub Takes : {X : Type 0} → (X → List ℕ) → Place → Place → Result (Option X) ReadError → List ℕ → Type 0
-Takes rest p q (Ok (Some x)) bytes = (q.1 < p.1) × ((more : List ℕ) → more_at p (bytes ++ more) ≡ more_at q (rest x ++ more))
-Takes rest p q (Ok None) bytes = (q ≡ p) × (entry_at p.0.bounds p.0.moment (fin.entries p.0.contents.entries) bytes ≡ Err Short)
-Takes rest p q (Err e) bytes = (more : List ℕ) → Fails e (more_at p (bytes ++ more))
+-- nothing is still to come
+abbrev pub is_done : Version → Remaining → Bool
+is_done v (Entries n) = ends_with_entries v && (n == 0)
+is_done v (Reserved n) = n == 0
+
+-- The next item is not whole: an entry, after the last one the count of the reserved ports, or a reserved port.
+abbrev pub IsCut : Version → State → Remaining → List ℕ → Type 0
+IsCut v s (Entries zero) bytes = total_at s.bounds bytes ≡ Err Short
+IsCut v s (Entries (suc n)) bytes = entry_at v s.bounds s.moment (fin.entries s.contents.entries) bytes ≡ Err Short
+IsCut v s (Reserved n) bytes = reservation_at s.moment (fin.entries s.contents.entries) (fin.entries s.contents.reserved) bytes ≡ Err Short
+
+-- these bytes are the front of an item, and not a whole one; or the last item was read
+abbrev pub IsWaitingAt : Version → Place → List ℕ → Type 0
+IsWaitingAt v p bytes = ((is_done v p.1 ≡ true) × (bytes ≡ [])) ⊎ ((is_done v p.1 ≡ false) × IsCut v p.0 p.1 bytes)
+
+abbrev pub IsWaiting : Version → Bounds → Option Place → List ℕ → Type 0
+IsWaiting v b None bytes = head_at b bytes ≡ Err Short
+IsWaiting v b (Some p) bytes = IsWaitingAt v p bytes
+
+-- at most so many items are still to come
+abbrev pub most_items : Bounds → Remaining → ℕ
+most_items b (Entries n) = n + 1 + b.allocations
+most_items b (Reserved n) = n
+
+-- What taking one item from the front of bytes came to: the table has it, and the rest is read on from there; or it isn't whole yet; or a refusal.
+abbrev pub Takes : {X : Type 0} → Version → (X → List ℕ) → Place → Place → Result (Option X) ReadError → List ℕ → Type 0
+Takes v rest p q (Ok (Some x)) bytes = (most_items q.0.bounds q.1 < most_items p.0.bounds p.1) × ((more : List ℕ) → more_at v p (bytes ++ more) ≡ more_at v q (rest x ++ more))
+Takes v rest p q (Ok None) bytes = (q ≡ p) × IsCut v p.0 p.1 bytes
+Takes v rest p q (Err e) bytes = (more : List ℕ) → Fails e (more_at v p (bytes ++ more))

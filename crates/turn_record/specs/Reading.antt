@@ -1,6 +1,6 @@
 -- Reading from the left, with the first fault that is met: the fields as they stand, at one field the first condition that fails, a condition over several
 -- fields at the last one that it needs, and bytes after the last field at the end.
-use Rattle.std.specs.Prelude.{◌≡◌, ℕ, zero, suc, ◌-◌, ◌^◌, Bool, true, not, ◌&&◌, ◌||◌, List, [], ◌∷◌, ◌++◌, length, take, drop, Option, Some, None, Result, Ok, Err, slice_get, nat_lt, nat_le, nat_eq, ◌==◌, if◌then◌else◌}
+use Rattle.std.specs.Prelude.{◌≡◌, ℕ, zero, suc, ◌-◌, ◌^◌, Bool, true, not, ◌&&◌, ◌||◌, List, [], ◌∷◌, ◌++◌, length, take, drop, Option, Some, None, Result, Ok, Err, slice_get, nat_lt, nat_le, nat_eq, ◌==◌, ◌+◌, ◌%◌, if◌then◌else◌}
 use Rattle.std.specs.List.{list_any}
 use Rattle.std.specs.Int.{Width, w16, w32, w64, byte_len, from_be_bytes}
 use Rattle.turn_history.specs.History.{PlainAct, Allocates, Renews, Permits, Binds, Allocation, Event}
@@ -8,9 +8,12 @@ use Rattle.turn_record.specs.declared.fault.Malformed.{Malformed}
 use Rattle.turn_record.specs.declared.fault.Malformed.TheVariants.{Short, BadTag, BadValue, OutOfOrder, TrailingBytes}
 use Rattle.turn_record.specs.declared.fault.ReadError.{ReadError}
 use Rattle.turn_record.specs.declared.fault.ReadError.TheVariants as errors
+use Rattle.turn_record.specs.declared.version.Version.{Version}
+use Rattle.turn_record.specs.declared.version.Version.TheVariants.{V1, V2}
 use Rattle.turn_types.specs.declared.address.Endpoint.{Endpoint}
 use Rattle.turn_types.specs.declared.address.FiveTuple.{FiveTuple}
 use Rattle.turn_types.specs.declared.limits.Bounds.{Bounds}
+use Rattle.turn_types.specs.declared.message.Token.{Token}
 use Rattle.turn_types.specs.declared.message.TxId.{TxId}
 
 infixl 10 ◌>>=◌
@@ -104,6 +107,21 @@ tx_at bytes = do
   t ← bytes_at 12 bytes
   Ok (record { 0 = t.0 }, t.1)
 
+unfoldable pub token_bytes_at : List ℕ → Field Token
+token_bytes_at bytes = do
+  k ← bytes_at 8 bytes
+  Ok (record { 0 = k.0 }, k.1)
+
+-- a token begins with the two bytes of its port
+abbrev pub begins_with : ℕ → Token → Bool
+begins_with port token = from_be_bytes w16 (take 2 token.0) == port
+
+-- the token of a port
+unfoldable pub token_at : ℕ → List ℕ → Field Token
+token_at port bytes = do
+  k ← token_bytes_at bytes
+  judged (begins_with port k.0) BadValue k
+
 unfoldable pub channel_number_at : List ℕ → Field ℕ
 channel_number_at bytes = do
   n ← number_at w16 bytes
@@ -129,12 +147,27 @@ allocation_at b free bytes = do
   port ← port_at free user.1
   granted ← granted_at port.1
   tx ← tx_at granted.1
-  Ok (record { user = user.0; port = port.0; granted = granted.0; tx = tx.0 }, tx.1)
+  Ok (record { user = user.0; port = port.0; granted = granted.0; tx = tx.0; token = None }, tx.1)
 
 abbrev pub allocated_at : Bounds → List ℕ → Field PlainAct
 allocated_at b bytes = do
   a ← allocation_at b (λ port. true) bytes
-  Ok (Allocates a.0.user a.0.port a.0.granted a.0.tx, a.1)
+  Ok (Allocates a.0.user a.0.port a.0.granted a.0.tx None, a.1)
+
+abbrev pub is_even : ℕ → Bool
+is_even port = port % 2 == 0
+
+-- an allocation with an even port, and the token of the next one
+unfoldable pub pair_at : Bounds → List ℕ → Field Allocation
+pair_at b bytes = do
+  a ← allocation_at b is_even bytes
+  k ← token_at (a.0.port + 1) a.1
+  Ok (record { user = a.0.user; port = a.0.port; granted = a.0.granted; tx = a.0.tx; token = Some k.0 }, k.1)
+
+abbrev pub allocated_even_at : Bounds → List ℕ → Field PlainAct
+allocated_even_at b bytes = do
+  a ← pair_at b bytes
+  Ok (Allocates a.0.user a.0.port a.0.granted a.0.tx a.0.token, a.1)
 
 unfoldable pub address_at : List ℕ → List ℕ → Field ℕ
 address_at before bytes = do
@@ -176,12 +209,18 @@ body_at b tag bytes =
     if tag == 1 then allocated_at b bytes
     else if tag == 2 then renews_at bytes
     else if tag == 3 then permits_at b bytes
-    else bound_at bytes
+    else if tag == 4 then bound_at bytes
+    else allocated_even_at b bytes
 
-unfoldable pub tag_at : List ℕ → Field ℕ
-tag_at bytes = do
+-- tag 5 is of version 2 alone
+abbrev pub max_tag : Version → ℕ
+max_tag V1 = 4
+max_tag V2 = 5
+
+unfoldable pub tag_at : Version → List ℕ → Field ℕ
+tag_at v bytes = do
   t ← byte_at bytes
-  judged (nat_le 1 t.0 && nat_le t.0 4) BadTag t
+  judged (nat_le 1 t.0 && nat_le t.0 (max_tag v)) BadTag t
 
 -- a moment that is not below those before
 unfoldable pub moment_after : List Event → List ℕ → Field ℕ
@@ -189,26 +228,26 @@ moment_after before bytes = do
   m ← moment_at bytes
   judged (last_passes (λ last. nat_le last.moment m.0) before) OutOfOrder m
 
-unfoldable pub event_at : Bounds → List Event → List ℕ → Field Event
-event_at b before bytes = do
-  t ← tag_at bytes
+unfoldable pub event_at : Version → Bounds → List Event → List ℕ → Field Event
+event_at v b before bytes = do
+  t ← tag_at v bytes
   m ← moment_after before t.1
   f ← tuple_at m.1
   d ← body_at b t.0 f.1
   Ok (record { moment = m.0; tuple = f.0; act = d.0 }, d.1)
 
-unfoldable pub events_at : Bounds → List ℕ → Field (List Event)
-events_at b bytes = do
+unfoldable pub events_at : Version → Bounds → List ℕ → Field (List Event)
+events_at v b bytes = do
   n ← count_at 1 b.acts bytes
-  many (event_at b) n.0 [] n.1
+  many (event_at v b) n.0 [] n.1
 
 -- all of the bytes
 abbrev pub whole : {A : Type 0} → Field A → Result A Malformed
 whole read = read >>= λ x. if length x.1 == 0 then Ok x.0 else Err TrailingBytes
 
 -- what a byte list spells, or the first fault
-unfoldable pub act_in : Bounds → List ℕ → Result Event Malformed
-act_in b bytes = whole (event_at b [] bytes)
+unfoldable pub act_in : Version → Bounds → List ℕ → Result Event Malformed
+act_in v b bytes = whole (event_at v b [] bytes)
 
-unfoldable pub payload_in : Bounds → List ℕ → Result (List Event) Malformed
-payload_in b bytes = whole (events_at b bytes)
+unfoldable pub payload_in : Version → Bounds → List ℕ → Result (List Event) Malformed
+payload_in v b bytes = whole (events_at v b bytes)

@@ -1,65 +1,96 @@
 -- What bytes spell. The ranges of values are those of fitting histories, so what such a history holds has a spelling.
 use Rattle.std.specs.Prelude.{◌≡◌, ℕ, ◌+◌, ◌-◌, ◌*◌, ◌^◌, ◌<◌, ◌≤◌, List, length, max}
 use Rattle.std.specs.List.{AllByRecursion}
-use Rattle.turn_history.specs.Fitting.{IsInRange, AreEntriesInRange}
+use Rattle.turn_history.specs.Fitting.{IsInRange, AreEntriesInRange, AreReservationsInRange}
 use Rattle.turn_history.specs.History.{PlainAct, Allocates, Renews, Permits, Binds, Event}
-use Rattle.turn_history.specs.Laws.{NeverFall, PortsApart, PeersApart, IsWithin}
+use Rattle.turn_history.specs.Laws.{HasNoTokens, NeverFall, PortsApart, ReservedApart, PeersApart, IsWithin, ReservesNone}
 use Rattle.turn_history.specs.Table.{Contents}
 use Rattle.turn_types.specs.declared.limits.Bounds.{Bounds}
 use Rattle.turn_record.specs.Bytes.{act_entry, payload, snapshot}
+use Rattle.turn_record.specs.declared.version.Version.{Version}
+use Rattle.turn_record.specs.declared.version.Version.TheVariants.{V1, V2}
+
+-- what a version can hold: version 1 no tokens and no reserved ports
+abbrev pub Writes : Version → PlainAct → Type 0
+Writes V1 d = ReservesNone d
+Writes V2 d = Unit {0}
+
+abbrev pub Holds : Version → Contents → Type 0
+Holds V1 c = HasNoTokens c
+Holds V2 c = Unit {0}
 
 -- bytes spell an act entry, all of them
-pub record SpellsAct (b : Bounds) (e : Event) (bytes : List ℕ) : Type 0 where
+pub record SpellsAct (v : Version) (b : Bounds) (e : Event) (bytes : List ℕ) : Type 0 where
+  pub writes : Writes v e.act
   pub in_range : IsInRange b e
   pub is : bytes ≡ act_entry e
 
 -- its lengths fit the bytes that they are written in
 abbrev pub HasShortParts : PlainAct → Type 0
-HasShortParts (Allocates user port granted tx) = (length user < 2 ^ 16) × (length tx.0 ≡ 12)
+HasShortParts (Allocates user port granted tx token) = (length user < 2 ^ 16) × (length tx.0 ≡ 12)
 HasShortParts (Renews granted) = Unit {0}
 HasShortParts (Permits xs) = length xs < 256
 HasShortParts (Binds number peer) = Unit {0}
 
 -- the events of one frame
-pub record IsBatch (b : Bounds) (es : List Event) : Type 0 where
+pub record IsBatch (v : Version) (b : Bounds) (es : List Event) : Type 0 where
   pub some : 1 ≤ length es
   pub few : length es ≤ b.acts
   pub in_range : AllByRecursion (IsInRange b) es
   pub later : NeverFall es
+  pub writes : AllByRecursion (λ e. Writes v e.act) es
 
 -- bytes spell a payload, all of them
-pub record SpellsPayload (b : Bounds) (es : List Event) (bytes : List ℕ) : Type 0 where
-  pub batch : IsBatch b es
+pub record SpellsPayload (v : Version) (b : Bounds) (es : List Event) (bytes : List ℕ) : Type 0 where
+  pub batch : IsBatch v b es
   pub is : bytes ≡ payload es
 
 -- a table at a moment that a snapshot can hold: all of it is ahead of the moment, in its range and within the limits,
--- and no port and no peer stands twice
-pub record IsSnapshot (b : Bounds) (t : ℕ) (c : Contents) : Type 0 where
+-- no port and no peer stands twice, and the version can hold it
+pub record IsSnapshot (v : Version) (b : Bounds) (t : ℕ) (c : Contents) : Type 0 where
   pub moment : t < 2 ^ 40 - 3600
+  pub holds : Holds v c
   pub values : AreEntriesInRange b t c
+  pub reserved : AreReservationsInRange t c
+  pub reserved_apart : ReservedApart c
   pub within : IsWithin b c
   pub ports : PortsApart c
   pub peers : PeersApart c
 
 -- bytes spell a snapshot, all of them
-pub record SpellsSnapshot (b : Bounds) (t : ℕ) (c : Contents) (bytes : List ℕ) : Type 0 where
-  pub fits : IsSnapshot b t c
-  pub is : bytes ≡ snapshot t c
+pub record SpellsSnapshot (v : Version) (b : Bounds) (t : ℕ) (c : Contents) (bytes : List ℕ) : Type 0 where
+  pub fits : IsSnapshot v b t c
+  pub is : bytes ≡ snapshot v t c
 
 -- ---- Sizes
 
+-- of the act entry of an Alloc without its user, at most
+abbrev pub alloc_size : Version → ℕ
+alloc_size V1 = 41
+alloc_size V2 = 49
+
+-- of an entry of a snapshot without its user, permissions and channels, at most
+abbrev pub entry_size : Version → ℕ
+entry_size V1 = 42
+entry_size V2 = 51
+
 -- of an act entry under the limits
-abbrev pub max_act : Bounds → ℕ
-max_act b = max (max (41 + b.name_bytes) (22 + 4 * b.permissions)) 29
+abbrev pub max_act : Version → Bounds → ℕ
+max_act v b = max (max (alloc_size v + b.name_bytes) (22 + 4 * b.permissions)) 29
 
 -- of a payload under the limits
-abbrev pub max_payload : Bounds → ℕ
-max_payload b = 1 + b.acts * max_act b
+abbrev pub max_payload : Version → Bounds → ℕ
+max_payload v b = 1 + b.acts * max_act v b
 
 -- of an entry of a snapshot under the limits
-abbrev pub max_entry : Bounds → ℕ
-max_entry b = 42 + b.name_bytes + 12 * b.permissions + 16 * b.channels
+abbrev pub max_entry : Version → Bounds → ℕ
+max_entry v b = entry_size v + b.name_bytes + 12 * b.permissions + 16 * b.channels
+
+-- of the reserved ports under the limits
+abbrev pub max_reserved : Version → Bounds → ℕ
+max_reserved V1 b = 0
+max_reserved V2 b = 4 + 18 * b.allocations
 
 -- of a snapshot under the limits
-abbrev pub max_snapshot : Bounds → ℕ
-max_snapshot b = 12 + b.allocations * max_entry b
+abbrev pub max_snapshot : Version → Bounds → ℕ
+max_snapshot v b = 12 + b.allocations * max_entry v b + max_reserved v b

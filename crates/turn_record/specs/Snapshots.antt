@@ -1,7 +1,7 @@
 -- Reading a snapshot from the left, with the first fault that is met.
-use Rattle.std.specs.Prelude.{ℕ, ◌+◌, not, ◌&&◌, List, [], Result, Ok, nat_lt, nat_le, ◌==◌, Bool}
+use Rattle.std.specs.Prelude.{ℕ, ◌+◌, not, ◌&&◌, ◌||◌, List, [], Option, Some, None, Result, Ok, nat_lt, nat_le, nat_eq, ◌==◌, Bool, if◌then◌else◌}
 use Rattle.std.specs.List.{list_any}
-use Rattle.std.specs.Int.{w32, w64}
+use Rattle.std.specs.Int.{w16, w32, w64}
 use Rattle.std.specs.Ordering.{nat_cmp, is_lt}
 use Rattle.std.specs.FinMap as fin
 use Rattle.std.specs.FinMap.{FinMap}
@@ -9,13 +9,17 @@ use Rattle.turn_history.specs.Fitting.{is_peer}
 use Rattle.turn_history.specs.History.{Allocation}
 use Rattle.turn_history.specs.Table.{Entry, Contents}
 use Rattle.turn_history.specs.declared.channel.Channel.{Channel}
+use Rattle.turn_history.specs.declared.reservation.Reservation.{Reservation}
 use Rattle.turn_record.specs.declared.fault.Malformed.{Malformed}
 use Rattle.turn_record.specs.declared.fault.Malformed.TheVariants.{BadValue, OutOfOrder}
-use Rattle.turn_record.specs.Reading.{◌>>=◌, Field, last_passes, judged, number_at, many, moment_at, endpoint_at, tuple_at, allocation_at, channel_number_at, count_at, whole}
+use Rattle.turn_record.specs.Reading.{◌>>=◌, Field, last_passes, judged, byte_at, number_at, many, moment_at, endpoint_at, tuple_at, allocation_at, is_even, token_at, channel_number_at, count_at, whole}
+use Rattle.turn_record.specs.declared.version.Version.{Version}
+use Rattle.turn_record.specs.declared.version.Version.TheVariants.{V1, V2}
 use Rattle.turn_types.specs.FiveTuple.{tuple_cmp}
 use Rattle.turn_types.specs.declared.address.Endpoint.{Endpoint}
 use Rattle.turn_types.specs.declared.address.FiveTuple.{FiveTuple}
 use Rattle.turn_types.specs.declared.limits.Bounds.{Bounds}
+use Rattle.turn_types.specs.declared.message.Token.{Token}
 
 -- when something expires: after the moment t, and by at most so many seconds
 unfoldable pub expiry_at : ℕ → ℕ → List ℕ → Field ℕ
@@ -87,18 +91,83 @@ tuple_after before bytes = do
 abbrev pub is_free_after : List (FiveTuple × Entry) → ℕ → Bool
 is_free_after before port = not (list_any (λ e. e.1.port == port) before)
 
--- an entry of what its Allocate gave, when it expires, its permissions and its channels
-abbrev pub entry_with : Allocation → ℕ → FinMap nat_cmp ℕ → FinMap nat_cmp Channel → Entry
-entry_with a x ps cs = record { user = a.user; port = a.port; granted = a.granted; tx = a.tx; expiry = x; permissions = ps; channels = cs }
+-- 1 where a token follows, which is beside an even port alone, and else 0
+unfoldable pub mark_byte_at : ℕ → List ℕ → Field ℕ
+mark_byte_at port bytes = do
+  m ← byte_at bytes
+  judged (nat_eq m.0 0 || (nat_eq m.0 1 && is_even port)) BadValue m
 
-unfoldable pub entry_at : Bounds → ℕ → List (FiveTuple × Entry) → List ℕ → Field (FiveTuple × Entry)
-entry_at b t before bytes = do
+abbrev pub some_token_at : ℕ → List ℕ → Field (Option Token)
+some_token_at port bytes = do
+  k ← token_at port bytes
+  Ok (Some k.0, k.1)
+
+-- after a mark
+unfoldable pub token_if_at : ℕ → ℕ → List ℕ → Field (Option Token)
+token_if_at port mark bytes = if mark == 0 then Ok (None, bytes) else some_token_at (port + 1) bytes
+
+-- the token of an entry with this port, if it has one: in version 2 alone
+unfoldable pub mark_at : Version → ℕ → List ℕ → Field (Option Token)
+mark_at V1 port bytes = Ok (None, bytes)
+mark_at V2 port bytes = do
+  m ← mark_byte_at port bytes
+  token_if_at port m.0 m.1
+
+-- an entry of what its Allocate gave, its token, when it expires, its permissions and its channels
+abbrev pub entry_with : Allocation → Option Token → ℕ → FinMap nat_cmp ℕ → FinMap nat_cmp Channel → Entry
+entry_with a k x ps cs = record { user = a.user; port = a.port; granted = a.granted; tx = a.tx; token = k; expiry = x; permissions = ps; channels = cs }
+
+unfoldable pub entry_at : Version → Bounds → ℕ → List (FiveTuple × Entry) → List ℕ → Field (FiveTuple × Entry)
+entry_at v b t before bytes = do
   f ← tuple_after before bytes
   a ← allocation_at b (is_free_after before) f.1
-  x ← expiry_at t 3600 a.1
+  k ← mark_at v a.0.port a.1
+  x ← expiry_at t 3600 k.1
   ps ← permissions_at b t x.1
   cs ← channels_at b t ps.1
-  Ok ((f.0, entry_with a.0 x.0 ps.0 cs.0), cs.1)
+  Ok ((f.0, entry_with a.0 k.0 x.0 ps.0 cs.0), cs.1)
+
+-- ---- Counts
+
+-- how many entries there are, or reserved ports
+unfoldable pub total_at : Bounds → List ℕ → Field ℕ
+total_at b bytes = do
+  n ← number_at w32 bytes
+  judged (nat_le n.0 b.allocations) BadValue n
+
+-- ---- Reserved ports
+
+-- an odd port that no entry has
+unfoldable pub odd_port_at : List (FiveTuple × Entry) → List ℕ → Field ℕ
+odd_port_at entries bytes = do
+  q ← number_at w16 bytes
+  judged (not (is_even q.0) && is_free_after entries q.0) BadValue q
+
+-- above the last one
+unfoldable pub reserved_port_after : List (FiveTuple × Entry) → List (ℕ × Reservation) → List ℕ → Field ℕ
+reserved_port_after entries before bytes = do
+  q ← odd_port_at entries bytes
+  judged (last_passes (λ last. nat_lt last.0 q.0) before) OutOfOrder q
+
+unfoldable pub reservation_at : ℕ → List (FiveTuple × Entry) → List (ℕ × Reservation) → List ℕ → Field (ℕ × Reservation)
+reservation_at t entries before bytes = do
+  q ← reserved_port_after entries before bytes
+  k ← token_at q.0 q.1
+  x ← expiry_at t 30 k.1
+  Ok ((q.0, record { token = k.0; expiry = x.0 }), x.1)
+
+-- n reserved ports more, and the table that they make with those before them and the entries, at the moment t
+unfoldable pub reserving_at : ℕ → ℕ → List (FiveTuple × Entry) → List (ℕ × Reservation) → List ℕ → Field (ℕ × Contents)
+reserving_at t n entries before bytes = do
+  rs ← many (reservation_at t entries) n before bytes
+  Ok ((t, record { entries = fin.from_sorted entries; reserved = fin.from_sorted rs.0 }), rs.1)
+
+-- a count and as many reserved ports, in version 2, and the table that they make with the entries
+unfoldable pub reserved_at : Version → Bounds → ℕ → List (FiveTuple × Entry) → List ℕ → Field (ℕ × Contents)
+reserved_at V1 b t entries bytes = Ok ((t, record { entries = fin.from_sorted entries; reserved = fin.from_sorted [] }), bytes)
+reserved_at V2 b t entries bytes = do
+  n ← total_at b bytes
+  reserving_at t n.0 entries [] n.1
 
 -- ---- Snapshots
 
@@ -107,28 +176,23 @@ pub record Head : Type 0 where
   pub moment : ℕ
   pub count : ℕ
 
-unfoldable pub entry_count_at : Bounds → List ℕ → Field ℕ
-entry_count_at b bytes = do
-  n ← number_at w32 bytes
-  judged (nat_le n.0 b.allocations) BadValue n
-
 unfoldable pub head_at : Bounds → List ℕ → Field Head
 head_at b bytes = do
   t ← moment_at bytes
-  n ← entry_count_at b t.1
+  n ← total_at b t.1
   Ok (record { moment = t.0; count = n.0 }, n.1)
 
--- n entries more, and the table that they make with those before them, at the moment t
-unfoldable pub table_at : Bounds → ℕ → ℕ → List (FiveTuple × Entry) → List ℕ → Field (ℕ × Contents)
-table_at b t n before bytes = do
-  es ← many (entry_at b t) n before bytes
-  Ok ((t, record { entries = fin.from_sorted es.0 }), es.1)
+-- n entries more, and what follows them
+unfoldable pub table_at : Version → Bounds → ℕ → ℕ → List (FiveTuple × Entry) → List ℕ → Field (ℕ × Contents)
+table_at v b t n before bytes = do
+  es ← many (entry_at v b t) n before bytes
+  reserved_at v b t es.0 es.1
 
-unfoldable pub snapshot_at : Bounds → List ℕ → Field (ℕ × Contents)
-snapshot_at b bytes = do
+unfoldable pub snapshot_at : Version → Bounds → List ℕ → Field (ℕ × Contents)
+snapshot_at v b bytes = do
   h ← head_at b bytes
-  table_at b h.0.moment h.0.count [] h.1
+  table_at v b h.0.moment h.0.count [] h.1
 
 -- the table and its moment that a byte list spells, or the first fault
-unfoldable pub snapshot_in : Bounds → List ℕ → Result (ℕ × Contents) Malformed
-snapshot_in b bytes = whole (snapshot_at b bytes)
+unfoldable pub snapshot_in : Version → Bounds → List ℕ → Result (ℕ × Contents) Malformed
+snapshot_in v b bytes = whole (snapshot_at v b bytes)

@@ -1,5 +1,5 @@
 -- What contracts see of the code's events and allocations.
-use Rattle.std.specs.Prelude.{List, map}
+use Rattle.std.specs.Prelude.{List, None, map}
 use Rattle.turn_history.specs.Act.{event_of}
 use Rattle.turn_history.specs.History as histories
 use Rattle.turn_history.specs.declared.event.Event.{Event}
@@ -9,4 +9,4 @@ abbrev pub events_of : {A : Type 0} → List (Event A) → List histories.Event
 events_of es = map event_of es
 
 abbrev pub allocation_of : {A : Type 0} → Allocation A → histories.Allocation
-allocation_of a = record { user = a.user; port = a.port; granted = a.granted; tx = a.tx }
+allocation_of a = record { user = a.user; port = a.port; granted = a.granted; tx = a.tx; token = None }

@@ -1,6 +1,7 @@
 -- What the writer of snapshots asks of an entry.
-use Rattle.std.specs.Prelude.{◌≡◌, ◌≤◌, ℕ, List, length}
+use Rattle.std.specs.Prelude.{◌≡◌, ◌≤◌, [], ℕ, List, length, Option, Some, None, IfSome}
 use Rattle.std.specs.FinMap as fin
+use Rattle.std.specs.Int.{to_be_bytes, w32}
 use Rattle.std.specs.List.{AllByRecursion}
 use Rattle.turn_history.specs.Table.{Entry}
 use Rattle.turn_types.specs.Limits.{max_bounds}
@@ -11,6 +12,7 @@ use Rattle.turn_types.specs.declared.limits.Bounds.{Bounds}
 pub record IsShort (b : Bounds) (e : Entry) : Type 0 where
   pub user : length e.user ≤ b.name_bytes
   pub tx : length e.tx.0 ≡ 12
+  pub token : IfSome e.token (λ k. length k.0 ≡ 8)
   pub permissions : fin.len e.permissions ≤ b.permissions
   pub channels : fin.len e.channels ≤ b.channels
 
@@ -18,7 +20,7 @@ pub record IsShort (b : Bounds) (e : Entry) : Type 0 where
 abbrev pub AreShort : List (FiveTuple × Entry) → Type 0
 AreShort es = AllByRecursion (λ p. IsShort max_bounds p.1) es
 
--- so many of the bytes at hand are given, and the entries that are left are short
-pub record IsReady (held : List ℕ) (given : ℕ) (es : List (FiveTuple × Entry)) : Type 0 where
-  pub within : given ≤ length held
-  pub short : AreShort es
+-- the count of the reserved ports, where it is still to be written
+abbrev pub count_if : Option ℕ → List ℕ
+count_if None = []
+count_if (Some n) = to_be_bytes w32 n

@@ -1,29 +1,29 @@
 //! Entries of a snapshot, read.
 
-ghost use Rattle.std.specs.Prelude.{◌≡◌, ◌≤◌, [], IfOk, true};
+ghost use Rattle.std.specs.Prelude.{◌≡◌, ◌≤◌, ◌⊎◌, ◌%◌, [], IfOk, true};
 ghost use Rattle.std.specs.FinMap as fin;
 ghost use Rattle.std.specs.List.{list_any};
 ghost use Rattle.std.specs.Ordering.{is_lt, nat_cmp};
 ghost use Rattle.turn_history.specs.Fitting.{PortIsFree, is_peer};
 ghost use Rattle.turn_record.specs.Views.{allocation_of};
 ghost use Rattle.turn_record.specs.Reading.{Gives, allocation_at, last_passes, many, port_at};
-ghost use Rattle.turn_record.specs.Snapshots.{address_after, channel_at, channel_list_at, entry_at, expiry_at, is_free_after, number_after, other_peer_at, permission_at, permission_list_at, tuple_after};
+ghost use Rattle.turn_record.specs.Snapshots.{address_after, channel_at, channel_list_at, entry_at, expiry_at, is_free_after, mark_at, mark_byte_at, number_after, other_peer_at, permission_at, permission_list_at, token_if_at, tuple_after};
 ghost use Rattle.turn_table.specs.Table.{IsAbove};
 ghost use Rattle.turn_types.specs.FiveTuple.{tuple_cmp};
 
 use crate::fault::{Malformed, ReadError};
 use crate::field::{
-    channel_number_of, count_of, endpoint_of, granted_of, name_of, tuple_of, tx_of, u16_of, u32_of,
-    u64_of,
+    byte_of, channel_number_of, count_of, endpoint_of, granted_of, name_of, token_of, tuple_of,
+    tx_of, u16_of, u32_of, u64_of,
 };
+use crate::version::Version;
 use std::alloc::Allocator;
 use turn_history::{Channel, UserName};
-use turn_ports::PortSet;
 use turn_table::{Entry, EntryParts, Table, above_the_last};
-use turn_types::{Endpoint, FiveTuple, Limits, Moment, TxId};
+use turn_types::{Endpoint, FiveTuple, Limits, Moment, Token, TxId};
 
 #[tactic(auto, unfolding(crate::specs::Snapshots::expiry_at))]
-fn expiry_of(moment: Moment, most: u64, bytes: &[u8]) -> Result<(u64, &[u8]), ReadError>
+pub(crate) fn expiry_of(moment: Moment, most: u64, bytes: &[u8]) -> Result<(u64, &[u8]), ReadError>
     requires { most ≤ 3600 }
     ensures { Gives (λ x. (x.0, x.1.now)) result (expiry_at moment most bytes.now) }
 {
@@ -242,7 +242,7 @@ fn free_port_of<'a, A: Allocator + Copy>(
     ensures free { IfOk result (λ x. PortIsFree table.now.contents x.0) }
 {
     let (port, rest) = u16_of(bytes)?;
-    if table.has(port) {
+    if table.has_port(port) {
         return Err(ReadError::Malformed(Malformed::BadValue));
     }
     Ok((port, rest))
@@ -281,19 +281,60 @@ fn allocation_of<'a, A: Allocator + Copy>(
     ))
 }
 
+/// Whether a token follows, as it may beside an even port.
+#[tactic(auto, unfolding(crate::specs::Snapshots::mark_byte_at))]
+fn mark_byte_of(port: u16, bytes: &[u8]) -> Result<(u8, &[u8]), ReadError>
+    ensures gives { Gives (λ x. (x.0, x.1.now)) result (mark_byte_at port bytes.now) }
+    ensures even { IfOk result (λ x. (x.0 ≡ 0) ⊎ (port % 2 ≡ 0)) }
+{
+    let (mark, rest) = byte_of(bytes)?;
+    if mark != 0 && (mark != 1 || port % 2 != 0) {
+        return Err(ReadError::Malformed(Malformed::BadValue));
+    }
+    Ok((mark, rest))
+}
+
+#[tactic(auto, unfolding(crate::specs::Snapshots::token_if_at))]
+fn token_if_of(port: u16, mark: u8, bytes: &[u8]) -> Result<(Option<Token>, &[u8]), ReadError>
+    requires { (mark ≡ 0) ⊎ (port % 2 ≡ 0) }
+    ensures { Gives (λ x. (x.0, x.1.now)) result (token_if_at port mark bytes.now) }
+{
+    if mark == 0 {
+        return Ok((None, bytes));
+    }
+    let (token, rest) = token_of(port + 1, bytes)?;
+    Ok((Some(token), rest))
+}
+
+/// The token of an entry with this port.
+#[tactic(auto, unfolding(crate::specs::Snapshots::mark_at))]
+fn mark_of(version: Version, port: u16, bytes: &[u8]) -> Result<(Option<Token>, &[u8]), ReadError>
+    ensures { Gives (λ x. (x.0, x.1.now)) result (mark_at version port bytes.now) }
+{
+    match version {
+        Version::V1 => Ok((None, bytes)),
+        Version::V2 => {
+            let (mark, rest) = mark_byte_of(port, bytes)?;
+            token_if_of(port, mark, rest)
+        }
+    }
+}
+
 /// The entry after those of the table, at the table's moment.
 #[tactic(auto, unfolding(crate::specs::Snapshots::entry_at))]
 pub(crate) fn entry_after<'a, A: Allocator + Copy>(
     alloc: A,
+    version: Version,
     table: &Table<A>,
     bytes: &'a [u8],
 ) -> Result<(FiveTuple, Entry<A>, &'a [u8]), ReadError>
-    ensures gives { Gives (λ x. ((x.0, x.1.entry), x.2.now)) result (entry_at table.now.bounds table.now.moment (fin.entries table.now.contents.entries) bytes.now) }
+    ensures gives { Gives (λ x. ((x.0, x.1.entry), x.2.now)) result (entry_at version table.now.bounds table.now.moment (fin.entries table.now.contents.entries) bytes.now) }
     ensures above { IfOk result (λ x. IsAbove table.now.contents x.0) }
     ensures free { IfOk result (λ x. PortIsFree table.now.contents x.1.entry.port) }
 {
     let (tuple, rest) = tuple_after(table, bytes)?;
     let (made, rest) = allocation_of(alloc, table, rest)?;
+    let (token, rest) = mark_of(version, made.port, rest)?;
     let (expiry, rest) = expiry_of(table.moment(), 3600, rest)?;
     let (permissions, rest) = permissions_of(alloc, table.limits(), table.moment(), rest)?;
     let (channels, rest) = channels_of(alloc, table.limits(), table.moment(), rest)?;
@@ -302,6 +343,7 @@ pub(crate) fn entry_after<'a, A: Allocator + Copy>(
         port: made.port,
         granted: made.granted,
         tx: made.tx,
+        token,
         expiry,
         permissions,
         channels,

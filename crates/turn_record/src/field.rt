@@ -1,12 +1,13 @@
 //! Fields, read from the front: each function returns the value and the bytes after it, or the first fault.
 
+ghost use Rattle.std.specs.Prelude.{◌≡◌};
 ghost use Rattle.std.specs.Int.{w16, w32, w64};
-ghost use Rattle.turn_record.specs.Reading.{Gives, byte_at, bytes_at, channel_number_at, count_at, endpoint_at, granted_at, moment_at, name_at, name_len_at, number_at, renewed_at, tuple_at, tx_at};
+ghost use Rattle.turn_record.specs.Reading.{Gives, byte_at, bytes_at, channel_number_at, count_at, endpoint_at, granted_at, moment_at, name_at, name_len_at, number_at, renewed_at, token_at, token_bytes_at, tuple_at, tx_at, begins_with};
 
 use crate::fault::{Malformed, ReadError};
 use std::alloc::Allocator;
 use turn_history::UserName;
-use turn_types::{Bounds, Endpoint, FiveTuple, Moment, TxId};
+use turn_types::{Bounds, Endpoint, FiveTuple, Moment, Token, TxId};
 
 pub(crate) fn byte_of(bytes: &[u8]) -> Result<(u8, &[u8]), ReadError>
     ensures { Gives (λ x. (x.0, x.1.now)) result (byte_at bytes.now) }
@@ -146,6 +147,34 @@ pub(crate) fn tx_of(bytes: &[u8]) -> Result<(TxId, &[u8]), ReadError>
     let mut id = [0; 12];
     id.copy_from_slice(tx);
     Ok((TxId(id), rest))
+}
+
+#[tactic(auto, unfolding(crate::specs::Reading::token_bytes_at))]
+fn token_bytes_of(bytes: &[u8]) -> Result<(Token, &[u8]), ReadError>
+    ensures { Gives (λ x. (x.0, x.1.now)) result (token_bytes_at bytes.now) }
+{
+    let (token, rest) = bytes_of(8, bytes)?;
+    let mut id = [0; 8];
+    id.copy_from_slice(token);
+    Ok((Token(id), rest))
+}
+
+/// Whether a token begins with the two bytes of its port.
+fn begins_with(port: u16, token: Token) -> bool
+    ensures { result ≡ begins_with port token }
+{
+    u16::from_be_bytes([token.0[0], token.0[1]]) == port
+}
+
+#[tactic(auto, unfolding(crate::specs::Reading::token_at))]
+pub(crate) fn token_of(port: u16, bytes: &[u8]) -> Result<(Token, &[u8]), ReadError>
+    ensures { Gives (λ x. (x.0, x.1.now)) result (token_at port bytes.now) }
+{
+    let (token, rest) = token_bytes_of(bytes)?;
+    if !begins_with(port, token) {
+        return Err(ReadError::Malformed(Malformed::BadValue));
+    }
+    Ok((token, rest))
 }
 
 #[tactic(auto, unfolding(crate::specs::Reading::channel_number_at))]

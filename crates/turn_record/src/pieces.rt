@@ -8,18 +8,21 @@ ghost use Rattle.turn_record.specs.Records.{SpellsSnapshot, max_entry};
 ghost use Rattle.turn_record.specs.declared.pieces.SnapshotReader.{SnapshotReader};
 ghost use Rattle.turn_record.specs.Snapshots.{snapshot_in};
 ghost use Rattle.turn_record.specs.declared.fault.ReadError.{ReadError};
+ghost use Rattle.turn_record.specs.declared.version.Version.{Version};
 ghost use Rattle.turn_types.specs.declared.limits.Bounds.{Bounds};
 
 use crate::fault::ReadError;
 use crate::restored::{Restored, advance, conclude, step};
+use crate::version::Version;
 use std::alloc::{Allocator, Global};
 use turn_table::Table;
 use turn_types::Limits;
 
 /// Reads a snapshot that comes in pieces, cut in any way. Beside the table that it restores it holds the bytes of the
-/// entry that isn't whole yet. Once it has refused, it refuses for the same reason for good, and the table is gone.
+/// item that isn't whole yet. Once it has refused, it refuses for the same reason for good, and the table is gone.
 pub struct SnapshotReader<A: Allocator = Global> {
     alloc: A,
+    version: Version,
     limits: Limits,
     refused: Option<ReadError>,
     restored: Option<Restored<A>>,
@@ -31,6 +34,7 @@ impl<A: Allocator> Drop for SnapshotReader<A> {
     fn drop(self) {
         let SnapshotReader {
             alloc: _,
+            version: _,
             limits: _,
             refused: _,
             restored: _,
@@ -40,14 +44,15 @@ impl<A: Allocator> Drop for SnapshotReader<A> {
 }
 
 impl<A: Allocator + Copy> SnapshotReader<A> {
-    /// A reader of snapshots under the limits. It takes no memory yet.
+    /// A reader of the version's snapshots under the limits. It takes no memory yet.
     #[tactic(auto, unfolding(crate::specs::Places::gives))]
-    pub fn new(alloc: A, limits: Limits) -> SnapshotReader<A>
-        ensures fed { WasFed limits result [] }
+    pub fn new(alloc: A, version: Version, limits: Limits) -> SnapshotReader<A>
+        ensures fed { WasFed version limits result [] }
         ensures none { refusal result ≡ None }
     {
         SnapshotReader {
             alloc,
+            version,
             limits,
             refused: None,
             restored: None,
@@ -57,7 +62,7 @@ impl<A: Allocator + Copy> SnapshotReader<A> {
 
     /// Reads the next piece.
     pub fn feed(&mut self, piece: &[u8]) -> Result<(), ReadError>
-        ensures fed { (b : Bounds) (fed : List ℕ) → WasFed b self.old fed → WasFed b self.new (fed ++ piece.now) }
+        ensures fed { (v : Version) (b : Bounds) (fed : List ℕ) → WasFed v b self.old fed → WasFed v b self.new (fed ++ piece.now) }
         ensures ok { OnOk result (refusal self.new ≡ None) }
         ensures err { IfErr result (λ e. refusal self.new ≡ Some e) }
         ensures for_good { (e : ReadError) → refusal self.old ≡ Some e → result ≡ Err e }
@@ -66,7 +71,14 @@ impl<A: Allocator + Copy> SnapshotReader<A> {
             return Err(error);
         }
         let restored = self.restored.take();
-        match step(self.alloc, self.limits, restored, &mut self.held, piece) {
+        match step(
+            self.alloc,
+            self.version,
+            self.limits,
+            restored,
+            &mut self.held,
+            piece,
+        ) {
             Ok(restored) => {
                 self.restored = restored;
                 Ok(())
@@ -80,12 +92,13 @@ impl<A: Allocator + Copy> SnapshotReader<A> {
 
     /// The table that the pieces joined are the snapshot of, at its moment.
     pub fn finish(self) -> Result<Table<A>, ReadError>
-        ensures gives { (b : Bounds) (fed : List ℕ) → WasFed b self fed → Gives (λ t. (t.moment, t.contents)) result (snapshot_in b fed) }
-        ensures limits { (b : Bounds) (fed : List ℕ) → WasFed b self fed → IfOk result (λ t. t.bounds ≡ b) }
+        ensures gives { (v : Version) (b : Bounds) (fed : List ℕ) → WasFed v b self fed → Gives (λ t. (t.moment, t.contents)) result (snapshot_in v b fed) }
+        ensures limits { (v : Version) (b : Bounds) (fed : List ℕ) → WasFed v b self fed → IfOk result (λ t. t.bounds ≡ b) }
         ensures for_good { (e : ReadError) → refusal self ≡ Some e → result ≡ Err e }
     {
         let SnapshotReader {
             alloc: _,
+            version,
             limits: _,
             refused,
             restored,
@@ -93,41 +106,43 @@ impl<A: Allocator + Copy> SnapshotReader<A> {
         } = self;
         match refused {
             Some(error) => Err(error),
-            None => conclude(restored),
+            None => conclude(version, restored),
         }
     }
 }
 
 /// Between two pieces a reader holds fewer bytes than the longest entry has under the limits.
 pub fn readers_hold_little<A: Allocator>()
-    ensures { (b : Bounds) (r : SnapshotReader A) (fed : List ℕ) → WasFed b r fed → refusal r ≡ None → length (held r) < max_entry b }
+    ensures { (v : Version) (b : Bounds) (r : SnapshotReader A) (fed : List ℕ) → WasFed v b r fed → refusal r ≡ None → length (held r) < max_entry v b }
 {}
 
 fn whole_snapshot<A: Allocator + Copy>(
     alloc: A,
+    version: Version,
     limits: Limits,
     bytes: &[u8],
 ) -> Result<Table<A>, ReadError>
-    ensures fault { Gives (λ t. (t.moment, t.contents)) result (snapshot_in limits bytes.now) }
+    ensures fault { Gives (λ t. (t.moment, t.contents)) result (snapshot_in version limits bytes.now) }
     ensures limits { IfOk result (λ t. t.bounds ≡ limits) }
 {
-    match advance(alloc, limits, None, bytes) {
+    match advance(alloc, version, limits, None, bytes) {
         Err(error) => Err(error),
-        Ok((restored, _)) => conclude(restored),
+        Ok((restored, _)) => conclude(version, restored),
     }
 }
 
-/// The table that the bytes, all of them, are the snapshot of, at its moment.
+/// The table that the bytes, all of them, are the version's snapshot of, at its moment.
 pub fn read_snapshot<A: Allocator + Copy>(
     alloc: A,
+    version: Version,
     limits: Limits,
     bytes: &[u8],
 ) -> Result<Table<A>, ReadError>
-    ensures spelled { IfOk result (λ t. SpellsSnapshot limits t.moment t.contents bytes.now) }
+    ensures spelled { IfOk result (λ t. SpellsSnapshot version limits t.moment t.contents bytes.now) }
     ensures limits { IfOk result (λ t. t.bounds ≡ limits) }
-    ensures read { (t : ℕ) (c : Contents) → SpellsSnapshot limits t c bytes.now → Gives {Y = ℕ × Contents} (λ x. (x.moment, x.contents)) result (Ok (t, c)) }
-    ensures fault { Gives (λ t. (t.moment, t.contents)) result (snapshot_in limits bytes.now) }
+    ensures read { (t : ℕ) (c : Contents) → SpellsSnapshot version limits t c bytes.now → Gives {Y = ℕ × Contents} (λ x. (x.moment, x.contents)) result (Ok (t, c)) }
+    ensures fault { Gives (λ t. (t.moment, t.contents)) result (snapshot_in version limits bytes.now) }
 {
     let _bounds = limits.bounds();
-    whole_snapshot(alloc, limits, bytes)
+    whole_snapshot(alloc, version, limits, bytes)
 }

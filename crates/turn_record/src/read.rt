@@ -1,17 +1,18 @@
 //! Act entries and payloads, read.
 
-ghost use Rattle.std.specs.Prelude.{[], List, IfOk, Ok};
+ghost use Rattle.std.specs.Prelude.{◌≡◌, ◌%◌, [], List, IfOk, Ok};
 ghost use Rattle.turn_history.specs.Act.{act_of, event_of};
 ghost use Rattle.turn_history.specs.History as histories;
-ghost use Rattle.turn_record.specs.Reading.{Gives, act_in, address_at, addresses_at, allocated_at, body_at, bound_at, event_at, many, moment_after, payload_in, tag_at};
+ghost use Rattle.turn_record.specs.Reading.{Gives, act_in, address_at, addresses_at, allocated_at, allocated_even_at, body_at, bound_at, event_at, is_even, many, max_tag, moment_after, payload_in, port_at, tag_at};
 ghost use Rattle.turn_record.specs.Records.{SpellsAct, SpellsPayload};
 ghost use Rattle.turn_record.specs.Views.{events_of};
 
 use crate::fault::{Malformed, ReadError};
 use crate::field::{
     byte_of, channel_number_of, count_of, endpoint_of, granted_of, moment_of, name_of, renewed_of,
-    tuple_of, tx_of, u16_of, u32_of,
+    token_of, tuple_of, tx_of, u16_of, u32_of,
 };
+use crate::version::Version;
 use std::alloc::Allocator;
 use turn_history::{Act, Addresses, Event};
 use turn_types::{Bounds, Limits, Moment};
@@ -34,6 +35,43 @@ fn alloc_of<'a, A: Allocator + Copy>(
             port,
             granted,
             tx,
+        },
+        rest,
+    ))
+}
+
+#[tactic(auto, unfolding(crate::specs::Reading::port_at))]
+fn even_port_of(bytes: &[u8]) -> Result<(u16, &[u8]), ReadError>
+    ensures gives { Gives (λ x. (x.0, x.1.now)) result (port_at is_even bytes.now) }
+    ensures even { IfOk result (λ x. x.0 % 2 ≡ 0) }
+{
+    let (port, rest) = u16_of(bytes)?;
+    if port % 2 != 0 {
+        return Err(ReadError::Malformed(Malformed::BadValue));
+    }
+    Ok((port, rest))
+}
+
+#[tactic(auto, unfolding(crate::specs::Reading::allocation_at, crate::specs::Reading::pair_at))]
+fn alloc_even_of<'a, A: Allocator + Copy>(
+    alloc: A,
+    bounds: Bounds,
+    bytes: &'a [u8],
+) -> Result<(Act<A>, &'a [u8]), ReadError>
+    ensures { Gives (λ x. (act_of x.0, x.1.now)) result (allocated_even_at bounds bytes.now) }
+{
+    let (user, rest) = name_of(alloc, bounds, bytes)?;
+    let (port, rest) = even_port_of(rest)?;
+    let (granted, rest) = granted_of(rest)?;
+    let (tx, rest) = tx_of(rest)?;
+    let (token, rest) = token_of(port + 1, rest)?;
+    Ok((
+        Act::AllocEven {
+            user,
+            port,
+            granted,
+            tx,
+            token,
         },
         rest,
     ))
@@ -109,15 +147,28 @@ fn body_of<'a, A: Allocator + Copy>(
         let (addresses, rest) = permitted_of(alloc, bounds, bytes)?;
         return Ok((Act::Permit { addresses }, rest));
     }
-    bind_of(bytes)
+    if tag == 4 {
+        return bind_of(bytes);
+    }
+    alloc_even_of(alloc, bounds, bytes)
+}
+
+/// The last tag: an Alloc with a token is of version 2 alone.
+fn max_tag(version: Version) -> u8
+    ensures { result ≡ max_tag version }
+{
+    match version {
+        Version::V1 => 4,
+        Version::V2 => 5,
+    }
 }
 
 #[tactic(auto, unfolding(crate::specs::Reading::tag_at))]
-fn tag_of(bytes: &[u8]) -> Result<(u8, &[u8]), ReadError>
-    ensures { Gives (λ x. (x.0, x.1.now)) result (tag_at bytes.now) }
+fn tag_of(version: Version, bytes: &[u8]) -> Result<(u8, &[u8]), ReadError>
+    ensures { Gives (λ x. (x.0, x.1.now)) result (tag_at version bytes.now) }
 {
     let (tag, rest) = byte_of(bytes)?;
-    if tag == 0 || 4 < tag {
+    if tag == 0 || max_tag(version) < tag {
         return Err(ReadError::Malformed(Malformed::BadTag));
     }
     Ok((tag, rest))
@@ -145,13 +196,14 @@ fn moment_after<'a, A: Allocator + Copy>(
 #[tactic(auto, unfolding(crate::specs::Reading::event_at))]
 fn event_after<'a, A: Allocator + Copy>(
     alloc: A,
+    version: Version,
     bounds: Bounds,
     before: &[Event<A>],
     bytes: &'a [u8],
 ) -> Result<(Event<A>, &'a [u8]), ReadError>
-    ensures { Gives (λ x. (event_of x.0, x.1.now)) result (event_at bounds (events_of before.now) bytes.now) }
+    ensures { Gives (λ x. (event_of x.0, x.1.now)) result (event_at version bounds (events_of before.now) bytes.now) }
 {
-    let (tag, rest) = tag_of(bytes)?;
+    let (tag, rest) = tag_of(version, bytes)?;
     let (moment, rest) = match moment_after(before, rest) {
         Ok(read) => read,
         Err(error) => return Err(error),
@@ -163,16 +215,17 @@ fn event_after<'a, A: Allocator + Copy>(
 
 fn events_of<'a, A: Allocator + Copy>(
     alloc: A,
+    version: Version,
     bounds: Bounds,
     count: u8,
     bytes: &'a [u8],
 ) -> Result<(Vec<Event<A>, A>, &'a [u8]), ReadError>
-    ensures { Gives (λ x. (events_of x.0.items, x.1.now)) result (many (event_at bounds) count [] bytes.now) }
+    ensures { Gives (λ x. (events_of x.0.items, x.1.now)) result (many (event_at version bounds) count [] bytes.now) }
 {
     let mut events = Vec::new(alloc);
     let mut rest = bytes;
     for _ in 0..count {
-        let (event, after) = event_after(alloc, bounds, &events, rest)?;
+        let (event, after) = event_after(alloc, version, bounds, &events, rest)?;
         events.push(event)?;
         rest = after;
     }
@@ -182,13 +235,14 @@ fn events_of<'a, A: Allocator + Copy>(
 #[tactic(auto, unfolding(crate::specs::Reading::act_in))]
 fn whole_act<A: Allocator + Copy>(
     alloc: A,
+    version: Version,
     bounds: Bounds,
     bytes: &[u8],
 ) -> Result<Event<A>, ReadError>
-    ensures { Gives event_of result (act_in bounds bytes.now) }
+    ensures { Gives event_of result (act_in version bounds bytes.now) }
 {
     let before = Vec::new(alloc);
-    let (event, rest) = event_after(alloc, bounds, &before, bytes)?;
+    let (event, rest) = event_after(alloc, version, bounds, &before, bytes)?;
     if !rest.is_empty() {
         return Err(ReadError::Malformed(Malformed::TrailingBytes));
     }
@@ -198,47 +252,50 @@ fn whole_act<A: Allocator + Copy>(
 #[tactic(auto, unfolding(crate::specs::Reading::payload_in, crate::specs::Reading::events_at))]
 fn whole_payload<A: Allocator + Copy>(
     alloc: A,
+    version: Version,
     bounds: Bounds,
     bytes: &[u8],
 ) -> Result<Vec<Event<A>, A>, ReadError>
-    ensures { Gives (λ v. events_of v.items) result (payload_in bounds bytes.now) }
+    ensures { Gives (λ v. events_of v.items) result (payload_in version bounds bytes.now) }
 {
     let (count, rest) = count_of(1, bounds.acts, bytes)?;
-    let (events, rest) = events_of(alloc, bounds, count, rest)?;
+    let (events, rest) = events_of(alloc, version, bounds, count, rest)?;
     if !rest.is_empty() {
         return Err(ReadError::Malformed(Malformed::TrailingBytes));
     }
     Ok(events)
 }
 
-/// The event that the bytes encode under the limits, all of the bytes.
+/// The event that the bytes encode in the version and under the limits, all of the bytes.
 pub fn read_act<A: Allocator + Copy>(
     alloc: A,
+    version: Version,
     limits: Limits,
     bytes: &[u8],
 ) -> Result<Event<A>, ReadError>
     // What is read is what the bytes encode.
-    ensures spelled { IfOk result (λ e. SpellsAct limits (event_of e) bytes.now) }
+    ensures spelled { IfOk result (λ e. SpellsAct version limits (event_of e) bytes.now) }
     // What the bytes encode is read.
-    ensures read { (e : histories.Event) → SpellsAct limits e bytes.now → Gives event_of result (Ok e) }
+    ensures read { (e : histories.Event) → SpellsAct version limits e bytes.now → Gives event_of result (Ok e) }
     // Else it is the first fault.
-    ensures fault { Gives event_of result (act_in limits bytes.now) }
+    ensures fault { Gives event_of result (act_in version limits bytes.now) }
 {
-    whole_act(alloc, limits.bounds(), bytes)
+    whole_act(alloc, version, limits.bounds(), bytes)
 }
 
-/// The events that the bytes of a payload encode under the limits, all of the bytes.
+/// The events that the bytes of a payload encode in the version and under the limits, all of the bytes.
 pub fn read_payload<A: Allocator + Copy>(
     alloc: A,
+    version: Version,
     limits: Limits,
     bytes: &[u8],
 ) -> Result<Vec<Event<A>, A>, ReadError>
     // What is read is what the bytes encode.
-    ensures spelled { IfOk result (λ v. SpellsPayload limits (events_of v.items) bytes.now) }
+    ensures spelled { IfOk result (λ v. SpellsPayload version limits (events_of v.items) bytes.now) }
     // What the bytes encode is read.
-    ensures read { (es : List histories.Event) → SpellsPayload limits es bytes.now → Gives (λ v. events_of v.items) result (Ok es) }
+    ensures read { (es : List histories.Event) → SpellsPayload version limits es bytes.now → Gives (λ v. events_of v.items) result (Ok es) }
     // Else it is the first fault.
-    ensures fault { Gives (λ v. events_of v.items) result (payload_in limits bytes.now) }
+    ensures fault { Gives (λ v. events_of v.items) result (payload_in version limits bytes.now) }
 {
-    whole_payload(alloc, limits.bounds(), bytes)
+    whole_payload(alloc, version, limits.bounds(), bytes)
 }

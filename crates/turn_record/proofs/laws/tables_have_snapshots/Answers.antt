@@ -1,14 +1,8 @@
-use Rattle.turn_history.proofs.Channels.{peers-apart}
-use Rattle.turn_history.proofs.Histories.{ports-apart}
-use Rattle.turn_history.proofs.Ranges.{entry_in_range}
-use Rattle.turn_history.proofs.Sizes.{tables-within}
+use Rattle.turn_record.proofs.Histories.{table_has_snapshot, table_is_held}
 use Rattle.turn_record.proofs.laws.tables_have_snapshots.Goals as goal
 
-pub returns : goal.returns
-returns c b h t fits now moment = record {
-  moment = moment;
-  values = λ f e is. entry_in_range b h t f e fits now is;
-  within = tables-within b h t fits now;
-  ports = ports-apart b h t fits now;
-  peers = peers-apart b h t fits now;
-}
+pub returns-clause-holds : goal.returns-clause-holds
+returns-clause-holds c = table_has_snapshot
+
+pub returns-clause-writes : goal.returns-clause-writes
+returns-clause-writes c v b h t fits now moment writes = table_has_snapshot v b h t fits now moment (table_is_held v b h t fits now writes)

@@ -2,4 +2,4 @@ use Rattle.turn_record.proofs.Bounded.{held_is_short}
 use Rattle.turn_record.proofs.pieces.readers_hold_little.Goals as goal
 
 pub returns : goal.returns
-returns g c = λ b r fed was none. held_is_short b r.refused r.restored r.held.items fed none was.under was.expects
+returns g c = λ v b r fed was none. held_is_short v b r.refused r.restored r.held.items fed none was.under was.expects

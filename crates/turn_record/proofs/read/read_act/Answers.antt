@@ -8,8 +8,8 @@ use Rattle.turn_record.specs.Records.{SpellsAct}
 
 pub returns-clause-spelled : goal.returns-clause-spelled
 returns-clause-spelled g c =
-    found event_of c.whole_act.result (act_in c.args.limits c.args.bytes.now) (λ (e : histories.Event). SpellsAct c.args.limits e c.args.bytes.now)
-    (act_found c.args.limits (rw c.bounds.ensures.value at c.bounds.ensures.range) c.args.bytes.now (λ i. omega (arith, c.type_inv.bytes i))) (rw c.bounds.ensures.value at c.whole_act.ensures)
+    found event_of c.whole_act.result (act_in c.args.version c.args.limits c.args.bytes.now) (λ (e : histories.Event). SpellsAct c.args.version c.args.limits e c.args.bytes.now)
+    (act_found c.args.version c.args.limits (rw c.bounds.ensures.value at c.bounds.ensures.range) c.args.bytes.now (λ i. omega (arith, c.type_inv.bytes i))) (rw c.bounds.ensures.value at c.whole_act.ensures)
 
 pub returns-clause-read : goal.returns-clause-read
-returns-clause-read g c = λ e spelled. subst (λ f. Gives event_of c.whole_act.result f) (act_again c.args.limits (rw c.bounds.ensures.value at c.bounds.ensures.range) c.args.bytes.now e spelled) (rw c.bounds.ensures.value at c.whole_act.ensures)
+returns-clause-read g c = λ e spelled. subst (λ f. Gives event_of c.whole_act.result f) (act_again c.args.version c.args.limits (rw c.bounds.ensures.value at c.bounds.ensures.range) c.args.bytes.now e spelled) (rw c.bounds.ensures.value at c.whole_act.ensures)

@@ -5,17 +5,17 @@ use Rattle.turn_record.proofs.restored.begin.Goals as goal
 pub invariant_of-go_on : goal.invariant_of-go_on
 invariant_of-go_on g c =
     let head = rw c.in-Ok-Some.field-0-is at c.in-Ok-Some.ensures in
-    room_begun c.args.limits c.in-Ok-Some.moment c.in-Ok-Some.left c.new-table.result c.new-table.ensures (head_count c.args.limits (c.args.bytes.now ++ []) _ _ (head []))
+    room_begun c.args.limits c.in-Ok-Some.moment c.in-Ok-Some.count c.new-table.result c.new-table.ensures (head_count c.args.limits (c.args.bytes.now ++ []) _ _ (head []))
 
 pub returns-in-Err-clause-goes : goal.returns-in-Err-clause-goes
-returns-in-Err-clause-goes g c = λ more. not_begun c.args.limits c.in-Err.error (c.args.bytes.now ++ more) (c.in-Err.ensures more)
+returns-in-Err-clause-goes g c = λ more. not_begun c.args.version c.args.limits c.in-Err.error (c.args.bytes.now ++ more) (c.in-Err.ensures more)
 
 pub returns-in-Err-go_on-clause-goes : goal.returns-in-Err-go_on-clause-goes
 returns-in-Err-go_on-clause-goes g c = λ more.
     let head = rw c.in-Ok-Some.field-0-is at c.in-Ok-Some.ensures in
-    fails_same c.in-Err-go_on.error _ _ (begun_at c.args.limits c.args.bytes.now c.in-Ok-Some.rest.now more c.in-Ok-Some.moment c.in-Ok-Some.left c.new-table.result c.new-table.ensures (head more)) (c.in-Err-go_on.ensures.goes c.args.limits more)
+    fails_same c.in-Err-go_on.error _ _ (begun_at c.args.version c.args.limits c.args.bytes.now c.in-Ok-Some.rest.now more c.in-Ok-Some.moment c.in-Ok-Some.count c.new-table.result c.new-table.ensures (head more)) (c.in-Err-go_on.ensures.goes c.args.limits more)
 
 pub returns-in-Ok-clause-goes : goal.returns-in-Ok-clause-goes
 returns-in-Ok-clause-goes g c = λ more.
     let head = rw c.in-Ok-Some.field-0-is at c.in-Ok-Some.ensures in
-    begun_at c.args.limits c.args.bytes.now c.in-Ok-Some.rest.now more c.in-Ok-Some.moment c.in-Ok-Some.left c.new-table.result c.new-table.ensures (head more) ∙ c.in-Ok.ensures.goes c.args.limits more
+    begun_at c.args.version c.args.limits c.args.bytes.now c.in-Ok-Some.rest.now more c.in-Ok-Some.moment c.in-Ok-Some.count c.new-table.result c.new-table.ensures (head more) ∙ c.in-Ok.ensures.goes c.args.limits more

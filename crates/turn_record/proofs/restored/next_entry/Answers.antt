@@ -7,9 +7,9 @@ use Rattle.turn_record.proofs.restored.next_entry.Goals as goal
 
 pub returns-in-Ok-clause-next : goal.returns-in-Ok-clause-next
 returns-in-Ok-clause-next g c =
-    next_ok (entry_at c.args.table.now.bounds c.args.table.now.moment (fin.entries c.args.table.now.contents.entries)) (lasts_entry _ _ _) c.args.bytes.now _ _ c.in-Ok.ensures.gives
+    next_ok (entry_at c.args.version c.args.table.now.bounds c.args.table.now.moment (fin.entries c.args.table.now.contents.entries)) (lasts_entry _ _ _ _) c.args.bytes.now _ _ c.in-Ok.ensures.gives
 
 pub returns-else-is_short-clause-next : goal.returns-else-is_short-clause-next
 returns-else-is_short-clause-next g c =
-    next_err (entry_at c.args.table.now.bounds c.args.table.now.moment (fin.entries c.args.table.now.contents.entries)) (lasts_entry _ _ _) c.args.bytes.now c.in-Err-Malformed.fault
+    next_err (entry_at c.args.version c.args.table.now.bounds c.args.table.now.moment (fin.entries c.args.table.now.contents.entries)) (lasts_entry _ _ _ _) c.args.bytes.now c.in-Err-Malformed.fault
     (rw c.in-Err-Malformed.field-0-is at c.in-Err-Malformed.ensures.gives) (sym c.if-is_short.ensures)

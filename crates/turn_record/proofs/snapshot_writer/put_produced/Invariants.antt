@@ -6,7 +6,7 @@ invariant-pieces g l = record {
   items : l.out.items ++ g.P.Producer.rest l.producer ≡ l.fn.out.items ++ g.P.Producer.rest l.fn.producer;
   room : length l.out.items + length (g.P.Producer.rest l.producer) ≤ vec_capacity l.out;
   capacity : vec_capacity l.fn.out ≤ vec_capacity l.out;
-  size_of_piece : length l.piece ≡ 1446;
+  size_of_piece : length l.piece ≡ 1455;
 }
 
 abbrev pub decreases-pieces : goal.decreases-pieces

@@ -1,4 +1,4 @@
-use Rattle.std.proofs.Common.{◌≡◌, ◌+◌, ◌∷◌, List, length, subst, sym, ap, ◌∙◌, arith, length-append}
+use Rattle.std.proofs.Common.{◌≡◌, ◌∷◌, List, length, subst, sym, ap, ◌∙◌, arith, length-append}
 use Rattle.std.specs.FinMap as fin
 use Rattle.turn_history.specs.Table.{Entry}
 use Rattle.turn_record.specs.Bytes.{each, entry}
@@ -15,24 +15,24 @@ loop-kept-init g c =
     record {
       can_next = tt;
       is_finite = tt;
-      short = subst AreShort (sym all) (are_short s.bounds s.moment s.contents range c.requires);
-      size = ap (λ (es : List (FiveTuple × Entry)). 12 + length (each entry es)) all ∙ sym (size_snapshot s.moment s.contents);
+      short = subst AreShort (sym all) (are_short c.args.version s.bounds s.moment s.contents range c.requires);
+      size = omega (arith, ap (λ (es : List (FiveTuple × Entry)). length (each (entry c.args.version) es)) all, size_snapshot c.args.version s.moment s.contents, c.reserved_size-size.ensures.size);
     }
 
-pub overflow_add-size : goal.overflow_add-size
-overflow_add-size g c =
+pub overflow_add-size-in-loop-kept : goal.overflow_add-size-in-loop-kept
+overflow_add-size-in-loop-kept g c =
     let s = c.args.table.now in
     let range = rw (c.bounds-bounds.ensures.value, c.limits.ensures) at c.bounds-bounds.ensures.range in
     let first : FiveTuple × Entry = (c.in-Some.field-0-0, c.in-Some.kept.now.entry) in
     let step : c.loop-kept.kept-iterator ≡ first ∷ c.next.new.self = c.in-Some.ensures.steps in
-    let size = ap (λ (es : List (FiveTuple × Entry)). length (each entry es)) step ∙ length-append (entry first) (each entry c.next.new.self) in
-    omega (arith, size, c.entry_size-size.ensures.size c.in-Some.field-0-0, c.loop-kept.invariant.size, snapshot_small s.bounds s.moment s.contents range c.requires)
+    let size = ap (λ (es : List (FiveTuple × Entry)). length (each (entry c.args.version) es)) step ∙ length-append (entry c.args.version first) (each (entry c.args.version) c.next.new.self) in
+    omega (arith, size, c.entry_size-size.ensures.size c.in-Some.field-0-0, c.loop-kept.invariant.size, snapshot_small c.args.version s.bounds s.moment s.contents range c.requires)
 
 pub loop-kept-preserved : goal.loop-kept-preserved
 loop-kept-preserved g c =
     let first : FiveTuple × Entry = (c.in-Some.field-0-0, c.in-Some.kept.now.entry) in
     let step : c.loop-kept.kept-iterator ≡ first ∷ c.next.new.self = c.in-Some.ensures.steps in
-    let size = ap (λ (es : List (FiveTuple × Entry)). length (each entry es)) step ∙ length-append (entry first) (each entry c.next.new.self) in
+    let size = ap (λ (es : List (FiveTuple × Entry)). length (each (entry c.args.version) es)) step ∙ length-append (entry c.args.version first) (each (entry c.args.version) c.next.new.self) in
     record {
       can_next = tt;
       is_finite = tt;

@@ -8,5 +8,5 @@ invariant-loop-kept g l = record {
   can_next : (goal.iterator-loop-kept g).can_next l.kept-iterator;
   is_finite : (goal.iterator-loop-kept g).is_finite l.kept-iterator;
   short : AreShort l.kept-iterator;
-  size : l.size + length (each entry l.kept-iterator) ≡ length (snapshot l.table.moment l.table.contents);
+  size : l.size + length (each (entry l.version) l.kept-iterator) ≡ length (snapshot l.version l.table.moment l.table.contents);
 }

@@ -12,24 +12,24 @@ put_all-requires-clause-short g c = all_short c.args.limits (rw c.bounds-bounds.
 
 pub put_all-requires-clause-room : goal.put_all-requires-clause-room
 put_all-requires-clause-room g c =
-    let size = acts_at_most c.args.limits c.args.events.now c.requires in
+    let size = acts_at_most c.args.version c.args.limits c.args.events.now c.requires in
     let same = ap (λ (m : ℕ). length c.args.events.now * m) c.max_act.ensures.value in
     let count : length c.put.new.out.items ≡ length c.reserve.new.self.items + 1 = ap length c.put.ensures.items ∙ length-append c.reserve.new.self.items _ in
     omega (arith, size, same, count, c.put.ensures.capacity, c.in_ok-reserve.ensures)
 
 pub overflow_mul-events : goal.overflow_mul-events
 overflow_mul-events g c =
-    let few = batch_at_most c.args.limits (rw c.bounds-bounds.ensures.value at c.bounds-bounds.ensures.range) c.args.events.now c.requires in
+    let few = batch_at_most c.args.version c.args.limits (rw c.bounds-bounds.ensures.value at c.bounds-bounds.ensures.range) c.args.events.now c.requires in
     omega (arith, product_at_most (length c.args.events.now) c.max_act.result few c.max_act.ensures.small)
 
 pub overflow_add-events : goal.overflow_add-events
 overflow_add-events g c =
-    let few = batch_at_most c.args.limits (rw c.bounds-bounds.ensures.value at c.bounds-bounds.ensures.range) c.args.events.now c.requires in
+    let few = batch_at_most c.args.version c.args.limits (rw c.bounds-bounds.ensures.value at c.bounds-bounds.ensures.range) c.args.events.now c.requires in
     omega (arith, product_at_most (length c.args.events.now) c.max_act.result few c.max_act.ensures.small)
 
 pub overflow_cast-events : goal.overflow_cast-events
 overflow_cast-events g c =
-    let few = batch_at_most c.args.limits (rw c.bounds-bounds.ensures.value at c.bounds-bounds.ensures.range) c.args.events.now c.requires in
+    let few = batch_at_most c.args.version c.args.limits (rw c.bounds-bounds.ensures.value at c.bounds-bounds.ensures.range) c.args.events.now c.requires in
     omega (arith, few)
 
 pub returns-in_err-reserve-clause-room : goal.returns-in_err-reserve-clause-room

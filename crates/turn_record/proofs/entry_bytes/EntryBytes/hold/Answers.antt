@@ -3,10 +3,17 @@ use Rattle.std.specs.FinMap.{len-entries}
 use Rattle.std.specs.Int.{w64, to_be_bytes}
 use Rattle.turn_history.specs.Laws.{allocation_of}
 use Rattle.turn_history.specs.declared.channel.Channel.{Channel}
-use Rattle.turn_record.specs.Bytes.{each, five_tuple, allocation, permission, permissions, channel, channels, entry}
+use Rattle.turn_record.specs.Bytes.{each, five_tuple, allocation, mark, permission, permissions, channel, channels, entry}
 use Rattle.turn_record.proofs.Appended.{appended, no_more}
-use Rattle.turn_record.proofs.SnapshotSizes.{grown, permissions_are, channels_are, size_allocation, size_permission_list}
+use Rattle.turn_record.proofs.SnapshotSizes.{entry_size_most, grown, mark_at_most, permissions_are, channels_are, size_allocation, size_permission_list}
+use Rattle.std.specs.Prelude.{Option}
+use Rattle.turn_record.specs.declared.version.Version.{Version}
+use Rattle.turn_types.specs.declared.message.Token.{Token}
 use Rattle.turn_record.proofs.entry_bytes.EntryBytes.hold.Goals as goal
+
+-- the mark of the token that an entry has
+marked_by : (before now : List ℕ) (v : Version) (token has : Option Token) → now ≡ before ++ mark v token → token ≡ has → now ≡ before ++ mark v has
+marked_by before now v token has p same = p ∙ ap (λ (o : Option Token). before ++ mark v o) same
 
 pub put_permissions-requires-clause-few : goal.put_permissions-requires-clause-few
 put_permissions-requires-clause-few g c = omega (arith, ap length c.permissions.ensures, len-entries c.args.kept.now.entry.permissions, c.requires.permissions)
@@ -15,8 +22,11 @@ pub put_permissions-requires-clause-room : goal.put_permissions-requires-clause-
 put_permissions-requires-clause-room g c =
     let one = grown _ c.put_tuple.new.self _ 0 12 c.put_tuple.ensures (ap length c.clear.ensures) refl in
     let two = grown _ c.put_allocation.new.self _ _ _ c.put_allocation.ensures one (size_allocation c.args.kept.now.entry c.requires.tx) in
-    let three = grown _ c.put.new.self _ _ 8 c.put.ensures two (ap length c.to_be_bytes.ensures) in
-    omega (arith, three, ap length c.permissions.ensures, len-entries c.args.kept.now.entry.permissions, c.requires.permissions, c.requires.user)
+    let marked = marked_by _ c.put_mark.new.self c.args.version _ c.args.kept.now.entry.token c.put_mark.ensures c.token.ensures in
+    let token = grown _ c.put_mark.new.self _ _ _ marked two refl in
+    let most = mark_at_most c.args.version c.args.kept.now.entry.token c.requires.token in
+    let three = grown _ c.put.new.self _ _ 8 c.put.ensures token (ap length c.to_be_bytes.ensures) in
+    omega (arith, three, most, entry_size_most c.args.version, ap length c.permissions.ensures, len-entries c.args.kept.now.entry.permissions, c.requires.permissions, c.requires.user)
 
 pub put_channels-requires-clause-few : goal.put_channels-requires-clause-few
 put_channels-requires-clause-few g c = omega (arith, ap length c.channels.ensures, len-entries c.args.kept.now.entry.channels, c.requires.channels)
@@ -25,9 +35,12 @@ pub put_channels-requires-clause-room : goal.put_channels-requires-clause-room
 put_channels-requires-clause-room g c =
     let one = grown _ c.put_tuple.new.self _ 0 12 c.put_tuple.ensures (ap length c.clear.ensures) refl in
     let two = grown _ c.put_allocation.new.self _ _ _ c.put_allocation.ensures one (size_allocation c.args.kept.now.entry c.requires.tx) in
-    let three = grown _ c.put.new.self _ _ 8 c.put.ensures two (ap length c.to_be_bytes.ensures) in
+    let marked = marked_by _ c.put_mark.new.self c.args.version _ c.args.kept.now.entry.token c.put_mark.ensures c.token.ensures in
+    let token = grown _ c.put_mark.new.self _ _ _ marked two refl in
+    let most = mark_at_most c.args.version c.args.kept.now.entry.token c.requires.token in
+    let three = grown _ c.put.new.self _ _ 8 c.put.ensures token (ap length c.to_be_bytes.ensures) in
     let four = grown _ c.put_permissions.new.self _ _ _ c.put_permissions.ensures three (size_permission_list c.permissions.result.now) in
-    omega (arith, four, ap length c.permissions.ensures, len-entries c.args.kept.now.entry.permissions, c.requires.permissions, c.requires.user, ap length c.channels.ensures, len-entries c.args.kept.now.entry.channels, c.requires.channels)
+    omega (arith, four, most, entry_size_most c.args.version, ap length c.permissions.ensures, len-entries c.args.kept.now.entry.permissions, c.requires.permissions, c.requires.user, ap length c.channels.ensures, len-entries c.args.kept.now.entry.channels, c.requires.channels)
 
 -- the field under another name
 read_as : (before now field is : List ℕ) → now ≡ before ++ field → field ≡ is → now ≡ before ++ is
@@ -39,6 +52,7 @@ returns g c =
     let e = c.args.kept.now.entry in
     let tuple = five_tuple c.args.tuple in
     let made = allocation (allocation_of e) in
+    let token = mark c.args.version e.token in
     let expiry = to_be_bytes w64 e.expiry in
     let ps = permissions e.permissions in
     let cs = channels e.channels in
@@ -46,9 +60,10 @@ returns g c =
     let permitted = ap (λ (xs : List (ℕ × ℕ)). (length xs ∷ []) ++ each permission xs) c.permissions.ensures ∙ permissions_are e.permissions in
     let bound = ap (λ (xs : List (ℕ × Channel)). (length xs ∷ []) ++ each channel xs) c.channels.ensures ∙ channels_are e.channels in
     let all =
-    appended c.clear.new.self c.put_tuple.new.self c.put_channels.new.self tuple (made ∷ expiry ∷ ps ∷ cs ∷ []) c.put_tuple.ensures
-    (appended _ c.put_allocation.new.self _ made (expiry ∷ ps ∷ cs ∷ []) c.put_allocation.ensures
+    appended c.clear.new.self c.put_tuple.new.self c.put_channels.new.self tuple (made ∷ token ∷ expiry ∷ ps ∷ cs ∷ []) c.put_tuple.ensures
+    (appended _ c.put_allocation.new.self _ made (token ∷ expiry ∷ ps ∷ cs ∷ []) c.put_allocation.ensures
+    (appended _ c.put_mark.new.self _ token (expiry ∷ ps ∷ cs ∷ []) (marked_by _ _ c.args.version _ e.token c.put_mark.ensures c.token.ensures)
     (appended _ c.put.new.self _ expiry (ps ∷ cs ∷ []) (read_as _ _ c.to_be_bytes.result expiry c.put.ensures expires)
     (appended _ c.put_permissions.new.self _ ps (cs ∷ []) (read_as _ _ ((length c.permissions.result.now ∷ []) ++ each permission c.permissions.result.now) ps c.put_permissions.ensures permitted)
-    (appended _ c.put_channels.new.self _ cs [] (read_as _ _ ((length c.channels.result.now ∷ []) ++ each channel c.channels.result.now) cs c.put_channels.ensures bound) (no_more _))))) in
-    all ∙ ap (λ (u : List ℕ). u ++ entry (c.args.tuple, e)) c.clear.ensures
+    (appended _ c.put_channels.new.self _ cs [] (read_as _ _ ((length c.channels.result.now ∷ []) ++ each channel c.channels.result.now) cs c.put_channels.ensures bound) (no_more _)))))) in
+    all ∙ ap (λ (u : List ℕ). u ++ entry c.args.version (c.args.tuple, e)) c.clear.ensures

@@ -1,19 +1,16 @@
-use Rattle.std.proofs.Common.{◌≡◌, ℕ, ◌∷◌, [], ◌++◌, List, subst, sym, ap, ◌∙◌, arith}
+use Rattle.std.proofs.Common.{◌≡◌, ℕ, ◌∷◌, [], ◌++◌, List, ap, ◌∙◌, arith}
 use Rattle.std.specs.FinMap as fin
 use Rattle.std.specs.Int.{w32, w64, to_be_bytes}
-use Rattle.turn_history.specs.Table.{Entry}
-use Rattle.turn_record.specs.Bytes.{each, entry, head, snapshot}
-use Rattle.turn_record.specs.Written.{AreShort}
+use Rattle.turn_record.specs.Bytes.{head, snapshot}
 use Rattle.turn_record.proofs.Appended.{appended, no_more}
 use Rattle.turn_record.proofs.SnapshotSizes.{are_short}
 use Rattle.turn_record.proofs.snapshot_writer.SnapshotWriter.new.Goals as goal
-use Rattle.turn_types.specs.declared.address.FiveTuple.{FiveTuple}
 
-pub invariant_of-result : goal.invariant_of-result
-invariant_of-result g c =
+pub of-requires : goal.of-requires
+of-requires g c =
     let s = c.args.table.now in
     let range = rw (c.bounds-bounds.ensures.value, c.limits.ensures) at c.bounds-bounds.ensures.range in
-    record { within = omega arith; short = subst AreShort (sym c.entries.ensures) (are_short s.bounds s.moment s.contents range c.requires) }
+    record { short = are_short c.args.version s.bounds s.moment s.contents range c.requires; few = omega (arith, c.requires.within.reserved, range.allocations.1) }
 
 pub returns : goal.returns
 unfolding snapshot
@@ -27,4 +24,4 @@ returns g c =
     appended c.new-held.result c.put.new.self c.put-2.new.self moment (count ∷ []) (c.put.ensures ∙ ap (λ (u : List ℕ). c.new-held.result ++ u) at)
     (appended _ c.put-2.new.self _ count [] (c.put-2.ensures ∙ ap (λ (u : List ℕ). c.put.new.self ++ u) many) (no_more _)) in
     let first = put ∙ ap (λ (u : List ℕ). u ++ head s.moment (fin.len s.contents.entries)) c.new-held.ensures in
-    ap (λ (u : List ℕ). u ++ each entry c.entries.result) first ∙ ap (λ (es : List (FiveTuple × Entry)). head s.moment (fin.len s.contents.entries) ++ each entry es) c.entries.ensures
+    ap (λ (u : List ℕ). u ++ c.of.result) first ∙ ap (λ (u : List ℕ). head s.moment (fin.len s.contents.entries) ++ u) c.of.ensures

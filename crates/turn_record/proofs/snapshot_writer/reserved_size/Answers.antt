@@ -1,0 +1,20 @@
+use Rattle.std.proofs.Common.{length, ap, refl, arith}
+use Rattle.std.specs.FinMap.{len-entries}
+use Rattle.turn_record.specs.Bytes.{reserved}
+use Rattle.turn_record.proofs.SnapshotSizes.{size_reserved}
+use Rattle.turn_record.proofs.snapshot_writer.reserved_size.Goals as goal
+
+pub returns-in-V1-clause-size : goal.returns-in-V1-clause-size
+unfolding reserved
+returns-in-V1-clause-size g c = rw c.in-V1.is refl
+
+pub returns-in-V2-clause-size : goal.returns-in-V2-clause-size
+returns-in-V2-clause-size g c =
+    let s = c.args.table.now in
+    rw c.in-V2.is (omega (arith, size_reserved s.contents s.moment c.requires.reserved, ap length c.reserved_ports.ensures, len-entries s.contents.reserved))
+
+pub returns-in-V2-clause-small : goal.returns-in-V2-clause-small
+returns-in-V2-clause-small g c =
+    let s = c.args.table.now in
+    let range = rw (c.bounds-bounds.ensures.value, c.limits.ensures) at c.bounds-bounds.ensures.range in
+    omega (arith, ap length c.reserved_ports.ensures, len-entries s.contents.reserved, c.requires.within.reserved, range.allocations.1)

@@ -1,0 +1,8 @@
+//! The versions of the bytes.
+
+/// The version of the records that an area of a store holds. Version 1 has no tokens and no reserved ports.
+#[derive(Clone, Copy, Debug, PartialEq, Eq)]
+pub enum Version {
+    V1,
+    V2,
+}
