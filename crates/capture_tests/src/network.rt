@@ -52,7 +52,7 @@ pub fn server(alloc: Global) -> Result<Server> {
     users.add(b"user", generate_auth_key(b"user", b"example.org", b"pass"))?;
     let ports = PortRange::new(20000, 29999).context("ports")?;
     let table = Table::new(alloc, config.limits(), Moment::new(0).context("moment")?);
-    Machine::new(alloc, config, users, ports, table)
+    Machine::new(alloc, config, users, ports, table, false)
         .ok()
         .context("memory")
 }

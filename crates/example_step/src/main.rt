@@ -72,7 +72,7 @@ fn server(alloc: Global) -> Result<Server> {
     )?;
     let ports = PortRange::new(50000, 50009).context("ports")?;
     let table = Table::new(alloc, config.limits(), Moment::new(0).context("moment")?);
-    Machine::new(alloc, config, users, ports, table)
+    Machine::new(alloc, config, users, ports, table, false)
         .ok()
         .context("memory")
 }

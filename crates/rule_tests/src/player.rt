@@ -42,10 +42,11 @@ fn arrival_of<'a>(rt: &impl Abort, row: &Row, bytes: &'a [u8]) -> (u64, Arrival<
     }
 }
 
-/// What the table has of the first client, and how many entries.
+/// What the table has of the first client, and how many entries and reserved ports.
 #[derive(Clone, Copy, PartialEq, Eq)]
 pub struct State {
     entries: usize,
+    reserved: usize,
     port: u16,
     granted: u32,
     expiry: u64,
@@ -93,7 +94,7 @@ impl<A: Allocator + Copy> Player<A> {
         let ports = setup.ports(rt);
         let config = setup.config(rt, inner);
         let table = Table::new(inner, config.limits(), moment_at(rt, 0));
-        match Machine::new(inner, config, users, ports, table) {
+        match Machine::new(inner, config, users, ports, table, setup.pairs) {
             Ok(machine) => Player { alloc, machine },
             Err(_) => panic!(rt; "memory"),
         }
@@ -120,6 +121,7 @@ impl<A: Allocator + Copy> Player<A> {
         };
         State {
             entries: table.len(),
+            reserved: table.reserved_len(),
             port,
             granted,
             expiry,
@@ -129,14 +131,24 @@ impl<A: Allocator + Copy> Player<A> {
         }
     }
 
-    /// Whether each port that was picked was released once, but for those of the allocations that there are.
+    /// Whether each port that was picked was free and was released once, but for those of the allocations that there are, and the reserved
+    /// ports.
     pub fn keeps_ports(&self) -> bool {
         let gone = self
             .ports()
             .picked()
             .len()
             .wrapping_sub(self.ports().released().len());
-        gone == self.table().len()
+        let kept = self.table().len().wrapping_add(self.table().reserved_len());
+        gone == kept && self.ports().is_sound() && self.keeps_reserved()
+    }
+
+    /// Whether none of the reserved ports is released.
+    fn keeps_reserved(&self) -> bool {
+        self.table()
+            .reserved_ports()
+            .iter()
+            .all(|reserved| self.ports().is_held(reserved.0))
     }
 
     /// What an arrival at a second sends.
@@ -308,6 +320,14 @@ impl<A: Allocator + Copy> Player<A> {
         }
     }
 
+    /// Until when a port is reserved, 0 for not.
+    fn reserved_until(&self, port: u16) -> u64 {
+        match self.table().reserved(port) {
+            Some(reservation) => reservation.expiry,
+            None => 0,
+        }
+    }
+
     fn permitted(&self, ip: u32) -> bool {
         self.table().permitted(five_tuple(FIRST), ip)
     }
@@ -347,6 +367,10 @@ impl<A: Allocator + Copy> Player<A> {
             Row::Bound(second, port, permitted) => {
                 self.wait(rt, *second);
                 self.bound(rt) == *port && self.permitted(PEER_IP) == *permitted
+            }
+            Row::Reserved(second, port, expiry) => {
+                self.wait(rt, *second);
+                self.reserved_until(*port) == *expiry
             }
             Row::Entries(count) => self.table().len() == *count,
             Row::Released(ports) => are_the_same(self.ports().released(), ports),

@@ -1,18 +1,20 @@
 //! The reference implementation of tables, and the table against it.
 
 use crate::setup::moment_at;
-use crate::tables::{PEER_IP, Step, act_of, peer, purge_to, tuple};
-use history_tables::{Entry, table_at};
+use crate::tables::{PEER_IP, Step, act_of, peer, purge_to, token_after, tuple};
+use history_tables::{Entry, reserved_at, table_at};
 use refusing::Refusing;
 use std::alloc::{Allocator, Global};
 use std::collections::BTreeMap;
 use std::process::Abort;
-use turn_history::Event;
+use turn_history::{Event, Reservation};
 use turn_ports::PortSet;
 use turn_table::Table;
 use turn_types::{Bounds, Endpoint, FiveTuple, Limits, Moment};
 
 type Reference<A> = BTreeMap<FiveTuple, Entry<A>, A>;
+
+type Reserved<A> = BTreeMap<u32, Reservation, A>;
 
 fn event_of<A: Allocator + Copy>(
     rt: &impl Abort,
@@ -124,6 +126,7 @@ fn is_same<A: Allocator + Copy>(entry: &turn_table::Entry<A>, reference: &Entry<
         && entry.port() == reference.port
         && entry.granted() == reference.granted
         && entry.tx() == reference.tx
+        && entry.token() == reference.token
         && entry.expiry() == reference.expiry
 }
 
@@ -180,24 +183,74 @@ fn has_port<A: Allocator>(reference: &Reference<A>, port: u16) -> bool {
     reference.values().any(|entry| entry.port == port)
 }
 
+fn is_taken<A: Allocator>(reference: &Reference<A>, reserved: &Reserved<A>, port: u16) -> bool {
+    has_port(reference, port) || reserved.get(&u32::from(port)).is_some()
+}
+
 /// The lowest port that may be given and that the reference has not, and an even one where it is asked for.
-fn lowest_free<A: Allocator>(reference: &Reference<A>, even: bool) -> Option<u16> {
+fn lowest_free<A: Allocator>(
+    reference: &Reference<A>,
+    reserved: &Reserved<A>,
+    even: bool,
+) -> Option<u16> {
     for port in PORTS.0..=PORTS.1 {
-        if (!even || port % 2 == 0) && !has_port(reference, port) {
+        if (!even || port % 2 == 0) && !is_taken(reference, reserved, port) {
             return Some(port);
         }
     }
     None
 }
 
+/// The lowest of the two pairs that may be given and of which the reference has no port.
+fn lowest_free_pair<A: Allocator>(reference: &Reference<A>, reserved: &Reserved<A>) -> Option<u16> {
+    for (even, odd) in [(50000, 50001), (50002, 50003)] {
+        if !is_taken(reference, reserved, even) && !is_taken(reference, reserved, odd) {
+            return Some(even);
+        }
+    }
+    None
+}
+
 /// Whether a table gives the same ports as the reference.
-fn has_same_free_ports<A: Allocator + Copy>(table: &Table<A>, reference: &Reference<A>) -> bool {
+fn has_same_free_ports<A: Allocator + Copy>(
+    table: &Table<A>,
+    reference: &Reference<A>,
+    reserved: &Reserved<A>,
+) -> bool {
     for even in [false, true] {
-        if table.lowest_free(PORTS.0, PORTS.1, even) != lowest_free(reference, even) {
+        if table.lowest_free(PORTS.0, PORTS.1, even) != lowest_free(reference, reserved, even) {
             return false;
         }
     }
-    true
+    table.lowest_free_pair(PORTS.0, PORTS.1) == lowest_free_pair(reference, reserved)
+}
+
+/// Whether a table has the reservation of a port as the reference, if there is one, and finds it by its token.
+fn has_same_reservation<A: Allocator + Copy>(
+    table: &Table<A>,
+    reserved: &Reserved<A>,
+    even: u16,
+    odd: u16,
+) -> bool {
+    let expected = reserved.get(&u32::from(odd)).copied();
+    let named = table.by_token(&token_after(even));
+    table.reserved(odd) == expected && named == expected.map(|_| odd)
+}
+
+/// Whether a table has the reserved ports of the reference, in their order.
+fn has_same_reserved<A: Allocator + Copy>(table: &Table<A>, reserved: &Reserved<A>) -> bool {
+    let mut ports = table.reserved_ports().iter();
+    for (port, expected) in reserved {
+        match ports.next() {
+            Some((found, reservation)) if u32::from(*found) == *port && *reservation == *expected =>
+                {}
+            _ => return false,
+        }
+    }
+    ports.next().is_none()
+        && table.reserved_len() == reserved.len()
+        && has_same_reservation(table, reserved, 50000, 50001)
+        && has_same_reservation(table, reserved, 50002, 50003)
 }
 
 fn is_at_port<A: Allocator + Copy>(table: &Table<A>, port: u16, tuple: FiveTuple) -> bool {
@@ -296,10 +349,15 @@ fn has_same_clients<A: Allocator + Copy>(table: &Table<A>, reference: &Reference
 }
 
 /// Whether each port is taken as in the reference, or free in both, which the last one always is.
-fn has_same_ports<A: Allocator + Copy>(table: &Table<A>, reference: &Reference<A>) -> bool {
+fn has_same_ports<A: Allocator + Copy>(
+    table: &Table<A>,
+    reference: &Reference<A>,
+    reserved: &Reserved<A>,
+) -> bool {
     for port in PORTS.0..=PORTS.1 + 1 {
-        let is_taken = has_port(reference, port);
-        if table.has(port) != is_taken || table.by_port(port).is_some() != is_taken {
+        if table.has(port) != is_taken(reference, reserved, port)
+            || table.by_port(port).is_some() != has_port(reference, port)
+        {
             return false;
         }
     }
@@ -314,12 +372,17 @@ fn last_of<A: Allocator>(reference: &Reference<A>) -> Option<FiveTuple> {
     last
 }
 
-fn agrees<A: Allocator + Copy>(table: &Table<A>, reference: &Reference<A>) -> bool {
+fn agrees<A: Allocator + Copy>(
+    table: &Table<A>,
+    reference: &Reference<A>,
+    reserved: &Reserved<A>,
+) -> bool {
     has_same_counts(table, reference)
-        && has_same_free_ports(table, reference)
+        && has_same_free_ports(table, reference, reserved)
+        && has_same_reserved(table, reserved)
         && has_same_entries(table, reference)
         && has_same_clients(table, reference)
-        && has_same_ports(table, reference)
+        && has_same_ports(table, reference, reserved)
         && table.last() == last_of(reference)
 }
 
@@ -330,8 +393,11 @@ fn agrees_after<A: Allocator + Copy>(
     table: &Table<A>,
     history: &[Event<A>],
 ) -> bool {
-    match table_at(alloc, history, table.moment()) {
-        Ok(reference) => agrees(table, &reference),
+    let Ok(reference) = table_at(alloc, history, table.moment()) else {
+        panic!(rt; "memory");
+    };
+    match reserved_at(alloc, history, table.moment()) {
+        Ok(reserved) => agrees(table, &reference, &reserved),
         Err(_) => panic!(rt; "memory"),
     }
 }
@@ -348,7 +414,12 @@ fn step_of(word: u64) -> Step {
     let other = (word >> 38) % 4;
     let user = USERS[((word >> 40) % 2) as usize];
     match (word >> 33) % 8 {
-        0 | 1 => Step::Alloc(user, PORTS.0 + some as u16, 600 + 300 * other as u32),
+        0 => Step::Alloc(user, PORTS.0 + some as u16, 600 + 300 * other as u32),
+        1 => Step::AllocEven(
+            user,
+            PORTS.0 + 2 * (some % 2) as u16,
+            600 + 300 * other as u32,
+        ),
         2 => Step::Renew(600 * some as u32),
         3 | 4 => Step::Permit(PERMITS[some as usize]),
         _ => Step::Bind(0x4000 + some as u16, 1 + other as u16),
@@ -374,7 +445,10 @@ fn change<A: Allocator + Copy>(
     }
 }
 
-/// Lets time pass, plays the act of a word, and returns how many entries expired.
+/// Seconds between two acts, so that many expiry times fall on one moment, and some reservations last.
+const WAITS: [u64; 4] = [0, 10, 30, 300];
+
+/// Lets time pass, plays the act of a word, and returns how many entries and reservations expired.
 fn play_word<A: Allocator + Copy>(
     rt: &impl Abort,
     alloc: A,
@@ -382,15 +456,15 @@ fn play_word<A: Allocator + Copy>(
     history: &mut Vec<Event<A>, A>,
     word: u64,
 ) -> usize {
-    // All moments and expiry times are multiples of 100, so that many fall together.
-    let seconds = table.moment().seconds() + 100 * ((word >> 56) % 4);
+    let seconds = table.moment().seconds() + WAITS[((word >> 56) % 4) as usize];
     let (removed, _) = purge_to(rt, table, seconds);
     let client = 1 + ((word >> 42) % CLIENTS) as u16;
     change(rt, alloc, table, history, client, step_of(word));
     removed
 }
 
-/// Plays the acts that a seed makes until so many fitted, compares after each, and returns how many entries expired.
+/// Plays the acts that a seed makes until so many fitted, compares after each and after what expired, and returns how many entries and
+/// reservations expired.
 fn play<A: Allocator + Copy>(
     rt: &impl Abort,
     alloc: A,
@@ -405,9 +479,11 @@ fn play<A: Allocator + Copy>(
             return expired;
         }
         word = next_word(word);
+        let fitted = history.len();
         let removed = play_word(rt, alloc, table, &mut history, word);
         expired = expired.wrapping_add(removed);
-        if !agrees_after(rt, alloc, table, &history) {
+        let is_changed = removed > 0 || history.len() != fitted;
+        if is_changed && !agrees_after(rt, alloc, table, &history) {
             panic!(rt; "act {place} of seed {seed}");
         }
     }

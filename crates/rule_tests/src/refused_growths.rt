@@ -2,11 +2,11 @@
 
 use crate::judged::judged;
 use crate::player::{Player, is_same};
-use crate::row::{ALLOCATED, BOUND, PERMITTED, Row};
-use crate::setup::{SETUP, moment_at, value_of};
+use crate::row::{ALLOCATED, BOUND, PAIR, PAIRED, PERMITTED, Row, TOKEN};
+use crate::setup::{RESERVING, SETUP, Setup, moment_at, value_of};
 use refusing::Refusing;
 use requests_for_tests::{
-    ALICE, Attribute, FIRST, ID, Kind, LOWEST, OTHER, PEER, PEER_ENDPOINT, REALM, SECOND, UDP,
+    ALICE, Attribute, BOB, FIRST, ID, Kind, LOWEST, OTHER, PEER, PEER_ENDPOINT, REALM, SECOND, UDP,
     ZERO, five_tuple, nonce_of, signed,
 };
 use std::alloc::Global;
@@ -42,14 +42,14 @@ fn decided(
     port: Option<u16>,
 ) -> Option<(bool, bool)> {
     let moment = table.moment();
-    match decide(refusing, table, config, request, moment, port) {
+    match decide(refusing, table, config, request, moment, port, true) {
         Ok(decided) => {
             assert!(rt; refusing.left() == 0);
             Some(found(rt, &decided))
         }
         Err(_) => {
             assert!(rt; refusing.has_refused());
-            let again = decide(refusing, table, config, request, moment, port);
+            let again = decide(refusing, table, config, request, moment, port, true);
             assert!(rt; again.expect(rt, "memory").reply.is_some());
             None
         }
@@ -90,13 +90,14 @@ fn growths(
 }
 
 /// Alice's requests in their order, the port that each has, and the growths of a decision: one for the reply, and one
-/// for a user's name or a list of addresses.
-const DECISIONS: [(Kind, &[Attribute], Option<u16>, u64); 5] = [
+/// for a user's name or a list of addresses. A token takes none.
+const DECISIONS: [(Kind, &[Attribute], Option<u16>, u64); 6] = [
     (Kind::Allocate, &[UDP], Some(50000), 2),
     (Kind::Refresh, &[], None, 1),
     (Kind::CreatePermission, &[PEER, OTHER], None, 2),
     (Kind::ChannelBind, &[LOWEST, PEER], None, 1),
     (Kind::Refresh, &[ZERO], None, 1),
+    (Kind::Allocate, &[UDP, PAIR], Some(50000), 2),
 ];
 
 const SECOND_1000: [Row; 1] = [Row::Drop(1000, FIRST, b"")];
@@ -115,7 +116,7 @@ fn play_decisions(rt: &impl Abort, alloc: Global, player: &mut Player) {
 
 #[test]
 fn decision_takes_the_memory_of_the_reply_and_the_act(rt: HostRuntime) {
-    let mut player = Player::new(&rt, rt.alloc(), rt.alloc(), &SETUP);
+    let mut player = Player::new(&rt, rt.alloc(), rt.alloc(), &RESERVING);
     play_decisions(&rt, rt.alloc(), &mut player);
 }
 
@@ -215,21 +216,32 @@ fn peers_data_takes_the_memory_of_the_datagram(rt: HostRuntime) {
 /// A request of alice's that takes nothing. Her key is remembered from then on: a refused growth of that would not be told.
 const ASKED: Row = Row::Ask(1000, ALICE, FIRST, Kind::Refresh, &[], 437);
 
-/// What is done before, and the row at second 1001 whose growths are refused.
-const GROWTHS: [(&[Row], Row); 8] = [
+/// The same of bob's.
+const BOBS_ASKED: Row = Row::Ask(1000, BOB, SECOND, Kind::Refresh, &[], 437);
+
+/// Whether ports may be reserved, what is done before, the row at second 1001 whose growths are refused, and how many ports it picks,
+/// which are then released.
+const GROWTHS: [(Setup, &[Row], Row, usize); 11] = [
     (
+        SETUP,
         &[ASKED],
         Row::Ask(1001, ALICE, FIRST, Kind::Allocate, &[UDP], 0),
+        1,
     ),
     (
+        SETUP,
         &[ALLOCATED],
         Row::Ask(1001, ALICE, SECOND, Kind::Allocate, &[UDP], 0),
+        1,
     ),
     (
+        SETUP,
         &[ALLOCATED],
         Row::Ask(1001, ALICE, FIRST, Kind::Refresh, &[], 0),
+        0,
     ),
     (
+        SETUP,
         &[ALLOCATED, PERMITTED],
         Row::Ask(
             1001,
@@ -239,69 +251,107 @@ const GROWTHS: [(&[Row], Row); 8] = [
             &[PEER, OTHER],
             0,
         ),
+        0,
     ),
     (
+        SETUP,
         &[ALLOCATED],
         Row::Ask(1001, ALICE, FIRST, Kind::ChannelBind, &[LOWEST, PEER], 0),
+        0,
     ),
     (
+        SETUP,
         &[ALLOCATED, BOUND],
         Row::Ask(1001, ALICE, FIRST, Kind::Refresh, &[ZERO], 0),
+        0,
     ),
     (
+        SETUP,
         &[ALLOCATED, PERMITTED],
         Row::Send(1001, SEND, Some(b"hello")),
+        0,
     ),
     (
+        SETUP,
         &[ALLOCATED, PERMITTED],
         Row::Receive(1001, PEER_ENDPOINT, b"hello", Some(INDICATION)),
+        0,
+    ),
+    // Both ports of a pair; again; none where a token names one.
+    (
+        RESERVING,
+        &[ASKED],
+        Row::Ask(1001, ALICE, FIRST, Kind::Allocate, &[UDP, PAIR], 0),
+        2,
+    ),
+    (
+        RESERVING,
+        &[PAIRED],
+        Row::Ask(1001, ALICE, FIRST, Kind::Allocate, &[UDP, PAIR], 0),
+        0,
+    ),
+    (
+        RESERVING,
+        &[BOBS_ASKED, PAIRED],
+        Row::Ask(1001, BOB, SECOND, Kind::Allocate, &[UDP, TOKEN], 0),
+        0,
     ),
 ];
 
-/// Whether the growth after so many is refused, which changes nothing but the moment, and after which the same arrival
-/// is answered. Where no growth is left to be refused the row is taken at once.
-fn is_refused(
+/// How many ports were released where the growth after so many is refused, which changes nothing but the moment, and after which the
+/// same arrival is answered. Where no growth is left to be refused the row is taken at once.
+fn released_at(
     rt: &impl Abort,
     refusing: &Refusing<Global>,
     player: &mut Player<&Refusing<Global>>,
     row: &Row,
     served: u64,
-) -> bool {
+) -> Option<usize> {
     let state = player.state();
     refusing.arm(served);
     let is_taken = player.is_taken(rt, row);
     assert!(rt; is_taken != refusing.has_refused());
     refusing.arm(u64::MAX);
     if is_taken {
-        return false;
+        return None;
     }
     let is_same = player.state() == state && player.keeps_ports();
     if !is_same || player.moment().seconds() != 1001 {
         panic!(rt; "{served} served");
     }
+    let released = player.ports().released().len();
     player.play(rt, &[*row]);
-    true
+    Some(released)
 }
 
 /// The same at a new server, after other rows.
-fn is_refused_after(
+fn released_after(
     rt: &impl Abort,
     alloc: Global,
+    setup: &Setup,
     before: &[Row],
     row: &Row,
     served: u64,
-) -> bool {
+) -> Option<usize> {
     let refusing = Refusing::new(alloc, u64::MAX);
-    let mut player = Player::new(rt, &refusing, alloc, &SETUP);
+    let mut player = Player::new(rt, &refusing, alloc, setup);
     player.play(rt, before);
-    is_refused(rt, &refusing, &mut player, row, served)
+    released_at(rt, &refusing, &mut player, row, served)
 }
 
-/// How many growths a row takes, each of which is refused once.
-fn growths_of(rt: &impl Abort, alloc: Global, before: &[Row], row: &Row) -> u64 {
+/// How many growths a row takes, each of which is refused once, and how many ports the last refusal released.
+fn growths_of(
+    rt: &impl Abort,
+    alloc: Global,
+    setup: &Setup,
+    before: &[Row],
+    row: &Row,
+) -> (u64, usize) {
+    let mut last = 0;
     for served in 0..16u64 {
-        if !is_refused_after(rt, alloc, before, row, served) {
-            return served;
+        match released_after(rt, alloc, setup, before, row, served) {
+            Some(released) => last = released,
+            None => return (served, last),
         }
     }
     panic!(rt; "some growth is always refused");
@@ -309,7 +359,10 @@ fn growths_of(rt: &impl Abort, alloc: Global, before: &[Row], row: &Row) -> u64 
 
 #[test]
 fn step_that_lacks_memory_changes_nothing(rt: HostRuntime) {
-    for (before, row) in &GROWTHS {
-        assert!(rt; growths_of(&rt, rt.alloc(), before, row) > 0);
+    for (place, (setup, before, row, picked)) in GROWTHS.iter().enumerate() {
+        let (growths, released) = growths_of(&rt, rt.alloc(), setup, before, row);
+        if growths == 0 || released != *picked {
+            panic!(rt; "row {place}");
+        }
     }
 }

@@ -1,7 +1,7 @@
 //! Rows of tests.
 
 use requests_for_tests::{ALICE, Attribute, FIRST, HOUR, Kind, LOWEST, PEER, UDP, User};
-use turn_types::Endpoint;
+use turn_types::{Endpoint, Token};
 
 /// What a test does and finds, each at a second. Seconds never fall.
 #[derive(Clone, Copy)]
@@ -23,6 +23,8 @@ pub enum Row {
     /// The port to which 0x4000 is bound at 203.0.113.5 for the first client, 0 for none, and whether that address is
     /// permitted.
     Bound(u64, u16, bool),
+    /// Until when a port is reserved, 0 for not.
+    Reserved(u64, u16, u64),
     /// How many allocations there are.
     Entries(usize),
     /// The ports that were released up to now, in any order.
@@ -32,6 +34,20 @@ pub enum Row {
     /// How often the generator failed up to now.
     Failures(u64),
 }
+
+pub const EVEN: Attribute = Attribute::EvenPort { reserves: false };
+
+/// An even port and the next one.
+pub const PAIR: Attribute = Attribute::EvenPort { reserves: true };
+
+/// The token that alice gets at second 1000 for port 50001: the port, and the first six bytes of another program's HMAC-SHA256 of the
+/// second, the five-tuple and the transaction id under 32 zeros.
+pub const TOKEN: Attribute = Attribute::ReservationToken(Token([
+    0xC3, 0x51, 0xD5, 0x74, 0xB1, 0x5A, 0x49, 0xFA,
+]));
+
+/// Alice allocates 50000 at second 1000, and reserves 50001.
+pub const PAIRED: Row = Row::Ask(1000, ALICE, FIRST, Kind::Allocate, &[UDP, PAIR], 0);
 
 /// An allocation of alice at the first client for an hour from second 1000 on.
 pub const ALLOCATED: Row = Row::Ask(1000, ALICE, FIRST, Kind::Allocate, &[UDP, HOUR], 0);

@@ -16,9 +16,11 @@ pub struct Setup {
     pub ports: (u16, u16),
     /// Whether no port can be had.
     pub fails: bool,
+    /// Whether ports may be reserved.
+    pub pairs: bool,
 }
 
-/// A quota of 2, the highest limits, and the ports 50000 to 50009.
+/// A quota of 2, the highest limits, the ports 50000 to 50009, and no port may be reserved.
 pub const SETUP: Setup = Setup {
     quota: 2,
     bounds: Bounds {
@@ -30,6 +32,13 @@ pub const SETUP: Setup = Setup {
     },
     ports: (50000, 50009),
     fails: false,
+    pairs: false,
+};
+
+/// The same, where ports may be reserved.
+pub const RESERVING: Setup = Setup {
+    pairs: true,
+    ..SETUP
 };
 
 impl Setup {

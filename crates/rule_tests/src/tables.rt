@@ -1,15 +1,16 @@
 //! The table of live allocations, whose growths are refused in turn.
 
 ghost use Rattle.std.specs.Prelude.{IsTrue};
-ghost use Rattle.turn_table.specs.Table.{IsAbove};
+ghost use Rattle.turn_table.specs.Table.{IsAbove, IsAboveReserved};
 
 use crate::setup::moment_at;
 use refusing::Refusing;
 use std::alloc::{Allocator, Global};
 use std::process::Abort;
-use turn_history::{Act, Addresses, Channel, UserName};
-use turn_table::{Entry, EntryParts, Table, above_the_last};
-use turn_types::{Endpoint, FiveTuple, Limits, TxId};
+use turn_history::{Act, Addresses, Channel, Reservation, UserName};
+use turn_ports::PortSet;
+use turn_table::{Entry, EntryParts, Table, above_the_last, above_the_last_reserved};
+use turn_types::{Endpoint, FiveTuple, Limits, Token, TxId};
 
 pub const SERVER: Endpoint = Endpoint {
     ip: 0xC000_0264,
@@ -39,10 +40,18 @@ pub fn peer(port: u16) -> Endpoint {
 pub enum Step {
     /// A user, a relayed port, and the seconds granted.
     Alloc(&'static [u8], u16, u32),
+    /// The same, with an even port, which reserves the next one.
+    AllocEven(&'static [u8], u16, u32),
     Renew(u32),
     Permit(&'static [u32]),
     /// A channel number, and the port of a peer.
     Bind(u16, u16),
+}
+
+/// The token for the port after an even one.
+pub fn token_after(even: u16) -> Token {
+    let [high, low] = even.wrapping_add(1).to_be_bytes();
+    Token([high, low, 1, 2, 3, 4, 5, 6])
 }
 
 pub fn act_of<A: Allocator + Copy>(rt: &impl Abort, alloc: A, step: Step) -> Act<A> {
@@ -52,6 +61,13 @@ pub fn act_of<A: Allocator + Copy>(rt: &impl Abort, alloc: A, step: Step) -> Act
             port,
             granted,
             tx: TxId([7; 12]),
+        },
+        Step::AllocEven(user, port, granted) => Act::AllocEven {
+            user: UserName::from(Vec::from_slice(alloc, user).expect(rt, "memory")),
+            port,
+            granted,
+            tx: TxId([7; 12]),
+            token: token_after(port),
         },
         Step::Renew(granted) => Act::Renew { granted },
         Step::Permit(addresses) => Act::Permit {
@@ -64,7 +80,7 @@ pub fn act_of<A: Allocator + Copy>(rt: &impl Abort, alloc: A, step: Step) -> Act
     }
 }
 
-/// Purges a table to a second, and returns how many entries that removed, and the port of the last one, 0 for none.
+/// Purges a table to a second, and returns how many entries and reservations that removed, and the last port, 0 for none.
 pub fn purge_to<A: Allocator + Copy>(
     rt: &impl Abort,
     table: &mut Table<A>,
@@ -79,7 +95,7 @@ pub fn purge_to<A: Allocator + Copy>(
             None => return (removed, last),
         }
     }
-    panic!(rt; "more than 7 entries");
+    panic!(rt; "more than 7 ports");
 }
 
 /// Does an act that fits at a table's moment.
@@ -117,6 +133,7 @@ fn entry_with<A: Allocator + Copy>(rt: &impl Abort, alloc: A, port: u16) -> Entr
         port,
         granted: 700,
         tx: TxId([7; 12]),
+        token: None,
         expiry: 1600,
         permissions,
         channels,
@@ -142,7 +159,7 @@ fn restore<A: Allocator + Copy>(
     entry: Entry<A>,
 ) -> bool {
     let tuple = tuple(client);
-    let is_free = table.by_port(entry.port()).is_none();
+    let is_free = !table.has(entry.port());
     if !is_free || table.is_full() || !comes_last(table, tuple) {
         panic!(rt; "client {client} can't be restored");
     }
@@ -217,6 +234,42 @@ fn a_restore_that_lacks_memory_changes_nothing(rt: HostRuntime) {
     restore_all(&rt, &refusing, &mut table);
 }
 
+/// Restores a reserved port, which may be the table's last, and returns whether there was memory.
+fn restore_port<A: Allocator + Copy>(rt: &impl Abort, table: &mut Table<A>, port: u16) -> bool {
+    let reservation = Reservation {
+        token: token_after(port.wrapping_sub(1)),
+        expiry: 1030,
+    };
+    let few = table.reserved_len() < table.limits().allocations() as usize;
+    if !few || table.has_port(port) || !is_last_port(table, port) {
+        panic!(rt; "port {port} can't be restored");
+    }
+    table.restore_reserved(port, reservation).is_ok()
+}
+
+#[test]
+fn a_restored_port_takes_memory(rt: HostRuntime) {
+    let refusing = Refusing::new(rt.alloc(), 0);
+    let mut table = Table::new(&refusing, Limits::MAX, moment_at(&rt, 1000));
+    assert!(rt; !restore_port(&rt, &mut table, 50001) && table.reserved_len() == 0);
+    refusing.arm(u64::MAX);
+    assert!(rt; restore_port(&rt, &mut table, 50001) && restore_port(&rt, &mut table, 50003));
+    assert!(rt; table.by_token(&token_after(50002)) == Some(50003));
+    assert!(rt; purge_to(&rt, &mut table, 1029) == (0, 0) && table.reserved_len() == 2);
+    assert!(rt; purge_to(&rt, &mut table, 1030) == (2, 50003) && table.reserved_len() == 0);
+}
+
+/// Whether a port comes after all that are reserved.
+fn is_last_port<A: Allocator + Copy>(table: &Table<A>, port: u16) -> bool
+    ensures { IsTrue result → IsAboveReserved table.now.contents port }
+{
+    above_the_last_reserved();
+    match table.reserved_ports().last() {
+        Some(last) => last.0 < port,
+        None => true,
+    }
+}
+
 /// Whether a reservation fails after so many served growths, and leaves the table as it was.
 fn fails<'a>(
     refusing: Refused<'a>,
@@ -268,11 +321,14 @@ fn apply_refused<'a>(
 }
 
 /// Acts in turn, how often each one's growth may be refused, and the table's expiry of the client after it.
-const GROWTHS: [(Step, u64, u64); 5] = [
+const GROWTHS: [(Step, u64, u64); 7] = [
     (Step::Alloc(b"alice", 50000, 600), 7, 1600),
     (Step::Renew(3600), 0, 4600),
     (Step::Bind(0x4000, 9), 2, 4600),
     (Step::Permit(&[1, 2, 3, 4, 5, 6, 7, 8]), 1, 4600),
+    (Step::Renew(0), 0, 0),
+    // There is room for the entry, and none for the reservation.
+    (Step::AllocEven(b"alice", 50000, 600), 1, 1600),
     (Step::Renew(0), 0, 0),
 ];
 
@@ -285,7 +341,7 @@ fn apply_all<'a>(rt: &impl Abort, refusing: Refused<'a>, table: &mut Table<Refus
         let permitted = 4600 == *expiry && *growths == 1;
         assert!(rt; !permitted || table.permitted(tuple(32853), 8));
     }
-    assert!(rt; table.is_empty());
+    assert!(rt; table.is_empty() && table.by_token(&token_after(50000)) == Some(50001));
 }
 
 #[test]

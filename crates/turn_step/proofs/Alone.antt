@@ -21,7 +21,7 @@ use Rattle.turn_step.specs.Outcome.{Outcome}
 module _ (s : Setting) (h g : History) (t : ℕ) (failed : Bool) (f : FiveTuple) (bytes : List ℕ) (o : Outcome) (events : events_of f h ≡ events_of f g) where
   -- the answers go on where those to a message do
   client_goes_on :
-      ((m : Content) (d : _) → Spells bytes m → Answers s.config s.keys s.range h t failed f (record { bytes = bytes; content = m }) d → Answers s.config s.keys s.range g t failed f (record { bytes = bytes; content = m }) d)
+      ((m : Content) (d : _) → Spells bytes m → Answers s.pairs s.config s.keys s.range h t failed f (record { bytes = bytes; content = m }) d → Answers s.pairs s.config s.keys s.range g t failed f (record { bytes = bytes; content = m }) d)
       → AnswersClient s h t failed f bytes o → AnswersClient s g t failed f bytes o
   client_goes_on goes_on answer = record {
     decided = answer.decided;
@@ -37,10 +37,10 @@ module _ (s : Setting) (h g : History) (t : ℕ) (failed : Bool) (f : FiveTuple)
   }
 
   pub client_same : SpellsNoAllocate bytes → AnswersClient s h t failed f bytes o → AnswersClient s g t failed f bytes o
-  client_same other = client_goes_on (λ m d spelt. answers_same s.config s.range h g t failed f (record { bytes = bytes; content = m }) (judgement s.config s.keys f.client t (record { bytes = bytes; content = m })) d events (other m spelt))
+  client_same other = client_goes_on (λ m d spelt. answers_same s.pairs s.config s.range h g t failed f (record { bytes = bytes; content = m }) (judgement s.config s.keys f.client t (record { bytes = bytes; content = m })) d events (other m spelt))
 
   pub allocate_same : SameForAllocates s f t bytes (table h t) (table g t) → AnswersClient s h t failed f bytes o → AnswersClient s g t failed f bytes o
-  allocate_same others = client_goes_on (λ m d spelt. allocates_same s.config s.range h g t failed f (record { bytes = bytes; content = m }) (judgement s.config s.keys f.client t (record { bytes = bytes; content = m })) d events (others m spelt))
+  allocate_same others = client_goes_on (λ m d spelt. allocates_same s.pairs s.config s.range h g t failed f (record { bytes = bytes; content = m }) (judgement s.config s.keys f.client t (record { bytes = bytes; content = m })) d events (others m spelt))
 
 pub allocates_too : (s : Setting) (h g : History) (t : ℕ) (f : FiveTuple) (bytes : List ℕ) → SameForAllocates s f t bytes (table h t) (table g t) → SameForAllocates s f t bytes (table g t) (table h t)
 allocates_too s h g t f bytes others = λ m spelt. others_too s.range _ (table h t) (table g t) (others m spelt)

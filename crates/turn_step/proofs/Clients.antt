@@ -16,10 +16,10 @@ use Rattle.turn_step.proofs.Dropped.{nothing_decided, sending_no_request}
 module _ (s : Setting) (h : History) (t : ℕ) (failed : Bool) (f : FiveTuple) where
   -- the credentials as they were judged
   pub decided_as_judged : (d : Datagram) (v : Option Verdict) (o : Outcome) → v ≡ judgement s.config s.keys f.client t d
-      → ((x : Decided) × MayAnswer s.config s.range h t failed f d v x × (o ≡ decided_for f x)) → IsDecided s h t failed f d o
+      → ((x : Decided) × MayAnswer s.pairs s.config s.range h t failed f d v x × (o ≡ decided_for f x)) → IsDecided s h t failed f d o
   decided_as_judged d v o judged found = record {
     decided = found.0;
-    answers = subst (λ w. MayAnswer s.config s.range h t failed f d w found.0) judged found.1;
+    answers = subst (λ w. MayAnswer s.pairs s.config s.range h t failed f d w found.0) judged found.1;
     is = found.2;
   }
 
@@ -47,7 +47,7 @@ module _ (s : Setting) (h : History) (t : ℕ) (failed : Bool) (f : FiveTuple) w
       decided = x.decided;
       relayed = None;
       decides = record {
-        message = λ m spells. subst (λ e. Answers s.config s.keys s.range h t failed f e x.decided) (only m spells) x.answers;
+        message = λ m spells. subst (λ e. Answers s.pairs s.config s.keys s.range h t failed f e x.decided) (only m spells) x.answers;
         no_message = λ none. absurd (none d.content found);
       };
       sends = sends;

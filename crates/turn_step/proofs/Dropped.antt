@@ -12,13 +12,13 @@ use Rattle.turn_step.specs.Answer.{Setting, undecided}
 
 -- nothing is decided about a message that is no request
 pub nothing_decided : (s : Setting) (h : History) (t : ℕ) (failed : Bool) (f : FiveTuple) (d : Datagram) → is_request d.content.class ≡ false
-    → Answers s.config s.keys s.range h t failed f d undecided
+    → Answers s.pairs s.config s.keys s.range h t failed f d undecided
 unfolding port_needed outcome_of decision
 nothing_decided s h t failed f d other =
     let dropped : is_dropped d ≡ true = rw other refl in
     record {
       port = None;
-      picked = λ even needed. (let none = rw dropped at needed in cc);
+      picked = λ need needed. (let none = rw dropped at needed in cc);
       decided = rw dropped refl;
     }
 

@@ -18,11 +18,11 @@ use Rattle.turn_step.specs.Outcome.Sent.{ToClient, ToPeer}
 
 -- a message that is no request is decided about in no other way
 decides_nothing : (s : Setting) (h : History) (t : ℕ) (failed : Bool) (f : FiveTuple) (d : Datagram) (x : Decided) → is_request d.content.class ≡ false
-    → Answers s.config s.keys s.range h t failed f d x → x ≡ undecided
+    → Answers s.pairs s.config s.keys s.range h t failed f d x → x ≡ undecided
 unfolding outcome_of decision
 decides_nothing s h t failed f d x other a =
     let dropped : is_dropped d ≡ true = rw other refl in
-    let empty : decision s.config (table h t) f t d (judgement s.config s.keys f.client t d) a.port ≡ undecided = rw dropped refl in
+    let empty : decision s.pairs s.config (table h t) f t d (judgement s.config s.keys f.client t d) a.port ≡ undecided = rw dropped refl in
     a.decided ∙ empty
 
 sends_nothing : (e : Option Entry) (d : Datagram) → is_request d.content.class ≡ true → sent_by_message e d ≡ None

@@ -1,5 +1,5 @@
 -- Machines after histories.
-use Rattle.std.proofs.Common.{◌≡◌, ◌≤◌, ◌<◌, ◌-◌, ◌^◌, ◌++◌, ◌∷◌, [], ℕ, Option, option_map, Some, None, Result, Ok, Err, refl, sym, ap, subst, ◌∙◌, inl, inr, arith}
+use Rattle.std.proofs.Common.{◌≡◌, ◌≤◌, ◌<◌, ◌-◌, ◌^◌, ◌++◌, ◌∷◌, [], ℕ, Bool, Option, option_map, Some, None, Result, Ok, Err, refl, sym, ap, subst, ◌∙◌, inl, inr, arith}
 use Rattle.std.proofs.Math.Nat.{eq-or-lt_of_le}
 use Rattle.std.specs.Prelude.{IfOk, IfSome}
 use Rattle.turn_types.specs.Config.{Config}
@@ -58,7 +58,7 @@ follows_next s b h t c bounds moment late agrees next =
 pub follows_outcome : {H G E : Type 0} (m : MachineState H G) (b : Bounds) (h : History) (t : ℕ) (r : Result Outcome E) → m.table.bounds ≡ b → m.table.moment ≡ t
     → IsAfter m h → IfOk r (IsReady m) → IfOk r (λ o. IfSome o.change (λ c. Follows b h (event_at t c)))
 follows_outcome m b h t (Err e) bounds moment after ready = tt
-follows_outcome m b h t (Ok o) bounds moment after ready = by_change o.change ready
+follows_outcome m b h t (Ok o) bounds moment after ready = by_change o.change ready.next
   where
     by_change : (change : Option Change) → IfSome change (MayBeNext m.table) → IfSome change (λ c. Follows b h (event_at t c))
     by_change None next = tt
@@ -81,11 +81,11 @@ after_change m n h change c is limits next config moment applies after =
 
 -- ---- Answers
 
-pub setting_is : {H G : Type 0} (keys : H → Keys) (range : G → ℕ × ℕ) (m : MachineState H G) (config : Config) (handler : H) (ports : G)
-    → config ≡ m.config → handler ≡ m.handler → range ports ≡ range m.ports
-    → ◌≡◌ {A = Setting} (record { config = config; keys = keys handler; range = range ports }) (setting_of keys range m)
-setting_is keys range m config handler ports same_config same_handler same_range =
-    λ j. record { config = same_config j; keys = keys (same_handler j); range = same_range j }
+pub setting_is : {H G : Type 0} (keys : H → Keys) (range : G → ℕ × ℕ) (m : MachineState H G) (config : Config) (handler : H) (ports : G) (pairs : Bool)
+    → config ≡ m.config → handler ≡ m.handler → range ports ≡ range m.ports → pairs ≡ m.pairs
+    → ◌≡◌ {A = Setting} (record { config = config; keys = keys handler; range = range ports; pairs = pairs }) (setting_of keys range m)
+setting_is keys range m config handler ports pairs same_config same_handler same_range same_pairs =
+    λ j. record { config = same_config j; keys = keys (same_handler j); range = same_range j; pairs = same_pairs j }
 
 pub answers_along : {E : Type 0} (s z : Setting) (h : History) (t x y n : ℕ) (a b : Arrives) (r : Result Outcome E) → s ≡ z → x ≡ y → a ≡ b
     → IfOk r (AnswersArrival s h t (has_failed x n) a) → IfOk r (AnswersArrival z h t (has_failed y n) b)

@@ -15,11 +15,12 @@ use Rattle.turn_step.specs.Outcome.{Arrives, Outcome, Sent, change_of, decided_f
 use Rattle.turn_step.specs.Outcome.Arrives.{FromClient, FromPeer}
 use Rattle.turn_step.specs.Outcome.Sent.{ToClient, ToPeer}
 
--- what stays the same: the configuration, the users' keys, and the first and the last port of the range
+-- what stays the same: the configuration, the users' keys, the first and the last port of the range, and whether ports may be reserved
 pub record Setting : Type 0 where
   pub config : Config
   pub keys : Keys
   pub range : ℕ × ℕ
+  pub pairs : Bool
 
 -- ---- A client's bytes
 
@@ -34,13 +35,13 @@ to_peer relayed = option_map (λ d. ToPeer d.port d.peer d.payload) relayed
 
 -- what is decided about a message, if the bytes spell one: a reply and an act
 pub record Decides (s : Setting) (h : History) (t : ℕ) (failed : Bool) (f : FiveTuple) (bytes : List ℕ) (d : Decided) : Type 0 where
-  pub message : (m : Content) → Spells bytes m → Answers s.config s.keys s.range h t failed f (record { bytes = bytes; content = m }) d
+  pub message : (m : Content) → Spells bytes m → Answers s.pairs s.config s.keys s.range h t failed f (record { bytes = bytes; content = m }) d
   pub no_message : ((m : Content) → ¬ Spells bytes m) → d ≡ undecided
 
 -- an outcome is what is decided about a message
 pub record IsDecided (s : Setting) (h : History) (t : ℕ) (failed : Bool) (f : FiveTuple) (d : Datagram) (o : Outcome) : Type 0 where
   pub decided : Decided
-  pub answers : Answers s.config s.keys s.range h t failed f d decided
+  pub answers : Answers s.pairs s.config s.keys s.range h t failed f d decided
   pub is : o ≡ decided_for f decided
 
 -- a client's bytes are decided about as a message, or send data to a peer as a message or as channel data, or neither

@@ -18,7 +18,8 @@ pub record HasNoReply (o : Outcome) : Type 0 where
 abbrev pub SpellsNoAllocate : List ℕ → Type 0
 SpellsNoAllocate bytes = (m : Content) → Spells bytes m → is_allocate (record { bytes = bytes; content = m }) ≡ false
 
--- if the bytes spell a message, two tables have as many allocations of its user, as many of all, and the same taken ports
+-- if the bytes spell a message, two tables have as many allocations of its user, as many of all, the same taken ports, and the same reserved
+-- ports
 abbrev pub SameForAllocates : Setting → FiveTuple → ℕ → List ℕ → Contents → Contents → Type 0
 SameForAllocates s f t bytes c k =
     (m : Content) → Spells bytes m → SameForOthers s.range (user_of (judgement s.config s.keys f.client t (record { bytes = bytes; content = m }))) c k

@@ -1,4 +1,5 @@
 pub mod Answer
+pub mod Holding
 pub mod Laws
 pub mod Outcome
 pub mod State

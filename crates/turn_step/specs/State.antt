@@ -1,14 +1,16 @@
 -- What contracts see of a machine.
-use Rattle.std.specs.Prelude.{◌≡◌, ◌⊎◌, ◌≤◌, ◌<◌, ℕ, Bool, Option, Some, None, IfSome, ◌++◌}
+use Rattle.std.specs.Prelude.{◌≡◌, ◌⊎◌, ◌≤◌, ◌<◌, ℕ, Bool, false, Option, Some, None, IfSome, ◌++◌}
 use Rattle.turn_types.specs.Config.{Config}
 use Rattle.turn_history.specs.Fitting.{Fits, IsFitting, IsInRange}
 use Rattle.turn_history.specs.History.{History, clock}
+use Rattle.turn_history.specs.Laws.{ReservesNone}
 use Rattle.turn_history.specs.Table.{applied, purged}
 use Rattle.turn_cred.specs.Credential.{Keys}
 use Rattle.turn_ports.specs.Ports.{Failed}
 use Rattle.turn_table.specs.State.{State}
 use Rattle.turn_table.specs.Table.{Agrees, room_for}
 use Rattle.turn_step.specs.Answer.{AnswersArrival, Setting}
+use Rattle.turn_step.specs.Holding.{ports_with}
 use Rattle.turn_step.specs.Outcome.{Arrives, Change, Outcome, Sent, added, event_at}
 
 pub record MachineState (H G : Type 0) : Type 0 where
@@ -16,9 +18,10 @@ pub record MachineState (H G : Type 0) : Type 0 where
   pub handler : H
   pub ports : G
   pub table : State
+  pub pairs : Bool
 
 abbrev pub setting_of : {H G : Type 0} → (H → Keys) → (G → ℕ × ℕ) → MachineState H G → Setting
-setting_of keys range m = record { config = m.config; keys = keys m.handler; range = range m.ports }
+setting_of keys range m = record { config = m.config; keys = keys m.handler; range = range m.ports; pairs = m.pairs }
 
 -- a machine is after a history: the history fits, has no later moment, and the table agrees with it
 pub record IsAfter {H G : Type 0} (m : MachineState H G) (h : History) : Type 0 where
@@ -26,13 +29,18 @@ pub record IsAfter {H G : Type 0} (m : MachineState H G) (h : History) : Type 0 
   pub late : clock h ≤ m.table.moment
   pub agrees : Agrees m.table h
 
+-- the generator holds something for each port that the table has or a change takes, and for no other
+abbrev pub HoldsPorts : {H G : Type 0} → (G → (ℕ → Bool) → Type 0) → MachineState H G → Option Change → Type 0
+HoldsPorts holds m change = holds m.ports (ports_with m.table.contents change)
+
 -- ---- What stays
 
--- the configuration, the handler and the range of ports are the same
+-- the configuration, the handler, the range of ports and whether ports may be reserved are the same
 pub record KeepsSetting {H G : Type 0} (range : G → ℕ × ℕ) (old new : MachineState H G) : Type 0 where
   pub config : new.config ≡ old.config
   pub handler : new.handler ≡ old.handler
   pub range_is : range new.ports ≡ range old.ports
+  pub pairs : new.pairs ≡ old.pairs
 
 -- the count of failures is the same, or a call of pick failed
 abbrev pub CountsOne : ℕ → ℕ → Type 0
@@ -64,9 +72,10 @@ pub record MayBeNext (s : State) (c : Change) : Type 0 where
   pub fits : Fits s.bounds s.contents c.tuple c.act
   pub in_range : IsInRange s.bounds (event_at s.moment c)
 
--- a machine is ready for a step
-abbrev pub IsReady : {H G : Type 0} → MachineState H G → Outcome → Type 0
-IsReady m o = IfSome o.change (MayBeNext m.table)
+-- a machine is ready for a step: its change may be the next, and reserves no port where none may be reserved
+pub record IsReady {H G : Type 0} (m : MachineState H G) (o : Outcome) : Type 0 where
+  pub next : IfSome o.change (MayBeNext m.table)
+  pub no_pairs : m.pairs ≡ false → IfSome o.change (λ c. ReservesNone c.act)
 
 -- a table after a change at its moment, if there is one
 abbrev pub changed : State → Option Change → State

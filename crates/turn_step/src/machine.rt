@@ -1,6 +1,6 @@
 //! The rules of a server.
 
-ghost use Rattle.std.specs.Prelude.{◌≡◌, ◌≤◌, ◌++◌, IfOk, IfErr, IfSome, OnErr, option_map};
+ghost use Rattle.std.specs.Prelude.{◌≡◌, ◌≤◌, ◌++◌, None, IfOk, IfErr, IfSome, OnErr, option_map};
 ghost use Rattle.turn_codec.specs.Grammar.{Datagram};
 ghost use Rattle.turn_history.specs.Fitting.{Follows};
 ghost use Rattle.turn_history.specs.History.{History};
@@ -8,14 +8,14 @@ ghost use Rattle.turn_ports.specs.Ports.{has_failed};
 ghost use Rattle.turn_rules.specs.Laws.{IsMadeOfBytes};
 ghost use Rattle.turn_step.specs.Answer.{AnswersArrival, AnswersClient, IsDecided};
 ghost use Rattle.turn_step.specs.Outcome.{added, event_at};
-ghost use Rattle.turn_step.specs.State.{Answered, CountsOne, IsAfter, IsPurged, IsReady, IsSameTable, KeepsSetting, changed, setting_of};
+ghost use Rattle.turn_step.specs.State.{Answered, CountsOne, HoldsPorts, IsAfter, IsPurged, IsReady, IsSameTable, KeepsSetting, changed, setting_of};
 ghost use Rattle.turn_step.specs.Views.{arrival_of, sent_of};
 ghost use Rattle.turn_table.specs.Table.{Agrees};
 
 use crate::arrival::{Arrival, Outgoing};
 use crate::client::{read_request, to_peer};
 use crate::peer::peer_step;
-use crate::purge::{advance, release};
+use crate::purge::{advance, release, release_for};
 use crate::request::{judge, pick, settle};
 use crate::step::Step;
 use std::alloc::{AllocError, AllocFailed, Allocator, Global};
@@ -25,17 +25,18 @@ use turn_cred::{AuthHandler, Checker};
 use turn_history::Act;
 use turn_ports::RelayAddressGenerator;
 use turn_relay::from_client;
-use turn_rules::Request;
+use turn_rules::{Need, Request, needs_port};
 use turn_table::Table;
 use turn_types::{FiveTuple, Moment, ServerConfig};
 
-/// The configuration, the users' keys, the generator of ports and the table of a machine.
+/// The configuration, the users' keys, the generator of ports and the table of a machine, and whether it reserves ports.
 #[derive(Drop)]
 pub struct Parts<H: AuthHandler, G: RelayAddressGenerator, A: Allocator = Global> {
     pub config: ServerConfig<A>,
     pub handler: H,
     pub ports: G,
     pub table: Table<A>,
+    pub pairs: bool,
 }
 
 /// The rules of a server over its configuration, credentials, ports and table, without sockets and without a store.
@@ -43,14 +44,16 @@ pub struct Parts<H: AuthHandler, G: RelayAddressGenerator, A: Allocator = Global
 /// Each arrival is one step, in two halves: `prepare` decides and makes all room, and `apply` does what was decided.
 /// Between them a caller who stores acts can write the act. The moments of the steps never go back.
 ///
-/// Each port that was picked is released exactly once: when its allocation has expired, by a Refresh of 0, or, if no
-/// allocation came of it, after an allocation failure or by `abandon`.
+/// Each port that was picked is released exactly once: when its allocation or its reservation has expired, by a Refresh of 0, or, if
+/// no allocation came of it, after an allocation failure or by `abandon`.
 pub struct Machine<H: AuthHandler, G: RelayAddressGenerator, A: Allocator = Global> {
     alloc: A,
     config: ServerConfig<A>,
     checker: Checker<H, A>,
     ports: G,
     table: Table<A>,
+    // Whether ports may be reserved.
+    pairs: bool,
 }
 
 // By hand: a derived drop is one step for each field in the proof of each caller.
@@ -63,6 +66,7 @@ impl<H: AuthHandler + Drop, G: RelayAddressGenerator + Drop, A: Allocator> Drop
             checker: _,
             ports: _,
             table: _,
+            pairs: _,
         } = self;
     }
 }
@@ -78,23 +82,25 @@ impl<H: AuthHandler, G: RelayAddressGenerator, A: Allocator> Model for Machine<H
 
     ghost coded = { Prim.hlevel (codes, state_code) };
 
-    ghost view = { λ m. record { config = m.config; handler = m.checker.handler; ports = m.ports; table = m.table } };
+    ghost view = { λ m. record { config = m.config; handler = m.checker.handler; ports = m.ports; table = m.table; pairs = m.pairs } };
 
     ghost invariant = { λ m. (m.checker.policy ≡ policy_of m.config) × (m.table.bounds ≡ m.config.limits) };
 }
 
 impl<H: AuthHandler, G: RelayAddressGenerator, A: Allocator + Copy> Machine<H, G, A> {
-    /// A machine over a table with the limits of the configuration. After an allocation failure the error has the parts.
+    /// A machine over a table with the limits of the configuration. `pairs` says whether it reserves ports: if not, EVEN-PORT with the R
+    /// bit is 508, and so is each RESERVATION-TOKEN. After an allocation failure the error has the parts.
     pub fn new(
         alloc: A,
         config: ServerConfig<A>,
         handler: H,
         ports: G,
         table: Table<A>,
+        pairs: bool,
     ) -> Result<Machine<H, G, A>, AllocFailed<Parts<H, G, A>>>
         requires { table.bounds ≡ config.limits }
-        ensures ok { IfOk result (λ m. m ≡ record { config = config; handler = handler; ports = ports; table = table }) }
-        ensures err { IfErr result (λ e. e.value ≡ record { config = config; handler = handler; ports = ports; table = table }) }
+        ensures ok { IfOk result (λ m. m ≡ record { config = config; handler = handler; ports = ports; table = table; pairs = pairs }) }
+        ensures err { IfErr result (λ e. e.value ≡ record { config = config; handler = handler; ports = ports; table = table; pairs = pairs }) }
     {
         match Checker::new(alloc, &config, handler) {
             Ok(checker) => Ok(Machine {
@@ -103,6 +109,7 @@ impl<H: AuthHandler, G: RelayAddressGenerator, A: Allocator + Copy> Machine<H, G
                 checker,
                 ports,
                 table,
+                pairs,
             }),
             Err(AllocFailed { value: handler }) => Err(AllocFailed {
                 value: Parts {
@@ -110,6 +117,7 @@ impl<H: AuthHandler, G: RelayAddressGenerator, A: Allocator + Copy> Machine<H, G
                     handler,
                     ports,
                     table,
+                    pairs,
                 },
             }),
         }
@@ -142,13 +150,14 @@ impl<H: AuthHandler, G: RelayAddressGenerator, A: Allocator + Copy> Machine<H, G
     }
 
     pub fn into_parts(self) -> Parts<H, G, A>
-        ensures { record { config = result.config; handler = result.handler; ports = result.ports; table = result.table } ≡ self }
+        ensures { record { config = result.config; handler = result.handler; ports = result.ports; table = result.table; pairs = result.pairs } ≡ self }
     {
         let Machine {
             config,
             checker,
             ports,
             table,
+            pairs,
             alloc: _,
         } = self;
         Parts {
@@ -156,6 +165,7 @@ impl<H: AuthHandler, G: RelayAddressGenerator, A: Allocator + Copy> Machine<H, G
             handler: checker.into_handler(),
             ports,
             table,
+            pairs,
         }
     }
 
@@ -174,6 +184,8 @@ impl<H: AuthHandler, G: RelayAddressGenerator, A: Allocator + Copy> Machine<H, G
         ensures table { IsSameTable self.old.table self.new.table }
         ensures setting { KeepsSetting G.range self.old self.new }
         ensures count { CountsOne (G.failures self.old.ports) (G.failures self.new.ports) }
+        ensures held { HoldsPorts G.holds self.old None → IfOk result (λ s. HoldsPorts G.holds self.new s.change) }
+        ensures held_err { HoldsPorts G.holds self.old None → OnErr result (HoldsPorts G.holds self.new None) }
     {
         let verdict = judge(&mut self.checker, &message, five_tuple.client, moment);
         let request = Request {
@@ -181,7 +193,8 @@ impl<H: AuthHandler, G: RelayAddressGenerator, A: Allocator + Copy> Machine<H, G
             five_tuple,
             verdict,
         };
-        let port = pick(&mut self.ports, &self.table, &self.config, &request, moment)?;
+        let need = needs_port(&self.table, &self.config, &request, moment, self.pairs);
+        let port = pick(&mut self.ports, &self.table, need)?;
         let settled = settle(
             self.alloc,
             &mut self.table,
@@ -189,9 +202,10 @@ impl<H: AuthHandler, G: RelayAddressGenerator, A: Allocator + Copy> Machine<H, G
             &request,
             moment,
             port,
+            self.pairs,
         );
         let Ok(step) = settled else {
-            release(&mut self.ports, port);
+            release_for(&mut self.ports, need, port);
             return Err(AllocError);
         };
         Ok(step)
@@ -211,6 +225,8 @@ impl<H: AuthHandler, G: RelayAddressGenerator, A: Allocator + Copy> Machine<H, G
         ensures table { IsSameTable self.old.table self.new.table }
         ensures setting { KeepsSetting G.range self.old self.new }
         ensures count { CountsOne (G.failures self.old.ports) (G.failures self.new.ports) }
+        ensures held { HoldsPorts G.holds self.old None → IfOk result (λ s. HoldsPorts G.holds self.new s.change) }
+        ensures held_err { HoldsPorts G.holds self.old None → OnErr result (HoldsPorts G.holds self.new None) }
     {
         if let Some(data) = from_client(&self.table, five_tuple, bytes, moment) {
             return Ok(Step::new(None, Some(to_peer(self.alloc, data)?)));
@@ -238,6 +254,9 @@ impl<H: AuthHandler, G: RelayAddressGenerator, A: Allocator + Copy> Machine<H, G
         ensures after { (h : History) → IsAfter self.old h → IsAfter self.new h }
         ensures setting { KeepsSetting G.range self.old self.new }
         ensures count { CountsOne (G.failures self.old.ports) (G.failures self.new.ports) }
+        // The ports of the table are held, and those that were picked for the act; after an `Err` those of the table. No other is.
+        ensures held { (h : History) → IsAfter self.old h → HoldsPorts G.holds self.old None → IfOk result (λ s. HoldsPorts G.holds self.new s.change) }
+        ensures held_err { (h : History) → IsAfter self.old h → HoldsPorts G.holds self.old None → OnErr result (HoldsPorts G.holds self.new None) }
     {
         advance(&mut self.table, &mut self.ports, moment);
         match *arrival {
@@ -260,6 +279,7 @@ impl<H: AuthHandler, G: RelayAddressGenerator, A: Allocator + Copy> Machine<H, G
         ensures after { (h : History) → IsAfter self.old h → IsAfter self.new (h ++ added self.old.table.moment step.change) }
         ensures setting { KeepsSetting G.range self.old self.new }
         ensures count { G.failures self.new.ports ≡ G.failures self.old.ports }
+        ensures held { (h : History) → IsAfter self.old h → HoldsPorts G.holds self.old step.change → HoldsPorts G.holds self.new None }
     {
         let (act, outgoing) = step.into_parts();
         if let Some(change) = act {
@@ -271,18 +291,30 @@ impl<H: AuthHandler, G: RelayAddressGenerator, A: Allocator + Copy> Machine<H, G
         outgoing
     }
 
-    /// In place of the second half: releases the port that was picked for the act, if one was. The table is as after the
-    /// first half.
+    /// In place of the second half: releases what was picked for the act, if anything was, and so no reserved port that the act would
+    /// have taken. The table is as after the first half.
     pub fn abandon(&mut self, step: Step<A>)
         ensures table { self.new.table ≡ self.old.table }
         ensures setting { KeepsSetting G.range self.old self.new }
         ensures count { G.failures self.new.ports ≡ G.failures self.old.ports }
+        ensures held { (h : History) → IsAfter self.old h → IsReady self.old step → HoldsPorts G.holds self.old step.change → HoldsPorts G.holds self.new None }
     {
         let (act, _) = step.into_parts();
-        if let Some(change) = act {
-            if let (_, Act::Alloc { port, .. }) = Box::into_inner(change) {
-                self.ports.release(port);
+        let Some(change) = act else {
+            return;
+        };
+        match Box::into_inner(change).1 {
+            Act::Alloc { port, .. } => {
+                if self.table.reserved(port).is_none() {
+                    release(&mut self.ports, Some(port));
+                }
             }
+            Act::AllocEven { port, .. } => release_for(
+                &mut self.ports,
+                Some(Need::Pair),
+                Some(port),
+            ),
+            _ => {}
         }
     }
 
@@ -300,6 +332,7 @@ impl<H: AuthHandler, G: RelayAddressGenerator, A: Allocator + Copy> Machine<H, G
         ensures moment { self.new.table.moment ≡ moment }
         ensures setting { KeepsSetting G.range self.old self.new }
         ensures count { CountsOne (G.failures self.old.ports) (G.failures self.new.ports) }
+        ensures held { (h : History) → IsAfter self.old h → HoldsPorts G.holds self.old None → HoldsPorts G.holds self.new None }
     {
         let step = self.prepare(moment, arrival)?;
         Ok(self.apply(step))

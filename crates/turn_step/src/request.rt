@@ -1,14 +1,19 @@
 //! Requests: the credentials, the port, the decision and the room for its act.
 
-ghost use Rattle.std.specs.Prelude.{◌≡◌, ◌⊎◌, ◌<◌, ◌-◌, ◌^◌, ℕ, Bool, None, Ok, option_map, IfOk, IfSome};
+ghost use Rattle.std.specs.Prelude.{◌≡◌, ◌⊎◌, ◌<◌, ◌-◌, ◌^◌, ◌||◌, ℕ, Bool, false, None, Ok, option_map, IfOk, IfSome, OnErr};
 ghost use Rattle.turn_types.specs.Config.{Config};
-ghost use Rattle.turn_history.specs.Fitting.{IsActInRange, IsTuple, PortIsFree};
+ghost use Rattle.turn_history.specs.Fitting.{IsTuple, is_taken};
+ghost use Rattle.turn_history.specs.Laws.{ReservesNone};
 ghost use Rattle.turn_history.specs.History.{History};
 ghost use Rattle.turn_cred.specs.Credential.{policy_of};
 ghost use Rattle.turn_cred.specs.Found.{verdict_of};
 ghost use Rattle.turn_ports.specs.Ports.{Failed, has_failed};
-ghost use Rattle.turn_rules.specs.Answer.{Decided, MayAnswer, MayHavePicked, decision, judgement, port_needed};
-ghost use Rattle.turn_rules.specs.Decided.{decided_of, verdict_in};
+ghost use Rattle.turn_rules.specs.Answer.{Decided, MayAnswer, judgement, port_needed};
+ghost use Rattle.turn_rules.specs.Decided.{verdict_in};
+ghost use Rattle.turn_rules.specs.Laws.{IsMadeOfBytes, IsPicked, NamesInRange};
+ghost use Rattle.turn_rules.specs.Need.{MayHavePicked};
+ghost use Rattle.turn_rules.specs.Taking.{is_picked};
+ghost use Rattle.turn_step.specs.Holding.{ports_with};
 ghost use Rattle.turn_step.specs.Outcome.{Sent, decided_for};
 ghost use Rattle.turn_step.specs.State.{MayBeNext};
 ghost use Rattle.turn_step.specs.Views.{sent_of};
@@ -20,7 +25,7 @@ use std::alloc::{AllocError, Allocator};
 use turn_codec::Message;
 use turn_cred::{AuthHandler, Checker, Verdict};
 use turn_ports::RelayAddressGenerator;
-use turn_rules::{Decision, Request, decide, is_protected, needs_port};
+use turn_rules::{Decision, Need, Request, decide, is_protected};
 use turn_table::Table;
 use turn_types::{Endpoint, FiveTuple, Moment, ServerConfig};
 
@@ -42,25 +47,25 @@ pub(crate) fn judge<'a, H: AuthHandler, A: Allocator + Copy>(
     Some(checker.check(message, client, moment))
 }
 
-/// A port, where the request needs one and one is free.
+/// What is needed of the generator, where anything is and it is free. Of a pair it is the even port.
 pub(crate) fn pick<G: RelayAddressGenerator, A: Allocator + Copy>(
     ports: &mut G,
     table: &Table<A>,
-    config: &ServerConfig<A>,
-    request: &Request<'_>,
-    moment: Moment,
+    need: Option<Need>,
 ) -> Result<Option<u16>, AllocError>
-    requires { table.now.moment ≡ moment }
-    ensures picked { IfOk result (MayHavePicked (G.range ports.old) (has_failed (G.failures ports.old) (G.failures ports.new)) table.now.contents
-        (port_needed config.now table.now.contents request.now.five_tuple request.now.message (verdict_in request.now))) }
-    ensures free { IfOk result (λ port. IfSome port (PortIsFree table.now.contents)) }
-    ensures is_port { IfOk result (λ port. IfSome port (λ n. n < 2 ^ 16)) }
+    ensures picked { IfOk result (MayHavePicked (G.range ports.old) (has_failed (G.failures ports.old) (G.failures ports.new)) table.now.contents need) }
     ensures count { (G.failures ports.new ≡ G.failures ports.old) ⊎ Failed (G.failures ports.old) (G.failures ports.new) }
     ensures range { G.range ports.new ≡ G.range ports.old }
+    // None was picked where none is needed.
+    ensures only { need ≡ None → IfOk result (λ port. port ≡ None) }
+    ensures held { (held : ℕ → Bool) → G.holds ports.old held → IfOk result (λ port. G.holds ports.new (λ q. is_picked need port q || held q)) }
+    ensures held_err { (held : ℕ → Bool) → G.holds ports.old held → OnErr result (G.holds ports.new held) }
 {
-    match needs_port(table, config, request, moment) {
-        Some(even) => ports.pick(table, even),
+    match need {
         None => Ok(None),
+        Some(Need::Any) => ports.pick(table, false),
+        Some(Need::Even) => ports.pick(table, true),
+        Some(Need::Pair) => ports.pick_pair(table),
     }
 }
 
@@ -83,20 +88,26 @@ pub(crate) fn settle<A: Allocator + Copy>(
     request: &Request<'_>,
     moment: Moment,
     port: Option<u16>,
+    pairs: bool,
 ) -> Result<Step<A>, AllocError>
     requires { table.old.moment ≡ moment }
     ensures answers { (h : History) (range : ℕ × ℕ) (failed : Bool) → Agrees table.old h →
         MayHavePicked range failed table.old.contents
-        (port_needed config.now table.old.contents request.now.five_tuple request.now.message (verdict_in request.now)) port →
-        IfOk result (λ s. (d : Decided) × MayAnswer config.now range h moment failed request.now.five_tuple request.now.message (verdict_in request.now) d
+        (port_needed pairs config.now table.old.contents request.now.five_tuple request.now.message (verdict_in request.now)) port →
+        IfOk result (λ s. (d : Decided) × MayAnswer pairs config.now range h moment failed request.now.five_tuple request.now.message (verdict_in request.now) d
         × (s ≡ decided_for request.now.five_tuple d)) }
-    ensures ready { table.old.bounds ≡ config.now.limits → IfSome port (PortIsFree table.old.contents) →
-        IfSome (decision config.now table.old.contents request.now.five_tuple moment request.now.message (verdict_in request.now) port).act (IsActInRange config.now.limits) →
+    ensures ready { table.old.bounds ≡ config.now.limits → IsMadeOfBytes request.now.message.content → NamesInRange config.now.limits (verdict_in request.now) →
+        IsPicked table.old.contents (port_needed pairs config.now table.old.contents request.now.five_tuple request.now.message (verdict_in request.now)) port →
         IfOk result (λ s. IfSome s.change (MayBeNext table.new)) }
+    ensures no_pairs { pairs ≡ false → IfOk result (λ s. IfSome s.change (λ c. ReservesNone c.act)) }
     ensures table { table.new ≡ record table.old { room = table.new.room } }
+    // The act takes the ports that were picked, and no other but such as are taken already.
+    ensures takes { (port_needed pairs config.now table.old.contents request.now.five_tuple request.now.message (verdict_in request.now) ≡ None → port ≡ None) →
+        IfOk result (λ s. (q : ℕ) → ports_with table.old.contents s.change q
+        ≡ is_picked (port_needed pairs config.now table.old.contents request.now.five_tuple request.now.message (verdict_in request.now)) port q || is_taken table.old.contents q) }
 {
     let _ = moment.seconds();
-    let decision = decide(alloc, table, config, request, moment, port)?;
+    let decision = decide(alloc, table, config, request, moment, port, pairs)?;
     let Decision { reply, act } = decision;
     let act = match act {
         Some(act) => {

@@ -1,11 +1,17 @@
-use Rattle.std.proofs.Common.{◌≡◌, arith, IfSome, Some, None, option_map, subst, sym, ap, ◌∙◌}
+use Rattle.std.proofs.Common.{◌≡◌, ℕ, ◌||◌, arith, IfSome, Option, Some, None, option_map, refl, subst, sym, ap, ◌∙◌}
 use Rattle.std.proofs.lemmas.Option.{same_Some}
 use Rattle.turn_history.specs.Act.{act_of}
-use Rattle.turn_history.specs.Fitting.{IsActInRange, IsTuple}
+use Rattle.turn_types.specs.declared.address.FiveTuple.{FiveTuple}
+use Rattle.turn_history.specs.Fitting.{IsTuple, is_taken}
+use Rattle.turn_history.specs.Laws.{ReservesNone}
 use Rattle.turn_history.specs.History.{PlainAct}
-use Rattle.turn_rules.specs.Decided.{decided_of}
+use Rattle.turn_rules.specs.Answer.{Decided}
+use Rattle.turn_rules.specs.Decided.{decided_of, verdict_in}
+use Rattle.turn_rules.specs.Taking.{takes_if_any}
+use Rattle.turn_rules.proofs.Taking.{decision_takes}
 use Rattle.turn_table.specs.Table.{room_for}
-use Rattle.turn_step.specs.Outcome.{change_of, decided_for}
+use Rattle.turn_step.specs.Holding.{ports_with, takes_in}
+use Rattle.turn_step.specs.Outcome.{Outcome, change_of, decided_for}
 use Rattle.turn_step.specs.State.{MayBeNext}
 use Rattle.turn_step.specs.Views.{sent_of}
 use Rattle.turn_step.proofs.Machines.{may_be_next}
@@ -31,10 +37,10 @@ pub returns-clause-answers : goal.returns-clause-answers
 returns-clause-answers g c = λ h range failed agrees picked. (decided_of c.in_ok-decision.decision, c.in_ok-decision.ensures.answers h range failed agrees picked, step_is g c)
 
 pub returns-clause-ready : goal.returns-clause-ready
-returns-clause-ready g c = λ bounds free in_range.
+returns-clause-ready g c = λ bounds bytes names picked.
     let d = c.in_ok-decision.decision in
-    let act_in_range : IfSome (decided_of d).act (IsActInRange c.args.config.now.limits) = subst (λ x. IfSome x.act (IsActInRange c.args.config.now.limits)) (sym c.in_ok-decision.ensures.value) in_range in
-    let fits = c.in_ok-decision.ensures.fits bounds free in
+    let act_in_range = c.in_ok-decision.ensures.in_range bytes names picked in
+    let fits = c.in_ok-decision.ensures.fits bounds picked in
     let made : (a : PlainAct) → option_map act_of d.act ≡ Some a → (c.match-act.table ≡ record c.args.table.now { room = Some (room_for c.args.request.now.five_tuple a) }) × IsTuple c.args.request.now.five_tuple = elim c.match-act.branch [
       | in-Some+in_ok-reserve_for-in-Some+in_ok-new-in-Some w ↦ λ a is.
           let same : Some (act_of w.in-Some.act) ≡ Some a = ap (option_map act_of) (sym w.in-Some.is) ∙ is in
@@ -45,3 +51,25 @@ returns-clause-ready g c = λ bounds free in_range.
     ] in
     subst (λ s. IfSome s.change (MayBeNext c.match-act.table)) (sym (step_is g c))
     (may_be_next c.args.config.now.limits c.args.table.now c.match-act.table c.args.request.now.five_tuple (decided_of d).act bounds (omega (arith, c.seconds.ensures.range)) fits act_in_range made)
+
+pub returns-clause-no_pairs : goal.returns-clause-no_pairs
+returns-clause-no_pairs g c = λ without.
+    subst (λ s. IfSome s.change (λ x. ReservesNone x.act)) (sym (step_is g c))
+    (changes_none c.args.request.now.five_tuple (decided_of c.in_ok-decision.decision).act (c.in_ok-decision.ensures.no_pairs without))
+  where
+    changes_none : (f : FiveTuple) (act : Option PlainAct) → IfSome act ReservesNone → IfSome (option_map (change_of f) act) (λ x. ReservesNone x.act)
+    changes_none f None none = tt
+    changes_none f (Some a) none = none
+
+pub returns-clause-takes : goal.returns-clause-takes
+returns-clause-takes g c only = λ q.
+    let r = c.args.request.now in
+    let t = c.args.table.now.contents in
+    ap (λ (o : Outcome). ports_with t o.change q) (step_is g c)
+    ∙ ap (λ b. b || is_taken t q) (change_takes r.five_tuple (decided_of c.in_ok-decision.decision).act q)
+    ∙ ap (λ (d : Decided). takes_if_any d.act q || is_taken t q) c.in_ok-decision.ensures.value
+    ∙ decision_takes c.args.pairs c.args.config.now t r.five_tuple c.args.moment r.message (verdict_in r) c.args.port only q
+  where
+    change_takes : (f : FiveTuple) (act : Option PlainAct) (q : ℕ) → takes_in (option_map (change_of f) act) q ≡ takes_if_any act q
+    change_takes f None q = refl
+    change_takes f (Some a) q = refl

@@ -3,9 +3,11 @@ use Rattle.std.specs.Prelude.{IfOk}
 use Rattle.turn_history.specs.History.{clock}
 use Rattle.turn_ports.specs.Ports.{has_failed}
 use Rattle.turn_step.specs.Answer.{AnswersArrival}
+use Rattle.turn_step.specs.Holding.{ports_with}
 use Rattle.turn_step.specs.State.{IsPurged, setting_of}
 use Rattle.turn_step.specs.Views.{arrival_of}
 use Rattle.turn_step.proofs.Machines.{after_later, agrees_later, answers_along, follows_outcome, purged_same, setting_is}
+use Rattle.turn_step.proofs.Holding.{held_later, nothing_taken, on_err}
 use Rattle.turn_step.proofs.machine.Machine.prepare.Goals as goal
 use Rattle.turn_step.proofs.machine.Machine.prepare.Given.{Over}
 
@@ -31,8 +33,8 @@ pub returns-in-Client-clause-answers : goal.returns-in-Client-clause-answers
 returns-in-Client-clause-answers g c h after =
     let range = g.G.RelayAddressGenerator.range in
     answers_along _ _ h c.args.moment _ _ _ _ _ c.client_step.result
-    (setting_is g.H.AuthHandler.key_of range c.args.self.now c.self.inside.config c.self.inside.checker.handler c.advance.new.ports
-    (ap (λ m. m.config) c.self.view_is) (ap (λ m. m.handler) c.self.view_is) (c.advance.ensures.range ∙ ap (λ m. range m.ports) c.self.view_is))
+    (setting_is g.H.AuthHandler.key_of range c.args.self.now c.self.inside.config c.self.inside.checker.handler c.advance.new.ports c.self.inside.pairs
+    (ap (λ m. m.config) c.self.view_is) (ap (λ m. m.handler) c.self.view_is) (c.advance.ensures.range ∙ ap (λ m. range m.ports) c.self.view_is) (ap (λ m. m.pairs) c.self.view_is))
     (c.advance.ensures.failures ∙ ap (λ m. g.G.RelayAddressGenerator.failures m.ports) c.self.view_is)
     (sym (ap arrival_of c.in-Client.is))
     (c.client_step.ensures.answers h (agrees_later c.args.self.now.table c.advance.new.table h c.args.moment c.requires (advanced g c) after.agrees))
@@ -51,3 +53,23 @@ returns-in-Peer-clause-answers g c h after =
     let failures = g.G.RelayAddressGenerator.failures in
     subst (λ a. IfOk c.peer_step.result (AnswersArrival s h c.args.moment (has_failed (failures c.args.self.now.ports) (failures c.advance.new.ports)) a)) (sym (ap arrival_of c.in-Peer.is))
     (c.peer_step.ensures.answers c.self.inside.config.limits h now.fitting (subst (λ t. clock h ≤ t) c.advance.ensures.table.moment now.late) now.agrees)
+
+-- ---- The ports that are held
+
+pub returns-in-Client-clause-held : goal.returns-in-Client-clause-held
+returns-in-Client-clause-held g c h after held =
+    c.client_step.ensures.held (held_later g.G.RelayAddressGenerator.holds c.args.self.now _ c.advance.new.ports c.advance.new.table.contents h c.self.view_is after c.advance.ensures.held held)
+
+pub returns-in-Client-clause-held_err : goal.returns-in-Client-clause-held_err
+returns-in-Client-clause-held_err g c h after held =
+    c.client_step.ensures.held_err (held_later g.G.RelayAddressGenerator.holds c.args.self.now _ c.advance.new.ports c.advance.new.table.contents h c.self.view_is after c.advance.ensures.held held)
+
+pub returns-in-Peer-clause-held : goal.returns-in-Peer-clause-held
+returns-in-Peer-clause-held g c h after held =
+    let holds = g.G.RelayAddressGenerator.holds in
+    nothing_taken (λ o. holds c.advance.new.ports (ports_with c.advance.new.table.contents o)) c.peer_step.result c.peer_step.ensures.nothing_done
+    (held_later holds c.args.self.now _ c.advance.new.ports c.advance.new.table.contents h c.self.view_is after c.advance.ensures.held held)
+
+pub returns-in-Peer-clause-held_err : goal.returns-in-Peer-clause-held_err
+returns-in-Peer-clause-held_err g c h after held =
+    on_err c.peer_step.result (held_later g.G.RelayAddressGenerator.holds c.args.self.now _ c.advance.new.ports c.advance.new.table.contents h c.self.view_is after c.advance.ensures.held held)

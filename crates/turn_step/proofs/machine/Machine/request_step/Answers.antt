@@ -1,31 +1,68 @@
-use Rattle.std.proofs.Common.{ap, subst, sym, option_map}
+use Rattle.std.proofs.Common.{◌||◌, ap, subst, sym, ◌∙◌, option_map}
 use Rattle.turn_cred.specs.Found.{verdict_of}
 use Rattle.turn_ports.specs.Ports.{has_failed}
 use Rattle.turn_table.specs.Table.{Agrees}
+use Rattle.turn_history.specs.Fitting.{is_taken}
+use Rattle.turn_rules.specs.Taking.{is_picked as is_picked_for}
 use Rattle.turn_step.specs.Answer.{IsDecided, Setting}
+use Rattle.turn_step.specs.Holding.{ports_with}
 use Rattle.turn_step.specs.State.{setting_of}
+use Rattle.turn_table.specs.State.{State}
 use Rattle.turn_rules.specs.Laws.{NamesInRange}
-use Rattle.turn_rules.proofs.InRange.{decided_in_range}
+use Rattle.turn_rules.specs.Need.{MayHavePicked}
 use Rattle.turn_step.proofs.Names.{judged_in_range}
 use Rattle.turn_step.proofs.Clients.{decided_as_judged}
+use Rattle.turn_step.proofs.Holding.{picked_beside}
+use Rattle.turn_step.proofs.Ports.{is_picked}
 use Rattle.turn_step.proofs.machine.Machine.request_step.Goals as goal
 
 pub returns-clause-answers : goal.returns-clause-answers
 returns-clause-answers g c h d agrees is =
     let failures = g.G.RelayAddressGenerator.failures in
     let failed = has_failed (failures c.self.inside.ports) (failures c.pick.new.ports) in
-    let s : Setting = record { config = c.self.inside.config; keys = g.H.AuthHandler.key_of c.self.inside.checker.handler; range = g.G.RelayAddressGenerator.range c.self.inside.ports } in
+    let s : Setting = record {
+      config = c.self.inside.config;
+      keys = g.H.AuthHandler.key_of c.self.inside.checker.handler;
+      range = g.G.RelayAddressGenerator.range c.self.inside.ports;
+      pairs = c.self.inside.pairs;
+    } in
     let here : Agrees c.self.inside.table h = subst (λ x. Agrees x h) (sym (ap (λ m. m.table) c.self.view_is)) agrees in
     subst (λ x. IsDecided (setting_of g.H.AuthHandler.key_of g.G.RelayAddressGenerator.range c.args.self.now) h c.args.moment (has_failed (failures c.args.self.now.ports) (failures c.pick.new.ports)) c.args.five_tuple x c.in-Ok.step) is
     (subst (λ m. IsDecided (setting_of g.H.AuthHandler.key_of g.G.RelayAddressGenerator.range m) h c.args.moment (has_failed (failures m.ports) (failures c.pick.new.ports)) c.args.five_tuple c.args.message c.in-Ok.step) c.self.view_is
     (decided_as_judged s h c.args.moment failed c.args.five_tuple c.args.message (option_map verdict_of c.judge-verdict.result) c.in-Ok.step
     (c.judge-verdict.ensures.value c.self.inside.config c.self.invariant.0)
-    (c.in-Ok.ensures.answers h (g.G.RelayAddressGenerator.range c.self.inside.ports) failed here c.in_ok-port.ensures.picked)))
+    (c.in-Ok.ensures.answers h (g.G.RelayAddressGenerator.range c.self.inside.ports) failed here (subst (λ n. MayHavePicked (g.G.RelayAddressGenerator.range c.self.inside.ports)
+    (has_failed (g.G.RelayAddressGenerator.failures c.self.inside.ports) (g.G.RelayAddressGenerator.failures c.pick.new.ports)) c.self.inside.table.contents n c.in_ok-port.port)
+    c.needs_port-need.ensures.value c.in_ok-port.ensures.picked))))
 
 pub returns-clause-ready : goal.returns-clause-ready
 returns-clause-ready g c =
     let s = c.self.inside.config in
-    let judged = c.judge-verdict.ensures.value c.self.inside.config c.self.invariant.0 in
-    c.in-Ok.ensures.ready c.self.invariant.1 c.in_ok-port.ensures.free
-    (decided_in_range s c.self.inside.table.contents c.args.five_tuple c.args.moment c.args.message _ c.in_ok-port.port c.requires.bytes c.in_ok-port.ensures.is_port
-    (subst (NamesInRange s.limits) (sym judged) (judged_in_range s (g.H.AuthHandler.key_of c.self.inside.checker.handler) c.args.five_tuple.client c.args.moment c.args.message c.requires.bytes)))
+    let judged = c.judge-verdict.ensures.value s c.self.invariant.0 in
+    record {
+      next = c.in-Ok.ensures.ready c.self.invariant.1 c.requires.bytes
+          (subst (NamesInRange s.limits) (sym judged) (judged_in_range s (g.H.AuthHandler.key_of c.self.inside.checker.handler) c.args.five_tuple.client c.args.moment c.args.message c.requires.bytes))
+          (is_picked c.self.inside.table.contents _ _ _ c.in_ok-port.port (subst (λ n. MayHavePicked (g.G.RelayAddressGenerator.range c.self.inside.ports)
+          (has_failed (g.G.RelayAddressGenerator.failures c.self.inside.ports) (g.G.RelayAddressGenerator.failures c.pick.new.ports)) c.self.inside.table.contents n c.in_ok-port.port)
+          c.needs_port-need.ensures.value c.in_ok-port.ensures.picked));
+      no_pairs = c.in-Ok.ensures.no_pairs;
+    }
+
+-- ---- The ports that are held
+
+pub returns-clause-held : goal.returns-clause-held
+returns-clause-held g c held =
+    let holds = g.G.RelayAddressGenerator.holds in
+    let t = c.self.inside.table.contents in
+    let picked = c.in_ok-port.ensures.held (is_taken t) (subst (λ m. holds m.ports (is_taken m.table.contents)) (sym c.self.view_is) held) in
+    let takes = c.in-Ok.ensures.takes (λ none. c.in_ok-port.ensures.only (c.needs_port-need.ensures.value ∙ none)) in
+    subst (λ (s : State). holds c.pick.new.ports (ports_with s.contents c.in-Ok.step.change)) (sym c.settle-settled.ensures.table)
+    (subst (holds c.pick.new.ports) (λ j q. (ap (λ n. is_picked_for n c.in_ok-port.port q || is_taken t q) c.needs_port-need.ensures.value ∙ sym (takes q)) j) picked)
+
+pub returns-in_default-clause-held_err : goal.returns-in_default-clause-held_err
+returns-in_default-clause-held_err g c held =
+    let holds = g.G.RelayAddressGenerator.holds in
+    let t = c.self.inside.table.contents in
+    let picked = c.in_ok-port.ensures.held (is_taken t) (subst (λ m. holds m.ports (is_taken m.table.contents)) (sym c.self.view_is) held) in
+    subst (λ (s : State). holds c.release_for.new.ports (is_taken s.contents)) (sym c.settle-settled.ensures.table)
+    (c.release_for.ensures.held (is_taken t) (picked_beside t _ _ c.needs_port-need.result c.in_ok-port.port c.in_ok-port.ensures.only c.in_ok-port.ensures.picked) picked)
