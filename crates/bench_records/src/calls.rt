@@ -7,7 +7,7 @@ use crate::spelled::ENTRIES;
 use bench_time::Measured;
 use std::alloc::{AllocError, Global};
 use turn_disk::{PIECE, Producer};
-use turn_record::{SnapshotReader, read_snapshot};
+use turn_record::{SnapshotReader, Version, read_snapshot};
 use turn_types::Limits;
 
 /// Reads a snapshot as a whole, and lets the table go.
@@ -19,7 +19,7 @@ pub struct ReadWhole<'a> {
 
 impl Measured for ReadWhole<'_> {
     fn make(&mut self) -> bool {
-        match read_snapshot(self.alloc, Limits::MAX, self.bytes) {
+        match read_snapshot(self.alloc, Version::V1, Limits::MAX, self.bytes) {
             Ok(table) => table.len() == usize::from(ENTRIES),
             Err(_) => false,
         }
@@ -35,7 +35,7 @@ pub struct ReadPieces<'a> {
 
 impl Measured for ReadPieces<'_> {
     fn make(&mut self) -> bool {
-        let mut reader = SnapshotReader::new(self.alloc, Limits::MAX);
+        let mut reader = SnapshotReader::new(self.alloc, Version::V1, Limits::MAX);
         for piece in self.bytes.chunks(PIECE) {
             if reader.feed(piece).is_err() {
                 return false;

@@ -2,7 +2,7 @@
 
 use std::alloc::Global;
 use std::marker::Model;
-use turn_record::{SnapshotWriter, read_snapshot, write_snapshot};
+use turn_record::{SnapshotWriter, Version, read_snapshot, write_snapshot};
 use turn_table::Table;
 use turn_types::Limits;
 
@@ -14,6 +14,7 @@ pub struct Kept {
 
 impl Model for Kept {
     ghost use Rattle.turn_record.specs.Records.{IsSnapshot};
+    ghost use Rattle.turn_record.specs.declared.version.Version.TheVariants.{V1};
     ghost use Rattle.turn_table.specs.State.{State, state_code};
 
     ghost Value = { State };
@@ -22,13 +23,13 @@ impl Model for Kept {
 
     ghost view = { λ k. k.table };
 
-    ghost invariant = { λ k. IsSnapshot k.table.bounds k.table.moment k.table.contents };
+    ghost invariant = { λ k. IsSnapshot V1 k.table.bounds k.table.moment k.table.contents };
 }
 
 impl Kept {
     /// The table of these bytes, if they are a snapshot under the max limits.
     pub fn read(alloc: Global, bytes: &[u8]) -> Option<Kept> {
-        match read_snapshot(alloc, Limits::MAX, bytes) {
+        match read_snapshot(alloc, Version::V1, Limits::MAX, bytes) {
             Ok(table) => Some(Kept { table }),
             Err(_) => None,
         }
@@ -36,10 +37,10 @@ impl Kept {
 
     /// Appends its snapshot, and returns whether there was memory for it.
     pub fn write(&self, out: &mut Vec<u8>) -> bool {
-        write_snapshot(out, &self.table).is_ok()
+        write_snapshot(out, Version::V1, &self.table).is_ok()
     }
 
     pub fn writer(&self) -> SnapshotWriter<'_> {
-        SnapshotWriter::new(&self.table)
+        SnapshotWriter::new(Version::V1, &self.table)
     }
 }

@@ -4,7 +4,7 @@ use std::alloc::Global;
 use std::io;
 use std::marker::Model;
 use turn_disk::FileDisk;
-use turn_record::{max_payload, read_snapshot};
+use turn_record::{Version, max_payload, read_snapshot};
 use turn_store::{Opened, Store, format};
 use turn_table::Table;
 use turn_types::Limits;
@@ -23,6 +23,7 @@ pub struct Stored {
 impl Model for Stored {
     ghost use Rattle.std.specs.Prelude.{◌≡◌};
     ghost use Rattle.turn_record.specs.Records.{IsSnapshot};
+    ghost use Rattle.turn_record.specs.declared.version.Version.TheVariants.{V1};
     ghost use Rattle.turn_table.specs.State.{State, state_code};
 
     ghost Value = { State };
@@ -32,7 +33,7 @@ impl Model for Stored {
     ghost view = { λ s. s.table };
 
     ghost invariant = { λ s. (s.table.bounds ≡ s.store.bounds)
-        × IsSnapshot s.table.bounds s.table.moment s.table.contents };
+        × IsSnapshot V1 s.table.bounds s.table.moment s.table.contents };
 }
 
 impl Stored {
@@ -56,7 +57,7 @@ impl Stored {
         }
         match (
             Store::open(rt.alloc(), disk, Limits::MAX),
-            read_snapshot(rt.alloc(), Limits::MAX, bytes),
+            read_snapshot(rt.alloc(), Version::V1, Limits::MAX, bytes),
         ) {
             (Ok(opened), Ok(table)) => {
                 let Opened { store, table: _ } = opened;
@@ -73,7 +74,7 @@ impl Stored {
 
     /// Adds a frame, and returns whether the store did.
     pub fn append(&mut self, payload: &[u8]) -> bool {
-        if max_payload(self.table.limits()) < payload.len() {
+        if max_payload(Version::V1, self.table.limits()) < payload.len() {
             return false;
         }
         self.store.append(payload, &self.table) == Ok(false)

@@ -93,6 +93,25 @@ impl Measured for Released<'_> {
     }
 }
 
+/// The first half of a step that has an act, which is then abandoned, so that the server is as before.
+#[derive(Drop)]
+pub struct Prepared<'a> {
+    pub server: &'a mut Rules,
+    pub arrival: Arrival<'a>,
+}
+
+impl Measured for Prepared<'_> {
+    fn make(&mut self) -> bool {
+        let moment = self.server.moment();
+        let Ok(step) = self.server.prepare(moment, &self.arrival) else {
+            return false;
+        };
+        let has_act = step.act().is_some();
+        self.server.abandon(step);
+        has_act
+    }
+}
+
 /// The purge of a table, a second later each time, in which nothing has expired.
 #[derive(Drop)]
 pub struct Purged {

@@ -83,6 +83,15 @@ pub fn lifetime(
     request(alloc, method, client, moment, &attributes)
 }
 
+/// An Allocate of alice for a pair of ports.
+pub fn pair(alloc: Global, client: Endpoint, moment: Moment) -> Result<Vec<u8>, AllocError> {
+    let attributes = [
+        Attribute::Transport(17),
+        Attribute::EvenPort { reserves: true },
+    ];
+    request(alloc, Method::ALLOCATE, client, moment, &attributes)
+}
+
 /// Alice's ChannelBind at the client, of the channel to the peer.
 pub fn bind(alloc: Global, moment: Moment) -> Result<Vec<u8>, AllocError> {
     let attributes = [Attribute::Channel(CHANNEL), Attribute::Peer(PEER)];

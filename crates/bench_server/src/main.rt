@@ -8,10 +8,10 @@ mod reading;
 mod servers;
 
 use bench_time::{Measured, best_of, number};
-use calls::{BATCH, Committed, Purged, Relayed, Released, Stepped, Walked};
-use datagrams::{CLIENT, ID, PEER, channel_data, client_at, five_tuple, key, lifetime};
+use calls::{BATCH, Committed, Prepared, Purged, Relayed, Released, Stepped, Walked};
+use datagrams::{CLIENT, ID, PEER, channel_data, client_at, five_tuple, key, lifetime, pair};
 use reading::Reading;
-use servers::{Engine, PORT, Rules, make_engine, make_rules, make_table};
+use servers::{Engine, PORT, Rules, make_engine, make_pairs, make_rules, make_table};
 use std::{env, io};
 use turn_step::Arrival;
 use turn_types::{Method, Moment};
@@ -123,6 +123,34 @@ fn measure_purge(
     Ok(())
 }
 
+/// Measures an Allocate of a port and one of a pair, by the rules alone, where half of the allocations have a reserved port beside them.
+fn measure_pairs(
+    rt: &HostRuntime,
+    moment: Moment,
+    allocations: u16,
+    count: usize,
+) -> io::Result<()> {
+    println!(rt;
+        "an Allocate that is abandoned, beside {} reserved ports",
+        allocations / 2
+    )?;
+    let mut server = make_pairs(rt.alloc(), moment, allocations)?;
+    let client = client_at(1023);
+    let of_port = lifetime(rt.alloc(), Method::ALLOCATE, client, moment, HOUR)?;
+    let of_pair = pair(rt.alloc(), client, moment)?;
+    for (name, bytes) in [("of a port", &of_port), ("of a pair", &of_pair)] {
+        let mut prepared = Prepared {
+            server: &mut server,
+            arrival: Arrival::Client {
+                five_tuple: five_tuple(client),
+                bytes,
+            },
+        };
+        measure(rt, name, &mut prepared, count, 1)?;
+    }
+    Ok(())
+}
+
 /// Measures data by the relay alone, and as an arrival.
 fn measure_data(
     rt: &HostRuntime,
@@ -217,6 +245,7 @@ fn main(rt: HostRuntime) -> io::Result<()> {
     for allocations in [1, 1000] {
         measure_purge(&rt, moment, allocations, count)?;
         measure_all(&rt, moment, allocations, count)?;
+        measure_pairs(&rt, moment, allocations, count)?;
     }
     Ok(())
 }

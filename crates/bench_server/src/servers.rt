@@ -2,6 +2,7 @@
 
 use crate::datagrams::{
     CHANNEL, CLIENT, ID, NAME, PEER, REALM, SECRET, bind, client_at, five_tuple, key, lifetime,
+    pair,
 };
 use std::alloc::{AllocError, Global};
 use turn_cred::Users;
@@ -146,9 +147,36 @@ pub fn make_engine(
 pub fn make_rules(alloc: Global, moment: Moment, allocations: u16) -> Result<Rules, AllocError> {
     let config = config(alloc)?;
     let table = Table::new(alloc, config.limits(), moment);
-    let mut server = Machine::new(alloc, config, users(alloc)?, ports()?, table)?;
+    let mut server = Machine::new(alloc, config, users(alloc)?, ports()?, table, false)?;
     fill(alloc, &mut server, moment, allocations)?;
     Ok(server)
+}
+
+/// The rules of a server that gives out pairs, with so many allocations, the first half of which reserve a port each.
+pub fn make_pairs(alloc: Global, moment: Moment, allocations: u16) -> Result<Rules, AllocError> {
+    let config = config(alloc)?;
+    let table = Table::new(alloc, config.limits(), moment);
+    let mut server = Machine::new(alloc, config, users(alloc)?, ports()?, table, true)?;
+    for place in 0..allocations {
+        let client = client_at(place);
+        let bytes = if place < allocations / 2 {
+            pair(alloc, client, moment)?
+        } else {
+            lifetime(alloc, Method::ALLOCATE, client, moment, 3600)?
+        };
+        let arrival = Arrival::Client {
+            five_tuple: five_tuple(client),
+            bytes: &bytes,
+        };
+        if !server.take(moment, &arrival) {
+            return Err(AllocError);
+        }
+    }
+    if server.table().reserved_len() == usize::from(allocations / 2) {
+        Ok(server)
+    } else {
+        Err(AllocError)
+    }
 }
 
 /// Applies an act that fits.

@@ -27,3 +27,5 @@ mod store_opens;
 mod store_pieces;
 mod store_refusals;
 mod stores;
+mod version_2;
+mod version_2_faults;

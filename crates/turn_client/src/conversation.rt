@@ -276,7 +276,7 @@ impl<'a, D: Disk + Drop, R: Net + Drop, A: Allocator + Copy> Conversation<'a, D,
         let alloc = self.alloc;
         let request = self.client.request(Method::ALLOCATE, &[])?;
         let message = self.exchange(clock, &request)?;
-        let Some(Received::Allocated(port, lifetime)) = read_message(&message) else {
+        let Some(Received::Allocated { port, lifetime, .. }) = read_message(&message) else {
             return Err(ClientFault::Unexpected);
         };
         let response = Vec::from_slice(alloc, message.as_bytes())?;

@@ -1,14 +1,16 @@
 -- What an opening yields.
-use Rattle.std.proofs.Common.{◌≡◌, ◌≤◌, ℕ, List, [], ◌∷◌, length, take, drop, refl, sym, ap, ◌∙◌, subst, arith}
+use Rattle.std.proofs.Common.{◌≡◌, ◌≤◌, ℕ, Bool, false, List, [], ◌∷◌, length, take, drop, refl, sym, ap, ◌∙◌, subst, arith}
 use Rattle.std.proofs.Math.ListN.{drop_of_length-le}
+use Rattle.std.specs.List.{AllByRecursion}
 use Rattle.turn_disk.specs.Disk.{State, Trace, IsImage, EachImageSince}
 use Rattle.turn_disk.proofs.Since.{since_weaken}
 use Rattle.turn_history.specs.Fitting.{IsFitting}
 use Rattle.turn_history.specs.History.{History, clock}
-use Rattle.turn_history.specs.Laws.{AllFrom}
+use Rattle.turn_history.specs.Laws.{AllFrom, ReservesNone}
 use Rattle.turn_history.specs.Table as tables
 use Rattle.turn_record.specs.Bytes as bytes
 use Rattle.turn_record.specs.Records.{IsSnapshot}
+use Rattle.turn_record.specs.declared.version.Version.TheVariants.{V1}
 use Rattle.turn_store.specs.Areas.{Form}
 use Rattle.turn_store.specs.Images.{EachImage, StandsForAt}
 use Rattle.turn_store.specs.Opened.{OpensTo}
@@ -23,15 +25,16 @@ use Rattle.turn_engine.specs.Resting.{Opens, Rests}
 use Rattle.turn_engine.specs.State.{IsSound, ServerState, limits_of, now_of}
 use Rattle.turn_engine.proofs.Lists.{length-take-le, take_of_length-le}
 
-pub fresh_sound : (b limits store batch : Bounds) (acts : ℕ) (table read : tables_state.State) → limits ≡ b → table ≡ read → store ≡ b → batch ≡ b → read.bounds ≡ b → acts ≡ 0
-    → IsSnapshot b read.moment read.contents → IsSound limits store batch acts 0 table
-fresh_sound b limits store batch acts table read same is store_is batch_is table_is none snapshot =
-    subst (λ (x : Bounds). IsSound x store batch acts 0 table) (sym same) (subst (λ (t : tables_state.State). IsSound b store batch acts 0 t) (sym is) (record {
+pub fresh_sound : (b limits store batch : Bounds) (acts : ℕ) (pairs : Bool) (table read : tables_state.State) → limits ≡ b → table ≡ read → store ≡ b → batch ≡ b → read.bounds ≡ b → acts ≡ 0
+    → pairs ≡ false → IsSnapshot V1 b read.moment read.contents → IsSound limits store batch acts 0 pairs table
+fresh_sound b limits store batch acts pairs table read same is store_is batch_is table_is none no_pairs snapshot =
+    subst (λ (x : Bounds). IsSound x store batch acts 0 pairs table) (sym same) (subst (λ (t : tables_state.State). IsSound b store batch acts 0 pairs t) (sym is) (record {
       store_is = store_is;
       batch_is = batch_is;
       table_is = table_is;
       few = omega arith;
       capped = omega arith;
+      no_pairs = no_pairs;
       snapshot = snapshot;
     }))
 
@@ -68,6 +71,7 @@ module _ {D H G : Type 0} (form : Form) (h : History) (k m : ℕ) (content : Lis
         staged = payload ∙ ap (λ (l : History). length l ∷ bytes.each bytes.act_entry l) (sym none);
         counted = acts ∙ ap (λ (l : History). length l) (sym none);
         from = subst (AllFrom c) (sym none) tt;
+        writes = subst (AllByRecursion (λ e. ReservesNone e.act)) (sym none) tt;
       }
 
   pub opens : OpensTo form first at.stands.clock server.store state (snapshot_of server.machine.table) → form.bounds ≡ limits_of server → server.payload ≡ 0 ∷ [] → server.acts ≡ 0

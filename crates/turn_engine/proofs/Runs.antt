@@ -50,14 +50,10 @@ none_failed old new same = subst (λ (n : ℕ). has_failed old n ≡ false) same
     same_count n = search (rules, tests)
 
 pub setting_kept : {H G : Type 0} (keys : H → Keys) (range : G → ℕ × ℕ) (old new : MachineState H G) → KeepsSetting range old new → setting_of keys range new ≡ setting_of keys range old
-setting_kept keys range old new kept =
-    let first : setting_of keys range new ≡ record { config = old.config; keys = keys new.handler; range = range new.ports } =
-    ap (λ (x : Config). record { config = x; keys = keys new.handler; range = range new.ports }) kept.config in
-    let second : record { config = old.config; keys = keys new.handler; range = range new.ports } ≡ record { config = old.config; keys = keys old.handler; range = range new.ports } =
-    ap (λ x. record { config = old.config; keys = keys x; range = range new.ports }) kept.handler in
-    let third : record { config = old.config; keys = keys old.handler; range = range new.ports } ≡ setting_of keys range old =
-    ap (λ (x : ℕ × ℕ). record { config = old.config; keys = keys old.handler; range = x }) kept.range_is in
-    first ∙ second ∙ third
+setting_kept {H = H} keys range old new kept =
+    let made : Config → H → ℕ × ℕ → Bool → Setting = λ config handler ports pairs. record { config = config; keys = keys handler; range = ports; pairs = pairs } in
+    ap (λ (x : Config). made x new.handler (range new.ports) new.pairs) kept.config ∙ ap (λ (x : H). made old.config x (range new.ports) new.pairs) kept.handler
+    ∙ ap (λ (x : ℕ × ℕ). made old.config old.handler x new.pairs) kept.range_is ∙ ap (λ (x : Bool). made old.config old.handler (range old.ports) x) kept.pairs
 
 module _ {D H G : Type 0} (disk : disks.Ghosts D) (handler : handlers.Ghosts H) (ports : generators.Ghosts G) where
   -- a call of a stopped server leaves it as it was, and hands nothing out

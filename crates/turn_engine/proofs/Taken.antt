@@ -1,16 +1,18 @@
 -- What an arrival makes of what a server keeps and rests on.
-use Rattle.std.proofs.Common.{◌≡◌, ◌≤◌, ◌<◌, ◌+◌, ◌-◌, ◌^◌, inl, inr, ℕ, List, ◌++◌, length, take, drop, Option, Some, None, refl, sym, ap, ◌∙◌, subst, arith, length-append}
+use Rattle.std.proofs.Common.{◌≡◌, ◌≤◌, ◌<◌, ◌+◌, ◌-◌, ◌^◌, inl, inr, ℕ, Bool, List, ◌++◌, length, take, drop, Option, Some, None, refl, sym, ap, ◌∙◌, subst, arith, length-append}
 use Rattle.std.proofs.Math.Nat.{eq-or-lt_of_le}
 use Rattle.std.proofs.lemmas.List.{take-append-le, drop-append-le}
 use Rattle.std.specs.Prelude.{IfSome}
+use Rattle.std.specs.List.{AllByRecursion}
 use Rattle.turn_disk.specs.Disk as disks
 use Rattle.turn_history.specs.Fitting.{Fits, IsFitting, IsInRange}
 use Rattle.turn_history.specs.History.{Event, History, clock}
-use Rattle.turn_history.specs.Laws.{AllFrom}
+use Rattle.turn_history.specs.Laws.{AllFrom, ReservesNone}
 use Rattle.turn_history.specs.Table.{Contents}
 use Rattle.turn_record.proofs.Kept.{snapshot-purged, snapshot-applied}
 use Rattle.turn_record.specs.Bytes as bytes
 use Rattle.turn_record.specs.Records.{IsSnapshot}
+use Rattle.turn_record.specs.declared.version.Version.TheVariants.{V1}
 use Rattle.turn_step.specs.Outcome.{Change, added, event_at}
 use Rattle.turn_step.specs.State.{CountsOne, IsAfter, IsPurged, KeepsSetting, MachineState, MayBeNext, changed}
 use Rattle.turn_store.specs.State.{RestsAt}
@@ -24,31 +26,32 @@ use Rattle.turn_engine.proofs.Lists.{all-append, added_few, added_from}
 
 -- ---- What a server keeps
 
-pub snapshot_later : (b : Bounds) (t : ℕ) (old new : State) → t < 2 ^ 40 - 3600 → old.moment ≤ t → IsPurged t old new → IsSnapshot b old.moment old.contents
-    → IsSnapshot b new.moment new.contents
+pub snapshot_later : (b : Bounds) (t : ℕ) (old new : State) → t < 2 ^ 40 - 3600 → old.moment ≤ t → IsPurged t old new → IsSnapshot V1 b old.moment old.contents
+    → IsSnapshot V1 b new.moment new.contents
 snapshot_later b t old new range le later is = elim (eq-or-lt_of_le le) [
-  | inl e ↦ subst (λ (m : ℕ). IsSnapshot b m new.contents) (e ∙ sym later.moment) (subst (λ (c : Contents). IsSnapshot b old.moment c) (sym (later.same e)) is)
-  | inr lt ↦ subst (λ (m : ℕ). IsSnapshot b m new.contents) (sym later.moment)
-      (subst (λ (c : Contents). IsSnapshot b t c) (sym (later.later lt)) (snapshot-purged b old.moment t old.contents le range is))
+  | inl e ↦ subst (λ (m : ℕ). IsSnapshot V1 b m new.contents) (e ∙ sym later.moment) (subst (λ (c : Contents). IsSnapshot V1 b old.moment c) (sym (later.same e)) is)
+  | inr lt ↦ subst (λ (m : ℕ). IsSnapshot V1 b m new.contents) (sym later.moment)
+      (subst (λ (c : Contents). IsSnapshot V1 b t c) (sym (later.later lt)) (snapshot-purged V1 b old.moment t old.contents le range is))
 ]
 
-pub sound_later : (b limits store batch : Bounds) (acts arrivals t : ℕ) (old new : State) → t < 2 ^ 40 - 3600 → old.moment ≤ t → IsPurged t old new → limits ≡ b
-    → IsSound b store batch acts arrivals old → IsSound limits store batch acts arrivals new
-sound_later b limits store batch acts arrivals t old new range le later same s =
-    subst (λ (x : Bounds). IsSound x store batch acts arrivals new) (sym same) (record {
+pub sound_later : (b limits store batch : Bounds) (acts arrivals t : ℕ) (before after : Bool) (old new : State) → t < 2 ^ 40 - 3600 → old.moment ≤ t → IsPurged t old new → limits ≡ b
+    → after ≡ before → IsSound b store batch acts arrivals before old → IsSound limits store batch acts arrivals after new
+sound_later b limits store batch acts arrivals t before after old new range le later same pairs s =
+    subst (λ (x : Bounds). IsSound x store batch acts arrivals after new) (sym same) (record {
       store_is = s.store_is;
       batch_is = s.batch_is;
       table_is = later.bounds ∙ s.table_is;
       few = s.few;
       capped = s.capped;
+      no_pairs = pairs ∙ s.no_pairs;
       snapshot = snapshot_later b t old new range le later s.snapshot;
     })
 
-snapshot_changed : (b : Bounds) (old : State) (change : Option Change) → old.bounds ≡ b → IfSome change (MayBeNext old) → IsSnapshot b old.moment old.contents
-    → IsSnapshot b (changed old change).moment (changed old change).contents
-snapshot_changed b old None bounds may is = is
-snapshot_changed b old (Some c) bounds may is =
-    snapshot-applied b (event_at old.moment c) old.contents (subst (λ (x : Bounds). IsInRange x (event_at old.moment c)) bounds may.in_range)
+snapshot_changed : (b : Bounds) (old : State) (change : Option Change) → old.bounds ≡ b → IfSome change (MayBeNext old) → IfSome change (λ c. ReservesNone c.act) → IsSnapshot V1 b old.moment old.contents
+    → IsSnapshot V1 b (changed old change).moment (changed old change).contents
+snapshot_changed b old None bounds may none is = is
+snapshot_changed b old (Some c) bounds may none is =
+    snapshot-applied V1 b (event_at old.moment c) old.contents none (subst (λ (x : Bounds). IsInRange x (event_at old.moment c)) bounds may.in_range)
     (subst (λ (x : Bounds). Fits x old.contents c.tuple c.act) bounds may.fits) is
 
 bounds_changed : (old : State) (change : Option Change) → (changed old change).bounds ≡ old.bounds
@@ -59,19 +62,20 @@ pub moment_changed : (old : State) (change : Option Change) → (changed old cha
 moment_changed old None = refl
 moment_changed old (Some c) = refl
 
-pub sound_changed : (b limits store batch larger : Bounds) (acts more arrivals t : ℕ) (old new : State) (change : Option Change) → new ≡ changed old change → IfSome change (MayBeNext old)
-    → limits ≡ b → larger ≡ batch → more ≡ acts + length (added t change) → arrivals < b.acts → IsSound b store batch acts arrivals old
-    → IsSound limits store larger more (arrivals + 1) new
-sound_changed b limits store batch larger acts more arrivals t old new change is may same same_batch count room s =
+pub sound_changed : (b limits store batch larger : Bounds) (acts more arrivals t : ℕ) (before after : Bool) (old new : State) (change : Option Change) → new ≡ changed old change
+    → IfSome change (MayBeNext old) → IfSome change (λ c. ReservesNone c.act) → limits ≡ b → after ≡ before → larger ≡ batch → more ≡ acts + length (added t change) → arrivals < b.acts
+    → IsSound b store batch acts arrivals before old → IsSound limits store larger more (arrivals + 1) after new
+sound_changed b limits store batch larger acts more arrivals t before after old new change is may none same pairs same_batch count room s =
     let few = s.few in
     let one = added_few t change in
-    subst (λ (x : Bounds). IsSound x store larger more (arrivals + 1) new) (sym same) (record {
+    subst (λ (x : Bounds). IsSound x store larger more (arrivals + 1) after new) (sym same) (record {
       store_is = s.store_is;
       batch_is = same_batch ∙ s.batch_is;
       table_is = ap (λ (x : State). x.bounds) is ∙ bounds_changed old change ∙ s.table_is;
       few = omega arith;
       capped = omega arith;
-      snapshot = subst (λ (x : State). IsSnapshot b x.moment x.contents) (sym is) (snapshot_changed b old change s.table_is may s.snapshot);
+      no_pairs = pairs ∙ s.no_pairs;
+      snapshot = subst (λ (x : State). IsSnapshot V1 b x.moment x.contents) (sym is) (snapshot_changed b old change s.table_is may none s.snapshot);
     })
 
 pub counts_same : (old mid new : ℕ) → CountsOne old mid → new ≡ mid → CountsOne old new
@@ -82,6 +86,7 @@ keeps_both range old mid new first second = record {
   config = second.config ∙ first.config;
   handler = second.handler ∙ first.handler;
   range_is = second.range_is ∙ first.range_is;
+  pairs = second.pairs ∙ first.pairs;
 }
 
 -- ---- What it rests on
@@ -107,13 +112,18 @@ rests_later state old new h k rests store payload acts le after =
       staged = payload ∙ rests.staged;
       counted = acts ∙ rests.counted;
       from = rests.from;
+      writes = rests.writes;
     }
+
+added_reserves_none : (t : ℕ) (change : Option Change) → IfSome change (λ c. ReservesNone c.act) → AllByRecursion (λ e. ReservesNone e.act) (added t change)
+added_reserves_none t None none = tt
+added_reserves_none t (Some c) none = (none, tt)
 
 -- a server that took an arrival
 pub rests_taken : {D H G : Type 0} (state : disks.State) (old new : ServerState D H G) (h : History) (k t : ℕ) (change : Option Change) → Rests state old h k → new.store ≡ old.store
     → ((es : List Event) → old.payload ≡ bytes.payload es → new.payload ≡ bytes.payload (es ++ added t change)) → new.acts ≡ old.acts + length (added t change)
-    → now_of old ≤ t → now_of new ≡ t → IsAfter new.machine (h ++ added t change) → Rests state new (h ++ added t change) k
-rests_taken state old new h k t change rests store payload acts le now after =
+    → now_of old ≤ t → now_of new ≡ t → IfSome change (λ c. ReservesNone c.act) → IsAfter new.machine (h ++ added t change) → Rests state new (h ++ added t change) k
+rests_taken state old new h k t change rests store payload acts le now none after =
     let more = added t change in
     let late = rests.at_late in
     let within = rests.within in
@@ -132,4 +142,5 @@ rests_taken state old new h k t change rests store payload acts le now after =
       staged = payload (drop k h) rests.staged ∙ ap bytes.payload (sym rest);
       counted = sum ∙ ap (λ (l : History). length l) (sym rest);
       from = subst (AllFrom rests.at) (sym rest) (all-append (λ (e : Event). rests.at ≤ e.moment) (drop k h) more rests.from (added_from rests.at t change (omega arith)));
+      writes = subst (AllByRecursion (λ e. ReservesNone e.act)) (sym rest) (all-append (λ (e : Event). ReservesNone e.act) (drop k h) more rests.writes (added_reserves_none t change none));
     }

@@ -3,12 +3,13 @@ use Rattle.std.proofs.Common.{inl, ◌≡◌, ◌≢◌, ◌≤◌, ◌<◌, ◌
 use Rattle.std.proofs.lemmas.List.{take-append-drop}
 use Rattle.std.proofs.Math.Seq.{take-length, drop-length}
 use Rattle.std.specs.Prelude.{OnErr}
+use Rattle.std.specs.List.{AllByRecursion}
 use Rattle.turn_disk.specs.Disk.{State, Trace, IsImage, EachImageSince}
 use Rattle.turn_disk.proofs.Since.{image_settled, since_same}
 use Rattle.turn_history.specs.Fitting.{IsFitting}
 use Rattle.turn_history.specs.History.{History, clock}
 use Rattle.turn_history.specs.Table as tables
-use Rattle.turn_history.specs.Laws.{AllFrom}
+use Rattle.turn_history.specs.Laws.{AllFrom, ReservesNone}
 use Rattle.turn_record.specs.Bytes as bytes
 use Rattle.turn_store.specs.Areas.{Form, Holds}
 use Rattle.turn_store.specs.Images.{EachImage, EitherBy, StandsBy, StandsForAt}
@@ -132,7 +133,7 @@ few_acts acts arrivals limit bound one two is = omega arith
 
 pub has_size : {D H G : Type 0} (state : State) (server : ServerState D H G) (h : History) (k : ℕ) → Rests state server h k → 1 ≤ server.acts → server.acts ≤ server.store.bounds.acts
     → HasSize server.store.bounds (drop k h)
-has_size state server h k rests some few = let count = rests.counted in record { some = omega arith; few = omega arith }
+has_size state server h k rests some few = let count = rests.counted in record { some = omega arith; few = omega arith; writes = rests.writes }
 
 pub contents_are : {D H G : Type 0} (state : State) (server : ServerState D H G) (h : History) (k : ℕ) → Rests state server h k
     → server.machine.table.contents ≡ tables.table (take k h ++ drop k h) (now_of server)
@@ -154,6 +155,7 @@ all_stored state after old store h k rests done =
       staged = ap (λ (l : History). length l ∷ bytes.each bytes.act_entry l) (sym none);
       counted = ap (λ (l : History). length l) (sym none);
       from = subst (AllFrom done.0) (sym none) tt;
+      writes = subst (AllByRecursion (λ e. ReservesNone e.act)) (sym none) tt;
     }
 
 -- nothing was staged

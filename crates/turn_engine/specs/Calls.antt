@@ -76,7 +76,7 @@ pub record Commits {D H G : Type 0} (disk : disks.Ghosts D) (old new : ServerSta
 -- `open` of a disk, with a configuration, a handler and a generator, which answers a server, or a fault with the disk, the handler
 -- and the generator
 pub record Opening {D H G : Type 0} (disk : disks.Ghosts D) (old : D) (config : Config) (handler : H) (ports : G) (result : Result (ServerState D H G) (OpenRefused D H G)) : Type 0 where
-  pub machine : IfOk result (λ s. s.machine ≡ record { config = config; handler = handler; ports = ports; table = s.machine.table })
+  pub machine : IfOk result (λ s. s.machine ≡ record { config = config; handler = handler; ports = ports; table = s.machine.table; pairs = false })
   pub nothing : IfOk result (λ s. s ≡ emptied s s.store)
   pub runs : IfOk result (λ s. s.store.stopped ≡ false)
   pub returned : IfErr result (λ r. (r.handler ≡ handler) × (r.ports ≡ ports))

@@ -1,6 +1,7 @@
 -- What contracts see of a batch.
 use Rattle.std.specs.Prelude.{◌≡◌, ◌≤◌, ◌+◌, ◌*◌, ℕ, List, length, slice_index}
 use Rattle.turn_record.specs.Records.{max_act, max_payload}
+use Rattle.turn_record.specs.declared.version.Version.TheVariants.{V1}
 use Rattle.turn_types.specs.Limits.{AreInRange}
 use Rattle.turn_types.specs.declared.limits.Bounds.{Bounds}
 
@@ -16,5 +17,5 @@ pub record IsSound (b : Bounds) (acts : ℕ) (payload : List ℕ) (capacity : �
   pub few : acts ≤ b.acts
   pub counted : slice_index payload 0 ≡ acts
   pub some : 1 ≤ length payload
-  pub short : length payload ≤ 1 + acts * max_act b
-  pub room : max_payload b ≤ capacity
+  pub short : length payload ≤ 1 + acts * max_act V1 b
+  pub room : max_payload V1 b ≤ capacity

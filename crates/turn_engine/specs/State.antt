@@ -1,6 +1,7 @@
 -- What contracts see of a server.
-use Rattle.std.specs.Prelude.{◌≡◌, ◌≤◌, ℕ, List, [], ◌∷◌}
+use Rattle.std.specs.Prelude.{◌≡◌, ◌≤◌, ℕ, Bool, false, List, [], ◌∷◌}
 use Rattle.turn_record.specs.Records.{IsSnapshot}
+use Rattle.turn_record.specs.declared.version.Version.TheVariants.{V1}
 use Rattle.turn_step.specs.Outcome.{Sent}
 use Rattle.turn_step.specs.State.{MachineState}
 use Rattle.turn_store.specs.State.{StoreState}
@@ -29,11 +30,12 @@ abbrev pub emptied : {D H G : Type 0} → ServerState D H G → StoreState D →
 emptied s store = record { store = store; machine = s.machine; payload = 0 ∷ []; acts = 0; outs = []; arrivals = 0 }
 
 -- What a server keeps in any state: the store, the batch and the table have the limits of the configuration, a batch has no
--- more arrivals than the limits allow and no more acts than arrivals, and the table has a snapshot.
-pub record IsSound (b store batch : Bounds) (acts arrivals : ℕ) (table : State) : Type 0 where
+-- more arrivals than the limits allow and no more acts than arrivals, no ports are reserved, and the table has a snapshot.
+pub record IsSound (b store batch : Bounds) (acts arrivals : ℕ) (pairs : Bool) (table : State) : Type 0 where
   pub store_is : store ≡ b
   pub batch_is : batch ≡ b
   pub table_is : table.bounds ≡ b
   pub few : acts ≤ arrivals
   pub capped : arrivals ≤ b.acts
-  pub snapshot : IsSnapshot b table.moment table.contents
+  pub no_pairs : pairs ≡ false
+  pub snapshot : IsSnapshot V1 b table.moment table.contents

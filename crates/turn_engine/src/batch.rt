@@ -4,13 +4,14 @@ ghost use Rattle.std.specs.Prelude.{◌≡◌, ◌∷◌, [], ◌++◌, ◌+◌,
 ghost use Rattle.turn_history.specs.Act.{act_of};
 ghost use Rattle.turn_history.specs.Fitting.{IsInRange};
 ghost use Rattle.turn_history.specs.History.{Event};
+ghost use Rattle.turn_history.specs.Laws.{ReservesNone};
 ghost use Rattle.turn_record.specs.Bytes as bytes;
 ghost use Rattle.turn_record.specs.Records.{max_payload};
 
 use std::alloc::{AllocError, Allocator, Global};
 use std::marker::Model;
 use turn_history::Act;
-use turn_record::{max_payload, write_act};
+use turn_record::{Version, max_payload, write_act};
 use turn_types::{FiveTuple, Limits, Moment};
 
 /// The payload of the acts since the last commit: their number in one byte, and the act entries.
@@ -38,7 +39,7 @@ impl<A: Allocator + Copy> Batch<A> {
         ensures { IfOk result (λ b. b ≡ record { bounds = limits; payload = 0 ∷ []; acts = 0 }) }
     {
         let _bounds = limits.bounds();
-        let mut payload = Vec::with_capacity(alloc, max_payload(limits))?;
+        let mut payload = Vec::with_capacity(alloc, max_payload(Version::V1, limits))?;
         payload.push(0)?;
         Ok(Batch {
             limits,
@@ -61,21 +62,29 @@ impl<A: Allocator> Batch<A> {
     /// The payload of a frame with the acts.
     pub fn payload(&self) -> &[u8]
         ensures value { result.now ≡ self.now.payload }
-        ensures short { length result.now ≤ max_payload self.now.bounds }
+        ensures short { length result.now ≤ max_payload Version.V1 self.now.bounds }
     {
         &self.payload
     }
 
-    /// Adds an act, for which there is room. It takes no memory.
+    /// Adds an act, for which there is room and which reserves no port. It takes no memory.
     pub fn push<B: Allocator>(&mut self, moment: Moment, five_tuple: FiveTuple, act: &Act<B>)
         requires few { self.old.acts < self.old.bounds.acts }
         requires in_range { IsInRange self.old.bounds (record { moment = moment; tuple = five_tuple; act = act_of act.now }) }
+        requires writes { ReservesNone (act_of act.now) }
         ensures bounds { self.new.bounds ≡ self.old.bounds }
         ensures acts { self.new.acts ≡ self.old.acts + 1 }
         ensures payload { (es : List Event) → self.old.payload ≡ bytes.payload es
             → self.new.payload ≡ bytes.payload (es ++ record { moment = moment; tuple = five_tuple; act = act_of act.now } ∷ []) }
     {
-        let Ok(()) = write_act(&mut self.payload, self.limits, moment, five_tuple, act) else {
+        let Ok(()) = write_act(
+            &mut self.payload,
+            Version::V1,
+            self.limits,
+            moment,
+            five_tuple,
+            act,
+        ) else {
             unreachable!()
         };
         self.acts += 1;

@@ -7,6 +7,7 @@ ghost use Rattle.turn_disk.specs.Counts.{Rises};
 ghost use Rattle.turn_disk.specs.Disk.{EachImageSince};
 ghost use Rattle.turn_history.specs.Fitting.{IsInRange};
 ghost use Rattle.turn_history.specs.History.{Event, History};
+ghost use Rattle.turn_history.specs.Laws.{ReservesNone};
 ghost use Rattle.turn_ports.specs.Ports.{has_failed};
 ghost use Rattle.turn_record.specs.Bytes as bytes;
 ghost use Rattle.turn_step.specs.Outcome.{added, event_at};
@@ -87,13 +88,14 @@ impl<D: Disk, H: AuthHandler, G: RelayAddressGenerator, A: Allocator> Model for 
       arrivals = s.arrivals;
     } };
 
-    ghost invariant = { λ s. IsSound s.machine.config.limits s.store.bounds s.batch.bounds s.batch.acts s.arrivals s.machine.table };
+    ghost invariant = { λ s. IsSound s.machine.config.limits s.store.bounds s.batch.bounds s.batch.acts s.arrivals s.machine.pairs s.machine.table };
 }
 
-/// Adds the act of a step to a batch that has room for it.
+/// Adds the act of a step, which reserves no port, to a batch that has room for it.
 fn stage_act<A: Allocator>(batch: &mut Batch<A>, moment: Moment, step: &Step<A>)
     requires few { batch.old.acts < batch.old.bounds.acts }
     requires in_range { IfSome step.now.change (λ c. IsInRange batch.old.bounds (event_at moment c)) }
+    requires writes { IfSome step.now.change (λ c. ReservesNone c.act) }
     ensures bounds { batch.new.bounds ≡ batch.old.bounds }
     ensures acts { batch.new.acts ≡ batch.old.acts + length (added moment step.now.change) }
     ensures payload { (es : List Event) → batch.old.payload ≡ bytes.payload es
@@ -126,7 +128,7 @@ impl<D: Disk, H: AuthHandler, G: RelayAddressGenerator, A: Allocator + Copy> Ser
         handler: H,
         ports: G,
     ) -> Result<Server<D, H, G, A>, OpenRefused<D, H, G>>
-        ensures machine { IfOk result (λ s. s.machine ≡ record { config = config.now; handler = handler; ports = ports; table = s.machine.table }) }
+        ensures machine { IfOk result (λ s. s.machine ≡ record { config = config.now; handler = handler; ports = ports; table = s.machine.table; pairs = false }) }
         ensures nothing { IfOk result (λ s. s ≡ emptied s s.store) }
         ensures runs { IfOk result (λ s. s.store.stopped ≡ false) }
         ensures returned { IfErr result (λ r. (r.handler ≡ handler) × (r.ports ≡ ports)) }
@@ -183,7 +185,7 @@ impl<D: Disk, H: AuthHandler, G: RelayAddressGenerator, A: Allocator + Copy> Ser
                 });
             }
         };
-        match Machine::new(alloc, config, handler, ports, table) {
+        match Machine::new(alloc, config, handler, ports, table, false) {
             Ok(machine) => Ok(Server {
                 alloc,
                 store,

@@ -7,7 +7,7 @@ use Rattle.turn_engine.specs.Runs.{IsRun, Taken, accepted, last_moment, sent_abo
 use Rattle.turn_engine.proofs.Answered.{last_moment-push, run-push}
 use Rattle.turn_engine.proofs.Lists.{all-append}
 use Rattle.turn_player.specs.Laws.{HasAct, IsInTime, IsOneRun, Keeps}
-use Rattle.turn_player.specs.Lives.{Arrive, Closed, Commit, Committed, Failed, Goes, Halted, HandedOut, Input, Lasting, Life, NeverFall, NotOpened, Open, Opened, Point, Refused, Running, Said, Sends, Shut, Stop, arrivals, arrivals_of, bound_of, commit_stops, ends, fails, formatted, found, goes_on, handing_out, hands_out, is_full, is_halted, is_shut, no_memory, not_opened, opens, recent_of, sent_by_all, sent_in, shut, stays_halted, stays_shut, stops, sure_of, taken_of, takes, unsettled_of}
+use Rattle.turn_player.specs.Lives.{Arrive, Closed, Commit, Committed, Failed, Goes, Halted, HandedOut, Input, Lasting, Life, NeverFall, NotOpened, Open, Opened, Point, Refused, Running, Said, Sends, Shut, Stop, arrivals, arrivals_of, bound_of, commit_stops, ends, fails, formatted, found, goes_on, handing_out, hands_out, is_full, is_halted, is_shut, no_memory, not_opened, opens, recent_of, sent_by_all, sent_in, shut, stays_halted, stays_shut, stops, sure_of, taken_of, takes, unsettled_of, without_pairs}
 use Rattle.turn_player.proofs.Lists.{acts-found, acts-handed, all-back, all-found, all-front, found_run, last_from, last_moment-append, run-join, run-split, sent_by_all-append, sent_by_all-found, sent_by_all-handed, taken-append, taken-handed}
 
 -- ---- What was handed out
@@ -42,7 +42,7 @@ module _ (s : Setting) (may_fail : Bool) where
       let whole : arrivals_of q ≡ arrivals_of p = cc in
       let last = one.moments in
       record {
-        is_run = subst (IsRun s [] 0) (sym whole) one.is_run;
+        is_run = subst (IsRun (without_pairs s) [] 0) (sym whole) one.is_run;
         sent_is = ap sent_by_all sures ∙ one.sent_is;
         have_acts = subst (AllByRecursion HasAct) (sym sures) one.have_acts;
         moments = subst (λ (l : List Taken). last_moment 0 l ≤ bound_of q) (sym whole) (omega arith);
@@ -52,7 +52,7 @@ module _ (s : Setting) (may_fail : Bool) where
 
   -- one more arrival
   taken : (sent : List Sent) (sure : List Lasting) (recent : List Taken) (c m t : ℕ) (x : Taken) → m ≤ t → x.moment ≡ max t c
-      → AnswersArrival s (accepted (arrivals sure recent)) x.moment x.failed x.arrival x.outcome → (may_fail ≡ false → x.failed ≡ false)
+      → AnswersArrival (without_pairs s) (accepted (arrivals sure recent)) x.moment x.failed x.arrival x.outcome → (may_fail ≡ false → x.failed ≡ false)
       → IsOneRun s may_fail sent (Running sure recent c m) → IsOneRun s may_fail sent (Running sure (recent ++ x ∷ []) (max t c) (max t m))
   taken sent sure recent c m t x le at answers flag one =
       let last = one.moments in
@@ -62,7 +62,7 @@ module _ (s : Setting) (may_fail : Bool) where
       let moment : last_moment 0 (arrivals sure recent ++ x ∷ []) ≡ x.moment = last_moment-push 0 (arrivals sure recent) x in
       let most : last_moment 0 (arrivals sure recent ++ x ∷ []) ≤ max t m = omega arith in
       record {
-        is_run = subst (IsRun s [] 0) whole (run-push s [] 0 (arrivals sure recent) x one.is_run later answers);
+        is_run = subst (IsRun (without_pairs s) [] 0) whole (run-push (without_pairs s) [] 0 (arrivals sure recent) x one.is_run later answers);
         sent_is = one.sent_is;
         have_acts = one.have_acts;
         moments = subst (λ (l : List Taken). last_moment 0 l ≤ max t m) whole most;
@@ -77,7 +77,7 @@ module _ (s : Setting) (may_fail : Bool) where
       let whole : arrivals sure recent ≡ arrivals (sure ++ map HandedOut recent) [] =
       sym (append-nil (map taken_of (sure ++ map HandedOut recent)) ∙ taken-append sure (map HandedOut recent) ∙ ap (λ (l : List Taken). map taken_of sure ++ l) (taken-handed recent)) in
       record {
-        is_run = subst (IsRun s [] 0) whole one.is_run;
+        is_run = subst (IsRun (without_pairs s) [] 0) whole one.is_run;
         sent_is = sent_by_all-append sure (map HandedOut recent) ∙ ap (λ (l : List Sent). l ++ sent_by_all (map HandedOut recent)) one.sent_is
             ∙ ap (λ (l : List Sent). sent ++ l) (sent_by_all-handed recent ∙ sym (sent_in-handing_out (sent_about recent)));
         have_acts = all-append HasAct sure (map HandedOut recent) one.have_acts (acts-handed recent);
@@ -90,14 +90,14 @@ module _ (s : Setting) (may_fail : Bool) where
   settled : (sent : List Sent) (p : Point) → IsOneRun s may_fail sent p → IsOneRun s may_fail sent (shut p)
   settled sent (Running sure recent c m) one =
       let front = map taken_of sure in
-      let parts = run-split s [] 0 front recent one.is_run in
+      let parts = run-split (without_pairs s) [] 0 front recent one.is_run in
       let plain : front ≡ arrivals sure [] = sym (append-nil front) in
-      let more = last_from s (accepted front) (last_moment 0 front) recent parts.1 in
+      let more = last_from (without_pairs s) (accepted front) (last_moment 0 front) recent parts.1 in
       let whole : last_moment 0 (arrivals sure recent) ≡ last_moment (last_moment 0 front) recent = last_moment-append 0 front recent in
       let last = one.moments in
       let most : last_moment 0 front ≤ m = omega arith in
       record {
-        is_run = subst (IsRun s [] 0) plain parts.0;
+        is_run = subst (IsRun (without_pairs s) [] 0) plain parts.0;
         sent_is = one.sent_is;
         have_acts = one.have_acts;
         moments = subst (λ (l : List Taken). last_moment 0 l ≤ m) plain most;
@@ -113,9 +113,9 @@ module _ (s : Setting) (may_fail : Bool) where
   opened sent sure recent m n c le one =
       let front = map taken_of sure in
       let left = map taken_of (found recent n) in
-      let parts = run-split s [] 0 front recent one.is_run in
-      let kept = found_run s (accepted front) (last_moment 0 front) recent n parts.1 in
-      let run : IsRun s [] 0 (front ++ left) = run-join s [] 0 front left parts.0 kept.is_run in
+      let parts = run-split (without_pairs s) [] 0 front recent one.is_run in
+      let kept = found_run (without_pairs s) (accepted front) (last_moment 0 front) recent n parts.1 in
+      let run : IsRun (without_pairs s) [] 0 (front ++ left) = run-join (without_pairs s) [] 0 front left parts.0 kept.is_run in
       let plain : front ++ left ≡ arrivals (sure ++ found recent n) [] = sym (append-nil (map taken_of (sure ++ found recent n)) ∙ taken-append sure (found recent n)) in
       let before : last_moment 0 (arrivals sure recent) ≡ last_moment (last_moment 0 front) recent = last_moment-append 0 front recent in
       let after : last_moment 0 (front ++ left) ≡ last_moment (last_moment 0 front) left = last_moment-append 0 front left in
@@ -123,7 +123,7 @@ module _ (s : Setting) (may_fail : Bool) where
       let b = one.moments in
       let most : last_moment 0 (front ++ left) ≤ m = omega arith in
       record {
-        is_run = subst (IsRun s [] 0) plain run;
+        is_run = subst (IsRun (without_pairs s) [] 0) plain run;
         sent_is = sent_by_all-append sure (found recent n) ∙ ap (λ (l : List Sent). sent_by_all sure ++ l) (sent_by_all-found recent n) ∙ append-nil (sent_by_all sure) ∙ one.sent_is;
         have_acts = all-append HasAct sure (found recent n) one.have_acts (acts-found recent n);
         moments = subst (λ (l : List Taken). last_moment 0 l ≤ m) plain most;

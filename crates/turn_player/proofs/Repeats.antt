@@ -26,7 +26,7 @@ use Rattle.turn_step.specs.Outcome.Arrives.{FromClient}
 use Rattle.turn_step.proofs.Exclusion.{request_relays_nothing}
 use Rattle.turn_engine.specs.Runs.{IsRun, Taken, accepted}
 use Rattle.turn_engine.proofs.Answered.{answered_at}
-use Rattle.turn_player.specs.Lives.{Lasting, Point, arrivals_of, formatted, history_of, recent_of, taken_of}
+use Rattle.turn_player.specs.Lives.{Lasting, Point, arrivals_of, formatted, history_of, recent_of, taken_of, without_pairs}
 use Rattle.turn_player.specs.Repeats.{ComesAgain, LastsAfter, MadeBefore, Makes}
 use Rattle.turn_player.proofs.Lists.{by_option, taken-append}
 use Rattle.turn_player.proofs.Lives.{begins_life, one_run}
@@ -78,27 +78,27 @@ module _ (s : Setting) (f : FiveTuple) (d : Datagram) (spells : Spells d.bytes d
 
   -- ---- The allocation was made
 
-  module _ (h : History) (t : ℕ) (failed : Bool) (o : Outcome) (a : AnswersClient s h t failed f d.bytes o) (e : Entry) (change : o.change ≡ Some (change_of f (Allocates e.user e.port e.granted e.tx))) where
+  module _ (h : History) (t : ℕ) (failed : Bool) (o : Outcome) (a : AnswersClient s h t failed f d.bytes o) (e : Entry) (change : o.change ≡ Some (change_of f (Allocates e.user e.port e.granted e.tx e.token))) where
     first_port : Option ℕ
     first_port = (a.decides.message d.content spells).port
 
-    first_is : a.decided ≡ decision s.config (table h t) f t d (judged t) first_port
+    first_is : a.decided ≡ decision s.pairs s.config (table h t) f t d (judged t) first_port
     unfolding judged first_port
     first_is = (a.decides.message d.content spells).decided
 
-    first_act : (decision s.config (table h t) f t d (judged t) first_port).act ≡ Some (Allocates e.user e.port e.granted e.tx)
+    first_act : (decision s.pairs s.config (table h t) f t d (judged t) first_port).act ≡ Some (Allocates e.user e.port e.granted e.tx e.token)
     first_act = sym (ap (λ (x : Decided). x.act) first_is) ∙ act_is f a.decided.act _ (sym a.change ∙ change)
 
-    of_user : IsOfUser s.config (table h t) f d (judged t) first_port (outcome_of s.config (table h t) f d (judged t) first_port)
+    of_user : IsOfUser s.pairs s.config (table h t) f t d (judged t) first_port (outcome_of s.pairs s.config (table h t) f t d (judged t) first_port)
     unfolding decision
-    of_user = by_known (outcome_of s.config (table h t) f d (judged t) first_port) (known s.config (table h t) f d first_port (judged t)) acts
+    of_user = by_known (outcome_of s.pairs s.config (table h t) f t d (judged t) first_port) (known s.pairs s.config (table h t) f t d first_port (judged t)) acts
       where
-        acts : act_by (user_of (judged t)) d.content (outcome_of s.config (table h t) f d (judged t) first_port) ≡ Some (Allocates e.user e.port e.granted e.tx)
+        acts : act_by (user_of (judged t)) d.content (outcome_of s.pairs s.config (table h t) f t d (judged t) first_port) ≡ Some (Allocates e.user e.port e.granted e.tx e.token)
         acts = first_act
 
-        by_known : (k : _) → Known s.config (table h t) f d (judged t) first_port k → act_by (user_of (judged t)) d.content k ≡ Some (Allocates e.user e.port e.granted e.tx)
-            → IsOfUser s.config (table h t) f d (judged t) first_port k
-        by_known k (inl quiet) is = absurd (let wrong : ◌≡◌ {A = Option PlainAct} None (Some (Allocates e.user e.port e.granted e.tx)) = sym (quiet_act (user_of (judged t)) d.content k quiet) ∙ is in let no : ⊥ = cc in no)
+        by_known : (k : _) → Known s.pairs s.config (table h t) f t d (judged t) first_port k → act_by (user_of (judged t)) d.content k ≡ Some (Allocates e.user e.port e.granted e.tx e.token)
+            → IsOfUser s.pairs s.config (table h t) f t d (judged t) first_port k
+        by_known k (inl quiet) is = absurd (let wrong : ◌≡◌ {A = Option PlainAct} None (Some (Allocates e.user e.port e.granted e.tx e.token)) = sym (quiet_act (user_of (judged t)) d.content k quiet) ∙ is in let no : ⊥ = cc in no)
         by_known k (inr of_user) is = of_user
 
     again_is : (g : History) (u : ℕ) (failed_again : Bool) (k : Outcome) → fin.get (table g u).entries f ≡ Some e → NonceHolds (policy_of s.config) d f.client u
@@ -109,8 +109,8 @@ module _ (s : Setting) (f : FiveTuple) (d : Datagram) (spells : Spells d.bytes d
         let alike : judged u ≡ judged t = judged_again t u of_user.user of_user.key of_user.protected of_user.verdict nonce ∙ sym of_user.verdict in
         let m = b.decides.message d.content spells in
         let decided : b.decided ≡ record { reply = a.decided.reply; act = None } =
-        m.decided ∙ ap (λ v. decision s.config (table g u) f u d v m.port) alike
-        ∙ repeat_same s.config (table h t) (table g u) f d (judged t) t u first_port m.port e first_act at
+        m.decided ∙ ap (λ v. decision s.pairs s.config (table g u) f u d v m.port) alike
+        ∙ repeat_same s.pairs s.pairs s.config (table h t) (table g u) f d (judged t) t u first_port m.port e first_act at
         ∙ ap (λ (x : Decided). record { reply = x.reply; act = None }) (sym first_is) in
         outcome_is g u failed_again k request b ∙ ap (outcome_by f) decided ∙ ap (λ (x : Outcome). record { change = None; sent = x.sent }) (sym (outcome_is h t failed o request a))
 
@@ -133,16 +133,16 @@ module _ (s : Setting) (f : FiveTuple) (d : Datagram) (spells : Spells d.bytes d
         let m = a.decides.message d.content spells in
         let n = b.decides.message d.content spells in
         let decided : b.decided ≡ a.decided =
-        n.decided ∙ ap (λ v. decision s.config (table g u) f u d v n.port) holds
-        ∙ later_same s.config (table h t) (table g u) f d user key t u m.port n.port x e allocates had has same
-        ∙ sym (m.decided ∙ ap (λ v. decision s.config (table h t) f t d v m.port) held) in
+        n.decided ∙ ap (λ v. decision s.pairs s.config (table g u) f u d v n.port) holds
+        ∙ later_same s.pairs s.pairs s.config (table h t) (table g u) f d user key t u m.port n.port x e allocates had has same
+        ∙ sym (m.decided ∙ ap (λ v. decision s.pairs s.config (table h t) f t d v m.port) held) in
         outcome_is g u failed_again k request b ∙ ap (outcome_by f) decided ∙ sym (outcome_is h t failed o request a)
 
 -- ---- In a life
 
 -- an arrival that lasts was answered from the events of those before it
 answered : (s : Setting) (q : Point) (before : List Lasting) (x : Lasting) (f : FiveTuple) (bytes : List ℕ) → LastsAfter s q before x → (taken_of x).arrival ≡ FromClient f bytes
-    → AnswersClient s (accepted (map taken_of before)) (taken_of x).moment (taken_of x).failed f bytes (taken_of x).outcome
+    → AnswersClient (without_pairs s) (accepted (map taken_of before)) (taken_of x).moment (taken_of x).failed f bytes (taken_of x).outcome
 answered s q before x f bytes lasts arrival =
     let y = taken_of x in
     let others = map taken_of lasts.after ++ recent_of q in
@@ -150,11 +150,11 @@ answered s q before x f bytes lasts arrival =
     let whole : arrivals_of q ≡ map taken_of before ++ y ∷ others =
     ap (λ (l : List Lasting). map taken_of l ++ recent_of q) lasts.sure ∙ ap (λ (l : List Taken). l ++ recent_of q) (taken-append before (x ∷ lasts.after))
     ∙ append_assoc (map taken_of before) (y ∷ map taken_of lasts.after) (recent_of q) in
-    subst (λ (r : Arrives). AnswersArrival s (accepted (map taken_of before)) y.moment y.failed r y.outcome) arrival
-    (answered_at s [] 0 (map taken_of before) y others (subst (IsRun s [] 0) whole one.is_run))
+    subst (λ (r : Arrives). AnswersArrival (without_pairs s) (accepted (map taken_of before)) y.moment y.failed r y.outcome) arrival
+    (answered_at (without_pairs s) [] 0 (map taken_of before) y others (subst (IsRun (without_pairs s) [] 0) whole one.is_run))
 
 as_allocates : Allocation → PlainAct
-as_allocates a = Allocates a.user a.port a.granted a.tx
+as_allocates a = Allocates a.user a.port a.granted a.tx a.token
 
 pub first_again : (s : Setting) (q : Point) (before : List Lasting) (x : Lasting) (f : FiveTuple) (d : Datagram) (a : Allocation) (t : ℕ) (again : Outcome)
     → LastsAfter s q before x → Makes (taken_of x) f d a → ComesAgain s (history_of q) t f d a again
@@ -166,8 +166,8 @@ first_again s q before x f d a t again lasts makes comes =
     let entry = entry_of_live (history_of q) t f comes.has.live in
     let e = entry.0 in
     let same : a ≡ allocation_of e = same_Some _ _ (sym comes.has.made ∙ entry.2.made) in
-    let change : y.outcome.change ≡ Some (change_of f (Allocates e.user e.port e.granted e.tx)) = makes.change ∙ ap (λ (b : Allocation). Some (change_of f (as_allocates b))) same in
-    again_is s f d makes.spells h y.moment y.failed y.outcome (answered s q before x f d.bytes lasts makes.arrival) e change (history_of q) t comes.failed again entry.1 comes.nonce comes.answers
+    let change : y.outcome.change ≡ Some (change_of f (Allocates e.user e.port e.granted e.tx e.token)) = makes.change ∙ ap (λ (b : Allocation). Some (change_of f (as_allocates b))) same in
+    again_is (without_pairs s) f d makes.spells h y.moment y.failed y.outcome (answered s q before x f d.bytes lasts makes.arrival) e change (history_of q) t comes.failed again entry.1 comes.nonce comes.answers
 
 pub later_again : (s : Setting) (q : Point) (before : List Lasting) (x : Lasting) (f : FiveTuple) (d : Datagram) (a : Allocation) (t : ℕ) (again : Outcome)
     → LastsAfter s q before x → MadeBefore s (accepted (map taken_of before)) (taken_of x) f d a → ComesAgain s (history_of q) t f d a again
@@ -178,5 +178,5 @@ later_again s q before x f d a t again lasts old comes =
     let had = entry_of_live h y.moment f old.had.live in
     let has = entry_of_live (history_of q) t f comes.has.live in
     let same : allocation_of had.0 ≡ allocation_of has.0 = same_Some _ _ (sym had.2.made ∙ old.had.made) ∙ same_Some _ _ (sym comes.has.made ∙ has.2.made) in
-    later_is s f d old.spells old.is_allocate h (history_of q) y.moment t y.failed comes.failed y.outcome again old.user old.key had.0 has.0 had.1 has.1
+    later_is (without_pairs s) f d old.spells old.is_allocate h (history_of q) y.moment t y.failed comes.failed y.outcome again old.user old.key had.0 has.0 had.1 has.1
     same old.sent_by comes.nonce (answered s q before x f d.bytes lasts old.arrival) comes.answers

@@ -31,7 +31,7 @@ use Rattle.turn_store.specs.Images.{EachImage, StandsForAt}
 use Rattle.turn_store.specs.State.{form_of}
 use Rattle.turn_store.specs.declared.fault.StoreFault.{StoreFault}
 use Rattle.turn_store.specs.declared.fault.StoreFault.TheVariants as faults
-use Rattle.turn_player.specs.Lives.{Arrive, Closed, Commit, Failed, Found, Goes, Halted, HandedOut, Input, Lasting, Life, NotOpened, Open, Opened, Point, Refused, Running, Said, Shut, Stop, arrivals, bound_of, count_of, found, handing_out, history_of, recent_of, settled_history_of, sure_of, taken_of, unsettled_of}
+use Rattle.turn_player.specs.Lives.{Arrive, Closed, Commit, Failed, Found, Goes, Halted, HandedOut, Input, Lasting, Life, NotOpened, Open, Opened, Point, Refused, Running, Said, Shut, Stop, arrivals, bound_of, count_of, found, handing_out, history_of, recent_of, settled_history_of, sure_of, taken_of, unsettled_of, without_pairs}
 use Rattle.turn_player.specs.Lives as lives
 use Rattle.turn_player.specs.Worlds.{Call, Calls, Down, IsDown, IsHalted, Leaves, Lives, Restarts, Runs, Serving, Stands, World, disk_of, handler_of, ports_of, said_by_commit, said_by_open, said_by_submit, world_after}
 use Rattle.turn_player.specs.Worlds as worlds
@@ -162,8 +162,8 @@ module _ {D H G : Type 0} (disk : disks.Ghosts D) (handler : handlers.Ghosts H) 
         let failed = has_failed (ports.failures old.machine.ports) (ports.failures new.machine.ports) in
         let takes = call.takes h k runs.rests in
         let x : Taken = record { moment = max t c; arrival = a; failed = failed; outcome = takes.outcome } in
-        let answers : AnswersArrival s h (max t c) failed a takes.outcome =
-        subst (λ (n : ℕ). AnswersArrival s h n failed a takes.outcome) at (subst (λ (z : Setting). AnswersArrival z h (max t (now_of old)) failed a takes.outcome) runs.same_setting takes.answers) in
+        let answers : AnswersArrival (without_pairs s) h (max t c) failed a takes.outcome =
+        subst (λ (n : ℕ). AnswersArrival (without_pairs s) h n failed a takes.outcome) at (subst (λ (z : Setting). AnswersArrival z h (max t (now_of old)) failed a takes.outcome) runs.same_setting takes.answers) in
         let change = takes.outcome.change in
         let history : accepted (mine ++ (recent ++ x ∷ [])) ≡ h ++ added (max t (now_of old)) change =
         ap accepted (sym (append_assoc mine recent (x ∷ []))) ∙ accepted-append (mine ++ recent) (x ∷ []) ∙ ap (λ (l : History). h ++ l) (append-nil (added (max t c) change))
@@ -368,8 +368,8 @@ module _ {D H G : Type 0} (disk : disks.Ghosts D) (handler : handlers.Ghosts H) 
           stands = record {
             honest = call.honest.1 (leaves w p stands).honest;
             same_setting = ap (λ (v : MachineState H G). setting_of handler.key_of ports.range v) call.machine
-                ∙ ap (λ k. record { config = s.config; keys = k; range = ports.range (ports_of w) }) (keys_at w p stands)
-                ∙ ap (λ (r : ℕ × ℕ). record { config = s.config; keys = s.keys; range = r }) (range_at w p stands);
+                ∙ ap (λ k. record { config = s.config; keys = k; range = ports.range (ports_of w); pairs = false }) (keys_at w p stands)
+                ∙ ap (λ (r : ℕ × ℕ). record { config = s.config; keys = s.keys; range = r; pairs = false }) (range_at w p stands);
             same_form = opens.same_form;
             rests = subst (λ (l : History). Rests state server l (length (accepted (map taken_of (sure ++ found recent n))))) (sym all)
                 (subst (λ (i : ℕ). Rests state server (take opens.count (accepted (mine ++ recent))) i) (sym count) opens.rests);

@@ -1,5 +1,5 @@
 -- Lives: arrivals, commits, stops and openings, one after another, from a formatted disk on.
-use Rattle.std.specs.Prelude.{◌≡◌, ◌≤◌, ◌<◌, ◌⊎◌, ◌++◌, ℕ, Bool, List, [], ◌∷◌, true, zero, suc, is_some, if◌then◌else◌, length, map, max}
+use Rattle.std.specs.Prelude.{◌≡◌, ◌≤◌, ◌<◌, ◌⊎◌, ◌++◌, ℕ, Bool, List, [], ◌∷◌, true, false, zero, suc, is_some, if◌then◌else◌, length, map, max}
 use Rattle.std.specs.Option.{option_to_list}
 use Rattle.turn_engine.specs.Runs.{Taken, accepted, sent_about}
 use Rattle.turn_engine.specs.declared.fault.SubmitRefused.{SubmitRefused}
@@ -117,11 +117,15 @@ formatted = Shut [] [] 0
 
 -- ---- Lives
 
+-- What the servers of a life answer by: none of them reserves ports, whatever the setting of the life says of that.
+abbrev pub without_pairs : Setting → Setting
+without_pairs s = record s { pairs = false }
+
 -- One input leads from a point to a point, and something is said. An arrival counts at the clock where that is later than its
 -- moment. Where the generator of ports can't fail, no answer says that it did.
 pub data Goes (s : Setting) (may_fail : Bool) : Point → Input → List Said → Point → Type 0 where
   takes : {sure : List Lasting} {recent : List Taken} {c m t : ℕ} {a : Arrives} (failed : Bool) (o : Outcome)
-      → AnswersArrival s (accepted (arrivals sure recent)) (max t c) failed a o → (failed ≡ true → may_fail ≡ true) → length recent < s.config.limits.acts
+      → AnswersArrival (without_pairs s) (accepted (arrivals sure recent)) (max t c) failed a o → (failed ≡ true → may_fail ≡ true) → length recent < s.config.limits.acts
       → Goes s may_fail (Running sure recent c m) (Arrive t a) []
       (Running sure (recent ++ record { moment = max t c; arrival = a; failed = failed; outcome = o } ∷ []) (max t c) (max t m))
   no_memory : {sure : List Lasting} {recent : List Taken} {c m t : ℕ} {a : Arrives} → length recent < s.config.limits.acts

@@ -10,7 +10,7 @@ use Rattle.turn_step.specs.Answer.{AnswersArrival, Setting}
 use Rattle.turn_step.specs.Outcome.{Outcome, change_of}
 use Rattle.turn_step.specs.Outcome.Arrives.{FromClient}
 use Rattle.turn_engine.specs.Runs.{Taken}
-use Rattle.turn_player.specs.Lives.{Input, Lasting, Life, NeverFall, Point, Said, formatted, sure_of}
+use Rattle.turn_player.specs.Lives.{Input, Lasting, Life, NeverFall, Point, Said, formatted, sure_of, without_pairs}
 
 -- a life from a formatted disk on leads to the point q, where x lasts, after the arrivals before it
 pub record LastsAfter (s : Setting) (q : Point) (before : List Lasting) (x : Lasting) : Type 0 where
@@ -31,7 +31,7 @@ pub record Has (h : History) (t : ℕ) (f : FiveTuple) (a : Allocation) : Type 0
 pub record Makes (x : Taken) (f : FiveTuple) (d : Datagram) (a : Allocation) : Type 0 where
   pub arrival : x.arrival ≡ FromClient f d.bytes
   pub spells : Spells d.bytes d.content
-  pub change : x.outcome.change ≡ Some (change_of f (Allocates a.user a.port a.granted a.tx))
+  pub change : x.outcome.change ≡ Some (change_of f (Allocates a.user a.port a.granted a.tx a.token))
 
 -- the arrival was an Allocate of a user after the history h, when the five-tuple had this allocation already
 pub record MadeBefore (s : Setting) (h : History) (x : Taken) (f : FiveTuple) (d : Datagram) (a : Allocation) : Type 0 where
@@ -47,6 +47,6 @@ pub record MadeBefore (s : Setting) (h : History) (x : Taken) (f : FiveTuple) (d
 -- this allocation.
 pub record ComesAgain (s : Setting) (h : History) (t : ℕ) (f : FiveTuple) (d : Datagram) (a : Allocation) (o : Outcome) : Type 0 where
   pub failed : Bool
-  pub answers : AnswersArrival s h t failed (FromClient f d.bytes) o
+  pub answers : AnswersArrival (without_pairs s) h t failed (FromClient f d.bytes) o
   pub nonce : NonceHolds (policy_of s.config) d f.client t
   pub has : Has h t f a

@@ -20,7 +20,7 @@ use Rattle.turn_store.specs.Areas.{Form}
 use Rattle.turn_store.specs.Images.{EachImage}
 use Rattle.turn_store.specs.State.{form_of}
 use Rattle.turn_store.specs.declared.fault.StoreFault.{StoreFault}
-use Rattle.turn_player.specs.Lives.{Arrive, Closed, Commit, Failed, Halted, Input, Lasting, Life, NotOpened, Open, Opened, Point, Refused, Running, Said, Shut, Stop, arrivals, handing_out, taken_of}
+use Rattle.turn_player.specs.Lives.{Arrive, Closed, Commit, Failed, Halted, Input, Lasting, Life, NotOpened, Open, Opened, Point, Refused, Running, Said, Shut, Stop, arrivals, handing_out, taken_of, without_pairs}
 
 -- ---- Worlds
 
@@ -102,7 +102,7 @@ pub record Leaves {D : Type 0} (disk : disks.Ghosts D) (form : Form) (d : D) (su
 -- a server that runs rests on all that was taken, of which what lasts is stored
 pub record Runs {D H G : Type 0} (disk : disks.Ghosts D) (handler : handlers.Ghosts H) (ports : generators.Ghosts G) (form : Form) (s : Setting) (server : ServerState D H G) (sure : List Lasting) (recent : List Taken) (c m : ℕ) : Type 0 where
   pub honest : disk.is_honest server.store.disk
-  pub same_setting : setting_of handler.key_of ports.range server.machine ≡ s
+  pub same_setting : setting_of handler.key_of ports.range server.machine ≡ without_pairs s
   pub same_form : form_of server.store ≡ form
   pub rests : Rests (disk.trace server.store.disk).now server (accepted (arrivals sure recent)) (length (accepted (map taken_of sure)))
   pub outs : server.outs ≡ sent_about recent
@@ -112,7 +112,7 @@ pub record Runs {D H G : Type 0} (disk : disks.Ghosts D) (handler : handlers.Gho
 
 pub record IsHalted {D H G : Type 0} (disk : disks.Ghosts D) (handler : handlers.Ghosts H) (ports : generators.Ghosts G) (form : Form) (s : Setting) (server : ServerState D H G) (sure : List Lasting) (recent : List Taken) (m : ℕ) : Type 0 where
   pub stopped : server.store.stopped ≡ true
-  pub same_setting : setting_of handler.key_of ports.range server.machine ≡ s
+  pub same_setting : setting_of handler.key_of ports.range server.machine ≡ without_pairs s
   pub leaves : Leaves disk form server.store.disk sure recent m
 
 pub record IsDown {D H G : Type 0} (disk : disks.Ghosts D) (handler : handlers.Ghosts H) (ports : generators.Ghosts G) (form : Form) (s : Setting) (d : D) (h : H) (g : G) (sure : List Lasting) (recent : List Taken) (m : ℕ) : Type 0 where

@@ -73,14 +73,14 @@ nobody : (s : Config) (client : Endpoint) (t : ℕ) (d : Datagram) → IsNotPass
 unfolding judgement
 nobody s client t d = either (is_protected d.content.method) (verdict (policy_of s) no_keys d client t) (by_key (policy_of s) d client t)
 
-any_port : (s : Config) (c : Contents) (f : FiveTuple) (t : ℕ) (d : Datagram) (v : Option Verdict) (port : Option ℕ) →
-    IsNotPassed v → decision s c f t d v port ≡ decision s c f t d v None
+any_port : (pairs : Bool) (s : Config) (c : Contents) (f : FiveTuple) (t : ℕ) (d : Datagram) (v : Option Verdict) (port : Option ℕ) →
+    IsNotPassed v → decision pairs s c f t d v port ≡ decision false s c f t d v None
 unfolding decision outcome_of
-any_port s c f t d None port h = refl
-any_port s c f t d (Some Challenge401) port h = refl
-any_port s c f t d (Some Bad400) port h = refl
-any_port s c f t d (Some Stale438) port h = refl
-any_port s c f t d (Some (Passed user key)) port h = absurd h
+any_port pairs s c f t d None port h = refl
+any_port pairs s c f t d (Some Challenge401) port h = refl
+any_port pairs s c f t d (Some Bad400) port h = refl
+any_port pairs s c f t d (Some Stale438) port h = refl
+any_port pairs s c f t d (Some (Passed user key)) port h = absurd h
 
 -- ---- An empty table
 
@@ -103,7 +103,7 @@ unfolding no_contents
 nothing_is_there f = fin.get-empty _ f
 
 pub empty_table : (t : ℕ) → table [] t ≡ no_contents
-unfolding table no_contents tables.map_of
+unfolding table no_contents tables.map_of tables.reservations
 empty_table t = refl
 
 -- what is relayed of a message, and of no message
@@ -125,34 +125,34 @@ replied : (f : FiveTuple) (reply : Option (List ℕ)) → reply_in (option_map (
 replied f None = refl
 replied f (Some bytes) = refl
 
-replied_to : (s : Config) (range : ℕ × ℕ) (t : ℕ) (failed : Bool) (f : FiveTuple) (bytes : List ℕ) (m : Content) (o : Outcome) →
-    AnswersClient (record { config = s; keys = no_keys; range = range }) [] t failed f bytes o → Spells bytes m → s ≡ profile →
+replied_to : (pairs : Bool) (s : Config) (range : ℕ × ℕ) (t : ℕ) (failed : Bool) (f : FiveTuple) (bytes : List ℕ) (m : Content) (o : Outcome) →
+    AnswersClient (record { config = s; keys = no_keys; range = range; pairs = pairs }) [] t failed f bytes o → Spells bytes m → s ≡ profile →
     reply_in o.sent ≡ answer f t (record { bytes = bytes; content = m })
 unfolding answer
-replied_to s range t failed f bytes m o a spelled same =
+replied_to pairs s range t failed f bytes m o a spelled same =
     let d : Datagram = record { bytes = bytes; content = m } in
     let v : Option Verdict = judgement s no_keys f.client t d in
     let none = relays_no_message f bytes m a.relayed spelled (subst (λ c. SendsToPeer c f bytes a.relayed) (empty_table t) a.sends) in
     let may = a.decides.message m spelled in
-    let decided = may.decided ∙ ap (λ c. decision s c f t d v may.port) (empty_table t) ∙ any_port s no_contents f t d v may.port (nobody s f.client t d) in
-    let by_profile = decided ∙ ap (λ s. decision s no_contents f t d (judgement s no_keys f.client t d) None) same in
+    let decided = may.decided ∙ ap (λ c. decision pairs s c f t d v may.port) (empty_table t) ∙ any_port pairs s no_contents f t d v may.port (nobody s f.client t d) in
+    let by_profile = decided ∙ ap (λ s. decision false s no_contents f t d (judgement s no_keys f.client t d) None) same in
     ap reply_in (a.sent ∙ ap (λ r. option_or (to_peer r) (to_client f a.decided.reply)) none) ∙ replied f a.decided.reply ∙ ap (λ x. x.reply) by_profile
 
-replied_nothing : (s : Config) (range : ℕ × ℕ) (t : ℕ) (failed : Bool) (f : FiveTuple) (bytes : List ℕ) (o : Outcome) →
-    AnswersClient (record { config = s; keys = no_keys; range = range }) [] t failed f bytes o → ((m : Content) → ¬ (Spells bytes m)) → reply_in o.sent ≡ None
-replied_nothing s range t failed f bytes o a no_message =
+replied_nothing : (pairs : Bool) (s : Config) (range : ℕ × ℕ) (t : ℕ) (failed : Bool) (f : FiveTuple) (bytes : List ℕ) (o : Outcome) →
+    AnswersClient (record { config = s; keys = no_keys; range = range; pairs = pairs }) [] t failed f bytes o → ((m : Content) → ¬ (Spells bytes m)) → reply_in o.sent ≡ None
+replied_nothing pairs s range t failed f bytes o a no_message =
     let none = relays_nothing f bytes a.relayed no_message (subst (λ c. SendsToPeer c f bytes a.relayed) (empty_table t) a.sends) in
     let decided = a.decides.no_message no_message in
     ap reply_in (a.sent ∙ ap (λ r. option_or (to_peer r) (to_client f a.decided.reply)) none ∙ ap (λ x. to_client f x.reply) decided)
 
-pub sends_reply : {H G : Type 0} (s : Config) (range : ℕ × ℕ) (new : MachineState H G) (t : ℕ) (failed : Bool) (f : FiveTuple) (bytes : List ℕ) (m : Content) (sent : Option Sent) →
-    Answered (record { config = s; keys = no_keys; range = range }) new [] t failed (Arrives.FromClient f bytes) sent → Spells bytes m → s ≡ profile →
+pub sends_reply : {H G : Type 0} (pairs : Bool) (s : Config) (range : ℕ × ℕ) (new : MachineState H G) (t : ℕ) (failed : Bool) (f : FiveTuple) (bytes : List ℕ) (m : Content) (sent : Option Sent) →
+    Answered (record { config = s; keys = no_keys; range = range; pairs = pairs }) new [] t failed (Arrives.FromClient f bytes) sent → Spells bytes m → s ≡ profile →
     reply_in sent ≡ answer f t (record { bytes = bytes; content = m })
-sends_reply s range new t failed f bytes m sent a spelled same = ap reply_in (sym a.sent_is) ∙ replied_to s range t failed f bytes m a.outcome a.answers spelled same
+sends_reply pairs s range new t failed f bytes m sent a spelled same = ap reply_in (sym a.sent_is) ∙ replied_to pairs s range t failed f bytes m a.outcome a.answers spelled same
 
-pub sends_no_reply : {H G : Type 0} (s : Config) (range : ℕ × ℕ) (new : MachineState H G) (t : ℕ) (failed : Bool) (f : FiveTuple) (bytes : List ℕ) (sent : Option Sent) →
-    Answered (record { config = s; keys = no_keys; range = range }) new [] t failed (Arrives.FromClient f bytes) sent → ((m : Content) → ¬ (Spells bytes m)) → reply_in sent ≡ None
-sends_no_reply s range new t failed f bytes sent a no_message = ap reply_in (sym a.sent_is) ∙ replied_nothing s range t failed f bytes a.outcome a.answers no_message
+pub sends_no_reply : {H G : Type 0} (pairs : Bool) (s : Config) (range : ℕ × ℕ) (new : MachineState H G) (t : ℕ) (failed : Bool) (f : FiveTuple) (bytes : List ℕ) (sent : Option Sent) →
+    Answered (record { config = s; keys = no_keys; range = range; pairs = pairs }) new [] t failed (Arrives.FromClient f bytes) sent → ((m : Content) → ¬ (Spells bytes m)) → reply_in sent ≡ None
+sends_no_reply pairs s range new t failed f bytes sent a no_message = ap reply_in (sym a.sent_is) ∙ replied_nothing pairs s range t failed f bytes a.outcome a.answers no_message
 
 -- ---- The machine
 

@@ -1,5 +1,5 @@
 -- What `turn answer` answers by: the realm example.org, no users, a secret of 32 zero bytes, no denied addresses.
-use Rattle.std.specs.Prelude.{ℕ, List, [], Option, Some, None, replicate, codes}
+use Rattle.std.specs.Prelude.{ℕ, false, List, [], Option, Some, None, replicate, codes}
 use Rattle.turn_types.specs.Config.{Config}
 use Rattle.turn_history.specs.Table.{no_contents}
 use Rattle.turn_types.specs.declared.address.FiveTuple.{FiveTuple}
@@ -23,8 +23,9 @@ abbrev pub no_keys : Keys
 no_keys user realm = None
 
 -- the reply to a client's message at a moment, over an empty table: no user is known, so none passes, and no port is needed
+-- or reserved
 unfoldable pub answer : FiveTuple → ℕ → Datagram → Option (List ℕ)
-answer f t d = (decision profile no_contents f t d (judgement profile no_keys f.client t d) None).reply
+answer f t d = (decision false profile no_contents f t d (judgement profile no_keys f.client t d) None).reply
 
 -- the bytes that are sent to the client, if any are
 abbrev pub reply_in : Option Sent → Option (List ℕ)

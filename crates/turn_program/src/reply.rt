@@ -59,7 +59,7 @@ fn make_machine<A: Allocator + Copy>(
     let config = make_config(alloc)?;
     let ports = PortRange::new(50000, 59999).unwrap();
     let table = Table::new(alloc, config.limits(), moment);
-    Ok(Machine::new(alloc, config, NoUsers, ports, table)?)
+    Ok(Machine::new(alloc, config, NoUsers, ports, table, false)?)
 }
 
 /// The bytes that are sent to the client, if any are.

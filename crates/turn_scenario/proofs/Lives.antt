@@ -59,7 +59,7 @@ pub starts : (disk : disks.Ghosts InMemory) (handler : handlers.Ghosts KeyMap) (
     (config : Config) (d : InMemory) (h : KeyMap) (g : ℕ × ℕ) → p ≡ record { config = config; world = Some (Down d h g) } → form.bounds ≡ config.limits
     → disk.is_honest d → EachImage (disk.trace d).now (StandsForAt form [] 0) → Lived disk handler ports p
 starts disk handler ports form p config d h g is bounds honest images =
-    let setting : Setting = record { config = config; keys = handler.key_of h; range = ports.range g } in
+    let setting : Setting = record { config = config; keys = handler.key_of h; range = ports.range g; pairs = false } in
     record {
       form = form;
       setting = setting;

@@ -25,8 +25,8 @@ fn message_text<A: Allocator + Copy>(
     let method = method_word(message.method());
     let tx = hex::encode(alloc, &message.tx().0)?;
     match received {
-        Received::Allocated(port, life) => {
-            format!(in alloc; "success {method} {tx} port={port} life={life}")
+        Received::Allocated { port, lifetime, .. } => {
+            format!(in alloc; "success {method} {tx} port={port} life={lifetime}")
         }
         Received::Refreshed(life) => format!(in alloc; "success {method} {tx} life={life}"),
         Received::Success => format!(in alloc; "success {method} {tx}"),

@@ -89,10 +89,10 @@ protected_if : (request protected : Bool) → (request && protected) ≡ false �
 protected_if true protected is request = is
 protected_if false protected is request = absurd (cc)
 
-no_act : (s : Config) (c : Contents) (f : FiveTuple) (t : ℕ) (d : Datagram) (v : Option Verdict) (port : Option ℕ) → (is_request d.content.class && is_protected d.content.method) ≡ false
-    → (decision s c f t d v port).act ≡ None
+no_act : (pairs : Bool) (s : Config) (c : Contents) (f : FiveTuple) (t : ℕ) (d : Datagram) (v : Option Verdict) (port : Option ℕ) → (is_request d.content.class && is_protected d.content.method) ≡ false
+    → (decision pairs s c f t d v port).act ≡ None
 unfolding decision outcome_of
-no_act s c f t d v port other =
+no_act pairs s c f t d v port other =
     by_row (act_by (user_of v) d.content) (is_dropped d) (d.content.method == binding) (is_protected d.content.method) _ _ _ refl
     (either_way (act_by (user_of v) d.content) (has_unknown d.content) _ _ refl refl)
     (λ kept. protected_if (is_request d.content.class) (is_protected d.content.method) other (kept_is_request (is_request d.content.class) _ kept))
@@ -104,5 +104,5 @@ others s h t failed (FromClient f bytes) o other answers =
     let some : answers.decided.act ≡ None → ⊥ = λ none. (let e = sym is ∙ answers.change ∙ ap (option_map (change_of f)) none in absurd (cc)) in
     let unread : (m : Content) → Spells bytes m → ⊥ = λ m spelled. (
     let a = answers.decides.message m spelled in
-    some (ap (λ (d : Decided). d.act) a.decided ∙ no_act s.config (table h t) f t (record { bytes = bytes; content = m }) _ a.port (is_other bytes m spelled other))) in
+    some (ap (λ (d : Decided). d.act) a.decided ∙ no_act s.pairs s.config (table h t) f t (record { bytes = bytes; content = m }) _ a.port (is_other bytes m spelled other))) in
     some (ap (λ (d : Decided). d.act) (answers.decides.no_message unread)))

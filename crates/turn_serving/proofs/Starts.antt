@@ -1,5 +1,5 @@
 -- A store that is opened, closed and opened again.
-use Rattle.std.proofs.Common.{◌≡◌, ◌↔◌, ℕ, List, Ok, take, sym, ap, ◌∙◌, subst}
+use Rattle.std.proofs.Common.{◌≡◌, ◌↔◌, ℕ, false, List, Ok, take, sym, ap, ◌∙◌, subst}
 use Rattle.turn_cred.specs.declared.handler.AuthHandler as handlers
 use Rattle.turn_disk.specs.declared.disk.Disk as disks
 use Rattle.turn_engine.specs.Calls.{Opening}
@@ -31,8 +31,8 @@ pub started : {D H G : Type 0} (disk : disks.Ghosts D) (handler : handlers.Ghost
     → Started disk handler generator old config users range server
 started disk handler generator old middle config users again ports range server same same_users in_range call =
     record {
-      setting = ap (setting_of handler.key_of generator.range) call.machine ∙ ap (λ u. record { config = config; keys = handler.key_of u; range = generator.range ports }) same_users
-          ∙ ap (λ (r : ℕ × ℕ). record { config = config; keys = handler.key_of users; range = r }) in_range;
+      setting = ap (setting_of handler.key_of generator.range) call.machine ∙ ap (λ u. record { config = config; keys = handler.key_of u; range = generator.range ports; pairs = false }) same_users
+          ∙ ap (λ (r : ℕ × ℕ). record { config = config; keys = handler.key_of users; range = r; pairs = false }) in_range;
       nothing = call.nothing;
       runs = call.runs;
       honest = (λ honest. same.honest.0 (call.honest.0 honest), λ honest. call.honest.1 (same.honest.1 honest));
@@ -47,7 +47,7 @@ started_as {disk = disk} {handler = handler} {generator = generator} {old = old}
 
 pub begins : {D H G : Type 0} (disk : disks.Ghosts D) (handler : handlers.Ghosts H) (ports : generators.Ghosts G) (old : D) (config : Config) (users : H) (range : ℕ × ℕ) (server : ServerState D H G) (form : Form) (h : History) (k m : ℕ)
     → Started disk handler ports old config users range server → disk.is_honest old → form.bounds ≡ config.limits → EachImage (disk.trace old).now (AtLeast form h k m)
-    → BeginsRun disk handler ports (record { config = config; keys = handler.key_of users; range = range }) h k server
+    → BeginsRun disk handler ports (record { config = config; keys = handler.key_of users; range = range; pairs = false }) h k server
 begins disk handler ports old config users range server form h k m begun honest bounds images =
     let o = begun.rests honest form h k m bounds images in
     record {

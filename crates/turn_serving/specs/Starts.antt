@@ -23,10 +23,11 @@ pub record IsKept {D : Type 0} (disk : disks.Ghosts D) (old new : D) : Type 0 wh
   pub content : disk.is_honest old → (disk.trace new).now.bytes ≡ (disk.trace old).now.bytes
   pub images : disk.is_honest old → (form : Form) (h : History) (k m : ℕ) → EachImage (disk.trace old).now (AtLeast form h k m) → EachImage (disk.trace new).now (AtLeast form h k m)
 
--- A server was started over a disk: it has this configuration, these keys and this range, nothing is staged, and where each
--- image of the disk stands for the first events of a history, at least k of them, it rests on such a part of it.
+-- A server was started over a disk: it has this configuration, these keys and this range, and reserves no ports; nothing is
+-- staged; and where each image of the disk stands for the first events of a history, at least k of them, it rests on such a
+-- part of it.
 pub record Started {D H G : Type 0} (disk : disks.Ghosts D) (handler : handlers.Ghosts H) (ports : generators.Ghosts G) (old : D) (config : Config) (users : H) (range : ℕ × ℕ) (server : ServerState D H G) : Type 0 where
-  pub setting : setting_of handler.key_of ports.range server.machine ≡ record { config = config; keys = handler.key_of users; range = range }
+  pub setting : setting_of handler.key_of ports.range server.machine ≡ record { config = config; keys = handler.key_of users; range = range; pairs = false }
   pub nothing : server ≡ emptied server server.store
   pub runs : server.store.stopped ≡ false
   pub honest : disk.is_honest server.store.disk ↔ disk.is_honest old

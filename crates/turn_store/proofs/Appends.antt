@@ -1,9 +1,11 @@
 -- What a batch more makes of what a store stands for.
 use Rattle.std.proofs.Common.{◌≡◌, ◌⊎◌, inl, inr, ⊎_elim, ◌≤◌, ℕ, List, [], ◌∷◌, ◌++◌, refl, false, sym, subst, arith, append-nil}
+use Rattle.turn_history.specs.Laws.{HasNoTokens}
 use Rattle.turn_disk.specs.Disk.{State, Trace}
 use Rattle.turn_history.specs.History.{Event, History}
 use Rattle.turn_history.specs.Table.{Contents, table}
 use Rattle.turn_record.specs.Bytes as bytes
+use Rattle.turn_record.specs.declared.version.Version.TheVariants.{V1}
 use Rattle.turn_store.specs.Areas.{Form, Holds}
 use Rattle.turn_store.specs.Images.{EitherBy, StandsBy, StandsForAt}
 use Rattle.turn_store.specs.Spells.{HasSize, Spells}
@@ -54,12 +56,12 @@ module _ {D : Type 0} (old : StoreState D) (before : State) (c : ℕ) (h : Histo
       },
     )
 
-  module _ (contents : Contents) (is : contents ≡ table (h ++ es) m) where
+  module _ (contents : Contents) (is : contents ≡ table (h ++ es) m) (none : HasNoTokens contents) where
     abbrev next : List ℕ
-    next = bytes.snapshot m contents
+    next = bytes.snapshot V1 m contents
 
     spelled : Spells old.bounds (h ++ es) m next []
-    spelled = subst (λ (t : Contents). Spells old.bounds (h ++ es) m (bytes.snapshot m t) []) (sym is) (snapshots_go_on old.bounds (h ++ es) m follows.fitting follows.late follows.in_range)
+    spelled = subst (λ (t : Contents). Spells old.bounds (h ++ es) m (bytes.snapshot V1 m t) []) (sym is) (snapshots_go_on old.bounds (h ++ es) m follows.fitting follows.late follows.in_range (subst HasNoTokens is none))
 
     next_by : (image : List ℕ) → Holds form next [] image → StandsBy form (h ++ es) m image
     next_by image holds = record { clock = m; bounded = omega arith; stands = record { snapshot = next; payloads = []; holds = holds; spells = spelled } }

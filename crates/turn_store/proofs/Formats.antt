@@ -1,13 +1,15 @@
 -- What a disk that is being formatted holds.
 use Rattle.std.proofs.Common.{◌≡◌, inl, ℕ, ◌*◌, ◌+◌, ◌<◌, ◌≤◌, List, [], ◌∷◌, ◌++◌, length, slice_index, refl, sym, ◌∙◌, ap, subst, arith}
+use Rattle.turn_history.proofs.Tokens.{nothing}
 use Rattle.turn_disk.specs.Disk.{State, ChangesOnly, StandsAt, WritesThrough}
 use Rattle.turn_disk.proofs.Since.{image_settled}
 use Rattle.std.specs.FinMap as fin
 use Rattle.std.specs.FinMap.{len-empty, len-entries}
-use Rattle.turn_history.specs.Table.{Entry, table, no_contents, map_of}
+use Rattle.turn_history.specs.Table.{Entry, table, no_contents, map_of, reservations}
 use Rattle.turn_journal.specs.Frames.{open_gate, IsClosed}
 use Rattle.turn_journal.proofs.Growing.{stands_front}
-use Rattle.turn_record.specs.Bytes.{each, entry, head, snapshot}
+use Rattle.turn_record.specs.Bytes.{each, entry, head, reserved, snapshot}
+use Rattle.turn_record.specs.declared.version.Version.TheVariants.{V1}
 use Rattle.turn_store.specs.Areas.{Form, IsForm, Holds, area_front}
 use Rattle.turn_store.specs.Format.{IsFormatted, IsLaid, fresh}
 use Rattle.turn_store.specs.Images.{EachImage, StandsForAt}
@@ -33,10 +35,10 @@ no_entries : fin.entries (fin.empty {X = Entry} {R = tuple_cmp}) ≡ []
 no_entries = none_of _ (sym (len-entries (fin.empty {X = Entry} {R = tuple_cmp})) ∙ len-empty tuple_cmp Entry)
 
 fresh_bytes : fresh ≡ twelve
-unfolding snapshot no_contents
+unfolding snapshot no_contents reserved
 fresh_bytes =
-    ap (λ (n : ℕ). head 0 n ++ each entry (fin.entries (fin.empty {X = Entry} {R = tuple_cmp}))) (len-empty tuple_cmp Entry)
-    ∙ ap (λ (es : List (FiveTuple × Entry)). head 0 0 ++ each entry es) no_entries
+    ap (λ (n : ℕ). head 0 n ++ (each (entry V1) (fin.entries (fin.empty {X = Entry} {R = tuple_cmp})) ++ [])) (len-empty tuple_cmp Entry)
+    ∙ ap (λ (es : List (FiveTuple × Entry)). head 0 0 ++ (each (entry V1) es ++ [])) no_entries
 
 front_of_twelve : fresh_area ≡ 0 ∷ (area_front 1 twelve ++ 0 ∷ [])
 unfolding area_front
@@ -56,7 +58,7 @@ length-front : length (area_front 1 fresh) ≡ 25
 length-front = ap (λ (l : List ℕ). length (area_front 1 l)) fresh_bytes ∙ length-twelve
 
 empty_table : table [] 0 ≡ no_contents
-unfolding table map_of no_contents
+unfolding table map_of no_contents reservations
 empty_table = refl
 
 closed_not : 0 ≡ open_gate → ⊥
@@ -115,9 +117,10 @@ nothing_spells b = record {
   moment = 0;
   in_range = omega arith;
   late = omega arith;
+  holds = nothing;
   from = tt;
   sizes = tt;
-  is_snapshot = ap (snapshot 0) (sym empty_table);
+  is_snapshot = ap (snapshot V1 0) (sym empty_table);
   are_payloads = refl;
   clock_is = omega arith;
 }

@@ -6,6 +6,7 @@ use Rattle.turn_journal.specs.Frames.{HoldsFrames}
 use Rattle.turn_journal.proofs.Once.{list_once}
 use Rattle.turn_record.specs.Bytes.{payload}
 use Rattle.turn_record.specs.Records.{SpellsSnapshot, max_snapshot}
+use Rattle.turn_record.specs.declared.version.Version.TheVariants.{V1}
 use Rattle.turn_store.specs.Areas.{Form, AreAreas, AreaHolds, Yields}
 use Rattle.turn_store.specs.Head.{Beats, NoneCounts}
 use Rattle.turn_store.specs.Images.{StandsForAt}
@@ -26,7 +27,7 @@ use Rattle.turn_types.specs.declared.limits.Bounds.{Bounds}
 
 module _ (b : Bounds) (range : AreInRange b) (h : History) (clock_is : ℕ) (snapshot : List ℕ) (payloads : List (List ℕ)) (s : Spells b h clock_is snapshot payloads) where
   -- what the payloads of a history make of the table of its snapshot
-  pub replayed : (first t : Snapshot) → SpellsSnapshot b first.moment first.contents snapshot → Replays b first payloads t → t ≡ at h clock_is
+  pub replayed : (first t : Snapshot) → SpellsSnapshot V1 b first.moment first.contents snapshot → Replays b first payloads t → t ≡ at h clock_is
   replayed first t spells replays =
       let parts = of_spelled b h clock_is snapshot payloads s in
       let start : first ≡ at s.before s.moment = spelled_once b range first (at s.before s.moment) snapshot spells (front_is b h clock_is snapshot payloads s) in
@@ -38,14 +39,14 @@ module _ (b : Bounds) (range : AreInRange b) (h : History) (clock_is : ℕ) (sna
   area_no : (start size generation : ℕ) (head rival : Head) (c : List ℕ) (place : ℕ) → AreaHolds start size generation snapshot payloads c → Counts head rival generation (length snapshot) → AreaIsBad b start size head c place → ⊥
   area_no start size generation head rival c place holds counts (inl (there, wrong)) =
       let short = front_short b h clock_is snapshot payloads s in
-      ⊎_elim (λ (other : head.version ≢ 1). other counts.version) (λ (long : max_snapshot b < head.snapshot). absurd (omega (arith, long, counts.size, short))) wrong
+      ⊎_elim (λ (other : head.version ≢ 1). other counts.version) (λ (long : max_snapshot V1 b < head.snapshot). absurd (omega (arith, long, counts.size, short))) wrong
   area_no start size generation head rival c place holds counts (inr (version, small, inl (there, bad))) =
       let same : bad.bytes ≡ snapshot = list_once (start + 14) bad.bytes snapshot c (bad.has.long ∙ counts.size) bad.has.stands (front_size start generation snapshot c holds.front).1 in
-      bad.none s.moment (table s.before s.moment) (subst (SpellsSnapshot b s.moment (table s.before s.moment)) (sym same) (front_is b h clock_is snapshot payloads s))
+      bad.none s.moment (table s.before s.moment) (subst (SpellsSnapshot V1 b s.moment (table s.before s.moment)) (sym same) (front_is b h clock_is snapshot payloads s))
   area_no start size generation head rival c place holds counts (inr (version, small, inr (first, good, breaks))) =
       let same : good.bytes ≡ snapshot = list_once (start + 14) good.bytes snapshot c (good.has.long ∙ counts.size) good.has.stands (front_size start generation snapshot c holds.front).1 in
       let parts = of_spelled b h clock_is snapshot payloads s in
-      let begin : first ≡ at s.before s.moment = spelled_once b range first (at s.before s.moment) snapshot (subst (SpellsSnapshot b first.moment first.contents) same good.spells) (front_is b h clock_is snapshot payloads s) in
+      let begin : first ≡ at s.before s.moment = spelled_once b range first (at s.before s.moment) snapshot (subst (SpellsSnapshot V1 b first.moment first.contents) same good.spells) (front_is b h clock_is snapshot payloads s) in
       let frames : HoldsFrames (start + 14 + head.snapshot) (map payload s.batches) (start + size) c =
       subst (λ (n : ℕ). HoldsFrames (start + 14 + n) (map payload s.batches) (start + size) c) (sym counts.size) (subst (λ (ps : List (List ℕ)). HoldsFrames (start + 14 + length snapshot) ps (start + size) c) s.are_payloads holds.frames) in
       let before = breaks.before in

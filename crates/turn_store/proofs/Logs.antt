@@ -9,6 +9,7 @@ use Rattle.turn_store.specs.Opened.{LogIsRead}
 use Rattle.turn_history.specs.History.{Event}
 use Rattle.turn_journal.specs.Scan.{IsBadFrame}
 use Rattle.turn_record.specs.Records.{SpellsPayload, max_payload}
+use Rattle.turn_record.specs.declared.version.Version.TheVariants.{V1}
 use Rattle.turn_store.specs.Refused.{BreaksAt, FaultWith}
 use Rattle.turn_store.specs.Replay.{Snapshot, GoOn, GoesOn, Replays, HasFrames, ReplaysTo}
 use Rattle.turn_store.specs.declared.fault.OpenFault.{OpenFault}
@@ -85,7 +86,7 @@ all_read b from s gate limit frames t content so_far closed below =
     }
 
 -- a frame that isn't one
-pub broken_frame : (b : Bounds) (from limit : ℕ) (s : Snapshot) (gate frames max : ℕ) (t : Snapshot) (content : List ℕ) → SoFar b from s gate frames t content → max ≡ max_payload b
+pub broken_frame : (b : Bounds) (from limit : ℕ) (s : Snapshot) (gate frames max : ℕ) (t : Snapshot) (content : List ℕ) → SoFar b from s gate frames t content → max ≡ max_payload V1 b
     → (place : ℕ) → (place ≡ gate) × IsBadFrame place limit max content → BreaksAt b from limit s content place
 broken_frame b from limit s gate frames max t content so_far max_is place is = record {
   reached = t;
@@ -95,7 +96,7 @@ broken_frame b from limit s gate frames max t content so_far max_is place is = r
 
 -- a payload that spells no batch that goes on
 pub broken_payload : (b : Bounds) (from limit : ℕ) (s : Snapshot) (gate frames : ℕ) (t : Snapshot) (p content : List ℕ) → SoFar b from s gate frames t content → IsFrame gate p content
-    → ((es : List Event) → SpellsPayload b es p → GoOn b t es → ⊥) → (place : ℕ) → place ≡ gate → BreaksAt b from limit s content place
+    → ((es : List Event) → SpellsPayload V1 b es p → GoOn b t es → ⊥) → (place : ℕ) → place ≡ gate → BreaksAt b from limit s content place
 broken_payload b from limit s gate frames t p content so_far frame bad place is = record {
   reached = t;
   before = subst (λ (g : ℕ). ReplaysTo b from s g t content) (sym is) so_far.to;

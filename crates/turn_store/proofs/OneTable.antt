@@ -8,6 +8,7 @@ use Rattle.turn_history.proofs.Histories.{same_table}
 use Rattle.turn_record.specs.Bytes.{payload}
 use Rattle.turn_record.specs.Records.{IsBatch}
 use Rattle.turn_record.proofs.Batches.{one_payload}
+use Rattle.turn_record.specs.declared.version.Version.TheVariants.{V1}
 use Rattle.turn_store.specs.Areas.{Form}
 use Rattle.turn_store.specs.Images.{StandsForAt}
 use Rattle.turn_store.specs.Replay.{Snapshot}
@@ -22,14 +23,14 @@ use Rattle.turn_store.proofs.Superblocks.{superblock_once}
 use Rattle.turn_types.specs.Limits.{AreInRange}
 use Rattle.turn_types.specs.declared.limits.Bounds.{Bounds}
 
-batches_once : (b : Bounds) → AreInRange b → (xs ys : List (List Event)) → AllByRecursion (IsBatch b) xs → AllByRecursion (IsBatch b) ys → map payload xs ≡ map payload ys → xs ≡ ys
+batches_once : (b : Bounds) → AreInRange b → (xs ys : List (List Event)) → AllByRecursion (IsBatch V1 b) xs → AllByRecursion (IsBatch V1 b) ys → map payload xs ≡ map payload ys → xs ≡ ys
 batches_once b range [] [] one two same = refl
 batches_once b range [] (y ∷ ys) one two same = cc
 batches_once b range (x ∷ xs) [] one two same = cc
 batches_once b range (x ∷ xs) (y ∷ ys) one two same =
     let heads : payload x ≡ payload y = ap (λ (l : List (List ℕ)). head_of l) same in
     let tails : map payload xs ≡ map payload ys = ap (λ (l : List (List ℕ)). tail_of l) same in
-    let here = (one_payload b range x y [] [] one.0 two.0 (ap (λ (l : List ℕ). l ++ []) heads)).0 in
+    let here = (one_payload b range V1 V1 x y [] [] one.0 two.0 (ap (λ (l : List ℕ). l ++ []) heads)).0 in
     ap (λ (e : List Event). e ∷ xs) here ∙ ap (λ (l : List (List Event)). y ∷ l) (batches_once b range xs ys one.1 two.1 tails)
   where
     head_of : List (List ℕ) → List ℕ

@@ -3,11 +3,12 @@ use Rattle.std.proofs.Common.{◌≡◌, ◌≤◌, ◌<◌, ◌^◌, ◌-◌, �
 use Rattle.std.specs.List.{AllByRecursion}
 use Rattle.turn_history.specs.Fitting.{IsFitting, FitsAfter}
 use Rattle.turn_history.specs.History.{Event, History, clock}
-use Rattle.turn_history.specs.Laws.{AllFrom}
+use Rattle.turn_history.specs.Laws.{AllFrom, HasNoTokens}
 use Rattle.turn_history.specs.Table.{table}
 use Rattle.turn_history.proofs.Histories.{clock-append, fitting-split, fits_in_range, fits_never_fall}
 use Rattle.turn_record.specs.Bytes.{payload, snapshot}
 use Rattle.turn_record.specs.Records.{IsBatch}
+use Rattle.turn_record.specs.declared.version.Version.TheVariants.{V1}
 use Rattle.turn_store.specs.Spells.{all_of, HasSize, Spells}
 use Rattle.turn_types.specs.declared.limits.Bounds.{Bounds}
 
@@ -19,8 +20,8 @@ pub from_both : (c d : ℕ) (es : List Event) → AllFrom c es → AllFrom d es 
 from_both c d [] one two = tt
 from_both c d (e ∷ es) one two = (let first = one.0 in let second = two.0 in omega arith, from_both c d es one.1 two.1)
 
-pub is_batch : (b : Bounds) (h : History) (es : List Event) → FitsAfter b h es → HasSize b es → IsBatch b es
-is_batch b h es fits size = record { some = size.some; few = size.few; in_range = fits_in_range b h es fits; later = fits_never_fall b h es fits }
+pub is_batch : (b : Bounds) (h : History) (es : List Event) → FitsAfter b h es → HasSize b es → IsBatch V1 b es
+is_batch b h es fits size = record { some = size.some; few = size.few; in_range = fits_in_range b h es fits; later = fits_never_fall b h es fits; writes = size.writes }
 
 -- events that fit after a history, cut in two
 pub fits_rest : (b : Bounds) (h x y : History) → FitsAfter b h (x ++ y) → FitsAfter b h x × FitsAfter b (h ++ x) y
@@ -29,7 +30,7 @@ fits_rest b h (e ∷ x) y fits =
     let rest = fits_rest b (h ++ e ∷ []) x y fits.1 in
     ((fits.0, rest.0), subst (λ (l : History). FitsAfter b l y) (append_assoc h (e ∷ []) x) rest.1)
 
-pub are_batches : (b : Bounds) (h : History) (batches : List (List Event)) → FitsAfter b h (all_of batches) → AllByRecursion (HasSize b) batches → AllByRecursion (IsBatch b) batches
+pub are_batches : (b : Bounds) (h : History) (batches : List (List Event)) → FitsAfter b h (all_of batches) → AllByRecursion (HasSize b) batches → AllByRecursion (IsBatch V1 b) batches
 are_batches b h [] fits sized = tt
 are_batches b h (es ∷ more) fits sized =
     let parts = fits_rest b h es (all_of more) fits in
@@ -46,8 +47,8 @@ clock_late b h c bytes payloads s =
     let joined = ap clock s.whole ∙ clock-append s.before (all_of s.batches) in
     omega arith
 
-pub snapshots_go_on : (b : Bounds) (h : History) (m : ℕ) → IsFitting b h → clock h ≤ m → m < 2 ^ 40 - 3600 → Spells b h m (snapshot m (table h m)) []
-snapshots_go_on b h m fits le range = record {
+pub snapshots_go_on : (b : Bounds) (h : History) (m : ℕ) → IsFitting b h → clock h ≤ m → m < 2 ^ 40 - 3600 → HasNoTokens (table h m) → Spells b h m (snapshot V1 m (table h m)) []
+snapshots_go_on b h m fits le range none = record {
   fitting = fits;
   before = h;
   batches = [];
@@ -55,6 +56,7 @@ snapshots_go_on b h m fits le range = record {
   moment = m;
   in_range = range;
   late = le;
+  holds = none;
   from = tt;
   sizes = tt;
   is_snapshot = refl;
@@ -95,6 +97,7 @@ frames_go_on b h c bytes payloads es m s fits from size cm hm =
         moment = s.moment;
         in_range = s.in_range;
         late = s.late;
+        holds = s.holds;
         from = subst (AllFrom s.moment) (sym joined) (all-append (λ e. s.moment ≤ e.moment) (all_of s.batches) es s.from (from_less s.moment c es (omega arith) from));
         sizes = all-append (HasSize b) s.batches (es ∷ []) s.sizes (size, tt);
         is_snapshot = s.is_snapshot;

@@ -4,11 +4,12 @@ use Rattle.turn_disk.specs.Disk.{State, StandsAt, IsSettled}
 use Rattle.turn_history.specs.Table.{no_contents}
 use Rattle.turn_journal.specs.Frames.{IsClosed}
 use Rattle.turn_record.specs.Bytes.{snapshot}
+use Rattle.turn_record.specs.declared.version.Version.TheVariants.{V1}
 use Rattle.turn_store.specs.Areas.{Form, HoldsAt, area_front}
 
 -- the snapshot of a table without entries at the moment 0
 abbrev pub fresh : List ℕ
-fresh = snapshot 0 no_contents
+fresh = snapshot V1 0 no_contents
 
 -- Nothing is pending, both gates are closed, and the first area has generation 1, the fresh snapshot and no frame.
 pub record IsLaid (size : ℕ) (state : State) : Type 0 where

@@ -3,6 +3,7 @@ use Rattle.std.specs.Prelude.{◌≡◌, ◌+◌, ◌↔◌, ℕ, List, Bool, le
 use Rattle.turn_disk.specs.Disk.{State}
 use Rattle.turn_journal.specs.Frames.{HoldsFramesTo, last_gate}
 use Rattle.turn_record.specs.Records.{SpellsSnapshot}
+use Rattle.turn_record.specs.declared.version.Version.TheVariants.{V1}
 use Rattle.turn_history.specs.History.{History}
 use Rattle.turn_history.specs.Table.{table}
 use Rattle.turn_store.specs.Areas.{Form, AreaHolds, AreAreas, IsBelow, Yields}
@@ -25,7 +26,7 @@ pub record AreaIsRead (b : Bounds) (start size : ℕ) (head : Head) (end frames 
   pub first : Snapshot
   pub payloads : List (List ℕ)
   pub holds : head.is_open ≡ true → IsHead start head content → AreaHolds start size head.generation snapshot payloads content
-  pub spells : SpellsSnapshot b first.moment first.contents snapshot
+  pub spells : SpellsSnapshot V1 b first.moment first.contents snapshot
   pub ends : last_gate (start + 14 + length snapshot) payloads ≡ start + end
   pub replays : Replays b first payloads t
   pub count : frames ≡ length payloads
@@ -40,7 +41,7 @@ pub record IsChosen (b : Bounds) (size start other generation end frames : ℕ) 
   pub ends : last_gate (start + 14 + length snapshot) payloads ≡ start + end
   pub below : (is_below ≡ true) ↔ IsBelow other generation content
   pub yields : Yields other generation content
-  pub spells : SpellsSnapshot b first.moment first.contents snapshot
+  pub spells : SpellsSnapshot V1 b first.moment first.contents snapshot
   pub replays : Replays b first payloads t
   pub count : frames ≡ length payloads
 
@@ -51,7 +52,7 @@ pub record IsOpened {D : Type 0} (store : StoreState D) (state : State) (t : Sna
   pub first : Snapshot
   pub payloads : List (List ℕ)
   pub shows : Shows store state snapshot payloads
-  pub spells : SpellsSnapshot store.bounds first.moment first.contents snapshot
+  pub spells : SpellsSnapshot V1 store.bounds first.moment first.contents snapshot
   pub replays : Replays store.bounds first payloads t
 
 -- The store was opened to a history at a clock: it rests on it, and the table that was returned is the history's.

@@ -6,6 +6,7 @@ use Rattle.turn_history.specs.Table.{Contents}
 use Rattle.turn_journal.specs.Frames.{IsFrame}
 use Rattle.turn_journal.specs.Scan.{IsBadFrame}
 use Rattle.turn_record.specs.Records.{SpellsPayload, SpellsSnapshot, max_payload, max_snapshot}
+use Rattle.turn_record.specs.declared.version.Version.TheVariants.{V1}
 use Rattle.turn_store.specs.Head.{IsHead, Beats, NoneCounts}
 use Rattle.turn_store.specs.Replay.{Snapshot, GoOn, GoesOn, ReplaysTo}
 use Rattle.turn_store.specs.Superblock.{HasSuperblock, least_area}
@@ -36,8 +37,8 @@ pub record HasBytes (at count : ℕ) (bytes content : List ℕ) : Type 0 where
 -- at this gate there is no frame that an area may have, or one whose payload spells no batch that goes on
 abbrev pub IsBadAt : Bounds → ℕ → ℕ → Snapshot → List ℕ → Type 0
 IsBadAt b gate limit s content =
-    IsBadFrame gate limit (max_payload b) content
-    ⊎ ((payload : List ℕ) × IsFrame gate payload content × ((es : List Event) → SpellsPayload b es payload → GoOn b s es → ⊥))
+    IsBadFrame gate limit (max_payload V1 b) content
+    ⊎ ((payload : List ℕ) × IsFrame gate payload content × ((es : List Event) → SpellsPayload V1 b es payload → GoOn b s es → ⊥))
 
 -- these bytes are a payload that spells a batch that goes on
 pub record ReadsOn (b : Bounds) (s : Snapshot) (at count : ℕ) (t : Snapshot) (content : List ℕ) : Type 0 where
@@ -49,7 +50,7 @@ pub record ReadsOn (b : Bounds) (s : Snapshot) (at count : ℕ) (t : Snapshot) (
 pub record ReadsBad (b : Bounds) (s : Snapshot) (at count : ℕ) (content : List ℕ) : Type 0 where
   pub bytes : List ℕ
   pub has : HasBytes at count bytes content
-  pub none : (es : List Event) → SpellsPayload b es bytes → GoOn b s es → ⊥
+  pub none : (es : List Event) → SpellsPayload V1 b es bytes → GoOn b s es → ⊥
 
 -- after good frames there is a bad one, at this gate
 pub record BreaksAt (b : Bounds) (from limit : ℕ) (s : Snapshot) (content : List ℕ) (gate : ℕ) : Type 0 where
@@ -59,19 +60,19 @@ pub record BreaksAt (b : Bounds) (from limit : ℕ) (s : Snapshot) (content : Li
 
 -- another version, or too long a snapshot
 abbrev pub IsBadHead : Bounds → Head → Type 0
-IsBadHead b head = (head.version ≢ 1) ⊎ (max_snapshot b < head.snapshot)
+IsBadHead b head = (head.version ≢ 1) ⊎ (max_snapshot V1 b < head.snapshot)
 
 -- these bytes spell a table at a moment
 pub record IsGoodSnapshot (b : Bounds) (at count : ℕ) (s : Snapshot) (content : List ℕ) : Type 0 where
   pub bytes : List ℕ
   pub has : HasBytes at count bytes content
-  pub spells : SpellsSnapshot b s.moment s.contents bytes
+  pub spells : SpellsSnapshot V1 b s.moment s.contents bytes
 
 -- these bytes spell no table
 pub record IsBadSnapshot (b : Bounds) (at count : ℕ) (content : List ℕ) : Type 0 where
   pub bytes : List ℕ
   pub has : HasBytes at count bytes content
-  pub none : (t : ℕ) (c : Contents) → SpellsSnapshot b t c bytes → ⊥
+  pub none : (t : ℕ) (c : Contents) → SpellsSnapshot V1 b t c bytes → ⊥
 
 -- a bad frame after a good snapshot
 abbrev pub IsBadLog : Bounds → ℕ → ℕ → Head → List ℕ → ℕ → Type 0
@@ -83,7 +84,7 @@ IsBadLog b start size head content place =
 abbrev pub AreaIsBad : Bounds → ℕ → ℕ → Head → List ℕ → ℕ → Type 0
 AreaIsBad b start size head content place =
     ((place ≡ start) × IsBadHead b head)
-    ⊎ ((head.version ≡ 1) × (head.snapshot ≤ max_snapshot b)
+    ⊎ ((head.version ≡ 1) × (head.snapshot ≤ max_snapshot V1 b)
     × (((place ≡ start + 14) × IsBadSnapshot b (start + 14) head.snapshot content) ⊎ IsBadLog b start size head content place))
 
 -- ---- A store

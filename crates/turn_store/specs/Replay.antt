@@ -5,6 +5,7 @@ use Rattle.turn_history.specs.History.{Event}
 use Rattle.turn_history.specs.Table.{Contents, applied, purged}
 use Rattle.turn_journal.specs.Frames.{IsFrame, gate_after, last_gate}
 use Rattle.turn_record.specs.Records.{SpellsPayload}
+use Rattle.turn_record.specs.declared.version.Version.TheVariants.{V1}
 use Rattle.turn_types.specs.declared.limits.Bounds.{Bounds}
 
 -- a table at a moment
@@ -32,7 +33,7 @@ after_all s (e ∷ es) = after_all (after s e) es
 -- the payload spells a batch that goes on from the first snapshot to the second one
 pub record GoesOn (b : Bounds) (s : Snapshot) (payload : List ℕ) (t : Snapshot) : Type 0 where
   pub events : List Event
-  pub spells : SpellsPayload b events payload
+  pub spells : SpellsPayload V1 b events payload
   pub goes : GoOn b s events
   pub ends : t ≡ after_all s events
 

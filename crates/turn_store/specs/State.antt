@@ -7,6 +7,7 @@ use Rattle.turn_history.specs.Laws.{AllFrom}
 use Rattle.turn_journal.specs.declared.area.Area.{Area}
 use Rattle.turn_store.specs.Areas.{Form, RestsOn}
 use Rattle.turn_record.specs.Records.{max_payload}
+use Rattle.turn_record.specs.declared.version.Version.TheVariants.{V1}
 use Rattle.turn_store.specs.Spells.{Spells}
 use Rattle.turn_store.specs.Superblock.{least_area}
 use Rattle.turn_types.specs.declared.limits.Bounds.{Bounds}
@@ -55,7 +56,7 @@ pub record IsSound (capacity : ℕ) (b : Bounds) (area : Area) (other frames : �
   pub addressable : capacity < 2 ^ 64
   pub room : least_area b ≤ area.size
   pub small : least_area b < 2 ^ 32
-  pub payload : area.max_payload ≡ max_payload b
+  pub payload : area.max_payload ≡ max_payload V1 b
   pub start_within : area.start ≤ 64 + area.size
   pub other_within : other ≤ 64 + area.size
   pub frames_within : frames ≤ area.end

@@ -3,6 +3,7 @@ use Rattle.std.specs.Prelude.{◌∷◌, ◌++◌, ◌≤◌, ◌<◌, ◌^◌, 
 use Rattle.std.specs.Int.{to_be_bytes, w16, w32, w64}
 use Rattle.turn_disk.specs.Disk.{StandsAt}
 use Rattle.turn_record.specs.Records.{max_snapshot, max_payload}
+use Rattle.turn_record.specs.declared.version.Version.TheVariants.{V1}
 use Rattle.turn_types.specs.Limits.{AreInRange}
 use Rattle.turn_types.specs.declared.limits.Bounds.{Bounds}
 
@@ -29,4 +30,4 @@ pub record HasSuperblock (area : ℕ) (b : Bounds) (content : List ℕ) : Type 0
 
 -- the min size of an area: 14 bytes before the snapshot, the longest snapshot, a frame of 5 bytes and the longest payload, and the gate after it
 abbrev pub least_area : Bounds → ℕ
-least_area b = 20 + max_snapshot b + max_payload b
+least_area b = 20 + max_snapshot V1 b + max_payload V1 b

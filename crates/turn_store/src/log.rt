@@ -5,6 +5,7 @@ ghost use Rattle.turn_disk.specs.Counts.{Rises};
 ghost use Rattle.turn_journal.specs.Area.{end_of, limit_of};
 ghost use Rattle.turn_journal.specs.Scan.{IsAdmitted, IsFound, IsBadFrame};
 ghost use Rattle.turn_record.specs.Records.{IsSnapshot, max_payload};
+ghost use Rattle.turn_record.specs.declared.version.Version.TheVariants.{V1};
 ghost use Rattle.turn_store.specs.Opened.{LogIsRead};
 ghost use Rattle.turn_store.specs.Refused.{BreaksAt, FaultWith};
 ghost use Rattle.turn_store.specs.Tables.{snapshot_of};
@@ -69,8 +70,8 @@ pub fn replay_log<D: Disk, A: Allocator + Copy>(
     table: &mut Table<A>,
 ) -> Result<(usize, usize), OpenFault>
     requires place { journal.now.start + journal.now.size ≤ D.capacity disk.old }
-    requires payload { journal.now.max_payload ≡ max_payload limits }
-    requires buffer { length payload.old ≡ max_payload limits }
+    requires payload { journal.now.max_payload ≡ max_payload V1 limits }
+    requires buffer { length payload.old ≡ max_payload V1 limits }
     requires bounds { table.old.bounds ≡ limits }
     ensures size { D.capacity disk.new ≡ D.capacity disk.old }
     ensures honest { D.is_honest disk.new ↔ D.is_honest disk.old }
@@ -79,8 +80,8 @@ pub fn replay_log<D: Disk, A: Allocator + Copy>(
     ensures count { OnOk result (D.failed disk.new ≡ D.failed disk.old) }
     ensures count_not { IfErr result (λ fault. fault ≢ OpenFault.Device → D.failed disk.new ≡ D.failed disk.old) }
     ensures bounds { table.new.bounds ≡ table.old.bounds }
-    ensures snapshot { IsSnapshot limits table.old.moment table.old.contents
-        → OnOk result (IsSnapshot limits table.new.moment table.new.contents) }
+    ensures snapshot { IsSnapshot V1 limits table.old.moment table.old.contents
+        → OnOk result (IsSnapshot V1 limits table.new.moment table.new.contents) }
     ensures within { IfOk result (λ r. r.0 < journal.now.size) }
     ensures few { IfOk result (λ r. r.1 ≤ r.0) }
     ensures log { D.is_honest disk.old → IfOk result (λ r.

@@ -4,6 +4,7 @@ ghost use Rattle.std.specs.Prelude.{◌≡◌, ◌≢◌, ◌+◌, ◌*◌, ◌�
 ghost use Rattle.turn_disk.specs.Counts.{Rises};
 ghost use Rattle.turn_disk.specs.Disk.{EachImageSince, IsImage, IsSettled};
 ghost use Rattle.turn_record.specs.Records.{IsSnapshot, max_payload, max_snapshot};
+ghost use Rattle.turn_record.specs.declared.version.Version.TheVariants.{V1};
 ghost use Rattle.turn_history.specs.History.{History};
 ghost use Rattle.turn_store.specs.Areas.{Form};
 ghost use Rattle.turn_store.specs.Images.{StandsForAt};
@@ -20,7 +21,7 @@ use crate::superblock::{LimitsRefused, least_area, read_superblock};
 use std::alloc::{Allocator, Global};
 use turn_disk::Disk;
 use turn_journal::{Area, Journal};
-use turn_record::{max_payload, max_snapshot};
+use turn_record::{Version, max_payload, max_snapshot};
 use turn_table::Table;
 use turn_types::Limits;
 
@@ -52,9 +53,9 @@ fn load_area<D: Disk, A: Allocator + Copy>(
     ensures device { IfErr result (λ fault. fault ≡ OpenFault.Device → Rises (D.failed disk.old) (D.failed disk.new)) }
     ensures count { OnOk result (D.failed disk.new ≡ D.failed disk.old) }
     ensures count_not { IfErr result (λ fault. fault ≢ OpenFault.Device → D.failed disk.new ≡ D.failed disk.old) }
-    ensures area { IfOk result (λ l. (l.journal.start ≡ start) × (l.journal.size ≡ size) × (l.journal.max_payload ≡ max_payload limits)) }
+    ensures area { IfOk result (λ l. (l.journal.start ≡ start) × (l.journal.size ≡ size) × (l.journal.max_payload ≡ max_payload V1 limits)) }
     ensures bounds { IfOk result (λ l. l.table.bounds ≡ limits) }
-    ensures snapshot { IfOk result (λ l. IsSnapshot limits l.table.moment l.table.contents) }
+    ensures snapshot { IfOk result (λ l. IsSnapshot V1 limits l.table.moment l.table.contents) }
     ensures few { IfOk result (λ l. l.frames ≤ l.journal.end) }
     ensures read { D.is_honest disk.old → IfOk result (λ l.
         AreaIsRead limits start size head l.journal.end l.frames (snapshot_of l.table) (D.trace disk.old).now.bytes) }
@@ -65,7 +66,7 @@ fn load_area<D: Disk, A: Allocator + Copy>(
     if head.version != 1 {
         return Err(OpenFault::Damaged(start));
     }
-    if count > max_snapshot(limits) {
+    if count > max_snapshot(Version::V1, limits) {
         return Err(OpenFault::Damaged(start));
     }
     let mut table = match read_snapshot(alloc, disk, limits, start + 14, count) {
@@ -75,11 +76,11 @@ fn load_area<D: Disk, A: Allocator + Copy>(
     let area = Area {
         start,
         size,
-        max_payload: max_payload(limits),
+        max_payload: max_payload(Version::V1, limits),
         end: 14 + count,
     };
     let mut journal = Journal::new(alloc, area)?;
-    let mut payload = Vec::from_elem(alloc, 0, max_payload(limits))?;
+    let mut payload = Vec::from_elem(alloc, 0, max_payload(Version::V1, limits))?;
     match replay_log(alloc, disk, limits, &journal, &mut payload, &mut table) {
         Ok((end, frames)) => {
             journal.move_to(start, end);
@@ -118,10 +119,10 @@ fn choose<D: Disk, A: Allocator + Copy>(
     ensures device { IfErr result (λ fault. fault ≡ OpenFault.Device → Rises (D.failed disk.old) (D.failed disk.new)) }
     ensures count { OnOk result (D.failed disk.new ≡ D.failed disk.old) }
     ensures count_not { IfErr result (λ fault. fault ≢ OpenFault.Device → D.failed disk.new ≡ D.failed disk.old) }
-    ensures area { IfOk result (λ r. (r.loaded.journal.size ≡ size) × (r.loaded.journal.max_payload ≡ max_payload limits)) }
+    ensures area { IfOk result (λ r. (r.loaded.journal.size ≡ size) × (r.loaded.journal.max_payload ≡ max_payload V1 limits)) }
     ensures places { IfOk result (λ r. (r.loaded.journal.start ≤ 64 + size) × (r.other ≤ 64 + size)) }
     ensures bounds { IfOk result (λ r. r.loaded.table.bounds ≡ limits) }
-    ensures snapshot { IfOk result (λ r. IsSnapshot limits r.loaded.table.moment r.loaded.table.contents) }
+    ensures snapshot { IfOk result (λ r. IsSnapshot V1 limits r.loaded.table.moment r.loaded.table.contents) }
     ensures few { IfOk result (λ r. r.loaded.frames ≤ r.loaded.journal.end) }
     ensures chosen { D.is_honest disk.old → IfOk result (λ r.
         IsChosen limits size r.loaded.journal.start r.other r.generation r.loaded.journal.end r.loaded.frames r.other_is_below
@@ -221,11 +222,11 @@ pub fn load<D: Disk, A: Allocator + Copy>(
         → IfErr result (λ fault. fault ≢ OpenFault.Device → IsSettled (D.trace disk.new).now) }
     ensures place { IfOk result (λ r. 64 + 2 * r.loaded.journal.size ≡ D.capacity disk.new) }
     ensures addressable { OnOk result (D.capacity disk.new < 2 ^ 64) }
-    ensures area { IfOk result (λ r. (least_area limits ≤ r.loaded.journal.size) × (r.loaded.journal.max_payload ≡ max_payload limits)) }
+    ensures area { IfOk result (λ r. (least_area limits ≤ r.loaded.journal.size) × (r.loaded.journal.max_payload ≡ max_payload V1 limits)) }
     ensures small { OnOk result (least_area limits < 2 ^ 32) }
     ensures places { IfOk result (λ r. (r.loaded.journal.start ≤ 64 + r.loaded.journal.size) × (r.other ≤ 64 + r.loaded.journal.size)) }
     ensures bounds { IfOk result (λ r. r.loaded.table.bounds ≡ limits) }
-    ensures snapshot { IfOk result (λ r. IsSnapshot limits r.loaded.table.moment r.loaded.table.contents) }
+    ensures snapshot { IfOk result (λ r. IsSnapshot V1 limits r.loaded.table.moment r.loaded.table.contents) }
     ensures few { IfOk result (λ r. r.loaded.frames ≤ r.loaded.journal.end) }
     ensures superblock { D.is_honest disk.old
         → IfOk result (λ r. HasSuperblock r.loaded.journal.size limits (D.trace disk.old).now.bytes) }

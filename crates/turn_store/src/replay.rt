@@ -8,6 +8,7 @@ ghost use Rattle.turn_history.specs.History as histories;
 ghost use Rattle.turn_history.specs.Table.{purged};
 ghost use Rattle.turn_record.specs.Records.{IsSnapshot, SpellsPayload};
 ghost use Rattle.turn_record.specs.Views.{events_of};
+ghost use Rattle.turn_record.specs.declared.version.Version.TheVariants.{V1};
 ghost use Rattle.turn_store.specs.Refused.{ReadsBad, ReadsOn};
 ghost use Rattle.turn_store.specs.Replay.{IsNext, GoOn, GoesOn, after, after_all};
 ghost use Rattle.turn_store.specs.Tables.{snapshot_of};
@@ -16,7 +17,7 @@ ghost use Rattle.turn_store.specs.declared.replay.FrameFault.TheVariants.{Device
 use std::alloc::{AllocError, Allocator};
 use turn_disk::{DeviceFailed, Disk, read_pieces};
 use turn_history::Event;
-use turn_record::{ReadError, read_payload};
+use turn_record::{ReadError, Version, read_payload};
 use turn_table::Table;
 use turn_types::{Limits, Moment};
 
@@ -103,12 +104,12 @@ fn read_events<A: Allocator + Copy>(
     payload: &[u8],
 ) -> Result<Vec<Event<A>, A>, FrameFault>
     ensures no_device { IfErr result (λ fault. fault ≢ FrameFault.Device) }
-    ensures spelled { IfOk result (λ v. SpellsPayload limits (events_of v.items) payload.now) }
-    ensures once { IfOk result (λ v. (es : List histories.Event) → SpellsPayload limits es payload.now → es ≡ events_of v.items) }
+    ensures spelled { IfOk result (λ v. SpellsPayload V1 limits (events_of v.items) payload.now) }
+    ensures once { IfOk result (λ v. (es : List histories.Event) → SpellsPayload V1 limits es payload.now → es ≡ events_of v.items) }
     ensures bad { IfErr result (λ fault. fault ≡ FrameFault.Bad
-        → (es : List histories.Event) → SpellsPayload limits es payload.now → ⊥) }
+        → (es : List histories.Event) → SpellsPayload V1 limits es payload.now → ⊥) }
 {
-    match read_payload(alloc, limits, payload) {
+    match read_payload(alloc, Version::V1, limits, payload) {
         Ok(events) => Ok(events),
         Err(ReadError::Memory) => Err(FrameFault::Memory),
         Err(ReadError::Malformed(_)) => Err(FrameFault::Bad),
@@ -127,7 +128,7 @@ fn apply_payload<A: Allocator + Copy>(
     ensures no_device { IfErr result (λ fault. fault ≢ FrameFault.Device) }
     ensures goes { OnOk result (GoesOn limits (snapshot_of table.old) payload.now (snapshot_of table.new)) }
     ensures bad { IfErr result (λ fault. fault ≡ FrameFault.Bad
-        → (es : List histories.Event) → SpellsPayload limits es payload.now → GoOn limits (snapshot_of table.old) es → ⊥) }
+        → (es : List histories.Event) → SpellsPayload V1 limits es payload.now → GoOn limits (snapshot_of table.old) es → ⊥) }
 {
     let events = match read_events(alloc, limits, payload) {
         Ok(events) => events,
@@ -164,7 +165,7 @@ fn replay_payload<D: Disk, A: Allocator + Copy>(
     ensures stands_ok { D.is_honest disk.old → OnOk result (StandsAt at buffer.new (D.trace disk.old).now.bytes) }
     ensures goes { OnOk result (GoesOn limits (snapshot_of table.old) buffer.new (snapshot_of table.new)) }
     ensures bad { IfErr result (λ fault. fault ≡ FrameFault.Bad
-        → (es : List histories.Event) → SpellsPayload limits es buffer.new → GoOn limits (snapshot_of table.old) es → ⊥) }
+        → (es : List histories.Event) → SpellsPayload V1 limits es buffer.new → GoOn limits (snapshot_of table.old) es → ⊥) }
 {
     read_pieces(disk, at, buffer)?;
     match apply_payload(alloc, limits, table, buffer) {
@@ -195,8 +196,8 @@ pub fn replay_frame<D: Disk, A: Allocator + Copy>(
     ensures count_not { IfErr result (λ fault. fault ≢ FrameFault.Device → D.failed disk.new ≡ D.failed disk.old) }
     ensures len { length buffer.new ≡ length buffer.old }
     ensures bounds { table.new.bounds ≡ table.old.bounds }
-    ensures snapshot { IsSnapshot limits table.old.moment table.old.contents
-        → OnOk result (IsSnapshot limits table.new.moment table.new.contents) }
+    ensures snapshot { IsSnapshot V1 limits table.old.moment table.old.contents
+        → OnOk result (IsSnapshot V1 limits table.new.moment table.new.contents) }
     ensures goes { D.is_honest disk.old → OnOk result
         (ReadsOn limits (snapshot_of table.old) at count (snapshot_of table.new) (D.trace disk.old).now.bytes) }
     ensures bad { D.is_honest disk.old → IfErr result (λ fault. fault ≡ FrameFault.Bad

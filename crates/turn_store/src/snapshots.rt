@@ -4,6 +4,7 @@ ghost use Rattle.std.specs.Prelude.{◌≡◌, ◌≢◌, ◌+◌, ◌++◌, ◌
 ghost use Rattle.turn_disk.specs.Counts.{CountOutcome, Rises};
 ghost use Rattle.turn_record.specs.Pieces.{WasFed};
 ghost use Rattle.turn_record.specs.Records.{IsSnapshot};
+ghost use Rattle.turn_record.specs.declared.version.Version.TheVariants.{V1};
 ghost use Rattle.turn_store.specs.Refused.{FaultWith, IsBadSnapshot, IsGoodSnapshot};
 ghost use Rattle.turn_store.specs.Bytes.{AreBytes};
 ghost use Rattle.turn_store.specs.Tables.{snapshot_of};
@@ -12,7 +13,7 @@ ghost use Rattle.turn_types.specs.declared.limits.Bounds.{Bounds};
 use crate::fault::OpenFault;
 use std::alloc::Allocator;
 use turn_disk::{DeviceFailed, Disk, PIECE};
-use turn_record::{ReadError, SnapshotReader};
+use turn_record::{ReadError, SnapshotReader, Version};
 use turn_table::Table;
 use turn_types::Limits;
 
@@ -40,7 +41,7 @@ fn read_front<D: Disk>(
 // Feeds a piece to a reader.
 fn feed<A: Allocator + Copy>(reader: &mut SnapshotReader<A>, piece: &[u8])
     ensures bytes { AreBytes piece.now }
-    ensures fed { (b : Bounds) (fed : List ℕ) → WasFed b reader.old fed → WasFed b reader.new (fed ++ piece.now) }
+    ensures fed { (b : Bounds) (fed : List ℕ) → WasFed V1 b reader.old fed → WasFed V1 b reader.new (fed ++ piece.now) }
 {
     let _ = reader.feed(piece);
 }
@@ -60,9 +61,9 @@ fn feed_piece<D: Disk, A: Allocator + Copy>(
     ensures same { D.is_honest disk.old → D.trace disk.new ≡ D.trace disk.old }
     ensures bytes { D.is_honest disk.old → OnOk result (AreBytes (take size (drop at (D.trace disk.old).now.bytes))) }
     ensures fed_some { OnOk result ((b : Bounds) (fed : List ℕ) → AreBytes fed
-        → WasFed b reader.old fed → (more : List ℕ) × AreBytes more × WasFed b reader.new more) }
+        → WasFed V1 b reader.old fed → (more : List ℕ) × AreBytes more × WasFed V1 b reader.new more) }
     ensures fed { D.is_honest disk.old → OnOk result ((b : Bounds) (fed : List ℕ)
-        → WasFed b reader.old fed → WasFed b reader.new (fed ++ take size (drop at (D.trace disk.old).now.bytes))) }
+        → WasFed V1 b reader.old fed → WasFed V1 b reader.new (fed ++ take size (drop at (D.trace disk.old).now.bytes))) }
 {
     let mut piece = [0u8; PIECE];
     read_front(disk, at, &mut piece, size)?;
@@ -87,14 +88,14 @@ pub fn read_snapshot<D: Disk, A: Allocator + Copy>(
     ensures count { OnOk result (D.failed disk.new ≡ D.failed disk.old) }
     ensures count_not { IfErr result (λ fault. fault ≢ OpenFault.Device → D.failed disk.new ≡ D.failed disk.old) }
     ensures bounds { IfOk result (λ table. table.bounds ≡ limits) }
-    ensures snapshot { IfOk result (λ table. IsSnapshot limits table.moment table.contents) }
+    ensures snapshot { IfOk result (λ table. IsSnapshot V1 limits table.moment table.contents) }
     ensures read { D.is_honest disk.old → IfOk result (λ table.
         IsGoodSnapshot limits at count (snapshot_of table) (D.trace disk.old).now.bytes) }
     ensures faults { D.is_honest disk.old → IfErr result (FaultWith (λ place. (place ≡ at)
         × IsBadSnapshot limits at count (D.trace disk.old).now.bytes)) }
 {
     let _bounds = limits.bounds();
-    let mut reader = SnapshotReader::new(alloc, limits);
+    let mut reader = SnapshotReader::new(alloc, Version::V1, limits);
     let mut done = 0;
     while done < count {
         let size = PIECE.min(count - done);

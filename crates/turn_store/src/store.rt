@@ -6,6 +6,7 @@ ghost use Rattle.turn_history.specs.History.{Event, History};
 ghost use Rattle.turn_history.specs.Table as tables;
 ghost use Rattle.turn_record.specs.Bytes as bytes;
 ghost use Rattle.turn_record.specs.Records.{IsSnapshot, max_payload};
+ghost use Rattle.turn_record.specs.declared.version.Version.TheVariants.{V1};
 ghost use Rattle.turn_disk.specs.Disk.{EachImageSince, IsImage, IsSettled};
 ghost use Rattle.turn_store.specs.Areas.{Form, Holds};
 ghost use Rattle.turn_store.specs.Images.{EitherBy, StandsBy, StandsForAt};
@@ -25,7 +26,7 @@ use std::alloc::{Allocator, Global};
 use std::marker::Model;
 use turn_disk::{Bytes, Chain, DeviceFailed, Disk};
 use turn_journal::{AppendRefused, Journal};
-use turn_record::{SnapshotWriter, snapshot_size};
+use turn_record::{SnapshotWriter, Version, snapshot_size};
 use turn_table::Table;
 use turn_types::Limits;
 
@@ -146,7 +147,7 @@ impl<D: Disk, A: Allocator + Copy> Store<D, A> {
     // Adds a frame, for which there is room.
     fn add_frame(&mut self, payload: &[u8]) -> Result<(), DeviceFailed>
         requires runs { self.old.stopped ≡ false }
-        requires short { length payload.now ≤ max_payload self.old.bounds }
+        requires short { length payload.now ≤ max_payload V1 self.old.bounds }
         requires room { self.old.area.end + 6 + length payload.now ≤ self.old.area.size }
 
         ensures honest { D.is_honest self.new.disk ↔ D.is_honest self.old.disk }
@@ -178,15 +179,15 @@ impl<D: Disk, A: Allocator + Copy> Store<D, A> {
     // The size of the table's snapshot, for which an area has room.
     fn next_size(&self, table: &Table<A>) -> usize
         requires limits { table.now.bounds ≡ self.now.bounds }
-        requires snapshot { IsSnapshot table.now.bounds table.now.moment table.now.contents }
-        ensures value { result ≡ length (bytes.snapshot table.now.moment table.now.contents) }
+        requires snapshot { IsSnapshot V1 table.now.bounds table.now.moment table.now.contents }
+        ensures value { result ≡ length (bytes.snapshot V1 table.now.moment table.now.contents) }
         ensures small { result < 2 ^ 32 }
         ensures room { 14 + result < self.now.area.size }
         ensures within { self.now.other + 15 + result ≤ D.capacity self.now.disk }
         ensures addressable { D.capacity self.now.disk < 2 ^ 64 }
     {
         let _area = self.journal.size();
-        snapshot_size(table)
+        snapshot_size(Version::V1, table)
     }
 
     // Writes a snapshot of the table into the other area, which then counts.
@@ -194,12 +195,12 @@ impl<D: Disk, A: Allocator + Copy> Store<D, A> {
         requires runs { self.old.stopped ≡ false }
         requires generation { self.old.generation < 2 ^ 64 - 1 }
         requires limits { table.now.bounds ≡ self.old.bounds }
-        requires snapshot { IsSnapshot table.now.bounds table.now.moment table.now.contents }
+        requires snapshot { IsSnapshot V1 table.now.bounds table.now.moment table.now.contents }
 
         ensures honest { D.is_honest self.new.disk ↔ D.is_honest self.old.disk }
         ensures count { CountOutcome (D.failed self.old.disk) (D.failed self.new.disk) result }
         ensures ok { OnOk result (self.new
-            ≡ swapped self.old (length (bytes.snapshot table.now.moment table.now.contents)) self.new.disk) }
+            ≡ swapped self.old (length (bytes.snapshot V1 table.now.moment table.now.contents)) self.new.disk) }
         ensures err { OnErr result (self.new ≡ record self.old { disk = self.new.disk; stopped = true }) }
 
         // Up to some moment a stop leaves what was there; from then on that, or the new snapshot alone.
@@ -207,12 +208,12 @@ impl<D: Disk, A: Allocator + Copy> Store<D, A> {
             → Shows self.old (D.trace self.old.disk).now s ps
             → InStages (D.trace self.old.disk) (D.trace self.new.disk) (Holds (form_of self.old) s ps)
             (λ image. Holds (form_of self.old) s ps image
-            ⊎ Holds (form_of self.old) (bytes.snapshot table.now.moment table.now.contents) [] image) }
+            ⊎ Holds (form_of self.old) (bytes.snapshot V1 table.now.moment table.now.contents) [] image) }
 
         ensures shown { D.is_honest self.old.disk → (s : List ℕ) (ps : List (List ℕ))
             → Shows self.old (D.trace self.old.disk).now s ps
             → OnOk result (Shows self.new (D.trace self.new.disk).now
-            (bytes.snapshot table.now.moment table.now.contents) []) }
+            (bytes.snapshot V1 table.now.moment table.now.contents) []) }
     {
         self.stopped = true;
         let size = self.next_size(table);
@@ -220,7 +221,7 @@ impl<D: Disk, A: Allocator + Copy> Store<D, A> {
         let mut front = Chain {
             first: Bytes::new(&head),
             second: Chain {
-                first: SnapshotWriter::new(table),
+                first: SnapshotWriter::new(Version::V1, table),
                 second: Bytes::new(&[CLOSED]),
             },
         };
@@ -238,14 +239,14 @@ impl<D: Disk, A: Allocator + Copy> Store<D, A> {
     /// Adds a batch of events: a frame with their payload if one fits after the last one, and else a snapshot of the
     /// table, which has the batch, in the other area. Returns whether it was a snapshot. It takes no memory.
     pub fn append(&mut self, payload: &[u8], table: &Table<A>) -> Result<bool, StoreFault>
-        requires short { length payload.now ≤ max_payload self.old.bounds }
+        requires short { length payload.now ≤ max_payload V1 self.old.bounds }
         requires limits { table.now.bounds ≡ self.old.bounds }
-        requires snapshot { IsSnapshot table.now.bounds table.now.moment table.now.contents }
+        requires snapshot { IsSnapshot V1 table.now.bounds table.now.moment table.now.contents }
 
         ensures honest { D.is_honest self.new.disk ↔ D.is_honest self.old.disk }
         ensures framed { result ≡ Ok false → self.new ≡ framed self.old (length payload.now) self.new.disk }
         ensures compacted { result ≡ Ok true → self.new
-            ≡ swapped self.old (length (bytes.snapshot table.now.moment table.now.contents)) self.new.disk }
+            ≡ swapped self.old (length (bytes.snapshot V1 table.now.moment table.now.contents)) self.new.disk }
         ensures compacts { IfOk result (λ did. IsTrue did
             ↔ (self.old.area.size < self.old.area.end + 6 + length payload.now)) }
 
@@ -277,7 +278,7 @@ impl<D: Disk, A: Allocator + Copy> Store<D, A> {
         // What the area that counts holds after Ok: one frame more, or the new snapshot alone.
         ensures shown { D.is_honest self.old.disk → (s : List ℕ) (ps : List (List ℕ))
             → Shows self.old (D.trace self.old.disk).now s ps → IfOk result (λ did. MatchBool did
-            (Shows self.new (D.trace self.new.disk).now (bytes.snapshot table.now.moment table.now.contents) [])
+            (Shows self.new (D.trace self.new.disk).now (bytes.snapshot V1 table.now.moment table.now.contents) [])
             (Shows self.new (D.trace self.new.disk).now s (ps ++ payload.now ∷ []))) }
     {
         let compacts = !self.journal.room(payload.len());
@@ -296,11 +297,11 @@ impl<D: Disk, A: Allocator + Copy> Store<D, A> {
     /// Writes a snapshot of the table into the other area, which then counts. It takes no memory.
     pub fn compact(&mut self, table: &Table<A>) -> Result<(), StoreFault>
         requires limits { table.now.bounds ≡ self.old.bounds }
-        requires snapshot { IsSnapshot table.now.bounds table.now.moment table.now.contents }
+        requires snapshot { IsSnapshot V1 table.now.bounds table.now.moment table.now.contents }
 
         ensures honest { D.is_honest self.new.disk ↔ D.is_honest self.old.disk }
         ensures compacted { OnOk result (self.new
-            ≡ swapped self.old (length (bytes.snapshot table.now.moment table.now.contents)) self.new.disk) }
+            ≡ swapped self.old (length (bytes.snapshot V1 table.now.moment table.now.contents)) self.new.disk) }
 
         // Device comes with one failed call. Worn and Stopped come without a device call.
         ensures count { OnOk result (D.failed self.new.disk ≡ D.failed self.old.disk) }
@@ -326,7 +327,7 @@ impl<D: Disk, A: Allocator + Copy> Store<D, A> {
         // What the area that counts holds after Ok: the new snapshot alone.
         ensures shown { D.is_honest self.old.disk → (s : List ℕ) (ps : List (List ℕ))
             → Shows self.old (D.trace self.old.disk).now s ps → OnOk result
-            (Shows self.new (D.trace self.new.disk).now (bytes.snapshot table.now.moment table.now.contents) []) }
+            (Shows self.new (D.trace self.new.disk).now (bytes.snapshot V1 table.now.moment table.now.contents) []) }
     {
         if let Some(fault) = self.refusal(true) {
             self.stopped = true;
@@ -362,7 +363,7 @@ impl<D: Disk, A: Allocator + Copy> Store<D, A> {
         ensures count_not { IfErr result (λ r. r.fault ≢ OpenFault.Device → D.failed r.disk ≡ D.failed disk) }
         ensures bounds { IfOk result (λ o. (o.store.bounds ≡ limits) × (o.table.bounds ≡ limits)) }
         ensures runs { IfOk result (λ o. o.store.stopped ≡ false) }
-        ensures snapshot { IfOk result (λ o. IsSnapshot limits o.table.moment o.table.contents) }
+        ensures snapshot { IfOk result (λ o. IsSnapshot V1 limits o.table.moment o.table.contents) }
 
         // The content stays, and a stop at any moment leaves what it might have left before.
         ensures same { D.is_honest disk

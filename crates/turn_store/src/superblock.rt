@@ -9,7 +9,7 @@ ghost use Rattle.turn_types.specs.declared.limits.Bounds.{Bounds};
 
 use thiserror::Error;
 use turn_disk::{DeviceFailed, Disk, read_array};
-use turn_record::{max_payload, max_snapshot};
+use turn_record::{Version, max_payload, max_snapshot};
 use turn_types::{Bounds, Limits};
 
 /// Why the limits of a store are not known.
@@ -44,7 +44,7 @@ pub fn least_area(limits: Limits) -> usize
     ensures value { result ≡ least_area limits }
     ensures small { result < 2 ^ 32 }
 {
-    20 + max_snapshot(limits) + max_payload(limits)
+    20 + max_snapshot(Version::V1, limits) + max_payload(Version::V1, limits)
 }
 
 /// The bytes of a superblock.

@@ -4,7 +4,7 @@ use super::snapshot_reads::{SIZES, read_cut};
 use std::alloc::Global;
 use std::process::Abort;
 use turn_history::Channel;
-use turn_record::{ReadError, read_snapshot};
+use turn_record::{ReadError, Version, read_snapshot};
 use turn_table::{Entry, Table};
 use turn_types::{Endpoint, Limits, TxId};
 
@@ -137,6 +137,11 @@ fn max_entries_are_read_wherever_they_are_cut(rt: HostRuntime) {
 fn the_max_snapshot_is_read(rt: HostRuntime) {
     let bytes = max_entries(&rt, rt.alloc(), 1024);
     assert!(rt; bytes.len() == 1_480_716);
-    assert!(rt; are_most(&read_snapshot(rt.alloc(), Limits::MAX, &bytes), 1024));
+    assert!(rt;
+        are_most(
+            &read_snapshot(rt.alloc(), Version::V1, Limits::MAX, &bytes),
+            1024
+        )
+    );
     assert!(rt; read_most(&rt, rt.alloc(), &bytes, 0, 4096, 1024));
 }

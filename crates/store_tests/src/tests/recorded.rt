@@ -12,7 +12,7 @@ use std::marker::Model;
 use std::os::unix::fs::FileExt;
 use std::process::Abort;
 use turn_disk::FileDisk;
-use turn_record::{max_payload, read_snapshot};
+use turn_record::{Version, max_payload, read_snapshot};
 use turn_store::{Opened, Store, least_area};
 use turn_types::{Bounds, Limits};
 
@@ -241,7 +241,7 @@ impl<'a> Stored<'a> {
     /// Writes the snapshot of a version's table.
     fn compact(&mut self, rt: &impl Abort, alloc: Global, version: u16) {
         let bytes = self.shape.snapshot(rt, alloc, version);
-        match read_snapshot(alloc, self.limits, &bytes) {
+        match read_snapshot(alloc, Version::V1, self.limits, &bytes) {
             Ok(table) => assert!(rt; self.store.compact(&table).is_ok()),
             Err(_) => panic!(rt; "a snapshot"),
         }
@@ -250,9 +250,9 @@ impl<'a> Stored<'a> {
     /// Adds the batch that makes a version.
     fn append(&mut self, rt: &impl Abort, alloc: Global, version: u16) {
         let payload = self.shape.batch(rt, alloc, version);
-        assert!(rt; payload.len() <= max_payload(self.limits));
+        assert!(rt; payload.len() <= max_payload(Version::V1, self.limits));
         let bytes = self.shape.snapshot(rt, alloc, version);
-        match read_snapshot(alloc, self.limits, &bytes) {
+        match read_snapshot(alloc, Version::V1, self.limits, &bytes) {
             Ok(table) => assert!(rt; self.store.append(&payload, &table) == Ok(false)),
             Err(_) => panic!(rt; "a snapshot"),
         }

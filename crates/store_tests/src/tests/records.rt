@@ -6,7 +6,9 @@ use refusing::Refusing;
 use std::alloc::{Allocator, Global};
 use std::process::Abort;
 use turn_history::{Act, Addresses, Event, UserName};
-use turn_record::{Malformed, ReadError, read_act, read_payload, write_act, write_payload};
+use turn_record::{
+    Malformed, ReadError, Version, read_act, read_payload, write_act, write_payload,
+};
 use turn_types::{Bounds, Endpoint, FiveTuple, Limits, Moment, TxId};
 
 /// The payload of alice's allocation at 1000: from 192.0.2.1:32853 to 192.0.2.100:3478, port 50000, 600 seconds.
@@ -98,7 +100,7 @@ fn the_first_fault_of_a_payload(rt: HostRuntime) {
     let limits = limits(&rt, 1, 1);
     for (place, part, fault) in &PAYLOAD_CHANGES {
         let bytes = changed(&rt, rt.alloc(), &PAYLOAD, *place, part);
-        assert!(rt; fault_of(read_payload(rt.alloc(), limits, &bytes)) == *fault);
+        assert!(rt; fault_of(read_payload(rt.alloc(), Version::V1, limits, &bytes)) == *fault);
     }
 }
 
@@ -128,7 +130,7 @@ fn the_first_fault_of_an_act(rt: HostRuntime) {
     let limits = limits(&rt, 2, 1);
     for (bytes, place, part, fault) in &ACT_CHANGES {
         let bytes = changed(&rt, rt.alloc(), bytes, *place, part);
-        assert!(rt; fault_of(read_act(rt.alloc(), limits, &bytes)) == *fault);
+        assert!(rt; fault_of(read_act(rt.alloc(), Version::V1, limits, &bytes)) == *fault);
     }
 }
 
@@ -147,7 +149,7 @@ fn moments_never_fall(rt: HostRuntime) {
     let limits = limits(&rt, 1, 2);
     for (moment, fault) in &LATER {
         let bytes = changed(&rt, rt.alloc(), &BATCH, 48, moment);
-        assert!(rt; fault_of(read_payload(rt.alloc(), limits, &bytes)) == *fault);
+        assert!(rt; fault_of(read_payload(rt.alloc(), Version::V1, limits, &bytes)) == *fault);
     }
 }
 
@@ -155,11 +157,11 @@ fn moments_never_fall(rt: HostRuntime) {
 fn every_prefix_is_short_and_a_byte_more_is_trailing(rt: HostRuntime) {
     let limits = limits(&rt, 1, 2);
     for size in 0..BATCH.len() {
-        let fault = fault_of(read_payload(rt.alloc(), limits, &BATCH[..size]));
+        let fault = fault_of(read_payload(rt.alloc(), Version::V1, limits, &BATCH[..size]));
         assert!(rt; fault == Some(Malformed::Short));
     }
     let longer = replaced(&rt, rt.alloc(), &BATCH, 91, 91, b"\0");
-    let fault = fault_of(read_payload(rt.alloc(), limits, &longer));
+    let fault = fault_of(read_payload(rt.alloc(), Version::V1, limits, &longer));
     assert!(rt; fault == Some(Malformed::TrailingBytes));
 }
 
@@ -169,9 +171,9 @@ fn again<A: Allocator + Copy>(
     limits: Limits,
     bytes: &[u8],
 ) -> Result<Vec<u8, A>, ReadError> {
-    let events = read_payload(alloc, limits, bytes)?;
+    let events = read_payload(alloc, Version::V1, limits, bytes)?;
     let mut out = Vec::new(alloc);
-    write_payload(&mut out, limits, &events)?;
+    write_payload(&mut out, Version::V1, limits, &events)?;
     Ok(out)
 }
 
@@ -190,9 +192,16 @@ fn payloads_are_read_and_written_again(rt: HostRuntime) {
 }
 
 fn act_again(alloc: Global, limits: Limits, bytes: &[u8]) -> Result<Vec<u8>, ReadError> {
-    let event = read_act(alloc, limits, bytes)?;
+    let event = read_act(alloc, Version::V1, limits, bytes)?;
     let mut out = Vec::new(alloc);
-    write_act(&mut out, limits, event.moment, event.tuple, &event.act)?;
+    write_act(
+        &mut out,
+        Version::V1,
+        limits,
+        event.moment,
+        event.tuple,
+        &event.act,
+    )?;
     Ok(out)
 }
 
@@ -229,7 +238,7 @@ fn is_alices_allocation(act: &Act) -> bool {
 
 #[test]
 fn an_act_has_the_values_that_the_bytes_spell(rt: HostRuntime) {
-    match read_act(rt.alloc(), limits(&rt, 1, 1), &PAYLOAD[1..]) {
+    match read_act(rt.alloc(), Version::V1, limits(&rt, 1, 1), &PAYLOAD[1..]) {
         Ok(event) => {
             assert!(rt; event.moment.seconds() == 1000);
             assert!(rt; event.tuple == FIVE_TUPLE);

@@ -7,7 +7,7 @@ use std::alloc::{Allocator, Global};
 use std::process::Abort;
 use turn_history::Channel;
 use turn_record::Malformed::{BadValue, OutOfOrder, Short, TrailingBytes};
-use turn_record::{Malformed, ReadError, SnapshotReader, read_snapshot};
+use turn_record::{Malformed, ReadError, SnapshotReader, Version, read_snapshot};
 use turn_table::{Entry, Table};
 use turn_types::{Bounds, Endpoint, FiveTuple, Limits, TxId};
 
@@ -536,7 +536,7 @@ pub fn read_cut<A: Allocator + Copy>(
     assert!(rt; cut <= bytes.len());
     assert!(rt; size > 0);
     let (first, rest) = bytes.split_at(cut);
-    let mut reader = SnapshotReader::new(alloc, limits);
+    let mut reader = SnapshotReader::new(alloc, Version::V1, limits);
     if let Err(error) = reader.feed(first) {
         return refused(rt, reader, error);
     }
@@ -552,7 +552,7 @@ pub const SIZES: [usize; 5] = [1, 2, 3, 7, 4096];
 
 /// Reads bytes whole, in pieces of each size, and cut in two at each place, each time with the same answer.
 fn play(rt: &impl Abort, alloc: Global, limits: Limits, bytes: &[u8], answer: Answer<'_>) {
-    assert!(rt; is(&read_snapshot(alloc, limits, bytes), answer));
+    assert!(rt; is(&read_snapshot(alloc, Version::V1, limits, bytes), answer));
     for size in &SIZES {
         assert!(rt; is(&read_cut(rt, alloc, limits, bytes, 0, *size), answer));
     }
@@ -645,7 +645,7 @@ fn is_refused<A: Allocator + Copy>(
 
 fn refuse_whole(rt: &impl Abort, alloc: Global, limits: Limits, served: u64) -> bool {
     let refusing = Refusing::new(alloc, served);
-    let outcome = read_snapshot(&refusing, limits, &SNAPSHOT);
+    let outcome = read_snapshot(&refusing, Version::V1, limits, &SNAPSHOT);
     is_refused(rt, &refusing, &outcome)
 }
 

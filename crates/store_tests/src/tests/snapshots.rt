@@ -4,7 +4,8 @@ ghost use Rattle.std.specs.Prelude.{◌≡◌, IfOk, OnOk};
 ghost use Rattle.store_tests.specs.Played.{IsPlayed};
 ghost use Rattle.turn_history.specs.Act.{act_of, event_of};
 ghost use Rattle.turn_history.specs.Fitting.{Fits, IsInRange};
-ghost use Rattle.turn_record.specs.Records.{IsSnapshot};
+ghost use Rattle.turn_record.specs.Records.{IsSnapshot, Writes};
+ghost use Rattle.turn_record.specs.declared.version.Version.TheVariants.{V1};
 
 use refusing::Refusing;
 use std::alloc::{Allocator, Global};
@@ -12,7 +13,8 @@ use std::test::Fail;
 use turn_disk::Producer;
 use turn_history::Event;
 use turn_record::{
-    SnapshotWriter, max_snapshot, read_act, snapshot_size, tables_have_snapshots, write_snapshot,
+    SnapshotWriter, Version, max_snapshot, read_act, snapshot_size, tables_have_snapshots,
+    write_snapshot,
 };
 use turn_table::Table;
 use turn_types::{Bounds, Limits, Moment};
@@ -60,9 +62,10 @@ fn begin<A: Allocator + Copy>(alloc: A, moment: Moment) -> Table<A>
     table
 }
 
-/// Does an event that fits at the table's moment.
+/// Does an event that reserves no port and fits at the table's moment.
 fn do_event<A: Allocator + Copy>(table: &mut Table<A>, event: Event<A>) -> Result<(), Fail>
     requires played { IsPlayed table.old }
+    requires writes { Writes V1 (act_of event.act) }
     requires range { IsInRange table.old.bounds (event_of event) }
     requires now { event.moment ≡ table.old.moment }
     requires fits { Fits table.old.bounds table.old.contents event.tuple (act_of event.act) }
@@ -78,7 +81,7 @@ fn play<A: Allocator + Copy>(alloc: A, table: &mut Table<A>, entry: &[u8]) -> Re
     requires { IsPlayed table.old }
     ensures { OnOk result (IsPlayed table.new) }
 {
-    let event = read_act(alloc, table.limits(), entry)?;
+    let event = read_act(alloc, Version::V1, table.limits(), entry)?;
     let fits = table.fits(event.tuple, &event.act);
     if event.moment != table.moment() || !fits {
         return Err(Fail::new("the act does not fit"));
@@ -89,14 +92,14 @@ fn play<A: Allocator + Copy>(alloc: A, table: &mut Table<A>, entry: &[u8]) -> Re
 /// Shows that a table has a snapshot.
 fn has_snapshot<A: Allocator + Copy>(table: &Table<A>)
     requires { IsPlayed table.now }
-    ensures { IsSnapshot table.now.bounds table.now.moment table.now.contents }
+    ensures { IsSnapshot V1 table.now.bounds table.now.moment table.now.contents }
 {
     tables_have_snapshots();
 }
 
 /// The table at 1000 after acts.
 fn played<A: Allocator + Copy>(alloc: A, acts: &[&[u8]]) -> Result<Table<A>, Fail>
-    ensures { IfOk result (λ t. IsSnapshot t.bounds t.moment t.contents) }
+    ensures { IfOk result (λ t. IsSnapshot V1 t.bounds t.moment t.contents) }
 {
     let moment = Moment::new(1000).ok_or("a moment")?;
     let mut table = begin(alloc, moment);
@@ -111,8 +114,8 @@ fn played<A: Allocator + Copy>(alloc: A, acts: &[&[u8]]) -> Result<Table<A>, Fai
 fn written<A: Allocator + Copy>(alloc: A, acts: &[&[u8]]) -> Result<Vec<u8, A>, Fail> {
     let table = played(alloc, acts)?;
     let mut out = Vec::new(alloc);
-    write_snapshot(&mut out, &table)?;
-    if out.len() == snapshot_size(&table) {
+    write_snapshot(&mut out, Version::V1, &table)?;
+    if out.len() == snapshot_size(Version::V1, &table) {
         Ok(out)
     } else {
         Err(Fail::new("another size"))
@@ -129,7 +132,7 @@ fn a_snapshot_has_all_fields_in_their_order(rt: HostRuntime) -> Result<(), Fail>
 /// The snapshot after the acts, in pieces of at most so many bytes.
 fn in_pieces(alloc: Global, size: usize) -> Result<Vec<u8>, Fail> {
     let table = played(alloc, &ACTS)?;
-    let mut writer = SnapshotWriter::new(&table);
+    let mut writer = SnapshotWriter::new(Version::V1, &table);
     let mut piece = Vec::from_elem(alloc, 0u8, size)?;
     let mut out = Vec::new(alloc);
     for _ in 0..173 {
@@ -155,10 +158,10 @@ fn refused(alloc: Global) -> Result<(), Fail> {
     let table = played(alloc, &ACTS)?;
     let refusing = Refusing::new(alloc, 1);
     let mut out = Vec::from_slice(&refusing, b"!")?;
-    if write_snapshot(&mut out, &table).is_ok() || out.as_slice() != b"!".as_slice() {
+    if write_snapshot(&mut out, Version::V1, &table).is_ok() || out.as_slice() != b"!".as_slice() {
         return Err(Fail::new("a growth that was refused"));
     }
-    write_snapshot(&mut out, &table)?;
+    write_snapshot(&mut out, Version::V1, &table)?;
     let (_, snapshot) = out.split_at(1);
     if snapshot == SNAPSHOT.as_slice() {
         Ok(())
@@ -181,7 +184,7 @@ fn the_longest_snapshot_by_the_limits(rt: HostRuntime) -> Result<(), Fail> {
         acts: 1,
         name_bytes: 8,
     };
-    assert!(rt; max_snapshot(Limits::new(bounds).ok_or("limits")?) == 168);
-    assert!(rt; max_snapshot(Limits::MAX) == 1_480_716);
+    assert!(rt; max_snapshot(Version::V1, Limits::new(bounds).ok_or("limits")?) == 168);
+    assert!(rt; max_snapshot(Version::V1, Limits::MAX) == 1_480_716);
     Ok(())
 }

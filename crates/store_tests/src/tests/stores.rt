@@ -7,7 +7,7 @@ use std::alloc::{Allocator, Global};
 use std::marker::Model;
 use std::process::Abort;
 use turn_disk::{Disk, MemoryDisk};
-use turn_record::{max_payload, read_snapshot};
+use turn_record::{Version, max_payload, read_snapshot};
 use turn_store::{FormatRefused, Info, Store, StoreFault, format};
 use turn_table::Table;
 use turn_types::Limits;
@@ -45,6 +45,7 @@ pub struct SnapshotTable<A: Allocator = Global> {
 
 impl<A: Allocator> Model for SnapshotTable<A> {
     ghost use Rattle.turn_record.specs.Records.{IsSnapshot};
+    ghost use Rattle.turn_record.specs.declared.version.Version.TheVariants.{V1};
     ghost use Rattle.turn_table.specs.State.{State, state_code};
 
     ghost Value = { State };
@@ -53,13 +54,13 @@ impl<A: Allocator> Model for SnapshotTable<A> {
 
     ghost view = { λ s. s.table };
 
-    ghost invariant = { λ s. IsSnapshot s.table.bounds s.table.moment s.table.contents };
+    ghost invariant = { λ s. IsSnapshot V1 s.table.bounds s.table.moment s.table.contents };
 }
 
 impl<A: Allocator + Copy> SnapshotTable<A> {
     /// The table that these bytes are the snapshot of.
     pub fn read(rt: &impl Abort, alloc: A, limits: Limits, bytes: &[u8]) -> SnapshotTable<A> {
-        match read_snapshot(alloc, limits, bytes) {
+        match read_snapshot(alloc, Version::V1, limits, bytes) {
             Ok(table) => SnapshotTable { table },
             Err(_) => panic!(rt; "a snapshot"),
         }
@@ -121,7 +122,7 @@ impl<A: Allocator + Copy> TestStore<A> {
         payload: &[u8],
         table: &SnapshotTable<A>,
     ) -> Result<bool, StoreFault> {
-        assert!(rt; payload.len() <= max_payload(self.limits));
+        assert!(rt; payload.len() <= max_payload(Version::V1, self.limits));
         assert!(rt; are_same(table.table.limits(), self.limits));
         match self.store.append(payload, &table.table) {
             Ok(true) => Ok(true),

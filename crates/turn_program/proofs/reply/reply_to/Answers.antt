@@ -6,10 +6,10 @@ pub returns-clause-message : goal.returns-clause-message
 returns-clause-message g c m spelled =
     let machine = c.in_ok-machine.machine in
     let answered = c.in_ok-step.ensures.answers [] (is_after machine c.args.moment c.in_ok-machine.ensures.table) in
-    c.to_client.ensures ∙ sends_reply machine.config _ _ c.args.moment _ c.args.five_tuple c.args.datagram.now m _ answered spelled c.in_ok-machine.ensures.config
+    c.to_client.ensures ∙ sends_reply machine.pairs machine.config _ _ c.args.moment _ c.args.five_tuple c.args.datagram.now m _ answered spelled c.in_ok-machine.ensures.config
 
 pub returns-clause-malformed : goal.returns-clause-malformed
 returns-clause-malformed g c no_message =
     let machine = c.in_ok-machine.machine in
     let answered = c.in_ok-step.ensures.answers [] (is_after machine c.args.moment c.in_ok-machine.ensures.table) in
-    nothing_if_no_bytes _ _ (c.to_client.ensures ∙ sends_no_reply machine.config _ _ c.args.moment _ c.args.five_tuple c.args.datagram.now _ answered no_message)
+    nothing_if_no_bytes _ _ (c.to_client.ensures ∙ sends_no_reply machine.pairs machine.config _ _ c.args.moment _ c.args.five_tuple c.args.datagram.now _ answered no_message)

@@ -4,6 +4,7 @@ use Rattle.turn_disk.specs.Disk.{Trace}
 use Rattle.turn_journal.specs.Area.{end_of, limit_of}
 use Rattle.turn_journal.specs.declared.area.Area.{Area}
 use Rattle.turn_record.specs.Records.{max_snapshot}
+use Rattle.turn_record.specs.declared.version.Version.TheVariants.{V1}
 use Rattle.turn_store.specs.Opened.{AreaIsRead, LogIsRead}
 use Rattle.turn_store.specs.Refused.{BreaksAt}
 use Rattle.turn_store.specs.Tables.{snapshot_of}
@@ -20,13 +21,13 @@ returns-then-count-max_snapshot-clause-faults g c = λ honest. inl (refl, inr (o
 pub returns-in-Err-clause-faults : goal.returns-in-Err-clause-faults
 returns-in-Err-clause-faults g c = λ honest.
     let version : c.args.head.version ≡ 1 = omega (arith, c.if-head-ne1.false) in
-    let small : c.args.head.snapshot ≤ max_snapshot c.args.limits = omega (arith, c.if-count-max_snapshot.false, c.max_snapshot.ensures.value) in
+    let small : c.args.head.snapshot ≤ max_snapshot V1 c.args.limits = omega (arith, c.if-count-max_snapshot.false, c.max_snapshot.ensures.value) in
     faults_weaken _ _ (λ place is. inr (version, small, inl is)) c.in-Err.fault (c.in-Err.ensures.faults honest)
 
 pub returns-in-Err-replay_log-clause-faults : goal.returns-in-Err-replay_log-clause-faults
 returns-in-Err-replay_log-clause-faults g c = λ honest.
     let version : c.args.head.version ≡ 1 = omega (arith, c.if-head-ne1.false) in
-    let small : c.args.head.snapshot ≤ max_snapshot c.args.limits = omega (arith, c.if-count-max_snapshot.false, c.max_snapshot.ensures.value) in
+    let small : c.args.head.snapshot ≤ max_snapshot V1 c.args.limits = omega (arith, c.if-count-max_snapshot.false, c.max_snapshot.ensures.value) in
     let first = snapshot_of c.in-Ok.table in
     let good = c.in-Ok.ensures.read honest in
     let here = c.read_snapshot.ensures.honest.1 honest in

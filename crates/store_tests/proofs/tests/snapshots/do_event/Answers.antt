@@ -10,4 +10,4 @@ pub returns : goal.returns
 returns g c =
     let e : Event = event_of c.args.event in
     gone_on c.args.table.now c.reserve_for.new.self c.apply.new.self (Some (room_for e.tuple e.act)) (applied e.moment e.tuple e.act c.reserve_for.new.self.contents) e
-    c.requires.played c.requires.range c.requires.now c.requires.fits c.in_ok-reserve_for.ensures.ok c.apply.ensures.state c.apply.ensures.agrees
+    c.requires.played c.requires.range c.requires.now c.requires.fits c.requires.writes c.in_ok-reserve_for.ensures.ok c.apply.ensures.state c.apply.ensures.agrees

@@ -28,10 +28,10 @@ returns-in-Err-clause-stop_err g c = λ honest form h k m images. since_images _
 
 pub invariant_of-result : goal.invariant_of-result
 invariant_of-result g c =
-    fresh_sound c.limits-limits.result _ _ _ _ c.in-Ok-new.machine.table c.in-Ok.opened.table
+    fresh_sound c.limits-limits.result _ _ _ _ _ c.in-Ok-new.machine.table c.in-Ok.opened.table
     (ap (λ m. m.config.limits) c.in-Ok-new.ensures.ok ∙ ap (λ (x : Config). x.limits) c.in-Ok-Ok.ensures ∙ sym c.limits-limits.ensures.value)
     (ap (λ m. m.table) c.in-Ok-new.ensures.ok) c.in-Ok.ensures.bounds.0 (ap (λ b. b.bounds) c.in-Ok-Ok.ensures') c.in-Ok.ensures.bounds.1 (ap (λ b. b.acts) c.in-Ok-Ok.ensures')
-    c.in-Ok.ensures.snapshot
+    (ap (λ m. m.pairs) c.in-Ok-new.ensures.ok) c.in-Ok.ensures.snapshot
 
 pub returns-in-Ok-new-clause-opened : goal.returns-in-Ok-new-clause-opened
 returns-in-Ok-new-clause-opened g c = λ honest.

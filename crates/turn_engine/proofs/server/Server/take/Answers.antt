@@ -16,8 +16,8 @@ use Rattle.turn_engine.proofs.server.Server.take.Goals as goal
 pub invariant_of-self : goal.invariant_of-self
 invariant_of-self g c =
     let le = subst (λ s. now_of s ≤ c.args.moment) (sym c.self.view_is) c.requires.clock in
-    sound_later _ _ _ _ _ _ c.args.moment c.self.inside.machine.table c.prepare.new.self.table c.seconds.ensures.range le c.prepare.ensures.table
-    (ap (λ (x : Config). x.limits) c.prepare.ensures.setting.config) c.self.invariant
+    sound_later _ _ _ _ _ _ c.args.moment _ _ c.self.inside.machine.table c.prepare.new.self.table c.seconds.ensures.range le c.prepare.ensures.table
+    (ap (λ (x : Config). x.limits) c.prepare.ensures.setting.config) c.prepare.ensures.setting.pairs c.self.invariant
 
 pub returns-in-Err-clause-store : goal.returns-in-Err-clause-store
 returns-in-Err-clause-store g c = ap (λ s. s.store) c.self.view_is
@@ -48,8 +48,8 @@ returns-in-Err-clause-memory_rests g c = λ h k rests.
 pub invariant_of-self-then-is_err : goal.invariant_of-self-then-is_err
 invariant_of-self-then-is_err g c =
     let le = subst (λ s. now_of s ≤ c.args.moment) (sym c.self.view_is) c.requires.clock in
-    rw c.abandon.ensures.table (sound_later _ _ _ _ _ _ c.args.moment c.self.inside.machine.table c.prepare.new.self.table c.seconds.ensures.range le c.prepare.ensures.table
-    (ap (λ (x : Config). x.limits) (c.abandon.ensures.setting.config ∙ c.prepare.ensures.setting.config)) c.self.invariant)
+    rw c.abandon.ensures.table (sound_later _ _ _ _ _ _ c.args.moment _ _ c.self.inside.machine.table c.prepare.new.self.table c.seconds.ensures.range le c.prepare.ensures.table
+    (ap (λ (x : Config). x.limits) (c.abandon.ensures.setting.config ∙ c.prepare.ensures.setting.config)) (c.abandon.ensures.setting.pairs ∙ c.prepare.ensures.setting.pairs) c.self.invariant)
 
 pub returns-then-is_err-clause-store : goal.returns-then-is_err-clause-store
 returns-then-is_err-clause-store g c = ap (λ s. s.store) c.self.view_is
@@ -108,10 +108,10 @@ invariant_of-self-2 g c =
     let le = subst (λ s. now_of s ≤ c.args.moment) (sym c.self.view_is) c.requires.clock in
     let room = rw (← c.self.view_is) at c.requires.room in
     let same = ap (λ (x : Config). x.limits.acts) c.prepare.ensures.setting.config in
-    let later = sound_later _ _ _ _ _ _ c.args.moment c.self.inside.machine.table c.prepare.new.self.table c.seconds.ensures.range le c.prepare.ensures.table
-    (ap (λ (x : Config). x.limits) c.prepare.ensures.setting.config) c.self.invariant in
-    sound_changed _ _ _ _ _ _ _ _ c.args.moment c.prepare.new.self.table c.apply-datagram.new.self.table c.in-Ok.step.change c.apply-datagram.ensures.table c.in-Ok.ensures.ready
-    (ap (λ (x : Config). x.limits) c.apply-datagram.ensures.setting.config) c.stage_act.ensures.bounds c.stage_act.ensures.acts (omega (arith, room, same)) later
+    let later = sound_later _ _ _ _ _ _ c.args.moment _ _ c.self.inside.machine.table c.prepare.new.self.table c.seconds.ensures.range le c.prepare.ensures.table
+    (ap (λ (x : Config). x.limits) c.prepare.ensures.setting.config) c.prepare.ensures.setting.pairs c.self.invariant in
+    sound_changed _ _ _ _ _ _ _ _ c.args.moment _ _ c.prepare.new.self.table c.apply-datagram.new.self.table c.in-Ok.step.change c.apply-datagram.ensures.table c.in-Ok.ensures.ready.next (c.in-Ok.ensures.ready.no_pairs (c.prepare.ensures.setting.pairs ∙ c.self.invariant.no_pairs))
+    (ap (λ (x : Config). x.limits) c.apply-datagram.ensures.setting.config) c.apply-datagram.ensures.setting.pairs c.stage_act.ensures.bounds c.stage_act.ensures.acts (omega (arith, room, same)) later
 
 pub returns-clause-store : goal.returns-clause-store
 returns-clause-store g c = ap (λ s. s.store) c.self.view_is
@@ -151,5 +151,5 @@ returns-clause-ok g c = λ h k rests.
           ∙ ap (λ o. map sent_of c.self.inside.outgoing.items ++ option_to_list o) c.apply-datagram.ensures.sent ∙ ap (λ s. s.outs ++ option_to_list c.in-Ok.step.sent) c.self.view_is;
       rests = rests_taken _ c.args.self.now _ h k t change rests (ap (λ s. s.store) c.self.view_is) (λ es is. c.stage_act.ensures.payload es (ap (λ s. s.payload) c.self.view_is ∙ is))
           (c.stage_act.ensures.acts ∙ ap (λ s. s.acts + length (added t change)) c.self.view_is) c.requires.clock
-          (ap (λ (s : State). s.moment) c.apply-datagram.ensures.table ∙ moment_changed c.prepare.new.self.table change ∙ moment) after;
+          (ap (λ (s : State). s.moment) c.apply-datagram.ensures.table ∙ moment_changed c.prepare.new.self.table change ∙ moment) (c.in-Ok.ensures.ready.no_pairs (c.prepare.ensures.setting.pairs ∙ c.self.invariant.no_pairs)) after;
     }

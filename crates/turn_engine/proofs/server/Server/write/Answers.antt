@@ -76,6 +76,7 @@ invariant_of-self g c =
       table_is = s.table_is;
       few = s.few;
       capped = s.capped;
+      no_pairs = s.no_pairs;
       snapshot = s.snapshot;
     }
 
