@@ -5,6 +5,7 @@ use Rattle.std.specs.Option.{option_and_then, option_map}
 use Rattle.std.specs.Ordering.{eq_by_cmp, nat_cmp}
 use Rattle.std.specs.FinMap as fin
 use Rattle.std.specs.FinMap.{get-remove}
+use Rattle.std.proofs.Math.Bool.{or-false, or-true}
 use Rattle.std.proofs.lemmas.Bool.{eq-eqb, eqb-false, eqb-true}
 use Rattle.std.proofs.lemmas.Cmp.{nat_cmp_total}
 use Rattle.std.proofs.lemmas.Option.{same_Some}
@@ -44,14 +45,6 @@ same_test true true p q = refl
 same_test false false p q = refl
 same_test false true p q = sym (p refl)
 same_test true false p q = q refl
-
-or_false : (b : Bool) → b || false ≡ b
-or_false true = refl
-or_false false = refl
-
-or_true : (b : Bool) → b || true ≡ true
-or_true true = refl
-or_true false = refl
 
 -- ---- The ports of entries
 
@@ -208,7 +201,7 @@ has_taken : (c : Contents) (p : ℕ) → has_port c p ≡ true → is_taken c p 
 has_taken c p has = ap (λ b. b || is_some (fin.get c.reserved p)) has
 
 reserved_taken : (c : Contents) (p : ℕ) → is_some (fin.get c.reserved p) ≡ true → is_taken c p ≡ true
-reserved_taken c p is = ap (λ b. has_port c p || b) is ∙ or_true (has_port c p)
+reserved_taken c p is = ap (λ b. has_port c p || b) is ∙ or-true (has_port c p)
 
 -- ---- Acts
 
@@ -228,7 +221,7 @@ alloc_test t n port (Some token) has old = by_ports (n == port) (n == port + 1)
   where
     by_ports : (x y : Bool) → (x || has) || is_some (cond y (Some (record { token = token; expiry = t + 30 })) (cond x None old)) ≡ (x || y) || (has || is_some old)
     by_ports true y = refl
-    by_ports false true = or_true has
+    by_ports false true = or-true has
     by_ports false false = refl
 
 module _ (b : Bounds) (t : ℕ) (f : FiveTuple) (c : Contents) (apart : PortsApart c) (reserved : ReservedApart c) where
@@ -401,7 +394,7 @@ pub alone_released : (old new : (ℕ → Bool) → Type 0) (c : Contents) (p : �
     → old (λ q. ((q == p) || false) || is_taken c q) → new (is_taken c)
 alone_released old new c p o free found none releases h =
     one_released old new (is_taken c) p (ap (λ b. b || is_some (fin.get c.reserved p)) (free_port_is c p free) ∙ ap is_some (sym found) ∙ none) releases
-    (subst old (λ j q. ap (λ b. b || is_taken c q) (or_false (q == p)) j) h)
+    (subst old (λ j q. ap (λ b. b || is_taken c q) (or-false (q == p)) j) h)
 
 -- the port of an Alloc with a token is even, so it isn't reserved, and the next one isn't either
 pub even_picked : (b : Bounds) (t : ℕ) (c : Contents) (f : FiveTuple) (user : List ℕ) (port granted : ℕ) (tx : TxId) (token : Token) → AreReservationsInRange t c

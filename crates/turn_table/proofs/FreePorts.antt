@@ -28,7 +28,7 @@ module _ {V : Type 0} where
     pub rest : (port : ℕ) → lowest ≤ port → find nat_cmp port left ≡ find nat_cmp port ports
     pub sorted : T (is_sorted nat_cmp left)
 
-  find-later : (port : ℕ) (x : ℕ × V) (xs : List (ℕ × V)) → x.0 < port → find nat_cmp port (x ∷ xs) ≡ find nat_cmp port xs
+  pub find-later : (port : ℕ) (x : ℕ × V) (xs : List (ℕ × V)) → x.0 < port → find nat_cmp port (x ∷ xs) ≡ find nat_cmp port xs
   find-later port x xs lt = ap (λ o. cond (is_eq o) (Some x.1) (find nat_cmp port xs)) (sym (nat_cmp_is port x.0 Greater lt))
 
   find-first : (port : ℕ) (x : ℕ × V) (xs : List (ℕ × V)) → port ≡ x.0 → find nat_cmp port (x ∷ xs) ≡ Some x.1
@@ -154,7 +154,7 @@ module _ {V : Type 0} where
       subst (λ k. Reaches range false ports (drop k ports) (range.0 + suc n)) next
       (step range false ports ports s n x (range.0 + n) 1 (range.0 + suc n) (slice_get_within ports n x at.1) (sym (get_or_from_slice_get ports n x x at.1)) (after_run range ports n s (λ i lt. run i (omega arith))) (sym at.2) refl (omega arith))
 
-  all_taken : (ports : List (ℕ × V)) (n : ℕ) → take (length ports - n) (drop n ports) ≡ drop n ports
+  pub all_taken : (ports : List (ℕ × V)) (n : ℕ) → take (length ports - n) (drop n ports) ≡ drop n ports
   all_taken ports n = ap (λ k. take k (drop n ports)) (sym (length-drop n ports)) ∙ take-length (drop n ports)
 
   -- where the walk starts after the run that it passes over, which is none where an even port is asked for

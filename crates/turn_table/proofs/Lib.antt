@@ -12,6 +12,7 @@ pub mod Keyed
 pub mod Mapped
 pub mod Names
 pub mod Places
+pub mod PortsFrom
 pub mod Purged
 pub mod Purging
 pub mod Quiet

@@ -25,6 +25,19 @@ pub(crate) fn place_of<K: Key, V>(items: &[(K, V)], key: &K) -> Result<usize, us
     items.binary_search_by(|slot| slot.0.cmp(key))
 }
 
+/// Those of ports that rise that aren't below a first one.
+pub(crate) fn ports_from<V>(ports: &[(u16, V)], first: u16) -> &[(u16, V)]
+    requires { fin.is_sorted nat_cmp ports.now ≡ true }
+    ensures sorted { fin.is_sorted nat_cmp result.now ≡ true }
+    ensures same { (port : ℕ) → first ≤ port
+        → fin.get (fin.from_sorted {R = nat_cmp} result.now) port ≡ fin.get (fin.from_sorted {R = nat_cmp} ports.now) port }
+{
+    match place_of(ports, &first) {
+        Ok(place) => &ports[place..],
+        Err(place) => &ports[place..],
+    }
+}
+
 /// How many ports at the front of ports that rise are a first one and those that follow it.
 fn run_from<V>(ports: &[(u16, V)], first: u16) -> usize
     requires { fin.is_sorted nat_cmp ports.now ≡ true }

@@ -10,7 +10,7 @@ ghost use Rattle.turn_history.proofs.Maps.{tuple_exact};
 ghost use Rattle.turn_ports.specs.Ports.{IsLowestFree};
 ghost use Rattle.turn_table.specs.Kept.{map_in, still};
 
-use crate::search::{lowest_free, place_of};
+use crate::search::{lowest_free, place_of, ports_from};
 use std::alloc::{AllocError, Allocator, Global};
 use std::marker::Model;
 use turn_history::{Channel, Reservation};
@@ -199,6 +199,6 @@ impl<V: Copy, A: Allocator + Copy> SortedMap<u16, V, A> {
     pub(crate) fn lowest_free(&self, first: u16, last: u16, even: bool) -> Option<u16>
         ensures { IsLowestFree (first, last) (λ port. is_some (fin.get (map_in nat_cmp self.now) port)) even result }
     {
-        lowest_free(&self.items, first, last, even)
+        lowest_free(ports_from(&self.items, first), first, last, even)
     }
 }

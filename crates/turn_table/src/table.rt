@@ -621,7 +621,8 @@ impl<A: Allocator + Copy> PortSet for Table<A> {
         self.has_port(port) || self.reserved.get(port).is_some()
     }
 
-    /// By halves over the ports that follow one another from the first on, then port by port; after a reserved port again.
+    /// By halves over the ports that follow one another from the first on, then port by port; after a reserved port again,
+    /// from there on.
     fn lowest_free(&self, first: u16, last: u16, even: bool) -> Option<u16>
         ensures { IsLowestFree (first, last) (is_taken self.now.contents) even result }
     {
