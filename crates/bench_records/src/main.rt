@@ -14,6 +14,7 @@ use kept::Kept;
 use spelled::{ENTRIES, Shape, spell};
 use std::{env, io};
 use stores::measure_stores;
+use turn_record::Version;
 
 /// Rounds of which the best counts.
 const ROUNDS: usize = 5;
@@ -59,7 +60,7 @@ fn main(rt: HostRuntime) -> io::Result<()> {
         return measure_stores(&rt, path.as_str(), count);
     }
     for shape in [Shape::PLAIN, Shape::WITH_PEERS] {
-        let bytes = spell(rt.alloc(), shape)?;
+        let bytes = spell(rt.alloc(), Version::V1, shape)?;
         println!(rt;
             "{ENTRIES} entries of {} permissions and {} channels, {} bytes",
             shape.permissions,

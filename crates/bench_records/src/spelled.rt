@@ -3,6 +3,7 @@
 ghost use Rattle.std.specs.Prelude.{◌<◌};
 
 use std::alloc::{AllocError, Global};
+use turn_record::Version;
 
 /// How many entries a snapshot has at most.
 pub const ENTRIES: u16 = 1024;
@@ -64,8 +65,8 @@ fn put_tuple(out: &mut Vec<u8>, place: u16) -> Result<(), AllocError>
     put_endpoint(out, 0xC000_0164, 3478)
 }
 
-/// The five-tuple of the entry at this place, what its Allocate gave, and when it expires.
-fn put_allocation(out: &mut Vec<u8>, place: u16) -> Result<(), AllocError>
+/// The five-tuple of the entry at this place, what its Allocate gave, in version 2 that it has no token, and when it expires.
+fn put_allocation(out: &mut Vec<u8>, version: Version, place: u16) -> Result<(), AllocError>
     requires { place < 1024 }
 {
     put_tuple(out, place)?;
@@ -74,6 +75,9 @@ fn put_allocation(out: &mut Vec<u8>, place: u16) -> Result<(), AllocError>
     out.extend_from_slice(&(10_000 + place).to_be_bytes())?;
     out.extend_from_slice(&3600u32.to_be_bytes())?;
     out.extend_from_slice(&[7; 12])?;
+    if version == Version::V2 {
+        out.push(0)?;
+    }
     out.extend_from_slice(&(MOMENT + 3600).to_be_bytes())
 }
 
@@ -96,16 +100,19 @@ fn put_channels(out: &mut Vec<u8>, count: u8) -> Result<(), AllocError> {
     Ok(())
 }
 
-/// The bytes of a snapshot of this shape, with names of 8 bytes.
-pub fn spell(alloc: Global, shape: Shape) -> Result<Vec<u8>, AllocError> {
+/// The bytes of a snapshot of this shape, with names of 8 bytes, and in version 2 without tokens and reserved ports.
+pub fn spell(alloc: Global, version: Version, shape: Shape) -> Result<Vec<u8>, AllocError> {
     let entries = shape.entries.min(ENTRIES);
     let mut out = Vec::new(alloc);
     out.extend_from_slice(&MOMENT.to_be_bytes())?;
     out.extend_from_slice(&u32::from(entries).to_be_bytes())?;
     for place in 0..entries {
-        put_allocation(&mut out, place)?;
+        put_allocation(&mut out, version, place)?;
         put_permissions(&mut out, shape.permissions)?;
         put_channels(&mut out, shape.channels)?;
+    }
+    if version == Version::V2 {
+        out.extend_from_slice(&[0; 4])?;
     }
     Ok(out)
 }

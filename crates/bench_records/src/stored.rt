@@ -5,7 +5,7 @@ use std::io;
 use std::marker::Model;
 use turn_disk::FileDisk;
 use turn_record::{Version, max_payload, read_snapshot};
-use turn_store::{Opened, Store, format};
+use turn_store::{Opened, Store, format, format_version1};
 use turn_table::Table;
 use turn_types::Limits;
 
@@ -13,7 +13,7 @@ use turn_types::Limits;
 /// frames after it.
 const AREA: usize = 2_000_000;
 
-/// A store over a file, and a table that has a snapshot under the store's limits.
+/// A store over a file, and a table that has a snapshot of the store's version under its limits.
 #[derive(Drop)]
 pub struct Stored {
     store: Store<FileDisk>,
@@ -23,7 +23,6 @@ pub struct Stored {
 impl Model for Stored {
     ghost use Rattle.std.specs.Prelude.{◌≡◌};
     ghost use Rattle.turn_record.specs.Records.{IsSnapshot};
-    ghost use Rattle.turn_record.specs.declared.version.Version.TheVariants.{V1};
     ghost use Rattle.turn_table.specs.State.{State, state_code};
 
     ghost Value = { State };
@@ -33,13 +32,13 @@ impl Model for Stored {
     ghost view = { λ s. s.table };
 
     ghost invariant = { λ s. (s.table.bounds ≡ s.store.bounds)
-        × IsSnapshot V1 s.table.bounds s.table.moment s.table.contents };
+        × IsSnapshot s.store.version s.table.bounds s.table.moment s.table.contents };
 }
 
 impl Stored {
-    /// Opens a store of the max limits, with the table that it holds.
-    pub fn open(alloc: Global, disk: FileDisk) -> Option<Stored> {
-        match Store::open(alloc, disk, Limits::MAX) {
+    /// Opens a store of the max limits, with the table that it holds, and carries it over to version 2 where that is asked for.
+    pub fn open(alloc: Global, disk: FileDisk, carry: bool) -> Option<Stored> {
+        match Store::open_as(alloc, disk, Limits::MAX, carry) {
             Ok(opened) => {
                 let Opened { store, table } = opened;
                 Some(Stored { store, table })
@@ -48,41 +47,60 @@ impl Stored {
         }
     }
 
-    /// Makes a store of the max limits over a file that is made anew, and takes the table of a snapshot in place of the empty
-    /// one, which the store holds until it is compacted.
-    pub fn make(rt: &HostRuntime, path: &str, bytes: &[u8]) -> io::Result<Option<Stored>> {
+    /// Takes the table of a snapshot of the store's version in place of its own, which the store holds until it is compacted.
+    fn with_table(self, alloc: Global, bytes: &[u8]) -> Option<Stored> {
+        let Stored { store, table } = self;
+        match read_snapshot(alloc, store.info().version, table.limits(), bytes) {
+            Ok(table) => Some(Stored { store, table }),
+            Err(_) => None,
+        }
+    }
+
+    /// Makes a store of this version and the max limits over a file that is made anew, with the table of a snapshot of the version.
+    pub fn make(
+        rt: &HostRuntime,
+        path: &str,
+        version: Version,
+        bytes: &[u8],
+    ) -> io::Result<Option<Stored>> {
         let mut disk = FileDisk::create(rt, path, 64 + 2 * AREA)?;
-        if format(&mut disk, Limits::MAX, AREA).is_err() {
+        let outcome = match version {
+            Version::V1 => format_version1(&mut disk, Limits::MAX, AREA),
+            Version::V2 => format(&mut disk, Limits::MAX, AREA),
+        };
+        if outcome.is_err() {
             return Ok(None);
         }
-        match (
-            Store::open(rt.alloc(), disk, Limits::MAX),
-            read_snapshot(rt.alloc(), Version::V1, Limits::MAX, bytes),
-        ) {
-            (Ok(opened), Ok(table)) => {
-                let Opened { store, table: _ } = opened;
-                Ok(Some(Stored { store, table }))
-            }
-            _ => Ok(None),
+        match Stored::open(rt.alloc(), disk, false) {
+            Some(stored) => Ok(stored.with_table(rt.alloc(), bytes)),
+            None => Ok(None),
         }
     }
 
     /// Writes a snapshot of the table, and returns whether the store did.
     pub fn compact(&mut self) -> bool {
-        self.store.compact(&self.table).is_ok()
+        match self.store.compact(&self.table) {
+            Ok(()) => true,
+            Err(_) => false,
+        }
     }
 
     /// Adds a frame, and returns whether the store did.
     pub fn append(&mut self, payload: &[u8]) -> bool {
-        if max_payload(Version::V1, self.table.limits()) < payload.len() {
+        if max_payload(self.store.info().version, self.table.limits()) < payload.len() {
             return false;
         }
-        self.store.append(payload, &self.table) == Ok(false)
+        match self.store.append(payload, &self.table) {
+            Ok(true) => false,
+            Ok(false) => true,
+            Err(_) => false,
+        }
     }
 
-    /// Whether the table has so many entries, and the log so many frames.
-    pub fn has(&self, entries: usize, frames: usize) -> bool {
-        self.table.len() == entries && self.store.info().frames == frames
+    /// Whether the store is of this version, the table has so many entries, and the log so many frames.
+    pub fn has(&self, version: Version, entries: usize, frames: usize) -> bool {
+        let info = self.store.info();
+        info.version == version && self.table.len() == entries && info.frames == frames
     }
 
     pub fn into_disk(self) -> FileDisk {

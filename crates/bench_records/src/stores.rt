@@ -7,6 +7,7 @@ use bench_time::{Measured, Timing, best_of, time};
 use std::alloc::Global;
 use std::{fs, io};
 use turn_disk::FileDisk;
+use turn_record::Version;
 
 /// How many frames are appended to a log.
 const FRAMES: usize = 10_000;
@@ -45,13 +46,30 @@ impl Measured for Append<'_> {
     }
 }
 
-/// An opening of a store with so many entries and frames, after which its table is released.
+/// An opening, which carries the store over to version 2 where that is asked for, to a store of a version with so many entries and
+/// frames, after which its table is released.
 #[derive(Drop)]
 struct Open {
     alloc: Global,
     disk: Option<FileDisk>,
+    carry: bool,
+    version: Version,
     entries: usize,
     frames: usize,
+}
+
+impl Open {
+    /// An opening as it is, without frames.
+    fn new(alloc: Global, disk: FileDisk, version: Version, shape: Shape) -> Open {
+        Open {
+            alloc,
+            disk: Some(disk),
+            carry: false,
+            version,
+            entries: usize::from(shape.entries),
+            frames: 0,
+        }
+    }
 }
 
 impl Measured for Open {
@@ -59,10 +77,10 @@ impl Measured for Open {
         let Some(disk) = self.disk.take() else {
             return false;
         };
-        let Some(stored) = Stored::open(self.alloc, disk) else {
+        let Some(stored) = Stored::open(self.alloc, disk, self.carry) else {
             return false;
         };
-        let right = stored.has(self.entries, self.frames);
+        let right = stored.has(self.version, self.entries, self.frames);
         self.disk = Some(stored.into_disk());
         right
     }
@@ -85,26 +103,23 @@ fn measure_compactions(
 }
 
 /// Prints the microseconds of an opening, and returns the disk, or `None` if the store was refused.
-fn measure_openings(
-    rt: &HostRuntime,
-    disk: FileDisk,
-    count: usize,
-    entries: usize,
-    frames: usize,
-) -> io::Result<Option<FileDisk>> {
-    let mut open = Open {
-        alloc: rt.alloc(),
-        disk: Some(disk),
-        entries,
-        frames,
-    };
+fn measure_openings(rt: &HostRuntime, open: Open, count: usize) -> io::Result<Option<FileDisk>> {
+    let mut open = open;
     let timing = best_of(rt, &mut open, count, ROUNDS)?;
     let each = timing.micros / (count.max(1) as u128);
     println!(rt;
-        "opening with {frames} frames: {each} us ({} of {count} done)",
-        timing.done
+        "opening with {} frames: {each} us ({} of {count} done)",
+        open.frames, timing.done
     )?;
     Ok(open.disk.take())
+}
+
+/// The timing that took less time.
+fn better(before: Option<Timing>, timing: Timing) -> Option<Timing> {
+    match before {
+        Some(before) if before.micros <= timing.micros => Some(before),
+        _ => Some(timing),
+    }
 }
 
 /// Compacts the store and appends `FRAMES` frames, once in each round, and prints the nanoseconds of an append in the best
@@ -120,11 +135,7 @@ fn measure_appends(rt: &HostRuntime, stored: &mut Stored, payloads: &[Vec<u8>]) 
             payloads,
             next: 0,
         };
-        let timing = time(rt, &mut append, FRAMES)?;
-        best = match best {
-            Some(before) if before.micros <= timing.micros => Some(before),
-            _ => Some(timing),
-        };
+        best = better(best, time(rt, &mut append, FRAMES)?);
     }
     match best {
         Some(timing) => println!(rt;
@@ -136,38 +147,98 @@ fn measure_appends(rt: &HostRuntime, stored: &mut Stored, payloads: &[Vec<u8>]) 
     }
 }
 
-/// Measures the calls of a store that holds a table of this shape, over a file that is made anew. Returns false if the store
-/// was not made or not opened.
-fn measure_store(rt: &HostRuntime, path: &str, shape: Shape, count: usize) -> io::Result<bool> {
+/// A store of a version over a file that is made anew, with this snapshot.
+fn make_compacted(
+    rt: &HostRuntime,
+    path: &str,
+    version: Version,
+    bytes: &[u8],
+) -> io::Result<Option<Stored>> {
+    match Stored::make(rt, path, version, bytes)? {
+        Some(stored) => {
+            let mut stored = stored;
+            Ok(stored.compact().then_some(stored))
+        }
+        None => Ok(None),
+    }
+}
+
+/// Measures the calls of a store of a version that holds a table of this shape, over a file that is made anew. Returns false if the
+/// store was not made or not opened.
+fn measure_store(
+    rt: &HostRuntime,
+    path: &str,
+    version: Version,
+    shape: Shape,
+    count: usize,
+) -> io::Result<bool> {
     let alloc = rt.alloc();
-    let entries = usize::from(shape.entries);
-    let bytes = spell(alloc, shape)?;
-    println!(rt;
-        "allocations: {entries}, permissions of each: {}, channels of each: {}, snapshot: {} bytes",
-        shape.permissions,
-        shape.channels,
-        bytes.len()
-    )?;
-    let Some(mut stored) = Stored::make(rt, path, &bytes)? else {
+    let bytes = spell(alloc, version, shape)?;
+    println!(rt; "version {version:?}, snapshot: {} bytes", bytes.len())?;
+    let Some(mut stored) = make_compacted(rt, path, version, &bytes)? else {
         return Ok(false);
     };
     measure_compactions(rt, &mut stored, count, bytes.len())?;
-    let Some(disk) = measure_openings(rt, stored.into_disk(), count, entries, 0)? else {
+    let open = Open::new(alloc, stored.into_disk(), version, shape);
+    let Some(disk) = measure_openings(rt, open, count)? else {
         return Ok(false);
     };
-    let Some(mut stored) = Stored::open(alloc, disk) else {
+    let Some(mut stored) = Stored::open(alloc, disk, false) else {
         return Ok(false);
     };
-    let payloads = renewals(alloc, shape)?;
-    measure_appends(rt, &mut stored, &payloads)?;
-    let disk = measure_openings(rt, stored.into_disk(), count, entries, FRAMES)?;
+    measure_appends(rt, &mut stored, &renewals(alloc, shape)?)?;
+    let mut open = Open::new(alloc, stored.into_disk(), version, shape);
+    open.frames = FRAMES;
+    let disk = measure_openings(rt, open, count)?;
     Ok(disk.is_some())
 }
 
-/// Measures a store over this file with each of three tables. The file is made anew, and removed afterwards.
+/// Makes a store of version 1 with a table of this shape in each round, and opens it, which carries it over. Prints the microseconds of
+/// the opening in the best round, and then of an opening of the carried store. Returns false if it was not made, or not carried over.
+fn measure_carrying(rt: &HostRuntime, path: &str, shape: Shape, count: usize) -> io::Result<bool> {
+    let bytes = spell(rt.alloc(), Version::V1, shape)?;
+    let mut best: Option<Timing> = None;
+    let mut carried = None;
+    for _ in 0..ROUNDS {
+        // Closes the file of the round before, which is made anew.
+        carried = None;
+        let Some(stored) = make_compacted(rt, path, Version::V1, &bytes)? else {
+            return Ok(false);
+        };
+        let mut open = Open::new(rt.alloc(), stored.into_disk(), Version::V2, shape);
+        open.carry = true;
+        best = better(best, time(rt, &mut open, 1)?);
+        carried = Some(open);
+    }
+    let (Some(best), Some(open)) = (best, carried) else {
+        return Ok(false);
+    };
+    println!(rt;
+        "opening that carries over: {} us ({} of 1 done)",
+        best.micros, best.done
+    )?;
+    let disk = measure_openings(rt, open, count)?;
+    Ok(disk.is_some())
+}
+
+/// Measures stores of both versions with a table of this shape.
+fn measure_shape(rt: &HostRuntime, path: &str, shape: Shape, count: usize) -> io::Result<bool> {
+    println!(rt;
+        "allocations: {}, permissions of each: {}, channels of each: {}",
+        shape.entries, shape.permissions, shape.channels
+    )?;
+    for version in [Version::V1, Version::V2] {
+        if !measure_store(rt, path, version, shape, count)? {
+            return Ok(false);
+        }
+    }
+    measure_carrying(rt, path, shape, count)
+}
+
+/// Measures stores over this file with each of three tables. The file is made anew, and removed afterwards.
 pub fn measure_stores(rt: &HostRuntime, path: &str, count: usize) -> io::Result<()> {
     for shape in [Shape::FULL, Shape::PLAIN, Shape::ONE] {
-        if !measure_store(rt, path, shape, count)? {
+        if !measure_shape(rt, path, shape, count)? {
             println!(rt; "a wrong answer")?;
         }
     }

@@ -1,11 +1,11 @@
 -- What a batch more makes of what a store stands for.
 use Rattle.std.proofs.Common.{◌≡◌, ◌⊎◌, inl, inr, ⊎_elim, ◌≤◌, ℕ, List, [], ◌∷◌, ◌++◌, refl, false, sym, subst, arith, append-nil}
-use Rattle.turn_history.specs.Laws.{HasNoTokens}
 use Rattle.turn_disk.specs.Disk.{State, Trace}
 use Rattle.turn_history.specs.History.{Event, History}
 use Rattle.turn_history.specs.Table.{Contents, table}
 use Rattle.turn_record.specs.Bytes as bytes
-use Rattle.turn_record.specs.declared.version.Version.TheVariants.{V1}
+use Rattle.turn_record.specs.Records as records
+use Rattle.turn_record.specs.declared.version.Version.{Version}
 use Rattle.turn_store.specs.Areas.{Form, Holds}
 use Rattle.turn_store.specs.Images.{EitherBy, StandsBy, StandsForAt}
 use Rattle.turn_store.specs.Spells.{HasSize, Spells}
@@ -20,65 +20,70 @@ module _ {D : Type 0} (old : StoreState D) (before : State) (c : ℕ) (h : Histo
   abbrev form : Form
   form = form_of old
 
-  stood : (image : List ℕ) → Holds form rests.snapshot rests.payloads image → StandsForAt form h c image
-  stood image holds = record { snapshot = rests.snapshot; payloads = rests.payloads; holds = holds; spells = rests.spells }
+  abbrev v : Version
+  v = old.version
 
-  stood_by : (image : List ℕ) → Holds form rests.snapshot rests.payloads image → StandsBy form h m image
+  stood : (image : List ℕ) → Holds v form rests.snapshot rests.payloads image → StandsForAt form h c image
+  stood image holds = record { version = v; snapshot = rests.snapshot; payloads = rests.payloads; holds = holds; spells = rests.spells }
+
+  stood_by : (image : List ℕ) → Holds v form rests.snapshot rests.payloads image → StandsBy form h m image
   stood_by image holds = record { clock = c; bounded = follows.clock_late; stands = stood image holds }
 
-  module _ (size : HasSize old.bounds es) (payload : List ℕ) (is : payload ≡ bytes.payload es) where
-    more : (d : ℕ) × (d ≤ m) × Spells old.bounds (h ++ es) d rests.snapshot (rests.payloads ++ payload ∷ [])
+  module _ (size : HasSize old.version old.bounds es) (payload : List ℕ) (is : payload ≡ bytes.payload es) where
+    more : (d : ℕ) × (d ≤ m) × Spells v old.bounds (h ++ es) d rests.snapshot (rests.payloads ++ payload ∷ [])
     more =
-        subst (λ (p : List ℕ). (d : ℕ) × (d ≤ m) × Spells old.bounds (h ++ es) d rests.snapshot (rests.payloads ++ p ∷ [])) (sym is)
-        (frames_go_on old.bounds h c rests.snapshot rests.payloads es m rests.spells follows.fitting follows.from size follows.clock_late follows.late)
+        subst (λ (p : List ℕ). (d : ℕ) × (d ≤ m) × Spells v old.bounds (h ++ es) d rests.snapshot (rests.payloads ++ p ∷ [])) (sym is)
+        (frames_go_on v old.bounds h c rests.snapshot rests.payloads es m rests.spells follows.fitting follows.from size follows.clock_late follows.late)
 
-    framed_by : (image : List ℕ) → Holds form rests.snapshot (rests.payloads ++ payload ∷ []) image → StandsBy form (h ++ es) m image
-    framed_by image holds = record { clock = more.0; bounded = more.1; stands = record { snapshot = rests.snapshot; payloads = rests.payloads ++ payload ∷ []; holds = holds; spells = more.2 } }
+    framed_by : (image : List ℕ) → Holds v form rests.snapshot (rests.payloads ++ payload ∷ []) image → StandsBy form (h ++ es) m image
+    framed_by image holds = record { clock = more.0; bounded = more.1; stands = record { version = v; snapshot = rests.snapshot; payloads = rests.payloads ++ payload ∷ []; holds = holds; spells = more.2 } }
 
-    pub frame_stages : (since now : Trace) → InStages since now (Holds form rests.snapshot rests.payloads) (λ image. Holds form rests.snapshot rests.payloads image ⊎ Holds form rests.snapshot (rests.payloads ++ payload ∷ []) image)
+    pub frame_stages : (since now : Trace) → InStages since now (Holds v form rests.snapshot rests.payloads) (λ image. Holds v form rests.snapshot rests.payloads image ⊎ Holds v form rests.snapshot (rests.payloads ++ payload ∷ []) image)
         → InStages since now (StandsForAt form h c) (EitherBy form h es m)
     frame_stages since now stages =
-        stages_weaken since now (Holds form rests.snapshot rests.payloads) (λ (image : List ℕ). Holds form rests.snapshot rests.payloads image ⊎ Holds form rests.snapshot (rests.payloads ++ payload ∷ []) image)
+        stages_weaken since now (Holds v form rests.snapshot rests.payloads) (λ (image : List ℕ). Holds v form rests.snapshot rests.payloads image ⊎ Holds v form rests.snapshot (rests.payloads ++ payload ∷ []) image)
         (StandsForAt form h c) (EitherBy form h es m) stood
         (λ image either. ⊎_elim (λ holds. inl (stood_by image holds)) (λ holds. inr (framed_by image holds)) either) stages
 
-    pub frame_done : (new : StoreState D) (after : State) → new.bounds ≡ old.bounds → new.stopped ≡ false → Shows new after rests.snapshot (rests.payloads ++ payload ∷ [])
+    pub frame_done : (new : StoreState D) (after : State) → new.version ≡ old.version → new.bounds ≡ old.bounds → new.stopped ≡ false → Shows new after rests.snapshot (rests.payloads ++ payload ∷ [])
         → (d : ℕ) × (d ≤ m) × RestsAt new after d (h ++ es)
-    frame_done new after same runs shows = (
+    frame_done new after version same runs shows = (
       more.0,
       more.1,
       record {
         snapshot = rests.snapshot;
         payloads = rests.payloads ++ payload ∷ [];
         shows = shows;
-        spells = subst (λ b. Spells b (h ++ es) more.0 rests.snapshot (rests.payloads ++ payload ∷ [])) (sym same) more.2;
+        spells = subst (λ b. Spells new.version b (h ++ es) more.0 rests.snapshot (rests.payloads ++ payload ∷ [])) (sym same)
+            (subst (λ (w : Version). Spells w old.bounds (h ++ es) more.0 rests.snapshot (rests.payloads ++ payload ∷ [])) (sym version) more.2);
         runs = runs;
       },
     )
 
-  module _ (contents : Contents) (is : contents ≡ table (h ++ es) m) (none : HasNoTokens contents) where
+  -- a snapshot in a version that can hold the table
+  module _ (w : Version) (contents : Contents) (is : contents ≡ table (h ++ es) m) (can : records.Holds w contents) where
     abbrev next : List ℕ
-    next = bytes.snapshot V1 m contents
+    next = bytes.snapshot w m contents
 
-    spelled : Spells old.bounds (h ++ es) m next []
-    spelled = subst (λ (t : Contents). Spells old.bounds (h ++ es) m (bytes.snapshot V1 m t) []) (sym is) (snapshots_go_on old.bounds (h ++ es) m follows.fitting follows.late follows.in_range (subst HasNoTokens is none))
+    spelled : Spells w old.bounds (h ++ es) m next []
+    spelled = subst (λ (t : Contents). Spells w old.bounds (h ++ es) m (bytes.snapshot w m t) []) (sym is) (snapshots_go_on w old.bounds (h ++ es) m follows.fitting follows.late follows.in_range (subst (records.Holds w) is can))
 
-    next_by : (image : List ℕ) → Holds form next [] image → StandsBy form (h ++ es) m image
-    next_by image holds = record { clock = m; bounded = omega arith; stands = record { snapshot = next; payloads = []; holds = holds; spells = spelled } }
+    next_by : (image : List ℕ) → Holds w form next [] image → StandsBy form (h ++ es) m image
+    next_by image holds = record { clock = m; bounded = omega arith; stands = record { version = w; snapshot = next; payloads = []; holds = holds; spells = spelled } }
 
-    pub snapshot_stages : (since now : Trace) → InStages since now (Holds form rests.snapshot rests.payloads) (λ image. Holds form rests.snapshot rests.payloads image ⊎ Holds form next [] image)
+    pub snapshot_stages : (since now : Trace) → InStages since now (Holds v form rests.snapshot rests.payloads) (λ image. Holds v form rests.snapshot rests.payloads image ⊎ Holds w form next [] image)
         → InStages since now (StandsForAt form h c) (EitherBy form h es m)
     snapshot_stages since now stages =
-        stages_weaken since now (Holds form rests.snapshot rests.payloads) (λ (image : List ℕ). Holds form rests.snapshot rests.payloads image ⊎ Holds form next [] image)
+        stages_weaken since now (Holds v form rests.snapshot rests.payloads) (λ (image : List ℕ). Holds v form rests.snapshot rests.payloads image ⊎ Holds w form next [] image)
         (StandsForAt form h c) (EitherBy form h es m) stood
         (λ image either. ⊎_elim (λ holds. inl (stood_by image holds)) (λ holds. inr (next_by image holds)) either) stages
 
-    pub snapshot_done : (new : StoreState D) (after : State) → new.bounds ≡ old.bounds → new.stopped ≡ false → Shows new after next [] → RestsAt new after m (h ++ es)
-    snapshot_done new after same runs shows = record {
+    pub snapshot_done : (new : StoreState D) (after : State) → new.version ≡ w → new.bounds ≡ old.bounds → new.stopped ≡ false → Shows new after next [] → RestsAt new after m (h ++ es)
+    snapshot_done new after version same runs shows = record {
       snapshot = next;
       payloads = [];
       shows = shows;
-      spells = subst (λ b. Spells b (h ++ es) m next []) (sym same) spelled;
+      spells = subst (λ b. Spells new.version b (h ++ es) m next []) (sym same) (subst (λ (x : Version). Spells x old.bounds (h ++ es) m next []) (sym version) spelled);
       runs = runs;
     }
 
@@ -89,7 +94,7 @@ module _ {D : Type 0} (old : StoreState D) (since : Trace) (c : ℕ) (h : Histor
       let shows = rests.shows.rests in
       stages_first since since (StandsForAt (form_of old) h c) (EitherBy (form_of old) h es m) (λ image stands. inl (record { clock = c; bounded = follows.clock_late; stands = stands }))
       (since_same since since (StandsForAt (form_of old) h c) refl
-      (λ image is. stood old since.now c h es m rests follows image (rests_image (form_of old) old.area.start old.other old.generation old.area.end old.other_is_below rests.snapshot rests.payloads since.now shows image is)))
+      (λ image is. stood old since.now c h es m rests follows image (rests_image old.version (form_of old) old.area.start old.other old.generation old.area.end old.other_is_below rests.snapshot rests.payloads since.now shows image is)))
 
 -- without a batch
 pub alone_stages : (form : Form) (c : ℕ) (h : History) (m : ℕ) (since now : Trace) → InStages since now (StandsForAt form h c) (EitherBy form h [] m) → InStages since now (StandsForAt form h c) (StandsBy form h m)

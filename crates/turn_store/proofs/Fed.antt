@@ -8,7 +8,7 @@ use Rattle.turn_record.specs.Records.{IsSnapshot}
 use Rattle.turn_record.specs.Snapshots.{snapshot_in}
 use Rattle.turn_record.specs.declared.fault.Malformed.{Malformed}
 use Rattle.turn_record.proofs.Snapshots.{snapshot_found, snapshot_again}
-use Rattle.turn_record.specs.declared.version.Version.TheVariants.{V1}
+use Rattle.turn_record.specs.declared.version.Version.{Version}
 use Rattle.turn_store.specs.Bytes.{AreBytes}
 use Rattle.turn_store.specs.Refused.{HasBytes, IsBadSnapshot, IsGoodSnapshot}
 use Rattle.turn_store.specs.Replay.{Snapshot}
@@ -34,20 +34,20 @@ bytes_join xs ys one two i = elim (cases_lt i (length xs)) [
 has_bytes : (at count : ℕ) (c : List ℕ) → at + count ≤ length c → HasBytes at count (take count (drop at c)) c
 has_bytes at count c le = record { long = omega (arith, length-take count (drop at c), length-drop at c, le); stands = stands_read at count (take count (drop at c)) c refl }
 
-pub fed_snapshot : (b : Bounds) → AreInRange b → (bytes : List ℕ) → AreBytes bytes → (s : Snapshot) → snapshot_in V1 b bytes ≡ Ok (s.moment, s.contents) → IsSnapshot V1 b s.moment s.contents
-fed_snapshot b range bytes are s is = (snapshot_found V1 b range bytes are (s.moment, s.contents) is).fits
+pub fed_snapshot : (v : Version) (b : Bounds) → AreInRange b → (bytes : List ℕ) → AreBytes bytes → (s : Snapshot) → snapshot_in v b bytes ≡ Ok (s.moment, s.contents) → IsSnapshot v b s.moment s.contents
+fed_snapshot v b range bytes are s is = (snapshot_found v b range bytes are (s.moment, s.contents) is).fits
 
-pub good_snapshot : (b : Bounds) → AreInRange b → (at count : ℕ) (c : List ℕ) (s : Snapshot) → at + count ≤ length c → AreBytes (take count (drop at c)) → snapshot_in V1 b (take count (drop at c)) ≡ Ok (s.moment, s.contents)
-    → IsGoodSnapshot b at count s c
-good_snapshot b range at count c s le bytes is = record {
+pub good_snapshot : (v : Version) (b : Bounds) → AreInRange b → (at count : ℕ) (c : List ℕ) (s : Snapshot) → at + count ≤ length c → AreBytes (take count (drop at c)) → snapshot_in v b (take count (drop at c)) ≡ Ok (s.moment, s.contents)
+    → IsGoodSnapshot v b at count s c
+good_snapshot v b range at count c s le bytes is = record {
   bytes = take count (drop at c);
   has = has_bytes at count c le;
-  spells = snapshot_found V1 b range (take count (drop at c)) bytes (s.moment, s.contents) is;
+  spells = snapshot_found v b range (take count (drop at c)) bytes (s.moment, s.contents) is;
 }
 
-pub bad_snapshot : (b : Bounds) → AreInRange b → (at count : ℕ) (c : List ℕ) (f : Malformed) → at + count ≤ length c → snapshot_in V1 b (take count (drop at c)) ≡ Err f → IsBadSnapshot b at count c
-bad_snapshot b range at count c f le is = record {
+pub bad_snapshot : (v : Version) (b : Bounds) → AreInRange b → (at count : ℕ) (c : List ℕ) (f : Malformed) → at + count ≤ length c → snapshot_in v b (take count (drop at c)) ≡ Err f → IsBadSnapshot v b at count c
+bad_snapshot v b range at count c f le is = record {
   bytes = take count (drop at c);
   has = has_bytes at count c le;
-  none = λ t contents spelled. let other = sym is ∙ snapshot_again V1 b range (take count (drop at c)) t contents spelled in absurd (cc);
+  none = λ t contents spelled. let other = sym is ∙ snapshot_again v b range (take count (drop at c)) t contents spelled in absurd (cc);
 }

@@ -1,4 +1,5 @@
 pub mod Appends
+pub mod Carried
 pub mod Choices
 pub mod Fed
 pub mod Formats
@@ -10,6 +11,7 @@ pub mod OneTable
 pub mod Opens
 pub mod Replayed
 pub mod Rows
+pub mod Sizes
 pub mod Fronts
 pub mod Sound
 pub mod Spelling

@@ -9,7 +9,7 @@ use Rattle.turn_store.specs.Opened.{LogIsRead}
 use Rattle.turn_history.specs.History.{Event}
 use Rattle.turn_journal.specs.Scan.{IsBadFrame}
 use Rattle.turn_record.specs.Records.{SpellsPayload, max_payload}
-use Rattle.turn_record.specs.declared.version.Version.TheVariants.{V1}
+use Rattle.turn_record.specs.declared.version.Version.{Version}
 use Rattle.turn_store.specs.Refused.{BreaksAt, FaultWith}
 use Rattle.turn_store.specs.Replay.{Snapshot, GoOn, GoesOn, Replays, HasFrames, ReplaysTo}
 use Rattle.turn_store.specs.declared.fault.OpenFault.{OpenFault}
@@ -25,12 +25,12 @@ faults_weaken P Q to LimitsDiffer why = absurd why
 faults_weaken P Q to (Damaged place) why = to place why
 
 -- replayed up to a gate, with so many frames
-pub record SoFar (b : Bounds) (from : ℕ) (s : Snapshot) (gate frames : ℕ) (t : Snapshot) (content : List ℕ) : Type 0 where
-  pub to : ReplaysTo b from s gate t content
+pub record SoFar (v : Version) (b : Bounds) (from : ℕ) (s : Snapshot) (gate frames : ℕ) (t : Snapshot) (content : List ℕ) : Type 0 where
+  pub to : ReplaysTo v b from s gate t content
   pub count : frames ≡ length to.payloads
 
-pub none_yet : (b : Bounds) (from : ℕ) (s : Snapshot) (content : List ℕ) → SoFar b from s from 0 s content
-none_yet b from s content = record { to = record { payloads = []; frames = tt; ends = refl; replays = refl }; count = refl }
+pub none_yet : (v : Version) (b : Bounds) (from : ℕ) (s : Snapshot) (content : List ℕ) → SoFar v b from s from 0 s content
+none_yet v b from s content = record { to = record { payloads = []; frames = tt; ends = refl; replays = refl }; count = refl }
 
 -- a payload with its length before it is a frame, at an open gate
 pub frame_is : (gate count : ℕ) (p c : List ℕ) → length p ≡ count → IsOpen gate c → HasLength gate count c → StandsAt (gate + 5) p c → IsFrame gate p c
@@ -48,13 +48,13 @@ frames_push : (at : ℕ) (ps : List (List ℕ)) (p c : List ℕ) → HasFrames a
 frames_push at [] p c frames frame = (frame, tt)
 frames_push at (q ∷ ps) p c frames frame = (frames.0, frames_push (gate_after at q) ps p c frames.1 frame)
 
-replays_push : (b : Bounds) (s : Snapshot) (ps : List (List ℕ)) (p : List ℕ) (t u : Snapshot) → Replays b s ps t → GoesOn b t p u → Replays b s (ps ++ p ∷ []) u
-replays_push b s [] p t u replays goes = (u, subst (λ (x : Snapshot). GoesOn b x p u) replays goes, refl)
-replays_push b s (q ∷ ps) p t u replays goes = (replays.0, replays.1, replays_push b replays.0 ps p t u replays.2 goes)
+replays_push : (v : Version) (b : Bounds) (s : Snapshot) (ps : List (List ℕ)) (p : List ℕ) (t u : Snapshot) → Replays v b s ps t → GoesOn v b t p u → Replays v b s (ps ++ p ∷ []) u
+replays_push v b s [] p t u replays goes = (u, subst (λ (x : Snapshot). GoesOn v b x p u) replays goes, refl)
+replays_push v b s (q ∷ ps) p t u replays goes = (replays.0, replays.1, replays_push v b replays.0 ps p t u replays.2 goes)
 
-pub one_more : (b : Bounds) (from : ℕ) (s : Snapshot) (gate frames : ℕ) (t u : Snapshot) (p content : List ℕ) → SoFar b from s gate frames t content → IsFrame gate p content → GoesOn b t p u
-    → SoFar b from s (gate_after gate p) (frames + 1) u content
-one_more b from s gate frames t u p content so_far frame goes =
+pub one_more : (v : Version) (b : Bounds) (from : ℕ) (s : Snapshot) (gate frames : ℕ) (t u : Snapshot) (p content : List ℕ) → SoFar v b from s gate frames t content → IsFrame gate p content → GoesOn v b t p u
+    → SoFar v b from s (gate_after gate p) (frames + 1) u content
+one_more v b from s gate frames t u p content so_far frame goes =
     let to = so_far.to in
     let more = to.payloads ++ p ∷ [] in
     record {
@@ -62,7 +62,7 @@ one_more b from s gate frames t u p content so_far frame goes =
         payloads = more;
         frames = frames_push from to.payloads p content to.frames (subst (λ (at : ℕ). IsFrame at p content) (sym to.ends) frame);
         ends = last_gate-push from to.payloads p ∙ ap (λ (at : ℕ). gate_after at p) to.ends;
-        replays = replays_push b s to.payloads p t u to.replays goes;
+        replays = replays_push v b s to.payloads p t u to.replays goes;
       };
       count = omega (arith, so_far.count, length-append to.payloads (p ∷ []));
     }
@@ -72,8 +72,8 @@ frames_close at [] limit c frames closed below = (below, closed)
 frames_close at (q ∷ ps) limit c frames closed below = (frames.0, frames_close (gate_after at q) ps limit c frames.1 closed below)
 
 -- the log ends
-pub all_read : (b : Bounds) (from : ℕ) (s : Snapshot) (gate limit frames : ℕ) (t : Snapshot) (content : List ℕ) → SoFar b from s gate frames t content → IsClosed gate content → gate < limit → LogIsRead b from s gate limit frames t content
-all_read b from s gate limit frames t content so_far closed below =
+pub all_read : (v : Version) (b : Bounds) (from : ℕ) (s : Snapshot) (gate limit frames : ℕ) (t : Snapshot) (content : List ℕ) → SoFar v b from s gate frames t content → IsClosed gate content → gate < limit → LogIsRead v b from s gate limit frames t content
+all_read v b from s gate limit frames t content so_far closed below =
     let to = so_far.to in
     record {
       payloads = to.payloads;
@@ -86,19 +86,19 @@ all_read b from s gate limit frames t content so_far closed below =
     }
 
 -- a frame that isn't one
-pub broken_frame : (b : Bounds) (from limit : ℕ) (s : Snapshot) (gate frames max : ℕ) (t : Snapshot) (content : List ℕ) → SoFar b from s gate frames t content → max ≡ max_payload V1 b
-    → (place : ℕ) → (place ≡ gate) × IsBadFrame place limit max content → BreaksAt b from limit s content place
-broken_frame b from limit s gate frames max t content so_far max_is place is = record {
+pub broken_frame : (v : Version) (b : Bounds) (from limit : ℕ) (s : Snapshot) (gate frames max : ℕ) (t : Snapshot) (content : List ℕ) → SoFar v b from s gate frames t content → max ≡ max_payload v b
+    → (place : ℕ) → (place ≡ gate) × IsBadFrame place limit max content → BreaksAt v b from limit s content place
+broken_frame v b from limit s gate frames max t content so_far max_is place is = record {
   reached = t;
-  before = subst (λ (g : ℕ). ReplaysTo b from s g t content) (sym is.0) so_far.to;
+  before = subst (λ (g : ℕ). ReplaysTo v b from s g t content) (sym is.0) so_far.to;
   bad = inl (subst (λ (n : ℕ). IsBadFrame place limit n content) max_is is.1);
 }
 
 -- a payload that spells no batch that goes on
-pub broken_payload : (b : Bounds) (from limit : ℕ) (s : Snapshot) (gate frames : ℕ) (t : Snapshot) (p content : List ℕ) → SoFar b from s gate frames t content → IsFrame gate p content
-    → ((es : List Event) → SpellsPayload V1 b es p → GoOn b t es → ⊥) → (place : ℕ) → place ≡ gate → BreaksAt b from limit s content place
-broken_payload b from limit s gate frames t p content so_far frame bad place is = record {
+pub broken_payload : (v : Version) (b : Bounds) (from limit : ℕ) (s : Snapshot) (gate frames : ℕ) (t : Snapshot) (p content : List ℕ) → SoFar v b from s gate frames t content → IsFrame gate p content
+    → ((es : List Event) → SpellsPayload v b es p → GoOn b t es → ⊥) → (place : ℕ) → place ≡ gate → BreaksAt v b from limit s content place
+broken_payload v b from limit s gate frames t p content so_far frame bad place is = record {
   reached = t;
-  before = subst (λ (g : ℕ). ReplaysTo b from s g t content) (sym is) so_far.to;
+  before = subst (λ (g : ℕ). ReplaysTo v b from s g t content) (sym is) so_far.to;
   bad = inr (p, subst (λ (g : ℕ). IsFrame g p content) (sym is) frame, bad);
 }

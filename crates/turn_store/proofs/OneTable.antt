@@ -8,7 +8,7 @@ use Rattle.turn_history.proofs.Histories.{same_table}
 use Rattle.turn_record.specs.Bytes.{payload}
 use Rattle.turn_record.specs.Records.{IsBatch}
 use Rattle.turn_record.proofs.Batches.{one_payload}
-use Rattle.turn_record.specs.declared.version.Version.TheVariants.{V1}
+use Rattle.turn_record.specs.declared.version.Version.{Version}
 use Rattle.turn_store.specs.Areas.{Form}
 use Rattle.turn_store.specs.Images.{StandsForAt}
 use Rattle.turn_store.specs.Replay.{Snapshot}
@@ -23,15 +23,15 @@ use Rattle.turn_store.proofs.Superblocks.{superblock_once}
 use Rattle.turn_types.specs.Limits.{AreInRange}
 use Rattle.turn_types.specs.declared.limits.Bounds.{Bounds}
 
-batches_once : (b : Bounds) → AreInRange b → (xs ys : List (List Event)) → AllByRecursion (IsBatch V1 b) xs → AllByRecursion (IsBatch V1 b) ys → map payload xs ≡ map payload ys → xs ≡ ys
-batches_once b range [] [] one two same = refl
-batches_once b range [] (y ∷ ys) one two same = cc
-batches_once b range (x ∷ xs) [] one two same = cc
-batches_once b range (x ∷ xs) (y ∷ ys) one two same =
+batches_once : (v : Version) (b : Bounds) → AreInRange b → (xs ys : List (List Event)) → AllByRecursion (IsBatch v b) xs → AllByRecursion (IsBatch v b) ys → map payload xs ≡ map payload ys → xs ≡ ys
+batches_once v b range [] [] one two same = refl
+batches_once v b range [] (y ∷ ys) one two same = cc
+batches_once v b range (x ∷ xs) [] one two same = cc
+batches_once v b range (x ∷ xs) (y ∷ ys) one two same =
     let heads : payload x ≡ payload y = ap (λ (l : List (List ℕ)). head_of l) same in
     let tails : map payload xs ≡ map payload ys = ap (λ (l : List (List ℕ)). tail_of l) same in
-    let here = (one_payload b range V1 V1 x y [] [] one.0 two.0 (ap (λ (l : List ℕ). l ++ []) heads)).0 in
-    ap (λ (e : List Event). e ∷ xs) here ∙ ap (λ (l : List (List Event)). y ∷ l) (batches_once b range xs ys one.1 two.1 tails)
+    let here = (one_payload b range v v x y [] [] one.0 two.0 (ap (λ (l : List ℕ). l ++ []) heads)).0 in
+    ap (λ (e : List Event). e ∷ xs) here ∙ ap (λ (l : List (List Event)). y ∷ l) (batches_once v b range xs ys one.1 two.1 tails)
   where
     head_of : List (List ℕ) → List ℕ
     head_of [] = []
@@ -42,16 +42,16 @@ batches_once b range (x ∷ xs) (y ∷ ys) one two same =
     tail_of (l ∷ ls) = ls
 
 -- bytes spell one table
-pub one_table : (b : Bounds) → AreInRange b → (g h : History) (c d : ℕ) (s : List ℕ) (ps : List (List ℕ)) → Spells b g c s ps → Spells b h d s ps
+pub one_table : (v : Version) (b : Bounds) → AreInRange b → (g h : History) (c d : ℕ) (s : List ℕ) (ps : List (List ℕ)) → Spells v b g c s ps → Spells v b h d s ps
     → (c ≡ d) × ((t : ℕ) → c ≤ t → table g t ≡ table h t)
-one_table b range g h c d s ps one two =
-    let parts = of_spelled b g c s ps one in
-    let others = of_spelled b h d s ps two in
+one_table v b range g h c d s ps one two =
+    let parts = of_spelled v b g c s ps one in
+    let others = of_spelled v b h d s ps two in
     let first : at one.before one.moment ≡ at two.before two.moment =
-    spelled_once b range (at one.before one.moment) (at two.before two.moment) s (front_is b g c s ps one) (front_is b h d s ps two) in
+    spelled_once v b range (at one.before one.moment) (at two.before two.moment) s (front_is v b g c s ps one) (front_is v b h d s ps two) in
     let moments : one.moment ≡ two.moment = ap (λ (x : Snapshot). x.moment) first in
     let tables : table one.before one.moment ≡ table two.before two.moment = ap (λ (x : Snapshot). x.contents) first in
-    let batches : one.batches ≡ two.batches = batches_once b range one.batches two.batches (are_batches b one.before one.batches parts.1 one.sizes) (are_batches b two.before two.batches others.1 two.sizes)
+    let batches : one.batches ≡ two.batches = batches_once v b range one.batches two.batches (are_batches v b one.before one.batches parts.1 one.sizes) (are_batches v b two.before two.batches others.1 two.sizes)
     (sym one.are_payloads ∙ two.are_payloads) in
     let events : all_of one.batches ≡ all_of two.batches = ap all_of batches in
     let clocks : c ≡ d = one.clock_is ∙ ap (λ (m : ℕ). max m (clock (all_of one.batches))) moments ∙ ap (λ (l : History). max two.moment (clock l)) events ∙ sym two.clock_is in
@@ -73,12 +73,13 @@ image_once first second g h c d image one two =
     let blocks = superblock_once first.area second.area first.bounds second.bounds image (has_superblock first g c image one) (has_superblock second h d image two) in
     let a = one.holds in
     let b = two.holds in
-    let here : HoldsHere first.area a.start a.other a.generation one.snapshot one.payloads image = record { places = a.places; area = a.area; yields = a.yields } in
-    let there : HoldsHere second.area b.start b.other b.generation two.snapshot two.payloads image = record { places = b.places; area = b.area; yields = b.yields } in
-    let once = holds_once first.area a.start a.other a.generation b.start b.other b.generation one.snapshot two.snapshot one.payloads two.payloads image here
-    (subst (λ (n : ℕ). HoldsHere n b.start b.other b.generation two.snapshot two.payloads image) (sym blocks.0) there) in
-    let bounds_there = subst (λ (x : Bounds). Spells x h d two.snapshot two.payloads) (sym blocks.1) two.spells in
-    let snapshot_there = subst (λ (s : List ℕ). Spells first.bounds h d s two.payloads) (sym once.0) bounds_there in
-    let spells = subst (λ (ps : List (List ℕ)). Spells first.bounds h d one.snapshot ps) (sym once.1) snapshot_there in
-    let tables = one_table first.bounds a.is_form.in_range g h c d one.snapshot one.payloads one.spells spells in
+    let here : HoldsHere one.version first.area a.start a.other a.generation one.snapshot one.payloads image = record { places = a.places; area = a.area; yields = a.yields } in
+    let there : HoldsHere two.version second.area b.start b.other b.generation two.snapshot two.payloads image = record { places = b.places; area = b.area; yields = b.yields } in
+    let once = holds_once one.version two.version first.area a.start a.other a.generation b.start b.other b.generation one.snapshot two.snapshot one.payloads two.payloads image here
+    (subst (λ (n : ℕ). HoldsHere two.version n b.start b.other b.generation two.snapshot two.payloads image) (sym blocks.0) there) in
+    let bounds_there = subst (λ (x : Bounds). Spells two.version x h d two.snapshot two.payloads) (sym blocks.1) two.spells in
+    let version_there = subst (λ (v : Version). Spells v first.bounds h d two.snapshot two.payloads) (sym once.0) bounds_there in
+    let snapshot_there = subst (λ (s : List ℕ). Spells one.version first.bounds h d s two.payloads) (sym once.1) version_there in
+    let spells = subst (λ (ps : List (List ℕ)). Spells one.version first.bounds h d one.snapshot ps) (sym once.2) snapshot_there in
+    let tables = one_table one.version first.bounds a.is_form.in_range g h c d one.snapshot one.payloads one.spells spells in
     (form_is first.bounds second.bounds first.area second.area blocks.1 blocks.0, tables.0, tables.1)

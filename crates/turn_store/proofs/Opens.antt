@@ -2,6 +2,7 @@
 use Rattle.std.proofs.Common.{◌≡◌, ◌*◌, ◌+◌, ◌^◌, ◌<◌, ◌≤◌, ℕ, List, length, false, sym, ◌∙◌, ap, subst, arith}
 use Rattle.turn_disk.specs.Disk.{State, IsSettled}
 use Rattle.turn_history.specs.History.{History}
+use Rattle.turn_record.specs.declared.version.Version.{Version}
 use Rattle.turn_store.specs.Areas.{Form}
 use Rattle.turn_store.specs.Images.{StandsForAt}
 use Rattle.turn_store.specs.Opened.{IsChosen, IsOpened, OpensTo}
@@ -14,9 +15,9 @@ use Rattle.turn_store.proofs.Sound.{HoldsHere, holds_once}
 use Rattle.turn_store.proofs.Superblocks.{superblock_once}
 use Rattle.turn_types.specs.declared.limits.Bounds.{Bounds}
 
-pub opened : {D : Type 0} (store : StoreState D) (state : State) (t : Snapshot) → IsSettled state → HasSuperblock store.area.size store.bounds state.bytes → least_area store.bounds ≤ store.area.size
+pub opened : {D : Type 0} (store : StoreState D) (state : State) (t : Snapshot) → IsSettled state → HasSuperblock store.area.size store.bounds state.bytes → least_area store.version store.bounds ≤ store.area.size
     → length state.bytes ≡ 64 + 2 * store.area.size → 64 + 2 * store.area.size < 2 ^ 64
-    → IsChosen store.bounds store.area.size store.area.start store.other store.generation store.area.end store.frames store.other_is_below t state.bytes → IsOpened store state t
+    → IsChosen store.version store.bounds store.area.size store.area.start store.other store.generation store.area.end store.frames store.other_is_below t state.bytes → IsOpened store state t
 opened store state t settled has room whole addressable chosen = record {
   snapshot = chosen.snapshot;
   first = chosen.first;
@@ -57,16 +58,17 @@ opens_to form h clock store state t is same runs stands =
     let fits = rests.holds.is_form.addressable in
     let mine : HasSuperblock store.area.size store.bounds state.bytes = record { long = omega arith; addressable = omega arith; in_range = range; stands = rests.holds.front } in
     let size : store.area.size ≡ form.area = (superblock_once store.area.size form.area store.bounds form.bounds state.bytes mine (has_superblock form h clock state.bytes stands)).0 in
-    let here : HoldsHere store.area.size store.area.start store.other store.generation is.snapshot is.payloads state.bytes = record { places = rests.holds.places; area = rests.holds.area; yields = rests.yields } in
+    let here : HoldsHere store.version store.area.size store.area.start store.other store.generation is.snapshot is.payloads state.bytes = record { places = rests.holds.places; area = rests.holds.area; yields = rests.yields } in
     let its = stands.holds in
-    let there : HoldsHere form.area its.start its.other its.generation stands.snapshot stands.payloads state.bytes = record { places = its.places; area = its.area; yields = its.yields } in
-    let once = holds_once store.area.size store.area.start store.other store.generation its.start its.other its.generation is.snapshot stands.snapshot is.payloads stands.payloads state.bytes here
-    (subst (λ (n : ℕ). HoldsHere n its.start its.other its.generation stands.snapshot stands.payloads state.bytes) (sym size) there) in
-    let bounds_there = subst (λ (b : Bounds). Spells b h clock stands.snapshot stands.payloads) (sym same) stands.spells in
-    let snapshot_there = subst (λ (s : List ℕ). Spells store.bounds h clock s stands.payloads) (sym once.0) bounds_there in
-    let spells = subst (λ (ps : List (List ℕ)). Spells store.bounds h clock is.snapshot ps) (sym once.1) snapshot_there in
+    let there : HoldsHere stands.version form.area its.start its.other its.generation stands.snapshot stands.payloads state.bytes = record { places = its.places; area = its.area; yields = its.yields } in
+    let once = holds_once store.version stands.version store.area.size store.area.start store.other store.generation its.start its.other its.generation is.snapshot stands.snapshot is.payloads stands.payloads state.bytes here
+    (subst (λ (n : ℕ). HoldsHere stands.version n its.start its.other its.generation stands.snapshot stands.payloads state.bytes) (sym size) there) in
+    let bounds_there = subst (λ (b : Bounds). Spells stands.version b h clock stands.snapshot stands.payloads) (sym same) stands.spells in
+    let version_there = subst (λ (v : Version). Spells v store.bounds h clock stands.snapshot stands.payloads) (sym once.0) bounds_there in
+    let snapshot_there = subst (λ (s : List ℕ). Spells store.version store.bounds h clock s stands.payloads) (sym once.1) version_there in
+    let spells = subst (λ (ps : List (List ℕ)). Spells store.version store.bounds h clock is.snapshot ps) (sym once.2) snapshot_there in
     record {
       same_form = form_is store.bounds form.bounds store.area.size form.area same size;
       rests = record { snapshot = is.snapshot; payloads = is.payloads; shows = is.shows; spells = spells; runs = runs };
-      table_is = replayed store.bounds range h clock is.snapshot is.payloads spells is.first t is.spells is.replays;
+      table_is = replayed store.version store.bounds range h clock is.snapshot is.payloads spells is.first t is.spells is.replays;
     }

@@ -17,7 +17,7 @@ use Rattle.turn_record.specs.Bytes.{payload}
 use Rattle.turn_record.specs.Records.{IsBatch, SpellsPayload, max_payload}
 use Rattle.turn_record.proofs.Batches.{one_payload}
 use Rattle.turn_record.proofs.Sizes.{payload_at_most}
-use Rattle.turn_record.specs.declared.version.Version.TheVariants.{V1}
+use Rattle.turn_record.specs.declared.version.Version.{Version}
 use Rattle.turn_store.specs.Refused.{IsBadAt}
 use Rattle.turn_store.specs.Replay.{Snapshot, IsNext, GoOn, GoesOn, Replays, HasFrames, after, after_all}
 use Rattle.turn_store.specs.Spells.{all_of}
@@ -58,9 +58,9 @@ events_replay b g m (e ∷ es) fits from =
     )
 
 -- what a payload of a batch spells is that batch
-batch_of : (b : Bounds) → AreInRange b → (es : List Event) → IsBatch V1 b es → (s t : Snapshot) → GoesOn b s (payload es) t → (t ≡ after_all s es) × GoOn b s es
-batch_of b range es is s t goes =
-    let same : goes.events ≡ es = (one_payload b range V1 V1 goes.events es [] [] goes.spells.batch is (ap (λ (l : List ℕ). l ++ []) (sym goes.spells.is))).0 in
+batch_of : (v : Version) (b : Bounds) → AreInRange b → (es : List Event) → IsBatch v b es → (s t : Snapshot) → GoesOn v b s (payload es) t → (t ≡ after_all s es) × GoOn b s es
+batch_of v b range es is s t goes =
+    let same : goes.events ≡ es = (one_payload b range v v goes.events es [] [] goes.spells.batch is (ap (λ (l : List ℕ). l ++ []) (sym goes.spells.is))).0 in
     (goes.ends ∙ ap (after_all s) same, subst (GoOn b s) same goes.goes)
 
 from_rest : (m : ℕ) (es more : List Event) → AllFrom m (es ++ more) → AllFrom m more
@@ -97,45 +97,45 @@ onwards b g m es more fits from le =
     }
 
 -- what the payloads of batches that fit after a history make of its table
-pub batches_replay : (b : Bounds) → AreInRange b → (g : History) (m : ℕ) (bs : List (List Event)) (u : Snapshot) → FitsAfter b g (all_of bs) → AllFrom m (all_of bs) → clock g ≤ m → AllByRecursion (IsBatch V1 b) bs
-    → Replays b (at g m) (map payload bs) u → u ≡ at (g ++ all_of bs) (max m (clock (all_of bs)))
-batches_replay b range g m [] u fits from le are replays = replays ∙ same_at g (g ++ []) m (max m 0) (sym (append-nil g)) (omega arith)
-batches_replay b range g m (es ∷ bs) u fits from le are replays =
+pub batches_replay : (v : Version) (b : Bounds) → AreInRange b → (g : History) (m : ℕ) (bs : List (List Event)) (u : Snapshot) → FitsAfter b g (all_of bs) → AllFrom m (all_of bs) → clock g ≤ m → AllByRecursion (IsBatch v b) bs
+    → Replays v b (at g m) (map payload bs) u → u ≡ at (g ++ all_of bs) (max m (clock (all_of bs)))
+batches_replay v b range g m [] u fits from le are replays = replays ∙ same_at g (g ++ []) m (max m 0) (sym (append-nil g)) (omega arith)
+batches_replay v b range g m (es ∷ bs) u fits from le are replays =
     let on = onwards b g m es (all_of bs) fits from le in
-    let one = batch_of b range es are.0 (at g m) replays.0 replays.1 in
-    let there : Replays b (at (g ++ es) (max m (clock es))) (map payload bs) u = subst (λ (s : Snapshot). Replays b s (map payload bs) u) (one.0 ∙ on.ends) replays.2 in
-    batches_replay b range (g ++ es) (max m (clock es)) bs u on.fits on.from on.late are.1 there
+    let one = batch_of v b range es are.0 (at g m) replays.0 replays.1 in
+    let there : Replays v b (at (g ++ es) (max m (clock es))) (map payload bs) u = subst (λ (s : Snapshot). Replays v b s (map payload bs) u) (one.0 ∙ on.ends) replays.2 in
+    batches_replay v b range (g ++ es) (max m (clock es)) bs u on.fits on.from on.late are.1 there
     ∙ same_at ((g ++ es) ++ all_of bs) (g ++ (es ++ all_of bs)) (max (max m (clock es)) (clock (all_of bs))) (max m (clock (es ++ all_of bs))) (append_assoc g es (all_of bs)) on.clocks
 
 -- a frame that an area holds is found, and so not bad
-found_there : (b : Bounds) (gate limit : ℕ) (p : List ℕ) (ps : List (List ℕ)) (c : List ℕ) → HoldsFrames gate (p ∷ ps) limit c → length p ≤ max_payload V1 b → IsFound gate limit (max_payload V1 b) c (Frame (length p))
-found_there b gate limit p ps c holds short =
+found_there : (v : Version) (b : Bounds) (gate limit : ℕ) (p : List ℕ) (ps : List (List ℕ)) (c : List ℕ) → HoldsFrames gate (p ∷ ps) limit c → length p ≤ max_payload v b → IsFound gate limit (max_payload v b) c (Frame (length p))
+found_there v b gate limit p ps c holds short =
     let last = last_gate_below (gate_after gate p) ps limit c holds.1 in
     let from = last_gate_above (gate_after gate p) ps in
     (holds.0.is_open, frame_length gate p c holds.0, (short, omega arith))
 
 -- frames of such batches have no bad one among them or after them
-pub no_break : (b : Bounds) → AreInRange b → (g : History) (m : ℕ) (bs : List (List Event)) (gate limit : ℕ) (c : List ℕ) (qs : List (List ℕ)) (bad : ℕ) (t : Snapshot)
-    → FitsAfter b g (all_of bs) → AllFrom m (all_of bs) → clock g ≤ m → AllByRecursion (IsBatch V1 b) bs → HoldsFrames gate (map payload bs) limit c
-    → HasFrames gate qs c → last_gate gate qs ≡ bad → Replays b (at g m) qs t → IsBadAt b bad limit t c → ⊥
-no_break b range g m [] gate limit c [] bad t fits from le are holds frames ends replays is =
+pub no_break : (v : Version) (b : Bounds) → AreInRange b → (g : History) (m : ℕ) (bs : List (List Event)) (gate limit : ℕ) (c : List ℕ) (qs : List (List ℕ)) (bad : ℕ) (t : Snapshot)
+    → FitsAfter b g (all_of bs) → AllFrom m (all_of bs) → clock g ≤ m → AllByRecursion (IsBatch v b) bs → HoldsFrames gate (map payload bs) limit c
+    → HasFrames gate qs c → last_gate gate qs ≡ bad → Replays v b (at g m) qs t → IsBadAt v b bad limit t c → ⊥
+no_break v b range g m [] gate limit c [] bad t fits from le are holds frames ends replays is =
     let closed : slice_index c bad ≡ 165 → ⊥ = λ opened. holds.1 (ap (λ (i : ℕ). slice_index c i) ends ∙ opened) in
-    ⊎_elim (λ broken. closed broken.0) (λ (other : (p : List ℕ) × IsFrame bad p c × ((es : List Event) → SpellsPayload V1 b es p → GoOn b t es → ⊥)). closed other.1.is_open) is
-no_break b range g m [] gate limit c (q ∷ qs) bad t fits from le are holds frames ends replays is = holds.1 frames.0.is_open
-no_break b range g m (es ∷ bs) gate limit c [] bad t fits from le are holds frames ends replays is =
+    ⊎_elim (λ broken. closed broken.0) (λ (other : (p : List ℕ) × IsFrame bad p c × ((es : List Event) → SpellsPayload v b es p → GoOn b t es → ⊥)). closed other.1.is_open) is
+no_break v b range g m [] gate limit c (q ∷ qs) bad t fits from le are holds frames ends replays is = holds.1 frames.0.is_open
+no_break v b range g m (es ∷ bs) gate limit c [] bad t fits from le are holds frames ends replays is =
     let on = onwards b g m es (all_of bs) fits from le in
-    let here : IsBadAt b gate limit (at g m) c = subst (λ (s : Snapshot). IsBadAt b gate limit s c) replays (subst (λ (n : ℕ). IsBadAt b n limit t c) (sym ends) is) in
+    let here : IsBadAt v b gate limit (at g m) c = subst (λ (s : Snapshot). IsBadAt v b gate limit s c) replays (subst (λ (n : ℕ). IsBadAt v b n limit t c) (sym ends) is) in
     ⊎_elim
-    (λ broken. found_is_good gate limit (max_payload V1 b) c (Frame (length (payload es))) (found_there b gate limit (payload es) (map payload bs) c holds (payload_at_most V1 b es are.0)) broken)
-    (λ (other : (p : List ℕ) × IsFrame gate p c × ((fs : List Event) → SpellsPayload V1 b fs p → GoOn b (at g m) fs → ⊥)).
+    (λ broken. found_is_good gate limit (max_payload v b) c (Frame (length (payload es))) (found_there v b gate limit (payload es) (map payload bs) c holds (payload_at_most v b es are.0)) broken)
+    (λ (other : (p : List ℕ) × IsFrame gate p c × ((fs : List Event) → SpellsPayload v b fs p → GoOn b (at g m) fs → ⊥)).
     other.2 es (record { batch = are.0; is = frame_once gate other.0 (payload es) c other.1 holds.0 }) on.goes)
     here
-no_break b range g m (es ∷ bs) gate limit c (q ∷ qs) bad t fits from le are holds frames ends replays is =
+no_break v b range g m (es ∷ bs) gate limit c (q ∷ qs) bad t fits from le are holds frames ends replays is =
     let on = onwards b g m es (all_of bs) fits from le in
     let same : q ≡ payload es = frame_once gate q (payload es) c frames.0 holds.0 in
-    let goes : GoesOn b (at g m) (payload es) replays.0 = subst (λ (p : List ℕ). GoesOn b (at g m) p replays.0) same replays.1 in
-    let one = batch_of b range es are.0 (at g m) replays.0 goes in
-    let there : Replays b (at (g ++ es) (max m (clock es))) qs t = subst (λ (s : Snapshot). Replays b s qs t) (one.0 ∙ on.ends) replays.2 in
+    let goes : GoesOn v b (at g m) (payload es) replays.0 = subst (λ (p : List ℕ). GoesOn v b (at g m) p replays.0) same replays.1 in
+    let one = batch_of v b range es are.0 (at g m) replays.0 goes in
+    let there : Replays v b (at (g ++ es) (max m (clock es))) qs t = subst (λ (s : Snapshot). Replays v b s qs t) (one.0 ∙ on.ends) replays.2 in
     let frames_there : HasFrames (gate_after gate (payload es)) qs c = subst (λ (p : List ℕ). HasFrames (gate_after gate p) qs c) same frames.1 in
     let ends_there : last_gate (gate_after gate (payload es)) qs ≡ bad = subst (λ (p : List ℕ). last_gate (gate_after gate p) qs ≡ bad) same ends in
-    no_break b range (g ++ es) (max m (clock es)) bs (gate_after gate (payload es)) limit c qs bad t on.fits on.from on.late are.1 holds.1 frames_there ends_there there is
+    no_break v b range (g ++ es) (max m (clock es)) bs (gate_after gate (payload es)) limit c qs bad t on.fits on.from on.late are.1 holds.1 frames_there ends_there there is

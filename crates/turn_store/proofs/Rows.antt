@@ -6,41 +6,42 @@ use Rattle.turn_disk.proofs.Since.{image_settled}
 use Rattle.turn_disk.specs.Disk.{IsImage, ChangesOnly, StandsAt, State, WritesThrough, IsSettled}
 use Rattle.turn_journal.specs.Frames.{open_gate, IsOpen, IsClosed, last_gate, HoldsFrames, HoldsFramesTo, HoldsWithout, HoldsWithOrWithout, HoldsWith}
 use Rattle.turn_journal.proofs.Growing.{stands_keeps, stands_front, frames_keep, last_gate_above, last_is_closed}
-use Rattle.turn_store.specs.Areas.{Form, area_front, AreaHolds, IsBelow, Yields, AreAreas, Holds, HoldsAt, RestsOn}
-use Rattle.turn_store.specs.Superblock.{superblock}
+use Rattle.turn_record.specs.declared.version.Version.{Version}
+use Rattle.turn_store.specs.Areas.{Form, IsForm, version_byte, area_front, AreaHolds, IsBelow, Yields, AreAreas, Holds, HoldsAt, RestsOn}
+use Rattle.turn_store.specs.Superblock.{superblock, least_area}
 use Rattle.turn_store.proofs.Numbers.{stands_back, one_stands}
 use Rattle.turn_store.proofs.Superblocks.{length-superblock}
 
-pub length-area_front : (generation : ℕ) (snapshot : List ℕ) → length (area_front generation snapshot) ≡ 13 + length snapshot
+pub length-area_front : (v : Version) (generation : ℕ) (snapshot : List ℕ) → length (area_front v generation snapshot) ≡ 13 + length snapshot
 unfolding area_front
-length-area_front generation snapshot = omega arith
+length-area_front v generation snapshot = omega arith
 
 -- the generation follows the version
-pub front_generation : (start generation : ℕ) (snapshot c : List ℕ) → StandsAt (start + 1) (area_front generation snapshot) c → StandsAt (start + 2) (to_be_bytes w64 generation) c
+pub front_generation : (v : Version) (start generation : ℕ) (snapshot c : List ℕ) → StandsAt (start + 1) (area_front v generation snapshot) c → StandsAt (start + 2) (to_be_bytes w64 generation) c
 unfolding area_front
-front_generation start generation snapshot c stands =
+front_generation v start generation snapshot c stands =
     let rest = to_be_bytes w32 (length snapshot) ++ snapshot in
     let place : start + 1 + 1 ≡ start + 2 = omega arith in
     subst (λ (at : ℕ). StandsAt at (to_be_bytes w64 generation) c) place
-    (stands_front (start + 1 + 1) (to_be_bytes w64 generation) rest c (stands_back (start + 1) (1 ∷ []) (to_be_bytes w64 generation ++ rest) c stands))
+    (stands_front (start + 1 + 1) (to_be_bytes w64 generation) rest c (stands_back (start + 1) (version_byte v ∷ []) (to_be_bytes w64 generation ++ rest) c stands))
 
 pub last_gate_below : (at : ℕ) (payloads : List (List ℕ)) (limit : ℕ) (c : List ℕ) → HoldsFrames at payloads limit c → last_gate at payloads < limit
 last_gate_below at [] limit c frames = frames.0
 last_gate_below at (p ∷ payloads) limit c frames = last_gate_below (at + 5 + length p) payloads limit c frames.1
 
 -- an area is what its own bytes make it
-area_keeps : (start size generation : ℕ) (snapshot : List ℕ) (payloads : List (List ℕ)) (c d : List ℕ) → AreaHolds start size generation snapshot payloads c
-    → ((i : ℕ) → start ≤ i → i < start + size → slice_index d i ≡ slice_index c i) → AreaHolds start size generation snapshot payloads d
-area_keeps start size generation snapshot payloads c d area same =
+area_keeps : (v : Version) (start size generation : ℕ) (snapshot : List ℕ) (payloads : List (List ℕ)) (c d : List ℕ) → AreaHolds v start size generation snapshot payloads c
+    → ((i : ℕ) → start ≤ i → i < start + size → slice_index d i ≡ slice_index c i) → AreaHolds v start size generation snapshot payloads d
+area_keeps v start size generation snapshot payloads c d area same =
     let first = start + 14 + length snapshot in
     let above = last_gate_above first payloads in
     let below = last_gate_below first payloads (start + size) c area.frames in
-    let long = length-area_front generation snapshot in
+    let long = length-area_front v generation snapshot in
     record {
       in_range = area.in_range;
       short = area.short;
       is_open = same start (omega arith) (omega arith) ∙ area.is_open;
-      front = stands_keeps (start + 1) (area_front generation snapshot) c d area.front (λ i low high. same i (omega arith) (omega arith));
+      front = stands_keeps (start + 1) (area_front v generation snapshot) c d area.front (λ i low high. same i (omega arith) (omega arith));
       frames = frames_keep first payloads (start + size) c d area.frames (λ i low high. same i (omega arith) (omega arith))
           (λ opened. last_is_closed first payloads (start + size) c area.frames (sym (same (last_gate first payloads) (omega arith) (omega arith)) ∙ opened));
     }
@@ -69,7 +70,7 @@ swapped : (size start other : ℕ) → AreAreas size start other → AreAreas si
 swapped size start other (inl places) = inr (places.1, places.0)
 swapped size start other (inr places) = inl (places.1, places.0)
 
-module _ (form : Form) (start other generation : ℕ) (snapshot : List ℕ) (payloads : List (List ℕ)) (state : State) (holds : HoldsAt form start other generation snapshot payloads state) where
+module _ (v : Version) (form : Form) (start other generation : ℕ) (snapshot : List ℕ) (payloads : List (List ℕ)) (state : State) (holds : HoldsAt v form start other generation snapshot payloads state) where
   abbrev size : ℕ
   size = form.area
 
@@ -89,7 +90,7 @@ module _ (form : Form) (start other generation : ℕ) (snapshot : List ℕ) (pay
   long_enough = omega (arith, above, below_end)
 
   -- bytes of the other area alone have changed, and it doesn't count
-  other_changes : (from count : ℕ) (image : List ℕ) → ChangesOnly from count state.bytes image → other ≤ from → from + count ≤ other + size → Yields other generation image → Holds form snapshot payloads image
+  other_changes : (from count : ℕ) (image : List ℕ) → ChangesOnly from count state.bytes image → other ≤ from → from + count ≤ other + size → Yields other generation image → Holds v form snapshot payloads image
   other_changes from count image changes low high yields =
       let after = after_superblock size start other holds.places in
       let long = length-superblock form.area form.bounds in
@@ -101,28 +102,28 @@ module _ (form : Form) (start other generation : ℕ) (snapshot : List ℕ) (pay
         other = other;
         places = holds.places;
         generation = generation;
-        area = area_keeps start size generation snapshot payloads state.bytes image holds.area (apart size start other from count state.bytes image holds.places changes low high);
+        area = area_keeps v start size generation snapshot payloads state.bytes image holds.area (apart size start other from count state.bytes image holds.places changes low high);
         yields = yields;
       }
 
   -- no call
-  pub row_none : (image : List ℕ) → image ≡ state.bytes → Yields other generation state.bytes → Holds form snapshot payloads image
-  row_none image same yields = subst (Holds form snapshot payloads) (sym same)
+  pub row_none : (image : List ℕ) → image ≡ state.bytes → Yields other generation state.bytes → Holds v form snapshot payloads image
+  row_none image same yields = subst (Holds v form snapshot payloads) (sym same)
       (other_changes other 0 state.bytes (record { size = refl; before = λ i l. refl; after = λ i l. refl }) (omega arith) (omega arith) yields)
 
   -- close: the gate may be torn open, where the generation is below
-  pub row_close : (image : List ℕ) → ChangesOnly other 1 state.bytes image → IsBelow other generation state.bytes → Holds form snapshot payloads image
+  pub row_close : (image : List ℕ) → ChangesOnly other 1 state.bytes image → IsBelow other generation state.bytes → Holds v form snapshot payloads image
   row_close image changes below =
       let enough = long_enough in
       other_changes other 1 image changes (omega arith) (omega arith) (inr (below_keeps other generation state.bytes image below (λ i low high. changes.after i (omega arith))))
 
   -- fill: the gate stays closed
-  pub row_fill : (count : ℕ) (image : List ℕ) → ChangesOnly (other + 1) count state.bytes image → count + 1 ≤ size → IsClosed other state.bytes → Holds form snapshot payloads image
+  pub row_fill : (count : ℕ) (image : List ℕ) → ChangesOnly (other + 1) count state.bytes image → count + 1 ≤ size → IsClosed other state.bytes → Holds v form snapshot payloads image
   row_fill count image changes fits closed =
       other_changes (other + 1) count image changes (omega arith) (omega arith) (inl (λ opened. closed (sym (changes.before other (omega arith)) ∙ opened)))
 
   -- the same area after a change in the other one
-  holds_on : (from count : ℕ) (new : State) → ChangesOnly from count state.bytes new.bytes → other ≤ from → from + count ≤ other + size → IsSettled new → HoldsAt form start other generation snapshot payloads new
+  holds_on : (from count : ℕ) (new : State) → ChangesOnly from count state.bytes new.bytes → other ≤ from → from + count ≤ other + size → IsSettled new → HoldsAt v form start other generation snapshot payloads new
   holds_on from count new changes low high settled =
       let after = after_superblock size start other holds.places in
       let long = length-superblock form.area form.bounds in
@@ -132,20 +133,20 @@ module _ (form : Form) (start other generation : ℕ) (snapshot : List ℕ) (pay
         front = stands_keeps 0 sb state.bytes new.bytes holds.front (λ i l h. changes.before i (omega (arith, long, after.1)));
         whole = changes.size ∙ holds.whole;
         places = holds.places;
-        area = area_keeps start size generation snapshot payloads state.bytes new.bytes holds.area (apart size start other from count state.bytes new.bytes holds.places changes low high);
+        area = area_keeps v start size generation snapshot payloads state.bytes new.bytes holds.area (apart size start other from count state.bytes new.bytes holds.places changes low high);
       }
 
   -- bytes from the area's last gate on have changed alone
   module _ (end from count : ℕ) (image : List ℕ) (ends : last_gate (start + 14 + length snapshot) payloads ≡ start + end) (low : start + end ≤ from) (fits : from + count ≤ start + size) (changes : ChangesOnly from count state.bytes image) (now : List (List ℕ)) (frames : HoldsFrames (start + 14 + length snapshot) now (start + size) image) where
-    area_with : AreaHolds start size generation snapshot now image
+    area_with : AreaHolds v start size generation snapshot now image
     area_with =
         let ab = above in
-        let long = length-area_front generation snapshot in
+        let long = length-area_front v generation snapshot in
         record {
           in_range = holds.area.in_range;
           short = holds.area.short;
           is_open = changes.before start (omega (arith, ends)) ∙ holds.area.is_open;
-          front = stands_keeps (start + 1) (area_front generation snapshot) state.bytes image holds.area.front (λ i l h. changes.before i (omega (arith, ends)));
+          front = stands_keeps (start + 1) (area_front v generation snapshot) state.bytes image holds.area.front (λ i l h. changes.before i (omega (arith, ends)));
           frames = frames;
         }
 
@@ -159,7 +160,7 @@ module _ (form : Form) (start other generation : ℕ) (snapshot : List ℕ) (pay
     other_same : (i : ℕ) → other ≤ i → i < other + size → slice_index image i ≡ slice_index state.bytes i
     other_same = apart size other start from count state.bytes image (swapped size start other holds.places) changes (omega arith) fits
 
-    holds_with : Yields other generation state.bytes → Holds form snapshot now image
+    holds_with : Yields other generation state.bytes → Holds v form snapshot now image
     holds_with yields =
         let enough = long_enough in
         record {
@@ -174,16 +175,16 @@ module _ (form : Form) (start other generation : ℕ) (snapshot : List ℕ) (pay
           yields = yields_keeps other generation state.bytes image yields (λ i l h. other_same i l (omega arith));
         }
 
-  module _ (end : ℕ) (is_below : Bool) (rests : RestsOn form start other generation end is_below snapshot payloads state) where
+  module _ (end : ℕ) (is_below : Bool) (rests : RestsOn v form start other generation end is_below snapshot payloads state) where
     -- frame, before its gate is written: the frames from before
     pub row_staged : (count : ℕ) (image : List ℕ) → end + 1 + count ≤ size → HoldsWithout (start + 14 + length snapshot) payloads (start + end) count (start + size) state.bytes image
-        → Holds form snapshot payloads image
+        → Holds v form snapshot payloads image
     row_staged count image fits is = holds_with end (start + end + 1) count image rests.ends (omega arith) (omega arith) is.others payloads is.frames rests.yields
 
     -- frame: the frames from before, with the new one or without
     pub row_frame : (payload image : List ℕ) → end + (6 + length payload) ≤ size
         → HoldsWithOrWithout (start + 14 + length snapshot) payloads payload (start + end) (6 + length payload) (start + size) state.bytes image
-        → Holds form snapshot payloads image ⊎ Holds form snapshot (payloads ++ payload ∷ []) image
+        → Holds v form snapshot payloads image ⊎ Holds v form snapshot (payloads ++ payload ∷ []) image
     row_frame payload image fits is =
         ⊎_elim
         (λ frames. inl (holds_with end (start + end) (6 + length payload) image rests.ends (omega arith) (omega arith) is.others payloads frames rests.yields))
@@ -193,7 +194,7 @@ module _ (form : Form) (start other generation : ℕ) (snapshot : List ℕ) (pay
     -- and once the frame's gate is open
     pub after_frame : (payload : List ℕ) (new : State) → end + (6 + length payload) ≤ size
         → IsSettled new → HoldsWith (start + 14 + length snapshot) payloads payload (start + end) (6 + length payload) (start + size) state.bytes new.bytes
-        → RestsOn form start other generation (end + 5 + length payload) is_below snapshot (payloads ++ payload ∷ []) new
+        → RestsOn v form start other generation (end + 5 + length payload) is_below snapshot (payloads ++ payload ∷ []) new
     after_frame payload new fits settled is =
         let enough = long_enough in
         let more = payloads ++ payload ∷ [] in
@@ -216,19 +217,19 @@ module _ (form : Form) (start other generation : ℕ) (snapshot : List ℕ) (pay
         }
 
   -- switch: the other area has a snapshot of the next generation after its closed gate
-  module _ (next : List ℕ) (next_fits : generation + 1 < 2 ^ 64) (next_short : length next < 2 ^ 32) (room : 14 + length next < size) (image : List ℕ) (changes : ChangesOnly other 1 state.bytes image) (filled : StandsAt (other + 1) (area_front (generation + 1) next ++ 0 ∷ []) state.bytes) where
-    front_there : StandsAt (other + 1) (area_front (generation + 1) next) image
-    front_there = stands_keeps (other + 1) (area_front (generation + 1) next) state.bytes image (stands_front (other + 1) (area_front (generation + 1) next) (0 ∷ []) state.bytes filled) (λ i low high. changes.after i (omega arith))
+  module _ (w : Version) (next_room : least_area w form.bounds ≤ size) (next : List ℕ) (next_fits : generation + 1 < 2 ^ 64) (next_short : length next < 2 ^ 32) (room : 14 + length next < size) (image : List ℕ) (changes : ChangesOnly other 1 state.bytes image) (filled : StandsAt (other + 1) (area_front w (generation + 1) next ++ 0 ∷ []) state.bytes) where
+    front_there : StandsAt (other + 1) (area_front w (generation + 1) next) image
+    front_there = stands_keeps (other + 1) (area_front w (generation + 1) next) state.bytes image (stands_front (other + 1) (area_front w (generation + 1) next) (0 ∷ []) state.bytes filled) (λ i low high. changes.after i (omega arith))
 
     first_gate : slice_index image (other + 14 + length next) ≡ 0
     first_gate =
-        let long = length-area_front (generation + 1) next in
-        let place : other + 14 + length next ≡ other + 1 + length (area_front (generation + 1) next) = omega arith in
+        let long = length-area_front w (generation + 1) next in
+        let place : other + 14 + length next ≡ other + 1 + length (area_front w (generation + 1) next) = omega arith in
         changes.after (other + 14 + length next) (omega arith)
         ∙ ap (λ (i : ℕ). slice_index state.bytes i) place
-        ∙ one_stands (other + 1 + length (area_front (generation + 1) next)) 0 state.bytes (stands_back (other + 1) (area_front (generation + 1) next) (0 ∷ []) state.bytes filled)
+        ∙ one_stands (other + 1 + length (area_front w (generation + 1) next)) 0 state.bytes (stands_back (other + 1) (area_front w (generation + 1) next) (0 ∷ []) state.bytes filled)
 
-    next_holds : IsOpen other image → AreaHolds other size (generation + 1) next [] image
+    next_holds : IsOpen other image → AreaHolds w other size (generation + 1) next [] image
     next_holds is_open = record {
       in_range = next_fits;
       short = next_short;
@@ -246,7 +247,7 @@ module _ (form : Form) (start other generation : ℕ) (snapshot : List ℕ) (pay
         record {
           lower = generation;
           less = omega arith;
-          stands = stands_keeps (start + 2) (to_be_bytes w64 generation) state.bytes image (front_generation start generation snapshot state.bytes holds.area.front) (λ i low high. old_same i (omega arith) (omega arith));
+          stands = stands_keeps (start + 2) (to_be_bytes w64 generation) state.bytes image (front_generation v start generation snapshot state.bytes holds.area.front) (λ i low high. old_same i (omega arith) (omega arith));
         }
 
     front_same : StandsAt 0 sb image
@@ -255,9 +256,12 @@ module _ (form : Form) (start other generation : ℕ) (snapshot : List ℕ) (pay
         let long = length-superblock form.area form.bounds in
         stands_keeps 0 sb state.bytes image holds.front (λ i l h. changes.before i (omega (arith, long, after.1)))
 
-    next_image : IsOpen other image → Holds form next [] image
+    next_form : IsForm w form
+    next_form = record { in_range = holds.is_form.in_range; room = next_room; addressable = holds.is_form.addressable }
+
+    next_image : IsOpen other image → Holds w form next [] image
     next_image is_open = record {
-      is_form = holds.is_form;
+      is_form = next_form;
       front = front_same;
       whole = changes.size ∙ holds.whole;
       start = other;
@@ -268,7 +272,7 @@ module _ (form : Form) (start other generation : ℕ) (snapshot : List ℕ) (pay
       yields = inr old_below;
     }
 
-    pub row_switch : Holds form snapshot payloads image ⊎ Holds form next [] image
+    pub row_switch : Holds v form snapshot payloads image ⊎ Holds w form next [] image
     row_switch =
         let enough = long_enough in
         elim (cases_eq (slice_index image other) open_gate) [
@@ -277,19 +281,19 @@ module _ (form : Form) (start other generation : ℕ) (snapshot : List ℕ) (pay
         ]
 
   -- and once the gate is open
-  pub after_switch : (next : List ℕ) → generation + 1 < 2 ^ 64 → length next < 2 ^ 32 → 14 + length next < size → (new : State) → WritesThrough other (165 ∷ []) state new → StandsAt (other + 1) (area_front (generation + 1) next ++ 0 ∷ []) state.bytes
-      → RestsOn form other start (generation + 1) (14 + length next) true next [] new
-  after_switch next next_fits next_short room new wrote filled =
+  pub after_switch : (w : Version) → least_area w form.bounds ≤ size → (next : List ℕ) → generation + 1 < 2 ^ 64 → length next < 2 ^ 32 → 14 + length next < size → (new : State) → WritesThrough other (165 ∷ []) state new → StandsAt (other + 1) (area_front w (generation + 1) next ++ 0 ∷ []) state.bytes
+      → RestsOn w form other start (generation + 1) (14 + length next) true next [] new
+  after_switch w next_room next next_fits next_short room new wrote filled =
       let is_open : IsOpen other new.bytes = one_stands other 165 new.bytes wrote.written in
-      let below = old_below next next_fits next_short room new.bytes wrote.content filled in
+      let below = old_below w next_room next next_fits next_short room new.bytes wrote.content filled in
       record {
         holds = record {
           settled = wrote.settled;
-          is_form = holds.is_form;
-          front = front_same next next_fits next_short room new.bytes wrote.content filled;
+          is_form = next_form w next_room next next_fits next_short room new.bytes wrote.content filled;
+          front = front_same w next_room next next_fits next_short room new.bytes wrote.content filled;
           whole = wrote.content.size ∙ holds.whole;
           places = swapped size start other holds.places;
-          area = next_holds next next_fits next_short room new.bytes wrote.content filled is_open;
+          area = next_holds w next_room next next_fits next_short room new.bytes wrote.content filled is_open;
         };
         ends = omega arith;
         below = ((λ b. below), (λ b. refl));
@@ -297,7 +301,7 @@ module _ (form : Form) (start other generation : ℕ) (snapshot : List ℕ) (pay
       }
 
   -- the gate is closed
-  pub closed_after : (new : State) → WritesThrough other (0 ∷ []) state new → HoldsAt form start other generation snapshot payloads new × IsClosed other new.bytes
+  pub closed_after : (new : State) → WritesThrough other (0 ∷ []) state new → HoldsAt v form start other generation snapshot payloads new × IsClosed other new.bytes
   closed_after new wrote =
       let enough = long_enough in
       let closed = one_stands other 0 new.bytes wrote.written in
@@ -305,22 +309,22 @@ module _ (form : Form) (start other generation : ℕ) (snapshot : List ℕ) (pay
 
   -- the area after the closed gate is filled
   pub filled_after : (front : List ℕ) (new : State) → length front < size → IsClosed other state.bytes → WritesThrough (other + 1) front state new
-      → HoldsAt form start other generation snapshot payloads new × IsClosed other new.bytes × StandsAt (other + 1) front new.bytes
+      → HoldsAt v form start other generation snapshot payloads new × IsClosed other new.bytes × StandsAt (other + 1) front new.bytes
   filled_after front new fits closed wrote =
       (holds_on (other + 1) (length front) new wrote.content (omega arith) (omega arith) wrote.settled, (λ is_open. closed (sym (wrote.content.before other (omega arith)) ∙ is_open)), wrote.written)
 
 -- where the generation isn't below, the gate is closed
-pub closed_there : (form : Form) (start other generation end : ℕ) (is_below : Bool) (snapshot : List ℕ) (payloads : List (List ℕ)) (state : State) → RestsOn form start other generation end is_below snapshot payloads state
+pub closed_there : (v : Version) (form : Form) (start other generation end : ℕ) (is_below : Bool) (snapshot : List ℕ) (payloads : List (List ℕ)) (state : State) → RestsOn v form start other generation end is_below snapshot payloads state
     → is_below ≡ false → IsClosed other state.bytes
-closed_there form start other generation end is_below snapshot payloads state rests is_false =
+closed_there v form start other generation end is_below snapshot payloads state rests is_false =
     ⊎_elim (λ closed. closed) (λ below. let yes = rests.below.1 below in absurd (cc)) rests.yields
 
 -- what each image of a store at rest holds
-pub rests_image : (form : Form) (start other generation end : ℕ) (is_below : Bool) (snapshot : List ℕ) (payloads : List (List ℕ)) (state : State) → RestsOn form start other generation end is_below snapshot payloads state
-    → (image : List ℕ) → IsImage state image → Holds form snapshot payloads image
-rests_image form start other generation end is_below snapshot payloads state rests image left =
-    row_none form start other generation snapshot payloads state rests.holds image (image_settled state rests.holds.settled image left) rests.yields
+pub rests_image : (v : Version) (form : Form) (start other generation end : ℕ) (is_below : Bool) (snapshot : List ℕ) (payloads : List (List ℕ)) (state : State) → RestsOn v form start other generation end is_below snapshot payloads state
+    → (image : List ℕ) → IsImage state image → Holds v form snapshot payloads image
+rests_image v form start other generation end is_below snapshot payloads state rests image left =
+    row_none v form start other generation snapshot payloads state rests.holds image (image_settled state rests.holds.settled image left) rests.yields
 
-pub rests_frames : (form : Form) (start other generation end : ℕ) (is_below : Bool) (snapshot : List ℕ) (payloads : List (List ℕ)) (state : State) → RestsOn form start other generation end is_below snapshot payloads state
+pub rests_frames : (v : Version) (form : Form) (start other generation end : ℕ) (is_below : Bool) (snapshot : List ℕ) (payloads : List (List ℕ)) (state : State) → RestsOn v form start other generation end is_below snapshot payloads state
     → HoldsFramesTo (start + 14 + length snapshot) payloads (start + end) (start + form.area) state.bytes
-rests_frames form start other generation end is_below snapshot payloads state rests = record { frames = rests.holds.area.frames; ends = rests.ends }
+rests_frames v form start other generation end is_below snapshot payloads state rests = record { frames = rests.holds.area.frames; ends = rests.ends }

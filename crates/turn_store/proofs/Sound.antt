@@ -5,24 +5,33 @@ use Rattle.turn_disk.specs.Disk.{StandsAt}
 use Rattle.turn_journal.specs.Frames.{HoldsFrames}
 use Rattle.turn_journal.proofs.Growing.{stands_front}
 use Rattle.turn_journal.proofs.Once.{frames_once, list_once}
-use Rattle.turn_store.specs.Areas.{area_front, AreAreas, AreaHolds, Yields}
+use Rattle.turn_record.specs.declared.version.Version.{Version}
+use Rattle.turn_record.specs.declared.version.Version.TheVariants.{V1, V2}
+use Rattle.turn_store.specs.Areas.{version_byte, area_front, AreAreas, AreaHolds, Yields}
 use Rattle.turn_store.specs.Head.{IsHead, Beats, NoneCounts}
 use Rattle.turn_store.specs.declared.heads.Head.{Head}
 use Rattle.turn_store.proofs.Numbers.{stands_back, one_stands, number_once_4, number_once_8}
 use Rattle.turn_store.proofs.Rows.{front_generation}
 
-front_version : (start generation : ℕ) (snapshot c : List ℕ) → StandsAt (start + 1) (area_front generation snapshot) c → slice_index c (start + 1) ≡ 1
-unfolding area_front
-front_version start generation snapshot c stands =
-    one_stands (start + 1) 1 c (stands_front (start + 1) (1 ∷ []) (to_be_bytes w64 generation ++ (to_be_bytes w32 (length snapshot) ++ snapshot)) c stands)
+-- each version has a byte of its own
+pub version_once : (v w : Version) → version_byte v ≡ version_byte w → v ≡ w
+version_once V1 V1 same = refl
+version_once V1 V2 same = absurd (omega (arith, same))
+version_once V2 V1 same = absurd (omega (arith, same))
+version_once V2 V2 same = refl
 
-pub front_size : (start generation : ℕ) (snapshot c : List ℕ) → StandsAt (start + 1) (area_front generation snapshot) c → StandsAt (start + 10) (to_be_bytes w32 (length snapshot)) c × StandsAt (start + 14) snapshot c
+front_version : (v : Version) (start generation : ℕ) (snapshot c : List ℕ) → StandsAt (start + 1) (area_front v generation snapshot) c → slice_index c (start + 1) ≡ version_byte v
 unfolding area_front
-front_size start generation snapshot c stands =
+front_version v start generation snapshot c stands =
+    one_stands (start + 1) (version_byte v) c (stands_front (start + 1) (version_byte v ∷ []) (to_be_bytes w64 generation ++ (to_be_bytes w32 (length snapshot) ++ snapshot)) c stands)
+
+pub front_size : (v : Version) (start generation : ℕ) (snapshot c : List ℕ) → StandsAt (start + 1) (area_front v generation snapshot) c → StandsAt (start + 10) (to_be_bytes w32 (length snapshot)) c × StandsAt (start + 14) snapshot c
+unfolding area_front
+front_size v start generation snapshot c stands =
     let rest = to_be_bytes w32 (length snapshot) ++ snapshot in
     let ten : start + 1 + 1 + 8 ≡ start + 10 = omega arith in
     let fourteen : start + 1 + 1 + 8 + 4 ≡ start + 14 = omega arith in
-    let one = stands_back (start + 1) (1 ∷ []) (to_be_bytes w64 generation ++ rest) c stands in
+    let one = stands_back (start + 1) (version_byte v ∷ []) (to_be_bytes w64 generation ++ rest) c stands in
     let two = stands_back (start + 1 + 1) (to_be_bytes w64 generation) rest c one in (
       subst (λ (at : ℕ). StandsAt at (to_be_bytes w32 (length snapshot)) c) ten (stands_front (start + 1 + 1 + 8) (to_be_bytes w32 (length snapshot)) snapshot c two),
       subst (λ (at : ℕ). StandsAt at snapshot c) fourteen (stands_back (start + 1 + 1 + 8) (to_be_bytes w32 (length snapshot)) snapshot c two),
@@ -30,23 +39,24 @@ front_size start generation snapshot c stands =
 
 -- ---- One reading of an image
 
-area_once : (start size g h : ℕ) (s t : List ℕ) (ps qs : List (List ℕ)) (c : List ℕ) → AreaHolds start size g s ps c → AreaHolds start size h t qs c → (g ≡ h) × (s ≡ t) × (ps ≡ qs)
-area_once start size g h s t ps qs c first second =
-    let one = front_size start g s c first.front in
-    let two = front_size start h t c second.front in
+area_once : (v w : Version) (start size g h : ℕ) (s t : List ℕ) (ps qs : List (List ℕ)) (c : List ℕ) → AreaHolds v start size g s ps c → AreaHolds w start size h t qs c → (v ≡ w) × (g ≡ h) × (s ≡ t) × (ps ≡ qs)
+area_once v w start size g h s t ps qs c first second =
+    let one = front_size v start g s c first.front in
+    let two = front_size w start h t c second.front in
     let long : length s ≡ length t = number_once_4 (start + 10) (length s) (length t) c first.short second.short one.0 two.0 in
     let same : s ≡ t = list_once (start + 14) s t c long one.1 two.1 in
     let there = subst (λ (r : List ℕ). HoldsFrames (start + 14 + length r) qs (start + size) c) (sym same) second.frames in (
-      number_once_8 (start + 2) g h c first.in_range second.in_range (front_generation start g s c first.front) (front_generation start h t c second.front),
+      version_once v w (sym (front_version v start g s c first.front) ∙ front_version w start h t c second.front),
+      number_once_8 (start + 2) g h c first.in_range second.in_range (front_generation v start g s c first.front) (front_generation w start h t c second.front),
       same,
       frames_once (start + 14 + length s) ps qs (start + size) c first.frames there,
     )
 
 -- an open area beside one that counts has a generation below
-below_it : (start size g h : ℕ) (t : List ℕ) (qs : List (List ℕ)) (c : List ℕ) → g < 2 ^ 64 → AreaHolds start size h t qs c → Yields start g c → h < g
-below_it start size g h t qs c fits holds (inl closed) = absurd (closed holds.is_open)
-below_it start size g h t qs c fits holds (inr below) =
-    let same : below.lower ≡ h = number_once_8 (start + 2) below.lower h c (omega (arith, below.less)) holds.in_range below.stands (front_generation start h t c holds.front) in
+below_it : (v : Version) (start size g h : ℕ) (t : List ℕ) (qs : List (List ℕ)) (c : List ℕ) → g < 2 ^ 64 → AreaHolds v start size h t qs c → Yields start g c → h < g
+below_it v start size g h t qs c fits holds (inl closed) = absurd (closed holds.is_open)
+below_it v start size g h t qs c fits holds (inr below) =
+    let same : below.lower ≡ h = number_once_8 (start + 2) below.lower h c (omega (arith, below.less)) holds.in_range below.stands (front_generation v start h t c holds.front) in
     omega (arith, below.less, same)
 
 places_once : (size a b x y : ℕ) → AreAreas size a b → AreAreas size x y → ((a ≡ x) × (b ≡ y)) ⊎ ((a ≡ y) × (b ≡ x))
@@ -56,27 +66,27 @@ places_once size a b x y (inr p) (inl q) = inr (p.0 ∙ sym q.1, p.1 ∙ sym q.0
 places_once size a b x y (inr p) (inr q) = inl (p.0 ∙ sym q.0, p.1 ∙ sym q.1)
 
 -- what an image holds, apart from the form
-pub record HoldsHere (size start other generation : ℕ) (snapshot : List ℕ) (payloads : List (List ℕ)) (image : List ℕ) : Type 0 where
+pub record HoldsHere (v : Version) (size start other generation : ℕ) (snapshot : List ℕ) (payloads : List (List ℕ)) (image : List ℕ) : Type 0 where
   pub places : AreAreas size start other
-  pub area : AreaHolds start size generation snapshot payloads image
+  pub area : AreaHolds v start size generation snapshot payloads image
   pub yields : Yields other generation image
 
-pub holds_once : (size a b g x y h : ℕ) (s t : List ℕ) (ps qs : List (List ℕ)) (c : List ℕ) → HoldsHere size a b g s ps c → HoldsHere size x y h t qs c → (s ≡ t) × (ps ≡ qs)
-holds_once size a b g x y h s t ps qs c first second =
+pub holds_once : (v w : Version) (size a b g x y h : ℕ) (s t : List ℕ) (ps qs : List (List ℕ)) (c : List ℕ) → HoldsHere v size a b g s ps c → HoldsHere w size x y h t qs c → (v ≡ w) × (s ≡ t) × (ps ≡ qs)
+holds_once v w size a b g x y h s t ps qs c first second =
     ⊎_elim
-    (λ (same : (a ≡ x) × (b ≡ y)). let one = area_once x size g h s t ps qs c (subst (λ (at : ℕ). AreaHolds at size g s ps c) same.0 first.area) second.area in (one.1, one.2))
+    (λ (same : (a ≡ x) × (b ≡ y)). let one = area_once v w x size g h s t ps qs c (subst (λ (at : ℕ). AreaHolds v at size g s ps c) same.0 first.area) second.area in (one.0, one.2, one.3))
     (λ (crossed : (a ≡ y) × (b ≡ x)).
-    let one = below_it x size g h t qs c first.area.in_range second.area (subst (λ (at : ℕ). Yields at g c) crossed.1 first.yields) in
-    let two = below_it a size h g s ps c second.area.in_range first.area (subst (λ (at : ℕ). Yields at h c) (sym crossed.0) second.yields) in
+    let one = below_it w x size g h t qs c first.area.in_range second.area (subst (λ (at : ℕ). Yields at g c) crossed.1 first.yields) in
+    let two = below_it v a size h g s ps c second.area.in_range first.area (subst (λ (at : ℕ). Yields at h c) (sym crossed.0) second.yields) in
     absurd (omega (arith, one, two)))
     (places_once size a b x y first.places second.places)
 
 -- ---- Heads
 
 -- this head is that of the area that counts, and the rival that of the other one
-pub record Counts (head rival : Head) (generation count : ℕ) : Type 0 where
+pub record Counts (v : Version) (head rival : Head) (generation count : ℕ) : Type 0 where
   pub is_open : head.is_open ≡ true
-  pub version : head.version ≡ 1
+  pub version : head.version ≡ version_byte v
   pub size : head.snapshot ≡ count
   pub number : head.generation ≡ generation
   pub yields : (rival.is_open ≡ false) ⊎ (rival.generation < generation)
@@ -94,27 +104,27 @@ rival_yields other generation rival c fits is (inr below) =
     let same : rival.generation ≡ below.lower = number_once_8 (other + 2) rival.generation below.lower c is.in_range (omega (arith, below.less, fits)) is.generation below.stands in
     inr (omega (arith, same, below.less))
 
-pub counts_is : (start other size generation : ℕ) (snapshot : List ℕ) (payloads : List (List ℕ)) (head rival : Head) (c : List ℕ)
-    → AreaHolds start size generation snapshot payloads c → Yields other generation c → IsHead start head c → IsHead other rival c → Counts head rival generation (length snapshot)
-counts_is start other size generation snapshot payloads head rival c holds yields is rival_is = record {
+pub counts_is : (v : Version) (start other size generation : ℕ) (snapshot : List ℕ) (payloads : List (List ℕ)) (head rival : Head) (c : List ℕ)
+    → AreaHolds v start size generation snapshot payloads c → Yields other generation c → IsHead start head c → IsHead other rival c → Counts v head rival generation (length snapshot)
+counts_is v start other size generation snapshot payloads head rival c holds yields is rival_is = record {
   is_open = is.gate.1 holds.is_open;
-  version = sym is.version ∙ front_version start generation snapshot c holds.front;
-  size = number_once_4 (start + 10) head.snapshot (length snapshot) c is.short holds.short is.snapshot (front_size start generation snapshot c holds.front).0;
-  number = number_once_8 (start + 2) head.generation generation c is.in_range holds.in_range is.generation (front_generation start generation snapshot c holds.front);
+  version = sym is.version ∙ front_version v start generation snapshot c holds.front;
+  size = number_once_4 (start + 10) head.snapshot (length snapshot) c is.short holds.short is.snapshot (front_size v start generation snapshot c holds.front).0;
+  number = number_once_8 (start + 2) head.generation generation c is.in_range holds.in_range is.generation (front_generation v start generation snapshot c holds.front);
   yields = rival_yields other generation rival c holds.in_range rival_is yields;
 }
 
-pub none_no : (head rival : Head) (generation count : ℕ) → Counts head rival generation count → NoneCounts head rival → ⊥
-none_no head rival generation count counts (inl closed) = not_both head.is_open counts.is_open closed.0
-none_no head rival generation count counts (inr both) =
+pub none_no : (v : Version) (head rival : Head) (generation count : ℕ) → Counts v head rival generation count → NoneCounts head rival → ⊥
+none_no v head rival generation count counts (inl closed) = not_both head.is_open counts.is_open closed.0
+none_no v head rival generation count counts (inr both) =
     ⊎_elim (λ (no : rival.is_open ≡ false). not_both rival.is_open both.1 no) (λ (less : rival.generation < generation). absurd (omega (arith, less, counts.number, both.2))) counts.yields
 
 pub none_turned : (head rival : Head) → NoneCounts rival head → NoneCounts head rival
 none_turned head rival (inl closed) = inl (closed.1, closed.0)
 none_turned head rival (inr both) = inr (both.1, both.0, sym both.2)
 
-pub beats_no : (head rival : Head) (generation count : ℕ) → Counts head rival generation count → Beats rival head → ⊥
-beats_no head rival generation count counts beats =
+pub beats_no : (v : Version) (head rival : Head) (generation count : ℕ) → Counts v head rival generation count → Beats rival head → ⊥
+beats_no v head rival generation count counts beats =
     ⊎_elim (λ (closed : head.is_open ≡ false). not_both head.is_open counts.is_open closed)
     (λ (less : head.generation < rival.generation).
     ⊎_elim (λ (no : rival.is_open ≡ false). not_both rival.is_open beats.is_open no) (λ (lower : rival.generation < generation). absurd (omega (arith, less, lower, counts.number))) counts.yields)

@@ -3,12 +3,12 @@ use Rattle.std.proofs.Common.{◌≡◌, ◌≤◌, ◌<◌, ◌^◌, ◌-◌, �
 use Rattle.std.specs.List.{AllByRecursion}
 use Rattle.turn_history.specs.Fitting.{IsFitting, FitsAfter}
 use Rattle.turn_history.specs.History.{Event, History, clock}
-use Rattle.turn_history.specs.Laws.{AllFrom, HasNoTokens}
+use Rattle.turn_history.specs.Laws.{AllFrom}
 use Rattle.turn_history.specs.Table.{table}
 use Rattle.turn_history.proofs.Histories.{clock-append, fitting-split, fits_in_range, fits_never_fall}
 use Rattle.turn_record.specs.Bytes.{payload, snapshot}
-use Rattle.turn_record.specs.Records.{IsBatch}
-use Rattle.turn_record.specs.declared.version.Version.TheVariants.{V1}
+use Rattle.turn_record.specs.Records.{Holds, IsBatch}
+use Rattle.turn_record.specs.declared.version.Version.{Version}
 use Rattle.turn_store.specs.Spells.{all_of, HasSize, Spells}
 use Rattle.turn_types.specs.declared.limits.Bounds.{Bounds}
 
@@ -20,8 +20,8 @@ pub from_both : (c d : ℕ) (es : List Event) → AllFrom c es → AllFrom d es 
 from_both c d [] one two = tt
 from_both c d (e ∷ es) one two = (let first = one.0 in let second = two.0 in omega arith, from_both c d es one.1 two.1)
 
-pub is_batch : (b : Bounds) (h : History) (es : List Event) → FitsAfter b h es → HasSize b es → IsBatch V1 b es
-is_batch b h es fits size = record { some = size.some; few = size.few; in_range = fits_in_range b h es fits; later = fits_never_fall b h es fits; writes = size.writes }
+pub is_batch : (v : Version) (b : Bounds) (h : History) (es : List Event) → FitsAfter b h es → HasSize v b es → IsBatch v b es
+is_batch v b h es fits size = record { some = size.some; few = size.few; in_range = fits_in_range b h es fits; later = fits_never_fall b h es fits; writes = size.writes }
 
 -- events that fit after a history, cut in two
 pub fits_rest : (b : Bounds) (h x y : History) → FitsAfter b h (x ++ y) → FitsAfter b h x × FitsAfter b (h ++ x) y
@@ -30,25 +30,25 @@ fits_rest b h (e ∷ x) y fits =
     let rest = fits_rest b (h ++ e ∷ []) x y fits.1 in
     ((fits.0, rest.0), subst (λ (l : History). FitsAfter b l y) (append_assoc h (e ∷ []) x) rest.1)
 
-pub are_batches : (b : Bounds) (h : History) (batches : List (List Event)) → FitsAfter b h (all_of batches) → AllByRecursion (HasSize b) batches → AllByRecursion (IsBatch V1 b) batches
-are_batches b h [] fits sized = tt
-are_batches b h (es ∷ more) fits sized =
+pub are_batches : (v : Version) (b : Bounds) (h : History) (batches : List (List Event)) → FitsAfter b h (all_of batches) → AllByRecursion (HasSize v b) batches → AllByRecursion (IsBatch v b) batches
+are_batches v b h [] fits sized = tt
+are_batches v b h (es ∷ more) fits sized =
     let parts = fits_rest b h es (all_of more) fits in
-    (is_batch b h es parts.0 sized.0, are_batches b (h ++ es) more parts.1 sized.1)
+    (is_batch v b h es parts.0 sized.0, are_batches v b (h ++ es) more parts.1 sized.1)
 
-pub of_spelled : (b : Bounds) (h : History) (c : ℕ) (bytes : List ℕ) (payloads : List (List ℕ)) (s : Spells b h c bytes payloads) → IsFitting b s.before × FitsAfter b s.before (all_of s.batches)
-of_spelled b h c bytes payloads s = fitting-split b s.before (all_of s.batches) (subst (IsFitting b) s.whole s.fitting)
+pub of_spelled : (v : Version) (b : Bounds) (h : History) (c : ℕ) (bytes : List ℕ) (payloads : List (List ℕ)) (s : Spells v b h c bytes payloads) → IsFitting b s.before × FitsAfter b s.before (all_of s.batches)
+of_spelled v b h c bytes payloads s = fitting-split b s.before (all_of s.batches) (subst (IsFitting b) s.whole s.fitting)
 
 -- no event is later than the clock
-pub clock_late : (b : Bounds) (h : History) (c : ℕ) (bytes : List ℕ) (payloads : List (List ℕ)) → Spells b h c bytes payloads → clock h ≤ c
-clock_late b h c bytes payloads s =
+pub clock_late : (v : Version) (b : Bounds) (h : History) (c : ℕ) (bytes : List ℕ) (payloads : List (List ℕ)) → Spells v b h c bytes payloads → clock h ≤ c
+clock_late v b h c bytes payloads s =
     let is = s.clock_is in
     let late = s.late in
     let joined = ap clock s.whole ∙ clock-append s.before (all_of s.batches) in
     omega arith
 
-pub snapshots_go_on : (b : Bounds) (h : History) (m : ℕ) → IsFitting b h → clock h ≤ m → m < 2 ^ 40 - 3600 → HasNoTokens (table h m) → Spells b h m (snapshot V1 m (table h m)) []
-snapshots_go_on b h m fits le range none = record {
+pub snapshots_go_on : (v : Version) (b : Bounds) (h : History) (m : ℕ) → IsFitting b h → clock h ≤ m → m < 2 ^ 40 - 3600 → Holds v (table h m) → Spells v b h m (snapshot v m (table h m)) []
+snapshots_go_on v b h m fits le range none = record {
   fitting = fits;
   before = h;
   batches = [];
@@ -77,10 +77,10 @@ all-append P [] ys a b = b
 all-append P (x ∷ xs) ys a b = (a.0, all-append P xs ys a.1 b)
 
 -- one frame more; its clock isn't later than a moment that the old clock and the events aren't later than
-pub frames_go_on : (b : Bounds) (h : History) (c : ℕ) (bytes : List ℕ) (payloads : List (List ℕ)) (es : List Event) (m : ℕ)
-    → Spells b h c bytes payloads → IsFitting b (h ++ es) → AllFrom c es → HasSize b es → c ≤ m → clock (h ++ es) ≤ m
-    → (d : ℕ) × (d ≤ m) × Spells b (h ++ es) d bytes (payloads ++ payload es ∷ [])
-frames_go_on b h c bytes payloads es m s fits from size cm hm =
+pub frames_go_on : (v : Version) (b : Bounds) (h : History) (c : ℕ) (bytes : List ℕ) (payloads : List (List ℕ)) (es : List Event) (m : ℕ)
+    → Spells v b h c bytes payloads → IsFitting b (h ++ es) → AllFrom c es → HasSize v b es → c ≤ m → clock (h ++ es) ≤ m
+    → (d : ℕ) × (d ≤ m) × Spells v b (h ++ es) d bytes (payloads ++ payload es ∷ [])
+frames_go_on v b h c bytes payloads es m s fits from size cm hm =
     let is = s.clock_is in
     let more = s.batches ++ es ∷ [] in
     let joined : all_of more ≡ all_of s.batches ++ es = all_of-push s.batches es in
@@ -99,7 +99,7 @@ frames_go_on b h c bytes payloads es m s fits from size cm hm =
         late = s.late;
         holds = s.holds;
         from = subst (AllFrom s.moment) (sym joined) (all-append (λ e. s.moment ≤ e.moment) (all_of s.batches) es s.from (from_less s.moment c es (omega arith) from));
-        sizes = all-append (HasSize b) s.batches (es ∷ []) s.sizes (size, tt);
+        sizes = all-append (HasSize v b) s.batches (es ∷ []) s.sizes (size, tt);
         is_snapshot = s.is_snapshot;
         are_payloads = ap (λ l. l ++ payload es ∷ []) s.are_payloads ∙ sym (map-push s.batches es);
         clock_is = refl;

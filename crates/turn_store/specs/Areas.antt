@@ -3,6 +3,8 @@ use Rattle.std.specs.Prelude.{◌^◌, ◌≡◌, ◌⊎◌, ◌↔◌, ◌∷�
 use Rattle.std.specs.Int.{to_be_bytes, w32, w64}
 use Rattle.turn_disk.specs.Disk.{State, StandsAt, IsSettled}
 use Rattle.turn_journal.specs.Frames.{IsOpen, IsClosed, HoldsFrames, last_gate}
+use Rattle.turn_record.specs.declared.version.Version.{Version}
+use Rattle.turn_record.specs.declared.version.Version.TheVariants.{V1, V2}
 use Rattle.turn_store.specs.Superblock.{superblock, least_area}
 use Rattle.turn_types.specs.Limits.{AreInRange}
 use Rattle.turn_types.specs.declared.limits.Bounds.{Bounds}
@@ -12,26 +14,32 @@ pub record Form : Type 0 where
   pub bounds : Bounds
   pub area : ℕ
 
--- the limits are in range, an area has room for each batch, and each byte has a position
-pub record IsForm (form : Form) : Type 0 where
+-- the limits are in range, an area of this version has room for each batch, and each byte has a position
+pub record IsForm (v : Version) (form : Form) : Type 0 where
   pub in_range : AreInRange form.bounds
-  pub room : least_area form.bounds ≤ form.area
+  pub room : least_area v form.bounds ≤ form.area
   pub addressable : 64 + 2 * form.area < 2 ^ 64
 
 -- the areas follow the superblock, in either order
 abbrev pub AreAreas : ℕ → ℕ → ℕ → Type 0
 AreAreas size start other = ((start ≡ 64) × (other ≡ 64 + size)) ⊎ ((start ≡ 64 + size) × (other ≡ 64))
 
--- what follows an area's gate: the version, the generation, the snapshot's length, the snapshot
-unfoldable pub area_front : ℕ → List ℕ → List ℕ
-area_front generation snapshot = (1 ∷ []) ++ (to_be_bytes w64 generation ++ (to_be_bytes w32 (length snapshot) ++ snapshot))
+-- the byte of a version
+abbrev pub version_byte : Version → ℕ
+version_byte V1 = 1
+version_byte V2 = 2
 
--- An open area of this generation holds a snapshot, and frames with these payloads after it, up to the first closed gate.
-pub record AreaHolds (start size generation : ℕ) (snapshot : List ℕ) (payloads : List (List ℕ)) (content : List ℕ) : Type 0 where
+-- what follows an area's gate: the version, the generation, the snapshot's length, the snapshot
+unfoldable pub area_front : Version → ℕ → List ℕ → List ℕ
+area_front v generation snapshot = (version_byte v ∷ []) ++ (to_be_bytes w64 generation ++ (to_be_bytes w32 (length snapshot) ++ snapshot))
+
+-- An open area of this version and generation holds a snapshot, and frames with these payloads after it, up to the first closed
+-- gate.
+pub record AreaHolds (v : Version) (start size generation : ℕ) (snapshot : List ℕ) (payloads : List (List ℕ)) (content : List ℕ) : Type 0 where
   pub in_range : generation < 2 ^ 64
   pub short : length snapshot < 2 ^ 32
   pub is_open : IsOpen start content
-  pub front : StandsAt (start + 1) (area_front generation snapshot) content
+  pub front : StandsAt (start + 1) (area_front v generation snapshot) content
   pub frames : HoldsFrames (start + 14 + length snapshot) payloads (start + size) content
 
 -- the generation after an area's gate is below this one
@@ -44,32 +52,33 @@ pub record IsBelow (start generation : ℕ) (content : List ℕ) : Type 0 where
 abbrev pub Yields : ℕ → ℕ → List ℕ → Type 0
 Yields start generation content = IsClosed start content ⊎ IsBelow start generation content
 
--- The area at start counts: it holds this snapshot and these payloads, and the other area, which may hold anything, yields.
-pub record Holds (form : Form) (snapshot : List ℕ) (payloads : List (List ℕ)) (image : List ℕ) : Type 0 where
-  pub is_form : IsForm form
+-- The area at start counts: it holds this snapshot and these payloads in this version, and the other area, which may hold anything
+-- in either version, yields.
+pub record Holds (v : Version) (form : Form) (snapshot : List ℕ) (payloads : List (List ℕ)) (image : List ℕ) : Type 0 where
+  pub is_form : IsForm v form
   pub front : StandsAt 0 (superblock form.area form.bounds) image
   pub whole : length image ≡ 64 + 2 * form.area
   pub start : ℕ
   pub other : ℕ
   pub places : AreAreas form.area start other
   pub generation : ℕ
-  pub area : AreaHolds start form.area generation snapshot payloads image
+  pub area : AreaHolds v start form.area generation snapshot payloads image
   pub yields : Yields other generation image
 
 -- Nothing is pending, and the area at start holds this snapshot and these payloads.
-pub record HoldsAt (form : Form) (start other generation : ℕ) (snapshot : List ℕ) (payloads : List (List ℕ)) (state : State) : Type 0 where
+pub record HoldsAt (v : Version) (form : Form) (start other generation : ℕ) (snapshot : List ℕ) (payloads : List (List ℕ)) (state : State) : Type 0 where
   pub settled : IsSettled state
-  pub is_form : IsForm form
+  pub is_form : IsForm v form
   pub front : StandsAt 0 (superblock form.area form.bounds) state.bytes
   pub whole : length state.bytes ≡ 64 + 2 * form.area
   pub places : AreAreas form.area start other
-  pub area : AreaHolds start form.area generation snapshot payloads state.bytes
+  pub area : AreaHolds v start form.area generation snapshot payloads state.bytes
 
 -- The area counts too, its log ends at this gate, counted from the area's first byte, and is_below says whether the other
 -- area's generation is below.
 pub record RestsOn
-    (form : Form) (start other generation end : ℕ) (is_below : Bool) (snapshot : List ℕ) (payloads : List (List ℕ)) (state : State) : Type 0 where
-  pub holds : HoldsAt form start other generation snapshot payloads state
+    (v : Version) (form : Form) (start other generation end : ℕ) (is_below : Bool) (snapshot : List ℕ) (payloads : List (List ℕ)) (state : State) : Type 0 where
+  pub holds : HoldsAt v form start other generation snapshot payloads state
   pub ends : last_gate (start + 14 + length snapshot) payloads ≡ start + end
   pub below : (is_below ≡ true) ↔ IsBelow other generation state.bytes
   pub yields : Yields other generation state.bytes

@@ -2,15 +2,17 @@
 use Rattle.std.specs.Prelude.{◌⊎◌, ◌≤◌, ◌++◌, ℕ, List}
 use Rattle.turn_disk.specs.Disk.{State, IsImage}
 use Rattle.turn_history.specs.History.{Event, History}
+use Rattle.turn_record.specs.declared.version.Version.{Version}
 use Rattle.turn_store.specs.Areas.{Form, Holds}
 use Rattle.turn_store.specs.Spells.{Spells}
 
--- What the image holds spells the history, and the latest moment that is written is the clock.
+-- What the image holds, in one of the versions, spells the history, and the latest moment that is written is the clock.
 pub record StandsForAt (form : Form) (h : History) (clock : ℕ) (image : List ℕ) : Type 0 where
+  pub version : Version
   pub snapshot : List ℕ
   pub payloads : List (List ℕ)
-  pub holds : Holds form snapshot payloads image
-  pub spells : Spells form.bounds h clock snapshot payloads
+  pub holds : Holds version form snapshot payloads image
+  pub spells : Spells version form.bounds h clock snapshot payloads
 
 -- the image stands for the history, at a clock that is not later than a moment
 pub record StandsBy (form : Form) (h : History) (moment : ℕ) (image : List ℕ) : Type 0 where

@@ -1,5 +1,6 @@
 pub mod Areas
 pub mod Bytes
+pub mod Carrying
 pub mod Format
 pub mod Head
 pub mod Images

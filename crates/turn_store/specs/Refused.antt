@@ -6,7 +6,9 @@ use Rattle.turn_history.specs.Table.{Contents}
 use Rattle.turn_journal.specs.Frames.{IsFrame}
 use Rattle.turn_journal.specs.Scan.{IsBadFrame}
 use Rattle.turn_record.specs.Records.{SpellsPayload, SpellsSnapshot, max_payload, max_snapshot}
+use Rattle.turn_record.specs.declared.version.Version.{Version}
 use Rattle.turn_record.specs.declared.version.Version.TheVariants.{V1}
+use Rattle.turn_store.specs.Areas.{version_byte}
 use Rattle.turn_store.specs.Head.{IsHead, Beats, NoneCounts}
 use Rattle.turn_store.specs.Replay.{Snapshot, GoOn, GoesOn, ReplaysTo}
 use Rattle.turn_store.specs.Superblock.{HasSuperblock, least_area}
@@ -35,57 +37,60 @@ pub record HasBytes (at count : ℕ) (bytes content : List ℕ) : Type 0 where
   pub stands : StandsAt at bytes content
 
 -- at this gate there is no frame that an area may have, or one whose payload spells no batch that goes on
-abbrev pub IsBadAt : Bounds → ℕ → ℕ → Snapshot → List ℕ → Type 0
-IsBadAt b gate limit s content =
-    IsBadFrame gate limit (max_payload V1 b) content
-    ⊎ ((payload : List ℕ) × IsFrame gate payload content × ((es : List Event) → SpellsPayload V1 b es payload → GoOn b s es → ⊥))
+abbrev pub IsBadAt : Version → Bounds → ℕ → ℕ → Snapshot → List ℕ → Type 0
+IsBadAt v b gate limit s content =
+    IsBadFrame gate limit (max_payload v b) content
+    ⊎ ((payload : List ℕ) × IsFrame gate payload content × ((es : List Event) → SpellsPayload v b es payload → GoOn b s es → ⊥))
 
 -- these bytes are a payload that spells a batch that goes on
-pub record ReadsOn (b : Bounds) (s : Snapshot) (at count : ℕ) (t : Snapshot) (content : List ℕ) : Type 0 where
+pub record ReadsOn (v : Version) (b : Bounds) (s : Snapshot) (at count : ℕ) (t : Snapshot) (content : List ℕ) : Type 0 where
   pub bytes : List ℕ
   pub has : HasBytes at count bytes content
-  pub goes : GoesOn b s bytes t
+  pub goes : GoesOn v b s bytes t
 
 -- these bytes are none
-pub record ReadsBad (b : Bounds) (s : Snapshot) (at count : ℕ) (content : List ℕ) : Type 0 where
+pub record ReadsBad (v : Version) (b : Bounds) (s : Snapshot) (at count : ℕ) (content : List ℕ) : Type 0 where
   pub bytes : List ℕ
   pub has : HasBytes at count bytes content
-  pub none : (es : List Event) → SpellsPayload V1 b es bytes → GoOn b s es → ⊥
+  pub none : (es : List Event) → SpellsPayload v b es bytes → GoOn b s es → ⊥
 
 -- after good frames there is a bad one, at this gate
-pub record BreaksAt (b : Bounds) (from limit : ℕ) (s : Snapshot) (content : List ℕ) (gate : ℕ) : Type 0 where
+pub record BreaksAt (v : Version) (b : Bounds) (from limit : ℕ) (s : Snapshot) (content : List ℕ) (gate : ℕ) : Type 0 where
   pub reached : Snapshot
-  pub before : ReplaysTo b from s gate reached content
-  pub bad : IsBadAt b gate limit reached content
+  pub before : ReplaysTo v b from s gate reached content
+  pub bad : IsBadAt v b gate limit reached content
 
--- another version, or too long a snapshot
-abbrev pub IsBadHead : Bounds → Head → Type 0
-IsBadHead b head = (head.version ≢ 1) ⊎ (max_snapshot V1 b < head.snapshot)
+-- An area of this size may have this head in a version: it names the version, the area is no smaller than the version's min, and the
+-- snapshot is no longer than its longest.
+pub record IsHeadOf (v : Version) (b : Bounds) (size : ℕ) (head : Head) : Type 0 where
+  pub version : head.version ≡ version_byte v
+  pub room : least_area v b ≤ size
+  pub short : head.snapshot ≤ max_snapshot v b
 
 -- these bytes spell a table at a moment
-pub record IsGoodSnapshot (b : Bounds) (at count : ℕ) (s : Snapshot) (content : List ℕ) : Type 0 where
+pub record IsGoodSnapshot (v : Version) (b : Bounds) (at count : ℕ) (s : Snapshot) (content : List ℕ) : Type 0 where
   pub bytes : List ℕ
   pub has : HasBytes at count bytes content
-  pub spells : SpellsSnapshot V1 b s.moment s.contents bytes
+  pub spells : SpellsSnapshot v b s.moment s.contents bytes
 
 -- these bytes spell no table
-pub record IsBadSnapshot (b : Bounds) (at count : ℕ) (content : List ℕ) : Type 0 where
+pub record IsBadSnapshot (v : Version) (b : Bounds) (at count : ℕ) (content : List ℕ) : Type 0 where
   pub bytes : List ℕ
   pub has : HasBytes at count bytes content
-  pub none : (t : ℕ) (c : Contents) → SpellsSnapshot V1 b t c bytes → ⊥
+  pub none : (t : ℕ) (c : Contents) → SpellsSnapshot v b t c bytes → ⊥
 
 -- a bad frame after a good snapshot
-abbrev pub IsBadLog : Bounds → ℕ → ℕ → Head → List ℕ → ℕ → Type 0
-IsBadLog b start size head content place =
-    (s : Snapshot) × IsGoodSnapshot b (start + 14) head.snapshot s content
-    × BreaksAt b (start + 14 + head.snapshot) (start + size) s content place
+abbrev pub IsBadLog : Version → Bounds → ℕ → ℕ → Head → List ℕ → ℕ → Type 0
+IsBadLog v b start size head content place =
+    (s : Snapshot) × IsGoodSnapshot v b (start + 14) head.snapshot s content
+    × BreaksAt v b (start + 14 + head.snapshot) (start + size) s content place
 
 -- what is wrong with an area, with the place: the first that applies
 abbrev pub AreaIsBad : Bounds → ℕ → ℕ → Head → List ℕ → ℕ → Type 0
 AreaIsBad b start size head content place =
-    ((place ≡ start) × IsBadHead b head)
-    ⊎ ((head.version ≡ 1) × (head.snapshot ≤ max_snapshot V1 b)
-    × (((place ≡ start + 14) × IsBadSnapshot b (start + 14) head.snapshot content) ⊎ IsBadLog b start size head content place))
+    ((place ≡ start) × ((v : Version) → IsHeadOf v b size head → ⊥))
+    ⊎ ((v : Version) × IsHeadOf v b size head
+    × (((place ≡ start + 14) × IsBadSnapshot v b (start + 14) head.snapshot content) ⊎ IsBadLog v b start size head content place))
 
 -- ---- A store
 
@@ -106,5 +111,5 @@ WhyRefused b content Memory = Unit {0}
 WhyRefused b content NotAStore = (area : ℕ) (its : Bounds) → HasSuperblock area its content → ⊥
 WhyRefused b content LimitsDiffer = (area : ℕ) × (its : Bounds) × HasSuperblock area its content × (its ≢ b)
 WhyRefused b content (Damaged place) = (area : ℕ) × HasSuperblock area b content
-    × (((place ≡ 8) × ((area < least_area b) ⊎ (length content ≢ 64 + 2 * area)))
-    ⊎ ((least_area b ≤ area) × (length content ≡ 64 + 2 * area) × StoreIsBad b area content place))
+    × (((place ≡ 8) × ((area < least_area V1 b) ⊎ (length content ≢ 64 + 2 * area)))
+    ⊎ ((least_area V1 b ≤ area) × (length content ≡ 64 + 2 * area) × StoreIsBad b area content place))

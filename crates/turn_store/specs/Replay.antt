@@ -5,7 +5,7 @@ use Rattle.turn_history.specs.History.{Event}
 use Rattle.turn_history.specs.Table.{Contents, applied, purged}
 use Rattle.turn_journal.specs.Frames.{IsFrame, gate_after, last_gate}
 use Rattle.turn_record.specs.Records.{SpellsPayload}
-use Rattle.turn_record.specs.declared.version.Version.TheVariants.{V1}
+use Rattle.turn_record.specs.declared.version.Version.{Version}
 use Rattle.turn_types.specs.declared.limits.Bounds.{Bounds}
 
 -- a table at a moment
@@ -31,16 +31,16 @@ after_all s [] = s
 after_all s (e ∷ es) = after_all (after s e) es
 
 -- the payload spells a batch that goes on from the first snapshot to the second one
-pub record GoesOn (b : Bounds) (s : Snapshot) (payload : List ℕ) (t : Snapshot) : Type 0 where
+pub record GoesOn (v : Version) (b : Bounds) (s : Snapshot) (payload : List ℕ) (t : Snapshot) : Type 0 where
   pub events : List Event
-  pub spells : SpellsPayload V1 b events payload
+  pub spells : SpellsPayload v b events payload
   pub goes : GoOn b s events
   pub ends : t ≡ after_all s events
 
 -- The payloads spell batches that go on from the first snapshot, one after another, and end in the second one.
-abbrev pub Replays : Bounds → Snapshot → List (List ℕ) → Snapshot → Type 0
-Replays b s [] t = t ≡ s
-Replays b s (p ∷ ps) u = (t : Snapshot) × GoesOn b s p t × Replays b t ps u
+abbrev pub Replays : Version → Bounds → Snapshot → List (List ℕ) → Snapshot → Type 0
+Replays v b s [] t = t ≡ s
+Replays v b s (p ∷ ps) u = (t : Snapshot) × GoesOn v b s p t × Replays v b t ps u
 
 -- frames with these payloads are there, each at the gate after the one before
 abbrev pub HasFrames : ℕ → List (List ℕ) → List ℕ → Type 0
@@ -48,8 +48,8 @@ HasFrames gate [] content = Unit {0}
 HasFrames gate (p ∷ ps) content = IsFrame gate p content × HasFrames (gate_after gate p) ps content
 
 -- frames are there up to this gate, and their payloads go on from the first snapshot to the second one
-pub record ReplaysTo (b : Bounds) (from : ℕ) (s : Snapshot) (gate : ℕ) (t : Snapshot) (content : List ℕ) : Type 0 where
+pub record ReplaysTo (v : Version) (b : Bounds) (from : ℕ) (s : Snapshot) (gate : ℕ) (t : Snapshot) (content : List ℕ) : Type 0 where
   pub payloads : List (List ℕ)
   pub frames : HasFrames from payloads content
   pub ends : last_gate from payloads ≡ gate
-  pub replays : Replays b s payloads t
+  pub replays : Replays v b s payloads t

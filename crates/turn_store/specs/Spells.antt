@@ -3,10 +3,11 @@ use Rattle.std.specs.Prelude.{◌≡◌, ◌<◌, ◌≤◌, ◌^◌, ◌-◌, �
 use Rattle.std.specs.List.{AllByRecursion}
 use Rattle.turn_history.specs.Fitting.{IsFitting}
 use Rattle.turn_history.specs.History.{Event, History, clock}
-use Rattle.turn_history.specs.Laws.{AllFrom, HasNoTokens, ReservesNone}
+use Rattle.turn_history.specs.Laws.{AllFrom}
 use Rattle.turn_history.specs.Table.{table}
 use Rattle.turn_record.specs.Bytes.{payload, snapshot}
-use Rattle.turn_record.specs.declared.version.Version.TheVariants.{V1}
+use Rattle.turn_record.specs.Records.{Holds, Writes}
+use Rattle.turn_record.specs.declared.version.Version.{Version}
 use Rattle.turn_types.specs.declared.limits.Bounds.{Bounds}
 
 -- the events of all batches, in order
@@ -14,16 +15,16 @@ abbrev pub all_of : List (List Event) → History
 all_of [] = []
 all_of (es ∷ more) = es ++ all_of more
 
--- a frame has at least one event, no more than the limit, and none that reserves a port
-pub record HasSize (b : Bounds) (es : List Event) : Type 0 where
+-- a frame has at least one event, no more than the limit, and none that the version can't hold
+pub record HasSize (v : Version) (b : Bounds) (es : List Event) : Type 0 where
   pub some : 1 ≤ length es
   pub few : length es ≤ b.acts
-  pub writes : AllByRecursion (λ e. ReservesNone e.act) es
+  pub writes : AllByRecursion (λ e. Writes v e.act) es
 
--- A history is some events, whose table has no tokens and is spelled by the snapshot, and then batches, each of which a payload
+-- A history is some events, whose table the version can hold and the snapshot spells, and then batches, each of which a payload
 -- spells. No event before the batches is later than the snapshot's moment, and none in them earlier. c is the latest moment
 -- that is written.
-pub record Spells (b : Bounds) (h : History) (c : ℕ) (bytes : List ℕ) (payloads : List (List ℕ)) : Type 0 where
+pub record Spells (v : Version) (b : Bounds) (h : History) (c : ℕ) (bytes : List ℕ) (payloads : List (List ℕ)) : Type 0 where
   pub fitting : IsFitting b h
   pub before : History
   pub batches : List (List Event)
@@ -31,9 +32,9 @@ pub record Spells (b : Bounds) (h : History) (c : ℕ) (bytes : List ℕ) (paylo
   pub moment : ℕ
   pub in_range : moment < 2 ^ 40 - 3600
   pub late : clock before ≤ moment
-  pub holds : HasNoTokens (table before moment)
+  pub holds : Holds v (table before moment)
   pub from : AllFrom moment (all_of batches)
-  pub sizes : AllByRecursion (HasSize b) batches
-  pub is_snapshot : bytes ≡ snapshot V1 moment (table before moment)
+  pub sizes : AllByRecursion (HasSize v b) batches
+  pub is_snapshot : bytes ≡ snapshot v moment (table before moment)
   pub are_payloads : payloads ≡ map payload batches
   pub clock_is : c ≡ max moment (clock (all_of batches))

@@ -7,16 +7,18 @@ use Rattle.turn_history.specs.Laws.{AllFrom}
 use Rattle.turn_journal.specs.declared.area.Area.{Area}
 use Rattle.turn_store.specs.Areas.{Form, RestsOn}
 use Rattle.turn_record.specs.Records.{max_payload}
-use Rattle.turn_record.specs.declared.version.Version.TheVariants.{V1}
+use Rattle.turn_record.specs.declared.version.Version.{Version}
+use Rattle.turn_record.specs.declared.version.Version.TheVariants.{V2}
 use Rattle.turn_store.specs.Spells.{Spells}
 use Rattle.turn_store.specs.Superblock.{least_area}
 use Rattle.turn_types.specs.declared.limits.Bounds.{Bounds}
 
--- the disk, the limits, the area that counts, where the other one begins, the generation, how many frames the area has,
--- whether the other area's generation is below, and whether the store is stopped
+-- the disk, the limits, the version and the place of the area that counts, where the other one begins, the generation, how many
+-- frames the area has, whether the other area's generation is below, and whether the store is stopped
 pub record StoreState (D : Type 0) : Type 0 where
   pub disk : D
   pub bounds : Bounds
+  pub version : Version
   pub area : Area
   pub other : ℕ
   pub generation : ℕ
@@ -30,7 +32,7 @@ form_of s = record { bounds = s.bounds; area = s.area.size }
 -- what a store knows of its disk in this state: nothing is pending, and the area that counts holds this snapshot and these
 -- payloads
 pub record Shows {D : Type 0} (store : StoreState D) (state : State) (snapshot : List ℕ) (payloads : List (List ℕ)) : Type 0 where
-  pub rests : RestsOn (form_of store) store.area.start store.other store.generation store.area.end store.other_is_below snapshot payloads state
+  pub rests : RestsOn store.version (form_of store) store.area.start store.other store.generation store.area.end store.other_is_below snapshot payloads state
   pub frames : store.frames ≡ length payloads
 
 -- A store that isn't stopped rests on a history at a clock: what its disk holds spells it.
@@ -38,7 +40,7 @@ pub record RestsAt {D : Type 0} (store : StoreState D) (state : State) (c : ℕ)
   pub snapshot : List ℕ
   pub payloads : List (List ℕ)
   pub shows : Shows store state snapshot payloads
-  pub spells : Spells store.bounds h c snapshot payloads
+  pub spells : Spells store.version store.bounds h c snapshot payloads
   pub runs : store.stopped ≡ false
 
 -- Events may be added to a history on which a store rests at a clock: they fit after it, and none is before the clock or later
@@ -51,12 +53,12 @@ pub record MayFollow (b : Bounds) (c : ℕ) (h : History) (es : List Event) (mom
   pub in_range : moment < 2 ^ 40 - 3600
 
 -- what a store keeps in any state: its areas fill the disk, and each batch fits
-pub record IsSound (capacity : ℕ) (b : Bounds) (area : Area) (other frames : ℕ) : Type 0 where
+pub record IsSound (capacity : ℕ) (v : Version) (b : Bounds) (area : Area) (other frames : ℕ) : Type 0 where
   pub whole : 64 + 2 * area.size ≡ capacity
   pub addressable : capacity < 2 ^ 64
-  pub room : least_area b ≤ area.size
-  pub small : least_area b < 2 ^ 32
-  pub payload : area.max_payload ≡ max_payload V1 b
+  pub room : least_area v b ≤ area.size
+  pub small : (w : Version) → least_area w b < 2 ^ 32
+  pub payload : area.max_payload ≡ max_payload v b
   pub start_within : area.start ≤ 64 + area.size
   pub other_within : other ≤ 64 + area.size
   pub frames_within : frames ≤ area.end
@@ -74,6 +76,22 @@ abbrev pub swapped : {D : Type 0} → StoreState D → ℕ → D → StoreState 
 swapped s count disk = record s {
   disk = disk;
   area = record s.area { start = s.other; end = 14 + count };
+  other = s.area.start;
+  generation = s.generation + 1;
+  frames = 0;
+  other_is_below = true;
+}
+
+-- the other area, as that of version 2 with a snapshot of so many bytes
+abbrev pub carried_area : {D : Type 0} → StoreState D → ℕ → Area
+carried_area s count = record { start = s.other; size = s.area.size; max_payload = max_payload V2 s.bounds; end = 14 + count }
+
+-- the store as version 2, where this other area counts now, over this disk
+abbrev pub carried : {D : Type 0} → StoreState D → Area → D → StoreState D
+carried s area disk = record s {
+  disk = disk;
+  version = V2;
+  area = area;
   other = s.area.start;
   generation = s.generation + 1;
   frames = 0;

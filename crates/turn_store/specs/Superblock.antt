@@ -3,7 +3,7 @@ use Rattle.std.specs.Prelude.{◌∷◌, ◌++◌, ◌≤◌, ◌<◌, ◌^◌, 
 use Rattle.std.specs.Int.{to_be_bytes, w16, w32, w64}
 use Rattle.turn_disk.specs.Disk.{StandsAt}
 use Rattle.turn_record.specs.Records.{max_snapshot, max_payload}
-use Rattle.turn_record.specs.declared.version.Version.TheVariants.{V1}
+use Rattle.turn_record.specs.declared.version.Version.{Version}
 use Rattle.turn_types.specs.Limits.{AreInRange}
 use Rattle.turn_types.specs.declared.limits.Bounds.{Bounds}
 
@@ -28,6 +28,6 @@ pub record HasSuperblock (area : ℕ) (b : Bounds) (content : List ℕ) : Type 0
   pub in_range : AreInRange b
   pub stands : StandsAt 0 (superblock area b) content
 
--- the min size of an area: 14 bytes before the snapshot, the longest snapshot, a frame of 5 bytes and the longest payload, and the gate after it
-abbrev pub least_area : Bounds → ℕ
-least_area b = 20 + max_snapshot V1 b + max_payload V1 b
+-- the min size of an area of a version: 14 bytes before the snapshot, the longest snapshot, a frame of 5 bytes and the longest payload, and the gate after it
+abbrev pub least_area : Version → Bounds → ℕ
+least_area v b = 20 + max_snapshot v b + max_payload v b

@@ -4,8 +4,10 @@ ghost use Rattle.std.specs.Prelude.{◌≡◌, ◌⊎◌, [], ◌∷◌, ◌++�
 ghost use Rattle.turn_disk.specs.Counts.{CountOutcome};
 ghost use Rattle.turn_disk.specs.Disk.{EachImageSince, StandsAt};
 ghost use Rattle.turn_journal.specs.Frames.{IsClosed};
+ghost use Rattle.turn_record.specs.declared.version.Version.{Version};
 ghost use Rattle.turn_store.specs.Areas.{Form, area_front, Holds, HoldsAt, RestsOn};
 ghost use Rattle.turn_store.specs.Stages.{InStages};
+ghost use Rattle.turn_store.specs.Superblock.{least_area};
 
 use crate::gate::{CLOSED, OPEN};
 use turn_disk::{DeviceFailed, Disk, Producer, write_produced, write_through};
@@ -20,14 +22,14 @@ fn close<D: Disk>(disk: &mut D, gate: usize, is_below: bool) -> Result<(), Devic
 
     // A stop at any moment leaves what was there.
     ensures stop { let old = D.trace disk.old in
-        D.is_honest disk.old → (form : Form) (start generation end : ℕ) (snapshot : List ℕ) (payloads : List (List ℕ))
-        → RestsOn form start gate generation end is_below snapshot payloads old.now
-        → EachImageSince old (D.trace disk.new) (Holds form snapshot payloads) }
+        D.is_honest disk.old → (v : Version) (form : Form) (start generation end : ℕ) (snapshot : List ℕ) (payloads : List (List ℕ))
+        → RestsOn v form start gate generation end is_below snapshot payloads old.now
+        → EachImageSince old (D.trace disk.new) (Holds v form snapshot payloads) }
 
     ensures done { let new = (D.trace disk.new).now in
-        D.is_honest disk.old → (form : Form) (start generation end : ℕ) (snapshot : List ℕ) (payloads : List (List ℕ))
-        → RestsOn form start gate generation end is_below snapshot payloads (D.trace disk.old).now
-        → OnOk result (HoldsAt form start gate generation snapshot payloads new × IsClosed gate new.bytes) }
+        D.is_honest disk.old → (v : Version) (form : Form) (start generation end : ℕ) (snapshot : List ℕ) (payloads : List (List ℕ))
+        → RestsOn v form start gate generation end is_below snapshot payloads (D.trace disk.old).now
+        → OnOk result (HoldsAt v form start gate generation snapshot payloads new × IsClosed gate new.bytes) }
 {
     if is_below {
         write_through(disk, gate, &[CLOSED])?;
@@ -45,16 +47,16 @@ fn fill<D: Disk, P: Producer>(disk: &mut D, gate: usize, front: &mut P) -> Resul
 
     // A stop at any moment leaves what was there, whatever is written.
     ensures stop { let old = D.trace disk.old in
-        D.is_honest disk.old → (form : Form) (start generation : ℕ) (snapshot : List ℕ) (payloads : List (List ℕ))
+        D.is_honest disk.old → (v : Version) (form : Form) (start generation : ℕ) (snapshot : List ℕ) (payloads : List (List ℕ))
         → length (P.rest front.old) < form.area
-        → HoldsAt form start gate generation snapshot payloads old.now → IsClosed gate old.now.bytes
-        → EachImageSince old (D.trace disk.new) (Holds form snapshot payloads) }
+        → HoldsAt v form start gate generation snapshot payloads old.now → IsClosed gate old.now.bytes
+        → EachImageSince old (D.trace disk.new) (Holds v form snapshot payloads) }
 
     ensures done { let old = (D.trace disk.old).now in let new = (D.trace disk.new).now in
-        D.is_honest disk.old → (form : Form) (start generation : ℕ) (snapshot : List ℕ) (payloads : List (List ℕ))
+        D.is_honest disk.old → (v : Version) (form : Form) (start generation : ℕ) (snapshot : List ℕ) (payloads : List (List ℕ))
         → length (P.rest front.old) < form.area
-        → HoldsAt form start gate generation snapshot payloads old → IsClosed gate old.bytes
-        → OnOk result (HoldsAt form start gate generation snapshot payloads new × IsClosed gate new.bytes
+        → HoldsAt v form start gate generation snapshot payloads old → IsClosed gate old.bytes
+        → OnOk result (HoldsAt v form start gate generation snapshot payloads new × IsClosed gate new.bytes
         × StandsAt (gate + 1) (P.rest front.old) new.bytes) }
 {
     write_produced(disk, gate + 1, front)?;
@@ -70,24 +72,24 @@ fn switch<D: Disk>(disk: &mut D, gate: usize) -> Result<(), DeviceFailed>
 
     // A stop at any moment leaves what was there, or the new snapshot alone.
     ensures stop { let old = D.trace disk.old in
-        D.is_honest disk.old → (form : Form) (start generation : ℕ) (snapshot next : List ℕ) (payloads : List (List ℕ))
-        → generation + 1 < 2 ^ 64 → length next < 2 ^ 32 → 14 + length next < form.area
-        → HoldsAt form start gate generation snapshot payloads old.now
-        → StandsAt (gate + 1) (area_front (generation + 1) next ++ 0 ∷ []) old.now.bytes
-        → EachImageSince old (D.trace disk.new) (λ image. Holds form snapshot payloads image ⊎ Holds form next [] image) }
+        D.is_honest disk.old → (v w : Version) (form : Form) (start generation : ℕ) (snapshot next : List ℕ) (payloads : List (List ℕ))
+        → generation + 1 < 2 ^ 64 → length next < 2 ^ 32 → least_area w form.bounds ≤ form.area → 14 + length next < form.area
+        → HoldsAt v form start gate generation snapshot payloads old.now
+        → StandsAt (gate + 1) (area_front w (generation + 1) next ++ 0 ∷ []) old.now.bytes
+        → EachImageSince old (D.trace disk.new) (λ image. Holds v form snapshot payloads image ⊎ Holds w form next [] image) }
 
     ensures done { let old = (D.trace disk.old).now in
-        D.is_honest disk.old → (form : Form) (start generation : ℕ) (snapshot next : List ℕ) (payloads : List (List ℕ))
-        → generation + 1 < 2 ^ 64 → length next < 2 ^ 32 → 14 + length next < form.area
-        → HoldsAt form start gate generation snapshot payloads old
-        → StandsAt (gate + 1) (area_front (generation + 1) next ++ 0 ∷ []) old.bytes
-        → OnOk result (RestsOn form gate start (generation + 1) (14 + length next) true next [] (D.trace disk.new).now) }
+        D.is_honest disk.old → (v w : Version) (form : Form) (start generation : ℕ) (snapshot next : List ℕ) (payloads : List (List ℕ))
+        → generation + 1 < 2 ^ 64 → length next < 2 ^ 32 → least_area w form.bounds ≤ form.area → 14 + length next < form.area
+        → HoldsAt v form start gate generation snapshot payloads old
+        → StandsAt (gate + 1) (area_front w (generation + 1) next ++ 0 ∷ []) old.bytes
+        → OnOk result (RestsOn w form gate start (generation + 1) (14 + length next) true next [] (D.trace disk.new).now) }
 {
     write_through(disk, gate, &[OPEN])?;
     Ok(())
 }
 
-/// Puts a snapshot of the next generation into the area that doesn't count, and lets it count.
+/// Puts a snapshot of the next generation, in either version, into the area that doesn't count, and lets it count.
 pub fn replace<D: Disk, P: Producer>(
     disk: &mut D,
     gate: usize,
@@ -102,19 +104,19 @@ pub fn replace<D: Disk, P: Producer>(
 
     // Up to some moment a stop leaves what was there; from then on what was there, or the new snapshot alone.
     ensures stages { let old = D.trace disk.old in
-        D.is_honest disk.old → (form : Form) (start generation end : ℕ) (snapshot next : List ℕ) (payloads : List (List ℕ))
-        → generation + 1 < 2 ^ 64 → length next < 2 ^ 32 → 14 + length next < form.area
-        → P.rest front.old ≡ area_front (generation + 1) next ++ 0 ∷ []
-        → RestsOn form start gate generation end is_below snapshot payloads old.now
-        → InStages old (D.trace disk.new) (Holds form snapshot payloads)
-        (λ image. Holds form snapshot payloads image ⊎ Holds form next [] image) }
+        D.is_honest disk.old → (v w : Version) (form : Form) (start generation end : ℕ) (snapshot next : List ℕ) (payloads : List (List ℕ))
+        → generation + 1 < 2 ^ 64 → length next < 2 ^ 32 → least_area w form.bounds ≤ form.area → 14 + length next < form.area
+        → P.rest front.old ≡ area_front w (generation + 1) next ++ 0 ∷ []
+        → RestsOn v form start gate generation end is_below snapshot payloads old.now
+        → InStages old (D.trace disk.new) (Holds v form snapshot payloads)
+        (λ image. Holds v form snapshot payloads image ⊎ Holds w form next [] image) }
 
     ensures done { let old = (D.trace disk.old).now in
-        D.is_honest disk.old → (form : Form) (start generation end : ℕ) (snapshot next : List ℕ) (payloads : List (List ℕ))
-        → generation + 1 < 2 ^ 64 → length next < 2 ^ 32 → 14 + length next < form.area
-        → P.rest front.old ≡ area_front (generation + 1) next ++ 0 ∷ []
-        → RestsOn form start gate generation end is_below snapshot payloads old
-        → OnOk result (RestsOn form gate start (generation + 1) (14 + length next) true next [] (D.trace disk.new).now) }
+        D.is_honest disk.old → (v w : Version) (form : Form) (start generation end : ℕ) (snapshot next : List ℕ) (payloads : List (List ℕ))
+        → generation + 1 < 2 ^ 64 → length next < 2 ^ 32 → least_area w form.bounds ≤ form.area → 14 + length next < form.area
+        → P.rest front.old ≡ area_front w (generation + 1) next ++ 0 ∷ []
+        → RestsOn v form start gate generation end is_below snapshot payloads old
+        → OnOk result (RestsOn w form gate start (generation + 1) (14 + length next) true next [] (D.trace disk.new).now) }
 {
     close(disk, gate, is_below)?;
     fill(disk, gate, front)?;

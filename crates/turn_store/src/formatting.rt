@@ -1,22 +1,33 @@
 //! A store is made of a disk: zeros over the superblock, the areas, the superblock, the first area's gate. So until the last
 //! write no image is a store.
 
-ghost use Rattle.std.specs.Prelude.{◌≡◌, [], ◌+◌, ◌*◌, ◌≤◌, ◌<◌, ◌^◌, ◌↔◌, IfErr, OnOk};
+ghost use Rattle.std.specs.Prelude.{◌≡◌, [], ◌∷◌, ◌++◌, ◌+◌, ◌*◌, ◌≤◌, ◌<◌, ◌^◌, ◌↔◌, IfErr, OnOk};
 ghost use Rattle.turn_disk.specs.Counts.{CountOutcome, Rises};
-ghost use Rattle.turn_store.specs.Format.{IsFormatted, IsLaid};
+ghost use Rattle.turn_disk.specs.Disk.{WritesThrough};
+ghost use Rattle.turn_record.specs.declared.version.Version.{Version};
+ghost use Rattle.turn_record.specs.declared.version.Version.TheVariants.{V1, V2};
+ghost use Rattle.turn_store.specs.Areas.{area_front};
+ghost use Rattle.turn_store.specs.Format.{IsFormatted, IsLaid, fresh};
 ghost use Rattle.turn_store.specs.Images.{EachImage, StandsForAt};
 ghost use Rattle.turn_store.specs.Superblock.{least_area};
 ghost use Rattle.turn_store.specs.declared.formatting.FormatRefused.TheVariants.{Device};
 
 use crate::gate::{CLOSED, OPEN};
-use crate::superblock::{least_area, superblock_bytes};
+use crate::superblock::{least_area_of, superblock_bytes};
 use thiserror::Error;
 use turn_disk::{DeviceFailed, Disk, write_through};
+use turn_record::Version;
 use turn_types::Limits;
 
 /// A closed gate, version 1, generation 1, a snapshot of 12 bytes (moment 0, no entry), a closed gate.
-const FRESH_AREA: [u8; 27] = [
+const FRESH_AREA_1: [u8; 27] = [
     CLOSED, 1, 0, 0, 0, 0, 0, 0, 0, 1, 0, 0, 0, 12, 0, 0, 0, 0, 0, 0, 0, 0, 0, 0, 0, 0, CLOSED,
+];
+
+/// The same of version 2: its snapshot has 16 bytes (moment 0, no entry, no reserved port).
+const FRESH_AREA_2: [u8; 31] = [
+    CLOSED, 2, 0, 0, 0, 0, 0, 0, 0, 1, 0, 0, 0, 16, 0, 0, 0, 0, 0, 0, 0, 0, 0, 0, 0, 0, 0, 0, 0, 0,
+    CLOSED,
 ];
 
 /// Why a disk was not formatted.
@@ -38,32 +49,47 @@ impl From<DeviceFailed> for FormatRefused {
     }
 }
 
+// Writes the first area with a closed gate: two device calls.
+fn lay_first<D: Disk>(disk: &mut D, version: Version) -> Result<(), DeviceFailed>
+    requires { 64 + 31 ≤ D.capacity disk.old }
+    ensures size { D.capacity disk.new ≡ D.capacity disk.old }
+    ensures count { CountOutcome (D.failed disk.old) (D.failed disk.new) result }
+    ensures honest { D.is_honest disk.new ↔ D.is_honest disk.old }
+    ensures done { D.is_honest disk.old → OnOk result
+        (WritesThrough 64 (0 ∷ (area_front version 1 (fresh version) ++ 0 ∷ [])) (D.trace disk.old).now (D.trace disk.new).now) }
+{
+    match version {
+        Version::V1 => write_through(disk, 64, &FRESH_AREA_1),
+        Version::V2 => write_through(disk, 64, &FRESH_AREA_2),
+    }
+}
+
 // Closes the second area and lays out the first one, closed too: three device calls.
-fn lay_areas<D: Disk>(disk: &mut D, area: usize) -> Result<(), DeviceFailed>
+fn lay_areas<D: Disk>(disk: &mut D, version: Version, area: usize) -> Result<(), DeviceFailed>
     requires place { 64 + 2 * area ≡ D.capacity disk.old }
-    requires room { 27 < area }
+    requires room { 31 < area }
     ensures size { D.capacity disk.new ≡ D.capacity disk.old }
     ensures count { CountOutcome (D.failed disk.old) (D.failed disk.new) result }
     ensures honest { D.is_honest disk.new ↔ D.is_honest disk.old }
     ensures addressable { 64 + 2 * area < 2 ^ 64 }
-    ensures done { D.is_honest disk.old → OnOk result (IsLaid area (D.trace disk.new).now) }
+    ensures done { D.is_honest disk.old → OnOk result (IsLaid version area (D.trace disk.new).now) }
 {
     let second = disk.size() - area;
     disk.write_at(second, &[CLOSED])?;
-    write_through(disk, 64, &FRESH_AREA)?;
+    lay_first(disk, version)?;
     Ok(())
 }
 
 // Writes the superblock, and then opens the first area: four device calls.
 fn open_first<D: Disk>(disk: &mut D, limits: Limits, area: usize) -> Result<(), DeviceFailed>
     requires place { 64 + 2 * area ≡ D.capacity disk.old }
-    requires room { least_area limits ≤ area }
+    requires room { 31 < area }
     requires addressable { 64 + 2 * area < 2 ^ 64 }
     ensures size { D.capacity disk.new ≡ D.capacity disk.old }
     ensures count { CountOutcome (D.failed disk.old) (D.failed disk.new) result }
     ensures honest { D.is_honest disk.new ↔ D.is_honest disk.old }
-    ensures done { D.is_honest disk.old → IsLaid area (D.trace disk.old).now
-        → OnOk result (IsFormatted (record { bounds = limits; area = area }) (D.trace disk.new).now) }
+    ensures done { D.is_honest disk.old → (v : Version) → least_area v limits ≤ area → IsLaid v area (D.trace disk.old).now
+        → OnOk result (IsFormatted v (record { bounds = limits; area = area }) (D.trace disk.new).now) }
 {
     let superblock = superblock_bytes(area, limits);
     write_through(disk, 0, &superblock)?;
@@ -71,7 +97,38 @@ fn open_first<D: Disk>(disk: &mut D, limits: Limits, area: usize) -> Result<(), 
     Ok(())
 }
 
-/// Makes a disk a store of these limits, which holds nothing. It takes no memory.
+// Makes a disk a store of this version.
+fn format_as<D: Disk>(
+    disk: &mut D,
+    version: Version,
+    limits: Limits,
+    area: usize,
+) -> Result<(), FormatRefused>
+    requires { 64 + 2 * area ≡ D.capacity disk.old }
+    ensures size { D.capacity disk.new ≡ D.capacity disk.old }
+    ensures honest { D.is_honest disk.new ↔ D.is_honest disk.old }
+    ensures device { IfErr result (λ refused. refused ≡ FormatRefused.Device
+        → Rises (D.failed disk.old) (D.failed disk.new)) }
+    ensures count { OnOk result (D.failed disk.new ≡ D.failed disk.old) }
+    ensures too_small { (needed : _) → (result ≡ Err (FormatRefused.AreaTooSmall needed))
+        ↔ ((area < least_area version limits) × (needed ≡ least_area version limits)) }
+    ensures untouched { area < least_area version limits → disk.new ≡ disk.old }
+    ensures formatted { D.is_honest disk.old
+        → OnOk result (IsFormatted version (record { bounds = limits; area = area }) (D.trace disk.new).now) }
+    ensures done { D.is_honest disk.old
+        → OnOk result (EachImage (D.trace disk.new).now (StandsForAt (record { bounds = limits; area = area }) [] 0)) }
+{
+    let needed = least_area_of(version, limits);
+    if area < needed {
+        return Err(FormatRefused::AreaTooSmall(needed));
+    }
+    write_through(disk, 0, &[0; 64])?;
+    lay_areas(disk, version, area)?;
+    open_first(disk, limits, area)?;
+    Ok(())
+}
+
+/// Makes a disk a store of these limits, of version 2, which holds nothing. It takes no memory.
 pub fn format<D: Disk>(disk: &mut D, limits: Limits, area: usize) -> Result<(), FormatRefused>
     requires { 64 + 2 * area ≡ D.capacity disk.old }
     ensures size { D.capacity disk.new ≡ D.capacity disk.old }
@@ -82,21 +139,42 @@ pub fn format<D: Disk>(disk: &mut D, limits: Limits, area: usize) -> Result<(), 
 
     // An area below the min size is refused, and nothing is written.
     ensures too_small { (needed : _) → (result ≡ Err (FormatRefused.AreaTooSmall needed))
-        ↔ ((area < least_area limits) × (needed ≡ least_area limits)) }
-    ensures untouched { area < least_area limits → disk.new ≡ disk.old }
+        ↔ ((area < least_area V2 limits) × (needed ≡ least_area V2 limits)) }
+    ensures untouched { area < least_area V2 limits → disk.new ≡ disk.old }
 
     // The first area counts, with generation 1, and each image stands for the empty history.
     ensures formatted { D.is_honest disk.old
-        → OnOk result (IsFormatted (record { bounds = limits; area = area }) (D.trace disk.new).now) }
+        → OnOk result (IsFormatted V2 (record { bounds = limits; area = area }) (D.trace disk.new).now) }
     ensures done { D.is_honest disk.old
         → OnOk result (EachImage (D.trace disk.new).now (StandsForAt (record { bounds = limits; area = area }) [] 0)) }
 {
-    let needed = least_area(limits);
-    if area < needed {
-        return Err(FormatRefused::AreaTooSmall(needed));
-    }
-    write_through(disk, 0, &[0; 64])?;
-    lay_areas(disk, area)?;
-    open_first(disk, limits, area)?;
-    Ok(())
+    format_as(disk, Version::V2, limits, area)
+}
+
+/// Makes a disk a store of version 1, as `format` does of version 2. Its areas may be smaller: 20 bytes, the longest snapshot and
+/// the longest payload of version 1.
+pub fn format_version1<D: Disk>(
+    disk: &mut D,
+    limits: Limits,
+    area: usize,
+) -> Result<(), FormatRefused>
+    requires { 64 + 2 * area ≡ D.capacity disk.old }
+    ensures size { D.capacity disk.new ≡ D.capacity disk.old }
+    ensures honest { D.is_honest disk.new ↔ D.is_honest disk.old }
+    ensures device { IfErr result (λ refused. refused ≡ FormatRefused.Device
+        → Rises (D.failed disk.old) (D.failed disk.new)) }
+    ensures count { OnOk result (D.failed disk.new ≡ D.failed disk.old) }
+
+    // An area below the min size is refused, and nothing is written.
+    ensures too_small { (needed : _) → (result ≡ Err (FormatRefused.AreaTooSmall needed))
+        ↔ ((area < least_area V1 limits) × (needed ≡ least_area V1 limits)) }
+    ensures untouched { area < least_area V1 limits → disk.new ≡ disk.old }
+
+    // The first area counts, with generation 1, and each image stands for the empty history.
+    ensures formatted { D.is_honest disk.old
+        → OnOk result (IsFormatted V1 (record { bounds = limits; area = area }) (D.trace disk.new).now) }
+    ensures done { D.is_honest disk.old
+        → OnOk result (EachImage (D.trace disk.new).now (StandsForAt (record { bounds = limits; area = area }) [] 0)) }
+{
+    format_as(disk, Version::V1, limits, area)
 }

@@ -5,7 +5,6 @@ ghost use Rattle.turn_disk.specs.Counts.{Rises};
 ghost use Rattle.turn_journal.specs.Area.{end_of, limit_of};
 ghost use Rattle.turn_journal.specs.Scan.{IsAdmitted, IsFound, IsBadFrame};
 ghost use Rattle.turn_record.specs.Records.{IsSnapshot, max_payload};
-ghost use Rattle.turn_record.specs.declared.version.Version.TheVariants.{V1};
 ghost use Rattle.turn_store.specs.Opened.{LogIsRead};
 ghost use Rattle.turn_store.specs.Refused.{BreaksAt, FaultWith};
 ghost use Rattle.turn_store.specs.Tables.{snapshot_of};
@@ -15,6 +14,7 @@ use crate::replay::{FrameFault, replay_frame};
 use std::alloc::Allocator;
 use turn_disk::Disk;
 use turn_journal::{Found, Journal, ScanRefused};
+use turn_record::Version;
 use turn_table::Table;
 use turn_types::Limits;
 
@@ -64,14 +64,15 @@ fn fault_at(gate: usize, fault: FrameFault) -> OpenFault
 pub fn replay_log<D: Disk, A: Allocator + Copy>(
     alloc: A,
     disk: &mut D,
+    version: Version,
     limits: Limits,
     journal: &Journal<A>,
     payload: &mut [u8],
     table: &mut Table<A>,
 ) -> Result<(usize, usize), OpenFault>
     requires place { journal.now.start + journal.now.size ≤ D.capacity disk.old }
-    requires payload { journal.now.max_payload ≡ max_payload V1 limits }
-    requires buffer { length payload.old ≡ max_payload V1 limits }
+    requires payload { journal.now.max_payload ≡ max_payload version limits }
+    requires buffer { length payload.old ≡ max_payload version limits }
     requires bounds { table.old.bounds ≡ limits }
     ensures size { D.capacity disk.new ≡ D.capacity disk.old }
     ensures honest { D.is_honest disk.new ↔ D.is_honest disk.old }
@@ -80,17 +81,17 @@ pub fn replay_log<D: Disk, A: Allocator + Copy>(
     ensures count { OnOk result (D.failed disk.new ≡ D.failed disk.old) }
     ensures count_not { IfErr result (λ fault. fault ≢ OpenFault.Device → D.failed disk.new ≡ D.failed disk.old) }
     ensures bounds { table.new.bounds ≡ table.old.bounds }
-    ensures snapshot { IsSnapshot V1 limits table.old.moment table.old.contents
-        → OnOk result (IsSnapshot V1 limits table.new.moment table.new.contents) }
+    ensures snapshot { IsSnapshot version limits table.old.moment table.old.contents
+        → OnOk result (IsSnapshot version limits table.new.moment table.new.contents) }
     ensures within { IfOk result (λ r. r.0 < journal.now.size) }
     ensures few { IfOk result (λ r. r.1 ≤ r.0) }
     ensures log { D.is_honest disk.old → IfOk result (λ r.
-        LogIsRead limits (end_of journal.now) (snapshot_of table.old) (journal.now.start + r.0) (limit_of journal.now) r.1
+        LogIsRead version limits (end_of journal.now) (snapshot_of table.old) (journal.now.start + r.0) (limit_of journal.now) r.1
         (snapshot_of table.new) (D.trace disk.old).now.bytes) }
 
     // The fault is at the first gate whose frame is bad.
     ensures faults { D.is_honest disk.old → IfErr result (FaultWith
-        (BreaksAt limits (end_of journal.now) (limit_of journal.now) (snapshot_of table.old) (D.trace disk.old).now.bytes)) }
+        (BreaksAt version limits (end_of journal.now) (limit_of journal.now) (snapshot_of table.old) (D.trace disk.old).now.bytes)) }
 {
     let start = journal.start();
     let mut end = journal.end();
@@ -104,7 +105,7 @@ pub fn replay_log<D: Disk, A: Allocator + Copy>(
             Found::End => return Ok((end, frames)),
             Found::Frame(count) => {
                 let at = start + end + 5;
-                match replay_frame(alloc, disk, at, count, payload, table, limits) {
+                match replay_frame(alloc, disk, at, count, payload, table, version, limits) {
                     Ok(()) => {
                         end += 5 + count;
                         frames += 1;

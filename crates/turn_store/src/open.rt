@@ -1,23 +1,25 @@
 //! What a store holds is read: its superblock, the area that counts, the snapshot and the log.
 
-ghost use Rattle.std.specs.Prelude.{◌≡◌, ◌≢◌, ◌+◌, ◌*◌, ◌≤◌, ◌<◌, ◌^◌, ◌↔◌, ℕ, IfOk, IfErr, IsTrue, OnOk};
+ghost use Rattle.std.specs.Prelude.{◌≡◌, ◌≢◌, ◌+◌, ◌*◌, ◌≤◌, ◌<◌, ◌^◌, ◌↔◌, ℕ, IfOk, IfErr, IfSome, IsNone, IsTrue, OnOk};
 ghost use Rattle.turn_disk.specs.Counts.{Rises};
 ghost use Rattle.turn_disk.specs.Disk.{EachImageSince, IsImage, IsSettled};
 ghost use Rattle.turn_record.specs.Records.{IsSnapshot, max_payload, max_snapshot};
+ghost use Rattle.turn_record.specs.declared.version.Version.{Version};
 ghost use Rattle.turn_record.specs.declared.version.Version.TheVariants.{V1};
 ghost use Rattle.turn_history.specs.History.{History};
 ghost use Rattle.turn_store.specs.Areas.{Form};
 ghost use Rattle.turn_store.specs.Images.{StandsForAt};
 ghost use Rattle.turn_store.specs.Opened.{AreaIsRead, IsChosen};
-ghost use Rattle.turn_store.specs.Refused.{AreaIsBad, FaultWith, IsPlain, StoreIsBad, WhyRefused};
+ghost use Rattle.turn_store.specs.Refused.{AreaIsBad, FaultWith, IsHeadOf, IsPlain, StoreIsBad, WhyRefused};
 ghost use Rattle.turn_store.specs.Superblock.{HasSuperblock, least_area};
 ghost use Rattle.turn_store.specs.Tables.{snapshot_of};
 
 use crate::fault::OpenFault;
+use crate::front::version_of;
 use crate::heads::{Head, Placed, counting, read_head};
 use crate::log::replay_log;
 use crate::snapshots::read_snapshot;
-use crate::superblock::{LimitsRefused, least_area, read_superblock};
+use crate::superblock::{LimitsRefused, least_area, least_area_of, read_superblock};
 use std::alloc::{Allocator, Global};
 use turn_disk::Disk;
 use turn_journal::{Area, Journal};
@@ -25,12 +27,31 @@ use turn_record::{Version, max_payload, max_snapshot};
 use turn_table::Table;
 use turn_types::Limits;
 
-/// What an area holds: its journal, the table at its end, and the number of frames.
+/// What an area holds: its version, its journal, the table at its end, and the number of frames.
 #[derive(Drop)]
 pub struct Loaded<A: Allocator = Global> {
+    pub version: Version,
     pub journal: Journal<A>,
     pub table: Table<A>,
     pub frames: usize,
+}
+
+// The version of an area of this size that may have this head, if there is one.
+fn version_in(limits: Limits, size: usize, head: Head) -> Option<Version>
+    ensures some { IfSome result (λ v. IsHeadOf v limits size head) }
+    ensures small { IfSome result (λ v. least_area v limits < 2 ^ 32) }
+    ensures none { IsNone result → (v : Version) → IsHeadOf v limits size head → ⊥ }
+{
+    let Some(version) = version_of(head.version) else {
+        return None;
+    };
+    if size < least_area_of(version, limits) {
+        return None;
+    }
+    if head.snapshot as usize > max_snapshot(version, limits) {
+        return None;
+    }
+    Some(version)
 }
 
 // Reads the area that begins there and has this head.
@@ -44,7 +65,6 @@ fn load_area<D: Disk, A: Allocator + Copy>(
 ) -> Result<Loaded<A>, OpenFault>
     requires place { start + size ≤ D.capacity disk.old }
     requires addressable { start + size < 2 ^ 64 }
-    requires room { least_area limits ≤ size }
     requires generation { head.generation < 2 ^ 64 }
     requires snapshot { head.snapshot < 2 ^ 32 }
     ensures size { D.capacity disk.new ≡ D.capacity disk.old }
@@ -53,38 +73,45 @@ fn load_area<D: Disk, A: Allocator + Copy>(
     ensures device { IfErr result (λ fault. fault ≡ OpenFault.Device → Rises (D.failed disk.old) (D.failed disk.new)) }
     ensures count { OnOk result (D.failed disk.new ≡ D.failed disk.old) }
     ensures count_not { IfErr result (λ fault. fault ≢ OpenFault.Device → D.failed disk.new ≡ D.failed disk.old) }
-    ensures area { IfOk result (λ l. (l.journal.start ≡ start) × (l.journal.size ≡ size) × (l.journal.max_payload ≡ max_payload V1 limits)) }
+    ensures area { IfOk result (λ l. (l.journal.start ≡ start) × (l.journal.size ≡ size) × (l.journal.max_payload ≡ max_payload l.version limits)) }
+    ensures room { IfOk result (λ l. least_area l.version limits ≤ size) }
     ensures bounds { IfOk result (λ l. l.table.bounds ≡ limits) }
-    ensures snapshot { IfOk result (λ l. IsSnapshot V1 limits l.table.moment l.table.contents) }
+    ensures snapshot { IfOk result (λ l. IsSnapshot l.version limits l.table.moment l.table.contents) }
     ensures few { IfOk result (λ l. l.frames ≤ l.journal.end) }
     ensures read { D.is_honest disk.old → IfOk result (λ l.
-        AreaIsRead limits start size head l.journal.end l.frames (snapshot_of l.table) (D.trace disk.old).now.bytes) }
+        AreaIsRead l.version limits start size head l.journal.end l.frames (snapshot_of l.table) (D.trace disk.old).now.bytes) }
     ensures faults { D.is_honest disk.old
         → IfErr result (FaultWith (AreaIsBad limits start size head (D.trace disk.old).now.bytes)) }
 {
+    let Some(version) = version_in(limits, size, head) else {
+        return Err(OpenFault::Damaged(start));
+    };
     let count = head.snapshot as usize;
-    if head.version != 1 {
-        return Err(OpenFault::Damaged(start));
-    }
-    if count > max_snapshot(Version::V1, limits) {
-        return Err(OpenFault::Damaged(start));
-    }
-    let mut table = match read_snapshot(alloc, disk, limits, start + 14, count) {
+    let mut table = match read_snapshot(alloc, disk, version, limits, start + 14, count) {
         Ok(table) => table,
         Err(fault) => return Err(fault),
     };
     let area = Area {
         start,
         size,
-        max_payload: max_payload(Version::V1, limits),
+        max_payload: max_payload(version, limits),
         end: 14 + count,
     };
     let mut journal = Journal::new(alloc, area)?;
-    let mut payload = Vec::from_elem(alloc, 0, max_payload(Version::V1, limits))?;
-    match replay_log(alloc, disk, limits, &journal, &mut payload, &mut table) {
+    let mut payload = Vec::from_elem(alloc, 0, max_payload(version, limits))?;
+    match replay_log(
+        alloc,
+        disk,
+        version,
+        limits,
+        &journal,
+        &mut payload,
+        &mut table,
+    ) {
         Ok((end, frames)) => {
             journal.move_to(start, end);
             Ok(Loaded {
+                version,
                 journal,
                 table,
                 frames,
@@ -112,20 +139,21 @@ fn choose<D: Disk, A: Allocator + Copy>(
 ) -> Result<Chosen<A>, OpenFault>
     requires place { 64 + 2 * size ≡ D.capacity disk.old }
     requires addressable { 64 + 2 * size < 2 ^ 64 }
-    requires room { least_area limits ≤ size }
+    requires room { 20 ≤ size }
     ensures size { D.capacity disk.new ≡ D.capacity disk.old }
     ensures honest { D.is_honest disk.new ↔ D.is_honest disk.old }
     ensures same { D.is_honest disk.old → D.trace disk.new ≡ D.trace disk.old }
     ensures device { IfErr result (λ fault. fault ≡ OpenFault.Device → Rises (D.failed disk.old) (D.failed disk.new)) }
     ensures count { OnOk result (D.failed disk.new ≡ D.failed disk.old) }
     ensures count_not { IfErr result (λ fault. fault ≢ OpenFault.Device → D.failed disk.new ≡ D.failed disk.old) }
-    ensures area { IfOk result (λ r. (r.loaded.journal.size ≡ size) × (r.loaded.journal.max_payload ≡ max_payload V1 limits)) }
+    ensures area { IfOk result (λ r. (r.loaded.journal.size ≡ size) × (r.loaded.journal.max_payload ≡ max_payload r.loaded.version limits)) }
+    ensures room { IfOk result (λ r. least_area r.loaded.version limits ≤ size) }
     ensures places { IfOk result (λ r. (r.loaded.journal.start ≤ 64 + size) × (r.other ≤ 64 + size)) }
     ensures bounds { IfOk result (λ r. r.loaded.table.bounds ≡ limits) }
-    ensures snapshot { IfOk result (λ r. IsSnapshot V1 limits r.loaded.table.moment r.loaded.table.contents) }
+    ensures snapshot { IfOk result (λ r. IsSnapshot r.loaded.version limits r.loaded.table.moment r.loaded.table.contents) }
     ensures few { IfOk result (λ r. r.loaded.frames ≤ r.loaded.journal.end) }
     ensures chosen { D.is_honest disk.old → IfOk result (λ r.
-        IsChosen limits size r.loaded.journal.start r.other r.generation r.loaded.journal.end r.loaded.frames r.other_is_below
+        IsChosen r.loaded.version limits size r.loaded.journal.start r.other r.generation r.loaded.journal.end r.loaded.frames r.other_is_below
         (snapshot_of r.loaded.table) (D.trace disk.old).now.bytes) }
     ensures faults { D.is_honest disk.old
         → IfErr result (FaultWith (StoreIsBad limits size (D.trace disk.old).now.bytes)) }
@@ -179,12 +207,13 @@ fn read_area_size<D: Disk>(disk: &mut D, limits: Limits) -> Result<usize, OpenFa
     ensures count_not { IfErr result (λ fault. fault ≢ OpenFault.Device → D.failed disk.new ≡ D.failed disk.old) }
     ensures place { IfOk result (λ area. 64 + 2 * area ≡ D.capacity disk.old) }
     ensures addressable { D.capacity disk.old < 2 ^ 64 }
-    ensures room { IfOk result (λ area. least_area limits ≤ area) }
-    ensures small { least_area limits < 2 ^ 32 }
+    ensures room { IfOk result (λ area. least_area V1 limits ≤ area) }
+    ensures small { OnOk result ((v : Version) → least_area v limits < 2 ^ 32) }
     ensures superblock { D.is_honest disk.old → IfOk result (λ area. HasSuperblock area limits (D.trace disk.old).now.bytes) }
     ensures why { D.is_honest disk.old → IfErr result (WhyRefused limits (D.trace disk.old).now.bytes) }
 {
-    let needed = least_area(limits);
+    let needed = least_area_of(Version::V1, limits);
+    let _max = least_area(limits);
     let size = disk.size();
     let found = match read_superblock(disk) {
         Ok(found) => found,
@@ -222,16 +251,16 @@ pub fn load<D: Disk, A: Allocator + Copy>(
         → IfErr result (λ fault. fault ≢ OpenFault.Device → IsSettled (D.trace disk.new).now) }
     ensures place { IfOk result (λ r. 64 + 2 * r.loaded.journal.size ≡ D.capacity disk.new) }
     ensures addressable { OnOk result (D.capacity disk.new < 2 ^ 64) }
-    ensures area { IfOk result (λ r. (least_area limits ≤ r.loaded.journal.size) × (r.loaded.journal.max_payload ≡ max_payload V1 limits)) }
-    ensures small { OnOk result (least_area limits < 2 ^ 32) }
+    ensures area { IfOk result (λ r. (least_area r.loaded.version limits ≤ r.loaded.journal.size) × (r.loaded.journal.max_payload ≡ max_payload r.loaded.version limits)) }
+    ensures small { OnOk result ((v : Version) → least_area v limits < 2 ^ 32) }
     ensures places { IfOk result (λ r. (r.loaded.journal.start ≤ 64 + r.loaded.journal.size) × (r.other ≤ 64 + r.loaded.journal.size)) }
     ensures bounds { IfOk result (λ r. r.loaded.table.bounds ≡ limits) }
-    ensures snapshot { IfOk result (λ r. IsSnapshot V1 limits r.loaded.table.moment r.loaded.table.contents) }
+    ensures snapshot { IfOk result (λ r. IsSnapshot r.loaded.version limits r.loaded.table.moment r.loaded.table.contents) }
     ensures few { IfOk result (λ r. r.loaded.frames ≤ r.loaded.journal.end) }
     ensures superblock { D.is_honest disk.old
         → IfOk result (λ r. HasSuperblock r.loaded.journal.size limits (D.trace disk.old).now.bytes) }
     ensures chosen { D.is_honest disk.old → IfOk result (λ r.
-        IsChosen limits r.loaded.journal.size r.loaded.journal.start r.other r.generation r.loaded.journal.end r.loaded.frames r.other_is_below
+        IsChosen r.loaded.version limits r.loaded.journal.size r.loaded.journal.start r.other r.generation r.loaded.journal.end r.loaded.frames r.other_is_below
         (snapshot_of r.loaded.table) (D.trace disk.old).now.bytes) }
     ensures why { D.is_honest disk.old → IfErr result (WhyRefused limits (D.trace disk.old).now.bytes) }
     ensures sound { D.is_honest disk.old → (form : Form) (h : History) (clock : ℕ) → form.bounds ≡ limits

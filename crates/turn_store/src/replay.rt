@@ -8,7 +8,6 @@ ghost use Rattle.turn_history.specs.History as histories;
 ghost use Rattle.turn_history.specs.Table.{purged};
 ghost use Rattle.turn_record.specs.Records.{IsSnapshot, SpellsPayload};
 ghost use Rattle.turn_record.specs.Views.{events_of};
-ghost use Rattle.turn_record.specs.declared.version.Version.TheVariants.{V1};
 ghost use Rattle.turn_store.specs.Refused.{ReadsBad, ReadsOn};
 ghost use Rattle.turn_store.specs.Replay.{IsNext, GoOn, GoesOn, after, after_all};
 ghost use Rattle.turn_store.specs.Tables.{snapshot_of};
@@ -100,16 +99,17 @@ fn apply_all<A: Allocator + Copy>(
 // The events of a payload.
 fn read_events<A: Allocator + Copy>(
     alloc: A,
+    version: Version,
     limits: Limits,
     payload: &[u8],
 ) -> Result<Vec<Event<A>, A>, FrameFault>
     ensures no_device { IfErr result (λ fault. fault ≢ FrameFault.Device) }
-    ensures spelled { IfOk result (λ v. SpellsPayload V1 limits (events_of v.items) payload.now) }
-    ensures once { IfOk result (λ v. (es : List histories.Event) → SpellsPayload V1 limits es payload.now → es ≡ events_of v.items) }
+    ensures spelled { IfOk result (λ v. SpellsPayload version limits (events_of v.items) payload.now) }
+    ensures once { IfOk result (λ v. (es : List histories.Event) → SpellsPayload version limits es payload.now → es ≡ events_of v.items) }
     ensures bad { IfErr result (λ fault. fault ≡ FrameFault.Bad
-        → (es : List histories.Event) → SpellsPayload V1 limits es payload.now → ⊥) }
+        → (es : List histories.Event) → SpellsPayload version limits es payload.now → ⊥) }
 {
-    match read_payload(alloc, Version::V1, limits, payload) {
+    match read_payload(alloc, version, limits, payload) {
         Ok(events) => Ok(events),
         Err(ReadError::Memory) => Err(FrameFault::Memory),
         Err(ReadError::Malformed(_)) => Err(FrameFault::Bad),
@@ -119,6 +119,7 @@ fn read_events<A: Allocator + Copy>(
 // Applies the events of a payload.
 fn apply_payload<A: Allocator + Copy>(
     alloc: A,
+    version: Version,
     limits: Limits,
     table: &mut Table<A>,
     payload: &[u8],
@@ -126,11 +127,11 @@ fn apply_payload<A: Allocator + Copy>(
     requires { table.old.bounds ≡ limits }
     ensures bounds { table.new.bounds ≡ table.old.bounds }
     ensures no_device { IfErr result (λ fault. fault ≢ FrameFault.Device) }
-    ensures goes { OnOk result (GoesOn limits (snapshot_of table.old) payload.now (snapshot_of table.new)) }
+    ensures goes { OnOk result (GoesOn version limits (snapshot_of table.old) payload.now (snapshot_of table.new)) }
     ensures bad { IfErr result (λ fault. fault ≡ FrameFault.Bad
-        → (es : List histories.Event) → SpellsPayload V1 limits es payload.now → GoOn limits (snapshot_of table.old) es → ⊥) }
+        → (es : List histories.Event) → SpellsPayload version limits es payload.now → GoOn limits (snapshot_of table.old) es → ⊥) }
 {
-    let events = match read_events(alloc, limits, payload) {
+    let events = match read_events(alloc, version, limits, payload) {
         Ok(events) => events,
         Err(fault) => return Err(fault),
     };
@@ -147,6 +148,7 @@ fn replay_payload<D: Disk, A: Allocator + Copy>(
     at: usize,
     buffer: &mut [u8],
     table: &mut Table<A>,
+    version: Version,
     limits: Limits,
 ) -> Result<(), FrameFault>
     requires bounds { table.old.bounds ≡ limits }
@@ -163,12 +165,12 @@ fn replay_payload<D: Disk, A: Allocator + Copy>(
     ensures stands { D.is_honest disk.old → IfErr result (λ fault. fault ≢ FrameFault.Device
         → StandsAt at buffer.new (D.trace disk.old).now.bytes) }
     ensures stands_ok { D.is_honest disk.old → OnOk result (StandsAt at buffer.new (D.trace disk.old).now.bytes) }
-    ensures goes { OnOk result (GoesOn limits (snapshot_of table.old) buffer.new (snapshot_of table.new)) }
+    ensures goes { OnOk result (GoesOn version limits (snapshot_of table.old) buffer.new (snapshot_of table.new)) }
     ensures bad { IfErr result (λ fault. fault ≡ FrameFault.Bad
-        → (es : List histories.Event) → SpellsPayload V1 limits es buffer.new → GoOn limits (snapshot_of table.old) es → ⊥) }
+        → (es : List histories.Event) → SpellsPayload version limits es buffer.new → GoOn limits (snapshot_of table.old) es → ⊥) }
 {
     read_pieces(disk, at, buffer)?;
-    match apply_payload(alloc, limits, table, buffer) {
+    match apply_payload(alloc, version, limits, table, buffer) {
         Ok(()) => Ok(()),
         Err(fault) => Err(fault),
     }
@@ -182,6 +184,7 @@ pub fn replay_frame<D: Disk, A: Allocator + Copy>(
     count: usize,
     buffer: &mut [u8],
     table: &mut Table<A>,
+    version: Version,
     limits: Limits,
 ) -> Result<(), FrameFault>
     requires bounds { table.old.bounds ≡ limits }
@@ -196,14 +199,22 @@ pub fn replay_frame<D: Disk, A: Allocator + Copy>(
     ensures count_not { IfErr result (λ fault. fault ≢ FrameFault.Device → D.failed disk.new ≡ D.failed disk.old) }
     ensures len { length buffer.new ≡ length buffer.old }
     ensures bounds { table.new.bounds ≡ table.old.bounds }
-    ensures snapshot { IsSnapshot V1 limits table.old.moment table.old.contents
-        → OnOk result (IsSnapshot V1 limits table.new.moment table.new.contents) }
+    ensures snapshot { IsSnapshot version limits table.old.moment table.old.contents
+        → OnOk result (IsSnapshot version limits table.new.moment table.new.contents) }
     ensures goes { D.is_honest disk.old → OnOk result
-        (ReadsOn limits (snapshot_of table.old) at count (snapshot_of table.new) (D.trace disk.old).now.bytes) }
+        (ReadsOn version limits (snapshot_of table.old) at count (snapshot_of table.new) (D.trace disk.old).now.bytes) }
     ensures bad { D.is_honest disk.old → IfErr result (λ fault. fault ≡ FrameFault.Bad
-        → ReadsBad limits (snapshot_of table.old) at count (D.trace disk.old).now.bytes) }
+        → ReadsBad version limits (snapshot_of table.old) at count (D.trace disk.old).now.bytes) }
 {
-    match replay_payload(alloc, disk, at, &mut buffer[..count], table, limits) {
+    match replay_payload(
+        alloc,
+        disk,
+        at,
+        &mut buffer[..count],
+        table,
+        version,
+        limits,
+    ) {
         Ok(()) => Ok(()),
         Err(fault) => Err(fault),
     }

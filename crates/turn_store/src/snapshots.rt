@@ -4,7 +4,7 @@ ghost use Rattle.std.specs.Prelude.{◌≡◌, ◌≢◌, ◌+◌, ◌++◌, ◌
 ghost use Rattle.turn_disk.specs.Counts.{CountOutcome, Rises};
 ghost use Rattle.turn_record.specs.Pieces.{WasFed};
 ghost use Rattle.turn_record.specs.Records.{IsSnapshot};
-ghost use Rattle.turn_record.specs.declared.version.Version.TheVariants.{V1};
+ghost use Rattle.turn_record.specs.declared.version.Version.{Version};
 ghost use Rattle.turn_store.specs.Refused.{FaultWith, IsBadSnapshot, IsGoodSnapshot};
 ghost use Rattle.turn_store.specs.Bytes.{AreBytes};
 ghost use Rattle.turn_store.specs.Tables.{snapshot_of};
@@ -41,7 +41,7 @@ fn read_front<D: Disk>(
 // Feeds a piece to a reader.
 fn feed<A: Allocator + Copy>(reader: &mut SnapshotReader<A>, piece: &[u8])
     ensures bytes { AreBytes piece.now }
-    ensures fed { (b : Bounds) (fed : List ℕ) → WasFed V1 b reader.old fed → WasFed V1 b reader.new (fed ++ piece.now) }
+    ensures fed { (v : Version) (b : Bounds) (fed : List ℕ) → WasFed v b reader.old fed → WasFed v b reader.new (fed ++ piece.now) }
 {
     let _ = reader.feed(piece);
 }
@@ -60,10 +60,10 @@ fn feed_piece<D: Disk, A: Allocator + Copy>(
     ensures honest { D.is_honest disk.new ↔ D.is_honest disk.old }
     ensures same { D.is_honest disk.old → D.trace disk.new ≡ D.trace disk.old }
     ensures bytes { D.is_honest disk.old → OnOk result (AreBytes (take size (drop at (D.trace disk.old).now.bytes))) }
-    ensures fed_some { OnOk result ((b : Bounds) (fed : List ℕ) → AreBytes fed
-        → WasFed V1 b reader.old fed → (more : List ℕ) × AreBytes more × WasFed V1 b reader.new more) }
-    ensures fed { D.is_honest disk.old → OnOk result ((b : Bounds) (fed : List ℕ)
-        → WasFed V1 b reader.old fed → WasFed V1 b reader.new (fed ++ take size (drop at (D.trace disk.old).now.bytes))) }
+    ensures fed_some { OnOk result ((v : Version) (b : Bounds) (fed : List ℕ) → AreBytes fed
+        → WasFed v b reader.old fed → (more : List ℕ) × AreBytes more × WasFed v b reader.new more) }
+    ensures fed { D.is_honest disk.old → OnOk result ((v : Version) (b : Bounds) (fed : List ℕ)
+        → WasFed v b reader.old fed → WasFed v b reader.new (fed ++ take size (drop at (D.trace disk.old).now.bytes))) }
 {
     let mut piece = [0u8; PIECE];
     read_front(disk, at, &mut piece, size)?;
@@ -71,10 +71,11 @@ fn feed_piece<D: Disk, A: Allocator + Copy>(
     Ok(())
 }
 
-/// Reads the table that so many bytes of the disk encode.
+/// Reads the table that so many bytes of the disk encode in a version.
 pub fn read_snapshot<D: Disk, A: Allocator + Copy>(
     alloc: A,
     disk: &mut D,
+    version: Version,
     limits: Limits,
     at: usize,
     count: usize,
@@ -88,14 +89,14 @@ pub fn read_snapshot<D: Disk, A: Allocator + Copy>(
     ensures count { OnOk result (D.failed disk.new ≡ D.failed disk.old) }
     ensures count_not { IfErr result (λ fault. fault ≢ OpenFault.Device → D.failed disk.new ≡ D.failed disk.old) }
     ensures bounds { IfOk result (λ table. table.bounds ≡ limits) }
-    ensures snapshot { IfOk result (λ table. IsSnapshot V1 limits table.moment table.contents) }
+    ensures snapshot { IfOk result (λ table. IsSnapshot version limits table.moment table.contents) }
     ensures read { D.is_honest disk.old → IfOk result (λ table.
-        IsGoodSnapshot limits at count (snapshot_of table) (D.trace disk.old).now.bytes) }
+        IsGoodSnapshot version limits at count (snapshot_of table) (D.trace disk.old).now.bytes) }
     ensures faults { D.is_honest disk.old → IfErr result (FaultWith (λ place. (place ≡ at)
-        × IsBadSnapshot limits at count (D.trace disk.old).now.bytes)) }
+        × IsBadSnapshot version limits at count (D.trace disk.old).now.bytes)) }
 {
     let _bounds = limits.bounds();
-    let mut reader = SnapshotReader::new(alloc, Version::V1, limits);
+    let mut reader = SnapshotReader::new(alloc, version, limits);
     let mut done = 0;
     while done < count {
         let size = PIECE.min(count - done);

@@ -6,15 +6,18 @@ ghost use Rattle.turn_history.specs.History.{Event, History};
 ghost use Rattle.turn_history.specs.Table as tables;
 ghost use Rattle.turn_record.specs.Bytes as bytes;
 ghost use Rattle.turn_record.specs.Records.{IsSnapshot, max_payload};
-ghost use Rattle.turn_record.specs.declared.version.Version.TheVariants.{V1};
+ghost use Rattle.turn_record.specs.declared.version.Version.{Version};
+ghost use Rattle.turn_record.specs.declared.version.Version.TheVariants.{V2};
 ghost use Rattle.turn_disk.specs.Disk.{EachImageSince, IsImage, IsSettled};
-ghost use Rattle.turn_store.specs.Areas.{Form, Holds};
+ghost use Rattle.turn_store.specs.Areas.{Form, Holds, RestsOn};
+ghost use Rattle.turn_store.specs.Carrying.{Carries, IsCarried};
 ghost use Rattle.turn_store.specs.Images.{EitherBy, StandsBy, StandsForAt};
 ghost use Rattle.turn_store.specs.Opened.{IsOpened, OpensTo};
 ghost use Rattle.turn_store.specs.Refused.{IsPlain, WhyRefused};
 ghost use Rattle.turn_store.specs.Spells.{HasSize};
 ghost use Rattle.turn_store.specs.Stages.{InStages};
-ghost use Rattle.turn_store.specs.State.{MayFollow, RestsAt, Shows, form_of, framed, swapped};
+ghost use Rattle.turn_store.specs.State.{MayFollow, RestsAt, Shows, carried, carried_area, form_of, framed, swapped};
+ghost use Rattle.turn_store.specs.Superblock.{least_area};
 ghost use Rattle.turn_store.specs.Tables.{snapshot_of};
 
 use crate::areas::replace;
@@ -22,18 +25,73 @@ use crate::fault::{OpenFault, StoreFault};
 use crate::front::area_head;
 use crate::gate::CLOSED;
 use crate::open::{Chosen, Loaded, load};
-use std::alloc::{Allocator, Global};
+use crate::superblock::least_area;
+use std::alloc::{AllocError, Allocator, Global};
 use std::marker::Model;
 use turn_disk::{Bytes, Chain, DeviceFailed, Disk};
-use turn_journal::{AppendRefused, Journal};
-use turn_record::{SnapshotWriter, Version, snapshot_size};
+use turn_journal::{AppendRefused, Area, Journal};
+use turn_record::{SnapshotWriter, Version, max_payload, snapshot_size};
 use turn_table::Table;
 use turn_types::Limits;
+
+// What is written into an area: the version, the generation, and the size of the snapshot.
+#[derive(Clone, Copy)]
+struct Next {
+    version: Version,
+    generation: u64,
+    size: usize,
+}
+
+// Writes the snapshot of a table into the area with this gate, which doesn't count, and lets it count.
+fn write_snapshot<D: Disk, A: Allocator + Copy>(
+    disk: &mut D,
+    gate: usize,
+    is_below: bool,
+    next: Next,
+    table: &Table<A>,
+) -> Result<(), DeviceFailed>
+    requires snapshot { IsSnapshot next.version table.now.bounds table.now.moment table.now.contents }
+    requires value { next.size ≡ length (bytes.snapshot next.version table.now.moment table.now.contents) }
+    requires small { next.size < 2 ^ 32 }
+    requires place { gate + 15 + next.size ≤ D.capacity disk.old }
+    requires addressable { D.capacity disk.old < 2 ^ 64 }
+    ensures size { D.capacity disk.new ≡ D.capacity disk.old }
+    ensures count { CountOutcome (D.failed disk.old) (D.failed disk.new) result }
+    ensures honest { D.is_honest disk.new ↔ D.is_honest disk.old }
+
+    // Up to some moment a stop leaves what was there; from then on that, or the new snapshot alone.
+    ensures stages { let old = D.trace disk.old in
+        D.is_honest disk.old → (v : Version) (form : Form) (start generation end : ℕ) (s : List ℕ) (ps : List (List ℕ))
+        → next.generation ≡ generation + 1 → next.generation < 2 ^ 64
+        → least_area next.version form.bounds ≤ form.area → 14 + next.size < form.area
+        → RestsOn v form start gate generation end is_below s ps old.now
+        → InStages old (D.trace disk.new) (Holds v form s ps) (λ image. Holds v form s ps image
+        ⊎ Holds next.version form (bytes.snapshot next.version table.now.moment table.now.contents) [] image) }
+    ensures done { let old = (D.trace disk.old).now in
+        D.is_honest disk.old → (v : Version) (form : Form) (start generation end : ℕ) (s : List ℕ) (ps : List (List ℕ))
+        → next.generation ≡ generation + 1 → next.generation < 2 ^ 64
+        → least_area next.version form.bounds ≤ form.area → 14 + next.size < form.area
+        → RestsOn v form start gate generation end is_below s ps old
+        → OnOk result (RestsOn next.version form gate start next.generation (14 + next.size) true
+        (bytes.snapshot next.version table.now.moment table.now.contents) [] (D.trace disk.new).now) }
+{
+    let head = area_head(next.version, next.generation, next.size as u32);
+    let mut front = Chain {
+        first: Bytes::new(&head),
+        second: Chain {
+            first: SnapshotWriter::new(next.version, table),
+            second: Bytes::new(&[CLOSED]),
+        },
+    };
+    replace(disk, gate, is_below, &mut front)
+}
 
 /// A snapshot of a table, and a log of the batches after it, on a disk.
 pub struct Store<D: Disk, A: Allocator = Global> {
     disk: D,
     limits: Limits,
+    // Of the area that counts.
+    version: Version,
     journal: Journal<A>,
     // Where the other area begins.
     other: usize,
@@ -51,6 +109,7 @@ impl<D: Disk + Drop, A: Allocator> Drop for Store<D, A> {
         let Store {
             disk: _,
             limits: _,
+            version: _,
             journal: _,
             other: _,
             generation: _,
@@ -69,6 +128,7 @@ impl<D: Disk, A: Allocator> Model for Store<D, A> {
     ghost view = { λ s. record {
       disk = s.disk;
       bounds = s.limits;
+      version = s.version;
       area = s.journal;
       other = s.other;
       generation = s.generation;
@@ -77,23 +137,26 @@ impl<D: Disk, A: Allocator> Model for Store<D, A> {
       stopped = s.stopped;
     } };
 
-    ghost invariant = { λ s. IsSound (D.capacity s.disk) s.limits s.journal s.other s.frames };
+    ghost invariant = { λ s. IsSound (D.capacity s.disk) s.version s.limits s.journal s.other s.frames };
 }
 
-/// The generation of the area that counts, and how many frames it has.
+/// The version and the generation of the area that counts, and how many frames it has.
 #[derive(Clone, Copy, Debug, PartialEq, Eq)]
 pub struct Info {
+    pub version: Version,
     pub generation: u64,
     pub frames: usize,
 }
 
 impl<D: Disk, A: Allocator + Copy> Store<D, A> {
-    /// The generation of the area that counts, and how many frames it has.
+    /// The version and the generation of the area that counts, and how many frames it has.
     pub fn info(&self) -> Info
+        ensures version { result.version ≡ self.now.version }
         ensures generation { result.generation ≡ self.now.generation }
         ensures frames { result.frames ≡ self.now.frames }
     {
         Info {
+            version: self.version,
             generation: self.generation,
             frames: self.frames,
         }
@@ -118,6 +181,7 @@ impl<D: Disk, A: Allocator + Copy> Store<D, A> {
         let Store {
             disk,
             limits: _,
+            version: _,
             journal: _,
             other: _,
             generation: _,
@@ -147,7 +211,7 @@ impl<D: Disk, A: Allocator + Copy> Store<D, A> {
     // Adds a frame, for which there is room.
     fn add_frame(&mut self, payload: &[u8]) -> Result<(), DeviceFailed>
         requires runs { self.old.stopped ≡ false }
-        requires short { length payload.now ≤ max_payload V1 self.old.bounds }
+        requires short { length payload.now ≤ max_payload self.old.version self.old.bounds }
         requires room { self.old.area.end + 6 + length payload.now ≤ self.old.area.size }
 
         ensures honest { D.is_honest self.new.disk ↔ D.is_honest self.old.disk }
@@ -158,8 +222,9 @@ impl<D: Disk, A: Allocator + Copy> Store<D, A> {
         // Up to some moment a stop leaves what was there; from then on that, or with the frame.
         ensures stages { D.is_honest self.old.disk → (s : List ℕ) (ps : List (List ℕ))
             → Shows self.old (D.trace self.old.disk).now s ps
-            → InStages (D.trace self.old.disk) (D.trace self.new.disk) (Holds (form_of self.old) s ps)
-            (λ image. Holds (form_of self.old) s ps image ⊎ Holds (form_of self.old) s (ps ++ payload.now ∷ []) image) }
+            → InStages (D.trace self.old.disk) (D.trace self.new.disk) (Holds self.old.version (form_of self.old) s ps)
+            (λ image. Holds self.old.version (form_of self.old) s ps image
+            ⊎ Holds self.old.version (form_of self.old) s (ps ++ payload.now ∷ []) image) }
 
         ensures shown { D.is_honest self.old.disk → (s : List ℕ) (ps : List (List ℕ))
             → Shows self.old (D.trace self.old.disk).now s ps
@@ -176,18 +241,19 @@ impl<D: Disk, A: Allocator + Copy> Store<D, A> {
         }
     }
 
-    // The size of the table's snapshot, for which an area has room.
-    fn next_size(&self, table: &Table<A>) -> usize
+    // The size of the table's snapshot in a version for which an area has room.
+    fn next_size(&self, version: Version, table: &Table<A>) -> usize
         requires limits { table.now.bounds ≡ self.now.bounds }
-        requires snapshot { IsSnapshot V1 table.now.bounds table.now.moment table.now.contents }
-        ensures value { result ≡ length (bytes.snapshot V1 table.now.moment table.now.contents) }
+        requires area { least_area version self.now.bounds ≤ self.now.area.size }
+        requires snapshot { IsSnapshot version table.now.bounds table.now.moment table.now.contents }
+        ensures value { result ≡ length (bytes.snapshot version table.now.moment table.now.contents) }
         ensures small { result < 2 ^ 32 }
         ensures room { 14 + result < self.now.area.size }
         ensures within { self.now.other + 15 + result ≤ D.capacity self.now.disk }
         ensures addressable { D.capacity self.now.disk < 2 ^ 64 }
     {
         let _area = self.journal.size();
-        snapshot_size(Version::V1, table)
+        snapshot_size(version, table)
     }
 
     // Writes a snapshot of the table into the other area, which then counts.
@@ -195,41 +261,40 @@ impl<D: Disk, A: Allocator + Copy> Store<D, A> {
         requires runs { self.old.stopped ≡ false }
         requires generation { self.old.generation < 2 ^ 64 - 1 }
         requires limits { table.now.bounds ≡ self.old.bounds }
-        requires snapshot { IsSnapshot V1 table.now.bounds table.now.moment table.now.contents }
+        requires snapshot { IsSnapshot self.old.version table.now.bounds table.now.moment table.now.contents }
 
         ensures honest { D.is_honest self.new.disk ↔ D.is_honest self.old.disk }
         ensures count { CountOutcome (D.failed self.old.disk) (D.failed self.new.disk) result }
         ensures ok { OnOk result (self.new
-            ≡ swapped self.old (length (bytes.snapshot V1 table.now.moment table.now.contents)) self.new.disk) }
+            ≡ swapped self.old (length (bytes.snapshot self.old.version table.now.moment table.now.contents)) self.new.disk) }
         ensures err { OnErr result (self.new ≡ record self.old { disk = self.new.disk; stopped = true }) }
 
         // Up to some moment a stop leaves what was there; from then on that, or the new snapshot alone.
         ensures stages { D.is_honest self.old.disk → (s : List ℕ) (ps : List (List ℕ))
             → Shows self.old (D.trace self.old.disk).now s ps
-            → InStages (D.trace self.old.disk) (D.trace self.new.disk) (Holds (form_of self.old) s ps)
-            (λ image. Holds (form_of self.old) s ps image
-            ⊎ Holds (form_of self.old) (bytes.snapshot V1 table.now.moment table.now.contents) [] image) }
+            → InStages (D.trace self.old.disk) (D.trace self.new.disk) (Holds self.old.version (form_of self.old) s ps)
+            (λ image. Holds self.old.version (form_of self.old) s ps image
+            ⊎ Holds self.old.version (form_of self.old) (bytes.snapshot self.old.version table.now.moment table.now.contents) [] image) }
 
         ensures shown { D.is_honest self.old.disk → (s : List ℕ) (ps : List (List ℕ))
             → Shows self.old (D.trace self.old.disk).now s ps
             → OnOk result (Shows self.new (D.trace self.new.disk).now
-            (bytes.snapshot V1 table.now.moment table.now.contents) []) }
+            (bytes.snapshot self.old.version table.now.moment table.now.contents) []) }
     {
         self.stopped = true;
-        let size = self.next_size(table);
-        let head = area_head(self.generation + 1, size as u32);
-        let mut front = Chain {
-            first: Bytes::new(&head),
-            second: Chain {
-                first: SnapshotWriter::new(Version::V1, table),
-                second: Bytes::new(&[CLOSED]),
-            },
+        let version = self.version;
+        let size = self.next_size(version, table);
+        let generation = self.generation + 1;
+        let next = Next {
+            version,
+            generation,
+            size,
         };
-        replace(&mut self.disk, self.other, self.other_is_below, &mut front)?;
+        write_snapshot(&mut self.disk, self.other, self.other_is_below, next, table)?;
         let start = self.journal.start();
         self.journal.move_to(self.other, 14 + size);
         self.other = start;
-        self.generation += 1;
+        self.generation = generation;
         self.frames = 0;
         self.other_is_below = true;
         self.stopped = false;
@@ -239,14 +304,14 @@ impl<D: Disk, A: Allocator + Copy> Store<D, A> {
     /// Adds a batch of events: a frame with their payload if one fits after the last one, and else a snapshot of the
     /// table, which has the batch, in the other area. Returns whether it was a snapshot. It takes no memory.
     pub fn append(&mut self, payload: &[u8], table: &Table<A>) -> Result<bool, StoreFault>
-        requires short { length payload.now ≤ max_payload V1 self.old.bounds }
+        requires short { length payload.now ≤ max_payload self.old.version self.old.bounds }
         requires limits { table.now.bounds ≡ self.old.bounds }
-        requires snapshot { IsSnapshot V1 table.now.bounds table.now.moment table.now.contents }
+        requires snapshot { IsSnapshot self.old.version table.now.bounds table.now.moment table.now.contents }
 
         ensures honest { D.is_honest self.new.disk ↔ D.is_honest self.old.disk }
         ensures framed { result ≡ Ok false → self.new ≡ framed self.old (length payload.now) self.new.disk }
         ensures compacted { result ≡ Ok true → self.new
-            ≡ swapped self.old (length (bytes.snapshot V1 table.now.moment table.now.contents)) self.new.disk }
+            ≡ swapped self.old (length (bytes.snapshot self.old.version table.now.moment table.now.contents)) self.new.disk }
         ensures compacts { IfOk result (λ did. IsTrue did
             ↔ (self.old.area.size < self.old.area.end + 6 + length payload.now)) }
 
@@ -264,13 +329,13 @@ impl<D: Disk, A: Allocator + Copy> Store<D, A> {
         // the batch, at a moment that is at most the table's.
         ensures stages { D.is_honest self.old.disk → (c : ℕ) (h : History) (es : List Event)
             → RestsAt self.old (D.trace self.old.disk).now c h → MayFollow self.old.bounds c h es table.now.moment
-            → HasSize self.old.bounds es → payload.now ≡ bytes.payload es
+            → HasSize self.old.version self.old.bounds es → payload.now ≡ bytes.payload es
             → table.now.contents ≡ tables.table (h ++ es) table.now.moment
             → InStages (D.trace self.old.disk) (D.trace self.new.disk)
             (StandsForAt (form_of self.old) h c) (EitherBy (form_of self.old) h es table.now.moment) }
         ensures done { D.is_honest self.old.disk → (c : ℕ) (h : History) (es : List Event)
             → RestsAt self.old (D.trace self.old.disk).now c h → MayFollow self.old.bounds c h es table.now.moment
-            → HasSize self.old.bounds es → payload.now ≡ bytes.payload es
+            → HasSize self.old.version self.old.bounds es → payload.now ≡ bytes.payload es
             → table.now.contents ≡ tables.table (h ++ es) table.now.moment
             → OnOk result ((d : ℕ) × (d ≤ table.now.moment)
             × RestsAt self.new (D.trace self.new.disk).now d (h ++ es)) }
@@ -278,7 +343,7 @@ impl<D: Disk, A: Allocator + Copy> Store<D, A> {
         // What the area that counts holds after Ok: one frame more, or the new snapshot alone.
         ensures shown { D.is_honest self.old.disk → (s : List ℕ) (ps : List (List ℕ))
             → Shows self.old (D.trace self.old.disk).now s ps → IfOk result (λ did. MatchBool did
-            (Shows self.new (D.trace self.new.disk).now (bytes.snapshot V1 table.now.moment table.now.contents) [])
+            (Shows self.new (D.trace self.new.disk).now (bytes.snapshot self.old.version table.now.moment table.now.contents) [])
             (Shows self.new (D.trace self.new.disk).now s (ps ++ payload.now ∷ []))) }
     {
         let compacts = !self.journal.room(payload.len());
@@ -297,11 +362,11 @@ impl<D: Disk, A: Allocator + Copy> Store<D, A> {
     /// Writes a snapshot of the table into the other area, which then counts. It takes no memory.
     pub fn compact(&mut self, table: &Table<A>) -> Result<(), StoreFault>
         requires limits { table.now.bounds ≡ self.old.bounds }
-        requires snapshot { IsSnapshot V1 table.now.bounds table.now.moment table.now.contents }
+        requires snapshot { IsSnapshot self.old.version table.now.bounds table.now.moment table.now.contents }
 
         ensures honest { D.is_honest self.new.disk ↔ D.is_honest self.old.disk }
         ensures compacted { OnOk result (self.new
-            ≡ swapped self.old (length (bytes.snapshot V1 table.now.moment table.now.contents)) self.new.disk) }
+            ≡ swapped self.old (length (bytes.snapshot self.old.version table.now.moment table.now.contents)) self.new.disk) }
 
         // Device comes with one failed call. Worn and Stopped come without a device call.
         ensures count { OnOk result (D.failed self.new.disk ≡ D.failed self.old.disk) }
@@ -327,7 +392,7 @@ impl<D: Disk, A: Allocator + Copy> Store<D, A> {
         // What the area that counts holds after Ok: the new snapshot alone.
         ensures shown { D.is_honest self.old.disk → (s : List ℕ) (ps : List (List ℕ))
             → Shows self.old (D.trace self.old.disk).now s ps → OnOk result
-            (Shows self.new (D.trace self.new.disk).now (bytes.snapshot V1 table.now.moment table.now.contents) []) }
+            (Shows self.new (D.trace self.new.disk).now (bytes.snapshot self.old.version table.now.moment table.now.contents) []) }
     {
         if let Some(fault) = self.refusal(true) {
             self.stopped = true;
@@ -353,9 +418,139 @@ pub struct Refused<D: Disk> {
 }
 
 impl<D: Disk, A: Allocator + Copy> Store<D, A> {
-    /// Opens the store of a disk, which was formatted with these limits. It syncs, and reads in device calls of at most 4,096
-    /// bytes. A refusal returns the disk, which can be opened again.
-    pub fn open(alloc: A, disk: D, limits: Limits) -> Result<Opened<D, A>, Refused<D>>
+    // Whether the store is to be carried over to version 2.
+    fn is_carried(&self, carry: bool) -> bool
+        ensures { IsTrue result ↔ IsCarried carry self.now.area.size self.now.bounds self.now.version self.now.generation }
+    {
+        carry
+            && self.version == Version::V1
+            && least_area(self.limits) <= self.journal.size()
+            && self.generation < u64::MAX
+    }
+
+    // The journal of the other area, of version 2, after a snapshot of so many bytes.
+    fn next_journal(&self, alloc: A, size: usize) -> Result<Journal<A>, AllocError>
+        requires room { 14 + size < self.now.area.size }
+        ensures { IfOk result (λ journal. journal ≡ carried_area self.now size) }
+    {
+        let area = Area {
+            start: self.other,
+            size: self.journal.size(),
+            max_payload: max_payload(Version::V2, self.limits),
+            end: 14 + size,
+        };
+        Journal::new(alloc, area)
+    }
+
+    // Writes a snapshot of the table, as version 2, into the other area, which then counts, with this journal.
+    fn carry(
+        &mut self,
+        journal: Journal<A>,
+        table: &Table<A>,
+        size: usize,
+    ) -> Result<(), DeviceFailed>
+        requires runs { self.old.stopped ≡ false }
+        requires generation { self.old.generation < 2 ^ 64 - 1 }
+        requires area { least_area V2 self.old.bounds ≤ self.old.area.size }
+        requires snapshot { IsSnapshot V2 table.now.bounds table.now.moment table.now.contents }
+        requires value { size ≡ length (bytes.snapshot V2 table.now.moment table.now.contents) }
+        requires small { size < 2 ^ 32 }
+        requires room { 14 + size < self.old.area.size }
+        requires within { self.old.other + 15 + size ≤ D.capacity self.old.disk }
+        requires journal { journal ≡ carried_area self.old size }
+
+        ensures honest { D.is_honest self.new.disk ↔ D.is_honest self.old.disk }
+        ensures count { CountOutcome (D.failed self.old.disk) (D.failed self.new.disk) result }
+        ensures ok { OnOk result (self.new ≡ carried self.old (carried_area self.old size) self.new.disk) }
+        ensures err { OnErr result (self.new ≡ record self.old { disk = self.new.disk; stopped = true }) }
+
+        // Up to some moment a stop leaves what was there; from then on that, or the new snapshot alone.
+        ensures stages { D.is_honest self.old.disk → (s : List ℕ) (ps : List (List ℕ))
+            → Shows self.old (D.trace self.old.disk).now s ps
+            → InStages (D.trace self.old.disk) (D.trace self.new.disk) (Holds self.old.version (form_of self.old) s ps)
+            (λ image. Holds self.old.version (form_of self.old) s ps image
+            ⊎ Holds V2 (form_of self.old) (bytes.snapshot V2 table.now.moment table.now.contents) [] image) }
+
+        ensures shown { D.is_honest self.old.disk → (s : List ℕ) (ps : List (List ℕ))
+            → Shows self.old (D.trace self.old.disk).now s ps
+            → OnOk result (Shows self.new (D.trace self.new.disk).now
+            (bytes.snapshot V2 table.now.moment table.now.contents) []) }
+    {
+        self.stopped = true;
+        let generation = self.generation + 1;
+        let over = Next {
+            version: Version::V2,
+            generation,
+            size,
+        };
+        write_snapshot(&mut self.disk, self.other, self.other_is_below, over, table)?;
+        self.other = self.journal.start();
+        self.journal = journal;
+        self.version = Version::V2;
+        self.generation = over.generation;
+        self.frames = 0;
+        self.other_is_below = true;
+        self.stopped = false;
+        Ok(())
+    }
+}
+
+// Writes the table of an opened store as a snapshot of version 2 into the other area, which then counts. What takes memory comes
+// before the first write.
+fn carry_over<D: Disk, A: Allocator + Copy>(
+    alloc: A,
+    opened: Opened<D, A>,
+) -> Result<Opened<D, A>, Refused<D>>
+    requires limits { opened.table.bounds ≡ opened.store.bounds }
+    requires snapshot { IsSnapshot V2 opened.table.bounds opened.table.moment opened.table.contents }
+    requires runs { opened.store.stopped ≡ false }
+    requires generation { opened.store.generation < 2 ^ 64 - 1 }
+    requires area { least_area V2 opened.store.bounds ≤ opened.store.area.size }
+
+    ensures honest { IfOk result (λ o. D.is_honest o.store.disk ↔ D.is_honest opened.store.disk) }
+    ensures honest_err { IfErr result (λ r. D.is_honest r.disk ↔ D.is_honest opened.store.disk) }
+    ensures count { IfOk result (λ o. D.failed o.store.disk ≡ D.failed opened.store.disk) }
+    ensures plain { IfErr result (λ r. IsPlain r.fault) }
+    ensures device { IfErr result (λ r. r.fault ≡ OpenFault.Device → Rises (D.failed opened.store.disk) (D.failed r.disk)) }
+    ensures untouched { IfErr result (λ r. r.fault ≢ OpenFault.Device → r.disk ≡ opened.store.disk) }
+    ensures table { IfOk result (λ o. o.table ≡ opened.table) }
+    ensures store { IfOk result (λ o. o.store ≡ carried opened.store
+        (carried_area opened.store (length (bytes.snapshot V2 opened.table.moment opened.table.contents))) o.store.disk) }
+    ensures shown { D.is_honest opened.store.disk → (s : List ℕ) (ps : List (List ℕ))
+        → Shows opened.store (D.trace opened.store.disk).now s ps → IfOk result (λ o.
+        Shows o.store (D.trace o.store.disk).now (bytes.snapshot V2 opened.table.moment opened.table.contents) []) }
+
+    // A stop at any moment leaves the history that was opened.
+    ensures stop { D.is_honest opened.store.disk → (form : Form) (h : History) (clock : ℕ)
+        → OpensTo form h clock opened.store (D.trace opened.store.disk).now (snapshot_of opened.table)
+        → IfOk result (λ o. EachImageSince (D.trace opened.store.disk) (D.trace o.store.disk) (StandsBy form h clock)) }
+    ensures stop_err { D.is_honest opened.store.disk → (form : Form) (h : History) (clock : ℕ)
+        → OpensTo form h clock opened.store (D.trace opened.store.disk).now (snapshot_of opened.table)
+        → IfErr result (λ r. EachImageSince (D.trace opened.store.disk) (D.trace r.disk) (StandsBy form h clock)) }
+    ensures rests { D.is_honest opened.store.disk → (form : Form) (h : History) (clock : ℕ)
+        → OpensTo form h clock opened.store (D.trace opened.store.disk).now (snapshot_of opened.table)
+        → IfOk result (λ o. OpensTo form h clock o.store (D.trace o.store.disk).now (snapshot_of o.table)) }
+{
+    let Opened { mut store, table } = opened;
+    let size = store.next_size(Version::V2, &table);
+    let Ok(journal) = store.next_journal(alloc, size) else {
+        return Err(Refused {
+            fault: OpenFault::Memory,
+            disk: store.into_disk(),
+        });
+    };
+    match store.carry(journal, &table, size) {
+        Ok(()) => Ok(Opened { store, table }),
+        Err(_) => Err(Refused {
+            fault: OpenFault::Device,
+            disk: store.into_disk(),
+        }),
+    }
+}
+
+impl<D: Disk, A: Allocator + Copy> Store<D, A> {
+    // Opens the store of a disk, whose content stays.
+    fn open_unchanged(alloc: A, disk: D, limits: Limits) -> Result<Opened<D, A>, Refused<D>>
         ensures honest { IfOk result (λ o. D.is_honest o.store.disk ↔ D.is_honest disk) }
         ensures honest_err { IfErr result (λ r. D.is_honest r.disk ↔ D.is_honest disk) }
         ensures count { IfOk result (λ o. D.failed o.store.disk ≡ D.failed disk) }
@@ -363,7 +558,7 @@ impl<D: Disk, A: Allocator + Copy> Store<D, A> {
         ensures count_not { IfErr result (λ r. r.fault ≢ OpenFault.Device → D.failed r.disk ≡ D.failed disk) }
         ensures bounds { IfOk result (λ o. (o.store.bounds ≡ limits) × (o.table.bounds ≡ limits)) }
         ensures runs { IfOk result (λ o. o.store.stopped ≡ false) }
-        ensures snapshot { IfOk result (λ o. IsSnapshot V1 limits o.table.moment o.table.contents) }
+        ensures snapshot { IfOk result (λ o. IsSnapshot o.store.version limits o.table.moment o.table.contents) }
 
         // The content stays, and a stop at any moment leaves what it might have left before.
         ensures same { D.is_honest disk
@@ -402,6 +597,7 @@ impl<D: Disk, A: Allocator + Copy> Store<D, A> {
                     other_is_below,
                 } = chosen;
                 let Loaded {
+                    version,
                     journal,
                     table,
                     frames,
@@ -409,6 +605,7 @@ impl<D: Disk, A: Allocator + Copy> Store<D, A> {
                 let store = Store {
                     disk,
                     limits,
+                    version,
                     journal,
                     other,
                     generation,
@@ -420,5 +617,114 @@ impl<D: Disk, A: Allocator + Copy> Store<D, A> {
             }
             Err(fault) => Err(Refused { fault, disk }),
         }
+    }
+
+    /// Opens the store of a disk, which was formatted with these limits. It syncs, and reads in device calls of at most 4,096
+    /// bytes. Where `carry` is set and the store is of version 1, its table is written as version 2 into the other area, which then
+    /// counts, if the areas are large enough and the store isn't worn. A refusal returns the disk, which can be opened again.
+    pub fn open_as(
+        alloc: A,
+        disk: D,
+        limits: Limits,
+        carry: bool,
+    ) -> Result<Opened<D, A>, Refused<D>>
+        ensures honest { IfOk result (λ o. D.is_honest o.store.disk ↔ D.is_honest disk) }
+        ensures honest_err { IfErr result (λ r. D.is_honest r.disk ↔ D.is_honest disk) }
+        ensures count { IfOk result (λ o. D.failed o.store.disk ≡ D.failed disk) }
+        ensures device { IfErr result (λ r. r.fault ≡ OpenFault.Device → Rises (D.failed disk) (D.failed r.disk)) }
+        ensures count_not { IfErr result (λ r. r.fault ≢ OpenFault.Device → D.failed r.disk ≡ D.failed disk) }
+        ensures bounds { IfOk result (λ o. (o.store.bounds ≡ limits) × (o.table.bounds ≡ limits)) }
+        ensures runs { IfOk result (λ o. o.store.stopped ≡ false) }
+        ensures snapshot { IfOk result (λ o. IsSnapshot o.store.version limits o.table.moment o.table.contents) }
+
+        // A stop at any moment leaves what it might have left before, or an image that stands for the same history.
+        ensures stop { D.is_honest disk → (form : Form) (h : History) (clock : ℕ)
+            → StandsForAt form h clock (D.trace disk).now.bytes → IfOk result (λ o. EachImageSince (D.trace disk)
+            (D.trace o.store.disk) (λ image. IsImage (D.trace disk).now image ⊎ StandsBy form h clock image)) }
+        ensures stop_err { D.is_honest disk → (form : Form) (h : History) (clock : ℕ)
+            → StandsForAt form h clock (D.trace disk).now.bytes → IfErr result (λ r. EachImageSince (D.trace disk)
+            (D.trace r.disk) (λ image. IsImage (D.trace disk).now image ⊎ StandsBy form h clock image)) }
+
+        // Where nothing is to be carried over the content stays, and a stop at any moment leaves what it might have left before.
+        ensures same { carry ≡ false → D.is_honest disk
+            → IfOk result (λ o. (D.trace o.store.disk).now.bytes ≡ (D.trace disk).now.bytes) }
+        ensures same_err { carry ≡ false → D.is_honest disk
+            → IfErr result (λ r. (D.trace r.disk).now.bytes ≡ (D.trace disk).now.bytes) }
+        ensures stop_kept { carry ≡ false → D.is_honest disk → IfOk result (λ o.
+            EachImageSince (D.trace disk) (D.trace o.store.disk) (IsImage (D.trace disk).now)) }
+        ensures stop_kept_err { carry ≡ false → D.is_honest disk → IfErr result (λ r.
+            EachImageSince (D.trace disk) (D.trace r.disk) (IsImage (D.trace disk).now)) }
+
+        // The sync comes first: a refusal that isn't of the device finds nothing pending.
+        ensures settled { D.is_honest disk
+            → IfErr result (λ r. r.fault ≢ OpenFault.Device → IsSettled (D.trace r.disk).now) }
+
+        // What the store holds, and the reason of each refusal: the first that applies.
+        ensures opened { D.is_honest disk
+            → IfOk result (λ o. IsOpened o.store (D.trace o.store.disk).now (snapshot_of o.table)) }
+        ensures why { D.is_honest disk → IfErr result (λ r. WhyRefused limits (D.trace disk).now.bytes r.fault) }
+
+        // Exactly a store of version 1 is carried over whose areas have room for version 2, and which isn't worn.
+        ensures carried { D.is_honest disk → IfOk result (λ o. Carries carry (D.trace disk).now.bytes o.store) }
+
+        // If the content stands for a history, the store rests on it, the table is the history's, and a refusal is of the
+        // device or of memory.
+        ensures rests { D.is_honest disk → (form : Form) (h : History) (clock : ℕ) → form.bounds ≡ limits
+            → StandsForAt form h clock (D.trace disk).now.bytes
+            → IfOk result (λ o. OpensTo form h clock o.store (D.trace o.store.disk).now (snapshot_of o.table)) }
+        ensures sound { D.is_honest disk → (form : Form) (h : History) (clock : ℕ) → form.bounds ≡ limits
+            → StandsForAt form h clock (D.trace disk).now.bytes → IfErr result (λ r. IsPlain r.fault) }
+    {
+        let opened = match Store::open_unchanged(alloc, disk, limits) {
+            Ok(opened) => opened,
+            Err(refused) => return Err(refused),
+        };
+        if !opened.store.is_carried(carry) {
+            return Ok(opened);
+        }
+        carry_over(alloc, opened)
+    }
+
+    /// Opens the store of a disk, which was formatted with these limits, and carries it over to version 2 if it can be, as
+    /// `open_as` does.
+    pub fn open(alloc: A, disk: D, limits: Limits) -> Result<Opened<D, A>, Refused<D>>
+        ensures honest { IfOk result (λ o. D.is_honest o.store.disk ↔ D.is_honest disk) }
+        ensures honest_err { IfErr result (λ r. D.is_honest r.disk ↔ D.is_honest disk) }
+        ensures count { IfOk result (λ o. D.failed o.store.disk ≡ D.failed disk) }
+        ensures device { IfErr result (λ r. r.fault ≡ OpenFault.Device → Rises (D.failed disk) (D.failed r.disk)) }
+        ensures count_not { IfErr result (λ r. r.fault ≢ OpenFault.Device → D.failed r.disk ≡ D.failed disk) }
+        ensures bounds { IfOk result (λ o. (o.store.bounds ≡ limits) × (o.table.bounds ≡ limits)) }
+        ensures runs { IfOk result (λ o. o.store.stopped ≡ false) }
+        ensures snapshot { IfOk result (λ o. IsSnapshot o.store.version limits o.table.moment o.table.contents) }
+
+        // A stop at any moment leaves what it might have left before, or an image that stands for the same history.
+        ensures stop { D.is_honest disk → (form : Form) (h : History) (clock : ℕ)
+            → StandsForAt form h clock (D.trace disk).now.bytes → IfOk result (λ o. EachImageSince (D.trace disk)
+            (D.trace o.store.disk) (λ image. IsImage (D.trace disk).now image ⊎ StandsBy form h clock image)) }
+        ensures stop_err { D.is_honest disk → (form : Form) (h : History) (clock : ℕ)
+            → StandsForAt form h clock (D.trace disk).now.bytes → IfErr result (λ r. EachImageSince (D.trace disk)
+            (D.trace r.disk) (λ image. IsImage (D.trace disk).now image ⊎ StandsBy form h clock image)) }
+
+        // The sync comes first: a refusal that isn't of the device finds nothing pending.
+        ensures settled { D.is_honest disk
+            → IfErr result (λ r. r.fault ≢ OpenFault.Device → IsSettled (D.trace r.disk).now) }
+
+        // What the store holds, and the reason of each refusal: the first that applies.
+        ensures opened { D.is_honest disk
+            → IfOk result (λ o. IsOpened o.store (D.trace o.store.disk).now (snapshot_of o.table)) }
+        ensures why { D.is_honest disk → IfErr result (λ r. WhyRefused limits (D.trace disk).now.bytes r.fault) }
+
+        // Exactly a store of version 1 is carried over whose areas have room for version 2, and which isn't worn.
+        ensures carried { D.is_honest disk → IfOk result (λ o. Carries true (D.trace disk).now.bytes o.store) }
+
+        // If the content stands for a history, the store rests on it, the table is the history's, and a refusal is of the
+        // device or of memory.
+        ensures rests { D.is_honest disk → (form : Form) (h : History) (clock : ℕ) → form.bounds ≡ limits
+            → StandsForAt form h clock (D.trace disk).now.bytes
+            → IfOk result (λ o. OpensTo form h clock o.store (D.trace o.store.disk).now (snapshot_of o.table)) }
+        ensures sound { D.is_honest disk → (form : Form) (h : History) (clock : ℕ) → form.bounds ≡ limits
+            → StandsForAt form h clock (D.trace disk).now.bytes → IfErr result (λ r. IsPlain r.fault) }
+    {
+        Store::open_as(alloc, disk, limits, true)
     }
 }

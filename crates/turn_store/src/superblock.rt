@@ -2,6 +2,7 @@
 
 ghost use Rattle.std.specs.Prelude.{◌≡◌, ◌≢◌, ◌+◌, ◌<◌, ◌^◌, ◌↔◌, ℕ, IfSome, IsNone, IfOk, IfErr, OnOk, length};
 ghost use Rattle.turn_disk.specs.Counts.{Rises};
+ghost use Rattle.turn_record.specs.declared.version.Version.TheVariants.{V2};
 ghost use Rattle.turn_store.specs.Superblock.{HasSuperblock, least_area, superblock};
 ghost use Rattle.turn_store.specs.declared.superblock.LimitsRefused.TheVariants.{Device};
 ghost use Rattle.turn_types.specs.Limits.{AreInRange};
@@ -39,12 +40,20 @@ pub struct Superblock {
     pub limits: Limits,
 }
 
-/// The min size of an area under the limits, in which each batch fits.
-pub fn least_area(limits: Limits) -> usize
-    ensures value { result ≡ least_area limits }
+/// The min size of an area of a version under the limits, in which each batch fits.
+pub fn least_area_of(version: Version, limits: Limits) -> usize
+    ensures value { result ≡ least_area version limits }
     ensures small { result < 2 ^ 32 }
 {
-    20 + max_snapshot(Version::V1, limits) + max_payload(Version::V1, limits)
+    20 + max_snapshot(version, limits) + max_payload(version, limits)
+}
+
+/// The min size of an area under the limits, in which each batch fits: that of version 2.
+pub fn least_area(limits: Limits) -> usize
+    ensures value { result ≡ least_area V2 limits }
+    ensures small { result < 2 ^ 32 }
+{
+    least_area_of(Version::V2, limits)
 }
 
 /// The bytes of a superblock.

@@ -24,7 +24,8 @@ const SNAPSHOT: [u8; 59] = *b"\x00\x00\x00\x00\x00\x00\x00\x00\x00\x00\x00\x01\
     \x00\x05alice\xc3\x50\x00\x00\x02\x58\x01\x02\x03\x04\x05\x06\x07\x08\x09\x0a\x0b\x0c\
     \x00\x00\x00\x00\x00\x00\x00\x00\x00\x00";
 
-const ALICE: FiveTuple = FiveTuple {
+/// From 192.0.2.1:32853 to 192.0.2.100:3478.
+pub const ALICE: FiveTuple = FiveTuple {
     client: Endpoint {
         ip: 0xC000_0201,
         port: 32853,
@@ -85,7 +86,7 @@ pub fn append_at<A: Allocator + Copy>(
 }
 
 /// Appends the first `count` batches, one a second.
-fn append_first<A: Allocator + Copy>(
+pub fn append_first<A: Allocator + Copy>(
     rt: &impl Abort,
     alloc: A,
     store: &mut TestStore<A>,

@@ -1,6 +1,7 @@
 //! Which fault is told of a store that is refused again and again, and which are tried again at all.
 
 use super::batches::store_after;
+use super::limits::{SMALL, limits_of, small_limits};
 use super::recorded::{copy_at, put_at};
 use super::stores::small_store;
 use refusing::Refusing;
@@ -14,6 +15,7 @@ use std::rt::Clock;
 use std::time::Duration;
 use turn_disk::FileDisk;
 use turn_reading::{ReadingFault, read_store};
+use turn_types::{Bounds, Limits};
 
 /// Counts the pauses of 10 ms, which take none.
 #[derive(Drop)]
@@ -37,8 +39,8 @@ impl Clock for Counter {
     }
 }
 
-/// A file that has one content up to its first sync, and another from its second sync on. A reading begins with the limits, then
-/// it syncs.
+/// A file that has one content up to its first sync, and another from its second sync on. A reading begins with the limits, if none
+/// are given, and then syncs.
 #[derive(Drop)]
 struct Changing<'a> {
     first: &'a [u8],
@@ -134,7 +136,8 @@ fn make_counter() -> Counter {
     }
 }
 
-fn play(rt: &impl Abort, alloc: Global, case: &Case) {
+/// Reads as a case says, under these limits or the store's own.
+fn play(rt: &impl Abort, alloc: Global, case: &Case, limits: Option<Limits>) {
     let (first, second, size, expected, pauses) = *case;
     let (first, second) = (
         edited(rt, alloc, first, size),
@@ -146,7 +149,7 @@ fn play(rt: &impl Abort, alloc: Global, case: &Case) {
         syncs: Cell::new(0),
     };
     let clock = make_counter();
-    let got = match read_store(alloc, &clock, FileDisk::new(file, 540)) {
+    let got = match read_store(alloc, &clock, FileDisk::new(file, 540), limits) {
         Ok(reading) => Ok(reading.info.generation),
         Err(fault) => Err(fault),
     };
@@ -157,7 +160,40 @@ fn play(rt: &impl Abort, alloc: Global, case: &Case) {
 #[test]
 fn a_store_that_changes_is_told_from_one_that_is_refused(rt: HostRuntime) {
     for case in &CASES {
-        play(&rt, rt.alloc(), case);
+        play(&rt, rt.alloc(), case, None);
+    }
+}
+
+/// The store's limits with names of 9 bytes.
+const OTHER: Edit = (26, b"\x00\x09");
+
+const UNDER_ITS_LIMITS: [Case; 5] = [
+    (SAME, SAME, 540, Ok(1), 0),
+    (OTHER, OTHER, 540, Err(ReadingFault::LimitsDiffer), 10),
+    (OTHER, SAME, 540, Ok(1), 1),
+    (CLOSED, OTHER, 540, Err(ReadingFault::Changing), 10),
+    (CLOSED, CLOSED, 540, Err(ReadingFault::Damaged(64)), 10),
+];
+
+/// Limits come after the letters of a store, and before its size and its areas.
+const UNDER_OTHER_LIMITS: [Case; 4] = [
+    (SAME, SAME, 540, Err(ReadingFault::LimitsDiffer), 10),
+    (CLOSED, CLOSED, 540, Err(ReadingFault::LimitsDiffer), 10),
+    (NO_STORE, NO_STORE, 540, Err(ReadingFault::NotAStore), 10),
+    (OTHER, OTHER, 540, Err(ReadingFault::Damaged(8)), 10),
+];
+
+#[test]
+fn a_store_of_other_limits_than_the_given_ones_is_refused(rt: HostRuntime) {
+    for case in &UNDER_ITS_LIMITS {
+        play(&rt, rt.alloc(), case, Some(small_limits(&rt)));
+    }
+    let other = Bounds {
+        name_bytes: 9,
+        ..SMALL
+    };
+    for case in &UNDER_OTHER_LIMITS {
+        play(&rt, rt.alloc(), case, Some(limits_of(&rt, other)));
     }
 }
 
@@ -170,7 +206,7 @@ fn refuse_growth(rt: &impl Abort, alloc: Global, content: &[u8], served: u64) ->
     };
     let clock = make_counter();
     let refusing = Refusing::new(alloc, served);
-    let got = match read_store(&refusing, &clock, FileDisk::new(file, 540)) {
+    let got = match read_store(&refusing, &clock, FileDisk::new(file, 540), None) {
         Ok(reading) => Ok(reading.table.len()),
         Err(fault) => Err(fault),
     };

@@ -1,6 +1,7 @@
 //! What a store writes, call by call, while batches are added to it and snapshots are written.
 
-ghost use Rattle.std.specs.Prelude.{◌≤◌, length};
+ghost use Rattle.std.specs.Prelude.{◌≡◌, ◌≤◌, ◌↔◌, IsTrue, length};
+ghost use Rattle.turn_record.specs.declared.version.Version.TheVariants.{V1};
 
 use super::limits::limits_of;
 use super::stores::format_disk;
@@ -197,7 +198,13 @@ impl OpenFile for Recorder<'_> {
     }
 }
 
-/// An open store, and its limits.
+fn is_first(version: Version) -> bool
+    ensures { IsTrue result ↔ (version ≡ V1) }
+{
+    version == Version::V1
+}
+
+/// An open store of version 1, and its limits.
 #[derive(Drop)]
 struct Stored<'a> {
     store: Store<FileDisk<Recorder<'a>>>,
@@ -208,13 +215,14 @@ struct Stored<'a> {
 impl<'a> Model for Stored<'a> {
     ghost use Rattle.std.specs.Prelude.{◌≡◌};
     ghost use Rattle.turn_disk.specs.Views.{InFile};
+    ghost use Rattle.turn_record.specs.declared.version.Version.TheVariants.{V1};
     ghost use Rattle.turn_store.specs.State.{StoreState};
 
     ghost Value = { StoreState InFile };
 
     ghost view = { λ s. s.store };
 
-    ghost invariant = { λ s. s.store.bounds ≡ s.limits };
+    ghost invariant = { λ s. (s.store.bounds ≡ s.limits) × (s.store.version ≡ V1) };
 }
 
 impl<'a> Stored<'a> {
@@ -225,9 +233,10 @@ impl<'a> Stored<'a> {
         shape: Shape,
     ) -> Stored<'a> {
         let limits = shape.limits(rt);
-        match Store::open(alloc, disk, limits) {
+        match Store::open_as(alloc, disk, limits, false) {
             Ok(opened) => {
                 let Opened { store, table: _ } = opened;
+                assert!(rt; is_first(store.info().version));
                 Stored {
                     store,
                     limits,

@@ -1,5 +1,6 @@
 //! Tests of `turn_record`: act entries and payloads. The bytes are written out by hand from the format.
 
+use super::batches::ALICE;
 use super::bytes::replaced;
 use super::limits::{SMALL, limits_of};
 use refusing::Refusing;
@@ -9,7 +10,7 @@ use turn_history::{Act, Addresses, Event, UserName};
 use turn_record::{
     Malformed, ReadError, Version, read_act, read_payload, write_act, write_payload,
 };
-use turn_types::{Bounds, Endpoint, FiveTuple, Limits, Moment, TxId};
+use turn_types::{Bounds, Limits, Moment, TxId};
 
 /// The payload of alice's allocation at 1000: from 192.0.2.1:32853 to 192.0.2.100:3478, port 50000, 600 seconds.
 const PAYLOAD: [u8; 47] =
@@ -241,24 +242,12 @@ fn an_act_has_the_values_that_the_bytes_spell(rt: HostRuntime) {
     match read_act(rt.alloc(), Version::V1, limits(&rt, 1, 1), &PAYLOAD[1..]) {
         Ok(event) => {
             assert!(rt; event.moment.seconds() == 1000);
-            assert!(rt; event.tuple == FIVE_TUPLE);
+            assert!(rt; event.tuple == ALICE);
             assert!(rt; is_alices_allocation(&event.act));
         }
         Err(_) => panic!(rt; "an act"),
     }
 }
-
-/// From 192.0.2.1:32853 to 192.0.2.100:3478.
-const FIVE_TUPLE: FiveTuple = FiveTuple {
-    client: Endpoint {
-        ip: 0xC000_0201,
-        port: 32853,
-    },
-    server: Endpoint {
-        ip: 0xC000_0264,
-        port: 3478,
-    },
-};
 
 /// Whether some growth was refused, which is then what is answered, and the next reading succeeds; else this one does.
 fn is_refused(rt: &impl Abort, alloc: Global, served: u64) -> bool {

@@ -8,6 +8,7 @@ use super::stores::TestStore;
 use std::alloc::Global;
 use std::process::Abort;
 use turn_disk::{Disk, Outcome};
+use turn_record::Version;
 use turn_store::{Info, StoreFault};
 
 /// The frame of the Refresh at 1005, and the closed gate after it.
@@ -16,6 +17,7 @@ const LAST_FRAME: [u8; 32] = *b"\xa5\x00\x00\x00\x1a\x01\x02\x00\x00\x00\x00\x00
 
 /// The first area, filled by the allocation and the Refreshes up to 1005.
 const FILLED: Info = Info {
+    version: Version::V1,
     generation: 1,
     frames: 6,
 };
@@ -40,6 +42,7 @@ const NEXT_FRAME: [u8; 32] = *b"\xa5\x00\x00\x00\x1a\x01\x02\x00\x00\x00\x00\x00
     \xc0\x00\x02\x01\x80\x55\xc0\x00\x02\x64\x0d\x96\x00\x00\x02\x58\x00";
 
 const COMPACTED: Info = Info {
+    version: Version::V1,
     generation: 2,
     frames: 0,
 };
@@ -66,11 +69,13 @@ const THIRD_AREA: [u8; 74] = *b"\xa5\x01\x00\x00\x00\x00\x00\x00\x00\x03\x00\x00
 
 /// The second area, filled by the Refreshes from 1007 to 1011.
 const FILLED_AGAIN: Info = Info {
+    version: Version::V1,
     generation: 2,
     frames: 5,
 };
 
 const COMPACTED_AGAIN: Info = Info {
+    version: Version::V1,
     generation: 3,
     frames: 0,
 };

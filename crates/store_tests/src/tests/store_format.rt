@@ -11,12 +11,12 @@ use turn_disk::{Disk, Outcome};
 use turn_store::{FormatRefused, LimitsRefused, least_area, limits};
 use turn_types::Bounds;
 
-/// The limits, and the longest snapshot, the longest payload and 20 bytes for what is between and around them.
+/// The limits, and the longest snapshot of version 2, the longest payload and 20 bytes for what is between and around them.
 const LEAST_AREAS: [(u32, u16, u16, u16, u16, usize); 4] = [
-    (2, 1, 1, 1, 8, 168 + 50 + 20),
-    (2, 1, 1, 2, 8, 168 + 99 + 20),
-    (128, 1, 1, 1, 8, 9996 + 50 + 20),
-    (1024, 32, 32, 64, 508, 1_480_716 + 35_137 + 20),
+    (2, 1, 1, 1, 8, 226 + 58 + 20),
+    (2, 1, 1, 2, 8, 226 + 115 + 20),
+    (128, 1, 1, 1, 8, 13_456 + 58 + 20),
+    (1024, 32, 32, 64, 508, 1_508_368 + 35_649 + 20),
 ];
 
 #[test]

@@ -7,6 +7,7 @@ use super::stores::TestStore;
 use std::alloc::Global;
 use std::process::Abort;
 use turn_disk::{Disk, Outcome};
+use turn_record::Version;
 use turn_store::{Info, OpenFault, StoreFault};
 
 #[test]
@@ -17,6 +18,7 @@ fn a_fresh_store_opens_to_an_empty_table_at_0(rt: HostRuntime) {
 }
 
 const FRESH: Info = Info {
+    version: Version::V1,
     generation: 1,
     frames: 0,
 };
@@ -30,6 +32,7 @@ const FIRST_AREA: [u8; 79] = *b"\xa5\x01\x00\x00\x00\x00\x00\x00\x00\x01\x00\x00
     \x00\x05alice\xc3\x50\x00\x00\x02\x58\x01\x02\x03\x04\x05\x06\x07\x08\x09\x0a\x0b\x0c\x00";
 
 const ONE_FRAME: Info = Info {
+    version: Version::V1,
     generation: 1,
     frames: 1,
 };

@@ -1,65 +1,72 @@
 //! Tests of compactions whose snapshot is written in pieces of 4,096 bytes.
 
-use super::bytes::has_at;
-use super::limits::{SMALL, limits_of};
+use super::bytes::{front, has_at};
+use super::entries::{limits, snapshot};
 use super::max_snapshots::max_entries;
-use super::stores::{SnapshotTable, TestStore};
+use super::stores::{SnapshotTable, TestStore, format_as, zeros};
 use std::alloc::Global;
 use std::process::Abort;
-use turn_disk::MemoryDisk;
-use turn_store::{Store, StoreFault, least_area};
-use turn_types::{Bounds, Limits};
+use turn_disk::{Disk, MemoryDisk};
+use turn_record::Version;
+use turn_record::Version::{V1, V2};
+use turn_store::{FormatRefused, Store, StoreFault};
+use turn_types::Limits;
 
-/// The min size of an area under the limits 128, 1, 1, 1, 8.
-const AREA: usize = 10_066;
+/// Of a version the min size of an area under the limits 128, 1, 1, 1, 8; how many allocations there are, how many bytes their
+/// snapshot has, the head of the second area, and how many device calls the compaction makes.
+type Size = (Version, usize, u8, usize, [u8; 14], u64);
 
-fn limits(rt: &impl Abort) -> Limits {
-    let bounds = Bounds {
-        allocations: 128,
-        ..SMALL
-    };
-    limits_of(rt, bounds)
-}
-
-/// Alice's allocation at 1000. The port of the client ends at the sixth byte, the relayed port at the twenty-first one.
-const ENTRY: [u8; 47] = *b"\xc0\x00\x02\x01\x00\x00\xc0\x00\x02\x64\x0d\x96\
-    \x00\x05alice\x00\x00\x00\x00\x02\x58\x01\x02\x03\x04\x05\x06\x07\x08\x09\x0a\x0b\x0c\
-    \x00\x00\x00\x00\x00\x00\x06\x40\x00\x00";
-
-/// From port 40000 + `i` of 192.0.2.1, with the relayed port 50000 + `i`.
-fn entry(i: u8) -> [u8; 47] {
-    let [client_high, client_low] = (40_000 + u16::from(i)).to_be_bytes();
-    let [port_high, port_low] = (50_000 + u16::from(i)).to_be_bytes();
-    let mut entry = ENTRY;
-    entry[4] = client_high;
-    entry[5] = client_low;
-    entry[19] = port_high;
-    entry[20] = port_low;
-    entry
-}
-
-/// The snapshot at 1000 with so many of these.
-fn snapshot(rt: &impl Abort, alloc: Global, count: u8) -> Vec<u8> {
-    let head = [0, 0, 0, 0, 0, 0, 3, 0xE8, 0, 0, 0, count];
-    let mut bytes = Vec::from_slice(alloc, &head).expect(rt, "memory");
-    for i in 0..count {
-        bytes.extend_from_slice(&entry(i)).expect(rt, "memory");
-    }
-    bytes
-}
+const SIZES: [Size; 4] = [
+    (
+        V1,
+        10_066,
+        86,
+        4054,
+        *b"\xa5\x01\0\0\0\0\0\0\0\x02\0\0\x0f\xd6",
+        6,
+    ),
+    (
+        V1,
+        10_066,
+        87,
+        4101,
+        *b"\xa5\x01\0\0\0\0\0\0\0\x02\0\0\x10\x05",
+        7,
+    ),
+    (
+        V2,
+        13_534,
+        84,
+        4048,
+        *b"\xa5\x02\0\0\0\0\0\0\0\x02\0\0\x0f\xd0",
+        6,
+    ),
+    (
+        V2,
+        13_534,
+        85,
+        4096,
+        *b"\xa5\x02\0\0\0\0\0\0\0\x02\0\0\x10\0",
+        7,
+    ),
+];
 
 /// Zeros up to the second area's snapshot, and old bytes from there on.
-fn old_content(rt: &impl Abort, alloc: Global) -> Vec<u8> {
-    let mut content = Vec::from_elem(alloc, 0u8, 64 + AREA + 14).expect(rt, "memory");
-    content.resize(64 + 2 * AREA, 0xEE).expect(rt, "memory");
+fn old_content(rt: &impl Abort, alloc: Global, area: usize) -> Vec<u8> {
+    assert!(rt; area <= 2_000_000);
+    let mut content = Vec::from_elem(alloc, 0u8, 64 + area + 14).expect(rt, "memory");
+    content.resize(64 + 2 * area, 0xEE).expect(rt, "memory");
     content
 }
 
-// Compacts to so many allocations right after formatting, where all device calls after so many fail. Returns the disk, and
-// whether it succeeds.
-fn compact_stopped(rt: &impl Abort, alloc: Global, count: u8, calls: u64) -> (MemoryDisk, bool) {
-    let table = SnapshotTable::read(rt, alloc, limits(rt), &snapshot(rt, alloc, count));
-    let mut store = TestStore::format(rt, alloc, old_content(rt, alloc), limits(rt), AREA);
+// Compacts to the allocations right after formatting, where all device calls after so many fail. Returns the disk, and whether it
+// succeeds.
+fn compact_stopped(rt: &impl Abort, alloc: Global, size: &Size, calls: u64) -> (MemoryDisk, bool) {
+    let (version, area, count, _, _, _) = *size;
+    let bytes = snapshot(rt, alloc, version, count);
+    let table = SnapshotTable::read_as(rt, alloc, version, limits(rt), &bytes);
+    let content = old_content(rt, alloc, area);
+    let mut store = TestStore::format_as(rt, alloc, content, version, limits(rt), area);
     assert!(rt; calls < 10);
     store.disk().stop_at(calls + 1);
     let outcome = store.compact(rt, &table);
@@ -67,43 +74,53 @@ fn compact_stopped(rt: &impl Abort, alloc: Global, count: u8, calls: u64) -> (Me
     (store.into_disk(), outcome.is_ok())
 }
 
-/// How many allocations there are, how many bytes their snapshot has, the head of the second area, its first gate of a
-/// frame, counted from the disk's first byte, and how many device calls the compaction makes.
-const SIZES: [(u8, usize, [u8; 14], usize, u64); 2] = [
-    (
-        86,
-        4054,
-        *b"\xa5\x01\x00\x00\x00\x00\x00\x00\x00\x02\x00\x00\x0f\xd6",
-        10_130 + 4068,
-        6,
-    ),
-    (
-        87,
-        4101,
-        *b"\xa5\x01\x00\x00\x00\x00\x00\x00\x00\x02\x00\x00\x10\x05",
-        10_130 + 4115,
-        7,
-    ),
-];
+/// Whether an area that is smaller by a byte is refused.
+fn is_least(rt: &impl Abort, alloc: Global, version: Version, area: usize) -> bool {
+    assert!(rt; 0 < area);
+    let mut disk = zeros(rt, alloc, area - 1);
+    let outcome = format_as(rt, &mut disk, version, limits(rt), area - 1);
+    outcome == Err(FormatRefused::AreaTooSmall(area))
+}
 
-// The second area is at 10,130.
-fn has_compacted(rt: &impl Abort, alloc: Global, count: u8, head: &[u8], gate: usize, calls: u64) {
-    let (disk, is_done) = compact_stopped(rt, alloc, count, calls);
+fn compacts(rt: &impl Abort, alloc: Global, size: &Size) {
+    let (version, area, count, len, head, calls) = *size;
+    assert!(rt; is_least(rt, alloc, version, area));
+    let bytes = snapshot(rt, alloc, version, count);
+    assert!(rt; bytes.len() == len);
+    let (disk, is_done) = compact_stopped(rt, alloc, size, calls);
     assert!(rt; is_done);
-    assert!(rt; has_at(disk.content(), 10_130, head));
-    assert!(rt; has_at(disk.content(), 10_144, &snapshot(rt, alloc, count)));
-    assert!(rt; has_at(disk.content(), gate, b"\x00\xee"));
+    assert!(rt; area <= 2_000_000 && len <= 2_000_000);
+    let second = 64 + area;
+    assert!(rt; has_at(disk.content(), second, &head));
+    assert!(rt; has_at(disk.content(), second + 14, &bytes));
+    assert!(rt; has_at(disk.content(), second + 14 + len, b"\x00\xee"));
+    assert!(rt; calls > 0);
+    let (_, is_done) = compact_stopped(rt, alloc, size, calls - 1);
+    assert!(rt; !is_done);
 }
 
 #[test]
 fn a_snapshot_of_more_than_a_piece_takes_another_device_call(rt: HostRuntime) {
-    assert!(rt; least_area(limits(&rt)) == AREA);
-    for (count, len, head, gate, calls) in &SIZES {
-        assert!(rt; snapshot(&rt, rt.alloc(), *count).len() == *len);
-        has_compacted(&rt, rt.alloc(), *count, head, *gate, *calls);
-        assert!(rt; *calls > 0);
-        let (_, is_done) = compact_stopped(&rt, rt.alloc(), *count, *calls - 1);
-        assert!(rt; !is_done);
+    for size in &SIZES {
+        compacts(&rt, rt.alloc(), size);
+    }
+}
+
+// Stops in the first piece, which follows the gate, after the closed gate and its sync. What a stopped write had is there.
+fn stops_in_a_piece(rt: &impl Abort, alloc: Global, size: &Size) -> bool {
+    let (version, area, count, _, _, _) = *size;
+    let bytes = snapshot(rt, alloc, version, count);
+    let (disk, is_done) = compact_stopped(rt, alloc, size, 2);
+    assert!(rt; area <= 2_000_000);
+    !is_done
+        && has_at(disk.content(), 64 + area + 14, front(&bytes, 4083))
+        && has_at(disk.content(), 64 + area + 1 + 4096, &[0xEE; 14])
+}
+
+#[test]
+fn the_first_piece_has_4096_bytes(rt: HostRuntime) {
+    for size in &SIZES {
+        assert!(rt; size.5 == 6 || stops_in_a_piece(&rt, rt.alloc(), size));
     }
 }
 

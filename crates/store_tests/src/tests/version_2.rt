@@ -7,7 +7,9 @@ ghost use Rattle.turn_history.specs.Fitting.{Fits, IsInRange};
 ghost use Rattle.turn_record.specs.Records.{IsSnapshot};
 ghost use Rattle.turn_record.specs.declared.version.Version.TheVariants.{V2};
 
+use super::batches::ALICE;
 use super::bytes::replaced;
+use super::entries;
 use super::limits::{SMALL, limits_of};
 use refusing::Refusing;
 use std::alloc::{Allocator, Global};
@@ -21,7 +23,7 @@ use turn_record::{
     write_snapshot,
 };
 use turn_table::Table;
-use turn_types::{Bounds, Endpoint, FiveTuple, Limits, Token, TxId};
+use turn_types::{Bounds, Limits, Token, TxId};
 
 /// Alice's allocation at 1000 from 192.0.2.1:32853 to 192.0.2.100:3478, with port 50000 for 600 seconds and a token for 50001.
 /// Places: the tag 0, the moment 1, the five-tuple 9, the name 21, the port 28, granted 30, the transaction id 34, the token 46.
@@ -199,18 +201,6 @@ fn what_is_read_is_written_again(rt: HostRuntime) {
     }
 }
 
-/// From 192.0.2.1:32853 to 192.0.2.100:3478.
-const FIVE_TUPLE: FiveTuple = FiveTuple {
-    client: Endpoint {
-        ip: 0xC000_0201,
-        port: 32853,
-    },
-    server: Endpoint {
-        ip: 0xC000_0264,
-        port: 3478,
-    },
-};
-
 /// Alice's token, for port 50001.
 const ALICES: Token = Token([0xC3, 0x51, 0xD5, 0x74, 0xB1, 0x5A, 0x49, 0xFA]);
 
@@ -239,7 +229,7 @@ fn is_alices_pair(act: &Act) -> bool {
 fn a_pair_has_the_values_that_the_bytes_spell(rt: HostRuntime) {
     match read_act(rt.alloc(), Version::V2, limits(&rt), &PAIR) {
         Ok(event) => {
-            assert!(rt; event.moment.seconds() == 1000 && event.tuple == FIVE_TUPLE);
+            assert!(rt; event.moment.seconds() == 1000 && event.tuple == ALICE);
             assert!(rt; is_alices_pair(&event.act));
         }
         Err(_) => panic!(rt; "an act"),
@@ -517,44 +507,11 @@ fn the_longest_records_by_the_limits(rt: HostRuntime) {
     assert!(rt; max_sizes(Limits::MAX) == (1_508_368, 35_649));
 }
 
-/// Alice's entry without a token at 1000, but for the ports of its client, at the fourth byte, and of the relay, at the nineteenth.
-const ENTRY: [u8; 48] = *b"\xc0\0\x02\x01\0\0\xc0\0\x02\x64\x0d\x96\0\x05alice\0\0\0\0\x02\x58\
-    \x01\x02\x03\x04\x05\x06\x07\x08\x09\x0a\x0b\x0c\0\0\0\0\0\0\0\x06\x40\0\0";
-
-/// From port 40000 + `i` of 192.0.2.1, with the relayed port 50000 + `i`.
-fn entry(i: u8) -> [u8; 48] {
-    let [client_high, client_low] = (40_000 + u16::from(i)).to_be_bytes();
-    let [port_high, port_low] = (50_000 + u16::from(i)).to_be_bytes();
-    let mut entry = ENTRY;
-    entry[4] = client_high;
-    entry[5] = client_low;
-    entry[19] = port_high;
-    entry[20] = port_low;
-    entry
-}
-
-/// The snapshot at 1000 with so many of these, and no reserved ports.
-fn entries(rt: &impl Abort, alloc: Global, count: u8) -> Vec<u8> {
-    let head = [0, 0, 0, 0, 0, 0, 3, 0xE8, 0, 0, 0, count];
-    let mut bytes = Vec::from_slice(alloc, &head).expect(rt, "memory");
-    for i in 0..count {
-        bytes.extend_from_slice(&entry(i)).expect(rt, "memory");
-    }
-    bytes.extend_from_slice(&[0; 4]).expect(rt, "memory");
-    bytes
-}
-
 #[test]
 fn an_entry_without_a_token_has_a_byte_more(rt: HostRuntime) {
-    let limits = limits_of(
-        &rt,
-        Bounds {
-            allocations: 128,
-            ..SMALL
-        },
-    );
+    let limits = entries::limits(&rt);
     for (count, size) in [(84, 4048), (85, 4096)] {
-        let bytes = entries(&rt, rt.alloc(), count);
+        let bytes = entries::snapshot(&rt, rt.alloc(), Version::V2, count);
         assert!(rt;
             bytes.len() == size && is_written_again(rt.alloc(), limits, Kind::Snapshot, &bytes)
         );

@@ -1,6 +1,5 @@
 use Rattle.std.proofs.Common.{◌≡◌, ◌↔◌, ◌≤◌, ◌<◌, ◌+◌, ◌-◌, length}
 use Rattle.turn_record.specs.Records.{IsSnapshot}
-use Rattle.turn_record.specs.declared.version.Version.TheVariants.{V1}
 use Rattle.turn_store.specs.Tables.{snapshot_of}
 use Rattle.turn_store.proofs.Logs.{SoFar}
 use Rattle.turn_store.proofs.log.replay_log.Given as goal
@@ -15,8 +14,8 @@ invariant-frames g l = record {
   same : g.D.Disk.is_honest l.initial.disk → g.D.Disk.trace l.disk ≡ g.D.Disk.trace l.initial.disk;
   buffer : length l.payload ≡ length l.initial.payload;
   bounds : l.table.bounds ≡ l.initial.table.bounds;
-  snapshot : IsSnapshot V1 l.limits l.initial.table.moment l.initial.table.contents → IsSnapshot V1 l.limits l.table.moment l.table.contents;
-  so_far : g.D.Disk.is_honest l.initial.disk → SoFar l.limits (l.journal.start + l.journal.end) (snapshot_of l.initial.table) (l.journal.start + l.end) l.frames (snapshot_of l.table) (g.D.Disk.trace l.initial.disk).now.bytes;
+  snapshot : IsSnapshot l.version l.limits l.initial.table.moment l.initial.table.contents → IsSnapshot l.version l.limits l.table.moment l.table.contents;
+  so_far : g.D.Disk.is_honest l.initial.disk → SoFar l.version l.limits (l.journal.start + l.journal.end) (snapshot_of l.initial.table) (l.journal.start + l.end) l.frames (snapshot_of l.table) (g.D.Disk.trace l.initial.disk).now.bytes;
 }
 
 abbrev pub decreases-frames : goal.decreases-frames

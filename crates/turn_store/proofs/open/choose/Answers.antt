@@ -29,10 +29,10 @@ returns-in-Ok-clause-chosen g c = λ honest.
       both = c.in-Some.ensures.both;
     } in
     let here = found size _ _ area other content read in
-    let its : AreaIsRead b area.start size area.head loaded.journal.end loaded.frames t content =
-    subst (λ (x : Trace). AreaIsRead b area.start size area.head loaded.journal.end loaded.frames t x.now.bytes) s2 (c.in-Ok.ensures.read h2) in
-    let chosen = chosen_is b size area.start other.start area.head other.head loaded.journal.end loaded.frames t content here.0 its c.in-Some.ensures.counts here.1 here.2 in
-    subst (λ (n : ℕ). IsChosen b size n other.start area.head.generation loaded.journal.end loaded.frames (nat_lt other.head.generation area.head.generation) t content) (sym c.in-Ok.ensures.area.0) chosen
+    let its : AreaIsRead loaded.version b area.start size area.head loaded.journal.end loaded.frames t content =
+    subst (λ (x : Trace). AreaIsRead loaded.version b area.start size area.head loaded.journal.end loaded.frames t x.now.bytes) s2 (c.in-Ok.ensures.read h2) in
+    let chosen = chosen_is loaded.version b size area.start other.start area.head other.head loaded.journal.end loaded.frames t content here.0 its c.in-Some.ensures.counts here.1 here.2 in
+    subst (λ (n : ℕ). IsChosen loaded.version b size n other.start area.head.generation loaded.journal.end loaded.frames (nat_lt other.head.generation area.head.generation) t content) (sym c.in-Ok.ensures.area.0) chosen
 
 pub returns-in-Err-clause-faults : goal.returns-in-Err-clause-faults
 returns-in-Err-clause-faults g c = λ honest.

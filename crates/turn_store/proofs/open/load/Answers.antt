@@ -69,8 +69,8 @@ returns-in-Ok-choose-clause-chosen g c = λ h.
     let synced = c.in_ok-sync.ensures.honest.1 h in
     let still = c.read_area_size.ensures.honest.1 synced in
     let content = ap (λ (t : Trace). t.now.bytes) (c.read_area_size.ensures.same synced) ∙ (c.in_ok-sync.ensures.outcome h).content in
-    let there = subst (λ (l : List ℕ). IsChosen c.args.limits c.in-Ok.size r.loaded.journal.start r.other r.generation r.loaded.journal.end r.loaded.frames r.other_is_below t l) content (c.in-Ok-choose.ensures.chosen still) in
-    subst (λ (n : ℕ). IsChosen c.args.limits n r.loaded.journal.start r.other r.generation r.loaded.journal.end r.loaded.frames r.other_is_below t (g.D.Disk.trace c.args.disk.now).now.bytes) (sym c.in-Ok-choose.ensures.area.0) there
+    let there = subst (λ (l : List ℕ). IsChosen r.loaded.version c.args.limits c.in-Ok.size r.loaded.journal.start r.other r.generation r.loaded.journal.end r.loaded.frames r.other_is_below t l) content (c.in-Ok-choose.ensures.chosen still) in
+    subst (λ (n : ℕ). IsChosen r.loaded.version c.args.limits n r.loaded.journal.start r.other r.generation r.loaded.journal.end r.loaded.frames r.other_is_below t (g.D.Disk.trace c.args.disk.now).now.bytes) (sym c.in-Ok-choose.ensures.area.0) there
 
 pub returns-in-Err-choose-clause-stop : goal.returns-in-Err-choose-clause-stop
 returns-in-Err-choose-clause-stop g c = λ h.

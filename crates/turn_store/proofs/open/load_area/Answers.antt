@@ -1,10 +1,8 @@
-use Rattle.std.proofs.Common.{◌≡◌, ◌+◌, ◌≤◌, ℕ, inl, inr, refl, ◌∙◌, ap, sym, subst, arith}
+use Rattle.std.proofs.Common.{◌≡◌, ◌+◌, ℕ, inl, inr, refl, ◌∙◌, ap, sym, subst, arith}
 use Rattle.turn_disk.specs.Counts.{Rises}
 use Rattle.turn_disk.specs.Disk.{Trace}
 use Rattle.turn_journal.specs.Area.{end_of, limit_of}
 use Rattle.turn_journal.specs.declared.area.Area.{Area}
-use Rattle.turn_record.specs.Records.{max_snapshot}
-use Rattle.turn_record.specs.declared.version.Version.TheVariants.{V1}
 use Rattle.turn_store.specs.Opened.{AreaIsRead, LogIsRead}
 use Rattle.turn_store.specs.Refused.{BreaksAt}
 use Rattle.turn_store.specs.Tables.{snapshot_of}
@@ -12,22 +10,18 @@ use Rattle.turn_store.proofs.Logs.{faults_weaken}
 use Rattle.turn_store.proofs.Choices.{area_is_read}
 use Rattle.turn_store.proofs.open.load_area.Goals as goal
 
-pub returns-then-head-ne1-clause-faults : goal.returns-then-head-ne1-clause-faults
-returns-then-head-ne1-clause-faults g c = λ honest. inl (refl, inl (λ is. omega (arith, is, c.if-head-ne1.true)))
+pub returns-in_default-clause-faults : goal.returns-in_default-clause-faults
+returns-in_default-clause-faults g c = λ honest. inl (refl, c.in_default.ensures.none refl)
 
-pub returns-then-count-max_snapshot-clause-faults : goal.returns-then-count-max_snapshot-clause-faults
-returns-then-count-max_snapshot-clause-faults g c = λ honest. inl (refl, inr (omega (arith, c.if-count-max_snapshot.true, c.max_snapshot.ensures.value)))
+pub new-requires-clause-short : goal.new-requires-clause-short
+new-requires-clause-short g c = omega (arith, c.max_payload.ensures, c.in-Some.ensures.small)
 
 pub returns-in-Err-clause-faults : goal.returns-in-Err-clause-faults
 returns-in-Err-clause-faults g c = λ honest.
-    let version : c.args.head.version ≡ 1 = omega (arith, c.if-head-ne1.false) in
-    let small : c.args.head.snapshot ≤ max_snapshot V1 c.args.limits = omega (arith, c.if-count-max_snapshot.false, c.max_snapshot.ensures.value) in
-    faults_weaken _ _ (λ place is. inr (version, small, inl is)) c.in-Err.fault (c.in-Err.ensures.faults honest)
+    faults_weaken _ _ (λ place is. inr (c.in-Some.version, c.in-Some.ensures.some, inl is)) c.in-Err.fault (c.in-Err.ensures.faults honest)
 
 pub returns-in-Err-replay_log-clause-faults : goal.returns-in-Err-replay_log-clause-faults
 returns-in-Err-replay_log-clause-faults g c = λ honest.
-    let version : c.args.head.version ≡ 1 = omega (arith, c.if-head-ne1.false) in
-    let small : c.args.head.snapshot ≤ max_snapshot V1 c.args.limits = omega (arith, c.if-count-max_snapshot.false, c.max_snapshot.ensures.value) in
     let first = snapshot_of c.in-Ok.table in
     let good = c.in-Ok.ensures.read honest in
     let here = c.read_snapshot.ensures.honest.1 honest in
@@ -35,23 +29,23 @@ returns-in-Err-replay_log-clause-faults g c = λ honest.
     let place : c.args.start + (14 + c.args.head.snapshot) ≡ c.args.start + 14 + c.args.head.snapshot = omega arith in
     faults_weaken _ _
     (λ at is.
-    let there = subst (λ (a : Area). BreaksAt c.args.limits (end_of a) (limit_of a) first (g.D.Disk.trace c.read_snapshot.new.disk).now.bytes at) c.in_ok-journal.ensures is in
-    let at_first = subst (λ (t : Trace). BreaksAt c.args.limits (c.args.start + (14 + c.args.head.snapshot)) (c.args.start + c.args.size) first t.now.bytes at) (c.read_snapshot.ensures.same honest) there in
-    inr (version, small, inr (first, good, subst (λ (n : ℕ). BreaksAt c.args.limits n (c.args.start + c.args.size) first content at) place at_first)))
+    let there = subst (λ (a : Area). BreaksAt c.in-Some.version c.args.limits (end_of a) (limit_of a) first (g.D.Disk.trace c.read_snapshot.new.disk).now.bytes at) c.in_ok-journal.ensures is in
+    let at_first = subst (λ (t : Trace). BreaksAt c.in-Some.version c.args.limits (c.args.start + (14 + c.args.head.snapshot)) (c.args.start + c.args.size) first t.now.bytes at) (c.read_snapshot.ensures.same honest) there in
+    inr (c.in-Some.version, c.in-Some.ensures.some, inr (first, good, subst (λ (n : ℕ). BreaksAt c.in-Some.version c.args.limits n (c.args.start + c.args.size) first content at) place at_first)))
     c.in-Err-replay_log.fault (c.in-Err-replay_log.ensures.faults here)
 
 pub returns-in-Ok-replay_log-clause-read : goal.returns-in-Ok-replay_log-clause-read
 returns-in-Ok-replay_log-clause-read g c = λ honest.
-    let version : c.args.head.version ≡ 1 = omega (arith, c.if-head-ne1.false) in
+    let v = c.in-Some.version in
     let here = c.read_snapshot.ensures.honest.1 honest in
     let first = snapshot_of c.in-Ok.table in
     let end = c.in-Ok-replay_log.end in
     let frames = c.in-Ok-replay_log.frames in
     let t = snapshot_of c.replay_log.new.table in
-    let log = subst (λ (a : Area). LogIsRead c.args.limits (end_of a) first (a.start + end) (limit_of a) frames t (g.D.Disk.trace c.read_snapshot.new.disk).now.bytes) c.in_ok-journal.ensures (c.in-Ok-replay_log.ensures.log here) in
-    let log_first = subst (λ (x : Trace). LogIsRead c.args.limits (c.args.start + (14 + c.args.head.snapshot)) first (c.args.start + end) (c.args.start + c.args.size) frames t x.now.bytes) (c.read_snapshot.ensures.same honest) log in
-    let read = area_is_read c.args.limits c.args.start c.args.size c.args.head first t end frames (g.D.Disk.trace c.args.disk.now).now.bytes c.requires.generation c.requires.snapshot version (c.in-Ok.ensures.read honest) log_first in
-    subst (λ (n : ℕ). AreaIsRead c.args.limits c.args.start c.args.size c.args.head n frames t (g.D.Disk.trace c.args.disk.now).now.bytes) (sym (ap (λ (a : Area). a.end) c.move_to.ensures)) read
+    let log = subst (λ (a : Area). LogIsRead v c.args.limits (end_of a) first (a.start + end) (limit_of a) frames t (g.D.Disk.trace c.read_snapshot.new.disk).now.bytes) c.in_ok-journal.ensures (c.in-Ok-replay_log.ensures.log here) in
+    let log_first = subst (λ (x : Trace). LogIsRead v c.args.limits (c.args.start + (14 + c.args.head.snapshot)) first (c.args.start + end) (c.args.start + c.args.size) frames t x.now.bytes) (c.read_snapshot.ensures.same honest) log in
+    let read = area_is_read v c.args.limits c.args.start c.args.size c.args.head first t end frames (g.D.Disk.trace c.args.disk.now).now.bytes c.requires.generation c.requires.snapshot c.in-Some.ensures.some.version (c.in-Ok.ensures.read honest) log_first in
+    subst (λ (n : ℕ). AreaIsRead v c.args.limits c.args.start c.args.size c.args.head n frames t (g.D.Disk.trace c.args.disk.now).now.bytes) (sym (ap (λ (a : Area). a.end) c.move_to.ensures)) read
 
 pub returns-in-Err-replay_log-clause-honest : goal.returns-in-Err-replay_log-clause-honest
 returns-in-Err-replay_log-clause-honest g c = ((λ h. c.read_snapshot.ensures.honest.0 (c.replay_log.ensures.honest.0 h)), (λ h. c.replay_log.ensures.honest.1 (c.read_snapshot.ensures.honest.1 h)))

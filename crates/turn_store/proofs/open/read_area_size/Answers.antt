@@ -1,4 +1,5 @@
 use Rattle.std.proofs.Common.{inl, inr, refl, sym, ◌∙◌, subst, arith}
+use Rattle.turn_store.proofs.Sizes.{each_small}
 use Rattle.turn_store.proofs.Sound.{not_both}
 use Rattle.turn_store.specs.Superblock.{HasSuperblock}
 use Rattle.turn_types.specs.declared.limits.Bounds.{Bounds}
@@ -14,7 +15,7 @@ pub returns-then-found-needed-clause-why : goal.returns-then-found-needed-clause
 returns-then-found-needed-clause-why g c = λ honest.
     let content = (g.D.Disk.trace c.args.disk.now).now.bytes in
     let has : HasSuperblock c.in-Ok.found.area c.args.limits content = subst (λ (l : Bounds). HasSuperblock c.in-Ok.found.area l content) (c.are_same.ensures.0 c.if-not-are_same.false) (c.in-Ok.ensures.found honest) in
-    (c.in-Ok.found.area, has, inl (refl, inl (omega (arith, c.if-found-needed.true, c.least_area-needed.ensures.value))))
+    (c.in-Ok.found.area, has, inl (refl, inl (omega (arith, c.if-found-needed.true, c.least_area_of-needed.ensures.value))))
 
 pub returns-then-not-is_whole-clause-why : goal.returns-then-not-is_whole-clause-why
 returns-then-not-is_whole-clause-why g c = λ honest.
@@ -28,3 +29,7 @@ returns-then-not-is_whole-clause-why g c = λ honest.
             not_both c.is_whole.result (c.is_whole.ensures.1 (c.size-size.ensures ∙ sym (g.met.D.Disk.sized c.args.disk.now honest) ∙ whole)) c.if-not-is_whole.true),
       ),
     )
+
+pub returns-clause-small : goal.returns-clause-small
+returns-clause-small g c =
+    each_small c.args.limits (omega (arith, c.least_area_of-needed.ensures.value, c.least_area_of-needed.ensures.small)) (omega (arith, c.least_area-max.ensures.value, c.least_area-max.ensures.small))

@@ -1,4 +1,4 @@
-use Rattle.std.proofs.Common.{◌≡◌, ◌≢◌, ◌<◌, ◌↔◌, List, [], ◌∷◌, ◌∙◌, length, refl, sym, subst, ap, arith, rules, slice_index_or}
+use Rattle.std.proofs.Common.{◌≡◌, ◌<◌, ◌↔◌, List, [], ◌∷◌, ◌∙◌, length, refl, sym, subst, ap, arith, rules, slice_index_or}
 use Rattle.std.specs.List.{remove}
 use Rattle.turn_history.specs.Act.{event_of}
 use Rattle.turn_history.specs.History.{Event}

@@ -1,6 +1,5 @@
 use Rattle.std.proofs.Common.{ℕ, ◌++◌, List, subst}
 use Rattle.turn_record.specs.Pieces.{WasFed}
-use Rattle.turn_record.specs.declared.version.Version.TheVariants.{V1}
 use Rattle.turn_store.specs.Bytes.{AreBytes}
 use Rattle.turn_store.proofs.Fed.{bytes_join}
 use Rattle.turn_store.proofs.snapshots.feed_piece.Goals as goal
@@ -9,8 +8,8 @@ pub returns-clause-bytes : goal.returns-clause-bytes
 returns-clause-bytes g c = λ honest. subst AreBytes (c.in_ok-read_front.ensures.value honest) c.feed.ensures.bytes
 
 pub returns-clause-fed : goal.returns-clause-fed
-returns-clause-fed g c = λ honest b fed was.
-    subst (λ (l : List ℕ). WasFed V1 b c.feed.new.reader (fed ++ l)) (c.in_ok-read_front.ensures.value honest) (c.feed.ensures.fed b fed was)
+returns-clause-fed g c = λ honest v b fed was.
+    subst (λ (l : List ℕ). WasFed v b c.feed.new.reader (fed ++ l)) (c.in_ok-read_front.ensures.value honest) (c.feed.ensures.fed v b fed was)
 
 pub returns-clause-fed_some : goal.returns-clause-fed_some
-returns-clause-fed_some g c = λ b fed are was. (_, bytes_join fed _ are c.feed.ensures.bytes, c.feed.ensures.fed b fed was)
+returns-clause-fed_some g c = λ v b fed are was. (_, bytes_join fed _ are c.feed.ensures.bytes, c.feed.ensures.fed v b fed was)

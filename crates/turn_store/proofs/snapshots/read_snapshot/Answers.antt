@@ -4,7 +4,6 @@ use Rattle.turn_record.specs.Pieces.{WasFed}
 use Rattle.turn_record.specs.Reading.{Fails}
 use Rattle.turn_record.specs.Snapshots.{snapshot_in}
 use Rattle.turn_record.specs.declared.fault.ReadError.{ReadError}
-use Rattle.turn_record.specs.declared.version.Version.TheVariants.{V1}
 use Rattle.turn_store.specs.Bytes.{AreBytes}
 use Rattle.turn_store.specs.Tables.{snapshot_of}
 use Rattle.turn_store.proofs.Fed.{piece_more, bytes_join, fed_snapshot, good_snapshot, bad_snapshot}
@@ -32,7 +31,7 @@ loop-done-preserved g c =
       count = c.in_ok-feed_piece.ensures.count ∙ inv.count;
       honest = ((λ h. inv.honest.0 (c.feed_piece.ensures.honest.0 h)), (λ h. c.feed_piece.ensures.honest.1 (inv.honest.1 h)));
       same = λ h. c.feed_piece.ensures.same (inv.honest.1 h) ∙ inv.same h;
-      some = c.in_ok-feed_piece.ensures.fed_some c.args.limits inv.some.0 inv.some.1 inv.some.2;
+      some = c.in_ok-feed_piece.ensures.fed_some c.args.version c.args.limits inv.some.0 inv.some.1 inv.some.2;
       bytes = λ h.
           let content = (g.D.Disk.trace c.args.disk.now).now.bytes in
           let size = c.min-size.result in
@@ -44,8 +43,8 @@ loop-done-preserved g c =
           let size = c.min-size.result in
           let fits : c.args.at + c.loop-done.done ≤ length content = omega (arith, inv.within, c.requires.place, g.met.D.Disk.sized c.args.disk.now h) in
           let before = take c.loop-done.done (drop c.args.at content) in
-          let piece = subst (λ (t : Trace). WasFed V1 c.args.limits c.feed_piece.new.reader (before ++ take size (drop (c.args.at + c.loop-done.done) t.now.bytes))) (inv.same h) (c.in_ok-feed_piece.ensures.fed (inv.honest.1 h) c.args.limits before (inv.fed h)) in
-          subst (WasFed V1 c.args.limits c.feed_piece.new.reader) (sym (piece_more c.args.at c.loop-done.done size content fits)) piece;
+          let piece = subst (λ (t : Trace). WasFed c.args.version c.args.limits c.feed_piece.new.reader (before ++ take size (drop (c.args.at + c.loop-done.done) t.now.bytes))) (inv.same h) (c.in_ok-feed_piece.ensures.fed (inv.honest.1 h) c.args.version c.args.limits before (inv.fed h)) in
+          subst (WasFed c.args.version c.args.limits c.feed_piece.new.reader) (sym (piece_more c.args.at c.loop-done.done size content fits)) piece;
     }
 
 pub returns-in-Ok-clause-read : goal.returns-in-Ok-clause-read
@@ -54,9 +53,9 @@ returns-in-Ok-clause-read g c = λ h.
     let content = (g.D.Disk.trace c.args.disk.now).now.bytes in
     let range : AreInRange c.args.limits = subst AreInRange c.bounds-bounds.ensures.value c.bounds-bounds.ensures.range in
     let all : c.loop-done.done ≡ c.args.count = omega (arith, inv.within, c.loop-done-test.false) in
-    let fed = subst (λ (n : ℕ). WasFed V1 c.args.limits c.loop-done.reader (take n (drop c.args.at content))) all (inv.fed h) in
+    let fed = subst (λ (n : ℕ). WasFed c.args.version c.args.limits c.loop-done.reader (take n (drop c.args.at content))) all (inv.fed h) in
     let bytes = subst (λ (n : ℕ). AreBytes (take n (drop c.args.at content))) all (inv.bytes h) in
-    good_snapshot c.args.limits range c.args.at c.args.count content (snapshot_of c.in-Ok.table) (omega (arith, c.requires.place, g.met.D.Disk.sized c.args.disk.now h)) bytes (c.in-Ok.ensures.gives V1 c.args.limits _ fed)
+    good_snapshot c.args.version c.args.limits range c.args.at c.args.count content (snapshot_of c.in-Ok.table) (omega (arith, c.requires.place, g.met.D.Disk.sized c.args.disk.now h)) bytes (c.in-Ok.ensures.gives c.args.version c.args.limits _ fed)
 
 pub returns-in-Err-Malformed-clause-faults : goal.returns-in-Err-Malformed-clause-faults
 returns-in-Err-Malformed-clause-faults g c = λ h.
@@ -64,14 +63,14 @@ returns-in-Err-Malformed-clause-faults g c = λ h.
     let content = (g.D.Disk.trace c.args.disk.now).now.bytes in
     let range : AreInRange c.args.limits = subst AreInRange c.bounds-bounds.ensures.value c.bounds-bounds.ensures.range in
     let all : c.loop-done.done ≡ c.args.count = omega (arith, inv.within, c.loop-done-test.false) in
-    let fed = subst (λ (n : ℕ). WasFed V1 c.args.limits c.loop-done.reader (take n (drop c.args.at content))) all (inv.fed h) in
-    (refl, bad_snapshot c.args.limits range c.args.at c.args.count content _ (omega (arith, c.requires.place, g.met.D.Disk.sized c.args.disk.now h)) (subst (λ (e : ReadError). Fails e (snapshot_in V1 c.args.limits (take c.args.count (drop c.args.at content)))) c.in-Err-Malformed.field-0-is (c.in-Err-Malformed.ensures.gives V1 c.args.limits _ fed)))
+    let fed = subst (λ (n : ℕ). WasFed c.args.version c.args.limits c.loop-done.reader (take n (drop c.args.at content))) all (inv.fed h) in
+    (refl, bad_snapshot c.args.version c.args.limits range c.args.at c.args.count content _ (omega (arith, c.requires.place, g.met.D.Disk.sized c.args.disk.now h)) (subst (λ (e : ReadError). Fails e (snapshot_in c.args.version c.args.limits (take c.args.count (drop c.args.at content)))) c.in-Err-Malformed.field-0-is (c.in-Err-Malformed.ensures.gives c.args.version c.args.limits _ fed)))
 
 pub returns-in-Ok-clause-bounds : goal.returns-in-Ok-clause-bounds
-returns-in-Ok-clause-bounds g c = let inv = c.loop-done.invariant in c.in-Ok.ensures.limits V1 c.args.limits inv.some.0 inv.some.2
+returns-in-Ok-clause-bounds g c = let inv = c.loop-done.invariant in c.in-Ok.ensures.limits c.args.version c.args.limits inv.some.0 inv.some.2
 
 pub returns-in-Ok-clause-snapshot : goal.returns-in-Ok-clause-snapshot
 returns-in-Ok-clause-snapshot g c =
     let some = c.loop-done.invariant.some in
     let range : AreInRange c.args.limits = subst AreInRange c.bounds-bounds.ensures.value c.bounds-bounds.ensures.range in
-    fed_snapshot c.args.limits range some.0 some.1 (snapshot_of c.in-Ok.table) (c.in-Ok.ensures.gives V1 c.args.limits some.0 some.2)
+    fed_snapshot c.args.version c.args.limits range some.0 some.1 (snapshot_of c.in-Ok.table) (c.in-Ok.ensures.gives c.args.version c.args.limits some.0 some.2)

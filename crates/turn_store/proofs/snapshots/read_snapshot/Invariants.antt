@@ -1,6 +1,5 @@
 use Rattle.std.proofs.Common.{◌≡◌, ℕ, List, ◌≤◌, ◌↔◌, ◌-◌, take, drop}
 use Rattle.turn_record.specs.Pieces.{WasFed}
-use Rattle.turn_record.specs.declared.version.Version.TheVariants.{V1}
 use Rattle.turn_store.specs.Bytes.{AreBytes}
 use Rattle.turn_store.proofs.snapshots.read_snapshot.Given as goal
 
@@ -11,9 +10,9 @@ invariant-loop-done g l = record {
   count : g.D.Disk.failed l.disk ≡ g.D.Disk.failed l.initial.disk;
   honest : g.D.Disk.is_honest l.disk ↔ g.D.Disk.is_honest l.initial.disk;
   same : g.D.Disk.is_honest l.initial.disk → g.D.Disk.trace l.disk ≡ g.D.Disk.trace l.initial.disk;
-  some : (fed : List ℕ) × AreBytes fed × WasFed V1 l.fn.limits l.reader fed;
+  some : (fed : List ℕ) × AreBytes fed × WasFed l.fn.version l.fn.limits l.reader fed;
   bytes : g.D.Disk.is_honest l.initial.disk → AreBytes (take l.done (drop l.at (g.D.Disk.trace l.initial.disk).now.bytes));
-  fed : g.D.Disk.is_honest l.initial.disk → WasFed V1 l.fn.limits l.reader (take l.done (drop l.at (g.D.Disk.trace l.initial.disk).now.bytes));
+  fed : g.D.Disk.is_honest l.initial.disk → WasFed l.fn.version l.fn.limits l.reader (take l.done (drop l.at (g.D.Disk.trace l.initial.disk).now.bytes));
 }
 
 abbrev pub decreases-loop-done : goal.decreases-loop-done

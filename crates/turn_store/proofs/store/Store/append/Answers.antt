@@ -16,16 +16,16 @@ returns-in_ok-add_frame-clause-stages g c = λ honest at h es rests follows size
 
 pub returns-in_err-replace_snapshot-clause-stages : goal.returns-in_err-replace_snapshot-clause-stages
 returns-in_err-replace_snapshot-clause-stages g c = λ honest at h es rests follows size is contents.
-    snapshot_stages _ _ at h es _ rests follows c.args.table.now.contents contents c.requires.snapshot.holds _ _ (c.replace_snapshot.ensures.stages honest rests.snapshot rests.payloads rests.shows)
+    snapshot_stages _ _ at h es _ rests follows c.args.self.now.version c.args.table.now.contents contents c.requires.snapshot.holds _ _ (c.replace_snapshot.ensures.stages honest rests.snapshot rests.payloads rests.shows)
 
 pub returns-in_ok-replace_snapshot-clause-stages : goal.returns-in_ok-replace_snapshot-clause-stages
 returns-in_ok-replace_snapshot-clause-stages g c = λ honest at h es rests follows size is contents.
-    snapshot_stages _ _ at h es _ rests follows c.args.table.now.contents contents c.requires.snapshot.holds _ _ (c.replace_snapshot.ensures.stages honest rests.snapshot rests.payloads rests.shows)
+    snapshot_stages _ _ at h es _ rests follows c.args.self.now.version c.args.table.now.contents contents c.requires.snapshot.holds _ _ (c.replace_snapshot.ensures.stages honest rests.snapshot rests.payloads rests.shows)
 
 pub returns-in_ok-add_frame-clause-done : goal.returns-in_ok-add_frame-clause-done
 returns-in_ok-add_frame-clause-done g c = λ honest at h es rests follows size is contents.
     let after = c.in_ok-add_frame.ensures.ok in
-    frame_done _ _ at h es _ rests follows size c.args.payload.now is _ _ (ap (λ st. st.bounds) after) (ap (λ st. st.stopped) after ∙ rests.runs)
+    frame_done _ _ at h es _ rests follows size c.args.payload.now is _ _ (ap (λ st. st.version) after) (ap (λ st. st.bounds) after) (ap (λ st. st.stopped) after ∙ rests.runs)
     (c.in_ok-add_frame.ensures.shown honest rests.snapshot rests.payloads rests.shows)
 
 pub returns-in_ok-replace_snapshot-clause-done : goal.returns-in_ok-replace_snapshot-clause-done
@@ -33,7 +33,7 @@ returns-in_ok-replace_snapshot-clause-done g c = λ honest at h es rests follows
     let after = c.in_ok-replace_snapshot.ensures.ok in (
       c.args.table.now.moment,
       omega arith,
-      snapshot_done _ _ at h es _ rests follows c.args.table.now.contents contents c.requires.snapshot.holds _ _ (ap (λ st. st.bounds) after) (ap (λ st. st.stopped) after ∙ rests.runs)
+      snapshot_done _ _ at h es _ rests follows c.args.self.now.version c.args.table.now.contents contents c.requires.snapshot.holds _ _ (ap (λ st. st.version) after) (ap (λ st. st.bounds) after) (ap (λ st. st.stopped) after ∙ rests.runs)
           (c.in_ok-replace_snapshot.ensures.shown honest rests.snapshot rests.payloads rests.shows),
     )
 

@@ -13,13 +13,13 @@ pub returns-in_err-replace_snapshot-clause-stages : goal.returns-in_err-replace_
 returns-in_err-replace_snapshot-clause-stages g c = λ honest at h rests follows contents.
     let t = c.args.table.now in
     let there : t.contents ≡ tables.table (h ++ []) t.moment = contents ∙ ap (λ (l : History). tables.table l t.moment) (sym (append-nil h)) in
-    alone_stages _ at h _ _ _ (snapshot_stages _ _ at h [] _ rests follows t.contents there c.requires.snapshot.holds _ _ (c.replace_snapshot.ensures.stages honest rests.snapshot rests.payloads rests.shows))
+    alone_stages _ at h _ _ _ (snapshot_stages _ _ at h [] _ rests follows c.args.self.now.version t.contents there c.requires.snapshot.holds _ _ (c.replace_snapshot.ensures.stages honest rests.snapshot rests.payloads rests.shows))
 
 pub returns-clause-stages : goal.returns-clause-stages
 returns-clause-stages g c = λ honest at h rests follows contents.
     let t = c.args.table.now in
     let there : t.contents ≡ tables.table (h ++ []) t.moment = contents ∙ ap (λ (l : History). tables.table l t.moment) (sym (append-nil h)) in
-    alone_stages _ at h _ _ _ (snapshot_stages _ _ at h [] _ rests follows t.contents there c.requires.snapshot.holds _ _ (c.replace_snapshot.ensures.stages honest rests.snapshot rests.payloads rests.shows))
+    alone_stages _ at h _ _ _ (snapshot_stages _ _ at h [] _ rests follows c.args.self.now.version t.contents there c.requires.snapshot.holds _ _ (c.replace_snapshot.ensures.stages honest rests.snapshot rests.payloads rests.shows))
 
 pub returns-clause-done : goal.returns-clause-done
 returns-clause-done g c = λ honest at h rests follows contents.
@@ -27,5 +27,5 @@ returns-clause-done g c = λ honest at h rests follows contents.
     let there : t.contents ≡ tables.table (h ++ []) t.moment = contents ∙ ap (λ (l : History). tables.table l t.moment) (sym (append-nil h)) in
     let after = c.in_ok-replace_snapshot.ensures.ok in
     subst (λ (l : History). RestsAt c.replace_snapshot.new.self (g.D.Disk.trace c.replace_snapshot.new.self.disk).now t.moment l) (append-nil h)
-    (snapshot_done _ _ at h [] _ rests follows t.contents there c.requires.snapshot.holds _ _ (ap (λ st. st.bounds) after) (ap (λ st. st.stopped) after ∙ rests.runs)
+    (snapshot_done _ _ at h [] _ rests follows c.args.self.now.version t.contents there c.requires.snapshot.holds _ _ (ap (λ st. st.version) after) (ap (λ st. st.bounds) after) (ap (λ st. st.stopped) after ∙ rests.runs)
     (c.in_ok-replace_snapshot.ensures.shown honest rests.snapshot rests.payloads rests.shows))

@@ -1,0 +1,192 @@
+-- An opened store whose table is written as version 2 into the other area.
+use Rattle.std.proofs.Common.{◌≡◌, ℕ, ◌+◌, ◌≤◌, ◌<◌, ◌-◌, ◌^◌, ◌++◌, Bool, true, false, List, [], length, refl, sym, ap, ◌∙◌, subst, arith, append-nil, inl, inr}
+use Rattle.std.specs.Prelude.{◌⊎◌, Result, Ok, Err, IfOk, IfErr}
+use Rattle.turn_disk.proofs.Since.{since_join, since_weaken}
+use Rattle.turn_disk.specs.Disk.{State, Trace, EachImageSince, IsImage}
+use Rattle.turn_history.specs.Fitting.{IsFitting}
+use Rattle.turn_history.specs.History.{History, clock}
+use Rattle.turn_history.specs.Table as tables
+use Rattle.turn_journal.specs.declared.area.Area.{Area}
+use Rattle.turn_record.specs.Bytes as bytes
+use Rattle.turn_record.specs.Records.{IsSnapshot, SpellsSnapshot}
+use Rattle.turn_record.specs.declared.version.Version.{Version}
+use Rattle.turn_record.specs.declared.version.Version.TheVariants.{V2}
+use Rattle.turn_store.specs.Areas.{Form, Holds, RestsOn}
+use Rattle.turn_store.specs.Carrying.{Carries, CountsAs, IsCarried}
+use Rattle.turn_store.specs.Images.{StandsBy, StandsForAt}
+use Rattle.turn_store.specs.Opened.{IsOpened, OpensTo}
+use Rattle.turn_store.specs.Refused.{IsPlain, WhyRefused}
+use Rattle.turn_store.specs.Replay.{Snapshot}
+use Rattle.turn_store.specs.Stages.{InStages}
+use Rattle.turn_store.specs.State.{MayFollow, RestsAt, Shows, StoreState, carried, carried_area, form_of}
+use Rattle.turn_store.specs.declared.fault.OpenFault.{OpenFault}
+use Rattle.turn_store.specs.declared.fault.OpenFault.TheVariants.{Device, Memory, NotAStore, LimitsDiffer, Damaged}
+use Rattle.turn_types.specs.declared.limits.Bounds.{Bounds}
+use Rattle.turn_store.proofs.Appends.{alone_stages, rest_stages, snapshot_done, snapshot_stages}
+use Rattle.turn_store.proofs.Honest.{has_superblock}
+use Rattle.turn_store.proofs.Spelling.{clock_late}
+use Rattle.turn_store.proofs.Staged.{stages_all}
+use Rattle.turn_store.proofs.Superblocks.{superblock_once}
+
+module _ {D : Type 0} (form : Form) (h : History) (c : ℕ) (store : StoreState D) (state : State) (t : Snapshot) (o : OpensTo form h c store state t) where
+  pub now_is : t.moment ≡ c
+  now_is = ap (λ s. s.moment) o.table_is
+
+  pub contents_are : t.contents ≡ tables.table (h ++ []) t.moment
+  contents_are = ap (λ s. s.contents) o.table_is ∙ ap (tables.table h) (sym now_is) ∙ ap (λ (l : History). tables.table l t.moment) (sym (append-nil h))
+
+  pub nothing_follows : t.moment < 2 ^ 40 - 3600 → MayFollow store.bounds c h [] t.moment
+  nothing_follows small =
+      let s = o.rests.spells in
+      let late = clock_late store.version store.bounds h c o.rests.snapshot o.rests.payloads s in
+      let now = now_is in
+      record {
+        fitting = subst (IsFitting store.bounds) (sym (append-nil h)) s.fitting;
+        from = tt;
+        clock_late = omega arith;
+        late = subst (λ (l : History). clock l ≤ t.moment) (sym (append-nil h)) (omega arith);
+        in_range = small;
+      }
+
+  -- both stages stand for the history by the clock
+  pub stands_throughout : (old new : Trace) → InStages old new (StandsForAt (form_of store) h c) (StandsBy (form_of store) h t.moment) → EachImageSince old new (StandsBy form h c)
+  stands_throughout old new stages =
+      subst (λ (f : Form). EachImageSince old new (StandsBy f h c)) o.same_form
+      (subst (λ (m : ℕ). EachImageSince old new (StandsBy (form_of store) h m)) now_is
+      (stages_all old new (StandsForAt (form_of store) h c) (StandsBy (form_of store) h t.moment) (λ image stands. record { clock = c; bounded = (let now = now_is in omega arith); stands = stands }) stages))
+
+-- the store after its table is written as version 2 into the other area
+module _ {D : Type 0} (old : StoreState D) (t : Snapshot) where
+  abbrev pub next : List ℕ
+  next = bytes.snapshot V2 t.moment t.contents
+
+  abbrev pub over : D → StoreState D
+  over disk = carried old (carried_area old (length next)) disk
+
+  pub carry_shown : (before : State) (s : List ℕ) (ps : List (List ℕ)) → Shows old before s ps → (after : State) (disk : D) (area : Area) (start size : ℕ) → start ≡ old.area.start → size ≡ length next → area ≡ carried_area old size
+      → RestsOn V2 (form_of old) old.other old.area.start (old.generation + 1) (14 + size) true next [] after
+      → Shows (record old { disk = disk; version = V2; area = area; other = start; generation = old.generation + 1; frames = 0; other_is_below = true; stopped = false }) after next []
+  carry_shown before s ps shows after disk area start size start_is size_is area_is done =
+      subst (λ (n : ℕ). Shows (record old { disk = disk; version = V2; area = area; other = n; generation = old.generation + 1; frames = 0; other_is_below = true; stopped = false }) after next []) (sym start_is)
+      (subst (λ (a : Area). Shows (record old { disk = disk; version = V2; area = a; other = old.area.start; generation = old.generation + 1; frames = 0; other_is_below = true; stopped = false }) after next []) (sym area_is)
+      (record { rests = done; frames = refl }))
+
+  module _ (before : State) (form : Form) (h : History) (c : ℕ) (o : OpensTo form h c old before t) (small : t.moment < 2 ^ 40 - 3600) where
+    pub over_rests : (disk : D) (after : State) → Shows (over disk) after next [] → OpensTo form h c (over disk) after t
+    over_rests disk after shows = record {
+      same_form = o.same_form;
+      rests = subst (λ (m : ℕ). RestsAt (over disk) after m h) (now_is form h c old before t o)
+          (subst (λ (l : History). RestsAt (over disk) after t.moment l) (append-nil h)
+          (snapshot_done old before c h [] t.moment o.rests (nothing_follows form h c old before t o small) V2 t.contents (contents_are form h c old before t o) tt (over disk) after refl refl o.rests.runs shows));
+      table_is = o.table_is;
+    }
+
+    pub over_since : (since now : Trace)
+        → InStages since now (Holds old.version (form_of old) o.rests.snapshot o.rests.payloads) (λ image. Holds old.version (form_of old) o.rests.snapshot o.rests.payloads image ⊎ Holds V2 (form_of old) next [] image)
+        → EachImageSince since now (StandsBy form h c)
+    over_since since now stages =
+        stands_throughout form h c old before t o since now
+        (alone_stages (form_of old) c h t.moment since now
+        (snapshot_stages old before c h [] t.moment o.rests (nothing_follows form h c old before t o small) V2 t.contents (contents_are form h c old before t o) tt since now stages))
+
+-- a store of version 2 that shows this snapshot alone was opened to its table
+pub opened_anew : {D : Type 0} (new : StoreState D) (after : State) (t : Snapshot) → new.version ≡ V2 → IsSnapshot V2 new.bounds t.moment t.contents
+    → Shows new after (bytes.snapshot V2 t.moment t.contents) [] → IsOpened new after t
+opened_anew new after t version can shows = record {
+  snapshot = bytes.snapshot V2 t.moment t.contents;
+  first = t;
+  payloads = [];
+  shows = shows;
+  spells = subst (λ (v : Version). SpellsSnapshot v new.bounds t.moment t.contents (bytes.snapshot V2 t.moment t.contents)) (sym version) (record { fits = can; is = refl });
+  replays = refl;
+}
+
+-- no call
+pub stays_since : {D : Type 0} (form : Form) (h : History) (c : ℕ) (old : StoreState D) (since : Trace) (t : Snapshot) → OpensTo form h c old since.now t → t.moment < 2 ^ 40 - 3600 → EachImageSince since since (StandsBy form h c)
+stays_since form h c old since t o small =
+    stands_throughout form h c old since.now t o since since
+    (alone_stages (form_of old) c h t.moment since since (rest_stages old since c h [] t.moment o.rests (nothing_follows form h c old since.now t o small)))
+
+-- an image that a stop might have left before, or one that stands for the history
+abbrev pub IsOldOrStands : State → Form → History → ℕ → List ℕ → Type 0
+IsOldOrStands old form h c image = IsImage old image ⊎ StandsBy form h c image
+
+pub kept_since : (form : Form) (h : History) (c : ℕ) (old new : Trace) → EachImageSince old new (IsImage old.now) → EachImageSince old new (IsOldOrStands old.now form h c)
+kept_since form h c old new kept = since_weaken old new (IsImage old.now) (IsOldOrStands old.now form h c) (λ image is. inl is) kept
+
+pub carried_since : (form : Form) (h : History) (c : ℕ) (old mid new : Trace) → EachImageSince old mid (IsImage old.now) → EachImageSince mid new (StandsBy form h c) → EachImageSince old new (IsOldOrStands old.now form h c)
+carried_since form h c old mid new kept carried =
+    since_join old mid new (IsOldOrStands old.now form h c) (kept_since form h c old mid kept)
+    (since_weaken mid new (StandsBy form h c) (IsOldOrStands old.now form h c) (λ image stands. inr stands) carried)
+
+-- what counts in the content of a store that was opened
+pub counts_as : {D : Type 0} (store : StoreState D) (state : State) (t : Snapshot) (content : List ℕ) → IsOpened store state t → state.bytes ≡ content
+    → CountsAs store.area.size store.bounds store.version store.generation store.frames content
+counts_as store state t content is same =
+    let rests = is.shows.rests in
+    let whole = rests.holds.whole in
+    let fits = rests.holds.is_form.addressable in
+    subst (CountsAs store.area.size store.bounds store.version store.generation store.frames) same (record {
+      superblock = record { long = omega arith; addressable = omega arith; in_range = rests.holds.is_form.in_range; stands = rests.holds.front };
+      start = store.area.start;
+      other = store.other;
+      places = rests.holds.places;
+      snapshot = is.snapshot;
+      payloads = is.payloads;
+      area = rests.holds.area;
+      yields = rests.yields;
+      count = is.shows.frames;
+    })
+
+-- the limits that were read are those of what the content stands for
+pub same_bounds : {D : Type 0} (store : StoreState D) (state : State) (t : Snapshot) (form : Form) (h : History) (clock : ℕ) (limits : Bounds) (content : List ℕ) → IsOpened store state t → state.bytes ≡ content
+    → store.bounds ≡ limits → StandsForAt form h clock content → form.bounds ≡ limits
+same_bounds store state t form h clock limits content is same bounds stands =
+    let read = counts_as store state t content is same in
+    sym (superblock_once store.area.size form.area store.bounds form.bounds content read.superblock (has_superblock form h clock content stands)).1 ∙ bounds
+
+pub kept_carries : {D : Type 0} (carry : Bool) (content : List ℕ) (store : StoreState D) → CountsAs store.area.size store.bounds store.version store.generation store.frames content
+    → (IsCarried carry store.area.size store.bounds store.version store.generation → ⊥) → Carries carry content store
+kept_carries carry content store counts never = record {
+  version = store.version;
+  generation = store.generation;
+  frames = store.frames;
+  counts = counts;
+  over = λ is. absurd (never is);
+  kept = λ none. (refl, refl, refl);
+}
+
+pub over_carries : {D : Type 0} (carry : Bool) (content : List ℕ) (old : StoreState D) (t : Snapshot) → CountsAs old.area.size old.bounds old.version old.generation old.frames content
+    → IsCarried carry old.area.size old.bounds old.version old.generation → (disk : D) → Carries carry content (over old t disk)
+over_carries carry content old t counts is disk = record {
+  version = old.version;
+  generation = old.generation;
+  frames = old.frames;
+  counts = counts;
+  over = λ yes. (refl, refl, refl);
+  kept = λ never. absurd (never is);
+}
+
+pub on_ok : {X E : Type 0} (P Q : X → Type 0) (r : Result X E) → ((x : X) → P x → Q x) → IfOk r P → IfOk r Q
+on_ok P Q (Ok x) f h = f x h
+on_ok P Q (Err e) f h = h
+
+pub on_err : {X E : Type 0} (P Q : E → Type 0) (r : Result X E) → ((e : E) → P e → Q e) → IfErr r P → IfErr r Q
+on_err P Q (Ok x) f h = h
+on_err P Q (Err e) f h = f e h
+
+pub and_ok : {X E : Type 0} (P Q : X → Type 0) (r : Result X E) → IfOk r P → IfOk r Q → IfOk r (λ x. P x × Q x)
+and_ok P Q (Ok x) one two = (one, two)
+and_ok P Q (Err e) one two = one
+
+pub all_ok : {X E : Type 0} (P Q R : X → Type 0) (r : Result X E) → IfOk r P → IfOk r Q → IfOk r R → IfOk r (λ x. P x × Q x × R x)
+all_ok P Q R (Ok x) one two three = (one, two, three)
+all_ok P Q R (Err e) one two three = one
+
+-- a refusal of the device or of memory has no other reason
+pub plain_why : (b : Bounds) (content : List ℕ) (fault : OpenFault) → IsPlain fault → WhyRefused b content fault
+plain_why b content Device plain = tt
+plain_why b content Memory plain = tt
+plain_why b content NotAStore plain = absurd plain
+plain_why b content LimitsDiffer plain = absurd plain
+plain_why b content (Damaged place) plain = absurd plain

@@ -1,0 +1,23 @@
+use Rattle.std.proofs.Common.{◌∷◌, ◌++◌, [], List, ℕ, sym, subst}
+use Rattle.std.specs.Prelude.{OnOk}
+use Rattle.turn_disk.specs.Disk.{WritesThrough}
+use Rattle.turn_record.specs.declared.version.Version.{Version}
+use Rattle.turn_record.specs.declared.version.Version.TheVariants.{V1, V2}
+use Rattle.turn_store.specs.Areas.{area_front}
+use Rattle.turn_store.specs.Format.{fresh}
+use Rattle.turn_store.proofs.Formats.{fresh_is}
+use Rattle.turn_store.proofs.formatting.lay_first.Goals as goal
+
+pub returns-in-V1-clause-done : goal.returns-in-V1-clause-done
+returns-in-V1-clause-done g c = λ honest.
+    let old = (g.D.Disk.trace c.args.disk.now).now in
+    let new = (g.D.Disk.trace c.write_through.new.disk).now in
+    subst (λ (v : Version). OnOk c.write_through.result (WritesThrough 64 (0 ∷ (area_front v 1 (fresh v) ++ 0 ∷ [])) old new)) (sym c.in-V1.is)
+    (subst (λ (l : List ℕ). OnOk c.write_through.result (WritesThrough 64 l old new)) (fresh_is V1) (c.write_through.ensures.done honest))
+
+pub returns-in-V2-clause-done : goal.returns-in-V2-clause-done
+returns-in-V2-clause-done g c = λ honest.
+    let old = (g.D.Disk.trace c.args.disk.now).now in
+    let new = (g.D.Disk.trace c.write_through-in-V2.new.disk).now in
+    subst (λ (v : Version). OnOk c.write_through-in-V2.result (WritesThrough 64 (0 ∷ (area_front v 1 (fresh v) ++ 0 ∷ [])) old new)) (sym c.in-V2.is)
+    (subst (λ (l : List ℕ). OnOk c.write_through-in-V2.result (WritesThrough 64 l old new)) (fresh_is V2) (c.write_through-in-V2.ensures.done honest))

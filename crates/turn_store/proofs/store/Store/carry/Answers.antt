@@ -1,0 +1,26 @@
+use Rattle.std.proofs.Common.{◌+◌, ◌^◌, ◌<◌, ◌≤◌, ◌≡◌, ap, arith, refl, subst, sym}
+use Rattle.turn_record.specs.declared.version.Version.TheVariants.{V2}
+use Rattle.turn_store.specs.Superblock.{least_area}
+use Rattle.turn_store.specs.State.{carried_area}
+use Rattle.turn_store.specs.Tables.{snapshot_of}
+use Rattle.turn_store.proofs.Carried.{carry_shown}
+use Rattle.turn_store.proofs.store.Store.carry.Goals as goal
+
+pub returns-in_err-write_snapshot-clause-stages : goal.returns-in_err-write_snapshot-clause-stages
+returns-in_err-write_snapshot-clause-stages g c = rw (← c.self.view_is) (λ honest s ps shows.
+    let same = c.self.view_is in
+    let last : c.self.inside.generation + 1 < 2 ^ 64 = omega (arith, c.requires.generation, ap (λ st. st.generation) same) in
+    c.write_snapshot.ensures.stages honest _ _ _ _ _ s ps refl last (subst (λ st. least_area V2 st.bounds ≤ st.area.size) (sym same) c.requires.area) (omega (arith, c.requires.room, ap (λ st. st.area.size) same)) shows.rests)
+
+pub returns-clause-stages : goal.returns-clause-stages
+returns-clause-stages g c = rw (← c.self.view_is) (λ honest s ps shows.
+    let same = c.self.view_is in
+    let last : c.self.inside.generation + 1 < 2 ^ 64 = omega (arith, c.requires.generation, ap (λ st. st.generation) same) in
+    c.write_snapshot.ensures.stages honest _ _ _ _ _ s ps refl last (subst (λ st. least_area V2 st.bounds ≤ st.area.size) (sym same) c.requires.area) (omega (arith, c.requires.room, ap (λ st. st.area.size) same)) shows.rests)
+
+pub returns-clause-shown : goal.returns-clause-shown
+returns-clause-shown g c = rw (← c.self.view_is) (λ honest s ps shows.
+    let same = c.self.view_is in
+    let last : c.self.inside.generation + 1 < 2 ^ 64 = omega (arith, c.requires.generation, ap (λ st. st.generation) same) in
+    carry_shown _ (snapshot_of c.args.table.now) _ s ps shows _ _ _ _ c.args.size c.start-self-inside.ensures.start c.requires.value (subst (λ st. c.args.journal ≡ carried_area st c.args.size) (sym same) c.requires.journal)
+    (c.in_ok-write_snapshot.ensures.done honest _ _ _ _ _ s ps refl last (subst (λ st. least_area V2 st.bounds ≤ st.area.size) (sym same) c.requires.area) (omega (arith, c.requires.room, ap (λ st. st.area.size) same)) shows.rests))
