@@ -19,6 +19,8 @@ mod refused_growths;
 #[cfg(test)]
 mod released_ports;
 #[cfg(test)]
+mod reservations;
+#[cfg(test)]
 mod row;
 #[cfg(test)]
 mod same;

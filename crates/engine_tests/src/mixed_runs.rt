@@ -221,7 +221,7 @@ fn rules(rt: &impl Abort, alloc: Global, setup: &Setup) -> Rules {
     let (config, ports) = (setup.config(rt, alloc), setup.ports(rt));
     let users = made(rt, users(alloc), "users");
     let table = Table::new(alloc, config.limits(), moment(rt, 0));
-    match Machine::new(alloc, config, users, ports, table, false) {
+    match Machine::new(alloc, config, users, ports, table, true) {
         Ok(machine) => machine,
         Err(_) => panic!(rt; "memory"),
     }

@@ -1,7 +1,7 @@
 //! A server over a disk in memory that plays the rows of a test.
 
 use crate::row::{REQUEST, Row, SUCCESS, Sent};
-use crate::same::{are_live, are_sent, has_at};
+use crate::same::{are_live, are_reserved, are_sent, has_at};
 use crate::setup::{Setup, made};
 use refusing::Refusing;
 use requests_for_tests::{
@@ -77,7 +77,7 @@ impl<A: Allocator + Copy> Player<A> {
     ) -> Player<A> {
         let (config, ports) = (setup.config(rt, inner), setup.ports(rt));
         let users = made(rt, users(alloc), "users");
-        match Server::open(inner, disk, &config, users, ports) {
+        match Server::open_as(inner, disk, &config, users, ports, setup.carry) {
             Ok(server) => Player::of(alloc, setup, server),
             Err(_) => panic!(rt; "not opened"),
         }
@@ -110,14 +110,15 @@ impl<A: Allocator + Copy> Player<A> {
         disk
     }
 
-    /// Whether each port was picked and released as often as it should be, and is held where an allocation has it. After
-    /// an opening the generator doesn't know the ports of the store.
+    /// Whether each port was picked and released as often as it should be, and is held where an allocation has it or it is
+    /// reserved. After an opening the generator doesn't know the ports of the store.
     pub fn keeps_ports(&self) -> bool {
         let ports = self.ports();
         !self.is_fresh
             || ports.is_sound()
                 && (50000..50010u16).all(|port| ports.is_held(port)
-                    == self.table().by_port(port).is_some())
+                    == (self.table().by_port(port).is_some()
+                        || self.table().reserved(port).is_some()))
     }
 
     /// Submits an arrival at a second that is not before the clock.
@@ -283,6 +284,7 @@ impl<A: Allocator + Copy> Player<A> {
         match row {
             Row::Has(place, bytes) => has_at(self.disk().content(), *place, bytes),
             Row::Live(live) => are_live(self.table(), live),
+            Row::Reserved(reserved) => are_reserved(self.table(), reserved),
             Row::Clock(second) => self.clock() == moment(rt, *second),
             Row::Picked(ports) => self.ports().picked() == *ports,
             Row::Released(ports) => self.ports().released() == *ports,
@@ -313,6 +315,20 @@ impl Player {
     pub fn reopen(self, rt: &impl Abort) -> Player {
         let (alloc, setup) = (self.alloc, self.setup);
         Player::open(rt, alloc, alloc, &setup, self.close())
+    }
+
+    /// Closes the server, and plays rows at one over its disk that carries a store over.
+    pub fn carry_and_play(self, rt: &impl Abort, rows: &[Row]) {
+        let alloc = self.alloc;
+        let setup = Setup {
+            carry: true,
+            ..self.setup
+        };
+        play_on(
+            rt,
+            Player::open(rt, alloc, alloc, &setup, self.close()),
+            rows,
+        );
     }
 
     /// Closes the server, and plays rows at one that opens the disk.

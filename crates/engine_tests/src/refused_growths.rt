@@ -1,6 +1,7 @@
 //! Each growth of memory refused in turn.
 
 use crate::player::Player;
+use crate::reservations::{RESERVE, RESERVING, TOKENED};
 use crate::row::{Row, Sent};
 use crate::same::{are_same, is_same_table};
 use crate::setup::{LARGE, SMALL, made};
@@ -58,6 +59,8 @@ const ABC: &[u8] = b"\x40\x00\x00\x03abc";
 
 const BOBS: Row = Row::Ask(1001, BOB, SECOND, Kind::Allocate, &[UDP]);
 
+const BOBS_PAIR: Row = Row::Ask(1001, BOB, SECOND, Kind::Allocate, &[UDP, RESERVING]);
+
 const REFRESH: Row = Row::Ask(1001, ALICE, FIRST, Kind::Refresh, &[]);
 
 /// A request of bob's that takes nothing. His key is remembered from then on: a refused growth of that would not be told.
@@ -66,10 +69,18 @@ const ASKED: &[Row] = &[
     Row::Commit(&[Sent::Code(SECOND, 437)]),
 ];
 
+/// The same, and alice's allocation of port 50000, which reserves port 50001 up to second 1030.
+const RESERVED: &[Row] = &[
+    Row::Ask(401, BOB, SECOND, Kind::Refresh, &[]),
+    RESERVE,
+    Row::Commit(&[Sent::Code(SECOND, 437), Sent::Code(FIRST, 0)]),
+];
+
 /// What is done before.
 #[derive(Clone, Copy)]
 enum Before {
     Asked,
+    Reserved,
     Both,
     Permitted,
     Bound,
@@ -80,6 +91,7 @@ impl Before {
     fn rows(self) -> &'static [Row] {
         match self {
             Before::Asked => ASKED,
+            Before::Reserved => RESERVED,
             Before::Both => BOTH,
             Before::Permitted => PERMITTED,
             Before::Bound => BOUND,
@@ -89,8 +101,14 @@ impl Before {
 }
 
 /// What is done before, and the request at second 1001 whose growths are refused.
-const GROWTHS: [(Before, Row); 8] = [
+const GROWTHS: [(Before, Row); 11] = [
     (Before::Asked, BOBS),
+    (Before::Asked, BOBS_PAIR),
+    (Before::Reserved, BOBS_PAIR),
+    (
+        Before::Reserved,
+        Row::Ask(1001, BOB, SECOND, Kind::Allocate, TOKENED),
+    ),
     (Before::Both, BOBS),
     (Before::Permitted, BOBS),
     (Before::Both, REFRESH),

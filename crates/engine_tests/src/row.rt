@@ -2,7 +2,7 @@
 
 use requests_for_tests::{Attribute, FIRST, Kind, User};
 use turn_engine::CommitRefused;
-use turn_types::Endpoint;
+use turn_types::{Endpoint, Token};
 
 /// A datagram that a commit hands out.
 #[derive(Clone, Copy)]
@@ -17,6 +17,9 @@ pub enum Sent {
 
 /// The client of an allocation, its port, and the second at which it expires.
 pub type Live = (Endpoint, u16, u64);
+
+/// A reserved port, its token, and the second at which its reservation expires.
+pub type Reserved = (u16, Token, u64);
 
 /// What a test does and finds. Seconds never fall.
 #[derive(Clone, Copy)]
@@ -46,6 +49,8 @@ pub enum Row {
     Has(usize, &'static [u8]),
     /// The allocations, in the order of their five-tuples.
     Live(&'static [Live]),
+    /// The reserved ports, in order.
+    Reserved(&'static [Reserved]),
     Clock(u64),
     /// The ports that were picked up to now, in order.
     Picked(&'static [u16]),

@@ -1,6 +1,6 @@
 //! Datagrams, tables and bytes that are the same.
 
-use crate::row::{Live, Sent};
+use crate::row::{Live, Reserved, Sent};
 use crate::setup::made;
 use requests_for_tests::{code_of, five_tuple};
 use std::alloc::Allocator;
@@ -64,6 +64,17 @@ pub fn are_live<A: Allocator + Copy>(table: &Table<A>, wanted: &[Live]) -> bool 
             .all(|(found, wanted)| is_live(found, wanted))
 }
 
+/// Whether a table has these reserved ports and no others, in this order.
+pub fn are_reserved<A: Allocator + Copy>(table: &Table<A>, wanted: &[Reserved]) -> bool {
+    let found = table.reserved_ports();
+    found.len() == wanted.len()
+        && found.iter().zip(wanted.iter()).all(|(found, wanted)| (
+            found.0,
+            found.1.token,
+            found.1.expiry,
+        ) == *wanted)
+}
+
 /// Whether two datagrams go to the same address by the same bytes.
 fn is_same<A: Allocator>(first: &Outgoing<A>, second: &Outgoing<A>) -> bool {
     match (first, second) {
@@ -104,10 +115,11 @@ fn is_same_entry<A: Allocator + Copy>(first: &Entry<A>, second: &Entry<A>) -> bo
         && first.channels() == second.channels()
 }
 
-/// Whether two tables have the same entries at the same moment.
+/// Whether two tables have the same entries and reserved ports at the same moment.
 pub fn is_same_table<A: Allocator + Copy>(first: &Table<A>, second: &Table<A>) -> bool {
     first.moment() == second.moment()
         && first.len() == second.len()
+        && first.reserved_ports() == second.reserved_ports()
         && first.entries().zip(second.entries()).all(|(first, second)| first.0 == second.0
             && is_same_entry(first.1, second.1))
 }

@@ -6,7 +6,8 @@ use std::process::Abort;
 use std::test::Fail;
 use turn_disk::{Disk, MemoryDisk};
 use turn_ports::PortRange;
-use turn_store::format;
+use turn_record::Version;
+use turn_store::{format, format_version1};
 use turn_types::{Bounds, Limits, ServerConfig};
 
 /// What a server is made of, and its store.
@@ -15,11 +16,15 @@ pub struct Setup {
     pub bounds: Bounds,
     /// The size of an area.
     pub area: usize,
+    /// As which the store is formatted.
+    pub version: Version,
+    /// Whether a store of version 1 is carried over where it is opened.
+    pub carry: bool,
     /// The first and the last relayed port.
     pub ports: (u16, u16),
 }
 
-/// One act a batch, in areas of the min size.
+/// One act a batch, in areas of the min size of version 1.
 pub const SMALL: Setup = Setup {
     bounds: Bounds {
         allocations: 2,
@@ -29,10 +34,12 @@ pub const SMALL: Setup = Setup {
         name_bytes: 8,
     },
     area: 238,
+    version: Version::V1,
+    carry: true,
     ports: (50000, 50009),
 };
 
-/// Two acts a batch, in areas of the min size.
+/// Two acts a batch, in areas of the min size of version 1.
 pub const PAIR: Setup = Setup {
     bounds: Bounds {
         allocations: 2,
@@ -45,7 +52,7 @@ pub const PAIR: Setup = Setup {
     ..SMALL
 };
 
-/// Eight acts a batch.
+/// Eight acts a batch, in version 2.
 pub const LARGE: Setup = Setup {
     bounds: Bounds {
         allocations: 8,
@@ -55,6 +62,7 @@ pub const LARGE: Setup = Setup {
         name_bytes: 8,
     },
     area: 4096,
+    version: Version::V2,
     ..SMALL
 };
 
@@ -66,10 +74,34 @@ pub fn made<T>(rt: &impl Abort, outcome: Result<T, Fail>, what: &str) -> T {
     }
 }
 
-fn format_disk<D: Disk>(rt: &impl Abort, disk: &mut D, limits: Limits, area: usize) {
+/// One act a batch, in areas of the min size of version 2.
+pub const SECOND_VERSION: Setup = Setup {
+    area: 304,
+    version: Version::V2,
+    ..SMALL
+};
+
+/// The same store in version 1, and not carried over.
+pub const FIRST_VERSION: Setup = Setup {
+    area: 304,
+    carry: false,
+    ..SMALL
+};
+
+fn format_disk<D: Disk>(
+    rt: &impl Abort,
+    disk: &mut D,
+    version: Version,
+    limits: Limits,
+    area: usize,
+) {
     let size = disk.size();
     assert!(rt; size >= 64 && size % 2 == 0 && (size - 64) / 2 == area);
-    assert!(rt; format(disk, limits, area).is_ok());
+    let formatted = match version {
+        Version::V1 => format_version1(disk, limits, area),
+        Version::V2 => format(disk, limits, area),
+    };
+    assert!(rt; formatted.is_ok());
 }
 
 impl Setup {
@@ -91,7 +123,7 @@ impl Setup {
         assert!(rt; self.area <= 2_000_000);
         let content = Vec::from_elem(alloc, 0u8, 64 + 2 * self.area).expect(rt, "memory");
         let mut disk = MemoryDisk::new(alloc, content);
-        format_disk(rt, &mut disk, self.limits(rt), self.area);
+        format_disk(rt, &mut disk, self.version, self.limits(rt), self.area);
         disk
     }
 }

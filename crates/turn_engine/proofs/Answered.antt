@@ -2,12 +2,12 @@
 use Rattle.std.proofs.Common.{◌≡◌, ◌≤◌, ◌-◌, ℕ, zero, suc, List, [], ◌∷◌, ◌++◌, length, take, refl, sym, ap, ◌∙◌, subst, arith, append_assoc, append-nil}
 use Rattle.std.specs.Option.{option_to_list}
 use Rattle.turn_history.specs.History.{History}
-use Rattle.turn_step.specs.Answer.{AnswersArrival, Setting}
+use Rattle.turn_step.specs.Answer.{Setting}
 use Rattle.turn_step.specs.Outcome.{Sent, added}
 use Rattle.turn_store.specs.Areas.{Form}
 use Rattle.turn_store.specs.Images.{StandsBy}
 use Rattle.turn_engine.specs.Images.{AtLeast}
-use Rattle.turn_engine.specs.Runs.{BeginsWith, IsRun, Taken, accepted, last_moment, sent_about}
+use Rattle.turn_engine.specs.Runs.{BeginsWith, IsAnswered, IsRun, Taken, accepted, last_moment, sent_about}
 
 pub accepted-append : (xs ys : List Taken) → accepted (xs ++ ys) ≡ accepted xs ++ accepted ys
 accepted-append [] ys = refl
@@ -24,20 +24,20 @@ last_moment-push t [] x = refl
 last_moment-push t (y ∷ ys) x = last_moment-push y.moment ys x
 
 pub run-push : (s : Setting) (h : History) (t : ℕ) (xs : List Taken) (x : Taken) → IsRun s h t xs → last_moment t xs ≤ x.moment
-    → AnswersArrival s (h ++ accepted xs) x.moment x.failed x.arrival x.outcome → IsRun s h t (xs ++ x ∷ [])
-run-push s h t [] x run late answers = (late, subst (λ (l : History). AnswersArrival s l x.moment x.failed x.arrival x.outcome) (append-nil h) answers, tt)
+    → IsAnswered s (h ++ accepted xs) x → IsRun s h t (xs ++ x ∷ [])
+run-push s h t [] x run late answers = (late, subst (λ (l : History). IsAnswered s l x) (append-nil h) answers, tt)
 run-push s h t (y ∷ ys) x run late answers = (
   run.0,
   run.1,
   run-push s (h ++ added y.moment y.outcome.change) y.moment ys x run.2 late
-      (subst (λ (l : History). AnswersArrival s l x.moment x.failed x.arrival x.outcome) (sym (append_assoc h (added y.moment y.outcome.change) (accepted ys))) answers),
+      (subst (λ (l : History). IsAnswered s l x) (sym (append_assoc h (added y.moment y.outcome.change) (accepted ys))) answers),
 )
 
 pub answered_at : (s : Setting) (h : History) (t : ℕ) (before : List Taken) (x : Taken) (after : List Taken) → IsRun s h t (before ++ x ∷ after)
-    → AnswersArrival s (h ++ accepted before) x.moment x.failed x.arrival x.outcome
-answered_at s h t [] x after run = subst (λ (l : History). AnswersArrival s l x.moment x.failed x.arrival x.outcome) (sym (append-nil h)) run.1
+    → IsAnswered s (h ++ accepted before) x
+answered_at s h t [] x after run = subst (λ (l : History). IsAnswered s l x) (sym (append-nil h)) run.1
 answered_at s h t (y ∷ ys) x after run =
-    subst (λ (l : History). AnswersArrival s l x.moment x.failed x.arrival x.outcome) (append_assoc h (added y.moment y.outcome.change) (accepted ys))
+    subst (λ (l : History). IsAnswered s l x) (append_assoc h (added y.moment y.outcome.change) (accepted ys))
     (answered_at s (h ++ added y.moment y.outcome.change) y.moment ys x after run.2)
 
 -- the history with one more arrival

@@ -3,14 +3,14 @@ use Rattle.std.proofs.Common.{◌≡◌, ◌≤◌, ◌<◌, ◌+◌, ℕ, List,
 use Rattle.turn_history.specs.History.{Event}
 use Rattle.turn_record.specs.Bytes.{act_entry, each, payload}
 use Rattle.turn_record.specs.Records.{max_act}
-use Rattle.turn_record.specs.declared.version.Version.TheVariants.{V1}
+use Rattle.turn_record.specs.declared.version.Version.{Version}
 use Rattle.turn_engine.specs.Staged.{IsSound}
 use Rattle.turn_types.specs.declared.limits.Bounds.{Bounds}
 
-pub pushed-sound : (b : Bounds) (acts : ℕ) (bytes entry : List ℕ) (capacity more : ℕ) → IsSound b acts bytes capacity → acts < b.acts
-    → length entry ≤ max_act V1 b → capacity ≤ more → IsSound b (acts + 1) (slice_set (bytes ++ entry) 0 (acts + 1)) more
-pushed-sound b acts [] entry capacity more s few short room = absurd (omega (arith, s.some))
-pushed-sound b acts (x ∷ xs) entry capacity more s few short room =
+pub pushed-sound : (v : Version) (b : Bounds) (acts : ℕ) (bytes entry : List ℕ) (capacity more : ℕ) → IsSound v b acts bytes capacity → acts < b.acts
+    → length entry ≤ max_act v b → capacity ≤ more → IsSound v b (acts + 1) (slice_set (bytes ++ entry) 0 (acts + 1)) more
+pushed-sound v b acts [] entry capacity more s few short room = absurd (omega (arith, s.some))
+pushed-sound v b acts (x ∷ xs) entry capacity more s few short room =
     let size : length (xs ++ entry) ≡ length xs + length entry = length-append xs entry in
     record {
       in_range = s.in_range;

@@ -1,18 +1,19 @@
 -- What an opening yields.
-use Rattle.std.proofs.Common.{◌≡◌, ◌≤◌, ℕ, Bool, false, List, [], ◌∷◌, length, take, drop, refl, sym, ap, ◌∙◌, subst, arith}
+use Rattle.std.proofs.Common.{◌≡◌, ◌≤◌, ◌⊎◌, ⊎_elim, ℕ, Bool, List, [], ◌∷◌, length, take, drop, Result, Ok, Err, refl, sym, ap, ◌∙◌, subst, arith}
+use Rattle.std.specs.Prelude.{IfOk, IfErr}
 use Rattle.std.proofs.Math.ListN.{drop_of_length-le}
 use Rattle.std.specs.List.{AllByRecursion}
 use Rattle.turn_disk.specs.Disk.{State, Trace, IsImage, EachImageSince}
 use Rattle.turn_disk.proofs.Since.{since_weaken}
 use Rattle.turn_history.specs.Fitting.{IsFitting}
-use Rattle.turn_history.specs.History.{History, clock}
-use Rattle.turn_history.specs.Laws.{AllFrom, ReservesNone}
+use Rattle.turn_history.specs.History.{Event, History, clock}
+use Rattle.turn_history.specs.Laws.{AllFrom}
 use Rattle.turn_history.specs.Table as tables
 use Rattle.turn_record.specs.Bytes as bytes
-use Rattle.turn_record.specs.Records.{IsSnapshot}
-use Rattle.turn_record.specs.declared.version.Version.TheVariants.{V1}
+use Rattle.turn_record.specs.Records.{IsSnapshot, Writes}
+use Rattle.turn_record.specs.declared.version.Version.{Version}
 use Rattle.turn_store.specs.Areas.{Form}
-use Rattle.turn_store.specs.Images.{EachImage, StandsForAt}
+use Rattle.turn_store.specs.Images.{EachImage, StandsBy, StandsForAt}
 use Rattle.turn_store.specs.Opened.{OpensTo}
 use Rattle.turn_store.specs.Replay.{Snapshot}
 use Rattle.turn_store.specs.State.{RestsAt}
@@ -22,29 +23,46 @@ use Rattle.turn_table.specs.State as tables_state
 use Rattle.turn_types.specs.declared.limits.Bounds.{Bounds}
 use Rattle.turn_engine.specs.Images.{AtLeast}
 use Rattle.turn_engine.specs.Resting.{Opens, Rests}
-use Rattle.turn_engine.specs.State.{IsSound, ServerState, limits_of, now_of}
+use Rattle.turn_engine.specs.State.{IsSound, ServerState, has_pairs, limits_of, now_of}
 use Rattle.turn_engine.proofs.Lists.{length-take-le, take_of_length-le}
 
-pub fresh_sound : (b limits store batch : Bounds) (acts : ℕ) (pairs : Bool) (table read : tables_state.State) → limits ≡ b → table ≡ read → store ≡ b → batch ≡ b → read.bounds ≡ b → acts ≡ 0
-    → pairs ≡ false → IsSnapshot V1 b read.moment read.contents → IsSound limits store batch acts 0 pairs table
-fresh_sound b limits store batch acts pairs table read same is store_is batch_is table_is none no_pairs snapshot =
-    subst (λ (x : Bounds). IsSound x store batch acts 0 pairs table) (sym same) (subst (λ (t : tables_state.State). IsSound b store batch acts 0 pairs t) (sym is) (record {
+pub fresh_sound : (b limits store batch : Bounds) (v staged : Version) (acts : ℕ) (pairs : Bool) (table read : tables_state.State) → limits ≡ b → table ≡ read → store ≡ b → batch ≡ b → read.bounds ≡ b
+    → staged ≡ v → acts ≡ 0 → pairs ≡ has_pairs v → IsSnapshot v b read.moment read.contents → IsSound limits store batch v staged acts 0 pairs table
+fresh_sound b limits store batch v staged acts pairs table read same is store_is batch_is table_is same_version none pairs_is snapshot =
+    subst (λ (x : Bounds). IsSound x store batch v staged acts 0 pairs table) (sym same) (subst (λ (t : tables_state.State). IsSound b store batch v staged acts 0 pairs t) (sym is) (record {
       store_is = store_is;
       batch_is = batch_is;
       table_is = table_is;
       few = omega arith;
       capped = omega arith;
-      no_pairs = no_pairs;
+      same_version = same_version;
+      pairs_is = pairs_is;
       snapshot = snapshot;
     }))
+
+-- what holds of a value holds of the result that it is
+pub of_made : {X E : Type 0} (x : X) (P : X → Type 0) (r : Result X E) → IfOk r (λ y. y ≡ x) → P x → IfOk r P
+of_made x P (Ok y) is p = subst P (sym is) p
+of_made x P (Err e) is p = tt
+
+pub of_refused : {X E : Type 0} (e : E) (P : E → Type 0) (r : Result X E) → IfErr r (λ f. f ≡ e) → P e → IfErr r P
+of_refused e P (Ok x) is p = tt
+of_refused e P (Err f) is p = subst P (sym is) p
 
 -- the content is an image
 pub image_self : (state : State) → IsImage state state.bytes
 image_self state = record { size = refl; same = λ i outside. refl }
 
--- what a stop may have left before a call it may have left before, whatever that stands for
-pub since_images : (old new : Trace) (P : List ℕ → Type 0) → EachImage old.now P → EachImageSince old new (IsImage old.now) → EachImageSince old new P
-since_images old new P each since = since_weaken old new (IsImage old.now) P each since
+-- what a stop may have left before a call, or what stands for all that the content does, has at least what each image had
+pub since_opened : (old new : Trace) (form : Form) (h : History) (k m : ℕ) (content : List ℕ) → EachImage old.now (AtLeast form h k m) → (at : AtLeast form h k m content)
+    → EachImageSince old new (λ image. IsImage old.now image ⊎ StandsBy form (take at.count h) at.stands.clock image) → EachImageSince old new (AtLeast form h k m)
+since_opened old new form h k m content each at since =
+    let bounded = at.stands.bounded in
+    since_weaken old new (λ image. IsImage old.now image ⊎ StandsBy form (take at.count h) at.stands.clock image) (AtLeast form h k m)
+    (λ image either. ⊎_elim (λ (was : IsImage old.now image). each image was) (λ (stands : StandsBy form (take at.count h) at.stands.clock image).
+    let early = stands.bounded in
+    record { count = at.count; no_less = at.no_less; no_more = at.no_more; stands = record { clock = stands.clock; bounded = omega (arith, bounded, early); stands = stands.stands } }) either)
+    since
 
 module _ {D H G : Type 0} (form : Form) (h : History) (k m : ℕ) (content : List ℕ) (state : State) (server : ServerState D H G) (at : AtLeast form h k m content) where
   abbrev first : History
@@ -57,7 +75,7 @@ module _ {D H G : Type 0} (form : Form) (h : History) (k m : ℕ) (content : Lis
       let same : take at.count first ≡ first = take_of_length-le at.count first (omega arith) in
       let none : drop at.count first ≡ [] = drop_of_length-le first (omega arith) in
       let moment : now_of server ≡ c = ap (λ (s : Snapshot). s.moment) is.table_is in
-      let late : clock first ≤ c = clock_late form.bounds first c stands.snapshot stands.payloads stands.spells in
+      let late : clock first ≤ c = clock_late stands.version form.bounds first c stands.snapshot stands.payloads stands.spells in
       record {
         after = record {
           fitting = subst (λ (b : Bounds). IsFitting b first) bounds stands.spells.fitting;
@@ -71,7 +89,7 @@ module _ {D H G : Type 0} (form : Form) (h : History) (k m : ℕ) (content : Lis
         staged = payload ∙ ap (λ (l : History). length l ∷ bytes.each bytes.act_entry l) (sym none);
         counted = acts ∙ ap (λ (l : History). length l) (sym none);
         from = subst (AllFrom c) (sym none) tt;
-        writes = subst (AllByRecursion (λ e. ReservesNone e.act)) (sym none) tt;
+        writes = subst (AllByRecursion (λ (e : Event). Writes server.store.version e.act)) (sym none) tt;
       }
 
   pub opens : OpensTo form first at.stands.clock server.store state (snapshot_of server.machine.table) → form.bounds ≡ limits_of server → server.payload ≡ 0 ∷ [] → server.acts ≡ 0

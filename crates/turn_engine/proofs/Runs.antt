@@ -22,7 +22,7 @@ use Rattle.turn_types.specs.Config.{Config}
 use Rattle.turn_engine.specs.Calls.{Commits, Submits}
 use Rattle.turn_engine.specs.Images.{AtLeast}
 use Rattle.turn_engine.specs.Resting.{Opens, Rests}
-use Rattle.turn_engine.specs.Runs.{Commit, IsAt, IsCall, IsRun, IsSilent, Lasts, Leads, NeverFails, Place, Serves, Step, Submit, Taken, accepted, after_of, all_asked, asked, asked_by, count_at, datagrams_of, handed_by, handed_out, history_at, last_moment, last_of, sent_about, start}
+use Rattle.turn_engine.specs.Runs.{Commit, IsAnswered, IsAt, IsCall, IsRun, IsSilent, Lasts, Leads, NeverFails, Place, Serves, Step, Submit, Taken, accepted, after_of, all_asked, asked, asked_by, count_at, datagrams_of, handed_by, handed_out, history_at, last_moment, last_of, sent_about, start}
 use Rattle.turn_engine.specs.State.{ServerState, now_of}
 use Rattle.turn_engine.specs.declared.fault.SubmitRefused.{SubmitRefused}
 use Rattle.turn_engine.specs.declared.fault.SubmitRefused.TheVariants.{BatchFull, Memory, Stopped}
@@ -110,7 +110,7 @@ module _ {D H G : Type 0} (disk : disks.Ghosts D) (handler : handlers.Ghosts H) 
       more = [];
       handed = sym (append-nil p.handed);
       sent = none;
-      arrivals = sym (append-nil (map asked (p.handed ++ p.recent))) ∙ ap (λ (l : List (ℕ × Arrives × Bool)). map asked (p.handed ++ p.recent) ++ l) (sym no_arrival);
+      arrivals = sym (append-nil (map asked (p.handed ++ p.recent))) ∙ ap (λ (l : List (ℕ × Arrives × Bool × Bool)). map asked (p.handed ++ p.recent) ++ l) (sym no_arrival);
     }
 
     took : (old new : ServerState D H G) (p : Place) (moment : ℕ) (a : Arrives) (u : Unit) → IsAt disk handler ports s h t old p → Submits disk handler ports old new moment a (Ok u)
@@ -118,10 +118,17 @@ module _ {D H G : Type 0} (disk : disks.Ghosts D) (handler : handlers.Ghosts H) 
     took old new p moment a u is call =
         let runs = runs_on old new moment a (Ok u) call (ok_is_no_error u Stopped) in
         let takes = call.takes (history_at h p) (count_at h p) (is.rests runs) in
-        let x : Taken = record { moment = moment; arrival = a; failed = has_failed (ports.failures old.machine.ports) (ports.failures new.machine.ports); outcome = takes.outcome } in
+        let x : Taken = record {
+          moment = moment;
+          arrival = a;
+          failed = has_failed (ports.failures old.machine.ports) (ports.failures new.machine.ports);
+          pairs = old.machine.pairs;
+          outcome = takes.outcome;
+        } in
         let q : Place = record { handed = p.handed; recent = p.recent ++ x ∷ [] } in
         let same = setting_kept handler.key_of ports.range old.machine new.machine call.setting ∙ is.same_setting in
-        let answers = subst (λ (z : Setting). AnswersArrival z (history_at h p) moment x.failed a x.outcome) is.same_setting takes.answers in
+        let answers : IsAnswered s (history_at h p) x =
+        subst (λ (z : Setting). AnswersArrival (record z { pairs = old.machine.pairs }) (history_at h p) moment x.failed a x.outcome) is.same_setting takes.answers in
         let in_time = is.in_time in
         let le = call.in_time in
         let now : now_of new ≡ moment = call.clock in
@@ -230,7 +237,7 @@ module _ {D H G : Type 0} (disk : disks.Ghosts D) (handler : handlers.Ghosts H) 
           more = one.more ++ rest.more;
           handed = rest.handed ∙ ap (λ (l : List Taken). l ++ rest.more) one.handed ∙ append_assoc p.handed one.more rest.more;
           sent = ap (λ (l : List Sent). l ++ handed_out xs) one.sent ∙ ap (λ (l : List Sent). sent_about one.more ++ l) rest.sent ∙ sym (sent_about-append one.more rest.more);
-          arrivals = rest.arrivals ∙ ap (λ (l : List (ℕ × Arrives × Bool)). l ++ all_asked ports (after_of x) xs) one.arrivals
+          arrivals = rest.arrivals ∙ ap (λ (l : List (ℕ × Arrives × Bool × Bool)). l ++ all_asked ports (after_of x) xs) one.arrivals
               ∙ append_assoc (map asked (p.handed ++ p.recent)) (asked_by ports server x) (all_asked ports (after_of x) xs);
         }
 

@@ -1,5 +1,5 @@
 -- What an arrival makes of what a server keeps and rests on.
-use Rattle.std.proofs.Common.{◌≡◌, ◌≤◌, ◌<◌, ◌+◌, ◌-◌, ◌^◌, inl, inr, ℕ, Bool, List, ◌++◌, length, take, drop, Option, Some, None, refl, sym, ap, ◌∙◌, subst, arith, length-append}
+use Rattle.std.proofs.Common.{◌≡◌, ◌≤◌, ◌<◌, ◌+◌, ◌-◌, ◌^◌, inl, inr, ℕ, Bool, false, List, ◌++◌, length, take, drop, Option, Some, None, refl, sym, ap, ◌∙◌, subst, arith, length-append}
 use Rattle.std.proofs.Math.Nat.{eq-or-lt_of_le}
 use Rattle.std.proofs.lemmas.List.{take-append-le, drop-append-le}
 use Rattle.std.specs.Prelude.{IfSome}
@@ -11,8 +11,9 @@ use Rattle.turn_history.specs.Laws.{AllFrom, ReservesNone}
 use Rattle.turn_history.specs.Table.{Contents}
 use Rattle.turn_record.proofs.Kept.{snapshot-purged, snapshot-applied}
 use Rattle.turn_record.specs.Bytes as bytes
-use Rattle.turn_record.specs.Records.{IsSnapshot}
-use Rattle.turn_record.specs.declared.version.Version.TheVariants.{V1}
+use Rattle.turn_record.specs.Records.{IsSnapshot, Writes}
+use Rattle.turn_record.specs.declared.version.Version.{Version}
+use Rattle.turn_record.specs.declared.version.Version.TheVariants.{V1, V2}
 use Rattle.turn_step.specs.Outcome.{Change, added, event_at}
 use Rattle.turn_step.specs.State.{CountsOne, IsAfter, IsPurged, KeepsSetting, MachineState, MayBeNext, changed}
 use Rattle.turn_store.specs.State.{RestsAt}
@@ -21,37 +22,38 @@ use Rattle.turn_table.specs.Table.{Agrees}
 use Rattle.turn_types.specs.Config.{Config}
 use Rattle.turn_types.specs.declared.limits.Bounds.{Bounds}
 use Rattle.turn_engine.specs.Resting.{Rests}
-use Rattle.turn_engine.specs.State.{IsSound, ServerState, now_of}
+use Rattle.turn_engine.specs.State.{IsSound, ServerState, has_pairs, now_of}
 use Rattle.turn_engine.proofs.Lists.{all-append, added_few, added_from}
 
 -- ---- What a server keeps
 
-pub snapshot_later : (b : Bounds) (t : ℕ) (old new : State) → t < 2 ^ 40 - 3600 → old.moment ≤ t → IsPurged t old new → IsSnapshot V1 b old.moment old.contents
-    → IsSnapshot V1 b new.moment new.contents
-snapshot_later b t old new range le later is = elim (eq-or-lt_of_le le) [
-  | inl e ↦ subst (λ (m : ℕ). IsSnapshot V1 b m new.contents) (e ∙ sym later.moment) (subst (λ (c : Contents). IsSnapshot V1 b old.moment c) (sym (later.same e)) is)
-  | inr lt ↦ subst (λ (m : ℕ). IsSnapshot V1 b m new.contents) (sym later.moment)
-      (subst (λ (c : Contents). IsSnapshot V1 b t c) (sym (later.later lt)) (snapshot-purged V1 b old.moment t old.contents le range is))
+pub snapshot_later : (v : Version) (b : Bounds) (t : ℕ) (old new : State) → t < 2 ^ 40 - 3600 → old.moment ≤ t → IsPurged t old new → IsSnapshot v b old.moment old.contents
+    → IsSnapshot v b new.moment new.contents
+snapshot_later v b t old new range le later is = elim (eq-or-lt_of_le le) [
+  | inl e ↦ subst (λ (m : ℕ). IsSnapshot v b m new.contents) (e ∙ sym later.moment) (subst (λ (c : Contents). IsSnapshot v b old.moment c) (sym (later.same e)) is)
+  | inr lt ↦ subst (λ (m : ℕ). IsSnapshot v b m new.contents) (sym later.moment)
+      (subst (λ (c : Contents). IsSnapshot v b t c) (sym (later.later lt)) (snapshot-purged v b old.moment t old.contents le range is))
 ]
 
-pub sound_later : (b limits store batch : Bounds) (acts arrivals t : ℕ) (before after : Bool) (old new : State) → t < 2 ^ 40 - 3600 → old.moment ≤ t → IsPurged t old new → limits ≡ b
-    → after ≡ before → IsSound b store batch acts arrivals before old → IsSound limits store batch acts arrivals after new
-sound_later b limits store batch acts arrivals t before after old new range le later same pairs s =
-    subst (λ (x : Bounds). IsSound x store batch acts arrivals after new) (sym same) (record {
+pub sound_later : (b limits store batch : Bounds) (v staged : Version) (acts arrivals t : ℕ) (before after : Bool) (old new : State) → t < 2 ^ 40 - 3600 → old.moment ≤ t → IsPurged t old new → limits ≡ b
+    → after ≡ before → IsSound b store batch v staged acts arrivals before old → IsSound limits store batch v staged acts arrivals after new
+sound_later b limits store batch v staged acts arrivals t before after old new range le later same pairs s =
+    subst (λ (x : Bounds). IsSound x store batch v staged acts arrivals after new) (sym same) (record {
       store_is = s.store_is;
       batch_is = s.batch_is;
       table_is = later.bounds ∙ s.table_is;
       few = s.few;
       capped = s.capped;
-      no_pairs = pairs ∙ s.no_pairs;
-      snapshot = snapshot_later b t old new range le later s.snapshot;
+      same_version = s.same_version;
+      pairs_is = pairs ∙ s.pairs_is;
+      snapshot = snapshot_later v b t old new range le later s.snapshot;
     })
 
-snapshot_changed : (b : Bounds) (old : State) (change : Option Change) → old.bounds ≡ b → IfSome change (MayBeNext old) → IfSome change (λ c. ReservesNone c.act) → IsSnapshot V1 b old.moment old.contents
-    → IsSnapshot V1 b (changed old change).moment (changed old change).contents
-snapshot_changed b old None bounds may none is = is
-snapshot_changed b old (Some c) bounds may none is =
-    snapshot-applied V1 b (event_at old.moment c) old.contents none (subst (λ (x : Bounds). IsInRange x (event_at old.moment c)) bounds may.in_range)
+snapshot_changed : (v : Version) (b : Bounds) (old : State) (change : Option Change) → old.bounds ≡ b → IfSome change (MayBeNext old) → IfSome change (λ c. Writes v c.act) → IsSnapshot v b old.moment old.contents
+    → IsSnapshot v b (changed old change).moment (changed old change).contents
+snapshot_changed v b old None bounds may writes is = is
+snapshot_changed v b old (Some c) bounds may writes is =
+    snapshot-applied v b (event_at old.moment c) old.contents writes (subst (λ (x : Bounds). IsInRange x (event_at old.moment c)) bounds may.in_range)
     (subst (λ (x : Bounds). Fits x old.contents c.tuple c.act) bounds may.fits) is
 
 bounds_changed : (old : State) (change : Option Change) → (changed old change).bounds ≡ old.bounds
@@ -62,20 +64,21 @@ pub moment_changed : (old : State) (change : Option Change) → (changed old cha
 moment_changed old None = refl
 moment_changed old (Some c) = refl
 
-pub sound_changed : (b limits store batch larger : Bounds) (acts more arrivals t : ℕ) (before after : Bool) (old new : State) (change : Option Change) → new ≡ changed old change
-    → IfSome change (MayBeNext old) → IfSome change (λ c. ReservesNone c.act) → limits ≡ b → after ≡ before → larger ≡ batch → more ≡ acts + length (added t change) → arrivals < b.acts
-    → IsSound b store batch acts arrivals before old → IsSound limits store larger more (arrivals + 1) after new
-sound_changed b limits store batch larger acts more arrivals t before after old new change is may none same pairs same_batch count room s =
+pub sound_changed : (b limits store batch larger : Bounds) (v staged after_staged : Version) (acts more arrivals t : ℕ) (before after : Bool) (old new : State) (change : Option Change) → new ≡ changed old change
+    → IfSome change (MayBeNext old) → IfSome change (λ c. Writes v c.act) → limits ≡ b → after ≡ before → larger ≡ batch → after_staged ≡ staged → more ≡ acts + length (added t change) → arrivals < b.acts
+    → IsSound b store batch v staged acts arrivals before old → IsSound limits store larger v after_staged more (arrivals + 1) after new
+sound_changed b limits store batch larger v staged after_staged acts more arrivals t before after old new change is may writes same pairs same_batch same_staged count room s =
     let few = s.few in
     let one = added_few t change in
-    subst (λ (x : Bounds). IsSound x store larger more (arrivals + 1) after new) (sym same) (record {
+    subst (λ (x : Bounds). IsSound x store larger v after_staged more (arrivals + 1) after new) (sym same) (record {
       store_is = s.store_is;
       batch_is = same_batch ∙ s.batch_is;
       table_is = ap (λ (x : State). x.bounds) is ∙ bounds_changed old change ∙ s.table_is;
       few = omega arith;
       capped = omega arith;
-      no_pairs = pairs ∙ s.no_pairs;
-      snapshot = subst (λ (x : State). IsSnapshot V1 b x.moment x.contents) (sym is) (snapshot_changed b old change s.table_is may none s.snapshot);
+      same_version = same_staged ∙ s.same_version;
+      pairs_is = pairs ∙ s.pairs_is;
+      snapshot = subst (λ (x : State). IsSnapshot v b x.moment x.contents) (sym is) (snapshot_changed v b old change s.table_is may writes s.snapshot);
     })
 
 pub counts_same : (old mid new : ℕ) → CountsOne old mid → new ≡ mid → CountsOne old new
@@ -112,18 +115,24 @@ rests_later state old new h k rests store payload acts le after =
       staged = payload ∙ rests.staged;
       counted = acts ∙ rests.counted;
       from = rests.from;
-      writes = rests.writes;
+      writes = subst (λ s. AllByRecursion (λ (e : Event). Writes s.version e.act) (drop k h)) (sym store) rests.writes;
     }
 
-added_reserves_none : (t : ℕ) (change : Option Change) → IfSome change (λ c. ReservesNone c.act) → AllByRecursion (λ e. ReservesNone e.act) (added t change)
-added_reserves_none t None none = tt
-added_reserves_none t (Some c) none = (none, tt)
+-- a change that reserves no port where none may be reserved is one that the version can hold
+pub written_by : (v : Version) (pairs : Bool) (change : Option Change) → pairs ≡ has_pairs v → (pairs ≡ false → IfSome change (λ c. ReservesNone c.act)) → IfSome change (λ c. Writes v c.act)
+written_by V1 pairs change is none = none is
+written_by V2 pairs None is none = tt
+written_by V2 pairs (Some c) is none = tt
+
+added_writes : (v : Version) (t : ℕ) (change : Option Change) → IfSome change (λ c. Writes v c.act) → AllByRecursion (λ e. Writes v e.act) (added t change)
+added_writes v t None writes = tt
+added_writes v t (Some c) writes = (writes, tt)
 
 -- a server that took an arrival
 pub rests_taken : {D H G : Type 0} (state : disks.State) (old new : ServerState D H G) (h : History) (k t : ℕ) (change : Option Change) → Rests state old h k → new.store ≡ old.store
     → ((es : List Event) → old.payload ≡ bytes.payload es → new.payload ≡ bytes.payload (es ++ added t change)) → new.acts ≡ old.acts + length (added t change)
-    → now_of old ≤ t → now_of new ≡ t → IfSome change (λ c. ReservesNone c.act) → IsAfter new.machine (h ++ added t change) → Rests state new (h ++ added t change) k
-rests_taken state old new h k t change rests store payload acts le now none after =
+    → now_of old ≤ t → now_of new ≡ t → IfSome change (λ c. Writes old.store.version c.act) → IsAfter new.machine (h ++ added t change) → Rests state new (h ++ added t change) k
+rests_taken state old new h k t change rests store payload acts le now writes after =
     let more = added t change in
     let late = rests.at_late in
     let within = rests.within in
@@ -142,5 +151,6 @@ rests_taken state old new h k t change rests store payload acts le now none afte
       staged = payload (drop k h) rests.staged ∙ ap bytes.payload (sym rest);
       counted = sum ∙ ap (λ (l : History). length l) (sym rest);
       from = subst (AllFrom rests.at) (sym rest) (all-append (λ (e : Event). rests.at ≤ e.moment) (drop k h) more rests.from (added_from rests.at t change (omega arith)));
-      writes = subst (AllByRecursion (λ e. ReservesNone e.act)) (sym rest) (all-append (λ (e : Event). ReservesNone e.act) (drop k h) more rests.writes (added_reserves_none t change none));
+      writes = subst (λ s. AllByRecursion (λ (e : Event). Writes s.version e.act) (drop k (h ++ more))) (sym store) (subst (AllByRecursion (λ (e : Event). Writes old.store.version e.act)) (sym rest)
+          (all-append (λ (e : Event). Writes old.store.version e.act) (drop k h) more rests.writes (added_writes old.store.version t change writes)));
     }

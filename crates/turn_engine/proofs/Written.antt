@@ -7,10 +7,11 @@ use Rattle.std.specs.List.{AllByRecursion}
 use Rattle.turn_disk.specs.Disk.{State, Trace, IsImage, EachImageSince}
 use Rattle.turn_disk.proofs.Since.{image_settled, since_same}
 use Rattle.turn_history.specs.Fitting.{IsFitting}
-use Rattle.turn_history.specs.History.{History, clock}
+use Rattle.turn_history.specs.History.{Event, History, clock}
 use Rattle.turn_history.specs.Table as tables
-use Rattle.turn_history.specs.Laws.{AllFrom, ReservesNone}
+use Rattle.turn_history.specs.Laws.{AllFrom}
 use Rattle.turn_record.specs.Bytes as bytes
+use Rattle.turn_record.specs.Records.{Writes}
 use Rattle.turn_store.specs.Areas.{Form, Holds}
 use Rattle.turn_store.specs.Images.{EachImage, EitherBy, StandsBy, StandsForAt}
 use Rattle.turn_store.specs.Spells.{HasSize}
@@ -31,6 +32,13 @@ form_kept old new count size (Ok false) one two err = ap form_of (one refl)
 form_kept old new count size (Ok true) one two err = ap form_of (two refl)
 form_kept old new count size (Err e) one two err = ap form_of err
 
+-- and its version
+pub version_kept : {D : Type 0} (old new : StoreState D) (count size : ℕ) (result : Result Bool StoreFault) → (result ≡ Ok false → new ≡ framed old count new.disk)
+    → (result ≡ Ok true → new ≡ swapped old size new.disk) → OnErr result (new ≡ record old { disk = new.disk; stopped = true }) → new.version ≡ old.version
+version_kept old new count size (Ok false) one two err = ap (λ s. s.version) (one refl)
+version_kept old new count size (Ok true) one two err = ap (λ s. s.version) (two refl)
+version_kept old new count size (Err e) one two err = ap (λ s. s.version) err
+
 -- ---- Images
 
 -- what a store that rests on a history leaves
@@ -38,7 +46,7 @@ pub stood : {D : Type 0} (store : StoreState D) (state : State) (c : ℕ) (h : H
 stood store state c h rests image is =
     let on = rests.shows.rests in
     let holds = on.holds in
-    let whole : Holds (form_of store) rests.snapshot rests.payloads state.bytes = record {
+    let whole : Holds store.version (form_of store) rests.snapshot rests.payloads state.bytes = record {
       is_form = holds.is_form;
       front = holds.front;
       whole = holds.whole;
@@ -50,9 +58,10 @@ stood store state c h rests image is =
       yields = on.yields;
     } in
     record {
+      version = store.version;
       snapshot = rests.snapshot;
       payloads = rests.payloads;
-      holds = subst (λ (l : List ℕ). Holds (form_of store) rests.snapshot rests.payloads l) (sym (image_settled state holds.settled image is)) whole;
+      holds = subst (λ (l : List ℕ). Holds store.version (form_of store) rests.snapshot rests.payloads l) (sym (image_settled state holds.settled image is)) whole;
       spells = rests.spells;
     }
 
@@ -132,7 +141,7 @@ pub few_acts : (acts arrivals limit bound : ℕ) → acts ≤ arrivals → arriv
 few_acts acts arrivals limit bound one two is = omega arith
 
 pub has_size : {D H G : Type 0} (state : State) (server : ServerState D H G) (h : History) (k : ℕ) → Rests state server h k → 1 ≤ server.acts → server.acts ≤ server.store.bounds.acts
-    → HasSize server.store.bounds (drop k h)
+    → HasSize server.store.version server.store.bounds (drop k h)
 has_size state server h k rests some few = let count = rests.counted in record { some = omega arith; few = omega arith; writes = rests.writes }
 
 pub contents_are : {D H G : Type 0} (state : State) (server : ServerState D H G) (h : History) (k : ℕ) → Rests state server h k
@@ -155,7 +164,7 @@ all_stored state after old store h k rests done =
       staged = ap (λ (l : History). length l ∷ bytes.each bytes.act_entry l) (sym none);
       counted = ap (λ (l : History). length l) (sym none);
       from = subst (AllFrom done.0) (sym none) tt;
-      writes = subst (AllByRecursion (λ e. ReservesNone e.act)) (sym none) tt;
+      writes = subst (AllByRecursion (λ (e : Event). Writes store.version e.act)) (sym none) tt;
     }
 
 -- nothing was staged

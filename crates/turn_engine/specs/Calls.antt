@@ -22,7 +22,7 @@ use Rattle.turn_store.specs.declared.fault.StoreFault.{StoreFault}
 use Rattle.turn_store.specs.declared.fault.StoreFault.TheVariants as faults
 use Rattle.turn_engine.specs.Images.{AtLeast}
 use Rattle.turn_engine.specs.Resting.{Opens, Rests, Takes}
-use Rattle.turn_engine.specs.State.{ServerState, emptied, limits_of, now_of}
+use Rattle.turn_engine.specs.State.{ServerState, emptied, has_pairs, limits_of, now_of}
 use Rattle.turn_engine.specs.declared.fault.OpenRefused.{OpenRefused}
 use Rattle.turn_engine.specs.declared.fault.SubmitRefused.{SubmitRefused}
 use Rattle.turn_engine.specs.declared.fault.SubmitRefused.TheVariants.{BatchFull, Memory, Stopped}
@@ -73,10 +73,11 @@ pub record Commits {D H G : Type 0} (disk : disks.Ghosts D) (old new : ServerSta
   pub rests : disk.is_honest old.store.disk → (h : History) (k : ℕ) → Rests (disk.trace old.store.disk).now old h k
       → OnOk result (Rests (disk.trace new.store.disk).now new h (length h))
 
--- `open` of a disk, with a configuration, a handler and a generator, which answers a server, or a fault with the disk, the handler
+-- `open` or `open_as` of a disk, with a configuration, a handler and a generator, which answers a server, or a fault with the disk, the handler
 -- and the generator
 pub record Opening {D H G : Type 0} (disk : disks.Ghosts D) (old : D) (config : Config) (handler : H) (ports : G) (result : Result (ServerState D H G) (OpenRefused D H G)) : Type 0 where
-  pub machine : IfOk result (λ s. s.machine ≡ record { config = config; handler = handler; ports = ports; table = s.machine.table; pairs = false })
+  pub machine : IfOk result (λ s. s.machine ≡ record { config = config; handler = handler; ports = ports; table = s.machine.table; pairs = s.machine.pairs })
+  pub pairs : IfOk result (λ s. s.machine.pairs ≡ has_pairs s.store.version)
   pub nothing : IfOk result (λ s. s ≡ emptied s s.store)
   pub runs : IfOk result (λ s. s.store.stopped ≡ false)
   pub returned : IfErr result (λ r. (r.handler ≡ handler) × (r.ports ≡ ports))
@@ -87,8 +88,6 @@ pub record Opening {D H G : Type 0} (disk : disks.Ghosts D) (old : D) (config : 
   pub count_not : IfErr result (λ r. r.fault ≢ Device → disk.failed r.disk ≡ disk.failed old)
   pub opened : disk.is_honest old → IfOk result (λ s. IsOpened s.store (disk.trace s.store.disk).now (snapshot_of s.machine.table))
   pub why : disk.is_honest old → IfErr result (λ r. WhyRefused config.limits (disk.trace old).now.bytes r.fault)
-  pub same : disk.is_honest old → IfOk result (λ s. (disk.trace s.store.disk).now.bytes ≡ (disk.trace old).now.bytes)
-  pub same_err : disk.is_honest old → IfErr result (λ r. (disk.trace r.disk).now.bytes ≡ (disk.trace old).now.bytes)
   pub rests : disk.is_honest old → (form : Form) (h : History) (k m : ℕ) → form.bounds ≡ config.limits → EachImage (disk.trace old).now (AtLeast form h k m)
       → IfOk result (λ s. Opens form h k m (disk.trace old).now.bytes (disk.trace s.store.disk).now s)
   pub sound : disk.is_honest old → (form : Form) (h : History) (k m : ℕ) → form.bounds ≡ config.limits → EachImage (disk.trace old).now (AtLeast form h k m)

@@ -4,8 +4,9 @@ use Rattle.std.specs.List.{AllByRecursion}
 use Rattle.std.specs.Option.{option_to_list}
 use Rattle.turn_disk.specs.Disk.{State}
 use Rattle.turn_history.specs.History.{History}
-use Rattle.turn_history.specs.Laws.{AllFrom, ReservesNone}
+use Rattle.turn_history.specs.Laws.{AllFrom}
 use Rattle.turn_record.specs.Bytes as bytes
+use Rattle.turn_record.specs.Records.{Writes}
 use Rattle.turn_step.specs.Answer.{AnswersArrival, Setting}
 use Rattle.turn_step.specs.Outcome.{Arrives, Outcome, added}
 use Rattle.turn_step.specs.State.{IsAfter}
@@ -16,7 +17,7 @@ use Rattle.turn_engine.specs.State.{ServerState, now_of}
 
 -- A server that isn't stopped, over a disk in this state, rests on a history of which the first k events are stored: its
 -- machine is after the history, its store rests on the first k events at a clock, the others are staged, and none of these
--- is before that clock or reserves a port.
+-- is before that clock, or one that the store's version can't hold.
 pub record Rests {D H G : Type 0} (state : State) (server : ServerState D H G) (h : History) (k : ℕ) : Type 0 where
   pub after : IsAfter server.machine h
   pub within : k ≤ length h
@@ -26,7 +27,7 @@ pub record Rests {D H G : Type 0} (state : State) (server : ServerState D H G) (
   pub staged : server.payload ≡ bytes.payload (drop k h)
   pub counted : server.acts ≡ length (drop k h)
   pub from : AllFrom at (drop k h)
-  pub writes : AllByRecursion (λ e. ReservesNone e.act) (drop k h)
+  pub writes : AllByRecursion (λ e. Writes server.store.version e.act) (drop k h)
 
 -- An arrival was taken: an answer after the history was staged, and the server rests on the history with its change.
 pub record Takes {D H G : Type 0} (setting : Setting) (state : State) (old new : ServerState D H G) (h : History) (k moment : ℕ) (failed : Bool) (a : Arrives) : Type 0 where

@@ -23,11 +23,13 @@ use Rattle.turn_engine.specs.declared.fault.SubmitRefused.{SubmitRefused}
 
 -- ---- Answers in a row
 
--- an arrival that was taken at a moment, whether the generator of ports failed, and what was answered
+-- an arrival that was taken at a moment, whether the generator of ports failed, whether the server reserves ports, and what was
+-- answered
 pub record Taken : Type 0 where
   pub moment : ℕ
   pub arrival : Arrives
   pub failed : Bool
+  pub pairs : Bool
   pub outcome : Outcome
 
 -- the events that arrivals added
@@ -40,11 +42,14 @@ abbrev pub sent_about : List Taken → List Sent
 sent_about [] = []
 sent_about (x ∷ xs) = option_to_list x.outcome.sent ++ sent_about xs
 
+-- it was answered from the history, by the setting but for the flag of reserved ports, which is the arrival's own
+abbrev pub IsAnswered : Setting → History → Taken → Type 0
+IsAnswered s h x = AnswersArrival (record s { pairs = x.pairs }) h x.moment x.failed x.arrival x.outcome
+
 -- moments never fall, none is before the moment t, and each arrival is answered from the history before it
 abbrev pub IsRun : Setting → History → ℕ → List Taken → Type 0
 IsRun s h t [] = Unit {0}
-IsRun s h t (x ∷ xs) =
-    (t ≤ x.moment) × AnswersArrival s h x.moment x.failed x.arrival x.outcome × IsRun s (h ++ added x.moment x.outcome.change) x.moment xs
+IsRun s h t (x ∷ xs) = (t ≤ x.moment) × IsAnswered s h x × IsRun s (h ++ added x.moment x.outcome.change) x.moment xs
 
 -- the moment of the last arrival, or t where there is none
 abbrev pub last_moment : ℕ → List Taken → ℕ
@@ -79,16 +84,18 @@ abbrev pub handed_out : {D H G : Type 0} → List (Step D H G) → List Sent
 handed_out [] = []
 handed_out (x ∷ xs) = handed_by x ++ handed_out xs
 
--- the moment and the arrival of what was taken, and whether the generator's count of failures changed in the call that took it
-abbrev pub asked : Taken → ℕ × Arrives × Bool
-asked x = (x.moment, x.arrival, x.failed)
+-- the moment and the arrival of what was taken, whether the generator's count of failures changed in the call that took it, and
+-- whether the server reserves ports
+abbrev pub asked : Taken → ℕ × Arrives × Bool × Bool
+asked x = (x.moment, x.arrival, x.failed, x.pairs)
 
-abbrev pub asked_by : {D H G : Type 0} → generators.Ghosts G → ServerState D H G → Step D H G → List (ℕ × Arrives × Bool)
-asked_by ports old (Submit moment arrival (Ok done) after) = (moment, arrival, has_failed (ports.failures old.machine.ports) (ports.failures after.machine.ports)) ∷ []
+abbrev pub asked_by : {D H G : Type 0} → generators.Ghosts G → ServerState D H G → Step D H G → List (ℕ × Arrives × Bool × Bool)
+asked_by ports old (Submit moment arrival (Ok done) after) =
+    (moment, arrival, has_failed (ports.failures old.machine.ports) (ports.failures after.machine.ports), old.machine.pairs) ∷ []
 asked_by ports old (Submit moment arrival (Err why) after) = []
 asked_by ports old (Commit result after) = []
 
-abbrev pub all_asked : {D H G : Type 0} → generators.Ghosts G → ServerState D H G → List (Step D H G) → List (ℕ × Arrives × Bool)
+abbrev pub all_asked : {D H G : Type 0} → generators.Ghosts G → ServerState D H G → List (Step D H G) → List (ℕ × Arrives × Bool × Bool)
 all_asked ports server [] = []
 all_asked ports server (x ∷ xs) = asked_by ports server x ++ all_asked ports (after_of x) xs
 
@@ -161,5 +168,5 @@ pub record BeginsWith (form : Form) (h : History) (moment : ℕ) (image : List �
 -- An arrival was answered from the history h, and each image at a moment since old stands for a history that begins with h
 -- and what the arrival added.
 pub record Lasts {D H G : Type 0} (disk : disks.Ghosts D) (s : Setting) (h : History) (x : Taken) (old new : ServerState D H G) : Type 0 where
-  pub answered : AnswersArrival s h x.moment x.failed x.arrival x.outcome
+  pub answered : IsAnswered s h x
   pub images : EachImageSince (disk.trace old.store.disk) (disk.trace new.store.disk) (BeginsWith (form_of old.store) (h ++ added x.moment x.outcome.change) (now_of old))

@@ -1,21 +1,22 @@
 -- What contracts see of a batch.
 use Rattle.std.specs.Prelude.{◌≡◌, ◌≤◌, ◌+◌, ◌*◌, ℕ, List, length, slice_index}
 use Rattle.turn_record.specs.Records.{max_act, max_payload}
-use Rattle.turn_record.specs.declared.version.Version.TheVariants.{V1}
+use Rattle.turn_record.specs.declared.version.Version.{Version}
 use Rattle.turn_types.specs.Limits.{AreInRange}
 use Rattle.turn_types.specs.declared.limits.Bounds.{Bounds}
 
--- the limits, the payload of the acts that are staged, and how many there are
+-- the limits, the version of the records, the payload of the acts that are staged, and how many there are
 pub record Staged : Type 0 where
   pub bounds : Bounds
+  pub version : Version
   pub payload : List ℕ
   pub acts : ℕ
 
 -- a buffer has room for as many acts as the limits allow, and its payload begins with their number
-pub record IsSound (b : Bounds) (acts : ℕ) (payload : List ℕ) (capacity : ℕ) : Type 0 where
+pub record IsSound (v : Version) (b : Bounds) (acts : ℕ) (payload : List ℕ) (capacity : ℕ) : Type 0 where
   pub in_range : AreInRange b
   pub few : acts ≤ b.acts
   pub counted : slice_index payload 0 ≡ acts
   pub some : 1 ≤ length payload
-  pub short : length payload ≤ 1 + acts * max_act V1 b
-  pub room : max_payload V1 b ≤ capacity
+  pub short : length payload ≤ 1 + acts * max_act v b
+  pub room : max_payload v b ≤ capacity

@@ -1,7 +1,8 @@
 -- What contracts see of a server.
-use Rattle.std.specs.Prelude.{◌≡◌, ◌≤◌, ℕ, Bool, false, List, [], ◌∷◌}
+use Rattle.std.specs.Prelude.{◌≡◌, ◌≤◌, ℕ, Bool, true, false, List, [], ◌∷◌}
 use Rattle.turn_record.specs.Records.{IsSnapshot}
-use Rattle.turn_record.specs.declared.version.Version.TheVariants.{V1}
+use Rattle.turn_record.specs.declared.version.Version.{Version}
+use Rattle.turn_record.specs.declared.version.Version.TheVariants.{V1, V2}
 use Rattle.turn_step.specs.Outcome.{Sent}
 use Rattle.turn_step.specs.State.{MachineState}
 use Rattle.turn_store.specs.State.{StoreState}
@@ -29,13 +30,20 @@ limits_of s = s.machine.config.limits
 abbrev pub emptied : {D H G : Type 0} → ServerState D H G → StoreState D → ServerState D H G
 emptied s store = record { store = store; machine = s.machine; payload = 0 ∷ []; acts = 0; outs = []; arrivals = 0 }
 
+-- whether a server over a store of this version reserves ports
+abbrev pub has_pairs : Version → Bool
+has_pairs V1 = false
+has_pairs V2 = true
+
 -- What a server keeps in any state: the store, the batch and the table have the limits of the configuration, a batch has no
--- more arrivals than the limits allow and no more acts than arrivals, no ports are reserved, and the table has a snapshot.
-pub record IsSound (b store batch : Bounds) (acts arrivals : ℕ) (pairs : Bool) (table : State) : Type 0 where
+-- more arrivals than the limits allow and no more acts than arrivals, the batch is of the store's version, ports are reserved
+-- where that version holds them, and the table has a snapshot of it.
+pub record IsSound (b store batch : Bounds) (version staged : Version) (acts arrivals : ℕ) (pairs : Bool) (table : State) : Type 0 where
   pub store_is : store ≡ b
   pub batch_is : batch ≡ b
   pub table_is : table.bounds ≡ b
   pub few : acts ≤ arrivals
   pub capped : arrivals ≤ b.acts
-  pub no_pairs : pairs ≡ false
-  pub snapshot : IsSnapshot V1 b table.moment table.contents
+  pub same_version : staged ≡ version
+  pub pairs_is : pairs ≡ has_pairs version
+  pub snapshot : IsSnapshot version b table.moment table.contents

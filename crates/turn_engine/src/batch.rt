@@ -4,9 +4,8 @@ ghost use Rattle.std.specs.Prelude.{◌≡◌, ◌∷◌, [], ◌++◌, ◌+◌,
 ghost use Rattle.turn_history.specs.Act.{act_of};
 ghost use Rattle.turn_history.specs.Fitting.{IsInRange};
 ghost use Rattle.turn_history.specs.History.{Event};
-ghost use Rattle.turn_history.specs.Laws.{ReservesNone};
 ghost use Rattle.turn_record.specs.Bytes as bytes;
-ghost use Rattle.turn_record.specs.Records.{max_payload};
+ghost use Rattle.turn_record.specs.Records.{Writes, max_payload};
 
 use std::alloc::{AllocError, Allocator, Global};
 use std::marker::Model;
@@ -18,6 +17,7 @@ use turn_types::{FiveTuple, Limits, Moment};
 #[derive(Drop)]
 pub struct Batch<A: Allocator = Global> {
     limits: Limits,
+    version: Version,
     payload: Vec<u8, A>,
     acts: u16,
 }
@@ -28,21 +28,22 @@ impl<A: Allocator> Model for Batch<A> {
 
     ghost Value = { Staged };
 
-    ghost view = { λ b. record { bounds = b.limits; payload = b.payload.items; acts = b.acts } };
+    ghost view = { λ b. record { bounds = b.limits; version = b.version; payload = b.payload.items; acts = b.acts } };
 
-    ghost invariant = { λ b. IsSound b.limits b.acts b.payload.items (vec_capacity b.payload) };
+    ghost invariant = { λ b. IsSound b.version b.limits b.acts b.payload.items (vec_capacity b.payload) };
 }
 
 impl<A: Allocator + Copy> Batch<A> {
-    /// A batch without acts, with the memory for as many as the limits allow.
-    pub fn new(alloc: A, limits: Limits) -> Result<Batch<A>, AllocError>
-        ensures { IfOk result (λ b. b ≡ record { bounds = limits; payload = 0 ∷ []; acts = 0 }) }
+    /// A batch of records of a version, without acts, with the memory for as many as the limits allow.
+    pub fn new(alloc: A, version: Version, limits: Limits) -> Result<Batch<A>, AllocError>
+        ensures { IfOk result (λ b. b ≡ record { bounds = limits; version = version; payload = 0 ∷ []; acts = 0 }) }
     {
         let _bounds = limits.bounds();
-        let mut payload = Vec::with_capacity(alloc, max_payload(Version::V1, limits))?;
+        let mut payload = Vec::with_capacity(alloc, max_payload(version, limits))?;
         payload.push(0)?;
         Ok(Batch {
             limits,
+            version,
             payload,
             acts: 0,
         })
@@ -62,24 +63,25 @@ impl<A: Allocator> Batch<A> {
     /// The payload of a frame with the acts.
     pub fn payload(&self) -> &[u8]
         ensures value { result.now ≡ self.now.payload }
-        ensures short { length result.now ≤ max_payload Version.V1 self.now.bounds }
+        ensures short { length result.now ≤ max_payload self.now.version self.now.bounds }
     {
         &self.payload
     }
 
-    /// Adds an act, for which there is room and which reserves no port. It takes no memory.
+    /// Adds an act, for which there is room and which the version can hold. It takes no memory.
     pub fn push<B: Allocator>(&mut self, moment: Moment, five_tuple: FiveTuple, act: &Act<B>)
         requires few { self.old.acts < self.old.bounds.acts }
         requires in_range { IsInRange self.old.bounds (record { moment = moment; tuple = five_tuple; act = act_of act.now }) }
-        requires writes { ReservesNone (act_of act.now) }
+        requires writes { Writes self.old.version (act_of act.now) }
         ensures bounds { self.new.bounds ≡ self.old.bounds }
+        ensures version { self.new.version ≡ self.old.version }
         ensures acts { self.new.acts ≡ self.old.acts + 1 }
         ensures payload { (es : List Event) → self.old.payload ≡ bytes.payload es
             → self.new.payload ≡ bytes.payload (es ++ record { moment = moment; tuple = five_tuple; act = act_of act.now } ∷ []) }
     {
         let Ok(()) = write_act(
             &mut self.payload,
-            Version::V1,
+            self.version,
             self.limits,
             moment,
             five_tuple,
@@ -93,7 +95,7 @@ impl<A: Allocator> Batch<A> {
 
     /// Removes all acts.
     pub fn clear(&mut self)
-        ensures { self.new ≡ record { bounds = self.old.bounds; payload = 0 ∷ []; acts = 0 } }
+        ensures { self.new ≡ record { bounds = self.old.bounds; version = self.old.version; payload = 0 ∷ []; acts = 0 } }
     {
         self.payload.truncate(1);
         self.payload[0] = 0;

@@ -7,13 +7,14 @@ ghost use Rattle.turn_disk.specs.Counts.{Rises};
 ghost use Rattle.turn_disk.specs.Disk.{EachImageSince};
 ghost use Rattle.turn_history.specs.Fitting.{IsInRange};
 ghost use Rattle.turn_history.specs.History.{Event, History};
-ghost use Rattle.turn_history.specs.Laws.{ReservesNone};
 ghost use Rattle.turn_ports.specs.Ports.{has_failed};
 ghost use Rattle.turn_record.specs.Bytes as bytes;
+ghost use Rattle.turn_record.specs.Records.{IsSnapshot, Writes};
 ghost use Rattle.turn_step.specs.Outcome.{added, event_at};
 ghost use Rattle.turn_step.specs.State.{CountsOne, IsPurged, KeepsSetting, setting_of};
 ghost use Rattle.turn_step.specs.Views.{arrival_of, sent_of};
 ghost use Rattle.turn_store.specs.Areas.{Form};
+ghost use Rattle.turn_store.specs.Carrying.{Carries};
 ghost use Rattle.turn_store.specs.Images.{EachImage, EitherBy, StandsBy};
 ghost use Rattle.turn_store.specs.Opened.{IsOpened};
 ghost use Rattle.turn_store.specs.Refused.{IsPlain, WhyRefused};
@@ -23,7 +24,7 @@ ghost use Rattle.turn_store.specs.Tables.{snapshot_of};
 ghost use Rattle.turn_engine.specs.Calls.{Commits, Opening, Submits};
 ghost use Rattle.turn_engine.specs.Images.{AtLeast};
 ghost use Rattle.turn_engine.specs.Resting.{Opens, Rests, Takes};
-ghost use Rattle.turn_engine.specs.State.{emptied, limits_of, now_of};
+ghost use Rattle.turn_engine.specs.State.{emptied, has_pairs, limits_of, now_of};
 
 use crate::batch::Batch;
 use crate::fault::{OpenRefused, SubmitRefused};
@@ -33,8 +34,9 @@ use std::mem;
 use turn_cred::AuthHandler;
 use turn_disk::Disk;
 use turn_ports::RelayAddressGenerator;
+use turn_record::Version;
 use turn_step::{Arrival, Machine, Outgoing, Parts, Step};
-use turn_store::{OpenFault, Opened, Refused, Store, StoreFault};
+use turn_store::{Info, OpenFault, Opened, Refused, Store, StoreFault};
 use turn_table::Table;
 use turn_types::{Moment, ServerConfig};
 
@@ -88,15 +90,23 @@ impl<D: Disk, H: AuthHandler, G: RelayAddressGenerator, A: Allocator> Model for 
       arrivals = s.arrivals;
     } };
 
-    ghost invariant = { λ s. IsSound s.machine.config.limits s.store.bounds s.batch.bounds s.batch.acts s.arrivals s.machine.pairs s.machine.table };
+    ghost invariant = { λ s. IsSound s.machine.config.limits s.store.bounds s.batch.bounds s.store.version s.batch.version s.batch.acts s.arrivals s.machine.pairs s.machine.table };
 }
 
-/// Adds the act of a step, which reserves no port, to a batch that has room for it.
+/// Whether a server over a store of this version reserves ports.
+fn has_pairs(version: Version) -> bool
+    ensures { result ≡ has_pairs version }
+{
+    version == Version::V2
+}
+
+/// Adds the act of a step, which the batch's version can hold, to a batch that has room for it.
 fn stage_act<A: Allocator>(batch: &mut Batch<A>, moment: Moment, step: &Step<A>)
     requires few { batch.old.acts < batch.old.bounds.acts }
     requires in_range { IfSome step.now.change (λ c. IsInRange batch.old.bounds (event_at moment c)) }
-    requires writes { IfSome step.now.change (λ c. ReservesNone c.act) }
+    requires writes { IfSome step.now.change (λ c. Writes batch.old.version c.act) }
     ensures bounds { batch.new.bounds ≡ batch.old.bounds }
+    ensures version { batch.new.version ≡ batch.old.version }
     ensures acts { batch.new.acts ≡ batch.old.acts + length (added moment step.now.change) }
     ensures payload { (es : List Event) → batch.old.payload ≡ bytes.payload es
         → batch.new.payload ≡ bytes.payload (es ++ added moment step.now.change) }
@@ -119,16 +129,67 @@ fn stage_datagram<A: Allocator>(outgoing: &mut Vec<Outgoing<A>, A>, datagram: Op
 }
 
 impl<D: Disk, H: AuthHandler, G: RelayAddressGenerator, A: Allocator + Copy> Server<D, H, G, A> {
-    /// Opens the store of a disk, which was formatted with the limits of the configuration. A refusal returns the disk, the
-    /// handler and the generator.
-    pub fn open(
+    // A server over a store that was opened, with nothing staged.
+    fn over(
+        alloc: A,
+        opened: Opened<D, A>,
+        config: ServerConfig<A>,
+        handler: H,
+        ports: G,
+    ) -> Result<Server<D, H, G, A>, OpenRefused<D, H, G>>
+        requires bounds { (opened.store.bounds ≡ config.limits) × (opened.table.bounds ≡ config.limits) }
+        requires snapshot { IsSnapshot opened.store.version config.limits opened.table.moment opened.table.contents }
+        ensures ok { IfOk result (λ s. s ≡ record {
+          store = opened.store;
+          machine = record { config = config; handler = handler; ports = ports; table = opened.table; pairs = has_pairs opened.store.version };
+          payload = 0 ∷ [];
+          acts = 0;
+          outs = [];
+          arrivals = 0;
+        }) }
+        ensures err { IfErr result (λ r. r ≡ record { fault = OpenFault.Memory; disk = opened.store.disk; handler = handler; ports = ports }) }
+    {
+        let Opened { store, table } = opened;
+        let version = store.info().version;
+        let Ok(batch) = Batch::new(alloc, version, config.limits()) else {
+            return Err(OpenRefused {
+                fault: OpenFault::Memory,
+                disk: store.into_disk(),
+                handler,
+                ports,
+            });
+        };
+        match Machine::new(alloc, config, handler, ports, table, has_pairs(version)) {
+            Ok(machine) => Ok(Server {
+                alloc,
+                store,
+                machine,
+                batch,
+                outgoing: Vec::new(alloc),
+                arrivals: 0,
+            }),
+            Err(AllocFailed { value }) => Err(OpenRefused {
+                fault: OpenFault::Memory,
+                disk: store.into_disk(),
+                handler: value.handler,
+                ports: value.ports,
+            }),
+        }
+    }
+
+    /// Opens the store of a disk, which was formatted with the limits of the configuration. Where `carry` is set, a store of version 1
+    /// is carried over to version 2 if it can be, as by `Store::open_as`. The server reserves ports exactly where its store is of
+    /// version 2. A refusal returns the disk, the handler and the generator.
+    pub fn open_as(
         alloc: A,
         disk: D,
         config: &ServerConfig<A>,
         handler: H,
         ports: G,
+        carry: bool,
     ) -> Result<Server<D, H, G, A>, OpenRefused<D, H, G>>
-        ensures machine { IfOk result (λ s. s.machine ≡ record { config = config.now; handler = handler; ports = ports; table = s.machine.table; pairs = false }) }
+        ensures machine { IfOk result (λ s. s.machine ≡ record { config = config.now; handler = handler; ports = ports; table = s.machine.table; pairs = s.machine.pairs }) }
+        ensures pairs { IfOk result (λ s. s.machine.pairs ≡ has_pairs s.store.version) }
         ensures nothing { IfOk result (λ s. s ≡ emptied s s.store) }
         ensures runs { IfOk result (λ s. s.store.stopped ≡ false) }
         ensures returned { IfErr result (λ r. (r.handler ≡ handler) × (r.ports ≡ ports)) }
@@ -139,13 +200,16 @@ impl<D: Disk, H: AuthHandler, G: RelayAddressGenerator, A: Allocator + Copy> Ser
         ensures device { IfErr result (λ r. r.fault ≡ OpenFault.Device → Rises (D.failed disk) (D.failed r.disk)) }
         ensures count_not { IfErr result (λ r. r.fault ≢ OpenFault.Device → D.failed r.disk ≡ D.failed disk) }
 
-        // What was read, and the reason of each refusal: the first that applies. The content stays.
+        // What the store holds, and the reason of each refusal: the first that applies.
         ensures opened { D.is_honest disk
             → IfOk result (λ s. IsOpened s.store (D.trace s.store.disk).now (snapshot_of s.machine.table)) }
         ensures why { D.is_honest disk → IfErr result (λ r. WhyRefused config.now.limits (D.trace disk).now.bytes r.fault) }
-        ensures same { D.is_honest disk
+
+        // Exactly a store of version 1 is carried over whose areas have room for version 2, and which isn't worn.
+        ensures carried { D.is_honest disk → IfOk result (λ s. Carries carry (D.trace disk).now.bytes s.store) }
+        ensures same { carry ≡ false → D.is_honest disk
             → IfOk result (λ s. (D.trace s.store.disk).now.bytes ≡ (D.trace disk).now.bytes) }
-        ensures same_err { D.is_honest disk
+        ensures same_err { carry ≡ false → D.is_honest disk
             → IfErr result (λ r. (D.trace r.disk).now.bytes ≡ (D.trace disk).now.bytes) }
 
         // Where each image of the disk stands for the first events of a history, at least k of them, the server rests on
@@ -166,7 +230,7 @@ impl<D: Disk, H: AuthHandler, G: RelayAddressGenerator, A: Allocator + Copy> Ser
         ensures call { Opening D.Disk disk config.now handler ports result }
     {
         let limits = config.limits();
-        let (Ok(config), Ok(batch)) = (config.try_clone(alloc), Batch::new(alloc, limits)) else {
+        let Ok(config) = config.try_clone(alloc) else {
             return Err(OpenRefused {
                 fault: OpenFault::Memory,
                 disk,
@@ -174,7 +238,7 @@ impl<D: Disk, H: AuthHandler, G: RelayAddressGenerator, A: Allocator + Copy> Ser
                 ports,
             });
         };
-        let Opened { store, table } = match Store::open(alloc, disk, limits) {
+        let opened = match Store::open_as(alloc, disk, limits, carry) {
             Ok(opened) => opened,
             Err(Refused { fault, disk }) => {
                 return Err(OpenRefused {
@@ -185,22 +249,55 @@ impl<D: Disk, H: AuthHandler, G: RelayAddressGenerator, A: Allocator + Copy> Ser
                 });
             }
         };
-        match Machine::new(alloc, config, handler, ports, table, false) {
-            Ok(machine) => Ok(Server {
-                alloc,
-                store,
-                machine,
-                batch,
-                outgoing: Vec::new(alloc),
-                arrivals: 0,
-            }),
-            Err(AllocFailed { value }) => Err(OpenRefused {
-                fault: OpenFault::Memory,
-                disk: store.into_disk(),
-                handler: value.handler,
-                ports: value.ports,
-            }),
-        }
+        Server::over(alloc, opened, config, handler, ports)
+    }
+
+    /// Opens the store of a disk as `open_as` does, and carries it over to version 2 if it can be.
+    pub fn open(
+        alloc: A,
+        disk: D,
+        config: &ServerConfig<A>,
+        handler: H,
+        ports: G,
+    ) -> Result<Server<D, H, G, A>, OpenRefused<D, H, G>>
+        ensures machine { IfOk result (λ s. s.machine ≡ record { config = config.now; handler = handler; ports = ports; table = s.machine.table; pairs = s.machine.pairs }) }
+        ensures pairs { IfOk result (λ s. s.machine.pairs ≡ has_pairs s.store.version) }
+        ensures nothing { IfOk result (λ s. s ≡ emptied s s.store) }
+        ensures runs { IfOk result (λ s. s.store.stopped ≡ false) }
+        ensures returned { IfErr result (λ r. (r.handler ≡ handler) × (r.ports ≡ ports)) }
+
+        ensures honest { IfOk result (λ s. D.is_honest s.store.disk ↔ D.is_honest disk) }
+        ensures honest_err { IfErr result (λ r. D.is_honest r.disk ↔ D.is_honest disk) }
+        ensures count { IfOk result (λ s. D.failed s.store.disk ≡ D.failed disk) }
+        ensures device { IfErr result (λ r. r.fault ≡ OpenFault.Device → Rises (D.failed disk) (D.failed r.disk)) }
+        ensures count_not { IfErr result (λ r. r.fault ≢ OpenFault.Device → D.failed r.disk ≡ D.failed disk) }
+
+        // What the store holds, and the reason of each refusal: the first that applies.
+        ensures opened { D.is_honest disk
+            → IfOk result (λ s. IsOpened s.store (D.trace s.store.disk).now (snapshot_of s.machine.table)) }
+        ensures why { D.is_honest disk → IfErr result (λ r. WhyRefused config.now.limits (D.trace disk).now.bytes r.fault) }
+
+        // Exactly a store of version 1 is carried over whose areas have room for version 2, and which isn't worn.
+        ensures carried { D.is_honest disk → IfOk result (λ s. Carries true (D.trace disk).now.bytes s.store) }
+
+        // Where each image of the disk stands for the first events of a history, at least k of them, the server rests on
+        // such a part of it, a refusal is of the device or of memory, and a stop leaves such images.
+        ensures rests { D.is_honest disk → (form : Form) (h : History) (k m : ℕ) → form.bounds ≡ config.now.limits
+            → EachImage (D.trace disk).now (AtLeast form h k m)
+            → IfOk result (λ s. Opens form h k m (D.trace disk).now.bytes (D.trace s.store.disk).now s) }
+        ensures sound { D.is_honest disk → (form : Form) (h : History) (k m : ℕ) → form.bounds ≡ config.now.limits
+            → EachImage (D.trace disk).now (AtLeast form h k m) → IfErr result (λ r. IsPlain r.fault) }
+        ensures stop { D.is_honest disk → (form : Form) (h : History) (k m : ℕ)
+            → EachImage (D.trace disk).now (AtLeast form h k m)
+            → IfOk result (λ s. EachImageSince (D.trace disk) (D.trace s.store.disk) (AtLeast form h k m)) }
+        ensures stop_err { D.is_honest disk → (form : Form) (h : History) (k m : ℕ)
+            → EachImage (D.trace disk).now (AtLeast form h k m)
+            → IfErr result (λ r. EachImageSince (D.trace disk) (D.trace r.disk) (AtLeast form h k m)) }
+
+        // All of this as one record, of which the laws of lives speak.
+        ensures call { Opening D.Disk disk config.now handler ports result }
+    {
+        Server::open_as(alloc, disk, config, handler, ports, true)
     }
 
     // Why an arrival is refused before anything is done for it.
@@ -404,6 +501,15 @@ impl<D: Disk, H: AuthHandler, G: RelayAddressGenerator, A: Allocator + Copy> Ser
         ensures { result ≡ self.now.store.stopped }
     {
         self.store.is_stopped()
+    }
+
+    /// The store's version and generation, and how many frames it has.
+    pub fn info(&self) -> Info
+        ensures version { result.version ≡ self.now.store.version }
+        ensures generation { result.generation ≡ self.now.store.generation }
+        ensures frames { result.frames ≡ self.now.store.frames }
+    {
+        self.store.info()
     }
 
     pub fn ports(&self) -> &G

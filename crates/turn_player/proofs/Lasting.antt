@@ -10,7 +10,7 @@ use Rattle.turn_step.specs.Answer.{Setting}
 use Rattle.turn_step.specs.Outcome.{Sent, added}
 use Rattle.turn_store.specs.Areas.{Form}
 use Rattle.turn_player.specs.Laws.{IsOneRun, IsWhole, Lasts}
-use Rattle.turn_player.specs.Lives.{Input, Lasting, NeverFall, Point, Said, bound_of, count_of, formatted, recent_of, settled_history_of, sure_of, taken_of, unsettled_of, without_pairs}
+use Rattle.turn_player.specs.Lives.{Input, Lasting, NeverFall, Point, Said, bound_of, count_of, formatted, recent_of, settled_history_of, sure_of, taken_of, unsettled_of}
 use Rattle.turn_player.specs.Worlds.{Calls, Stands, World, disk_of}
 use Rattle.turn_player.proofs.Lists.{taken-append}
 use Rattle.turn_player.proofs.Lives.{begins_life, keeps, one_run}
@@ -51,11 +51,11 @@ module _ {D H G : Type 0} (disk : disks.Ghosts D) (handler : handlers.Ghosts H) 
       let count : count_of q ≡ length first + length (accepted rest) =
       ap (λ (l : List Taken). length (accepted l)) sure ∙ ap (λ (l : History). length l) (history-cut [] mine y rest) ∙ length-append first (accepted rest) in
       let long : length first ≤ count_of q = subst (λ (n : ℕ). length first ≤ n) (sym count) (at_most (length first) (length (accepted rest))) in
-      let run : IsRun (without_pairs s) [] 0 (mine ++ y ∷ (map taken_of after ++ recent_of p)) =
-      subst (IsRun (without_pairs s) [] 0) (ap (λ (l : List Lasting). map taken_of l ++ recent_of p) place ∙ ap (λ (l : List Taken). l ++ recent_of p) (taken-append before (x ∷ after))
+      let run : IsRun s [] 0 (mine ++ y ∷ (map taken_of after ++ recent_of p)) =
+      subst (IsRun s [] 0) (ap (λ (l : List Lasting). map taken_of l ++ recent_of p) place ∙ ap (λ (l : List Taken). l ++ recent_of p) (taken-append before (x ∷ after))
       ∙ append_assoc mine (y ∷ map taken_of after) (recent_of p)) one.is_run in
       record {
-        answered = answered_at (without_pairs s) [] 0 mine y (map taken_of after ++ recent_of p) run;
+        answered = answered_at s [] 0 mine y (map taken_of after ++ recent_of p) run;
         bound = bound_of q;
         images = λ image is. begins form (settled_history_of q) first (accepted (rest ++ unsettled_of q)) (count_of q) (bound_of q) image history long
             ((leaves disk handler ports form s v q lives.stands).images image is);

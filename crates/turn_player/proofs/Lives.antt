@@ -1,13 +1,13 @@
 -- Every life is one run.
 use Rattle.std.proofs.Common.{◌≡◌, ◌≤◌, ℕ, List, Bool, true, false, [], ◌∷◌, ◌++◌, length, map, max, refl, sym, ap, ◌∙◌, subst, arith, append_assoc, append-nil}
 use Rattle.std.specs.List.{AllByRecursion}
-use Rattle.turn_step.specs.Answer.{AnswersArrival, Setting}
+use Rattle.turn_step.specs.Answer.{Setting}
 use Rattle.turn_step.specs.Outcome.{Sent}
-use Rattle.turn_engine.specs.Runs.{IsRun, Taken, accepted, last_moment, sent_about}
+use Rattle.turn_engine.specs.Runs.{IsAnswered, IsRun, Taken, accepted, last_moment, sent_about}
 use Rattle.turn_engine.proofs.Answered.{last_moment-push, run-push}
 use Rattle.turn_engine.proofs.Lists.{all-append}
 use Rattle.turn_player.specs.Laws.{HasAct, IsInTime, IsOneRun, Keeps}
-use Rattle.turn_player.specs.Lives.{Arrive, Closed, Commit, Committed, Failed, Goes, Halted, HandedOut, Input, Lasting, Life, NeverFall, NotOpened, Open, Opened, Point, Refused, Running, Said, Sends, Shut, Stop, arrivals, arrivals_of, bound_of, commit_stops, ends, fails, formatted, found, goes_on, handing_out, hands_out, is_full, is_halted, is_shut, no_memory, not_opened, opens, recent_of, sent_by_all, sent_in, shut, stays_halted, stays_shut, stops, sure_of, taken_of, takes, unsettled_of, without_pairs}
+use Rattle.turn_player.specs.Lives.{Arrive, Closed, Commit, Committed, Failed, Goes, Halted, HandedOut, Input, Lasting, Life, NeverFall, NotOpened, Open, Opened, Point, Refused, Running, Said, Sends, Shut, Stop, arrivals, arrivals_of, bound_of, commit_stops, ends, fails, formatted, found, goes_on, handing_out, hands_out, is_full, is_halted, is_shut, no_memory, not_opened, opens, recent_of, sent_by_all, sent_in, shut, stays_halted, stays_shut, stops, sure_of, taken_of, takes, unsettled_of}
 use Rattle.turn_player.proofs.Lists.{acts-found, acts-handed, all-back, all-found, all-front, found_run, last_from, last_moment-append, run-join, run-split, sent_by_all-append, sent_by_all-found, sent_by_all-handed, taken-append, taken-handed}
 
 -- ---- What was handed out
@@ -42,7 +42,7 @@ module _ (s : Setting) (may_fail : Bool) where
       let whole : arrivals_of q ≡ arrivals_of p = cc in
       let last = one.moments in
       record {
-        is_run = subst (IsRun (without_pairs s) [] 0) (sym whole) one.is_run;
+        is_run = subst (IsRun s [] 0) (sym whole) one.is_run;
         sent_is = ap sent_by_all sures ∙ one.sent_is;
         have_acts = subst (AllByRecursion HasAct) (sym sures) one.have_acts;
         moments = subst (λ (l : List Taken). last_moment 0 l ≤ bound_of q) (sym whole) (omega arith);
@@ -51,10 +51,10 @@ module _ (s : Setting) (may_fail : Bool) where
       }
 
   -- one more arrival
-  taken : (sent : List Sent) (sure : List Lasting) (recent : List Taken) (c m t : ℕ) (x : Taken) → m ≤ t → x.moment ≡ max t c
-      → AnswersArrival (without_pairs s) (accepted (arrivals sure recent)) x.moment x.failed x.arrival x.outcome → (may_fail ≡ false → x.failed ≡ false)
-      → IsOneRun s may_fail sent (Running sure recent c m) → IsOneRun s may_fail sent (Running sure (recent ++ x ∷ []) (max t c) (max t m))
-  taken sent sure recent c m t x le at answers flag one =
+  taken : (sent : List Sent) (sure : List Lasting) (recent : List Taken) (pairs : Bool) (c m t : ℕ) (x : Taken) → m ≤ t → x.moment ≡ max t c
+      → IsAnswered s (accepted (arrivals sure recent)) x → (may_fail ≡ false → x.failed ≡ false)
+      → IsOneRun s may_fail sent (Running sure recent pairs c m) → IsOneRun s may_fail sent (Running sure (recent ++ x ∷ []) pairs (max t c) (max t m))
+  taken sent sure recent pairs c m t x le at answers flag one =
       let last = one.moments in
       let in_time = one.in_time in
       let whole : arrivals sure recent ++ x ∷ [] ≡ arrivals sure (recent ++ x ∷ []) = append_assoc (map taken_of sure) recent (x ∷ []) in
@@ -62,7 +62,7 @@ module _ (s : Setting) (may_fail : Bool) where
       let moment : last_moment 0 (arrivals sure recent ++ x ∷ []) ≡ x.moment = last_moment-push 0 (arrivals sure recent) x in
       let most : last_moment 0 (arrivals sure recent ++ x ∷ []) ≤ max t m = omega arith in
       record {
-        is_run = subst (IsRun (without_pairs s) [] 0) whole (run-push (without_pairs s) [] 0 (arrivals sure recent) x one.is_run later answers);
+        is_run = subst (IsRun s [] 0) whole (run-push s [] 0 (arrivals sure recent) x one.is_run later answers);
         sent_is = one.sent_is;
         have_acts = one.have_acts;
         moments = subst (λ (l : List Taken). last_moment 0 l ≤ max t m) whole most;
@@ -71,13 +71,13 @@ module _ (s : Setting) (may_fail : Bool) where
       }
 
   -- a commit that hands out
-  handed : (sent : List Sent) (sure : List Lasting) (recent : List Taken) (c m : ℕ)
-      → IsOneRun s may_fail sent (Running sure recent c m) → IsOneRun s may_fail (sent ++ sent_in (handing_out (sent_about recent))) (Running (sure ++ map HandedOut recent) [] c m)
-  handed sent sure recent c m one =
+  handed : (sent : List Sent) (sure : List Lasting) (recent : List Taken) (pairs : Bool) (c m : ℕ)
+      → IsOneRun s may_fail sent (Running sure recent pairs c m) → IsOneRun s may_fail (sent ++ sent_in (handing_out (sent_about recent))) (Running (sure ++ map HandedOut recent) [] pairs c m)
+  handed sent sure recent pairs c m one =
       let whole : arrivals sure recent ≡ arrivals (sure ++ map HandedOut recent) [] =
       sym (append-nil (map taken_of (sure ++ map HandedOut recent)) ∙ taken-append sure (map HandedOut recent) ∙ ap (λ (l : List Taken). map taken_of sure ++ l) (taken-handed recent)) in
       record {
-        is_run = subst (IsRun (without_pairs s) [] 0) whole one.is_run;
+        is_run = subst (IsRun s [] 0) whole one.is_run;
         sent_is = sent_by_all-append sure (map HandedOut recent) ∙ ap (λ (l : List Sent). l ++ sent_by_all (map HandedOut recent)) one.sent_is
             ∙ ap (λ (l : List Sent). sent ++ l) (sent_by_all-handed recent ∙ sym (sent_in-handing_out (sent_about recent)));
         have_acts = all-append HasAct sure (map HandedOut recent) one.have_acts (acts-handed recent);
@@ -88,16 +88,16 @@ module _ (s : Setting) (may_fail : Bool) where
 
   -- at rest nothing of what is staged lasts
   settled : (sent : List Sent) (p : Point) → IsOneRun s may_fail sent p → IsOneRun s may_fail sent (shut p)
-  settled sent (Running sure recent c m) one =
+  settled sent (Running sure recent pairs c m) one =
       let front = map taken_of sure in
-      let parts = run-split (without_pairs s) [] 0 front recent one.is_run in
+      let parts = run-split s [] 0 front recent one.is_run in
       let plain : front ≡ arrivals sure [] = sym (append-nil front) in
-      let more = last_from (without_pairs s) (accepted front) (last_moment 0 front) recent parts.1 in
+      let more = last_from s (accepted front) (last_moment 0 front) recent parts.1 in
       let whole : last_moment 0 (arrivals sure recent) ≡ last_moment (last_moment 0 front) recent = last_moment-append 0 front recent in
       let last = one.moments in
       let most : last_moment 0 front ≤ m = omega arith in
       record {
-        is_run = subst (IsRun (without_pairs s) [] 0) plain parts.0;
+        is_run = subst (IsRun s [] 0) plain parts.0;
         sent_is = one.sent_is;
         have_acts = one.have_acts;
         moments = subst (λ (l : List Taken). last_moment 0 l ≤ m) plain most;
@@ -108,14 +108,14 @@ module _ (s : Setting) (may_fail : Bool) where
   settled sent (Shut sure recent m) one = one
 
   -- an opening of what is shut
-  opened : (sent : List Sent) (sure : List Lasting) (recent : List Taken) (m n c : ℕ) → c ≤ m
-      → IsOneRun s may_fail sent (Shut sure recent m) → IsOneRun s may_fail sent (Running (sure ++ found recent n) [] c m)
-  opened sent sure recent m n c le one =
+  opened : (sent : List Sent) (sure : List Lasting) (recent : List Taken) (pairs : Bool) (m n c : ℕ) → c ≤ m
+      → IsOneRun s may_fail sent (Shut sure recent m) → IsOneRun s may_fail sent (Running (sure ++ found recent n) [] pairs c m)
+  opened sent sure recent pairs m n c le one =
       let front = map taken_of sure in
       let left = map taken_of (found recent n) in
-      let parts = run-split (without_pairs s) [] 0 front recent one.is_run in
-      let kept = found_run (without_pairs s) (accepted front) (last_moment 0 front) recent n parts.1 in
-      let run : IsRun (without_pairs s) [] 0 (front ++ left) = run-join (without_pairs s) [] 0 front left parts.0 kept.is_run in
+      let parts = run-split s [] 0 front recent one.is_run in
+      let kept = found_run s (accepted front) (last_moment 0 front) recent n parts.1 in
+      let run : IsRun s [] 0 (front ++ left) = run-join s [] 0 front left parts.0 kept.is_run in
       let plain : front ++ left ≡ arrivals (sure ++ found recent n) [] = sym (append-nil (map taken_of (sure ++ found recent n)) ∙ taken-append sure (found recent n)) in
       let before : last_moment 0 (arrivals sure recent) ≡ last_moment (last_moment 0 front) recent = last_moment-append 0 front recent in
       let after : last_moment 0 (front ++ left) ≡ last_moment (last_moment 0 front) left = last_moment-append 0 front left in
@@ -123,7 +123,7 @@ module _ (s : Setting) (may_fail : Bool) where
       let b = one.moments in
       let most : last_moment 0 (front ++ left) ≤ m = omega arith in
       record {
-        is_run = subst (IsRun (without_pairs s) [] 0) plain run;
+        is_run = subst (IsRun s [] 0) plain run;
         sent_is = sent_by_all-append sure (found recent n) ∙ ap (λ (l : List Sent). sent_by_all sure ++ l) (sent_by_all-found recent n) ∙ append-nil (sent_by_all sure) ∙ one.sent_is;
         have_acts = all-append HasAct sure (found recent n) one.have_acts (acts-found recent n);
         moments = subst (λ (l : List Taken). last_moment 0 l ≤ m) plain most;
@@ -150,28 +150,28 @@ IsLater m Open = Unit {0}
 
 pub step : (s : Setting) (f : Bool) (sent : List Sent) (p q : Point) (input : Input) (said : List Said) → Goes s f p input said q → IsLater (bound_of p) input
     → IsOneRun s f sent p → IsOneRun s f (sent ++ sent_in said) q
-step s f sent _ _ _ _ (takes {sure = sure} {recent = recent} {c = c} {m = m} {t = t} {a = a} failed o answers flag room) later one =
-    silent s f sent _ (taken s f sent sure recent c m t (record { moment = max t c; arrival = a; failed = failed; outcome = o }) later refl answers (never_failed failed f flag) one)
-step s f sent _ _ _ _ (no_memory {sure = sure} {recent = recent} {c = c} {m = m} {t = t} room) later one =
+step s f sent _ _ _ _ (takes {sure = sure} {recent = recent} {pairs = pairs} {c = c} {m = m} {t = t} {a = a} failed o answers flag room) later one =
+    silent s f sent _ (taken s f sent sure recent pairs c m t (record { moment = max t c; arrival = a; failed = failed; pairs = pairs; outcome = o }) later refl answers (never_failed failed f flag) one)
+step s f sent _ _ _ _ (no_memory {sure = sure} {recent = recent} {pairs = pairs} {c = c} {m = m} {t = t} room) later one =
     let time = one.in_time in
-    silent s f sent _ (same_run s f sent (Running sure recent c m) (Running sure recent (max t c) (max t m)) refl refl (omega arith) (omega arith) one)
-step s f sent _ _ _ _ (is_full {sure = sure} {recent = recent} {c = c} {m = m} {t = t} room) later one =
+    silent s f sent _ (same_run s f sent (Running sure recent pairs c m) (Running sure recent pairs (max t c) (max t m)) refl refl (omega arith) (omega arith) one)
+step s f sent _ _ _ _ (is_full {sure = sure} {recent = recent} {pairs = pairs} {c = c} {m = m} {t = t} room) later one =
     let time = one.in_time in
-    silent s f sent _ (same_run s f sent (Running sure recent c m) (Running sure recent c (max t m)) refl refl (omega arith) (omega arith) one)
+    silent s f sent _ (same_run s f sent (Running sure recent pairs c m) (Running sure recent pairs c (max t m)) refl refl (omega arith) (omega arith) one)
 step s f sent _ _ _ _ (is_halted {sure = sure} {recent = recent} {m = m} {t = t}) later one =
     silent s f sent _ (same_run s f sent (Halted sure recent m) (Halted sure recent (max t m)) refl refl (omega arith) tt one)
 step s f sent _ _ _ _ (is_shut {sure = sure} {recent = recent} {m = m} {t = t}) later one =
     silent s f sent _ (same_run s f sent (Shut sure recent m) (Shut sure recent (max t m)) refl refl (omega arith) tt one)
-step s f sent _ _ _ _ (hands_out {sure = sure} {recent = recent} {c = c} {m = m}) later one = handed s f sent sure recent c m one
-step s f sent _ _ _ _ (fails {sure = sure} {recent = recent} {c = c} {m = m} why is some) later one =
-    silent s f sent _ (same_run s f sent (Running sure recent c m) (Halted sure recent m) refl refl (omega arith) tt one)
+step s f sent _ _ _ _ (hands_out {sure = sure} {recent = recent} {pairs = pairs} {c = c} {m = m}) later one = handed s f sent sure recent pairs c m one
+step s f sent _ _ _ _ (fails {sure = sure} {recent = recent} {pairs = pairs} {c = c} {m = m} why is some) later one =
+    silent s f sent _ (same_run s f sent (Running sure recent pairs c m) (Halted sure recent m) refl refl (omega arith) tt one)
 step s f sent _ _ _ _ stays_halted later one = silent s f sent _ one
 step s f sent _ _ _ _ stays_shut later one = silent s f sent _ one
 step s f sent p _ _ _ stops later one = silent s f sent _ (settled s f sent p one)
-step s f sent _ _ _ _ (commit_stops {sure = sure} {recent = recent} {c = c} {m = m}) later one =
-    silent s f sent _ (same_run s f sent (Running sure recent c m) (Shut sure recent m) refl refl (omega arith) tt one)
-step s f sent p _ _ _ (opens n c few le late) later one =
-    silent s f sent _ (opened s f sent (sure_of p) (unsettled_of p) (bound_of p) n c le (settled s f sent p one))
+step s f sent _ _ _ _ (commit_stops {sure = sure} {recent = recent} {pairs = pairs} {c = c} {m = m}) later one =
+    silent s f sent _ (same_run s f sent (Running sure recent pairs c m) (Shut sure recent m) refl refl (omega arith) tt one)
+step s f sent p _ _ _ (opens n pairs c few le late) later one =
+    silent s f sent _ (opened s f sent (sure_of p) (unsettled_of p) pairs (bound_of p) n c le (settled s f sent p one))
 step s f sent p _ _ _ (not_opened fault plain) later one = silent s f sent _ (settled s f sent p one)
 
 -- ---- All inputs
@@ -195,7 +195,7 @@ onward s f _ _ _ _ inputs stays_halted never = record { is_later = tt; rest = ne
 onward s f _ _ _ _ inputs stays_shut never = record { is_later = tt; rest = never }
 onward s f p _ _ _ inputs stops never = record { is_later = tt; rest = never }
 onward s f _ _ _ _ inputs commit_stops never = record { is_later = tt; rest = never }
-onward s f p _ _ _ inputs (opens n c few le late) never = record { is_later = tt; rest = never }
+onward s f p _ _ _ inputs (opens n pairs c few le late) never = record { is_later = tt; rest = never }
 onward s f p _ _ _ inputs (not_opened fault plain) never = record { is_later = tt; rest = never }
 
 pub one_run : (s : Setting) (f : Bool) (p q : Point) (inputs : List Input) (said : List Said) (sent : List Sent) → Life s f p inputs said q → NeverFall (bound_of p) inputs
@@ -228,7 +228,7 @@ keep_step s f p q _ _ stays_halted = keeps_same p q refl
 keep_step s f p q _ _ stays_shut = keeps_same p q refl
 keep_step s f p q _ _ stops = keeps_same p q refl
 keep_step s f p q _ _ commit_stops = keeps_same p q refl
-keep_step s f p q _ _ (opens n c few le late) = record { more = found (unsettled_of p) n; sure = refl }
+keep_step s f p q _ _ (opens n pairs c few le late) = record { more = found (unsettled_of p) n; sure = refl }
 keep_step s f p q _ _ (not_opened fault plain) = keeps_same p q refl
 
 pub keeps : (s : Setting) (f : Bool) (p q : Point) (inputs : List Input) (said : List Said) → Life s f p inputs said q → Keeps p q

@@ -1,5 +1,5 @@
 -- What a player does, put together from calls.
-use Rattle.std.proofs.Common.{◌≡◌, ◌≤◌, ◌<◌, ◌+◌, ◌++◌, ℕ, List, [], ◌∷◌, Option, Some, Result, Ok, Err, false, get_or, length, max, map, take, refl, sym, ap, ◌∙◌, subst, append_assoc, append-nil}
+use Rattle.std.proofs.Common.{◌≡◌, ◌≤◌, ◌<◌, ◌+◌, ◌++◌, ℕ, Bool, true, List, [], ◌∷◌, Option, Some, Result, Ok, Err, false, get_or, length, max, map, take, refl, sym, ap, ◌∙◌, subst, append_assoc, append-nil}
 use Rattle.std.proofs.lemmas.List.{map-append, take_more}
 use Rattle.std.specs.Prelude.{IfOk, OnOk}
 use Rattle.turn_cred.specs.declared.handler.AuthHandler as handlers
@@ -20,7 +20,7 @@ use Rattle.turn_store.specs.Areas.{Form}
 use Rattle.turn_types.specs.Config.{Config}
 use Rattle.turn_player.specs.Held.{Adds}
 use Rattle.turn_player.specs.Lives.{Arrive, Commit, Input, NotOpened, Open, Opened, Point, Said, handing_out}
-use Rattle.turn_player.specs.Plays.{Crashes, GoesOn, Plays, PlaysAll, Ran, inputs_of, inputs_of_all, said_if, said_of}
+use Rattle.turn_player.specs.Plays.{Crashes, GoesOn, IsCarriedOver, Plays, PlaysAll, Ran, inputs_of, inputs_of_all, said_if, said_of}
 use Rattle.turn_player.specs.Plays as plays
 use Rattle.turn_player.specs.Worlds.{Call, Calls, Down, Restarts, Serving, Stands, World, disk_of, handler_of, ports_of, said_by_submit}
 use Rattle.turn_player.specs.Worlds as worlds
@@ -83,7 +83,7 @@ module _ {D H G : Type 0} (disk : disks.Ghosts D) (handler : handlers.Ghosts H) 
   pub step_is : (w v : World D H G) (step other : Step) (said : List Said) → step ≡ other → Plays disk handler ports s w other said v → Plays disk handler ports s w step said v
   step_is w v step other said is does = subst (λ (x : Step). Plays disk handler ports s w x said v) (sym is) does
 
-  pub reopened : (w v : World D H G) (d : D) (h : H) (g : G) (said : List Said) → d ≡ disk_of w → h ≡ handler_of w → g ≡ ports_of w → Call disk handler ports s (Down d h g) Open said v
+  reopened : (w v : World D H G) (d : D) (h : H) (g : G) (said : List Said) → d ≡ disk_of w → h ≡ handler_of w → g ≡ ports_of w → Call disk handler ports s (Down d h g) Open said v
       → Call disk handler ports s w Open said v
   reopened w _ d h g _ same_disk same_handler same_ports (worlds.opens result call) =
       worlds.opens {w = w} result
@@ -91,10 +91,15 @@ module _ {D H G : Type 0} (disk : disks.Ghosts D) (handler : handlers.Ghosts H) 
       (subst (λ (x : H). Opening disk d s.config x (ports_of w) result) same_handler
       (subst (λ (x : G). Opening disk d s.config h x result) same_ports call)))
 
+  pub reopens_at : (w v : World D H G) (d : D) (h : H) (g : G) (carry : Bool) (said : List Said) → d ≡ disk_of w → h ≡ handler_of w → g ≡ ports_of w → Call disk handler ports s (Down d h g) Open said v
+      → IsCarriedOver disk carry d v → Plays disk handler ports s w (steps.Reopen carry) said v
+  reopens_at w v d h g carry said same_disk same_handler same_ports call carried =
+      plays.reopens (reopened w v d h g said same_disk same_handler same_ports call) (subst (λ (x : D). IsCarriedOver disk carry x v) same_disk carried)
+
   pub crashed : (w v : World D H G) (old d : D) (h : H) (g : G) (outcome : Outcome) (said : List Said) → old ≡ disk_of w → h ≡ handler_of w → g ≡ ports_of w → disk.is_honest d
       → (disk.trace d).now ≡ record { bytes = left_by outcome (disk.trace old); pending = [] } → IsImage (disk.trace old).now (disk.trace d).now.bytes
-      → Call disk handler ports s (Down d h g) Open said v → Plays disk handler ports s w (steps.Crash outcome) said v
-  crashed w v old d h g outcome said same_disk same_handler same_ports honest left image call =
+      → Call disk handler ports s (Down d h g) Open said v → IsCarriedOver disk true d v → Plays disk handler ports s w (steps.Crash outcome) said v
+  crashed w v old d h g outcome said same_disk same_handler same_ports honest left image call carried =
       let crash : Crashes disk outcome w d = record {
         honest = honest;
         left = left ∙ ap (λ (x : D). record { bytes = left_by outcome (disk.trace x); pending = [] }) same_disk;
@@ -103,6 +108,7 @@ module _ {D H G : Type 0} (disk : disks.Ghosts D) (handler : handlers.Ghosts H) 
       } in
       plays.crashes d crash
       (subst (λ (x : H). Call disk handler ports s (Down d x (ports_of w)) Open said v) same_handler (subst (λ (x : G). Call disk handler ports s (Down d h x) Open said v) same_ports call))
+      carried
 
   -- ---- Many steps
 
@@ -147,7 +153,7 @@ module _ {D H G : Type 0} (disk : disks.Ghosts D) (handler : handlers.Ghosts H) 
       → Calls disk handler ports s w (inputs_of x ++ inputs) (said ++ later) v
   before_calls w u v _ inputs said later (plays.arrives call) rest = worlds.then u call rest
   before_calls w u v _ inputs said later (plays.commits call) rest = worlds.then u call rest
-  before_calls w u v _ inputs said later (plays.crashes {outcome = outcome} d crash call) rest =
+  before_calls w u v _ inputs said later (plays.crashes {outcome = outcome} d crash call carried) rest =
       let again : Restarts disk handler ports w (left_by outcome (disk.trace (disk_of w))) d (handler_of w) (ports_of w) = record {
         bytes = ap (λ (x : State). x.bytes) crash.left;
         settled = ap (λ (x : State). x.pending) crash.left;
@@ -156,7 +162,7 @@ module _ {D H G : Type 0} (disk : disks.Ghosts D) (handler : handlers.Ghosts H) 
         range = refl;
       } in
       worlds.then (Down d (handler_of w) (ports_of w)) (worlds.stops (left_by outcome (disk.trace (disk_of w))) crash.image again) (worlds.then u call rest)
-  before_calls w u v _ inputs said later (plays.reopens call) rest = worlds.then u call rest
+  before_calls w u v _ inputs said later (plays.reopens call carried) rest = worlds.then u call rest
   before_calls w _ v _ inputs _ later plays.fails rest = rest
   before_calls w _ v _ inputs _ later plays.stops rest = rest
 

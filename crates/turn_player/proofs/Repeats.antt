@@ -26,7 +26,7 @@ use Rattle.turn_step.specs.Outcome.Arrives.{FromClient}
 use Rattle.turn_step.proofs.Exclusion.{request_relays_nothing}
 use Rattle.turn_engine.specs.Runs.{IsRun, Taken, accepted}
 use Rattle.turn_engine.proofs.Answered.{answered_at}
-use Rattle.turn_player.specs.Lives.{Lasting, Point, arrivals_of, formatted, history_of, recent_of, taken_of, without_pairs}
+use Rattle.turn_player.specs.Lives.{Lasting, Point, arrivals_of, formatted, history_of, recent_of, taken_of}
 use Rattle.turn_player.specs.Repeats.{ComesAgain, LastsAfter, MadeBefore, Makes}
 use Rattle.turn_player.proofs.Lists.{by_option, taken-append}
 use Rattle.turn_player.proofs.Lives.{begins_life, one_run}
@@ -68,11 +68,11 @@ module _ (s : Setting) (f : FiveTuple) (d : Datagram) (spells : Spells d.bytes d
       let passed = same_Some _ _ (sym (judged_is t protected) ∙ held) in
       judged_is u protected ∙ ap (λ v. Some v) (passed_again (policy_of s.config) s.keys d f.client t u user key passed nonce)
 
-  outcome_is : (h : History) (t : ℕ) (failed : Bool) (o : Outcome) → is_request d.content.class ≡ true → (a : AnswersClient s h t failed f d.bytes o) → o ≡ outcome_by f a.decided
+  outcome_is : (z : Setting) (h : History) (t : ℕ) (failed : Bool) (o : Outcome) → is_request d.content.class ≡ true → (a : AnswersClient z h t failed f d.bytes o) → o ≡ outcome_by f a.decided
   unfolding outcome_by
-  outcome_is h t failed o request a =
+  outcome_is z h t failed o request a =
       let none : a.relayed ≡ None = by_option a.relayed (λ none. none)
-      (λ p is. absurd (request_relays_nothing s h t failed f d.bytes o d.content spells request a p.port p.peer p.payload
+      (λ p is. absurd (request_relays_nothing z h t failed f d.bytes o d.content spells request a p.port p.peer p.payload
       (a.sent ∙ ap (λ r. option_or (to_peer r) (to_client f a.decided.reply)) is))) in
       same_outcome o (outcome_by f a.decided) a.change (a.sent ∙ ap (λ r. option_or (to_peer r) (to_client f a.decided.reply)) none)
 
@@ -101,18 +101,19 @@ module _ (s : Setting) (f : FiveTuple) (d : Datagram) (spells : Spells d.bytes d
         by_known k (inl quiet) is = absurd (let wrong : ◌≡◌ {A = Option PlainAct} None (Some (Allocates e.user e.port e.granted e.tx e.token)) = sym (quiet_act (user_of (judged t)) d.content k quiet) ∙ is in let no : ⊥ = cc in no)
         by_known k (inr of_user) is = of_user
 
-    again_is : (g : History) (u : ℕ) (failed_again : Bool) (k : Outcome) → fin.get (table g u).entries f ≡ Some e → NonceHolds (policy_of s.config) d f.client u
-        → AnswersClient s g u failed_again f d.bytes k → k ≡ record { change = None; sent = o.sent }
+    again_is : (later : Bool) (g : History) (u : ℕ) (failed_again : Bool) (k : Outcome) → fin.get (table g u).entries f ≡ Some e → NonceHolds (policy_of s.config) d f.client u
+        → AnswersClient (record s { pairs = later }) g u failed_again f d.bytes k → k ≡ record { change = None; sent = o.sent }
     unfolding outcome_by judged
-    again_is g u failed_again k at nonce b =
+    again_is later g u failed_again k at nonce b =
         let request = taken_request d of_user.taken in
         let alike : judged u ≡ judged t = judged_again t u of_user.user of_user.key of_user.protected of_user.verdict nonce ∙ sym of_user.verdict in
         let m = b.decides.message d.content spells in
         let decided : b.decided ≡ record { reply = a.decided.reply; act = None } =
-        m.decided ∙ ap (λ v. decision s.pairs s.config (table g u) f u d v m.port) alike
-        ∙ repeat_same s.pairs s.pairs s.config (table h t) (table g u) f d (judged t) t u first_port m.port e first_act at
+        m.decided ∙ ap (λ v. decision later s.config (table g u) f u d v m.port) alike
+        ∙ repeat_same s.pairs later s.config (table h t) (table g u) f d (judged t) t u first_port m.port e first_act at
         ∙ ap (λ (x : Decided). record { reply = x.reply; act = None }) (sym first_is) in
-        outcome_is g u failed_again k request b ∙ ap (outcome_by f) decided ∙ ap (λ (x : Outcome). record { change = None; sent = x.sent }) (sym (outcome_is h t failed o request a))
+        outcome_is (record s { pairs = later }) g u failed_again k request b ∙ ap (outcome_by f) decided
+        ∙ ap (λ (x : Outcome). record { change = None; sent = x.sent }) (sym (outcome_is s h t failed o request a))
 
   -- ---- The five-tuple had the allocation already
 
@@ -122,27 +123,27 @@ module _ (s : Setting) (f : FiveTuple) (d : Datagram) (spells : Spells d.bytes d
         let method = (and_parts (is_request d.content.class) (d.content.method == allocate) allocates).1 in
         ap (λ b. b || (d.content.method == refresh || (d.content.method == create_permission || d.content.method == channel_bind))) method
 
-    later_is : (h g : History) (t u : ℕ) (failed failed_again : Bool) (o k : Outcome) (user key : List ℕ) (x e : Entry) → fin.get (table h t).entries f ≡ Some x → fin.get (table g u).entries f ≡ Some e
+    later_is : (later : Bool) (h g : History) (t u : ℕ) (failed failed_again : Bool) (o k : Outcome) (user key : List ℕ) (x e : Entry) → fin.get (table h t).entries f ≡ Some x → fin.get (table g u).entries f ≡ Some e
         → allocation_of x ≡ allocation_of e → IsSentBy (policy_of s.config) s.keys d f.client t user key → NonceHolds (policy_of s.config) d f.client u
-        → AnswersClient s h t failed f d.bytes o → AnswersClient s g u failed_again f d.bytes k → k ≡ o
+        → AnswersClient s h t failed f d.bytes o → AnswersClient (record s { pairs = later }) g u failed_again f d.bytes k → k ≡ o
     unfolding judged
-    later_is h g t u failed failed_again o k user key x e had has same sent nonce a b =
+    later_is later h g t u failed failed_again o k user key x e had has same sent nonce a b =
         let request = (and_parts (is_request d.content.class) (d.content.method == allocate) allocates).0 in
         let held : judged t ≡ Some (Passed user key) = judged_is t protects ∙ ap (λ v. Some v) (sent_by (policy_of s.config) s.keys d f.client t user key sent) in
         let holds : judged u ≡ Some (Passed user key) = judged_again t u user key protects held nonce in
         let m = a.decides.message d.content spells in
         let n = b.decides.message d.content spells in
         let decided : b.decided ≡ a.decided =
-        n.decided ∙ ap (λ v. decision s.pairs s.config (table g u) f u d v n.port) holds
-        ∙ later_same s.pairs s.pairs s.config (table h t) (table g u) f d user key t u m.port n.port x e allocates had has same
+        n.decided ∙ ap (λ v. decision later s.config (table g u) f u d v n.port) holds
+        ∙ later_same s.pairs later s.config (table h t) (table g u) f d user key t u m.port n.port x e allocates had has same
         ∙ sym (m.decided ∙ ap (λ v. decision s.pairs s.config (table h t) f t d v m.port) held) in
-        outcome_is g u failed_again k request b ∙ ap (outcome_by f) decided ∙ sym (outcome_is h t failed o request a)
+        outcome_is (record s { pairs = later }) g u failed_again k request b ∙ ap (outcome_by f) decided ∙ sym (outcome_is s h t failed o request a)
 
 -- ---- In a life
 
 -- an arrival that lasts was answered from the events of those before it
 answered : (s : Setting) (q : Point) (before : List Lasting) (x : Lasting) (f : FiveTuple) (bytes : List ℕ) → LastsAfter s q before x → (taken_of x).arrival ≡ FromClient f bytes
-    → AnswersClient (without_pairs s) (accepted (map taken_of before)) (taken_of x).moment (taken_of x).failed f bytes (taken_of x).outcome
+    → AnswersClient (record s { pairs = (taken_of x).pairs }) (accepted (map taken_of before)) (taken_of x).moment (taken_of x).failed f bytes (taken_of x).outcome
 answered s q before x f bytes lasts arrival =
     let y = taken_of x in
     let others = map taken_of lasts.after ++ recent_of q in
@@ -150,8 +151,8 @@ answered s q before x f bytes lasts arrival =
     let whole : arrivals_of q ≡ map taken_of before ++ y ∷ others =
     ap (λ (l : List Lasting). map taken_of l ++ recent_of q) lasts.sure ∙ ap (λ (l : List Taken). l ++ recent_of q) (taken-append before (x ∷ lasts.after))
     ∙ append_assoc (map taken_of before) (y ∷ map taken_of lasts.after) (recent_of q) in
-    subst (λ (r : Arrives). AnswersArrival (without_pairs s) (accepted (map taken_of before)) y.moment y.failed r y.outcome) arrival
-    (answered_at (without_pairs s) [] 0 (map taken_of before) y others (subst (IsRun (without_pairs s) [] 0) whole one.is_run))
+    subst (λ (r : Arrives). AnswersArrival (record s { pairs = y.pairs }) (accepted (map taken_of before)) y.moment y.failed r y.outcome) arrival
+    (answered_at s [] 0 (map taken_of before) y others (subst (IsRun s [] 0) whole one.is_run))
 
 as_allocates : Allocation → PlainAct
 as_allocates a = Allocates a.user a.port a.granted a.tx a.token
@@ -167,7 +168,8 @@ first_again s q before x f d a t again lasts makes comes =
     let e = entry.0 in
     let same : a ≡ allocation_of e = same_Some _ _ (sym comes.has.made ∙ entry.2.made) in
     let change : y.outcome.change ≡ Some (change_of f (Allocates e.user e.port e.granted e.tx e.token)) = makes.change ∙ ap (λ (b : Allocation). Some (change_of f (as_allocates b))) same in
-    again_is (without_pairs s) f d makes.spells h y.moment y.failed y.outcome (answered s q before x f d.bytes lasts makes.arrival) e change (history_of q) t comes.failed again entry.1 comes.nonce comes.answers
+    again_is (record s { pairs = y.pairs }) f d makes.spells h y.moment y.failed y.outcome (answered s q before x f d.bytes lasts makes.arrival) e change
+    comes.pairs (history_of q) t comes.failed again entry.1 comes.nonce comes.answers
 
 pub later_again : (s : Setting) (q : Point) (before : List Lasting) (x : Lasting) (f : FiveTuple) (d : Datagram) (a : Allocation) (t : ℕ) (again : Outcome)
     → LastsAfter s q before x → MadeBefore s (accepted (map taken_of before)) (taken_of x) f d a → ComesAgain s (history_of q) t f d a again
@@ -178,5 +180,5 @@ later_again s q before x f d a t again lasts old comes =
     let had = entry_of_live h y.moment f old.had.live in
     let has = entry_of_live (history_of q) t f comes.has.live in
     let same : allocation_of had.0 ≡ allocation_of has.0 = same_Some _ _ (sym had.2.made ∙ old.had.made) ∙ same_Some _ _ (sym comes.has.made ∙ has.2.made) in
-    later_is (without_pairs s) f d old.spells old.is_allocate h (history_of q) y.moment t y.failed comes.failed y.outcome again old.user old.key had.0 has.0 had.1 has.1
+    later_is (record s { pairs = y.pairs }) f d old.spells old.is_allocate comes.pairs h (history_of q) y.moment t y.failed comes.failed y.outcome again old.user old.key had.0 has.0 had.1 has.1
     same old.sent_by comes.nonce (answered s q before x f d.bytes lasts old.arrival) comes.answers

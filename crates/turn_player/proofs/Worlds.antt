@@ -10,7 +10,7 @@ use Rattle.turn_disk.proofs.Since.{since_same, since_weaken}
 use Rattle.turn_engine.specs.Calls.{Commits, Opening, Submits}
 use Rattle.turn_engine.specs.Images.{AtLeast}
 use Rattle.turn_engine.specs.Resting.{Opens, Rests}
-use Rattle.turn_engine.specs.Runs.{NeverFails, Taken, accepted, sent_about}
+use Rattle.turn_engine.specs.Runs.{IsAnswered, NeverFails, Taken, accepted, sent_about}
 use Rattle.turn_engine.specs.State.{ServerState, limits_of, now_of}
 use Rattle.turn_engine.specs.declared.fault.OpenRefused.{OpenRefused}
 use Rattle.turn_engine.specs.declared.fault.SubmitRefused.{SubmitRefused}
@@ -31,7 +31,7 @@ use Rattle.turn_store.specs.Images.{EachImage, StandsForAt}
 use Rattle.turn_store.specs.State.{form_of}
 use Rattle.turn_store.specs.declared.fault.StoreFault.{StoreFault}
 use Rattle.turn_store.specs.declared.fault.StoreFault.TheVariants as faults
-use Rattle.turn_player.specs.Lives.{Arrive, Closed, Commit, Failed, Found, Goes, Halted, HandedOut, Input, Lasting, Life, NotOpened, Open, Opened, Point, Refused, Running, Said, Shut, Stop, arrivals, bound_of, count_of, found, handing_out, history_of, recent_of, settled_history_of, sure_of, taken_of, unsettled_of, without_pairs}
+use Rattle.turn_player.specs.Lives.{Arrive, Closed, Commit, Failed, Goes, Halted, HandedOut, Input, Lasting, Open, Opened, Point, Refused, Running, Said, Shut, Stop, arrivals, bound_of, count_of, found, handing_out, history_of, settled_history_of, sure_of, taken_of, unsettled_of}
 use Rattle.turn_player.specs.Lives as lives
 use Rattle.turn_player.specs.Worlds.{Call, Calls, Down, IsDown, IsHalted, Leaves, Lives, Restarts, Runs, Serving, Stands, World, disk_of, handler_of, ports_of, said_by_commit, said_by_open, said_by_submit, world_after}
 use Rattle.turn_player.specs.Worlds as worlds
@@ -57,8 +57,8 @@ module _ {D H G : Type 0} (disk : disks.Ghosts D) (handler : handlers.Ghosts H) 
   later d sure recent m n le l = record { honest = l.honest; images = λ image is. weaken_by form _ _ m n image le (l.images image is) }
 
   -- what lasts is stored while a server runs, and nothing else
-  resting : (server : ServerState D H G) (sure : List Lasting) (recent : List Taken) (c m : ℕ) → Runs disk handler ports form s server sure recent c m → Leaves disk form server.store.disk sure [] m
-  resting server sure recent c m runs =
+  resting : (server : ServerState D H G) (sure : List Lasting) (recent : List Taken) (pairs : Bool) (c m : ℕ) → Runs disk handler ports form s server sure recent pairs c m → Leaves disk form server.store.disk sure [] m
+  resting server sure recent pairs c m runs =
       let mine = map taken_of sure in
       let k = length (accepted mine) in
       let whole : accepted (mine ++ recent) ≡ accepted mine ++ accepted recent = accepted-append mine recent in
@@ -86,36 +86,41 @@ module _ {D H G : Type 0} (disk : disks.Ghosts D) (handler : handlers.Ghosts H) 
       }
 
   pub leaves : (w : World D H G) (p : Point) → Stands disk handler ports form s w p → Leaves disk form (disk_of w) (sure_of p) (unsettled_of p) (bound_of p)
-  leaves (Serving server) (Running sure recent c m) stands = resting server sure recent c m stands
+  leaves (Serving server) (Running sure recent pairs c m) stands = resting server sure recent pairs c m stands
   leaves (Serving server) (Halted sure recent m) stands = stands.leaves
   leaves (Serving server) (Shut sure recent m) stands = absurd stands
-  leaves (Down d h g) (Running sure recent c m) stands = absurd stands
+  leaves (Down d h g) (Running sure recent pairs c m) stands = absurd stands
   leaves (Down d h g) (Halted sure recent m) stands = absurd stands
   leaves (Down d h g) (Shut sure recent m) stands = stands.leaves
 
   keys_at : (w : World D H G) (p : Point) → Stands disk handler ports form s w p → handler.key_of (handler_of w) ≡ s.keys
-  keys_at (Serving server) (Running sure recent c m) stands = ap (λ (z : Setting). z.keys) stands.same_setting
+  keys_at (Serving server) (Running sure recent pairs c m) stands = ap (λ (z : Setting). z.keys) stands.same_setting
   keys_at (Serving server) (Halted sure recent m) stands = ap (λ (z : Setting). z.keys) stands.same_setting
   keys_at (Serving server) (Shut sure recent m) stands = absurd stands
-  keys_at (Down d h g) (Running sure recent c m) stands = absurd stands
+  keys_at (Down d h g) (Running sure recent pairs c m) stands = absurd stands
   keys_at (Down d h g) (Halted sure recent m) stands = absurd stands
   keys_at (Down d h g) (Shut sure recent m) stands = stands.keys
 
   range_at : (w : World D H G) (p : Point) → Stands disk handler ports form s w p → ports.range (ports_of w) ≡ s.range
-  range_at (Serving server) (Running sure recent c m) stands = ap (λ (z : Setting). z.range) stands.same_setting
+  range_at (Serving server) (Running sure recent pairs c m) stands = ap (λ (z : Setting). z.range) stands.same_setting
   range_at (Serving server) (Halted sure recent m) stands = ap (λ (z : Setting). z.range) stands.same_setting
   range_at (Serving server) (Shut sure recent m) stands = absurd stands
-  range_at (Down d h g) (Running sure recent c m) stands = absurd stands
+  range_at (Down d h g) (Running sure recent pairs c m) stands = absurd stands
   range_at (Down d h g) (Halted sure recent m) stands = absurd stands
   range_at (Down d h g) (Shut sure recent m) stands = stands.range
+
+  -- a flag of a server's setting is the server's own
+  own_pairs : (machine : MachineState H G) (pairs : Bool) → setting_of handler.key_of ports.range machine ≡ record s { pairs = pairs }
+      → setting_of handler.key_of ports.range machine ≡ record s { pairs = machine.pairs }
+  own_pairs machine pairs is = is ∙ ap (λ (b : Bool). record s { pairs = b }) (sym (ap (λ (z : Setting). z.pairs) is))
 
   -- ---- Stops inside calls
 
   -- what a stop in a commit leaves
-  commit_leaves : (old new : ServerState D H G) (sure : List Lasting) (recent : List Taken) (c m : ℕ) (result : Result (List Sent) StoreFault) → Runs disk handler ports form s old sure recent c m
+  commit_leaves : (old new : ServerState D H G) (sure : List Lasting) (recent : List Taken) (pairs : Bool) (c m : ℕ) (result : Result (List Sent) StoreFault) → Runs disk handler ports form s old sure recent pairs c m
       → Commits disk old new result
       → EachImageSince (disk.trace old.store.disk) (disk.trace new.store.disk) (AtLeast form (accepted (arrivals sure recent)) (length (accepted (map taken_of sure))) m)
-  commit_leaves old new sure recent c m result runs call =
+  commit_leaves old new sure recent pairs c m result runs call =
       let h = accepted (arrivals sure recent) in
       let k = length (accepted (map taken_of sure)) in
       let now = runs.clock in
@@ -128,7 +133,7 @@ module _ {D H G : Type 0} (disk : disks.Ghosts D) (handler : handlers.Ghosts H) 
   -- what each image has at each moment of a commit
   pub commit_since : (p : Point) (old new : ServerState D H G) (result : Result (List Sent) StoreFault) → Stands disk handler ports form s (Serving old) p → Commits disk old new result
       → EachImageSince (disk.trace old.store.disk) (disk.trace new.store.disk) (AtLeast form (history_of p) (count_of p) (bound_of p))
-  commit_since (Running sure recent c m) old new result stands call = commit_leaves old new sure recent c m result stands call
+  commit_since (Running sure recent pairs c m) old new result stands call = commit_leaves old new sure recent pairs c m result stands call
   commit_since (Halted sure recent m) old new result stands call =
       since_same _ _ _ (ap (λ (v : ServerState D H G). disk.trace v.store.disk) (call.unchanged stands.stopped)) stands.leaves.images
   commit_since (Shut sure recent m) old new result stands call = absurd stands
@@ -152,18 +157,18 @@ module _ {D H G : Type 0} (disk : disks.Ghosts D) (handler : handlers.Ghosts H) 
     flag true old new fails failed = refl
     flag false old new fails failed = absurd (not_both (has_failed (ports.failures old) (ports.failures new)) failed (none_failed (ports.failures old) (ports.failures new) (fails refl old new)))
 
-    took : (old new : ServerState D H G) (sure : List Lasting) (recent : List Taken) (c m t : ℕ) (a : Arrives) (u : Unit) → Submits disk handler ports old new (max t (now_of old)) a (Ok u)
-        → Runs disk handler ports form s old sure recent c m → Next may_fail (Running sure recent c m) (Arrive t a) [] (Serving new)
-    took old new sure recent c m t a u call runs =
+    took : (old new : ServerState D H G) (sure : List Lasting) (recent : List Taken) (pairs : Bool) (c m t : ℕ) (a : Arrives) (u : Unit) → Submits disk handler ports old new (max t (now_of old)) a (Ok u)
+        → Runs disk handler ports form s old sure recent pairs c m → Next may_fail (Running sure recent pairs c m) (Arrive t a) [] (Serving new)
+    took old new sure recent pairs c m t a u call runs =
         let mine = map taken_of sure in
         let h = accepted (mine ++ recent) in
         let k = length (accepted mine) in
         let at : max t (now_of old) ≡ max t c = ap (λ (n : ℕ). max t n) runs.clock in
         let failed = has_failed (ports.failures old.machine.ports) (ports.failures new.machine.ports) in
         let takes = call.takes h k runs.rests in
-        let x : Taken = record { moment = max t c; arrival = a; failed = failed; outcome = takes.outcome } in
-        let answers : AnswersArrival (without_pairs s) h (max t c) failed a takes.outcome =
-        subst (λ (n : ℕ). AnswersArrival (without_pairs s) h n failed a takes.outcome) at (subst (λ (z : Setting). AnswersArrival z h (max t (now_of old)) failed a takes.outcome) runs.same_setting takes.answers) in
+        let x : Taken = record { moment = max t c; arrival = a; failed = failed; pairs = pairs; outcome = takes.outcome } in
+        let answers : IsAnswered s h x =
+        subst (λ (n : ℕ). AnswersArrival (record s { pairs = pairs }) h n failed a takes.outcome) at (subst (λ (z : Setting). AnswersArrival z h (max t (now_of old)) failed a takes.outcome) runs.same_setting takes.answers) in
         let change = takes.outcome.change in
         let history : accepted (mine ++ (recent ++ x ∷ [])) ≡ h ++ added (max t (now_of old)) change =
         ap accepted (sym (append_assoc mine recent (x ∷ []))) ∙ accepted-append (mine ++ recent) (x ∷ []) ∙ ap (λ (l : History). h ++ l) (append-nil (added (max t c) change))
@@ -175,7 +180,7 @@ module _ {D H G : Type 0} (disk : disks.Ghosts D) (handler : handlers.Ghosts H) 
         let bounded = runs.bounded in
         let rests = subst (λ z. Rests (disk.trace z.disk).now new (h ++ added (max t (now_of old)) change) k) (sym call.store) takes.rests in
         record {
-          end = Running sure (recent ++ x ∷ []) (max t c) (max t m);
+          end = Running sure (recent ++ x ∷ []) pairs (max t c) (max t m);
           goes = lives.takes failed takes.outcome answers (flag may_fail old.machine.ports new.machine.ports never) room;
           stands = record {
             honest = subst (λ z. disk.is_honest z.disk) (sym call.store) runs.honest;
@@ -190,9 +195,9 @@ module _ {D H G : Type 0} (disk : disks.Ghosts D) (handler : handlers.Ghosts H) 
           };
         }
 
-    no_memory : (old new : ServerState D H G) (sure : List Lasting) (recent : List Taken) (c m t : ℕ) (a : Arrives) → Submits disk handler ports old new (max t (now_of old)) a (Err Memory)
-        → Runs disk handler ports form s old sure recent c m → Next may_fail (Running sure recent c m) (Arrive t a) (Refused Memory ∷ []) (Serving new)
-    no_memory old new sure recent c m t a call runs =
+    no_memory : (old new : ServerState D H G) (sure : List Lasting) (recent : List Taken) (pairs : Bool) (c m t : ℕ) (a : Arrives) → Submits disk handler ports old new (max t (now_of old)) a (Err Memory)
+        → Runs disk handler ports form s old sure recent pairs c m → Next may_fail (Running sure recent pairs c m) (Arrive t a) (Refused Memory ∷ []) (Serving new)
+    no_memory old new sure recent pairs c m t a call runs =
         let mine = map taken_of sure in
         let h = accepted (mine ++ recent) in
         let k = length (accepted mine) in
@@ -202,7 +207,7 @@ module _ {D H G : Type 0} (disk : disks.Ghosts D) (handler : handlers.Ghosts H) 
         let room : length recent < s.config.limits.acts = omega (arith, limit, counted, few) in
         let bounded = runs.bounded in
         record {
-          end = Running sure recent (max t c) (max t m);
+          end = Running sure recent pairs (max t c) (max t m);
           goes = lives.no_memory room;
           stands = record {
             honest = subst (λ z. disk.is_honest z.disk) (sym call.store) runs.honest;
@@ -219,12 +224,12 @@ module _ {D H G : Type 0} (disk : disks.Ghosts D) (handler : handlers.Ghosts H) 
         memory_is_not_full : (result : Result Unit SubmitRefused) → result ≡ Err Memory → result ≡ Err BatchFull → ⊥
         memory_is_not_full result memory is_full = cc
 
-    full : (old new : ServerState D H G) (sure : List Lasting) (recent : List Taken) (c m t : ℕ) (a : Arrives) → Submits disk handler ports old new (max t (now_of old)) a (Err BatchFull)
-        → Runs disk handler ports form s old sure recent c m → Next may_fail (Running sure recent c m) (Arrive t a) (Refused BatchFull ∷ []) (Serving new)
-    full old new sure recent c m t a call runs =
+    full : (old new : ServerState D H G) (sure : List Lasting) (recent : List Taken) (pairs : Bool) (c m t : ℕ) (a : Arrives) → Submits disk handler ports old new (max t (now_of old)) a (Err BatchFull)
+        → Runs disk handler ports form s old sure recent pairs c m → Next may_fail (Running sure recent pairs c m) (Arrive t a) (Refused BatchFull ∷ []) (Serving new)
+    full old new sure recent pairs c m t a call runs =
         let limit : (limits_of old).acts ≡ s.config.limits.acts = ap (λ (z : Setting). z.config.limits.acts) runs.same_setting in
         let bounded = runs.bounded in
-        let later_bound : Runs disk handler ports form s old sure recent c (max t m) = record {
+        let later_bound : Runs disk handler ports form s old sure recent pairs c (max t m) = record {
           honest = runs.honest;
           same_setting = runs.same_setting;
           same_form = runs.same_form;
@@ -235,9 +240,9 @@ module _ {D H G : Type 0} (disk : disks.Ghosts D) (handler : handlers.Ghosts H) 
           bounded = omega (arith, bounded);
         } in
         record {
-          end = Running sure recent c (max t m);
+          end = Running sure recent pairs c (max t m);
           goes = lives.is_full (sym runs.counted ∙ (call.full.0 refl).1 ∙ limit);
-          stands = subst (λ (v : ServerState D H G). Runs disk handler ports form s v sure recent c (max t m)) (sym (call.unchanged_full refl)) later_bound;
+          stands = subst (λ (v : ServerState D H G). Runs disk handler ports form s v sure recent pairs c (max t m)) (sym (call.unchanged_full refl)) later_bound;
         }
 
     halted_same : (old new : ServerState D H G) (sure : List Lasting) (recent : List Taken) (m n : ℕ) → m ≤ n → new ≡ old → IsHalted disk handler ports form s old sure recent m
@@ -250,10 +255,10 @@ module _ {D H G : Type 0} (disk : disks.Ghosts D) (handler : handlers.Ghosts H) 
 
     submitted : (p : Point) (old new : ServerState D H G) (t : ℕ) (a : Arrives) (result : Result Unit SubmitRefused) → Submits disk handler ports old new (max t (now_of old)) a result
         → Stands disk handler ports form s (Serving old) p → Next may_fail p (Arrive t a) (said_by_submit result) (Serving new)
-    submitted (Running sure recent c m) old new t a (Ok u) call stands = took old new sure recent c m t a u call stands
-    submitted (Running sure recent c m) old new t a (Err Memory) call stands = no_memory old new sure recent c m t a call stands
-    submitted (Running sure recent c m) old new t a (Err BatchFull) call stands = full old new sure recent c m t a call stands
-    submitted (Running sure recent c m) old new t a (Err Stopped) call stands = absurd (not_both old.store.stopped (call.stopped.0 refl) stands.rests.stored.runs)
+    submitted (Running sure recent pairs c m) old new t a (Ok u) call stands = took old new sure recent pairs c m t a u call stands
+    submitted (Running sure recent pairs c m) old new t a (Err Memory) call stands = no_memory old new sure recent pairs c m t a call stands
+    submitted (Running sure recent pairs c m) old new t a (Err BatchFull) call stands = full old new sure recent pairs c m t a call stands
+    submitted (Running sure recent pairs c m) old new t a (Err Stopped) call stands = absurd (not_both old.store.stopped (call.stopped.0 refl) stands.rests.stored.runs)
     submitted (Halted sure recent m) old new t a (Ok u) call stands = absurd (ok_is_no_error u Stopped (call.stopped.1 stands.stopped))
     submitted (Halted sure recent m) old new t a (Err Memory) call stands = absurd (memory_is_not_stopped (Err Memory) refl (call.stopped.1 stands.stopped))
     submitted (Halted sure recent m) old new t a (Err BatchFull) call stands = absurd (not_both old.store.stopped stands.stopped (call.full.0 refl).0)
@@ -266,9 +271,9 @@ module _ {D H G : Type 0} (disk : disks.Ghosts D) (handler : handlers.Ghosts H) 
 
     -- ---- Commits
 
-    committed_ok : (old new : ServerState D H G) (sure : List Lasting) (recent : List Taken) (c m : ℕ) (outs : List Sent) → Runs disk handler ports form s old sure recent c m → Commits disk old new (Ok outs)
-        → Next may_fail (Running sure recent c m) Commit (handing_out outs) (Serving new)
-    committed_ok old new sure recent c m outs runs call =
+    committed_ok : (old new : ServerState D H G) (sure : List Lasting) (recent : List Taken) (pairs : Bool) (c m : ℕ) (outs : List Sent) → Runs disk handler ports form s old sure recent pairs c m → Commits disk old new (Ok outs)
+        → Next may_fail (Running sure recent pairs c m) Commit (handing_out outs) (Serving new)
+    committed_ok old new sure recent pairs c m outs runs call =
         let mine = map taken_of sure in
         let h = accepted (mine ++ recent) in
         let all : map taken_of (sure ++ map HandedOut recent) ≡ mine ++ recent = map-append taken_of sure (map HandedOut recent) ∙ ap (λ (l : List Taken). mine ++ l) (taken-handed recent) in
@@ -278,8 +283,8 @@ module _ {D H G : Type 0} (disk : disks.Ghosts D) (handler : handlers.Ghosts H) 
         let rests : Rests state new h (length h) = call.rests runs.honest h (length (accepted mine)) runs.rests in
         let sent : sent_about recent ≡ outs = sym (call.handed ∙ runs.outs) in
         record {
-          end = Running (sure ++ map HandedOut recent) [] c m;
-          goes = subst (λ (l : List Sent). Goes s may_fail (Running sure recent c m) Commit (handing_out l) (Running (sure ++ map HandedOut recent) [] c m)) sent lives.hands_out;
+          end = Running (sure ++ map HandedOut recent) [] pairs c m;
+          goes = subst (λ (l : List Sent). Goes s may_fail (Running sure recent pairs c m) Commit (handing_out l) (Running (sure ++ map HandedOut recent) [] pairs c m)) sent lives.hands_out;
           stands = record {
             honest = call.honest.1 runs.honest;
             same_setting = ap (λ (v : ServerState D H G). setting_of handler.key_of ports.range v.machine) call.ok ∙ runs.same_setting;
@@ -294,9 +299,9 @@ module _ {D H G : Type 0} (disk : disks.Ghosts D) (handler : handlers.Ghosts H) 
         }
 
     -- a commit that failed had acts
-    has_acts : (old new : ServerState D H G) (sure : List Lasting) (recent : List Taken) (c m : ℕ) (why : StoreFault) → Runs disk handler ports form s old sure recent c m → Commits disk old new (Err why)
+    has_acts : (old new : ServerState D H G) (sure : List Lasting) (recent : List Taken) (pairs : Bool) (c m : ℕ) (why : StoreFault) → Runs disk handler ports form s old sure recent pairs c m → Commits disk old new (Err why)
         → 1 ≤ length (accepted recent)
-    has_acts old new sure recent c m why runs call =
+    has_acts old new sure recent pairs c m why runs call =
         let mine = map taken_of sure in
         let h = accepted (mine ++ recent) in
         let some : 1 ≤ old.acts = one_or_more old.acts (λ none. let wrong = call.nothing runs.rests.stored.runs none in cc) in
@@ -309,24 +314,24 @@ module _ {D H G : Type 0} (disk : disks.Ghosts D) (handler : handlers.Ghosts H) 
         one_or_more zero not = absurd (not refl)
         one_or_more (suc n) not = omega arith
 
-    committed_err : (old new : ServerState D H G) (sure : List Lasting) (recent : List Taken) (c m : ℕ) (why : StoreFault) → (why ≡ faults.Device) ⊎ (why ≡ faults.Worn)
-        → Runs disk handler ports form s old sure recent c m → Commits disk old new (Err why) → Next may_fail (Running sure recent c m) Commit (Failed why ∷ []) (Serving new)
-    committed_err old new sure recent c m why is runs call = record {
+    committed_err : (old new : ServerState D H G) (sure : List Lasting) (recent : List Taken) (pairs : Bool) (c m : ℕ) (why : StoreFault) → (why ≡ faults.Device) ⊎ (why ≡ faults.Worn)
+        → Runs disk handler ports form s old sure recent pairs c m → Commits disk old new (Err why) → Next may_fail (Running sure recent pairs c m) Commit (Failed why ∷ []) (Serving new)
+    committed_err old new sure recent pairs c m why is runs call = record {
       end = Halted sure recent m;
-      goes = lives.fails why is (has_acts old new sure recent c m why runs call);
+      goes = lives.fails why is (has_acts old new sure recent pairs c m why runs call);
       stands = record {
         stopped = call.stops;
-        same_setting = ap (λ (v : ServerState D H G). setting_of handler.key_of ports.range v.machine) call.err ∙ runs.same_setting;
-        leaves = record { honest = call.honest.1 runs.honest; images = (commit_leaves old new sure recent c m (Err why) runs call).after };
+        same_setting = own_pairs new.machine pairs (ap (λ (v : ServerState D H G). setting_of handler.key_of ports.range v.machine) call.err ∙ runs.same_setting);
+        leaves = record { honest = call.honest.1 runs.honest; images = (commit_leaves old new sure recent pairs c m (Err why) runs call).after };
       };
     }
 
     committed : (p : Point) (old new : ServerState D H G) (result : Result (List Sent) StoreFault) → Commits disk old new result → Stands disk handler ports form s (Serving old) p
         → Next may_fail p Commit (said_by_commit result) (Serving new)
-    committed (Running sure recent c m) old new (Ok outs) call stands = committed_ok old new sure recent c m outs stands call
-    committed (Running sure recent c m) old new (Err faults.Device) call stands = committed_err old new sure recent c m faults.Device (inl refl) stands call
-    committed (Running sure recent c m) old new (Err faults.Worn) call stands = committed_err old new sure recent c m faults.Worn (inr refl) stands call
-    committed (Running sure recent c m) old new (Err faults.Stopped) call stands = absurd (not_both old.store.stopped (call.stopped.0 refl) stands.rests.stored.runs)
+    committed (Running sure recent pairs c m) old new (Ok outs) call stands = committed_ok old new sure recent pairs c m outs stands call
+    committed (Running sure recent pairs c m) old new (Err faults.Device) call stands = committed_err old new sure recent pairs c m faults.Device (inl refl) stands call
+    committed (Running sure recent pairs c m) old new (Err faults.Worn) call stands = committed_err old new sure recent pairs c m faults.Worn (inr refl) stands call
+    committed (Running sure recent pairs c m) old new (Err faults.Stopped) call stands = absurd (not_both old.store.stopped (call.stopped.0 refl) stands.rests.stored.runs)
     committed (Halted sure recent m) old new (Ok outs) call stands = absurd (ok_is_no_error outs faults.Stopped (call.stopped.1 stands.stopped))
     committed (Halted sure recent m) old new (Err faults.Device) call stands = let wrong = call.stopped.1 stands.stopped in cc
     committed (Halted sure recent m) old new (Err faults.Worn) call stands = let wrong = call.stopped.1 stands.stopped in cc
@@ -338,6 +343,14 @@ module _ {D H G : Type 0} (disk : disks.Ghosts D) (handler : handlers.Ghosts H) 
     committed (Shut sure recent m) old new result call stands = absurd stands
 
     -- ---- Openings
+
+    opened_setting : (w : World D H G) (p : Point) (machine : MachineState H G) → Stands disk handler ports form s w p
+        → machine ≡ record { config = s.config; handler = handler_of w; ports = ports_of w; table = machine.table; pairs = machine.pairs }
+        → setting_of handler.key_of ports.range machine ≡ record s { pairs = machine.pairs }
+    opened_setting w p machine stands is =
+        ap (λ (m : MachineState H G). setting_of handler.key_of ports.range m) is
+        ∙ ap (λ k. record { config = s.config; keys = k; range = ports.range (ports_of w); pairs = machine.pairs }) (keys_at w p stands)
+        ∙ ap (λ (r : ℕ × ℕ). record { config = s.config; keys = s.keys; range = r; pairs = machine.pairs }) (range_at w p stands)
 
     yielded : (w : World D H G) (p : Point) (server : ServerState D H G) → Stands disk handler ports form s w p → Opening disk (disk_of w) s.config (handler_of w) (ports_of w) (Ok server)
         → Opens form (settled_history_of p) (count_of p) (bound_of p) (disk.trace (disk_of w)).now.bytes (disk.trace server.store.disk).now server
@@ -361,15 +374,12 @@ module _ {D H G : Type 0} (disk : disks.Ghosts D) (handler : handlers.Ghosts H) 
         ap (λ (l : History). length l) acts ∙ length-take-le opens.count (accepted (mine ++ recent)) high in
         let all : accepted (map taken_of (sure ++ found recent n) ++ []) ≡ take opens.count (accepted (mine ++ recent)) = ap accepted (append-nil (map taken_of (sure ++ found recent n))) ∙ acts in
         let state = (disk.trace server.store.disk).now in
-        let machine = call.machine in
         record {
-          end = Running (sure ++ found recent n) [] (now_of server) (bound_of p);
-          goes = lives.opens n (now_of server) few opens.bounded (subst (λ (l : History). clock l ≤ now_of server) (sym acts) opens.rests.after.late);
+          end = Running (sure ++ found recent n) [] server.machine.pairs (now_of server) (bound_of p);
+          goes = lives.opens n server.machine.pairs (now_of server) few opens.bounded (subst (λ (l : History). clock l ≤ now_of server) (sym acts) opens.rests.after.late);
           stands = record {
             honest = call.honest.1 (leaves w p stands).honest;
-            same_setting = ap (λ (v : MachineState H G). setting_of handler.key_of ports.range v) call.machine
-                ∙ ap (λ k. record { config = s.config; keys = k; range = ports.range (ports_of w); pairs = false }) (keys_at w p stands)
-                ∙ ap (λ (r : ℕ × ℕ). record { config = s.config; keys = s.keys; range = r; pairs = false }) (range_at w p stands);
+            same_setting = opened_setting w p server.machine stands call.machine;
             same_form = opens.same_form;
             rests = subst (λ (l : History). Rests state server l (length (accepted (map taken_of (sure ++ found recent n))))) (sym all)
                 (subst (λ (i : ℕ). Rests state server (take opens.count (accepted (mine ++ recent))) i) (sym count) opens.rests);
@@ -418,10 +428,10 @@ module _ {D H G : Type 0} (disk : disks.Ghosts D) (handler : handlers.Ghosts H) 
 
     commit_left : (p : Point) (old new : ServerState D H G) (result : Result (List Sent) StoreFault) (image : List ℕ) (d : D) (h : H) (g : G) → Stands disk handler ports form s (Serving old) p
         → Restarts disk handler ports (Serving old) image d h g → AtLeast form (history_of p) (count_of p) (bound_of p) image → Next may_fail p Stop [] (Down d h g)
-    commit_left (Running sure recent c m) old new result image d h g stands is at = record {
+    commit_left (Running sure recent pairs c m) old new result image d h g stands is at = record {
       end = Shut sure recent m;
       goes = lives.commit_stops;
-      stands = restarted (Serving old) (Running sure recent c m) image d h g sure recent m stands is at;
+      stands = restarted (Serving old) (Running sure recent pairs c m) image d h g sure recent m stands is at;
     }
     commit_left (Halted sure recent m) old new result image d h g stands is at = left (Serving old) (Halted sure recent m) image d h g stands is at
     commit_left (Shut sure recent m) old new result image d h g stands is at = absurd stands
@@ -429,7 +439,7 @@ module _ {D H G : Type 0} (disk : disks.Ghosts D) (handler : handlers.Ghosts H) 
     -- ---- One call, and many
 
     down_arrives : (p : Point) (d : D) (h : H) (g : G) (t : ℕ) (a : Arrives) → Stands disk handler ports form s (Down d h g) p → Next may_fail p (Arrive t a) (Closed ∷ []) (Down d h g)
-    down_arrives (Running sure recent c m) d h g t a stands = absurd stands
+    down_arrives (Running sure recent pairs c m) d h g t a stands = absurd stands
     down_arrives (Halted sure recent m) d h g t a stands = absurd stands
     down_arrives (Shut sure recent m) d h g t a stands = record {
       end = Shut sure recent (max t m);
@@ -438,7 +448,7 @@ module _ {D H G : Type 0} (disk : disks.Ghosts D) (handler : handlers.Ghosts H) 
     }
 
     down_commits : (p : Point) (d : D) (h : H) (g : G) → Stands disk handler ports form s (Down d h g) p → Next may_fail p Commit (Closed ∷ []) (Down d h g)
-    down_commits (Running sure recent c m) d h g stands = absurd stands
+    down_commits (Running sure recent pairs c m) d h g stands = absurd stands
     down_commits (Halted sure recent m) d h g stands = absurd stands
     down_commits (Shut sure recent m) d h g stands = record { end = Shut sure recent m; goes = lives.stays_shut; stands = stands }
 

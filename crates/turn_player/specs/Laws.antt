@@ -3,13 +3,13 @@ use Rattle.std.specs.Prelude.{◌≡◌, ◌≤◌, ◌++◌, ℕ, Bool, false, 
 use Rattle.std.specs.List.{AllByRecursion}
 use Rattle.turn_cred.specs.declared.handler.AuthHandler as handlers
 use Rattle.turn_disk.specs.declared.disk.Disk as disks
-use Rattle.turn_engine.specs.Runs.{BeginsWith, IsRun, Taken, accepted, last_moment}
+use Rattle.turn_engine.specs.Runs.{BeginsWith, IsAnswered, IsRun, Taken, accepted, last_moment}
 use Rattle.turn_ports.specs.declared.generator.RelayAddressGenerator as generators
-use Rattle.turn_step.specs.Answer.{AnswersArrival, Setting}
+use Rattle.turn_step.specs.Answer.{Setting}
 use Rattle.turn_step.specs.Outcome.{Sent, added}
 use Rattle.turn_store.specs.Areas.{Form}
 use Rattle.turn_store.specs.Images.{EachImage}
-use Rattle.turn_player.specs.Lives.{Found, Halted, HandedOut, Input, Lasting, Life, Point, Running, Said, Shut, arrivals_of, bound_of, formatted, sent_by_all, sent_in, sure_of, taken_of, without_pairs}
+use Rattle.turn_player.specs.Lives.{Found, Halted, HandedOut, Input, Lasting, Life, Point, Running, Said, Shut, arrivals_of, bound_of, formatted, sent_by_all, sent_in, sure_of, taken_of}
 use Rattle.turn_player.specs.Worlds.{Stands, World}
 
 -- an arrival that an opening found has an act
@@ -19,14 +19,14 @@ HasAct (Found x) = is_some x.outcome.change ≡ true
 
 -- a server's clock is not after the moments that were handed in
 abbrev pub IsInTime : Point → Type 0
-IsInTime (Running sure recent c m) = c ≤ m
+IsInTime (Running sure recent pairs c m) = c ≤ m
 IsInTime (Halted sure recent m) = Unit {0}
 IsInTime (Shut sure recent m) = Unit {0}
 
 -- All arrivals that were taken and aren't lost are, in order, one run from the empty history on. What was handed out is, in
 -- order, what those of them that were handed out were answered. The others that last have an act.
 pub record IsOneRun (s : Setting) (may_fail : Bool) (sent : List Sent) (p : Point) : Type 0 where
-  pub is_run : IsRun (without_pairs s) [] 0 (arrivals_of p)
+  pub is_run : IsRun s [] 0 (arrivals_of p)
   pub sent_is : sent_by_all (sure_of p) ≡ sent
   pub have_acts : AllByRecursion HasAct (sure_of p)
   pub moments : last_moment 0 (arrivals_of p) ≤ bound_of p
@@ -48,6 +48,6 @@ pub record IsWhole {D H G : Type 0} (disk : disks.Ghosts D) (handler : handlers.
 -- An arrival was answered from the history of the arrivals before it, and each image of a disk stands for a history that begins
 -- with that and what the arrival added.
 pub record Lasts {D : Type 0} (disk : disks.Ghosts D) (form : Form) (s : Setting) (before : List Lasting) (x : Taken) (d : D) : Type 0 where
-  pub answered : AnswersArrival (without_pairs s) (accepted (map taken_of before)) x.moment x.failed x.arrival x.outcome
+  pub answered : IsAnswered s (accepted (map taken_of before)) x
   pub bound : ℕ
   pub images : EachImage (disk.trace d).now (BeginsWith form (accepted (map taken_of before) ++ added x.moment x.outcome.change) bound)

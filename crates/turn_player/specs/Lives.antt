@@ -1,5 +1,5 @@
 -- Lives: arrivals, commits, stops and openings, one after another, from a formatted disk on.
-use Rattle.std.specs.Prelude.{◌≡◌, ◌≤◌, ◌<◌, ◌⊎◌, ◌++◌, ℕ, Bool, List, [], ◌∷◌, true, false, zero, suc, is_some, if◌then◌else◌, length, map, max}
+use Rattle.std.specs.Prelude.{◌≡◌, ◌≤◌, ◌<◌, ◌⊎◌, ◌++◌, ℕ, Bool, List, [], ◌∷◌, true, zero, suc, is_some, if◌then◌else◌, length, map, max}
 use Rattle.std.specs.Option.{option_to_list}
 use Rattle.turn_engine.specs.Runs.{Taken, accepted, sent_about}
 use Rattle.turn_engine.specs.declared.fault.SubmitRefused.{SubmitRefused}
@@ -63,30 +63,31 @@ handing_out outs = map Sends outs ++ Committed (length outs) ∷ []
 -- ---- Where a life is
 
 -- The arrivals that last, and those that were taken since and may get lost. No moment that was handed in is after the bound.
--- A server that runs has a clock; one that is halted had a commit that failed; where all is shut no store is open.
+-- A server that runs reserves ports or doesn't, and has a clock; one that is halted had a commit that failed; where all is shut
+-- no store is open.
 pub data Point : Type 0 where
-  Running : (sure : List Lasting) (recent : List Taken) (clock bound : ℕ) → Point
+  Running : (sure : List Lasting) (recent : List Taken) (pairs : Bool) (clock bound : ℕ) → Point
   Halted : (sure : List Lasting) (recent : List Taken) (bound : ℕ) → Point
   Shut : (sure : List Lasting) (recent : List Taken) (bound : ℕ) → Point
 
 abbrev pub sure_of : Point → List Lasting
-sure_of (Running sure recent c m) = sure
+sure_of (Running sure recent pairs c m) = sure
 sure_of (Halted sure recent m) = sure
 sure_of (Shut sure recent m) = sure
 
 abbrev pub recent_of : Point → List Taken
-recent_of (Running sure recent c m) = recent
+recent_of (Running sure recent pairs c m) = recent
 recent_of (Halted sure recent m) = recent
 recent_of (Shut sure recent m) = recent
 
 abbrev pub bound_of : Point → ℕ
-bound_of (Running sure recent c m) = m
+bound_of (Running sure recent pairs c m) = m
 bound_of (Halted sure recent m) = m
 bound_of (Shut sure recent m) = m
 
 -- What an opening, or a stop at rest, may find or lose: while a server runs, nothing that is staged is on the disk.
 abbrev pub unsettled_of : Point → List Taken
-unsettled_of (Running sure recent c m) = []
+unsettled_of (Running sure recent pairs c m) = []
 unsettled_of (Halted sure recent m) = recent
 unsettled_of (Shut sure recent m) = recent
 
@@ -117,40 +118,38 @@ formatted = Shut [] [] 0
 
 -- ---- Lives
 
--- What the servers of a life answer by: none of them reserves ports, whatever the setting of the life says of that.
-abbrev pub without_pairs : Setting → Setting
-without_pairs s = record s { pairs = false }
-
 -- One input leads from a point to a point, and something is said. An arrival counts at the clock where that is later than its
--- moment. Where the generator of ports can't fail, no answer says that it did.
+-- moment. Whether ports are reserved is the same from an opening on up to the next: the flag of the life's setting isn't read.
+-- Where the generator of ports can't fail, no answer says that it did.
 pub data Goes (s : Setting) (may_fail : Bool) : Point → Input → List Said → Point → Type 0 where
-  takes : {sure : List Lasting} {recent : List Taken} {c m t : ℕ} {a : Arrives} (failed : Bool) (o : Outcome)
-      → AnswersArrival (without_pairs s) (accepted (arrivals sure recent)) (max t c) failed a o → (failed ≡ true → may_fail ≡ true) → length recent < s.config.limits.acts
-      → Goes s may_fail (Running sure recent c m) (Arrive t a) []
-      (Running sure (recent ++ record { moment = max t c; arrival = a; failed = failed; outcome = o } ∷ []) (max t c) (max t m))
-  no_memory : {sure : List Lasting} {recent : List Taken} {c m t : ℕ} {a : Arrives} → length recent < s.config.limits.acts
-      → Goes s may_fail (Running sure recent c m) (Arrive t a) (Refused refusals.Memory ∷ []) (Running sure recent (max t c) (max t m))
-  is_full : {sure : List Lasting} {recent : List Taken} {c m t : ℕ} {a : Arrives} → length recent ≡ s.config.limits.acts
-      → Goes s may_fail (Running sure recent c m) (Arrive t a) (Refused refusals.BatchFull ∷ []) (Running sure recent c (max t m))
+  takes : {sure : List Lasting} {recent : List Taken} {pairs : Bool} {c m t : ℕ} {a : Arrives} (failed : Bool) (o : Outcome)
+      → AnswersArrival (record s { pairs = pairs }) (accepted (arrivals sure recent)) (max t c) failed a o → (failed ≡ true → may_fail ≡ true)
+      → length recent < s.config.limits.acts
+      → Goes s may_fail (Running sure recent pairs c m) (Arrive t a) []
+      (Running sure (recent ++ record { moment = max t c; arrival = a; failed = failed; pairs = pairs; outcome = o } ∷ []) pairs (max t c) (max t m))
+  no_memory : {sure : List Lasting} {recent : List Taken} {pairs : Bool} {c m t : ℕ} {a : Arrives} → length recent < s.config.limits.acts
+      → Goes s may_fail (Running sure recent pairs c m) (Arrive t a) (Refused refusals.Memory ∷ []) (Running sure recent pairs (max t c) (max t m))
+  is_full : {sure : List Lasting} {recent : List Taken} {pairs : Bool} {c m t : ℕ} {a : Arrives} → length recent ≡ s.config.limits.acts
+      → Goes s may_fail (Running sure recent pairs c m) (Arrive t a) (Refused refusals.BatchFull ∷ []) (Running sure recent pairs c (max t m))
   is_halted : {sure : List Lasting} {recent : List Taken} {m t : ℕ} {a : Arrives}
       → Goes s may_fail (Halted sure recent m) (Arrive t a) (Refused refusals.Stopped ∷ []) (Halted sure recent (max t m))
   is_shut : {sure : List Lasting} {recent : List Taken} {m t : ℕ} {a : Arrives}
       → Goes s may_fail (Shut sure recent m) (Arrive t a) (Closed ∷ []) (Shut sure recent (max t m))
-  hands_out : {sure : List Lasting} {recent : List Taken} {c m : ℕ}
-      → Goes s may_fail (Running sure recent c m) Commit (handing_out (sent_about recent)) (Running (sure ++ map HandedOut recent) [] c m)
+  hands_out : {sure : List Lasting} {recent : List Taken} {pairs : Bool} {c m : ℕ}
+      → Goes s may_fail (Running sure recent pairs c m) Commit (handing_out (sent_about recent)) (Running (sure ++ map HandedOut recent) [] pairs c m)
   -- a batch without acts can't fail
-  fails : {sure : List Lasting} {recent : List Taken} {c m : ℕ} (why : StoreFault) → (why ≡ faults.Device) ⊎ (why ≡ faults.Worn) → 1 ≤ length (accepted recent)
-      → Goes s may_fail (Running sure recent c m) Commit (Failed why ∷ []) (Halted sure recent m)
+  fails : {sure : List Lasting} {recent : List Taken} {pairs : Bool} {c m : ℕ} (why : StoreFault) → (why ≡ faults.Device) ⊎ (why ≡ faults.Worn) → 1 ≤ length (accepted recent)
+      → Goes s may_fail (Running sure recent pairs c m) Commit (Failed why ∷ []) (Halted sure recent m)
   stays_halted : {sure : List Lasting} {recent : List Taken} {m : ℕ} → Goes s may_fail (Halted sure recent m) Commit (Failed faults.Stopped ∷ []) (Halted sure recent m)
   stays_shut : {sure : List Lasting} {recent : List Taken} {m : ℕ} → Goes s may_fail (Shut sure recent m) Commit (Closed ∷ []) (Shut sure recent m)
   -- a stop at rest, or inside an opening
   stops : {p : Point} → Goes s may_fail p Stop [] (shut p)
   -- a stop inside a commit
-  commit_stops : {sure : List Lasting} {recent : List Taken} {c m : ℕ} → Goes s may_fail (Running sure recent c m) Stop [] (Shut sure recent m)
-  -- an opening finds the first n acts of those that may get lost, and loses the others
-  opens : {p : Point} (n c : ℕ) → n ≤ length (accepted (unsettled_of p)) → c ≤ bound_of p
+  commit_stops : {sure : List Lasting} {recent : List Taken} {pairs : Bool} {c m : ℕ} → Goes s may_fail (Running sure recent pairs c m) Stop [] (Shut sure recent m)
+  -- an opening finds the first n acts of those that may get lost, and loses the others; the server reserves ports or doesn't
+  opens : {p : Point} (n : ℕ) (pairs : Bool) (c : ℕ) → n ≤ length (accepted (unsettled_of p)) → c ≤ bound_of p
       → clock (accepted (map taken_of (sure_of p ++ found (unsettled_of p) n))) ≤ c
-      → Goes s may_fail p Open (Opened c ∷ []) (Running (sure_of p ++ found (unsettled_of p) n) [] c (bound_of p))
+      → Goes s may_fail p Open (Opened c ∷ []) (Running (sure_of p ++ found (unsettled_of p) n) [] pairs c (bound_of p))
   not_opened : {p : Point} (fault : OpenFault) → IsPlain fault → Goes s may_fail p Open (NotOpened fault ∷ []) (shut p)
 
 pub data Life (s : Setting) (may_fail : Bool) : Point → List Input → List Said → Point → Type 0 where

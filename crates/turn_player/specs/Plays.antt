@@ -1,5 +1,5 @@
 -- What a player does: its steps, one after another.
-use Rattle.std.specs.Prelude.{◌≡◌, ◌++◌, ℕ, List, [], ◌∷◌, Option, Some, None, option_map, false}
+use Rattle.std.specs.Prelude.{◌≡◌, ◌++◌, ℕ, Bool, List, [], ◌∷◌, Option, Some, None, option_map, false, true}
 use Rattle.std.specs.Option.{option_to_list}
 use Rattle.turn_cred.specs.Users.{KeyMap}
 use Rattle.turn_cred.specs.declared.handler.AuthHandler as handlers
@@ -12,6 +12,7 @@ use Rattle.turn_ports.specs.declared.generator.RelayAddressGenerator as generato
 use Rattle.turn_step.specs.Answer.{Setting}
 use Rattle.turn_step.specs.Views.{arrival_of, sent_of}
 use Rattle.turn_store.specs.Areas.{Form}
+use Rattle.turn_store.specs.Carrying.{Carries}
 use Rattle.turn_store.specs.declared.fault.StoreFault.TheVariants as faults
 use Rattle.turn_types.specs.Config.{Config}
 use Rattle.turn_player.specs.Lives.{Closed, Committed, Failed, Input, NotOpened, Opened, Point, Refused, Said, Sends}
@@ -39,7 +40,7 @@ abbrev pub inputs_of : Step → List Input
 inputs_of (Arrive moment arrival) = lives.Arrive moment (arrival_of arrival) ∷ []
 inputs_of Commit = lives.Commit ∷ []
 inputs_of (Crash outcome) = lives.Stop ∷ lives.Open ∷ []
-inputs_of Reopen = lives.Open ∷ []
+inputs_of (Reopen carry) = lives.Open ∷ []
 inputs_of (Fail call) = []
 inputs_of (Stop call) = []
 
@@ -53,14 +54,21 @@ pub record Crashes {D H G : Type 0} (disk : disks.Ghosts D) (outcome : Outcome) 
   pub left : (disk.trace d).now ≡ record { bytes = left_by outcome (disk.trace (disk_of old)); pending = [] }
   pub image : IsImage (disk.trace (disk_of old)).now (left_by outcome (disk.trace (disk_of old)))
 
+-- a disk was opened: exactly where it is asked for and can be done, the store that was opened was carried over to version 2
+abbrev pub IsCarriedOver : {D H G : Type 0} → disks.Ghosts D → Bool → D → World D H G → Type 0
+IsCarriedOver disk carry d (Serving server) = disk.is_honest d → Carries carry (disk.trace d).now.bytes server.store
+IsCarriedOver disk carry d (Down e h g) = Unit {0}
+
 -- one step of a player leads from a world to a world, and something is said
 pub data Plays {D H G : Type 0} (disk : disks.Ghosts D) (handler : handlers.Ghosts H) (ports : generators.Ghosts G) (s : Setting) : World D H G → Step → List Said → World D H G → Type 0 where
   arrives : {w v : World D H G} {moment : _} {arrival : _} {said : List Said} → Call disk handler ports s w (lives.Arrive moment (arrival_of arrival)) said v
       → Plays disk handler ports s w (Arrive moment arrival) said v
   commits : {w v : World D H G} {said : List Said} → Call disk handler ports s w lives.Commit said v → Plays disk handler ports s w Commit said v
   crashes : {w v : World D H G} {outcome : Outcome} {said : List Said} (d : D) → Crashes disk outcome w d
-      → Call disk handler ports s (Down d (handler_of w) (ports_of w)) lives.Open said v → Plays disk handler ports s w (Crash outcome) said v
-  reopens : {w v : World D H G} {said : List Said} → Call disk handler ports s w lives.Open said v → Plays disk handler ports s w Reopen said v
+      → Call disk handler ports s (Down d (handler_of w) (ports_of w)) lives.Open said v → IsCarriedOver disk true d v
+      → Plays disk handler ports s w (Crash outcome) said v
+  reopens : {w v : World D H G} {carry : Bool} {said : List Said} → Call disk handler ports s w lives.Open said v → IsCarriedOver disk carry (disk_of w) v
+      → Plays disk handler ports s w (Reopen carry) said v
   fails : {w : World D H G} {call : _} → Plays disk handler ports s w (Fail call) [] w
   stops : {w : World D H G} {call : _} → Plays disk handler ports s w (Stop call) [] w
 

@@ -10,7 +10,7 @@ use Rattle.turn_step.specs.Answer.{AnswersArrival, Setting}
 use Rattle.turn_step.specs.Outcome.{Outcome, change_of}
 use Rattle.turn_step.specs.Outcome.Arrives.{FromClient}
 use Rattle.turn_engine.specs.Runs.{Taken}
-use Rattle.turn_player.specs.Lives.{Input, Lasting, Life, NeverFall, Point, Said, formatted, sure_of, without_pairs}
+use Rattle.turn_player.specs.Lives.{Input, Lasting, Life, NeverFall, Point, Said, formatted, sure_of}
 
 -- a life from a formatted disk on leads to the point q, where x lasts, after the arrivals before it
 pub record LastsAfter (s : Setting) (q : Point) (before : List Lasting) (x : Lasting) : Type 0 where
@@ -43,10 +43,11 @@ pub record MadeBefore (s : Setting) (h : History) (x : Taken) (f : FiveTuple) (d
   pub sent_by : IsSentBy (policy_of s.config) s.keys d f.client x.moment user key
   pub had : Has h x.moment f a
 
--- The message comes again at the moment t after the history h, and is answered so. Its nonce holds, and the five-tuple has
--- this allocation.
+-- The message comes again at the moment t after the history h, and is answered so, by a server that reserves ports or doesn't. Its
+-- nonce holds, and the five-tuple has this allocation.
 pub record ComesAgain (s : Setting) (h : History) (t : ℕ) (f : FiveTuple) (d : Datagram) (a : Allocation) (o : Outcome) : Type 0 where
   pub failed : Bool
-  pub answers : AnswersArrival (without_pairs s) h t failed (FromClient f d.bytes) o
+  pub pairs : Bool
+  pub answers : AnswersArrival (record s { pairs = pairs }) h t failed (FromClient f d.bytes) o
   pub nonce : NonceHolds (policy_of s.config) d f.client t
   pub has : Has h t f a

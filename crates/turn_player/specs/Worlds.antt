@@ -20,7 +20,7 @@ use Rattle.turn_store.specs.Areas.{Form}
 use Rattle.turn_store.specs.Images.{EachImage}
 use Rattle.turn_store.specs.State.{form_of}
 use Rattle.turn_store.specs.declared.fault.StoreFault.{StoreFault}
-use Rattle.turn_player.specs.Lives.{Arrive, Closed, Commit, Failed, Halted, Input, Lasting, Life, NotOpened, Open, Opened, Point, Refused, Running, Said, Shut, Stop, arrivals, handing_out, taken_of, without_pairs}
+use Rattle.turn_player.specs.Lives.{Arrive, Closed, Commit, Failed, Halted, Input, Lasting, Life, NotOpened, Open, Opened, Point, Refused, Running, Said, Shut, Stop, arrivals, handing_out, taken_of}
 
 -- ---- Worlds
 
@@ -100,9 +100,9 @@ pub record Leaves {D : Type 0} (disk : disks.Ghosts D) (form : Form) (d : D) (su
   pub images : EachImage (disk.trace d).now (AtLeast form (accepted (arrivals sure recent)) (length (accepted (map taken_of sure))) m)
 
 -- a server that runs rests on all that was taken, of which what lasts is stored
-pub record Runs {D H G : Type 0} (disk : disks.Ghosts D) (handler : handlers.Ghosts H) (ports : generators.Ghosts G) (form : Form) (s : Setting) (server : ServerState D H G) (sure : List Lasting) (recent : List Taken) (c m : ℕ) : Type 0 where
+pub record Runs {D H G : Type 0} (disk : disks.Ghosts D) (handler : handlers.Ghosts H) (ports : generators.Ghosts G) (form : Form) (s : Setting) (server : ServerState D H G) (sure : List Lasting) (recent : List Taken) (pairs : Bool) (c m : ℕ) : Type 0 where
   pub honest : disk.is_honest server.store.disk
-  pub same_setting : setting_of handler.key_of ports.range server.machine ≡ without_pairs s
+  pub same_setting : setting_of handler.key_of ports.range server.machine ≡ record s { pairs = pairs }
   pub same_form : form_of server.store ≡ form
   pub rests : Rests (disk.trace server.store.disk).now server (accepted (arrivals sure recent)) (length (accepted (map taken_of sure)))
   pub outs : server.outs ≡ sent_about recent
@@ -112,7 +112,7 @@ pub record Runs {D H G : Type 0} (disk : disks.Ghosts D) (handler : handlers.Gho
 
 pub record IsHalted {D H G : Type 0} (disk : disks.Ghosts D) (handler : handlers.Ghosts H) (ports : generators.Ghosts G) (form : Form) (s : Setting) (server : ServerState D H G) (sure : List Lasting) (recent : List Taken) (m : ℕ) : Type 0 where
   pub stopped : server.store.stopped ≡ true
-  pub same_setting : setting_of handler.key_of ports.range server.machine ≡ without_pairs s
+  pub same_setting : setting_of handler.key_of ports.range server.machine ≡ record s { pairs = server.machine.pairs }
   pub leaves : Leaves disk form server.store.disk sure recent m
 
 pub record IsDown {D H G : Type 0} (disk : disks.Ghosts D) (handler : handlers.Ghosts H) (ports : generators.Ghosts G) (form : Form) (s : Setting) (d : D) (h : H) (g : G) (sure : List Lasting) (recent : List Taken) (m : ℕ) : Type 0 where
@@ -121,10 +121,10 @@ pub record IsDown {D H G : Type 0} (disk : disks.Ghosts D) (handler : handlers.G
   pub leaves : Leaves disk form d sure recent m
 
 abbrev pub Stands : {D H G : Type 0} → disks.Ghosts D → handlers.Ghosts H → generators.Ghosts G → Form → Setting → World D H G → Point → Type 0
-Stands disk handler ports form s (Serving server) (Running sure recent c m) = Runs disk handler ports form s server sure recent c m
+Stands disk handler ports form s (Serving server) (Running sure recent pairs c m) = Runs disk handler ports form s server sure recent pairs c m
 Stands disk handler ports form s (Serving server) (Halted sure recent m) = IsHalted disk handler ports form s server sure recent m
 Stands disk handler ports form s (Serving server) (Shut sure recent m) = ⊥
-Stands disk handler ports form s (Down d h g) (Running sure recent c m) = ⊥
+Stands disk handler ports form s (Down d h g) (Running sure recent pairs c m) = ⊥
 Stands disk handler ports form s (Down d h g) (Halted sure recent m) = ⊥
 Stands disk handler ports form s (Down d h g) (Shut sure recent m) = IsDown disk handler ports form s d h g sure recent m
 

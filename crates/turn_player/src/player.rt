@@ -8,7 +8,7 @@ ghost use Rattle.turn_store.specs.Areas.{Form};
 ghost use Rattle.turn_player.specs.Held.{Adds, world_of};
 ghost use Rattle.turn_player.specs.Lives as lives;
 ghost use Rattle.turn_player.specs.Lives.{Point, handing_out};
-ghost use Rattle.turn_player.specs.Plays.{GoesOn, Plays, PlaysAll, Ran, inputs_of_all, said_if, said_of, why_none};
+ghost use Rattle.turn_player.specs.Plays.{GoesOn, IsCarriedOver, Plays, PlaysAll, Ran, inputs_of_all, said_if, said_of, why_none};
 ghost use Rattle.turn_player.specs.Worlds.{Call, Down, Serving, World, disk_of, handler_of, ports_of};
 
 use crate::faulty::Faulty;
@@ -205,21 +205,24 @@ impl<
 }
 
 impl<D: Disk, H: AuthHandler, G: RelayAddressGenerator> Closed<D, H, G> {
+    // Opens the store, and where `carry` is set carries it over to version 2 if it can be.
     fn open<A: Allocator + Copy>(
         self,
         alloc: A,
         config: &ServerConfig<A>,
+        carry: bool,
     ) -> (Held<D, H, G, A>, Event<A>)
-        ensures { (s : Setting) → s.config ≡ config.now
+        ensures call { (s : Setting) → s.config ≡ config.now
             → Call D.Disk H.AuthHandler G.RelayAddressGenerator s
             (Down self.disk self.handler self.ports) lives.Open (said_of result.1 ∷ []) (world_of result.0) }
+        ensures carried { IsCarriedOver D.Disk carry self.disk (world_of result.0) }
     {
         let Closed {
             disk,
             handler,
             ports,
         } = self;
-        match Server::open(alloc, disk, config, handler, ports) {
+        match Server::open_as(alloc, disk, config, handler, ports, carry) {
             Ok(server) => {
                 let clock = server.clock();
                 (Held::Serving(server), Event::Opened(clock))
@@ -279,11 +282,11 @@ fn play<
         Step::Crash(outcome) => {
             let mut closed = held.close();
             closed.disk.crash(*outcome);
-            let (held, event) = closed.open(alloc, config);
+            let (held, event) = closed.open(alloc, config, true);
             (held, Some(event))
         }
-        Step::Reopen => {
-            let (held, event) = held.close().open(alloc, config);
+        Step::Reopen { carry } => {
+            let (held, event) = held.close().open(alloc, config, *carry);
             (held, Some(event))
         }
         Step::Fail(call) => {

@@ -14,10 +14,10 @@ pub enum Step<'a> {
     Arrive(Moment, Arrival<'a>),
     Commit,
     /// The disk becomes the image that the outcome names, failures that are still to come are cancelled, and the store is
-    /// opened.
+    /// opened, and carried over to version 2 if it can be.
     Crash(Outcome),
-    /// The store is opened again, as it is. What was staged is lost.
-    Reopen,
+    /// The store is opened again, and where `carry` is set carried over to version 2 if it can be. What was staged is lost.
+    Reopen { carry: bool },
     /// The device call of this number from here on fails, where 1 is the next one; 0 is none. It takes the place of an
     /// earlier `Fail` whose call is still to come.
     Fail(u64),

@@ -2,7 +2,6 @@ use Rattle.turn_history.specs.Act.{act_of}
 use Rattle.turn_history.specs.History.{Event}
 use Rattle.turn_record.specs.Bytes.{act_entry}
 use Rattle.turn_record.proofs.Sizes.{act_at_most}
-use Rattle.turn_record.specs.declared.version.Version.TheVariants.{V1}
 use Rattle.turn_engine.proofs.Batches.{pushed-sound, pushed-payload}
 use Rattle.turn_engine.proofs.batch.Batch.push.Goals as goal
 
@@ -11,7 +10,8 @@ invariant_of-self g c =
     let e : Event = record { moment = c.args.moment; tuple = c.args.five_tuple; act = act_of c.args.act.now } in
     let range = rw (← c.self.view_is) at c.requires.in_range in
     let few = rw (← c.self.view_is) at c.requires.few in
-    rw c.in-Ok.ensures.ok (pushed-sound _ _ _ (act_entry e) _ _ c.self.invariant few (act_at_most V1 _ e c.requires.writes range) c.write_act.ensures.capacity)
+    let writes = rw (← c.self.view_is) at c.requires.writes in
+    rw c.in-Ok.ensures.ok (pushed-sound _ _ _ _ (act_entry e) _ _ c.self.invariant few (act_at_most _ _ e writes range) c.write_act.ensures.capacity)
 
 pub returns-clause-payload : goal.returns-clause-payload
 returns-clause-payload g c = λ es is.

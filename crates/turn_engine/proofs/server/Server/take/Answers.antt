@@ -1,5 +1,7 @@
 use Rattle.std.proofs.Common.{◌≡◌, ◌≤◌, ◌+◌, ◌++◌, ℕ, List, length, map, option_map, sym, ap, ◌∙◌, subst, arith}
 use Rattle.std.specs.Option.{option_to_list}
+use Rattle.std.specs.Prelude.{IfSome}
+use Rattle.turn_record.specs.Records.{Writes}
 use Rattle.turn_ports.specs.Ports.{has_failed}
 use Rattle.turn_step.specs.Answer.{AnswersArrival}
 use Rattle.turn_step.specs.Outcome.{Sent, added}
@@ -8,7 +10,7 @@ use Rattle.turn_step.specs.Views.{arrival_of, sent_of}
 use Rattle.turn_types.specs.Config.{Config}
 use Rattle.turn_table.specs.State.{State}
 use Rattle.turn_engine.proofs.Lists.{room_for_one, when_ok}
-use Rattle.turn_engine.proofs.Taken.{after_same, counts_same, keeps_both, moment_changed, rests_later, rests_taken, sound_changed, sound_later}
+use Rattle.turn_engine.proofs.Taken.{after_same, counts_same, keeps_both, moment_changed, rests_later, rests_taken, sound_changed, sound_later, written_by}
 use Rattle.turn_types.specs.declared.limits.Bounds.{Bounds}
 use Rattle.turn_engine.specs.State.{ServerState, limits_of, now_of}
 use Rattle.turn_engine.proofs.server.Server.take.Goals as goal
@@ -16,7 +18,7 @@ use Rattle.turn_engine.proofs.server.Server.take.Goals as goal
 pub invariant_of-self : goal.invariant_of-self
 invariant_of-self g c =
     let le = subst (λ s. now_of s ≤ c.args.moment) (sym c.self.view_is) c.requires.clock in
-    sound_later _ _ _ _ _ _ c.args.moment _ _ c.self.inside.machine.table c.prepare.new.self.table c.seconds.ensures.range le c.prepare.ensures.table
+    sound_later _ _ _ _ _ _ _ _ c.args.moment _ _ c.self.inside.machine.table c.prepare.new.self.table c.seconds.ensures.range le c.prepare.ensures.table
     (ap (λ (x : Config). x.limits) c.prepare.ensures.setting.config) c.prepare.ensures.setting.pairs c.self.invariant
 
 pub returns-in-Err-clause-store : goal.returns-in-Err-clause-store
@@ -48,7 +50,7 @@ returns-in-Err-clause-memory_rests g c = λ h k rests.
 pub invariant_of-self-then-is_err : goal.invariant_of-self-then-is_err
 invariant_of-self-then-is_err g c =
     let le = subst (λ s. now_of s ≤ c.args.moment) (sym c.self.view_is) c.requires.clock in
-    rw c.abandon.ensures.table (sound_later _ _ _ _ _ _ c.args.moment _ _ c.self.inside.machine.table c.prepare.new.self.table c.seconds.ensures.range le c.prepare.ensures.table
+    rw c.abandon.ensures.table (sound_later _ _ _ _ _ _ _ _ c.args.moment _ _ c.self.inside.machine.table c.prepare.new.self.table c.seconds.ensures.range le c.prepare.ensures.table
     (ap (λ (x : Config). x.limits) (c.abandon.ensures.setting.config ∙ c.prepare.ensures.setting.config)) (c.abandon.ensures.setting.pairs ∙ c.prepare.ensures.setting.pairs) c.self.invariant)
 
 pub returns-then-is_err-clause-store : goal.returns-then-is_err-clause-store
@@ -108,10 +110,11 @@ invariant_of-self-2 g c =
     let le = subst (λ s. now_of s ≤ c.args.moment) (sym c.self.view_is) c.requires.clock in
     let room = rw (← c.self.view_is) at c.requires.room in
     let same = ap (λ (x : Config). x.limits.acts) c.prepare.ensures.setting.config in
-    let later = sound_later _ _ _ _ _ _ c.args.moment _ _ c.self.inside.machine.table c.prepare.new.self.table c.seconds.ensures.range le c.prepare.ensures.table
+    let later = sound_later _ _ _ _ _ _ _ _ c.args.moment _ _ c.self.inside.machine.table c.prepare.new.self.table c.seconds.ensures.range le c.prepare.ensures.table
     (ap (λ (x : Config). x.limits) c.prepare.ensures.setting.config) c.prepare.ensures.setting.pairs c.self.invariant in
-    sound_changed _ _ _ _ _ _ _ _ c.args.moment _ _ c.prepare.new.self.table c.apply-datagram.new.self.table c.in-Ok.step.change c.apply-datagram.ensures.table c.in-Ok.ensures.ready.next (c.in-Ok.ensures.ready.no_pairs (c.prepare.ensures.setting.pairs ∙ c.self.invariant.no_pairs))
-    (ap (λ (x : Config). x.limits) c.apply-datagram.ensures.setting.config) c.apply-datagram.ensures.setting.pairs c.stage_act.ensures.bounds c.stage_act.ensures.acts (omega (arith, room, same)) later
+    sound_changed _ _ _ _ _ _ _ _ _ _ _ c.args.moment _ _ c.prepare.new.self.table c.apply-datagram.new.self.table c.in-Ok.step.change c.apply-datagram.ensures.table c.in-Ok.ensures.ready.next
+    (written_by c.self.inside.store.version _ c.in-Ok.step.change (c.prepare.ensures.setting.pairs ∙ c.self.invariant.pairs_is) c.in-Ok.ensures.ready.no_pairs)
+    (ap (λ (x : Config). x.limits) c.apply-datagram.ensures.setting.config) c.apply-datagram.ensures.setting.pairs c.stage_act.ensures.bounds c.stage_act.ensures.version c.stage_act.ensures.acts (omega (arith, room, same)) later
 
 pub returns-clause-store : goal.returns-clause-store
 returns-clause-store g c = ap (λ s. s.store) c.self.view_is
@@ -143,6 +146,8 @@ returns-clause-ok g c = λ h k rests.
     let answers = subst (λ s. AnswersArrival (setting_of g.H.AuthHandler.key_of g.G.RelayAddressGenerator.range s.machine) h t
     (has_failed (failures s.machine.ports) (failures c.prepare.new.self.ports)) (arrival_of c.args.arrival.now) c.in-Ok.step) c.self.view_is (c.in-Ok.ensures.answers h after_old) in
     let after = subst (λ (u : ℕ). IsAfter c.apply-datagram.new.self (h ++ added u change)) moment (c.apply-datagram.ensures.after h (c.prepare.ensures.after h after_old)) in
+    let here = written_by c.self.inside.store.version _ change (c.prepare.ensures.setting.pairs ∙ c.self.invariant.pairs_is) c.in-Ok.ensures.ready.no_pairs in
+    let writes = subst (λ s. IfSome change (λ x. Writes s.store.version x.act)) c.self.view_is here in
     record {
       outcome = c.in-Ok.step;
       answers = subst (λ (n : ℕ). AnswersArrival (setting_of g.H.AuthHandler.key_of g.G.RelayAddressGenerator.range c.args.self.now.machine) h t
@@ -151,5 +156,5 @@ returns-clause-ok g c = λ h k rests.
           ∙ ap (λ o. map sent_of c.self.inside.outgoing.items ++ option_to_list o) c.apply-datagram.ensures.sent ∙ ap (λ s. s.outs ++ option_to_list c.in-Ok.step.sent) c.self.view_is;
       rests = rests_taken _ c.args.self.now _ h k t change rests (ap (λ s. s.store) c.self.view_is) (λ es is. c.stage_act.ensures.payload es (ap (λ s. s.payload) c.self.view_is ∙ is))
           (c.stage_act.ensures.acts ∙ ap (λ s. s.acts + length (added t change)) c.self.view_is) c.requires.clock
-          (ap (λ (s : State). s.moment) c.apply-datagram.ensures.table ∙ moment_changed c.prepare.new.self.table change ∙ moment) (c.in-Ok.ensures.ready.no_pairs (c.prepare.ensures.setting.pairs ∙ c.self.invariant.no_pairs)) after;
+          (ap (λ (s : State). s.moment) c.apply-datagram.ensures.table ∙ moment_changed c.prepare.new.self.table change ∙ moment) writes after;
     }

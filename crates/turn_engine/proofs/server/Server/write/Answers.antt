@@ -1,5 +1,7 @@
 use Rattle.std.proofs.Common.{rules, ◌↔◌, arith, length, take, drop, sym, ap, ◌∙◌, subst, refl}
 use Rattle.turn_disk.specs.Disk.{EachImageSince}
+use Rattle.turn_record.specs.Records.{IsSnapshot}
+use Rattle.turn_record.specs.declared.version.Version.{Version}
 use Rattle.turn_store.specs.Areas.{Form}
 use Rattle.turn_store.specs.Images.{EitherBy, StandsBy}
 use Rattle.turn_store.specs.Stages.{InStages}
@@ -7,8 +9,8 @@ use Rattle.turn_store.specs.State.{form_of}
 use Rattle.turn_types.specs.declared.limits.Bounds.{Bounds}
 use Rattle.turn_engine.specs.Images.{AtLeast}
 use Rattle.turn_engine.specs.Resting.{Rests}
-use Rattle.turn_engine.specs.State.{ServerState, emptied, now_of}
-use Rattle.turn_engine.proofs.Written.{all_stored, contents_are, few_acts, form_kept, has_size, may_follow, none_staged, not_written, some_acts, stages_none, stages_written, written}
+use Rattle.turn_engine.specs.State.{ServerState, emptied, has_pairs, now_of}
+use Rattle.turn_engine.proofs.Written.{all_stored, contents_are, few_acts, form_kept, has_size, may_follow, none_staged, not_written, some_acts, stages_none, stages_written, version_kept, written}
 use Rattle.turn_engine.proofs.server.Server.write.Goals as goal
 use Rattle.turn_engine.proofs.server.Server.write.Goals.{in-Ok, in-Err}
 
@@ -69,6 +71,8 @@ returns-then-acts-eq0-clause-done g c = λ honest h k rests.
 pub invariant_of-self : goal.invariant_of-self
 invariant_of-self g c =
     let kept = form_kept c.self.inside.store c.append.new.self _ _ c.append.result c.append.ensures.framed c.append.ensures.compacted c.append.ensures.stops in
+    let same = version_kept c.self.inside.store c.append.new.self _ _ c.append.result c.append.ensures.framed c.append.ensures.compacted c.append.ensures.stops in
+    let table = c.self.inside.machine.table in
     let s = c.self.invariant in
     record {
       store_is = ap (λ (f : Form). f.bounds) kept ∙ s.store_is;
@@ -76,8 +80,9 @@ invariant_of-self g c =
       table_is = s.table_is;
       few = s.few;
       capped = s.capped;
-      no_pairs = s.no_pairs;
-      snapshot = s.snapshot;
+      same_version = s.same_version ∙ sym same;
+      pairs_is = s.pairs_is ∙ ap has_pairs (sym same);
+      snapshot = subst (λ (v : Version). IsSnapshot v c.self.inside.machine.config.limits table.moment table.contents) (sym same) s.snapshot;
     }
 
 pub returns-clause-honest : goal.returns-clause-honest

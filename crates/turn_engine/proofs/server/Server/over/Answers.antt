@@ -1,0 +1,37 @@
+use Rattle.std.proofs.Common.{◌∷◌, [], Bool, List, map, ap, ◌∙◌}
+use Rattle.turn_step.specs.Outcome.{Sent}
+use Rattle.turn_step.specs.State.{MachineState}
+use Rattle.turn_step.specs.Views.{sent_of}
+use Rattle.turn_engine.specs.Staged.{Staged}
+use Rattle.turn_engine.specs.State.{ServerState, has_pairs}
+use Rattle.turn_engine.proofs.Opened.{fresh_sound}
+use Rattle.turn_engine.proofs.server.Server.over.Goals as goal
+
+pub invariant_of-result : goal.invariant_of-result
+invariant_of-result g c =
+    fresh_sound c.args.config.limits _ _ _ _ _ _ _ c.in-Ok-new.machine.table c.args.opened.table (ap (λ m. m.config.limits) c.in-Ok-new.ensures.ok) (ap (λ m. m.table) c.in-Ok-new.ensures.ok)
+    c.requires.bounds.0 (ap (λ b. b.bounds) c.in-Ok.ensures ∙ c.limits.ensures.value) c.requires.bounds.1 (ap (λ b. b.version) c.in-Ok.ensures ∙ c.info-version.ensures.version) (ap (λ b. b.acts) c.in-Ok.ensures)
+    (ap (λ m. m.pairs) c.in-Ok-new.ensures.ok ∙ c.has_pairs.ensures ∙ ap has_pairs c.info-version.ensures.version) c.requires.snapshot
+
+pub returns-in-Ok-new-clause-ok : goal.returns-in-Ok-new-clause-ok
+returns-in-Ok-new-clause-ok g c =
+    let made : MachineState _ _ → List Sent → Staged → ServerState _ _ _ = λ m l b. record {
+      store = c.args.opened.store;
+      machine = m;
+      payload = b.payload;
+      acts = b.acts;
+      outs = l;
+      arrivals = 0;
+    } in
+    let with : Bool → MachineState _ _ = λ pairs. record {
+      config = c.args.config;
+      handler = c.args.handler;
+      ports = c.args.ports;
+      table = c.args.opened.table;
+      pairs = pairs;
+    } in
+    let empty : Staged = record { bounds = c.limits.result; version = c.info-version.result.version; payload = 0 ∷ []; acts = 0 } in
+    ap (λ (m : MachineState _ _). made m (map sent_of c.new-in-Ok-new.result.items) c.in-Ok.batch) c.in-Ok-new.ensures.ok
+    ∙ ap (λ (b : Staged). made (with c.has_pairs.result) (map sent_of c.new-in-Ok-new.result.items) b) c.in-Ok.ensures
+    ∙ ap (λ (l : List _). made (with c.has_pairs.result) (map sent_of l) empty) c.new-in-Ok-new.ensures.items
+    ∙ ap (λ (pairs : Bool). made (with pairs) [] empty) (c.has_pairs.ensures ∙ ap has_pairs c.info-version.ensures.version)
