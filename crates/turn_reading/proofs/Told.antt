@@ -1,21 +1,75 @@
--- What is told of content that stands for a history.
-use Rattle.std.proofs.Common.{◌≡◌, ◌⊎◌, ℕ, List, Option, None, Some, Result, Ok, Err, refl, subst, sym, inl, inr}
+-- What is read of content, and what is told if it stands for a history.
+use Rattle.std.proofs.Common.{◌≡◌, ◌⊎◌, ◌∙◌, ℕ, List, Option, None, Some, Result, Ok, Err, refl, subst, sym, inl, inr}
 use Rattle.turn_history.specs.History.{History}
 use Rattle.std.specs.Prelude.{IfErr, IfOk, IfSome, MatchResult, unwrap_or}
-use Rattle.turn_reading.specs.Readings.{IsUnread, of_limits, of_open}
+use Rattle.turn_reading.specs.Readings.{IsRead, IsUnder, IsUnread, WhyUnread, of_limits, of_open}
 use Rattle.turn_reading.specs.declared.fault.ReadingFault.{ReadingFault}
 use Rattle.turn_reading.specs.declared.fault.ReadingFault.TheVariants.{Changing}
 use Rattle.turn_store.proofs.Honest.{has_superblock}
 use Rattle.turn_store.proofs.Superblocks.{superblock_once}
 use Rattle.turn_store.specs.Areas.{Form}
 use Rattle.turn_store.specs.Images.{StandsForAt}
-use Rattle.turn_store.specs.Refused.{IsPlain}
+use Rattle.turn_store.specs.Refused.{IsPlain, WhyRefused}
+use Rattle.turn_store.specs.Replay.{Snapshot}
 use Rattle.turn_store.specs.Superblock.{HasSuperblock}
 use Rattle.turn_store.specs.declared.fault.OpenFault.{OpenFault}
 use Rattle.turn_store.specs.declared.fault.OpenFault.TheVariants as open_faults
 use Rattle.turn_store.specs.declared.superblock.LimitsRefused.{LimitsRefused}
 use Rattle.turn_store.specs.declared.superblock.LimitsRefused.TheVariants as limits_faults
 use Rattle.turn_types.specs.declared.limits.Bounds.{Bounds}
+
+-- ---- Any content
+
+-- what was read under some limits, which are the given ones or those of the content
+pub read_under : {D : Type 0} (limits : Option Bounds) (under : Bounds) (new content : List ℕ) (t : Snapshot)
+    → IsUnder limits under → new ≡ content → IsRead D (Some under) new t → IsRead D limits content t
+read_under limits under new content t given same read = record {
+  store = read.store;
+  state = read.state;
+  is_under = subst (IsUnder limits) (sym read.is_under) given;
+  same = read.same ∙ same;
+  opened = read.opened;
+}
+
+-- it has no limits
+pub why_limits : (limits : Option Bounds) (content : List ℕ) (refused : LimitsRefused)
+    → (refused ≡ limits_faults.NotAStore → (area : ℕ) (b : Bounds) → HasSuperblock area b content → ⊥) → WhyUnread limits content (of_limits refused)
+why_limits limits content limits_faults.Device none = tt
+why_limits limits content limits_faults.NotAStore none = none refl
+
+-- it was refused under such limits
+pub why_open : (limits : Option Bounds) (under : Bounds) (content : List ℕ) (fault : OpenFault)
+    → IsUnder limits under → WhyRefused under content fault → WhyUnread limits content (of_open limits fault)
+why_open limits under content open_faults.Device given why = tt
+why_open limits under content open_faults.Memory given why = tt
+why_open limits under content open_faults.NotAStore given why = why
+why_open None under content open_faults.LimitsDiffer given why = tt
+why_open (Some limits) under content open_faults.LimitsDiffer given why = subst (λ b. WhyRefused b content open_faults.LimitsDiffer) given why
+why_open limits under content (open_faults.Damaged place) given why = (under, given, why)
+
+-- the second of three readings
+pub ok_steady : {R E : Type 0} (P : R → Type 0) (reading : R) (outcome : Result R E) → P reading → IfOk outcome (λ r. r ≡ reading) → IfOk outcome P
+ok_steady P reading (Ok r) has second = subst P (sym second) has
+ok_steady P reading (Err fault) has second = tt
+
+-- or a change
+pub err_steady : {R E : Type 0} (P : E → Type 0) (fault : E) (outcome : Result R E) → P fault → IfErr outcome (λ f. f ≡ fault) → IfErr outcome P
+err_steady P fault (Ok r) has changing = tt
+err_steady P fault (Err f) has changing = subst P (sym changing) has
+
+-- of one try more
+pub why_joined : (limits : Option Bounds) (content : List ℕ) (fault result : ReadingFault) → (result ≡ fault) ⊎ (result ≡ Changing)
+    → WhyUnread limits content fault → WhyUnread limits content result
+why_joined limits content fault result (inl same) why = subst (WhyUnread limits content) (sym same) why
+why_joined limits content fault result (inr changing) why = subst (WhyUnread limits content) (sym changing) tt
+
+-- of all tries
+pub why_last : (limits : Option Bounds) (content : List ℕ) (last : Option ReadingFault) → IfSome last (WhyUnread limits content)
+    → WhyUnread limits content (unwrap_or last Changing)
+why_last limits content None why = tt
+why_last limits content (Some fault) why = why
+
+-- ---- Content that stands for a history
 
 -- it has limits
 pub unread_limits : (form : Form) (h : History) (clock : ℕ) (content : List ℕ) → StandsForAt form h clock content → (refused : LimitsRefused)
@@ -29,13 +83,20 @@ pub own_limits : (form : Form) (h : History) (clock : ℕ) (content : List ℕ) 
 own_limits form h clock content stands limits found =
     (superblock_once form.area found.0 form.bounds limits content (has_superblock form h clock content stands) found.1).1
 
+-- the given limits, or else its own, are those of its form
+pub form_is_under : (limits : Option Bounds) (form : Form) (h : History) (clock : ℕ) (content : List ℕ) (under : Bounds)
+    → IsUnder limits under → (limits ≡ None → (area : ℕ) × HasSuperblock area under content) → IsUnder limits form.bounds → StandsForAt form h clock content
+    → form.bounds ≡ under
+form_is_under None form h clock content under given own is stands = own_limits form h clock content stands under (own refl)
+form_is_under (Some limits) form h clock content under given own is stands = is ∙ sym given
+
 -- and it is refused for the device or for memory alone
-pub unread_open : (fault : OpenFault) → IsPlain fault → IsUnread (of_open fault)
-unread_open open_faults.Device plain = tt
-unread_open open_faults.Memory plain = tt
-unread_open open_faults.NotAStore plain = absurd plain
-unread_open open_faults.LimitsDiffer plain = absurd plain
-unread_open (open_faults.Damaged place) plain = absurd plain
+pub unread_open : (limits : Option Bounds) (fault : OpenFault) → IsPlain fault → IsUnread (of_open limits fault)
+unread_open limits open_faults.Device plain = tt
+unread_open limits open_faults.Memory plain = tt
+unread_open limits open_faults.NotAStore plain = absurd plain
+unread_open limits open_faults.LimitsDiffer plain = absurd plain
+unread_open limits (open_faults.Damaged place) plain = absurd plain
 
 -- The second of three readings, or a change. P is what is told of a reading.
 pub told_steady : {R : Type 0} (P : R → Type 0) (reading : R) (outcome : Result R ReadingFault) → P reading

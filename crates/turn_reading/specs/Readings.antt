@@ -1,47 +1,86 @@
 -- What a reading of a store tells.
-use Rattle.std.specs.Prelude.{◌≡◌, ℕ, List, Result, MatchResult}
+use Rattle.std.specs.Prelude.{◌≡◌, ℕ, List, Option, None, Some, Result, MatchResult}
+use Rattle.turn_disk.specs.Disk.{State}
 use Rattle.turn_history.specs.History.{History}
 use Rattle.turn_history.specs.Table.{table}
 use Rattle.turn_reading.specs.declared.fault.ReadingFault.{ReadingFault}
-use Rattle.turn_reading.specs.declared.fault.ReadingFault.TheVariants.{Device, Memory, NotAStore, Damaged, Changing}
+use Rattle.turn_reading.specs.declared.fault.ReadingFault.TheVariants.{Device, Memory, NotAStore, LimitsDiffer, Damaged, Changing}
 use Rattle.turn_store.specs.Areas.{Form}
 use Rattle.turn_store.specs.Images.{StandsForAt}
+use Rattle.turn_store.specs.Opened.{IsOpened}
+use Rattle.turn_store.specs.Refused.{WhyRefused}
+use Rattle.turn_store.specs.Replay.{Snapshot}
+use Rattle.turn_store.specs.State.{StoreState}
+use Rattle.turn_store.specs.Superblock.{HasSuperblock}
 use Rattle.turn_store.specs.Tables.{snapshot_of}
 use Rattle.turn_store.specs.declared.fault.OpenFault.{OpenFault}
 use Rattle.turn_store.specs.declared.fault.OpenFault.TheVariants as open_faults
 use Rattle.turn_store.specs.declared.superblock.LimitsRefused.{LimitsRefused}
 use Rattle.turn_store.specs.declared.superblock.LimitsRefused.TheVariants as limits_faults
-use Rattle.turn_table.specs.State.{State}
+use Rattle.turn_table.specs.State as tables
+use Rattle.turn_types.specs.declared.limits.Bounds.{Bounds}
 
 abbrev pub of_limits : LimitsRefused → ReadingFault
 of_limits limits_faults.Device = Device
 of_limits limits_faults.NotAStore = NotAStore
 
--- the limits are the store's own, so that others are a change
-abbrev pub of_open : OpenFault → ReadingFault
-of_open open_faults.Device = Device
-of_open open_faults.Memory = Memory
-of_open open_faults.NotAStore = NotAStore
-of_open open_faults.LimitsDiffer = Changing
-of_open (open_faults.Damaged place) = Damaged place
+-- without given limits a store is read under its own, so that others at a second look are a change
+abbrev pub of_open : Option Bounds → OpenFault → ReadingFault
+of_open limits open_faults.Device = Device
+of_open limits open_faults.Memory = Memory
+of_open limits open_faults.NotAStore = NotAStore
+of_open None open_faults.LimitsDiffer = Changing
+of_open (Some limits) open_faults.LimitsDiffer = LimitsDiffer
+of_open limits (open_faults.Damaged place) = Damaged place
 
 -- a fault that may come of a store that was written to while it was read
 abbrev pub MayPass : ReadingFault → Type 0
 MayPass Device = ⊥
 MayPass Memory = ⊥
 MayPass NotAStore = Unit {0}
+MayPass LimitsDiffer = Unit {0}
 MayPass (Damaged place) = Unit {0}
 MayPass Changing = Unit {0}
+
+-- the limits that are given, or any if none are
+abbrev pub IsUnder : Option Bounds → Bounds → Type 0
+IsUnder None b = Unit {0}
+IsUnder (Some limits) b = b ≡ limits
+
+-- ---- Any content
+
+-- Content was read under given limits or its own: a store that is opened holds this table.
+pub record IsRead (D : Type 0) (limits : Option Bounds) (content : List ℕ) (t : Snapshot) : Type 0 where
+  pub store : StoreState D
+  pub state : State
+  pub is_under : IsUnder limits store.bounds
+  pub same : state.bytes ≡ content
+  pub opened : IsOpened store state t
+
+-- Why content was not read: the first reason that applies, under given limits or its own. A failed device call, a failed
+-- allocation and a change say nothing of it.
+abbrev pub WhyUnread : Option Bounds → List ℕ → ReadingFault → Type 0
+WhyUnread limits content Device = Unit {0}
+WhyUnread limits content Memory = Unit {0}
+WhyUnread limits content Changing = Unit {0}
+WhyUnread limits content NotAStore = (area : ℕ) (b : Bounds) → HasSuperblock area b content → ⊥
+WhyUnread None content LimitsDiffer = ⊥
+WhyUnread (Some limits) content LimitsDiffer = WhyRefused limits content open_faults.LimitsDiffer
+WhyUnread limits content (Damaged place) = (b : Bounds) × IsUnder limits b × WhyRefused b content (open_faults.Damaged place)
+
+-- ---- Content that stands for a history
 
 -- a fault that says nothing of what the store holds
 abbrev pub IsUnread : ReadingFault → Type 0
 IsUnread Device = Unit {0}
 IsUnread Memory = Unit {0}
 IsUnread NotAStore = ⊥
+IsUnread LimitsDiffer = ⊥
 IsUnread (Damaged place) = ⊥
 IsUnread Changing = Unit {0}
 
--- Of content that stands for a history at a clock, the history's table at that clock is told, or nothing of what is held.
-abbrev pub Tells : {Reading : Type 0} → (Reading → State) → List ℕ → Result Reading ReadingFault → Type 0
-Tells table_of content outcome = (form : Form) (h : History) (clock : ℕ) → StandsForAt form h clock content → MatchResult outcome
-    (λ reading. snapshot_of (table_of reading) ≡ record { moment = clock; contents = table h clock }) IsUnread
+-- Of content that stands for a history at a clock, and has the given limits, the history's table at that clock is told, or
+-- nothing of what is held.
+abbrev pub Tells : {Reading : Type 0} → Option Bounds → (Reading → tables.State) → List ℕ → Result Reading ReadingFault → Type 0
+Tells limits table_of content outcome = (form : Form) (h : History) (clock : ℕ) → IsUnder limits form.bounds → StandsForAt form h clock content
+    → MatchResult outcome (λ reading. snapshot_of (table_of reading) ≡ record { moment = clock; contents = table h clock }) IsUnread

@@ -5,6 +5,7 @@ ghost use Rattle.turn_reading.specs.Readings.{of_limits, of_open};
 
 use thiserror::Error;
 use turn_store::{LimitsRefused, OpenFault};
+use turn_types::Limits;
 
 /// Why a store was not read.
 #[derive(Clone, Copy, Debug, PartialEq, Eq, Error)]
@@ -17,6 +18,9 @@ pub enum ReadingFault {
     /// The disk doesn't begin with a superblock.
     #[error("not a store")]
     NotAStore,
+    /// The store has other limits than those that were given.
+    #[error("limits differ")]
+    LimitsDiffer,
     /// What is at this position of the disk is not what an honest disk would have.
     #[error("damaged at {0}")]
     Damaged(usize),
@@ -36,17 +40,19 @@ impl From<LimitsRefused> for ReadingFault {
     }
 }
 
-/// The limits are the store's own: if they are others when they are read once more, the store was changed.
-impl From<OpenFault> for ReadingFault {
-    ghost from_gives = { λ reason fault. fault ≡ of_open reason };
-
-    fn from(fault: OpenFault) -> ReadingFault {
-        match fault {
-            OpenFault::Device => ReadingFault::Device,
-            OpenFault::Memory => ReadingFault::Memory,
-            OpenFault::NotAStore => ReadingFault::NotAStore,
-            OpenFault::LimitsDiffer => ReadingFault::Changing,
-            OpenFault::Damaged(place) => ReadingFault::Damaged(place),
-        }
+/// The fault of an opening under given limits, or under those that the store had a moment before: if it has others now, it was
+/// changed.
+pub fn fault_of(limits: &Option<Limits>, fault: OpenFault) -> ReadingFault
+    ensures { result ≡ of_open limits.now fault }
+{
+    match fault {
+        OpenFault::Device => ReadingFault::Device,
+        OpenFault::Memory => ReadingFault::Memory,
+        OpenFault::NotAStore => ReadingFault::NotAStore,
+        OpenFault::LimitsDiffer => match limits {
+            None => ReadingFault::Changing,
+            Some(_) => ReadingFault::LimitsDiffer,
+        },
+        OpenFault::Damaged(place) => ReadingFault::Damaged(place),
     }
 }

@@ -1,16 +1,25 @@
 //! Readings of a store.
 
-ghost use Rattle.std.specs.Prelude.{◌≡◌, ◌≢◌, ◌↔◌, ◌⊎◌, IfErr, IfOk, IfSome, IsOk, IsTrue, None, Some};
-ghost use Rattle.turn_reading.specs.Readings.{MayPass, Tells};
+ghost use Rattle.std.specs.Prelude.{◌≡◌, ◌≢◌, ◌↔◌, ◌⊎◌, ℕ, IfErr, IfOk, IfSome, IsOk, IsTrue, MatchResult, None, Some};
+ghost use Rattle.turn_history.specs.History.{History};
+ghost use Rattle.turn_history.specs.Table.{table};
+ghost use Rattle.turn_reading.specs.Readings.{IsRead, IsUnder, MayPass, Tells, WhyUnread};
+ghost use Rattle.turn_store.specs.Areas.{Form};
+ghost use Rattle.turn_store.specs.Images.{StandsForAt};
+ghost use Rattle.turn_store.specs.Refused.{IsPlain, WhyRefused};
+ghost use Rattle.turn_store.specs.Superblock.{HasSuperblock};
+ghost use Rattle.turn_store.specs.Tables.{snapshot_of};
+ghost use Rattle.turn_types.specs.declared.limits.Bounds.{Bounds};
 
-use crate::fault::ReadingFault;
+use crate::fault::{ReadingFault, fault_of};
 use std::alloc::{Allocator, Global};
 use std::rt::Clock;
 use std::thread;
 use std::time::Duration;
 use turn_disk::Disk;
-use turn_store::{Info, Opened, Refused, Store, limits};
+use turn_store::{Info, LimitsRefused, OpenFault, Opened, Refused, Store, limits as own_limits};
 use turn_table::Table;
+use turn_types::Limits;
 
 /// How often a store is tried that is refused, or that changes while it is read.
 const TRIES: u32 = 10;
@@ -26,21 +35,27 @@ pub struct Reading<A: Allocator = Global> {
     pub table: Table<A>,
 }
 
-/// Reads the store of a disk, with its own limits. Returns the disk too.
+/// Reads the store of a disk once, which has to have been formatted with these limits, and doesn't carry it over. Returns the
+/// disk too.
 fn read_once<D: Disk, A: Allocator + Copy>(
     alloc: A,
     disk: D,
-) -> (D, Result<Reading<A>, ReadingFault>)
+    limits: Limits,
+) -> (D, Result<Reading<A>, OpenFault>)
     ensures honest { D.is_honest result.0 ↔ D.is_honest disk }
     ensures same { D.is_honest disk → (D.trace result.0).now.bytes ≡ (D.trace disk).now.bytes }
-    ensures tells { D.is_honest disk → Tells (λ r. r.table) (D.trace disk).now.bytes result.1 }
+
+    // What was read, and the reason of each refusal: the first that applies.
+    ensures read { D.is_honest disk
+        → IfOk result.1 (λ r. IsRead D (Some limits) (D.trace disk).now.bytes (snapshot_of r.table)) }
+    ensures why { D.is_honest disk → IfErr result.1 (WhyRefused limits (D.trace disk).now.bytes) }
+
+    // If the content stands for a history, the table is the history's, and a refusal is of the device or of memory.
+    ensures tells { D.is_honest disk → (form : Form) (h : History) (clock : ℕ) → form.bounds ≡ limits
+        → StandsForAt form h clock (D.trace disk).now.bytes
+        → MatchResult result.1 (λ r. snapshot_of r.table ≡ record { moment = clock; contents = table h clock }) IsPlain }
 {
-    let mut disk = disk;
-    let limits = match limits(&mut disk) {
-        Ok(limits) => limits,
-        Err(refused) => return (disk, Err(ReadingFault::from(refused))),
-    };
-    match Store::open(alloc, disk, limits) {
+    match Store::open_as(alloc, disk, limits, false) {
         Ok(opened) => {
             let Opened { store, table } = opened;
             let info = store.info();
@@ -48,8 +63,48 @@ fn read_once<D: Disk, A: Allocator + Copy>(
         }
         Err(refused) => {
             let Refused { fault, disk } = refused;
-            (disk, Err(ReadingFault::from(fault)))
+            (disk, Err(fault))
         }
+    }
+}
+
+/// The limits under which a disk is read: the given ones, or those in its superblock.
+fn limits_for<D: Disk>(disk: &mut D, limits: &Option<Limits>) -> Result<Limits, LimitsRefused>
+    ensures honest { D.is_honest disk.new ↔ D.is_honest disk.old }
+    ensures same { D.is_honest disk.old → D.trace disk.new ≡ D.trace disk.old }
+    ensures given { IfOk result (λ found. IsUnder limits.now found) }
+    ensures own { D.is_honest disk.old → limits.now ≡ None
+        → IfOk result (λ found. (area : ℕ) × HasSuperblock area found (D.trace disk.old).now.bytes) }
+    ensures none { D.is_honest disk.old → IfErr result (λ refused. refused ≡ LimitsRefused.NotAStore
+        → (area : ℕ) (b : Bounds) → HasSuperblock area b (D.trace disk.old).now.bytes → ⊥) }
+{
+    match limits {
+        Some(given) => Ok(*given),
+        None => own_limits(disk),
+    }
+}
+
+/// Reads a store once, under given limits or its own. Returns the disk too.
+fn try_once<D: Disk, A: Allocator + Copy>(
+    alloc: A,
+    disk: D,
+    limits: &Option<Limits>,
+) -> (D, Result<Reading<A>, ReadingFault>)
+    ensures honest { D.is_honest result.0 ↔ D.is_honest disk }
+    ensures same { D.is_honest disk → (D.trace result.0).now.bytes ≡ (D.trace disk).now.bytes }
+    ensures read { D.is_honest disk → IfOk result.1 (λ r. IsRead D limits.now (D.trace disk).now.bytes (snapshot_of r.table)) }
+    ensures why { D.is_honest disk → IfErr result.1 (WhyUnread limits.now (D.trace disk).now.bytes) }
+    ensures tells { D.is_honest disk → Tells limits.now (λ r. r.table) (D.trace disk).now.bytes result.1 }
+{
+    let mut disk = disk;
+    let under = match limits_for(&mut disk, limits) {
+        Ok(under) => under,
+        Err(refused) => return (disk, Err(ReadingFault::from(refused))),
+    };
+    let (disk, outcome) = read_once(alloc, disk, under);
+    match outcome {
+        Ok(reading) => (disk, Ok(reading)),
+        Err(fault) => (disk, Err(fault_of(limits, fault))),
     }
 }
 
@@ -80,22 +135,25 @@ fn steady<A: Allocator>(
 fn read_steadily<D: Disk, A: Allocator + Copy>(
     alloc: A,
     disk: D,
+    limits: &Option<Limits>,
 ) -> (D, Result<Reading<A>, ReadingFault>)
     ensures honest { D.is_honest result.0 ↔ D.is_honest disk }
     ensures same { D.is_honest disk → (D.trace result.0).now.bytes ≡ (D.trace disk).now.bytes }
-    ensures tells { D.is_honest disk → Tells (λ r. r.table) (D.trace disk).now.bytes result.1 }
+    ensures read { D.is_honest disk → IfOk result.1 (λ r. IsRead D limits.now (D.trace disk).now.bytes (snapshot_of r.table)) }
+    ensures why { D.is_honest disk → IfErr result.1 (WhyUnread limits.now (D.trace disk).now.bytes) }
+    ensures tells { D.is_honest disk → Tells limits.now (λ r. r.table) (D.trace disk).now.bytes result.1 }
 {
-    let (disk, first) = read_once(alloc, disk);
+    let (disk, first) = try_once(alloc, disk, limits);
     let before = match first {
         Ok(reading) => reading.info,
         Err(fault) => return (disk, Err(fault)),
     };
-    let (disk, second) = read_once(alloc, disk);
+    let (disk, second) = try_once(alloc, disk, limits);
     let reading = match second {
         Ok(reading) => reading,
         Err(fault) => return (disk, Err(fault)),
     };
-    let (disk, third) = read_once(alloc, disk);
+    let (disk, third) = try_once(alloc, disk, limits);
     match third {
         Ok(after) => (disk, steady(before, reading, after.info)),
         Err(fault) => (disk, Err(fault)),
@@ -107,7 +165,8 @@ fn may_pass(fault: ReadingFault) -> bool
     ensures { IsTrue result ↔ MayPass fault }
 {
     match fault {
-        ReadingFault::NotAStore | ReadingFault::Damaged(_) | ReadingFault::Changing => true,
+        ReadingFault::NotAStore | ReadingFault::LimitsDiffer => true,
+        ReadingFault::Damaged(_) | ReadingFault::Changing => true,
         ReadingFault::Device | ReadingFault::Memory => false,
     }
 }
@@ -125,22 +184,21 @@ fn joined(before: Option<ReadingFault>, fault: ReadingFault) -> ReadingFault
     }
 }
 
-/// Reads the store of a disk, with the limits in its superblock, whether or not a server writes to it meanwhile.
-///
-/// A store that is refused, or that changed while it was read, is read again, up to ten times in a tenth of a second. If all
-/// tries come to one fault it is that one, and else `Changing`. A failed device call or allocation isn't tried again.
-pub fn read_store<D: Disk + Drop, A: Allocator + Copy, C: Clock>(
+/// Reads a store, and again if that may help, up to ten times.
+fn read_often<D: Disk + Drop, A: Allocator + Copy, C: Clock>(
     alloc: A,
     clock: &C,
     disk: D,
+    limits: &Option<Limits>,
 ) -> Result<Reading<A>, ReadingFault>
-    // Of an honest disk, to which nobody else writes.
-    ensures { D.is_honest disk → Tells (λ r. r.table) (D.trace disk).now.bytes result }
+    ensures read { D.is_honest disk → IfOk result (λ r. IsRead D limits.now (D.trace disk).now.bytes (snapshot_of r.table)) }
+    ensures why { D.is_honest disk → IfErr result (WhyUnread limits.now (D.trace disk).now.bytes) }
+    ensures tells { D.is_honest disk → Tells limits.now (λ r. r.table) (D.trace disk).now.bytes result }
 {
     let mut disk = disk;
     let mut last = None;
     for _ in 0..TRIES {
-        let (again, outcome) = read_steadily(alloc, disk);
+        let (again, outcome) = read_steadily(alloc, disk, limits);
         disk = again;
         match outcome {
             Ok(reading) => return Ok(reading),
@@ -150,4 +208,23 @@ pub fn read_store<D: Disk + Drop, A: Allocator + Copy, C: Clock>(
         thread::sleep(clock, Duration::from_millis(PAUSE));
     }
     Err(last.unwrap_or(ReadingFault::Changing))
+}
+
+/// Reads the store of a disk, whether or not a server writes to it meanwhile: under these limits, as a start opens it, or else with
+/// those in its superblock.
+///
+/// A store that is refused, or that changed while it was read, is read again, up to ten times in a tenth of a second. If all
+/// tries come to one fault it is that one, and else `Changing`. A failed device call or allocation isn't tried again.
+pub fn read_store<D: Disk + Drop, A: Allocator + Copy, C: Clock>(
+    alloc: A,
+    clock: &C,
+    disk: D,
+    limits: Option<Limits>,
+) -> Result<Reading<A>, ReadingFault>
+    // Of an honest disk, to which nobody else writes: what was read, and the reason of each refusal, the first that applies.
+    ensures read { D.is_honest disk → IfOk result (λ r. IsRead D limits (D.trace disk).now.bytes (snapshot_of r.table)) }
+    ensures why { D.is_honest disk → IfErr result (WhyUnread limits (D.trace disk).now.bytes) }
+    ensures tells { D.is_honest disk → Tells limits (λ r. r.table) (D.trace disk).now.bytes result }
+{
+    read_often(alloc, clock, disk, &limits)
 }
