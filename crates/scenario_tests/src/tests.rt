@@ -1,5 +1,6 @@
 mod bad_lines;
 mod blanks;
+mod carrying;
 mod configurations;
 mod events;
 mod examples;
@@ -7,6 +8,7 @@ mod expects;
 mod memory;
 mod messages;
 mod players;
+mod reservations;
 mod rounds;
 mod settings;
 
@@ -51,9 +53,9 @@ fn repeated(rt: &impl Abort, alloc: Global, part: &str, count: u32) -> String {
     text
 }
 
-/// The settings and `format 238`.
+/// The settings and `format1 238`.
 fn with_format(rt: &impl Abort, alloc: Global) -> String {
-    joined(rt, alloc, &[SETTINGS, "format 238\n"])
+    joined(rt, alloc, &[SETTINGS, "format1 238\n"])
 }
 
 /// The lines of a report, each with a newline.
@@ -105,7 +107,7 @@ fn expect_rows(rt: &impl Abort, alloc: Global, rows: &[(&str, &str)]) {
     }
 }
 
-/// Each line after the settings and `format 238` has this outcome.
+/// Each line after the settings and `format1 238` has this outcome.
 fn expect_lines(rt: &impl Abort, alloc: Global, rows: &[&[u8]], outcome: &str) {
     let settings = with_format(rt, alloc);
     expect_each(rt, alloc, &settings, rows, outcome);

@@ -1,6 +1,6 @@
 //! The texts, in the order in which they are replayed.
 
-pub const NAMES: [&str; 81] = [
+pub const NAMES: [&str; 99] = [
     "example_kept",
     "example_lost",
     "rounds",
@@ -74,6 +74,23 @@ pub const NAMES: [&str; 81] = [
     "defaults",
     "defaults_small_area",
     "forms",
+    "pairs",
+    "reservations_run_out",
+    "reservations_outlive_allocations",
+    "pairs_of_a_small_range",
+    "as_many_reservations_as_allocations",
+    "reservations_after_crashes",
+    "reservations_in_snapshots",
+    "carried_over",
+    "stops_after_carrying_over",
+    "carried_over_by_reopen",
+    "no_room_to_be_carried_over",
+    "failures_of_carrying_over",
+    "version_1_has_no_pairs",
+    "quota_and_pairs",
+    "small_area_of_version_2",
+    "defaults_of_version_2",
+    "defaults_small_area_of_version_2",
     "differs",
     "differs_by_a_line_too_few",
     "bad_moment",
@@ -82,4 +99,5 @@ pub const NAMES: [&str; 81] = [
     "bad_config",
     "bad_second_format",
     "no_format",
+    "bad_token",
 ];

@@ -6,6 +6,7 @@ use Rattle.turn_cred.specs.declared.handler.AuthHandler as handlers
 use Rattle.turn_disk.specs.Views.{InMemory}
 use Rattle.turn_disk.specs.declared.disk.Disk as disks
 use Rattle.turn_ports.specs.declared.generator.RelayAddressGenerator as generators
+use Rattle.turn_record.specs.declared.version.Version.{Version}
 use Rattle.turn_step.specs.Answer.{Setting}
 use Rattle.turn_disk.specs.Counts.{Rises}
 use Rattle.turn_store.specs.Areas.{Form}
@@ -74,9 +75,9 @@ starts disk handler ports form p config d h g is bounds honest images =
       stands = formatted_stands disk handler ports form setting d h g honest images refl refl;
     }
 
-pub refused : (area : ℕ) (p q : PlayerState) (config : Config) (d : InMemory) (h : KeyMap) (g : ℕ × ℕ) → p ≡ record { config = config; world = Some (Down d h g) }
-    → q ≡ p → (area < least_area config.limits) ⊎ Rises 0 d.failures → IsRefused area q
-refused area p q config d h g is same why = record {
+pub refused : (version : Version) (area : ℕ) (p q : PlayerState) (config : Config) (d : InMemory) (h : KeyMap) (g : ℕ × ℕ) → p ≡ record { config = config; world = Some (Down d h g) }
+    → q ≡ p → (area < least_area version config.limits) ⊎ Rises 0 d.failures → IsRefused version area q
+refused version area p q config d h g is same why = record {
   disk = d;
   keys = h;
   range = g;

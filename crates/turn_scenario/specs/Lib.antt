@@ -1,2 +1,3 @@
 pub mod Faults
 pub mod Lived
+pub mod Tokens

@@ -6,6 +6,7 @@ use Rattle.turn_disk.specs.Counts.{Rises}
 use Rattle.turn_disk.specs.Views.{InMemory}
 use Rattle.turn_disk.specs.declared.disk.Disk as disks
 use Rattle.turn_ports.specs.declared.generator.RelayAddressGenerator as generators
+use Rattle.turn_record.specs.declared.version.Version.{Version}
 use Rattle.turn_step.specs.Answer.{Setting}
 use Rattle.turn_store.specs.Areas.{Form}
 use Rattle.turn_store.specs.Superblock.{least_area}
@@ -32,9 +33,9 @@ abbrev pub LivesOn : disks.Ghosts InMemory → handlers.Ghosts KeyMap → genera
 LivesOn disk handler ports old new = Lived disk handler ports old → Lived disk handler ports new
 
 -- no store was made, for the area is too small or a device call failed
-pub record IsRefused (area : ℕ) (p : PlayerState) : Type 0 where
+pub record IsRefused (version : Version) (area : ℕ) (p : PlayerState) : Type 0 where
   pub disk : InMemory
   pub keys : KeyMap
   pub range : ℕ × ℕ
   pub is : p.world ≡ Some (Down disk keys range)
-  pub why : (area < least_area p.config.limits) ⊎ Rises 0 disk.failures
+  pub why : (area < least_area version p.config.limits) ⊎ Rises 0 disk.failures

@@ -4,7 +4,7 @@ use std::alloc::{AllocError, Allocator};
 use turn_codec::{ChannelData, Message};
 use turn_config::ShownEndpoint;
 use turn_requests::{Received, read_message};
-use turn_types::Method;
+use turn_types::{Method, Token};
 
 /// The word of a method to which a server responds.
 fn method_word(method: Method) -> &'static str {
@@ -17,6 +17,20 @@ fn method_word(method: Method) -> &'static str {
     }
 }
 
+/// What the line of an Allocate success ends with.
+fn reserved_text<A: Allocator + Copy>(
+    alloc: A,
+    token: Option<Token>,
+) -> Result<String<A>, AllocError> {
+    match token {
+        Some(token) => {
+            let token = hex::encode(alloc, &token.0)?;
+            format!(in alloc; " token={token}")
+        }
+        None => String::from_str(alloc, ""),
+    }
+}
+
 fn message_text<A: Allocator + Copy>(
     alloc: A,
     message: &Message<'_>,
@@ -25,8 +39,13 @@ fn message_text<A: Allocator + Copy>(
     let method = method_word(message.method());
     let tx = hex::encode(alloc, &message.tx().0)?;
     match received {
-        Received::Allocated { port, lifetime, .. } => {
-            format!(in alloc; "success {method} {tx} port={port} life={lifetime}")
+        Received::Allocated {
+            port,
+            lifetime,
+            token,
+        } => {
+            let reserved = reserved_text(alloc, token)?;
+            format!(in alloc; "success {method} {tx} port={port} life={lifetime}{reserved}")
         }
         Received::Refreshed(life) => format!(in alloc; "success {method} {tx} life={life}"),
         Received::Success => format!(in alloc; "success {method} {tx}"),
@@ -44,6 +63,15 @@ pub(crate) fn hex_text<A: Allocator>(alloc: A, bytes: &[u8]) -> Result<String<A>
         String::from_str(alloc, "-")
     } else {
         hex::encode(alloc, bytes)
+    }
+}
+
+/// The token that a datagram to a client has, if it is an Allocate success with one.
+pub(crate) fn token_in(bytes: &[u8]) -> Option<Token> {
+    let message = Message::parse(bytes).ok()?;
+    match read_message(&message)? {
+        Received::Allocated { token, .. } => token,
+        _ => None,
     }
 }
 

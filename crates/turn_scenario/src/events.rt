@@ -1,12 +1,13 @@
 //! What comes of steps, as text.
 
-use crate::datagrams::{hex_text, received_text};
+use crate::datagrams::{hex_text, received_text, token_in};
 use std::alloc::{AllocError, Allocator};
 use turn_config::ShownEndpoint;
 use turn_engine::{CommitRefused, SubmitRefused};
 use turn_player::Event;
 use turn_step::Outgoing;
 use turn_store::OpenFault;
+use turn_types::Token;
 
 fn refused_text(why: SubmitRefused) -> &'static str {
     match why {
@@ -49,6 +50,14 @@ fn sent_text<A: Allocator + Copy>(
             let payload = hex_text(alloc, bytes)?;
             format!(in alloc; "peer {port} {peer} {payload}")
         }
+    }
+}
+
+/// The token that the line of an event has, if it has one.
+pub(crate) fn event_token<A: Allocator>(event: &Event<A>) -> Option<Token> {
+    match event {
+        Event::Sent(Outgoing::ToClient { bytes, .. }) => token_in(bytes),
+        _ => None,
     }
 }
 

@@ -1,4 +1,4 @@
-//! The lines after `format`.
+//! The lines after `format` or `format1`.
 
 use turn_config::values::{endpoint, moment, ordinal, port, split_once};
 use turn_disk::Outcome;
@@ -23,7 +23,7 @@ pub(crate) struct PeerLine<'a> {
     pub(crate) hex: &'a [u8],
 }
 
-/// A line after `format`. What is written in hex is still text.
+/// A line after `format` or `format1`. What is written in hex is still text.
 #[derive(Clone, Copy)]
 pub(crate) enum Line<'a> {
     At(Moment),

@@ -1,13 +1,13 @@
-//! A scenario after its `format` line.
+//! A scenario after its `format` or `format1` line.
 
-ghost use Rattle.std.specs.Prelude.{◌≡◌, ◌≤◌, ◌<◌, ◌⊎◌, [], Ok, IfOk, IsErr, OnOk, OnErr};
+ghost use Rattle.std.specs.Prelude.{◌≡◌, ◌≤◌, ◌<◌, ◌+◌, ◌*◌, ◌⊎◌, [], Ok, IfOk, IsErr, OnOk, OnErr};
 ghost use Rattle.turn_disk.specs.Counts.{Rises};
 ghost use Rattle.turn_store.specs.Superblock.{least_area};
 ghost use Rattle.turn_store.specs.Images.{EachImage, StandsForAt};
 ghost use Rattle.turn_scenario.specs.Lived.{IsRefused, Lived, LivesOn};
 
 use crate::attributes::attributes;
-use crate::events::event_text;
+use crate::events::{event_text, event_token};
 use crate::fault::LineFault;
 use crate::line::{Ask, Line, PeerLine, read_line};
 use crate::report::{Lines, Report};
@@ -20,10 +20,11 @@ use turn_disk::{Disk, MemoryDisk};
 use turn_mac::generate_auth_key;
 use turn_player::{Event, Player, Step};
 use turn_ports::{PortRange, RelayAddressGenerator};
+use turn_record::Version;
 use turn_requests::{Request, build_request, build_send};
 use turn_step::Arrival;
-use turn_store::FormatRefused;
-use turn_types::{Endpoint, FiveTuple, Limits, Moment, TxId};
+use turn_store::{FormatRefused, format, format_version1};
+use turn_types::{Endpoint, FiveTuple, Limits, Moment, Token, TxId};
 
 /// The client's side: what its requests are made of.
 #[derive(Drop)]
@@ -33,9 +34,11 @@ struct Client<'a, A: Allocator = Global> {
     nonces: Nonces,
     /// The moment of its nonces, where that is not the moment of the request.
     nonce: Option<Moment>,
+    /// The token of the last success that was reported with one.
+    token: Option<Token>,
 }
 
-/// A scenario after its `format` line.
+/// A scenario after its `format` or `format1` line.
 #[derive(Drop)]
 pub(crate) struct Running<'a, A: Allocator = Global> {
     alloc: A,
@@ -46,31 +49,54 @@ pub(crate) struct Running<'a, A: Allocator = Global> {
     lines: Lines<A>,
 }
 
-/// A disk of zeros for two areas of a size, and what came of making it a store.
+/// Makes a disk a store of a version.
+fn format_as<D: Disk>(
+    disk: &mut D,
+    limits: Limits,
+    version: Version,
+    area: usize,
+) -> Result<(), FormatRefused>
+    requires { 64 + 2 * area ≡ D.capacity disk.old }
+    ensures done { D.is_honest disk.old
+        → OnOk result (EachImage (D.trace disk.new).now (StandsForAt (record { bounds = limits; area = area }) [] 0)) }
+    ensures refused { IsErr result → (area < least_area version limits) ⊎ Rises (D.failed disk.old) (D.failed disk.new) }
+{
+    match version {
+        Version::V1 => format_version1(disk, limits, area),
+        Version::V2 => format(disk, limits, area),
+    }
+}
+
+/// A disk of zeros for two areas of a size, and what came of making it a store of a version.
 fn format_disk<A: Allocator + Copy>(
     alloc: A,
     limits: Limits,
+    version: Version,
     area: u32,
 ) -> Result<(MemoryDisk<A>, Result<(), FormatRefused>), AllocError>
     ensures done { IfOk result (λ made. made.1 ≡ Ok tt
         → EachImage made.0.trace.now (StandsForAt (record { bounds = limits; area = area }) [] 0)) }
-    ensures refused { IfOk result (λ made. IsErr made.1 → (area < least_area limits) ⊎ Rises 0 made.0.failures) }
+    ensures refused { IfOk result (λ made. IsErr made.1 → (area < least_area version limits) ⊎ Rises 0 made.0.failures) }
 {
     let area = area as usize;
     let content = Vec::from_elem(alloc, 0u8, 64 + 2 * area)?;
     let mut disk = MemoryDisk::new(alloc, content);
-    let outcome = turn_store::format(&mut disk, limits, area);
+    let outcome = format_as(&mut disk, limits, version, area);
     Ok((disk, outcome))
 }
 
-/// Reports what came of steps.
+/// Reports what came of steps, and keeps the last token that is reported.
 fn put_events<A: Allocator + Copy>(
     alloc: A,
     lines: &mut Lines<A>,
+    token: &mut Option<Token>,
     events: Vec<Event<A>, A>,
 ) -> Result<(), LineFault> {
     for event in events {
         lines.push(event_text(alloc, &event)?)?;
+        if let Some(reported) = event_token(&event) {
+            *token = Some(reported);
+        }
     }
     Ok(())
 }
@@ -89,7 +115,7 @@ impl<'a, A: Allocator + Copy> Client<'a, A> {
     fn request(&self, alloc: A, ask: &Ask<'_>, moment: Moment) -> Result<Vec<u8, A>, LineFault> {
         let password = *self.passwords.get(ask.user).ok_or(LineFault::Bad)?;
         let attributes = match ask.attributes {
-            Some(words) => attributes(alloc, words)?.ok_or(LineFault::Bad)?,
+            Some(words) => attributes(alloc, words, self.token)?.ok_or(LineFault::Bad)?,
             None => Vec::new(alloc),
         };
         let request = Request {
@@ -106,14 +132,15 @@ impl<'a, A: Allocator + Copy> Client<'a, A> {
 }
 
 impl<'a, A: Allocator + Copy> Running<'a, A> {
-    /// Makes a disk of two areas of a size a store, and opens it unless the format was refused.
+    /// Makes a disk of two areas of a size a store of a version, and opens it, as it is, unless the format was refused.
     pub(crate) fn start(
         alloc: A,
         configured: Configured<'a, A>,
+        version: Version,
         area: u32,
     ) -> Result<Running<'a, A>, LineFault>
         ensures { IfOk result (λ running. Lived ⟦<MemoryDisk<A> as Disk>⟧ ⟦<Users<A> as AuthHandler>⟧ ⟦<PortRange as RelayAddressGenerator>⟧ running.player
-            ⊎ IsRefused area running.player) }
+            ⊎ IsRefused version area running.player) }
     {
         let Configured {
             config,
@@ -123,12 +150,13 @@ impl<'a, A: Allocator + Copy> Running<'a, A> {
             realm,
             passwords,
         } = configured;
-        let (disk, outcome) = format_disk(alloc, config.limits(), area)?;
+        let (disk, outcome) = format_disk(alloc, config.limits(), version, area)?;
         let client = Client {
             realm,
             passwords,
             nonces: Nonces::new(*config.secret()),
             nonce: None,
+            token: None,
         };
         let mut running = Running {
             alloc,
@@ -148,7 +176,7 @@ impl<'a, A: Allocator + Copy> Running<'a, A> {
         ensures same { OnOk result (IsErr formatted → self.new.player ≡ self.old.player) }
     {
         match formatted {
-            Ok(()) => self.play(&[Step::Reopen]),
+            Ok(()) => self.play(&[Step::Reopen { carry: false }]),
             Err(FormatRefused::Device) => self.say("device"),
             Err(FormatRefused::AreaTooSmall(needed)) => {
                 let line = format!(in self.alloc; "area too small {needed}")?;
@@ -171,7 +199,7 @@ impl<'a, A: Allocator + Copy> Running<'a, A> {
             self.old.player self.new.player) }
     {
         let events = self.player.run(steps)?;
-        put_events(self.alloc, &mut self.lines, events)?;
+        put_events(self.alloc, &mut self.lines, &mut self.client.token, events)?;
         Ok(())
     }
 
@@ -292,7 +320,7 @@ impl<'a, A: Allocator + Copy> Running<'a, A> {
             Line::Fail(call) => self.play(&[Step::Fail(*call)]),
             Line::Stop(call) => self.play(&[Step::Stop(*call)]),
             Line::Crash(outcome) => self.play(&[Step::Crash(*outcome)]),
-            Line::Reopen => self.play(&[Step::Reopen]),
+            Line::Reopen => self.play(&[Step::Reopen { carry: true }]),
             Line::Table => self.table(),
             Line::Expect(text) => self.expect(text),
         }

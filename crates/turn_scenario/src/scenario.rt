@@ -7,11 +7,12 @@ use std::alloc::{Allocator, Global};
 use std::mem;
 use turn_config::values::{number_32, split_once};
 use turn_config::{ConfigLines, is_skipped};
+use turn_record::Version;
 
 /// How far a scenario is.
 #[derive(Drop)]
 enum Stage<'a, A: Allocator = Global> {
-    /// Before the `format` line.
+    /// Before the line `format` or `format1`.
     Configuring(ConfigLines<'a, A>),
     Running(Running<'a, A>),
 }
@@ -23,23 +24,25 @@ struct Scenario<'a, A: Allocator = Global> {
     stage: Stage<'a, A>,
 }
 
-/// The size of an area, where a line is `format` with one.
-fn format_line(line: &[u8]) -> Option<&[u8]> {
+/// The version of a store and the size of its areas, where a line is `format` or `format1` with one.
+fn format_line(line: &[u8]) -> Option<(Version, &[u8])> {
     match split_once(line, b' ') {
-        Some((b"format", size)) => Some(size),
+        Some((b"format", size)) => Some((Version::V2, size)),
+        Some((b"format1", size)) => Some((Version::V1, size)),
         _ => None,
     }
 }
 
-/// The scenario after its `format` line. A needed line that is missing makes the `format` line bad.
+/// The scenario after its `format` or `format1` line. A needed line that is missing makes that line bad.
 fn start<'a, A: Allocator + Copy>(
     alloc: A,
     lines: ConfigLines<'a, A>,
+    version: Version,
     size: &[u8],
 ) -> Result<Stage<'a, A>, LineFault> {
     let area = number_32(size).ok_or(LineFault::Bad)?;
     let configured = lines.finish()?.ok_or(LineFault::Bad)?;
-    Ok(Stage::Running(Running::start(alloc, configured, area)?))
+    Ok(Stage::Running(Running::start(alloc, configured, version, area)?))
 }
 
 fn configure<'a, A: Allocator + Copy>(
@@ -47,9 +50,9 @@ fn configure<'a, A: Allocator + Copy>(
     lines: &mut ConfigLines<'a, A>,
     line: &'a [u8],
 ) -> Result<Option<Stage<'a, A>>, LineFault> {
-    if let Some(size) = format_line(line) {
+    if let Some((version, size)) = format_line(line) {
         let lines = mem::replace(lines, ConfigLines::new(alloc));
-        return Ok(Some(start(alloc, lines, size)?));
+        return Ok(Some(start(alloc, lines, version, size)?));
     }
     if lines.take(line)? {
         Ok(None)
@@ -70,7 +73,7 @@ impl<'a, A: Allocator + Copy> Scenario<'a, A> {
         Ok(())
     }
 
-    /// The report of a scenario whose lines were all taken: empty before `format`.
+    /// The report of a scenario whose lines were all taken: empty before `format` or `format1`.
     fn into_report(self) -> Report<A> {
         let Scenario { alloc, stage } = self;
         match stage {

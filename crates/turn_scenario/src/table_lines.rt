@@ -2,7 +2,7 @@
 
 use std::alloc::{AllocError, Allocator};
 use turn_config::{ShownEndpoint, ShownIp};
-use turn_history::Channel;
+use turn_history::{Channel, Reservation};
 use turn_table::{Entry, Table};
 use turn_types::{FiveTuple, Moment};
 
@@ -52,8 +52,24 @@ fn put_entry<A: Allocator + Copy>(
     put_channels(alloc, entry.channels(), second, lines)
 }
 
+fn put_reserved<A: Allocator + Copy>(
+    alloc: A,
+    ports: &[(u16, Reservation)],
+    second: u64,
+    lines: &mut Vec<String<A>, A>,
+) -> Result<(), AllocError> {
+    for (port, reservation) in ports {
+        let expiry = reservation.expiry;
+        if second < expiry {
+            let token = hex::encode(alloc, &reservation.token.0)?;
+            lines.push(format!(in alloc; "reserved {port} {token} {expiry}")?)?;
+        }
+    }
+    Ok(())
+}
+
 /// Adds the lines of what is live in a table at a moment: of each allocation, ascending by five-tuple, its line and those of
-/// its permissions and channels, and in the end how many allocations there are.
+/// its permissions and channels; of each reserved port, ascending, its line; and in the end how many allocations there are.
 pub fn put_table<A: Allocator + Copy>(
     alloc: A,
     table: &Table<A>,
@@ -68,6 +84,7 @@ pub fn put_table<A: Allocator + Copy>(
             put_entry(alloc, tuple, entry, second, lines)?;
         }
     }
+    put_reserved(alloc, table.reserved_ports(), second, lines)?;
     lines.push(format!(in alloc; "live {live}")?)?;
     Ok(())
 }

@@ -4,7 +4,7 @@ use super::{SETTINGS, expect_lines, expect_parts, expect_rows, repeated};
 use std::alloc::Global;
 use std::process::Abort;
 
-const GOOD: [&[u8]; 33] = [
+const GOOD: [&[u8]; 34] = [
     b"",
     b"#",
     b"#\xff\r\n\n\n# commit 5",
@@ -38,6 +38,7 @@ const GOOD: [&[u8]; 33] = [
     b"ask 001.02.3.4:05 alice 000000000000000000000000 allocate",
     b"nonce 7\nask 1.2.3.4:5 alice 000000000000000000000000 allocate",
     b"raw 1.2.3.4:5 0123456789abcdefABCDEF",
+    b"ask 1.2.3.4:5 bob 000000000000000000000000 allocate token=0123456789abcDEF token=0000000000000000 even",
 ];
 
 #[test]
@@ -143,7 +144,7 @@ fn a_malformed_failure_is_a_bad_line(rt: HostRuntime) {
     expect_lines(&rt, rt.alloc(), &BAD_FAILURES, "line 11: bad line\n");
 }
 
-const BAD_ASKS: [&[u8]; 42] = [
+const BAD_ASKS: [&[u8]; 49] = [
     b"ask",
     b"ask 1.2.3.4:5",
     b"ask 1.2.3.4:5 alice",
@@ -186,6 +187,13 @@ const BAD_ASKS: [&[u8]; 42] = [
     b"ask 1.2.3.4:5 alice 000000000000000000000000 allocate df=1",
     b"ask 1.2.3.4:5 alice 000000000000000000000000 allocate =5",
     b"ask 1.2.3.4:5 alice 000000000000000000000000 allocate Life=5",
+    b"ask 1.2.3.4:5 alice 000000000000000000000000 allocate token",
+    b"ask 1.2.3.4:5 alice 000000000000000000000000 allocate token=",
+    b"ask 1.2.3.4:5 alice 000000000000000000000000 allocate token=0123456789abcde",
+    b"ask 1.2.3.4:5 alice 000000000000000000000000 allocate token=0123456789abcdef0",
+    b"ask 1.2.3.4:5 alice 000000000000000000000000 allocate token=0123456789abcdeg",
+    b"ask 1.2.3.4:5 alice 000000000000000000000000 allocate token=Last",
+    b"ask 1.2.3.4:5 alice 000000000000000000000000 allocate token=last",
 ];
 
 #[test]
@@ -194,9 +202,9 @@ fn a_malformed_request_is_a_bad_line(rt: HostRuntime) {
 }
 
 const EARLIER: [(&str, &str); 3] = [
-    ("format 238\nat 1\nat 0", "line 12: bad line\n"),
-    ("format 238\nat 5\ncommit\nat 4", "line 13: bad line\n"),
-    ("format 238\nat 5\ncrash kept\nat 4", "line 13: bad line\n"),
+    ("format1 238\nat 1\nat 0", "line 12: bad line\n"),
+    ("format1 238\nat 5\ncommit\nat 4", "line 13: bad line\n"),
+    ("format1 238\nat 5\ncrash kept\nat 4", "line 13: bad line\n"),
 ];
 
 #[test]
@@ -206,14 +214,14 @@ fn an_earlier_moment_is_a_bad_line(rt: HostRuntime) {
 
 /// A `send` with so many bytes of data has this outcome. Its attributes have 16 bytes, the data and padding.
 fn expect_send(rt: &impl Abort, alloc: Global, count: u32, outcome: &str) {
-    let front = "format 238\nsend 1.2.3.4:5 1.2.3.4:5 ";
+    let front = "format1 238\nsend 1.2.3.4:5 1.2.3.4:5 ";
     let data = repeated(rt, alloc, "00", count);
     expect_parts(rt, alloc, SETTINGS, &[front, &data], outcome);
 }
 
 /// An `ask` with so many peers has this outcome. Its attributes have 136 bytes and 12 of each peer.
 fn expect_peers(rt: &impl Abort, alloc: Global, count: u32, outcome: &str) {
-    let front = "format 238\nask 1.2.3.4:5 alice 000000000000000000000000 permit";
+    let front = "format1 238\nask 1.2.3.4:5 alice 000000000000000000000000 permit";
     let peers = repeated(rt, alloc, " peer=1.2.3.4:5", count);
     expect_parts(rt, alloc, SETTINGS, &[front, &peers], outcome);
 }

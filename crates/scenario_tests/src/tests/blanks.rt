@@ -98,7 +98,7 @@ fn a_line_has_single_blanks_and_all_its_words(rt: HostRuntime) {
     expect_kinds(&rt, rt.alloc(), &before, &LINE_KINDS, "line 11: bad line\n");
 }
 
-const FORMAT: Kind = ("format", "238");
+const FORMATS: [Kind; 2] = [("format", "304"), ("format1", "238")];
 
 #[test]
 fn a_line_of_one_word_is_this_word(rt: HostRuntime) {
@@ -106,5 +106,5 @@ fn a_line_of_one_word_is_this_word(rt: HostRuntime) {
     for word in &WORDS {
         expect_word(&rt, rt.alloc(), &before, word, "line 11: bad line\n");
     }
-    expect_kind(&rt, rt.alloc(), SETTINGS, &FORMAT, "line 10: bad line\n");
+    expect_kinds(&rt, rt.alloc(), SETTINGS, &FORMATS, "line 10: bad line\n");
 }

@@ -7,7 +7,7 @@ use super::expect_rows;
 /// no device call.
 const FAILURES: [(&str, &str); 5] = [
     (
-        "format 238
+        "format1 238
 ask 192.0.2.1:32853 alice 0102030405060708090a0b0c allocate
 fail 1
 commit
@@ -31,7 +31,7 @@ committed 0
 ",
     ),
     (
-        "format 238
+        "format1 238
 fail 1
 commit
 reopen
@@ -48,7 +48,7 @@ opened clock 0
 ",
     ),
     (
-        "format 238
+        "format1 238
 stop 2
 stop 9
 ask 192.0.2.1:32853 alice 0102030405060708090a0b0c allocate
@@ -67,7 +67,7 @@ live 0
 ",
     ),
     (
-        "format 238
+        "format1 238
 fail 1
 fail 5
 ask 192.0.2.1:32853 alice 0102030405060708090a0b0c allocate
@@ -83,7 +83,7 @@ opened clock 0
 ",
     ),
     (
-        "format 238
+        "format1 238
 ask 192.0.2.1:32853 alice 0102030405060708090a0b0c allocate
 stop 3
 fail 7
@@ -110,11 +110,11 @@ fn device_calls_fail_as_the_lines_say(rt: HostRuntime) {
 /// What was staged is lost with `reopen` and `crash`.
 const STAGED: [(&str, &str); 2] = [
     (
-        "format 238\nask 192.0.2.1:5 alice 000000000000000000000001 allocate\nreopen\ncommit\ntable",
+        "format1 238\nask 192.0.2.1:5 alice 000000000000000000000001 allocate\nreopen\ncommit\ntable",
         "opened clock 0\nopened clock 0\ncommitted 0\nlive 0\n",
     ),
     (
-        "format 238\nask 192.0.2.1:5 alice 000000000000000000000001 allocate\ncrash kept\ncommit\ntable",
+        "format1 238\nask 192.0.2.1:5 alice 000000000000000000000001 allocate\ncrash kept\ncommit\ntable",
         "opened clock 0\nopened clock 0\ncommitted 0\nlive 0\n",
     ),
 ];

@@ -6,7 +6,7 @@ use std::alloc::{Allocator, Global};
 use std::process::Abort;
 use turn_scenario::{Report, ScenarioFault, replay};
 
-const LINES: &str = "format 238
+const LINES: &str = "format1 238
 ask 192.0.2.1:5 alice 000000000000000000000001 allocate life=600
 commit
 send 192.0.2.1:5 203.0.113.5:7000 00
@@ -17,6 +17,20 @@ ask 192.0.2.1:5 alice 000000000000000000000002 bind chan=4000 peer=203.0.113.5:7
 commit
 table
 crash kept
+table
+";
+
+/// A store that a crash carries over, and a port that is then reserved.
+const CARRIED: &str = "format1 304
+ask 192.0.2.1:5 alice 000000000000000000000001 allocate
+commit
+crash kept
+ask 192.0.2.2:5 bob 000000000000000000000002 allocate even+
+commit
+table
+ask 192.0.2.1:6 bob 000000000000000000000003 allocate token=0123456789abcdef
+commit
+reopen
 table
 ";
 
@@ -115,12 +129,21 @@ fn refuse_each(rt: &impl Abort, alloc: Global, scenario: &[u8], whole: &Report) 
     panic!(rt; "some growth is always refused");
 }
 
+/// Refuses each growth of a scenario, some of an arrival or an opening and some of the disk's record.
+fn expect_told(rt: &impl Abort, alloc: Global, lines: &str) {
+    let scenario = joined(rt, alloc, &[SETTINGS, lines]);
+    let whole = replay(alloc, scenario.as_bytes()).expect(rt, "a report");
+    let told = refuse_each(rt, alloc, scenario.as_bytes(), &whole);
+    assert!(rt; told.memory);
+    assert!(rt; told.device);
+}
+
 #[test]
 fn each_growth_is_refused(rt: HostRuntime) {
-    let scenario = joined(&rt, rt.alloc(), &[SETTINGS, LINES]);
-    let whole = replay(rt.alloc(), scenario.as_bytes()).expect(&rt, "a report");
-    let told = refuse_each(&rt, rt.alloc(), scenario.as_bytes(), &whole);
-    assert!(rt; told.memory);
-    // Of the disk's record.
-    assert!(rt; told.device);
+    expect_told(&rt, rt.alloc(), LINES);
+}
+
+#[test]
+fn each_growth_of_a_store_that_is_carried_over_is_refused(rt: HostRuntime) {
+    expect_told(&rt, rt.alloc(), CARRIED);
 }

@@ -253,7 +253,7 @@ fn expect_error(
         ],
     );
     let parts = [
-        "user robertson x\nformat 238\n",
+        "user robertson x\nformat1 238\n",
         front,
         "ask 192.0.2.1:5 ",
         asked,
@@ -326,7 +326,7 @@ fn a_nonce_is_that_of_its_line(rt: HostRuntime) {
 
 /// A challenge, an error response without MESSAGE-INTEGRITY.
 const CHALLENGES: [(&str, &str); 1] = [(
-    "format 238\nraw 192.0.2.1:5 000300002112a4420102030405060708090a0b0c\ncommit",
+    "format1 238\nraw 192.0.2.1:5 000300002112a4420102030405060708090a0b0c\ncommit",
     "opened clock 0\nclient 192.0.2.1:5 error allocate 0102030405060708090a0b0c 401\ncommitted 1\n",
 )];
 

@@ -10,7 +10,7 @@ use turn_engine::{CommitRefused, SubmitRefused};
 use turn_player::{Event, Player, Step};
 use turn_scenario::event_text;
 use turn_step::Arrival;
-use turn_store::{OpenFault, format};
+use turn_store::{OpenFault, format_version1};
 use turn_types::{Endpoint, FiveTuple, Limits, Moment};
 
 const BINDING: &[u8] =
@@ -43,7 +43,7 @@ type Refused<'a> = Player<&'a Refusing<Global>>;
 
 fn format_disk(rt: &impl Abort, disk: &mut MemoryDisk<&Refusing<Global>>, limits: Limits) {
     assert!(rt; disk.size() == 540);
-    assert!(rt; format(disk, limits, 238).is_ok());
+    assert!(rt; format_version1(disk, limits, 238).is_ok());
 }
 
 /// A disk with an empty store.
@@ -74,7 +74,7 @@ fn player<'a>(rt: &impl Abort, refusing: &'a Refusing<Global>) -> Refused<'a> {
 /// Whether no later call succeeds, and there is no server.
 fn is_spent(player: &mut Refused<'_>) -> bool {
     player.run(&[]).is_err()
-        && player.run(&[Step::Reopen]).is_err()
+        && player.run(&[Step::Reopen { carry: true }]).is_err()
         && matches!(player.server(), Err(Event::Closed))
 }
 
@@ -144,14 +144,14 @@ fn run<'a>(
 ) -> Option<Vec<Event<&'a Refusing<Global>>, &'a Refusing<Global>>> {
     let moment = Moment::new(5).expect(rt, "a moment");
     let run = player.run(&[
-        Step::Reopen,
+        Step::Reopen { carry: true },
         Step::Arrive(moment, ARRIVAL),
         Step::Commit,
         Step::Crash(Outcome::Kept),
         Step::Commit,
         Step::Fail(0),
         Step::Stop(0),
-        Step::Reopen,
+        Step::Reopen { carry: true },
     ]);
     match run {
         Ok(events) => Some(events),

@@ -136,7 +136,7 @@ impl Rounds {
     }
 }
 
-const FIRST: &str = "format 238
+const FIRST: &str = "format1 238
 at 1000
 ask 192.0.2.1:5 alice 000000000000000000000001 allocate
 commit

@@ -173,10 +173,10 @@ fn at_most_64_ranges_are_denied(rt: HostRuntime) {
 }
 
 const MISSING: [&[u8]; 4] = [
-    b"#\nsecret 0000000000000000000000000000000000000000000000000000000000000000\nlisten 1.2.3.4:5\nrelay 1.2.3.4 5 5\nformat 238",
-    b"#\nrealm a\nlisten 1.2.3.4:5\nrelay 1.2.3.4 5 5\nformat 238",
-    b"#\nrealm a\nsecret 0000000000000000000000000000000000000000000000000000000000000000\nrelay 1.2.3.4 5 5\nformat 238",
-    b"#\nrealm a\nsecret 0000000000000000000000000000000000000000000000000000000000000000\nlisten 1.2.3.4:5\nformat 238",
+    b"#\nsecret 0000000000000000000000000000000000000000000000000000000000000000\nlisten 1.2.3.4:5\nrelay 1.2.3.4 5 5\nformat1 238",
+    b"#\nrealm a\nlisten 1.2.3.4:5\nrelay 1.2.3.4 5 5\nformat1 238",
+    b"#\nrealm a\nsecret 0000000000000000000000000000000000000000000000000000000000000000\nrelay 1.2.3.4 5 5\nformat1 238",
+    b"#\nrealm a\nsecret 0000000000000000000000000000000000000000000000000000000000000000\nlisten 1.2.3.4:5\nformat1 238",
 ];
 
 #[test]
@@ -184,24 +184,33 @@ fn a_missing_setting_makes_format_a_bad_line(rt: HostRuntime) {
     expect_each(&rt, rt.alloc(), "", &MISSING, "line 5: bad line\n");
 }
 
-const FORMATS: [(&str, &str); 16] = [
-    ("format 238", "opened clock 0\n"),
-    ("\n\nformat 00000000000000000238\n", "opened clock 0\n"),
+const FORMATS: [(&str, &str); 25] = [
+    ("format1 238", "opened clock 0\n"),
+    ("\n\nformat1 00000000000000000238\n", "opened clock 0\n"),
     ("format 4096", "opened clock 0\n"),
     ("format", "line 10: bad line\n"),
     ("format ", "line 10: bad line\n"),
     ("format x", "line 10: bad line\n"),
     ("format -1", "line 10: bad line\n"),
-    ("format 238 ", "line 10: bad line\n"),
-    (" format 238", "line 10: bad line\n"),
-    ("format 238 238", "line 10: bad line\n"),
+    ("format1 238 ", "line 10: bad line\n"),
+    (" format1 238", "line 10: bad line\n"),
+    ("format1 238 238", "line 10: bad line\n"),
     ("format 4294967296", "line 10: bad line\n"),
     ("format 18446744073709551616", "line 10: bad line\n"),
-    ("format 0", "area too small 238\n"),
-    ("format 237", "area too small 238\n"),
-    ("format 238\nformat 238", "line 11: bad line\n"),
+    ("format 0", "area too small 304\n"),
+    ("format1 237", "area too small 238\n"),
+    ("format1 238\nformat1 238", "line 11: bad line\n"),
+    ("format 303", "area too small 304\n"),
+    ("format 304", "opened clock 0\n"),
+    ("format1 304", "opened clock 0\n"),
+    ("format1", "line 10: bad line\n"),
+    ("format1 ", "line 10: bad line\n"),
+    ("format2 304", "line 10: bad line\n"),
+    ("format 1 304", "line 10: bad line\n"),
+    ("format 304\nformat1 238", "line 11: bad line\n"),
+    ("format1 238\nformat 304", "line 11: bad line\n"),
     (
-        "format 237\nreopen\ntable\ncommit\nraw 192.0.2.1:5 -\npeer 50000 192.0.2.1:5 -\ncrash kept\nfail 1\nreopen",
+        "format1 237\nreopen\ntable\ncommit\nraw 192.0.2.1:5 -\npeer 50000 192.0.2.1:5 -\ncrash kept\nfail 1\nreopen",
         "area too small 238\nnot a store\nclosed\nclosed\nclosed\nclosed\nnot a store\ndevice\n",
     ),
 ];
@@ -211,10 +220,12 @@ fn format_opens_a_store_or_says_why_not(rt: HostRuntime) {
     expect_rows(&rt, rt.alloc(), &FORMATS);
 }
 
-/// The min area of the max limits has 1,515,873 bytes, and that of the settings 238.
-const AREAS: [(&[u8], &str); 2] = [
-    (b"format 1515872", "area too small 1515873\n"),
-    (b"format 1515873", "opened clock 0\n"),
+/// The min area of the max limits has 1,544,037 bytes, in version 1 1,515,873, and that of the settings 304 and 238.
+const AREAS: [(&[u8], &str); 4] = [
+    (b"format 1544036", "area too small 1544037\n"),
+    (b"format 1544037", "opened clock 0\n"),
+    (b"format1 1515872", "area too small 1515873\n"),
+    (b"format1 1515873", "opened clock 0\n"),
 ];
 
 #[test]
