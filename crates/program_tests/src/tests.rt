@@ -1,3 +1,5 @@
+mod carrying;
+mod checks;
 mod conversations;
 mod faults;
 mod formats;
@@ -7,8 +9,10 @@ mod kinds;
 mod locks;
 mod memory;
 mod moments;
+mod old_stores;
 mod own;
 mod paced;
+mod pairs;
 mod replay;
 mod serving;
 mod sockets;
@@ -22,13 +26,20 @@ mod writers;
 
 use std::rt::Clock;
 use std::test::Fail;
-use turn_program::run_words;
+use turn_program::{Release, run_words};
 
 const FROM: &str = "192.0.2.1:32853";
 
 const BINDING: &str = "000100002112a4420102030405060708090a0b0c";
 
 const SUCCESS: &str = "0101000c2112a4420102030405060708090a0b0c002000080001a147e112a643\n";
+
+/// What a program of these tests says it is made from.
+pub const RELEASE: Release<'static> = Release {
+    version: "1.2.3",
+    sources: "00ff",
+    toolchain: "a toolchain",
+};
 
 const USAGE: &str = "turn: usage\n";
 
@@ -44,7 +55,7 @@ fn expect_by<C: Clock>(
     let mut line = vec![in rt.alloc(); "turn"]?;
     line.extend_from_slice(words)?;
     let (mut written, mut said) = (Vec::new(rt.alloc()), Vec::new(rt.alloc()));
-    let got = run_words(rt, clock, line.as_slice(), &mut written, &mut said);
+    let got = run_words(rt, clock, RELEASE, line.as_slice(), &mut written, &mut said);
     if got != status || written.as_slice() != out.as_bytes() || said.as_slice() != err.as_bytes() {
         return Err(Fail::new(format_args!("{words:?}")));
     }

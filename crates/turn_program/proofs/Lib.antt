@@ -1,1 +1,2 @@
 pub mod NoUsers
+pub mod StoreFaults

@@ -47,6 +47,7 @@ abbrev pub of_reading : ReadingFault → Fault
 of_reading reading_faults.Device = Device
 of_reading reading_faults.Memory = Memory
 of_reading reading_faults.NotAStore = NotAStore
+of_reading reading_faults.LimitsDiffer = LimitsDiffer
 of_reading (reading_faults.Damaged place) = Damaged place
 of_reading reading_faults.Changing = StoreInUse
 

@@ -129,6 +129,7 @@ impl From<ReadingFault> for Fault {
             ReadingFault::Device => Fault::Device,
             ReadingFault::Memory => Fault::Memory,
             ReadingFault::NotAStore => Fault::NotAStore,
+            ReadingFault::LimitsDiffer => Fault::LimitsDiffer,
             ReadingFault::Damaged(place) => Fault::Damaged(place),
             // A server writes to it.
             ReadingFault::Changing => Fault::StoreInUse,

@@ -1,6 +1,6 @@
 //! Files that are read whole.
 
-ghost use Rattle.std.specs.Prelude.{◌≤◌, ◌^◌, IfOk, vec_len};
+ghost use Rattle.std.specs.Prelude.{◌≡◌, ◌⊎◌, ◌≤◌, ◌^◌, IfErr, IfOk, vec_len};
 
 use crate::fault::Fault;
 use std::alloc::Global;
@@ -17,7 +17,8 @@ const STANDARD_INPUT: &str = "/dev/stdin";
 
 /// What is left to be read of a file, at most 16,777,216 bytes.
 fn read_rest<F: Read + Drop>(alloc: Global, file: F) -> Result<Vec<u8>, Fault>
-    ensures { IfOk result (λ bytes. vec_len bytes ≤ 2 ^ 24) }
+    ensures bytes { IfOk result (λ bytes. vec_len bytes ≤ 2 ^ 24) }
+    ensures fault { IfErr result (λ fault. (fault ≡ Fault.Device) ⊎ (fault ≡ Fault.Memory)) }
 {
     let mut bytes = Vec::new(alloc);
     match file.take(MAX_FILE + 1).read_to_end(&mut bytes) {
@@ -34,7 +35,8 @@ fn read_rest<F: Read + Drop>(alloc: Global, file: F) -> Result<Vec<u8>, Fault>
 /// The bytes of a regular file. One that can't be opened or read, isn't regular, or has more than 16,777,216 bytes, is a
 /// device fault.
 pub fn read_whole<R: Files>(files: &R, alloc: Global, path: &str) -> Result<Vec<u8>, Fault>
-    ensures { IfOk result (λ bytes. vec_len bytes ≤ 2 ^ 24) }
+    ensures bytes { IfOk result (λ bytes. vec_len bytes ≤ 2 ^ 24) }
+    ensures fault { IfErr result (λ fault. (fault ≡ Fault.Device) ⊎ (fault ≡ Fault.Memory)) }
 {
     let mut options = OpenOptions::new();
     options.read(true);

@@ -3,6 +3,7 @@
 ghost use Rattle.std.specs.Prelude.{◌≡◌, [], ◌+◌, ◌*◌, ◌↔◌, ◌<◌, ◌≤◌, Err, IfErr, OnErr, OnOk, length};
 ghost use Rattle.turn_disk.specs.Counts.{CountOutcome, Rises};
 ghost use Rattle.turn_program.specs.declared.fault.Fault.TheVariants as faults;
+ghost use Rattle.turn_record.specs.declared.version.Version.TheVariants.{V2};
 ghost use Rattle.turn_store.specs.Format.{IsFormatted};
 ghost use Rattle.turn_store.specs.Images.{EachImage, StandsForAt};
 ghost use Rattle.turn_store.specs.Superblock.{least_area};
@@ -51,7 +52,7 @@ fn write_zeros<D: Disk>(alloc: Global, disk: &mut D) -> Result<(), Fault>
     Ok(())
 }
 
-/// Makes a disk a store of these limits, which holds nothing. First it writes zeros over all its bytes, so that a device
+/// Makes a disk a store of version 2 and of these limits, which holds nothing. First it writes zeros over all its bytes, so that a device
 /// that has no room for them fails here.
 pub fn format_disk<D: Disk>(
     alloc: Global,
@@ -64,9 +65,9 @@ pub fn format_disk<D: Disk>(
     ensures honest { D.is_honest disk.new ↔ D.is_honest disk.old }
     ensures count { OnOk result (D.failed disk.new ≡ D.failed disk.old) }
 
-    // The first area counts, with generation 1, and each image stands for the empty history.
+    // The first area counts, of version 2 and with generation 1, and each image stands for the empty history.
     ensures formatted { D.is_honest disk.old
-        → OnOk result (IsFormatted (record { bounds = limits; area = area }) (D.trace disk.new).now) }
+        → OnOk result (IsFormatted V2 (record { bounds = limits; area = area }) (D.trace disk.new).now) }
     ensures done { D.is_honest disk.old
         → OnOk result (EachImage (D.trace disk.new).now (StandsForAt (record { bounds = limits; area = area }) [] 0)) }
 {
@@ -83,9 +84,9 @@ fn limits_in(alloc: Global, text: &[u8]) -> Result<Limits, Fault> {
 
 /// Refuses an area that is below the min size under the limits.
 fn judge_area(limits: Limits, area: usize) -> Result<(), Fault>
-    ensures ok { OnOk result (least_area limits ≤ area) }
-    ensures refused { OnErr result (area < least_area limits) }
-    ensures fault { IfErr result (λ fault. fault ≡ faults.AreaTooSmall (least_area limits)) }
+    ensures ok { OnOk result (least_area V2 limits ≤ area) }
+    ensures refused { OnErr result (area < least_area V2 limits) }
+    ensures fault { IfErr result (λ fault. fault ≡ faults.AreaTooSmall (least_area V2 limits)) }
 {
     let needed = least_area(limits);
     if area < needed {

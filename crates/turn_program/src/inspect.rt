@@ -19,7 +19,11 @@ fn lines_of(
     reading: &Reading,
     at: Option<Moment>,
 ) -> Result<Vec<String>, AllocError> {
-    let Info { generation, frames } = reading.info;
+    let Info {
+        generation,
+        frames,
+        ..
+    } = reading.info;
     let clock = reading.table.moment();
     let second = clock.seconds();
     let mut lines = Vec::new(alloc);
@@ -37,6 +41,6 @@ pub fn run_inspect<R: Files<File = File> + AllocGlobal, C: Clock, W: Write>(
     out: &mut W,
 ) -> Result<(), Fault> {
     let disk = FileDisk::open_to_read(rt, store)?;
-    let reading = read_store(rt.alloc(), clock, disk)?;
+    let reading = read_store(rt.alloc(), clock, disk, None)?;
     print_lines(rt.alloc(), &lines_of(rt.alloc(), &reading, at)?, out)
 }

@@ -2,17 +2,20 @@
 #![tactic(auto)]
 
 mod answer;
+mod check;
 mod demo;
 mod fault;
 mod files;
 mod format;
 mod inspect;
+mod prepare;
 mod print;
 mod program;
 mod replay;
 mod reply;
 mod serve;
 mod streams;
+mod version;
 
 pub use fault::Fault;
 pub use files::{read_scenario, read_whole};
@@ -20,3 +23,4 @@ pub use format::format_disk;
 pub use program::{report, run_words};
 pub use reply::reply_to;
 pub use streams::fill_streams;
+pub use version::Release;

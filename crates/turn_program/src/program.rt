@@ -4,12 +4,14 @@ ghost use Rattle.std.specs.Prelude.{◌≡◌};
 ghost use Rattle.turn_program.specs.Status.{status_of, IsStatus};
 
 use crate::answer::run_answer;
+use crate::check::run_check;
 use crate::demo::run_demo;
 use crate::fault::Fault;
 use crate::format::run_format;
 use crate::inspect::run_inspect;
 use crate::replay::run_replay;
 use crate::serve::{Service, run_serve};
+use crate::version::{Release, run_version};
 use std::convert::AsStr;
 use std::fs::File;
 use std::io::Write;
@@ -21,6 +23,7 @@ use turn_words::{Command, command_of};
 fn run_command<R: Files<File = File> + Net + RandomSource + Drop + AllocGlobal, C: Clock, W: Write>(
     rt: &R,
     clock: &C,
+    release: Release<'_>,
     command: &Command,
     out: &mut W,
 ) -> Result<(), Fault> {
@@ -35,6 +38,7 @@ fn run_command<R: Files<File = File> + Net + RandomSource + Drop + AllocGlobal, 
             area,
         } => run_format(rt, config, store, *area, out),
         Command::Inspect { store, at } => run_inspect(rt, clock, store, *at, out),
+        Command::Check { config, store } => { run_check(rt, clock, config, store.as_deref(), out) }
         Command::Serve {
             config,
             store,
@@ -52,6 +56,7 @@ fn run_command<R: Files<File = File> + Net + RandomSource + Drop + AllocGlobal, 
             run_serve(rt, clock, service, out)
         }
         Command::Demo => run_demo(rt, clock, out),
+        Command::Version => run_version(rt.alloc(), release, out),
     }
 }
 
@@ -60,9 +65,9 @@ fn try_words<
     C: Clock,
     S: AsStr,
     W: Write,
->(rt: &R, clock: &C, words: &[S], out: &mut W) -> Result<(), Fault> {
+>(rt: &R, clock: &C, release: Release<'_>, words: &[S], out: &mut W) -> Result<(), Fault> {
     let command = command_of(rt.alloc(), words)?;
-    run_command(rt, clock, &command, out)
+    run_command(rt, clock, release, &command, out)
 }
 
 /// Prints the line of a fault, and gives its exit status. A standard error that takes nothing changes no status.
@@ -73,17 +78,17 @@ pub fn report<E: Write>(fault: Fault, err: &mut E) -> u8
     fault.status()
 }
 
-/// Runs the program on its words, its name first, and gives the exit status.
+/// Runs the program on its words, its name first, and gives the exit status. `release` says what the program is made from.
 pub fn run_words<
     R: Files<File = File> + Net + RandomSource + Drop + AllocGlobal,
     C: Clock,
     S: AsStr,
     W: Write,
     E: Write,
->(rt: &R, clock: &C, words: &[S], out: &mut W, err: &mut E) -> u8
+>(rt: &R, clock: &C, release: Release<'_>, words: &[S], out: &mut W, err: &mut E) -> u8
     ensures { IsStatus result }
 {
-    match try_words(rt, clock, words, out) {
+    match try_words(rt, clock, release, words, out) {
         Ok(()) => 0,
         Err(fault) => report(fault, err),
     }

@@ -4,7 +4,7 @@ ghost use Rattle.std.specs.Prelude.{◌≡◌, IfErr};
 ghost use Rattle.turn_program.specs.Serving.{commits_of};
 
 use crate::fault::Fault;
-use crate::files::read_whole;
+use crate::prepare::{Prepared, prepare};
 use crate::print::print_line;
 use std::fs::File;
 use std::io::Write;
@@ -13,7 +13,7 @@ use std::random::RandomSource;
 use std::rt::{Clock, Files};
 use std::thread;
 use std::time::Duration;
-use turn_config::{Configured, ShownEndpoint, read_config};
+use turn_config::ShownEndpoint;
 use turn_cred::Users;
 use turn_disk::{FileDisk, FileRefused};
 use turn_serving::{Commits, Setup, SocketServing};
@@ -77,16 +77,15 @@ fn start<'a, R: Files<File = File> + Net + RandomSource + Drop + AllocGlobal, C:
     clock: &C,
     service: Service<'_>,
 ) -> Result<FileServing<'a, R>, Fault> {
-    let alloc = rt.alloc();
-    let text = read_whole(rt, alloc, service.config)?;
-    let Configured {
+    let Prepared {
         config,
         users,
         listen,
         ports,
-        ..
-    } = read_config(alloc, &text)?;
-    let disk = open_disk(rt, clock, service.store)?;
+        store: disk,
+    } = prepare(rt, service.config, |_| {
+        open_disk(rt, clock, service.store)
+    })?;
     let setup = Setup {
         config: &config,
         listen,
@@ -96,7 +95,7 @@ fn start<'a, R: Files<File = File> + Net + RandomSource + Drop + AllocGlobal, C:
         commits: commits_of(service.turns),
         seed: random_bytes(rt)?,
     };
-    Ok(setup.start(alloc, rt, clock, disk, users)?)
+    Ok(setup.start(rt.alloc(), rt, clock, disk, users)?)
 }
 
 /// Says where the server listens, takes the turns, and says how many there were.

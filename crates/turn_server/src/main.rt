@@ -4,10 +4,20 @@
 ghost use Rattle.std.specs.Prelude.{◌≡◌, ◌⊎◌, IfErr};
 ghost use Rattle.turn_program.specs.declared.fault.Fault.TheVariants as faults;
 
+mod sources;
+
+use sources::{SOURCES, TOOLCHAIN};
 use std::io::ErrorKind;
 use std::process::ExitCode;
 use std::{env, io};
-use turn_program::{Fault, fill_streams, report, run_words};
+use turn_program::{Fault, Release, fill_streams, report, run_words};
+
+/// What `turn version` says.
+const RELEASE: Release<'static> = Release {
+    version: "0.1.0",
+    sources: SOURCES,
+    toolchain: TOOLCHAIN,
+};
 
 /// The words of the command line, the program's name first. A word that isn't UTF-8 is a usage fault.
 fn words_of(rt: &HostRuntime) -> Result<Vec<String>, Fault>
@@ -26,7 +36,7 @@ fn main(rt: HostRuntime) -> ExitCode {
     let mut out = io::writer(&rt);
     let mut err = rt.stderr();
     let status = match words_of(&rt) {
-        Ok(words) => run_words(&rt, &rt, words.as_slice(), &mut out, &mut err),
+        Ok(words) => run_words(&rt, &rt, RELEASE, words.as_slice(), &mut out, &mut err),
         Err(fault) => report(fault, &mut err),
     };
     ExitCode::from(status)

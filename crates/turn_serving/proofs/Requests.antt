@@ -3,7 +3,6 @@ use Rattle.std.proofs.Common.{◌≡◌, ℕ, ◌==◌, ◌&&◌, ◌||◌, ◌�
 use Rattle.std.proofs.lemmas.Bool.{eqb-true}
 use Rattle.std.proofs.lemmas.List.{append_assoc}
 use Rattle.std.specs.Int.{w16, w32, to_be_bytes}
-use Rattle.turn_history.specs.History.{History, PlainAct}
 use Rattle.turn_history.specs.Table.{Contents, table}
 use Rattle.turn_types.specs.Config.{Config}
 use Rattle.turn_types.specs.Methods.{binding}
@@ -15,8 +14,7 @@ use Rattle.turn_codec.specs.Seen.{has_unknown}
 use Rattle.turn_cred.specs.Credential.{Verdict}
 use Rattle.turn_rules.specs.Answer.{Decided, decision, is_dropped, is_protected, is_request, outcome_of, user_of}
 use Rattle.turn_rules.specs.Outcome.{act_by}
-use Rattle.turn_step.specs.Answer.{AnswersArrival, AnswersClient, Setting}
-use Rattle.turn_step.specs.Outcome.{Arrives, change_of}
+use Rattle.turn_step.specs.Outcome.{change_of}
 use Rattle.turn_step.specs.Outcome.Arrives.{FromClient, FromPeer}
 use Rattle.turn_serving.specs.Requests.{OthersChangeNothing, may_change}
 

@@ -1,6 +1,6 @@
 //! What follows of the contracts of `Setup::start` and `Serving::turn`, as clauses of a function that does nothing.
 
-ghost use Rattle.std.specs.Prelude.{◌≡◌, ℕ, false};
+ghost use Rattle.std.specs.Prelude.{◌≡◌, ℕ};
 ghost use Rattle.turn_engine.specs.Images.{AtLeast};
 ghost use Rattle.turn_engine.specs.Runs.{IsAt, Leads, Place};
 ghost use Rattle.turn_engine.specs.State.{ServerState};
@@ -23,7 +23,7 @@ pub fn turns_make_runs<D: Disk, H: AuthHandler, G: RelayAddressGenerator>()
     ensures starts { (old : D) (config : Config) (users : H) (range : ℕ × ℕ) (server : ServerState D H G) (form : Form) (h : History) (k m : ℕ)
         → Started D.Disk H.AuthHandler G.RelayAddressGenerator old config users range server
         → D.is_honest old → form.bounds ≡ config.limits → EachImage (D.trace old).now (AtLeast form h k m)
-        → BeginsRun D.Disk H.AuthHandler G.RelayAddressGenerator (record { config = config; keys = H.key_of users; range = range; pairs = false }) h k server }
+        → BeginsRun D.Disk H.AuthHandler G.RelayAddressGenerator (record { config = config; keys = H.key_of users; range = range; pairs = server.machine.pairs }) h k server }
     ensures goes_on { (s : Setting) (h : History) (t : ℕ) (old new : ServerState D H G) (p : Place)
         → IsAt D.Disk H.AuthHandler G.RelayAddressGenerator s h t old p → (turn : Served D.Disk H.AuthHandler G.RelayAddressGenerator old new)
         → Leads D.Disk H.AuthHandler G.RelayAddressGenerator s h t old p turn.steps }

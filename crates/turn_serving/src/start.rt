@@ -1,7 +1,9 @@
 //! How a server over sockets is started.
 
-ghost use Rattle.std.specs.Prelude.{◌≡◌, Ok, IfOk, true, unwrap_or};
+ghost use Rattle.std.specs.Prelude.{◌≡◌, Ok, IfOk, true, false, unwrap_or};
+ghost use Rattle.std.specs.List.{list_all};
 ghost use Rattle.turn_engine.specs.Calls.{Opening};
+ghost use Rattle.turn_store.specs.Carrying.{Carries};
 ghost use Rattle.turn_serving.specs.Starts.{IsKept, Started, have_ports};
 
 use crate::fault::StartFault;
@@ -15,6 +17,7 @@ use std::rt::Clock;
 use turn_cred::AuthHandler;
 use turn_disk::Disk;
 use turn_engine::Server;
+use turn_history::Reservation;
 use turn_ports::{PortRange, RelayAddressGenerator};
 use turn_sockets::{Bound, Buffer, DataIds, OwnAddresses, SocketPorts};
 use turn_table::Table;
@@ -37,7 +40,7 @@ pub struct Setup<'c, A: Allocator = Global> {
     pub seed: [u8; 32],
 }
 
-/// Opens the store of a disk. A refusal lets the disk go.
+/// Opens the store of a disk, and carries it over to version 2 if that is asked for and it can be. A refusal lets the disk go.
 fn open<
     D: Disk + Drop,
     H: AuthHandler + Drop,
@@ -49,26 +52,41 @@ fn open<
     config: &ServerConfig<A>,
     handler: H,
     ports: G,
+    carry: bool,
 ) -> Result<Server<D, H, G, A>, StartFault>
     ensures opens { IfOk result (λ server. Opening D.Disk disk config.now handler ports (Ok server)) }
-    ensures kept { IfOk result (λ server. IsKept D.Disk disk server.store.disk) }
+    ensures carried { D.is_honest disk → IfOk result (λ server. Carries carry (D.trace disk).now.bytes server.store) }
+    ensures kept { carry ≡ false → IfOk result (λ server. IsKept D.Disk disk server.store.disk) }
 {
-    match Server::open(alloc, disk, config, handler, ports) {
+    match Server::open_as(alloc, disk, config, handler, ports, carry) {
         Ok(server) => Ok(server),
         Err(refused) => Err(StartFault::Store(refused.fault)),
     }
 }
 
-/// The ports of the allocations of a table.
+/// Adds the ports that a table reserves.
+fn put_reserved<A: Allocator + Copy>(
+    ports: &mut Vec<u16, A>,
+    table: &Table<A>,
+) -> Result<(), AllocError> {
+    for (port, _) in table.reserved_ports() {
+        ports.push(*port)?;
+    }
+    Ok(())
+}
+
+/// The ports of the allocations of a table, and those that it reserves.
 fn ports_of<A: Allocator + Copy>(alloc: A, table: &Table<A>) -> Result<Vec<u16, A>, AllocError> {
     let mut ports = Vec::new(alloc);
     for (_, entry) in table.entries() {
         ports.push(entry.port())?;
     }
+    put_reserved(&mut ports, table)?;
     Ok(ports)
 }
 
-/// Opens the store of a disk, and closes it. Returns the ports of its allocations too.
+/// Opens the store of a disk, which keeps its version, and closes it. Returns the ports of its allocations too, and those that are
+/// reserved.
 fn look_into<D: Disk + Drop, H: AuthHandler + Drop, A: Allocator + Copy>(
     alloc: A,
     disk: D,
@@ -79,7 +97,7 @@ fn look_into<D: Disk + Drop, H: AuthHandler + Drop, A: Allocator + Copy>(
     ensures kept { IfOk result (λ looked. IsKept D.Disk disk looked.0) }
     ensures handler { IfOk result (λ looked. looked.1 ≡ handler) }
 {
-    let server = open(alloc, disk, config, handler, ports)?;
+    let server = open(alloc, disk, config, handler, ports, false)?;
     let ports = ports_of(alloc, server.table())?;
     let (disk, handler, _) = server.close();
     Ok((disk, handler, ports))
@@ -122,7 +140,14 @@ fn bind_all<R: Net, A: Allocator + Copy, C: Clock>(
     Ok(())
 }
 
-/// Whether the port of each allocation has a socket.
+/// Whether each of these reserved ports has a socket.
+fn have_reserved<G: RelaySockets>(ports: &G, reserved: &[(u16, Reservation)]) -> bool
+    ensures { result ≡ list_all (λ p. G.has_socket ports.now p.0) reserved.now }
+{
+    reserved.iter().all(|slot| ports.socket(slot.0).is_some())
+}
+
+/// Whether the port of each allocation has a socket, and each reserved port.
 fn have_sockets<D: Disk, H: AuthHandler, G: RelaySockets, A: Allocator + Copy>(
     server: &Server<D, H, G, A>,
 ) -> bool
@@ -133,7 +158,7 @@ fn have_sockets<D: Disk, H: AuthHandler, G: RelaySockets, A: Allocator + Copy>(
             return false;
         }
     }
-    true
+    have_reserved(server.ports(), server.table().reserved_ports())
 }
 
 impl<'c, A: Allocator + Copy> Setup<'c, A> {
@@ -182,9 +207,10 @@ impl<'c, A: Allocator + Copy> Setup<'c, A> {
         Ok(sockets)
     }
 
-    /// Opens the store of a disk, binds the relay ports of its allocations, opens it again over them, and binds the listening
-    /// socket: so a fault of the store comes before one of a socket. A port that is in use is tried again for two seconds, in
-    /// pauses by the system's clock.
+    /// Opens the store of a disk, binds the relay ports of its allocations and those that it reserves, binds the listening socket, and
+    /// opens the store again over these: so a fault of the store comes before one of a socket. A port that is in use is tried again
+    /// for two seconds, in pauses by the system's clock. The second opening alone carries the store over to version 2, if it can
+    /// be, so that a start which finds a socket at fault leaves the store as it was.
     pub fn start<'a, D: Disk + Drop, H: AuthHandler + Drop, R: Net + Drop, C: Clock>(
         &self,
         alloc: A,
@@ -195,7 +221,7 @@ impl<'c, A: Allocator + Copy> Setup<'c, A> {
     ) -> Result<SocketServing<'a, D, H, R, A>, StartFault>
         ensures started { IfOk result (λ serving. Started D.Disk H.AuthHandler ⟦<SocketPorts<'a, R, A> as RelayAddressGenerator>⟧
             disk self.now.config.now handler self.now.ports serving) }
-        // The relay port of each allocation has a socket.
+        // The relay port of each allocation has a socket, and each reserved port.
         ensures sockets { IfOk result (λ serving. have_ports (⟦<SocketPorts<'a, R, A> as RelaySockets>⟧.has_socket serving.machine.ports)
             serving.machine.table.contents ≡ true) }
     {
@@ -204,11 +230,6 @@ impl<'c, A: Allocator + Copy> Setup<'c, A> {
             return Err(StartFault::Socket);
         };
         let sockets = self.bind_ports(alloc, net, system, &poll, &ports)?;
-        let server = open(alloc, disk, self.config, handler, sockets)?;
-        // A disk that failed between the two openings may have said something else.
-        if !have_sockets(&server) {
-            return Err(StartFault::Socket);
-        }
         let listening = Listening::open(net, system, &poll, self.own())?;
         let waiting = Waiting::new(alloc, poll)?;
         let work = Work {
@@ -216,6 +237,12 @@ impl<'c, A: Allocator + Copy> Setup<'c, A> {
             ids: DataIds::new(),
             kept: self.commits.places(alloc, self.config.limits())?,
         };
+        // This opening may write, so it comes behind all else that may be refused.
+        let server = open(alloc, disk, self.config, handler, sockets, true)?;
+        // A disk that failed between the two openings may have said something else.
+        if !have_sockets(&server) {
+            return Err(StartFault::Socket);
+        }
         Ok(Serving::new(server, listening, waiting, work, self.burst))
     }
 }

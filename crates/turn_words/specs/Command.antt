@@ -3,7 +3,7 @@ use Rattle.std.specs.Prelude.{ℕ, ◌≡◌, ◌≤◌, ◌-◌, ◌^◌, ⊤, 
 use Rattle.hex.specs.Hex.{decode_of}
 use Rattle.turn_types.specs.declared.address.Endpoint.{Endpoint}
 use Rattle.turn_words.specs.declared.command.Command.{Command}
-use Rattle.turn_words.specs.declared.command.Command.TheVariants.{Answer, Replay, Format, Inspect, Serve, Demo}
+use Rattle.turn_words.specs.declared.command.Command.TheVariants.{Answer, Replay, Format, Inspect, Check, Serve, Demo, Version}
 use Rattle.turn_words.specs.declared.fault.WordFault.{WordFault}
 use Rattle.turn_words.specs.declared.fault.WordFault.TheVariants.{Usage, BadDatagram, Memory}
 use Rattle.turn_config.specs.Values.{number_of, IsNumberBelow, IsIp, IsEndpoint}
@@ -63,8 +63,10 @@ IsAnswer from at hex (Answer endpoint moment datagram) =
 IsAnswer from at hex (Replay file) = ⊥
 IsAnswer from at hex (Format config store area) = ⊥
 IsAnswer from at hex (Inspect store moment) = ⊥
+IsAnswer from at hex (Check config store) = ⊥
 IsAnswer from at hex (Serve config store turns burst bind) = ⊥
 IsAnswer from at hex Demo = ⊥
+IsAnswer from at hex Version = ⊥
 
 -- why they make no command: a malformed text before a datagram that is not hex
 abbrev pub IsAnswerFault : List ℕ → Option (List ℕ) → List ℕ → WordFault → Type 0
@@ -80,5 +82,7 @@ IsInRange (Answer endpoint moment datagram) = ⊤
 IsInRange (Replay file) = ⊤
 IsInRange (Format config store area) = ⊤
 IsInRange (Inspect store moment) = ⊤
+IsInRange (Check config store) = ⊤
 IsInRange (Serve config store turns burst bind) = (1 ≤ burst) × (burst ≤ 64)
 IsInRange Demo = ⊤
+IsInRange Version = ⊤

@@ -7,6 +7,7 @@ ghost use Rattle.turn_words.specs.Command.{IsInRange};
 ghost use Rattle.turn_words.specs.declared.fault.WordFault.TheVariants as faults;
 
 mod answer;
+mod check;
 mod format;
 mod inspect;
 mod replay;
@@ -15,6 +16,7 @@ mod words;
 
 use crate::fault::WordFault;
 use answer::{answer_command, answer_of};
+use check::{check_command, check_of};
 use clap::error::ErrorKind;
 use format::{format_command, format_of};
 pub use inspect::shown_at;
@@ -49,6 +51,11 @@ pub enum Command {
         store: String,
         at: Option<Moment>,
     },
+    /// Whether a server would start with a configuration, as far as its sockets, and with a store if one is given.
+    Check {
+        config: String,
+        store: Option<String>,
+    },
     /// A server over sockets and the store in a file, for so many turns if that is given.
     Serve {
         config: String,
@@ -59,6 +66,8 @@ pub enum Command {
     },
     /// A server over sockets that shows what it does.
     Demo,
+    /// What the program is made from.
+    Version,
 }
 
 fn turn_command<'a>(alloc: Global) -> Result<clap::Command<'a>, AllocError> {
@@ -68,8 +77,10 @@ fn turn_command<'a>(alloc: Global) -> Result<clap::Command<'a>, AllocError> {
         .subcommand(replay_command(alloc)?)?
         .subcommand(format_command(alloc)?)?
         .subcommand(inspect_command(alloc)?)?
+        .subcommand(check_command(alloc)?)?
         .subcommand(serve_command(alloc)?)?
-        .subcommand(clap::Command::new(alloc, "demo"))
+        .subcommand(clap::Command::new(alloc, "demo"))?
+        .subcommand(clap::Command::new(alloc, "version"))
 }
 
 /// A refusal of the words, `--help` included, is a usage fault.
@@ -94,8 +105,10 @@ pub fn command_of<S: AsStr>(alloc: Global, words: &[S]) -> Result<Command, WordF
         Some(("replay", found)) => replay_of(alloc, found),
         Some(("format", found)) => format_of(alloc, found),
         Some(("inspect", found)) => inspect_of(alloc, found),
+        Some(("check", found)) => check_of(alloc, found),
         Some(("serve", found)) => serve_of(alloc, found),
         Some(("demo", _)) => Ok(Command::Demo),
+        Some(("version", _)) => Ok(Command::Version),
         _ => Err(WordFault::Usage),
     }
 }

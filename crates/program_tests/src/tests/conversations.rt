@@ -10,7 +10,7 @@ use turn_serving::Commits;
 use turn_store::least_area;
 use turn_types::Method;
 
-type Talk<'a> = Conversation<'a, FileDisk<File>, HostRuntime>;
+pub type Talk<'a> = Conversation<'a, FileDisk<File>, HostRuntime>;
 
 /// What happens after the Allocate.
 #[derive(Clone, Copy)]
@@ -67,7 +67,7 @@ fn is_right(rt: &HostRuntime, talk: &mut Talk<'_>, first: &Allocated, step: Step
 }
 
 /// Drops the server, and opens it again over the store in its file.
-fn reopen<'a>(rt: &'a HostRuntime, talk: Talk<'a>, path: &str) -> Result<Talk<'a>, Fail> {
+pub fn reopen<'a>(rt: &'a HostRuntime, talk: Talk<'a>, path: &str) -> Result<Talk<'a>, Fail> {
     let (disk, loopback) = talk.end();
     drop(disk);
     Ok(loopback.serve(rt, FileDisk::open(rt, path)?)?)
@@ -83,7 +83,7 @@ fn make_disk(rt: &HostRuntime, path: &str) -> Result<FileDisk<File>, Fail> {
 }
 
 /// A server over a new store in a file.
-fn begin<'a>(rt: &'a HostRuntime, path: &str, burst: u8) -> Result<Talk<'a>, Fail> {
+pub fn begin<'a>(rt: &'a HostRuntime, path: &str, burst: u8) -> Result<Talk<'a>, Fail> {
     let disk = make_disk(rt, path)?;
     let ports = PortRange::new(62_000, 62_999).ok_or("a range")?;
     let loopback = Loopback::new(rt.alloc(), rt, ports, burst, Commits::EachTurn)?;

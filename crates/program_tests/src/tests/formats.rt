@@ -14,12 +14,17 @@ relay 198.51.100.1 50000 50009
 limits 2 1 1 1 8
 ";
 
-/// The superblock: areas of 238 bytes, 2 allocations, 1 permission, 1 channel, 1 act, names of 8 bytes.
-const SUPERBLOCK: &[u8] = b"\x52\x54\x55\x52\x4E\x53\x54\x31\x00\x00\x00\x00\x00\x00\x00\xEE\
-    \x00\x00\x00\x02\x00\x01\x00\x01\x00\x01\x00\x08";
+/// A superblock up to the size of an area.
+const MAGIC: &[u8] = b"\x52\x54\x55\x52\x4E\x53\x54\x31";
+
+/// The limits in it: 2 allocations, 1 permission, 1 channel, 1 act, names of 8 bytes.
+const LIMITS: &[u8] = b"\x00\x00\x00\x02\x00\x01\x00\x01\x00\x01\x00\x08";
 
 /// An open gate, version 1, generation 1, a snapshot of 12 bytes.
 const FIRST_AREA: &[u8] = b"\xA5\x01\x00\x00\x00\x00\x00\x00\x00\x01\x00\x00\x00\x0C";
+
+/// An open gate, version 2, generation 1, a snapshot of 16 bytes.
+const FIRST_AREA_2: &[u8] = b"\xA5\x02\x00\x00\x00\x00\x00\x00\x00\x01\x00\x00\x00\x10";
 
 /// Writes bytes over those from a position on.
 pub fn put(content: &mut [u8], at: usize, bytes: &[u8]) {
@@ -28,12 +33,29 @@ pub fn put(content: &mut [u8], at: usize, bytes: &[u8]) {
     }
 }
 
-/// A store of two areas of 238 bytes that holds nothing: what is not written here is zeros.
-pub fn fresh(alloc: Global) -> Result<Vec<u8>, AllocError> {
-    let mut content = Vec::from_elem(alloc, 0u8, 540)?;
-    put(&mut content, 0, SUPERBLOCK);
-    put(&mut content, 64, FIRST_AREA);
+/// A store with areas of this size, of which the first begins so: what is not written here is zeros.
+fn store_of(alloc: Global, area: u16, front: &[u8]) -> Result<Vec<u8>, AllocError> {
+    let mut content = Vec::from_elem(alloc, 0u8, 64 + 2 * usize::from(area))?;
+    put(&mut content, 0, MAGIC);
+    put(&mut content, 14, &area.to_be_bytes());
+    put(&mut content, 16, LIMITS);
+    put(&mut content, 64, front);
     Ok(content)
+}
+
+/// A store of version 1 with areas of this size that holds nothing. The min size is 238.
+pub fn fresh_in(alloc: Global, area: u16) -> Result<Vec<u8>, AllocError> {
+    store_of(alloc, area, FIRST_AREA)
+}
+
+/// A store of version 1 with areas of 238 bytes that holds nothing: for version 2 they are too small.
+pub fn fresh(alloc: Global) -> Result<Vec<u8>, AllocError> {
+    fresh_in(alloc, 238)
+}
+
+/// A store of version 2 with areas of 304 bytes, the min size, that holds nothing.
+pub fn formatted(alloc: Global) -> Result<Vec<u8>, AllocError> {
+    store_of(alloc, 304, FIRST_AREA_2)
 }
 
 /// The content of a file, which is then removed, or nothing if there is no such file.
@@ -77,11 +99,11 @@ fn format(
     Ok(taken(rt, store))
 }
 
-/// A store is fresh after `format`, whatever the file had before.
-fn expect_fresh(rt: &HostRuntime, before: &[u8]) -> Result<(), Fail> {
+/// A store holds nothing after `format`, whatever the file had before.
+fn expect_formatted(rt: &HostRuntime, before: &[u8]) -> Result<(), Fail> {
     let names = ("turn_format.conf", "turn_format.store");
-    let content = format(rt, names, CONFIG.as_bytes(), "238", before, (0, ""))?;
-    if content.as_slice() != fresh(rt.alloc())?.as_slice() {
+    let content = format(rt, names, CONFIG.as_bytes(), "304", before, (0, ""))?;
+    if content.as_slice() != formatted(rt.alloc())?.as_slice() {
         return Err(Fail::new(before.len()));
     }
     Ok(())
@@ -89,10 +111,10 @@ fn expect_fresh(rt: &HostRuntime, before: &[u8]) -> Result<(), Fail> {
 
 #[test]
 fn format_makes_a_store_that_holds_nothing(rt: HostRuntime) -> Result<(), Fail> {
-    expect_fresh(&rt, &[])?;
-    expect_fresh(&rt, b"old")?;
+    expect_formatted(&rt, &[])?;
+    expect_formatted(&rt, b"old")?;
     let longer = Vec::from_elem(rt.alloc(), 9u8, 1000)?;
-    expect_fresh(&rt, &longer)
+    expect_formatted(&rt, &longer)
 }
 
 #[test]
@@ -106,19 +128,20 @@ fn a_larger_area_makes_a_larger_file(rt: HostRuntime) -> Result<(), Fail> {
 /// A configuration, an area, and the status and the fault that come of them.
 type Case = (&'static str, &'static str, u8, &'static str);
 
-const REFUSED: [Case; 7] = [
-    (CONFIG, "237", 2, "turn: area too small, needs 238\n"),
-    (CONFIG, "0", 2, "turn: area too small, needs 238\n"),
-    ("frobnicate", "238", 1, "turn: line 1: bad line\n"),
+const REFUSED: [Case; 8] = [
+    (CONFIG, "303", 2, "turn: area too small, needs 304\n"),
+    (CONFIG, "238", 2, "turn: area too small, needs 304\n"),
+    (CONFIG, "0", 2, "turn: area too small, needs 304\n"),
+    ("frobnicate", "304", 1, "turn: line 1: bad line\n"),
     (
         "realm example.org\nlimits 0 1 1 1 8\n",
-        "238",
+        "304",
         1,
         "turn: line 2: bad line\n",
     ),
     (
         "# a comment\nrealm example.org\n",
-        "238",
+        "304",
         1,
         "turn: line 3: bad line\n",
     ),
@@ -150,7 +173,7 @@ fn a_refused_format_leaves_the_file_as_it_is(rt: HostRuntime) -> Result<(), Fail
 fn expect_comment(rt: &HostRuntime, size: usize, status: u8, err: &str) -> Result<(), Fail> {
     let config = Vec::from_elem(rt.alloc(), b'#', size)?;
     let names = ("turn_comment.conf", "turn_comment.store");
-    format(rt, names, &config, "238", &[], (status, err))?;
+    format(rt, names, &config, "304", &[], (status, err))?;
     Ok(())
 }
 
@@ -189,9 +212,9 @@ fn a_configuration_that_can_not_be_read_is_a_device_fault(rt: HostRuntime) -> Re
 
 /// A file that can't be made, an area, and the status and the fault: the area is judged first.
 const UNMADE: [(&str, &str, u8, &str); 4] = [
-    (".", "238", 3, "turn: device\n"),
-    ("turn_unmade.absent/s", "238", 3, "turn: device\n"),
-    (".", "237", 2, "turn: area too small, needs 238\n"),
+    (".", "304", 3, "turn: device\n"),
+    ("turn_unmade.absent/s", "304", 3, "turn: device\n"),
+    (".", "303", 2, "turn: area too small, needs 304\n"),
     (".", "x", 1, USAGE),
 ];
 

@@ -1,7 +1,7 @@
 //! `turn inspect`, over files of the folder that it runs in.
 
 use super::expect;
-use super::formats::{fresh, put};
+use super::formats::{formatted, fresh, put};
 use std::fs;
 use std::test::Fail;
 
@@ -10,6 +10,13 @@ use std::test::Fail;
 pub const FRAME: &[u8] = b"\xA5\x00\x00\x00\x2F\x01\x01\x00\x00\x00\x00\x00\x00\x03\xE8\
     \xC0\x00\x02\x01\x80\x55\xC0\x00\x02\x64\x0D\x96\x00\x05\x61\x6C\x69\x63\x65\xC3\x50\
     \x00\x00\x02\x58\x01\x02\x03\x04\x05\x06\x07\x08\x09\x0A\x0B\x0C\x00";
+
+/// A frame with alice's allocation of a pair at 1000 for 600 seconds, and the closed gate after it: the next port is reserved. It is
+/// at 94, after the snapshot of a store of version 2 that holds nothing.
+pub const PAIR: &[u8] = b"\xA5\x00\x00\x00\x37\x01\x05\x00\x00\x00\x00\x00\x00\x03\xE8\
+    \xC0\x00\x02\x01\x80\x55\xC0\x00\x02\x64\x0D\x96\x00\x05\x61\x6C\x69\x63\x65\xC3\x50\
+    \x00\x00\x02\x58\x01\x02\x03\x04\x05\x06\x07\x08\x09\x0A\x0B\x0C\
+    \xC3\x51\xD5\x74\xB1\x5A\x49\xFA\x00";
 
 const FRESH: &str = "store generation 1 frames 0 clock 0\nlive 0\n";
 
@@ -99,6 +106,22 @@ fn without_at_a_store_is_shown_at_its_clock(rt: HostRuntime) -> Result<(), Fail>
     inspect(&rt, "turn_inspect.clock", &content, &[], (0, FRESH, ""))?;
     put(&mut content, 90, FRAME);
     inspect(&rt, "turn_inspect.clock", &content, &[], (0, LIVE, ""))
+}
+
+const RESERVED: &str = "store generation 1 frames 1 clock 1000
+192.0.2.1:32853 192.0.2.100:3478 616c696365 50000 1600
+reserved 50001 c351d574b15a49fa 1030
+live 1
+";
+
+#[test]
+fn reserved_ports_are_shown(rt: HostRuntime) -> Result<(), Fail> {
+    let mut content = formatted(rt.alloc())?;
+    put(&mut content, 94, PAIR);
+    let path = "turn_inspect.reserved";
+    inspect(&rt, path, &content, &[], (0, RESERVED, ""))?;
+    inspect(&rt, path, &content, &["--at", "1029"], (0, RESERVED, ""))?;
+    inspect(&rt, path, &content, &["--at", "1030"], (0, LIVE, ""))
 }
 
 /// How many zero bytes a file has.

@@ -18,15 +18,17 @@ const KINDS: [&str; 4] = [".", "/dev/null", "/dev/zero", "/dev/full"];
 /// The words of each command with a file of another kind in each place.
 fn expect_refused(rt: &HostRuntime, path: &str) -> Result<(), Fail> {
     let (config, store) = ("turn_kinds.conf", "turn_kinds.store");
-    let rows: [&[&str]; 6] = [
+    let rows: [&[&str]; 8] = [
         &["replay", path],
         &[
-            "format", "--config", path, "--store", store, "--area", "238",
+            "format", "--config", path, "--store", store, "--area", "304",
         ],
         &[
-            "format", "--config", config, "--store", path, "--area", "238",
+            "format", "--config", config, "--store", path, "--area", "304",
         ],
         &["inspect", "--store", path],
+        &["check", "--config", path],
+        &["check", "--config", config, "--store", path],
         &["serve", "--config", path, "--store", store, "--turns", "0"],
         &["serve", "--config", config, "--store", path, "--turns", "0"],
     ];

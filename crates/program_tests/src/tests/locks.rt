@@ -1,8 +1,8 @@
 //! The lock of a store: who has it, who waits for it, and who needs none.
 
-use super::expect_by;
 use super::formats::{fresh, put};
 use super::inspections::FRAME;
+use super::{RELEASE, expect_by};
 use std::cell::Cell;
 use std::fs::{self, File};
 use std::io::{self, Write};
@@ -75,7 +75,7 @@ const FORMAT: [&str; 7] = [
     "--store",
     STORE,
     "--area",
-    "238",
+    "304",
 ];
 
 /// Words while a store is in use, the status, the output, the fault, and how many pauses there are.
@@ -100,11 +100,11 @@ const IN_USE: [Case; 5] = [
             "--store",
             STORE,
             "--area",
-            "237",
+            "303",
         ],
         2,
         "",
-        "turn: area too small, needs 238\n",
+        "turn: area too small, needs 304\n",
         0,
     ),
     (
@@ -146,7 +146,7 @@ fn starts_after(rt: &HostRuntime, last: u32) -> Result<bool, Fail> {
     let mut line = vec![in rt.alloc(); "turn"]?;
     line.extend_from_slice(&SERVE)?;
     let (mut out, mut err) = (Vec::new(rt.alloc()), Vec::new(rt.alloc()));
-    let status = run_words(rt, &clock, line.as_slice(), &mut out, &mut err);
+    let status = run_words(rt, &clock, RELEASE, line.as_slice(), &mut out, &mut err);
     Ok(status == 0 && clock.count.get() == last)
 }
 
@@ -183,7 +183,7 @@ fn has_lock(rt: &HostRuntime, words: &[&str]) -> Result<bool, Fail> {
         refused: 0,
     };
     let mut err = Vec::new(rt.alloc());
-    let status = run_words(rt, rt, line.as_slice(), &mut out, &mut err);
+    let status = run_words(rt, rt, RELEASE, line.as_slice(), &mut out, &mut err);
     let is_free = FileDisk::open(rt, STORE).is_ok();
     Ok(status == 0 && 0 < out.writes && out.writes == out.refused && is_free)
 }

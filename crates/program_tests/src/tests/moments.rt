@@ -13,7 +13,7 @@ use turn_types::Moment;
 
 /// A time since 1970, or none.
 #[derive(Clone, Copy)]
-struct Still(Option<u64>);
+pub struct Still(pub Option<u64>);
 
 impl Clock for Still {
     fn monotonic(&self) -> io::Result<Duration> {

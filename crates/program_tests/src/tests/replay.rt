@@ -5,7 +5,7 @@ use std::alloc::Global;
 use std::fs;
 use std::test::Fail;
 
-/// Settings, and the `format` line that opens a store.
+/// Settings, and the line that opens a store of version 1.
 pub const SCENARIO: &str = "realm example.org
 user alice wonder
 user bob builder
@@ -15,7 +15,7 @@ relay 198.51.100.1 50000 50009
 quota 2
 deny 203.0.113.9 203.0.113.9
 limits 2 1 1 1 8
-format 238
+format1 238
 ";
 
 /// Replays a file that has this content: the status and what is written.

@@ -1,5 +1,6 @@
 //! What a turn takes of which sockets, and what `turn serve` hands on of its words to the turns.
 
+use super::RELEASE;
 use super::formats::fresh;
 use super::turns::{PORTS, Talk, begin};
 use std::io::Write;
@@ -270,7 +271,7 @@ fn serve(rt: &HostRuntime, client: &TimedSocket, turns: &str, burst: &str) -> Op
         printed: Vec::new(rt.alloc()),
     };
     let mut err = Vec::new(rt.alloc());
-    let status = run_words(rt, rt, &words, &mut out, &mut err);
+    let status = run_words(rt, rt, RELEASE, &words, &mut out, &mut err);
     if status == 0 { Some(out.printed) } else { None }
 }
 

@@ -1,7 +1,7 @@
 //! A start over a disk that has other allocations when it is opened again, and the receive buffers of relay sockets.
 
-use super::formats::{fresh, put};
-use super::inspections::FRAME;
+use super::formats::{formatted, fresh, put};
+use super::inspections::{FRAME, PAIR};
 use std::alloc::Global;
 use std::cell::Cell;
 use std::fs::{self, Metadata, OpenFile};
@@ -80,6 +80,23 @@ fn allocated(alloc: Global) -> Result<Vec<u8>, Fail> {
     Ok(bytes)
 }
 
+/// A store of version 2 with alice's allocation at relayed port 63,018.
+fn even(alloc: Global) -> Result<Vec<u8>, Fail> {
+    let mut bytes = formatted(alloc)?;
+    put(&mut bytes, 94, FRAME);
+    put(&mut bytes, 94 + 34, b"\xF6\x2A");
+    Ok(bytes)
+}
+
+/// The same, with port 63,019 reserved.
+fn pair(alloc: Global) -> Result<Vec<u8>, Fail> {
+    let mut bytes = formatted(alloc)?;
+    put(&mut bytes, 94, PAIR);
+    put(&mut bytes, 94 + 34, b"\xF6\x2A");
+    put(&mut bytes, 94 + 52, b"\xF6\x2B");
+    Ok(bytes)
+}
+
 /// What a start comes to.
 #[derive(Clone, Copy, PartialEq, Eq)]
 struct Came {
@@ -114,7 +131,8 @@ fn start_over(rt: &HostRuntime, file: ChangingFile<'_>) -> Result<Came, Fail> {
         commits: Commits::EachTurn,
         seed: [0; 32],
     };
-    let disk = FileDisk::new(file, 540);
+    let size = file.first.len();
+    let disk = FileDisk::new(file, size);
     let (fault, buffer) = match setup.start(rt.alloc(), rt, rt, disk, users) {
         Ok(serving) => {
             let buffer = buffer_at(serving.server(), 63_019);
@@ -170,5 +188,17 @@ fn a_start_needs_a_socket_for_each_port_of_its_second_opening(rt: HostRuntime) -
         ..started(None)
     };
     assert!(rt; outcome(&rt, &empty, &allocated)? == refused);
+    Ok(())
+}
+
+#[test]
+fn a_start_needs_a_socket_for_each_reserved_port(rt: HostRuntime) -> Result<(), Fail> {
+    let (even, pair) = (even(rt.alloc())?, pair(rt.alloc())?);
+    assert!(rt; outcome(&rt, &pair, &pair)? == started(Some(given_buffer(&rt)?)));
+    let refused = Came {
+        fault: Some(StartFault::Socket),
+        ..started(None)
+    };
+    assert!(rt; outcome(&rt, &even, &pair)? == refused);
     Ok(())
 }

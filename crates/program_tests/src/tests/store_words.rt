@@ -1,10 +1,10 @@
-//! Every form of the words of `format`, `inspect`, `serve` and `demo`.
+//! Every form of the words of `format`, `inspect`, `check`, `serve` and `demo`.
 
 use super::{USAGE, expect_each};
 use std::test::Fail;
 
 /// Words that make a command over files that are absent.
-const TAKEN: [&[&str]; 11] = [
+const TAKEN: [&[&str]; 15] = [
     &[
         "format", "--config", "no/c", "--store", "no/s", "--area", "238",
     ],
@@ -21,6 +21,10 @@ const TAKEN: [&[&str]; 11] = [
     &["inspect", "--store", "no/s"],
     &["inspect", "--at", "0", "--store", "no/s"],
     &["inspect", "--store=no/s", "--at=1099511624175"],
+    &["check", "--config", "no/c"],
+    &["check", "--config=no/c"],
+    &["check", "--config", "no/c", "--store", "no/s"],
+    &["check", "--store=no/s", "--config=no/c"],
     &["serve", "--config", "no/c", "--store", "no/s"],
     &[
         "serve", "--store", "no/s", "--config", "no/c", "--turns", "0",
@@ -54,7 +58,7 @@ fn good_words_come_to_the_files(rt: HostRuntime) -> Result<(), Fail> {
     expect_each(&rt, &TAKEN, 3, "", "turn: device\n")
 }
 
-const MISSING_OR_TWICE: [&[&str]; 22] = [
+const MISSING_OR_TWICE: [&[&str]; 27] = [
     &["format"],
     &["format", "--store", "s", "--area", "238"],
     &["format", "--config", "c", "--area", "238"],
@@ -85,6 +89,11 @@ const MISSING_OR_TWICE: [&[&str]; 22] = [
     &["inspect", "--store"],
     &["inspect", "--store", "s", "--store", "s"],
     &["inspect", "--store", "s", "--at", "5", "--at=5"],
+    &["check"],
+    &["check", "--store", "s"],
+    &["check", "c"],
+    &["check", "--config", "c", "--config", "c"],
+    &["check", "--config", "c", "--store", "s", "--store=s"],
     &["serve", "--config", "c"],
     &["serve", "--store", "s"],
     &[
@@ -111,7 +120,7 @@ fn a_missing_or_repeated_option_is_a_usage_fault(rt: HostRuntime) -> Result<(), 
     expect_each(&rt, &MISSING_OR_TWICE, 1, "", USAGE)
 }
 
-const UNKNOWN: [&[&str]; 16] = [
+const UNKNOWN: [&[&str]; 19] = [
     &["Format", "--config", "c", "--store", "s", "--area", "238"],
     &["form", "--config", "c", "--store", "s", "--area", "238"],
     &["format", "--conf", "c", "--store", "s", "--area", "238"],
@@ -124,6 +133,9 @@ const UNKNOWN: [&[&str]; 16] = [
     &["inspect", "--store", "s", "--config", "c"],
     &["inspect", "--store", "s", "-h"],
     &["inspect", "--Store", "s"],
+    &["check", "--config", "c", "--area", "1"],
+    &["check", "--config", "c", "--turns", "1"],
+    &["check", "--config", "c", "--help"],
     &["serve", "--config", "c", "--store", "s", "--area", "238"],
     &[
         "serve",

@@ -1,9 +1,9 @@
 //! Runs with some of standard input, output and error closed: a test is a process of its own, so it may close them.
 
-use super::formats::{fresh, put};
+use super::formats::{formatted, fresh, put};
 use super::inspections::FRAME;
 use super::replay::SCENARIO;
-use super::{BINDING, FROM};
+use super::{BINDING, FROM, RELEASE};
 use std::fs::{self, File};
 use std::io;
 use std::os::fd::{AsFd, AsRawFd, IntoRawFd, OwnedFd};
@@ -65,9 +65,10 @@ enum Use {
 /// A command, and what it does with the store.
 type Case = (&'static [&'static str], Use);
 
-const CASES: [Case; 6] = [
+const CASES: [Case; 8] = [
     (&["answer", "--from", FROM, BINDING], Use::None),
     (&["replay", "turn_streams.scenario"], Use::None),
+    (&["version"], Use::None),
     (
         &[
             "format",
@@ -76,11 +77,21 @@ const CASES: [Case; 6] = [
             "--store",
             "turn_streams.store",
             "--area",
-            "238",
+            "304",
         ],
         Use::Empties,
     ),
     (&["inspect", "--store", "turn_streams.store"], Use::Keeps),
+    (
+        &[
+            "check",
+            "--config",
+            "turn_streams.conf",
+            "--store",
+            "turn_streams.store",
+        ],
+        Use::Keeps,
+    ),
     (
         &[
             "serve",
@@ -103,7 +114,7 @@ fn run(rt: &HostRuntime, words: &[&str], store: &[u8]) -> Result<(u8, Vec<u8>), 
     line.extend_from_slice(words)?;
     let mut out = io::writer(rt);
     let mut err = rt.stderr();
-    let status = run_words(rt, rt, line.as_slice(), &mut out, &mut err);
+    let status = run_words(rt, rt, RELEASE, line.as_slice(), &mut out, &mut err);
     Ok((status, fs::read(rt, "turn_streams.store")?))
 }
 
@@ -128,7 +139,7 @@ fn outcome(
     }
     let status = if closed & 2 == 2 { 3 } else { 0 };
     if its_use == Use::Empties {
-        return Ok((status, fresh(rt.alloc())?));
+        return Ok((status, formatted(rt.alloc())?));
     }
     Ok((status, allocated(rt)?))
 }
@@ -166,7 +177,7 @@ fn expect_each(rt: &HostRuntime, is_filled: bool, cases: &[Case]) -> Result<(), 
 fn expect_all(rt: &HostRuntime) -> Result<(), Fail> {
     expect_each(rt, true, &CASES)?;
     // Without `fill_streams` it is open what the sockets of the demonstration take the place of.
-    expect_each(rt, false, &CASES[..5])
+    expect_each(rt, false, &CASES[..7])
 }
 
 /// One test, since all have the same files and ports.

@@ -1,6 +1,6 @@
 //! Every form of a command line.
 
-use super::{BINDING, FROM, SUCCESS, USAGE, expect_each};
+use super::{BINDING, FROM, SUCCESS, USAGE, expect, expect_each};
 use std::test::Fail;
 
 const TAKEN: [&[&str]; 7] = [
@@ -14,11 +14,18 @@ const TAKEN: [&[&str]; 7] = [
 ];
 
 #[test]
+fn version_has_a_line_for_each_part(rt: HostRuntime) -> Result<(), Fail> {
+    let lines = "turn 1.2.3\nsources 00ff\ntoolchain a toolchain\n";
+    expect(&rt, &["version"], 0, lines, "")?;
+    expect(&rt, &["version", "--"], 0, lines, "")
+}
+
+#[test]
 fn options_come_in_any_order(rt: HostRuntime) -> Result<(), Fail> {
     expect_each(&rt, &TAKEN, 0, SUCCESS, "")
 }
 
-const HELP: [&[&str]; 16] = [
+const HELP: [&[&str]; 18] = [
     &["help"],
     &["--help"],
     &["-h"],
@@ -32,6 +39,8 @@ const HELP: [&[&str]; 16] = [
     &["answer", "--help"],
     &["answer", "-h"],
     &["answer", "--version"],
+    &["version", "--version"],
+    &["help", "version"],
     &["answer", "--from", FROM, "--help"],
     &["answer", "--from", FROM, BINDING, "-h"],
     &["--help", "answer", "--from", FROM, BINDING],
@@ -60,11 +69,13 @@ fn words_without_the_command_are_a_usage_fault(rt: HostRuntime) -> Result<(), Fa
     expect_each(&rt, &NO_COMMAND, 1, "", USAGE)
 }
 
-const MISSING_OR_TWICE: [&[&str]; 17] = [
+const MISSING_OR_TWICE: [&[&str]; 19] = [
     &["answer"],
     &["replay"],
     &["replay", "x", "x"],
     &["replay", "x", "--", "x"],
+    &["version", "x"],
+    &["version", "version"],
     &["answer", "--from", FROM],
     &["answer", BINDING],
     &["answer", "--at", "5", BINDING],

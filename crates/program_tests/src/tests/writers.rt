@@ -1,7 +1,7 @@
 //! Writers that fail.
 
 use super::replay::SCENARIO;
-use super::{BINDING, FROM, SUCCESS};
+use super::{BINDING, FROM, RELEASE, SUCCESS};
 use std::io::{ErrorKind, Write};
 use std::test::Fail;
 use std::{fs, io};
@@ -40,7 +40,7 @@ impl Write for Device {
 /// Runs `turn answer` with a datagram, over two devices: the status.
 fn answer(rt: &HostRuntime, datagram: &str, out: &mut Device, err: &mut Device) -> u8 {
     let words = ["turn", "answer", "--from", FROM, datagram];
-    run_words(rt, rt, &words, out, err)
+    run_words(rt, rt, RELEASE, &words, out, err)
 }
 
 /// A device's room, step and whether it flushes, and the status of a success that is printed on it.
@@ -120,7 +120,14 @@ fn replay_status(rt: &HostRuntime, path: &str, room: usize, flushes: bool) -> u8
         flushes,
     };
     let mut err = Vec::new(rt.alloc());
-    run_words(rt, rt, &["turn", "replay", path], &mut out, &mut err)
+    run_words(
+        rt,
+        rt,
+        RELEASE,
+        &["turn", "replay", path],
+        &mut out,
+        &mut err,
+    )
 }
 
 #[test]

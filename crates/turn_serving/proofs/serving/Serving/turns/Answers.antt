@@ -1,5 +1,5 @@
 use Rattle.std.proofs.Common.{arith, rules}
-use Rattle.turn_serving.proofs.Turns.{in_time, no_call, then}
+use Rattle.turn_serving.proofs.Turns.{in_time, then}
 use Rattle.turn_serving.proofs.serving.Serving.turns.Goals as goal
 
 pub returns-in_err-turn-clause-served : goal.returns-in_err-turn-clause-served

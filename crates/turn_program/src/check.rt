@@ -1,0 +1,64 @@
+//! `turn check`.
+
+ghost use Rattle.std.specs.Prelude.{IfErr, OnOk, Some};
+ghost use Rattle.turn_program.specs.Checks.{IsStoreFault};
+ghost use Rattle.turn_reading.specs.Readings.{IsRead};
+ghost use Rattle.turn_store.specs.Replay.{Snapshot};
+
+use crate::fault::Fault;
+use crate::prepare::prepare;
+use crate::print::print_line;
+use std::alloc::Global;
+use std::fs::{File, OpenOptions};
+use std::io::Write;
+use std::rt::{Clock, Files};
+use turn_disk::{Disk, FileDisk, open_regular};
+use turn_reading::read_store;
+use turn_types::Limits;
+
+/// Opens a store's file to be read alone, whoever has its lock. It has to be one that may be written to, as a start opens it.
+fn open_beside<R: Files<File = File>>(files: &R, store: &str) -> Result<FileDisk<File>, Fault> {
+    let mut options = OpenOptions::new();
+    options.read(true).write(true);
+    match open_regular(files, store, &options) {
+        Ok(file) => drop(file),
+        Err(_) => return Err(Fault::Device),
+    }
+    Ok(FileDisk::open_to_read(files, store)?)
+}
+
+/// Reads a store as a start opens it, under these limits, whether or not a server writes to it meanwhile.
+pub fn check_store<D: Disk + Drop, C: Clock>(
+    alloc: Global,
+    clock: &C,
+    disk: D,
+    limits: Limits,
+) -> Result<(), Fault>
+    // Of an honest disk, to which nobody else writes: the store holds a table, or the fault is that of an opening.
+    ensures read { D.is_honest disk → OnOk result ((t : Snapshot) × IsRead D (Some limits) (D.trace disk).now.bytes t) }
+    ensures why { D.is_honest disk → IfErr result (IsStoreFault limits (D.trace disk).now.bytes) }
+{
+    match read_store(alloc, clock, disk, Some(limits)) {
+        Ok(reading) => {
+            drop(reading);
+            Ok(())
+        }
+        Err(fault) => Err(Fault::from(fault)),
+    }
+}
+
+/// Says whether a server would start with a configuration, as far as its sockets, and with a store if one is given. Nothing is
+/// written, and no socket is opened.
+pub fn run_check<R: Files<File = File> + AllocGlobal, C: Clock, W: Write>(
+    rt: &R,
+    clock: &C,
+    config: &str,
+    store: Option<&str>,
+    out: &mut W,
+) -> Result<(), Fault> {
+    prepare(rt, config, |limits| match store {
+        Some(store) => check_store(rt.alloc(), clock, open_beside(rt, store)?, limits),
+        None => Ok(()),
+    })?;
+    print_line("ok", out)
+}

@@ -1,0 +1,34 @@
+//! The words of `turn check`.
+
+ghost use Rattle.std.specs.Prelude.{IfOk};
+ghost use Rattle.turn_words.specs.Command.{IsInRange};
+
+use super::Command;
+use super::words::option;
+use crate::fault::WordFault;
+use clap::ArgMatches;
+use std::alloc::{AllocError, Global};
+
+pub fn check_command<'a>(alloc: Global) -> Result<clap::Command<'a>, AllocError> {
+    clap::Command::new(alloc, "check")
+        .arg(option(alloc, "config").required(true))?
+        .arg(option(alloc, "store"))
+}
+
+/// The text of an option, if it is there.
+fn owned(alloc: Global, text: Option<&str>) -> Result<Option<String>, AllocError> {
+    match text {
+        Some(text) => Ok(Some(String::from_str(alloc, text)?)),
+        None => Ok(None),
+    }
+}
+
+pub fn check_of(alloc: Global, found: &ArgMatches<'_>) -> Result<Command, WordFault>
+    ensures { IfOk result (λ command. IsInRange command) }
+{
+    let config = found.get_str("config").ok_or(WordFault::Usage)?;
+    Ok(Command::Check {
+        config: String::from_str(alloc, config)?,
+        store: owned(alloc, found.get_str("store"))?,
+    })
+}
