@@ -12,7 +12,7 @@ ALLOCATE, REFRESH, SEND, DATA, CREATE_PERMISSION, CHANNEL_BIND = 3, 4, 6, 7, 8, 
 REQUEST, INDICATION, SUCCESS, ERROR = 0x000, 0x010, 0x100, 0x110
 USERNAME, INTEGRITY, ERROR_CODE, CHANNEL_NUMBER, LIFETIME = 0x0006, 0x0008, 0x0009, 0x000C, 0x000D
 PEER_ADDRESS, PAYLOAD, REALM, NONCE, RELAYED_ADDRESS = 0x0012, 0x0013, 0x0014, 0x0015, 0x0016
-TRANSPORT, FINGERPRINT = 0x0019, 0x8028
+EVEN_PORT, TRANSPORT, RESERVATION_TOKEN, FINGERPRINT = 0x0018, 0x0019, 0x0022, 0x8028
 UDP = b"\x11\0\0\0"
 
 
@@ -88,7 +88,7 @@ class Client:
         self.user, self.password = user, password
         self.realm = self.nonce = self.key = None
         self.arrived = []
-        self.relayed = None
+        self.relayed = self.token = None
         self.allocate_request = self.allocate_response = None
 
     def close(self):
@@ -139,11 +139,19 @@ class Client:
             break
         raise Refused(method, code_of(found))
 
-    def allocate(self, lifetime=600):
-        attributes = [(TRANSPORT, UDP), (LIFETIME, struct.pack("!I", lifetime))]
+    def allocate(self, lifetime=600, more=()):
+        attributes = [(TRANSPORT, UDP), (LIFETIME, struct.pack("!I", lifetime)), *more]
         self.allocate_request, self.allocate_response, found = self.ask(ALLOCATE, attributes)
         self.relayed = unpacked_address(found[RELAYED_ADDRESS])
+        self.token = found.get(RESERVATION_TOKEN)
         return self.relayed
+
+    def allocate_pair(self):
+        """Allocates an even port. The next one is reserved for 30 s for who names `token`."""
+        return self.allocate(more=[(EVEN_PORT, b"\x80")])
+
+    def allocate_reserved(self, token):
+        return self.allocate(more=[(RESERVATION_TOKEN, token)])
 
     def refresh(self, lifetime=600):
         _, _, found = self.ask(REFRESH, [(LIFETIME, struct.pack("!I", lifetime))])

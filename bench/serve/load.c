@@ -2,13 +2,14 @@
 //
 // words: flood to-peer SECONDS PID CPU CPU     datagrams as fast as they go, in one direction
 //        flood to-client SECONDS PID CPU CPU
+//        flood .. CPU CPU WINDOW RATE          at most WINDOW of them in flight, and RATE a second (0: no such bound)
 //        spray SECONDS CPU                     datagrams from the peer to the relayed ports, which nobody counts
 //        ping RATE SECONDS CPU CPU             round trips over the first client's channel and an echo at the peer
 //        ask COUNT                             requests, COUNT of them in flight
 //
-// PID is the server, the two CPUs are those on which datagrams are sent and received. Standard input has lines `peer FD`,
-// `client FD CHANNEL PORT` (a socket connected to the server, its channel to the peer, its relayed port on 127.0.0.1) and,
-// for `ask`, `request FD HEX`.
+// PID is the server, the two CPUs are those on which datagrams are sent and received (-1: those of the process). Standard input
+// has lines `peer FD`, `client FD CHANNEL PORT` (a socket connected to the server, its channel to the peer, its relayed port on
+// 127.0.0.1) and, for `ask`, `request FD HEX`. The load begins when it is closed.
 #define _GNU_SOURCE
 #include <arpa/inet.h>
 #include <errno.h>
@@ -39,7 +40,9 @@ static struct client clients[MOST];
 static struct request requests[MOST];
 static int client_count, request_count, peer;
 static atomic_long sent_count, received_count;
-static atomic_int is_over;
+static atomic_int is_sent, is_over; // nothing more is sent; nothing more is received
+static long window, rate, begun;    // of a flood with bounds
+static int mark;                    // the payload's first bytes in a flood, by which those of an earlier one aren't counted
 
 static void fail(const char *what) {
     fprintf(stderr, "load: %s: %s\n", what, strerror(errno));
@@ -53,6 +56,7 @@ static long nanos(void) {
 }
 
 static void run_on(int cpu) {
+    if (cpu < 0) return;
     cpu_set_t set;
     CPU_ZERO(&set);
     CPU_SET(cpu, &set);
@@ -102,16 +106,35 @@ static struct times server_times(const char *pid) {
     return (struct times){user / second, system / second};
 }
 
+// Waits until the bounds of the flood let so many datagrams more go out. What is in flight when none has come for 200 ms is lost.
+static void wait_for_room(int count) {
+    static long lost, last, moment;
+    while ((window || rate) && !is_sent) {
+        long now = nanos(), in_flight = sent_count - received_count - lost;
+        if (last != received_count || !moment) {
+            last = received_count;
+            moment = now;
+        } else if (now - moment > 200000000) {
+            lost += in_flight;
+            moment = now;
+        }
+        if ((!window || in_flight + count <= window) && (!rate || sent_count + count <= (now - begun) / 1e9 * rate)) return;
+        usleep(20);
+    }
+}
+
 // Sends ChannelData on one client's socket after the other; many at once if there is one alone.
 static void *send_from_clients(void *cpu) {
     run_on(*(int *)cpu);
     unsigned char bytes[4 + PAYLOAD] = {0};
     bytes[3] = PAYLOAD;
+    memcpy(bytes + 4, &mark, sizeof mark);
     struct iovec part = {bytes, sizeof bytes};
     struct mmsghdr batch[BATCH] = {0};
     for (int i = 0; i < BATCH; i++) batch[i].msg_hdr = (struct msghdr){.msg_iov = &part, .msg_iovlen = 1};
     int size = client_count == 1 ? BATCH : 1;
-    for (int at = 0; !is_over; at = (at + 1) % client_count) {
+    for (int at = 0; !is_sent; at = (at + 1) % client_count) {
+        wait_for_room(size);
         bytes[0] = clients[at].channel >> 8;
         bytes[1] = clients[at].channel;
         int sent = sendmmsg(clients[at].socket, batch, size, 0);
@@ -124,10 +147,12 @@ static void *send_from_clients(void *cpu) {
 static void *send_from_peer(void *cpu) {
     run_on(*(int *)cpu);
     static unsigned char bytes[PAYLOAD];
+    memcpy(bytes, &mark, sizeof mark);
     struct iovec part = {bytes, sizeof bytes};
     struct mmsghdr batch[BATCH] = {0};
     struct sockaddr_in to[BATCH];
-    for (int at = 0; !is_over;) {
+    for (int at = 0; !is_sent;) {
+        wait_for_room(BATCH);
         for (int i = 0; i < BATCH; i++, at = (at + 1) % client_count) {
             to[i] = (struct sockaddr_in){.sin_family = AF_INET, .sin_port = htons(clients[at].port)};
             to[i].sin_addr.s_addr = htonl(INADDR_LOOPBACK);
@@ -139,7 +164,7 @@ static void *send_from_peer(void *cpu) {
     return NULL;
 }
 
-// Takes all that is there, and counts what has the size of a relayed datagram.
+// Takes what is there, and counts the relayed datagrams of this flood: they have that size, and its mark.
 static void take(int socket, unsigned size) {
     static unsigned char bytes[BATCH][ROOM];
     struct iovec parts[BATCH];
@@ -149,7 +174,9 @@ static void take(int socket, unsigned size) {
         batch[i].msg_hdr = (struct msghdr){.msg_iov = &parts[i], .msg_iovlen = 1};
     }
     int got = recvmmsg(socket, batch, BATCH, MSG_DONTWAIT, NULL);
-    for (int i = 0; i < got; i++) received_count += batch[i].msg_len == size;
+    for (int i = 0; i < got; i++) {
+        received_count += batch[i].msg_len == size && !memcmp(bytes[i] + size - PAYLOAD, &mark, sizeof mark);
+    }
 }
 
 struct receiver {
@@ -173,10 +200,22 @@ static void *receive(void *word) {
     return NULL;
 }
 
-// Prints: datagrams sent, datagrams received, user and system seconds of the server, seconds.
+// Waits until nothing has come for 600 ms, at most 6 seconds.
+static void drain(void) {
+    long last = -1;
+    for (int i = 0; i < 10 && last != received_count; i++) {
+        last = received_count;
+        usleep(600000);
+    }
+}
+
+// Prints: datagrams sent, datagrams received, user and system seconds of the server, seconds; and in a flood with bounds, of which
+// it waits for the last datagram, all that were sent and received.
 static void flood(int to_peer, double seconds, const char *pid, int send_cpu, int receive_cpu) {
     struct receiver receiver = {receive_cpu, to_peer};
     pthread_t receiving, sending;
+    begun = nanos();
+    mark = getpid();
     pthread_create(&receiving, NULL, receive, &receiver);
     pthread_create(&sending, NULL, to_peer ? send_from_clients : send_from_peer, &send_cpu);
     usleep(500000);
@@ -187,17 +226,21 @@ static void flood(int to_peer, double seconds, const char *pid, int send_cpu, in
     received = received_count - received;
     struct times after = server_times(pid);
     double passed = (nanos() - start) / 1e9;
-    printf("%ld %ld %.2f %.2f %.3f\n", sent, received, after.user - before.user, after.system - before.system, passed);
-    is_over = 1;
+    printf("%ld %ld %.2f %.2f %.3f", sent, received, after.user - before.user, after.system - before.system, passed);
+    is_sent = 1;
     pthread_join(sending, NULL);
+    if (window || rate) drain();
+    is_over = 1;
     pthread_join(receiving, NULL);
+    if (window || rate) printf(" %ld %ld", sent_count, received_count);
+    puts("");
 }
 
 static void spray(double seconds, int cpu) {
     pthread_t sending;
     pthread_create(&sending, NULL, send_from_peer, &cpu);
     usleep((useconds_t)(seconds * 1e6));
-    is_over = 1;
+    is_sent = 1;
     pthread_join(sending, NULL);
 }
 
@@ -308,7 +351,11 @@ static void ask(int in_flight) {
 
 int main(int count, char **words) {
     read_setup();
-    if (count == 7 && !strcmp(words[1], "flood") && client_count) {
+    if ((count == 7 || count == 9) && !strcmp(words[1], "flood") && client_count) {
+        if (count == 9) {
+            window = atol(words[7]);
+            rate = atol(words[8]);
+        }
         flood(!strcmp(words[2], "to-peer"), atof(words[3]), words[4], atoi(words[5]), atoi(words[6]));
     } else if (count == 4 && !strcmp(words[1], "spray") && client_count) {
         spray(atof(words[2]), atoi(words[3]));
