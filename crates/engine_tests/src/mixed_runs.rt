@@ -5,11 +5,11 @@ use crate::same::{are_same, is_same_table};
 use crate::setup::{LARGE, Setup, made};
 use requests_for_tests::{
     ALICE, Attribute, BOB, FIRST, HOUR, ID, Kind, LOWEST, PEER, PEER_ENDPOINT, Ports, SECOND, UDP,
-    ZERO, nonce_of, signed, users,
+    ZERO, credentials, nonce_of, signed,
 };
 use std::alloc::Global;
 use std::process::Abort;
-use turn_cred::Users;
+use turn_cred::Credentials;
 use turn_step::{Arrival, Machine, Outgoing};
 use turn_table::Table;
 use turn_types::{Bounds, Endpoint};
@@ -215,13 +215,13 @@ impl Run {
 }
 
 /// The rules of the server, without a store.
-type Rules = Machine<Users, Ports>;
+type Rules = Machine<Credentials, Ports>;
 
 fn rules(rt: &impl Abort, alloc: Global, setup: &Setup) -> Rules {
     let (config, ports) = (setup.config(rt, alloc), setup.ports(rt));
-    let users = made(rt, users(alloc), "users");
+    let credentials = made(rt, credentials(alloc), "credentials");
     let table = Table::new(alloc, config.limits(), moment(rt, 0));
-    match Machine::new(alloc, config, users, ports, table, true) {
+    match Machine::new(alloc, config, credentials, ports, table, true) {
         Ok(machine) => machine,
         Err(_) => panic!(rt; "memory"),
     }

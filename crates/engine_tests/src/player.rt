@@ -5,11 +5,11 @@ use crate::same::{are_live, are_reserved, are_sent, has_at};
 use crate::setup::{Setup, made};
 use refusing::Refusing;
 use requests_for_tests::{
-    Attribute, FIRST, ID, Kind, Ports, User, five_tuple, nonce_of, signed, users,
+    Attribute, FIRST, ID, Kind, Ports, User, credentials, five_tuple, nonce_of, signed,
 };
 use std::alloc::{Allocator, Global};
 use std::process::Abort;
-use turn_cred::Users;
+use turn_cred::Credentials;
 use turn_disk::{Disk, MemoryDisk, Outcome};
 use turn_engine::{CommitRefused, Server, SubmitRefused};
 use turn_step::{Arrival, Outgoing};
@@ -37,7 +37,7 @@ pub fn of_peer<'a>(from: Endpoint, bytes: &'a [u8]) -> Arrival<'a> {
 }
 
 /// What a player plays.
-pub type Played<A> = Server<MemoryDisk<A>, Users, Ports, A>;
+pub type Played<A> = Server<MemoryDisk<A>, Credentials, Ports, A>;
 
 /// A server, and what makes its clients' requests.
 #[derive(Drop)]
@@ -76,8 +76,8 @@ impl<A: Allocator + Copy> Player<A> {
         disk: MemoryDisk<A>,
     ) -> Player<A> {
         let (config, ports) = (setup.config(rt, inner), setup.ports(rt));
-        let users = made(rt, users(alloc), "users");
-        match Server::open_as(inner, disk, &config, users, ports, setup.carry) {
+        let credentials = made(rt, credentials(alloc), "credentials");
+        match Server::open_as(inner, disk, &config, credentials, ports, setup.carry) {
             Ok(server) => Player::of(alloc, setup, server),
             Err(_) => panic!(rt; "not opened"),
         }

@@ -8,11 +8,12 @@ use crate::setup::{LARGE, SMALL, made};
 use crate::stops::act_of;
 use refusing::Refusing;
 use requests_for_tests::{
-    ALICE, BOB, FIRST, HOUR, Kind, LOWEST, PEER, PEER_ENDPOINT, Ports, SECOND, UDP, ZERO, users,
+    ALICE, BOB, FIRST, HOUR, Kind, LOWEST, PEER, PEER_ENDPOINT, Ports, SECOND, UDP, ZERO,
+    credentials,
 };
 use std::alloc::{Allocator, Global};
 use std::process::Abort;
-use turn_cred::Users;
+use turn_cred::Credentials;
 use turn_disk::{Disk, MemoryDisk};
 use turn_engine::{OpenRefused, Server};
 use turn_step::Outgoing;
@@ -264,7 +265,7 @@ fn disk_of<A: Allocator + Copy>(rt: &impl Abort, alloc: A, content: &[u8]) -> Me
 }
 
 /// What an opening returns that is refused.
-type Refused<A> = OpenRefused<MemoryDisk<A>, Users, Ports>;
+type Refused<A> = OpenRefused<MemoryDisk<A>, Credentials, Ports>;
 
 /// What an opening returned after an allocation failure opens the store, whose server goes on as `OPENED` says.
 fn open_again<A: Allocator + Copy>(
@@ -303,10 +304,10 @@ fn opening_is_refused<A: Allocator + Copy>(
     served: u64,
 ) -> bool {
     let (config, ports) = (LARGE.config(rt, inner), LARGE.ports(rt));
-    let users = made(rt, users(alloc), "users");
+    let credentials = made(rt, credentials(alloc), "credentials");
     let disk = disk_of(rt, inner, content);
     refusing.arm(served);
-    let opened = Server::open(inner, disk, &config, users, ports);
+    let opened = Server::open(inner, disk, &config, credentials, ports);
     let was_refused = refusing.has_refused();
     refusing.arm(u64::MAX);
     match opened {

@@ -3,4 +3,5 @@
 mod credentials;
 mod nonces;
 mod remembered;
+mod shared;
 mod users;

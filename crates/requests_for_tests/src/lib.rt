@@ -1,4 +1,4 @@
-//! What tests of servers share: users, clients and a peer, requests with credentials, a configuration, and a generator of
+//! What tests of servers share: users, a secret, clients and a peer, requests with credentials, a configuration, and a generator of
 //! relayed ports that records its calls.
 #![tactic(auto)]
 
@@ -8,8 +8,8 @@ mod setup;
 
 pub use ports::Ports;
 pub use requests::{
-    ALICE, BOB, BOBS_ID, FIRST, FLAG, HOUR, ID, Kind, LOWEST, OTHER, PEER, PEER_ENDPOINT, PEER_IP,
-    REALM, SECOND, THIRD, UDP, User, ZERO, at, code_of, five_tuple, nonce_of, signed,
+    ALICE, BOB, BOBS_ID, FIRST, FLAG, GUEST, HOUR, ID, Kind, LOWEST, OTHER, PEER, PEER_ENDPOINT,
+    PEER_IP, REALM, SECOND, THIRD, UDP, User, ZERO, at, code_of, five_tuple, nonce_of, signed,
 };
-pub use setup::{config, users};
+pub use setup::{config, credentials};
 pub use turn_requests::Attribute;

@@ -16,6 +16,12 @@ pub const ID: TxId = TxId([1, 2, 3, 4, 5, 6, 7, 8, 9, 10, 11, 12]);
 /// The transaction id of bob's requests.
 pub const BOBS_ID: TxId = TxId([0, 0, 0, 0, 0, 0, 0, 0, 0, 0, 0, 2]);
 
+/// The transaction id of the guest's requests.
+const GUESTS_ID: TxId = TxId([0, 0, 0, 0, 0, 0, 0, 0, 0, 0, 0, 3]);
+
+/// The key of `1010:guest` under the secret, by Python's modules hmac, hashlib and base64.
+const GUESTS_KEY: [u8; 16] = *b"\x17\xf8\xbb\x46\x70\x40\xdd\x58\xf7\xeb\x2f\x43\x31\x49\x81\x16";
+
 /// 192.0.2.1:32853.
 pub const FIRST: Endpoint = Endpoint {
     ip: 0xC000_0201,
@@ -58,17 +64,22 @@ pub fn five_tuple(client: Endpoint) -> FiveTuple {
 pub enum User {
     Alice,
     Bob,
+    /// A time-limited name, which expires at second 1010.
+    Guest,
 }
 
 pub const ALICE: User = User::Alice;
 
 pub const BOB: User = User::Bob;
 
+pub const GUEST: User = User::Guest;
+
 impl User {
     pub fn name(self) -> &'static [u8] {
         match self {
             User::Alice => b"alice",
             User::Bob => b"bob",
+            User::Guest => b"1010:guest",
         }
     }
 
@@ -76,6 +87,7 @@ impl User {
         let password: &[u8] = match self {
             User::Alice => b"wonder",
             User::Bob => b"builder",
+            User::Guest => return GUESTS_KEY,
         };
         generate_auth_key(self.name(), REALM, password)
     }
@@ -85,6 +97,7 @@ impl User {
         match self {
             User::Alice => ID,
             User::Bob => BOBS_ID,
+            User::Guest => GUESTS_ID,
         }
     }
 }

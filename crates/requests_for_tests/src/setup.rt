@@ -3,7 +3,7 @@
 use crate::requests::{ALICE, BOB, REALM};
 use std::alloc::{Allocator, Global};
 use std::test::Fail;
-use turn_cred::Users;
+use turn_cred::{Credentials, SharedSecret, Users};
 use turn_types::{Bounds, IpRange, Limits, ServerConfig, Settings};
 
 /// A configuration with a quota and these limits. It relays for 198.51.100.1, and denies the peer 203.0.113.9.
@@ -29,10 +29,11 @@ pub fn config<A: Allocator + Copy>(
     )?)
 }
 
-/// Alice and bob.
-pub fn users(alloc: Global) -> Result<Users, Fail> {
+/// Alice and bob, and all time-limited names under the secret `a-secret-of-the-web-service`.
+pub fn credentials(alloc: Global) -> Result<Credentials, Fail> {
     let mut users = Users::new(alloc);
     users.add(ALICE.name(), ALICE.key())?;
     users.add(BOB.name(), BOB.key())?;
-    Ok(users)
+    let shared = SharedSecret::new(alloc, b"a-secret-of-the-web-service")?;
+    Ok(Credentials::new(users, Some(shared)))
 }

@@ -1,7 +1,7 @@
 //! The calls that judge a request, without a step.
 
 use crate::setup::value_of;
-use requests_for_tests::{FIRST, five_tuple, users};
+use requests_for_tests::{FIRST, credentials, five_tuple};
 use std::alloc::Global;
 use std::process::Abort;
 use turn_codec::Message;
@@ -19,8 +19,8 @@ pub fn judged<'a>(
 ) -> Request<'a> {
     let message = Message::parse(bytes).expect(rt, "a message");
     let verdict = if is_protected(message.method()) {
-        let users = value_of(rt, users(alloc));
-        match Checker::new(alloc, config, users) {
+        let credentials = value_of(rt, credentials(alloc));
+        match Checker::new(alloc, config, credentials) {
             Ok(mut checker) => Some(checker.check(&message, FIRST, moment)),
             Err(_) => panic!(rt; "memory"),
         }

@@ -32,3 +32,5 @@ mod row;
 mod setup;
 #[cfg(test)]
 mod tables;
+#[cfg(test)]
+mod time_limited;

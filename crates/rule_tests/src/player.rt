@@ -3,13 +3,13 @@
 use crate::row::Row;
 use crate::setup::{Setup, moment_at, value_of};
 use requests_for_tests::{
-    Attribute, FIRST, ID, Kind, PEER_ENDPOINT, PEER_IP, Ports, THIRD, User, code_of, five_tuple,
-    nonce_of, signed, users,
+    Attribute, FIRST, ID, Kind, PEER_ENDPOINT, PEER_IP, Ports, THIRD, User, code_of, credentials,
+    five_tuple, nonce_of, signed,
 };
 use std::alloc::{Allocator, Global};
 use std::process::Abort;
 use turn_codec::Message;
-use turn_cred::Users;
+use turn_cred::Credentials;
 use turn_mac::integrity_holds;
 use turn_ports::RelayAddressGenerator;
 use turn_step::{Arrival, Machine, Outgoing};
@@ -84,17 +84,17 @@ fn to_peer<A: Allocator>(rt: &impl Abort, out: Outgoing<A>) -> Vec<u8, A> {
 #[derive(Drop)]
 pub struct Player<A: Allocator + Copy = Global> {
     alloc: Global,
-    machine: Machine<Users, Ports, A>,
+    machine: Machine<Credentials, Ports, A>,
 }
 
 impl<A: Allocator + Copy> Player<A> {
     /// A server at second 0, over an allocator. The datagrams that it gets are made over `Global`.
     pub fn new(rt: &impl Abort, inner: A, alloc: Global, setup: &Setup) -> Player<A> {
-        let users = value_of(rt, users(alloc));
+        let credentials = value_of(rt, credentials(alloc));
         let ports = setup.ports(rt);
         let config = setup.config(rt, inner);
         let table = Table::new(inner, config.limits(), moment_at(rt, 0));
-        match Machine::new(inner, config, users, ports, table, setup.pairs) {
+        match Machine::new(inner, config, credentials, ports, table, setup.pairs) {
             Ok(machine) => Player { alloc, machine },
             Err(_) => panic!(rt; "memory"),
         }

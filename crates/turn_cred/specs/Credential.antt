@@ -1,5 +1,5 @@
 -- Long-term credentials (RFC 8489, section 9.2.4, in this project's profile).
-use Rattle.std.specs.Prelude.{ℕ, ◌==◌, nat_lt, not, ◌&&◌, Bool, false, List, [], ◌∷◌, length, Option, None, is_some, is_none, unwrap_or, if◌then◌else◌}
+use Rattle.std.specs.Prelude.{ℕ, ◌==◌, nat_le, nat_lt, not, ◌&&◌, Bool, false, List, [], ◌∷◌, length, Option, None, is_some, is_none, unwrap_or, if◌then◌else◌}
 use Rattle.std.specs.Str.{bytes_eq}
 use Rattle.std.specs.Option.{option_map_or}
 use Rattle.turn_types.specs.declared.address.Endpoint.{Endpoint}
@@ -10,6 +10,7 @@ use Rattle.turn_codec.specs.Seen.{seen_value, is_seen}
 use Rattle.turn_mac.specs.Integrity.{has_right_integrity}
 use Rattle.turn_cred.specs.Nonce.{is_fresh}
 use Rattle.turn_types.specs.Rows.{first_row}
+use Rattle.turn_cred.specs.declared.key.Key.{Key}
 
 -- what credentials are judged by: the realm, the secret of the nonces, and how long a user's name may be
 pub record Policy : Type 0 where
@@ -20,21 +21,29 @@ pub record Policy : Type 0 where
 abbrev pub policy_of : Config → Policy
 policy_of c = record { realm = c.realm; secret = c.secret; name_bytes = c.limits.name_bytes }
 
+-- the key where there is none, which counts nowhere
+abbrev pub no_key : Key
+no_key = record { bytes = []; expiry = None }
+
 -- a key by user name and realm, where there is one
 abbrev pub Keys : Type 0
-Keys = List ℕ → List ℕ → Option (List ℕ)
+Keys = List ℕ → List ℕ → Option Key
+
+-- from its expiry time on a key makes no new allocation
+abbrev pub has_expired : ℕ → Key → Bool
+has_expired t key = option_map_or (λ expiry. nat_le expiry t) key.expiry false
 
 pub data Verdict : Type 0 where
   Challenge401 : Verdict
   Bad400 : Verdict
   Stale438 : Verdict
-  Passed : (user key : List ℕ) → Verdict
+  Passed : (user : List ℕ) (key : Key) → Verdict
 
 abbrev pub has_integrity : Datagram → Bool
 has_integrity d = is_some (value_of message_integrity d.content.attributes)
 
 -- the key of a user name in a realm, if that is a known user of the policy's realm
-unfoldable pub user_key : Policy → Keys → List ℕ → List ℕ → Option (List ℕ)
+unfoldable pub user_key : Policy → Keys → List ℕ → List ℕ → Option Key
 user_key p keys user its_realm =
     if bytes_eq its_realm p.realm && not (length user == 0) && not (nat_lt p.name_bytes (length user)) then keys user p.realm else None
 
@@ -47,6 +56,6 @@ verdict p keys d client t =
     (not (has_integrity d), Challenge401) ∷
     (not (is_seen d.content username && is_seen d.content realm && is_seen d.content nonce), Bad400) ∷
     (is_none key, Challenge401) ∷
-    (not (option_map_or (λ k. has_right_integrity k d) key false), Challenge401) ∷
+    (not (option_map_or (λ k. has_right_integrity k.bytes d) key false), Challenge401) ∷
     (not (is_fresh p.secret (unwrap_or (seen_value d.content nonce) []) client t), Stale438) ∷ [])
-    (Passed user (unwrap_or key []))
+    (Passed user (unwrap_or key no_key))

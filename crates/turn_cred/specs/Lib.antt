@@ -2,6 +2,8 @@ pub mod CheckerState
 pub mod Credential
 pub mod Found
 pub mod Memo
+pub mod Names
 pub mod Nonce
 pub mod Passed
+pub mod Shared
 pub mod Users

@@ -3,13 +3,20 @@
 
 mod checker;
 mod handler;
+mod key;
 mod laws;
 mod memo;
 mod nonce;
+mod shared;
 mod users;
 
 pub use checker::{Checker, Verdict};
 pub use handler::AuthHandler;
-pub use laws::{freshness_is_decided, holds_for_an_hour, passed_is_sent_by_the_user};
+pub use key::Key;
+pub use laws::{
+    freshness_is_decided, holds_for_an_hour, keys_are_of_their_names, names_have_their_expiry,
+    no_secret_no_change, passed_is_sent_by_the_user,
+};
 pub use nonce::Nonces;
+pub use shared::{Credentials, SharedSecret};
 pub use users::Users;

@@ -2,8 +2,10 @@
 
 ghost use Rattle.std.specs.Prelude.{◌≡◌, OnOk, OnErr};
 ghost use Rattle.std.specs.FinMap as map;
+ghost use Rattle.turn_cred.specs.Shared.{lasting};
 
 use crate::handler::AuthHandler;
+use crate::key::Key;
 use std::alloc::{AllocError, Allocator, Global};
 use std::collections::BTreeMap;
 use std::marker::Model;
@@ -48,10 +50,22 @@ impl<A: Allocator + Copy> Users<A> {
 }
 
 impl<A: Allocator> AuthHandler for Users<A> {
-    ghost key_of = { λ users name _. map.get users name };
+    ghost key_of = { λ users name _. lasting (map.get users name) };
 
     /// The key of the name, whatever the realm.
-    fn key(&self, username: &[u8], _realm: &[u8]) -> Option<[u8; 16]> {
+    fn key(&self, username: &[u8], _realm: &[u8]) -> Option<Key> {
+        let bytes = self.bytes_of(username)?;
+        Some(Key {
+            bytes,
+            expiry: None,
+        })
+    }
+}
+
+impl<A: Allocator> Users<A> {
+    fn bytes_of(&self, username: &[u8]) -> Option<[u8; 16]>
+        ensures { result ≡ map.get self.now username.now }
+    {
         self.keys.get(username).copied()
     }
 }

@@ -14,6 +14,7 @@ use Rattle.turn_codec.specs.Grammar.{Datagram, Spells}
 use Rattle.turn_cred.specs.Credential.{Verdict, policy_of, verdict}
 use Rattle.turn_cred.specs.Credential.Verdict.{Passed}
 use Rattle.turn_cred.specs.Passed.{IsSentBy, NonceHolds}
+use Rattle.turn_cred.specs.declared.key.Key.{Key}
 use Rattle.turn_cred.proofs.Passes.{passed_again, sent_by}
 use Rattle.turn_rules.specs.Answer.{Decided, decision, is_allocate, is_dropped, is_protected, is_request, judgement, outcome_of, user_of}
 use Rattle.turn_rules.specs.Outcome.{act_by}
@@ -63,7 +64,7 @@ module _ (s : Setting) (f : FiveTuple) (d : Datagram) (spells : Spells d.bytes d
   judged_is t protected = ap (λ b. if b then Some (verdict (policy_of s.config) s.keys d f.client t) else None) protected
 
   -- credentials that held hold as long as the nonce does
-  judged_again : (t u : ℕ) (user key : List ℕ) → is_protected d.content.method ≡ true → judged t ≡ Some (Passed user key) → NonceHolds (policy_of s.config) d f.client u → judged u ≡ Some (Passed user key)
+  judged_again : (t u : ℕ) (user : List ℕ) (key : Key) → is_protected d.content.method ≡ true → judged t ≡ Some (Passed user key) → NonceHolds (policy_of s.config) d f.client u → judged u ≡ Some (Passed user key)
   judged_again t u user key protected held nonce =
       let passed = same_Some _ _ (sym (judged_is t protected) ∙ held) in
       judged_is u protected ∙ ap (λ v. Some v) (passed_again (policy_of s.config) s.keys d f.client t u user key passed nonce)
@@ -123,7 +124,7 @@ module _ (s : Setting) (f : FiveTuple) (d : Datagram) (spells : Spells d.bytes d
         let method = (and_parts (is_request d.content.class) (d.content.method == allocate) allocates).1 in
         ap (λ b. b || (d.content.method == refresh || (d.content.method == create_permission || d.content.method == channel_bind))) method
 
-    later_is : (later : Bool) (h g : History) (t u : ℕ) (failed failed_again : Bool) (o k : Outcome) (user key : List ℕ) (x e : Entry) → fin.get (table h t).entries f ≡ Some x → fin.get (table g u).entries f ≡ Some e
+    later_is : (later : Bool) (h g : History) (t u : ℕ) (failed failed_again : Bool) (o k : Outcome) (user : List ℕ) (key : Key) (x e : Entry) → fin.get (table h t).entries f ≡ Some x → fin.get (table g u).entries f ≡ Some e
         → allocation_of x ≡ allocation_of e → IsSentBy (policy_of s.config) s.keys d f.client t user key → NonceHolds (policy_of s.config) d f.client u
         → AnswersClient s h t failed f d.bytes o → AnswersClient (record s { pairs = later }) g u failed_again f d.bytes k → k ≡ o
     unfolding judged

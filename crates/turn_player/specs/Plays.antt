@@ -1,7 +1,7 @@
 -- What a player does: its steps, one after another.
 use Rattle.std.specs.Prelude.{◌≡◌, ◌++◌, ℕ, Bool, List, [], ◌∷◌, Option, Some, None, option_map, false, true}
 use Rattle.std.specs.Option.{option_to_list}
-use Rattle.turn_cred.specs.Users.{KeyMap}
+use Rattle.turn_cred.specs.Shared.{Sources}
 use Rattle.turn_cred.specs.declared.handler.AuthHandler as handlers
 use Rattle.turn_disk.specs.Crash.{left_by}
 use Rattle.turn_disk.specs.Disk.{IsImage}
@@ -80,7 +80,7 @@ pub data PlaysAll {D H G : Type 0} (disk : disks.Ghosts D) (handler : handlers.G
 -- what contracts see of a player: nothing of the world where a step met no memory
 pub record PlayerState : Type 0 where
   pub config : Config
-  pub world : Option (World InMemory KeyMap (ℕ × ℕ))
+  pub world : Option (World InMemory Sources (ℕ × ℕ))
 
 -- a player made just these steps, and said this
 pub record Ran {D H G : Type 0} (disk : disks.Ghosts D) (handler : handlers.Ghosts H) (ports : generators.Ghosts G) (s : Setting) (old : Option (World D H G)) (steps : List Step) (said : List Said) (new : Option (World D H G)) : Type 0 where

@@ -5,6 +5,7 @@ use Rattle.turn_history.specs.History.{Allocates, Allocation, History, IsLive, m
 use Rattle.turn_codec.specs.Grammar.{Datagram, Spells}
 use Rattle.turn_cred.specs.Credential.{policy_of}
 use Rattle.turn_cred.specs.Passed.{IsSentBy, NonceHolds}
+use Rattle.turn_cred.specs.declared.key.Key.{Key}
 use Rattle.turn_rules.specs.Answer.{is_allocate}
 use Rattle.turn_step.specs.Answer.{AnswersArrival, Setting}
 use Rattle.turn_step.specs.Outcome.{Outcome, change_of}
@@ -39,7 +40,7 @@ pub record MadeBefore (s : Setting) (h : History) (x : Taken) (f : FiveTuple) (d
   pub spells : Spells d.bytes d.content
   pub is_allocate : is_allocate d ≡ true
   pub user : List ℕ
-  pub key : List ℕ
+  pub key : Key
   pub sent_by : IsSentBy (policy_of s.config) s.keys d f.client x.moment user key
   pub had : Has h x.moment f a
 

@@ -15,7 +15,7 @@ use crate::faulty::Faulty;
 use crate::step::{Event, Step};
 use std::alloc::{AllocError, Allocator, Global};
 use std::marker::Model;
-use turn_cred::{AuthHandler, Users};
+use turn_cred::{AuthHandler, Credentials};
 use turn_disk::{Disk, MemoryDisk};
 use turn_engine::{CommitRefused, OpenRefused, Server};
 use turn_ports::{PortRange, RelayAddressGenerator};
@@ -23,7 +23,7 @@ use turn_step::{Arrival, Outgoing};
 use turn_types::{Moment, ServerConfig};
 
 /// A server over a disk in memory.
-pub type MemoryServer<A = Global> = Server<MemoryDisk<A>, Users<A>, PortRange, A>;
+pub type MemoryServer<A = Global> = Server<MemoryDisk<A>, Credentials<A>, PortRange, A>;
 
 /// A disk, with the handler and the generator for the next opening.
 #[derive(Drop)]
@@ -45,7 +45,7 @@ pub struct Player<A: Allocator = Global> {
     alloc: A,
     config: ServerConfig<A>,
     // `None` after an allocation failure.
-    held: Option<Held<MemoryDisk<A>, Users<A>, PortRange, A>>,
+    held: Option<Held<MemoryDisk<A>, Credentials<A>, PortRange, A>>,
 }
 
 // By hand: a derived drop is one step for each field in the proof of each caller.
@@ -332,14 +332,14 @@ impl<A: Allocator + Copy> Player<A> {
         alloc: A,
         disk: MemoryDisk<A>,
         config: ServerConfig<A>,
-        users: Users<A>,
+        credentials: Credentials<A>,
         ports: PortRange,
     ) -> Player<A>
-        ensures { result ≡ record { config = config; world = Some (Down disk users ports) } }
+        ensures { result ≡ record { config = config; world = Some (Down disk credentials ports) } }
     {
         let closed = Closed {
             disk,
-            handler: users,
+            handler: credentials,
             ports,
         };
         Player {
@@ -358,12 +358,12 @@ impl<A: Allocator + Copy> Player<A> {
 
         // Just these steps, in order.
         ensures plays { IfOk result (λ events. (s : Setting) → s.config ≡ self.old.config
-            → Ran ⟦<MemoryDisk<A> as Disk>⟧ ⟦<Users<A> as AuthHandler>⟧ ⟦<PortRange as RelayAddressGenerator>⟧ s
+            → Ran ⟦<MemoryDisk<A> as Disk>⟧ ⟦<Credentials<A> as AuthHandler>⟧ ⟦<PortRange as RelayAddressGenerator>⟧ s
             self.old.world steps.now (map said_of events.items) self.new.world) }
 
         // Every life at whose end the player stands goes on by them.
         ensures lives { IfOk result (λ events. (form : Form) (s : Setting) (p : Point) → s.config ≡ self.old.config → form.bounds ≡ s.config.limits
-            → GoesOn ⟦<MemoryDisk<A> as Disk>⟧ ⟦<Users<A> as AuthHandler>⟧ ⟦<PortRange as RelayAddressGenerator>⟧ form s p
+            → GoesOn ⟦<MemoryDisk<A> as Disk>⟧ ⟦<Credentials<A> as AuthHandler>⟧ ⟦<PortRange as RelayAddressGenerator>⟧ form s p
             self.old.world (inputs_of_all steps.now) (map said_of events.items) self.new.world) }
     {
         let Some(held) = self.held.take() else {

@@ -67,7 +67,7 @@ quiet_act user m (Bind n p) is = absurd is
 pub quiet_fits : (P : PlainAct → Type 0) (user : List ℕ) (m : Content) (o : Outcome) → IsQuiet o → IfSome (act_by user m o) P
 quiet_fits P user m o is = subst (λ a. IfSome a P) (sym (quiet_act user m o is)) tt
 
-pub decided_fits : (pairs : Bool) (s : Config) (c : Contents) (f : FiveTuple) (t : ℕ) (d : Datagram) (v : Option Verdict) (port : Option ℕ) → ReservedApart c → IsPicked c (port_needed pairs s c f d v) port
+pub decided_fits : (pairs : Bool) (s : Config) (c : Contents) (f : FiveTuple) (t : ℕ) (d : Datagram) (v : Option Verdict) (port : Option ℕ) → ReservedApart c → IsPicked c (port_needed pairs s c f t d v) port
     → IfSome (decision pairs s c f t d v port).act (Fits s.limits c f)
 unfolding decision
 decided_fits pairs s c f t d v port apart picked = by_known (outcome_of pairs s c f t d v port) (known pairs s c f t d port v)

@@ -8,7 +8,7 @@ use Rattle.std.specs.Str.{bytes_eq}
 use Rattle.turn_history.proofs.Histories.{table-events_of}
 use Rattle.turn_history.proofs.Live.{some_is}
 use Rattle.turn_types.specs.Config.{Config}
-use Rattle.turn_types.specs.declared.error.ErrorCode.TheVariants.{AllocationQuotaReached, InsufficientCapacity}
+use Rattle.turn_types.specs.declared.error.ErrorCode.TheVariants.{AllocationQuotaReached, InsufficientCapacity, Unauthenticated}
 use Rattle.turn_history.specs.Fitting.{is_taken}
 use Rattle.turn_history.specs.History.{History}
 use Rattle.turn_history.specs.Laws.{events_of}
@@ -16,19 +16,20 @@ use Rattle.turn_types.specs.Methods.{allocate, binding}
 use Rattle.turn_types.specs.Rows.{first_row}
 use Rattle.turn_history.specs.Table.{Contents, Reservations, table}
 use Rattle.turn_codec.specs.AttributeTypes.{reservation_token}
-use Rattle.turn_codec.specs.Seen.{seen_value}
+use Rattle.turn_codec.specs.Seen.{has_unknown, seen_value}
 use Rattle.turn_types.specs.declared.address.FiveTuple.{FiveTuple}
 use Rattle.turn_codec.specs.Grammar.{Content, Datagram, canonical}
-use Rattle.turn_cred.specs.Credential.{Verdict}
+use Rattle.turn_cred.specs.Credential.{Verdict, has_expired}
 use Rattle.turn_cred.specs.Credential.Verdict.{Challenge401, Bad400, Stale438, Passed}
+use Rattle.turn_cred.specs.declared.key.Key.{Key}
 use Rattle.turn_ports.specs.Ports.{IsFree, IsFreePair, MayPick, MayPickPair}
 use Rattle.turn_mac.specs.Fingerprint.{has_wrong_fingerprint}
 use Rattle.turn_rules.specs.declared.outcome.Outcome.{Outcome}
-use Rattle.turn_rules.specs.declared.outcome.Outcome.TheVariants.{Drop}
+use Rattle.turn_rules.specs.declared.outcome.Outcome.TheVariants.{Drop, Challenge}
 use Rattle.turn_rules.specs.declared.need.Need.{Need}
 use Rattle.turn_rules.specs.declared.need.Need.TheVariants.{Any, Even, Pair}
 use Rattle.turn_rules.specs.Allocate.{allocate_outcome, asks_for_next_port, before_port, capacity_outcome, count_of_user, named_port, need_of, needed_for, own_outcome, port_for, refused, token_in, with_port}
-use Rattle.turn_rules.specs.Answer.{Decided, MayAnswer, by_verdict, decision, is_allocate, is_dropped, is_protected, is_request, key_of, needed_if_passed, outcome_of, passed_outcome, port_needed, user_of}
+use Rattle.turn_rules.specs.Answer.{Decided, MayAnswer, by_verdict, decision, is_allocate, is_dropped, is_expired, is_protected, is_request, key_of, needed_if_passed, outcome_of, passed_outcome, port_needed, user_of}
 use Rattle.turn_rules.specs.Binding.{binding_outcome}
 use Rattle.turn_rules.specs.Laws.{SameForOthers}
 use Rattle.turn_rules.specs.Need.{MayPickFor}
@@ -37,7 +38,7 @@ use Rattle.turn_rules.specs.Owner.{owner_outcome}
 
 -- an Allocate whose credentials hold has a fact of its user
 abbrev ForAllocate : Datagram → Option Verdict → (List ℕ → Type 0) → Type 0
-ForAllocate d v P = is_dropped d ≡ false → (user key : List ℕ) → v ≡ Some (Passed user key) → (d.content.method == allocate) ≡ true → P user
+ForAllocate d v P = is_dropped d ≡ false → (user : List ℕ) (key : Key) → v ≡ Some (Passed user key) → (d.content.method == allocate) ≡ true → P user
 
 -- ---- Decisions
 
@@ -53,12 +54,17 @@ module _ (pairs : Bool) (s : Config) (c k : Contents) (f : FiveTuple) (t : ℕ) 
       by_method true h = h refl
       by_method false h = ap (λ o. owner_outcome s o user d.content) same
 
-  verdict_same : (v : Option Verdict) → ((user key : List ℕ) → v ≡ Some (Passed user key) → (d.content.method == allocate) ≡ true → Alike user) → by_verdict pairs s c f t d.content v port ≡ by_verdict pairs s k f t d.content v other
+  expired_same : (key : Key) → is_expired c f t d.content key ≡ is_expired k f t d.content key
+  expired_same key = ap (λ o. has_expired t key && ((d.content.method == allocate) && (not (has_unknown d.content) && is_none o))) same
+
+  verdict_same : (v : Option Verdict) → ((user : List ℕ) (key : Key) → v ≡ Some (Passed user key) → (d.content.method == allocate) ≡ true → Alike user) → by_verdict pairs s c f t d.content v port ≡ by_verdict pairs s k f t d.content v other
   verdict_same None alike = refl
   verdict_same (Some Challenge401) alike = refl
   verdict_same (Some Bad400) alike = refl
   verdict_same (Some Stale438) alike = refl
-  verdict_same (Some (Passed user key)) alike = passed_same user (alike user key refl)
+  verdict_same (Some (Passed user key)) alike =
+      ap (λ b. if b then Challenge Unauthenticated else passed_outcome pairs s c f t user d.content port) (expired_same key)
+      ∙ ap (λ x. if is_expired k f t d.content key then Challenge Unauthenticated else x) (passed_same user (alike user key refl))
 
   outcome_same : (v : Option Verdict) → ForAllocate d v Alike → outcome_of pairs s c f t d v port ≡ outcome_of pairs s k f t d v other
   unfolding outcome_of
@@ -67,7 +73,7 @@ module _ (pairs : Bool) (s : Config) (c k : Contents) (f : FiveTuple) (t : ℕ) 
       rest : Contents → Option ℕ → Outcome
       rest x p = first_row ((d.content.method == binding, binding_outcome d.content) ∷ (is_protected d.content.method, by_verdict pairs s x f t d.content v p) ∷ []) Drop
 
-      by_dropped : (b : Bool) → (b ≡ false → (user key : List ℕ) → v ≡ Some (Passed user key) → (d.content.method == allocate) ≡ true → Alike user) → (if b then Drop else rest c port) ≡ (if b then Drop else rest k other)
+      by_dropped : (b : Bool) → (b ≡ false → (user : List ℕ) (key : Key) → v ≡ Some (Passed user key) → (d.content.method == allocate) ≡ true → Alike user) → (if b then Drop else rest c port) ≡ (if b then Drop else rest k other)
       by_dropped true h = refl
       by_dropped false h = ap (λ x. first_row ((d.content.method == binding, binding_outcome d.content) ∷ (is_protected d.content.method, x) ∷ []) Drop) (verdict_same v (h refl))
 
@@ -81,27 +87,28 @@ module _ (pairs : Bool) (s : Config) (c k : Contents) (f : FiveTuple) (t : ℕ) 
 -- ---- Ports
 
 -- no port is needed where an outcome before it applies
-none_needed : (pairs : Bool) (s : Config) (c : Contents) (f : FiveTuple) (d : Datagram) (v : Option Verdict) → ForAllocate d v (λ user. is_none (before_port pairs s c f user d.content) ≡ false) → port_needed pairs s c f d v ≡ None
+none_needed : (pairs : Bool) (s : Config) (c : Contents) (f : FiveTuple) (t : ℕ) (d : Datagram) (v : Option Verdict) → ForAllocate d v (λ user. is_none (before_port pairs s c f user d.content) ≡ false) → port_needed pairs s c f t d v ≡ None
 unfolding port_needed
-none_needed pairs s c f d v decided = by_dropped (is_dropped d) decided
+none_needed pairs s c f t d v decided = by_dropped (is_dropped d) decided
   where
-    by_need : (b : Bool) (need : Option Need) → b ≡ false → (if b then need else None) ≡ None
-    by_need true need h = cc
-    by_need false need h = refl
+    by_need : (expired b : Bool) (need : Option Need) → b ≡ false → (if expired then None else if b then need else None) ≡ None
+    by_need true b need h = refl
+    by_need false true need h = cc
+    by_need false false need h = refl
 
-    by_verdict_is : (w : Option Verdict) → ((user key : List ℕ) → w ≡ Some (Passed user key) → is_none (before_port pairs s c f user d.content) ≡ false) → needed_if_passed pairs s c f d.content w ≡ None
+    by_verdict_is : (w : Option Verdict) → ((user : List ℕ) (key : Key) → w ≡ Some (Passed user key) → is_none (before_port pairs s c f user d.content) ≡ false) → needed_if_passed pairs s c f t d.content w ≡ None
     by_verdict_is None h = refl
     by_verdict_is (Some Challenge401) h = refl
     by_verdict_is (Some Bad400) h = refl
     by_verdict_is (Some Stale438) h = refl
-    by_verdict_is (Some (Passed user key)) h = by_need (is_none (before_port pairs s c f user d.content)) _ (h user key refl)
+    by_verdict_is (Some (Passed user key)) h = by_need (is_expired c f t d.content key) (is_none (before_port pairs s c f user d.content)) _ (h user key refl)
 
-    by_method : (b : Bool) → ((user key : List ℕ) → v ≡ Some (Passed user key) → b ≡ true → is_none (before_port pairs s c f user d.content) ≡ false) → ◌≡◌ {A = Option Need} (if b then needed_if_passed pairs s c f d.content v else None) None
+    by_method : (b : Bool) → ((user : List ℕ) (key : Key) → v ≡ Some (Passed user key) → b ≡ true → is_none (before_port pairs s c f user d.content) ≡ false) → ◌≡◌ {A = Option Need} (if b then needed_if_passed pairs s c f t d.content v else None) None
     by_method true h = by_verdict_is v (λ user key is. h user key is refl)
     by_method false h = refl
 
-    by_dropped : (b : Bool) → (b ≡ false → (user key : List ℕ) → v ≡ Some (Passed user key) → (d.content.method == allocate) ≡ true → is_none (before_port pairs s c f user d.content) ≡ false)
-        → ◌≡◌ {A = Option Need} (if b then None else if d.content.method == allocate then needed_if_passed pairs s c f d.content v else None) None
+    by_dropped : (b : Bool) → (b ≡ false → (user : List ℕ) (key : Key) → v ≡ Some (Passed user key) → (d.content.method == allocate) ≡ true → is_none (before_port pairs s c f user d.content) ≡ false)
+        → ◌≡◌ {A = Option Need} (if b then None else if d.content.method == allocate then needed_if_passed pairs s c f t d.content v else None) None
     by_dropped true h = refl
     by_dropped false h = by_method (d.content.method == allocate) (h refl)
 
@@ -120,7 +127,7 @@ without_port :
     → MayAnswer pairs s range h t failed f d v o → MayAnswer pairs s range g t failed f d v o
 without_port pairs s range h g t failed f d v o events decides answer = record {
   port = None;
-  picked = λ need needed. absurd (none_is_some (sym (none_needed pairs s (table g t) f d v (λ a b c e h. (decides a b c e h).0)) ∙ needed));
+  picked = λ need needed. absurd (none_is_some (sym (none_needed pairs s (table g t) f t d v (λ a b c e h. (decides a b c e h).0)) ∙ needed));
   decided = answer.decided ∙ decision_same pairs s (table h t) (table g t) f t (entry_same h g t f events) answer.port None d v (λ a b c e h. (decides a b c e h).1 answer.port None);
 }
 
@@ -156,7 +163,7 @@ own_same pairs h g t f user m events valid =
     ∙ ap (λ e. own_outcome pairs (is_some (named_port (table g t) m)) e user m) (entry_same h g t f events)
 
 pub own_answers_same :
-    (pairs : Bool) (s : Config) (range : ℕ × ℕ) (h g : History) (t : ℕ) (failed : Bool) (f : FiveTuple) (d : Datagram) (user key : List ℕ) (o : Decided) →
+    (pairs : Bool) (s : Config) (range : ℕ × ℕ) (h g : History) (t : ℕ) (failed : Bool) (f : FiveTuple) (d : Datagram) (user : List ℕ) (key : Key) (o : Decided) →
     events_of f h ≡ events_of f g → is_some (named_port (table h t) d.content) ≡ is_some (named_port (table g t) d.content) →
     IsSome (own_outcome pairs (is_some (named_port (table h t) d.content)) (fin.get (table h t).entries f) user d.content) →
     MayAnswer pairs s range h t failed f d (Some (Passed user key)) o → MayAnswer pairs s range g t failed f d (Some (Passed user key)) o
@@ -171,7 +178,7 @@ own_answers_same pairs s range h g t failed f d user key o events valid own =
       λ p q. own_is_outcome pairs s (table h t) f user d.content found.0 found.1 t p ∙ sym (own_is_outcome pairs s (table g t) f user d.content found.0 other t q),
     ))
   where
-    passed_user : {u k w j : List ℕ} → ◌≡◌ {A = Option Verdict} (Some (Passed u k)) (Some (Passed w j)) → u ≡ w
+    passed_user : {u w : List ℕ} {k j : Key} → ◌≡◌ {A = Option Verdict} (Some (Passed u k)) (Some (Passed w j)) → u ≡ w
     passed_user is = cc
 
 pub own_too : (pairs : Bool) (h g : History) (t : ℕ) (f : FiveTuple) (user : List ℕ) (m : Content) → events_of f h ≡ events_of f g → is_some (named_port (table h t) m) ≡ is_some (named_port (table g t) m)
@@ -255,17 +262,20 @@ allocates_same pairs s range h g t failed f d v o events others answer =
     entry : fin.get (table h t).entries f ≡ fin.get (table g t).entries f
     entry = entry_same h g t f events
 
-    count : (user key : List ℕ) → v ≡ Some (Passed user key) → count_of_user (table h t) user ≡ count_of_user (table g t) user
+    count : (user : List ℕ) (key : Key) → v ≡ Some (Passed user key) → count_of_user (table h t) user ≡ count_of_user (table g t) user
     count user key is = subst (λ u. count_of_user (table h t) u ≡ count_of_user (table g t) u) (ap user_of is) others.of_user
 
-    by_verdict_is : (w : Option Verdict) → v ≡ w → needed_if_passed pairs s (table h t) f d.content w ≡ needed_if_passed pairs s (table g t) f d.content w
+    by_verdict_is : (w : Option Verdict) → v ≡ w → needed_if_passed pairs s (table h t) f t d.content w ≡ needed_if_passed pairs s (table g t) f t d.content w
     by_verdict_is None is = refl
     by_verdict_is (Some Challenge401) is = refl
     by_verdict_is (Some Bad400) is = refl
     by_verdict_is (Some Stale438) is = refl
-    by_verdict_is (Some (Passed user key)) is = needed_same pairs s (table h t) (table g t) f entry user d.content (count user key is) others.all others.reserved
+    by_verdict_is (Some (Passed user key)) is =
+        ap (λ b. if b then None else if is_none (before_port pairs s (table h t) f user d.content) then needed_for (table h t) d.content else None)
+        (expired_same pairs s (table h t) (table g t) f t entry answer.port answer.port d key)
+        ∙ ap (λ n. if is_expired (table g t) f t d.content key then None else n) (needed_same pairs s (table h t) (table g t) f entry user d.content (count user key is) others.all others.reserved)
 
-    all_needed_same : port_needed pairs s (table h t) f d v ≡ port_needed pairs s (table g t) f d v
+    all_needed_same : port_needed pairs s (table h t) f t d v ≡ port_needed pairs s (table g t) f t d v
     all_needed_same = ap (λ n. if is_dropped d then None else if d.content.method == allocate then n else None) (by_verdict_is v refl)
 
 -- the premises, the other way round

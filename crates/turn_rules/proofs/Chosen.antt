@@ -21,10 +21,9 @@ use Rattle.turn_codec.specs.AttributeTypes.{even_port, reservation_token}
 use Rattle.turn_codec.specs.Grammar.{Content, Datagram}
 use Rattle.turn_codec.specs.Seen.{is_seen, seen_value}
 use Rattle.turn_cred.specs.Credential.{Verdict}
-use Rattle.turn_rules.specs.declared.need.Need.{Need}
 use Rattle.turn_rules.specs.declared.need.Need.TheVariants.{Any, Even, Pair}
 use Rattle.turn_rules.specs.declared.outcome.Outcome.{Outcome}
-use Rattle.turn_rules.specs.Allocate.{asks_for_next_port, named_port, need_of, needed_for, token_in}
+use Rattle.turn_rules.specs.Allocate.{asks_for_next_port, before_port, named_port, need_of, needed_for, token_in}
 use Rattle.turn_rules.specs.Answer.{needed_if_passed, port_needed}
 use Rattle.turn_rules.specs.Laws.{AreReservedPorts, IsFreeFor, IsNextFree, IsPicked}
 use Rattle.turn_rules.proofs.Reached.{IsNew, IsOfUser}
@@ -92,10 +91,11 @@ module _ {pairs : Bool} {s : Config} {c : Contents} {f : FiveTuple} {t : ℕ} {u
 
 -- where an allocation is made, what is needed is what the Allocate needs
 pub needed_is : {pairs : Bool} {s : Config} {c : Contents} {f : FiveTuple} {t : ℕ} {d : Datagram} {v : Option Verdict} {picked : Option ℕ} {o : Outcome} (of_user : IsOfUser pairs s c f t d v picked o)
-    → {p seconds : ℕ} {token : Option Token} → IsNew pairs s c f t of_user.user d.content picked p seconds token → port_needed pairs s c f d v ≡ needed_for c d.content
+    → {p seconds : ℕ} {token : Option Token} → IsNew pairs s c f t of_user.user d.content picked p seconds token → port_needed pairs s c f t d v ≡ needed_for c d.content
 unfolding port_needed
-needed_is {pairs = pairs} {s = s} {c = c} {f = f} {d = d} {v = v} of_user new =
-    ap (λ b. if b then None else if d.content.method == allocate then needed_if_passed pairs s c f d.content v else None) of_user.taken
-    ∙ ap (λ b. if b then needed_if_passed pairs s c f d.content v else None) new.method
-    ∙ ap (needed_if_passed pairs s c f d.content) of_user.verdict
+needed_is {pairs = pairs} {s = s} {c = c} {f = f} {t = t} {d = d} {v = v} of_user new =
+    ap (λ b. if b then None else if d.content.method == allocate then needed_if_passed pairs s c f t d.content v else None) of_user.taken
+    ∙ ap (λ b. if b then needed_if_passed pairs s c f t d.content v else None) new.method
+    ∙ ap (needed_if_passed pairs s c f t d.content) of_user.verdict
+    ∙ ap (λ b. if b then None else if is_none (before_port pairs s c f of_user.user d.content) then needed_for c d.content else None) of_user.in_time
     ∙ ap (λ o. if is_none o then needed_for c d.content else None) new.undecided

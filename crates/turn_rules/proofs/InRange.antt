@@ -281,7 +281,7 @@ module _ (s : Config) (c : Contents) (f : FiveTuple) (m : Content) (bytes : IsMa
     reached_in_range (Bind n p) is = (is.number, peer_in_range p is.peer)
 
 pub decided_in_range : (pairs : Bool) (s : Config) (c : Contents) (f : FiveTuple) (t : ℕ) (d : Datagram) (v : Option Verdict) (port : Option ℕ) → IsMadeOfBytes d.content → AreReservedPorts c
-    → IsPicked c (port_needed pairs s c f d v) port → NamesInRange s.limits v → IfSome (decision pairs s c f t d v port).act (IsActInRange s.limits)
+    → IsPicked c (port_needed pairs s c f t d v) port → NamesInRange s.limits v → IfSome (decision pairs s c f t d v port).act (IsActInRange s.limits)
 unfolding decision
 decided_in_range pairs s c f t d v port bytes ports picked names = by_known (outcome_of pairs s c f t d v port) (known pairs s c f t d port v)
   where

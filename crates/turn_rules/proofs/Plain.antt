@@ -11,11 +11,10 @@ use Rattle.turn_history.specs.Table.{Contents, Entry}
 use Rattle.turn_codec.specs.AttributeTypes.{even_port, requested_address_family, requested_transport, reservation_token}
 use Rattle.turn_codec.specs.Grammar.{Content}
 use Rattle.turn_codec.specs.Seen.{has_unknown, is_seen, seen_value}
-use Rattle.turn_rules.specs.declared.need.Need.{Need}
 use Rattle.turn_rules.specs.declared.need.Need.TheVariants.{Any, Even, Pair}
 use Rattle.turn_rules.specs.declared.outcome.Outcome.{Outcome}
 use Rattle.turn_rules.specs.declared.outcome.Outcome.TheVariants.{Allocate, RefuseUnknown}
-use Rattle.turn_rules.specs.Allocate.{allocate_outcome, asks_for_next_port, before_port, capacity_outcome, count_of_user, is_malformed_allocate, is_repeat, named_port, need_of, needed_for, own_outcome, port_for, refused, repeated, token_in, token_of, with_port}
+use Rattle.turn_rules.specs.Allocate.{asks_for_next_port, before_port, capacity_outcome, count_of_user, is_malformed_allocate, is_repeat, named_port, need_of, needed_for, own_outcome, port_for, refused, repeated, token_in, token_of, with_port}
 use Rattle.turn_rules.specs.Fields.{first_byte, granted, is_other_family, lifetime_of}
 use Rattle.turn_rules.specs.Laws.{IsPlain, plain_before_port, plain_capacity_rows, plain_rows, plain_with_port}
 use Rattle.turn_rules.specs.Token.{token_for}

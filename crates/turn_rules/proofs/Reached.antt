@@ -9,6 +9,7 @@ use Rattle.std.proofs.lemmas.Bool.Decides.{nat_tests}
 use Rattle.turn_types.specs.Config.{Config, is_between}
 use Rattle.turn_types.specs.Methods.{allocate, binding, refresh, create_permission}
 use Rattle.turn_types.specs.Rows.{first_row}
+use Rattle.turn_types.specs.declared.error.ErrorCode.TheVariants.{Unauthenticated}
 use Rattle.turn_types.specs.declared.address.Addr.{Addr}
 use Rattle.turn_types.specs.declared.address.Addr.TheVariants.{V4, V6}
 use Rattle.turn_types.specs.declared.address.Endpoint.{Endpoint}
@@ -24,10 +25,11 @@ use Rattle.turn_codec.specs.Grammar.{Content, Datagram}
 use Rattle.turn_codec.specs.Seen.{has_unknown, is_seen, seen_value}
 use Rattle.turn_cred.specs.Credential.{Verdict}
 use Rattle.turn_cred.specs.Credential.Verdict.{Challenge401, Bad400, Stale438, Passed}
+use Rattle.turn_cred.specs.declared.key.Key.{Key}
 use Rattle.turn_rules.specs.declared.outcome.Outcome.{Outcome}
 use Rattle.turn_rules.specs.declared.outcome.Outcome.TheVariants.{Drop, Refuse, RefuseUnknown, Challenge, MappedAddress, RepeatedAllocate, Allocate, Renew, Permit, Bind}
 use Rattle.turn_rules.specs.Allocate.{allocate_outcome, asks_for_next_port, before_port, capacity_outcome, capacity_rows, named_port, own_outcome, own_rows, port_for, token_of, with_port}
-use Rattle.turn_rules.specs.Answer.{by_verdict, is_dropped, is_protected, outcome_of, passed_outcome}
+use Rattle.turn_rules.specs.Answer.{by_verdict, is_dropped, is_expired, is_protected, outcome_of, passed_outcome}
 use Rattle.turn_rules.specs.Binding.{binding_outcome}
 use Rattle.turn_rules.specs.Channel.{bind_outcome, bind_rows, channel_outcome, in_range, named_number, named_peer, number_at, to_address, to_peer}
 use Rattle.turn_rules.specs.Fields.{first_byte, four_bytes, granted, lifetime_of}
@@ -161,8 +163,9 @@ IsQuiet (Bind n p) = ⊥
 -- the outcome of a datagram does nothing, or its credentials hold
 pub record IsOfUser (pairs : Bool) (s : Config) (c : Contents) (f : FiveTuple) (t : ℕ) (d : Datagram) (v : Option Verdict) (port : Option ℕ) (o : Outcome) : Type 0 where
   pub user : List ℕ
-  pub key : List ℕ
+  pub key : Key
   pub verdict : v ≡ Some (Passed user key)
+  pub in_time : is_expired c f t d.content key ≡ false
   pub taken : is_dropped d ≡ false
   pub other_method : (d.content.method == binding) ≡ false
   pub protected : is_protected d.content.method ≡ true
@@ -340,7 +343,13 @@ module _ (pairs : Bool) (s : Config) (c : Contents) (f : FiveTuple) (t : ℕ) (d
   verdict_known (Some Bad400) taken other protected = inl tt
   verdict_known (Some Stale438) taken other protected = inl tt
   verdict_known (Some (Passed user key)) taken other protected =
-      inr (record { user = user; key = key; verdict = refl; taken = taken; other_method = other; protected = protected; reached = passed_reached pairs s c f t d.content port user })
+      by_expired (is_expired c f t d.content key) refl
+    where
+      by_expired : (b : Bool) → is_expired c f t d.content key ≡ b
+          → Known pairs s c f t d (Some (Passed user key)) port (if b then Challenge Unauthenticated else passed_outcome pairs s c f t user d.content port)
+      by_expired true is = inl tt
+      by_expired false is =
+          inr (record { user = user; key = key; verdict = refl; in_time = is; taken = taken; other_method = other; protected = protected; reached = passed_reached pairs s c f t d.content port user })
 
   pub known : (v : Option Verdict) → Known pairs s c f t d v port (outcome_of pairs s c f t d v port)
   unfolding outcome_of

@@ -1,6 +1,6 @@
 -- A repeated Allocate gets the same bytes.
 use Rattle.std.proofs.Common.{◌≡◌, inl, inr, arith, subst, ℕ, Bool, true, false, ◌||◌, ◌&&◌, List, [], ◌∷◌, refl, sym, ap, ◌∙◌, Option, Some, None}
-use Rattle.std.specs.Prelude.{◌==◌, if◌then◌else◌, is_some, option_map, unwrap_or}
+use Rattle.std.specs.Prelude.{◌==◌, if◌then◌else◌, is_none, is_some, not, option_map, unwrap_or}
 use Rattle.std.specs.Bool.{Decides}
 use Rattle.std.specs.FinMap as fin
 use Rattle.std.specs.Option.{option_or}
@@ -11,19 +11,20 @@ use Rattle.turn_types.specs.Config.{Config}
 use Rattle.turn_types.specs.Methods.{allocate, binding, refresh, create_permission, channel_bind}
 use Rattle.turn_types.specs.Rows.{first_row}
 use Rattle.turn_types.specs.declared.address.FiveTuple.{FiveTuple}
-use Rattle.turn_types.specs.declared.error.ErrorCode.TheVariants.{AllocationMismatch}
+use Rattle.turn_types.specs.declared.error.ErrorCode.TheVariants.{AllocationMismatch, Unauthenticated}
 use Rattle.std.proofs.lemmas.Bool.{and_from, and_parts}
 use Rattle.turn_history.specs.History.{Allocates, Allocation, PlainAct, allocation_by}
 use Rattle.turn_history.specs.Laws.{allocation_of}
 use Rattle.turn_history.specs.Table.{Contents, Entry}
 use Rattle.turn_codec.specs.Grammar.{Content, Datagram, canonical}
 use Rattle.turn_codec.specs.Seen.{has_unknown}
-use Rattle.turn_cred.specs.Credential.{Verdict}
+use Rattle.turn_cred.specs.Credential.{Verdict, has_expired}
 use Rattle.turn_cred.specs.Credential.Verdict.{Passed}
+use Rattle.turn_cred.specs.declared.key.Key.{Key}
 use Rattle.turn_rules.specs.declared.outcome.Outcome.{Outcome}
 use Rattle.turn_rules.specs.declared.outcome.Outcome.TheVariants.{Drop, Refuse, RefuseUnknown, Challenge, MappedAddress, RepeatedAllocate, Allocate, Renew, Permit, Bind}
 use Rattle.turn_rules.specs.Allocate.{allocate_outcome, before_port, capacity_outcome, is_repeat, named_port, own_outcome, port_for, with_port}
-use Rattle.turn_rules.specs.Answer.{Decided, by_verdict, decision, is_allocate, is_dropped, is_protected, is_request, key_of, outcome_of, user_of}
+use Rattle.turn_rules.specs.Answer.{Decided, by_verdict, decision, is_allocate, is_dropped, is_expired, is_protected, is_request, key_of, outcome_of, passed_outcome, user_of}
 use Rattle.turn_rules.specs.Binding.{binding_outcome}
 use Rattle.turn_rules.specs.Outcome.{act_by, response_of}
 use Rattle.turn_rules.specs.Owner.{owner_outcome}
@@ -58,14 +59,25 @@ allocate_in_use pairs s c f t user m port e at =
 
 -- ---- Datagrams
 
--- the outcome of an Allocate whose credentials hold is that of the Allocate
-pub outcome_is : (pairs : Bool) (s : Config) (c : Contents) (f : FiveTuple) (t : ℕ) (d : Datagram) (user key : List ℕ) (port : Option ℕ) → is_dropped d ≡ false → (d.content.method == binding) ≡ false → is_protected d.content.method ≡ true → (d.content.method == allocate) ≡ true
+-- where the five-tuple has an allocation, whether the key has expired doesn't count
+pub in_time : (c : Contents) (f : FiveTuple) (t : ℕ) (m : Content) (key : Key) (e : Entry) → fin.get c.entries f ≡ Some e → is_expired c f t m key ≡ false
+in_time c f t m key e at = ap (λ o. has_expired t key && ((m.method == allocate) && (not (has_unknown m) && is_none o))) at ∙ all_false (has_expired t key) (m.method == allocate) (not (has_unknown m))
+  where
+    all_false : (a b d : Bool) → a && (b && (d && false)) ≡ false
+    all_false true true true = refl
+    all_false true true false = refl
+    all_false true false d = refl
+    all_false false b d = refl
+
+-- the outcome of an Allocate whose credentials hold, with a key that has not expired, is that of the Allocate
+pub outcome_is : (pairs : Bool) (s : Config) (c : Contents) (f : FiveTuple) (t : ℕ) (d : Datagram) (user : List ℕ) (key : Key) (port : Option ℕ) → is_expired c f t d.content key ≡ false → is_dropped d ≡ false → (d.content.method == binding) ≡ false → is_protected d.content.method ≡ true → (d.content.method == allocate) ≡ true
     → outcome_of pairs s c f t d (Some (Passed user key)) port ≡ allocate_outcome pairs s c f t user d.content port
 unfolding outcome_of
-outcome_is pairs s c f t d user key port taken other protected method =
+outcome_is pairs s c f t d user key port early taken other protected method =
     ap (λ b. if b then Drop else first_row ((d.content.method == binding, binding_outcome d.content) ∷ (is_protected d.content.method, by_verdict pairs s c f t d.content (Some (Passed user key)) port) ∷ []) Drop) taken
     ∙ ap (λ b. if b then binding_outcome d.content else first_row ((is_protected d.content.method, by_verdict pairs s c f t d.content (Some (Passed user key)) port) ∷ []) Drop) other
     ∙ ap (λ b. if b then by_verdict pairs s c f t d.content (Some (Passed user key)) port else Drop) protected
+    ∙ ap (λ b. if b then Challenge Unauthenticated else passed_outcome pairs s c f t user d.content port) early
     ∙ ap (λ b. if b then allocate_outcome pairs s c f t user d.content port else owner_outcome s (fin.get c.entries f) user d.content) method
 
 -- ---- The first success again
@@ -123,7 +135,7 @@ module _ (pairs later : Bool) (s : Config) (c again : Contents) (f : FiveTuple) 
       let repeats : is_repeat user d.content e ≡ true = and_from _ _ (equal_bytes e.user user same_user) (equal_bytes e.tx.0 d.content.tx makes.tx_is) in
       let second : outcome_of later s again f u d v other ≡ RepeatedAllocate e.port e.granted e.token =
       ap (λ w. outcome_of later s again f u d w other) of_user.verdict
-      ∙ outcome_is later s again f u d user of_user.key other of_user.taken of_user.other_method of_user.protected new.method
+      ∙ outcome_is later s again f u d user of_user.key other (in_time again f u d.content of_user.key e at) of_user.taken of_user.other_method of_user.protected new.method
       ∙ allocate_in_use later s again f u user d.content other e at
       ∙ ap (λ b. if b then RefuseUnknown else if is_repeat user d.content e then RepeatedAllocate e.port e.granted e.token else Refuse AllocationMismatch) new.known
       ∙ ap (λ b. if b then RepeatedAllocate e.port e.granted e.token else Refuse AllocationMismatch) repeats in
@@ -162,18 +174,18 @@ other_method n is = grind (arith, nat_tests)
 pub protects : (n : ℕ) → (n == allocate) ≡ true → is_protected n ≡ true
 protects n is = ap (λ b. b || (n == refresh || (n == create_permission || n == channel_bind))) is
 
-module _ (pairs : Bool) (s : Config) (f : FiveTuple) (t : ℕ) (d : Datagram) (user key : List ℕ) (allocates : is_allocate d ≡ true) where
+module _ (pairs : Bool) (s : Config) (f : FiveTuple) (t : ℕ) (d : Datagram) (user : List ℕ) (key : Key) (allocates : is_allocate d ≡ true) where
   live_is : (c : Contents) (port : Option ℕ) (e : Entry) → fin.get c.entries f ≡ Some e → is_dropped d ≡ false → outcome_of pairs s c f t d (Some (Passed user key)) port ≡ in_use (allocation_of e) user d.content
   live_is c port e at taken =
       let method = (and_parts (is_request d.content.class) (d.content.method == allocate) allocates).1 in
-      outcome_is pairs s c f t d user key port taken (other_method d.content.method method) (protects d.content.method method) method ∙ allocate_in_use pairs s c f t user d.content port e at
+      outcome_is pairs s c f t d user key port (in_time c f t d.content key e at) taken (other_method d.content.method method) (protects d.content.method method) method ∙ allocate_in_use pairs s c f t user d.content port e at
 
   dropped_is : (c : Contents) (port : Option ℕ) → is_dropped d ≡ true → outcome_of pairs s c f t d (Some (Passed user key)) port ≡ Drop
   unfolding outcome_of
   dropped_is c port dropped =
       ap (λ b. if b then Drop else first_row ((d.content.method == binding, binding_outcome d.content) ∷ (is_protected d.content.method, by_verdict pairs s c f t d.content (Some (Passed user key)) port) ∷ []) Drop) dropped
 
-pub later_same : (pairs later : Bool) (s : Config) (c again : Contents) (f : FiveTuple) (d : Datagram) (user key : List ℕ) (t u : ℕ) (port other : Option ℕ) (x e : Entry)
+pub later_same : (pairs later : Bool) (s : Config) (c again : Contents) (f : FiveTuple) (d : Datagram) (user : List ℕ) (key : Key) (t u : ℕ) (port other : Option ℕ) (x e : Entry)
     → is_allocate d ≡ true → fin.get c.entries f ≡ Some x → fin.get again.entries f ≡ Some e → allocation_of x ≡ allocation_of e
     → decision later s again f u d (Some (Passed user key)) other ≡ decision pairs s c f t d (Some (Passed user key)) port
 later_same pairs later s c again f d user key t u port other x e allocates first second same = by_dropped (is_dropped d) refl

@@ -4,7 +4,6 @@ use Rattle.std.specs.Prelude.{◌==◌, if◌then◌else◌, is_none, unwrap_or}
 use Rattle.std.proofs.Common.{arith}
 use Rattle.std.proofs.lemmas.Bool.Decides.{nat_tests}
 use Rattle.std.proofs.lemmas.Option.{same_Some}
-use Rattle.std.specs.FinMap as fin
 use Rattle.std.specs.Option.{option_or}
 use Rattle.turn_types.specs.Config.{Config}
 use Rattle.turn_types.specs.Methods.{allocate}
@@ -12,18 +11,18 @@ use Rattle.turn_types.specs.declared.address.FiveTuple.{FiveTuple}
 use Rattle.turn_types.specs.declared.message.Token.{Token}
 use Rattle.turn_history.specs.Fitting.{has_port, is_taken}
 use Rattle.turn_history.specs.Table.{Contents}
-use Rattle.turn_history.specs.declared.reservation.Reservation.{Reservation}
 use Rattle.turn_codec.specs.AttributeTypes.{even_port}
 use Rattle.turn_codec.specs.Grammar.{Content, Datagram}
 use Rattle.turn_codec.specs.Seen.{is_seen}
 use Rattle.turn_cred.specs.Credential.{Verdict}
 use Rattle.turn_cred.specs.Credential.Verdict.{Challenge401, Bad400, Stale438, Passed}
+use Rattle.turn_cred.specs.declared.key.Key.{Key}
 use Rattle.turn_rules.specs.declared.need.Need.{Need}
 use Rattle.turn_rules.specs.declared.need.Need.TheVariants.{Any, Even, Pair}
 use Rattle.turn_rules.specs.declared.outcome.Outcome.{Outcome}
 use Rattle.turn_rules.specs.declared.outcome.Outcome.TheVariants.{Drop, Refuse, RefuseUnknown, Challenge, MappedAddress, RepeatedAllocate, Allocate, Renew, Permit, Bind}
 use Rattle.turn_rules.specs.Allocate.{asks_for_next_port, before_port, named_port, need_of, needed_for, port_for, token_of, with_port}
-use Rattle.turn_rules.specs.Answer.{decision, is_dropped, needed_if_passed, outcome_of, port_needed, user_of}
+use Rattle.turn_rules.specs.Answer.{decision, is_dropped, is_expired, needed_if_passed, outcome_of, port_needed, user_of}
 use Rattle.turn_rules.specs.Outcome.{act_by}
 use Rattle.turn_rules.specs.Taking.{is_picked, picks, takes_if_any}
 use Rattle.turn_rules.specs.Token.{token_for}
@@ -86,59 +85,65 @@ named_is_taken c m p q named = by_port (q == p) refl
 
 -- ---- Where a port is needed
 
-record IsNeeded (pairs : Bool) (s : Config) (c : Contents) (f : FiveTuple) (d : Datagram) (v : Option Verdict) (need : Need) : Type 0 where
+record IsNeeded (pairs : Bool) (s : Config) (c : Contents) (f : FiveTuple) (t : ℕ) (d : Datagram) (v : Option Verdict) (need : Need) : Type 0 where
   user : List ℕ
-  key : List ℕ
+  key : Key
   taken : is_dropped d ≡ false
   method : (d.content.method == allocate) ≡ true
   verdict : v ≡ Some (Passed user key)
+  in_time : is_expired c f t d.content key ≡ false
   undecided : before_port pairs s c f user d.content ≡ None
   named : named_port c d.content ≡ None
   need_is : need_of d.content ≡ need
 
-module _ (pairs : Bool) (s : Config) (c : Contents) (f : FiveTuple) (d : Datagram) (v : Option Verdict) (need : Need) where
-  needed_of : port_needed pairs s c f d v ≡ Some need → IsNeeded pairs s c f d v need
+module _ (pairs : Bool) (s : Config) (c : Contents) (f : FiveTuple) (t : ℕ) (d : Datagram) (v : Option Verdict) (need : Need) where
+  needed_of : port_needed pairs s c f t d v ≡ Some need → IsNeeded pairs s c f t d v need
   unfolding port_needed
   needed_of is = by_dropped (is_dropped d) refl is
     where
-      by_named : (user key : List ℕ) → is_dropped d ≡ false → (d.content.method == allocate) ≡ true → v ≡ Some (Passed user key) → before_port pairs s c f user d.content ≡ None
-          → (o : Option ℕ) → named_port c d.content ≡ o → (if is_some o then None else Some (need_of d.content)) ≡ Some need → IsNeeded pairs s c f d v need
-      by_named user key taken method verdict undecided (Some q) at is = absurd (none_is_some is)
-      by_named user key taken method verdict undecided None at is =
-          record { user = user; key = key; taken = taken; method = method; verdict = verdict; undecided = undecided; named = at; need_is = same_Some (need_of d.content) need is }
+      by_named : (user : List ℕ) (key : Key) → is_dropped d ≡ false → (d.content.method == allocate) ≡ true → v ≡ Some (Passed user key) → is_expired c f t d.content key ≡ false → before_port pairs s c f user d.content ≡ None
+          → (o : Option ℕ) → named_port c d.content ≡ o → (if is_some o then None else Some (need_of d.content)) ≡ Some need → IsNeeded pairs s c f t d v need
+      by_named user key taken method verdict early undecided (Some q) at is = absurd (none_is_some is)
+      by_named user key taken method verdict early undecided None at is =
+          record { user = user; key = key; taken = taken; method = method; verdict = verdict; in_time = early; undecided = undecided; named = at; need_is = same_Some (need_of d.content) need is }
 
-      by_before : (user key : List ℕ) → is_dropped d ≡ false → (d.content.method == allocate) ≡ true → v ≡ Some (Passed user key)
-          → (o : Option Outcome) → before_port pairs s c f user d.content ≡ o → (if is_none o then needed_for c d.content else None) ≡ Some need → IsNeeded pairs s c f d v need
-      by_before user key taken method verdict (Some o) at is = absurd (none_is_some is)
-      by_before user key taken method verdict None at is = by_named user key taken method verdict at (named_port c d.content) refl is
+      by_before : (user : List ℕ) (key : Key) → is_dropped d ≡ false → (d.content.method == allocate) ≡ true → v ≡ Some (Passed user key) → is_expired c f t d.content key ≡ false
+          → (o : Option Outcome) → before_port pairs s c f user d.content ≡ o → (if is_none o then needed_for c d.content else None) ≡ Some need → IsNeeded pairs s c f t d v need
+      by_before user key taken method verdict early (Some o) at is = absurd (none_is_some is)
+      by_before user key taken method verdict early None at is = by_named user key taken method verdict early at (named_port c d.content) refl is
 
-      by_verdict_is : is_dropped d ≡ false → (d.content.method == allocate) ≡ true → (w : Option Verdict) → v ≡ w → needed_if_passed pairs s c f d.content w ≡ Some need → IsNeeded pairs s c f d v need
+      by_expired : (user : List ℕ) (key : Key) → is_dropped d ≡ false → (d.content.method == allocate) ≡ true → v ≡ Some (Passed user key) → (b : Bool) → is_expired c f t d.content key ≡ b
+          → (if b then None else if is_none (before_port pairs s c f user d.content) then needed_for c d.content else None) ≡ Some need → IsNeeded pairs s c f t d v need
+      by_expired user key taken method verdict true at is = absurd (none_is_some is)
+      by_expired user key taken method verdict false at is = by_before user key taken method verdict at (before_port pairs s c f user d.content) refl is
+
+      by_verdict_is : is_dropped d ≡ false → (d.content.method == allocate) ≡ true → (w : Option Verdict) → v ≡ w → needed_if_passed pairs s c f t d.content w ≡ Some need → IsNeeded pairs s c f t d v need
       by_verdict_is taken method None at is = absurd (none_is_some is)
       by_verdict_is taken method (Some Challenge401) at is = absurd (none_is_some is)
       by_verdict_is taken method (Some Bad400) at is = absurd (none_is_some is)
       by_verdict_is taken method (Some Stale438) at is = absurd (none_is_some is)
-      by_verdict_is taken method (Some (Passed user key)) at is = by_before user key taken method at (before_port pairs s c f user d.content) refl is
+      by_verdict_is taken method (Some (Passed user key)) at is = by_expired user key taken method at (is_expired c f t d.content key) refl is
 
-      by_method : is_dropped d ≡ false → (b : Bool) → (d.content.method == allocate) ≡ b → (if b then needed_if_passed pairs s c f d.content v else None) ≡ Some need → IsNeeded pairs s c f d v need
+      by_method : is_dropped d ≡ false → (b : Bool) → (d.content.method == allocate) ≡ b → (if b then needed_if_passed pairs s c f t d.content v else None) ≡ Some need → IsNeeded pairs s c f t d v need
       by_method taken true at is = by_verdict_is taken at v refl is
       by_method taken false at is = absurd (none_is_some is)
 
-      by_dropped : (b : Bool) → is_dropped d ≡ b → (if b then None else if d.content.method == allocate then needed_if_passed pairs s c f d.content v else None) ≡ Some need → IsNeeded pairs s c f d v need
+      by_dropped : (b : Bool) → is_dropped d ≡ b → (if b then None else if d.content.method == allocate then needed_if_passed pairs s c f t d.content v else None) ≡ Some need → IsNeeded pairs s c f t d v need
       by_dropped true at is = absurd (none_is_some is)
       by_dropped false at is = by_method at (d.content.method == allocate) refl is
 
   -- the act is that of the port that was picked
-  needed_act : (t : ℕ) (port : Option ℕ) (is : IsNeeded pairs s c f d v need) → (decision pairs s c f t d v port).act ≡ act_by is.user d.content (with_port s f t d.content port)
+  needed_act : (port : Option ℕ) (is : IsNeeded pairs s c f t d v need) → (decision pairs s c f t d v port).act ≡ act_by is.user d.content (with_port s f t d.content port)
   unfolding decision
-  needed_act t port is =
+  needed_act port is =
       ap (λ w. act_by (user_of w) d.content (outcome_of pairs s c f t d w port)) is.verdict
       ∙ ap (act_by is.user d.content) (
-      outcome_is pairs s c f t d is.user is.key port is.taken (other_method d.content.method is.method) (protects d.content.method is.method) is.method
+      outcome_is pairs s c f t d is.user is.key port is.in_time is.taken (other_method d.content.method is.method) (protects d.content.method is.method) is.method
       ∙ ap (λ o. unwrap_or o (with_port s f t d.content (port_for c d.content port))) is.undecided
       ∙ ap (λ o. with_port s f t d.content (option_or o port)) is.named)
 
-  needed_takes : (t : ℕ) (port : Option ℕ) (q : ℕ) → IsNeeded pairs s c f d v need → takes_if_any (decision pairs s c f t d v port).act q ≡ is_picked (Some need) port q
-  needed_takes t port q is = ap (λ a. takes_if_any a q) (needed_act t port is) ∙ by_port port
+  needed_takes : (port : Option ℕ) (q : ℕ) → IsNeeded pairs s c f t d v need → takes_if_any (decision pairs s c f t d v port).act q ≡ is_picked (Some need) port q
+  needed_takes port q is = ap (λ a. takes_if_any a q) (needed_act port is) ∙ by_port port
     where
       by_port : (port : Option ℕ) → takes_if_any (act_by is.user d.content (with_port s f t d.content port)) q ≡ is_picked (Some need) port q
       by_port None = refl
@@ -176,11 +181,11 @@ unpicked_decision pairs s c f t d v q = by_known (outcome_of pairs s c f t d v N
     by_known o (inr of_user) = unpicked_takes pairs s c f t d.content (user_of v) q o (reached_of of_user)
 
 -- what is decided takes what was picked, beside what is taken already
-pub decision_takes : (pairs : Bool) (s : Config) (c : Contents) (f : FiveTuple) (t : ℕ) (d : Datagram) (v : Option Verdict) (port : Option ℕ) → (port_needed pairs s c f d v ≡ None → port ≡ None)
-    → (q : ℕ) → takes_if_any (decision pairs s c f t d v port).act q || is_taken c q ≡ is_picked (port_needed pairs s c f d v) port q || is_taken c q
-decision_takes pairs s c f t d v port only q = by_need (port_needed pairs s c f d v) refl only
+pub decision_takes : (pairs : Bool) (s : Config) (c : Contents) (f : FiveTuple) (t : ℕ) (d : Datagram) (v : Option Verdict) (port : Option ℕ) → (port_needed pairs s c f t d v ≡ None → port ≡ None)
+    → (q : ℕ) → takes_if_any (decision pairs s c f t d v port).act q || is_taken c q ≡ is_picked (port_needed pairs s c f t d v) port q || is_taken c q
+decision_takes pairs s c f t d v port only q = by_need (port_needed pairs s c f t d v) refl only
   where
-    by_need : (n : Option Need) → port_needed pairs s c f d v ≡ n → (n ≡ None → port ≡ None) → takes_if_any (decision pairs s c f t d v port).act q || is_taken c q ≡ is_picked n port q || is_taken c q
+    by_need : (n : Option Need) → port_needed pairs s c f t d v ≡ n → (n ≡ None → port ≡ None) → takes_if_any (decision pairs s c f t d v port).act q || is_taken c q ≡ is_picked n port q || is_taken c q
     by_need None is only =
         subst (λ o. takes_if_any (decision pairs s c f t d v o).act q || is_taken c q ≡ is_picked None o q || is_taken c q) (sym (only refl)) (unpicked_decision pairs s c f t d v q)
-    by_need (Some need) is only = ap (λ b. b || is_taken c q) (needed_takes pairs s c f d v need t port q (needed_of pairs s c f d v need is))
+    by_need (Some need) is only = ap (λ b. b || is_taken c q) (needed_takes pairs s c f t d v need port q (needed_of pairs s c f t d v need is))

@@ -1,5 +1,5 @@
 -- A token is of its port.
-use Rattle.std.proofs.Common.{◌≡◌, ℕ, zero, suc, ◌+◌, ◌^◌, ◌%◌, ◌<◌, arith, List, [], ◌∷◌, ◌++◌, length, length-append, length-take-le, take, refl, ap, ◌∙◌}
+use Rattle.std.proofs.Common.{◌≡◌, ℕ, zero, suc, ◌+◌, ◌^◌, ◌%◌, ◌<◌, arith, List, length, length-append, length-take-le, take, ap, ◌∙◌}
 use Rattle.std.specs.Prelude.{All}
 use Rattle.std.specs.Int.{w16, to_be_bytes, byte_at, bytes_high_first}
 use Rattle.std.proofs.Math.Seq.{take-append_seam}

@@ -12,9 +12,11 @@ use Rattle.turn_types.specs.Methods.{binding, allocate, refresh, create_permissi
 use Rattle.turn_types.specs.Rows.{first_row}
 use Rattle.turn_history.specs.Table.{Contents, table}
 use Rattle.turn_codec.specs.Grammar.{Content, Datagram, canonical}
+use Rattle.turn_codec.specs.Seen.{has_unknown}
 use Rattle.turn_mac.specs.Fingerprint.{has_wrong_fingerprint}
-use Rattle.turn_cred.specs.Credential.{Keys, Verdict, policy_of, verdict}
+use Rattle.turn_cred.specs.Credential.{Keys, Verdict, has_expired, policy_of, verdict}
 use Rattle.turn_cred.specs.Credential.Verdict.{Challenge401, Bad400, Stale438, Passed}
+use Rattle.turn_cred.specs.declared.key.Key.{Key}
 use Rattle.turn_rules.specs.declared.need.Need.{Need}
 use Rattle.turn_rules.specs.declared.outcome.Outcome.{Outcome}
 use Rattle.turn_rules.specs.declared.outcome.Outcome.TheVariants.{Drop, Refuse, Challenge}
@@ -49,13 +51,18 @@ abbrev pub passed_outcome : Bool → Config → Contents → FiveTuple → ℕ �
 passed_outcome pairs s c f t user m port =
     if m.method == allocate then allocate_outcome pairs s c f t user m port else owner_outcome s (fin.get c.entries f) user m
 
+-- a new allocation is asked for with a key that has expired: after the rows of an unknown attribute and of a five-tuple in use
+abbrev pub is_expired : Contents → FiveTuple → ℕ → Content → Key → Bool
+is_expired c f t m key = has_expired t key && ((m.method == allocate) && (not (has_unknown m) && is_none (fin.get c.entries f)))
+
 -- by the outcome of the credential check, which is None where they aren't checked
 abbrev pub by_verdict : Bool → Config → Contents → FiveTuple → ℕ → Content → Option Verdict → Option ℕ → Outcome
 by_verdict pairs s c f t m None port = Drop
 by_verdict pairs s c f t m (Some Challenge401) port = Challenge Unauthenticated
 by_verdict pairs s c f t m (Some Bad400) port = Refuse BadRequest
 by_verdict pairs s c f t m (Some Stale438) port = Challenge StaleNonce
-by_verdict pairs s c f t m (Some (Passed user key)) port = passed_outcome pairs s c f t user m port
+by_verdict pairs s c f t m (Some (Passed user key)) port =
+    if is_expired c f t m key then Challenge Unauthenticated else passed_outcome pairs s c f t user m port
 
 -- the outcome of a datagram at a moment, with the port that was picked for it, if one was; `pairs` says whether ports may be reserved
 unfoldable pub outcome_of : Bool → Config → Contents → FiveTuple → ℕ → Datagram → Option Verdict → Option ℕ → Outcome
@@ -79,7 +86,7 @@ passed_key None = None
 passed_key (Some Challenge401) = None
 passed_key (Some Bad400) = None
 passed_key (Some Stale438) = None
-passed_key (Some (Passed user key)) = Some key
+passed_key (Some (Passed user key)) = Some key.bytes
 
 -- a response is signed where the credentials were checked and hold
 abbrev pub key_of : Content → Option Verdict → Option (List ℕ)
@@ -101,18 +108,19 @@ decision pairs s c f t d v port =
 
 -- ---- Which port
 
--- a port is needed for an Allocate to which no outcome before applies, unless a token names one
-abbrev pub needed_if_passed : Bool → Config → Contents → FiveTuple → Content → Option Verdict → Option Need
-needed_if_passed pairs s c f m None = None
-needed_if_passed pairs s c f m (Some Challenge401) = None
-needed_if_passed pairs s c f m (Some Bad400) = None
-needed_if_passed pairs s c f m (Some Stale438) = None
-needed_if_passed pairs s c f m (Some (Passed user key)) = if is_none (before_port pairs s c f user m) then needed_for c m else None
+-- a port is needed for an Allocate to which no outcome before applies, unless its key has expired or a token names one
+abbrev pub needed_if_passed : Bool → Config → Contents → FiveTuple → ℕ → Content → Option Verdict → Option Need
+needed_if_passed pairs s c f t m None = None
+needed_if_passed pairs s c f t m (Some Challenge401) = None
+needed_if_passed pairs s c f t m (Some Bad400) = None
+needed_if_passed pairs s c f t m (Some Stale438) = None
+needed_if_passed pairs s c f t m (Some (Passed user key)) =
+    if is_expired c f t m key then None else if is_none (before_port pairs s c f user m) then needed_for c m else None
 
-unfoldable pub port_needed : Bool → Config → Contents → FiveTuple → Datagram → Option Verdict → Option Need
-port_needed pairs s c f d v = first_row (
+unfoldable pub port_needed : Bool → Config → Contents → FiveTuple → ℕ → Datagram → Option Verdict → Option Need
+port_needed pairs s c f t d v = first_row (
     (is_dropped d, None) ∷
-    (d.content.method == allocate, needed_if_passed pairs s c f d.content v) ∷ []) None
+    (d.content.method == allocate, needed_if_passed pairs s c f t d.content v) ∷ []) None
 
 -- ---- The answer
 
@@ -120,7 +128,7 @@ port_needed pairs s c f d v = first_row (
 -- check: nothing but the port is left free
 pub record MayAnswer (pairs : Bool) (s : Config) (range : ℕ × ℕ) (h : History) (t : ℕ) (failed : Bool) (f : FiveTuple) (d : Datagram) (v : Option Verdict) (o : Decided) : Type 0 where
   pub port : Option ℕ
-  pub picked : MayHavePicked range failed (table h t) (port_needed pairs s (table h t) f d v) port
+  pub picked : MayHavePicked range failed (table h t) (port_needed pairs s (table h t) f t d v) port
   pub decided : o ≡ decision pairs s (table h t) f t d v port
 
 -- the credentials are checked for the protected methods alone

@@ -6,6 +6,7 @@ use Rattle.turn_types.specs.declared.limits.Bounds.{Bounds}
 use Rattle.turn_codec.specs.Grammar.{Content}
 use Rattle.turn_cred.specs.Credential.{Verdict}
 use Rattle.turn_cred.specs.Credential.Verdict.{Passed}
+use Rattle.turn_cred.specs.declared.key.Key.{Key}
 use Rattle.turn_history.specs.Fitting.{IsUnreserved, PortIsFree, is_taken}
 use Rattle.turn_history.specs.Table.{Contents, Entry}
 use Rattle.turn_codec.specs.AttributeTypes.{even_port, requested_address_family, requested_transport, reservation_token}
@@ -29,7 +30,7 @@ pub record IsMadeOfBytes (m : Content) : Type 0 where
 
 -- a user whose credentials hold has a name of 1 to `name_bytes` bytes
 abbrev pub NamesInRange : Bounds → Option Verdict → Type 0
-NamesInRange b v = (user key : List ℕ) → v ≡ Some (Passed user key) → (1 ≤ length user) × (length user ≤ b.name_bytes) × All (λ x. x < 256) user
+NamesInRange b v = (user : List ℕ) (key : Key) → v ≡ Some (Passed user key) → (1 ≤ length user) × (length user ≤ b.name_bytes) × All (λ x. x < 256) user
 
 -- two tables have as many allocations of a user, as many of all, the same taken ports of a range, and the same reserved ports
 pub record SameForOthers (range : ℕ × ℕ) (user : List ℕ) (c k : Contents) : Type 0 where

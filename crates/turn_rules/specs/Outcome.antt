@@ -59,9 +59,22 @@ attributes_of s client t m (Renew granted) = Some (Success, lifetime_attribute g
 attributes_of s client t m (Permit addresses) = Some (Success, [])
 attributes_of s client t m (Bind number peer) = Some (Success, [])
 
+-- what a response is signed under: a challenge under nothing
+abbrev pub signs : Option (List ℕ) → Outcome → Option (List ℕ)
+signs key Drop = key
+signs key (Refuse code) = key
+signs key RefuseUnknown = key
+signs key (Challenge code) = None
+signs key MappedAddress = key
+signs key (RepeatedAllocate port granted token) = key
+signs key (Allocate port granted token) = key
+signs key (Renew granted) = key
+signs key (Permit addresses) = key
+signs key (Bind number peer) = key
+
 -- the response, signed under the key, if there is one
 abbrev pub response_of : Config → Endpoint → ℕ → Content → Option (List ℕ) → Outcome → Option Content
-response_of s client t m key outcome = option_map (λ own. response m own.0 key own.1) (attributes_of s client t m outcome)
+response_of s client t m key outcome = option_map (λ own. response m own.0 (signs key outcome) own.1) (attributes_of s client t m outcome)
 
 -- ---- Acts
 

@@ -1,7 +1,7 @@
 //! What a client's message is answered.
 
 ghost use Rattle.std.specs.Prelude.{◌≡◌, ℕ, Bool, false, IfOk, IfSome};
-ghost use Rattle.turn_rules.specs.Answer.{MayAnswer, decision, is_dropped, is_protected, key_of, outcome_of, passed_outcome, port_needed, user_of};
+ghost use Rattle.turn_rules.specs.Answer.{MayAnswer, decision, is_dropped, is_expired, is_protected, key_of, outcome_of, passed_outcome, port_needed, user_of};
 ghost use Rattle.turn_rules.specs.Decided.{decided_of, verdict_in};
 ghost use Rattle.turn_rules.specs.Laws.{IsMadeOfBytes, IsPicked, NamesInRange};
 ghost use Rattle.turn_rules.specs.Need.{MayHavePicked};
@@ -19,7 +19,7 @@ use crate::owner::owner_outcome;
 use crate::write::{make_act, write};
 use std::alloc::{AllocError, Allocator, Global};
 use turn_codec::{AttributeType, Message};
-use turn_cred::Verdict;
+use turn_cred::{Key, Verdict};
 use turn_history::Act;
 use turn_mac::has_wrong_fingerprint;
 use turn_table::{Table, reserved_ports_are_apart};
@@ -77,6 +77,21 @@ fn passed_outcome<C: Allocator, T: Allocator + Copy>(
     owner_outcome(config, table, request.five_tuple, user, &request.message)
 }
 
+/// Whether a new allocation is asked for with a key that has expired.
+fn is_expired<T: Allocator + Copy>(
+    table: &Table<T>,
+    request: &Request<'_>,
+    moment: Moment,
+    key: &Key,
+) -> bool
+    ensures { result ≡ is_expired table.now.contents request.now.five_tuple moment request.now.message.content key.now }
+{
+    key.has_expired(moment)
+        && request.message.method() == Method::ALLOCATE
+        && !request.message.has_unknown()
+        && table.get(request.five_tuple).is_none()
+}
+
 /// The outcome of a message.
 #[tactic(auto, unfolding(crate::specs::Answer::outcome_of))]
 fn outcome_of<C: Allocator, T: Allocator + Copy>(
@@ -106,7 +121,11 @@ fn outcome_of<C: Allocator, T: Allocator + Copy>(
         Some(Verdict::Challenge401) => Outcome::Challenge(ErrorCode::Unauthenticated),
         Some(Verdict::Bad400) => Outcome::Refuse(ErrorCode::BadRequest),
         Some(Verdict::Stale438) => Outcome::Challenge(ErrorCode::StaleNonce),
-        Some(Verdict::Passed { user, .. }) => {
+        Some(Verdict::Passed { user, key }) => {
+            // An expired key makes no new allocation: 401, as an unknown user gets.
+            if is_expired(table, request, moment, &key) {
+                return Outcome::Challenge(ErrorCode::Unauthenticated);
+            }
             passed_outcome(config, table, request, user, moment, port, pairs)
         }
     }
@@ -130,14 +149,14 @@ fn key_of(request: &Request<'_>) -> Option<[u8; 16]>
         return None;
     }
     match request.verdict {
-        Some(Verdict::Passed { key, .. }) => Some(key),
+        Some(Verdict::Passed { key, .. }) => Some(key.bytes),
         _ => None,
     }
 }
 
 /// What a message at a moment needs of the generator of ports, if it needs anything. It doesn't if it is dropped, if it
-/// is another request than Allocate, if it is answered whatever the port, or if its RESERVATION-TOKEN names a port. `pairs` says
-/// whether ports may be reserved: then EVEN-PORT with the R bit needs a pair.
+/// is another request than Allocate, if it is answered whatever the port, its key having expired or by another outcome, or if its
+/// RESERVATION-TOKEN names a port. `pairs` says whether ports may be reserved: then EVEN-PORT with the R bit needs a pair.
 #[tactic(auto, unfolding(crate::specs::Answer::port_needed))]
 pub fn needs_port<C: Allocator, T: Allocator + Copy>(
     table: &Table<T>,
@@ -147,16 +166,19 @@ pub fn needs_port<C: Allocator, T: Allocator + Copy>(
     pairs: bool,
 ) -> Option<Need>
     requires purged { table.now.moment ≡ moment }
-    ensures value { result ≡ port_needed pairs config.now table.now.contents request.now.five_tuple request.now.message (verdict_in request.now) }
+    ensures value { result ≡ port_needed pairs config.now table.now.contents request.now.five_tuple moment request.now.message (verdict_in request.now) }
     ensures answers { (h : History) → Agrees table.now h →
-        result ≡ port_needed pairs config.now (tables.table h moment) request.now.five_tuple request.now.message (verdict_in request.now) }
+        result ≡ port_needed pairs config.now (tables.table h moment) request.now.five_tuple moment request.now.message (verdict_in request.now) }
 {
     if is_dropped(&request.message) || request.message.method() != Method::ALLOCATE {
         return None;
     }
-    let Some(Verdict::Passed { user, .. }) = request.verdict else {
+    let Some(Verdict::Passed { user, key }) = request.verdict else {
         return None;
     };
+    if is_expired(table, request, moment, &key) {
+        return None;
+    }
     needed_port(config, table, request, user, pairs)
 }
 
@@ -179,15 +201,15 @@ pub fn decide<A: Allocator + Copy, C: Allocator, T: Allocator + Copy>(
     // After every history with which the table agrees it is an answer, if the port is one that may be picked.
     ensures answers { (h : History) (range : ℕ × ℕ) (failed : Bool) → Agrees table.now h →
         MayHavePicked range failed table.now.contents
-        (port_needed pairs config.now table.now.contents request.now.five_tuple request.now.message (verdict_in request.now)) port →
+        (port_needed pairs config.now table.now.contents request.now.five_tuple moment request.now.message (verdict_in request.now)) port →
         IfOk result (λ d. MayAnswer pairs config.now range h moment failed request.now.five_tuple request.now.message (verdict_in request.now) (decided_of d)) }
     // What is done fits the table, if what was picked is free for what is needed.
     ensures fits { table.now.bounds ≡ config.now.limits →
-        IsPicked table.now.contents (port_needed pairs config.now table.now.contents request.now.five_tuple request.now.message (verdict_in request.now)) port →
+        IsPicked table.now.contents (port_needed pairs config.now table.now.contents request.now.five_tuple moment request.now.message (verdict_in request.now)) port →
         IfOk result (λ d. IfSome (decided_of d).act (Fits table.now.bounds table.now.contents request.now.five_tuple)) }
     // What is done is in range, if the message's values are bytes and the user's name is in range.
     ensures in_range { IsMadeOfBytes request.now.message.content → NamesInRange config.now.limits (verdict_in request.now) →
-        IsPicked table.now.contents (port_needed pairs config.now table.now.contents request.now.five_tuple request.now.message (verdict_in request.now)) port →
+        IsPicked table.now.contents (port_needed pairs config.now table.now.contents request.now.five_tuple moment request.now.message (verdict_in request.now)) port →
         IfOk result (λ d. IfSome (decided_of d).act (IsActInRange config.now.limits)) }
     // Without pairs no port is reserved.
     ensures no_pairs { pairs ≡ false → IfOk result (λ d. IfSome (decided_of d).act ReservesNone) }

@@ -1,21 +1,25 @@
 //! Laws over the definition of the answer.
 
 ghost use Rattle.std.specs.FinMap as fin;
-ghost use Rattle.std.specs.Prelude.{◌≡◌, ◌↔◌, ◌<◌, ◌^◌, ◌||◌, ℕ, Bool, true, false, IfSome, IsSome, List, Option, Some, None, is_some};
+ghost use Rattle.std.specs.Prelude.{◌≡◌, ◌↔◌, ◌<◌, ◌^◌, ◌==◌, ◌||◌, if◌then◌else◌, ℕ, Bool, true, false, IfSome, IsSome, List, Option, Some, None, is_none, is_some};
 ghost use Rattle.turn_codec.specs.Grammar.{Content, Datagram};
 ghost use Rattle.turn_cred.specs.Credential.{Verdict};
 ghost use Rattle.turn_cred.specs.Credential.Verdict.{Passed};
+ghost use Rattle.turn_cred.specs.declared.key.Key.{Key};
 ghost use Rattle.turn_history.specs.Fitting.{Fits, IsActInRange, IsTokenOf, is_taken};
 ghost use Rattle.turn_history.specs.History.{Allocates, History};
 ghost use Rattle.turn_history.specs.Laws.{ReservedApart, ReservesNone, allocation_of, events_of};
 ghost use Rattle.turn_history.specs.Table.{Contents, Entry, table};
-ghost use Rattle.turn_rules.specs.Allocate.{named_port, own_outcome};
-ghost use Rattle.turn_rules.specs.Answer.{Decided, MayAnswer, decision, is_allocate, port_needed, user_of};
+ghost use Rattle.turn_rules.specs.Allocate.{before_port, named_port, needed_for, own_outcome};
+ghost use Rattle.turn_rules.specs.Answer.{Decided, MayAnswer, by_verdict, decision, is_allocate, is_expired, needed_if_passed, passed_outcome, port_needed, user_of};
 ghost use Rattle.turn_rules.specs.Examples.{BindingExample, UnknownExample};
 ghost use Rattle.turn_rules.specs.Laws.{AreReservedPorts, IsMadeOfBytes, IsPicked, IsPlain, NamesInRange, SameForOthers};
 ghost use Rattle.turn_rules.specs.Taking.{is_picked, takes_if_any};
 ghost use Rattle.turn_rules.specs.Token.{token_for};
+ghost use Rattle.turn_rules.specs.declared.outcome.Outcome.TheVariants.{Challenge};
 ghost use Rattle.turn_types.specs.Config.{Config};
+ghost use Rattle.turn_types.specs.Methods.{allocate};
+ghost use Rattle.turn_types.specs.declared.error.ErrorCode.TheVariants.{Unauthenticated};
 ghost use Rattle.turn_types.specs.declared.address.FiveTuple.{FiveTuple};
 
 /// What the definition says of two requests of known bytes.
@@ -33,7 +37,7 @@ pub fn tokens_are_of_their_ports()
 /// needed.
 pub fn decided_acts_fit()
     ensures fits { (pairs : Bool) (s : Config) (c : Contents) (f : FiveTuple) (t : ℕ) (d : Datagram) (v : Option Verdict) (port : Option ℕ) →
-        ReservedApart c → IsPicked c (port_needed pairs s c f d v) port → IfSome (decision pairs s c f t d v port).act (Fits s.limits c f) }
+        ReservedApart c → IsPicked c (port_needed pairs s c f t d v) port → IfSome (decision pairs s c f t d v port).act (Fits s.limits c f) }
     // Without pairs no port is reserved.
     ensures no_pairs { (s : Config) (c : Contents) (f : FiveTuple) (t : ℕ) (d : Datagram) (v : Option Verdict) (port : Option ℕ) →
         IfSome (decision false s c f t d v port).act ReservesNone }
@@ -43,7 +47,7 @@ pub fn decided_acts_fit()
 /// ports, and the user whose credentials hold has a name of 1 to `name_bytes` bytes.
 pub fn decided_acts_are_in_range()
     ensures { (pairs : Bool) (s : Config) (c : Contents) (f : FiveTuple) (t : ℕ) (d : Datagram) (v : Option Verdict) (port : Option ℕ) →
-        IsMadeOfBytes d.content → AreReservedPorts c → IsPicked c (port_needed pairs s c f d v) port → NamesInRange s.limits v →
+        IsMadeOfBytes d.content → AreReservedPorts c → IsPicked c (port_needed pairs s c f t d v) port → NamesInRange s.limits v →
         IfSome (decision pairs s c f t d v port).act (IsActInRange s.limits) }
 {}
 
@@ -56,8 +60,25 @@ pub fn servers_without_pairs_are_plain()
 /// What is decided takes the ports that were picked, and no other but such as are taken already, if none is picked but where one is needed.
 pub fn picked_ports_are_taken()
     ensures { (pairs : Bool) (s : Config) (c : Contents) (f : FiveTuple) (t : ℕ) (d : Datagram) (v : Option Verdict) (port : Option ℕ) →
-        (port_needed pairs s c f d v ≡ None → port ≡ None) →
-        (q : ℕ) → takes_if_any (decision pairs s c f t d v port).act q || is_taken c q ≡ is_picked (port_needed pairs s c f d v) port q || is_taken c q }
+        (port_needed pairs s c f t d v ≡ None → port ≡ None) →
+        (q : ℕ) → takes_if_any (decision pairs s c f t d v port).act q || is_taken c q ≡ is_picked (port_needed pairs s c f t d v) port q || is_taken c q }
+{}
+
+/// A key without an expiry time is judged by the rows alone, and so are all requests but those for a new allocation, and all at which the
+/// key has not expired.
+pub fn expiry_counts_for_new_allocations()
+    ensures lasting { (c : Contents) (f : FiveTuple) (t : ℕ) (m : Content) (key : Key) → key.expiry ≡ None → is_expired c f t m key ≡ false }
+    ensures before { (c : Contents) (f : FiveTuple) (t : ℕ) (m : Content) (key : Key) (expiry : ℕ) → key.expiry ≡ Some expiry → t < expiry → is_expired c f t m key ≡ false }
+    ensures others { (c : Contents) (f : FiveTuple) (t : ℕ) (m : Content) (key : Key) → (m.method == allocate) ≡ false → is_expired c f t m key ≡ false }
+    ensures live { (c : Contents) (f : FiveTuple) (t : ℕ) (m : Content) (key : Key) → IsSome (fin.get c.entries f) → is_expired c f t m key ≡ false }
+    // What is not expired has the outcome and the port that it has without an expiry time.
+    ensures outcome { (pairs : Bool) (s : Config) (c : Contents) (f : FiveTuple) (t : ℕ) (m : Content) (user : List ℕ) (key : Key) (port : Option ℕ) → is_expired c f t m key ≡ false →
+        by_verdict pairs s c f t m (Some (Passed user key)) port ≡ passed_outcome pairs s c f t user m port }
+    ensures port { (pairs : Bool) (s : Config) (c : Contents) (f : FiveTuple) (t : ℕ) (m : Content) (user : List ℕ) (key : Key) → is_expired c f t m key ≡ false →
+        needed_if_passed pairs s c f t m (Some (Passed user key)) ≡ (if is_none (before_port pairs s c f user m) then needed_for c m else None) }
+    // What is expired gets 401 and needs no port, whatever is asked for.
+    ensures expired { (pairs : Bool) (s : Config) (c : Contents) (f : FiveTuple) (t : ℕ) (m : Content) (user : List ℕ) (key : Key) (port : Option ℕ) → is_expired c f t m key ≡ true →
+        (by_verdict pairs s c f t m (Some (Passed user key)) port ≡ Challenge Unauthenticated) × (needed_if_passed pairs s c f t m (Some (Passed user key)) ≡ None) }
 {}
 
 /// What may be answered to a request that is no Allocate, and what is done by it, is given by the events of its own
@@ -75,7 +96,7 @@ pub fn allocates_need_these()
         events_of f h ≡ events_of f g → SameForOthers range (user_of v) (table h t) (table g t) →
         (MayAnswer pairs s range h t failed f d v o ↔ MayAnswer pairs s range g t failed f d v o) }
     // Where an outcome before the quota applies, by the events of the five-tuple and by whether a reserved port has the token alone.
-    ensures own { (pairs : Bool) (s : Config) (range : ℕ × ℕ) (h g : History) (t : ℕ) (failed : Bool) (f : FiveTuple) (d : Datagram) (user key : List ℕ) (o : Decided) →
+    ensures own { (pairs : Bool) (s : Config) (range : ℕ × ℕ) (h g : History) (t : ℕ) (failed : Bool) (f : FiveTuple) (d : Datagram) (user : List ℕ) (key : Key) (o : Decided) →
         events_of f h ≡ events_of f g → is_some (named_port (table h t) d.content) ≡ is_some (named_port (table g t) d.content) →
         IsSome (own_outcome pairs (is_some (named_port (table h t) d.content)) (fin.get (table h t).entries f) user d.content) →
         (MayAnswer pairs s range h t failed f d (Some (Passed user key)) o ↔ MayAnswer pairs s range g t failed f d (Some (Passed user key)) o) }
@@ -89,7 +110,7 @@ pub fn repeated_allocates_get_the_same()
         (decision pairs s c f t d v port).act ≡ Some (Allocates e.user e.port e.granted e.tx e.token) → fin.get again.entries f ≡ Some e →
         decision later s again f u d v other ≡ record { reply = (decision pairs s c f t d v port).reply; act = None } }
     // The same holds of each repetition.
-    ensures later { (pairs later : Bool) (s : Config) (c again : Contents) (f : FiveTuple) (d : Datagram) (user key : List ℕ) (t u : ℕ) (port other : Option ℕ) (x e : Entry) →
+    ensures later { (pairs later : Bool) (s : Config) (c again : Contents) (f : FiveTuple) (d : Datagram) (user : List ℕ) (key : Key) (t u : ℕ) (port other : Option ℕ) (x e : Entry) →
         is_allocate d ≡ true → fin.get c.entries f ≡ Some x → fin.get again.entries f ≡ Some e → allocation_of x ≡ allocation_of e →
         decision later s again f u d (Some (Passed user key)) other ≡ decision pairs s c f t d (Some (Passed user key)) port }
 {}

@@ -1,6 +1,6 @@
 //! Outcomes, written as responses and as acts.
 
-ghost use Rattle.std.specs.Prelude.{◌≡◌, ◌∷◌, [], IfOk, map, option_map};
+ghost use Rattle.std.specs.Prelude.{◌≡◌, ◌∷◌, [], IfOk, None, map, option_map};
 ghost use Rattle.turn_codec.specs.Address.{xor_value};
 ghost use Rattle.turn_codec.specs.AttributeTypes as types;
 ghost use Rattle.turn_codec.specs.Grammar.{canonical};
@@ -91,15 +91,14 @@ fn write_challenge<A: Allocator + Copy, C: Allocator>(
     request: &Request<'_>,
     moment: Moment,
     code: ErrorCode,
-    key: Key,
 ) -> Result<Vec<u8, A>, AllocError>
-    ensures { IfOk result (λ v. v.items ≡ canonical (response request.now.message.content Class.Error key
+    ensures { IfOk result (λ v. v.items ≡ canonical (response request.now.message.content Class.Error None
         (challenge config.now request.now.five_tuple.client moment code))) }
 {
     let error = error_value(code);
     let nonce = Nonces::new(*config.secret()).issue(request.five_tuple.client, moment);
     let own = challenge_attributes(error.as_slice(), config.realm(), &nonce);
-    respond(alloc, &request.message, Class::Error, key, &own)
+    respond(alloc, &request.message, Class::Error, None, &own)
 }
 
 fn write_mapped<A: Allocator + Copy>(
@@ -249,7 +248,7 @@ pub(crate) fn write<A: Allocator + Copy, C: Allocator>(
         Outcome::Refuse(code) => Some(write_error(alloc, message, *code, key)?),
         Outcome::RefuseUnknown => Some(write_unknown(alloc, message, key)?),
         Outcome::Challenge(code) => {
-            Some(write_challenge(alloc, config, request, moment, *code, key)?)
+            Some(write_challenge(alloc, config, request, moment, *code)?)
         }
         Outcome::MappedAddress => Some(write_mapped(alloc, request, key)?),
         Outcome::RepeatedAllocate {

@@ -93,18 +93,18 @@ pub(crate) fn settle<A: Allocator + Copy>(
     requires { table.old.moment ≡ moment }
     ensures answers { (h : History) (range : ℕ × ℕ) (failed : Bool) → Agrees table.old h →
         MayHavePicked range failed table.old.contents
-        (port_needed pairs config.now table.old.contents request.now.five_tuple request.now.message (verdict_in request.now)) port →
+        (port_needed pairs config.now table.old.contents request.now.five_tuple moment request.now.message (verdict_in request.now)) port →
         IfOk result (λ s. (d : Decided) × MayAnswer pairs config.now range h moment failed request.now.five_tuple request.now.message (verdict_in request.now) d
         × (s ≡ decided_for request.now.five_tuple d)) }
     ensures ready { table.old.bounds ≡ config.now.limits → IsMadeOfBytes request.now.message.content → NamesInRange config.now.limits (verdict_in request.now) →
-        IsPicked table.old.contents (port_needed pairs config.now table.old.contents request.now.five_tuple request.now.message (verdict_in request.now)) port →
+        IsPicked table.old.contents (port_needed pairs config.now table.old.contents request.now.five_tuple moment request.now.message (verdict_in request.now)) port →
         IfOk result (λ s. IfSome s.change (MayBeNext table.new)) }
     ensures no_pairs { pairs ≡ false → IfOk result (λ s. IfSome s.change (λ c. ReservesNone c.act)) }
     ensures table { table.new ≡ record table.old { room = table.new.room } }
     // The act takes the ports that were picked, and no other but such as are taken already.
-    ensures takes { (port_needed pairs config.now table.old.contents request.now.five_tuple request.now.message (verdict_in request.now) ≡ None → port ≡ None) →
+    ensures takes { (port_needed pairs config.now table.old.contents request.now.five_tuple moment request.now.message (verdict_in request.now) ≡ None → port ≡ None) →
         IfOk result (λ s. (q : ℕ) → ports_with table.old.contents s.change q
-        ≡ is_picked (port_needed pairs config.now table.old.contents request.now.five_tuple request.now.message (verdict_in request.now)) port q || is_taken table.old.contents q) }
+        ≡ is_picked (port_needed pairs config.now table.old.contents request.now.five_tuple moment request.now.message (verdict_in request.now)) port q || is_taken table.old.contents q) }
 {
     let _ = moment.seconds();
     let decision = decide(alloc, table, config, request, moment, port, pairs)?;

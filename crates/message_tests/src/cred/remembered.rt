@@ -1,6 +1,7 @@
 //! What a checker remembers of users changes how often its handler is asked, and no verdict.
 
 ghost use Rattle.std.specs.FinMap as map;
+ghost use Rattle.turn_cred.specs.Shared.{lasting};
 
 use crate::cred::credentials::Part::{Nonce1000, Numbered, Realm, Signed};
 use crate::cred::credentials::{CLIENT, at, code_of, config, request};
@@ -9,7 +10,7 @@ use std::alloc::{Allocator, Global};
 use std::cell::Cell;
 use std::test::Fail;
 use turn_codec::Message;
-use turn_cred::{AuthHandler, Checker, Users, Verdict};
+use turn_cred::{AuthHandler, Checker, Key, Users, Verdict};
 
 /// Users, and how often one was asked for.
 #[derive(Drop)]
@@ -19,9 +20,9 @@ struct Counting {
 }
 
 impl AuthHandler for Counting {
-    ghost key_of = { λ c name _. map.get c.users name };
+    ghost key_of = { λ c name _. lasting (map.get c.users name) };
 
-    fn key(&self, username: &[u8], realm: &[u8]) -> Option<[u8; 16]> {
+    fn key(&self, username: &[u8], realm: &[u8]) -> Option<Key> {
         self.asked.set(self.asked.get().wrapping_add(1));
         self.users.key(username, realm)
     }
@@ -56,10 +57,10 @@ fn checker<A: Allocator + Copy>(alloc: Global, inner: A) -> Result<Checker<Count
 }
 
 /// Whether a verdict is that the user sent the request.
-fn is_of(verdict: Verdict<'_>, user: u16) -> bool {
+fn is_of(verdict: &Verdict<'_>, user: u16) -> bool {
     match verdict {
         Verdict::Passed { user: name, key } => {
-            name == user.to_be_bytes().as_slice() && key == key_of(user)
+            *name == user.to_be_bytes().as_slice() && key.bytes == key_of(user)
         }
         _ => false,
     }
@@ -81,9 +82,9 @@ fn is_judged<A: Allocator + Copy>(
     let message = Message::parse(&bytes)?;
     let verdict = checker.check(&message, CLIENT, at(1000)?);
     Ok(if user < KNOWN && signer == user {
-        is_of(verdict, user)
+        is_of(&verdict, user)
     } else {
-        code_of(verdict) == 401
+        code_of(&verdict) == 401
     })
 }
 
