@@ -1,6 +1,6 @@
 //! The texts, in the order in which they are replayed.
 
-pub const NAMES: [&str; 99] = [
+pub const NAMES: [&str; 101] = [
     "example_kept",
     "example_lost",
     "rounds",
@@ -20,6 +20,8 @@ pub const NAMES: [&str; 99] = [
     "earlier_permissions",
     "nonces",
     "credentials",
+    "names_that_expire",
+    "forms_of_names_that_expire",
     "datagrams",
     "send_indications",
     "allocate_attributes",

@@ -1,6 +1,6 @@
 -- The passwords of a tree of names.
 use Rattle.std.proofs.Common.{◌≡◌, ℕ, Bool, true, false, cond, List, [], ◌∷◌, Option, Some, None, refl, sym, ap, ◌∙◌}
-use Rattle.std.specs.Prelude.{Vec, map, is_some}
+use Rattle.std.specs.Prelude.{◌&&◌, Vec, map, is_some, not}
 use Rattle.std.specs.BTreeMap.{is_at, insert_entry}
 use Rattle.std.specs.Cmp.Lexicographic.{slice_cmp}
 use Rattle.std.specs.FinMap as maps
@@ -56,3 +56,12 @@ none_of (Some x) e = absurd cc
 pub is_new : {A : Type 0} (q : List ℕ) (es : List (Vec ℕ A × Bor (List ℕ)))
     → is_some (lookup (is_at (λ k. slice_cmp nat_cmp q k.items)) es) ≡ false → maps.get (passwords_of es) q ≡ None
 is_new q es e = none_of _ (sym (has_password q es) ∙ e)
+
+-- the conjunction of two tests, of which the second is made where the first holds
+pub both_tests : (own found fits : Bool) → own ≡ found → own ≡ false → fits ≡ (not found && fits)
+both_tests own true fits e n = absurd cc
+both_tests own false fits e n = refl
+
+pub first_fails : (own found fits : Bool) → own ≡ found → own ≡ true → not own ≡ (not found && fits)
+first_fails own true fits e n = rw n refl
+first_fails own false fits e n = absurd cc

@@ -11,7 +11,7 @@ use Rattle.turn_config.specs.Values.{number_of, IsNumberBelow, IsIp}
 use Rattle.turn_config.specs.declared.settings.Relay.{Relay}
 use Rattle.turn_config.specs.declared.settings.Setting.{Setting}
 use Rattle.turn_config.specs.declared.settings.Setting.TheVariants as settings
-use Rattle.turn_config.specs.declared.settings.Setting.TheVariants.{Realm, Secret, Listen, Quota, Limits, Deny, User}
+use Rattle.turn_config.specs.declared.settings.Setting.TheVariants.{Realm, Secret, Listen, Quota, Limits, Deny, User, AuthSecret}
 use Rattle.turn_config.proofs.Addresses.{ip_without}
 use Rattle.turn_config.proofs.Numbers.{number_without}
 use Rattle.turn_config.proofs.Splits.{Without, cons_without, same_split}
@@ -99,6 +99,7 @@ name_of_setting Quota = visible_without (name_of Quota) refl
 name_of_setting Limits = visible_without (name_of Limits) refl
 name_of_setting Deny = visible_without (name_of Deny) refl
 name_of_setting User = visible_without (name_of User) refl
+name_of_setting AuthSecret = visible_without (name_of AuthSecret) refl
 
 -- the first word of a line that says something, and the rest of the line
 pub setting_words : (line f r : List ℕ) (old new : Lines) (n : Says line old new) → line ≡ f ++ 32 ∷ r → Without 32 f

@@ -1,10 +1,11 @@
 -- What the lines of a configuration say after their first words.
-use Rattle.std.specs.Prelude.{ℕ, ◌≡◌, ◌≤◌, ◌<◌, ◌^◌, ◌&&◌, Bool, true, not, nat_eq, Option, Some, None, IfSome, Ok, ◌⊎◌, List, [], ◌∷◌, ◌++◌, length, Vec, map as each}
+use Rattle.std.specs.Prelude.{ℕ, ◌≡◌, ◌≤◌, ◌<◌, ◌^◌, ◌&&◌, if◌then◌else◌, Bool, true, not, nat_eq, nat_le, Option, Some, None, option_map, is_some, IfSome, Ok, ◌⊎◌, List, [], ◌∷◌, ◌++◌, length, Vec, map as each}
 use Rattle.std.specs.List.{list_all, list_any}
 use Rattle.std.specs.FinMap as map
 use Rattle.std.specs.Option.{unwrap_or}
 use denote.Bor.{Bor}
 use Rattle.hex.specs.Hex.{decode_sized}
+use Rattle.turn_cred.specs.Shared.{password_of}
 use Rattle.turn_cred.specs.Users.{KeyMap, key_map}
 use Rattle.turn_types.specs.Config.{is_between, is_ordered}
 use Rattle.turn_types.specs.Limits.{AreInRange, max_bounds}
@@ -39,6 +40,12 @@ is_name text = is_text text && not (list_any (nat_eq 58) text)
 pub record IsRealm (text : List ℕ) : Type 0 where
   pub visible : is_text text ≡ true
   pub short : length text ≤ 127
+
+-- the secret of a web service has 16 to 128 bytes
+pub record IsAuthSecret (text : List ℕ) : Type 0 where
+  pub visible : is_text text ≡ true
+  pub long : 16 ≤ length text
+  pub short : length text ≤ 128
 
 -- from 1 to 1,024
 pub record IsQuota (text : List ℕ) : Type 0 where
@@ -100,9 +107,10 @@ pub record Lines : Type 0 where
   pub limits : Option Bounds
   pub denied : List IpRange
   pub passwords : KeyMap
+  pub auth_secret : Option (List ℕ)
 
 abbrev pub no_lines : Lines
-no_lines = record { realm = None; secret = None; listen = None; relay = None; quota = None; limits = None; denied = []; passwords = map.empty }
+no_lines = record { realm = None; secret = None; listen = None; relay = None; quota = None; limits = None; denied = []; passwords = map.empty; auth_secret = None }
 
 -- the passwords of a tree of names
 abbrev pub passwords_of : {A : Type 0} → List (Vec ℕ A × Bor (List ℕ)) → KeyMap
@@ -122,6 +130,7 @@ Sets settings.Deny text old new =
     (range : IpRange) × IsRange text range × (length old.denied < 64) × (new ≡ record old { denied = old.denied ++ range ∷ [] })
 Sets settings.User text old new = (name : List ℕ) × (password : List ℕ) × IsUser text name password × (map.get old.passwords name ≡ None)
     × (new ≡ record old { passwords = map.insert old.passwords name password })
+Sets settings.AuthSecret text old new = IsAuthSecret text × (old.auth_secret ≡ None) × (new ≡ record old { auth_secret = Some text })
 
 -- a line is the word of what it sets, a blank, and the text
 pub record Says (line : List ℕ) (old new : Lines) : Type 0 where
@@ -152,3 +161,13 @@ pub record IsConfigured {A : Type 0} (lines : Lines) (c : Configured A) : Type 0
   pub denied : c.config.denied ≡ lines.denied
   pub limits : c.config.limits ≡ unwrap_or lines.limits max_bounds
   pub passwords : passwords_of c.passwords.entries ≡ lines.passwords
+  pub auth_secret : c.auth_secret ≡ lines.auth_secret
+  pub shared : c.credentials.secret ≡ lines.auth_secret
+
+-- a name has no line of its own, and is within the limit
+unfoldable pub is_shared : {A : Type 0} → Configured A → List ℕ → Bool
+is_shared c name = not (is_some (map.get (passwords_of c.passwords.entries) name)) && nat_le (length name) c.config.limits.name_bytes
+
+-- the password of such a name under the secret, if there is one
+unfoldable pub shared_password : {A : Type 0} → Configured A → List ℕ → Option (List ℕ)
+shared_password c name = if is_shared c name then option_map (λ s. password_of s name) c.auth_secret else None

@@ -1,7 +1,7 @@
 -- The settings of a configuration, and the words of their lines.
 use Rattle.std.specs.Prelude.{ℕ, List, codes}
 use Rattle.turn_config.specs.declared.settings.Setting.{Setting}
-use Rattle.turn_config.specs.declared.settings.Setting.TheVariants.{Realm, Secret, Listen, Relay, Quota, Limits, Deny, User}
+use Rattle.turn_config.specs.declared.settings.Setting.TheVariants.{Realm, Secret, Listen, Relay, Quota, Limits, Deny, User, AuthSecret}
 
 abbrev pub name_of : Setting → List ℕ
 name_of Realm = codes "realm"
@@ -12,3 +12,4 @@ name_of Quota = codes "quota"
 name_of Limits = codes "limits"
 name_of Deny = codes "deny"
 name_of User = codes "user"
+name_of AuthSecret = codes "auth-secret"

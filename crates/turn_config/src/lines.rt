@@ -3,18 +3,18 @@
 ghost use Rattle.std.specs.Prelude.{◌≡◌, ◌≢◌, ◌&&◌, Ok, IfOk, MatchOption, OnErr, true, false, if◌then◌else◌, is_none, is_some};
 ghost use Rattle.std.specs.Option.{unwrap_or};
 ghost use Rattle.turn_types.specs.Limits.{max_bounds};
-ghost use Rattle.turn_config.specs.Lines.{IsConfigured, IsRealm, Lacks, Lines, Says, Sets, no_lines, skipped};
+ghost use Rattle.turn_config.specs.Lines.{IsConfigured, IsRealm, Lacks, Lines, Says, Sets, is_shared, no_lines, shared_password, skipped};
 ghost use Rattle.turn_config.specs.declared.settings.Setting.TheVariants.{Deny, User};
 
 use crate::settings::{
-    Relay, Setting, limits_of, quota_of, range_of, realm_of, relay_of, secret_of, setting_of,
-    user_of,
+    Relay, Setting, auth_secret_of, limits_of, quota_of, range_of, realm_of, relay_of, secret_of,
+    setting_of, user_of,
 };
 use crate::values::{endpoint, split_once};
 use std::alloc::{AllocError, Allocator, Global};
 use std::collections::BTreeMap;
 use std::marker::Model;
-use turn_cred::Users;
+use turn_cred::{Credentials, SharedSecret, Users};
 use turn_mac::generate_auth_key;
 use turn_ports::PortRange;
 use turn_types::{ConfigError, Endpoint, IpRange, Limits, ServerConfig, Settings};
@@ -37,6 +37,7 @@ pub struct ConfigLines<'a, A: Allocator = Global> {
     limits: Option<Limits>,
     denied: Vec<IpRange, A>,
     passwords: BTreeMap<Vec<u8, A>, &'a [u8], A>,
+    auth_secret: Option<&'a [u8]>,
 }
 
 impl<'a, A: Allocator> Model for ConfigLines<'a, A> {
@@ -58,6 +59,7 @@ impl<'a, A: Allocator> Model for ConfigLines<'a, A> {
       limits = c.limits;
       denied = c.denied.items;
       passwords = passwords_of c.passwords.entries;
+      auth_secret = option_map (λ s. s.now) c.auth_secret;
     } };
 
     ghost invariant = { λ c. CanBeUsed (option_map (λ r. r.now) c.realm) c.quota c.denied.items };
@@ -67,14 +69,40 @@ impl<'a, A: Allocator> Model for ConfigLines<'a, A> {
 #[derive(Drop)]
 pub struct Configured<'a, A: Allocator = Global> {
     pub config: ServerConfig<A>,
-    /// The users by their keys.
-    pub users: Users<A>,
+    /// The users by their keys, and the secret of all other names, if there is one.
+    pub credentials: Credentials<A>,
     /// The address that clients send to.
     pub listen: Endpoint,
     pub ports: PortRange,
     pub realm: &'a [u8],
     /// The passwords by the users' names.
     pub passwords: BTreeMap<Vec<u8, A>, &'a [u8], A>,
+    /// The secret that is shared with a web service, if there is one, for those who make passwords.
+    pub auth_secret: Option<SharedSecret<A>>,
+}
+
+impl<'a, A: Allocator> Configured<'a, A> {
+    /// Whether a name has no `user` line, and is within the limit.
+    fn is_shared(&self, name: &[u8]) -> bool
+        ensures { result ≡ is_shared self.now name.now }
+    {
+        let own = self.passwords.contains_key(name);
+        let limit = self.config.limits().name_bytes();
+        !own && name.len() <= usize::from(limit)
+    }
+
+    /// The password of a name under the secret. `None` if there is no secret, the name is above the limit, or it has a `user` line,
+    /// whose password it has then.
+    #[tactic(auto, unfolding(crate::specs::Lines::shared_password))]
+    pub fn shared_password(&self, name: &[u8]) -> Option<[u8; 28]>
+        ensures { result ≡ shared_password self.now name.now }
+    {
+        if !self.is_shared(name) {
+            return None;
+        }
+        let secret = self.auth_secret.as_ref()?;
+        Some(secret.password(name))
+    }
 }
 
 /// Whether a line says nothing: it is empty, or a comment, which begins with `#`.
@@ -111,6 +139,7 @@ impl<'a, A: Allocator + Copy> ConfigLines<'a, A> {
             limits: None,
             denied: Vec::new(alloc),
             passwords: BTreeMap::new(alloc),
+            auth_secret: None,
         }
     }
 
@@ -145,6 +174,7 @@ impl<'a, A: Allocator + Copy> ConfigLines<'a, A> {
             Setting::Limits => Ok(put(&mut self.limits, limits_of(text))),
             Setting::Deny => self.deny(text),
             Setting::User => self.add_user(text),
+            Setting::AuthSecret => Ok(put(&mut self.auth_secret, auth_secret_of(text))),
         }
     }
 
@@ -187,6 +217,21 @@ impl<'a, A: Allocator + Copy> ConfigLines<'a, A> {
             users.add(name, generate_auth_key(name, realm, password))?;
         }
         Ok(users)
+    }
+
+    fn shared(&self) -> Result<Option<SharedSecret<A>>, AllocError>
+        ensures { IfOk result (λ shared. shared ≡ self.now.auth_secret) }
+    {
+        match self.auth_secret {
+            Some(secret) => Ok(Some(SharedSecret::new(self.alloc, secret)?)),
+            None => Ok(None),
+        }
+    }
+
+    fn credentials(&self, realm: &[u8]) -> Result<Credentials<A>, AllocError>
+        ensures { IfOk result (λ c. c.secret ≡ self.now.auth_secret) }
+    {
+        Ok(Credentials::new(self.users(realm)?, self.shared()?))
     }
 
     fn server_config(
@@ -234,10 +279,11 @@ impl<'a, A: Allocator + Copy> ConfigLines<'a, A> {
         };
         Ok(Some(Configured {
             config: self.server_config(realm, secret, relay.ip)?,
-            users: self.users(realm)?,
+            credentials: self.credentials(realm)?,
             listen,
             ports: relay.ports,
             realm,
+            auth_secret: self.shared()?,
             passwords: self.passwords,
         }))
     }

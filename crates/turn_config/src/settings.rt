@@ -6,7 +6,7 @@ ghost use Rattle.hex.specs.Hex.{decode_sized};
 ghost use Rattle.turn_types.specs.declared.config.IpRange.{IpRange};
 ghost use Rattle.turn_types.specs.declared.limits.Bounds.{Bounds};
 ghost use Rattle.turn_config.specs.Lines as lines;
-ghost use Rattle.turn_config.specs.Lines.{is_visible, IsLimits, IsQuota, IsRange, IsRealm, IsRelay, IsUser};
+ghost use Rattle.turn_config.specs.Lines.{is_visible, IsAuthSecret, IsLimits, IsQuota, IsRange, IsRealm, IsRelay, IsUser};
 ghost use Rattle.turn_config.specs.Names.{name_of};
 ghost use Rattle.turn_config.specs.declared.settings.Setting.{Setting};
 ghost use Rattle.turn_config.specs.Values.{number_of};
@@ -18,6 +18,12 @@ use turn_types::{Bounds, IpRange, Limits};
 
 /// How many bytes a realm may have (RFC 8489, section 14.9).
 const MAX_REALM: usize = 127;
+
+/// How many bytes the secret of a web service has at least.
+const MIN_AUTH_SECRET: usize = 16;
+
+/// How many bytes it may have.
+const MAX_AUTH_SECRET: usize = 128;
 
 /// A relay address and the range of its ports.
 #[derive(Clone, Copy)]
@@ -37,6 +43,7 @@ pub(crate) enum Setting {
     Limits,
     Deny,
     User,
+    AuthSecret,
 }
 
 /// What a line sets that begins with a word.
@@ -53,6 +60,7 @@ pub(crate) fn setting_of(word: &[u8]) -> Option<Setting>
         b"limits" => Some(Setting::Limits),
         b"deny" => Some(Setting::Deny),
         b"user" => Some(Setting::User),
+        b"auth-secret" => Some(Setting::AuthSecret),
         _ => None,
     }
 }
@@ -92,6 +100,17 @@ pub(crate) fn secret_of(text: &[u8]) -> Option<[u8; 32]>
     let mut secret = [0u8; 32];
     hex::decode_to_slice(text, &mut secret).ok()?;
     Some(secret)
+}
+
+/// The secret that is shared with a web service.
+pub(crate) fn auth_secret_of(text: &[u8]) -> Option<&[u8]>
+    ensures { SomeIff result (IsAuthSecret text.now) text.entry }
+{
+    if is_text(text) && MIN_AUTH_SECRET <= text.len() && text.len() <= MAX_AUTH_SECRET {
+        Some(text)
+    } else {
+        None
+    }
 }
 
 pub(crate) fn relay_of(text: &[u8]) -> Option<Relay>

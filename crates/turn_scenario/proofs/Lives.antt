@@ -1,7 +1,7 @@
 -- Lives one after another.
 use Rattle.std.proofs.Common.{◌≡◌, ◌++◌, ℕ, Bool, false, List, [], ◌∷◌, Some, refl, sym, ap, ◌∙◌, ◌<◌}
 use Rattle.std.specs.Prelude.{◌⊎◌}
-use Rattle.turn_cred.specs.Users.{KeyMap}
+use Rattle.turn_cred.specs.Shared.{Sources}
 use Rattle.turn_cred.specs.declared.handler.AuthHandler as handlers
 use Rattle.turn_disk.specs.Views.{InMemory}
 use Rattle.turn_disk.specs.declared.disk.Disk as disks
@@ -33,7 +33,7 @@ joined s f p q r _ later _ more (goes_on {input = input} {inputs = inputs} {said
     record { inputs = input ∷ j.inputs; said = said ++ j.said; life = goes_on next goes j.life }
 
 -- what a run of the player's steps does
-pub lives_on : (disk : disks.Ghosts InMemory) (handler : handlers.Ghosts KeyMap) (ports : generators.Ghosts (ℕ × ℕ)) (old new : PlayerState)
+pub lives_on : (disk : disks.Ghosts InMemory) (handler : handlers.Ghosts Sources) (ports : generators.Ghosts (ℕ × ℕ)) (old new : PlayerState)
     (inputs : List Input) (said : List Said) → new.config ≡ old.config
     → ((form : Form) (s : Setting) (p : Point) → s.config ≡ old.config → form.bounds ≡ s.config.limits
     → plays.GoesOn disk handler ports form s p old.world inputs said new.world)
@@ -56,8 +56,8 @@ lives_on disk handler ports old new inputs said same runs l =
     }
 
 -- a player over a formatted disk stands at the start of a life
-pub starts : (disk : disks.Ghosts InMemory) (handler : handlers.Ghosts KeyMap) (ports : generators.Ghosts (ℕ × ℕ)) (form : Form) (p : PlayerState)
-    (config : Config) (d : InMemory) (h : KeyMap) (g : ℕ × ℕ) → p ≡ record { config = config; world = Some (Down d h g) } → form.bounds ≡ config.limits
+pub starts : (disk : disks.Ghosts InMemory) (handler : handlers.Ghosts Sources) (ports : generators.Ghosts (ℕ × ℕ)) (form : Form) (p : PlayerState)
+    (config : Config) (d : InMemory) (h : Sources) (g : ℕ × ℕ) → p ≡ record { config = config; world = Some (Down d h g) } → form.bounds ≡ config.limits
     → disk.is_honest d → EachImage (disk.trace d).now (StandsForAt form [] 0) → Lived disk handler ports p
 starts disk handler ports form p config d h g is bounds honest images =
     let setting : Setting = record { config = config; keys = handler.key_of h; range = ports.range g; pairs = false } in
@@ -75,7 +75,7 @@ starts disk handler ports form p config d h g is bounds honest images =
       stands = formatted_stands disk handler ports form setting d h g honest images refl refl;
     }
 
-pub refused : (version : Version) (area : ℕ) (p q : PlayerState) (config : Config) (d : InMemory) (h : KeyMap) (g : ℕ × ℕ) → p ≡ record { config = config; world = Some (Down d h g) }
+pub refused : (version : Version) (area : ℕ) (p q : PlayerState) (config : Config) (d : InMemory) (h : Sources) (g : ℕ × ℕ) → p ≡ record { config = config; world = Some (Down d h g) }
     → q ≡ p → (area < least_area version config.limits) ⊎ Rises 0 d.failures → IsRefused version area q
 refused version area p q config d h g is same why = record {
   disk = d;

@@ -15,7 +15,7 @@ use crate::table_lines::put_table;
 use std::alloc::{AllocError, Allocator, Global};
 use std::collections::BTreeMap;
 use turn_config::{Configured, values};
-use turn_cred::{AuthHandler, Nonces, Users};
+use turn_cred::{AuthHandler, Credentials, Nonces, SharedSecret};
 use turn_disk::{Disk, MemoryDisk};
 use turn_mac::generate_auth_key;
 use turn_player::{Event, Player, Step};
@@ -31,6 +31,7 @@ use turn_types::{Endpoint, FiveTuple, Limits, Moment, Token, TxId};
 struct Client<'a, A: Allocator = Global> {
     realm: &'a [u8],
     passwords: BTreeMap<Vec<u8, A>, &'a [u8], A>,
+    auth_secret: Option<SharedSecret<A>>,
     nonces: Nonces,
     /// The moment of its nonces, where that is not the moment of the request.
     nonce: Option<Moment>,
@@ -111,9 +112,21 @@ fn bytes_of<A: Allocator>(alloc: A, word: &[u8]) -> Result<Vec<u8, A>, LineFault
 }
 
 impl<'a, A: Allocator + Copy> Client<'a, A> {
+    /// The key of a name: that of its `user` line, or else the one under the secret, whatever the name's form.
+    fn key(&self, user: &[u8]) -> Result<[u8; 16], LineFault> {
+        if let Some(password) = self.passwords.get(user) {
+            return Ok(generate_auth_key(user, self.realm, password));
+        }
+        let Some(secret) = &self.auth_secret else {
+            return Err(LineFault::Bad);
+        };
+        let password = secret.password(user);
+        Ok(generate_auth_key(user, self.realm, &password))
+    }
+
     /// The datagram of an `ask` line at a moment.
     fn request(&self, alloc: A, ask: &Ask<'_>, moment: Moment) -> Result<Vec<u8, A>, LineFault> {
-        let password = *self.passwords.get(ask.user).ok_or(LineFault::Bad)?;
+        let key = self.key(ask.user)?;
         let attributes = match ask.attributes {
             Some(words) => attributes(alloc, words, self.token)?.ok_or(LineFault::Bad)?,
             None => Vec::new(alloc),
@@ -125,7 +138,6 @@ impl<'a, A: Allocator + Copy> Client<'a, A> {
             user: ask.user,
             realm: self.realm,
         };
-        let key = generate_auth_key(ask.user, self.realm, password);
         let nonce = self.nonces.issue(ask.client, self.nonce.unwrap_or(moment));
         Ok(build_request(alloc, &request, &key, &nonce)?)
     }
@@ -139,28 +151,30 @@ impl<'a, A: Allocator + Copy> Running<'a, A> {
         version: Version,
         area: u32,
     ) -> Result<Running<'a, A>, LineFault>
-        ensures { IfOk result (λ running. Lived ⟦<MemoryDisk<A> as Disk>⟧ ⟦<Users<A> as AuthHandler>⟧ ⟦<PortRange as RelayAddressGenerator>⟧ running.player
+        ensures { IfOk result (λ running. Lived ⟦<MemoryDisk<A> as Disk>⟧ ⟦<Credentials<A> as AuthHandler>⟧ ⟦<PortRange as RelayAddressGenerator>⟧ running.player
             ⊎ IsRefused version area running.player) }
     {
         let Configured {
             config,
-            users,
+            credentials,
             listen,
             ports,
             realm,
             passwords,
+            auth_secret,
         } = configured;
         let (disk, outcome) = format_disk(alloc, config.limits(), version, area)?;
         let client = Client {
             realm,
             passwords,
+            auth_secret,
             nonces: Nonces::new(*config.secret()),
             nonce: None,
             token: None,
         };
         let mut running = Running {
             alloc,
-            player: Player::new(alloc, disk, config, users, ports),
+            player: Player::new(alloc, disk, config, credentials, ports),
             client,
             server: listen,
             moment: Moment::new(0).unwrap(),
@@ -171,7 +185,7 @@ impl<'a, A: Allocator + Copy> Running<'a, A> {
     }
 
     fn open(&mut self, formatted: Result<(), FormatRefused>) -> Result<(), LineFault>
-        ensures lives { OnOk result (formatted ≡ Ok tt → LivesOn ⟦<MemoryDisk<A> as Disk>⟧ ⟦<Users<A> as AuthHandler>⟧ ⟦<PortRange as RelayAddressGenerator>⟧
+        ensures lives { OnOk result (formatted ≡ Ok tt → LivesOn ⟦<MemoryDisk<A> as Disk>⟧ ⟦<Credentials<A> as AuthHandler>⟧ ⟦<PortRange as RelayAddressGenerator>⟧
             self.old.player self.new.player) }
         ensures same { OnOk result (IsErr formatted → self.new.player ≡ self.old.player) }
     {
@@ -195,7 +209,7 @@ impl<'a, A: Allocator + Copy> Running<'a, A> {
 
     /// Makes steps, and reports what comes of them.
     fn play(&mut self, steps: &[Step<'_>]) -> Result<(), LineFault>
-        ensures lives { OnOk result (LivesOn ⟦<MemoryDisk<A> as Disk>⟧ ⟦<Users<A> as AuthHandler>⟧ ⟦<PortRange as RelayAddressGenerator>⟧
+        ensures lives { OnOk result (LivesOn ⟦<MemoryDisk<A> as Disk>⟧ ⟦<Credentials<A> as AuthHandler>⟧ ⟦<PortRange as RelayAddressGenerator>⟧
             self.old.player self.new.player) }
     {
         let events = self.player.run(steps)?;
@@ -204,7 +218,7 @@ impl<'a, A: Allocator + Copy> Running<'a, A> {
     }
 
     fn submit(&mut self, client: Endpoint, bytes: &[u8]) -> Result<(), LineFault>
-        ensures lives { OnOk result (LivesOn ⟦<MemoryDisk<A> as Disk>⟧ ⟦<Users<A> as AuthHandler>⟧ ⟦<PortRange as RelayAddressGenerator>⟧
+        ensures lives { OnOk result (LivesOn ⟦<MemoryDisk<A> as Disk>⟧ ⟦<Credentials<A> as AuthHandler>⟧ ⟦<PortRange as RelayAddressGenerator>⟧
             self.old.player self.new.player) }
     {
         let five_tuple = FiveTuple {
@@ -216,7 +230,7 @@ impl<'a, A: Allocator + Copy> Running<'a, A> {
     }
 
     fn ask(&mut self, ask: &Ask<'_>) -> Result<(), LineFault>
-        ensures lives { OnOk result (LivesOn ⟦<MemoryDisk<A> as Disk>⟧ ⟦<Users<A> as AuthHandler>⟧ ⟦<PortRange as RelayAddressGenerator>⟧
+        ensures lives { OnOk result (LivesOn ⟦<MemoryDisk<A> as Disk>⟧ ⟦<Credentials<A> as AuthHandler>⟧ ⟦<PortRange as RelayAddressGenerator>⟧
             self.old.player self.new.player) }
     {
         let bytes = self.client.request(self.alloc, ask, self.moment)?;
@@ -224,7 +238,7 @@ impl<'a, A: Allocator + Copy> Running<'a, A> {
     }
 
     fn send(&mut self, client: Endpoint, peer: Endpoint, word: &[u8]) -> Result<(), LineFault>
-        ensures lives { OnOk result (LivesOn ⟦<MemoryDisk<A> as Disk>⟧ ⟦<Users<A> as AuthHandler>⟧ ⟦<PortRange as RelayAddressGenerator>⟧
+        ensures lives { OnOk result (LivesOn ⟦<MemoryDisk<A> as Disk>⟧ ⟦<Credentials<A> as AuthHandler>⟧ ⟦<PortRange as RelayAddressGenerator>⟧
             self.old.player self.new.player) }
     {
         let payload = bytes_of(self.alloc, word)?;
@@ -233,7 +247,7 @@ impl<'a, A: Allocator + Copy> Running<'a, A> {
     }
 
     fn submit_from_peer(&mut self, port: u16, from: Endpoint, bytes: &[u8]) -> Result<(), LineFault>
-        ensures lives { OnOk result (LivesOn ⟦<MemoryDisk<A> as Disk>⟧ ⟦<Users<A> as AuthHandler>⟧ ⟦<PortRange as RelayAddressGenerator>⟧
+        ensures lives { OnOk result (LivesOn ⟦<MemoryDisk<A> as Disk>⟧ ⟦<Credentials<A> as AuthHandler>⟧ ⟦<PortRange as RelayAddressGenerator>⟧
             self.old.player self.new.player) }
     {
         let id = TxId([0; 12]);
@@ -247,7 +261,7 @@ impl<'a, A: Allocator + Copy> Running<'a, A> {
     }
 
     fn peer(&mut self, line: &PeerLine<'_>) -> Result<(), LineFault>
-        ensures lives { OnOk result (LivesOn ⟦<MemoryDisk<A> as Disk>⟧ ⟦<Users<A> as AuthHandler>⟧ ⟦<PortRange as RelayAddressGenerator>⟧
+        ensures lives { OnOk result (LivesOn ⟦<MemoryDisk<A> as Disk>⟧ ⟦<Credentials<A> as AuthHandler>⟧ ⟦<PortRange as RelayAddressGenerator>⟧
             self.old.player self.new.player) }
     {
         let bytes = bytes_of(self.alloc, line.hex)?;
@@ -258,7 +272,7 @@ impl<'a, A: Allocator + Copy> Running<'a, A> {
     fn go_to(&mut self, moment: Moment) -> Result<(), LineFault>
         ensures ok { OnOk result ((self.old.moment ≤ moment) × (self.new.moment ≡ moment)) }
         ensures refused { OnErr result ((moment < self.old.moment) × (self.new.moment ≡ self.old.moment)) }
-        ensures lives { OnOk result (LivesOn ⟦<MemoryDisk<A> as Disk>⟧ ⟦<Users<A> as AuthHandler>⟧ ⟦<PortRange as RelayAddressGenerator>⟧
+        ensures lives { OnOk result (LivesOn ⟦<MemoryDisk<A> as Disk>⟧ ⟦<Credentials<A> as AuthHandler>⟧ ⟦<PortRange as RelayAddressGenerator>⟧
             self.old.player self.new.player) }
     {
         if moment < self.moment {
@@ -270,7 +284,7 @@ impl<'a, A: Allocator + Copy> Running<'a, A> {
 
     /// Reports the table at the moment, or at the server's clock where that is later.
     fn table(&mut self) -> Result<(), LineFault>
-        ensures lives { OnOk result (LivesOn ⟦<MemoryDisk<A> as Disk>⟧ ⟦<Users<A> as AuthHandler>⟧ ⟦<PortRange as RelayAddressGenerator>⟧
+        ensures lives { OnOk result (LivesOn ⟦<MemoryDisk<A> as Disk>⟧ ⟦<Credentials<A> as AuthHandler>⟧ ⟦<PortRange as RelayAddressGenerator>⟧
             self.old.player self.new.player) }
     {
         match self.player.server() {
@@ -289,7 +303,7 @@ impl<'a, A: Allocator + Copy> Running<'a, A> {
     }
 
     fn expect(&mut self, text: &[u8]) -> Result<(), LineFault>
-        ensures lives { OnOk result (LivesOn ⟦<MemoryDisk<A> as Disk>⟧ ⟦<Users<A> as AuthHandler>⟧ ⟦<PortRange as RelayAddressGenerator>⟧
+        ensures lives { OnOk result (LivesOn ⟦<MemoryDisk<A> as Disk>⟧ ⟦<Credentials<A> as AuthHandler>⟧ ⟦<PortRange as RelayAddressGenerator>⟧
             self.old.player self.new.player) }
     {
         if self.lines.compare(text) {
@@ -300,7 +314,7 @@ impl<'a, A: Allocator + Copy> Running<'a, A> {
     }
 
     fn do_line(&mut self, line: &Line<'_>) -> Result<(), LineFault>
-        ensures lives { OnOk result (LivesOn ⟦<MemoryDisk<A> as Disk>⟧ ⟦<Users<A> as AuthHandler>⟧ ⟦<PortRange as RelayAddressGenerator>⟧
+        ensures lives { OnOk result (LivesOn ⟦<MemoryDisk<A> as Disk>⟧ ⟦<Credentials<A> as AuthHandler>⟧ ⟦<PortRange as RelayAddressGenerator>⟧
             self.old.player self.new.player) }
     {
         match line {
@@ -328,7 +342,7 @@ impl<'a, A: Allocator + Copy> Running<'a, A> {
 
     /// Does what a line that is not skipped says.
     pub(crate) fn take(&mut self, text: &[u8]) -> Result<(), LineFault>
-        ensures lives { OnOk result (LivesOn ⟦<MemoryDisk<A> as Disk>⟧ ⟦<Users<A> as AuthHandler>⟧ ⟦<PortRange as RelayAddressGenerator>⟧
+        ensures lives { OnOk result (LivesOn ⟦<MemoryDisk<A> as Disk>⟧ ⟦<Credentials<A> as AuthHandler>⟧ ⟦<PortRange as RelayAddressGenerator>⟧
             self.old.player self.new.player) }
     {
         match read_line(text) {

@@ -6,7 +6,7 @@ use std::process::Abort;
 use turn_config::{ConfigFault, Configured, read_config};
 use turn_cred::AuthHandler;
 use turn_ports::RelayAddressGenerator;
-use turn_types::Limits;
+use turn_types::{Limits, Moment};
 
 const BAD: [(&[u8], u64); 12] = [
     (b"", 1),
@@ -46,6 +46,7 @@ deny 203.0.113.9 203.0.113.10
 # realm, secret and address
 listen 192.0.2.100:3478
 secret 000102030405060708090a0b0c0d0e0f101112131415161718191A1B1C1D1E1F
+auth-secret a-secret-of-the-web-service
 realm realm";
 
 /// The key of user `user`, realm `realm` and password `pass`, by RFC 8489, section 9.2.2, and MD5 of another program.
@@ -69,9 +70,17 @@ fn is_whole<A: Allocator + Copy>(found: &Configured<'_, A>) -> bool {
         && !config.is_denied(0xCB00_710B)
 }
 
+/// Whether a name has this key, which doesn't expire.
+fn has_key<A: Allocator + Copy>(found: &Configured<'_, A>, name: &[u8], key: [u8; 16]) -> bool {
+    match found.credentials.key(name, b"realm") {
+        Some(found) => found.bytes == key && found.expiry.is_none(),
+        None => false,
+    }
+}
+
 fn has_users<A: Allocator + Copy>(found: &Configured<'_, A>) -> bool {
-    found.users.key(b"user", b"realm") == Some(KEY)
-        && found.users.key(b"pass", b"realm").is_none()
+    has_key(found, b"user", KEY)
+        && found.credentials.key(b"pass", b"realm").is_none()
         && found.listen.ip == 0xC000_0264
         && found.listen.port == 3478
         && found.ports.range() == (50000, 50009)
@@ -142,7 +151,7 @@ const SAMPLES: [(&[u8], &[u8], [u8; 16]); 3] = [
     ),
 ];
 
-/// The configuration with these users: 4,008 lines.
+/// The configuration with these users: 4,009 lines.
 fn with_users(rt: &impl Abort, alloc: Global) -> Vec<u8> {
     let mut text = Vec::from_slice(alloc, WHOLE).expect(rt, "memory");
     for number in 0..ADDED {
@@ -153,7 +162,7 @@ fn with_users(rt: &impl Abort, alloc: Global) -> Vec<u8> {
 }
 
 fn has_user(found: &Configured<'_>, name: &[u8], password: &[u8], key: [u8; 16]) -> bool {
-    found.users.key(name, b"realm") == Some(key) && found.passwords.get(name) == Some(&password)
+    has_key(found, name, key) && found.passwords.get(name) == Some(&password)
 }
 
 #[test]
@@ -175,6 +184,70 @@ fn a_name_that_is_given_again_after_thousands_is_a_bad_line(rt: HostRuntime) {
         for part in [b"\nuser ".as_slice(), name, b" other"] {
             text.extend_from_slice(part).expect(&rt, "memory");
         }
-        assert!(rt; read_config(rt.alloc(), &text).err() == Some(ConfigFault::BadLine(4009)));
+        assert!(rt; read_config(rt.alloc(), &text).err() == Some(ConfigFault::BadLine(4010)));
     }
+}
+
+/// A secret, a name that has a `user` line, and a limit of 17 bytes.
+const SHARED: &[u8] = b"realm example.org
+user 1700000001 wonder
+auth-secret a-secret-of-the-web-service
+secret 000102030405060708090a0b0c0d0e0f101112131415161718191a1b1c1d1e1f
+listen 192.0.2.100:3478
+relay 198.51.100.1 50000 50009
+limits 2 1 1 1 17";
+
+/// Names, their passwords by HMAC-SHA1 and base64 of another program, and their keys by its MD5.
+const NAMES: [(&[u8], &[u8; 28], [u8; 16]); 3] = [
+    (
+        b"1700000000",
+        b"n9SFVLmM2wl9yZ/3vY8Ypca+c/g=",
+        [
+            0xc7, 0x2d, 0x32, 0xba, 0xc3, 0xd0, 0x6e, 0x8f, 0xce, 0x73, 0x8f, 0xea, 0xf7, 0xb0,
+            0x5b, 0x16,
+        ],
+    ),
+    (
+        b"1700000000:alice",
+        b"XNHRyJ8VZgb4sHKUpvXOrNI2d4E=",
+        [
+            0xf9, 0xb5, 0xe2, 0xd7, 0xb9, 0x72, 0xdf, 0x0f, 0xab, 0x41, 0x2b, 0x5e, 0x8c, 0xf5,
+            0xd5, 0x8f,
+        ],
+    ),
+    (
+        b"1700000000:a:b",
+        b"avRPnW/zCmuye6irztIqQStfxFg=",
+        [
+            0xaa, 0x05, 0x0a, 0x5c, 0x79, 0x84, 0x4e, 0x88, 0xd2, 0x48, 0x69, 0x21, 0x8a, 0x6d,
+            0x74, 0x4a,
+        ],
+    ),
+];
+
+fn is_shared(found: &Configured<'_>, name: &[u8], password: &[u8; 28], key: [u8; 16]) -> bool {
+    match found.credentials.key(name, b"example.org") {
+        Some(it) => {
+            it.bytes == key
+                && it.expiry == Moment::new(1_700_000_000)
+                && found.shared_password(name) == Some(*password)
+        }
+        None => false,
+    }
+}
+
+#[test]
+fn names_under_the_secret_have_its_passwords_and_keys(rt: HostRuntime) {
+    let found = read_config(rt.alloc(), SHARED).expect(&rt, "a configuration");
+    for (name, password, key) in &NAMES {
+        assert!(rt; is_shared(&found, name, password, *key));
+    }
+}
+
+#[test]
+fn a_user_line_and_the_limit_leave_no_shared_password(rt: HostRuntime) {
+    let found = read_config(rt.alloc(), SHARED).expect(&rt, "a configuration");
+    assert!(rt; found.shared_password(b"1700000001").is_none());
+    assert!(rt; found.shared_password(b"1700000000:abcdef").is_some());
+    assert!(rt; found.shared_password(b"1700000000:abcdefg").is_none());
 }

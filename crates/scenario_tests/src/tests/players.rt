@@ -63,12 +63,12 @@ fn player<'a>(rt: &impl Abort, refusing: &'a Refusing<Global>) -> Refused<'a> {
     let configured = read_config(refusing, SETTINGS.as_bytes()).expect(rt, "a configuration");
     let Configured {
         config,
-        users,
+        credentials,
         ports,
         ..
     } = configured;
     let disk = disk(rt, refusing, config.limits());
-    Player::new(refusing, disk, config, users, ports)
+    Player::new(refusing, disk, config, credentials, ports)
 }
 
 /// Whether no later call succeeds, and there is no server.

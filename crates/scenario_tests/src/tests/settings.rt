@@ -10,7 +10,7 @@ const REALM_127: &[u8] =
 const REALM_128: &[u8] =
     b"realm 12345678901234567890123456789012345678901234567890123456789012345678901234567890123456789012345678901234567890123456789012345678";
 
-const GOOD: [&[u8]; 27] = [
+const GOOD: [&[u8]; 31] = [
     b"",
     b"\n",
     b"\n\n#\n#\xff\t\r\n# realm\n#realm a\nrealm a\n",
@@ -38,6 +38,10 @@ const GOOD: [&[u8]; 27] = [
     b"secret 0000000000000000000000000000000000000000000000000000000000000000\nrealm a",
     b"quota 7\nrealm a\nlisten 1.2.3.4:5\nuser a b",
     b"limits 1 1 1 1 1\n\n\n#",
+    b"auth-secret aaaaaaaaaaaaaaaa",
+    b"auth-secret !~~~~~~~~~~~~~~~~~~~~~~~~~~~~~~~~~~~~~~~~~~~~~~~~~~~~~~~~~~~~~~~~~~~~~~~~~~~~~~~~~~~~~~~~~~~~~~~~~~~~~~~~~~~~~~~~~~~~~~~~~~~~~~~",
+    b"auth-secret :a-secret:of:the:web:service",
+    b"auth-secret a-secret-of-the-web-service\nuser a b\nrealm a",
 ];
 
 #[test]
@@ -45,7 +49,7 @@ fn a_text_without_format_has_an_empty_report(rt: HostRuntime) {
     expect_each(&rt, rt.alloc(), "", &GOOD, "");
 }
 
-const BAD: [&[u8]; 91] = [
+const BAD: [&[u8]; 103] = [
     b" ",
     b"\t",
     b"\r",
@@ -137,6 +141,18 @@ const BAD: [&[u8]; 91] = [
     b"expect x",
     b"reopen",
     b"frobnicate 1",
+    b"auth-secret",
+    b"auth-secret ",
+    b"auth-secret aaaaaaaaaaaaaaa",
+    b"auth-secret aaaaaaaaaaaaaaaaaaaaaaaaaaaaaaaaaaaaaaaaaaaaaaaaaaaaaaaaaaaaaaaaaaaaaaaaaaaaaaaaaaaaaaaaaaaaaaaaaaaaaaaaaaaaaaaaaaaaaaaaaaaaaaaaa",
+    b"auth-secret  aaaaaaaaaaaaaaaa",
+    b"auth-secret aaaaaaaaaaaaaaaa ",
+    b"auth-secret a secret of the web service",
+    b"auth-secret aaaaaaaaaaaaaaaa\r",
+    b"auth-secret aaaaaaaaaaaaaaaa\x7f",
+    b"auth-secret aaaaaaaaaaaaaaaa\xe9",
+    b"Auth-Secret aaaaaaaaaaaaaaaa",
+    b"auth_secret aaaaaaaaaaaaaaaa",
 ];
 
 #[test]
@@ -144,7 +160,7 @@ fn a_malformed_setting_is_a_bad_line(rt: HostRuntime) {
     expect_each(&rt, rt.alloc(), "", &BAD, "line 1: bad line\n");
 }
 
-const REPEATED: [&[u8]; 8] = [
+const REPEATED: [&[u8]; 9] = [
     b"realm a\nrealm a",
     b"secret 0000000000000000000000000000000000000000000000000000000000000000\nsecret 0000000000000000000000000000000000000000000000000000000000000000",
     b"listen 1.2.3.4:5\nlisten 1.2.3.4:5",
@@ -152,6 +168,7 @@ const REPEATED: [&[u8]; 8] = [
     b"quota 5\nquota 5",
     b"limits 1 1 1 1 1\nlimits 1 1 1 1 1",
     b"user a b\nuser a c",
+    b"auth-secret aaaaaaaaaaaaaaaa\nauth-secret bbbbbbbbbbbbbbbb",
     b"realm a\nfrobnicate\nrealm b",
 ];
 

@@ -36,6 +36,7 @@ returns-clause-good g c _ =
         limits = c.self.inside.limits;
         denied = c.self.inside.denied.items;
         passwords = m;
+        auth_secret = option_map (λ s. s.now) c.self.inside.auth_secret;
       }) added
           ∙ ap (λ (l : Lines). record l { passwords = map.insert l.passwords name c.in-Some.password.now }) c.self.view_is,
     )
