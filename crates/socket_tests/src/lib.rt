@@ -3,6 +3,8 @@
 #![tactic(auto)]
 
 #[cfg(test)]
+mod listening;
+#[cfg(test)]
 mod order;
 #[cfg(test)]
 mod pace;

@@ -10,6 +10,21 @@ const SERVED: [usize; 13] = [
     LISTENING, 7, 3, 9, 1, LISTENING, 5, 2, 8, 4, LISTENING, 6, 65_535,
 ];
 
+/// The same with two listening sockets.
+const REPORTED_TWO: [usize; 7] = [LISTENING + 1, 7, 3, LISTENING, 9, 1, 5];
+
+const SERVED_TWO: [usize; 9] = [
+    LISTENING + 1,
+    LISTENING,
+    7,
+    3,
+    9,
+    1,
+    LISTENING + 1,
+    LISTENING,
+    5,
+];
+
 fn order_of(rt: &HostRuntime, reported: &[usize]) -> Result<Order, Fail> {
     let mut ready = Ready::new(rt.alloc())?;
     for token in reported {
@@ -33,5 +48,13 @@ fn the_listening_socket_is_served_after_every_four_relay_sockets(
     // Without it the relay sockets are served as they were reported.
     assert!(rt; is_order(&order_of(&rt, &REPORTED[3..])?, &REPORTED[3..]));
     assert!(rt; is_order(&order_of(&rt, &[])?, &[]));
+    Ok(())
+}
+
+#[test]
+fn each_listening_socket_is_served_after_every_four_relay_sockets(
+    rt: HostRuntime,
+) -> Result<(), Fail> {
+    assert!(rt; is_order(&order_of(&rt, &REPORTED_TWO)?, &SERVED_TWO));
     Ok(())
 }

@@ -16,6 +16,7 @@ use turn_mac::generate_auth_key;
 use turn_ports::PortRange;
 use turn_requests::{Attribute, Received, read_message};
 use turn_serving::{Commits, Setup, SocketServing};
+use turn_sockets::ListeningAddresses;
 use turn_types::{Bounds, ConfigError, Endpoint, Limits, Method, ServerConfig, Settings};
 
 /// 127.0.0.1.
@@ -58,7 +59,7 @@ pub struct Loopback<'a, R: Net, A: Allocator + Copy = Global> {
     burst: u8,
     commits: Commits,
     // Where the server listens; port 0 before it ran.
-    listen: Endpoint,
+    listen: ListeningAddresses,
     client: Client<'static, A>,
     peer: TimedSocket<A>,
 }
@@ -157,10 +158,15 @@ impl<'a, R: Net + Drop, A: Allocator + Copy> Loopback<'a, R, A> {
             ports,
             burst,
             commits,
-            listen: ANY_PORT,
+            listen: ListeningAddresses::one(ANY_PORT),
             client,
             peer,
         })
+    }
+
+    /// From now on the server listens on these addresses once it is started.
+    pub fn set_listen(&mut self, listen: ListeningAddresses) {
+        self.listen = listen;
     }
 
     /// Starts the server over a disk. The clock is for pauses where a port is in use.
@@ -183,7 +189,7 @@ impl<'a, R: Net + Drop, A: Allocator + Copy> Loopback<'a, R, A> {
         } = self;
         let setup = Setup {
             config: &config,
-            listen,
+            listen: &listen,
             ports,
             relay_bind: None,
             burst,
@@ -220,7 +226,7 @@ impl<'a, D: Disk + Drop, R: Net + Drop, A: Allocator + Copy> Conversation<'a, D,
             client,
             peer,
         } = self;
-        let listen = serving.local();
+        let listen = serving.locals().copied();
         let (disk, users) = serving.close();
         let loopback = Loopback {
             alloc,
@@ -247,9 +253,14 @@ impl<'a, D: Disk + Drop, R: Net + Drop, A: Allocator + Copy> Conversation<'a, D,
         Ok(())
     }
 
-    /// The address of the server.
+    /// The address of the server, the first if it has several.
     pub fn server(&self) -> Endpoint {
         self.serving.local()
+    }
+
+    /// The addresses of the server.
+    pub fn servers(&self) -> &ListeningAddresses {
+        self.serving.locals()
     }
 
     /// The address of the peer.

@@ -15,7 +15,7 @@ pub enum StartFault {
     /// The store was not opened.
     #[error("{0}")]
     Store(OpenFault),
-    /// A relay port of a stored allocation, the relay address or the listening address can't be bound, there are too many
+    /// A relay port of a stored allocation, the relay address or a listening address can't be bound, there are too many
     /// open files, or a disk that failed had other allocations when the store was opened again.
     #[error("a socket can't be bound")]
     Socket,

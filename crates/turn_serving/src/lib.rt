@@ -9,6 +9,7 @@ mod listening;
 mod serving;
 mod start;
 mod turn;
+mod watch;
 
 pub use fault::{StartFault, TurnFault};
 pub use kept::may_change;
@@ -16,3 +17,4 @@ pub use laws::{others_change_nothing, turns_make_runs};
 pub use serving::{Commits, Serving, SocketServing};
 pub use start::Setup;
 pub use turn::RelaySockets;
+pub use watch::{Silent, Watch};

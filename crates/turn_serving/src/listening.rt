@@ -1,9 +1,10 @@
-//! The socket that clients send to, and the wait for it and for the relay sockets.
+//! The sockets that clients send to, and the wait for them and for the relay sockets.
 
-ghost use Rattle.std.specs.Prelude.{◌≡◌, ◌↔◌, None, IfSome};
+ghost use Rattle.std.specs.Prelude.{◌≡◌, ◌≢◌, ◌↔◌, All, Contains, IfNone, IfOk, IfSome, None, map};
 ghost use Rattle.turn_sockets.specs.Own.{IsRelay};
 
 use crate::fault::{StartFault, TurnFault};
+use crate::watch::Watch;
 use mio::net::UdpSocket;
 use mio::{Events, Interest, Poll, Token};
 use std::alloc::{AllocError, Allocator, Global};
@@ -13,10 +14,11 @@ use std::rt::Clock;
 use std::thread;
 use std::time::Duration;
 use turn_sockets::{
-    LISTENING, Order, OwnAddresses, RECEIVE_BUFFER, Ready, address_of, endpoint_of,
-    set_receive_buffer,
+    LISTENING, ListeningAddresses, Order, OwnAddresses, RECEIVE_BUFFER, Ready, address_of,
+    endpoint_of, set_receive_buffer,
 };
-use turn_types::{Endpoint, FiveTuple};
+use turn_table::Table;
+use turn_types::{Endpoint, FiveTuple, Moment};
 
 /// How many sockets one wait reports; the next one reports more.
 const EVENTS: usize = 1_025;
@@ -33,11 +35,19 @@ const PAUSE_MILLIS: u64 = 50;
 /// Every how many turns the other sockets are asked for while some have datagrams.
 const LOOK_EVERY: u32 = 16;
 
-/// The socket that clients send to.
+/// A socket that clients send to, and its address.
 #[derive(Drop)]
-pub(crate) struct Listening {
+pub(crate) struct ClientSocket {
     pub(crate) socket: UdpSocket,
+    pub(crate) at: Endpoint,
+}
+
+/// The sockets that clients send to, and who sees what is sent.
+#[derive(Drop)]
+pub(crate) struct Listening<W: Watch + Drop, A: Allocator = Global> {
+    pub(crate) sockets: Vec<ClientSocket, A>,
     pub(crate) own: OwnAddresses,
+    pub(crate) watch: W,
 }
 
 /// Waits a moment for a port that is in use.
@@ -58,45 +68,100 @@ fn bind<R: Net, C: Clock>(net: &R, system: &C, at: Endpoint) -> Result<UdpSocket
     Err(StartFault::Socket)
 }
 
-impl Listening {
-    /// Binds the socket at the listening address of these. Port 0 is any free one.
+/// Binds a socket that clients send to, whose datagrams a wait reports by this token. Port 0 is any free one.
+fn open_one<R: Net, C: Clock>(
+    net: &R,
+    system: &C,
+    poll: &Poll,
+    at: Endpoint,
+    token: usize,
+) -> Result<ClientSocket, StartFault> {
+    let mut socket = bind(net, system, at)?;
+    let registered = poll
+        .registry()
+        .register(&mut socket, Token(token), Interest::READABLE);
+    let local = match socket.local_addr() {
+        Ok(address) => endpoint_of(address),
+        Err(_) => None,
+    };
+    // A smaller buffer is no fault.
+    let _ = set_receive_buffer(&socket, RECEIVE_BUFFER);
+    match (registered, local) {
+        (Ok(()), Some(at)) => Ok(ClientSocket { socket, at }),
+        _ => Err(StartFault::Socket),
+    }
+}
+
+/// Binds a socket at each of these addresses, in whose place it puts the one that was bound.
+fn open_all<R: Net, C: Clock, A: Allocator + Copy>(
+    alloc: A,
+    net: &R,
+    system: &C,
+    poll: &Poll,
+    listening: &mut ListeningAddresses,
+) -> Result<Vec<ClientSocket, A>, StartFault>
+    ensures { IfOk result (λ sockets. map (λ s. s.at) sockets.items ≡ listening.new) }
+{
+    let count = listening.as_slice().len();
+    let mut sockets = Vec::with_capacity(alloc, count)?;
+    for place in 0..count {
+        let at = listening.as_slice()[place];
+        let socket = open_one(net, system, poll, at, LISTENING + place)?;
+        listening.set(place, socket.at);
+        if sockets.push(socket).is_err() {
+            return Err(StartFault::Memory);
+        }
+    }
+    Ok(sockets)
+}
+
+impl<W: Watch + Drop, A: Allocator + Copy> Listening<W, A> {
+    /// Binds a socket at each listening address of these.
     pub(crate) fn open<R: Net, C: Clock>(
+        alloc: A,
         net: &R,
         system: &C,
         poll: &Poll,
-        own: OwnAddresses,
-    ) -> Result<Listening, StartFault> {
-        let mut socket = bind(net, system, own.listening)?;
-        let registered = poll
-            .registry()
-            .register(&mut socket, Token(LISTENING), Interest::READABLE);
-        let local = match socket.local_addr() {
-            Ok(address) => endpoint_of(address),
-            Err(_) => None,
-        };
-        // A smaller buffer is no fault.
-        let _ = set_receive_buffer(&socket, RECEIVE_BUFFER);
-        match (registered, local) {
-            (Ok(()), Some(listening)) => Ok(Listening {
-                socket,
-                own: OwnAddresses { listening, ..own },
-            }),
-            _ => Err(StartFault::Socket),
-        }
+        mut own: OwnAddresses,
+        watch: W,
+    ) -> Result<Listening<W, A>, StartFault>
+        // The server's own addresses are those of all sockets.
+        ensures { IfOk result (λ l. map (λ s. s.at) l.sockets.items ≡ l.own.listening) }
+    {
+        let sockets = open_all(alloc, net, system, poll, &mut own.listening)?;
+        Ok(Listening {
+            sockets,
+            own,
+            watch,
+        })
     }
 
-    /// The five-tuple of a datagram that was received. `None` if it comes from a relay port of this server: it is lost.
-    pub(crate) fn five_tuple_of(&self, from: Endpoint) -> Option<FiveTuple>
+    /// Lets the watch see the table before anything is submitted at a moment.
+    pub(crate) fn tell(&self, moment: Moment, table: &Table<A>) {
+        self.watch.taking(moment, table);
+    }
+
+    /// The five-tuple of a datagram that a socket received. `None` if it comes from a relay port of this server: it is lost.
+    pub(crate) fn five_tuple_of(&self, socket: &ClientSocket, from: Endpoint) -> Option<FiveTuple>
         ensures own { (result ≡ None) ↔ IsRelay self.now.own from }
-        ensures client { IfSome result (λ f. f ≡ record { client = from; server = self.now.own.listening }) }
+        ensures client { IfSome result (λ f. f ≡ record { client = from; server = socket.now.at }) }
     {
         if self.own.is_relay(from) {
             return None;
         }
         Some(FiveTuple {
             client: from,
-            server: self.own.listening,
+            server: socket.at,
         })
+    }
+
+    /// The socket by which a client of a five-tuple gets datagrams: that of its server's address. `None` if there is none such, as
+    /// after a start with other addresses.
+    pub(crate) fn socket_of(&self, five_tuple: FiveTuple) -> Option<&ClientSocket>
+        ensures found { IfSome result (λ s. (s.now.at ≡ five_tuple.server) × Contains self.now.sockets.items s.now) }
+        ensures none { IfNone result (All (λ s. s.at ≢ five_tuple.server) self.now.sockets.items) }
+    {
+        self.sockets.iter().find(|s| s.at == five_tuple.server)
     }
 }
 

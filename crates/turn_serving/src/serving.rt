@@ -8,6 +8,7 @@ use crate::fault::TurnFault;
 use crate::kept::Kept;
 use crate::listening::{Listening, WAIT_MILLIS, Waiting};
 use crate::turn::{RelaySockets, Taken, Turn, Work, flush, send_all, submit_kept};
+use crate::watch::{Silent, Watch};
 use std::alloc::{AllocError, Allocator, Global};
 use std::marker::Model;
 use std::rt::Clock;
@@ -15,7 +16,7 @@ use std::time::Duration;
 use turn_cred::AuthHandler;
 use turn_disk::Disk;
 use turn_engine::Server;
-use turn_sockets::{Pace, SocketPorts, moment_now};
+use turn_sockets::{ListeningAddresses, Pace, SocketPorts, moment_now};
 use turn_types::{Endpoint, Limits};
 
 /// When the requests of clients are committed.
@@ -52,9 +53,10 @@ pub struct Serving<
     H: AuthHandler + Drop,
     G: RelaySockets + Drop,
     A: Allocator + Copy = Global,
+    W: Watch + Drop = Silent,
 > {
     server: Server<D, H, G, A>,
-    listening: Listening,
+    listening: Listening<W, A>,
     waiting: Waiting<A>,
     work: Work<A>,
     // How many datagrams a turn takes of each socket.
@@ -65,11 +67,22 @@ pub struct Serving<
 }
 
 /// A server whose relay ports each have a socket.
-pub type SocketServing<'a, D, H, R, A = Global> = Serving<D, H, SocketPorts<'a, R, A>, A>;
+pub type SocketServing<'a, D, H, R, A = Global, W = Silent> = Serving<
+    D,
+    H,
+    SocketPorts<'a, R, A>,
+    A,
+    W,
+>;
 
 // Clauses see the server alone.
-impl<D: Disk + Drop, H: AuthHandler + Drop, G: RelaySockets + Drop, A: Allocator + Copy> Model
-    for Serving<D, H, G, A> {
+impl<
+    D: Disk + Drop,
+    H: AuthHandler + Drop,
+    G: RelaySockets + Drop,
+    A: Allocator + Copy,
+    W: Watch + Drop,
+> Model for Serving<D, H, G, A, W> {
     ghost use Rattle.std.specs.Coded.{codes};
     ghost use Rattle.turn_table.specs.State.{state_code};
     ghost use Rattle.turn_engine.specs.State.{ServerState};
@@ -82,8 +95,13 @@ impl<D: Disk + Drop, H: AuthHandler + Drop, G: RelaySockets + Drop, A: Allocator
 }
 
 // By hand: a derived drop is one step for each field in the proof of each caller.
-impl<D: Disk + Drop, H: AuthHandler + Drop, G: RelaySockets + Drop, A: Allocator + Copy> Drop
-    for Serving<D, H, G, A> {
+impl<
+    D: Disk + Drop,
+    H: AuthHandler + Drop,
+    G: RelaySockets + Drop,
+    A: Allocator + Copy,
+    W: Watch + Drop,
+> Drop for Serving<D, H, G, A, W> {
     fn drop(self) {
         let Serving {
             server: _,
@@ -97,19 +115,20 @@ impl<D: Disk + Drop, H: AuthHandler + Drop, G: RelaySockets + Drop, A: Allocator
     }
 }
 
-impl<D: Disk + Drop, H: AuthHandler + Drop, G: RelaySockets + Drop, A: Allocator + Copy> Serving<
-    D,
-    H,
-    G,
-    A,
-> {
+impl<
+    D: Disk + Drop,
+    H: AuthHandler + Drop,
+    G: RelaySockets + Drop,
+    A: Allocator + Copy,
+    W: Watch + Drop,
+> Serving<D, H, G, A, W> {
     pub(crate) fn new(
         server: Server<D, H, G, A>,
-        listening: Listening,
+        listening: Listening<W, A>,
         waiting: Waiting<A>,
         work: Work<A>,
         burst: u8,
-    ) -> Serving<D, H, G, A>
+    ) -> Serving<D, H, G, A, W>
         ensures { result ≡ server }
     {
         Serving {
@@ -123,9 +142,14 @@ impl<D: Disk + Drop, H: AuthHandler + Drop, G: RelaySockets + Drop, A: Allocator
         }
     }
 
-    /// The address that clients send to, with the port that the system chose if it was to choose one.
+    /// The first address that clients send to, with the port that the system chose if it was to choose one.
     pub fn local(&self) -> Endpoint {
-        self.listening.own.listening
+        self.listening.own.listening.first()
+    }
+
+    /// The addresses that clients send to, likewise.
+    pub fn locals(&self) -> &ListeningAddresses {
+        &self.listening.own.listening
     }
 
     pub fn server(&self) -> &Server<D, H, G, A>
@@ -161,6 +185,7 @@ impl<D: Disk + Drop, H: AuthHandler + Drop, G: RelaySockets + Drop, A: Allocator
             moment: moment_now(system, self.server.clock()).ok_or(TurnFault::Clock)?,
             burst: self.burst,
         };
+        turn.tell(self.server.table());
         self.waiting.plan()?;
         turn.take_all(
             &mut self.server,
@@ -219,6 +244,7 @@ impl<D: Disk + Drop, H: AuthHandler + Drop, G: RelaySockets + Drop, A: Allocator
         ensures { Served D.Disk H.AuthHandler G.RelayAddressGenerator self.old self.new }
     {
         let moment = moment_now(system, self.server.clock()).ok_or(TurnFault::Clock)?;
+        self.listening.tell(moment, self.server.table());
         submit_kept(&self.listening, &mut self.server, moment, &self.work.kept)?;
         let share = self.work.kept.clear();
         self.take_late(system, share)
@@ -235,7 +261,7 @@ impl<D: Disk + Drop, H: AuthHandler + Drop, G: RelaySockets + Drop, A: Allocator
         let began = system.monotonic().ok();
         let outgoing = self.server.commit()?;
         self.pace.note(began, system.monotonic().ok());
-        send_all(&self.listening, self.server.ports(), &outgoing);
+        send_all(&self.listening, &self.server, &outgoing);
         Ok(())
     }
 

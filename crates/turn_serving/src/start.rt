@@ -10,6 +10,7 @@ use crate::fault::StartFault;
 use crate::listening::{ATTEMPTS, Listening, Waiting, pause};
 use crate::serving::{Commits, Serving, SocketServing};
 use crate::turn::{RelaySockets, Work};
+use crate::watch::{Silent, Watch};
 use mio::Poll;
 use std::alloc::{AllocError, Allocator, Global};
 use std::net::Net;
@@ -19,16 +20,16 @@ use turn_disk::Disk;
 use turn_engine::Server;
 use turn_history::Reservation;
 use turn_ports::{PortRange, RelayAddressGenerator};
-use turn_sockets::{Bound, Buffer, DataIds, OwnAddresses, SocketPorts};
+use turn_sockets::{Bound, Buffer, DataIds, ListeningAddresses, OwnAddresses, SocketPorts};
 use turn_table::Table;
-use turn_types::{Endpoint, ServerConfig};
+use turn_types::ServerConfig;
 
 /// What a server is started with, beside its disk and the handler of its users.
 #[derive(Clone, Copy)]
 pub struct Setup<'c, A: Allocator = Global> {
     pub config: &'c ServerConfig<A>,
-    /// The address that clients send to. Port 0 is any free one.
-    pub listen: Endpoint,
+    /// The addresses that clients send to. Port 0 is any free one.
+    pub listen: &'c ListeningAddresses,
     /// The range of the relay ports.
     pub ports: PortRange,
     /// The address on which relay sockets are bound, if it isn't the one that clients are told.
@@ -171,13 +172,13 @@ impl<'c, A: Allocator + Copy> Setup<'c, A> {
 
     /// The server's own addresses.
     fn own(&self) -> OwnAddresses
-        ensures listening { result.listening ≡ self.now.listen }
+        ensures listening { result.listening ≡ self.now.listen.now }
         ensures relay { result.relay ≡ self.now.config.now.relay }
         ensures bound { result.bound ≡ unwrap_or self.now.relay_bind self.now.config.now.relay }
         ensures ports { result.ports ≡ self.now.ports }
     {
         OwnAddresses {
-            listening: self.listen,
+            listening: self.listen.copied(),
             relay: self.config.relay(),
             bound: self.bound(),
             ports: self.ports,
@@ -207,7 +208,7 @@ impl<'c, A: Allocator + Copy> Setup<'c, A> {
         Ok(sockets)
     }
 
-    /// Opens the store of a disk, binds the relay ports of its allocations and those that it reserves, binds the listening socket, and
+    /// Opens the store of a disk, binds the relay ports of its allocations and those that it reserves, binds the listening sockets, and
     /// opens the store again over these: so a fault of the store comes before one of a socket. A port that is in use is tried again
     /// for two seconds, in pauses by the system's clock. The second opening alone carries the store over to version 2, if it can
     /// be, so that a start which finds a socket at fault leaves the store as it was.
@@ -225,12 +226,38 @@ impl<'c, A: Allocator + Copy> Setup<'c, A> {
         ensures sockets { IfOk result (λ serving. have_ports (⟦<SocketPorts<'a, R, A> as RelaySockets>⟧.has_socket serving.machine.ports)
             serving.machine.table.contents ≡ true) }
     {
+        self.start_watched(alloc, net, system, disk, handler, Silent)
+    }
+
+    /// The same, where `watch` sees what the server sends.
+    pub fn start_watched<
+        'a,
+        D: Disk + Drop,
+        H: AuthHandler + Drop,
+        R: Net + Drop,
+        C: Clock,
+        W: Watch + Drop,
+    >(
+        &self,
+        alloc: A,
+        net: &'a R,
+        system: &C,
+        disk: D,
+        handler: H,
+        watch: W,
+    ) -> Result<SocketServing<'a, D, H, R, A, W>, StartFault>
+        ensures started { IfOk result (λ serving. Started D.Disk H.AuthHandler ⟦<SocketPorts<'a, R, A> as RelayAddressGenerator>⟧
+            disk self.now.config.now handler self.now.ports serving) }
+        // The relay port of each allocation has a socket, and each reserved port.
+        ensures sockets { IfOk result (λ serving. have_ports (⟦<SocketPorts<'a, R, A> as RelaySockets>⟧.has_socket serving.machine.ports)
+            serving.machine.table.contents ≡ true) }
+    {
         let (disk, handler, ports) = look_into(alloc, disk, self.config, handler, self.ports)?;
         let Ok(poll) = Poll::new(net) else {
             return Err(StartFault::Socket);
         };
         let sockets = self.bind_ports(alloc, net, system, &poll, &ports)?;
-        let listening = Listening::open(net, system, &poll, self.own())?;
+        let listening = Listening::open(alloc, net, system, &poll, self.own(), watch)?;
         let waiting = Waiting::new(alloc, poll)?;
         let work = Work {
             buffer: Buffer::new(alloc)?,

@@ -1,15 +1,16 @@
 //! What a turn does with one socket.
 
-ghost use Rattle.std.specs.Prelude.{◌≡◌, ◌≢◌, ◌≤◌, ◌↔◌, ℕ, Bool, IsTrue, OnOk, false, is_some};
+ghost use Rattle.std.specs.Prelude.{◌≡◌, ◌≢◌, ◌≤◌, ◌↔◌, ℕ, All, Bool, IsTrue, OnOk, false, is_some};
 ghost use Rattle.std.specs.BTreeMap.{get};
 ghost use Rattle.std.specs.Ordering.{nat_cmp};
 ghost use Rattle.turn_engine.specs.State.{emptied, now_of};
 ghost use Rattle.turn_serving.specs.Turns.{Served};
-ghost use Rattle.turn_sockets.specs.Own.{IsListening};
+ghost use Rattle.turn_sockets.specs.Own.{IsListening, IsNamed};
 
 use crate::fault::TurnFault;
 use crate::kept::{Kept, may_change};
-use crate::listening::Listening;
+use crate::listening::{ClientSocket, Listening};
+use crate::watch::Watch;
 use mio::net::UdpSocket;
 use std::alloc::{Allocator, Global};
 use std::net::Net;
@@ -18,9 +19,10 @@ use turn_disk::Disk;
 use turn_engine::{Server, SubmitRefused};
 use turn_ports::RelayAddressGenerator;
 use turn_sockets::{
-    Buffer, DataIds, Order, OwnAddresses, Ready, Received, SocketPorts, address_of,
+    Buffer, DataIds, LISTENING, Order, OwnAddresses, Ready, Received, SocketPorts, address_of,
 };
 use turn_step::{Arrival, Outgoing};
+use turn_table::Table;
 use turn_types::{Endpoint, Moment};
 
 /// Relay ports with sockets.
@@ -48,21 +50,31 @@ impl<'a, R: Net, A: Allocator + Copy> RelaySockets for SocketPorts<'a, R, A> {
     }
 }
 
-/// Whether what a relay port sends to a peer would come to the socket that clients send to. Where that has the address 0.0.0.0, the
-/// peer's has to be one of this machine.
+/// Whether what a relay port sends to a peer would come to a socket that clients send to. Where only one with the address 0.0.0.0
+/// may be meant, the peer's has to be one of this machine.
+#[tactic(auto, using(crate::proofs::Named::by_name, crate::proofs::Named::listens))]
 fn is_listening<G: RelaySockets>(own: &OwnAddresses, ports: &G, peer: Endpoint) -> bool
     ensures only { IsTrue result → IsListening own.now peer }
-    ensures named { own.now.listening.ip ≢ 0 → (IsTrue result ↔ IsListening own.now peer) }
+    ensures named { All (λ a. a.ip ≢ 0) own.now.listening → (IsTrue result ↔ IsListening own.now peer) }
+    ensures by_name { IsNamed own.now peer → IsTrue result }
 {
-    own.is_listening(peer) && (own.listening.ip != 0 || ports.is_local(peer.ip))
+    own.is_listening(peer) && (own.is_named(peer) || ports.is_local(peer.ip))
 }
 
-/// Sends a datagram. One that can't be sent is lost, as on any link, and so is one from a relay port to the server itself.
-fn send<G: RelaySockets, A: Allocator>(listening: &Listening, ports: &G, outgoing: &Outgoing<A>) {
+/// Sends a datagram, to a client by the socket that its five-tuple names. One that can't be sent is lost, as on any link; so is one
+/// from a relay port to the server itself, and one to a client of an address that no socket has any more.
+fn send<G: RelaySockets, A: Allocator + Copy, W: Watch + Drop>(
+    listening: &Listening<W, A>,
+    ports: &G,
+    outgoing: &Outgoing<A>,
+) {
     match outgoing {
         Outgoing::ToClient { five_tuple, bytes } => {
-            let to = address_of(five_tuple.client);
-            let _ = listening.socket.send_to(bytes.as_slice(), to);
+            // The address that the client sent to.
+            if let Some(client) = listening.socket_of(*five_tuple) {
+                let to = address_of(five_tuple.client);
+                let _ = client.socket.send_to(bytes.as_slice(), to);
+            }
         }
         Outgoing::ToPeer { port, peer, bytes } => {
             if is_listening(&listening.own, ports, *peer) {
@@ -75,20 +87,25 @@ fn send<G: RelaySockets, A: Allocator>(listening: &Listening, ports: &G, outgoin
     }
 }
 
-/// Sends what a commit handed out, in its order.
-pub(crate) fn send_all<G: RelaySockets, A: Allocator>(
-    listening: &Listening,
-    ports: &G,
-    outgoing: &[Outgoing<A>],
-) {
+/// Sends what a commit handed out, in its order. Then the watch sees it.
+pub(crate) fn send_all<
+    D: Disk,
+    H: AuthHandler,
+    G: RelaySockets,
+    A: Allocator + Copy,
+    W: Watch + Drop,
+>(listening: &Listening<W, A>, server: &Server<D, H, G, A>, outgoing: &[Outgoing<A>]) {
     for datagram in outgoing {
-        send(listening, ports, datagram);
+        send(listening, server.ports(), datagram);
     }
+    listening
+        .watch
+        .sent(server.clock(), server.table(), outgoing);
 }
 
 /// Commits, and sends what is handed out.
-pub(crate) fn flush<D: Disk, H: AuthHandler, G: RelaySockets, A: Allocator + Copy>(
-    listening: &Listening,
+pub(crate) fn flush<D: Disk, H: AuthHandler, G: RelaySockets, A: Allocator + Copy, W: Watch + Drop>(
+    listening: &Listening<W, A>,
     server: &mut Server<D, H, G, A>,
 ) -> Result<(), TurnFault>
     ensures served { Served D.Disk H.AuthHandler G.RelayAddressGenerator server.old server.new }
@@ -97,13 +114,19 @@ pub(crate) fn flush<D: Disk, H: AuthHandler, G: RelaySockets, A: Allocator + Cop
     ensures clock { now_of server.new ≡ now_of server.old }
 {
     let outgoing = server.commit()?;
-    send_all(listening, server.ports(), &outgoing);
+    send_all(listening, server, &outgoing);
     Ok(())
 }
 
 /// Submits an arrival. Where the batch is full, it is committed first. An arrival that is refused for memory is dropped.
-pub(crate) fn submit<D: Disk, H: AuthHandler, G: RelaySockets, A: Allocator + Copy>(
-    listening: &Listening,
+pub(crate) fn submit<
+    D: Disk,
+    H: AuthHandler,
+    G: RelaySockets,
+    A: Allocator + Copy,
+    W: Watch + Drop,
+>(
+    listening: &Listening<W, A>,
     server: &mut Server<D, H, G, A>,
     moment: Moment,
     arrival: &Arrival<'_>,
@@ -120,8 +143,14 @@ pub(crate) fn submit<D: Disk, H: AuthHandler, G: RelaySockets, A: Allocator + Co
 }
 
 /// Submits requests that waited, in their order.
-pub(crate) fn submit_kept<D: Disk, H: AuthHandler, G: RelaySockets, A: Allocator + Copy>(
-    listening: &Listening,
+pub(crate) fn submit_kept<
+    D: Disk,
+    H: AuthHandler,
+    G: RelaySockets,
+    A: Allocator + Copy,
+    W: Watch + Drop,
+>(
+    listening: &Listening<W, A>,
     server: &mut Server<D, H, G, A>,
     moment: Moment,
     kept: &Kept<A>,
@@ -191,18 +220,24 @@ impl Taken {
 
 /// What a turn does with each socket.
 #[derive(Clone, Copy)]
-pub(crate) struct Turn<'l> {
-    pub(crate) listening: &'l Listening,
+pub(crate) struct Turn<'l, W: Watch + Drop, A: Allocator = Global> {
+    pub(crate) listening: &'l Listening<W, A>,
     pub(crate) moment: Moment,
     pub(crate) burst: u8,
 }
 
-impl<'l> Turn<'l> {
+impl<'l, W: Watch + Drop, A: Allocator + Copy> Turn<'l, W, A> {
+    // Lets the watch see the table before anything is taken.
+    pub(crate) fn tell(&self, table: &Table<A>) {
+        self.listening.tell(self.moment, table);
+    }
+
     // Submits a client's datagram, or keeps it if it is a request and there is a place. One of the server itself is lost.
-    fn take_from_client<D: Disk, H: AuthHandler, G: RelaySockets, A: Allocator + Copy>(
+    fn take_from_client<D: Disk, H: AuthHandler, G: RelaySockets>(
         &self,
         server: &mut Server<D, H, G, A>,
         kept: &mut Kept<A>,
+        client: &ClientSocket,
         bytes: &[u8],
         from: Endpoint,
     ) -> Result<Took, TurnFault>
@@ -210,7 +245,7 @@ impl<'l> Turn<'l> {
         ensures served { Served D.Disk H.AuthHandler G.RelayAddressGenerator server.old server.new }
         ensures clock { now_of server.new ≤ self.now.moment }
     {
-        let Some(five_tuple) = self.listening.five_tuple_of(from) else {
+        let Some(five_tuple) = self.listening.five_tuple_of(client, from) else {
             return Ok(Took::Data);
         };
         let is_request = may_change(bytes);
@@ -226,12 +261,13 @@ impl<'l> Turn<'l> {
         })
     }
 
-    // Takes a datagram of the listening socket.
-    fn take_of_client<D: Disk, H: AuthHandler, G: RelaySockets, A: Allocator + Copy>(
+    // Takes a datagram of the listening socket at a place.
+    fn take_of_client<D: Disk, H: AuthHandler, G: RelaySockets>(
         &self,
         server: &mut Server<D, H, G, A>,
         buffer: &mut Buffer<A>,
         kept: &mut Kept<A>,
+        place: usize,
     ) -> Result<Took, TurnFault>
         requires { now_of server.old ≤ self.now.moment }
         ensures served { Served D.Disk H.AuthHandler G.RelayAddressGenerator server.old server.new }
@@ -240,15 +276,20 @@ impl<'l> Turn<'l> {
         if kept.is_full() {
             return Ok(Took::Later);
         }
-        match buffer.receive(&self.listening.socket) {
-            Received::Datagram { bytes, from } => self.take_from_client(server, kept, bytes, from),
+        let Some(client) = self.listening.sockets.get(place) else {
+            return Ok(Took::Nothing);
+        };
+        match buffer.receive(&client.socket) {
+            Received::Datagram { bytes, from } => {
+                self.take_from_client(server, kept, client, bytes, from)
+            }
             Received::Failed => Ok(Took::Later),
             Received::Nothing => Ok(Took::Nothing),
         }
     }
 
     // Takes a datagram of a relay socket.
-    fn take_of_peer<D: Disk, H: AuthHandler, G: RelaySockets, A: Allocator + Copy>(
+    fn take_of_peer<D: Disk, H: AuthHandler, G: RelaySockets>(
         &self,
         server: &mut Server<D, H, G, A>,
         buffer: &mut Buffer<A>,
@@ -278,7 +319,7 @@ impl<'l> Turn<'l> {
     }
 
     // Takes a datagram of the socket of a token.
-    fn take<D: Disk, H: AuthHandler, G: RelaySockets, A: Allocator + Copy>(
+    fn take<D: Disk, H: AuthHandler, G: RelaySockets>(
         &self,
         server: &mut Server<D, H, G, A>,
         work: &mut Work<A>,
@@ -290,12 +331,15 @@ impl<'l> Turn<'l> {
     {
         match u16::try_from(token) {
             Ok(port) => self.take_of_peer(server, &mut work.buffer, &mut work.ids, port),
-            Err(_) => self.take_of_client(server, &mut work.buffer, &mut work.kept),
+            Err(_) => {
+                let place = token.wrapping_sub(LISTENING);
+                self.take_of_client(server, &mut work.buffer, &mut work.kept, place)
+            }
         }
     }
 
     // Takes up to `burst` datagrams of the socket of a token, and adds what was taken. False if no more waits.
-    fn serve<D: Disk, H: AuthHandler, G: RelaySockets, A: Allocator + Copy>(
+    fn serve<D: Disk, H: AuthHandler, G: RelaySockets>(
         &self,
         server: &mut Server<D, H, G, A>,
         work: &mut Work<A>,
@@ -317,7 +361,7 @@ impl<'l> Turn<'l> {
     }
 
     // Takes up to `burst` datagrams of the socket of a token, if it is listed, and removes it if no more waits.
-    fn serve_listed<D: Disk, H: AuthHandler, G: RelaySockets, A: Allocator + Copy>(
+    fn serve_listed<D: Disk, H: AuthHandler, G: RelaySockets>(
         &self,
         server: &mut Server<D, H, G, A>,
         work: &mut Work<A>,
@@ -336,7 +380,7 @@ impl<'l> Turn<'l> {
     }
 
     /// Takes up to `burst` datagrams of each socket of an order that is listed, and removes those that have no more.
-    pub(crate) fn take_all<D: Disk, H: AuthHandler, G: RelaySockets, A: Allocator + Copy>(
+    pub(crate) fn take_all<D: Disk, H: AuthHandler, G: RelaySockets>(
         &self,
         server: &mut Server<D, H, G, A>,
         work: &mut Work<A>,

@@ -1,3 +1,4 @@
 pub mod Addresses
 pub mod Finding
+pub mod Listened
 pub mod Served

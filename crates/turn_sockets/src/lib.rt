@@ -4,6 +4,7 @@
 
 mod address;
 mod buffer;
+mod listening;
 mod moment;
 mod order;
 mod own;
@@ -14,6 +15,7 @@ mod received;
 
 pub use address::{address_of, endpoint_of};
 pub use buffer::{RECEIVE_BUFFER, receive_buffer, set_receive_buffer};
+pub use listening::{ListeningAddresses, MAX_LISTENING};
 pub use moment::{moment_at, moment_now};
 pub use order::{LISTENING, Order, clients_get_a_fifth};
 pub use own::OwnAddresses;

@@ -3,18 +3,19 @@
 ghost use Rattle.std.specs.Prelude.{◌≡◌, ℕ, ◌<◌, ◌≤◌, ◌-◌, ◌++◌, ◌∷◌, [], List, OnOk, IfOk, length, take, filter, slice_index, vec_len};
 ghost use Rattle.turn_sockets.specs.Order.{ClientsGetAFifth, again_after, is_listening, is_relay, order_of};
 
+use crate::listening::MAX_LISTENING;
 use crate::ready::Ready;
 use std::alloc::{AllocError, AllocFailed, Allocator, Global};
 use std::marker::Model;
 
-/// The first token of a listening socket. A relay socket's token is its port.
+/// The token of the first listening socket; the next ones have the next tokens. A relay socket's token is its port.
 pub const LISTENING: usize = 65_536;
 
 /// How many relay sockets are served before the listening ones are served again.
 const FEW: usize = 4;
 
-/// How many tokens an order may have: one for each port, and one of a listening socket for every few of them.
-const PLACES: usize = 65_536 + 65_536 / FEW + 1;
+/// How many tokens an order may have: one for each port, and those of the listening sockets for every few of them.
+const PLACES: usize = 65_536 + MAX_LISTENING * (65_536 / FEW + 1);
 
 /// The order in which the sockets that may have a datagram are served in a turn.
 ///
@@ -118,8 +119,8 @@ impl<A: Allocator + Copy> Order<A> {
 }
 
 impl<A: Allocator> Order<A> {
-    /// The order for the sockets that are listed now. There is room for it, unless several listening sockets and all ports are
-    /// listed.
+    /// The order for the sockets that are listed now. There is room for it, unless all ports and more listening sockets are listed
+    /// than a server has.
     pub fn plan<B: Allocator>(&mut self, ready: &Ready<B>) -> Result<(), AllocError>
         ensures { OnOk result (self.new ≡ order_of ready.now) }
     {

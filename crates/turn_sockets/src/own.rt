@@ -1,20 +1,22 @@
 //! The addresses of the server itself, at which there is no client and no peer.
 
-ghost use Rattle.std.specs.Prelude.{◌↔◌, IsTrue};
-ghost use Rattle.turn_sockets.specs.Own.{IsListening, IsRelay};
+ghost use Rattle.std.specs.Prelude.{◌↔◌, ◌≡◌, ◌||◌, ◌&&◌, Any, IsTrue, nat_eq};
+ghost use Rattle.std.specs.List.{list_any};
+ghost use Rattle.turn_sockets.specs.Own.{IsListening, IsNamed, IsRelay};
 
+use crate::listening::ListeningAddresses;
 use turn_ports::{PortRange, RelayAddressGenerator};
 use turn_types::Endpoint;
 
 /// The addresses of a server.
 ///
-/// A relay port of it could be told to send to the address that clients send to: the server would take what comes for a
+/// A relay port of it could be told to send to an address that clients send to: the server would take what comes for a
 /// client's, answer to the relay port, and so on (RFC 8656, section 21.1). So what a relay port sends there is lost, and what
 /// comes from one of its own relay ports is of no client.
-#[derive(Clone, Copy, Debug)]
+#[derive(Debug, Drop)]
 pub struct OwnAddresses {
-    /// The address that clients send to, as it is bound.
-    pub listening: Endpoint,
+    /// The addresses that clients send to, as they are bound.
+    pub listening: ListeningAddresses,
     /// The address that clients are told of relay ports.
     pub relay: u32,
     /// The address on which relay ports are bound.
@@ -23,22 +25,61 @@ pub struct OwnAddresses {
     pub ports: PortRange,
 }
 
+/// Whether one of these has an IP address.
+fn has_ip(addresses: &[Endpoint], ip: u32) -> bool
+    ensures { result ≡ list_any (λ a. nat_eq a.ip ip) addresses.now }
+{
+    addresses.iter().any(|a| a.ip == ip)
+}
+
+/// Whether one of these is an address.
+fn has_address(addresses: &[Endpoint], peer: Endpoint) -> bool
+    ensures { result ≡ list_any (λ a. nat_eq a.port peer.port && nat_eq a.ip peer.ip) addresses.now }
+{
+    addresses
+        .iter()
+        .any(|a| a.port == peer.port && a.ip == peer.ip)
+}
+
+/// Whether one of these is an address, where 0.0.0.0 is any.
+fn reach(addresses: &[Endpoint], peer: Endpoint) -> bool
+    ensures { result ≡ list_any (λ a. nat_eq a.port peer.port && (nat_eq a.ip 0 || nat_eq a.ip peer.ip)) addresses.now }
+{
+    addresses
+        .iter()
+        .any(|a| a.port == peer.port && (a.ip == 0 || a.ip == peer.ip))
+}
+
 impl OwnAddresses {
-    /// Whether an address may be that of a relay port: one of the server's three addresses, with a port of the range. The
-    /// listening one counts, since it is the source of what goes to it where relay ports are bound on any address.
+    // Whether an IP address is one that clients send to.
+    fn has_listening_ip(&self, ip: u32) -> bool
+        ensures { IsTrue result ↔ Any (λ a. ip ≡ a.ip) self.now.listening }
+    {
+        has_ip(self.listening.as_slice(), ip)
+    }
+
+    /// Whether an address may be that of a relay port: one of the server's addresses, with a port of the range. The listening ones
+    /// count, since each is the source of what goes to it where relay ports are bound on any address.
     pub fn is_relay(&self, from: Endpoint) -> bool
         ensures { IsTrue result ↔ IsRelay self.now from }
     {
         let (first, last) = self.ports.range();
         let is_in_range = first <= from.port && from.port <= last;
         is_in_range
-            && (from.ip == self.relay || from.ip == self.bound || from.ip == self.listening.ip)
+            && (from.ip == self.relay || from.ip == self.bound || self.has_listening_ip(from.ip))
     }
 
-    /// Whether an address may be the one that clients send to: its port, and its address or, where that is 0.0.0.0, any.
+    /// Whether an address is one that clients send to, by its name.
+    pub fn is_named(&self, peer: Endpoint) -> bool
+        ensures { IsTrue result ↔ IsNamed self.now peer }
+    {
+        has_address(self.listening.as_slice(), peer)
+    }
+
+    /// Whether an address may be one that clients send to: its port, and its address or, where that is 0.0.0.0, any.
     pub fn is_listening(&self, peer: Endpoint) -> bool
         ensures { IsTrue result ↔ IsListening self.now peer }
     {
-        peer.port == self.listening.port && (self.listening.ip == 0 || peer.ip == self.listening.ip)
+        reach(self.listening.as_slice(), peer)
     }
 }

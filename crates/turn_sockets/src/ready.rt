@@ -7,14 +7,15 @@ ghost use Rattle.mio.specs.Event.{event_token};
 ghost use Rattle.mio.specs.Events.{items};
 ghost use Rattle.turn_sockets.specs.Tokens.{IsWithout};
 
+use crate::listening::MAX_LISTENING;
 use indexmap::IndexSet;
 use mio::Events;
 use std::alloc::{AllocError, AllocFailed, Allocator, Global};
 use std::hash::{BuildHasherDefault, FoldHasher};
 use std::marker::Model;
 
-/// How many tokens there are: one for each port, and that of a listening socket.
-const TOKENS: usize = 65_537;
+/// How many tokens there are: one for each port, and those of the listening sockets.
+const TOKENS: usize = 65_536 + MAX_LISTENING;
 
 /// The tokens of the sockets that may have a datagram, each once.
 ///

@@ -1,6 +1,6 @@
 use Rattle.std.proofs.Common.{sym, ◌∙◌}
 use Rattle.turn_serving.proofs.Starts.{started, started_as}
-use Rattle.turn_serving.proofs.start.Setup.start.Goals as goal
+use Rattle.turn_serving.proofs.start.Setup.start_watched.Goals as goal
 
 pub returns-clause-started : goal.returns-clause-started
 returns-clause-started g c =

@@ -1,0 +1,31 @@
+//! Who sees what a server sends.
+
+use std::alloc::Allocator;
+use turn_step::Outgoing;
+use turn_table::Table;
+use turn_types::Moment;
+
+/// Sees the turns of a server, and what they send. Nothing that it does changes what a turn does with the server.
+pub trait Watch {
+    /// Something may be submitted at this moment from now on. The table is the one before that; what of it has expired by then
+    /// can't be refreshed any more.
+    fn taking<A: Allocator + Copy>(&self, moment: Moment, table: &Table<A>);
+
+    /// These were handed out by a commit and sent, in this order. The moment is that of the last arrival.
+    fn sent<A: Allocator + Copy>(&self, moment: Moment, table: &Table<A>, outgoing: &[Outgoing<A>]);
+}
+
+/// Sees nothing.
+#[derive(Clone, Copy, Debug)]
+pub struct Silent;
+
+impl Watch for Silent {
+    fn taking<A: Allocator + Copy>(&self, _moment: Moment, _table: &Table<A>) {}
+
+    fn sent<A: Allocator + Copy>(
+        &self,
+        _moment: Moment,
+        _table: &Table<A>,
+        _outgoing: &[Outgoing<A>],
+    ) {}
+}

@@ -1,0 +1,114 @@
+//! The addresses that clients send to.
+
+ghost use Rattle.std.specs.Prelude.{◌≡◌, ◌≢◌, ◌<◌, ◌≤◌, ◌⊎◌, ◌++◌, ◌∷◌, ◌&&◌, [], Contains, IsTrue, SomeIff, false, length, nat_eq, slice_index, slice_index_or, slice_set, true};
+ghost use Rattle.std.specs.List.{list_any};
+ghost use Rattle.turn_sockets.specs.Own.{AreListened};
+
+use std::marker::Model;
+use turn_types::Endpoint;
+
+/// How many addresses a server may listen on.
+pub const MAX_LISTENING: usize = 9;
+
+/// The addresses that clients send to: one to nine, in the order in which they were given.
+#[derive(Debug, Drop)]
+pub struct ListeningAddresses {
+    addresses: [Endpoint; MAX_LISTENING],
+    count: usize,
+}
+
+impl Model for ListeningAddresses {
+    ghost use Rattle.std.specs.Prelude.{◌≤◌, List, take};
+    ghost use Rattle.turn_types.specs.declared.address.Endpoint.{Endpoint};
+
+    ghost Value = { List Endpoint };
+
+    ghost view = { λ a. take a.count a.addresses };
+
+    ghost invariant = { λ a. (1 ≤ a.count) × (a.count ≤ 9) };
+}
+
+/// Whether an address is one of these.
+fn is_among(addresses: &[Endpoint], address: Endpoint) -> bool
+    ensures { result ≡ list_any (λ a. nat_eq a.ip address.ip && nat_eq a.port address.port) addresses.now }
+{
+    addresses
+        .iter()
+        .any(|a| a.ip == address.ip && a.port == address.port)
+}
+
+impl ListeningAddresses {
+    /// One address alone.
+    pub fn one(address: Endpoint) -> ListeningAddresses
+        ensures { result ≡ address ∷ [] }
+    {
+        ListeningAddresses {
+            addresses: [address; MAX_LISTENING],
+            count: 1,
+        }
+    }
+
+    // Adds an address. False if it is there already, or there are nine.
+    fn add(&mut self, address: Endpoint) -> bool
+        ensures added { result ≡ true → (self.new ≡ self.old ++ address ∷ []) × (length self.old < 9) × ¬ Contains self.old address }
+        ensures refused { result ≡ false → Contains self.old address ⊎ (length self.old ≡ 9) }
+    {
+        if self.count == MAX_LISTENING {
+            return false;
+        }
+        if is_among(self.as_slice(), address) {
+            return false;
+        }
+        self.addresses[self.count] = address;
+        self.count += 1;
+        true
+    }
+
+    /// An address and others. `None` if one is there twice, or there are more than nine.
+    pub fn new(first: Endpoint, others: &[Endpoint]) -> Option<ListeningAddresses>
+        ensures { SomeIff result (AreListened (first ∷ others.now)) (first ∷ others.now) }
+    {
+        let mut all = ListeningAddresses::one(first);
+        for address in others {
+            if !all.add(*address) {
+                return None;
+            }
+        }
+        Some(all)
+    }
+
+    /// The same addresses.
+    pub fn copied(&self) -> ListeningAddresses
+        ensures { result ≡ self.now }
+    {
+        ListeningAddresses {
+            addresses: self.addresses,
+            count: self.count,
+        }
+    }
+
+    /// The addresses, at least one and at most nine.
+    pub fn as_slice(&self) -> &[Endpoint]
+        ensures value { result.now ≡ self.now }
+        ensures some { 1 ≤ length result.now }
+        ensures few { length result.now ≤ 9 }
+    {
+        &self.addresses[..self.count]
+    }
+
+    /// The first address.
+    pub fn first(&self) -> Endpoint
+        ensures { result ≡ slice_index_or self.now 0 result }
+    {
+        self.addresses[0]
+    }
+
+    /// Puts an address in the place of another one, as where the system was to choose its port.
+    pub fn set(&mut self, place: usize, address: Endpoint)
+        requires { place < length self.old }
+        ensures { self.new ≡ slice_set self.old place address }
+    {
+        let listed = &mut self.addresses[..self.count];
+        listed[place] = address;
+    }
+}
