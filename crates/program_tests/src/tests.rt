@@ -1,12 +1,15 @@
+mod addresses;
 mod carrying;
 mod checks;
 mod conversations;
+mod credentials;
 mod faults;
 mod formats;
 mod full_disk;
 mod inspections;
 mod kinds;
 mod locks;
+mod logs;
 mod memory;
 mod moments;
 mod old_stores;
@@ -21,6 +24,7 @@ mod store_words;
 mod streams;
 mod turns;
 mod values;
+mod watches;
 mod words;
 mod writers;
 
@@ -55,7 +59,15 @@ fn expect_by<C: Clock>(
     let mut line = vec![in rt.alloc(); "turn"]?;
     line.extend_from_slice(words)?;
     let (mut written, mut said) = (Vec::new(rt.alloc()), Vec::new(rt.alloc()));
-    let got = run_words(rt, clock, RELEASE, line.as_slice(), &mut written, &mut said);
+    let got = run_words(
+        rt,
+        clock,
+        RELEASE,
+        line.as_slice(),
+        &mut written,
+        &mut said,
+        std::io::sink(),
+    );
     if got != status || written.as_slice() != out.as_bytes() || said.as_slice() != err.as_bytes() {
         return Err(Fail::new(format_args!("{words:?}")));
     }

@@ -16,8 +16,9 @@ use Rattle.turn_codec.specs.Seen.{has_unknown, is_seen, seen_value}
 use Rattle.turn_mac.specs.Fingerprint.{has_wrong_fingerprint}
 use Rattle.turn_mac.specs.Integrity.{has_right_integrity}
 use Rattle.turn_cred.specs.Nonce.{is_fresh}
-use Rattle.turn_cred.specs.Credential.{Policy, Verdict, has_integrity, policy_of, user_key, verdict}
+use Rattle.turn_cred.specs.Credential.{Policy, Verdict, has_integrity, no_key, policy_of, user_key, verdict}
 use Rattle.turn_cred.specs.Credential.Verdict.{Challenge401, Bad400, Stale438, Passed}
+use Rattle.turn_cred.specs.declared.key.Key.{Key}
 use Rattle.turn_relay.specs.FromClient.{PeerData, SendsToPeer, is_send_indication, sent_by_channel_data, sent_by_message}
 use Rattle.turn_rules.specs.Answer.{decision, is_protected, judgement, outcome_of}
 use Rattle.std.specs.Option.{option_or, option_map_or}
@@ -46,24 +47,24 @@ same_twice : {X : Type 0} (b : Bool) (x : X) → (if b then x else x) ≡ x
 same_twice true x = refl
 same_twice false x = refl
 
-no_key : (p : Policy) (user its_realm : List ℕ) → user_key p no_keys user its_realm ≡ None
+no_user : (p : Policy) (user its_realm : List ℕ) → user_key p no_keys user its_realm ≡ None
 unfolding user_key
-no_key p user its_realm = same_twice _ None
+no_user p user its_realm = same_twice _ None
 
 -- the rows of the credential check, by the key
 by_key : (p : Policy) (d : Datagram) (client : Endpoint) (t : ℕ) → IsNotPassed (Some (verdict p no_keys d client t))
 unfolding verdict
 by_key p d client t =
     let user = unwrap_or (seen_value d.content username) [] in
-    let none = no_key p user (unwrap_or (seen_value d.content realm) []) in
+    let none = no_user p user (unwrap_or (seen_value d.content realm) []) in
     let is_signed = not (has_integrity d) in
     let is_complete = not (is_seen d.content username && is_seen d.content realm && is_seen d.content nonce) in
     let stale : Bool × Verdict = (not (is_fresh p.secret (unwrap_or (seen_value d.content nonce) []) client t), Stale438) in
-    let Goal : Option (List ℕ) → Type 0 = λ key. IsNotPassed (Some (first_row (
+    let Goal : Option Key → Type 0 = λ key. IsNotPassed (Some (first_row (
     (is_signed, Challenge401) ∷ (is_complete, Bad400) ∷ (is_none key, Challenge401) ∷
-    (not (option_map_or (λ k. has_right_integrity k d) key false), Challenge401) ∷ stale ∷ []) (Passed user (unwrap_or key [])))) in
+    (not (option_map_or (λ (k : Key). has_right_integrity k.bytes d) key false), Challenge401) ∷ stale ∷ []) (Passed user (unwrap_or key no_key)))) in
     subst Goal (sym none) (first_three is_signed is_complete
-    ((not (option_map_or (λ k. has_right_integrity k d) None false), Challenge401) ∷ stale ∷ []) (Passed user (unwrap_or None [])))
+    ((not (option_map_or (λ (k : Key). has_right_integrity k.bytes d) None false), Challenge401) ∷ stale ∷ []) (Passed user (unwrap_or None no_key)))
 
 either : (b : Bool) (v : Verdict) → IsNotPassed (Some v) → IsNotPassed (if b then Some v else None)
 either true v h = h

@@ -14,7 +14,7 @@ use std::io::Write;
 use std::rt::{Clock, Files};
 use turn_disk::{Disk, FileDisk, open_regular};
 use turn_reading::read_store;
-use turn_types::Limits;
+use turn_types::{Endpoint, Limits};
 
 /// Opens a store's file to be read alone, whoever has its lock. It has to be one that may be written to, as a start opens it.
 fn open_beside<R: Files<File = File>>(files: &R, store: &str) -> Result<FileDisk<File>, Fault> {
@@ -47,16 +47,17 @@ pub fn check_store<D: Disk + Drop, C: Clock>(
     }
 }
 
-/// Says whether a server would start with a configuration, as far as its sockets, and with a store if one is given. Nothing is
-/// written, and no socket is opened.
+/// Says whether a server would start with a configuration, as far as its sockets, and with a store if one is given. `listen` are
+/// the addresses beside the configuration's. Nothing is written, and no socket is opened.
 pub fn run_check<R: Files<File = File> + AllocGlobal, C: Clock, W: Write>(
     rt: &R,
     clock: &C,
     config: &str,
     store: Option<&str>,
+    listen: &[Endpoint],
     out: &mut W,
 ) -> Result<(), Fault> {
-    prepare(rt, config, |limits| match store {
+    prepare(rt, config, listen, |limits| match store {
         Some(store) => check_store(rt.alloc(), clock, open_beside(rt, store)?, limits),
         None => Ok(()),
     })?;

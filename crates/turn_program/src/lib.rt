@@ -1,19 +1,23 @@
 //! The commands of the program `turn`: words to what is printed, what is written, and an exit status.
 #![tactic(auto)]
 
+mod about;
 mod answer;
 mod check;
+mod credential;
 mod demo;
 mod fault;
 mod files;
 mod format;
 mod inspect;
+mod log;
 mod prepare;
 mod print;
 mod program;
 mod replay;
 mod reply;
 mod serve;
+mod started;
 mod streams;
 mod version;
 
@@ -22,5 +26,5 @@ pub use files::{read_scenario, read_whole};
 pub use format::format_disk;
 pub use program::{report, run_words};
 pub use reply::reply_to;
-pub use streams::fill_streams;
+pub use streams::{LogStream, fill_streams};
 pub use version::Release;

@@ -5,6 +5,7 @@ ghost use Rattle.turn_program.specs.Status.{status_of, IsStatus};
 
 use crate::answer::run_answer;
 use crate::check::run_check;
+use crate::credential::run_credential;
 use crate::demo::run_demo;
 use crate::fault::Fault;
 use crate::format::run_format;
@@ -20,40 +21,60 @@ use std::random::RandomSource;
 use std::rt::{Clock, Files};
 use turn_words::{Command, command_of};
 
-fn run_command<R: Files<File = File> + Net + RandomSource + Drop + AllocGlobal, C: Clock, W: Write>(
+fn run_command<
+    R: Files<File = File> + Net + RandomSource + Drop + AllocGlobal,
+    C: Clock,
+    W: Write,
+    L: Write + Drop,
+>(
     rt: &R,
     clock: &C,
     release: Release<'_>,
     command: &Command,
     out: &mut W,
+    log: L,
 ) -> Result<(), Fault> {
     match command {
         Command::Answer { from, at, datagram } => {
             run_answer(rt.alloc(), *from, *at, datagram, out)
         }
         Command::Replay { file } => run_replay(rt, file, out),
+        Command::Credential {
+            config,
+            name,
+            expiry,
+        } => run_credential(rt, config, name.as_deref(), *expiry, out),
         Command::Format {
             config,
             store,
             area,
         } => run_format(rt, config, store, *area, out),
         Command::Inspect { store, at } => run_inspect(rt, clock, store, *at, out),
-        Command::Check { config, store } => { run_check(rt, clock, config, store.as_deref(), out) }
+        Command::Check {
+            config,
+            store,
+            listen,
+        } => run_check(rt, clock, config, store.as_deref(), listen, out),
         Command::Serve {
             config,
             store,
             turns,
             burst,
             relay_bind,
+            listen,
+            log: is_logged,
         } => {
             let service = Service {
+                version: release.version,
                 config,
                 store,
                 turns: *turns,
                 burst: *burst,
                 relay_bind: *relay_bind,
+                listen,
+                log: *is_logged,
             };
-            run_serve(rt, clock, service, out)
+            run_serve(rt, clock, service, out, log)
         }
         Command::Demo => run_demo(rt, clock, out),
         Command::Version => run_version(rt.alloc(), release, out),
@@ -65,9 +86,10 @@ fn try_words<
     C: Clock,
     S: AsStr,
     W: Write,
->(rt: &R, clock: &C, release: Release<'_>, words: &[S], out: &mut W) -> Result<(), Fault> {
+    L: Write + Drop,
+>(rt: &R, clock: &C, release: Release<'_>, words: &[S], out: &mut W, log: L) -> Result<(), Fault> {
     let command = command_of(rt.alloc(), words)?;
-    run_command(rt, clock, release, &command, out)
+    run_command(rt, clock, release, &command, out, log)
 }
 
 /// Prints the line of a fault, and gives its exit status. A standard error that takes nothing changes no status.
@@ -78,17 +100,19 @@ pub fn report<E: Write>(fault: Fault, err: &mut E) -> u8
     fault.status()
 }
 
-/// Runs the program on its words, its name first, and gives the exit status. `release` says what the program is made from.
+/// Runs the program on its words, its name first, and gives the exit status. `release` says what the program is made from; a server
+/// that is to keep a log writes it to `log`.
 pub fn run_words<
     R: Files<File = File> + Net + RandomSource + Drop + AllocGlobal,
     C: Clock,
     S: AsStr,
     W: Write,
     E: Write,
->(rt: &R, clock: &C, release: Release<'_>, words: &[S], out: &mut W, err: &mut E) -> u8
+    L: Write + Drop,
+>(rt: &R, clock: &C, release: Release<'_>, words: &[S], out: &mut W, err: &mut E, log: L) -> u8
     ensures { IsStatus result }
 {
-    match try_words(rt, clock, release, words, out) {
+    match try_words(rt, clock, release, words, out, log) {
         Ok(()) => 0,
         Err(fault) => report(fault, err),
     }

@@ -7,7 +7,7 @@ ghost use Rattle.turn_program.specs.Profile.{answer, profile, reply_in};
 ghost use Rattle.turn_step.specs.Views.{sent_of};
 
 use std::alloc::{AllocError, Allocator};
-use turn_cred::AuthHandler;
+use turn_cred::{AuthHandler, Key};
 use turn_ports::PortRange;
 use turn_step::{Arrival, Machine, Outgoing};
 use turn_table::Table;
@@ -23,7 +23,7 @@ struct NoUsers;
 impl AuthHandler for NoUsers {
     ghost key_of = { λ _ _ _. None };
 
-    fn key(&self, _username: &[u8], _realm: &[u8]) -> Option<[u8; 16]> {
+    fn key(&self, _username: &[u8], _realm: &[u8]) -> Option<Key> {
         None
     }
 }

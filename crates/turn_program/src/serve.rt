@@ -3,9 +3,13 @@
 ghost use Rattle.std.specs.Prelude.{◌≡◌, IfErr};
 ghost use Rattle.turn_program.specs.Serving.{commits_of};
 
+use crate::about::{Addresses, second_now, tell_config, tell_sockets, tell_store};
 use crate::fault::Fault;
+use crate::log::Log;
 use crate::prepare::{Prepared, prepare};
 use crate::print::print_line;
+use crate::started::{Started, live_at, tell_started};
+use std::alloc::Global;
 use std::fs::File;
 use std::io::Write;
 use std::net::Net;
@@ -14,18 +18,26 @@ use std::rt::{Clock, Files};
 use std::thread;
 use std::time::Duration;
 use turn_config::ShownEndpoint;
-use turn_cred::Users;
+use turn_cred::Credentials;
 use turn_disk::{FileDisk, FileRefused};
-use turn_serving::{Commits, Setup, SocketServing};
+use turn_ports::RelayAddressGenerator;
+use turn_serving::{Commits, Setup, SocketServing, StartFault, TurnFault};
+use turn_types::Endpoint;
 
 /// What the words of `turn serve` say.
 #[derive(Clone, Copy)]
 pub struct Service<'a> {
+    /// The program's version, which a log begins with.
+    pub version: &'a str,
     pub config: &'a str,
     pub store: &'a str,
     pub turns: Option<u64>,
     pub burst: u8,
     pub relay_bind: Option<u32>,
+    /// The addresses that clients send to, beside the configuration's.
+    pub listen: &'a [Endpoint],
+    /// Whether a log is kept.
+    pub log: bool,
 }
 
 /// Requests wait for each other unless turns are counted.
@@ -47,8 +59,18 @@ fn random_bytes<R: RandomSource>(rt: &R) -> Result<[u8; 32], Fault>
     Ok(bytes)
 }
 
-/// A server over the store in a file.
-type FileServing<'a, R> = SocketServing<'a, FileDisk<File>, Users, R>;
+/// What a log says of an address that is given twice.
+const LISTENS_TWICE: &str = "listen: an address is given twice";
+
+/// A server over the store in a file, which a log watches.
+type FileServing<'a, 'l, R, L> = SocketServing<
+    'a,
+    FileDisk<File>,
+    Credentials,
+    R,
+    Global,
+    &'l Log<L>,
+>;
 
 /// How often a store that is in use is tried again: a server that ends may have it for a moment yet.
 const AGAIN: u32 = 40;
@@ -72,58 +94,194 @@ fn open_disk<R: Files<File = File>, C: Clock>(
     Ok(FileDisk::open(rt, store)?)
 }
 
-fn start<'a, R: Files<File = File> + Net + RandomSource + Drop + AllocGlobal, C: Clock>(
+/// Says what the fault of a configuration, or of the addresses, is about.
+fn tell_prepared<R: Files<File = File> + AllocGlobal, C: Clock, L: Write + Drop>(
+    rt: &R,
+    clock: &C,
+    service: Service<'_>,
+    log: &Log<L>,
+    fault: Fault,
+) {
+    match fault {
+        Fault::Usage => log.say(second_now(clock), LISTENS_TWICE),
+        _ => tell_config(rt, clock, log, service.config),
+    }
+}
+
+/// What a start takes of files. At a fault the log says which file it is about.
+fn take_files<R: Files<File = File> + AllocGlobal, C: Clock, L: Write + Drop>(
+    rt: &R,
+    clock: &C,
+    service: Service<'_>,
+    log: &Log<L>,
+) -> Result<Prepared<FileDisk<File>>, Fault> {
+    let taken = prepare(rt, service.config, service.listen, |_| {
+        Ok(open_disk(rt, clock, service.store))
+    });
+    let Prepared {
+        config,
+        credentials,
+        listen,
+        ports,
+        store,
+    } = match taken {
+        Ok(prepared) => prepared,
+        Err(fault) => {
+            tell_prepared(rt, clock, service, log, fault);
+            return Err(fault);
+        }
+    };
+    match store {
+        Ok(store) => Ok(Prepared {
+            config,
+            credentials,
+            listen,
+            ports,
+            store,
+        }),
+        Err(fault) => {
+            tell_store(rt, clock, log, service.store);
+            Err(fault)
+        }
+    }
+}
+
+/// Says what the fault of a start is about.
+fn tell_start<R: Files<File = File> + Net + AllocGlobal, C: Clock, L: Write + Drop>(
+    rt: &R,
+    clock: &C,
+    log: &Log<L>,
+    store: &str,
+    addresses: &Addresses<'_>,
+    fault: StartFault,
+) {
+    match fault {
+        StartFault::Store(_) => tell_store(rt, clock, log, store),
+        StartFault::Socket => tell_sockets(rt, clock, log, addresses),
+        StartFault::Memory => {}
+    }
+}
+
+/// How long it is since a time, if the system says.
+fn since<C: Clock>(clock: &C, began: Option<Duration>) -> Option<Duration> {
+    let now = clock.monotonic().ok()?;
+    Some(now.saturating_sub(began?))
+}
+
+/// Starts a server. At a fault the log says which file or address it is about, and else what was started.
+fn start<
+    'a,
+    'l,
+    R: Files<File = File> + Net + RandomSource + Drop + AllocGlobal,
+    C: Clock,
+    L: Write + Drop,
+>(
     rt: &'a R,
     clock: &C,
     service: Service<'_>,
-) -> Result<FileServing<'a, R>, Fault> {
+    log: &'l Log<L>,
+) -> Result<FileServing<'a, 'l, R, L>, Fault> {
     let Prepared {
         config,
-        users,
+        credentials,
         listen,
         ports,
         store: disk,
-    } = prepare(rt, service.config, |_| {
-        open_disk(rt, clock, service.store)
-    })?;
+    } = take_files(rt, clock, service, log)?;
     let setup = Setup {
         config: &config,
-        listen,
+        listen: &listen,
         ports,
         relay_bind: service.relay_bind,
         burst: service.burst,
         commits: commits_of(service.turns),
         seed: random_bytes(rt)?,
     };
-    Ok(setup.start(rt.alloc(), rt, clock, disk, users)?)
+    match setup.start_watched(rt.alloc(), rt, clock, disk, credentials, log) {
+        Ok(serving) => Ok(serving),
+        Err(fault) => {
+            let addresses = Addresses {
+                listen: listen.as_slice(),
+                relay: service.relay_bind.unwrap_or(config.relay()),
+                ports,
+            };
+            tell_start(rt, clock, log, service.store, &addresses, fault);
+            Err(Fault::from(fault))
+        }
+    }
+}
+
+/// Takes turns. At a fault of the store the log says which file it is.
+fn take_turns<R: Files + Net + Drop + AllocGlobal, C: Clock, L: Write + Drop>(
+    rt: &R,
+    serving: &mut FileServing<'_, '_, R, L>,
+    clock: &C,
+    service: Service<'_>,
+    log: &Log<L>,
+) -> Result<(), Fault> {
+    // 2^64 turns of which each takes a microsecond are 580,000 years.
+    match serving.turns(clock, service.turns.unwrap_or(u64::MAX)) {
+        Ok(()) => Ok(()),
+        Err(fault) => {
+            if let TurnFault::Commit(_) = fault {
+                tell_store(rt, clock, log, service.store);
+            }
+            Err(Fault::from(fault))
+        }
+    }
+}
+
+/// Prints a line for each address that clients send to.
+fn print_addresses<W: Write>(
+    alloc: Global,
+    addresses: &[Endpoint],
+    out: &mut W,
+) -> Result<(), Fault> {
+    for address in addresses {
+        let shown = ShownEndpoint(*address);
+        print_line(&format!(in alloc; "listening {shown}")?, out)?;
+    }
+    Ok(())
 }
 
 /// Says where the server listens, takes the turns, and says how many there were.
-fn tell<R: Net + Drop + AllocGlobal, C: Clock, W: Write>(
+fn tell<R: Files + Net + Drop + AllocGlobal, C: Clock, W: Write, L: Write + Drop>(
     rt: &R,
-    serving: &mut FileServing<'_, R>,
+    serving: &mut FileServing<'_, '_, R, L>,
     clock: &C,
-    turns: Option<u64>,
+    service: Service<'_>,
+    log: &Log<L>,
     out: &mut W,
 ) -> Result<(), Fault> {
-    let local = ShownEndpoint(serving.local());
-    print_line(&format!(in rt.alloc(); "listening {local}")?, out)?;
-    // 2^64 turns of which each takes a microsecond are 580,000 years.
-    serving.turns(clock, turns.unwrap_or(u64::MAX))?;
-    match turns {
+    print_addresses(rt.alloc(), serving.locals().as_slice(), out)?;
+    take_turns(rt, serving, clock, service, log)?;
+    match service.turns {
         Some(turns) => print_line(&format!(in rt.alloc(); "served {turns} turns")?, out),
         None => Ok(()),
     }
 }
 
-/// Serves for so many turns, or until the process is ended.
+/// Serves for so many turns, or until the process is ended. If a log is asked for it is written to `lines`.
 pub fn run_serve<
     R: Files<File = File> + Net + RandomSource + Drop + AllocGlobal,
     C: Clock,
     W: Write,
->(rt: &R, clock: &C, service: Service<'_>, out: &mut W) -> Result<(), Fault> {
-    let mut serving = start(rt, clock, service)?;
-    let told = tell(rt, &mut serving, clock, service.turns, out);
+    L: Write + Drop,
+>(rt: &R, clock: &C, service: Service<'_>, out: &mut W, lines: L) -> Result<(), Fault> {
+    let log = Log::new(rt.alloc(), lines, service.log);
+    let began = clock.monotonic().ok();
+    let mut serving = start(rt, clock, service, &log)?;
+    let started = Started {
+        version: service.version,
+        listen: serving.locals().as_slice(),
+        ports: serving.server().ports().range(),
+        store: service.store,
+        generation: serving.server().info().generation,
+        live: live_at(serving.server().table(), second_now(clock)),
+        took: since(clock, began),
+    };
+    tell_started(rt.alloc(), clock, &log, &started);
+    let told = tell(rt, &mut serving, clock, service, &log, out);
     serving.close();
     told
 }

@@ -10,11 +10,11 @@ use sources::{SOURCES, TOOLCHAIN};
 use std::io::ErrorKind;
 use std::process::ExitCode;
 use std::{env, io};
-use turn_program::{Fault, Release, fill_streams, report, run_words};
+use turn_program::{Fault, LogStream, Release, fill_streams, report, run_words};
 
 /// What `turn version` says.
 const RELEASE: Release<'static> = Release {
-    version: "0.1.0",
+    version: "0.2.0",
     sources: SOURCES,
     toolchain: TOOLCHAIN,
 };
@@ -36,7 +36,17 @@ fn main(rt: HostRuntime) -> ExitCode {
     let mut out = io::writer(&rt);
     let mut err = rt.stderr();
     let status = match words_of(&rt) {
-        Ok(words) => run_words(&rt, &rt, RELEASE, words.as_slice(), &mut out, &mut err),
+        Ok(words) => {
+            run_words(
+                &rt,
+                &rt,
+                RELEASE,
+                words.as_slice(),
+                &mut out,
+                &mut err,
+                LogStream::open(&rt),
+            )
+        }
         Err(fault) => report(fault, &mut err),
     };
     ExitCode::from(status)

@@ -1,9 +1,9 @@
 -- The commands, by the texts of their values.
-use Rattle.std.specs.Prelude.{ℕ, ◌≡◌, ◌≤◌, ◌-◌, ◌^◌, ⊤, List, Ok, IsErr, Option, Some, None, option_map}
+use Rattle.std.specs.Prelude.{ℕ, ◌≡◌, ◌≢◌, ◌≤◌, ◌<◌, ◌+◌, ◌-◌, ◌^◌, ⊤, ◌&&◌, Bool, not, nat_eq, nat_le, List, length, Ok, IsErr, Option, Some, None, option_map}
 use Rattle.hex.specs.Hex.{decode_of}
 use Rattle.turn_types.specs.declared.address.Endpoint.{Endpoint}
 use Rattle.turn_words.specs.declared.command.Command.{Command}
-use Rattle.turn_words.specs.declared.command.Command.TheVariants.{Answer, Replay, Format, Inspect, Check, Serve, Demo, Version}
+use Rattle.turn_words.specs.declared.command.Command.TheVariants.{Answer, Replay, Credential, Format, Inspect, Check, Serve, Demo, Version}
 use Rattle.turn_words.specs.declared.fault.WordFault.{WordFault}
 use Rattle.turn_words.specs.declared.fault.WordFault.TheVariants.{Usage, BadDatagram, Memory}
 use Rattle.turn_config.specs.Values.{number_of, IsNumberBelow, IsIp, IsEndpoint}
@@ -48,6 +48,10 @@ IsBind None (Some ip) = ⊥
 IsBind (Some text) None = ⊥
 IsBind (Some text) (Some ip) = IsIp text ip
 
+-- the text of an option `--listen` is this address, whose port isn't 0
+abbrev pub IsListen : List ℕ → Endpoint → Type 0
+IsListen text address = IsEndpoint text address × (address.port ≢ 0)
+
 -- ---- answer
 
 -- the texts of an endpoint and of a moment
@@ -61,10 +65,11 @@ abbrev pub IsAnswer : List ℕ → Option (List ℕ) → List ℕ → Command �
 IsAnswer from at hex (Answer endpoint moment datagram) =
     IsEndpoint from endpoint × IsAt at × (moment ≡ seconds_at at) × (decode_of hex ≡ Ok datagram.items)
 IsAnswer from at hex (Replay file) = ⊥
+IsAnswer from at hex (Credential config name expiry) = ⊥
 IsAnswer from at hex (Format config store area) = ⊥
 IsAnswer from at hex (Inspect store moment) = ⊥
-IsAnswer from at hex (Check config store) = ⊥
-IsAnswer from at hex (Serve config store turns burst bind) = ⊥
+IsAnswer from at hex (Check config store listen) = ⊥
+IsAnswer from at hex (Serve config store turns burst bind listen log) = ⊥
 IsAnswer from at hex Demo = ⊥
 IsAnswer from at hex Version = ⊥
 
@@ -74,15 +79,29 @@ IsAnswerFault from at hex Usage = ¬ (AreWellFormed from at)
 IsAnswerFault from at hex BadDatagram = AreWellFormed from at × IsErr (decode_of hex)
 IsAnswerFault from at hex Memory = AreWellFormed from at
 
+-- ---- credential
+
+-- no control character
+abbrev pub is_shown : ℕ → Bool
+is_shown byte = nat_le 32 byte && not (nat_eq byte 127)
+
+-- the texts of a moment and of seconds from then on, up to a moment other than 0
+pub record AreTimes (at life : List ℕ) : Type 0 where
+  pub is_at : IsNumberBelow (2 ^ 40 - 3600) at
+  pub is_life : IsNumberBelow (2 ^ 64) life
+  pub some : 1 ≤ number_of at + number_of life
+  pub below : number_of at + number_of life < 2 ^ 40 - 3600
+
 -- ---- All commands
 
--- a server takes 1 to 64 datagrams of a socket in a turn
+-- a server takes 1 to 64 datagrams of a socket in a turn, and listens on at most eight addresses beside the configuration's
 abbrev pub IsInRange : Command → Type 0
 IsInRange (Answer endpoint moment datagram) = ⊤
 IsInRange (Replay file) = ⊤
+IsInRange (Credential config name expiry) = 1 ≤ expiry
 IsInRange (Format config store area) = ⊤
 IsInRange (Inspect store moment) = ⊤
-IsInRange (Check config store) = ⊤
-IsInRange (Serve config store turns burst bind) = (1 ≤ burst) × (burst ≤ 64)
+IsInRange (Check config store listen) = length listen.items ≤ 8
+IsInRange (Serve config store turns burst bind listen log) = (1 ≤ burst) × (burst ≤ 64) × (length listen.items ≤ 8)
 IsInRange Demo = ⊤
 IsInRange Version = ⊤

@@ -8,8 +8,10 @@ ghost use Rattle.turn_words.specs.declared.fault.WordFault.TheVariants as faults
 
 mod answer;
 mod check;
+mod credential;
 mod format;
 mod inspect;
+mod listen;
 mod replay;
 mod serve;
 mod words;
@@ -18,6 +20,7 @@ use crate::fault::WordFault;
 use answer::{answer_command, answer_of};
 use check::{check_command, check_of};
 use clap::error::ErrorKind;
+use credential::{credential_command, credential_of};
 use format::{format_command, format_of};
 pub use inspect::shown_at;
 use inspect::{inspect_command, inspect_of};
@@ -40,6 +43,13 @@ pub enum Command {
     Replay {
         file: String,
     },
+    /// A user's name that expires at a moment, with its password under the secret of a configuration. The name given, if there is
+    /// one, comes after the moment.
+    Credential {
+        config: String,
+        name: Option<String>,
+        expiry: Moment,
+    },
     /// A new store in a file, with the limits of a configuration and two areas of so many bytes.
     Format {
         config: String,
@@ -51,18 +61,22 @@ pub enum Command {
         store: String,
         at: Option<Moment>,
     },
-    /// Whether a server would start with a configuration, as far as its sockets, and with a store if one is given.
+    /// Whether a server would start with a configuration, as far as its sockets, and with a store if one is given. `listen` are
+    /// the addresses that clients send to beside the configuration's.
     Check {
         config: String,
         store: Option<String>,
+        listen: Vec<Endpoint>,
     },
-    /// A server over sockets and the store in a file, for so many turns if that is given.
+    /// A server over sockets and the store in a file, for so many turns if that is given. It keeps a log if that is asked for.
     Serve {
         config: String,
         store: String,
         turns: Option<u64>,
         burst: u8,
         relay_bind: Option<u32>,
+        listen: Vec<Endpoint>,
+        log: bool,
     },
     /// A server over sockets that shows what it does.
     Demo,
@@ -75,6 +89,7 @@ fn turn_command<'a>(alloc: Global) -> Result<clap::Command<'a>, AllocError> {
         .subcommand_required(true)
         .subcommand(answer_command(alloc)?)?
         .subcommand(replay_command(alloc)?)?
+        .subcommand(credential_command(alloc)?)?
         .subcommand(format_command(alloc)?)?
         .subcommand(inspect_command(alloc)?)?
         .subcommand(check_command(alloc)?)?
@@ -103,6 +118,7 @@ pub fn command_of<S: AsStr>(alloc: Global, words: &[S]) -> Result<Command, WordF
     match matches.subcommand() {
         Some(("answer", found)) => answer_of(alloc, found),
         Some(("replay", found)) => replay_of(alloc, found),
+        Some(("credential", found)) => credential_of(alloc, found),
         Some(("format", found)) => format_of(alloc, found),
         Some(("inspect", found)) => inspect_of(alloc, found),
         Some(("check", found)) => check_of(alloc, found),

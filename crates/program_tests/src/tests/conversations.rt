@@ -41,7 +41,7 @@ const STEPS: [Step; 12] = [
     Step::Refresh(0, 0),
 ];
 
-fn are_got(got: Result<Vec<u8>, ClientFault>, bytes: &[u8]) -> bool {
+pub fn are_got(got: Result<Vec<u8>, ClientFault>, bytes: &[u8]) -> bool {
     match got {
         Ok(got) => got.as_slice() == bytes,
         Err(_) => false,

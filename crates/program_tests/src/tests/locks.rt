@@ -146,7 +146,15 @@ fn starts_after(rt: &HostRuntime, last: u32) -> Result<bool, Fail> {
     let mut line = vec![in rt.alloc(); "turn"]?;
     line.extend_from_slice(&SERVE)?;
     let (mut out, mut err) = (Vec::new(rt.alloc()), Vec::new(rt.alloc()));
-    let status = run_words(rt, &clock, RELEASE, line.as_slice(), &mut out, &mut err);
+    let status = run_words(
+        rt,
+        &clock,
+        RELEASE,
+        line.as_slice(),
+        &mut out,
+        &mut err,
+        io::sink(),
+    );
     Ok(status == 0 && clock.count.get() == last)
 }
 
@@ -183,7 +191,15 @@ fn has_lock(rt: &HostRuntime, words: &[&str]) -> Result<bool, Fail> {
         refused: 0,
     };
     let mut err = Vec::new(rt.alloc());
-    let status = run_words(rt, rt, RELEASE, line.as_slice(), &mut out, &mut err);
+    let status = run_words(
+        rt,
+        rt,
+        RELEASE,
+        line.as_slice(),
+        &mut out,
+        &mut err,
+        io::sink(),
+    );
     let is_free = FileDisk::open(rt, STORE).is_ok();
     Ok(status == 0 && 0 < out.writes && out.writes == out.refused && is_free)
 }

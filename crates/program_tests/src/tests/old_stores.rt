@@ -8,10 +8,10 @@ use std::alloc::Global;
 use std::test::Fail;
 use turn_client::{Client, ClientFault, Credentials, TimedSocket};
 use turn_config::{Configured, read_config};
-use turn_cred::Users;
 use turn_disk::MemoryDisk;
 use turn_requests::{Attribute, Received, read_message};
 use turn_serving::{Commits, Setup, SocketServing};
+use turn_sockets::ListeningAddresses;
 use turn_types::{Endpoint, Method};
 
 /// What the server was started with.
@@ -74,7 +74,7 @@ const ALICE: Credentials<'static> = Credentials {
     password: b"wonder",
 };
 
-type Serving<'a> = SocketServing<'a, MemoryDisk, Users, HostRuntime>;
+type Serving<'a> = SocketServing<'a, MemoryDisk, turn_cred::Credentials, HostRuntime>;
 
 fn make_disk(alloc: Global) -> Result<MemoryDisk, Fail> {
     let mut content = Vec::from_elem(alloc, 0u8, 3_200_064)?;
@@ -86,14 +86,14 @@ fn make_disk(alloc: Global) -> Result<MemoryDisk, Fail> {
 fn start(rt: &HostRuntime) -> Result<Serving<'_>, Fail> {
     let Configured {
         config,
-        users,
+        credentials,
         listen,
         ports,
         ..
     } = read_config(rt.alloc(), CONFIG).map_err(|_| "a configuration")?;
     let setup = Setup {
         config: &config,
-        listen,
+        listen: &ListeningAddresses::one(listen),
         ports,
         relay_bind: None,
         burst: 1,
@@ -101,7 +101,7 @@ fn start(rt: &HostRuntime) -> Result<Serving<'_>, Fail> {
         seed: [0; 32],
     };
     let disk = make_disk(rt.alloc())?;
-    match setup.start(rt.alloc(), rt, &LATER, disk, users) {
+    match setup.start(rt.alloc(), rt, &LATER, disk, credentials) {
         Ok(serving) => Ok(serving),
         Err(_) => Err(Fail::new("no start")),
     }

@@ -20,7 +20,11 @@ const BINDING: &[u8] =
 
 /// A client sends a Binding request through its relay port to the address that it sends to itself, and permits what would come back.
 /// Returns whether nothing does, which would be a Data indication.
-fn is_lost(rt: &HostRuntime, talk: &mut Talk<'_>, server: Endpoint) -> Result<bool, ClientFault> {
+pub fn is_lost(
+    rt: &HostRuntime,
+    talk: &mut Talk<'_>,
+    server: Endpoint,
+) -> Result<bool, ClientFault> {
     talk.challenge(rt)?;
     talk.allocate(rt)?;
     talk.permit(rt)?;

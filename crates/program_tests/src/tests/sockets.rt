@@ -271,7 +271,7 @@ fn serve(rt: &HostRuntime, client: &TimedSocket, turns: &str, burst: &str) -> Op
         printed: Vec::new(rt.alloc()),
     };
     let mut err = Vec::new(rt.alloc());
-    let status = run_words(rt, rt, RELEASE, &words, &mut out, &mut err);
+    let status = run_words(rt, rt, RELEASE, &words, &mut out, &mut err, io::sink());
     if status == 0 { Some(out.printed) } else { None }
 }
 

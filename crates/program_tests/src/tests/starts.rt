@@ -15,7 +15,7 @@ use turn_cred::AuthHandler;
 use turn_disk::{Disk, FileDisk};
 use turn_engine::Server;
 use turn_serving::{Commits, RelaySockets, Setup, StartFault};
-use turn_sockets::receive_buffer;
+use turn_sockets::{ListeningAddresses, receive_buffer};
 
 /// A file that has one content up to its first sync, and another from its second sync on. An opening begins with a sync.
 #[derive(Drop)]
@@ -117,14 +117,14 @@ fn buffer_at<D: Disk, H: AuthHandler, G: RelaySockets>(
 fn start_over(rt: &HostRuntime, file: ChangingFile<'_>) -> Result<Came, Fail> {
     let Configured {
         config,
-        users,
+        credentials,
         listen,
         ports,
         ..
     } = read_config(rt.alloc(), CONFIG).map_err(|_| "a configuration")?;
     let setup = Setup {
         config: &config,
-        listen,
+        listen: &ListeningAddresses::one(listen),
         ports,
         relay_bind: None,
         burst: 1,
@@ -133,7 +133,7 @@ fn start_over(rt: &HostRuntime, file: ChangingFile<'_>) -> Result<Came, Fail> {
     };
     let size = file.first.len();
     let disk = FileDisk::new(file, size);
-    let (fault, buffer) = match setup.start(rt.alloc(), rt, rt, disk, users) {
+    let (fault, buffer) = match setup.start(rt.alloc(), rt, rt, disk, credentials) {
         Ok(serving) => {
             let buffer = buffer_at(serving.server(), 63_019);
             serving.close();

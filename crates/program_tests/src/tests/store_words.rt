@@ -50,6 +50,7 @@ const TAKEN: [&[&str]; 15] = [
         "--store=no/s",
         "--burst=64",
         "--relay-bind=255.255.255.255",
+        "--log",
     ],
 ];
 
@@ -58,7 +59,7 @@ fn good_words_come_to_the_files(rt: HostRuntime) -> Result<(), Fail> {
     expect_each(&rt, &TAKEN, 3, "", "turn: device\n")
 }
 
-const MISSING_OR_TWICE: [&[&str]; 27] = [
+const MISSING_OR_TWICE: [&[&str]; 29] = [
     &["format"],
     &["format", "--store", "s", "--area", "238"],
     &["format", "--config", "c", "--area", "238"],
@@ -112,6 +113,8 @@ const MISSING_OR_TWICE: [&[&str]; 27] = [
         "--relay-bind=1.2.3.4",
     ],
     &["serve", "--config", "c", "--store", "s", "x"],
+    &["serve", "--config", "c", "--store", "s", "--log", "--log"],
+    &["serve", "--config", "c", "--store", "s", "--log", "x"],
     &["demo", "x"],
 ];
 
@@ -120,7 +123,7 @@ fn a_missing_or_repeated_option_is_a_usage_fault(rt: HostRuntime) -> Result<(), 
     expect_each(&rt, &MISSING_OR_TWICE, 1, "", USAGE)
 }
 
-const UNKNOWN: [&[&str]; 19] = [
+const UNKNOWN: [&[&str]; 20] = [
     &["Format", "--config", "c", "--store", "s", "--area", "238"],
     &["form", "--config", "c", "--store", "s", "--area", "238"],
     &["format", "--conf", "c", "--store", "s", "--area", "238"],
@@ -136,6 +139,7 @@ const UNKNOWN: [&[&str]; 19] = [
     &["check", "--config", "c", "--area", "1"],
     &["check", "--config", "c", "--turns", "1"],
     &["check", "--config", "c", "--help"],
+    &["check", "--config", "c", "--log"],
     &["serve", "--config", "c", "--store", "s", "--area", "238"],
     &[
         "serve",

@@ -114,7 +114,15 @@ fn run(rt: &HostRuntime, words: &[&str], store: &[u8]) -> Result<(u8, Vec<u8>), 
     line.extend_from_slice(words)?;
     let mut out = io::writer(rt);
     let mut err = rt.stderr();
-    let status = run_words(rt, rt, RELEASE, line.as_slice(), &mut out, &mut err);
+    let status = run_words(
+        rt,
+        rt,
+        RELEASE,
+        line.as_slice(),
+        &mut out,
+        &mut err,
+        io::sink(),
+    );
     Ok((status, fs::read(rt, "turn_streams.store")?))
 }
 

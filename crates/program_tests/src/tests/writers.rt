@@ -40,7 +40,7 @@ impl Write for Device {
 /// Runs `turn answer` with a datagram, over two devices: the status.
 fn answer(rt: &HostRuntime, datagram: &str, out: &mut Device, err: &mut Device) -> u8 {
     let words = ["turn", "answer", "--from", FROM, datagram];
-    run_words(rt, rt, RELEASE, &words, out, err)
+    run_words(rt, rt, RELEASE, &words, out, err, io::sink())
 }
 
 /// A device's room, step and whether it flushes, and the status of a success that is printed on it.
@@ -127,6 +127,7 @@ fn replay_status(rt: &HostRuntime, path: &str, room: usize, flushes: bool) -> u8
         &["turn", "replay", path],
         &mut out,
         &mut err,
+        io::sink(),
     )
 }
 

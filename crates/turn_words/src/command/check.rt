@@ -4,7 +4,8 @@ ghost use Rattle.std.specs.Prelude.{IfOk};
 ghost use Rattle.turn_words.specs.Command.{IsInRange};
 
 use super::Command;
-use super::words::option;
+use super::listen::listen_of;
+use super::words::{option, options};
 use crate::fault::WordFault;
 use clap::ArgMatches;
 use std::alloc::{AllocError, Global};
@@ -12,11 +13,12 @@ use std::alloc::{AllocError, Global};
 pub fn check_command<'a>(alloc: Global) -> Result<clap::Command<'a>, AllocError> {
     clap::Command::new(alloc, "check")
         .arg(option(alloc, "config").required(true))?
-        .arg(option(alloc, "store"))
+        .arg(option(alloc, "store"))?
+        .arg(options(alloc, "listen"))
 }
 
 /// The text of an option, if it is there.
-fn owned(alloc: Global, text: Option<&str>) -> Result<Option<String>, AllocError> {
+pub fn owned(alloc: Global, text: Option<&str>) -> Result<Option<String>, AllocError> {
     match text {
         Some(text) => Ok(Some(String::from_str(alloc, text)?)),
         None => Ok(None),
@@ -30,5 +32,6 @@ pub fn check_of(alloc: Global, found: &ArgMatches<'_>) -> Result<Command, WordFa
     Ok(Command::Check {
         config: String::from_str(alloc, config)?,
         store: owned(alloc, found.get_str("store"))?,
+        listen: listen_of(alloc, found)?,
     })
 }

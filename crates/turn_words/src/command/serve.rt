@@ -5,7 +5,8 @@ ghost use Rattle.std.specs.Option.{option_copied};
 ghost use Rattle.turn_words.specs.Command.{IsBelowIfGiven, IsBind, IsBurst, IsInRange, burst_of, number_if_given};
 
 use super::Command;
-use super::words::option;
+use super::listen::listen_of;
+use super::words::{flag, option, options};
 use crate::fault::WordFault;
 use clap::ArgMatches;
 use std::alloc::{AllocError, Global};
@@ -20,7 +21,9 @@ pub fn serve_command<'a>(alloc: Global) -> Result<clap::Command<'a>, AllocError>
         .arg(option(alloc, "store").required(true))?
         .arg(option(alloc, "turns"))?
         .arg(option(alloc, "burst"))?
-        .arg(option(alloc, "relay-bind"))
+        .arg(option(alloc, "relay-bind"))?
+        .arg(options(alloc, "listen"))?
+        .arg(flag(alloc, "log"))
 }
 
 /// How many turns a server makes, if there is such an option.
@@ -78,6 +81,8 @@ pub fn serve_of(alloc: Global, found: &ArgMatches<'_>) -> Result<Command, WordFa
         turns,
         burst: burst_in(text_of(found, "burst"), turns).ok_or(WordFault::Usage)?,
         relay_bind: bind_in(text_of(found, "relay-bind")).ok_or(WordFault::Usage)?,
+        listen: listen_of(alloc, found)?,
+        log: found.get_flag("log"),
         config: String::from_str(alloc, config)?,
         store: String::from_str(alloc, store)?,
     })

@@ -12,3 +12,13 @@ pub fn option<'a>(alloc: Global, name: &'a str) -> Arg<'a> {
 pub fn value<'a>(alloc: Global, name: &'a str) -> Arg<'a> {
     Arg::new(alloc, name).required(true).action(ArgAction::Set)
 }
+
+/// A word without a value, as `--name`, at most once.
+pub fn flag<'a>(alloc: Global, name: &'a str) -> Arg<'a> {
+    Arg::new(alloc, name).long(name).action(ArgAction::SetTrue)
+}
+
+/// A word with a value, as `--name VALUE`, any number of times.
+pub fn options<'a>(alloc: Global, name: &'a str) -> Arg<'a> {
+    Arg::new(alloc, name).long(name).action(ArgAction::Append)
+}

@@ -1,0 +1,267 @@
+//! `turn credential`.
+
+use super::{USAGE, expect};
+use std::fs;
+use std::test::Fail;
+
+const LINES: &str = "realm example.org
+user 1700000001 wonder
+auth-secret a-secret-of-the-web-service
+secret 0000000000000000000000000000000000000000000000000000000000000000
+listen 192.0.2.100:3478
+relay 198.51.100.1 50000 50009
+limits 2 1 1 1 16
+";
+
+/// The same lines without the secret.
+const NO_SECRET: &str = "realm example.org
+user 1700000001 wonder
+secret 0000000000000000000000000000000000000000000000000000000000000000
+listen 192.0.2.100:3478
+relay 198.51.100.1 50000 50009
+limits 2 1 1 1 16
+";
+
+/// Passwords by HMAC-SHA1 and base64 of another program.
+const BARE: &str = "username 1700000000
+password n9SFVLmM2wl9yZ/3vY8Ypca+c/g=
+{\"iceServers\": [{\"urls\": \"turn:192.0.2.100:3478?transport=udp\", \"username\": \"1700000000\", \"credential\": \"n9SFVLmM2wl9yZ/3vY8Ypca+c/g=\"}]}
+";
+
+const ALICE: &str = "username 1700000000:alice
+password XNHRyJ8VZgb4sHKUpvXOrNI2d4E=
+{\"iceServers\": [{\"urls\": \"turn:192.0.2.100:3478?transport=udp\", \"username\": \"1700000000:alice\", \"credential\": \"XNHRyJ8VZgb4sHKUpvXOrNI2d4E=\"}]}
+";
+
+const QUOTED: &str = "username 1700000000:\"\\
+password MXwhuuFe5NZQc9NGjlfG8crL1fI=
+{\"iceServers\": [{\"urls\": \"turn:192.0.2.100:3478?transport=udp\", \"username\": \"1700000000:\\\"\\\\\", \"credential\": \"MXwhuuFe5NZQc9NGjlfG8crL1fI=\"}]}
+";
+
+/// The words, and what is printed.
+type Case = (&'static [&'static str], &'static str);
+
+const MADE: [Case; 5] = [
+    (
+        &[
+            "credential",
+            "--config",
+            "turn_credential.made",
+            "--at",
+            "1699996400",
+            "--life",
+            "3600",
+            "--name",
+            "alice",
+        ],
+        ALICE,
+    ),
+    (
+        &[
+            "credential",
+            "--config",
+            "turn_credential.made",
+            "--at",
+            "1700000000",
+            "--life",
+            "0",
+            "--name",
+            "alice",
+        ],
+        ALICE,
+    ),
+    (
+        &[
+            "credential",
+            "--config",
+            "turn_credential.made",
+            "--at",
+            "0",
+            "--life",
+            "1700000000",
+            "--name=alice",
+        ],
+        ALICE,
+    ),
+    (
+        &[
+            "credential",
+            "--config",
+            "turn_credential.made",
+            "--at",
+            "1699996400",
+            "--life",
+            "3600",
+        ],
+        BARE,
+    ),
+    (
+        &[
+            "credential",
+            "--config",
+            "turn_credential.made",
+            "--at",
+            "1699996400",
+            "--life",
+            "3600",
+            "--name",
+            "\"\\",
+        ],
+        QUOTED,
+    ),
+];
+
+/// The last two: a name above the limit, and one with a `user` line.
+const REFUSED: [Case; 9] = [
+    (
+        &[
+            "credential",
+            "--config",
+            "turn_credential.refused",
+            "--at",
+            "0",
+            "--life",
+            "0",
+        ],
+        USAGE,
+    ),
+    (
+        &[
+            "credential",
+            "--config",
+            "turn_credential.refused",
+            "--at",
+            "1099511624175",
+            "--life",
+            "1",
+        ],
+        USAGE,
+    ),
+    (
+        &[
+            "credential",
+            "--config",
+            "turn_credential.refused",
+            "--at",
+            "1099511624176",
+            "--life",
+            "0",
+        ],
+        USAGE,
+    ),
+    (
+        &[
+            "credential",
+            "--config",
+            "turn_credential.refused",
+            "--at",
+            "1",
+            "--life",
+            "18446744073709551615",
+        ],
+        USAGE,
+    ),
+    (
+        &[
+            "credential",
+            "--config",
+            "turn_credential.refused",
+            "--at",
+            "1",
+            "--life",
+            "18446744073709551616",
+        ],
+        USAGE,
+    ),
+    (
+        &[
+            "credential",
+            "--config",
+            "turn_credential.refused",
+            "--at",
+            "1",
+            "--life",
+            "-1",
+        ],
+        USAGE,
+    ),
+    (
+        &[
+            "credential",
+            "--config",
+            "turn_credential.refused",
+            "--at",
+            "1699996400",
+            "--life",
+            "3600",
+            "--name",
+            "a\nb",
+        ],
+        USAGE,
+    ),
+    (
+        &[
+            "credential",
+            "--config",
+            "turn_credential.refused",
+            "--at",
+            "1699996400",
+            "--life",
+            "3600",
+            "--name",
+            "alicia",
+        ],
+        USAGE,
+    ),
+    (
+        &[
+            "credential",
+            "--config",
+            "turn_credential.refused",
+            "--at",
+            "1700000000",
+            "--life",
+            "1",
+        ],
+        USAGE,
+    ),
+];
+
+/// Where the configuration has no secret.
+const UNKNOWN: Case = (
+    &[
+        "credential",
+        "--config",
+        "turn_credential.refused",
+        "--at",
+        "1699996400",
+        "--life",
+        "3600",
+    ],
+    USAGE,
+);
+
+fn play(rt: &HostRuntime, path: &str, lines: &str, case: &Case, status: u8) -> Result<(), Fail> {
+    let (words, text) = *case;
+    fs::write(rt, path, lines.as_bytes())?;
+    let (out, err) = if status == 0 { (text, "") } else { ("", text) };
+    expect(rt, words, status, out, err)?;
+    fs::remove_file(rt, path)?;
+    Ok(())
+}
+
+#[test]
+fn a_credential_expires_after_its_life(rt: HostRuntime) -> Result<(), Fail> {
+    for case in &MADE {
+        play(&rt, "turn_credential.made", LINES, case, 0)?;
+    }
+    Ok(())
+}
+
+#[test]
+fn a_credential_that_no_server_takes_is_a_usage_fault(rt: HostRuntime) -> Result<(), Fail> {
+    for case in &REFUSED {
+        play(&rt, "turn_credential.refused", LINES, case, 1)?;
+    }
+    play(&rt, "turn_credential.refused", NO_SECRET, &UNKNOWN, 1)
+}

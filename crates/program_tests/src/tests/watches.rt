@@ -1,0 +1,127 @@
+//! What a watch sees of a server whose clock goes on within a turn.
+
+use super::sockets::HOME;
+use std::alloc::Allocator;
+use std::cell::Cell;
+use std::io;
+use std::rt::Clock;
+use std::test::Fail;
+use std::time::Duration;
+use turn_client::TimedSocket;
+use turn_config::{Configured, read_config};
+use turn_disk::MemoryDisk;
+use turn_serving::{Commits, Setup, Watch};
+use turn_sockets::ListeningAddresses;
+use turn_step::Outgoing;
+use turn_store::{format, least_area};
+use turn_table::Table;
+use turn_types::{Endpoint, Moment};
+
+const CONFIG: &[u8] = b"realm example.org
+secret 0000000000000000000000000000000000000000000000000000000000000000
+listen 127.0.0.1:0
+relay 127.0.0.1 63150 63159
+limits 2 1 1 1 8
+";
+
+/// An Allocate without attributes, which is kept until the end of the turn.
+const ALLOCATE: &[u8] =
+    b"\x00\x03\x00\x00\x21\x12\xA4\x42\x01\x02\x03\x04\x05\x06\x07\x08\x09\x0A\x0B\x0C";
+
+/// A clock of which each reading is a second later.
+#[derive(Drop)]
+struct Seconds {
+    next: Cell<u64>,
+}
+
+impl Clock for Seconds {
+    fn monotonic(&self) -> io::Result<Duration> {
+        self.since_1970()
+    }
+
+    fn since_1970(&self) -> io::Result<Duration> {
+        let now = self.next.get();
+        self.next.set(now.wrapping_add(1));
+        Ok(Duration::from_secs(now))
+    }
+}
+
+/// The second at which the table was seen last, and that of what was sent last.
+#[derive(Drop)]
+struct Seen {
+    table: Cell<u64>,
+    sent: Cell<u64>,
+}
+
+impl<'s> Watch for &'s Seen {
+    fn taking<A: Allocator + Copy>(&self, moment: Moment, _table: &Table<A>) {
+        self.table.set(moment.seconds());
+    }
+
+    fn sent<A: Allocator + Copy>(
+        &self,
+        moment: Moment,
+        _table: &Table<A>,
+        outgoing: &[Outgoing<A>],
+    ) {
+        if !outgoing.is_empty() {
+            self.sent.set(moment.seconds());
+        }
+    }
+}
+
+fn new_disk(rt: &HostRuntime, config: &Configured<'_>) -> Result<MemoryDisk, Fail> {
+    let limits = config.config.limits();
+    let area = least_area(limits);
+    let mut disk = MemoryDisk::new(rt.alloc(), Vec::from_elem(rt.alloc(), 0u8, 64 + 2 * area)?);
+    if format(&mut disk, limits, area).is_err() {
+        return Err(Fail::new("format"));
+    }
+    Ok(disk)
+}
+
+/// A client's Allocate, and the turn that answers it.
+fn play(rt: &HostRuntime, seen: &Seen) -> Result<(), Fail> {
+    let clock = Seconds {
+        next: Cell::new(1_000),
+    };
+    let configured = read_config(rt.alloc(), CONFIG)?;
+    let disk = new_disk(rt, &configured)?;
+    let Configured {
+        config,
+        credentials,
+        listen,
+        ports,
+        ..
+    } = configured;
+    let listen = ListeningAddresses::one(listen);
+    let setup = Setup {
+        config: &config,
+        listen: &listen,
+        ports,
+        relay_bind: None,
+        burst: 1,
+        commits: Commits::Paced,
+        seed: [0; 32],
+    };
+    let mut serving = setup.start_watched(rt.alloc(), rt, &clock, disk, credentials, seen)?;
+    let client = TimedSocket::open(rt.alloc(), rt, Endpoint { ip: HOME, port: 0 })?;
+    let sent = client.send(serving.local(), ALLOCATE);
+    let turned = serving.turns(&clock, 1);
+    serving.close();
+    sent?;
+    turned?;
+    Ok(())
+}
+
+#[test]
+fn the_table_is_seen_at_the_moment_of_a_kept_request(rt: HostRuntime) -> Result<(), Fail> {
+    let seen = Seen {
+        table: Cell::new(0),
+        sent: Cell::new(0),
+    };
+    play(&rt, &seen)?;
+    assert!(rt; 1_000 < seen.sent.get());
+    assert!(rt; seen.table.get() == seen.sent.get());
+    Ok(())
+}

@@ -1,0 +1,159 @@
+//! What a fault of a start is about: the file or the address, and the system's reason, where a second look finds one.
+
+use crate::log::Log;
+use std::alloc::{AllocError, Global};
+use std::fmt::Display;
+use std::fs::OpenOptions;
+use std::io::{self, Write};
+use std::net::{Net, UdpSocket};
+use std::rt::{Clock, Files};
+use turn_config::{ShownEndpoint, ShownIp};
+use turn_disk::open_regular;
+use turn_log::ShownName;
+use turn_ports::{PortRange, RelayAddressGenerator};
+use turn_sockets::{address_of, moment_now};
+use turn_types::{Endpoint, Moment};
+
+/// The system's second, or 0 if it tells none.
+pub fn second_now<C: Clock>(clock: &C) -> u64 {
+    let Some(first) = Moment::new(0) else {
+        return 0;
+    };
+    match moment_now(clock, first) {
+        Some(moment) => moment.seconds(),
+        None => 0,
+    }
+}
+
+/// What is at fault, and why if the system said so.
+fn text_of<T: Display>(
+    alloc: Global,
+    what: &str,
+    name: &T,
+    reason: Option<io::Error>,
+) -> Result<String, AllocError> {
+    match reason {
+        Some(reason) => format!(in alloc; "{what} {name}: {reason}"),
+        None => format!(in alloc; "{what} {name}"),
+    }
+}
+
+/// Says what is at fault, and the reason.
+fn tell<C: Clock, L: Write + Drop, T: Display>(
+    alloc: Global,
+    clock: &C,
+    log: &Log<L>,
+    what: &str,
+    name: &T,
+    reason: Option<io::Error>,
+) {
+    if let Ok(text) = text_of(alloc, what, name, reason) {
+        log.say(second_now(clock), text.as_str());
+    }
+}
+
+/// Says that a configuration's file is at fault, and why it can't be read if it can't.
+pub fn tell_config<R: Files + AllocGlobal, C: Clock, L: Write + Drop>(
+    rt: &R,
+    clock: &C,
+    log: &Log<L>,
+    path: &str,
+) {
+    if !log.is_kept() {
+        return;
+    }
+    let mut options = OpenOptions::new();
+    options.read(true);
+    let reason = open_regular(rt, path, &options).err();
+    tell(
+        rt.alloc(),
+        clock,
+        log,
+        "config",
+        &ShownName(path.as_bytes()),
+        reason,
+    );
+}
+
+/// Says that a store's file is at fault, and why it can't be opened if it can't.
+pub fn tell_store<R: Files + AllocGlobal, C: Clock, L: Write + Drop>(
+    rt: &R,
+    clock: &C,
+    log: &Log<L>,
+    path: &str,
+) {
+    if !log.is_kept() {
+        return;
+    }
+    let mut options = OpenOptions::new();
+    options.read(true).write(true);
+    let reason = open_regular(rt, path, &options).err();
+    tell(
+        rt.alloc(),
+        clock,
+        log,
+        "store",
+        &ShownName(path.as_bytes()),
+        reason,
+    );
+}
+
+/// Where a server's sockets are bound.
+#[derive(Clone, Copy)]
+pub struct Addresses<'a> {
+    pub listen: &'a [Endpoint],
+    pub relay: u32,
+    pub ports: PortRange,
+}
+
+/// The first of these addresses that can't be bound beside those before it, and why.
+fn refused_of<R: Net>(
+    alloc: Global,
+    net: &R,
+    addresses: &[Endpoint],
+) -> Option<(Endpoint, io::Error)> {
+    let mut held = Vec::new(alloc);
+    for at in addresses {
+        match UdpSocket::bind(net, address_of(*at)) {
+            Ok(socket) => held.push(socket).ok()?,
+            Err(reason) => return Some((*at, reason)),
+        }
+    }
+    None
+}
+
+/// Says which address a socket can't be bound to, and why: the relay address, or a listening one, or else a relay port.
+pub fn tell_sockets<R: Net + AllocGlobal, C: Clock, L: Write + Drop>(
+    rt: &R,
+    clock: &C,
+    log: &Log<L>,
+    addresses: &Addresses<'_>,
+) {
+    if !log.is_kept() {
+        return;
+    }
+    let Addresses {
+        listen,
+        relay,
+        ports,
+    } = *addresses;
+    let any = Endpoint { ip: relay, port: 0 };
+    let (alloc, shown) = (rt.alloc(), ShownIp(relay));
+    if let Err(reason) = UdpSocket::bind(rt, address_of(any)) {
+        return tell(alloc, clock, log, "relay", &shown, Some(reason));
+    }
+    if let Some((at, reason)) = refused_of(alloc, rt, listen) {
+        return tell(
+            alloc,
+            clock,
+            log,
+            "listen",
+            &ShownEndpoint(at),
+            Some(reason),
+        );
+    }
+    let (first, last) = ports.range();
+    if let Ok(name) = format!(in alloc; "{first}-{last}") {
+        tell(alloc, clock, log, "relay ports", &name, None);
+    }
+}

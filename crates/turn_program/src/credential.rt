@@ -1,0 +1,78 @@
+//! `turn credential`.
+
+use crate::fault::Fault;
+use crate::files::read_whole;
+use crate::print::print_lines;
+use std::alloc::{AllocError, Global};
+use std::io::Write;
+use std::rt::Files;
+use turn_config::{ShownEndpoint, read_config};
+use turn_types::{Endpoint, Moment};
+
+/// A user's name that expires at a moment: its seconds and, after a colon, the name given, if there is one.
+fn username_of(alloc: Global, name: Option<&str>, expiry: Moment) -> Result<String, AllocError> {
+    let seconds = expiry.seconds();
+    match name {
+        Some(name) => Ok(format!(in alloc; "{seconds}:{name}")?),
+        None => Ok(format!(in alloc; "{seconds}")?),
+    }
+}
+
+/// A password, which is ASCII, as text.
+fn text_of(alloc: Global, password: &[u8]) -> Result<String, AllocError> {
+    let mut text = String::new(alloc);
+    for byte in password {
+        text.push(char::from(*byte))?;
+    }
+    Ok(text)
+}
+
+/// A text without control characters, as it is in a string of JSON (RFC 8259, section 7).
+fn escaped(alloc: Global, text: &str) -> Result<String, AllocError> {
+    let mut escaped = String::new(alloc);
+    for letter in text.chars() {
+        if letter == '"' || letter == '\\' {
+            escaped.push('\\')?;
+        }
+        escaped.push(letter)?;
+    }
+    Ok(escaped)
+}
+
+/// The lines of a user's name and password, and that of the configuration of an `RTCPeerConnection`.
+fn lines_of(
+    alloc: Global,
+    listen: Endpoint,
+    username: &str,
+    password: &str,
+) -> Result<Vec<String>, AllocError> {
+    let server = ShownEndpoint(listen);
+    let quoted = escaped(alloc, username)?;
+    let mut lines = Vec::new(alloc);
+    lines.push(format!(in alloc; "username {username}")?)?;
+    lines.push(format!(in alloc; "password {password}")?)?;
+    lines.push(format!(in alloc;
+        "{{\"iceServers\": [{{\"urls\": \"turn:{server}?transport=udp\", \"username\": \"{quoted}\", \"credential\": \"{password}\"}}]}}"
+    )?)?;
+    Ok(lines)
+}
+
+/// Prints a user's name that expires at a moment, and its password under the secret of a configuration.
+pub fn run_credential<R: Files + AllocGlobal, W: Write>(
+    rt: &R,
+    config: &str,
+    name: Option<&str>,
+    expiry: Moment,
+    out: &mut W,
+) -> Result<(), Fault> {
+    let alloc = rt.alloc();
+    let text = read_whole(rt, alloc, config)?;
+    let configured = read_config(alloc, &text)?;
+    let username = username_of(alloc, name, expiry)?;
+    let password = configured
+        .shared_password(username.as_bytes())
+        .ok_or(Fault::Usage)?;
+    let password = text_of(alloc, &password)?;
+    let lines = lines_of(alloc, configured.listen, &username, &password)?;
+    print_lines(alloc, &lines, out)
+}

@@ -1,0 +1,90 @@
+//! What a log says of a server that was started.
+
+use crate::about::second_now;
+use crate::log::Log;
+use std::alloc::{AllocError, Allocator, Global};
+use std::io::Write;
+use std::rt::Clock;
+use std::time::Duration;
+use turn_config::ShownEndpoint;
+use turn_log::ShownName;
+use turn_table::Table;
+use turn_types::Endpoint;
+
+/// What is said of a start.
+#[derive(Clone, Copy)]
+pub struct Started<'a> {
+    pub version: &'a str,
+    /// The addresses that clients send to.
+    pub listen: &'a [Endpoint],
+    /// The first and the last relay port.
+    pub ports: (u16, u16),
+    pub store: &'a str,
+    pub generation: u64,
+    /// How many allocations of the store are live.
+    pub live: u64,
+    /// How long it took, if the system says.
+    pub took: Option<Duration>,
+}
+
+/// How many allocations of a table are live at a second.
+pub fn live_at<A: Allocator + Copy>(table: &Table<A>, second: u64) -> u64 {
+    let mut live = 0u64;
+    for (_, entry) in table.entries() {
+        if second < entry.expiry() {
+            live = live.wrapping_add(1);
+        }
+    }
+    live
+}
+
+/// The addresses, each with a space before it.
+fn shown_addresses(alloc: Global, addresses: &[Endpoint]) -> Result<String, AllocError> {
+    let mut text = String::new(alloc);
+    for address in addresses {
+        let shown = ShownEndpoint(*address);
+        text = format!(in alloc; "{text} {shown}")?;
+    }
+    Ok(text)
+}
+
+fn texts_of(alloc: Global, started: &Started<'_>) -> Result<[String; 3], AllocError> {
+    let Started {
+        version,
+        listen,
+        ports,
+        store,
+        generation,
+        live,
+        took,
+    } = *started;
+    let (first, last) = ports;
+    let listen = shown_addresses(alloc, listen)?;
+    let store = ShownName(store.as_bytes());
+    let millis = took.unwrap_or(Duration::ZERO).as_millis();
+    Ok([
+        format!(in alloc; "turn {version}")?,
+        format!(in alloc; "listening{listen} relay ports {first}-{last}")?,
+        format!(in alloc;
+            "store {store} generation {generation} live {live} opened in {millis} ms"
+        )?,
+    ])
+}
+
+/// Says the version, the addresses, and what the store holds.
+pub fn tell_started<C: Clock, L: Write + Drop>(
+    alloc: Global,
+    clock: &C,
+    log: &Log<L>,
+    started: &Started<'_>,
+) {
+    if !log.is_kept() {
+        return;
+    }
+    let second = second_now(clock);
+    if let Ok(texts) = texts_of(alloc, started) {
+        for text in &texts {
+            log.say(second, text.as_str());
+        }
+    }
+}
