@@ -1,7 +1,7 @@
 -- How a run of device calls goes on.
 use Rattle.std.proofs.Common.{Result, Ok, Err, ◌+◌, ◌<◌, ◌≤◌, arith, ◌≡◌, ◌⊎◌, inl, inr, ℕ, List, [], ◌∷◌, ◌++◌, refl, sym, ◌∙◌, ap, subst, ⊎_elim, length, slice_index}
 use Rattle.std.proofs.lemmas.List.{append_assoc, ext_get_or}
-use Rattle.turn_disk.specs.Disk.{Range, State, Trace, IsImage, IsOutside, ChangesOnly, EachImageOf, EachImageSince, Overwrites, Syncs, inside_write, AllWithin, IsSettled, IsSettledBut, WriteOutcome, SyncOutcome}
+use Rattle.turn_disk.specs.Disk.{Range, State, Trace, IsImage, IsOutside, ChangesOnly, EachImageOf, EachImageSince, Overwrites, Syncs, inside_write, AllWithin, IsSettled, IsSettledBut, ThroughOutcome, WritesOnce, WriteOutcome, SyncOutcome}
 
 -- what a stop may leave after a write is what it may leave inside it
 pub image_during : (at count : ℕ) (old new : Trace) → Overwrites at count old new → (image : List ℕ) → IsImage new.now image → IsImage (inside_write at count old.now) image
@@ -136,3 +136,21 @@ since_sync_but from count base old new but outcome = since_sync old new (Changes
 -- with nothing pending a stop leaves the content
 pub image_settled : (state : State) → IsSettled state → (image : List ℕ) → IsImage state image → image ≡ state.bytes
 image_settled state settled image is = ext_get_or 0 image state.bytes is.size (λ i below. is.same i (subst (λ (l : List Range). IsOutside l i) (sym settled) tt))
+
+-- one of the calls failed
+pub through_failed : {E : Type 0} (at : ℕ) (bytes : List ℕ) (old new : Trace) (result : Result Unit E) (e : E) → result ≡ Err e → Overwrites at (length bytes) old new ⊎ (new ≡ old) → ThroughOutcome at bytes old new result
+through_failed {E = E} at bytes old new result e is failed = subst (λ (r : Result Unit E). ThroughOutcome at bytes old new r) (sym is) failed
+
+-- a write and a sync, whatever came of them
+pub through_once : {E : Type 0} (at : ℕ) (bytes : List ℕ) (old new : Trace) (result : Result Unit E) → ThroughOutcome at bytes old new result → WritesOnce at (length bytes) old new
+through_once at bytes old new (Ok u) through = inr (inr (through.0, through.1.range, through.2))
+through_once at bytes old new (Err e) failed = ⊎_elim (λ writes. inr (inl writes)) (λ same. inl same) failed
+
+-- the same within the range
+pub since_through_but : {E : Type 0} (from count : ℕ) (base : List ℕ) (old new : Trace) → IsSettledBut from count base old.now → (at : ℕ) (bytes : List ℕ) → from ≤ at → at + length bytes ≤ from + count → (result : Result Unit E)
+    → ThroughOutcome at bytes old new result → EachImageSince old new (ChangesOnly from count base)
+since_through_but from count base old new but at bytes low high (Ok u) through =
+    let wrote = since_within from count base old through.0 but at (length bytes) low high (inl through.1.range) in
+    since_join old through.0 new (ChangesOnly from count base) wrote.0 (since_sync_but from count base through.0 new wrote.1 (inl through.2))
+since_through_but from count base old new but at bytes low high (Err e) failed =
+    (since_within from count base old new but at (length bytes) low high failed).0

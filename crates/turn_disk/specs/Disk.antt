@@ -95,6 +95,18 @@ pub record WritesThrough (at : ℕ) (bytes : List ℕ) (old new : State) : Type 
   pub written : StandsAt at bytes new.bytes
   pub settled : IsSettled new
 
+-- At most one write of this range, and at most one sync, after it: no other device call changed the disk.
+abbrev pub WritesOnce : ℕ → ℕ → Trace → Trace → Type 0
+WritesOnce at count old new =
+    (new ≡ old) ⊎ Overwrites at count old new ⊎ ((mid : Trace) × Overwrites at count old mid × Syncs mid new)
+
+-- These bytes were written, and then synced. Where one of the two calls fails, nothing was synced. No other device call changed
+-- the disk.
+abbrev pub ThroughOutcome : {E : Type 0} → ℕ → List ℕ → Trace → Trace → Result Unit E → Type 0
+ThroughOutcome at bytes old new result =
+    MatchResult result (λ _. (mid : Trace) × Writes at bytes old mid × Syncs mid new)
+    (λ _. Overwrites at (length bytes) old new ⊎ (new ≡ old))
+
 -- each of these ranges lies within this one
 abbrev pub AllWithin : ℕ → ℕ → List Range → Type 0
 AllWithin from count [] = Unit {0}

@@ -1,5 +1,6 @@
 pub mod Disk
 pub mod Counts
+pub mod Calls
 pub mod Crash
 pub mod Laws
 pub mod Record

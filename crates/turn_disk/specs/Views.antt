@@ -1,5 +1,6 @@
 -- What contracts see of the disks.
-use Rattle.std.specs.Prelude.{ℕ}
+use Rattle.std.specs.Prelude.{ℕ, List}
+use Rattle.turn_disk.specs.Calls.{Event}
 use Rattle.turn_disk.specs.Disk.{Trace}
 
 -- a disk in memory: its trace, and the count of its failures
@@ -7,7 +8,8 @@ pub record InMemory : Type 0 where
   pub trace : Trace
   pub failures : ℕ
 
--- a disk over a file: its size, and the count of its failures
+-- a disk over a file: its size, the count of its failures, and its calls, the newest first
 pub record InFile : Type 0 where
   pub size : ℕ
   pub failures : ℕ
+  pub events : List Event

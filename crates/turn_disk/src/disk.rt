@@ -1,6 +1,6 @@
 //! A disk of fixed size. What a stop may leave of an honest one is a part of its trace.
 
-ghost use Rattle.std.specs.Prelude.{◌≡◌, ◌+◌, ◌≤◌, ◌↔◌, ℕ, length, take, drop, OnOk};
+ghost use Rattle.std.specs.Prelude.{◌≡◌, ◌+◌, ◌≤◌, ℕ, length, take, drop, OnOk};
 ghost use Rattle.turn_disk.specs.Counts.{CountOutcome};
 ghost use Rattle.turn_disk.specs.Disk.{Trace, WriteOutcome, SyncOutcome};
 
@@ -21,7 +21,8 @@ pub trait Disk {
     /// How many device calls have failed, modulo 2^64.
     ghost failed: { Self → ℕ };
 
-    /// That it keeps what was synced: the clauses that begin with this hold of such a disk alone.
+    /// That each answer so far was that of a disk which keeps what was synced. It may cease to hold at any call, and no code can tell:
+    /// the clauses that begin with this hold as long as it does.
     ghost is_honest: { Self → Type 0 };
 
     /// What a read returns, and what a stop may leave, now and inside each device call so far.
@@ -39,9 +40,9 @@ pub trait Disk {
         requires { at + length buffer.old ≤ capacity self.old }
         ensures size { capacity self.new ≡ capacity self.old }
         ensures count { CountOutcome (failed self.old) (failed self.new) result }
-        ensures honest { is_honest self.new ↔ is_honest self.old }
-        ensures same { is_honest self.old → trace self.new ≡ trace self.old }
-        ensures bytes { is_honest self.old
+        ensures honest { is_honest self.new → is_honest self.old }
+        ensures same { is_honest self.new → trace self.new ≡ trace self.old }
+        ensures bytes { is_honest self.new
             → OnOk result (buffer.new ≡ take (length buffer.old) (drop at (trace self.old).now.bytes)) };
 
     /// Writes these bytes from this position on; they are pending until the next sync.
@@ -49,15 +50,15 @@ pub trait Disk {
         requires { at + length bytes.now ≤ capacity self.old }
         ensures size { capacity self.new ≡ capacity self.old }
         ensures count { CountOutcome (failed self.old) (failed self.new) result }
-        ensures honest { is_honest self.new ↔ is_honest self.old }
-        ensures outcome { is_honest self.old → WriteOutcome at bytes.now (trace self.old) (trace self.new) result };
+        ensures honest { is_honest self.new → is_honest self.old }
+        ensures outcome { is_honest self.new → WriteOutcome at bytes.now (trace self.old) (trace self.new) result };
 
     /// Makes all that is pending durable.
     fn sync(&mut self) -> Result<(), DeviceFailed>
         ensures size { capacity self.new ≡ capacity self.old }
         ensures count { CountOutcome (failed self.old) (failed self.new) result }
-        ensures honest { is_honest self.new ↔ is_honest self.old }
-        ensures outcome { is_honest self.old → SyncOutcome (trace self.old) (trace self.new) result };
+        ensures honest { is_honest self.new → is_honest self.old }
+        ensures outcome { is_honest self.new → SyncOutcome (trace self.old) (trace self.new) result };
 
     ghost sized: { (disk : Self) → is_honest disk → length (trace disk).now.bytes ≡ capacity disk };
 }

@@ -1,43 +1,71 @@
-//! A disk over a file. Nothing is claimed of what the file holds, so it isn't honest.
+//! A disk over a file. It is honest as long as the answers are those of a file that keeps what was written.
 
-ghost use Rattle.std.specs.Prelude.{◌≡◌, [], IfErr, IfOk};
-ghost use Rattle.turn_disk.specs.Counts.{CountOutcome};
+ghost use Rattle.std.specs.Prelude.{◌≡◌, [], IfErr, IfOk, length};
+ghost use Rattle.turn_disk.specs.Calls.{AreHonest, replay};
 
 use crate::disk::{DeviceFailed, Disk};
 use crate::failures::raise;
 use crate::opened::{FileRefused, lock, open_apart};
+use crate::record::{READ, Record, SYNC, WRITE};
+use crate::start::{Start, Unknown};
 use std::fs::{File, Files, OpenFile, OpenOptions};
-use std::io;
-use std::marker::Model;
+use std::marker::{Model, PhantomData};
 use std::os::unix::fs::FileExt;
 
 /// A disk over a file, as large as the file is when it is opened.
 ///
 /// Reads and writes continue after a short count or an interruption; each other error is a failed call.
+///
+/// `S` stands for what the file held then. Clauses on its content have the premise that the answers so far, of reads above all, were
+/// those of a file which held it, kept what was written, and which nothing else wrote.
 #[derive(Drop)]
-pub struct FileDisk<F: FileExt + OpenFile = File> {
+pub struct FileDisk<F: FileExt + OpenFile = File, S: Start = Unknown> {
     file: F,
     size: usize,
     failures: u64,
+    calls: Record,
+    start: PhantomData<S>,
 }
 
-impl<F: FileExt + OpenFile> Model for FileDisk<F> {
+impl<F: FileExt + OpenFile, S: Start> Model for FileDisk<F, S> {
     ghost use Rattle.turn_disk.specs.Views.{InFile};
 
     ghost Value = { InFile };
 
-    ghost view = { λ d. record { size = d.size; failures = d.failures } };
+    ghost view = { λ d. record { size = d.size; failures = d.failures; events = d.calls.events } };
 }
 
 impl<F: FileExt + OpenFile> FileDisk<F> {
     /// A disk of the first `size` bytes of a file.
     pub fn new(file: F, size: usize) -> FileDisk<F>
-        ensures { result ≡ record { size = size; failures = 0 } }
+        ensures { result ≡ record { size = size; failures = 0; events = [] } }
     {
         FileDisk {
             file,
             size,
             failures: 0,
+            calls: Record::new(),
+            start: PhantomData,
+        }
+    }
+
+    /// The same disk, with a name for what the file held when it was opened.
+    pub fn holding<S: Start>(self) -> FileDisk<F, S>
+        ensures { result ≡ self }
+    {
+        let FileDisk {
+            file,
+            size,
+            failures,
+            calls,
+            start: _,
+        } = self;
+        FileDisk {
+            file,
+            size,
+            failures,
+            calls,
+            start: PhantomData,
         }
     }
 }
@@ -52,6 +80,7 @@ impl FileDisk<File> {
     ) -> Result<FileDisk<File>, FileRefused>
         ensures size { IfOk result (λ disk. disk.size ≡ size) }
         ensures failures { IfOk result (λ disk. disk.failures ≡ 0) }
+        ensures events { IfOk result (λ disk. disk.events ≡ []) }
     {
         let mut options = OpenOptions::new();
         options.read(true).write(true).create(true);
@@ -65,6 +94,7 @@ impl FileDisk<File> {
     /// Opens an existing file, and takes its lock.
     pub fn open<R: Files<File = File>>(files: &R, path: &str) -> Result<FileDisk<File>, FileRefused>
         ensures failures { IfOk result (λ disk. disk.failures ≡ 0) }
+        ensures events { IfOk result (λ disk. disk.events ≡ []) }
     {
         let mut options = OpenOptions::new();
         options.read(true).write(true);
@@ -79,6 +109,7 @@ impl FileDisk<File> {
         path: &str,
     ) -> Result<FileDisk<File>, FileRefused>
         ensures failures { IfOk result (λ disk. disk.failures ≡ 0) }
+        ensures events { IfOk result (λ disk. disk.events ≡ []) }
         ensures unlocked { IfErr result (λ refused. refused ≡ FileRefused.Device) }
     {
         let mut options = OpenOptions::new();
@@ -90,6 +121,7 @@ impl FileDisk<File> {
     // A disk of all bytes of a file.
     fn whole(file: File) -> Result<FileDisk<File>, FileRefused>
         ensures failures { IfOk result (λ disk. disk.failures ≡ 0) }
+        ensures events { IfOk result (λ disk. disk.events ≡ []) }
         ensures device { IfErr result (λ refused. refused ≡ FileRefused.Device) }
     {
         let len = file.metadata()?.len();
@@ -97,25 +129,19 @@ impl FileDisk<File> {
     }
 }
 
-fn judge(failures: &mut u64, done: io::Result<()>) -> Result<(), DeviceFailed>
-    ensures { CountOutcome failures.old failures.new result }
-{
-    match done {
-        Ok(()) => Ok(()),
-        Err(_) => Err(raise(failures)),
-    }
-}
+// Each method makes one call of the system, and notes it with its answer. A read or a sync that failed isn't noted: it changes nothing.
+impl<F: FileExt + OpenFile, S: Start> Disk for FileDisk<F, S> {
+    ghost use Rattle.turn_disk.specs.Calls.{sized_by};
 
-impl<F: FileExt + OpenFile> Disk for FileDisk<F> {
     ghost capacity = { λ disk. disk.size };
 
     ghost failed = { λ disk. disk.failures };
 
-    ghost is_honest = { λ _. ⊥ };
+    ghost is_honest = { λ disk. (length S.Start.content ≡ disk.size) × AreHonest S.Start.content disk.events };
 
-    ghost trace = { λ _. record { now = record { bytes = []; pending = [] }; past = [] } };
+    ghost trace = { λ disk. replay S.Start.content disk.events };
 
-    ghost sized = { λ _ none. absurd none };
+    ghost sized = { λ disk honest. sized_by S.Start.content disk.events disk.size honest };
 
     fn size(&self) -> usize {
         self.size
@@ -126,17 +152,35 @@ impl<F: FileExt + OpenFile> Disk for FileDisk<F> {
     }
 
     fn read_at(&mut self, at: usize, buffer: &mut [u8]) -> Result<(), DeviceFailed> {
-        let done = self.file.read_exact_at(buffer, at as u64);
-        judge(&mut self.failures, done)
+        match self.file.read_exact_at(buffer, at as u64) {
+            Ok(()) => {
+                self.calls.note(READ, at, true, buffer);
+                Ok(())
+            }
+            Err(_) => Err(raise(&mut self.failures)),
+        }
     }
 
     fn write_at(&mut self, at: usize, bytes: &[u8]) -> Result<(), DeviceFailed> {
-        let done = self.file.write_all_at(bytes, at as u64);
-        judge(&mut self.failures, done)
+        match self.file.write_all_at(bytes, at as u64) {
+            Ok(()) => {
+                self.calls.note(WRITE, at, true, bytes);
+                Ok(())
+            }
+            Err(_) => {
+                self.calls.note(WRITE, at, false, bytes);
+                Err(raise(&mut self.failures))
+            }
+        }
     }
 
     fn sync(&mut self) -> Result<(), DeviceFailed> {
-        let done = self.file.sync_data();
-        judge(&mut self.failures, done)
+        match self.file.sync_data() {
+            Ok(()) => {
+                self.calls.note(SYNC, 0, true, &[]);
+                Ok(())
+            }
+            Err(_) => Err(raise(&mut self.failures)),
+        }
     }
 }

@@ -1,6 +1,7 @@
 //! Disks of fixed size, and what a stop may leave of them.
 //!
-//! An honest disk keeps what was synced; of what was written since, a stop may leave anything. `MemoryDisk` is honest.
+//! An honest disk keeps what was synced; of what was written since, a stop may leave anything. `MemoryDisk` is honest, and `FileDisk`
+//! is as long as the file answers as one that does.
 //! `write_through` and `write_produced` state what this means for a write with its sync, so that the layers above have to
 //! do with bytes alone.
 #![tactic(auto)]
@@ -17,6 +18,8 @@ mod opened;
 mod outcome;
 mod produced;
 mod reads;
+mod record;
+mod start;
 mod writes;
 
 pub use disk::{DeviceFailed, Disk};
@@ -27,4 +30,5 @@ pub use opened::{FileRefused, is_apart, open_regular};
 pub use outcome::Outcome;
 pub use produced::{Bytes, Chain, PIECE, Producer, write_produced};
 pub use reads::{read_array, read_pieces};
+pub use start::{Start, Unknown};
 pub use writes::write_through;

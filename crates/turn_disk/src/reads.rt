@@ -1,6 +1,6 @@
 //! Reads.
 
-ghost use Rattle.std.specs.Prelude.{◌≡◌, ◌+◌, ◌++◌, ◌≤◌, ◌<◌, ◌^◌, ◌↔◌, IfOk, OnOk, drop, length, take};
+ghost use Rattle.std.specs.Prelude.{◌≡◌, ◌+◌, ◌++◌, ◌≤◌, ◌<◌, ◌^◌, IfOk, OnOk, drop, length, take};
 ghost use Rattle.turn_disk.specs.Counts.{CountOutcome};
 ghost use Rattle.turn_disk.specs.Disk.{StandsAt};
 
@@ -12,9 +12,9 @@ pub fn read_array<D: Disk, const N: usize>(disk: &mut D, at: usize) -> Result<[u
     requires { at + N ≤ D.capacity disk.old }
     ensures size { D.capacity disk.new ≡ D.capacity disk.old }
     ensures count { CountOutcome (D.failed disk.old) (D.failed disk.new) result }
-    ensures honest { D.is_honest disk.new ↔ D.is_honest disk.old }
-    ensures same { D.is_honest disk.old → D.trace disk.new ≡ D.trace disk.old }
-    ensures bytes { D.is_honest disk.old → IfOk result (λ bytes. StandsAt at bytes (D.trace disk.old).now.bytes) }
+    ensures honest { D.is_honest disk.new → D.is_honest disk.old }
+    ensures same { D.is_honest disk.new → D.trace disk.new ≡ D.trace disk.old }
+    ensures bytes { D.is_honest disk.new → IfOk result (λ bytes. StandsAt at bytes (D.trace disk.old).now.bytes) }
 {
     let mut bytes = [0; N];
     disk.read_at(at, &mut bytes)?;
@@ -33,10 +33,10 @@ fn read_part<D: Disk>(
     requires place { at + size ≤ D.capacity disk.old }
     ensures size { D.capacity disk.new ≡ D.capacity disk.old }
     ensures count { CountOutcome (D.failed disk.old) (D.failed disk.new) result }
-    ensures honest { D.is_honest disk.new ↔ D.is_honest disk.old }
-    ensures same { D.is_honest disk.old → D.trace disk.new ≡ D.trace disk.old }
+    ensures honest { D.is_honest disk.new → D.is_honest disk.old }
+    ensures same { D.is_honest disk.new → D.trace disk.new ≡ D.trace disk.old }
     ensures len { length buffer.new ≡ length buffer.old }
-    ensures front { D.is_honest disk.old → OnOk result (take (done + size) buffer.new
+    ensures front { D.is_honest disk.new → OnOk result (take (done + size) buffer.new
         ≡ take done buffer.old ++ take size (drop at (D.trace disk.old).now.bytes)) }
 {
     disk.read_at(at, &mut buffer[done..done + size])?;
@@ -50,10 +50,10 @@ pub fn read_pieces<D: Disk>(disk: &mut D, at: usize, buffer: &mut [u8]) -> Resul
     requires addressable { at + length buffer.old < 2 ^ 64 }
     ensures size { D.capacity disk.new ≡ D.capacity disk.old }
     ensures count { CountOutcome (D.failed disk.old) (D.failed disk.new) result }
-    ensures honest { D.is_honest disk.new ↔ D.is_honest disk.old }
-    ensures same { D.is_honest disk.old → D.trace disk.new ≡ D.trace disk.old }
+    ensures honest { D.is_honest disk.new → D.is_honest disk.old }
+    ensures same { D.is_honest disk.new → D.trace disk.new ≡ D.trace disk.old }
     ensures len { length buffer.new ≡ length buffer.old }
-    ensures bytes { D.is_honest disk.old → OnOk result (StandsAt at buffer.new (D.trace disk.old).now.bytes) }
+    ensures bytes { D.is_honest disk.new → OnOk result (StandsAt at buffer.new (D.trace disk.old).now.bytes) }
 {
     let mut done = 0;
     while done < buffer.len() {

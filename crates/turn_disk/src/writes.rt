@@ -1,8 +1,8 @@
 //! Writes, with what a stop at any moment of them may leave. Crates above use these clauses, and never what is pending.
 
-ghost use Rattle.std.specs.Prelude.{◌≡◌, ◌+◌, ◌≤◌, ◌↔◌, ℕ, List, length, OnOk};
+ghost use Rattle.std.specs.Prelude.{◌≡◌, ◌+◌, ◌≤◌, ℕ, List, length, OnOk};
 ghost use Rattle.turn_disk.specs.Counts.{CountOutcome};
-ghost use Rattle.turn_disk.specs.Disk.{ChangesOnly, EachImageSince, IsSettled, IsSettledBut, WritesThrough, WriteOutcome};
+ghost use Rattle.turn_disk.specs.Disk.{ChangesOnly, EachImageSince, IsSettled, IsSettledBut, ThroughOutcome, WritesThrough, WriteOutcome};
 
 use crate::disk::{DeviceFailed, Disk};
 
@@ -15,15 +15,15 @@ pub(crate) fn write_within<D: Disk>(
     requires { at + length bytes.now ≤ D.capacity disk.old }
     ensures size { D.capacity disk.new ≡ D.capacity disk.old }
     ensures count { CountOutcome (D.failed disk.old) (D.failed disk.new) result }
-    ensures honest { D.is_honest disk.new ↔ D.is_honest disk.old }
+    ensures honest { D.is_honest disk.new → D.is_honest disk.old }
 
     // A stop at any moment changes nothing outside the range, nor does the call.
-    ensures stop { D.is_honest disk.old → (from count : ℕ) (base : List ℕ)
+    ensures stop { D.is_honest disk.new → (from count : ℕ) (base : List ℕ)
         → from ≤ at → at + length bytes.now ≤ from + count → IsSettledBut from count base (D.trace disk.old).now
         → EachImageSince (D.trace disk.old) (D.trace disk.new) (ChangesOnly from count base)
         × IsSettledBut from count base (D.trace disk.new).now }
 
-    ensures outcome { D.is_honest disk.old → WriteOutcome at bytes.now (D.trace disk.old) (D.trace disk.new) result }
+    ensures outcome { D.is_honest disk.new → WriteOutcome at bytes.now (D.trace disk.old) (D.trace disk.new) result }
 {
     disk.write_at(at, bytes)
 }
@@ -33,16 +33,19 @@ pub fn write_through<D: Disk>(disk: &mut D, at: usize, bytes: &[u8]) -> Result<(
     requires { at + length bytes.now ≤ D.capacity disk.old }
     ensures size { D.capacity disk.new ≡ D.capacity disk.old }
     ensures count { CountOutcome (D.failed disk.old) (D.failed disk.new) result }
-    ensures honest { D.is_honest disk.new ↔ D.is_honest disk.old }
+    ensures honest { D.is_honest disk.new → D.is_honest disk.old }
 
     // A stop at any moment changes nothing outside the range.
-    ensures stop { D.is_honest disk.old → IsSettled (D.trace disk.old).now
+    ensures stop { D.is_honest disk.new → IsSettled (D.trace disk.old).now
         → EachImageSince (D.trace disk.old) (D.trace disk.new)
         (ChangesOnly at (length bytes.now) (D.trace disk.old).now.bytes) }
 
     // Whatever was pending before, it is synced too.
-    ensures done { D.is_honest disk.old
+    ensures done { D.is_honest disk.new
         → OnOk result (WritesThrough at bytes.now (D.trace disk.old).now (D.trace disk.new).now) }
+
+    // The bytes are written once and synced once, and no other device call changes the disk.
+    ensures once { D.is_honest disk.new → ThroughOutcome at bytes.now (D.trace disk.old) (D.trace disk.new) result }
 {
     write_within(disk, at, bytes)?;
     disk.sync()?;

@@ -1,7 +1,7 @@
 -- An area that holds frames.
 use Rattle.std.specs.Prelude.{◌≡◌, ◌≢◌, ◌⊎◌, ◌∷◌, ◌++◌, ◌<◌, ◌+◌, ◌^◌, [], List, ℕ, length, slice_index}
 use Rattle.std.specs.Int.{to_be_bytes, w32}
-use Rattle.turn_disk.specs.Disk.{ChangesOnly, StandsAt}
+use Rattle.turn_disk.specs.Disk.{ChangesOnly, EachImageSince, IsSettled, StandsAt, Trace, WritesOnce}
 
 -- the byte of an open gate; every other byte is that of a closed one
 abbrev pub open_gate : ℕ
@@ -70,3 +70,13 @@ pub record HoldsWith
     (from : ℕ) (payloads : List (List ℕ)) (payload : List ℕ) (gate count limit : ℕ) (old new : List ℕ) : Type 0 where
   pub others : ChangesOnly gate count old new
   pub frames : HoldsFramesTo from (payloads ++ payload ∷ []) (gate_after gate payload) limit new
+
+-- How a frame is added. Up to some moment a stop leaves the frames from before alone. There the call ended, or nothing is pending
+-- and the frame waits after its closed gate. From then on a stop leaves the frames with the new one or without, and the gate alone
+-- is written, once.
+pub record AddsFrame (from : ℕ) (payloads : List (List ℕ)) (payload : List ℕ) (gate limit : ℕ) (old new : Trace) : Type 0 where
+  pub mid : Trace
+  pub first : EachImageSince old mid (HoldsWithout from payloads gate (5 + length payload) limit old.now.bytes)
+  pub there : (new ≡ mid) ⊎ (IsSettled mid.now × IsWaiting gate payload limit mid.now.bytes)
+  pub second : EachImageSince mid new (HoldsWithOrWithout from payloads payload gate (6 + length payload) limit old.now.bytes)
+  pub once : WritesOnce gate 1 mid new

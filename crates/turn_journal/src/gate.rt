@@ -1,8 +1,8 @@
 //! The steps at a gate, each with what a stop inside it leaves.
 
-ghost use Rattle.std.specs.Prelude.{◌≡◌, ◌+◌, ◌<◌, ◌≤◌, ◌^◌, ◌↔◌, ℕ, List, length, OnOk, IfOk};
+ghost use Rattle.std.specs.Prelude.{◌≡◌, ◌+◌, ◌<◌, ◌≤◌, ◌^◌, ℕ, List, length, OnOk, IfOk};
 ghost use Rattle.turn_disk.specs.Counts.{CountOutcome};
-ghost use Rattle.turn_disk.specs.Disk.{EachImageSince, IsSettled, WritesThrough};
+ghost use Rattle.turn_disk.specs.Disk.{EachImageSince, IsSettled, WritesOnce, WritesThrough};
 ghost use Rattle.turn_journal.specs.Frames.{HoldsFramesTo, IsWaiting, HoldsWithout, HoldsWithOrWithout, HoldsWith};
 ghost use Rattle.turn_journal.specs.Scan.{HasLength};
 
@@ -20,16 +20,16 @@ pub fn write_after<D: Disk>(disk: &mut D, gate: usize, bytes: &[u8]) -> Result<(
     requires addressable { gate + 1 < 2 ^ 64 }
     ensures size { D.capacity disk.new ≡ D.capacity disk.old }
     ensures count { CountOutcome (D.failed disk.old) (D.failed disk.new) result }
-    ensures honest { D.is_honest disk.new ↔ D.is_honest disk.old }
+    ensures honest { D.is_honest disk.new → D.is_honest disk.old }
 
     // A stop at any moment leaves the frames up to the gate.
     ensures stop { let old = (D.trace disk.old).now in
-        D.is_honest disk.old → IsSettled old → (from : ℕ) (payloads : List (List ℕ)) (limit : ℕ)
+        D.is_honest disk.new → IsSettled old → (from : ℕ) (payloads : List (List ℕ)) (limit : ℕ)
         → HoldsFramesTo from payloads gate limit old.bytes
         → EachImageSince (D.trace disk.old) (D.trace disk.new)
         (HoldsWithout from payloads gate (length bytes.now) limit old.bytes) }
 
-    ensures done { D.is_honest disk.old
+    ensures done { D.is_honest disk.new
         → OnOk result (WritesThrough (gate + 1) bytes.now (D.trace disk.old).now (D.trace disk.new).now) }
 {
     write_through(disk, gate + 1, bytes)
@@ -40,19 +40,22 @@ pub fn open_gate<D: Disk>(disk: &mut D, gate: usize) -> Result<(), DeviceFailed>
     requires { gate + 1 ≤ D.capacity disk.old }
     ensures size { D.capacity disk.new ≡ D.capacity disk.old }
     ensures count { CountOutcome (D.failed disk.old) (D.failed disk.new) result }
-    ensures honest { D.is_honest disk.new ↔ D.is_honest disk.old }
+    ensures honest { D.is_honest disk.new → D.is_honest disk.old }
 
     // A stop at any moment leaves the frames up to the gate, with the one that waits or without.
     ensures stop { let old = (D.trace disk.old).now in
-        D.is_honest disk.old → IsSettled old → (from : ℕ) (payloads : List (List ℕ)) (payload : List ℕ) (limit : ℕ)
+        D.is_honest disk.new → IsSettled old → (from : ℕ) (payloads : List (List ℕ)) (payload : List ℕ) (limit : ℕ)
         → HoldsFramesTo from payloads gate limit old.bytes → IsWaiting gate payload limit old.bytes
         → EachImageSince (D.trace disk.old) (D.trace disk.new)
         (HoldsWithOrWithout from payloads payload gate 1 limit old.bytes) }
 
     ensures done { let old = (D.trace disk.old).now in let new = (D.trace disk.new).now in
-        D.is_honest disk.old → (from : ℕ) (payloads : List (List ℕ)) (payload : List ℕ) (limit : ℕ)
+        D.is_honest disk.new → (from : ℕ) (payloads : List (List ℕ)) (payload : List ℕ) (limit : ℕ)
         → HoldsFramesTo from payloads gate limit old.bytes → IsWaiting gate payload limit old.bytes
         → OnOk result (IsSettled new × HoldsWith from payloads payload gate 1 limit old.bytes new.bytes) }
+
+    // The gate is written at most once, and nothing else is.
+    ensures once { D.is_honest disk.new → WritesOnce gate 1 (D.trace disk.old) (D.trace disk.new) }
 {
     write_through(disk, gate, &[OPEN])?;
     Ok(())
@@ -64,9 +67,9 @@ pub fn read_length<D: Disk>(disk: &mut D, gate: usize) -> Result<usize, DeviceFa
     requires addressable { gate + 1 < 2 ^ 64 }
     ensures size { D.capacity disk.new ≡ D.capacity disk.old }
     ensures count { CountOutcome (D.failed disk.old) (D.failed disk.new) result }
-    ensures honest { D.is_honest disk.new ↔ D.is_honest disk.old }
-    ensures same { D.is_honest disk.old → D.trace disk.new ≡ D.trace disk.old }
-    ensures length { D.is_honest disk.old → IfOk result (λ count. HasLength gate count (D.trace disk.old).now.bytes) }
+    ensures honest { D.is_honest disk.new → D.is_honest disk.old }
+    ensures same { D.is_honest disk.new → D.trace disk.new ≡ D.trace disk.old }
+    ensures length { D.is_honest disk.new → IfOk result (λ count. HasLength gate count (D.trace disk.old).now.bytes) }
 {
     let bytes = read_array(disk, gate + 1)?;
     Ok(u32::from_be_bytes(bytes) as usize)

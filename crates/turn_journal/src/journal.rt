@@ -3,9 +3,9 @@
 
 ghost use Rattle.std.specs.Prelude.{◌≡◌, ◌+◌, ◌<◌, ◌≤◌, ◌^◌, ◌↔◌, ℕ, List, length, OnOk, OnErr, IfOk, IfErr, IsTrue};
 ghost use Rattle.turn_disk.specs.Counts.{Rises};
-ghost use Rattle.turn_disk.specs.Disk.{EachImageSince, IsSettled, Trace};
+ghost use Rattle.turn_disk.specs.Disk.{EachImageSince, IsSettled};
 ghost use Rattle.turn_journal.specs.Area.{end_of, limit_of};
-ghost use Rattle.turn_journal.specs.Frames.{gate_after, HoldsFramesTo, HoldsWithout, HoldsWithOrWithout, HoldsWith};
+ghost use Rattle.turn_journal.specs.Frames.{gate_after, AddsFrame, HoldsFramesTo, HoldsWithOrWithout, HoldsWith};
 ghost use Rattle.turn_journal.specs.Scan.{IsAdmitted, IsFound, IsBadFrame};
 ghost use Rattle.turn_journal.specs.declared.journal.AppendRefused.TheVariants.{Device};
 
@@ -133,7 +133,7 @@ impl<A: Allocator> Journal<A> {
         requires short { length payload.now ≤ self.old.max_payload }
 
         ensures size { D.capacity disk.new ≡ D.capacity disk.old }
-        ensures honest { D.is_honest disk.new ↔ D.is_honest disk.old }
+        ensures honest { D.is_honest disk.new → D.is_honest disk.old }
 
         ensures appended { OnOk result (self.new ≡ record self.old { end = gate_after self.old.end payload.now }) }
         ensures full { (result ≡ Err AppendRefused.Full) ↔ (self.old.size < self.old.end + 6 + length payload.now) }
@@ -143,25 +143,22 @@ impl<A: Allocator> Journal<A> {
         ensures count { OnOk result (D.failed disk.new ≡ D.failed disk.old) }
         ensures kept { OnErr result (self.new ≡ self.old) }
 
-        // Up to some moment, a stop leaves the frames from before alone; from then on, with the new one or without.
+        // A stop leaves the frames from before alone until the frame is durable after its closed gate; from then on, with the
+        // new one or without, and the gate alone is written, once.
         ensures stages { let old = (D.trace disk.old).now in
-            D.is_honest disk.old → IsSettled old → (from : ℕ) (payloads : List (List ℕ))
+            D.is_honest disk.new → IsSettled old → (from : ℕ) (payloads : List (List ℕ))
             → HoldsFramesTo from payloads (end_of self.old) (limit_of self.old) old.bytes
-            → (mid : Trace)
-            × EachImageSince (D.trace disk.old) mid
-            (HoldsWithout from payloads (end_of self.old) (5 + length payload.now) (limit_of self.old) old.bytes)
-            × EachImageSince mid (D.trace disk.new)
-            (HoldsWithOrWithout from payloads payload.now (end_of self.old) (6 + length payload.now) (limit_of self.old) old.bytes) }
+            → AddsFrame from payloads payload.now (end_of self.old) (limit_of self.old) (D.trace disk.old) (D.trace disk.new) }
 
         // So a stop at any moment leaves the frames from before, with the new one or without.
         ensures stop { let old = (D.trace disk.old).now in
-            D.is_honest disk.old → IsSettled old → (from : ℕ) (payloads : List (List ℕ))
+            D.is_honest disk.new → IsSettled old → (from : ℕ) (payloads : List (List ℕ))
             → HoldsFramesTo from payloads (end_of self.old) (limit_of self.old) old.bytes
             → EachImageSince (D.trace disk.old) (D.trace disk.new)
             (HoldsWithOrWithout from payloads payload.now (end_of self.old) (6 + length payload.now) (limit_of self.old) old.bytes) }
 
         ensures done { let old = (D.trace disk.old).now in let new = (D.trace disk.new).now in
-            D.is_honest disk.old → IsSettled old → (from : ℕ) (payloads : List (List ℕ))
+            D.is_honest disk.new → IsSettled old → (from : ℕ) (payloads : List (List ℕ))
             → HoldsFramesTo from payloads (end_of self.old) (limit_of self.old) old.bytes
             → OnOk result (IsSettled new
             × HoldsWith from payloads payload.now (end_of self.old) (6 + length payload.now) (limit_of self.old) old.bytes new.bytes) }
@@ -184,8 +181,8 @@ impl<A: Allocator> Journal<A> {
         requires gate { at < self.now.size }
 
         ensures size { D.capacity disk.new ≡ D.capacity disk.old }
-        ensures honest { D.is_honest disk.new ↔ D.is_honest disk.old }
-        ensures same { D.is_honest disk.old → D.trace disk.new ≡ D.trace disk.old }
+        ensures honest { D.is_honest disk.new → D.is_honest disk.old }
+        ensures same { D.is_honest disk.new → D.trace disk.new ≡ D.trace disk.old }
         ensures device { IfErr result (λ refused. refused ≡ ScanRefused.Device
             → Rises (D.failed disk.old) (D.failed disk.new)) }
         ensures count { OnOk result (D.failed disk.new ≡ D.failed disk.old) }
@@ -194,9 +191,9 @@ impl<A: Allocator> Journal<A> {
 
         ensures admitted { IfOk result (λ found. (count : _) → found ≡ Found.Frame count
             → IsAdmitted at self.now.size self.now.max_payload count) }
-        ensures found { D.is_honest disk.old
+        ensures found { D.is_honest disk.new
             → IfOk result (IsFound (self.now.start + at) (limit_of self.now) self.now.max_payload (D.trace disk.old).now.bytes) }
-        ensures bad { D.is_honest disk.old → IfErr result (λ refused. refused ≡ ScanRefused.BadFrame
+        ensures bad { D.is_honest disk.new → IfErr result (λ refused. refused ≡ ScanRefused.BadFrame
             → IsBadFrame (self.now.start + at) (limit_of self.now) self.now.max_payload (D.trace disk.old).now.bytes) }
     {
         let gate = self.area.start + at;

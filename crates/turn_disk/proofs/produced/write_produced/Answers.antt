@@ -11,7 +11,7 @@ pieces-init g c = record {
   rest = refl;
   size = refl;
   count = refl;
-  honest = ((λ h. h), (λ h. h));
+  honest = λ h. h;
   so_far = λ honest settled. none_so_far c.args.at _ _ settled;
 }
 
@@ -25,32 +25,32 @@ pieces-preserved g c =
       rest = given.remaining;
       size = c.write_within.ensures.size ∙ inv.size;
       count = c.in_ok-write_within.ensures.count ∙ inv.count;
-      honest = ((λ h. inv.honest.0 (c.write_within.ensures.honest.0 h)), (λ h. c.write_within.ensures.honest.1 (inv.honest.1 h)));
+      honest = λ h. inv.honest (c.write_within.ensures.honest h);
       so_far = λ honest settled.
-          more_so_far c.args.at _ _ c.pieces.done (c.pieces.done + c.fill_piece-count.result) _ _ _ (omega arith) given.within (next_is _ _ _ _ _ given) (inv.so_far honest settled) (c.in_ok-write_within.ensures.outcome (inv.honest.1 honest));
+          more_so_far c.args.at _ _ c.pieces.done (c.pieces.done + c.fill_piece-count.result) _ _ _ (omega arith) given.within (next_is _ _ _ _ _ given) (inv.so_far (c.write_within.ensures.honest honest) settled) (c.in_ok-write_within.ensures.outcome honest);
     }
 
 pub returns-in_err-write_within-clause-stop : goal.returns-in_err-write_within-clause-stop
 returns-in_err-write_within-clause-stop g c = λ honest settled.
     let inv = c.pieces.invariant in
     let given = next_given _ c.pieces.done c.fill_piece-count.result c.fill_piece-count.new.piece _ _ inv.within inv.rest (omega (arith, c.fill_piece-count.ensures.small, c.fill_piece-count.ensures.len)) c.fill_piece-count.ensures.gives (λ none. c.fill_piece-count.ensures.ends (omega (arith, none))) in
-    stopped_so_far c.args.at _ _ c.pieces.done (c.pieces.done + c.fill_piece-count.result) _ _ _ (omega arith) given.within (next_is _ _ _ _ _ given) (inv.so_far honest settled) (c.in_err-write_within.ensures.outcome (inv.honest.1 honest))
+    stopped_so_far c.args.at _ _ c.pieces.done (c.pieces.done + c.fill_piece-count.result) _ _ _ (omega arith) given.within (next_is _ _ _ _ _ given) (inv.so_far (c.write_within.ensures.honest honest) settled) (c.in_err-write_within.ensures.outcome honest)
 
 pub returns-in_err-sync-clause-stop : goal.returns-in_err-sync-clause-stop
 returns-in_err-sync-clause-stop g c = λ honest settled.
     let inv = c.pieces.invariant in
-    synced_so_far c.args.at _ c.pieces.done _ _ _ (inv.so_far honest settled) (outcome_sync _ _ _ (c.sync.ensures.outcome (inv.honest.1 honest)))
+    synced_so_far c.args.at _ c.pieces.done _ _ _ (inv.so_far (c.sync.ensures.honest honest) settled) (outcome_sync _ _ _ (c.sync.ensures.outcome honest))
 
 pub returns-then-count-eq0-clause-stop : goal.returns-then-count-eq0-clause-stop
 returns-then-count-eq0-clause-stop g c = λ honest settled.
     let inv = c.pieces.invariant in
-    synced_so_far c.args.at _ c.pieces.done _ _ _ (inv.so_far honest settled) (outcome_sync _ _ _ (c.sync.ensures.outcome (inv.honest.1 honest)))
+    synced_so_far c.args.at _ c.pieces.done _ _ _ (inv.so_far (c.sync.ensures.honest honest) settled) (outcome_sync _ _ _ (c.sync.ensures.outcome honest))
 
 pub returns-then-count-eq0-clause-done : goal.returns-then-count-eq0-clause-done
 returns-then-count-eq0-clause-done g c = λ honest settled.
     let inv = c.pieces.invariant in
     let given = next_given _ c.pieces.done c.fill_piece-count.result c.fill_piece-count.new.piece _ _ inv.within inv.rest (omega (arith, c.fill_piece-count.ensures.small, c.fill_piece-count.ensures.len)) c.fill_piece-count.ensures.gives (λ none. c.fill_piece-count.ensures.ends (omega (arith, none))) in
-    whole_so_far c.args.at _ c.pieces.done _ _ _ (given.ends c.if-count-eq0.true) (inv.so_far honest settled) (c.in_ok-sync.ensures.outcome (inv.honest.1 honest))
+    whole_so_far c.args.at _ c.pieces.done _ _ _ (given.ends c.if-count-eq0.true) (inv.so_far (c.sync.ensures.honest honest) settled) (c.in_ok-sync.ensures.outcome honest)
 
 pub write_within-requires : goal.write_within-requires
 write_within-requires g c =

@@ -1,4 +1,4 @@
-use Rattle.std.proofs.Common.{length, take, ◌-◌, ◌≡◌, ◌≤◌, ◌↔◌}
+use Rattle.std.proofs.Common.{length, take, ◌-◌, ◌≡◌, ◌≤◌}
 use Rattle.turn_disk.specs.Disk.{StandsAt}
 use Rattle.turn_disk.proofs.reads.read_pieces.Given as goal
 
@@ -8,9 +8,9 @@ invariant-loop-done g l = record {
   len : length l.buffer ≡ length l.initial.buffer;
   size : g.D.Disk.capacity l.disk ≡ g.D.Disk.capacity l.initial.disk;
   count : g.D.Disk.failed l.disk ≡ g.D.Disk.failed l.initial.disk;
-  honest : g.D.Disk.is_honest l.disk ↔ g.D.Disk.is_honest l.initial.disk;
-  same : g.D.Disk.is_honest l.initial.disk → g.D.Disk.trace l.disk ≡ g.D.Disk.trace l.initial.disk;
-  read : g.D.Disk.is_honest l.initial.disk → StandsAt l.at (take l.done l.buffer) (g.D.Disk.trace l.initial.disk).now.bytes;
+  honest : g.D.Disk.is_honest l.disk → g.D.Disk.is_honest l.initial.disk;
+  same : g.D.Disk.is_honest l.disk → g.D.Disk.trace l.disk ≡ g.D.Disk.trace l.initial.disk;
+  read : g.D.Disk.is_honest l.disk → StandsAt l.at (take l.done l.buffer) (g.D.Disk.trace l.initial.disk).now.bytes;
 }
 
 abbrev pub decreases-loop-done : goal.decreases-loop-done

@@ -1,6 +1,7 @@
-use Rattle.std.proofs.Common.{arith, length}
-use Rattle.turn_disk.specs.Disk.{ChangesOnly}
-use Rattle.turn_disk.proofs.Since.{settled_but, since_join, since_sync_but, outcome_sync}
+use Rattle.std.proofs.Common.{arith, inl, length, subst, sym}
+use Rattle.std.proofs.lemmas.Result.{err_from_is_err_and}
+use Rattle.turn_disk.specs.Disk.{ChangesOnly, Overwrites, Trace}
+use Rattle.turn_disk.proofs.Since.{settled_but, since_join, since_sync_but, outcome_sync, through_failed}
 use Rattle.turn_disk.proofs.writes.write_through.Goals as goal
 
 pub returns-clause-stop : goal.returns-clause-stop
@@ -8,6 +9,22 @@ returns-clause-stop g c = λ honest settled.
     let old = g.D.Disk.trace c.args.disk.now in
     let mid = g.D.Disk.trace c.write_within.new.disk in
     let count = length c.args.bytes.now in
-    let wrote = c.write_within.ensures.stop honest c.args.at count old.now.bytes (omega arith) (omega arith) (settled_but c.args.at count old.now settled) in
-    let still = c.write_within.ensures.honest.1 honest in
-    since_join old mid _ (ChangesOnly c.args.at count old.now.bytes) wrote.0 (since_sync_but c.args.at count old.now.bytes mid _ wrote.1 (outcome_sync _ _ _ (c.sync.ensures.outcome still)))
+    let before = c.sync.ensures.honest honest in
+    let wrote = c.write_within.ensures.stop before c.args.at count old.now.bytes (omega arith) (omega arith) (settled_but c.args.at count old.now settled) in
+    since_join old mid _ (ChangesOnly c.args.at count old.now.bytes) wrote.0 (since_sync_but c.args.at count old.now.bytes mid _ wrote.1 (outcome_sync _ _ _ (c.sync.ensures.outcome honest)))
+
+pub returns-in_err-write_within-clause-once : goal.returns-in_err-write_within-clause-once
+returns-in_err-write_within-clause-once g c = λ honest.
+    let is = err_from_is_err_and c.from_residual.result c.from_residual.ensures.1 in
+    through_failed c.args.at c.args.bytes.now _ _ c.from_residual.result is.0 is.1 (c.in_err-write_within.ensures.outcome honest)
+
+pub returns-in_err-sync-clause-once : goal.returns-in_err-sync-clause-once
+returns-in_err-sync-clause-once g c = λ honest.
+    let is = err_from_is_err_and c.from_residual-in_err-sync.result c.from_residual-in_err-sync.ensures.1 in
+    let same = c.in_err-sync.ensures.outcome honest in
+    through_failed c.args.at c.args.bytes.now _ _ c.from_residual-in_err-sync.result is.0 is.1
+    (inl (subst (λ (t : Trace). Overwrites c.args.at (length c.args.bytes.now) (g.D.Disk.trace c.args.disk.now) t) (sym same) (c.in_ok-write_within.ensures.outcome (c.sync.ensures.honest honest)).range))
+
+pub returns-clause-once : goal.returns-clause-once
+returns-clause-once g c = λ honest.
+    (g.D.Disk.trace c.write_within.new.disk, c.in_ok-write_within.ensures.outcome (c.sync.ensures.honest honest), c.in_ok-sync.ensures.outcome honest)

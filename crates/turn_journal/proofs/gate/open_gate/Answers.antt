@@ -1,5 +1,5 @@
-use Rattle.std.proofs.Common.{◌≡◌, ◌+◌, ℕ, slice_index, arith, ap, ◌∙◌}
-use Rattle.turn_disk.proofs.Since.{since_weaken}
+use Rattle.std.proofs.Common.{◌≡◌, ◌∷◌, [], ◌+◌, ℕ, slice_index, arith, ap, ◌∙◌}
+use Rattle.turn_disk.proofs.Since.{since_weaken, through_once}
 use Rattle.turn_journal.proofs.Growing.{at_gate, with_open_gate}
 use Rattle.turn_journal.proofs.gate.open_gate.Goals as goal
 
@@ -18,3 +18,9 @@ returns-clause-done g c = λ honest from payloads payload limit is waits.
     let bytes = (g.D.Disk.trace c.write_through.new.disk).now.bytes in
     let is_open : slice_index bytes c.args.gate ≡ 165 = ap (λ (i : ℕ). slice_index bytes i) here ∙ wrote.written 0 (omega arith) in
     (wrote.settled, with_open_gate from payloads c.args.gate limit _ is payload waits _ wrote.content is_open)
+
+pub returns-in_err-write_through-clause-once : goal.returns-in_err-write_through-clause-once
+returns-in_err-write_through-clause-once g c = λ honest. through_once c.args.gate (165 ∷ []) _ _ c.write_through.result (c.write_through.ensures.once honest)
+
+pub returns-clause-once : goal.returns-clause-once
+returns-clause-once g c = λ honest. through_once c.args.gate (165 ∷ []) _ _ c.write_through.result (c.write_through.ensures.once honest)

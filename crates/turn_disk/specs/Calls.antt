@@ -1,0 +1,52 @@
+-- The calls on a file with their answers, and the trace that they amount to.
+use Rattle.std.specs.Prelude.{◌≡◌, ◌≤◌, ◌+◌, ℕ, zero, suc, Bool, true, false, List, [], ◌∷◌, length, take, drop}
+use Rattle.std.proofs.Common.{◌++◌, ◌∙◌, refl, arith}
+use Rattle.std.proofs.lemmas.List.{length-take, length-drop, length-append}
+use Rattle.turn_disk.specs.Disk.{Trace, inside_write}
+use Rattle.turn_disk.specs.Crash.{replaced_at}
+
+-- which call it was (0 a read, 1 a write, 2 a sync), its position, whether it succeeded, and the bytes that it read or wrote
+abbrev pub Event : Type 0
+Event = ℕ × ℕ × Bool × List ℕ
+
+-- The trace after a call: a read, a write, a sync. A write that fails leaves its range pending, and what a read returns as it was.
+abbrev pub after_call : ℕ → ℕ → Bool → List ℕ → Trace → Trace
+after_call zero at succeeded bytes t = t
+after_call (suc zero) at true bytes t = record {
+  now = record { bytes = replaced_at at bytes t.now.bytes; pending = record { at = at; count = length bytes } ∷ t.now.pending };
+  past = inside_write at (length bytes) t.now ∷ t.past;
+}
+after_call (suc zero) at false bytes t = record { now = inside_write at (length bytes) t.now; past = inside_write at (length bytes) t.now ∷ t.past }
+after_call (suc (suc more)) at succeeded bytes t = record { now = record { bytes = t.now.bytes; pending = [] }; past = t.now ∷ t.past }
+
+-- the trace of a file that held these bytes, after these calls, of which the newest comes first
+abbrev pub replay : List ℕ → List Event → Trace
+replay content [] = record { now = record { bytes = content; pending = [] }; past = [] }
+replay content (event ∷ earlier) = after_call event.0 event.1 event.2 event.3 (replay content earlier)
+
+-- a read returned what was written last, and a write lay on the file
+abbrev pub Agrees : ℕ → ℕ → List ℕ → Trace → Type 0
+Agrees zero at bytes t = bytes ≡ take (length bytes) (drop at t.now.bytes)
+Agrees (suc zero) at bytes t = at + length bytes ≤ length t.now.bytes
+Agrees (suc (suc more)) at bytes t = Unit {0}
+
+-- each answer was that of a file which held these bytes and kept what was written
+abbrev pub AreHonest : List ℕ → List Event → Type 0
+AreHonest content [] = Unit {0}
+AreHonest content (event ∷ earlier) = Agrees event.0 event.1 event.3 (replay content earlier) × AreHonest content earlier
+
+-- the size stays
+size_kept : (call at : ℕ) (succeeded : Bool) (bytes : List ℕ) (t : Trace) → Agrees call at bytes t → length (after_call call at succeeded bytes t).now.bytes ≡ length t.now.bytes
+size_kept zero at succeeded bytes t agrees = refl
+size_kept (suc zero) at true bytes t fits =
+    let content = t.now.bytes in
+    omega (arith, fits, length-append (take at content ++ bytes) (drop (at + length bytes) content), length-append (take at content) bytes, length-take at content, length-drop (at + length bytes) content)
+size_kept (suc zero) at false bytes t fits = refl
+size_kept (suc (suc more)) at succeeded bytes t agrees = refl
+
+size_after : (content : List ℕ) (events : List Event) → AreHonest content events → length (replay content events).now.bytes ≡ length content
+size_after content [] honest = refl
+size_after content (event ∷ earlier) honest = size_kept event.0 event.1 event.2 event.3 (replay content earlier) honest.0 ∙ size_after content earlier honest.1
+
+pub sized_by : (content : List ℕ) (events : List Event) (size : ℕ) → (length content ≡ size) × AreHonest content events → length (replay content events).now.bytes ≡ size
+sized_by content events size honest = size_after content events honest.1 ∙ honest.0

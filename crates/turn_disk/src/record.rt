@@ -1,0 +1,42 @@
+//! The calls on a file with their answers, which clauses alone read.
+
+ghost use Rattle.std.specs.Prelude.{◌≡◌, ◌∷◌, [], List};
+ghost use Rattle.std.specs.Borrow.{ftrue};
+ghost use Rattle.turn_disk.specs.Calls.{Event};
+
+use std::marker::{Model, PhantomData};
+
+/// The number of a read, by which it is noted.
+pub(crate) const READ: u8 = 0;
+
+/// The number of a write.
+pub(crate) const WRITE: u8 = 1;
+
+/// The number of a sync.
+pub(crate) const SYNC: u8 = 2;
+
+/// The calls so far, the newest first. It takes no memory: it exists in proofs alone.
+#[derive(Drop)]
+pub struct Record {
+    marker: PhantomData<u8>,
+    pub ghost events: { List Event },
+}
+
+impl Model for Record {
+    ghost also_owns = { λ _. ftrue };
+}
+
+impl Record {
+    pub(crate) fn new() -> Record
+        ensures { result.events ≡ [] }
+    {
+        Record {
+            marker: PhantomData,
+        }
+    }
+
+    /// Notes a call: which one, at which position, whether it succeeded, and the bytes that it read or wrote.
+    pub(crate) fn note(&mut self, _call: u8, _at: usize, _succeeded: bool, _bytes: &[u8])
+        ensures { self.new.events ≡ (_call, _at, _succeeded, _bytes.now) ∷ self.old.events }
+    {}
+}
