@@ -25,6 +25,7 @@ mod store_compactions;
 mod store_damage;
 mod store_earlier;
 mod store_format;
+mod store_format_stops;
 mod store_frames;
 mod store_opens;
 mod store_pieces;

@@ -42,16 +42,16 @@ fn read_once<D: Disk, A: Allocator + Copy>(
     disk: D,
     limits: Limits,
 ) -> (D, Result<Reading<A>, OpenFault>)
-    ensures honest { D.is_honest result.0 ↔ D.is_honest disk }
-    ensures same { D.is_honest disk → (D.trace result.0).now.bytes ≡ (D.trace disk).now.bytes }
+    ensures honest { D.is_honest result.0 → D.is_honest disk }
+    ensures same { D.is_honest result.0 → (D.trace result.0).now.bytes ≡ (D.trace disk).now.bytes }
 
     // What was read, and the reason of each refusal: the first that applies.
-    ensures read { D.is_honest disk
+    ensures read { D.is_honest result.0
         → IfOk result.1 (λ r. IsRead D (Some limits) (D.trace disk).now.bytes (snapshot_of r.table)) }
-    ensures why { D.is_honest disk → IfErr result.1 (WhyRefused limits (D.trace disk).now.bytes) }
+    ensures why { D.is_honest result.0 → IfErr result.1 (WhyRefused limits (D.trace disk).now.bytes) }
 
     // If the content stands for a history, the table is the history's, and a refusal is of the device or of memory.
-    ensures tells { D.is_honest disk → (form : Form) (h : History) (clock : ℕ) → form.bounds ≡ limits
+    ensures tells { D.is_honest result.0 → (form : Form) (h : History) (clock : ℕ) → form.bounds ≡ limits
         → StandsForAt form h clock (D.trace disk).now.bytes
         → MatchResult result.1 (λ r. snapshot_of r.table ≡ record { moment = clock; contents = table h clock }) IsPlain }
 {
@@ -70,12 +70,12 @@ fn read_once<D: Disk, A: Allocator + Copy>(
 
 /// The limits under which a disk is read: the given ones, or those in its superblock.
 fn limits_for<D: Disk>(disk: &mut D, limits: &Option<Limits>) -> Result<Limits, LimitsRefused>
-    ensures honest { D.is_honest disk.new ↔ D.is_honest disk.old }
-    ensures same { D.is_honest disk.old → D.trace disk.new ≡ D.trace disk.old }
+    ensures honest { D.is_honest disk.new → D.is_honest disk.old }
+    ensures same { D.is_honest disk.new → D.trace disk.new ≡ D.trace disk.old }
     ensures given { IfOk result (λ found. IsUnder limits.now found) }
-    ensures own { D.is_honest disk.old → limits.now ≡ None
+    ensures own { D.is_honest disk.new → limits.now ≡ None
         → IfOk result (λ found. (area : ℕ) × HasSuperblock area found (D.trace disk.old).now.bytes) }
-    ensures none { D.is_honest disk.old → IfErr result (λ refused. refused ≡ LimitsRefused.NotAStore
+    ensures none { D.is_honest disk.new → IfErr result (λ refused. refused ≡ LimitsRefused.NotAStore
         → (area : ℕ) (b : Bounds) → HasSuperblock area b (D.trace disk.old).now.bytes → ⊥) }
 {
     match limits {
@@ -90,11 +90,11 @@ fn try_once<D: Disk, A: Allocator + Copy>(
     disk: D,
     limits: &Option<Limits>,
 ) -> (D, Result<Reading<A>, ReadingFault>)
-    ensures honest { D.is_honest result.0 ↔ D.is_honest disk }
-    ensures same { D.is_honest disk → (D.trace result.0).now.bytes ≡ (D.trace disk).now.bytes }
-    ensures read { D.is_honest disk → IfOk result.1 (λ r. IsRead D limits.now (D.trace disk).now.bytes (snapshot_of r.table)) }
-    ensures why { D.is_honest disk → IfErr result.1 (WhyUnread limits.now (D.trace disk).now.bytes) }
-    ensures tells { D.is_honest disk → Tells limits.now (λ r. r.table) (D.trace disk).now.bytes result.1 }
+    ensures honest { D.is_honest result.0 → D.is_honest disk }
+    ensures same { D.is_honest result.0 → (D.trace result.0).now.bytes ≡ (D.trace disk).now.bytes }
+    ensures read { D.is_honest result.0 → IfOk result.1 (λ r. IsRead D limits.now (D.trace disk).now.bytes (snapshot_of r.table)) }
+    ensures why { D.is_honest result.0 → IfErr result.1 (WhyUnread limits.now (D.trace disk).now.bytes) }
+    ensures tells { D.is_honest result.0 → Tells limits.now (λ r. r.table) (D.trace disk).now.bytes result.1 }
 {
     let mut disk = disk;
     let under = match limits_for(&mut disk, limits) {
@@ -137,11 +137,11 @@ fn read_steadily<D: Disk, A: Allocator + Copy>(
     disk: D,
     limits: &Option<Limits>,
 ) -> (D, Result<Reading<A>, ReadingFault>)
-    ensures honest { D.is_honest result.0 ↔ D.is_honest disk }
-    ensures same { D.is_honest disk → (D.trace result.0).now.bytes ≡ (D.trace disk).now.bytes }
-    ensures read { D.is_honest disk → IfOk result.1 (λ r. IsRead D limits.now (D.trace disk).now.bytes (snapshot_of r.table)) }
-    ensures why { D.is_honest disk → IfErr result.1 (WhyUnread limits.now (D.trace disk).now.bytes) }
-    ensures tells { D.is_honest disk → Tells limits.now (λ r. r.table) (D.trace disk).now.bytes result.1 }
+    ensures honest { D.is_honest result.0 → D.is_honest disk }
+    ensures same { D.is_honest result.0 → (D.trace result.0).now.bytes ≡ (D.trace disk).now.bytes }
+    ensures read { D.is_honest result.0 → IfOk result.1 (λ r. IsRead D limits.now (D.trace disk).now.bytes (snapshot_of r.table)) }
+    ensures why { D.is_honest result.0 → IfErr result.1 (WhyUnread limits.now (D.trace disk).now.bytes) }
+    ensures tells { D.is_honest result.0 → Tells limits.now (λ r. r.table) (D.trace disk).now.bytes result.1 }
 {
     let (disk, first) = try_once(alloc, disk, limits);
     let before = match first {
@@ -184,16 +184,18 @@ fn joined(before: Option<ReadingFault>, fault: ReadingFault) -> ReadingFault
     }
 }
 
-/// Reads a store, and again if that may help, up to ten times.
+/// Reads a store, and again if that may help, up to ten times. Returns the disk too.
 fn read_often<D: Disk + Drop, A: Allocator + Copy, C: Clock>(
     alloc: A,
     clock: &C,
     disk: D,
     limits: &Option<Limits>,
-) -> Result<Reading<A>, ReadingFault>
-    ensures read { D.is_honest disk → IfOk result (λ r. IsRead D limits.now (D.trace disk).now.bytes (snapshot_of r.table)) }
-    ensures why { D.is_honest disk → IfErr result (WhyUnread limits.now (D.trace disk).now.bytes) }
-    ensures tells { D.is_honest disk → Tells limits.now (λ r. r.table) (D.trace disk).now.bytes result }
+) -> (D, Result<Reading<A>, ReadingFault>)
+    ensures honest { D.is_honest result.0 → D.is_honest disk }
+    ensures same { D.is_honest result.0 → (D.trace result.0).now.bytes ≡ (D.trace disk).now.bytes }
+    ensures read { D.is_honest result.0 → IfOk result.1 (λ r. IsRead D limits.now (D.trace disk).now.bytes (snapshot_of r.table)) }
+    ensures why { D.is_honest result.0 → IfErr result.1 (WhyUnread limits.now (D.trace disk).now.bytes) }
+    ensures tells { D.is_honest result.0 → Tells limits.now (λ r. r.table) (D.trace disk).now.bytes result.1 }
 {
     let mut disk = disk;
     let mut last = None;
@@ -201,30 +203,34 @@ fn read_often<D: Disk + Drop, A: Allocator + Copy, C: Clock>(
         let (again, outcome) = read_steadily(alloc, disk, limits);
         disk = again;
         match outcome {
-            Ok(reading) => return Ok(reading),
-            Err(fault) if !may_pass(fault) => return Err(fault),
+            Ok(reading) => return (disk, Ok(reading)),
+            Err(fault) if !may_pass(fault) => return (disk, Err(fault)),
             Err(fault) => last = Some(joined(last, fault)),
         }
         thread::sleep(clock, Duration::from_millis(PAUSE));
     }
-    Err(last.unwrap_or(ReadingFault::Changing))
+    (disk, Err(last.unwrap_or(ReadingFault::Changing)))
 }
 
 /// Reads the store of a disk, whether or not a server writes to it meanwhile: under these limits, as a start opens it, or else with
 /// those in its superblock.
 ///
 /// A store that is refused, or that changed while it was read, is read again, up to ten times in a tenth of a second. If all
-/// tries come to one fault it is that one, and else `Changing`. A failed device call or allocation isn't tried again.
+/// tries come to one fault it is that one, and else `Changing`. A failed device call or allocation isn't tried again. Returns the disk
+/// too.
 pub fn read_store<D: Disk + Drop, A: Allocator + Copy, C: Clock>(
     alloc: A,
     clock: &C,
     disk: D,
     limits: Option<Limits>,
-) -> Result<Reading<A>, ReadingFault>
+) -> (D, Result<Reading<A>, ReadingFault>)
+    ensures honest { D.is_honest result.0 → D.is_honest disk }
+    ensures same { D.is_honest result.0 → (D.trace result.0).now.bytes ≡ (D.trace disk).now.bytes }
+
     // Of an honest disk, to which nobody else writes: what was read, and the reason of each refusal, the first that applies.
-    ensures read { D.is_honest disk → IfOk result (λ r. IsRead D limits (D.trace disk).now.bytes (snapshot_of r.table)) }
-    ensures why { D.is_honest disk → IfErr result (WhyUnread limits (D.trace disk).now.bytes) }
-    ensures tells { D.is_honest disk → Tells limits (λ r. r.table) (D.trace disk).now.bytes result }
+    ensures read { D.is_honest result.0 → IfOk result.1 (λ r. IsRead D limits (D.trace disk).now.bytes (snapshot_of r.table)) }
+    ensures why { D.is_honest result.0 → IfErr result.1 (WhyUnread limits (D.trace disk).now.bytes) }
+    ensures tells { D.is_honest result.0 → Tells limits (λ r. r.table) (D.trace disk).now.bytes result.1 }
 {
     read_often(alloc, clock, disk, &limits)
 }

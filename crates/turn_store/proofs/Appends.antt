@@ -9,12 +9,12 @@ use Rattle.turn_record.specs.declared.version.Version.{Version}
 use Rattle.turn_store.specs.Areas.{Form, Holds}
 use Rattle.turn_store.specs.Images.{EitherBy, StandsBy, StandsForAt}
 use Rattle.turn_store.specs.Spells.{HasSize, Spells}
-use Rattle.turn_store.specs.Stages.{InStages}
+use Rattle.turn_store.specs.Stages.{InStagesAt}
 use Rattle.turn_store.specs.State.{MayFollow, RestsAt, Shows, StoreState, form_of}
 use Rattle.turn_disk.proofs.Since.{since_same}
 use Rattle.turn_store.proofs.Rows.{rests_image}
 use Rattle.turn_store.proofs.Spelling.{frames_go_on, snapshots_go_on}
-use Rattle.turn_store.proofs.Staged.{stages_first, stages_weaken}
+use Rattle.turn_store.proofs.Staged.{stages_first_at, stages_weaken_at}
 
 module _ {D : Type 0} (old : StoreState D) (before : State) (c : ℕ) (h : History) (es : List Event) (m : ℕ) (rests : RestsAt old before c h) (follows : MayFollow old.bounds c h es m) where
   abbrev form : Form
@@ -38,10 +38,10 @@ module _ {D : Type 0} (old : StoreState D) (before : State) (c : ℕ) (h : Histo
     framed_by : (image : List ℕ) → Holds v form rests.snapshot (rests.payloads ++ payload ∷ []) image → StandsBy form (h ++ es) m image
     framed_by image holds = record { clock = more.0; bounded = more.1; stands = record { version = v; snapshot = rests.snapshot; payloads = rests.payloads ++ payload ∷ []; holds = holds; spells = more.2 } }
 
-    pub frame_stages : (since now : Trace) → InStages since now (Holds v form rests.snapshot rests.payloads) (λ image. Holds v form rests.snapshot rests.payloads image ⊎ Holds v form rests.snapshot (rests.payloads ++ payload ∷ []) image)
-        → InStages since now (StandsForAt form h c) (EitherBy form h es m)
-    frame_stages since now stages =
-        stages_weaken since now (Holds v form rests.snapshot rests.payloads) (λ (image : List ℕ). Holds v form rests.snapshot rests.payloads image ⊎ Holds v form rests.snapshot (rests.payloads ++ payload ∷ []) image)
+    pub frame_stages : (gate : ℕ) (since now : Trace) → InStagesAt gate since now (Holds v form rests.snapshot rests.payloads) (λ image. Holds v form rests.snapshot rests.payloads image ⊎ Holds v form rests.snapshot (rests.payloads ++ payload ∷ []) image)
+        → InStagesAt gate since now (StandsForAt form h c) (EitherBy form h es m)
+    frame_stages gate since now stages =
+        stages_weaken_at gate since now (Holds v form rests.snapshot rests.payloads) (λ (image : List ℕ). Holds v form rests.snapshot rests.payloads image ⊎ Holds v form rests.snapshot (rests.payloads ++ payload ∷ []) image)
         (StandsForAt form h c) (EitherBy form h es m) stood
         (λ image either. ⊎_elim (λ holds. inl (stood_by image holds)) (λ holds. inr (framed_by image holds)) either) stages
 
@@ -71,10 +71,10 @@ module _ {D : Type 0} (old : StoreState D) (before : State) (c : ℕ) (h : Histo
     next_by : (image : List ℕ) → Holds w form next [] image → StandsBy form (h ++ es) m image
     next_by image holds = record { clock = m; bounded = omega arith; stands = record { version = w; snapshot = next; payloads = []; holds = holds; spells = spelled } }
 
-    pub snapshot_stages : (since now : Trace) → InStages since now (Holds v form rests.snapshot rests.payloads) (λ image. Holds v form rests.snapshot rests.payloads image ⊎ Holds w form next [] image)
-        → InStages since now (StandsForAt form h c) (EitherBy form h es m)
-    snapshot_stages since now stages =
-        stages_weaken since now (Holds v form rests.snapshot rests.payloads) (λ (image : List ℕ). Holds v form rests.snapshot rests.payloads image ⊎ Holds w form next [] image)
+    pub snapshot_stages : (gate : ℕ) (since now : Trace) → InStagesAt gate since now (Holds v form rests.snapshot rests.payloads) (λ image. Holds v form rests.snapshot rests.payloads image ⊎ Holds w form next [] image)
+        → InStagesAt gate since now (StandsForAt form h c) (EitherBy form h es m)
+    snapshot_stages gate since now stages =
+        stages_weaken_at gate since now (Holds v form rests.snapshot rests.payloads) (λ (image : List ℕ). Holds v form rests.snapshot rests.payloads image ⊎ Holds w form next [] image)
         (StandsForAt form h c) (EitherBy form h es m) stood
         (λ image either. ⊎_elim (λ holds. inl (stood_by image holds)) (λ holds. inr (next_by image holds)) either) stages
 
@@ -89,15 +89,15 @@ module _ {D : Type 0} (old : StoreState D) (before : State) (c : ℕ) (h : Histo
 
 module _ {D : Type 0} (old : StoreState D) (since : Trace) (c : ℕ) (h : History) (es : List Event) (m : ℕ) (rests : RestsAt old since.now c h) (follows : MayFollow old.bounds c h es m) where
   -- no call
-  pub rest_stages : InStages since since (StandsForAt (form_of old) h c) (EitherBy (form_of old) h es m)
-  rest_stages =
+  pub rest_stages : (gate : ℕ) → InStagesAt gate since since (StandsForAt (form_of old) h c) (EitherBy (form_of old) h es m)
+  rest_stages gate =
       let shows = rests.shows.rests in
-      stages_first since since (StandsForAt (form_of old) h c) (EitherBy (form_of old) h es m) (λ image stands. inl (record { clock = c; bounded = follows.clock_late; stands = stands }))
+      stages_first_at gate since since (StandsForAt (form_of old) h c) (EitherBy (form_of old) h es m) (λ image stands. inl (record { clock = c; bounded = follows.clock_late; stands = stands }))
       (since_same since since (StandsForAt (form_of old) h c) refl
       (λ image is. stood old since.now c h es m rests follows image (rests_image old.version (form_of old) old.area.start old.other old.generation old.area.end old.other_is_below rests.snapshot rests.payloads since.now shows image is)))
 
 -- without a batch
-pub alone_stages : (form : Form) (c : ℕ) (h : History) (m : ℕ) (since now : Trace) → InStages since now (StandsForAt form h c) (EitherBy form h [] m) → InStages since now (StandsForAt form h c) (StandsBy form h m)
-alone_stages form c h m since now stages =
-    stages_weaken since now (StandsForAt form h c) (EitherBy form h [] m) (StandsForAt form h c) (StandsBy form h m) (λ image stands. stands)
+pub alone_stages : (gate : ℕ) (form : Form) (c : ℕ) (h : History) (m : ℕ) (since now : Trace) → InStagesAt gate since now (StandsForAt form h c) (EitherBy form h [] m) → InStagesAt gate since now (StandsForAt form h c) (StandsBy form h m)
+alone_stages gate form c h m since now stages =
+    stages_weaken_at gate since now (StandsForAt form h c) (EitherBy form h [] m) (StandsForAt form h c) (StandsBy form h m) (λ image stands. stands)
     (λ image either. ⊎_elim (λ stands. stands) (λ stands. subst (λ (g : History). StandsBy form g m image) (append-nil h) stands) either) stages

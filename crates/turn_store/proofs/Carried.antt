@@ -17,7 +17,7 @@ use Rattle.turn_store.specs.Images.{StandsBy, StandsForAt}
 use Rattle.turn_store.specs.Opened.{IsOpened, OpensTo}
 use Rattle.turn_store.specs.Refused.{IsPlain, WhyRefused}
 use Rattle.turn_store.specs.Replay.{Snapshot}
-use Rattle.turn_store.specs.Stages.{InStages}
+use Rattle.turn_store.specs.Stages.{InStagesAt}
 use Rattle.turn_store.specs.State.{MayFollow, RestsAt, Shows, StoreState, carried, carried_area, form_of}
 use Rattle.turn_store.specs.declared.fault.OpenFault.{OpenFault}
 use Rattle.turn_store.specs.declared.fault.OpenFault.TheVariants.{Device, Memory, NotAStore, LimitsDiffer, Damaged}
@@ -25,7 +25,7 @@ use Rattle.turn_types.specs.declared.limits.Bounds.{Bounds}
 use Rattle.turn_store.proofs.Appends.{alone_stages, rest_stages, snapshot_done, snapshot_stages}
 use Rattle.turn_store.proofs.Honest.{has_superblock}
 use Rattle.turn_store.proofs.Spelling.{clock_late}
-use Rattle.turn_store.proofs.Staged.{stages_all}
+use Rattle.turn_store.proofs.Staged.{stages_all_at}
 use Rattle.turn_store.proofs.Superblocks.{superblock_once}
 
 module _ {D : Type 0} (form : Form) (h : History) (c : ℕ) (store : StoreState D) (state : State) (t : Snapshot) (o : OpensTo form h c store state t) where
@@ -49,11 +49,11 @@ module _ {D : Type 0} (form : Form) (h : History) (c : ℕ) (store : StoreState 
       }
 
   -- both stages stand for the history by the clock
-  pub stands_throughout : (old new : Trace) → InStages old new (StandsForAt (form_of store) h c) (StandsBy (form_of store) h t.moment) → EachImageSince old new (StandsBy form h c)
-  stands_throughout old new stages =
+  pub stands_throughout : (gate : ℕ) (old new : Trace) → InStagesAt gate old new (StandsForAt (form_of store) h c) (StandsBy (form_of store) h t.moment) → EachImageSince old new (StandsBy form h c)
+  stands_throughout gate old new stages =
       subst (λ (f : Form). EachImageSince old new (StandsBy f h c)) o.same_form
       (subst (λ (m : ℕ). EachImageSince old new (StandsBy (form_of store) h m)) now_is
-      (stages_all old new (StandsForAt (form_of store) h c) (StandsBy (form_of store) h t.moment) (λ image stands. record { clock = c; bounded = (let now = now_is in omega arith); stands = stands }) stages))
+      (stages_all_at gate old new (StandsForAt (form_of store) h c) (StandsBy (form_of store) h t.moment) (λ image stands. record { clock = c; bounded = (let now = now_is in omega arith); stands = stands }) stages))
 
 -- the store after its table is written as version 2 into the other area
 module _ {D : Type 0} (old : StoreState D) (t : Snapshot) where
@@ -81,13 +81,13 @@ module _ {D : Type 0} (old : StoreState D) (t : Snapshot) where
       table_is = o.table_is;
     }
 
-    pub over_since : (since now : Trace)
-        → InStages since now (Holds old.version (form_of old) o.rests.snapshot o.rests.payloads) (λ image. Holds old.version (form_of old) o.rests.snapshot o.rests.payloads image ⊎ Holds V2 (form_of old) next [] image)
+    pub over_since : (gate : ℕ) (since now : Trace)
+        → InStagesAt gate since now (Holds old.version (form_of old) o.rests.snapshot o.rests.payloads) (λ image. Holds old.version (form_of old) o.rests.snapshot o.rests.payloads image ⊎ Holds V2 (form_of old) next [] image)
         → EachImageSince since now (StandsBy form h c)
-    over_since since now stages =
-        stands_throughout form h c old before t o since now
-        (alone_stages (form_of old) c h t.moment since now
-        (snapshot_stages old before c h [] t.moment o.rests (nothing_follows form h c old before t o small) V2 t.contents (contents_are form h c old before t o) tt since now stages))
+    over_since gate since now stages =
+        stands_throughout form h c old before t o gate since now
+        (alone_stages gate (form_of old) c h t.moment since now
+        (snapshot_stages old before c h [] t.moment o.rests (nothing_follows form h c old before t o small) V2 t.contents (contents_are form h c old before t o) tt gate since now stages))
 
 -- a store of version 2 that shows this snapshot alone was opened to its table
 pub opened_anew : {D : Type 0} (new : StoreState D) (after : State) (t : Snapshot) → new.version ≡ V2 → IsSnapshot V2 new.bounds t.moment t.contents
@@ -104,8 +104,8 @@ opened_anew new after t version can shows = record {
 -- no call
 pub stays_since : {D : Type 0} (form : Form) (h : History) (c : ℕ) (old : StoreState D) (since : Trace) (t : Snapshot) → OpensTo form h c old since.now t → t.moment < 2 ^ 40 - 3600 → EachImageSince since since (StandsBy form h c)
 stays_since form h c old since t o small =
-    stands_throughout form h c old since.now t o since since
-    (alone_stages (form_of old) c h t.moment since since (rest_stages old since c h [] t.moment o.rests (nothing_follows form h c old since.now t o small)))
+    stands_throughout form h c old since.now t o 0 since since
+    (alone_stages 0 (form_of old) c h t.moment since since (rest_stages old since c h [] t.moment o.rests (nothing_follows form h c old since.now t o small) 0))
 
 -- an image that a stop might have left before, or one that stands for the history
 abbrev pub IsOldOrStands : State → Form → History → ℕ → List ℕ → Type 0
@@ -127,6 +127,9 @@ counts_as store state t content is same =
     let whole = rests.holds.whole in
     let fits = rests.holds.is_form.addressable in
     subst (CountsAs store.area.size store.bounds store.version store.generation store.frames) same (record {
+      room = rests.holds.is_form.room;
+      addressable = fits;
+      whole = whole;
       superblock = record { long = omega arith; addressable = omega arith; in_range = rests.holds.is_form.in_range; stands = rests.holds.front };
       start = store.area.start;
       other = store.other;
@@ -178,6 +181,10 @@ on_err P Q (Err e) f h = f e h
 pub and_ok : {X E : Type 0} (P Q : X → Type 0) (r : Result X E) → IfOk r P → IfOk r Q → IfOk r (λ x. P x × Q x)
 and_ok P Q (Ok x) one two = (one, two)
 and_ok P Q (Err e) one two = one
+
+pub and_err : {X E : Type 0} (P Q : E → Type 0) (r : Result X E) → IfErr r P → IfErr r Q → IfErr r (λ e. P e × Q e)
+and_err P Q (Ok x) one two = one
+and_err P Q (Err e) one two = (one, two)
 
 pub all_ok : {X E : Type 0} (P Q R : X → Type 0) (r : Result X E) → IfOk r P → IfOk r Q → IfOk r R → IfOk r (λ x. P x × Q x × R x)
 all_ok P Q R (Ok x) one two three = (one, two, three)

@@ -76,7 +76,7 @@ length-blank : (v : Version) → length (blank v) ≤ 16
 length-blank V1 = omega arith
 length-blank V2 = omega arith
 
-length-fresh : (v : Version) → length (fresh v) ≤ 16
+pub length-fresh : (v : Version) → length (fresh v) ≤ 16
 length-fresh v = subst (λ (l : List ℕ). length l ≤ 16) (sym (fresh_bytes v)) (length-blank v)
 
 empty_table : table [] 0 ≡ no_contents
@@ -86,15 +86,15 @@ empty_table = refl
 closed_not : 0 ≡ open_gate → ⊥
 closed_not is = absurd (omega (arith, is))
 
-is_closed : (gate : ℕ) (c : List ℕ) → slice_index c gate ≡ 0 → IsClosed gate c
-is_closed gate c is opened = closed_not (sym is ∙ opened)
+pub closed_at : (gate : ℕ) (c : List ℕ) → slice_index c gate ≡ 0 → IsClosed gate c
+closed_at gate c is opened = closed_not (sym is ∙ opened)
 
 pub laid_state : (v : Version) (size : ℕ) (old mid new : State) → 31 < size → length old.bytes ≡ 64 + 2 * size
     → ChangesOnly (64 + size) 1 old.bytes mid.bytes → StandsAt (64 + size) (0 ∷ []) mid.bytes → WritesThrough 64 (0 ∷ (area_front v 1 (fresh v) ++ 0 ∷ [])) mid new → IsLaid v size new
 laid_state v size old mid new room whole changes closed writes = record {
   settled = writes.settled;
   whole = writes.content.size ∙ changes.size ∙ whole;
-  closed = is_closed (64 + size) new.bytes (writes.content.after (64 + size) (omega (arith, room, length-append (area_front v 1 (fresh v)) (0 ∷ []), length-area_front v 1 (fresh v), length-fresh v)) ∙ one_stands (64 + size) 0 mid.bytes closed);
+  closed = closed_at (64 + size) new.bytes (writes.content.after (64 + size) (omega (arith, room, length-append (area_front v 1 (fresh v)) (0 ∷ []), length-area_front v 1 (fresh v), length-fresh v)) ∙ one_stands (64 + size) 0 mid.bytes closed);
   stands = writes.written;
 }
 
@@ -123,7 +123,7 @@ formatted v form laid named new is_form room is_laid names opens =
           front = λ i below. later (65 + i) (omega arith) ∙ front i below;
           frames = (
             omega (arith, fresh_long, room),
-            is_closed (64 + 14 + length (fresh v)) new.bytes (later (64 + 14 + length (fresh v)) (omega arith) ∙ ap (λ (i : ℕ). slice_index laid.bytes i) last ∙ gate),
+            closed_at (64 + 14 + length (fresh v)) new.bytes (later (64 + 14 + length (fresh v)) (omega arith) ∙ ap (λ (i : ℕ). slice_index laid.bytes i) last ∙ gate),
           );
         };
       };

@@ -9,6 +9,7 @@ pub mod Logs
 pub mod Numbers
 pub mod OneTable
 pub mod Opens
+pub mod Ordered
 pub mod Replayed
 pub mod Rows
 pub mod Sizes

@@ -1,14 +1,14 @@
 -- What the steps of a commit make of what a store shows.
-use Rattle.std.proofs.Common.{◌≡◌, ◌⊎◌, ℕ, ◌+◌, ◌≤◌, false, true, List, [], ◌∷◌, ◌++◌, length, refl, sym, ◌∙◌, ap, subst, arith, append_assoc, length-append}
+use Rattle.std.proofs.Common.{◌≡◌, ◌⊎◌, inl, inr, ⊎_elim, ℕ, ◌+◌, ◌≤◌, false, true, List, [], ◌∷◌, ◌++◌, length, refl, sym, ◌∙◌, ap, subst, arith, append_assoc, length-append}
 use Rattle.std.specs.Int.{to_be_bytes, w32, w64}
-use Rattle.turn_disk.specs.Disk.{State, Trace, EachImageSince, IsSettled}
+use Rattle.turn_disk.specs.Disk.{State, Trace, IsSettled}
 use Rattle.turn_disk.proofs.Since.{since_weaken}
 use Rattle.turn_journal.specs.Area.{end_of, limit_of}
-use Rattle.turn_journal.specs.Frames.{gate_after, HoldsWithout, HoldsWithOrWithout, HoldsWith}
+use Rattle.turn_journal.specs.Frames.{gate_after, AddsFrame, HoldsWith}
 use Rattle.turn_journal.specs.declared.area.Area.{Area}
 use Rattle.turn_record.specs.declared.version.Version.{Version}
 use Rattle.turn_store.specs.Areas.{Form, version_byte, area_front, Holds, RestsOn}
-use Rattle.turn_store.specs.Stages.{InStages}
+use Rattle.turn_store.specs.Stages.{InStagesAt}
 use Rattle.turn_store.specs.State.{Shows, StoreState, form_of}
 use Rattle.turn_store.proofs.Rows.{length-area_front, row_staged, row_frame, after_frame}
 use Rattle.turn_store.proofs.Staged.{stages_join}
@@ -30,15 +30,17 @@ module _ {D : Type 0} (store : StoreState D) (old : Trace) (s : List ℕ) (ps : 
   abbrev new_payloads : List (List ℕ)
   new_payloads = ps ++ payload ∷ []
 
-  pub frame_stages : (mid new : Trace) → EachImageSince old mid (HoldsWithout from ps (end_of store.area) (5 + length payload) (limit_of store.area) old.now.bytes)
-      → EachImageSince mid new (HoldsWithOrWithout from ps payload (end_of store.area) (6 + length payload) (limit_of store.area) old.now.bytes)
-      → InStages old new (Holds v form s ps) (λ image. Holds v form s ps image ⊎ Holds v form s new_payloads image)
-  frame_stages mid new first second =
+  pub frame_stages : (new : Trace) → AddsFrame from ps payload (end_of store.area) (limit_of store.area) old new
+      → InStagesAt (end_of store.area) old new (Holds v form s ps) (λ image. Holds v form s ps image ⊎ Holds v form s new_payloads image)
+  frame_stages new adds =
       let rests = shows.rests in
-      stages_join old mid new (Holds v form s ps) (λ (image : List ℕ). Holds v form s ps image ⊎ Holds v form s new_payloads image)
-      (since_weaken old mid _ (Holds v form s ps) (λ image is. row_staged v form store.area.start store.other store.generation s ps old.now rests.holds store.area.end store.other_is_below rests (5 + length payload) image (omega arith) is) first)
+      let mid = adds.mid in
+      stages_join (end_of store.area) old mid new (Holds v form s ps) (λ (image : List ℕ). Holds v form s ps image ⊎ Holds v form s new_payloads image)
+      (since_weaken old mid _ (Holds v form s ps) (λ image is. row_staged v form store.area.start store.other store.generation s ps old.now rests.holds store.area.end store.other_is_below rests (5 + length payload) image (omega arith) is) adds.first)
+      (⊎_elim (λ same. inl same) (λ waits. inr waits.0) adds.there)
       (since_weaken mid new _ (λ (image : List ℕ). Holds v form s ps image ⊎ Holds v form s new_payloads image)
-      (λ image is. row_frame v form store.area.start store.other store.generation s ps old.now rests.holds store.area.end store.other_is_below rests payload image (omega arith) is) second)
+      (λ image is. row_frame v form store.area.start store.other store.generation s ps old.now rests.holds store.area.end store.other_is_below rests payload image (omega arith) is) adds.second)
+      adds.once
 
   pub frame_shown : (new : State) (disk : D) (area : Area) (frames : ℕ) → area ≡ record store.area { end = gate_after store.area.end payload } → frames ≡ store.frames + 1
       → IsSettled new × HoldsWith from ps payload (end_of store.area) (6 + length payload) (limit_of store.area) old.now.bytes new.bytes

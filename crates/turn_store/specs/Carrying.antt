@@ -1,5 +1,5 @@
 -- Which stores are carried over to version 2.
-use Rattle.std.specs.Prelude.{◌≡◌, ◌≤◌, ◌<◌, ◌^◌, ◌-◌, ◌+◌, ℕ, Bool, true, List, length}
+use Rattle.std.specs.Prelude.{◌≡◌, ◌≤◌, ◌<◌, ◌^◌, ◌-◌, ◌+◌, ◌*◌, ℕ, Bool, true, List, length}
 use Rattle.turn_record.specs.declared.version.Version.{Version}
 use Rattle.turn_record.specs.declared.version.Version.TheVariants.{V1, V2}
 use Rattle.turn_store.specs.Areas.{AreaHolds, AreAreas, Yields}
@@ -10,6 +10,9 @@ use Rattle.turn_types.specs.declared.limits.Bounds.{Bounds}
 -- an area of a store with areas of this size counts, and is of this version and generation, with so many frames
 pub record CountsAs (size : ℕ) (b : Bounds) (v : Version) (generation frames : ℕ) (content : List ℕ) : Type 0 where
   pub superblock : HasSuperblock size b content
+  pub room : least_area v b ≤ size
+  pub addressable : 64 + 2 * size < 2 ^ 64
+  pub whole : length content ≡ 64 + 2 * size
   pub start : ℕ
   pub other : ℕ
   pub places : AreAreas size start other

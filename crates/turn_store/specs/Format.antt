@@ -1,11 +1,12 @@
 -- A disk that is being formatted.
-use Rattle.std.specs.Prelude.{◌≡◌, ◌∷◌, ◌++◌, ◌+◌, ◌*◌, [], List, ℕ, length}
-use Rattle.turn_disk.specs.Disk.{State, StandsAt, IsSettled}
+use Rattle.std.specs.Prelude.{◌≡◌, ◌⊎◌, ◌∷◌, ◌++◌, ◌+◌, ◌*◌, [], List, ℕ, length}
+use Rattle.turn_disk.specs.Disk.{State, Trace, EachImageSince, IsSettled, Overwrites, StandsAt, Syncs}
 use Rattle.turn_history.specs.Table.{no_contents}
 use Rattle.turn_journal.specs.Frames.{IsClosed}
 use Rattle.turn_record.specs.Bytes.{snapshot}
 use Rattle.turn_record.specs.declared.version.Version.{Version}
-use Rattle.turn_store.specs.Areas.{Form, HoldsAt, area_front}
+use Rattle.turn_store.specs.Areas.{Form, Holds, HoldsAt, area_front}
+use Rattle.turn_store.specs.Images.{StandsForAt}
 
 -- the snapshot of a table without entries at the moment 0
 abbrev pub fresh : Version → List ℕ
@@ -22,3 +23,19 @@ pub record IsLaid (v : Version) (size : ℕ) (state : State) : Type 0 where
 pub record IsFormatted (v : Version) (form : Form) (state : State) : Type 0 where
   pub holds : HoldsAt v form 64 (64 + form.area) 1 (fresh v) [] state
   pub closed : IsClosed (64 + form.area) state.bytes
+
+-- no area counts, in any form and version: no opening succeeds
+abbrev pub HoldsNothing : List ℕ → Type 0
+HoldsNothing image =
+    (v : Version) (form : Form) (snapshot : List ℕ) (payloads : List (List ℕ)) → Holds v form snapshot payloads image → ⊥
+
+abbrev pub HoldsNothingOrStands : Form → List ℕ → Type 0
+HoldsNothingOrStands form image = HoldsNothing image ⊎ StandsForAt form [] 0 image
+
+-- How a disk becomes a store of this form. Nothing was written; or the superblock's bytes alone, and they were not synced; or they
+-- were, and from then on a stop leaves an image that holds nothing, or one that stands for the empty history.
+abbrev pub FormatsInOrder : Form → Trace → Trace → Type 0
+FormatsInOrder form old new =
+    (new ≡ old) ⊎ Overwrites 0 64 old new
+    ⊎ ((written synced : Trace) × Overwrites 0 64 old written × Syncs written synced
+    × EachImageSince synced new (HoldsNothingOrStands form))

@@ -1,12 +1,12 @@
 //! The three steps that put a snapshot into the area that doesn't count, and let that one count.
 
-ghost use Rattle.std.specs.Prelude.{◌≡◌, ◌⊎◌, [], ◌∷◌, ◌++◌, ◌+◌, ◌≤◌, ◌<◌, ◌^◌, ◌↔◌, ℕ, List, true, length, OnOk};
+ghost use Rattle.std.specs.Prelude.{◌≡◌, ◌⊎◌, [], ◌∷◌, ◌++◌, ◌+◌, ◌≤◌, ◌<◌, ◌^◌, ℕ, List, true, length, OnOk};
 ghost use Rattle.turn_disk.specs.Counts.{CountOutcome};
-ghost use Rattle.turn_disk.specs.Disk.{EachImageSince, StandsAt};
+ghost use Rattle.turn_disk.specs.Disk.{EachImageSince, StandsAt, WritesOnce};
 ghost use Rattle.turn_journal.specs.Frames.{IsClosed};
 ghost use Rattle.turn_record.specs.declared.version.Version.{Version};
 ghost use Rattle.turn_store.specs.Areas.{Form, area_front, Holds, HoldsAt, RestsOn};
-ghost use Rattle.turn_store.specs.Stages.{InStages};
+ghost use Rattle.turn_store.specs.Stages.{InStagesAt};
 ghost use Rattle.turn_store.specs.Superblock.{least_area};
 
 use crate::gate::{CLOSED, OPEN};
@@ -18,16 +18,16 @@ fn close<D: Disk>(disk: &mut D, gate: usize, is_below: bool) -> Result<(), Devic
     requires { gate < D.capacity disk.old }
     ensures size { D.capacity disk.new ≡ D.capacity disk.old }
     ensures count { CountOutcome (D.failed disk.old) (D.failed disk.new) result }
-    ensures honest { D.is_honest disk.new ↔ D.is_honest disk.old }
+    ensures honest { D.is_honest disk.new → D.is_honest disk.old }
 
     // A stop at any moment leaves what was there.
     ensures stop { let old = D.trace disk.old in
-        D.is_honest disk.old → (v : Version) (form : Form) (start generation end : ℕ) (snapshot : List ℕ) (payloads : List (List ℕ))
+        D.is_honest disk.new → (v : Version) (form : Form) (start generation end : ℕ) (snapshot : List ℕ) (payloads : List (List ℕ))
         → RestsOn v form start gate generation end is_below snapshot payloads old.now
         → EachImageSince old (D.trace disk.new) (Holds v form snapshot payloads) }
 
     ensures done { let new = (D.trace disk.new).now in
-        D.is_honest disk.old → (v : Version) (form : Form) (start generation end : ℕ) (snapshot : List ℕ) (payloads : List (List ℕ))
+        D.is_honest disk.new → (v : Version) (form : Form) (start generation end : ℕ) (snapshot : List ℕ) (payloads : List (List ℕ))
         → RestsOn v form start gate generation end is_below snapshot payloads (D.trace disk.old).now
         → OnOk result (HoldsAt v form start gate generation snapshot payloads new × IsClosed gate new.bytes) }
 {
@@ -43,17 +43,17 @@ fn fill<D: Disk, P: Producer>(disk: &mut D, gate: usize, front: &mut P) -> Resul
     requires addressable { gate + 1 + length (P.rest front.old) < 2 ^ 64 }
     ensures size { D.capacity disk.new ≡ D.capacity disk.old }
     ensures count { CountOutcome (D.failed disk.old) (D.failed disk.new) result }
-    ensures honest { D.is_honest disk.new ↔ D.is_honest disk.old }
+    ensures honest { D.is_honest disk.new → D.is_honest disk.old }
 
     // A stop at any moment leaves what was there, whatever is written.
     ensures stop { let old = D.trace disk.old in
-        D.is_honest disk.old → (v : Version) (form : Form) (start generation : ℕ) (snapshot : List ℕ) (payloads : List (List ℕ))
+        D.is_honest disk.new → (v : Version) (form : Form) (start generation : ℕ) (snapshot : List ℕ) (payloads : List (List ℕ))
         → length (P.rest front.old) < form.area
         → HoldsAt v form start gate generation snapshot payloads old.now → IsClosed gate old.now.bytes
         → EachImageSince old (D.trace disk.new) (Holds v form snapshot payloads) }
 
     ensures done { let old = (D.trace disk.old).now in let new = (D.trace disk.new).now in
-        D.is_honest disk.old → (v : Version) (form : Form) (start generation : ℕ) (snapshot : List ℕ) (payloads : List (List ℕ))
+        D.is_honest disk.new → (v : Version) (form : Form) (start generation : ℕ) (snapshot : List ℕ) (payloads : List (List ℕ))
         → length (P.rest front.old) < form.area
         → HoldsAt v form start gate generation snapshot payloads old → IsClosed gate old.bytes
         → OnOk result (HoldsAt v form start gate generation snapshot payloads new × IsClosed gate new.bytes
@@ -68,22 +68,25 @@ fn switch<D: Disk>(disk: &mut D, gate: usize) -> Result<(), DeviceFailed>
     requires { gate < D.capacity disk.old }
     ensures size { D.capacity disk.new ≡ D.capacity disk.old }
     ensures count { CountOutcome (D.failed disk.old) (D.failed disk.new) result }
-    ensures honest { D.is_honest disk.new ↔ D.is_honest disk.old }
+    ensures honest { D.is_honest disk.new → D.is_honest disk.old }
 
     // A stop at any moment leaves what was there, or the new snapshot alone.
     ensures stop { let old = D.trace disk.old in
-        D.is_honest disk.old → (v w : Version) (form : Form) (start generation : ℕ) (snapshot next : List ℕ) (payloads : List (List ℕ))
+        D.is_honest disk.new → (v w : Version) (form : Form) (start generation : ℕ) (snapshot next : List ℕ) (payloads : List (List ℕ))
         → generation + 1 < 2 ^ 64 → length next < 2 ^ 32 → least_area w form.bounds ≤ form.area → 14 + length next < form.area
         → HoldsAt v form start gate generation snapshot payloads old.now
         → StandsAt (gate + 1) (area_front w (generation + 1) next ++ 0 ∷ []) old.now.bytes
         → EachImageSince old (D.trace disk.new) (λ image. Holds v form snapshot payloads image ⊎ Holds w form next [] image) }
 
     ensures done { let old = (D.trace disk.old).now in
-        D.is_honest disk.old → (v w : Version) (form : Form) (start generation : ℕ) (snapshot next : List ℕ) (payloads : List (List ℕ))
+        D.is_honest disk.new → (v w : Version) (form : Form) (start generation : ℕ) (snapshot next : List ℕ) (payloads : List (List ℕ))
         → generation + 1 < 2 ^ 64 → length next < 2 ^ 32 → least_area w form.bounds ≤ form.area → 14 + length next < form.area
         → HoldsAt v form start gate generation snapshot payloads old
         → StandsAt (gate + 1) (area_front w (generation + 1) next ++ 0 ∷ []) old.bytes
         → OnOk result (RestsOn w form gate start (generation + 1) (14 + length next) true next [] (D.trace disk.new).now) }
+
+    // The gate is written at most once, and nothing else is.
+    ensures once { D.is_honest disk.new → WritesOnce gate 1 (D.trace disk.old) (D.trace disk.new) }
 {
     write_through(disk, gate, &[OPEN])?;
     Ok(())
@@ -100,19 +103,20 @@ pub fn replace<D: Disk, P: Producer>(
     requires addressable { gate + 1 + length (P.rest front.old) < 2 ^ 64 }
     ensures size { D.capacity disk.new ≡ D.capacity disk.old }
     ensures count { CountOutcome (D.failed disk.old) (D.failed disk.new) result }
-    ensures honest { D.is_honest disk.new ↔ D.is_honest disk.old }
+    ensures honest { D.is_honest disk.new → D.is_honest disk.old }
 
-    // Up to some moment a stop leaves what was there; from then on what was there, or the new snapshot alone.
+    // Up to some moment a stop leaves what was there; from then on what was there, or the new snapshot alone, and this gate alone
+    // is written, once.
     ensures stages { let old = D.trace disk.old in
-        D.is_honest disk.old → (v w : Version) (form : Form) (start generation end : ℕ) (snapshot next : List ℕ) (payloads : List (List ℕ))
+        D.is_honest disk.new → (v w : Version) (form : Form) (start generation end : ℕ) (snapshot next : List ℕ) (payloads : List (List ℕ))
         → generation + 1 < 2 ^ 64 → length next < 2 ^ 32 → least_area w form.bounds ≤ form.area → 14 + length next < form.area
         → P.rest front.old ≡ area_front w (generation + 1) next ++ 0 ∷ []
         → RestsOn v form start gate generation end is_below snapshot payloads old.now
-        → InStages old (D.trace disk.new) (Holds v form snapshot payloads)
+        → InStagesAt gate old (D.trace disk.new) (Holds v form snapshot payloads)
         (λ image. Holds v form snapshot payloads image ⊎ Holds w form next [] image) }
 
     ensures done { let old = (D.trace disk.old).now in
-        D.is_honest disk.old → (v w : Version) (form : Form) (start generation end : ℕ) (snapshot next : List ℕ) (payloads : List (List ℕ))
+        D.is_honest disk.new → (v w : Version) (form : Form) (start generation end : ℕ) (snapshot next : List ℕ) (payloads : List (List ℕ))
         → generation + 1 < 2 ^ 64 → length next < 2 ^ 32 → least_area w form.bounds ≤ form.area → 14 + length next < form.area
         → P.rest front.old ≡ area_front w (generation + 1) next ++ 0 ∷ []
         → RestsOn v form start gate generation end is_below snapshot payloads old

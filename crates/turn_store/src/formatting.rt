@@ -1,13 +1,13 @@
-//! A store is made of a disk: zeros over the superblock, the areas, the superblock, the first area's gate. So until the last
-//! write no image is a store.
+//! A store is made of a disk: zeros over the superblock, the areas, the superblock, the first area's gate. So from the first sync
+//! until the last write no image is a store.
 
 ghost use Rattle.std.specs.Prelude.{◌≡◌, [], ◌∷◌, ◌++◌, ◌+◌, ◌*◌, ◌≤◌, ◌<◌, ◌^◌, ◌↔◌, IfErr, OnOk};
 ghost use Rattle.turn_disk.specs.Counts.{CountOutcome, Rises};
-ghost use Rattle.turn_disk.specs.Disk.{WritesThrough};
+ghost use Rattle.turn_disk.specs.Disk.{ChangesOnly, EachImageSince, IsSettled, ThroughOutcome, WritesThrough};
 ghost use Rattle.turn_record.specs.declared.version.Version.{Version};
 ghost use Rattle.turn_record.specs.declared.version.Version.TheVariants.{V1, V2};
 ghost use Rattle.turn_store.specs.Areas.{area_front};
-ghost use Rattle.turn_store.specs.Format.{IsFormatted, IsLaid, fresh};
+ghost use Rattle.turn_store.specs.Format.{FormatsInOrder, HoldsNothingOrStands, IsFormatted, IsLaid, fresh};
 ghost use Rattle.turn_store.specs.Images.{EachImage, StandsForAt};
 ghost use Rattle.turn_store.specs.Superblock.{least_area};
 ghost use Rattle.turn_store.specs.declared.formatting.FormatRefused.TheVariants.{Device};
@@ -54,9 +54,11 @@ fn lay_first<D: Disk>(disk: &mut D, version: Version) -> Result<(), DeviceFailed
     requires { 64 + 31 ≤ D.capacity disk.old }
     ensures size { D.capacity disk.new ≡ D.capacity disk.old }
     ensures count { CountOutcome (D.failed disk.old) (D.failed disk.new) result }
-    ensures honest { D.is_honest disk.new ↔ D.is_honest disk.old }
-    ensures done { D.is_honest disk.old → OnOk result
+    ensures honest { D.is_honest disk.new → D.is_honest disk.old }
+    ensures done { D.is_honest disk.new → OnOk result
         (WritesThrough 64 (0 ∷ (area_front version 1 (fresh version) ++ 0 ∷ [])) (D.trace disk.old).now (D.trace disk.new).now) }
+    ensures once { D.is_honest disk.new
+        → ThroughOutcome 64 (0 ∷ (area_front version 1 (fresh version) ++ 0 ∷ [])) (D.trace disk.old) (D.trace disk.new) result }
 {
     match version {
         Version::V1 => write_through(disk, 64, &FRESH_AREA_1),
@@ -70,9 +72,14 @@ fn lay_areas<D: Disk>(disk: &mut D, version: Version, area: usize) -> Result<(),
     requires room { 31 < area }
     ensures size { D.capacity disk.new ≡ D.capacity disk.old }
     ensures count { CountOutcome (D.failed disk.old) (D.failed disk.new) result }
-    ensures honest { D.is_honest disk.new ↔ D.is_honest disk.old }
+    ensures honest { D.is_honest disk.new → D.is_honest disk.old }
     ensures addressable { 64 + 2 * area < 2 ^ 64 }
-    ensures done { D.is_honest disk.old → OnOk result (IsLaid version area (D.trace disk.new).now) }
+
+    // A stop at any moment changes nothing before the areas.
+    ensures stop { D.is_honest disk.new → IsSettled (D.trace disk.old).now
+        → EachImageSince (D.trace disk.old) (D.trace disk.new) (ChangesOnly 64 (2 * area) (D.trace disk.old).now.bytes) }
+
+    ensures done { D.is_honest disk.new → OnOk result (IsLaid version area (D.trace disk.new).now) }
 {
     let second = disk.size() - area;
     disk.write_at(second, &[CLOSED])?;
@@ -87,9 +94,13 @@ fn open_first<D: Disk>(disk: &mut D, limits: Limits, area: usize) -> Result<(), 
     requires addressable { 64 + 2 * area < 2 ^ 64 }
     ensures size { D.capacity disk.new ≡ D.capacity disk.old }
     ensures count { CountOutcome (D.failed disk.old) (D.failed disk.new) result }
-    ensures honest { D.is_honest disk.new ↔ D.is_honest disk.old }
-    ensures done { D.is_honest disk.old → (v : Version) → least_area v limits ≤ area → IsLaid v area (D.trace disk.old).now
+    ensures honest { D.is_honest disk.new → D.is_honest disk.old }
+    ensures done { D.is_honest disk.new → (v : Version) → least_area v limits ≤ area → IsLaid v area (D.trace disk.old).now
         → OnOk result (IsFormatted v (record { bounds = limits; area = area }) (D.trace disk.new).now) }
+
+    // A stop at any moment leaves what holds nothing, or the empty store.
+    ensures stop { D.is_honest disk.new → (v : Version) → least_area v limits ≤ area → IsLaid v area (D.trace disk.old).now
+        → EachImageSince (D.trace disk.old) (D.trace disk.new) (HoldsNothingOrStands (record { bounds = limits; area = area })) }
 {
     let superblock = superblock_bytes(area, limits);
     write_through(disk, 0, &superblock)?;
@@ -106,17 +117,19 @@ fn format_as<D: Disk>(
 ) -> Result<(), FormatRefused>
     requires { 64 + 2 * area ≡ D.capacity disk.old }
     ensures size { D.capacity disk.new ≡ D.capacity disk.old }
-    ensures honest { D.is_honest disk.new ↔ D.is_honest disk.old }
+    ensures honest { D.is_honest disk.new → D.is_honest disk.old }
     ensures device { IfErr result (λ refused. refused ≡ FormatRefused.Device
         → Rises (D.failed disk.old) (D.failed disk.new)) }
     ensures count { OnOk result (D.failed disk.new ≡ D.failed disk.old) }
     ensures too_small { (needed : _) → (result ≡ Err (FormatRefused.AreaTooSmall needed))
         ↔ ((area < least_area version limits) × (needed ≡ least_area version limits)) }
     ensures untouched { area < least_area version limits → disk.new ≡ disk.old }
-    ensures formatted { D.is_honest disk.old
+    ensures formatted { D.is_honest disk.new
         → OnOk result (IsFormatted version (record { bounds = limits; area = area }) (D.trace disk.new).now) }
-    ensures done { D.is_honest disk.old
+    ensures done { D.is_honest disk.new
         → OnOk result (EachImage (D.trace disk.new).now (StandsForAt (record { bounds = limits; area = area }) [] 0)) }
+    ensures order { D.is_honest disk.new
+        → FormatsInOrder (record { bounds = limits; area = area }) (D.trace disk.old) (D.trace disk.new) }
 {
     let needed = least_area_of(version, limits);
     if area < needed {
@@ -132,7 +145,7 @@ fn format_as<D: Disk>(
 pub fn format<D: Disk>(disk: &mut D, limits: Limits, area: usize) -> Result<(), FormatRefused>
     requires { 64 + 2 * area ≡ D.capacity disk.old }
     ensures size { D.capacity disk.new ≡ D.capacity disk.old }
-    ensures honest { D.is_honest disk.new ↔ D.is_honest disk.old }
+    ensures honest { D.is_honest disk.new → D.is_honest disk.old }
     ensures device { IfErr result (λ refused. refused ≡ FormatRefused.Device
         → Rises (D.failed disk.old) (D.failed disk.new)) }
     ensures count { OnOk result (D.failed disk.new ≡ D.failed disk.old) }
@@ -143,10 +156,14 @@ pub fn format<D: Disk>(disk: &mut D, limits: Limits, area: usize) -> Result<(), 
     ensures untouched { area < least_area V2 limits → disk.new ≡ disk.old }
 
     // The first area counts, with generation 1, and each image stands for the empty history.
-    ensures formatted { D.is_honest disk.old
+    ensures formatted { D.is_honest disk.new
         → OnOk result (IsFormatted V2 (record { bounds = limits; area = area }) (D.trace disk.new).now) }
-    ensures done { D.is_honest disk.old
+    ensures done { D.is_honest disk.new
         → OnOk result (EachImage (D.trace disk.new).now (StandsForAt (record { bounds = limits; area = area }) [] 0)) }
+
+    // From the first sync on, a stop leaves an image that holds nothing, or one that stands for the empty history.
+    ensures order { D.is_honest disk.new
+        → FormatsInOrder (record { bounds = limits; area = area }) (D.trace disk.old) (D.trace disk.new) }
 {
     format_as(disk, Version::V2, limits, area)
 }
@@ -160,7 +177,7 @@ pub fn format_version1<D: Disk>(
 ) -> Result<(), FormatRefused>
     requires { 64 + 2 * area ≡ D.capacity disk.old }
     ensures size { D.capacity disk.new ≡ D.capacity disk.old }
-    ensures honest { D.is_honest disk.new ↔ D.is_honest disk.old }
+    ensures honest { D.is_honest disk.new → D.is_honest disk.old }
     ensures device { IfErr result (λ refused. refused ≡ FormatRefused.Device
         → Rises (D.failed disk.old) (D.failed disk.new)) }
     ensures count { OnOk result (D.failed disk.new ≡ D.failed disk.old) }
@@ -171,10 +188,14 @@ pub fn format_version1<D: Disk>(
     ensures untouched { area < least_area V1 limits → disk.new ≡ disk.old }
 
     // The first area counts, with generation 1, and each image stands for the empty history.
-    ensures formatted { D.is_honest disk.old
+    ensures formatted { D.is_honest disk.new
         → OnOk result (IsFormatted V1 (record { bounds = limits; area = area }) (D.trace disk.new).now) }
-    ensures done { D.is_honest disk.old
+    ensures done { D.is_honest disk.new
         → OnOk result (EachImage (D.trace disk.new).now (StandsForAt (record { bounds = limits; area = area }) [] 0)) }
+
+    // From the first sync on, a stop leaves an image that holds nothing, or one that stands for the empty history.
+    ensures order { D.is_honest disk.new
+        → FormatsInOrder (record { bounds = limits; area = area }) (D.trace disk.old) (D.trace disk.new) }
 {
     format_as(disk, Version::V1, limits, area)
 }

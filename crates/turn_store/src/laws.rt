@@ -1,8 +1,10 @@
 //! Laws of the definitions.
 
-ghost use Rattle.std.specs.Prelude.{ℕ};
+ghost use Rattle.std.specs.Prelude.{ℕ, Bool, List};
 ghost use Rattle.turn_disk.specs.Disk.{State};
 ghost use Rattle.turn_history.specs.History.{History};
+ghost use Rattle.turn_store.specs.Carrying.{Carries};
+ghost use Rattle.turn_store.specs.Format.{HoldsNothing};
 ghost use Rattle.turn_store.specs.Images.{EachImage, StandsForAt};
 ghost use Rattle.turn_store.specs.Laws.{AnImageHasOneTable};
 ghost use Rattle.turn_store.specs.State.{RestsAt, StoreState, form_of};
@@ -18,4 +20,9 @@ pub fn an_image_has_one_table()
 pub fn a_store_at_rest_stands<D: Disk>()
     ensures { (store : StoreState D) (state : State) (c : ℕ) (h : History)
         → RestsAt store state c h → EachImage state (StandsForAt (form_of store) h c) }
+{}
+
+/// No opening of what holds nothing succeeds: what `Store::open` says of a store that it opened can't be said.
+pub fn what_holds_nothing_is_not_opened<D: Disk>()
+    ensures { (carry : Bool) (content : List ℕ) (store : StoreState D) → HoldsNothing content → Carries carry content store → ⊥ }
 {}

@@ -18,6 +18,6 @@ mod superblock;
 
 pub use fault::{OpenFault, StoreFault};
 pub use formatting::{FormatRefused, format, format_version1};
-pub use laws::{a_store_at_rest_stands, an_image_has_one_table};
+pub use laws::{a_store_at_rest_stands, an_image_has_one_table, what_holds_nothing_is_not_opened};
 pub use store::{Info, Opened, Refused, Store};
 pub use superblock::{LimitsRefused, least_area, limits};

@@ -27,16 +27,16 @@ fn found_at<D: Disk, A: Allocator>(
     requires place { journal.now.start + journal.now.size ≤ D.capacity disk.old }
     requires gate { at < journal.now.size }
     ensures size { D.capacity disk.new ≡ D.capacity disk.old }
-    ensures honest { D.is_honest disk.new ↔ D.is_honest disk.old }
-    ensures same { D.is_honest disk.old → D.trace disk.new ≡ D.trace disk.old }
+    ensures honest { D.is_honest disk.new → D.is_honest disk.old }
+    ensures same { D.is_honest disk.new → D.trace disk.new ≡ D.trace disk.old }
     ensures device { IfErr result (λ fault. fault ≡ OpenFault.Device → Rises (D.failed disk.old) (D.failed disk.new)) }
     ensures count { OnOk result (D.failed disk.new ≡ D.failed disk.old) }
     ensures count_not { IfErr result (λ fault. fault ≢ OpenFault.Device → D.failed disk.new ≡ D.failed disk.old) }
     ensures admitted { IfOk result (λ found. (n : _) → found ≡ Found.Frame n
         → IsAdmitted at journal.now.size journal.now.max_payload n) }
-    ensures found { D.is_honest disk.old → IfOk result
+    ensures found { D.is_honest disk.new → IfOk result
         (IsFound (journal.now.start + at) (limit_of journal.now) journal.now.max_payload (D.trace disk.old).now.bytes) }
-    ensures faults { D.is_honest disk.old → IfErr result (FaultWith (λ place. (place ≡ journal.now.start + at)
+    ensures faults { D.is_honest disk.new → IfErr result (FaultWith (λ place. (place ≡ journal.now.start + at)
         × IsBadFrame place (limit_of journal.now) journal.now.max_payload (D.trace disk.old).now.bytes)) }
 {
     let gate = journal.start() + at;
@@ -75,8 +75,8 @@ pub fn replay_log<D: Disk, A: Allocator + Copy>(
     requires buffer { length payload.old ≡ max_payload version limits }
     requires bounds { table.old.bounds ≡ limits }
     ensures size { D.capacity disk.new ≡ D.capacity disk.old }
-    ensures honest { D.is_honest disk.new ↔ D.is_honest disk.old }
-    ensures same { D.is_honest disk.old → D.trace disk.new ≡ D.trace disk.old }
+    ensures honest { D.is_honest disk.new → D.is_honest disk.old }
+    ensures same { D.is_honest disk.new → D.trace disk.new ≡ D.trace disk.old }
     ensures device { IfErr result (λ fault. fault ≡ OpenFault.Device → Rises (D.failed disk.old) (D.failed disk.new)) }
     ensures count { OnOk result (D.failed disk.new ≡ D.failed disk.old) }
     ensures count_not { IfErr result (λ fault. fault ≢ OpenFault.Device → D.failed disk.new ≡ D.failed disk.old) }
@@ -85,12 +85,12 @@ pub fn replay_log<D: Disk, A: Allocator + Copy>(
         → OnOk result (IsSnapshot version limits table.new.moment table.new.contents) }
     ensures within { IfOk result (λ r. r.0 < journal.now.size) }
     ensures few { IfOk result (λ r. r.1 ≤ r.0) }
-    ensures log { D.is_honest disk.old → IfOk result (λ r.
+    ensures log { D.is_honest disk.new → IfOk result (λ r.
         LogIsRead version limits (end_of journal.now) (snapshot_of table.old) (journal.now.start + r.0) (limit_of journal.now) r.1
         (snapshot_of table.new) (D.trace disk.old).now.bytes) }
 
     // The fault is at the first gate whose frame is bad.
-    ensures faults { D.is_honest disk.old → IfErr result (FaultWith
+    ensures faults { D.is_honest disk.new → IfErr result (FaultWith
         (BreaksAt version limits (end_of journal.now) (limit_of journal.now) (snapshot_of table.old) (D.trace disk.old).now.bytes)) }
 {
     let start = journal.start();

@@ -68,8 +68,8 @@ fn load_area<D: Disk, A: Allocator + Copy>(
     requires generation { head.generation < 2 ^ 64 }
     requires snapshot { head.snapshot < 2 ^ 32 }
     ensures size { D.capacity disk.new ≡ D.capacity disk.old }
-    ensures honest { D.is_honest disk.new ↔ D.is_honest disk.old }
-    ensures same { D.is_honest disk.old → D.trace disk.new ≡ D.trace disk.old }
+    ensures honest { D.is_honest disk.new → D.is_honest disk.old }
+    ensures same { D.is_honest disk.new → D.trace disk.new ≡ D.trace disk.old }
     ensures device { IfErr result (λ fault. fault ≡ OpenFault.Device → Rises (D.failed disk.old) (D.failed disk.new)) }
     ensures count { OnOk result (D.failed disk.new ≡ D.failed disk.old) }
     ensures count_not { IfErr result (λ fault. fault ≢ OpenFault.Device → D.failed disk.new ≡ D.failed disk.old) }
@@ -78,9 +78,9 @@ fn load_area<D: Disk, A: Allocator + Copy>(
     ensures bounds { IfOk result (λ l. l.table.bounds ≡ limits) }
     ensures snapshot { IfOk result (λ l. IsSnapshot l.version limits l.table.moment l.table.contents) }
     ensures few { IfOk result (λ l. l.frames ≤ l.journal.end) }
-    ensures read { D.is_honest disk.old → IfOk result (λ l.
+    ensures read { D.is_honest disk.new → IfOk result (λ l.
         AreaIsRead l.version limits start size head l.journal.end l.frames (snapshot_of l.table) (D.trace disk.old).now.bytes) }
-    ensures faults { D.is_honest disk.old
+    ensures faults { D.is_honest disk.new
         → IfErr result (FaultWith (AreaIsBad limits start size head (D.trace disk.old).now.bytes)) }
 {
     let Some(version) = version_in(limits, size, head) else {
@@ -141,8 +141,8 @@ fn choose<D: Disk, A: Allocator + Copy>(
     requires addressable { 64 + 2 * size < 2 ^ 64 }
     requires room { 20 ≤ size }
     ensures size { D.capacity disk.new ≡ D.capacity disk.old }
-    ensures honest { D.is_honest disk.new ↔ D.is_honest disk.old }
-    ensures same { D.is_honest disk.old → D.trace disk.new ≡ D.trace disk.old }
+    ensures honest { D.is_honest disk.new → D.is_honest disk.old }
+    ensures same { D.is_honest disk.new → D.trace disk.new ≡ D.trace disk.old }
     ensures device { IfErr result (λ fault. fault ≡ OpenFault.Device → Rises (D.failed disk.old) (D.failed disk.new)) }
     ensures count { OnOk result (D.failed disk.new ≡ D.failed disk.old) }
     ensures count_not { IfErr result (λ fault. fault ≢ OpenFault.Device → D.failed disk.new ≡ D.failed disk.old) }
@@ -152,10 +152,10 @@ fn choose<D: Disk, A: Allocator + Copy>(
     ensures bounds { IfOk result (λ r. r.loaded.table.bounds ≡ limits) }
     ensures snapshot { IfOk result (λ r. IsSnapshot r.loaded.version limits r.loaded.table.moment r.loaded.table.contents) }
     ensures few { IfOk result (λ r. r.loaded.frames ≤ r.loaded.journal.end) }
-    ensures chosen { D.is_honest disk.old → IfOk result (λ r.
+    ensures chosen { D.is_honest disk.new → IfOk result (λ r.
         IsChosen r.loaded.version limits size r.loaded.journal.start r.other r.generation r.loaded.journal.end r.loaded.frames r.other_is_below
         (snapshot_of r.loaded.table) (D.trace disk.old).now.bytes) }
-    ensures faults { D.is_honest disk.old
+    ensures faults { D.is_honest disk.new
         → IfErr result (FaultWith (StoreIsBad limits size (D.trace disk.old).now.bytes)) }
 {
     let second_start = 64 + size;
@@ -200,8 +200,8 @@ fn are_same(first: Limits, second: Limits) -> bool
 // The size of an area, by the superblock, which has to have these limits.
 fn read_area_size<D: Disk>(disk: &mut D, limits: Limits) -> Result<usize, OpenFault>
     ensures size { D.capacity disk.new ≡ D.capacity disk.old }
-    ensures honest { D.is_honest disk.new ↔ D.is_honest disk.old }
-    ensures same { D.is_honest disk.old → D.trace disk.new ≡ D.trace disk.old }
+    ensures honest { D.is_honest disk.new → D.is_honest disk.old }
+    ensures same { D.is_honest disk.new → D.trace disk.new ≡ D.trace disk.old }
     ensures device { IfErr result (λ fault. fault ≡ OpenFault.Device → Rises (D.failed disk.old) (D.failed disk.new)) }
     ensures count { OnOk result (D.failed disk.new ≡ D.failed disk.old) }
     ensures count_not { IfErr result (λ fault. fault ≢ OpenFault.Device → D.failed disk.new ≡ D.failed disk.old) }
@@ -209,8 +209,8 @@ fn read_area_size<D: Disk>(disk: &mut D, limits: Limits) -> Result<usize, OpenFa
     ensures addressable { D.capacity disk.old < 2 ^ 64 }
     ensures room { IfOk result (λ area. least_area V1 limits ≤ area) }
     ensures small { OnOk result ((v : Version) → least_area v limits < 2 ^ 32) }
-    ensures superblock { D.is_honest disk.old → IfOk result (λ area. HasSuperblock area limits (D.trace disk.old).now.bytes) }
-    ensures why { D.is_honest disk.old → IfErr result (WhyRefused limits (D.trace disk.old).now.bytes) }
+    ensures superblock { D.is_honest disk.new → IfOk result (λ area. HasSuperblock area limits (D.trace disk.old).now.bytes) }
+    ensures why { D.is_honest disk.new → IfErr result (WhyRefused limits (D.trace disk.old).now.bytes) }
 {
     let needed = least_area_of(Version::V1, limits);
     let _max = least_area(limits);
@@ -239,15 +239,15 @@ pub fn load<D: Disk, A: Allocator + Copy>(
     limits: Limits,
 ) -> Result<Chosen<A>, OpenFault>
     ensures size { D.capacity disk.new ≡ D.capacity disk.old }
-    ensures honest { D.is_honest disk.new ↔ D.is_honest disk.old }
+    ensures honest { D.is_honest disk.new → D.is_honest disk.old }
     ensures device { IfErr result (λ fault. fault ≡ OpenFault.Device → Rises (D.failed disk.old) (D.failed disk.new)) }
     ensures count { OnOk result (D.failed disk.new ≡ D.failed disk.old) }
     ensures count_not { IfErr result (λ fault. fault ≢ OpenFault.Device → D.failed disk.new ≡ D.failed disk.old) }
-    ensures same { D.is_honest disk.old → (D.trace disk.new).now.bytes ≡ (D.trace disk.old).now.bytes }
-    ensures stop { D.is_honest disk.old
+    ensures same { D.is_honest disk.new → (D.trace disk.new).now.bytes ≡ (D.trace disk.old).now.bytes }
+    ensures stop { D.is_honest disk.new
         → EachImageSince (D.trace disk.old) (D.trace disk.new) (IsImage (D.trace disk.old).now) }
-    ensures settled { D.is_honest disk.old → OnOk result (IsSettled (D.trace disk.new).now) }
-    ensures settled_err { D.is_honest disk.old
+    ensures settled { D.is_honest disk.new → OnOk result (IsSettled (D.trace disk.new).now) }
+    ensures settled_err { D.is_honest disk.new
         → IfErr result (λ fault. fault ≢ OpenFault.Device → IsSettled (D.trace disk.new).now) }
     ensures place { IfOk result (λ r. 64 + 2 * r.loaded.journal.size ≡ D.capacity disk.new) }
     ensures addressable { OnOk result (D.capacity disk.new < 2 ^ 64) }
@@ -257,13 +257,13 @@ pub fn load<D: Disk, A: Allocator + Copy>(
     ensures bounds { IfOk result (λ r. r.loaded.table.bounds ≡ limits) }
     ensures snapshot { IfOk result (λ r. IsSnapshot r.loaded.version limits r.loaded.table.moment r.loaded.table.contents) }
     ensures few { IfOk result (λ r. r.loaded.frames ≤ r.loaded.journal.end) }
-    ensures superblock { D.is_honest disk.old
+    ensures superblock { D.is_honest disk.new
         → IfOk result (λ r. HasSuperblock r.loaded.journal.size limits (D.trace disk.old).now.bytes) }
-    ensures chosen { D.is_honest disk.old → IfOk result (λ r.
+    ensures chosen { D.is_honest disk.new → IfOk result (λ r.
         IsChosen r.loaded.version limits r.loaded.journal.size r.loaded.journal.start r.other r.generation r.loaded.journal.end r.loaded.frames r.other_is_below
         (snapshot_of r.loaded.table) (D.trace disk.old).now.bytes) }
-    ensures why { D.is_honest disk.old → IfErr result (WhyRefused limits (D.trace disk.old).now.bytes) }
-    ensures sound { D.is_honest disk.old → (form : Form) (h : History) (clock : ℕ) → form.bounds ≡ limits
+    ensures why { D.is_honest disk.new → IfErr result (WhyRefused limits (D.trace disk.old).now.bytes) }
+    ensures sound { D.is_honest disk.new → (form : Form) (h : History) (clock : ℕ) → form.bounds ≡ limits
         → StandsForAt form h clock (D.trace disk.old).now.bytes → IfErr result IsPlain }
 {
     disk.sync()?;

@@ -1,6 +1,6 @@
 //! The events of a log, applied to the table of the snapshot before it.
 
-ghost use Rattle.std.specs.Prelude.{◌≡◌, ◌≢◌, ◌+◌, ◌^◌, ◌<◌, ◌≤◌, ◌↔◌, List, None, OnOk, IfOk, IfErr, length};
+ghost use Rattle.std.specs.Prelude.{◌≡◌, ◌≢◌, ◌+◌, ◌^◌, ◌<◌, ◌≤◌, List, None, OnOk, IfOk, IfErr, length};
 ghost use Rattle.turn_disk.specs.Counts.{Rises};
 ghost use Rattle.turn_disk.specs.Disk.{StandsAt};
 ghost use Rattle.turn_history.specs.Act.{event_of};
@@ -155,16 +155,16 @@ fn replay_payload<D: Disk, A: Allocator + Copy>(
     requires place { at + length buffer.old ≤ D.capacity disk.old }
     requires addressable { at + length buffer.old < 2 ^ 64 }
     ensures size { D.capacity disk.new ≡ D.capacity disk.old }
-    ensures honest { D.is_honest disk.new ↔ D.is_honest disk.old }
-    ensures same { D.is_honest disk.old → D.trace disk.new ≡ D.trace disk.old }
+    ensures honest { D.is_honest disk.new → D.is_honest disk.old }
+    ensures same { D.is_honest disk.new → D.trace disk.new ≡ D.trace disk.old }
     ensures device { IfErr result (λ fault. fault ≡ FrameFault.Device → Rises (D.failed disk.old) (D.failed disk.new)) }
     ensures count { OnOk result (D.failed disk.new ≡ D.failed disk.old) }
     ensures count_not { IfErr result (λ fault. fault ≢ FrameFault.Device → D.failed disk.new ≡ D.failed disk.old) }
     ensures len { length buffer.new ≡ length buffer.old }
     ensures bounds { table.new.bounds ≡ table.old.bounds }
-    ensures stands { D.is_honest disk.old → IfErr result (λ fault. fault ≢ FrameFault.Device
+    ensures stands { D.is_honest disk.new → IfErr result (λ fault. fault ≢ FrameFault.Device
         → StandsAt at buffer.new (D.trace disk.old).now.bytes) }
-    ensures stands_ok { D.is_honest disk.old → OnOk result (StandsAt at buffer.new (D.trace disk.old).now.bytes) }
+    ensures stands_ok { D.is_honest disk.new → OnOk result (StandsAt at buffer.new (D.trace disk.old).now.bytes) }
     ensures goes { OnOk result (GoesOn version limits (snapshot_of table.old) buffer.new (snapshot_of table.new)) }
     ensures bad { IfErr result (λ fault. fault ≡ FrameFault.Bad
         → (es : List histories.Event) → SpellsPayload version limits es buffer.new → GoOn limits (snapshot_of table.old) es → ⊥) }
@@ -192,8 +192,8 @@ pub fn replay_frame<D: Disk, A: Allocator + Copy>(
     requires place { at + count ≤ D.capacity disk.old }
     requires addressable { at + count < 2 ^ 64 }
     ensures size { D.capacity disk.new ≡ D.capacity disk.old }
-    ensures honest { D.is_honest disk.new ↔ D.is_honest disk.old }
-    ensures same { D.is_honest disk.old → D.trace disk.new ≡ D.trace disk.old }
+    ensures honest { D.is_honest disk.new → D.is_honest disk.old }
+    ensures same { D.is_honest disk.new → D.trace disk.new ≡ D.trace disk.old }
     ensures device { IfErr result (λ fault. fault ≡ FrameFault.Device → Rises (D.failed disk.old) (D.failed disk.new)) }
     ensures count { OnOk result (D.failed disk.new ≡ D.failed disk.old) }
     ensures count_not { IfErr result (λ fault. fault ≢ FrameFault.Device → D.failed disk.new ≡ D.failed disk.old) }
@@ -201,9 +201,9 @@ pub fn replay_frame<D: Disk, A: Allocator + Copy>(
     ensures bounds { table.new.bounds ≡ table.old.bounds }
     ensures snapshot { IsSnapshot version limits table.old.moment table.old.contents
         → OnOk result (IsSnapshot version limits table.new.moment table.new.contents) }
-    ensures goes { D.is_honest disk.old → OnOk result
+    ensures goes { D.is_honest disk.new → OnOk result
         (ReadsOn version limits (snapshot_of table.old) at count (snapshot_of table.new) (D.trace disk.old).now.bytes) }
-    ensures bad { D.is_honest disk.old → IfErr result (λ fault. fault ≡ FrameFault.Bad
+    ensures bad { D.is_honest disk.new → IfErr result (λ fault. fault ≡ FrameFault.Bad
         → ReadsBad version limits (snapshot_of table.old) at count (D.trace disk.old).now.bytes) }
 {
     match replay_payload(

@@ -1,6 +1,6 @@
 //! A snapshot, read in pieces.
 
-ghost use Rattle.std.specs.Prelude.{◌≡◌, ◌≢◌, ◌+◌, ◌++◌, ◌≤◌, ◌<◌, ◌^◌, ◌↔◌, ℕ, List, IfOk, IfErr, OnOk, drop, length, take};
+ghost use Rattle.std.specs.Prelude.{◌≡◌, ◌≢◌, ◌+◌, ◌++◌, ◌≤◌, ◌<◌, ◌^◌, ℕ, List, IfOk, IfErr, OnOk, drop, length, take};
 ghost use Rattle.turn_disk.specs.Counts.{CountOutcome, Rises};
 ghost use Rattle.turn_record.specs.Pieces.{WasFed};
 ghost use Rattle.turn_record.specs.Records.{IsSnapshot};
@@ -28,10 +28,10 @@ fn read_front<D: Disk>(
     requires place { at + size ≤ D.capacity disk.old }
     ensures size { D.capacity disk.new ≡ D.capacity disk.old }
     ensures count { CountOutcome (D.failed disk.old) (D.failed disk.new) result }
-    ensures honest { D.is_honest disk.new ↔ D.is_honest disk.old }
-    ensures same { D.is_honest disk.old → D.trace disk.new ≡ D.trace disk.old }
+    ensures honest { D.is_honest disk.new → D.is_honest disk.old }
+    ensures same { D.is_honest disk.new → D.trace disk.new ≡ D.trace disk.old }
     ensures len { length piece.new ≡ 4096 }
-    ensures value { D.is_honest disk.old
+    ensures value { D.is_honest disk.new
         → OnOk result (take size piece.new ≡ take size (drop at (D.trace disk.old).now.bytes)) }
 {
     disk.read_at(at, &mut piece[..size])?;
@@ -57,12 +57,12 @@ fn feed_piece<D: Disk, A: Allocator + Copy>(
     requires place { at + size ≤ D.capacity disk.old }
     ensures size { D.capacity disk.new ≡ D.capacity disk.old }
     ensures count { CountOutcome (D.failed disk.old) (D.failed disk.new) result }
-    ensures honest { D.is_honest disk.new ↔ D.is_honest disk.old }
-    ensures same { D.is_honest disk.old → D.trace disk.new ≡ D.trace disk.old }
-    ensures bytes { D.is_honest disk.old → OnOk result (AreBytes (take size (drop at (D.trace disk.old).now.bytes))) }
+    ensures honest { D.is_honest disk.new → D.is_honest disk.old }
+    ensures same { D.is_honest disk.new → D.trace disk.new ≡ D.trace disk.old }
+    ensures bytes { D.is_honest disk.new → OnOk result (AreBytes (take size (drop at (D.trace disk.old).now.bytes))) }
     ensures fed_some { OnOk result ((v : Version) (b : Bounds) (fed : List ℕ) → AreBytes fed
         → WasFed v b reader.old fed → (more : List ℕ) × AreBytes more × WasFed v b reader.new more) }
-    ensures fed { D.is_honest disk.old → OnOk result ((v : Version) (b : Bounds) (fed : List ℕ)
+    ensures fed { D.is_honest disk.new → OnOk result ((v : Version) (b : Bounds) (fed : List ℕ)
         → WasFed v b reader.old fed → WasFed v b reader.new (fed ++ take size (drop at (D.trace disk.old).now.bytes))) }
 {
     let mut piece = [0u8; PIECE];
@@ -83,16 +83,16 @@ pub fn read_snapshot<D: Disk, A: Allocator + Copy>(
     requires place { at + count ≤ D.capacity disk.old }
     requires addressable { at + count < 2 ^ 64 }
     ensures size { D.capacity disk.new ≡ D.capacity disk.old }
-    ensures honest { D.is_honest disk.new ↔ D.is_honest disk.old }
-    ensures same { D.is_honest disk.old → D.trace disk.new ≡ D.trace disk.old }
+    ensures honest { D.is_honest disk.new → D.is_honest disk.old }
+    ensures same { D.is_honest disk.new → D.trace disk.new ≡ D.trace disk.old }
     ensures device { IfErr result (λ fault. fault ≡ OpenFault.Device → Rises (D.failed disk.old) (D.failed disk.new)) }
     ensures count { OnOk result (D.failed disk.new ≡ D.failed disk.old) }
     ensures count_not { IfErr result (λ fault. fault ≢ OpenFault.Device → D.failed disk.new ≡ D.failed disk.old) }
     ensures bounds { IfOk result (λ table. table.bounds ≡ limits) }
     ensures snapshot { IfOk result (λ table. IsSnapshot version limits table.moment table.contents) }
-    ensures read { D.is_honest disk.old → IfOk result (λ table.
+    ensures read { D.is_honest disk.new → IfOk result (λ table.
         IsGoodSnapshot version limits at count (snapshot_of table) (D.trace disk.old).now.bytes) }
-    ensures faults { D.is_honest disk.old → IfErr result (FaultWith (λ place. (place ≡ at)
+    ensures faults { D.is_honest disk.new → IfErr result (FaultWith (λ place. (place ≡ at)
         × IsBadSnapshot version limits at count (D.trace disk.old).now.bytes)) }
 {
     let _bounds = limits.bounds();

@@ -9,13 +9,14 @@ ghost use Rattle.turn_record.specs.Records.{IsSnapshot, max_payload};
 ghost use Rattle.turn_record.specs.declared.version.Version.{Version};
 ghost use Rattle.turn_record.specs.declared.version.Version.TheVariants.{V2};
 ghost use Rattle.turn_disk.specs.Disk.{EachImageSince, IsImage, IsSettled};
+ghost use Rattle.turn_journal.specs.Area.{end_of};
 ghost use Rattle.turn_store.specs.Areas.{Form, Holds, RestsOn};
 ghost use Rattle.turn_store.specs.Carrying.{Carries, IsCarried};
 ghost use Rattle.turn_store.specs.Images.{EitherBy, StandsBy, StandsForAt};
 ghost use Rattle.turn_store.specs.Opened.{IsOpened, OpensTo};
 ghost use Rattle.turn_store.specs.Refused.{IsPlain, WhyRefused};
 ghost use Rattle.turn_store.specs.Spells.{HasSize};
-ghost use Rattle.turn_store.specs.Stages.{InStages};
+ghost use Rattle.turn_store.specs.Stages.{InStages, InStagesAt};
 ghost use Rattle.turn_store.specs.State.{MayFollow, RestsAt, Shows, carried, carried_area, form_of, framed, swapped};
 ghost use Rattle.turn_store.specs.Superblock.{least_area};
 ghost use Rattle.turn_store.specs.Tables.{snapshot_of};
@@ -57,18 +58,19 @@ fn write_snapshot<D: Disk, A: Allocator + Copy>(
     requires addressable { D.capacity disk.old < 2 ^ 64 }
     ensures size { D.capacity disk.new ≡ D.capacity disk.old }
     ensures count { CountOutcome (D.failed disk.old) (D.failed disk.new) result }
-    ensures honest { D.is_honest disk.new ↔ D.is_honest disk.old }
+    ensures honest { D.is_honest disk.new → D.is_honest disk.old }
 
-    // Up to some moment a stop leaves what was there; from then on that, or the new snapshot alone.
+    // Up to some moment a stop leaves what was there; from then on that, or the new snapshot alone, and this
+    // gate alone is written, once.
     ensures stages { let old = D.trace disk.old in
-        D.is_honest disk.old → (v : Version) (form : Form) (start generation end : ℕ) (s : List ℕ) (ps : List (List ℕ))
+        D.is_honest disk.new → (v : Version) (form : Form) (start generation end : ℕ) (s : List ℕ) (ps : List (List ℕ))
         → next.generation ≡ generation + 1 → next.generation < 2 ^ 64
         → least_area next.version form.bounds ≤ form.area → 14 + next.size < form.area
         → RestsOn v form start gate generation end is_below s ps old.now
-        → InStages old (D.trace disk.new) (Holds v form s ps) (λ image. Holds v form s ps image
+        → InStagesAt gate old (D.trace disk.new) (Holds v form s ps) (λ image. Holds v form s ps image
         ⊎ Holds next.version form (bytes.snapshot next.version table.now.moment table.now.contents) [] image) }
     ensures done { let old = (D.trace disk.old).now in
-        D.is_honest disk.old → (v : Version) (form : Form) (start generation end : ℕ) (s : List ℕ) (ps : List (List ℕ))
+        D.is_honest disk.new → (v : Version) (form : Form) (start generation end : ℕ) (s : List ℕ) (ps : List (List ℕ))
         → next.generation ≡ generation + 1 → next.generation < 2 ^ 64
         → least_area next.version form.bounds ≤ form.area → 14 + next.size < form.area
         → RestsOn v form start gate generation end is_below s ps old
@@ -214,19 +216,21 @@ impl<D: Disk, A: Allocator + Copy> Store<D, A> {
         requires short { length payload.now ≤ max_payload self.old.version self.old.bounds }
         requires room { self.old.area.end + 6 + length payload.now ≤ self.old.area.size }
 
-        ensures honest { D.is_honest self.new.disk ↔ D.is_honest self.old.disk }
+        ensures honest { D.is_honest self.new.disk → D.is_honest self.old.disk }
         ensures count { CountOutcome (D.failed self.old.disk) (D.failed self.new.disk) result }
         ensures ok { OnOk result (self.new ≡ framed self.old (length payload.now) self.new.disk) }
         ensures err { OnErr result (self.new ≡ record self.old { disk = self.new.disk; stopped = true }) }
 
-        // Up to some moment a stop leaves what was there; from then on that, or with the frame.
-        ensures stages { D.is_honest self.old.disk → (s : List ℕ) (ps : List (List ℕ))
+        // Up to some moment a stop leaves what was there; from then on that, or with the frame, and the gate at
+        // the log's end alone is written, once.
+        ensures stages { D.is_honest self.new.disk → (s : List ℕ) (ps : List (List ℕ))
             → Shows self.old (D.trace self.old.disk).now s ps
-            → InStages (D.trace self.old.disk) (D.trace self.new.disk) (Holds self.old.version (form_of self.old) s ps)
+            → InStagesAt (end_of self.old.area) (D.trace self.old.disk) (D.trace self.new.disk)
+            (Holds self.old.version (form_of self.old) s ps)
             (λ image. Holds self.old.version (form_of self.old) s ps image
             ⊎ Holds self.old.version (form_of self.old) s (ps ++ payload.now ∷ []) image) }
 
-        ensures shown { D.is_honest self.old.disk → (s : List ℕ) (ps : List (List ℕ))
+        ensures shown { D.is_honest self.new.disk → (s : List ℕ) (ps : List (List ℕ))
             → Shows self.old (D.trace self.old.disk).now s ps
             → OnOk result (Shows self.new (D.trace self.new.disk).now s (ps ++ payload.now ∷ [])) }
     {
@@ -263,20 +267,22 @@ impl<D: Disk, A: Allocator + Copy> Store<D, A> {
         requires limits { table.now.bounds ≡ self.old.bounds }
         requires snapshot { IsSnapshot self.old.version table.now.bounds table.now.moment table.now.contents }
 
-        ensures honest { D.is_honest self.new.disk ↔ D.is_honest self.old.disk }
+        ensures honest { D.is_honest self.new.disk → D.is_honest self.old.disk }
         ensures count { CountOutcome (D.failed self.old.disk) (D.failed self.new.disk) result }
         ensures ok { OnOk result (self.new
             ≡ swapped self.old (length (bytes.snapshot self.old.version table.now.moment table.now.contents)) self.new.disk) }
         ensures err { OnErr result (self.new ≡ record self.old { disk = self.new.disk; stopped = true }) }
 
-        // Up to some moment a stop leaves what was there; from then on that, or the new snapshot alone.
-        ensures stages { D.is_honest self.old.disk → (s : List ℕ) (ps : List (List ℕ))
+        // Up to some moment a stop leaves what was there; from then on that, or the new snapshot alone, and the
+        // gate of the other area alone is written, once.
+        ensures stages { D.is_honest self.new.disk → (s : List ℕ) (ps : List (List ℕ))
             → Shows self.old (D.trace self.old.disk).now s ps
-            → InStages (D.trace self.old.disk) (D.trace self.new.disk) (Holds self.old.version (form_of self.old) s ps)
+            → InStagesAt self.old.other (D.trace self.old.disk) (D.trace self.new.disk)
+            (Holds self.old.version (form_of self.old) s ps)
             (λ image. Holds self.old.version (form_of self.old) s ps image
             ⊎ Holds self.old.version (form_of self.old) (bytes.snapshot self.old.version table.now.moment table.now.contents) [] image) }
 
-        ensures shown { D.is_honest self.old.disk → (s : List ℕ) (ps : List (List ℕ))
+        ensures shown { D.is_honest self.new.disk → (s : List ℕ) (ps : List (List ℕ))
             → Shows self.old (D.trace self.old.disk).now s ps
             → OnOk result (Shows self.new (D.trace self.new.disk).now
             (bytes.snapshot self.old.version table.now.moment table.now.contents) []) }
@@ -308,7 +314,7 @@ impl<D: Disk, A: Allocator + Copy> Store<D, A> {
         requires limits { table.now.bounds ≡ self.old.bounds }
         requires snapshot { IsSnapshot self.old.version table.now.bounds table.now.moment table.now.contents }
 
-        ensures honest { D.is_honest self.new.disk ↔ D.is_honest self.old.disk }
+        ensures honest { D.is_honest self.new.disk → D.is_honest self.old.disk }
         ensures framed { result ≡ Ok false → self.new ≡ framed self.old (length payload.now) self.new.disk }
         ensures compacted { result ≡ Ok true → self.new
             ≡ swapped self.old (length (bytes.snapshot self.old.version table.now.moment table.now.contents)) self.new.disk }
@@ -326,14 +332,14 @@ impl<D: Disk, A: Allocator + Copy> Store<D, A> {
         ensures stops { OnErr result (self.new ≡ record self.old { disk = self.new.disk; stopped = true }) }
 
         // Up to some moment a stop leaves the history from before at its clock; from then on the history from before, or with
-        // the batch, at a moment that is at most the table's.
-        ensures stages { D.is_honest self.old.disk → (c : ℕ) (h : History) (es : List Event)
+        // the batch, at a moment that is at most the table's, and one gate alone is written, once.
+        ensures stages { D.is_honest self.new.disk → (c : ℕ) (h : History) (es : List Event)
             → RestsAt self.old (D.trace self.old.disk).now c h → MayFollow self.old.bounds c h es table.now.moment
             → HasSize self.old.version self.old.bounds es → payload.now ≡ bytes.payload es
             → table.now.contents ≡ tables.table (h ++ es) table.now.moment
             → InStages (D.trace self.old.disk) (D.trace self.new.disk)
             (StandsForAt (form_of self.old) h c) (EitherBy (form_of self.old) h es table.now.moment) }
-        ensures done { D.is_honest self.old.disk → (c : ℕ) (h : History) (es : List Event)
+        ensures done { D.is_honest self.new.disk → (c : ℕ) (h : History) (es : List Event)
             → RestsAt self.old (D.trace self.old.disk).now c h → MayFollow self.old.bounds c h es table.now.moment
             → HasSize self.old.version self.old.bounds es → payload.now ≡ bytes.payload es
             → table.now.contents ≡ tables.table (h ++ es) table.now.moment
@@ -341,7 +347,7 @@ impl<D: Disk, A: Allocator + Copy> Store<D, A> {
             × RestsAt self.new (D.trace self.new.disk).now d (h ++ es)) }
 
         // What the area that counts holds after Ok: one frame more, or the new snapshot alone.
-        ensures shown { D.is_honest self.old.disk → (s : List ℕ) (ps : List (List ℕ))
+        ensures shown { D.is_honest self.new.disk → (s : List ℕ) (ps : List (List ℕ))
             → Shows self.old (D.trace self.old.disk).now s ps → IfOk result (λ did. MatchBool did
             (Shows self.new (D.trace self.new.disk).now (bytes.snapshot self.old.version table.now.moment table.now.contents) [])
             (Shows self.new (D.trace self.new.disk).now s (ps ++ payload.now ∷ []))) }
@@ -364,7 +370,7 @@ impl<D: Disk, A: Allocator + Copy> Store<D, A> {
         requires limits { table.now.bounds ≡ self.old.bounds }
         requires snapshot { IsSnapshot self.old.version table.now.bounds table.now.moment table.now.contents }
 
-        ensures honest { D.is_honest self.new.disk ↔ D.is_honest self.old.disk }
+        ensures honest { D.is_honest self.new.disk → D.is_honest self.old.disk }
         ensures compacted { OnOk result (self.new
             ≡ swapped self.old (length (bytes.snapshot self.old.version table.now.moment table.now.contents)) self.new.disk) }
 
@@ -378,19 +384,20 @@ impl<D: Disk, A: Allocator + Copy> Store<D, A> {
         ensures untouched { self.old.stopped ≡ true → self.new ≡ self.old }
         ensures stops { OnErr result (self.new ≡ record self.old { disk = self.new.disk; stopped = true }) }
 
-        // Up to some moment a stop leaves the history at its clock; from then on at a moment that is at most the table's.
-        ensures stages { D.is_honest self.old.disk → (c : ℕ) (h : History)
+        // Up to some moment a stop leaves the history at its clock; from then on at a moment that is at most the table's,
+        // and the gate of the other area alone is written, once.
+        ensures stages { D.is_honest self.new.disk → (c : ℕ) (h : History)
             → RestsAt self.old (D.trace self.old.disk).now c h → MayFollow self.old.bounds c h [] table.now.moment
             → table.now.contents ≡ tables.table h table.now.moment
-            → InStages (D.trace self.old.disk) (D.trace self.new.disk)
+            → InStagesAt self.old.other (D.trace self.old.disk) (D.trace self.new.disk)
             (StandsForAt (form_of self.old) h c) (StandsBy (form_of self.old) h table.now.moment) }
-        ensures done { D.is_honest self.old.disk → (c : ℕ) (h : History)
+        ensures done { D.is_honest self.new.disk → (c : ℕ) (h : History)
             → RestsAt self.old (D.trace self.old.disk).now c h → MayFollow self.old.bounds c h [] table.now.moment
             → table.now.contents ≡ tables.table h table.now.moment
             → OnOk result (RestsAt self.new (D.trace self.new.disk).now table.now.moment h) }
 
         // What the area that counts holds after Ok: the new snapshot alone.
-        ensures shown { D.is_honest self.old.disk → (s : List ℕ) (ps : List (List ℕ))
+        ensures shown { D.is_honest self.new.disk → (s : List ℕ) (ps : List (List ℕ))
             → Shows self.old (D.trace self.old.disk).now s ps → OnOk result
             (Shows self.new (D.trace self.new.disk).now (bytes.snapshot self.old.version table.now.moment table.now.contents) []) }
     {
@@ -459,19 +466,21 @@ impl<D: Disk, A: Allocator + Copy> Store<D, A> {
         requires within { self.old.other + 15 + size ≤ D.capacity self.old.disk }
         requires journal { journal ≡ carried_area self.old size }
 
-        ensures honest { D.is_honest self.new.disk ↔ D.is_honest self.old.disk }
+        ensures honest { D.is_honest self.new.disk → D.is_honest self.old.disk }
         ensures count { CountOutcome (D.failed self.old.disk) (D.failed self.new.disk) result }
         ensures ok { OnOk result (self.new ≡ carried self.old (carried_area self.old size) self.new.disk) }
         ensures err { OnErr result (self.new ≡ record self.old { disk = self.new.disk; stopped = true }) }
 
-        // Up to some moment a stop leaves what was there; from then on that, or the new snapshot alone.
-        ensures stages { D.is_honest self.old.disk → (s : List ℕ) (ps : List (List ℕ))
+        // Up to some moment a stop leaves what was there; from then on that, or the new snapshot alone, and the
+        // gate of the other area alone is written, once.
+        ensures stages { D.is_honest self.new.disk → (s : List ℕ) (ps : List (List ℕ))
             → Shows self.old (D.trace self.old.disk).now s ps
-            → InStages (D.trace self.old.disk) (D.trace self.new.disk) (Holds self.old.version (form_of self.old) s ps)
+            → InStagesAt self.old.other (D.trace self.old.disk) (D.trace self.new.disk)
+            (Holds self.old.version (form_of self.old) s ps)
             (λ image. Holds self.old.version (form_of self.old) s ps image
             ⊎ Holds V2 (form_of self.old) (bytes.snapshot V2 table.now.moment table.now.contents) [] image) }
 
-        ensures shown { D.is_honest self.old.disk → (s : List ℕ) (ps : List (List ℕ))
+        ensures shown { D.is_honest self.new.disk → (s : List ℕ) (ps : List (List ℕ))
             → Shows self.old (D.trace self.old.disk).now s ps
             → OnOk result (Shows self.new (D.trace self.new.disk).now
             (bytes.snapshot V2 table.now.moment table.now.contents) []) }
@@ -507,8 +516,8 @@ fn carry_over<D: Disk, A: Allocator + Copy>(
     requires generation { opened.store.generation < 2 ^ 64 - 1 }
     requires area { least_area V2 opened.store.bounds ≤ opened.store.area.size }
 
-    ensures honest { IfOk result (λ o. D.is_honest o.store.disk ↔ D.is_honest opened.store.disk) }
-    ensures honest_err { IfErr result (λ r. D.is_honest r.disk ↔ D.is_honest opened.store.disk) }
+    ensures honest { IfOk result (λ o. D.is_honest o.store.disk → D.is_honest opened.store.disk) }
+    ensures honest_err { IfErr result (λ r. D.is_honest r.disk → D.is_honest opened.store.disk) }
     ensures count { IfOk result (λ o. D.failed o.store.disk ≡ D.failed opened.store.disk) }
     ensures plain { IfErr result (λ r. IsPlain r.fault) }
     ensures device { IfErr result (λ r. r.fault ≡ OpenFault.Device → Rises (D.failed opened.store.disk) (D.failed r.disk)) }
@@ -516,20 +525,20 @@ fn carry_over<D: Disk, A: Allocator + Copy>(
     ensures table { IfOk result (λ o. o.table ≡ opened.table) }
     ensures store { IfOk result (λ o. o.store ≡ carried opened.store
         (carried_area opened.store (length (bytes.snapshot V2 opened.table.moment opened.table.contents))) o.store.disk) }
-    ensures shown { D.is_honest opened.store.disk → (s : List ℕ) (ps : List (List ℕ))
-        → Shows opened.store (D.trace opened.store.disk).now s ps → IfOk result (λ o.
-        Shows o.store (D.trace o.store.disk).now (bytes.snapshot V2 opened.table.moment opened.table.contents) []) }
+    ensures shown { IfOk result (λ o. D.is_honest o.store.disk → (s : List ℕ) (ps : List (List ℕ))
+        → Shows opened.store (D.trace opened.store.disk).now s ps
+        → Shows o.store (D.trace o.store.disk).now (bytes.snapshot V2 opened.table.moment opened.table.contents) []) }
 
     // A stop at any moment leaves the history that was opened.
-    ensures stop { D.is_honest opened.store.disk → (form : Form) (h : History) (clock : ℕ)
+    ensures stop { IfOk result (λ o. D.is_honest o.store.disk → (form : Form) (h : History) (clock : ℕ)
         → OpensTo form h clock opened.store (D.trace opened.store.disk).now (snapshot_of opened.table)
-        → IfOk result (λ o. EachImageSince (D.trace opened.store.disk) (D.trace o.store.disk) (StandsBy form h clock)) }
-    ensures stop_err { D.is_honest opened.store.disk → (form : Form) (h : History) (clock : ℕ)
+        → EachImageSince (D.trace opened.store.disk) (D.trace o.store.disk) (StandsBy form h clock)) }
+    ensures stop_err { IfErr result (λ r. D.is_honest r.disk → (form : Form) (h : History) (clock : ℕ)
         → OpensTo form h clock opened.store (D.trace opened.store.disk).now (snapshot_of opened.table)
-        → IfErr result (λ r. EachImageSince (D.trace opened.store.disk) (D.trace r.disk) (StandsBy form h clock)) }
-    ensures rests { D.is_honest opened.store.disk → (form : Form) (h : History) (clock : ℕ)
+        → EachImageSince (D.trace opened.store.disk) (D.trace r.disk) (StandsBy form h clock)) }
+    ensures rests { IfOk result (λ o. D.is_honest o.store.disk → (form : Form) (h : History) (clock : ℕ)
         → OpensTo form h clock opened.store (D.trace opened.store.disk).now (snapshot_of opened.table)
-        → IfOk result (λ o. OpensTo form h clock o.store (D.trace o.store.disk).now (snapshot_of o.table)) }
+        → OpensTo form h clock o.store (D.trace o.store.disk).now (snapshot_of o.table)) }
 {
     let Opened { mut store, table } = opened;
     let size = store.next_size(Version::V2, &table);
@@ -551,8 +560,8 @@ fn carry_over<D: Disk, A: Allocator + Copy>(
 impl<D: Disk, A: Allocator + Copy> Store<D, A> {
     // Opens the store of a disk, whose content stays.
     fn open_unchanged(alloc: A, disk: D, limits: Limits) -> Result<Opened<D, A>, Refused<D>>
-        ensures honest { IfOk result (λ o. D.is_honest o.store.disk ↔ D.is_honest disk) }
-        ensures honest_err { IfErr result (λ r. D.is_honest r.disk ↔ D.is_honest disk) }
+        ensures honest { IfOk result (λ o. D.is_honest o.store.disk → D.is_honest disk) }
+        ensures honest_err { IfErr result (λ r. D.is_honest r.disk → D.is_honest disk) }
         ensures count { IfOk result (λ o. D.failed o.store.disk ≡ D.failed disk) }
         ensures device { IfErr result (λ r. r.fault ≡ OpenFault.Device → Rises (D.failed disk) (D.failed r.disk)) }
         ensures count_not { IfErr result (λ r. r.fault ≢ OpenFault.Device → D.failed r.disk ≡ D.failed disk) }
@@ -561,31 +570,28 @@ impl<D: Disk, A: Allocator + Copy> Store<D, A> {
         ensures snapshot { IfOk result (λ o. IsSnapshot o.store.version limits o.table.moment o.table.contents) }
 
         // The content stays, and a stop at any moment leaves what it might have left before.
-        ensures same { D.is_honest disk
-            → IfOk result (λ o. (D.trace o.store.disk).now.bytes ≡ (D.trace disk).now.bytes) }
-        ensures same_err { D.is_honest disk
-            → IfErr result (λ r. (D.trace r.disk).now.bytes ≡ (D.trace disk).now.bytes) }
-        ensures stop { D.is_honest disk → IfOk result (λ o.
-            EachImageSince (D.trace disk) (D.trace o.store.disk) (IsImage (D.trace disk).now)) }
-        ensures stop_err { D.is_honest disk → IfErr result (λ r.
-            EachImageSince (D.trace disk) (D.trace r.disk) (IsImage (D.trace disk).now)) }
+        ensures same { IfOk result (λ o. D.is_honest o.store.disk → (D.trace o.store.disk).now.bytes ≡ (D.trace disk).now.bytes) }
+        ensures same_err { IfErr result (λ r. D.is_honest r.disk → (D.trace r.disk).now.bytes ≡ (D.trace disk).now.bytes) }
+        ensures stop { IfOk result (λ o. D.is_honest o.store.disk
+            → EachImageSince (D.trace disk) (D.trace o.store.disk) (IsImage (D.trace disk).now)) }
+        ensures stop_err { IfErr result (λ r. D.is_honest r.disk
+            → EachImageSince (D.trace disk) (D.trace r.disk) (IsImage (D.trace disk).now)) }
 
         // The sync comes first: a refusal that isn't its failure finds nothing pending.
-        ensures settled { D.is_honest disk
-            → IfErr result (λ r. r.fault ≢ OpenFault.Device → IsSettled (D.trace r.disk).now) }
+        ensures settled { IfErr result (λ r. D.is_honest r.disk → r.fault ≢ OpenFault.Device → IsSettled (D.trace r.disk).now) }
 
         // What was read, and the reason of each refusal: the first that applies.
-        ensures opened { D.is_honest disk
-            → IfOk result (λ o. IsOpened o.store (D.trace o.store.disk).now (snapshot_of o.table)) }
-        ensures why { D.is_honest disk → IfErr result (λ r. WhyRefused limits (D.trace disk).now.bytes r.fault) }
+        ensures opened { IfOk result (λ o. D.is_honest o.store.disk
+            → IsOpened o.store (D.trace o.store.disk).now (snapshot_of o.table)) }
+        ensures why { IfErr result (λ r. D.is_honest r.disk → WhyRefused limits (D.trace disk).now.bytes r.fault) }
 
         // If the content stands for a history, the store rests on it, the table is the history's, and a refusal is of the
         // device or of memory.
-        ensures rests { D.is_honest disk → (form : Form) (h : History) (clock : ℕ) → form.bounds ≡ limits
-            → StandsForAt form h clock (D.trace disk).now.bytes
-            → IfOk result (λ o. OpensTo form h clock o.store (D.trace o.store.disk).now (snapshot_of o.table)) }
-        ensures sound { D.is_honest disk → (form : Form) (h : History) (clock : ℕ) → form.bounds ≡ limits
-            → StandsForAt form h clock (D.trace disk).now.bytes → IfErr result (λ r. IsPlain r.fault) }
+        ensures rests { IfOk result (λ o. D.is_honest o.store.disk → (form : Form) (h : History) (clock : ℕ)
+            → form.bounds ≡ limits → StandsForAt form h clock (D.trace disk).now.bytes
+            → OpensTo form h clock o.store (D.trace o.store.disk).now (snapshot_of o.table)) }
+        ensures sound { IfErr result (λ r. D.is_honest r.disk → (form : Form) (h : History) (clock : ℕ) → form.bounds ≡ limits
+            → StandsForAt form h clock (D.trace disk).now.bytes → IsPlain r.fault) }
     {
         let mut disk = disk;
         match load(alloc, &mut disk, limits) {
@@ -628,8 +634,8 @@ impl<D: Disk, A: Allocator + Copy> Store<D, A> {
         limits: Limits,
         carry: bool,
     ) -> Result<Opened<D, A>, Refused<D>>
-        ensures honest { IfOk result (λ o. D.is_honest o.store.disk ↔ D.is_honest disk) }
-        ensures honest_err { IfErr result (λ r. D.is_honest r.disk ↔ D.is_honest disk) }
+        ensures honest { IfOk result (λ o. D.is_honest o.store.disk → D.is_honest disk) }
+        ensures honest_err { IfErr result (λ r. D.is_honest r.disk → D.is_honest disk) }
         ensures count { IfOk result (λ o. D.failed o.store.disk ≡ D.failed disk) }
         ensures device { IfErr result (λ r. r.fault ≡ OpenFault.Device → Rises (D.failed disk) (D.failed r.disk)) }
         ensures count_not { IfErr result (λ r. r.fault ≢ OpenFault.Device → D.failed r.disk ≡ D.failed disk) }
@@ -638,42 +644,43 @@ impl<D: Disk, A: Allocator + Copy> Store<D, A> {
         ensures snapshot { IfOk result (λ o. IsSnapshot o.store.version limits o.table.moment o.table.contents) }
 
         // A stop at any moment leaves what it might have left before, or an image that stands for the same history.
-        ensures stop { D.is_honest disk → (form : Form) (h : History) (clock : ℕ)
-            → StandsForAt form h clock (D.trace disk).now.bytes → IfOk result (λ o. EachImageSince (D.trace disk)
-            (D.trace o.store.disk) (λ image. IsImage (D.trace disk).now image ⊎ StandsBy form h clock image)) }
-        ensures stop_err { D.is_honest disk → (form : Form) (h : History) (clock : ℕ)
-            → StandsForAt form h clock (D.trace disk).now.bytes → IfErr result (λ r. EachImageSince (D.trace disk)
-            (D.trace r.disk) (λ image. IsImage (D.trace disk).now image ⊎ StandsBy form h clock image)) }
+        ensures stop { IfOk result (λ o. D.is_honest o.store.disk → (form : Form) (h : History) (clock : ℕ)
+            → StandsForAt form h clock (D.trace disk).now.bytes
+            → EachImageSince (D.trace disk) (D.trace o.store.disk) (λ image. IsImage
+            (D.trace disk).now image ⊎ StandsBy form h clock image)) }
+        ensures stop_err { IfErr result (λ r. D.is_honest r.disk → (form : Form) (h : History) (clock : ℕ)
+            → StandsForAt form h clock (D.trace disk).now.bytes
+            → EachImageSince (D.trace disk) (D.trace r.disk) (λ image. IsImage
+            (D.trace disk).now image ⊎ StandsBy form h clock image)) }
 
         // Where nothing is to be carried over the content stays, and a stop at any moment leaves what it might have left before.
-        ensures same { carry ≡ false → D.is_honest disk
-            → IfOk result (λ o. (D.trace o.store.disk).now.bytes ≡ (D.trace disk).now.bytes) }
-        ensures same_err { carry ≡ false → D.is_honest disk
-            → IfErr result (λ r. (D.trace r.disk).now.bytes ≡ (D.trace disk).now.bytes) }
-        ensures stop_kept { carry ≡ false → D.is_honest disk → IfOk result (λ o.
-            EachImageSince (D.trace disk) (D.trace o.store.disk) (IsImage (D.trace disk).now)) }
-        ensures stop_kept_err { carry ≡ false → D.is_honest disk → IfErr result (λ r.
-            EachImageSince (D.trace disk) (D.trace r.disk) (IsImage (D.trace disk).now)) }
+        ensures same { carry ≡ false → IfOk result (λ o. D.is_honest o.store.disk
+            → (D.trace o.store.disk).now.bytes ≡ (D.trace disk).now.bytes) }
+        ensures same_err { carry ≡ false → IfErr result (λ r. D.is_honest r.disk
+            → (D.trace r.disk).now.bytes ≡ (D.trace disk).now.bytes) }
+        ensures stop_kept { carry ≡ false → IfOk result (λ o. D.is_honest o.store.disk
+            → EachImageSince (D.trace disk) (D.trace o.store.disk) (IsImage (D.trace disk).now)) }
+        ensures stop_kept_err { carry ≡ false → IfErr result (λ r. D.is_honest r.disk
+            → EachImageSince (D.trace disk) (D.trace r.disk) (IsImage (D.trace disk).now)) }
 
         // The sync comes first: a refusal that isn't of the device finds nothing pending.
-        ensures settled { D.is_honest disk
-            → IfErr result (λ r. r.fault ≢ OpenFault.Device → IsSettled (D.trace r.disk).now) }
+        ensures settled { IfErr result (λ r. D.is_honest r.disk → r.fault ≢ OpenFault.Device → IsSettled (D.trace r.disk).now) }
 
         // What the store holds, and the reason of each refusal: the first that applies.
-        ensures opened { D.is_honest disk
-            → IfOk result (λ o. IsOpened o.store (D.trace o.store.disk).now (snapshot_of o.table)) }
-        ensures why { D.is_honest disk → IfErr result (λ r. WhyRefused limits (D.trace disk).now.bytes r.fault) }
+        ensures opened { IfOk result (λ o. D.is_honest o.store.disk
+            → IsOpened o.store (D.trace o.store.disk).now (snapshot_of o.table)) }
+        ensures why { IfErr result (λ r. D.is_honest r.disk → WhyRefused limits (D.trace disk).now.bytes r.fault) }
 
         // Exactly a store of version 1 is carried over whose areas have room for version 2, and which isn't worn.
-        ensures carried { D.is_honest disk → IfOk result (λ o. Carries carry (D.trace disk).now.bytes o.store) }
+        ensures carried { IfOk result (λ o. D.is_honest o.store.disk → Carries carry (D.trace disk).now.bytes o.store) }
 
         // If the content stands for a history, the store rests on it, the table is the history's, and a refusal is of the
         // device or of memory.
-        ensures rests { D.is_honest disk → (form : Form) (h : History) (clock : ℕ) → form.bounds ≡ limits
-            → StandsForAt form h clock (D.trace disk).now.bytes
-            → IfOk result (λ o. OpensTo form h clock o.store (D.trace o.store.disk).now (snapshot_of o.table)) }
-        ensures sound { D.is_honest disk → (form : Form) (h : History) (clock : ℕ) → form.bounds ≡ limits
-            → StandsForAt form h clock (D.trace disk).now.bytes → IfErr result (λ r. IsPlain r.fault) }
+        ensures rests { IfOk result (λ o. D.is_honest o.store.disk → (form : Form) (h : History) (clock : ℕ)
+            → form.bounds ≡ limits → StandsForAt form h clock (D.trace disk).now.bytes
+            → OpensTo form h clock o.store (D.trace o.store.disk).now (snapshot_of o.table)) }
+        ensures sound { IfErr result (λ r. D.is_honest r.disk → (form : Form) (h : History) (clock : ℕ) → form.bounds ≡ limits
+            → StandsForAt form h clock (D.trace disk).now.bytes → IsPlain r.fault) }
     {
         let opened = match Store::open_unchanged(alloc, disk, limits) {
             Ok(opened) => opened,
@@ -688,8 +695,8 @@ impl<D: Disk, A: Allocator + Copy> Store<D, A> {
     /// Opens the store of a disk, which was formatted with these limits, and carries it over to version 2 if it can be, as
     /// `open_as` does.
     pub fn open(alloc: A, disk: D, limits: Limits) -> Result<Opened<D, A>, Refused<D>>
-        ensures honest { IfOk result (λ o. D.is_honest o.store.disk ↔ D.is_honest disk) }
-        ensures honest_err { IfErr result (λ r. D.is_honest r.disk ↔ D.is_honest disk) }
+        ensures honest { IfOk result (λ o. D.is_honest o.store.disk → D.is_honest disk) }
+        ensures honest_err { IfErr result (λ r. D.is_honest r.disk → D.is_honest disk) }
         ensures count { IfOk result (λ o. D.failed o.store.disk ≡ D.failed disk) }
         ensures device { IfErr result (λ r. r.fault ≡ OpenFault.Device → Rises (D.failed disk) (D.failed r.disk)) }
         ensures count_not { IfErr result (λ r. r.fault ≢ OpenFault.Device → D.failed r.disk ≡ D.failed disk) }
@@ -698,32 +705,33 @@ impl<D: Disk, A: Allocator + Copy> Store<D, A> {
         ensures snapshot { IfOk result (λ o. IsSnapshot o.store.version limits o.table.moment o.table.contents) }
 
         // A stop at any moment leaves what it might have left before, or an image that stands for the same history.
-        ensures stop { D.is_honest disk → (form : Form) (h : History) (clock : ℕ)
-            → StandsForAt form h clock (D.trace disk).now.bytes → IfOk result (λ o. EachImageSince (D.trace disk)
-            (D.trace o.store.disk) (λ image. IsImage (D.trace disk).now image ⊎ StandsBy form h clock image)) }
-        ensures stop_err { D.is_honest disk → (form : Form) (h : History) (clock : ℕ)
-            → StandsForAt form h clock (D.trace disk).now.bytes → IfErr result (λ r. EachImageSince (D.trace disk)
-            (D.trace r.disk) (λ image. IsImage (D.trace disk).now image ⊎ StandsBy form h clock image)) }
+        ensures stop { IfOk result (λ o. D.is_honest o.store.disk → (form : Form) (h : History) (clock : ℕ)
+            → StandsForAt form h clock (D.trace disk).now.bytes
+            → EachImageSince (D.trace disk) (D.trace o.store.disk) (λ image. IsImage
+            (D.trace disk).now image ⊎ StandsBy form h clock image)) }
+        ensures stop_err { IfErr result (λ r. D.is_honest r.disk → (form : Form) (h : History) (clock : ℕ)
+            → StandsForAt form h clock (D.trace disk).now.bytes
+            → EachImageSince (D.trace disk) (D.trace r.disk) (λ image. IsImage
+            (D.trace disk).now image ⊎ StandsBy form h clock image)) }
 
         // The sync comes first: a refusal that isn't of the device finds nothing pending.
-        ensures settled { D.is_honest disk
-            → IfErr result (λ r. r.fault ≢ OpenFault.Device → IsSettled (D.trace r.disk).now) }
+        ensures settled { IfErr result (λ r. D.is_honest r.disk → r.fault ≢ OpenFault.Device → IsSettled (D.trace r.disk).now) }
 
         // What the store holds, and the reason of each refusal: the first that applies.
-        ensures opened { D.is_honest disk
-            → IfOk result (λ o. IsOpened o.store (D.trace o.store.disk).now (snapshot_of o.table)) }
-        ensures why { D.is_honest disk → IfErr result (λ r. WhyRefused limits (D.trace disk).now.bytes r.fault) }
+        ensures opened { IfOk result (λ o. D.is_honest o.store.disk
+            → IsOpened o.store (D.trace o.store.disk).now (snapshot_of o.table)) }
+        ensures why { IfErr result (λ r. D.is_honest r.disk → WhyRefused limits (D.trace disk).now.bytes r.fault) }
 
         // Exactly a store of version 1 is carried over whose areas have room for version 2, and which isn't worn.
-        ensures carried { D.is_honest disk → IfOk result (λ o. Carries true (D.trace disk).now.bytes o.store) }
+        ensures carried { IfOk result (λ o. D.is_honest o.store.disk → Carries true (D.trace disk).now.bytes o.store) }
 
         // If the content stands for a history, the store rests on it, the table is the history's, and a refusal is of the
         // device or of memory.
-        ensures rests { D.is_honest disk → (form : Form) (h : History) (clock : ℕ) → form.bounds ≡ limits
-            → StandsForAt form h clock (D.trace disk).now.bytes
-            → IfOk result (λ o. OpensTo form h clock o.store (D.trace o.store.disk).now (snapshot_of o.table)) }
-        ensures sound { D.is_honest disk → (form : Form) (h : History) (clock : ℕ) → form.bounds ≡ limits
-            → StandsForAt form h clock (D.trace disk).now.bytes → IfErr result (λ r. IsPlain r.fault) }
+        ensures rests { IfOk result (λ o. D.is_honest o.store.disk → (form : Form) (h : History) (clock : ℕ)
+            → form.bounds ≡ limits → StandsForAt form h clock (D.trace disk).now.bytes
+            → OpensTo form h clock o.store (D.trace o.store.disk).now (snapshot_of o.table)) }
+        ensures sound { IfErr result (λ r. D.is_honest r.disk → (form : Form) (h : History) (clock : ℕ) → form.bounds ≡ limits
+            → StandsForAt form h clock (D.trace disk).now.bytes → IsPlain r.fault) }
     {
         Store::open_as(alloc, disk, limits, true)
     }

@@ -1,6 +1,6 @@
 //! The first 64 bytes of a store: the size of an area, and the limits.
 
-ghost use Rattle.std.specs.Prelude.{◌≡◌, ◌≢◌, ◌+◌, ◌<◌, ◌^◌, ◌↔◌, ℕ, IfSome, IsNone, IfOk, IfErr, OnOk, length};
+ghost use Rattle.std.specs.Prelude.{◌≡◌, ◌≢◌, ◌+◌, ◌<◌, ◌^◌, ℕ, IfSome, IsNone, IfOk, IfErr, OnOk, length};
 ghost use Rattle.turn_disk.specs.Counts.{Rises};
 ghost use Rattle.turn_record.specs.declared.version.Version.TheVariants.{V2};
 ghost use Rattle.turn_store.specs.Superblock.{HasSuperblock, least_area, superblock};
@@ -114,16 +114,16 @@ fn superblock_in(bytes: &[u8; 64]) -> Option<Superblock>
 /// Reads the superblock, in at most one device call.
 pub fn read_superblock<D: Disk>(disk: &mut D) -> Result<Superblock, LimitsRefused>
     ensures size { D.capacity disk.new ≡ D.capacity disk.old }
-    ensures honest { D.is_honest disk.new ↔ D.is_honest disk.old }
-    ensures same { D.is_honest disk.old → D.trace disk.new ≡ D.trace disk.old }
+    ensures honest { D.is_honest disk.new → D.is_honest disk.old }
+    ensures same { D.is_honest disk.new → D.trace disk.new ≡ D.trace disk.old }
     ensures device { IfErr result (λ refused. refused ≡ LimitsRefused.Device
         → Rises (D.failed disk.old) (D.failed disk.new)) }
     ensures count { OnOk result (D.failed disk.new ≡ D.failed disk.old) }
     ensures count_not { IfErr result (λ refused. refused ≡ LimitsRefused.NotAStore
         → D.failed disk.new ≡ D.failed disk.old) }
-    ensures found { D.is_honest disk.old
+    ensures found { D.is_honest disk.new
         → IfOk result (λ s. HasSuperblock s.area s.limits (D.trace disk.old).now.bytes) }
-    ensures none { D.is_honest disk.old → IfErr result (λ refused. refused ≡ LimitsRefused.NotAStore
+    ensures none { D.is_honest disk.new → IfErr result (λ refused. refused ≡ LimitsRefused.NotAStore
         → (area : ℕ) (b : Bounds) → HasSuperblock area b (D.trace disk.old).now.bytes → ⊥) }
 {
     if disk.size() < 64 {
@@ -139,8 +139,8 @@ pub fn read_superblock<D: Disk>(disk: &mut D) -> Result<Superblock, LimitsRefuse
 /// The limits that the store of a disk was formatted with.
 pub fn limits<D: Disk>(disk: &mut D) -> Result<Limits, LimitsRefused>
     ensures size { D.capacity disk.new ≡ D.capacity disk.old }
-    ensures honest { D.is_honest disk.new ↔ D.is_honest disk.old }
-    ensures same { D.is_honest disk.old → D.trace disk.new ≡ D.trace disk.old }
+    ensures honest { D.is_honest disk.new → D.is_honest disk.old }
+    ensures same { D.is_honest disk.new → D.trace disk.new ≡ D.trace disk.old }
     ensures device { IfErr result (λ refused. refused ≡ LimitsRefused.Device
         → Rises (D.failed disk.old) (D.failed disk.new)) }
     ensures count { OnOk result (D.failed disk.new ≡ D.failed disk.old) }
@@ -148,9 +148,9 @@ pub fn limits<D: Disk>(disk: &mut D) -> Result<Limits, LimitsRefused>
         → D.failed disk.new ≡ D.failed disk.old) }
 
     // The limits are those of the superblock, and a disk without one is refused.
-    ensures found { D.is_honest disk.old
+    ensures found { D.is_honest disk.new
         → IfOk result (λ limits. (area : ℕ) × HasSuperblock area limits (D.trace disk.old).now.bytes) }
-    ensures none { D.is_honest disk.old → IfErr result (λ refused. refused ≡ LimitsRefused.NotAStore
+    ensures none { D.is_honest disk.new → IfErr result (λ refused. refused ≡ LimitsRefused.NotAStore
         → (area : ℕ) (b : Bounds) → HasSuperblock area b (D.trace disk.old).now.bytes → ⊥) }
 {
     match read_superblock(disk) {

@@ -164,7 +164,7 @@ fn is_right(alloc: Global, writer: &Writer<'_>) -> bool {
     writer.go_round();
     let before = writer.version();
     let disk = FileDisk::new(Shared { writer }, writer.record.first.len());
-    let Ok(reading) = read_store(alloc, writer, disk, None) else {
+    let (_, Ok(reading)) = read_store(alloc, writer, disk, None) else {
         return false;
     };
     let Reading { info: _, table } = reading;

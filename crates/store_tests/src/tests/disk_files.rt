@@ -34,6 +34,28 @@ fn a_file_holds_what_was_written(rt: HostRuntime) -> io::Result<()> {
     fs::remove_file(&rt, path)
 }
 
+// A write that lands beside its place is found by another reader of the file.
+#[test]
+fn a_write_is_at_its_place(rt: HostRuntime) -> io::Result<()> {
+    let path = "turn_disk.place";
+    write_a_file(&rt, path);
+    let content = fs::read(&rt, path)?;
+    assert!(rt; content.len() == 64);
+    assert!(rt; content.starts_with(&[0; 60]));
+    assert!(rt; content.ends_with(b"abcd"));
+    fs::remove_file(&rt, path)
+}
+
+#[test]
+fn a_file_that_is_made_anew_holds_zeros(rt: HostRuntime) -> io::Result<()> {
+    let path = "turn_disk.anew";
+    write_a_file(&rt, path);
+    drop(FileDisk::create(&rt, path, 64).expect(&rt, "made anew"));
+    let content = fs::read(&rt, path)?;
+    assert!(rt; content.as_slice() == [0; 64].as_slice());
+    fs::remove_file(&rt, path)
+}
+
 // A disk over a file of 64 bytes, which is then made anew with 16.
 fn shortened<R: Abort + Files<File = File>>(rt: &R, path: &str) -> FileDisk {
     drop(FileDisk::create(rt, path, 64).expect(rt, "made"));
@@ -174,4 +196,50 @@ fn short_counts_and_interruptions_are_no_failures(rt: HostRuntime) {
     assert!(rt; disk.failures() == 0);
     assert!(rt; disk.sync().is_err());
     assert!(rt; disk.failures() == 1);
+}
+
+// A file that counts its syncs.
+#[derive(Drop)]
+struct SyncedFile<'a> {
+    syncs: &'a Cell<u64>,
+}
+
+impl FileExt for SyncedFile<'_> {
+    fn read_at(&self, buf: &mut [u8], _offset: u64) -> io::Result<usize> {
+        Ok(buf.len())
+    }
+
+    fn write_at(&self, buf: &[u8], _offset: u64) -> io::Result<usize> {
+        Ok(buf.len())
+    }
+}
+
+impl OpenFile for SyncedFile<'_> {
+    fn metadata(&self) -> io::Result<Metadata> {
+        Err(Error::from(ErrorKind::Other))
+    }
+
+    fn set_len(&self, _size: u64) -> io::Result<()> {
+        Ok(())
+    }
+
+    fn sync_all(&self) -> io::Result<()> {
+        Err(Error::from(ErrorKind::Other))
+    }
+
+    fn sync_data(&self) -> io::Result<()> {
+        self.syncs.set(self.syncs.get().wrapping_add(1));
+        Ok(())
+    }
+}
+
+// A sync that is noted and not made is proved as well: this finds it.
+#[test]
+fn a_sync_is_one_of_the_file(rt: HostRuntime) {
+    let syncs = Cell::new(0);
+    let mut disk = FileDisk::new(SyncedFile { syncs: &syncs }, 100);
+    assert!(rt; write(&rt, &mut disk, 7, b"abcd"));
+    assert!(rt; syncs.get() == 0);
+    assert!(rt; disk.sync().is_ok());
+    assert!(rt; syncs.get() == 1);
 }

@@ -149,7 +149,8 @@ fn play(rt: &impl Abort, alloc: Global, case: &Case, limits: Option<Limits>) {
         syncs: Cell::new(0),
     };
     let clock = make_counter();
-    let got = match read_store(alloc, &clock, FileDisk::new(file, 540), limits) {
+    let (_, read) = read_store(alloc, &clock, FileDisk::new(file, 540), limits);
+    let got = match read {
         Ok(reading) => Ok(reading.info.generation),
         Err(fault) => Err(fault),
     };
@@ -206,7 +207,8 @@ fn refuse_growth(rt: &impl Abort, alloc: Global, content: &[u8], served: u64) ->
     };
     let clock = make_counter();
     let refusing = Refusing::new(alloc, served);
-    let got = match read_store(&refusing, &clock, FileDisk::new(file, 540), None) {
+    let (_, read) = read_store(&refusing, &clock, FileDisk::new(file, 540), None);
+    let got = match read {
         Ok(reading) => Ok(reading.table.len()),
         Err(fault) => Err(fault),
     };

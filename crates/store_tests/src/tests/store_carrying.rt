@@ -17,7 +17,7 @@ use turn_store::{Info, OpenFault};
 pub const AREA: usize = 304;
 
 /// A store of version 1 with areas of this size and alice's allocation at 1000.
-fn old_disk(rt: &impl Abort, alloc: Global, area: usize) -> MemoryDisk {
+pub fn old_disk(rt: &impl Abort, alloc: Global, area: usize) -> MemoryDisk {
     assert!(rt; area <= 2_000_000);
     let content = Vec::from_elem(alloc, 0u8, 64 + 2 * area).expect(rt, "memory");
     let mut store = TestStore::format(rt, alloc, content, small_limits(rt), area);

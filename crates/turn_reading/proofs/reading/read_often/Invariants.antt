@@ -1,4 +1,4 @@
-use Rattle.std.proofs.Common.{◌≡◌, ◌↔◌, ℕ}
+use Rattle.std.proofs.Common.{◌≡◌, ℕ}
 use Rattle.std.specs.Prelude.{IfSome}
 use Rattle.turn_history.specs.History.{History}
 use Rattle.turn_reading.specs.Readings.{IsUnder, IsUnread, WhyUnread}
@@ -8,9 +8,9 @@ use Rattle.turn_store.specs.Images.{StandsForAt}
 
 abbrev pub invariant-loop : goal.invariant-loop
 invariant-loop g l = record {
-  honest : g.D.Disk.is_honest l.disk ↔ g.D.Disk.is_honest l.initial.disk;
-  same : g.D.Disk.is_honest l.initial.disk → (g.D.Disk.trace l.disk).now.bytes ≡ (g.D.Disk.trace l.initial.disk).now.bytes;
-  why : g.D.Disk.is_honest l.initial.disk → IfSome l.last (WhyUnread l.limits (g.D.Disk.trace l.initial.disk).now.bytes);
-  unread : g.D.Disk.is_honest l.initial.disk → (form : Form) (h : History) (clock : ℕ) → IsUnder l.limits form.bounds
+  honest : g.D.Disk.is_honest l.disk → g.D.Disk.is_honest l.initial.disk;
+  same : g.D.Disk.is_honest l.disk → (g.D.Disk.trace l.disk).now.bytes ≡ (g.D.Disk.trace l.initial.disk).now.bytes;
+  why : g.D.Disk.is_honest l.disk → IfSome l.last (WhyUnread l.limits (g.D.Disk.trace l.initial.disk).now.bytes);
+  unread : g.D.Disk.is_honest l.disk → (form : Form) (h : History) (clock : ℕ) → IsUnder l.limits form.bounds
       → StandsForAt form h clock (g.D.Disk.trace l.initial.disk).now.bytes → IfSome l.last IsUnread;
 }

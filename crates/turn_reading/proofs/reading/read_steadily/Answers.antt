@@ -14,34 +14,40 @@ returns-in-Err-clause-tells g c honest form h clock is stands = rw c.in-Err.is a
 pub returns-in-Err-second-clause-why : goal.returns-in-Err-second-clause-why
 returns-in-Err-second-clause-why g c honest =
     let first = c.try_once-disk.ensures in
-    let why = rw c.in-Err-second.is at (c.try_once-disk-2.ensures.why (first.honest.1 honest)) in
-    subst (λ (content : List ℕ). WhyUnread c.args.limits.now content c.in-Err-second.fault) (first.same honest) why
+    let before = c.try_once-disk-2.ensures.honest honest in
+    let why = rw c.in-Err-second.is at (c.try_once-disk-2.ensures.why honest) in
+    subst (λ (content : List ℕ). WhyUnread c.args.limits.now content c.in-Err-second.fault) (first.same before) why
 
 pub returns-in-Err-second-clause-tells : goal.returns-in-Err-second-clause-tells
 returns-in-Err-second-clause-tells g c honest form h clock is stands =
     let first = c.try_once-disk.ensures in
-    let still = subst (StandsForAt form h clock) (sym (first.same honest)) stands in
-    rw c.in-Err-second.is at (c.try_once-disk-2.ensures.tells (first.honest.1 honest) form h clock is still)
+    let before = c.try_once-disk-2.ensures.honest honest in
+    let still = subst (StandsForAt form h clock) (sym (first.same before)) stands in
+    rw c.in-Err-second.is at (c.try_once-disk-2.ensures.tells honest form h clock is still)
 
 pub returns-in-Ok-third-clause-honest : goal.returns-in-Ok-third-clause-honest
 returns-in-Ok-third-clause-honest g c =
     let first = c.try_once-disk.ensures.honest in
     let second = c.try_once-disk-2.ensures.honest in
     let third = c.try_once-disk-3.ensures.honest in
-    (λ now. first.0 (second.0 (third.0 now)), λ honest. third.1 (second.1 (first.1 honest)))
+    λ now. first (second (third now))
 
 pub returns-in-Ok-third-clause-same : goal.returns-in-Ok-third-clause-same
 returns-in-Ok-third-clause-same g c honest =
     let first = c.try_once-disk.ensures in
+    let later = c.try_once-disk-3.ensures.honest honest in
+    let before = c.try_once-disk-2.ensures.honest later in
     let second = c.try_once-disk-2.ensures in
     let third = c.try_once-disk-3.ensures in
-    third.same (second.honest.1 (first.honest.1 honest)) ∙ second.same (first.honest.1 honest) ∙ first.same honest
+    third.same honest ∙ second.same later ∙ first.same before
 
 pub returns-in-Ok-third-clause-read : goal.returns-in-Ok-third-clause-read
 returns-in-Ok-third-clause-read g c honest =
     let first = c.try_once-disk.ensures in
-    let read = rw c.in-Ok-second.is at (c.try_once-disk-2.ensures.read (first.honest.1 honest)) in
-    let same = subst (λ (content : List ℕ). IsRead g.row.D.Denot c.args.limits.now content (snapshot_of c.in-Ok-second.reading.table)) (first.same honest) read in
+    let later = c.try_once-disk-3.ensures.honest honest in
+    let before = c.try_once-disk-2.ensures.honest later in
+    let read = rw c.in-Ok-second.is at (c.try_once-disk-2.ensures.read later) in
+    let same = subst (λ (content : List ℕ). IsRead g.row.D.Denot c.args.limits.now content (snapshot_of c.in-Ok-second.reading.table)) (first.same before) read in
     ok_steady _ c.in-Ok-second.reading c.steady.result same c.steady.ensures.second
 
 pub returns-in-Ok-third-clause-why : goal.returns-in-Ok-third-clause-why
@@ -50,28 +56,36 @@ returns-in-Ok-third-clause-why g c honest = err_steady _ _ c.steady.result tt c.
 pub returns-in-Ok-third-clause-tells : goal.returns-in-Ok-third-clause-tells
 returns-in-Ok-third-clause-tells g c honest form h clock is stands =
     let first = c.try_once-disk.ensures in
-    let still = subst (StandsForAt form h clock) (sym (first.same honest)) stands in
-    let told = rw c.in-Ok-second.is at (c.try_once-disk-2.ensures.tells (first.honest.1 honest) form h clock is still) in
+    let later = c.try_once-disk-3.ensures.honest honest in
+    let before = c.try_once-disk-2.ensures.honest later in
+    let still = subst (StandsForAt form h clock) (sym (first.same before)) stands in
+    let told = rw c.in-Ok-second.is at (c.try_once-disk-2.ensures.tells later form h clock is still) in
     told_steady _ c.in-Ok-second.reading c.steady.result told c.steady.ensures.second c.steady.ensures.changing
 
 pub returns-in-Err-third-clause-same : goal.returns-in-Err-third-clause-same
 returns-in-Err-third-clause-same g c honest =
     let first = c.try_once-disk.ensures in
+    let later = c.try_once-disk-3.ensures.honest honest in
+    let before = c.try_once-disk-2.ensures.honest later in
     let second = c.try_once-disk-2.ensures in
     let third = c.try_once-disk-3.ensures in
-    third.same (second.honest.1 (first.honest.1 honest)) ∙ second.same (first.honest.1 honest) ∙ first.same honest
+    third.same honest ∙ second.same later ∙ first.same before
 
 pub returns-in-Err-third-clause-why : goal.returns-in-Err-third-clause-why
 returns-in-Err-third-clause-why g c honest =
     let first = c.try_once-disk.ensures in
+    let later = c.try_once-disk-3.ensures.honest honest in
+    let before = c.try_once-disk-2.ensures.honest later in
     let second = c.try_once-disk-2.ensures in
-    let why = rw c.in-Err-third.is at (c.try_once-disk-3.ensures.why (second.honest.1 (first.honest.1 honest))) in
-    subst (λ (content : List ℕ). WhyUnread c.args.limits.now content c.in-Err-third.fault) (second.same (first.honest.1 honest) ∙ first.same honest) why
+    let why = rw c.in-Err-third.is at (c.try_once-disk-3.ensures.why honest) in
+    subst (λ (content : List ℕ). WhyUnread c.args.limits.now content c.in-Err-third.fault) (second.same later ∙ first.same before) why
 
 pub returns-in-Err-third-clause-tells : goal.returns-in-Err-third-clause-tells
 returns-in-Err-third-clause-tells g c honest form h clock is stands =
     let first = c.try_once-disk.ensures in
+    let later = c.try_once-disk-3.ensures.honest honest in
+    let before = c.try_once-disk-2.ensures.honest later in
     let second = c.try_once-disk-2.ensures in
-    let still = subst (StandsForAt form h clock) (sym (first.same honest)) stands in
-    let again = subst (StandsForAt form h clock) (sym (second.same (first.honest.1 honest))) still in
-    rw c.in-Err-third.is at (c.try_once-disk-3.ensures.tells (second.honest.1 (first.honest.1 honest)) form h clock is again)
+    let still = subst (StandsForAt form h clock) (sym (first.same before)) stands in
+    let again = subst (StandsForAt form h clock) (sym (second.same later)) still in
+    rw c.in-Err-third.is at (c.try_once-disk-3.ensures.tells honest form h clock is again)

@@ -15,25 +15,29 @@ returns-in-Err-clause-tells g c honest form h clock is stands =
 
 pub returns-in-Ok-outcome-clause-read : goal.returns-in-Ok-outcome-clause-read
 returns-in-Ok-outcome-clause-read g c honest =
-    let same = ap (λ (t : Trace). t.now.bytes) (c.in-Ok.ensures.same honest) in
-    let read = rw c.in-Ok-outcome.is at (c.read_once-disk.ensures.read (c.in-Ok.ensures.honest.1 honest)) in
+    let before = c.read_once-disk.ensures.honest honest in
+    let same = ap (λ (t : Trace). t.now.bytes) (c.in-Ok.ensures.same before) in
+    let read = rw c.in-Ok-outcome.is at (c.read_once-disk.ensures.read honest) in
     read_under _ c.in-Ok.under _ _ _ c.in-Ok.ensures.given same read
 
 pub returns-in-Ok-outcome-clause-tells : goal.returns-in-Ok-outcome-clause-tells
 returns-in-Ok-outcome-clause-tells g c honest form h clock is stands =
-    let limits = form_is_under _ form h clock _ c.in-Ok.under c.in-Ok.ensures.given (c.in-Ok.ensures.own honest) is stands in
-    let still = subst (λ (t : Trace). StandsForAt form h clock t.now.bytes) (sym (c.in-Ok.ensures.same honest)) stands in
-    rw c.in-Ok-outcome.is at (c.read_once-disk.ensures.tells (c.in-Ok.ensures.honest.1 honest) form h clock limits still)
+    let before = c.read_once-disk.ensures.honest honest in
+    let limits = form_is_under _ form h clock _ c.in-Ok.under c.in-Ok.ensures.given (c.in-Ok.ensures.own before) is stands in
+    let still = subst (λ (t : Trace). StandsForAt form h clock t.now.bytes) (sym (c.in-Ok.ensures.same before)) stands in
+    rw c.in-Ok-outcome.is at (c.read_once-disk.ensures.tells honest form h clock limits still)
 
 pub returns-in-Err-outcome-clause-why : goal.returns-in-Err-outcome-clause-why
 returns-in-Err-outcome-clause-why g c honest =
-    let why = rw c.in-Err-outcome.is at (c.read_once-disk.ensures.why (c.in-Ok.ensures.honest.1 honest)) in
-    let same = subst (λ (t : Trace). WhyRefused c.in-Ok.under t.now.bytes c.in-Err-outcome.fault) (c.in-Ok.ensures.same honest) why in
+    let before = c.read_once-disk.ensures.honest honest in
+    let why = rw c.in-Err-outcome.is at (c.read_once-disk.ensures.why honest) in
+    let same = subst (λ (t : Trace). WhyRefused c.in-Ok.under t.now.bytes c.in-Err-outcome.fault) (c.in-Ok.ensures.same before) why in
     subst (WhyUnread _ _) (sym c.fault_of.ensures) (why_open _ c.in-Ok.under _ c.in-Err-outcome.fault c.in-Ok.ensures.given same)
 
 pub returns-in-Err-outcome-clause-tells : goal.returns-in-Err-outcome-clause-tells
 returns-in-Err-outcome-clause-tells g c honest form h clock is stands =
-    let limits = form_is_under _ form h clock _ c.in-Ok.under c.in-Ok.ensures.given (c.in-Ok.ensures.own honest) is stands in
-    let still = subst (λ (t : Trace). StandsForAt form h clock t.now.bytes) (sym (c.in-Ok.ensures.same honest)) stands in
-    let plain = rw c.in-Err-outcome.is at (c.read_once-disk.ensures.tells (c.in-Ok.ensures.honest.1 honest) form h clock limits still) in
+    let before = c.read_once-disk.ensures.honest honest in
+    let limits = form_is_under _ form h clock _ c.in-Ok.under c.in-Ok.ensures.given (c.in-Ok.ensures.own before) is stands in
+    let still = subst (λ (t : Trace). StandsForAt form h clock t.now.bytes) (sym (c.in-Ok.ensures.same before)) stands in
+    let plain = rw c.in-Err-outcome.is at (c.read_once-disk.ensures.tells honest form h clock limits still) in
     subst IsUnread (sym c.fault_of.ensures) (unread_open _ c.in-Err-outcome.fault plain)

@@ -1,5 +1,5 @@
-use Rattle.std.proofs.Common.{◌⊎◌, []}
-use Rattle.turn_disk.proofs.Since.{since_weaken}
+use Rattle.std.proofs.Common.{◌⊎◌, ◌∷◌, []}
+use Rattle.turn_disk.proofs.Since.{since_weaken, through_once}
 use Rattle.turn_store.proofs.Rows.{row_switch, after_switch}
 use Rattle.turn_store.specs.Areas.{Holds}
 use Rattle.turn_store.proofs.areas.switch.Goals as goal
@@ -15,3 +15,9 @@ returns-clause-stop g c = λ honest v w form start generation snapshot next payl
 pub returns-clause-done : goal.returns-clause-done
 returns-clause-done g c = λ honest v w form start generation snapshot next payloads fits short fitting room holds filled.
     after_switch v form start c.args.gate generation snapshot payloads _ holds w fitting next fits short room _ (c.in_ok-write_through.ensures.done honest) filled
+
+pub returns-in_err-write_through-clause-once : goal.returns-in_err-write_through-clause-once
+returns-in_err-write_through-clause-once g c = λ honest. through_once c.args.gate (165 ∷ []) _ _ c.write_through.result (c.write_through.ensures.once honest)
+
+pub returns-clause-once : goal.returns-clause-once
+returns-clause-once g c = λ honest. through_once c.args.gate (165 ∷ []) _ _ c.write_through.result (c.write_through.ensures.once honest)

@@ -14,7 +14,7 @@ frames-init g c = record {
   few = omega arith;
   size = refl;
   count = refl;
-  honest = ((λ h. h), (λ h. h));
+  honest = λ h. h;
   same = λ h. refl;
   buffer = refl;
   bounds = refl;
@@ -29,21 +29,23 @@ frames-init g c = record {
 pub returns-in-Err-clause-faults : goal.returns-in-Err-clause-faults
 returns-in-Err-clause-faults g c = λ h.
     let inv = c.frames.invariant in
+    let before = c.found_at.ensures.honest h in
     let j = c.args.journal.now in
     let gate = j.start + c.frames.end in
     let content = (g.D.Disk.trace c.args.disk.now).now.bytes in
-    let why = subst (λ (t : Trace). FaultWith (λ place. (place ≡ gate) × IsBadFrame place (limit_of j) j.max_payload t.now.bytes) c.in-Err.fault) (inv.same h) (c.in-Err.ensures.faults (inv.honest.1 h)) in
-    faults_weaken _ _ (broken_frame c.args.version c.args.limits (end_of j) (limit_of j) (snapshot_of c.args.table.now) gate c.frames.frames j.max_payload (snapshot_of c.frames.table) content (inv.so_far h) c.requires.payload) c.in-Err.fault why
+    let why = subst (λ (t : Trace). FaultWith (λ place. (place ≡ gate) × IsBadFrame place (limit_of j) j.max_payload t.now.bytes) c.in-Err.fault) (inv.same before) (c.in-Err.ensures.faults h) in
+    faults_weaken _ _ (broken_frame c.args.version c.args.limits (end_of j) (limit_of j) (snapshot_of c.args.table.now) gate c.frames.frames j.max_payload (snapshot_of c.frames.table) content (inv.so_far before) c.requires.payload) c.in-Err.fault why
 
 pub returns-in-End-clause-log : goal.returns-in-End-clause-log
 returns-in-End-clause-log g c = λ h.
     let inv = c.frames.invariant in
+    let before = c.found_at.ensures.honest h in
     let j = c.args.journal.now in
     let gate = j.start + c.frames.end in
     let content = (g.D.Disk.trace c.args.disk.now).now.bytes in
-    let found = subst (λ f. IsFound gate (limit_of j) j.max_payload (g.D.Disk.trace c.frames.disk).now.bytes f) c.in-End.is (c.in-Ok.ensures.found (inv.honest.1 h)) in
-    let closed : IsClosed gate content = subst (λ (t : Trace). IsClosed gate t.now.bytes) (inv.same h) found in
-    all_read c.args.version c.args.limits (end_of j) (snapshot_of c.args.table.now) gate (limit_of j) c.frames.frames (snapshot_of c.frames.table) content (inv.so_far h) closed (omega (arith, inv.within))
+    let found = subst (λ f. IsFound gate (limit_of j) j.max_payload (g.D.Disk.trace c.frames.disk).now.bytes f) c.in-End.is (c.in-Ok.ensures.found h) in
+    let closed : IsClosed gate content = subst (λ (t : Trace). IsClosed gate t.now.bytes) (inv.same before) found in
+    all_read c.args.version c.args.limits (end_of j) (snapshot_of c.args.table.now) gate (limit_of j) c.frames.frames (snapshot_of c.frames.table) content (inv.so_far before) closed (omega (arith, inv.within))
 
 pub returns-in-Err-replay_frame-clause-count_not : goal.returns-in-Err-replay_frame-clause-count_not
 returns-in-Err-replay_frame-clause-count_not g c = λ other.
@@ -55,19 +57,19 @@ returns-in-Err-replay_frame-clause-faults g c = λ h.
     let j = c.args.journal.now in
     let gate = j.start + c.frames.end in
     let content = (g.D.Disk.trace c.args.disk.now).now.bytes in
-    let here = inv.honest.1 h in
-    let still = c.found_at.ensures.honest.1 here in
-    let found = subst (λ f. IsFound gate (limit_of j) j.max_payload (g.D.Disk.trace c.frames.disk).now.bytes f) c.in-Frame.is (c.in-Ok.ensures.found here) in
-    let there = subst (λ (t : Trace). IsOpen gate t.now.bytes × HasLength gate c.in-Frame.count t.now.bytes) (inv.same h) (found.0, found.1) in
+    let still = c.replay_frame.ensures.honest h in
+    let here = c.found_at.ensures.honest still in
+    let found = subst (λ f. IsFound gate (limit_of j) j.max_payload (g.D.Disk.trace c.frames.disk).now.bytes f) c.in-Frame.is (c.in-Ok.ensures.found still) in
+    let there = subst (λ (t : Trace). IsOpen gate t.now.bytes × HasLength gate c.in-Frame.count t.now.bytes) (inv.same here) (found.0, found.1) in
     let start_is = c.start-start.ensures.start in
     let place : c.start-start.result + c.frames.end + 5 ≡ gate + 5 = ap (λ (n : ℕ). n + c.frames.end + 5) start_is in
     faults_weaken _ _
     (λ place_ is.
     let read : ReadsBad c.args.version c.args.limits (snapshot_of c.frames.table) (c.start-start.result + c.frames.end + 5) c.in-Frame.count content =
-    subst (λ (t : Trace). ReadsBad c.args.version c.args.limits (snapshot_of c.frames.table) (c.start-start.result + c.frames.end + 5) c.in-Frame.count t.now.bytes) (c.found_at.ensures.same here ∙ inv.same h)
-    (c.in-Err-replay_frame.ensures.bad still is.1) in
+    subst (λ (t : Trace). ReadsBad c.args.version c.args.limits (snapshot_of c.frames.table) (c.start-start.result + c.frames.end + 5) c.in-Frame.count t.now.bytes) (c.found_at.ensures.same still ∙ inv.same here)
+    (c.in-Err-replay_frame.ensures.bad h is.1) in
     let frame : IsFrame gate read.bytes content = frame_is gate c.in-Frame.count read.bytes content read.has.long there.0 there.1 (subst (λ (n : ℕ). StandsAt n read.bytes content) place read.has.stands) in
-    broken_payload c.args.version c.args.limits (end_of j) (limit_of j) (snapshot_of c.args.table.now) gate c.frames.frames (snapshot_of c.frames.table) read.bytes content (inv.so_far h) frame
+    broken_payload c.args.version c.args.limits (end_of j) (limit_of j) (snapshot_of c.args.table.now) gate c.frames.frames (snapshot_of c.frames.table) read.bytes content (inv.so_far here) frame
     read.none place_ (is.0 ∙ ap (λ (n : ℕ). n + c.frames.end) start_is))
     c.fault_at.result c.fault_at.ensures.damaged
 
@@ -84,22 +86,24 @@ frames-preserved g c =
       few = omega (arith, inv.few);
       size = c.replay_frame.ensures.size ∙ (c.found_at.ensures.size ∙ inv.size);
       count = c.in-Ok-replay_frame.ensures.count ∙ (c.in-Ok.ensures.count ∙ inv.count);
-      honest = ((λ h. inv.honest.0 (c.found_at.ensures.honest.0 (c.replay_frame.ensures.honest.0 h))), (λ h. c.replay_frame.ensures.honest.1 (c.found_at.ensures.honest.1 (inv.honest.1 h))));
-      same = λ h. c.replay_frame.ensures.same (c.found_at.ensures.honest.1 (inv.honest.1 h)) ∙ (c.found_at.ensures.same (inv.honest.1 h) ∙ inv.same h);
+      honest = λ h. inv.honest (c.found_at.ensures.honest (c.replay_frame.ensures.honest h));
+      same = λ h.
+          let still = c.replay_frame.ensures.honest h in
+          c.replay_frame.ensures.same h ∙ (c.found_at.ensures.same still ∙ inv.same (c.found_at.ensures.honest still));
       buffer = c.replay_frame.ensures.len ∙ inv.buffer;
       bounds = c.replay_frame.ensures.bounds ∙ inv.bounds;
       snapshot = λ is. c.in-Ok-replay_frame.ensures.snapshot (inv.snapshot is);
       so_far = λ h.
-          let here = inv.honest.1 h in
-          let still = c.found_at.ensures.honest.1 here in
-          let found = subst (λ f. IsFound gate (limit_of j) j.max_payload (g.D.Disk.trace c.frames.disk).now.bytes f) c.in-Frame.is (c.in-Ok.ensures.found here) in
-          let there = subst (λ (t : Trace). IsOpen gate t.now.bytes × HasLength gate c.in-Frame.count t.now.bytes) (inv.same h) (found.0, found.1) in
+          let still = c.replay_frame.ensures.honest h in
+          let here = c.found_at.ensures.honest still in
+          let found = subst (λ f. IsFound gate (limit_of j) j.max_payload (g.D.Disk.trace c.frames.disk).now.bytes f) c.in-Frame.is (c.in-Ok.ensures.found still) in
+          let there = subst (λ (t : Trace). IsOpen gate t.now.bytes × HasLength gate c.in-Frame.count t.now.bytes) (inv.same here) (found.0, found.1) in
           let place : c.start-start.result + c.frames.end + 5 ≡ gate + 5 = ap (λ (n : ℕ). n + c.frames.end + 5) start_is in
           let read : ReadsOn c.args.version c.args.limits (snapshot_of c.frames.table) (c.start-start.result + c.frames.end + 5) c.in-Frame.count (snapshot_of c.replay_frame.new.table) content =
-          subst (λ (t : Trace). ReadsOn c.args.version c.args.limits (snapshot_of c.frames.table) (c.start-start.result + c.frames.end + 5) c.in-Frame.count (snapshot_of c.replay_frame.new.table) t.now.bytes) (c.found_at.ensures.same here ∙ inv.same h)
-          (c.in-Ok-replay_frame.ensures.goes still) in
+          subst (λ (t : Trace). ReadsOn c.args.version c.args.limits (snapshot_of c.frames.table) (c.start-start.result + c.frames.end + 5) c.in-Frame.count (snapshot_of c.replay_frame.new.table) t.now.bytes) (c.found_at.ensures.same still ∙ inv.same here)
+          (c.in-Ok-replay_frame.ensures.goes h) in
           let frame : IsFrame gate read.bytes content = frame_is gate c.in-Frame.count read.bytes content read.has.long there.0 there.1 (subst (λ (n : ℕ). StandsAt n read.bytes content) place read.has.stands) in
-          let more = one_more c.args.version c.args.limits (end_of j) (snapshot_of c.args.table.now) gate c.frames.frames (snapshot_of c.frames.table) (snapshot_of c.replay_frame.new.table) read.bytes content (inv.so_far h) frame read.goes in
+          let more = one_more c.args.version c.args.limits (end_of j) (snapshot_of c.args.table.now) gate c.frames.frames (snapshot_of c.frames.table) (snapshot_of c.replay_frame.new.table) read.bytes content (inv.so_far here) frame read.goes in
           let next : gate + 5 + length read.bytes ≡ j.start + (c.frames.end + (5 + c.in-Frame.count)) = omega (arith, read.has.long) in
           subst (λ (n : ℕ). SoFar c.args.version c.args.limits (end_of j) (snapshot_of c.args.table.now) n (c.frames.frames + 1) (snapshot_of c.replay_frame.new.table) content) next more;
     }

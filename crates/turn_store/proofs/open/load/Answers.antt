@@ -16,15 +16,15 @@ since_synced old mid new since same = since_join old mid new (IsImage old.now) s
 pub returns-in-Err-clause-stop : goal.returns-in-Err-clause-stop
 returns-in-Err-clause-stop g c = λ h.
     let old = g.D.Disk.trace c.args.disk.now in
-    since_synced old _ _ (since_sync old _ (IsImage old.now) (inl (c.in_ok-sync.ensures.outcome h)) (λ image is. is)) (c.in-Err.ensures.same (c.in_ok-sync.ensures.honest.1 h))
+    since_synced old _ _ (since_sync old _ (IsImage old.now) (inl (c.in_ok-sync.ensures.outcome (c.read_area_size.ensures.honest h))) (λ image is. is)) (c.in-Err.ensures.same h)
 
 pub returns-in-Err-clause-settled_err : goal.returns-in-Err-clause-settled_err
 returns-in-Err-clause-settled_err g c = λ h other.
-    ap (λ (t : Trace). t.now.pending) (c.in-Err.ensures.same (c.in_ok-sync.ensures.honest.1 h)) ∙ (c.in_ok-sync.ensures.outcome h).pending
+    ap (λ (t : Trace). t.now.pending) (c.in-Err.ensures.same h) ∙ (c.in_ok-sync.ensures.outcome (c.read_area_size.ensures.honest h)).pending
 
 pub returns-in-Err-clause-why : goal.returns-in-Err-clause-why
 returns-in-Err-clause-why g c = λ h.
-    subst (λ (l : List ℕ). WhyRefused c.args.limits l c.in-Err.fault) (c.in_ok-sync.ensures.outcome h).content (c.in-Err.ensures.why (c.in_ok-sync.ensures.honest.1 h))
+    subst (λ (l : List ℕ). WhyRefused c.args.limits l c.in-Err.fault) (c.in_ok-sync.ensures.outcome (c.read_area_size.ensures.honest h)).content (c.in-Err.ensures.why h)
 
 pub returns-in-Err-clause-sound : goal.returns-in-Err-clause-sound
 returns-in-Err-clause-sound g c = λ honest form h clock same stands.
@@ -32,70 +32,69 @@ returns-in-Err-clause-sound g c = λ honest form h clock same stands.
     why_plain form h clock content stands c.in-Err.fault (subst (λ (b : Bounds). WhyRefused b content c.in-Err.fault) (sym same) (returns-in-Err-clause-why g c honest))
 
 pub returns-in-Ok-choose-clause-honest : goal.returns-in-Ok-choose-clause-honest
-returns-in-Ok-choose-clause-honest g c = (
-  (λ h. c.in_ok-sync.ensures.honest.0 (c.read_area_size.ensures.honest.0 (c.choose.ensures.honest.0 h))),
-  (λ h. c.choose.ensures.honest.1 (c.read_area_size.ensures.honest.1 (c.in_ok-sync.ensures.honest.1 h))),
-)
+returns-in-Ok-choose-clause-honest g c = λ h. c.in_ok-sync.ensures.honest (c.read_area_size.ensures.honest (c.choose.ensures.honest h))
 
 pub returns-in-Ok-choose-clause-same : goal.returns-in-Ok-choose-clause-same
 returns-in-Ok-choose-clause-same g c = λ h.
-    let synced = c.in_ok-sync.ensures.honest.1 h in
-    let still = c.read_area_size.ensures.honest.1 synced in
-    ap (λ (t : Trace). t.now.bytes) (c.choose.ensures.same still ∙ c.read_area_size.ensures.same synced) ∙ (c.in_ok-sync.ensures.outcome h).content
+    let still = c.choose.ensures.honest h in
+    let synced = c.read_area_size.ensures.honest still in
+    ap (λ (t : Trace). t.now.bytes) (c.choose.ensures.same h ∙ c.read_area_size.ensures.same still) ∙ (c.in_ok-sync.ensures.outcome synced).content
 
 pub returns-in-Ok-choose-clause-stop : goal.returns-in-Ok-choose-clause-stop
 returns-in-Ok-choose-clause-stop g c = λ h.
     let old = g.D.Disk.trace c.args.disk.now in
-    let synced = c.in_ok-sync.ensures.honest.1 h in
-    let still = c.read_area_size.ensures.honest.1 synced in
-    since_synced old _ _ (since_sync old _ (IsImage old.now) (inl (c.in_ok-sync.ensures.outcome h)) (λ image is. is)) (c.choose.ensures.same still ∙ c.read_area_size.ensures.same synced)
+    let still = c.choose.ensures.honest h in
+    let synced = c.read_area_size.ensures.honest still in
+    since_synced old _ _ (since_sync old _ (IsImage old.now) (inl (c.in_ok-sync.ensures.outcome synced)) (λ image is. is)) (c.choose.ensures.same h ∙ c.read_area_size.ensures.same still)
 
 pub returns-in-Ok-choose-clause-settled : goal.returns-in-Ok-choose-clause-settled
 returns-in-Ok-choose-clause-settled g c = λ h.
-    let synced = c.in_ok-sync.ensures.honest.1 h in
-    let still = c.read_area_size.ensures.honest.1 synced in
-    ap (λ (t : Trace). t.now.pending) (c.choose.ensures.same still ∙ c.read_area_size.ensures.same synced) ∙ (c.in_ok-sync.ensures.outcome h).pending
+    let still = c.choose.ensures.honest h in
+    let synced = c.read_area_size.ensures.honest still in
+    ap (λ (t : Trace). t.now.pending) (c.choose.ensures.same h ∙ c.read_area_size.ensures.same still) ∙ (c.in_ok-sync.ensures.outcome synced).pending
 
 pub returns-in-Ok-choose-clause-superblock : goal.returns-in-Ok-choose-clause-superblock
 returns-in-Ok-choose-clause-superblock g c = λ h.
     let b = c.args.limits in
-    let there = subst (λ (l : List ℕ). HasSuperblock c.in-Ok.size b l) (c.in_ok-sync.ensures.outcome h).content (c.in-Ok.ensures.superblock (c.in_ok-sync.ensures.honest.1 h)) in
+    let still = c.choose.ensures.honest h in
+    let synced = c.read_area_size.ensures.honest still in
+    let there = subst (λ (l : List ℕ). HasSuperblock c.in-Ok.size b l) (c.in_ok-sync.ensures.outcome synced).content (c.in-Ok.ensures.superblock still) in
     subst (λ (n : ℕ). HasSuperblock n b (g.D.Disk.trace c.args.disk.now).now.bytes) (sym c.in-Ok-choose.ensures.area.0) there
 
 pub returns-in-Ok-choose-clause-chosen : goal.returns-in-Ok-choose-clause-chosen
 returns-in-Ok-choose-clause-chosen g c = λ h.
     let r = c.in-Ok-choose.chosen in
     let t = snapshot_of r.loaded.table in
-    let synced = c.in_ok-sync.ensures.honest.1 h in
-    let still = c.read_area_size.ensures.honest.1 synced in
-    let content = ap (λ (t : Trace). t.now.bytes) (c.read_area_size.ensures.same synced) ∙ (c.in_ok-sync.ensures.outcome h).content in
-    let there = subst (λ (l : List ℕ). IsChosen r.loaded.version c.args.limits c.in-Ok.size r.loaded.journal.start r.other r.generation r.loaded.journal.end r.loaded.frames r.other_is_below t l) content (c.in-Ok-choose.ensures.chosen still) in
+    let still = c.choose.ensures.honest h in
+    let synced = c.read_area_size.ensures.honest still in
+    let content = ap (λ (t : Trace). t.now.bytes) (c.read_area_size.ensures.same still) ∙ (c.in_ok-sync.ensures.outcome synced).content in
+    let there = subst (λ (l : List ℕ). IsChosen r.loaded.version c.args.limits c.in-Ok.size r.loaded.journal.start r.other r.generation r.loaded.journal.end r.loaded.frames r.other_is_below t l) content (c.in-Ok-choose.ensures.chosen h) in
     subst (λ (n : ℕ). IsChosen r.loaded.version c.args.limits n r.loaded.journal.start r.other r.generation r.loaded.journal.end r.loaded.frames r.other_is_below t (g.D.Disk.trace c.args.disk.now).now.bytes) (sym c.in-Ok-choose.ensures.area.0) there
 
 pub returns-in-Err-choose-clause-stop : goal.returns-in-Err-choose-clause-stop
 returns-in-Err-choose-clause-stop g c = λ h.
     let old = g.D.Disk.trace c.args.disk.now in
-    let synced = c.in_ok-sync.ensures.honest.1 h in
-    let still = c.read_area_size.ensures.honest.1 synced in
-    since_synced old _ _ (since_sync old _ (IsImage old.now) (inl (c.in_ok-sync.ensures.outcome h)) (λ image is. is)) (c.choose.ensures.same still ∙ c.read_area_size.ensures.same synced)
+    let still = c.choose.ensures.honest h in
+    let synced = c.read_area_size.ensures.honest still in
+    since_synced old _ _ (since_sync old _ (IsImage old.now) (inl (c.in_ok-sync.ensures.outcome synced)) (λ image is. is)) (c.choose.ensures.same h ∙ c.read_area_size.ensures.same still)
 
 pub returns-in-Err-choose-clause-settled_err : goal.returns-in-Err-choose-clause-settled_err
 returns-in-Err-choose-clause-settled_err g c = λ h other.
-    let synced = c.in_ok-sync.ensures.honest.1 h in
-    let still = c.read_area_size.ensures.honest.1 synced in
-    ap (λ (t : Trace). t.now.pending) (c.choose.ensures.same still ∙ c.read_area_size.ensures.same synced) ∙ (c.in_ok-sync.ensures.outcome h).pending
+    let still = c.choose.ensures.honest h in
+    let synced = c.read_area_size.ensures.honest still in
+    ap (λ (t : Trace). t.now.pending) (c.choose.ensures.same h ∙ c.read_area_size.ensures.same still) ∙ (c.in_ok-sync.ensures.outcome synced).pending
 
 pub returns-in-Err-choose-clause-why : goal.returns-in-Err-choose-clause-why
 returns-in-Err-choose-clause-why g c = λ h.
     let b = c.args.limits in
     let size = c.in-Ok.size in
     let content = (g.D.Disk.trace c.args.disk.now).now.bytes in
-    let synced = c.in_ok-sync.ensures.honest.1 h in
-    let still = c.read_area_size.ensures.honest.1 synced in
-    let same = ap (λ (t : Trace). t.now.bytes) (c.read_area_size.ensures.same synced) ∙ (c.in_ok-sync.ensures.outcome h).content in
-    let whole : length content ≡ 64 + 2 * size = g.met.D.Disk.sized c.args.disk.now h ∙ sym c.in_ok-sync.ensures.size ∙ sym c.in-Ok.ensures.place in
-    let superblock = subst (λ (l : List ℕ). HasSuperblock size b l) (c.in_ok-sync.ensures.outcome h).content (c.in-Ok.ensures.superblock synced) in
-    let why = subst (λ (l : List ℕ). FaultWith (StoreIsBad b size l) c.in-Err-choose.fault) same (c.in-Err-choose.ensures.faults still) in
+    let still = c.choose.ensures.honest h in
+    let synced = c.read_area_size.ensures.honest still in
+    let same = ap (λ (t : Trace). t.now.bytes) (c.read_area_size.ensures.same still) ∙ (c.in_ok-sync.ensures.outcome synced).content in
+    let whole : length content ≡ 64 + 2 * size = g.met.D.Disk.sized c.args.disk.now (c.in_ok-sync.ensures.honest synced) ∙ sym c.in_ok-sync.ensures.size ∙ sym c.in-Ok.ensures.place in
+    let superblock = subst (λ (l : List ℕ). HasSuperblock size b l) (c.in_ok-sync.ensures.outcome synced).content (c.in-Ok.ensures.superblock still) in
+    let why = subst (λ (l : List ℕ). FaultWith (StoreIsBad b size l) c.in-Err-choose.fault) same (c.in-Err-choose.ensures.faults h) in
     why_of_bad b size content superblock c.in-Ok.ensures.room whole c.in-Err-choose.fault why
 
 pub returns-in-Err-choose-clause-sound : goal.returns-in-Err-choose-clause-sound

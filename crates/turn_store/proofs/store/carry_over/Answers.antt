@@ -14,7 +14,7 @@ returns-in-Ok-carry-clause-store g c =
 
 pub returns-in-Ok-carry-clause-stop : goal.returns-in-Ok-carry-clause-stop
 returns-in-Ok-carry-clause-stop g c = λ honest form h clock o.
-    over_since c.args.opened.store (snapshot_of c.args.opened.table) _ form h clock o c.requires.snapshot.moment _ _ (c.carry.ensures.stages honest o.rests.snapshot o.rests.payloads o.rests.shows)
+    over_since c.args.opened.store (snapshot_of c.args.opened.table) _ form h clock o c.requires.snapshot.moment _ _ _ (c.carry.ensures.stages honest o.rests.snapshot o.rests.payloads o.rests.shows)
 
 pub returns-in-Ok-carry-clause-rests : goal.returns-in-Ok-carry-clause-rests
 returns-in-Ok-carry-clause-rests g c = λ honest form h clock o.
@@ -29,7 +29,7 @@ pub returns-in-Err-clause-stop_err : goal.returns-in-Err-clause-stop_err
 returns-in-Err-clause-stop_err g c = λ honest form h clock o.
     let old = c.args.opened.store in
     subst (λ d. EachImageSince (g.D.Disk.trace old.disk) (g.D.Disk.trace d) (StandsBy form h clock)) (sym c.into_disk-in-Err.ensures)
-    (over_since old (snapshot_of c.args.opened.table) _ form h clock o c.requires.snapshot.moment _ _ (c.carry.ensures.stages honest o.rests.snapshot o.rests.payloads o.rests.shows))
+    (over_since old (snapshot_of c.args.opened.table) _ form h clock o c.requires.snapshot.moment _ _ _ (c.carry.ensures.stages (subst (λ d. g.D.Disk.is_honest d) c.into_disk-in-Err.ensures honest) o.rests.snapshot o.rests.payloads o.rests.shows))
 
 pub returns-in_default-clause-stop_err : goal.returns-in_default-clause-stop_err
 returns-in_default-clause-stop_err g c = λ honest form h clock o.

@@ -5,13 +5,13 @@ use Rattle.turn_store.proofs.store.Store.add_frame.Goals as goal
 
 pub returns-in-Ok-clause-stages : goal.returns-in-Ok-clause-stages
 returns-in-Ok-clause-stages g c = rw (← c.self.view_is) (λ honest s ps shows.
-    let there = c.append.ensures.stages honest shows.rests.holds.settled _ ps (rests_frames _ _ _ _ _ _ _ s ps _ shows.rests) in
-    frame_stages _ _ s ps shows c.args.payload.now (omega (arith, c.requires.room, ap (λ st. st.area.end) c.self.view_is, ap (λ st. st.area.size) c.self.view_is)) there.0 _ there.1 there.2)
+    let adds = c.append.ensures.stages honest shows.rests.holds.settled _ ps (rests_frames _ _ _ _ _ _ _ s ps _ shows.rests) in
+    frame_stages _ _ s ps shows c.args.payload.now (omega (arith, c.requires.room, ap (λ st. st.area.end) c.self.view_is, ap (λ st. st.area.size) c.self.view_is)) _ adds)
 
 pub returns-in-Err-clause-stages : goal.returns-in-Err-clause-stages
 returns-in-Err-clause-stages g c = rw (← c.self.view_is) (λ honest s ps shows.
-    let there = c.append.ensures.stages honest shows.rests.holds.settled _ ps (rests_frames _ _ _ _ _ _ _ s ps _ shows.rests) in
-    frame_stages _ _ s ps shows c.args.payload.now (omega (arith, c.requires.room, ap (λ st. st.area.end) c.self.view_is, ap (λ st. st.area.size) c.self.view_is)) there.0 _ there.1 there.2)
+    let adds = c.append.ensures.stages honest shows.rests.holds.settled _ ps (rests_frames _ _ _ _ _ _ _ s ps _ shows.rests) in
+    frame_stages _ _ s ps shows c.args.payload.now (omega (arith, c.requires.room, ap (λ st. st.area.end) c.self.view_is, ap (λ st. st.area.size) c.self.view_is)) _ adds)
 
 pub returns-in-Ok-clause-shown : goal.returns-in-Ok-clause-shown
 returns-in-Ok-clause-shown g c = rw (← c.self.view_is) (λ honest s ps shows.

@@ -4,23 +4,23 @@ use Rattle.turn_store.proofs.store.Store.append.Goals as goal
 
 pub returns-in-Some-clause-stages : goal.returns-in-Some-clause-stages
 returns-in-Some-clause-stages g c = rw (← c.self.view_is) (λ honest at h es rests follows size is contents.
-    rest_stages _ (g.D.Disk.trace c.self.inside.disk) at h es _ rests follows)
+    (0, rest_stages _ (g.D.Disk.trace c.self.inside.disk) at h es _ rests follows 0))
 
 pub returns-in_err-add_frame-clause-stages : goal.returns-in_err-add_frame-clause-stages
 returns-in_err-add_frame-clause-stages g c = λ honest at h es rests follows size is contents.
-    frame_stages _ _ at h es _ rests follows size c.args.payload.now is _ _ (c.add_frame.ensures.stages honest rests.snapshot rests.payloads rests.shows)
+    (_, frame_stages _ _ at h es _ rests follows size c.args.payload.now is _ _ _ (c.add_frame.ensures.stages honest rests.snapshot rests.payloads rests.shows))
 
 pub returns-in_ok-add_frame-clause-stages : goal.returns-in_ok-add_frame-clause-stages
 returns-in_ok-add_frame-clause-stages g c = λ honest at h es rests follows size is contents.
-    frame_stages _ _ at h es _ rests follows size c.args.payload.now is _ _ (c.add_frame.ensures.stages honest rests.snapshot rests.payloads rests.shows)
+    (_, frame_stages _ _ at h es _ rests follows size c.args.payload.now is _ _ _ (c.add_frame.ensures.stages honest rests.snapshot rests.payloads rests.shows))
 
 pub returns-in_err-replace_snapshot-clause-stages : goal.returns-in_err-replace_snapshot-clause-stages
 returns-in_err-replace_snapshot-clause-stages g c = λ honest at h es rests follows size is contents.
-    snapshot_stages _ _ at h es _ rests follows c.args.self.now.version c.args.table.now.contents contents c.requires.snapshot.holds _ _ (c.replace_snapshot.ensures.stages honest rests.snapshot rests.payloads rests.shows)
+    (_, snapshot_stages _ _ at h es _ rests follows c.args.self.now.version c.args.table.now.contents contents c.requires.snapshot.holds _ _ _ (c.replace_snapshot.ensures.stages honest rests.snapshot rests.payloads rests.shows))
 
 pub returns-in_ok-replace_snapshot-clause-stages : goal.returns-in_ok-replace_snapshot-clause-stages
 returns-in_ok-replace_snapshot-clause-stages g c = λ honest at h es rests follows size is contents.
-    snapshot_stages _ _ at h es _ rests follows c.args.self.now.version c.args.table.now.contents contents c.requires.snapshot.holds _ _ (c.replace_snapshot.ensures.stages honest rests.snapshot rests.payloads rests.shows)
+    (_, snapshot_stages _ _ at h es _ rests follows c.args.self.now.version c.args.table.now.contents contents c.requires.snapshot.holds _ _ _ (c.replace_snapshot.ensures.stages honest rests.snapshot rests.payloads rests.shows))
 
 pub returns-in_ok-add_frame-clause-done : goal.returns-in_ok-add_frame-clause-done
 returns-in_ok-add_frame-clause-done g c = λ honest at h es rests follows size is contents.

@@ -7,19 +7,19 @@ use Rattle.turn_store.proofs.store.Store.compact.Goals as goal
 
 pub returns-in-Some-clause-stages : goal.returns-in-Some-clause-stages
 returns-in-Some-clause-stages g c = rw (← c.self.view_is) (λ honest at h rests follows contents.
-    alone_stages _ at h _ _ _ (rest_stages _ (g.D.Disk.trace c.self.inside.disk) at h [] _ rests follows))
+    alone_stages _ _ at h _ _ _ (rest_stages _ (g.D.Disk.trace c.self.inside.disk) at h [] _ rests follows _))
 
 pub returns-in_err-replace_snapshot-clause-stages : goal.returns-in_err-replace_snapshot-clause-stages
 returns-in_err-replace_snapshot-clause-stages g c = λ honest at h rests follows contents.
     let t = c.args.table.now in
     let there : t.contents ≡ tables.table (h ++ []) t.moment = contents ∙ ap (λ (l : History). tables.table l t.moment) (sym (append-nil h)) in
-    alone_stages _ at h _ _ _ (snapshot_stages _ _ at h [] _ rests follows c.args.self.now.version t.contents there c.requires.snapshot.holds _ _ (c.replace_snapshot.ensures.stages honest rests.snapshot rests.payloads rests.shows))
+    alone_stages _ _ at h _ _ _ (snapshot_stages _ _ at h [] _ rests follows c.args.self.now.version t.contents there c.requires.snapshot.holds _ _ _ (c.replace_snapshot.ensures.stages honest rests.snapshot rests.payloads rests.shows))
 
 pub returns-clause-stages : goal.returns-clause-stages
 returns-clause-stages g c = λ honest at h rests follows contents.
     let t = c.args.table.now in
     let there : t.contents ≡ tables.table (h ++ []) t.moment = contents ∙ ap (λ (l : History). tables.table l t.moment) (sym (append-nil h)) in
-    alone_stages _ at h _ _ _ (snapshot_stages _ _ at h [] _ rests follows c.args.self.now.version t.contents there c.requires.snapshot.holds _ _ (c.replace_snapshot.ensures.stages honest rests.snapshot rests.payloads rests.shows))
+    alone_stages _ _ at h _ _ _ (snapshot_stages _ _ at h [] _ rests follows c.args.self.now.version t.contents there c.requires.snapshot.holds _ _ _ (c.replace_snapshot.ensures.stages honest rests.snapshot rests.payloads rests.shows))
 
 pub returns-clause-done : goal.returns-clause-done
 returns-clause-done g c = λ honest at h rests follows contents.

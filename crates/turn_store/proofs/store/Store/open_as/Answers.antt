@@ -9,7 +9,7 @@ use Rattle.turn_record.proofs.Kept.{snapshot-carried}
 use Rattle.turn_store.specs.Carrying.{Carries}
 use Rattle.turn_store.specs.Opened.{IsOpened}
 use Rattle.turn_store.specs.Tables.{snapshot_of}
-use Rattle.turn_store.proofs.Carried.{all_ok, and_ok, carried_since, counts_as, kept_carries, kept_since, on_err, on_ok, opened_anew, over_carries, plain_why, same_bounds}
+use Rattle.turn_store.proofs.Carried.{all_ok, and_err, and_ok, carried_since, counts_as, kept_carries, kept_since, on_err, on_ok, opened_anew, over_carries, plain_why, same_bounds}
 use Rattle.turn_store.proofs.Sound.{not_both}
 use Rattle.turn_store.proofs.store.Store.open_as.Goals as goal
 
@@ -25,31 +25,33 @@ returns-then-not-is_carried-clause-carried g c = λ honest.
     (λ is. not_both c.is_carried.result (c.is_carried.ensures.1 is) c.if-not-is_carried.true)
 
 pub returns-clause-honest : goal.returns-clause-honest
-returns-clause-honest g c = on_ok _ _ c.carry_over.result (λ o both. (λ is. c.in-Ok.ensures.honest.0 (both.0 is), λ is. both.1 (c.in-Ok.ensures.honest.1 is))) c.carry_over.ensures.honest
+returns-clause-honest g c = on_ok _ _ c.carry_over.result (λ o before is. c.in-Ok.ensures.honest (before is)) c.carry_over.ensures.honest
 
 pub returns-clause-honest_err : goal.returns-clause-honest_err
-returns-clause-honest_err g c = on_err _ _ c.carry_over.result (λ r both. (λ is. c.in-Ok.ensures.honest.0 (both.0 is), λ is. both.1 (c.in-Ok.ensures.honest.1 is))) c.carry_over.ensures.honest_err
+returns-clause-honest_err g c = on_err _ _ c.carry_over.result (λ r before is. c.in-Ok.ensures.honest (before is)) c.carry_over.ensures.honest_err
 
 pub returns-clause-stop : goal.returns-clause-stop
-returns-clause-stop g c = λ honest form h clock stands.
-    let opened = c.in-Ok.ensures.opened honest in
-    let same = same_bounds c.in-Ok.opened.store _ _ form h clock c.args.limits _ opened (c.in-Ok.ensures.same honest) c.in-Ok.ensures.bounds.0 stands in
-    on_ok _ _ c.carry_over.result (λ o since. carried_since form h clock _ _ _ (c.in-Ok.ensures.stop honest) since)
-    (c.carry_over.ensures.stop (c.in-Ok.ensures.honest.1 honest) form h clock (c.in-Ok.ensures.rests honest form h clock same stands))
+returns-clause-stop g c = on_ok _ _ c.carry_over.result
+    (λ o both honest form h clock stands.
+    let before = both.0 honest in
+    let same = same_bounds c.in-Ok.opened.store _ _ form h clock c.args.limits _ (c.in-Ok.ensures.opened before) (c.in-Ok.ensures.same before) c.in-Ok.ensures.bounds.0 stands in
+    carried_since form h clock _ _ _ (c.in-Ok.ensures.stop before) (both.1 honest form h clock (c.in-Ok.ensures.rests before form h clock same stands)))
+    (and_ok _ _ c.carry_over.result c.carry_over.ensures.honest c.carry_over.ensures.stop)
 
 pub returns-clause-stop_err : goal.returns-clause-stop_err
-returns-clause-stop_err g c = λ honest form h clock stands.
-    let opened = c.in-Ok.ensures.opened honest in
-    let same = same_bounds c.in-Ok.opened.store _ _ form h clock c.args.limits _ opened (c.in-Ok.ensures.same honest) c.in-Ok.ensures.bounds.0 stands in
-    on_err _ _ c.carry_over.result (λ r since. carried_since form h clock _ _ _ (c.in-Ok.ensures.stop honest) since)
-    (c.carry_over.ensures.stop_err (c.in-Ok.ensures.honest.1 honest) form h clock (c.in-Ok.ensures.rests honest form h clock same stands))
+returns-clause-stop_err g c = on_err _ _ c.carry_over.result
+    (λ r both honest form h clock stands.
+    let before = both.0 honest in
+    let same = same_bounds c.in-Ok.opened.store _ _ form h clock c.args.limits _ (c.in-Ok.ensures.opened before) (c.in-Ok.ensures.same before) c.in-Ok.ensures.bounds.0 stands in
+    carried_since form h clock _ _ _ (c.in-Ok.ensures.stop before) (both.1 honest form h clock (c.in-Ok.ensures.rests before form h clock same stands)))
+    (and_err _ _ c.carry_over.result c.carry_over.ensures.honest_err c.carry_over.ensures.stop_err)
 
 pub returns-clause-rests : goal.returns-clause-rests
-returns-clause-rests g c = λ honest form h clock same stands.
-    c.carry_over.ensures.rests (c.in-Ok.ensures.honest.1 honest) form h clock (c.in-Ok.ensures.rests honest form h clock same stands)
+returns-clause-rests g c = on_ok _ _ c.carry_over.result (λ o both honest form h clock same stands. both.1 honest form h clock (c.in-Ok.ensures.rests (both.0 honest) form h clock same stands))
+    (and_ok _ _ c.carry_over.result c.carry_over.ensures.honest c.carry_over.ensures.rests)
 
 pub returns-clause-sound : goal.returns-clause-sound
-returns-clause-sound g c = λ honest form h clock same stands. c.carry_over.ensures.plain
+returns-clause-sound g c = on_err _ _ c.carry_over.result (λ r plain honest form h clock same stands. plain) c.carry_over.ensures.plain
 
 pub carry_over-requires-clause-snapshot : goal.carry_over-requires-clause-snapshot
 carry_over-requires-clause-snapshot g c =
@@ -94,33 +96,38 @@ returns-clause-snapshot g c =
     (and_ok _ _ c.carry_over.result c.carry_over.ensures.store c.carry_over.ensures.table)
 
 pub returns-clause-settled : goal.returns-clause-settled
-returns-clause-settled g c = λ honest.
-    on_err _ _ c.carry_over.result (λ r kept. λ other. subst (λ d. IsSettled (g.D.Disk.trace d).now) (sym (kept other)) (c.in-Ok.ensures.opened honest).shows.rests.holds.settled) c.carry_over.ensures.untouched
+returns-clause-settled g c = on_err _ _ c.carry_over.result
+    (λ r both honest other. subst (λ d. IsSettled (g.D.Disk.trace d).now) (sym (both.1 other)) (c.in-Ok.ensures.opened (both.0 honest)).shows.rests.holds.settled)
+    (and_err _ _ c.carry_over.result c.carry_over.ensures.honest_err c.carry_over.ensures.untouched)
 
 pub returns-clause-opened : goal.returns-clause-opened
-returns-clause-opened g c = λ honest.
+returns-clause-opened g c =
     let t = c.in-Ok.opened.table in
     let is = c.is_carried.ensures.0 c.if-not-is_carried.false in
-    let before = c.in-Ok.ensures.opened honest in
     let can : IsSnapshot V2 c.args.limits t.moment t.contents = snapshot-carried c.args.limits t.moment t.contents (subst (λ (v : Version). IsSnapshot v c.args.limits t.moment t.contents) is.old c.in-Ok.ensures.snapshot) in
     on_ok _ _ c.carry_over.result
-    (λ o all.
+    (λ o all honest.
     let bounds = ap (λ st. st.bounds) all.0 ∙ c.in-Ok.ensures.bounds.0 in
+    let before = c.in-Ok.ensures.opened (all.2.0 honest) in
     subst (λ table. IsOpened o.store (g.D.Disk.trace o.store.disk).now (snapshot_of table)) (sym all.1)
-    (opened_anew o.store _ (snapshot_of t) (ap (λ st. st.version) all.0) (subst (λ (b : Bounds). IsSnapshot V2 b t.moment t.contents) (sym bounds) can) all.2))
-    (all_ok _ _ _ c.carry_over.result c.carry_over.ensures.store c.carry_over.ensures.table (c.carry_over.ensures.shown (c.in-Ok.ensures.honest.1 honest) before.snapshot before.payloads before.shows))
+    (opened_anew o.store _ (snapshot_of t) (ap (λ st. st.version) all.0) (subst (λ (b : Bounds). IsSnapshot V2 b t.moment t.contents) (sym bounds) can) (all.2.1 honest before.snapshot before.payloads before.shows)))
+    (all_ok _ _ _ c.carry_over.result c.carry_over.ensures.store c.carry_over.ensures.table (and_ok _ _ c.carry_over.result c.carry_over.ensures.honest c.carry_over.ensures.shown))
 
 pub returns-clause-why : goal.returns-clause-why
-returns-clause-why g c = λ honest. on_err _ _ c.carry_over.result (λ r plain. plain_why c.args.limits _ r.fault plain) c.carry_over.ensures.plain
+returns-clause-why g c = on_err _ _ c.carry_over.result (λ r plain honest. plain_why c.args.limits _ r.fault plain) c.carry_over.ensures.plain
 
 pub returns-clause-carried : goal.returns-clause-carried
-returns-clause-carried g c = λ honest.
+returns-clause-carried g c =
     let old = c.in-Ok.opened.store in
     let t = snapshot_of c.in-Ok.opened.table in
     let is = c.is_carried.ensures.0 c.if-not-is_carried.false in
     let content = (g.D.Disk.trace c.args.disk).now.bytes in
-    on_ok _ _ c.carry_over.result (λ o same. subst (λ st. Carries c.args.carry content st) (sym same)
-    (over_carries c.args.carry content old t (counts_as old _ t content (c.in-Ok.ensures.opened honest) (c.in-Ok.ensures.same honest)) is o.store.disk)) c.carry_over.ensures.store
+    on_ok _ _ c.carry_over.result
+    (λ o both honest.
+    let before = both.0 honest in
+    subst (λ st. Carries c.args.carry content st) (sym both.1)
+    (over_carries c.args.carry content old t (counts_as old _ t content (c.in-Ok.ensures.opened before) (c.in-Ok.ensures.same before)) is o.store.disk))
+    (and_ok _ _ c.carry_over.result c.carry_over.ensures.honest c.carry_over.ensures.store)
 
 pub returns-clause-same : goal.returns-clause-same
 returns-clause-same g c = λ no. absurd (not_both c.args.carry (c.is_carried.ensures.0 c.if-not-is_carried.false).asked no)

@@ -15,7 +15,7 @@ returns-in-Ok-clause-opened g c = λ honest.
     let has = subst (λ (l : List ℕ). HasSuperblock r.loaded.journal.size c.args.limits l) (sym same) (is.superblock honest) in
     let chosen = subst (λ (l : List ℕ). IsChosen r.loaded.version c.args.limits r.loaded.journal.size r.loaded.journal.start r.other r.generation r.loaded.journal.end r.loaded.frames r.other_is_below (snapshot_of r.loaded.table) l)
     (sym same) (is.chosen honest) in
-    opened _ state (snapshot_of r.loaded.table) (is.settled honest) has is.area.0 (g.met.D.Disk.sized c.load.new.disk (is.honest.1 honest) ∙ sym is.place) (rw is.place is.addressable) chosen
+    opened _ state (snapshot_of r.loaded.table) (is.settled honest) has is.area.0 (g.met.D.Disk.sized c.load.new.disk honest ∙ sym is.place) (rw is.place is.addressable) chosen
 
 pub returns-in-Ok-clause-rests : goal.returns-in-Ok-clause-rests
 returns-in-Ok-clause-rests g c = λ honest form h clock same stands.

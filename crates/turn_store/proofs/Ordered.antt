@@ -1,0 +1,70 @@
+-- What a stop leaves of a disk that is being formatted.
+use Rattle.std.proofs.Common.{length-append, ◌≡◌, inl, inr, ℕ, ◌*◌, ◌+◌, ◌<◌, ◌≤◌, List, [], ◌∷◌, ◌++◌, length, slice_index, refl, sym, ◌∙◌, ap, subst, arith}
+use Rattle.std.proofs.lemmas.Bool.{cases_eq}
+use Rattle.turn_disk.specs.Disk.{State, Trace, ChangesOnly, EachImageSince, Overwrites, Syncs, Writes, WritesThrough}
+use Rattle.turn_journal.specs.Frames.{open_gate, IsClosed}
+use Rattle.turn_record.specs.declared.version.Version.{Version}
+use Rattle.turn_store.specs.Areas.{Form, IsForm, AreAreas, area_front}
+use Rattle.turn_store.specs.Format.{FormatsInOrder, HoldsNothing, HoldsNothingOrStands, IsLaid, fresh}
+use Rattle.turn_store.specs.Superblock.{superblock}
+use Rattle.turn_store.proofs.Formats.{closed_at, formatted, length-fresh, stands_for_nothing}
+use Rattle.turn_store.proofs.Numbers.{stands_one}
+use Rattle.turn_store.proofs.Rows.{length-area_front}
+use Rattle.turn_store.proofs.Superblocks.{length-superblock}
+use Rattle.turn_types.specs.declared.limits.Bounds.{Bounds}
+
+first_byte : (area : ℕ) (b : Bounds) → slice_index (superblock area b) 0 ≡ 0x52
+unfolding superblock
+first_byte area b = refl
+
+-- zeros stand where the superblock would
+pub no_superblock : (image : List ℕ) → slice_index image 0 ≡ 0 → HoldsNothing image
+no_superblock image is v form s ps holds =
+    let there = holds.front 0 (omega (arith, length-superblock form.area form.bounds)) ∙ first_byte form.area form.bounds in
+    absurd (omega (arith, is, there))
+
+pub wiped_nothing : (count : ℕ) (bytes image : List ℕ) → slice_index bytes 0 ≡ 0 → ChangesOnly 64 count bytes image → HoldsNothing image
+wiped_nothing count bytes image is changes = no_superblock image (changes.before 0 (omega arith) ∙ is)
+
+closed_both : (size start other : ℕ) (image : List ℕ) → AreAreas size start other → IsClosed 64 image → IsClosed (64 + size) image → slice_index image start ≡ open_gate → ⊥
+closed_both size start other image (inl places) first second opened = first (ap (λ (i : ℕ). slice_index image i) (sym places.0) ∙ opened)
+closed_both size start other image (inr places) first second opened = second (ap (λ (i : ℕ). slice_index image i) (sym places.0) ∙ opened)
+
+-- both gates are closed
+pub both_closed : (size : ℕ) (image : List ℕ) → length image ≡ 64 + 2 * size → IsClosed 64 image → IsClosed (64 + size) image → HoldsNothing image
+both_closed size image whole first second v form s ps holds =
+    let its = holds.whole in
+    let same : form.area ≡ size = omega (arith, its, whole) in
+    closed_both size holds.start holds.other image (subst (λ (n : ℕ). AreAreas n holds.start holds.other) same holds.places) first second holds.area.is_open
+
+-- the bytes of the first area
+pub length-laid : (v : Version) → length (0 ∷ (area_front v 1 (fresh v) ++ 0 ∷ [])) ≤ 31
+length-laid v = omega (arith, length-append (area_front v 1 (fresh v)) (0 ∷ []), length-area_front v 1 (fresh v), length-fresh v)
+
+module _ (v : Version) (form : Form) (laid : State) (room : 31 < form.area) (is_laid : IsLaid v form.area laid) where
+  first_closed : IsClosed 64 laid.bytes
+  first_closed = closed_at 64 laid.bytes (is_laid.stands 0 (omega arith))
+
+  -- while the superblock is written
+  pub named_nothing : (count : ℕ) → count ≤ 64 → (image : List ℕ) → ChangesOnly 0 count laid.bytes image → HoldsNothing image
+  named_nothing count short image changes =
+      both_closed form.area image (changes.size ∙ is_laid.whole)
+      (λ opened. first_closed (sym (changes.after 64 (omega arith)) ∙ opened))
+      (λ opened. is_laid.closed (sym (changes.after (64 + form.area) (omega arith)) ∙ opened))
+
+  -- while the first gate is opened
+  pub opened_or_nothing : (named : State) → IsForm v form → WritesThrough 0 (superblock form.area form.bounds) laid named → (image : List ℕ) → ChangesOnly 64 1 named.bytes image → HoldsNothingOrStands form image
+  opened_or_nothing named is_form names image changes = elim (cases_eq (slice_index image 64) open_gate) [
+    | inl opened ↦
+        let after : State = record { bytes = image; pending = [] } in
+        let made = formatted v form laid named after is_form room is_laid names (record { content = changes; written = stands_one 64 open_gate image opened; settled = refl }) in
+        inr (stands_for_nothing v form after made image (record { size = refl; same = λ i outside. refl }))
+    | inr closed ↦
+        let long = length-superblock form.area form.bounds in
+        inl (both_closed form.area image (changes.size ∙ names.content.size ∙ is_laid.whole) closed
+        (λ opened. is_laid.closed (sym (changes.after (64 + form.area) (omega (arith, room)) ∙ names.content.after (64 + form.area) (omega (arith, room, long))) ∙ opened)))
+  ]
+
+-- the first sync was made
+pub in_order : (form : Form) (old wiped new : Trace) {zeros : List ℕ} → length zeros ≡ 64 → (written : Trace) × Writes 0 zeros old written × Syncs written wiped → EachImageSince wiped new (HoldsNothingOrStands form) → FormatsInOrder form old new
+in_order form old wiped new long through since = inr (inr (through.0, wiped, subst (λ (n : ℕ). Overwrites 0 n old through.0) long through.1.range, through.2, since))
