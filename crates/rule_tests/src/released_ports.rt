@@ -59,6 +59,61 @@ fn taken_port_is_not_released_where_there_is_no_other(rt: HostRuntime) {
     play(&rt, rt.alloc(), &ONE_PORT, &NO_PORT);
 }
 
+const LAST_TWO: Setup = Setup {
+    ports: (50008, 50009),
+    ..SETUP
+};
+
+const LAST_THREE: Setup = Setup {
+    ports: (50007, 50009),
+    ..SETUP
+};
+
+/// Alice at the first client and bob at the second have the first two ports of the range.
+const TWO_LIVE: [Row; 2] = [ALLOCATED, BOBS];
+
+/// Two allocations have the last two ports of a range, and what comes of one more.
+const AT_THE_END: [(Setup, &[Row]); 2] = [
+    (
+        LAST_TWO,
+        &[
+            Row::Port(1000, FIRST, 50008),
+            Row::Port(1000, SECOND, 50009),
+            Row::Ask(1000, ALICE, THIRD, ALLOCATE, &[UDP], 508),
+            Row::Picked(&[50008, 50009]),
+            Row::Entries(2),
+            Row::Failures(0),
+        ],
+    ),
+    // A port below them has become free.
+    (
+        LAST_THREE,
+        &[
+            Row::Ask(1000, ALICE, THIRD, ALLOCATE, &[UDP], 0),
+            Row::Ask(1000, ALICE, FIRST, Kind::Refresh, &[ZERO], 0),
+            Row::Port(1000, SECOND, 50008),
+            Row::Port(1000, THIRD, 50009),
+            Row::Ask(1000, ALICE, FIRST, ALLOCATE, &[UDP], 0),
+            Row::Port(1000, FIRST, 50007),
+            Row::Released(&[50007]),
+        ],
+    ),
+];
+
+/// Plays rows, and then others.
+fn play_both(rt: &impl Abort, player: &mut Player, before: &[Row], after: &[Row]) {
+    player.play(rt, before);
+    player.play(rt, after);
+}
+
+#[test]
+fn one_more_beside_two_at_the_end_of_the_range_has_a_port_that_is_free(rt: HostRuntime) {
+    for (setup, rows) in &AT_THE_END {
+        let mut player = Player::new(&rt, rt.alloc(), rt.alloc(), setup);
+        play_both(&rt, &mut player, &TWO_LIVE, rows);
+    }
+}
+
 /// What is done before, what is prepared and abandoned, and what is found then.
 const ABANDONED: [(&[Row], Row, &[Row]); 5] = [
     (

@@ -71,6 +71,15 @@ module _ {D H G : Type 0} (disk : disks.Ghosts D) (handler : handlers.Ghosts H) 
         same = rest.same ∙ one.0;
       }
 
+  -- a disk that is honest after calls was so before them
+  pub call_earlier : (server : ServerState D H G) (x : Step D H G) → IsCall disk handler ports server x → disk.is_honest (after_of x).store.disk → disk.is_honest server.store.disk
+  call_earlier server (Submit moment a result after) call honest = subst (λ z. disk.is_honest z.disk) call.store honest
+  call_earlier server (Commit result after) call honest = call.honest honest
+
+  pub earlier : (server : ServerState D H G) (steps : List (Step D H G)) → Serves disk handler ports server steps → disk.is_honest (last_of server steps).store.disk → disk.is_honest server.store.disk
+  earlier server [] serves honest = honest
+  earlier server (x ∷ xs) serves honest = call_earlier server x serves.0 (earlier (after_of x) xs serves.1 honest)
+
   runs_on : (old new : ServerState D H G) (moment : ℕ) (a : Arrives) (result : Result Unit SubmitRefused) → Submits disk handler ports old new moment a result → (result ≡ Err Stopped → ⊥)
       → old.store.stopped ≡ false
   runs_on old new moment a result call not_stopped = elim (by_bool old.store.stopped) [
@@ -166,8 +175,9 @@ module _ {D H G : Type 0} (disk : disks.Ghosts D) (handler : handlers.Ghosts H) 
         (subst (λ z. Rests (disk.trace z.disk).now new (history_at h p) (count_at h p)) (sym call.store) (call.rests (history_at h p) (count_at h p) (is.rests runs)))
         (ap (λ (v : ServerState D H G). v.outs) (call.memory refl) ∙ is.outs runs) (ap (λ (v : ServerState D H G). v.arrivals) (call.memory refl) ∙ is.arrivals runs) is.flags
 
-    committed : (old new : ServerState D H G) (p : Place) (outs : List Sent) → IsAt disk handler ports s h t old p → Commits disk old new (Ok outs) → Advances old p (Commit (Ok outs) new)
-    committed old new p outs is call = elim (by_bool old.store.stopped) [
+    committed : (old new : ServerState D H G) (p : Place) (outs : List Sent) → IsAt disk handler ports s h t old p → Commits disk old new (Ok outs) → disk.is_honest new.store.disk
+        → Advances old p (Commit (Ok outs) new)
+    committed old new p outs is call honest = elim (by_bool old.store.stopped) [
       | inl stopped ↦ absurd (ok_is_no_error outs faults.Stopped (call.stopped.1 stopped))
       | inr runs ↦
           let q : Place = record { handed = p.handed ++ p.recent; recent = [] } in
@@ -175,10 +185,10 @@ module _ {D H G : Type 0} (disk : disks.Ghosts D) (handler : handlers.Ghosts H) 
           let in_time = is.in_time in
           let now : now_of new ≡ now_of old = ap (λ (v : ServerState D H G). now_of v) call.ok in
           let last : last_moment t ((p.handed ++ p.recent) ++ []) ≡ last_moment t (p.handed ++ p.recent) = ap (last_moment t) none in
-          let rests = call.rests is.honest (history_at h p) (count_at h p) (is.rests runs) in
+          let rests = call.rests honest (history_at h p) (count_at h p) (is.rests runs) in
           record {
             end = q;
-            is_at = at_rest new q (subst (IsRun s h t) (sym none) is.is_run) (omega arith) (call.honest.1 is.honest)
+            is_at = at_rest new q (subst (IsRun s h t) (sym none) is.is_run) (omega arith) honest
                 (ap (λ (v : ServerState D H G). setting_of handler.key_of ports.range v.machine) call.ok ∙ is.same_setting)
                 (subst (λ (l : List Taken). Rests (disk.trace new.store.disk).now new (h ++ accepted l) (count_at h q)) (sym none) rests)
                 (ap (λ (v : ServerState D H G). v.outs) call.ok) (ap (λ (v : ServerState D H G). v.arrivals) call.ok)
@@ -190,17 +200,18 @@ module _ {D H G : Type 0} (disk : disks.Ghosts D) (handler : handlers.Ghosts H) 
           }
     ]
 
-    failed : (old new : ServerState D H G) (p : Place) (why : StoreFault) → IsAt disk handler ports s h t old p → Commits disk old new (Err why) → IsAt disk handler ports s h t new p
-    failed old new p why is call = elim (by_bool old.store.stopped) [
+    failed : (old new : ServerState D H G) (p : Place) (why : StoreFault) → IsAt disk handler ports s h t old p → Commits disk old new (Err why) → disk.is_honest new.store.disk
+        → IsAt disk handler ports s h t new p
+    failed old new p why is call honest = elim (by_bool old.store.stopped) [
       | inl stopped ↦ subst (λ (v : ServerState D H G). IsAt disk handler ports s h t v p) (sym (call.unchanged stopped)) is
       | inr runs ↦
           let in_time = is.in_time in
           let now : now_of new ≡ now_of old = ap (λ (v : ServerState D H G). now_of v) call.err in
-          let since = call.stop is.honest (history_at h p) (count_at h p) (is.rests runs) in
+          let since = call.stop honest (history_at h p) (count_at h p) (is.rests runs) in
           record {
             is_run = is.is_run;
             in_time = omega arith;
-            honest = call.honest.1 is.honest;
+            honest = honest;
             same_setting = ap (λ (v : ServerState D H G). setting_of handler.key_of ports.range v.machine) call.err ∙ is.same_setting;
             images = λ image left.
                 subst (λ (f : Form). AtLeast f (history_at h p) (count_at h p) (now_of new) image) (sym call.form)
@@ -212,15 +223,16 @@ module _ {D H G : Type 0} (disk : disks.Ghosts D) (handler : handlers.Ghosts H) 
           }
     ]
 
-    advances : (server : ServerState D H G) (p : Place) (x : Step D H G) → IsAt disk handler ports s h t server p → IsCall disk handler ports server x → Advances server p x
-    advances server p (Submit moment a (Ok u) after) is call = took server after p moment a u is call
-    advances server p (Submit moment a (Err why) after) is call = stays server p (Submit moment a (Err why) after) (refused server after p moment a why is call) refl refl
-    advances server p (Commit (Ok outs) after) is call = committed server after p outs is call
-    advances server p (Commit (Err why) after) is call = stays server p (Commit (Err why) after) (failed server after p why is call) refl refl
+    advances : (server : ServerState D H G) (p : Place) (x : Step D H G) → IsAt disk handler ports s h t server p → IsCall disk handler ports server x
+        → disk.is_honest (after_of x).store.disk → Advances server p x
+    advances server p (Submit moment a (Ok u) after) is call honest = took server after p moment a u is call
+    advances server p (Submit moment a (Err why) after) is call honest = stays server p (Submit moment a (Err why) after) (refused server after p moment a why is call) refl refl
+    advances server p (Commit (Ok outs) after) is call honest = committed server after p outs is call honest
+    advances server p (Commit (Err why) after) is call honest = stays server p (Commit (Err why) after) (failed server after p why is call honest) refl refl
 
     pub goes_on : (server : ServerState D H G) (p : Place) (steps : List (Step D H G)) → IsAt disk handler ports s h t server p → Serves disk handler ports server steps
-        → Leads disk handler ports s h t server p steps
-    goes_on server p [] is serves = record {
+        → disk.is_honest (last_of server steps).store.disk → Leads disk handler ports s h t server p steps
+    goes_on server p [] is serves honest = record {
       end = p;
       is_at = is;
       more = [];
@@ -228,9 +240,9 @@ module _ {D H G : Type 0} (disk : disks.Ghosts D) (handler : handlers.Ghosts H) 
       sent = refl;
       arrivals = sym (append-nil (map asked (p.handed ++ p.recent)));
     }
-    goes_on server p (x ∷ xs) is serves =
-        let one = advances server p x is serves.0 in
-        let rest = goes_on (after_of x) one.end xs one.is_at serves.1 in
+    goes_on server p (x ∷ xs) is serves honest =
+        let one = advances server p x is serves.0 (earlier (after_of x) xs serves.1 honest) in
+        let rest = goes_on (after_of x) one.end xs one.is_at serves.1 honest in
         record {
           end = rest.end;
           is_at = rest.is_at;
@@ -243,20 +255,21 @@ module _ {D H G : Type 0} (disk : disks.Ghosts D) (handler : handlers.Ghosts H) 
 
     -- a stop in a call
     pub stops : (server : ServerState D H G) (p : Place) (x : Step D H G) → IsAt disk handler ports s h t server p → IsCall disk handler ports server x
+        → disk.is_honest (after_of x).store.disk
         → EachImageSince (disk.trace server.store.disk) (disk.trace (after_of x).store.disk) (AtLeast (form_of server.store) (history_at h p) (count_at h p) (now_of server))
-    stops server p (Submit moment a result after) is call = since_same _ _ _ (ap (λ z. disk.trace z.disk) call.store) is.images
-    stops server p (Commit result after) is call = elim (by_bool server.store.stopped) [
+    stops server p (Submit moment a result after) is call honest = since_same _ _ _ (ap (λ z. disk.trace z.disk) call.store) is.images
+    stops server p (Commit result after) is call honest = elim (by_bool server.store.stopped) [
       | inl stopped ↦ since_same _ _ _ (ap (λ (v : ServerState D H G). disk.trace v.store.disk) (call.unchanged stopped)) is.images
-      | inr runs ↦ call.stop is.honest (history_at h p) (count_at h p) (is.rests runs)
+      | inr runs ↦ call.stop honest (history_at h p) (count_at h p) (is.rests runs)
     ]
 
     -- what was answered lasts
     pub lasts : (server : ServerState D H G) (p : Place) (before : List Taken) (x : Taken) (after : List Taken) (steps : List (Step D H G)) (call : Step D H G)
         → IsAt disk handler ports s h t server p → p.handed ≡ before ++ x ∷ after → Serves disk handler ports server steps → IsCall disk handler ports (last_of server steps) call
-        → Lasts disk s (h ++ accepted before) x (last_of server steps) (after_of call)
-    lasts server p before x after steps call is place serves calls =
-        let to = goes_on server p steps is serves in
+        → disk.is_honest (after_of call).store.disk → Lasts disk s (h ++ accepted before) x (last_of server steps) (after_of call)
+    lasts server p before x after steps call is place serves calls honest =
         let last = last_of server steps in
+        let to = goes_on server p steps is serves (call_earlier last call calls honest) in
         let first = (h ++ accepted before) ++ added x.moment x.outcome.change in
         let handed : to.end.handed ≡ before ++ x ∷ (after ++ to.more) = to.handed ∙ ap (λ (l : List Taken). l ++ to.more) place ∙ append_assoc before (x ∷ after) to.more in
         let whole : to.end.handed ++ to.end.recent ≡ before ++ x ∷ ((after ++ to.more) ++ to.end.recent) =
@@ -270,7 +283,7 @@ module _ {D H G : Type 0} (disk : disks.Ghosts D) (handler : handlers.Ghosts H) 
               (subst (IsRun s h t) (ap (λ (l : List Taken). l ++ p.recent) place ∙ append_assoc before (x ∷ after) p.recent) is.is_run);
           images = since_weaken _ _ (AtLeast (form_of last.store) (history_at h to.end) (count_at h to.end) (now_of last)) _
               (λ image at. begins (form_of last.store) (history_at h to.end) first (accepted ((after ++ to.more) ++ to.end.recent)) (count_at h to.end) (now_of last) image all long at)
-              (stops last to.end call to.is_at calls);
+              (stops last to.end call to.is_at calls honest);
         }
       where
         at_most : (m n : ℕ) → m ≤ m + n

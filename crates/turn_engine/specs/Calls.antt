@@ -1,5 +1,5 @@
 -- What the calls of a server do, as records over what contracts see.
-use Rattle.std.specs.Prelude.{◌≡◌, ◌≢◌, ◌≤◌, ◌<◌, ◌↔◌, ◌+◌, ◌-◌, ◌^◌, ℕ, List, Result, Err, IsOk, IfOk, IfErr, OnOk, OnErr, true, false, length, take, drop}
+use Rattle.std.specs.Prelude.{◌≡◌, ◌≢◌, ◌≤◌, ◌<◌, ◌↔◌, ◌+◌, ◌-◌, ◌^◌, ℕ, List, Result, Err, None, IsOk, IfOk, IfErr, OnOk, OnErr, true, false, length, take, drop}
 use Rattle.turn_cred.specs.declared.handler.AuthHandler as handlers
 use Rattle.turn_disk.specs.Counts.{Rises}
 use Rattle.turn_disk.specs.Disk.{EachImageSince}
@@ -8,7 +8,7 @@ use Rattle.turn_history.specs.History.{History}
 use Rattle.turn_ports.specs.Ports.{has_failed}
 use Rattle.turn_ports.specs.declared.generator.RelayAddressGenerator as generators
 use Rattle.turn_step.specs.Outcome.{Arrives, Sent}
-use Rattle.turn_step.specs.State.{CountsOne, IsPurged, KeepsSetting, setting_of}
+use Rattle.turn_step.specs.State.{CountsOne, HoldsPorts, IsPurged, KeepsSetting, setting_of}
 use Rattle.turn_types.specs.Config.{Config}
 use Rattle.turn_store.specs.Areas.{Form}
 use Rattle.turn_store.specs.Images.{EachImage, EitherBy, StandsBy}
@@ -34,6 +34,7 @@ pub record Submits {D H G : Type 0} (disk : disks.Ghosts D) (handler : handlers.
   pub store : new.store ≡ old.store
   pub setting : KeepsSetting ports.range old.machine new.machine
   pub count : CountsOne (ports.failures old.machine.ports) (ports.failures new.machine.ports)
+  pub held : HoldsPorts ports.holds old.machine None → HoldsPorts ports.holds new.machine None
   pub stopped : (result ≡ Err Stopped) ↔ (old.store.stopped ≡ true)
   pub full : (result ≡ Err BatchFull) ↔ ((old.store.stopped ≡ false) × (old.arrivals ≡ (limits_of old).acts))
   pub unchanged : result ≡ Err Stopped → new ≡ old
@@ -58,19 +59,19 @@ pub record Commits {D H G : Type 0} (disk : disks.Ghosts D) (old new : ServerSta
   pub stopped : (result ≡ Err faults.Stopped) ↔ (old.store.stopped ≡ true)
   pub unchanged : old.store.stopped ≡ true → new ≡ old
   pub nothing : old.store.stopped ≡ false → old.acts ≡ 0 → IsOk result × (new.store ≡ old.store)
-  pub honest : disk.is_honest new.store.disk ↔ disk.is_honest old.store.disk
+  pub honest : disk.is_honest new.store.disk → disk.is_honest old.store.disk
   pub form : form_of new.store ≡ form_of old.store
   pub count : OnOk result (disk.failed new.store.disk ≡ disk.failed old.store.disk)
   pub device : result ≡ Err faults.Device → Rises (disk.failed old.store.disk) (disk.failed new.store.disk)
   pub worn : (result ≡ Err faults.Worn) ↔ ((old.store.stopped ≡ false) × (1 ≤ old.acts) × (old.store.generation ≡ 2 ^ 64 - 1)
       × (old.store.area.size < old.store.area.end + 6 + length old.payload))
   pub untouched_worn : result ≡ Err faults.Worn → new.store.disk ≡ old.store.disk
-  pub stages : disk.is_honest old.store.disk → (h : History) (k : ℕ) → Rests (disk.trace old.store.disk).now old h k
+  pub stages : disk.is_honest new.store.disk → (h : History) (k : ℕ) → Rests (disk.trace old.store.disk).now old h k
       → InStages (disk.trace old.store.disk) (disk.trace new.store.disk) (StandsBy (form_of old.store) (take k h) (now_of old))
       (EitherBy (form_of old.store) (take k h) (drop k h) (now_of old))
-  pub stop : disk.is_honest old.store.disk → (h : History) (k : ℕ) → Rests (disk.trace old.store.disk).now old h k
+  pub stop : disk.is_honest new.store.disk → (h : History) (k : ℕ) → Rests (disk.trace old.store.disk).now old h k
       → EachImageSince (disk.trace old.store.disk) (disk.trace new.store.disk) (AtLeast (form_of old.store) h k (now_of old))
-  pub rests : disk.is_honest old.store.disk → (h : History) (k : ℕ) → Rests (disk.trace old.store.disk).now old h k
+  pub rests : disk.is_honest new.store.disk → (h : History) (k : ℕ) → Rests (disk.trace old.store.disk).now old h k
       → OnOk result (Rests (disk.trace new.store.disk).now new h (length h))
 
 -- `open` or `open_as` of a disk, with a configuration, a handler and a generator, which answers a server, or a fault with the disk, the handler
@@ -81,18 +82,18 @@ pub record Opening {D H G : Type 0} (disk : disks.Ghosts D) (old : D) (config : 
   pub nothing : IfOk result (λ s. s ≡ emptied s s.store)
   pub runs : IfOk result (λ s. s.store.stopped ≡ false)
   pub returned : IfErr result (λ r. (r.handler ≡ handler) × (r.ports ≡ ports))
-  pub honest : IfOk result (λ s. disk.is_honest s.store.disk ↔ disk.is_honest old)
-  pub honest_err : IfErr result (λ r. disk.is_honest r.disk ↔ disk.is_honest old)
+  pub honest : IfOk result (λ s. disk.is_honest s.store.disk → disk.is_honest old)
+  pub honest_err : IfErr result (λ r. disk.is_honest r.disk → disk.is_honest old)
   pub count : IfOk result (λ s. disk.failed s.store.disk ≡ disk.failed old)
   pub device : IfErr result (λ r. r.fault ≡ Device → Rises (disk.failed old) (disk.failed r.disk))
   pub count_not : IfErr result (λ r. r.fault ≢ Device → disk.failed r.disk ≡ disk.failed old)
-  pub opened : disk.is_honest old → IfOk result (λ s. IsOpened s.store (disk.trace s.store.disk).now (snapshot_of s.machine.table))
-  pub why : disk.is_honest old → IfErr result (λ r. WhyRefused config.limits (disk.trace old).now.bytes r.fault)
-  pub rests : disk.is_honest old → (form : Form) (h : History) (k m : ℕ) → form.bounds ≡ config.limits → EachImage (disk.trace old).now (AtLeast form h k m)
-      → IfOk result (λ s. Opens form h k m (disk.trace old).now.bytes (disk.trace s.store.disk).now s)
-  pub sound : disk.is_honest old → (form : Form) (h : History) (k m : ℕ) → form.bounds ≡ config.limits → EachImage (disk.trace old).now (AtLeast form h k m)
-      → IfErr result (λ r. IsPlain r.fault)
-  pub stop : disk.is_honest old → (form : Form) (h : History) (k m : ℕ) → EachImage (disk.trace old).now (AtLeast form h k m)
-      → IfOk result (λ s. EachImageSince (disk.trace old) (disk.trace s.store.disk) (AtLeast form h k m))
-  pub stop_err : disk.is_honest old → (form : Form) (h : History) (k m : ℕ) → EachImage (disk.trace old).now (AtLeast form h k m)
-      → IfErr result (λ r. EachImageSince (disk.trace old) (disk.trace r.disk) (AtLeast form h k m))
+  pub opened : IfOk result (λ s. disk.is_honest s.store.disk → IsOpened s.store (disk.trace s.store.disk).now (snapshot_of s.machine.table))
+  pub why : IfErr result (λ r. disk.is_honest r.disk → WhyRefused config.limits (disk.trace old).now.bytes r.fault)
+  pub rests : IfOk result (λ s. disk.is_honest s.store.disk → (form : Form) (h : History) (k m : ℕ) → form.bounds ≡ config.limits
+      → EachImage (disk.trace old).now (AtLeast form h k m) → Opens form h k m (disk.trace old).now.bytes (disk.trace s.store.disk).now s)
+  pub sound : IfErr result (λ r. disk.is_honest r.disk → (form : Form) (h : History) (k m : ℕ) → form.bounds ≡ config.limits
+      → EachImage (disk.trace old).now (AtLeast form h k m) → IsPlain r.fault)
+  pub stop : IfOk result (λ s. disk.is_honest s.store.disk → (form : Form) (h : History) (k m : ℕ) → EachImage (disk.trace old).now (AtLeast form h k m)
+      → EachImageSince (disk.trace old) (disk.trace s.store.disk) (AtLeast form h k m))
+  pub stop_err : IfErr result (λ r. disk.is_honest r.disk → (form : Form) (h : History) (k m : ℕ) → EachImage (disk.trace old).now (AtLeast form h k m)
+      → EachImageSince (disk.trace old) (disk.trace r.disk) (AtLeast form h k m))

@@ -1,14 +1,14 @@
 //! Laws of runs: what follows of the contracts of `submit` and `commit`, whatever calls are made. Each is a clause of a
 //! function that does nothing.
 
-ghost use Rattle.std.specs.Prelude.{◌≡◌, ◌++◌, ◌∷◌, [], ℕ, List, Err, true, length, take};
+ghost use Rattle.std.specs.Prelude.{◌≡◌, ◌++◌, ◌∷◌, [], ℕ, List, Err, None, true, length, take};
 ghost use Rattle.turn_disk.specs.Disk.{EachImageSince, IsSettled, State};
 ghost use Rattle.turn_disk.specs.declared.disk.Disk as disks;
 ghost use Rattle.turn_cred.specs.declared.handler.AuthHandler as handlers;
 ghost use Rattle.turn_history.specs.History.{History};
 ghost use Rattle.turn_ports.specs.declared.generator.RelayAddressGenerator as generators;
 ghost use Rattle.turn_step.specs.Answer.{Setting};
-ghost use Rattle.turn_step.specs.State.{setting_of};
+ghost use Rattle.turn_step.specs.State.{HoldsPorts, setting_of};
 ghost use Rattle.turn_store.specs.Areas.{Form};
 ghost use Rattle.turn_store.specs.Images.{EachImage};
 ghost use Rattle.turn_store.specs.State.{form_of};
@@ -40,7 +40,7 @@ pub fn servers_make_runs<D: Disk, H: AuthHandler, G: RelayAddressGenerator>()
 
     ensures goes_on { (s : Setting) (h : History) (t : ℕ) (server : ServerState D H G) (p : Place) (steps : List (Step D H G))
         → IsAt D.Disk H.AuthHandler G.RelayAddressGenerator s h t server p → Serves D.Disk H.AuthHandler G.RelayAddressGenerator server steps
-        → Leads D.Disk H.AuthHandler G.RelayAddressGenerator s h t server p steps }
+        → D.is_honest (last_of server steps).store.disk → Leads D.Disk H.AuthHandler G.RelayAddressGenerator s h t server p steps }
     ensures failed { (old new : ServerState D H G) (fault : StoreFault) (steps : List (Step D H G))
         → Commits D.Disk old new (Err fault) → Serves D.Disk H.AuthHandler G.RelayAddressGenerator new steps → IsSilent new steps }
 {}
@@ -50,7 +50,7 @@ pub fn servers_make_runs<D: Disk, H: AuthHandler, G: RelayAddressGenerator>()
 pub fn stops_keep_what_was_handed_out<D: Disk, H: AuthHandler, G: RelayAddressGenerator>()
     ensures calls { (s : Setting) (h : History) (t : ℕ) (server : ServerState D H G) (p : Place) (x : Step D H G)
         → IsAt D.Disk H.AuthHandler G.RelayAddressGenerator s h t server p → IsCall D.Disk H.AuthHandler G.RelayAddressGenerator server x
-        → EachImageSince (D.trace server.store.disk) (D.trace (after_of x).store.disk)
+        → D.is_honest (after_of x).store.disk → EachImageSince (D.trace server.store.disk) (D.trace (after_of x).store.disk)
         (AtLeast (form_of server.store) (history_at h p) (count_at h p) (now_of server)) }
 
     // Of each datagram that was handed out, relayed data too: whatever calls follow, each image at each moment of the call
@@ -59,7 +59,7 @@ pub fn stops_keep_what_was_handed_out<D: Disk, H: AuthHandler, G: RelayAddressGe
         (steps : List (Step D H G)) (call : Step D H G)
         → IsAt D.Disk H.AuthHandler G.RelayAddressGenerator s h t server p → p.handed ≡ before ++ x ∷ after
         → Serves D.Disk H.AuthHandler G.RelayAddressGenerator server steps → IsCall D.Disk H.AuthHandler G.RelayAddressGenerator (last_of server steps) call
-        → Lasts D.Disk s (h ++ accepted before) x (last_of server steps) (after_of call) }
+        → D.is_honest (after_of call).store.disk → Lasts D.Disk s (h ++ accepted before) x (last_of server steps) (after_of call) }
 {}
 
 /// A stop at any moment of a `submit` or a `commit` leaves a disk of which each image stands for the first events of the run's
@@ -67,6 +67,14 @@ pub fn stops_keep_what_was_handed_out<D: Disk, H: AuthHandler, G: RelayAddressGe
 pub fn stopped_servers_open_again<D: Disk, H: AuthHandler, G: RelayAddressGenerator>()
     ensures { (s : Setting) (h : History) (t : ℕ) (server : ServerState D H G) (p : Place) (x : Step D H G) (image : List ℕ) (state : State)
         → IsAt D.Disk H.AuthHandler G.RelayAddressGenerator s h t server p → IsCall D.Disk H.AuthHandler G.RelayAddressGenerator server x
-        → IsLeft (D.trace server.store.disk) (D.trace (after_of x).store.disk) image → state.bytes ≡ image → IsSettled state
+        → D.is_honest (after_of x).store.disk → IsLeft (D.trace server.store.disk) (D.trace (after_of x).store.disk) image → state.bytes ≡ image → IsSettled state
         → EachImage state (AtLeast (form_of server.store) (history_at h p) (count_at h p) (now_of server)) }
+{}
+
+/// Over any disk, honest or not, and whatever calls are made: where the generator of a server holds the ports of the table's
+/// allocations and reservations and no other, it does so after the calls. Each of these ports is that of one allocation or one
+/// reservation (`Server::table`, clause `apart`).
+pub fn ports_stay_held<D: Disk, H: AuthHandler, G: RelayAddressGenerator>()
+    ensures { (server : ServerState D H G) (steps : List (Step D H G)) → Serves D.Disk H.AuthHandler G.RelayAddressGenerator server steps
+        → HoldsPorts G.holds server.machine None → HoldsPorts G.holds (last_of server steps).machine None }
 {}

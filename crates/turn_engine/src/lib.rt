@@ -8,6 +8,8 @@ mod laws;
 mod server;
 
 pub use fault::{OpenRefused, SubmitRefused};
-pub use laws::{servers_make_runs, stopped_servers_open_again, stops_keep_what_was_handed_out};
+pub use laws::{
+    ports_stay_held, servers_make_runs, stopped_servers_open_again, stops_keep_what_was_handed_out,
+};
 pub use server::Server;
 pub use turn_store::StoreFault as CommitRefused;

@@ -1,6 +1,6 @@
 //! The server.
 
-ghost use Rattle.std.specs.Prelude.{◌≡◌, ◌≢◌, ◌+◌, ◌-◌, ◌^◌, ◌≤◌, ◌<◌, ◌↔◌, ◌++◌, ℕ, [], ◌∷◌, Ok, Err, Some, IsOk, IfOk, IfErr, IfSome, IfNone, OnOk, OnErr, true, false, length, map, take, drop, option_map, vec_len, vec_capacity, List};
+ghost use Rattle.std.specs.Prelude.{◌≡◌, ◌≢◌, ◌+◌, ◌-◌, ◌^◌, ◌≤◌, ◌<◌, ◌↔◌, ◌++◌, ℕ, [], ◌∷◌, Ok, Err, Some, None, IsOk, IfOk, IfErr, IfSome, IfNone, OnOk, OnErr, true, false, length, map, take, drop, option_map, vec_len, vec_capacity, List};
 ghost use Rattle.std.specs.Option.{option_to_list};
 ghost use Rattle.std.specs.Result.{result_map_both};
 ghost use Rattle.turn_disk.specs.Counts.{Rises};
@@ -11,7 +11,7 @@ ghost use Rattle.turn_ports.specs.Ports.{has_failed};
 ghost use Rattle.turn_record.specs.Bytes as bytes;
 ghost use Rattle.turn_record.specs.Records.{IsSnapshot, Writes};
 ghost use Rattle.turn_step.specs.Outcome.{added, event_at};
-ghost use Rattle.turn_step.specs.State.{CountsOne, IsPurged, KeepsSetting, setting_of};
+ghost use Rattle.turn_step.specs.State.{CountsOne, HasPortsApart, HoldsPorts, IsPurged, KeepsSetting, setting_of};
 ghost use Rattle.turn_step.specs.Views.{arrival_of, sent_of};
 ghost use Rattle.turn_store.specs.Areas.{Form};
 ghost use Rattle.turn_store.specs.Carrying.{Carries};
@@ -194,37 +194,37 @@ impl<D: Disk, H: AuthHandler, G: RelayAddressGenerator, A: Allocator + Copy> Ser
         ensures runs { IfOk result (λ s. s.store.stopped ≡ false) }
         ensures returned { IfErr result (λ r. (r.handler ≡ handler) × (r.ports ≡ ports)) }
 
-        ensures honest { IfOk result (λ s. D.is_honest s.store.disk ↔ D.is_honest disk) }
-        ensures honest_err { IfErr result (λ r. D.is_honest r.disk ↔ D.is_honest disk) }
+        ensures honest { IfOk result (λ s. D.is_honest s.store.disk → D.is_honest disk) }
+        ensures honest_err { IfErr result (λ r. D.is_honest r.disk → D.is_honest disk) }
         ensures count { IfOk result (λ s. D.failed s.store.disk ≡ D.failed disk) }
         ensures device { IfErr result (λ r. r.fault ≡ OpenFault.Device → Rises (D.failed disk) (D.failed r.disk)) }
         ensures count_not { IfErr result (λ r. r.fault ≢ OpenFault.Device → D.failed r.disk ≡ D.failed disk) }
 
         // What the store holds, and the reason of each refusal: the first that applies.
-        ensures opened { D.is_honest disk
-            → IfOk result (λ s. IsOpened s.store (D.trace s.store.disk).now (snapshot_of s.machine.table)) }
-        ensures why { D.is_honest disk → IfErr result (λ r. WhyRefused config.now.limits (D.trace disk).now.bytes r.fault) }
+        ensures opened { IfOk result (λ s. D.is_honest s.store.disk
+            → IsOpened s.store (D.trace s.store.disk).now (snapshot_of s.machine.table)) }
+        ensures why { IfErr result (λ r. D.is_honest r.disk → WhyRefused config.now.limits (D.trace disk).now.bytes r.fault) }
 
         // Exactly a store of version 1 is carried over whose areas have room for version 2, and which isn't worn.
-        ensures carried { D.is_honest disk → IfOk result (λ s. Carries carry (D.trace disk).now.bytes s.store) }
-        ensures same { carry ≡ false → D.is_honest disk
-            → IfOk result (λ s. (D.trace s.store.disk).now.bytes ≡ (D.trace disk).now.bytes) }
-        ensures same_err { carry ≡ false → D.is_honest disk
-            → IfErr result (λ r. (D.trace r.disk).now.bytes ≡ (D.trace disk).now.bytes) }
+        ensures carried { IfOk result (λ s. D.is_honest s.store.disk → Carries carry (D.trace disk).now.bytes s.store) }
+        ensures same { carry ≡ false → IfOk result (λ s. D.is_honest s.store.disk
+            → (D.trace s.store.disk).now.bytes ≡ (D.trace disk).now.bytes) }
+        ensures same_err { carry ≡ false → IfErr result (λ r. D.is_honest r.disk
+            → (D.trace r.disk).now.bytes ≡ (D.trace disk).now.bytes) }
 
         // Where each image of the disk stands for the first events of a history, at least k of them, the server rests on
         // such a part of it, a refusal is of the device or of memory, and a stop leaves such images.
-        ensures rests { D.is_honest disk → (form : Form) (h : History) (k m : ℕ) → form.bounds ≡ config.now.limits
+        ensures rests { IfOk result (λ s. D.is_honest s.store.disk → (form : Form) (h : History) (k m : ℕ)
+            → form.bounds ≡ config.now.limits → EachImage (D.trace disk).now (AtLeast form h k m)
+            → Opens form h k m (D.trace disk).now.bytes (D.trace s.store.disk).now s) }
+        ensures sound { IfErr result (λ r. D.is_honest r.disk → (form : Form) (h : History) (k m : ℕ)
+            → form.bounds ≡ config.now.limits → EachImage (D.trace disk).now (AtLeast form h k m) → IsPlain r.fault) }
+        ensures stop { IfOk result (λ s. D.is_honest s.store.disk → (form : Form) (h : History) (k m : ℕ)
             → EachImage (D.trace disk).now (AtLeast form h k m)
-            → IfOk result (λ s. Opens form h k m (D.trace disk).now.bytes (D.trace s.store.disk).now s) }
-        ensures sound { D.is_honest disk → (form : Form) (h : History) (k m : ℕ) → form.bounds ≡ config.now.limits
-            → EachImage (D.trace disk).now (AtLeast form h k m) → IfErr result (λ r. IsPlain r.fault) }
-        ensures stop { D.is_honest disk → (form : Form) (h : History) (k m : ℕ)
+            → EachImageSince (D.trace disk) (D.trace s.store.disk) (AtLeast form h k m)) }
+        ensures stop_err { IfErr result (λ r. D.is_honest r.disk → (form : Form) (h : History) (k m : ℕ)
             → EachImage (D.trace disk).now (AtLeast form h k m)
-            → IfOk result (λ s. EachImageSince (D.trace disk) (D.trace s.store.disk) (AtLeast form h k m)) }
-        ensures stop_err { D.is_honest disk → (form : Form) (h : History) (k m : ℕ)
-            → EachImage (D.trace disk).now (AtLeast form h k m)
-            → IfErr result (λ r. EachImageSince (D.trace disk) (D.trace r.disk) (AtLeast form h k m)) }
+            → EachImageSince (D.trace disk) (D.trace r.disk) (AtLeast form h k m)) }
 
         // All of this as one record, of which the laws of lives speak.
         ensures call { Opening D.Disk disk config.now handler ports result }
@@ -266,33 +266,33 @@ impl<D: Disk, H: AuthHandler, G: RelayAddressGenerator, A: Allocator + Copy> Ser
         ensures runs { IfOk result (λ s. s.store.stopped ≡ false) }
         ensures returned { IfErr result (λ r. (r.handler ≡ handler) × (r.ports ≡ ports)) }
 
-        ensures honest { IfOk result (λ s. D.is_honest s.store.disk ↔ D.is_honest disk) }
-        ensures honest_err { IfErr result (λ r. D.is_honest r.disk ↔ D.is_honest disk) }
+        ensures honest { IfOk result (λ s. D.is_honest s.store.disk → D.is_honest disk) }
+        ensures honest_err { IfErr result (λ r. D.is_honest r.disk → D.is_honest disk) }
         ensures count { IfOk result (λ s. D.failed s.store.disk ≡ D.failed disk) }
         ensures device { IfErr result (λ r. r.fault ≡ OpenFault.Device → Rises (D.failed disk) (D.failed r.disk)) }
         ensures count_not { IfErr result (λ r. r.fault ≢ OpenFault.Device → D.failed r.disk ≡ D.failed disk) }
 
         // What the store holds, and the reason of each refusal: the first that applies.
-        ensures opened { D.is_honest disk
-            → IfOk result (λ s. IsOpened s.store (D.trace s.store.disk).now (snapshot_of s.machine.table)) }
-        ensures why { D.is_honest disk → IfErr result (λ r. WhyRefused config.now.limits (D.trace disk).now.bytes r.fault) }
+        ensures opened { IfOk result (λ s. D.is_honest s.store.disk
+            → IsOpened s.store (D.trace s.store.disk).now (snapshot_of s.machine.table)) }
+        ensures why { IfErr result (λ r. D.is_honest r.disk → WhyRefused config.now.limits (D.trace disk).now.bytes r.fault) }
 
         // Exactly a store of version 1 is carried over whose areas have room for version 2, and which isn't worn.
-        ensures carried { D.is_honest disk → IfOk result (λ s. Carries true (D.trace disk).now.bytes s.store) }
+        ensures carried { IfOk result (λ s. D.is_honest s.store.disk → Carries true (D.trace disk).now.bytes s.store) }
 
         // Where each image of the disk stands for the first events of a history, at least k of them, the server rests on
         // such a part of it, a refusal is of the device or of memory, and a stop leaves such images.
-        ensures rests { D.is_honest disk → (form : Form) (h : History) (k m : ℕ) → form.bounds ≡ config.now.limits
+        ensures rests { IfOk result (λ s. D.is_honest s.store.disk → (form : Form) (h : History) (k m : ℕ)
+            → form.bounds ≡ config.now.limits → EachImage (D.trace disk).now (AtLeast form h k m)
+            → Opens form h k m (D.trace disk).now.bytes (D.trace s.store.disk).now s) }
+        ensures sound { IfErr result (λ r. D.is_honest r.disk → (form : Form) (h : History) (k m : ℕ)
+            → form.bounds ≡ config.now.limits → EachImage (D.trace disk).now (AtLeast form h k m) → IsPlain r.fault) }
+        ensures stop { IfOk result (λ s. D.is_honest s.store.disk → (form : Form) (h : History) (k m : ℕ)
             → EachImage (D.trace disk).now (AtLeast form h k m)
-            → IfOk result (λ s. Opens form h k m (D.trace disk).now.bytes (D.trace s.store.disk).now s) }
-        ensures sound { D.is_honest disk → (form : Form) (h : History) (k m : ℕ) → form.bounds ≡ config.now.limits
-            → EachImage (D.trace disk).now (AtLeast form h k m) → IfErr result (λ r. IsPlain r.fault) }
-        ensures stop { D.is_honest disk → (form : Form) (h : History) (k m : ℕ)
+            → EachImageSince (D.trace disk) (D.trace s.store.disk) (AtLeast form h k m)) }
+        ensures stop_err { IfErr result (λ r. D.is_honest r.disk → (form : Form) (h : History) (k m : ℕ)
             → EachImage (D.trace disk).now (AtLeast form h k m)
-            → IfOk result (λ s. EachImageSince (D.trace disk) (D.trace s.store.disk) (AtLeast form h k m)) }
-        ensures stop_err { D.is_honest disk → (form : Form) (h : History) (k m : ℕ)
-            → EachImage (D.trace disk).now (AtLeast form h k m)
-            → IfErr result (λ r. EachImageSince (D.trace disk) (D.trace r.disk) (AtLeast form h k m)) }
+            → EachImageSince (D.trace disk) (D.trace r.disk) (AtLeast form h k m)) }
 
         // All of this as one record, of which the laws of lives speak.
         ensures call { Opening D.Disk disk config.now handler ports result }
@@ -330,6 +330,7 @@ impl<D: Disk, H: AuthHandler, G: RelayAddressGenerator, A: Allocator + Copy> Ser
         ensures clock { now_of self.new ≡ moment }
         ensures setting { KeepsSetting G.range self.old.machine self.new.machine }
         ensures count { CountsOne (G.failures self.old.machine.ports) (G.failures self.new.machine.ports) }
+        ensures held { HoldsPorts G.holds self.old.machine None → HoldsPorts G.holds self.new.machine None }
         ensures arrivals { OnOk result (self.new.arrivals ≡ self.old.arrivals + 1) }
         ensures ok { (h : History) (k : ℕ) → Rests (D.trace self.old.store.disk).now self.old h k
             → OnOk result (Takes (setting_of H.key_of G.range self.old.machine) (D.trace self.old.store.disk).now self.old self.new h k moment
@@ -376,6 +377,9 @@ impl<D: Disk, H: AuthHandler, G: RelayAddressGenerator, A: Allocator + Copy> Ser
         ensures setting { KeepsSetting G.range self.old.machine self.new.machine }
         ensures count { CountsOne (G.failures self.old.machine.ports) (G.failures self.new.machine.ports) }
 
+        // Where the generator held the ports of the table and no other, it does so afterwards, whatever the answer.
+        ensures held { HoldsPorts G.holds self.old.machine None → HoldsPorts G.holds self.new.machine None }
+
         ensures clock { OnOk result (now_of self.new ≡ moment) }
         ensures arrivals { OnOk result (self.new.arrivals ≡ self.old.arrivals + 1) }
 
@@ -400,7 +404,7 @@ impl<D: Disk, H: AuthHandler, G: RelayAddressGenerator, A: Allocator + Copy> Ser
 
     // Writes the acts that were accepted since the last commit, if there are any.
     fn write(&mut self) -> Result<(), StoreFault>
-        ensures honest { D.is_honest self.new.store.disk ↔ D.is_honest self.old.store.disk }
+        ensures honest { D.is_honest self.new.store.disk → D.is_honest self.old.store.disk }
         ensures form { form_of self.new.store ≡ form_of self.old.store }
         ensures rest { self.new ≡ record self.old { store = self.new.store } }
         ensures runs { OnOk result (self.new.store.stopped ≡ false) }
@@ -416,12 +420,12 @@ impl<D: Disk, H: AuthHandler, G: RelayAddressGenerator, A: Allocator + Copy> Ser
             × (self.old.store.area.size < self.old.store.area.end + 6 + length self.old.payload)) }
         ensures untouched_worn { result ≡ Err StoreFault.Worn → self.new.store.disk ≡ self.old.store.disk }
 
-        ensures stages { D.is_honest self.old.store.disk → (h : History) (k : ℕ) → Rests (D.trace self.old.store.disk).now self.old h k
+        ensures stages { D.is_honest self.new.store.disk → (h : History) (k : ℕ) → Rests (D.trace self.old.store.disk).now self.old h k
             → InStages (D.trace self.old.store.disk) (D.trace self.new.store.disk) (StandsBy (form_of self.old.store) (take k h) (now_of self.old))
             (EitherBy (form_of self.old.store) (take k h) (drop k h) (now_of self.old)) }
-        ensures stop { D.is_honest self.old.store.disk → (h : History) (k : ℕ) → Rests (D.trace self.old.store.disk).now self.old h k
+        ensures stop { D.is_honest self.new.store.disk → (h : History) (k : ℕ) → Rests (D.trace self.old.store.disk).now self.old h k
             → EachImageSince (D.trace self.old.store.disk) (D.trace self.new.store.disk) (AtLeast (form_of self.old.store) h k (now_of self.old)) }
-        ensures done { D.is_honest self.old.store.disk → (h : History) (k : ℕ) → Rests (D.trace self.old.store.disk).now self.old h k
+        ensures done { D.is_honest self.new.store.disk → (h : History) (k : ℕ) → Rests (D.trace self.old.store.disk).now self.old h k
             → OnOk result (Rests (D.trace self.new.store.disk).now (emptied self.old self.new.store) h (length h)) }
     {
         if self.store.is_stopped() {
@@ -463,7 +467,7 @@ impl<D: Disk, H: AuthHandler, G: RelayAddressGenerator, A: Allocator + Copy> Ser
         ensures nothing { self.old.store.stopped ≡ false → self.old.acts ≡ 0 → IsOk result × (self.new.store ≡ self.old.store) }
 
         // Device comes with one failed call. Worn comes without a device call, at the last generation.
-        ensures honest { D.is_honest self.new.store.disk ↔ D.is_honest self.old.store.disk }
+        ensures honest { D.is_honest self.new.store.disk → D.is_honest self.old.store.disk }
         ensures form { form_of self.new.store ≡ form_of self.old.store }
         ensures count { OnOk result (D.failed self.new.store.disk ≡ D.failed self.old.store.disk) }
         ensures device { result ≡ Err StoreFault.Device → Rises (D.failed self.old.store.disk) (D.failed self.new.store.disk) }
@@ -474,12 +478,12 @@ impl<D: Disk, H: AuthHandler, G: RelayAddressGenerator, A: Allocator + Copy> Ser
 
         // For each history on which the server rests: up to some moment of the call a stop leaves what is stored of it, from
         // then on that or all of it; so it always leaves what is stored, or more. At Ok all is stored.
-        ensures stages { D.is_honest self.old.store.disk → (h : History) (k : ℕ) → Rests (D.trace self.old.store.disk).now self.old h k
+        ensures stages { D.is_honest self.new.store.disk → (h : History) (k : ℕ) → Rests (D.trace self.old.store.disk).now self.old h k
             → InStages (D.trace self.old.store.disk) (D.trace self.new.store.disk) (StandsBy (form_of self.old.store) (take k h) (now_of self.old))
             (EitherBy (form_of self.old.store) (take k h) (drop k h) (now_of self.old)) }
-        ensures stop { D.is_honest self.old.store.disk → (h : History) (k : ℕ) → Rests (D.trace self.old.store.disk).now self.old h k
+        ensures stop { D.is_honest self.new.store.disk → (h : History) (k : ℕ) → Rests (D.trace self.old.store.disk).now self.old h k
             → EachImageSince (D.trace self.old.store.disk) (D.trace self.new.store.disk) (AtLeast (form_of self.old.store) h k (now_of self.old)) }
-        ensures rests { D.is_honest self.old.store.disk → (h : History) (k : ℕ) → Rests (D.trace self.old.store.disk).now self.old h k
+        ensures rests { D.is_honest self.new.store.disk → (h : History) (k : ℕ) → Rests (D.trace self.old.store.disk).now self.old h k
             → OnOk result (Rests (D.trace self.new.store.disk).now self.new h (length h)) }
 
         // All of this as one record, of which the laws of runs speak.
@@ -519,7 +523,8 @@ impl<D: Disk, H: AuthHandler, G: RelayAddressGenerator, A: Allocator + Copy> Ser
     }
 
     pub fn table(&self) -> &Table<A>
-        ensures { result.now ≡ self.now.machine.table }
+        ensures value { result.now ≡ self.now.machine.table }
+        ensures apart { HasPortsApart self.now.machine.table }
     {
         self.machine.table()
     }

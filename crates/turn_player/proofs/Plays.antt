@@ -96,12 +96,12 @@ module _ {D H G : Type 0} (disk : disks.Ghosts D) (handler : handlers.Ghosts H) 
   reopens_at w v d h g carry said same_disk same_handler same_ports call carried =
       plays.reopens (reopened w v d h g said same_disk same_handler same_ports call) (subst (λ (x : D). IsCarriedOver disk carry x v) same_disk carried)
 
-  pub crashed : (w v : World D H G) (old d : D) (h : H) (g : G) (outcome : Outcome) (said : List Said) → old ≡ disk_of w → h ≡ handler_of w → g ≡ ports_of w → disk.is_honest d
+  pub crashed : (w v : World D H G) (old d : D) (h : H) (g : G) (outcome : Outcome) (said : List Said) → old ≡ disk_of w → h ≡ handler_of w → g ≡ ports_of w → (disk.is_honest d → disk.is_honest old)
       → (disk.trace d).now ≡ record { bytes = left_by outcome (disk.trace old); pending = [] } → IsImage (disk.trace old).now (disk.trace d).now.bytes
       → Call disk handler ports s (Down d h g) Open said v → IsCarriedOver disk true d v → Plays disk handler ports s w (steps.Crash outcome) said v
   crashed w v old d h g outcome said same_disk same_handler same_ports honest left image call carried =
       let crash : Crashes disk outcome w d = record {
-        honest = honest;
+        honest = λ now. subst disk.is_honest same_disk (honest now);
         left = left ∙ ap (λ (x : D). record { bytes = left_by outcome (disk.trace x); pending = [] }) same_disk;
         image = subst (λ (x : D). IsImage (disk.trace x).now (left_by outcome (disk.trace x))) same_disk
             (subst (λ (l : List ℕ). IsImage (disk.trace old).now l) (ap (λ (x : State). x.bytes) left) image);
@@ -154,10 +154,10 @@ module _ {D H G : Type 0} (disk : disks.Ghosts D) (handler : handlers.Ghosts H) 
   before_calls w u v _ inputs said later (plays.arrives call) rest = worlds.then u call rest
   before_calls w u v _ inputs said later (plays.commits call) rest = worlds.then u call rest
   before_calls w u v _ inputs said later (plays.crashes {outcome = outcome} d crash call carried) rest =
-      let again : Restarts disk handler ports w (left_by outcome (disk.trace (disk_of w))) d (handler_of w) (ports_of w) = record {
+      let again : Restarts disk handler ports w (disk_of w) (left_by outcome (disk.trace (disk_of w))) d (handler_of w) (ports_of w) = record {
         bytes = ap (λ (x : State). x.bytes) crash.left;
         settled = ap (λ (x : State). x.pending) crash.left;
-        honest = λ honest. crash.honest;
+        honest = crash.honest;
         keys = refl;
         range = refl;
       } in
@@ -172,14 +172,14 @@ module _ {D H G : Type 0} (disk : disks.Ghosts D) (handler : handlers.Ghosts H) 
       before_calls w u v x (inputs_of_all xs) one more first (calls_of u v xs more rest)
 
   -- a life goes on by the steps of a player
-  pub goes_on : (form : Form) (p : Point) (old new : Option (World D H G)) (all : List Step) (said : List Said) → NeverFails ports → form.bounds ≡ s.config.limits
+  pub goes_on : (form : Form) (p : Point) (old new : Option (World D H G)) (all : List Step) (said : List Said) → NeverFails ports → ((x : D) → disk.is_honest x) → form.bounds ≡ s.config.limits
       → Ran disk handler ports s old all said new → GoesOn disk handler ports form s p old (inputs_of_all all) said new
-  goes_on form p old new all said never same ran before is stands =
+  goes_on form p old new all said never always same ran before is stands =
       let one : before ≡ ran.before = same_world before ran.before (sym is ∙ ran.old_is) in (
         ran.after,
         ran.new_is,
         calls_make_lives disk handler ports form s false (λ no. never) same p ran.before ran.after (inputs_of_all all) said (calls_of ran.before ran.after all said ran.plays)
-            (subst (λ (x : World D H G). Stands disk handler ports form s x p) one stands),
+            (subst (λ (x : World D H G). Stands disk handler ports form s x p) one stands) (always (disk_of ran.after)),
       )
     where
       same_world : (x y : World D H G) → Some x ≡ Some y → x ≡ y

@@ -118,9 +118,9 @@ module _ {D H G : Type 0} (disk : disks.Ghosts D) (handler : handlers.Ghosts H) 
 
   -- what a stop in a commit leaves
   commit_leaves : (old new : ServerState D H G) (sure : List Lasting) (recent : List Taken) (pairs : Bool) (c m : ℕ) (result : Result (List Sent) StoreFault) → Runs disk handler ports form s old sure recent pairs c m
-      → Commits disk old new result
+      → Commits disk old new result → disk.is_honest new.store.disk
       → EachImageSince (disk.trace old.store.disk) (disk.trace new.store.disk) (AtLeast form (accepted (arrivals sure recent)) (length (accepted (map taken_of sure))) m)
-  commit_leaves old new sure recent pairs c m result runs call =
+  commit_leaves old new sure recent pairs c m result runs call honest =
       let h = accepted (arrivals sure recent) in
       let k = length (accepted (map taken_of sure)) in
       let now = runs.clock in
@@ -128,22 +128,44 @@ module _ {D H G : Type 0} (disk : disks.Ghosts D) (handler : handlers.Ghosts H) 
       let bound : now_of old ≤ m = omega (arith, now, bounded) in
       since_weaken (disk.trace old.store.disk) (disk.trace new.store.disk) (AtLeast (form_of old.store) h k (now_of old)) (AtLeast form h k m)
       (λ image at. weaken_by form h k (now_of old) m image bound (subst (λ (f : Form). AtLeast f h k (now_of old) image) runs.same_form at))
-      (call.stop runs.honest h k runs.rests)
+      (call.stop honest h k runs.rests)
 
   -- what each image has at each moment of a commit
   pub commit_since : (p : Point) (old new : ServerState D H G) (result : Result (List Sent) StoreFault) → Stands disk handler ports form s (Serving old) p → Commits disk old new result
-      → EachImageSince (disk.trace old.store.disk) (disk.trace new.store.disk) (AtLeast form (history_of p) (count_of p) (bound_of p))
-  commit_since (Running sure recent pairs c m) old new result stands call = commit_leaves old new sure recent pairs c m result stands call
-  commit_since (Halted sure recent m) old new result stands call =
+      → disk.is_honest new.store.disk → EachImageSince (disk.trace old.store.disk) (disk.trace new.store.disk) (AtLeast form (history_of p) (count_of p) (bound_of p))
+  commit_since (Running sure recent pairs c m) old new result stands call honest = commit_leaves old new sure recent pairs c m result stands call honest
+  commit_since (Halted sure recent m) old new result stands call honest =
       since_same _ _ _ (ap (λ (v : ServerState D H G). disk.trace v.store.disk) (call.unchanged stands.stopped)) stands.leaves.images
-  commit_since (Shut sure recent m) old new result stands call = absurd stands
+  commit_since (Shut sure recent m) old new result stands call honest = absurd stands
 
   -- and of an opening
   pub open_since : (p : Point) (w : World D H G) (result : Result (ServerState D H G) (OpenRefused D H G)) → Stands disk handler ports form s w p
-      → Opening disk (disk_of w) s.config (handler_of w) (ports_of w) result
+      → Opening disk (disk_of w) s.config (handler_of w) (ports_of w) result → disk.is_honest (disk_of (world_after result))
       → EachImageSince (disk.trace (disk_of w)) (disk.trace (disk_of (world_after result))) (AtLeast form (settled_history_of p) (count_of p) (bound_of p))
-  open_since p w (Ok server) stands call = let l = leaves w p stands in call.stop l.honest form (settled_history_of p) (count_of p) (bound_of p) l.images
-  open_since p w (Err refused) stands call = let l = leaves w p stands in call.stop_err l.honest form (settled_history_of p) (count_of p) (bound_of p) l.images
+  open_since p w (Ok server) stands call honest = let l = leaves w p stands in call.stop honest form (settled_history_of p) (count_of p) (bound_of p) l.images
+  open_since p w (Err refused) stands call honest = let l = leaves w p stands in call.stop_err honest form (settled_history_of p) (count_of p) (bound_of p) l.images
+
+  -- ---- Honesty
+
+  -- a disk that is honest after calls and stops was so before them
+  opening_earlier : (w : World D H G) (result : Result (ServerState D H G) (OpenRefused D H G)) → Opening disk (disk_of w) s.config (handler_of w) (ports_of w) result
+      → disk.is_honest (disk_of (world_after result)) → disk.is_honest (disk_of w)
+  opening_earlier w (Ok server) call honest = call.honest honest
+  opening_earlier w (Err refused) call honest = call.honest_err honest
+
+  call_earlier : (w v : World D H G) (input : Input) (said : List Said) → Call disk handler ports s w input said v → disk.is_honest (disk_of v) → disk.is_honest (disk_of w)
+  call_earlier _ _ _ _ (worlds.submits result call) honest = subst (λ z. disk.is_honest z.disk) call.store honest
+  call_earlier _ _ _ _ worlds.no_submit honest = honest
+  call_earlier _ _ _ _ (worlds.commits result call) honest = call.honest honest
+  call_earlier _ _ _ _ worlds.no_commit honest = honest
+  call_earlier w _ _ _ (worlds.opens result call) honest = opening_earlier w result call honest
+  call_earlier _ _ _ _ (worlds.stops image of is) honest = is.honest honest
+  call_earlier _ _ _ _ (worlds.commit_stops result call image of is) honest = call.honest (is.honest honest)
+  call_earlier w _ _ _ (worlds.open_stops result call image of is) honest = opening_earlier w result call (is.honest honest)
+
+  earlier : (w v : World D H G) (inputs : List Input) (said : List Said) → Calls disk handler ports s w inputs said v → disk.is_honest (disk_of v) → disk.is_honest (disk_of w)
+  earlier w _ _ _ worlds.done honest = honest
+  earlier w v _ _ (worlds.then {input = input} {inputs = inputs} {said = said} {later = more} u call rest) honest = call_earlier w u input said call (earlier u v inputs more rest honest)
 
   -- ---- Arrivals
 
@@ -272,21 +294,21 @@ module _ {D H G : Type 0} (disk : disks.Ghosts D) (handler : handlers.Ghosts H) 
     -- ---- Commits
 
     committed_ok : (old new : ServerState D H G) (sure : List Lasting) (recent : List Taken) (pairs : Bool) (c m : ℕ) (outs : List Sent) → Runs disk handler ports form s old sure recent pairs c m → Commits disk old new (Ok outs)
-        → Next may_fail (Running sure recent pairs c m) Commit (handing_out outs) (Serving new)
-    committed_ok old new sure recent pairs c m outs runs call =
+        → disk.is_honest new.store.disk → Next may_fail (Running sure recent pairs c m) Commit (handing_out outs) (Serving new)
+    committed_ok old new sure recent pairs c m outs runs call honest =
         let mine = map taken_of sure in
         let h = accepted (mine ++ recent) in
         let all : map taken_of (sure ++ map HandedOut recent) ≡ mine ++ recent = map-append taken_of sure (map HandedOut recent) ∙ ap (λ (l : List Taken). mine ++ l) (taken-handed recent) in
         let history : accepted (map taken_of (sure ++ map HandedOut recent) ++ []) ≡ h = ap accepted (append-nil (map taken_of (sure ++ map HandedOut recent)) ∙ all) in
         let count : length (accepted (map taken_of (sure ++ map HandedOut recent))) ≡ length h = ap (λ (l : List Taken). length (accepted l)) all in
         let state = (disk.trace new.store.disk).now in
-        let rests : Rests state new h (length h) = call.rests runs.honest h (length (accepted mine)) runs.rests in
+        let rests : Rests state new h (length h) = call.rests honest h (length (accepted mine)) runs.rests in
         let sent : sent_about recent ≡ outs = sym (call.handed ∙ runs.outs) in
         record {
           end = Running (sure ++ map HandedOut recent) [] pairs c m;
           goes = subst (λ (l : List Sent). Goes s may_fail (Running sure recent pairs c m) Commit (handing_out l) (Running (sure ++ map HandedOut recent) [] pairs c m)) sent lives.hands_out;
           stands = record {
-            honest = call.honest.1 runs.honest;
+            honest = honest;
             same_setting = ap (λ (v : ServerState D H G). setting_of handler.key_of ports.range v.machine) call.ok ∙ runs.same_setting;
             same_form = call.form ∙ runs.same_form;
             rests = subst (λ (l : History). Rests state new l (length (accepted (map taken_of (sure ++ map HandedOut recent))))) (sym history)
@@ -315,32 +337,32 @@ module _ {D H G : Type 0} (disk : disks.Ghosts D) (handler : handlers.Ghosts H) 
         one_or_more (suc n) not = omega arith
 
     committed_err : (old new : ServerState D H G) (sure : List Lasting) (recent : List Taken) (pairs : Bool) (c m : ℕ) (why : StoreFault) → (why ≡ faults.Device) ⊎ (why ≡ faults.Worn)
-        → Runs disk handler ports form s old sure recent pairs c m → Commits disk old new (Err why) → Next may_fail (Running sure recent pairs c m) Commit (Failed why ∷ []) (Serving new)
-    committed_err old new sure recent pairs c m why is runs call = record {
+        → Runs disk handler ports form s old sure recent pairs c m → Commits disk old new (Err why) → disk.is_honest new.store.disk → Next may_fail (Running sure recent pairs c m) Commit (Failed why ∷ []) (Serving new)
+    committed_err old new sure recent pairs c m why is runs call honest = record {
       end = Halted sure recent m;
       goes = lives.fails why is (has_acts old new sure recent pairs c m why runs call);
       stands = record {
         stopped = call.stops;
         same_setting = own_pairs new.machine pairs (ap (λ (v : ServerState D H G). setting_of handler.key_of ports.range v.machine) call.err ∙ runs.same_setting);
-        leaves = record { honest = call.honest.1 runs.honest; images = (commit_leaves old new sure recent pairs c m (Err why) runs call).after };
+        leaves = record { honest = honest; images = (commit_leaves old new sure recent pairs c m (Err why) runs call honest).after };
       };
     }
 
     committed : (p : Point) (old new : ServerState D H G) (result : Result (List Sent) StoreFault) → Commits disk old new result → Stands disk handler ports form s (Serving old) p
-        → Next may_fail p Commit (said_by_commit result) (Serving new)
-    committed (Running sure recent pairs c m) old new (Ok outs) call stands = committed_ok old new sure recent pairs c m outs stands call
-    committed (Running sure recent pairs c m) old new (Err faults.Device) call stands = committed_err old new sure recent pairs c m faults.Device (inl refl) stands call
-    committed (Running sure recent pairs c m) old new (Err faults.Worn) call stands = committed_err old new sure recent pairs c m faults.Worn (inr refl) stands call
-    committed (Running sure recent pairs c m) old new (Err faults.Stopped) call stands = absurd (not_both old.store.stopped (call.stopped.0 refl) stands.rests.stored.runs)
-    committed (Halted sure recent m) old new (Ok outs) call stands = absurd (ok_is_no_error outs faults.Stopped (call.stopped.1 stands.stopped))
-    committed (Halted sure recent m) old new (Err faults.Device) call stands = let wrong = call.stopped.1 stands.stopped in cc
-    committed (Halted sure recent m) old new (Err faults.Worn) call stands = let wrong = call.stopped.1 stands.stopped in cc
-    committed (Halted sure recent m) old new (Err faults.Stopped) call stands = record {
+        → disk.is_honest new.store.disk → Next may_fail p Commit (said_by_commit result) (Serving new)
+    committed (Running sure recent pairs c m) old new (Ok outs) call stands honest = committed_ok old new sure recent pairs c m outs stands call honest
+    committed (Running sure recent pairs c m) old new (Err faults.Device) call stands honest = committed_err old new sure recent pairs c m faults.Device (inl refl) stands call honest
+    committed (Running sure recent pairs c m) old new (Err faults.Worn) call stands honest = committed_err old new sure recent pairs c m faults.Worn (inr refl) stands call honest
+    committed (Running sure recent pairs c m) old new (Err faults.Stopped) call stands honest = absurd (not_both old.store.stopped (call.stopped.0 refl) stands.rests.stored.runs)
+    committed (Halted sure recent m) old new (Ok outs) call stands honest = absurd (ok_is_no_error outs faults.Stopped (call.stopped.1 stands.stopped))
+    committed (Halted sure recent m) old new (Err faults.Device) call stands honest = let wrong = call.stopped.1 stands.stopped in cc
+    committed (Halted sure recent m) old new (Err faults.Worn) call stands honest = let wrong = call.stopped.1 stands.stopped in cc
+    committed (Halted sure recent m) old new (Err faults.Stopped) call stands honest = record {
       end = Halted sure recent m;
       goes = lives.stays_halted;
       stands = halted_same old new sure recent m m (omega arith) (call.unchanged stands.stopped) stands;
     }
-    committed (Shut sure recent m) old new result call stands = absurd stands
+    committed (Shut sure recent m) old new result call stands honest = absurd stands
 
     -- ---- Openings
 
@@ -354,8 +376,8 @@ module _ {D H G : Type 0} (disk : disks.Ghosts D) (handler : handlers.Ghosts H) 
 
     yielded : (w : World D H G) (p : Point) (server : ServerState D H G) → Stands disk handler ports form s w p → Opening disk (disk_of w) s.config (handler_of w) (ports_of w) (Ok server)
         → Opens form (settled_history_of p) (count_of p) (bound_of p) (disk.trace (disk_of w)).now.bytes (disk.trace server.store.disk).now server
-        → Next may_fail p Open (Opened (now_of server) ∷ []) (Serving server)
-    yielded w p server stands call opens =
+        → disk.is_honest server.store.disk → Next may_fail p Open (Opened (now_of server) ∷ []) (Serving server)
+    yielded w p server stands call opens honest =
         let sure = sure_of p in
         let recent = unsettled_of p in
         let mine = map taken_of sure in
@@ -378,7 +400,7 @@ module _ {D H G : Type 0} (disk : disks.Ghosts D) (handler : handlers.Ghosts H) 
           end = Running (sure ++ found recent n) [] server.machine.pairs (now_of server) (bound_of p);
           goes = lives.opens n server.machine.pairs (now_of server) few opens.bounded (subst (λ (l : History). clock l ≤ now_of server) (sym acts) opens.rests.after.late);
           stands = record {
-            honest = call.honest.1 (leaves w p stands).honest;
+            honest = honest;
             same_setting = opened_setting w p server.machine stands call.machine;
             same_form = opens.same_form;
             rests = subst (λ (l : History). Rests state server l (length (accepted (map taken_of (sure ++ found recent n))))) (sym all)
@@ -391,50 +413,50 @@ module _ {D H G : Type 0} (disk : disks.Ghosts D) (handler : handlers.Ghosts H) 
         }
 
     opened : form.bounds ≡ s.config.limits → (p : Point) (w : World D H G) (result : Result (ServerState D H G) (OpenRefused D H G)) → Opening disk (disk_of w) s.config (handler_of w) (ports_of w) result
-        → Stands disk handler ports form s w p → Next may_fail p Open (said_by_open result) (world_after result)
-    opened same p w (Ok server) call stands =
+        → Stands disk handler ports form s w p → disk.is_honest (disk_of (world_after result)) → Next may_fail p Open (said_by_open result) (world_after result)
+    opened same p w (Ok server) call stands honest =
         let l = leaves w p stands in
-        yielded w p server stands call (call.rests l.honest form (settled_history_of p) (count_of p) (bound_of p) same l.images)
-    opened same p w (Err refused) call stands =
+        yielded w p server stands call (call.rests honest form (settled_history_of p) (count_of p) (bound_of p) same l.images) honest
+    opened same p w (Err refused) call stands honest =
         let l = leaves w p stands in
         record {
           end = Shut (sure_of p) (unsettled_of p) (bound_of p);
-          goes = lives.not_opened refused.fault (call.sound l.honest form (settled_history_of p) (count_of p) (bound_of p) same l.images);
+          goes = lives.not_opened refused.fault (call.sound honest form (settled_history_of p) (count_of p) (bound_of p) same l.images);
           stands = record {
             keys = ap handler.key_of call.returned.0 ∙ keys_at w p stands;
             range = ap ports.range call.returned.1 ∙ range_at w p stands;
-            leaves = record { honest = call.honest_err.1 l.honest; images = (call.stop_err l.honest form (settled_history_of p) (count_of p) (bound_of p) l.images).after };
+            leaves = record { honest = honest; images = (call.stop_err honest form (settled_history_of p) (count_of p) (bound_of p) l.images).after };
           };
         }
 
     -- ---- Stops
 
-    restarted : (w : World D H G) (p : Point) (image : List ℕ) (d : D) (h : H) (g : G) (sure : List Lasting) (recent : List Taken) (m : ℕ) → Stands disk handler ports form s w p
-        → Restarts disk handler ports w image d h g → AtLeast form (accepted (arrivals sure recent)) (length (accepted (map taken_of sure))) m image
-        → IsDown disk handler ports form s d h g sure recent m
-    restarted w p image d h g sure recent m stands is at = record {
+    restarted : (w : World D H G) (p : Point) (last : D) (image : List ℕ) (d : D) (h : H) (g : G) (sure : List Lasting) (recent : List Taken) (m : ℕ) → Stands disk handler ports form s w p
+        → Restarts disk handler ports w last image d h g → AtLeast form (accepted (arrivals sure recent)) (length (accepted (map taken_of sure))) m image
+        → disk.is_honest d → IsDown disk handler ports form s d h g sure recent m
+    restarted w p last image d h g sure recent m stands is at honest = record {
       keys = is.keys ∙ keys_at w p stands;
       range = is.range ∙ range_at w p stands;
-      leaves = record { honest = is.honest (leaves w p stands).honest; images = left_alone (disk.trace d).now _ image is.bytes is.settled at };
+      leaves = record { honest = honest; images = left_alone (disk.trace d).now _ image is.bytes is.settled at };
     }
 
-    left : (w : World D H G) (p : Point) (image : List ℕ) (d : D) (h : H) (g : G) → Stands disk handler ports form s w p → Restarts disk handler ports w image d h g
-        → AtLeast form (settled_history_of p) (count_of p) (bound_of p) image → Next may_fail p Stop [] (Down d h g)
-    left w p image d h g stands is at = record {
+    left : (w : World D H G) (p : Point) (last : D) (image : List ℕ) (d : D) (h : H) (g : G) → Stands disk handler ports form s w p → Restarts disk handler ports w last image d h g
+        → AtLeast form (settled_history_of p) (count_of p) (bound_of p) image → disk.is_honest d → Next may_fail p Stop [] (Down d h g)
+    left w p last image d h g stands is at honest = record {
       end = Shut (sure_of p) (unsettled_of p) (bound_of p);
       goes = lives.stops;
-      stands = restarted w p image d h g (sure_of p) (unsettled_of p) (bound_of p) stands is at;
+      stands = restarted w p last image d h g (sure_of p) (unsettled_of p) (bound_of p) stands is at honest;
     }
 
-    commit_left : (p : Point) (old new : ServerState D H G) (result : Result (List Sent) StoreFault) (image : List ℕ) (d : D) (h : H) (g : G) → Stands disk handler ports form s (Serving old) p
-        → Restarts disk handler ports (Serving old) image d h g → AtLeast form (history_of p) (count_of p) (bound_of p) image → Next may_fail p Stop [] (Down d h g)
-    commit_left (Running sure recent pairs c m) old new result image d h g stands is at = record {
+    commit_left : (p : Point) (old new : ServerState D H G) (image : List ℕ) (d : D) (h : H) (g : G) → Stands disk handler ports form s (Serving old) p
+        → Restarts disk handler ports (Serving old) new.store.disk image d h g → AtLeast form (history_of p) (count_of p) (bound_of p) image → disk.is_honest d → Next may_fail p Stop [] (Down d h g)
+    commit_left (Running sure recent pairs c m) old new image d h g stands is at honest = record {
       end = Shut sure recent m;
       goes = lives.commit_stops;
-      stands = restarted (Serving old) (Running sure recent pairs c m) image d h g sure recent m stands is at;
+      stands = restarted (Serving old) (Running sure recent pairs c m) new.store.disk image d h g sure recent m stands is at honest;
     }
-    commit_left (Halted sure recent m) old new result image d h g stands is at = left (Serving old) (Halted sure recent m) image d h g stands is at
-    commit_left (Shut sure recent m) old new result image d h g stands is at = absurd stands
+    commit_left (Halted sure recent m) old new image d h g stands is at honest = left (Serving old) (Halted sure recent m) new.store.disk image d h g stands is at honest
+    commit_left (Shut sure recent m) old new image d h g stands is at honest = absurd stands
 
     -- ---- One call, and many
 
@@ -453,24 +475,25 @@ module _ {D H G : Type 0} (disk : disks.Ghosts D) (handler : handlers.Ghosts H) 
     down_commits (Shut sure recent m) d h g stands = record { end = Shut sure recent m; goes = lives.stays_shut; stands = stands }
 
     next : form.bounds ≡ s.config.limits → (p : Point) (w v : World D H G) (input : Input) (said : List Said) → Call disk handler ports s w input said v → Stands disk handler ports form s w p
-        → Next may_fail p input said v
-    next same p _ _ _ _ (worlds.submits {old = old} {new = new} {t = t} {a = a} result call) stands = submitted p old new t a result call stands
-    next same p _ _ _ _ (worlds.no_submit {d = d} {h = h} {g = g} {t = t} {a = a}) stands = down_arrives p d h g t a stands
-    next same p _ _ _ _ (worlds.commits {old = old} {new = new} result call) stands = committed p old new result call stands
-    next same p _ _ _ _ (worlds.no_commit {d = d} {h = h} {g = g}) stands = down_commits p d h g stands
-    next same p w _ _ _ (worlds.opens result call) stands = opened same p w result call stands
-    next same p w _ _ _ (worlds.stops {d = d} {h = h} {g = g} image of is) stands = left w p image d h g stands is ((leaves w p stands).images image of)
-    next same p _ _ _ _ (worlds.commit_stops {old = old} {new = new} {d = d} {h = h} {g = g} result call image of is) stands =
-        commit_left p old new result image d h g stands is (left_has (disk.trace old.store.disk) (disk.trace new.store.disk) _ image (commit_since p old new result stands call) of)
-    next same p w _ _ _ (worlds.open_stops {d = d} {h = h} {g = g} result call image of is) stands =
-        left w p image d h g stands is (left_has (disk.trace (disk_of w)) (disk.trace (disk_of (world_after result))) _ image (open_since p w result stands call) of)
+        → disk.is_honest (disk_of v) → Next may_fail p input said v
+    next same p _ _ _ _ (worlds.submits {old = old} {new = new} {t = t} {a = a} result call) stands honest = submitted p old new t a result call stands
+    next same p _ _ _ _ (worlds.no_submit {d = d} {h = h} {g = g} {t = t} {a = a}) stands honest = down_arrives p d h g t a stands
+    next same p _ _ _ _ (worlds.commits {old = old} {new = new} result call) stands honest = committed p old new result call stands honest
+    next same p _ _ _ _ (worlds.no_commit {d = d} {h = h} {g = g}) stands honest = down_commits p d h g stands
+    next same p w _ _ _ (worlds.opens result call) stands honest = opened same p w result call stands honest
+    next same p w _ _ _ (worlds.stops {d = d} {h = h} {g = g} image of is) stands honest = left w p (disk_of w) image d h g stands is ((leaves w p stands).images image of) honest
+    next same p _ _ _ _ (worlds.commit_stops {old = old} {new = new} {d = d} {h = h} {g = g} result call image of is) stands honest =
+        commit_left p old new image d h g stands is (left_has (disk.trace old.store.disk) (disk.trace new.store.disk) _ image (commit_since p old new result stands call (is.honest honest)) of) honest
+    next same p w _ _ _ (worlds.open_stops {d = d} {h = h} {g = g} result call image of is) stands honest =
+        left w p (disk_of (world_after result)) image d h g stands is
+        (left_has (disk.trace (disk_of w)) (disk.trace (disk_of (world_after result))) _ image (open_since p w result stands call (is.honest honest)) of) honest
 
     pub calls_make_lives : form.bounds ≡ s.config.limits → (p : Point) (w v : World D H G) (inputs : List Input) (said : List Said) → Calls disk handler ports s w inputs said v
-        → Stands disk handler ports form s w p → Lives disk handler ports form s may_fail p inputs said v
-    calls_make_lives same p w _ _ _ worlds.done stands = record { end = p; life = lives.ends; stands = stands }
-    calls_make_lives same p w v _ _ (worlds.then {input = input} {inputs = inputs} {said = said} {later = more} u call rest) stands =
-        let one = next same p w u input said call stands in
-        let last = calls_make_lives same one.end u v inputs more rest one.stands in
+        → Stands disk handler ports form s w p → disk.is_honest (disk_of v) → Lives disk handler ports form s may_fail p inputs said v
+    calls_make_lives same p w _ _ _ worlds.done stands honest = record { end = p; life = lives.ends; stands = stands }
+    calls_make_lives same p w v _ _ (worlds.then {input = input} {inputs = inputs} {said = said} {later = more} u call rest) stands honest =
+        let one = next same p w u input said call stands (earlier u v inputs more rest honest) in
+        let last = calls_make_lives same one.end u v inputs more rest one.stands honest in
         record { end = last.end; life = lives.goes_on one.end one.goes last.life; stands = last.stands }
 
 pub formatted_stands : {D H G : Type 0} (disk : disks.Ghosts D) (handler : handlers.Ghosts H) (ports : generators.Ghosts G) (form : Form) (s : Setting) (d : D) (h : H) (g : G) → disk.is_honest d

@@ -50,13 +50,13 @@ inputs_of_all (step ∷ steps) = inputs_of step ++ inputs_of_all steps
 
 -- the disk is what the outcome leaves of the one before
 pub record Crashes {D H G : Type 0} (disk : disks.Ghosts D) (outcome : Outcome) (old : World D H G) (d : D) : Type 0 where
-  pub honest : disk.is_honest d
+  pub honest : disk.is_honest d → disk.is_honest (disk_of old)
   pub left : (disk.trace d).now ≡ record { bytes = left_by outcome (disk.trace (disk_of old)); pending = [] }
   pub image : IsImage (disk.trace (disk_of old)).now (left_by outcome (disk.trace (disk_of old)))
 
 -- a disk was opened: exactly where it is asked for and can be done, the store that was opened was carried over to version 2
 abbrev pub IsCarriedOver : {D H G : Type 0} → disks.Ghosts D → Bool → D → World D H G → Type 0
-IsCarriedOver disk carry d (Serving server) = disk.is_honest d → Carries carry (disk.trace d).now.bytes server.store
+IsCarriedOver disk carry d (Serving server) = disk.is_honest server.store.disk → Carries carry (disk.trace d).now.bytes server.store
 IsCarriedOver disk carry d (Down e h g) = Unit {0}
 
 -- one step of a player leads from a world to a world, and something is said

@@ -59,12 +59,12 @@ world_after (Err refused) = Down refused.disk refused.handler refused.ports
 
 -- ---- Calls
 
--- After a stop the disk has this content and nothing is pending. The next opening gets a handler with the same keys, and a
--- generator with the same range.
-pub record Restarts {D H G : Type 0} (disk : disks.Ghosts D) (handler : handlers.Ghosts H) (ports : generators.Ghosts G) (old : World D H G) (image : List ℕ) (d : D) (h : H) (g : G) : Type 0 where
+-- After a stop the disk has this content and nothing is pending, and it is honest only if the disk of the call that was stopped is, once
+-- that has ended. The next opening gets a handler with the same keys, and a generator with the same range.
+pub record Restarts {D H G : Type 0} (disk : disks.Ghosts D) (handler : handlers.Ghosts H) (ports : generators.Ghosts G) (old : World D H G) (last : D) (image : List ℕ) (d : D) (h : H) (g : G) : Type 0 where
   pub bytes : (disk.trace d).now.bytes ≡ image
   pub settled : IsSettled (disk.trace d).now
-  pub honest : disk.is_honest (disk_of old) → disk.is_honest d
+  pub honest : disk.is_honest d → disk.is_honest last
   pub keys : handler.key_of h ≡ handler.key_of (handler_of old)
   pub range : ports.range g ≡ ports.range (ports_of old)
 
@@ -78,13 +78,13 @@ pub data Call {D H G : Type 0} (disk : disks.Ghosts D) (handler : handlers.Ghost
   no_commit : {d : D} {h : H} {g : G} → Call disk handler ports s (Down d h g) Commit (Closed ∷ []) (Down d h g)
   opens : {w : World D H G} (result : Result (ServerState D H G) (OpenRefused D H G)) → Opening disk (disk_of w) s.config (handler_of w) (ports_of w) result
       → Call disk handler ports s w Open (said_by_open result) (world_after result)
-  stops : {w : World D H G} {d : D} {h : H} {g : G} (image : List ℕ) → IsImage (disk.trace (disk_of w)).now image → Restarts disk handler ports w image d h g
+  stops : {w : World D H G} {d : D} {h : H} {g : G} (image : List ℕ) → IsImage (disk.trace (disk_of w)).now image → Restarts disk handler ports w (disk_of w) image d h g
       → Call disk handler ports s w Stop [] (Down d h g)
   commit_stops : {old new : ServerState D H G} {d : D} {h : H} {g : G} (result : Result (List Sent) StoreFault) → Commits disk old new result
-      → (image : List ℕ) → IsLeft (disk.trace old.store.disk) (disk.trace new.store.disk) image → Restarts disk handler ports (Serving old) image d h g
+      → (image : List ℕ) → IsLeft (disk.trace old.store.disk) (disk.trace new.store.disk) image → Restarts disk handler ports (Serving old) new.store.disk image d h g
       → Call disk handler ports s (Serving old) Stop [] (Down d h g)
   open_stops : {w : World D H G} {d : D} {h : H} {g : G} (result : Result (ServerState D H G) (OpenRefused D H G)) → Opening disk (disk_of w) s.config (handler_of w) (ports_of w) result
-      → (image : List ℕ) → IsLeft (disk.trace (disk_of w)) (disk.trace (disk_of (world_after result))) image → Restarts disk handler ports w image d h g
+      → (image : List ℕ) → IsLeft (disk.trace (disk_of w)) (disk.trace (disk_of (world_after result))) image → Restarts disk handler ports w (disk_of (world_after result)) image d h g
       → Call disk handler ports s w Stop [] (Down d h g)
 
 pub data Calls {D H G : Type 0} (disk : disks.Ghosts D) (handler : handlers.Ghosts H) (ports : generators.Ghosts G) (s : Setting) : World D H G → List Input → List Said → World D H G → Type 0 where

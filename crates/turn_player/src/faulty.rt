@@ -21,7 +21,7 @@ pub trait Faulty: Disk {
     /// The disk becomes the image that the outcome names, nothing is pending, and failures that are still to come are
     /// cancelled.
     fn crash(&mut self, outcome: Outcome)
-        ensures honest { Self.is_honest self.new }
+        ensures honest { Self.is_honest self.new → Self.is_honest self.old }
         ensures left { (Self.trace self.new).now ≡ record { bytes = left_by outcome (Self.trace self.old); pending = [] } }
         ensures image { IsImage (Self.trace self.old).now (Self.trace self.new).now.bytes };
 }

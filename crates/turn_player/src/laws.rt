@@ -59,21 +59,21 @@ pub fn calls_make_lives<D: Disk, H: AuthHandler, G: RelayAddressGenerator>()
     ensures goes_on { (form : Form) (s : Setting) (may_fail : Bool) (p : Point) (w v : World D H G) (inputs : List Input) (said : List Said)
         → form.bounds ≡ s.config.limits → (may_fail ≡ false → NeverFails G.RelayAddressGenerator)
         → Calls D.Disk H.AuthHandler G.RelayAddressGenerator s w inputs said v → Stands D.Disk H.AuthHandler G.RelayAddressGenerator form s w p
-        → Lives D.Disk H.AuthHandler G.RelayAddressGenerator form s may_fail p inputs said v }
+        → D.is_honest (disk_of v) → Lives D.Disk H.AuthHandler G.RelayAddressGenerator form s may_fail p inputs said v }
 
     // At each moment of a commit or an opening each image stands for the first events of the history, and for no fewer than last.
     ensures commits { (form : Form) (s : Setting) (p : Point) (old new : ServerState D H G) (result : Result (List Sent) StoreFault)
         → Stands D.Disk H.AuthHandler G.RelayAddressGenerator form s (Serving old) p → Commits D.Disk old new result
-        → EachImageSince (D.trace old.store.disk) (D.trace new.store.disk) (AtLeast form (history_of p) (count_of p) (bound_of p)) }
+        → D.is_honest new.store.disk → EachImageSince (D.trace old.store.disk) (D.trace new.store.disk) (AtLeast form (history_of p) (count_of p) (bound_of p)) }
     ensures openings { (form : Form) (s : Setting) (p : Point) (w : World D H G) (result : Result (ServerState D H G) (OpenRefused D H G))
         → Stands D.Disk H.AuthHandler G.RelayAddressGenerator form s w p → Opening D.Disk (disk_of w) s.config (handler_of w) (ports_of w) result
-        → EachImageSince (D.trace (disk_of w)) (D.trace (disk_of (world_after result))) (AtLeast form (settled_history_of p) (count_of p) (bound_of p)) }
+        → D.is_honest (disk_of (world_after result)) → EachImageSince (D.trace (disk_of w)) (D.trace (disk_of (world_after result))) (AtLeast form (settled_history_of p) (count_of p) (bound_of p)) }
 
     // From a formatted disk on, by moments that never fall, all of it is one run.
     ensures whole { (form : Form) (s : Setting) (may_fail : Bool) (w v : World D H G) (inputs : List Input) (said : List Said)
         → form.bounds ≡ s.config.limits → (may_fail ≡ false → NeverFails G.RelayAddressGenerator)
         → Calls D.Disk H.AuthHandler G.RelayAddressGenerator s w inputs said v → Stands D.Disk H.AuthHandler G.RelayAddressGenerator form s w formatted
-        → NeverFall 0 inputs → IsWhole D.Disk H.AuthHandler G.RelayAddressGenerator form s may_fail inputs said v }
+        → NeverFall 0 inputs → D.is_honest (disk_of v) → IsWhole D.Disk H.AuthHandler G.RelayAddressGenerator form s may_fail inputs said v }
 
     // Of each datagram that was handed out, relayed data too: whatever calls and stops follow, each image of the disk stands for
     // a history that begins with the one that it was answered from.
@@ -81,5 +81,5 @@ pub fn calls_make_lives<D: Disk, H: AuthHandler, G: RelayAddressGenerator>()
         (sent : List Sent) (before : List Lasting) (x : Lasting) (after : List Lasting)
         → form.bounds ≡ s.config.limits → (may_fail ≡ false → NeverFails G.RelayAddressGenerator)
         → Calls D.Disk H.AuthHandler G.RelayAddressGenerator s w inputs said v → Stands D.Disk H.AuthHandler G.RelayAddressGenerator form s w p
-        → IsOneRun s may_fail sent p → sure_of p ≡ before ++ x ∷ after → Lasts D.Disk form s before (taken_of x) (disk_of v) }
+        → IsOneRun s may_fail sent p → sure_of p ≡ before ++ x ∷ after → D.is_honest (disk_of v) → Lasts D.Disk form s before (taken_of x) (disk_of v) }
 {}

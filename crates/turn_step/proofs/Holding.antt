@@ -1,11 +1,12 @@
 -- Which ports a table has, as it changes, and which a generator holds then.
-use Rattle.std.proofs.Common.{◌≡◌, ◌<◌, ℕ, ◌+◌, Bool, true, false, cond, refl, sym, ap, subst, ◌∙◌, lt-ltb, Option, Some, None, is_some, List, Result, Ok, Err, inl, inr, Box}
+use Rattle.std.proofs.Common.{◌≡◌, ◌≤◌, ◌<◌, ℕ, ◌+◌, Bool, true, false, cond, refl, sym, ap, subst, ◌∙◌, lt-ltb, Option, Some, None, is_some, List, Result, Ok, Err, inl, inr, Box}
 use Rattle.std.specs.Prelude.{◌%◌, ◌==◌, ◌&&◌, ◌||◌, not, IfOk, IfSome, IsSome, MatchOption, OnErr}
 use Rattle.std.specs.Option.{option_and_then, option_map}
 use Rattle.std.specs.Ordering.{eq_by_cmp, nat_cmp}
 use Rattle.std.specs.FinMap as fin
 use Rattle.std.specs.FinMap.{get-remove}
 use Rattle.std.proofs.Math.Bool.{or-false, or-true}
+use Rattle.std.proofs.Math.Nat.{eq-or-lt_of_le}
 use Rattle.std.proofs.lemmas.Bool.{eq-eqb, eqb-false, eqb-true}
 use Rattle.std.proofs.lemmas.Cmp.{nat_cmp_total}
 use Rattle.std.proofs.lemmas.Option.{same_Some}
@@ -14,21 +15,22 @@ use Rattle.turn_types.specs.declared.address.FiveTuple.{FiveTuple}
 use Rattle.turn_types.specs.declared.limits.Bounds.{Bounds}
 use Rattle.turn_types.specs.declared.message.Token.{Token}
 use Rattle.turn_types.specs.declared.message.TxId.{TxId}
-use Rattle.turn_history.proofs.Histories.{ports-apart}
+use Rattle.turn_history.proofs.Histories.{ports-apart, ports-purged}
 use Rattle.turn_history.proofs.Maps.{from_eq, tuple_exact, tuple_total}
 use Rattle.turn_history.proofs.Reading.{applied-reserved, at_alloc, get-applied, get-purged, get-purged_reserved, get-with_reservation, left, nat_same}
-use Rattle.turn_history.proofs.Reserved.{reservations_in_range, reserved-apart}
+use Rattle.turn_history.proofs.Reserved.{reservations-purged, reservations_in_range, reserved-apart, reserved-purged}
 use Rattle.turn_history.proofs.Tests.{free_port_is, port_is_free, untaken_port_is}
 use Rattle.turn_history.specs.Act.{act_of}
-use Rattle.turn_history.specs.Fitting.{AreReservationsInRange, Fits, IsActInRange, PortIsFree, has_port, is_taken}
-use Rattle.turn_history.specs.History.{History, PlainAct, Allocates, Renews, Permits, Binds}
+use Rattle.turn_history.specs.Fitting.{AreReservationsInRange, Fits, IsActInRange, IsFitting, PortIsFree, has_port, is_taken}
+use Rattle.turn_history.specs.History.{History, PlainAct, clock, Allocates, Renews, Permits, Binds}
 use Rattle.turn_history.specs.Laws.{PortsApart, ReservedApart}
 use Rattle.turn_history.specs.Table.{Contents, Entry, applied, applied_to, binding, kept, permitting, purged, renewed}
 use Rattle.turn_history.specs.declared.act.Act.{Act}
 use Rattle.turn_history.specs.declared.reservation.Reservation.{Reservation}
 use Rattle.turn_table.proofs.Purging.{stays}
 use Rattle.turn_table.proofs.Tuples.{itself}
-use Rattle.turn_table.specs.Table.{RemovesEntry, RemovesExpired, RemovesReservation, freed_by}
+use Rattle.turn_table.specs.State.{State}
+use Rattle.turn_table.specs.Table.{Agrees, RemovesEntry, RemovesExpired, RemovesReservation, freed_by}
 use Rattle.turn_ports.specs.Ports.{with_pair, with_port, without_port}
 use Rattle.turn_rules.specs.Need.{MayHavePicked, MayPickFor}
 use Rattle.turn_rules.specs.Taking.{is_picked, picks, takes}
@@ -36,7 +38,7 @@ use Rattle.turn_rules.specs.declared.need.Need.{Need}
 use Rattle.turn_rules.specs.declared.need.Need.TheVariants.{Any, Even, Pair}
 use Rattle.turn_step.specs.Holding.{ArePicked}
 use Rattle.turn_step.specs.Outcome.{Change, Outcome, Sent, change_of}
-use Rattle.turn_step.specs.State.{HoldsPorts, IsAfter, MachineState, MayBeNext}
+use Rattle.turn_step.specs.State.{HasPortsApart, HoldsPorts, IsPurged, MachineState, MayBeNext}
 
 -- ---- Tests
 
@@ -414,15 +416,34 @@ even_picked b t c f user port granted tx token odd fits in_range = record {
 
 -- ---- Machines
 
-module _ {H G : Type 0} (m : MachineState H G) (h : History) (after : IsAfter m h) where
-  pub apart_after : PortsApart m.table.contents
-  apart_after = subst PortsApart (sym after.agrees) (ports-apart m.config.limits h m.table.moment after.fitting after.late)
+-- a table that agrees with a history
+pub apart_after : (b : Bounds) (s : State) (h : History) → IsFitting b h → clock h ≤ s.moment → Agrees s h → HasPortsApart s
+apart_after b s h fitting late agrees = record {
+  ports = subst PortsApart (sym agrees) (ports-apart b h s.moment fitting late);
+  reserved = subst ReservedApart (sym agrees) (reserved-apart b h s.moment fitting late);
+  in_range = subst (AreReservationsInRange s.moment) (sym agrees) (reservations_in_range b h s.moment fitting late);
+}
 
-  pub reserved_after : ReservedApart m.table.contents
-  reserved_after = subst ReservedApart (sym after.agrees) (reserved-apart m.config.limits h m.table.moment after.fitting after.late)
-
-  pub odd_after : AreReservationsInRange m.table.moment m.table.contents
-  odd_after = subst (AreReservationsInRange m.table.moment) (sym after.agrees) (reservations_in_range m.config.limits h m.table.moment after.fitting after.late)
+-- a table that was brought to a moment
+pub apart_later : (t : ℕ) (old new : State) → old.moment ≤ t → IsPurged t old new → HasPortsApart old → HasPortsApart new
+apart_later t old new le later apart = elim (eq-or-lt_of_le le) [
+  | inl e ↦
+      let same : new.contents ≡ old.contents = later.same e in
+      let moment : new.moment ≡ old.moment = later.moment ∙ sym e in
+      record {
+        ports = subst PortsApart (sym same) apart.ports;
+        reserved = subst ReservedApart (sym same) apart.reserved;
+        in_range = subst (λ (c : Contents). AreReservationsInRange new.moment c) (sym same) (subst (λ (m : ℕ). AreReservationsInRange m old.contents) (sym moment) apart.in_range);
+      }
+  | inr lt ↦
+      let gone : new.contents ≡ purged t old.contents = later.later lt in
+      record {
+        ports = subst PortsApart (sym gone) (ports-purged t old.contents apart.ports);
+        reserved = subst ReservedApart (sym gone) (reserved-purged t old.contents apart.reserved);
+        in_range = subst (λ (c : Contents). AreReservationsInRange new.moment c) (sym gone)
+            (subst (λ (m : ℕ). AreReservationsInRange m (purged t old.contents)) (sym later.moment) (reservations-purged old.moment t old.contents le apart.in_range));
+      }
+]
 
 -- the change of a step that was taken apart
 pub change_by : {A : Type 0} (o : Outcome) (sent : Option Sent) (act : Option (Box (FiveTuple × Act A) A)) (b : Box (FiveTuple × Act A) A) (p : FiveTuple × Act A) (a : Act A)
@@ -439,11 +460,11 @@ module _ {H G : Type 0} (m n : MachineState H G) (o : Option Change) (c : Change
   held_change holds held = subst (HoldsPorts holds n) is (subst (λ x. HoldsPorts holds x o) (sym same) held)
 
 -- what is held once a table was brought to a moment
-pub held_later : {H G : Type 0} (holds : G → (ℕ → Bool) → Type 0) (m n : MachineState H G) (new : G) (later : Contents) (h : History) → n ≡ m → IsAfter m h
+pub held_later : {H G : Type 0} (holds : G → (ℕ → Bool) → Type 0) (m n : MachineState H G) (new : G) (later : Contents) → n ≡ m → HasPortsApart m.table
     → (PortsApart n.table.contents → ReservedApart n.table.contents → holds n.ports (is_taken n.table.contents) → holds new (is_taken later))
     → HoldsPorts holds m None → holds new (is_taken later)
-held_later holds m n new later h same after advances held =
-    advances (subst (λ x. PortsApart x.table.contents) (sym same) (apart_after m h after)) (subst (λ x. ReservedApart x.table.contents) (sym same) (reserved_after m h after))
+held_later holds m n new later same apart advances held =
+    advances (subst (λ x. PortsApart x.table.contents) (sym same) apart.ports) (subst (λ x. ReservedApart x.table.contents) (sym same) apart.reserved)
     (subst (λ x. HoldsPorts holds x None) (sym same) held)
 
 pub nothing_taken : {E : Type 0} (P : Option Change → Type 0) (r : Result Outcome E) → IfOk r (λ o. o.change ≡ None) → P None → IfOk r (λ o. P o.change)

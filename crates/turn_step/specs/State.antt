@@ -1,9 +1,9 @@
 -- What contracts see of a machine.
 use Rattle.std.specs.Prelude.{◌≡◌, ◌⊎◌, ◌≤◌, ◌<◌, ℕ, Bool, false, Option, Some, None, IfSome, ◌++◌}
 use Rattle.turn_types.specs.Config.{Config}
-use Rattle.turn_history.specs.Fitting.{Fits, IsFitting, IsInRange}
+use Rattle.turn_history.specs.Fitting.{AreReservationsInRange, Fits, IsFitting, IsInRange}
 use Rattle.turn_history.specs.History.{History, clock}
-use Rattle.turn_history.specs.Laws.{ReservesNone}
+use Rattle.turn_history.specs.Laws.{PortsApart, ReservedApart, ReservesNone}
 use Rattle.turn_history.specs.Table.{applied, purged}
 use Rattle.turn_cred.specs.Credential.{Keys}
 use Rattle.turn_ports.specs.Ports.{Failed}
@@ -28,6 +28,12 @@ pub record IsAfter {H G : Type 0} (m : MachineState H G) (h : History) : Type 0 
   pub fitting : IsFitting m.config.limits h
   pub late : clock h ≤ m.table.moment
   pub agrees : Agrees m.table h
+
+-- each port of a table is that of one allocation, or of one reservation and of no allocation, and reserved ports are in their range
+pub record HasPortsApart (s : State) : Type 0 where
+  pub ports : PortsApart s.contents
+  pub reserved : ReservedApart s.contents
+  pub in_range : AreReservationsInRange s.moment s.contents
 
 -- the generator holds something for each port that the table has or a change takes, and for no other
 abbrev pub HoldsPorts : {H G : Type 0} → (G → (ℕ → Bool) → Type 0) → MachineState H G → Option Change → Type 0

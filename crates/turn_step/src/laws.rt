@@ -14,6 +14,9 @@ ghost use Rattle.turn_step.specs.Laws.{HasNoReply, SpellsNoAllocate, SameForAllo
 ghost use Rattle.turn_step.specs.Outcome.{Outcome, nothing};
 ghost use Rattle.turn_step.specs.Outcome.Arrives.{FromClient, FromPeer};
 ghost use Rattle.turn_step.specs.Outcome.Sent.{ToPeer};
+ghost use Rattle.turn_step.specs.State.{HasPortsApart};
+ghost use Rattle.turn_table.specs.State.{State};
+ghost use Rattle.turn_table.specs.Table.{Agrees};
 ghost use Rattle.turn_types.specs.declared.address.Endpoint.{Endpoint};
 ghost use Rattle.turn_types.specs.declared.address.FiveTuple.{FiveTuple};
 ghost use Rattle.turn_types.specs.declared.limits.Bounds.{Bounds};
@@ -47,4 +50,10 @@ pub fn clients_stand_alone()
     ensures peer { (s : Setting) (b : Bounds) (h g : History) (t : ℕ) (failed : Bool) (f : FiveTuple) (e : Entry) (from : Endpoint) (bytes id : List ℕ) (o : Outcome) →
         IsFitting b h → IsFitting b g → clock h ≤ t → clock g ≤ t → events_of f h ≡ events_of f g → fin.get (table h t).entries f ≡ Some e →
         (AnswersArrival s h t failed (FromPeer e.port from bytes id) o ↔ AnswersArrival s g t failed (FromPeer e.port from bytes id) o) }
+{}
+
+/// After every history each port of the table is that of one allocation or of one reservation. So a machine that is after one keeps that
+/// the ports are held, by the clauses `held` of its methods.
+pub fn histories_keep_ports_apart()
+    ensures { (b : Bounds) (s : State) (h : History) → IsFitting b h → clock h ≤ s.moment → Agrees s h → HasPortsApart s }
 {}

@@ -12,6 +12,6 @@ mod request;
 mod step;
 
 pub use arrival::{Arrival, Outgoing};
-pub use laws::{clients_stand_alone, replies_answer_requests};
+pub use laws::{clients_stand_alone, histories_keep_ports_apart, replies_answer_requests};
 pub use machine::{Machine, Parts};
 pub use step::Step;

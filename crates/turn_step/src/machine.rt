@@ -8,7 +8,7 @@ ghost use Rattle.turn_ports.specs.Ports.{has_failed};
 ghost use Rattle.turn_rules.specs.Laws.{IsMadeOfBytes};
 ghost use Rattle.turn_step.specs.Answer.{AnswersArrival, AnswersClient, IsDecided};
 ghost use Rattle.turn_step.specs.Outcome.{added, event_at};
-ghost use Rattle.turn_step.specs.State.{Answered, CountsOne, HoldsPorts, IsAfter, IsPurged, IsReady, IsSameTable, KeepsSetting, changed, setting_of};
+ghost use Rattle.turn_step.specs.State.{Answered, CountsOne, HasPortsApart, HoldsPorts, IsAfter, IsPurged, IsReady, IsSameTable, KeepsSetting, changed, setting_of};
 ghost use Rattle.turn_step.specs.Views.{arrival_of, sent_of};
 ghost use Rattle.turn_table.specs.Table.{Agrees};
 
@@ -254,9 +254,10 @@ impl<H: AuthHandler, G: RelayAddressGenerator, A: Allocator + Copy> Machine<H, G
         ensures after { (h : History) → IsAfter self.old h → IsAfter self.new h }
         ensures setting { KeepsSetting G.range self.old self.new }
         ensures count { CountsOne (G.failures self.old.ports) (G.failures self.new.ports) }
+        ensures apart { HasPortsApart self.old.table → HasPortsApart self.new.table }
         // The ports of the table are held, and those that were picked for the act; after an `Err` those of the table. No other is.
-        ensures held { (h : History) → IsAfter self.old h → HoldsPorts G.holds self.old None → IfOk result (λ s. HoldsPorts G.holds self.new s.change) }
-        ensures held_err { (h : History) → IsAfter self.old h → HoldsPorts G.holds self.old None → OnErr result (HoldsPorts G.holds self.new None) }
+        ensures held { HasPortsApart self.old.table → HoldsPorts G.holds self.old None → IfOk result (λ s. HoldsPorts G.holds self.new s.change) }
+        ensures held_err { HasPortsApart self.old.table → HoldsPorts G.holds self.old None → OnErr result (HoldsPorts G.holds self.new None) }
     {
         advance(&mut self.table, &mut self.ports, moment);
         match *arrival {
@@ -279,7 +280,7 @@ impl<H: AuthHandler, G: RelayAddressGenerator, A: Allocator + Copy> Machine<H, G
         ensures after { (h : History) → IsAfter self.old h → IsAfter self.new (h ++ added self.old.table.moment step.change) }
         ensures setting { KeepsSetting G.range self.old self.new }
         ensures count { G.failures self.new.ports ≡ G.failures self.old.ports }
-        ensures held { (h : History) → IsAfter self.old h → HoldsPorts G.holds self.old step.change → HoldsPorts G.holds self.new None }
+        ensures held { HasPortsApart self.old.table → HoldsPorts G.holds self.old step.change → HoldsPorts G.holds self.new None }
     {
         let (act, outgoing) = step.into_parts();
         if let Some(change) = act {
@@ -297,7 +298,7 @@ impl<H: AuthHandler, G: RelayAddressGenerator, A: Allocator + Copy> Machine<H, G
         ensures table { self.new.table ≡ self.old.table }
         ensures setting { KeepsSetting G.range self.old self.new }
         ensures count { G.failures self.new.ports ≡ G.failures self.old.ports }
-        ensures held { (h : History) → IsAfter self.old h → IsReady self.old step → HoldsPorts G.holds self.old step.change → HoldsPorts G.holds self.new None }
+        ensures held { HasPortsApart self.old.table → IsReady self.old step → HoldsPorts G.holds self.old step.change → HoldsPorts G.holds self.new None }
     {
         let (act, _) = step.into_parts();
         let Some(change) = act else {
@@ -332,7 +333,7 @@ impl<H: AuthHandler, G: RelayAddressGenerator, A: Allocator + Copy> Machine<H, G
         ensures moment { self.new.table.moment ≡ moment }
         ensures setting { KeepsSetting G.range self.old self.new }
         ensures count { CountsOne (G.failures self.old.ports) (G.failures self.new.ports) }
-        ensures held { (h : History) → IsAfter self.old h → HoldsPorts G.holds self.old None → HoldsPorts G.holds self.new None }
+        ensures held { HasPortsApart self.old.table → HoldsPorts G.holds self.old None → HoldsPorts G.holds self.new None }
     {
         let step = self.prepare(moment, arrival)?;
         Ok(self.apply(step))

@@ -34,11 +34,11 @@ returns-in-Err-clause-call g c = record {
   count = tt;
   device = c.in-Err.ensures.device;
   count_not = c.in-Err.ensures.count_not;
-  opened = λ honest. tt;
+  opened = tt;
   why = returns-in-Err-clause-why g c;
-  rests = λ honest form h k m bounds images. tt;
+  rests = tt;
   sound = returns-in-Err-clause-sound g c;
-  stop = λ honest form h k m images. tt;
+  stop = tt;
   stop_err = returns-in-Err-clause-stop_err g c;
 }
 
@@ -78,40 +78,38 @@ pub returns-clause-count_not : goal.returns-clause-count_not
 returns-clause-count_not g c = of_refused _ _ c.over.result c.over.ensures.err (λ _. c.in-Ok-open_as.ensures.count)
 
 pub returns-clause-opened : goal.returns-clause-opened
-returns-clause-opened g c = λ honest. of_made _ _ c.over.result c.over.ensures.ok (c.in-Ok-open_as.ensures.opened honest)
+returns-clause-opened g c = of_made _ _ c.over.result c.over.ensures.ok c.in-Ok-open_as.ensures.opened
 
 pub returns-clause-why : goal.returns-clause-why
-returns-clause-why g c = λ honest. of_refused _ _ c.over.result c.over.ensures.err tt
+returns-clause-why g c = of_refused _ _ c.over.result c.over.ensures.err (λ honest. tt)
 
 pub returns-clause-carried : goal.returns-clause-carried
-returns-clause-carried g c = λ honest. of_made _ _ c.over.result c.over.ensures.ok (c.in-Ok-open_as.ensures.carried honest)
+returns-clause-carried g c = of_made _ _ c.over.result c.over.ensures.ok c.in-Ok-open_as.ensures.carried
 
 pub returns-clause-same : goal.returns-clause-same
-returns-clause-same g c = λ kept honest. of_made _ _ c.over.result c.over.ensures.ok (c.in-Ok-open_as.ensures.same kept honest)
+returns-clause-same g c = λ kept. of_made _ _ c.over.result c.over.ensures.ok (c.in-Ok-open_as.ensures.same kept)
 
 pub returns-clause-same_err : goal.returns-clause-same_err
-returns-clause-same_err g c = λ kept honest. of_refused _ _ c.over.result c.over.ensures.err (c.in-Ok-open_as.ensures.same kept honest)
+returns-clause-same_err g c = λ kept. of_refused _ _ c.over.result c.over.ensures.err (c.in-Ok-open_as.ensures.same kept)
 
 pub returns-clause-rests : goal.returns-clause-rests
-returns-clause-rests g c = λ honest form h k m bounds images.
+returns-clause-rests g c = of_made _ _ c.over.result c.over.ensures.ok (λ honest form h k m bounds images.
     let at = images _ (image_self (g.D.Disk.trace c.args.disk).now) in
-    of_made _ _ c.over.result c.over.ensures.ok
-    (opens form h k m _ _ _ at (c.in-Ok-open_as.ensures.rests honest form (take at.count h) at.stands.clock (bounds ∙ sym c.limits-limits.ensures.value) at.stands.stands)
+    opens form h k m _ _ _ at (c.in-Ok-open_as.ensures.rests honest form (take at.count h) at.stands.clock (bounds ∙ sym c.limits-limits.ensures.value) at.stands.stands)
     (bounds ∙ sym (ap (λ (x : Config). x.limits) c.in-Ok.ensures)) refl refl)
 
 pub returns-clause-sound : goal.returns-clause-sound
-returns-clause-sound g c = λ honest form h k m bounds images. of_refused _ _ c.over.result c.over.ensures.err tt
+returns-clause-sound g c = of_refused _ _ c.over.result c.over.ensures.err (λ honest form h k m bounds images. tt)
 
 pub returns-clause-stop : goal.returns-clause-stop
-returns-clause-stop g c = λ honest form h k m images.
+returns-clause-stop g c = of_made _ _ c.over.result c.over.ensures.ok (λ honest form h k m images.
     let at = images _ (image_self (g.D.Disk.trace c.args.disk).now) in
-    of_made _ _ c.over.result c.over.ensures.ok (since_opened _ _ form h k m _ images at (c.in-Ok-open_as.ensures.stop honest form (take at.count h) at.stands.clock at.stands.stands))
+    since_opened _ _ form h k m _ images at (c.in-Ok-open_as.ensures.stop honest form (take at.count h) at.stands.clock at.stands.stands))
 
 pub returns-clause-stop_err : goal.returns-clause-stop_err
-returns-clause-stop_err g c = λ honest form h k m images.
+returns-clause-stop_err g c = of_refused _ _ c.over.result c.over.ensures.err (λ honest form h k m images.
     let at = images _ (image_self (g.D.Disk.trace c.args.disk).now) in
-    of_refused _ _ c.over.result c.over.ensures.err
-    (since_opened _ _ form h k m _ images at (c.in-Ok-open_as.ensures.stop honest form (take at.count h) at.stands.clock at.stands.stands))
+    since_opened _ _ form h k m _ images at (c.in-Ok-open_as.ensures.stop honest form (take at.count h) at.stands.clock at.stands.stands))
 
 pub returns-clause-call : goal.returns-clause-call
 returns-clause-call g c = record {

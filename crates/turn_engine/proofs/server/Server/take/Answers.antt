@@ -1,14 +1,15 @@
-use Rattle.std.proofs.Common.{◌≡◌, ◌≤◌, ◌+◌, ◌++◌, ℕ, List, length, map, option_map, sym, ap, ◌∙◌, subst, arith}
+use Rattle.std.proofs.Common.{◌≡◌, ◌≤◌, ◌+◌, ◌++◌, ℕ, List, None, length, map, option_map, sym, ap, ◌∙◌, subst, arith}
 use Rattle.std.specs.Option.{option_to_list}
 use Rattle.std.specs.Prelude.{IfSome}
 use Rattle.turn_record.specs.Records.{Writes}
 use Rattle.turn_ports.specs.Ports.{has_failed}
 use Rattle.turn_step.specs.Answer.{AnswersArrival}
 use Rattle.turn_step.specs.Outcome.{Sent, added}
-use Rattle.turn_step.specs.State.{CountsOne, IsAfter, IsPurged, KeepsSetting, setting_of}
+use Rattle.turn_step.specs.State.{CountsOne, HoldsPorts, IsAfter, IsPurged, KeepsSetting, setting_of}
 use Rattle.turn_step.specs.Views.{arrival_of, sent_of}
 use Rattle.turn_types.specs.Config.{Config}
 use Rattle.turn_table.specs.State.{State}
+use Rattle.turn_engine.proofs.Held.{apart_in}
 use Rattle.turn_engine.proofs.Lists.{room_for_one, when_ok}
 use Rattle.turn_engine.proofs.Taken.{after_same, counts_same, keeps_both, moment_changed, rests_later, rests_taken, sound_changed, sound_later, written_by}
 use Rattle.turn_types.specs.declared.limits.Bounds.{Bounds}
@@ -34,6 +35,11 @@ pub returns-in-Err-clause-count : goal.returns-in-Err-clause-count
 returns-in-Err-clause-count g c =
     let failures = g.G.RelayAddressGenerator.failures in
     subst (λ s. CountsOne (failures s.machine.ports) (failures c.prepare.new.self.ports)) c.self.view_is c.prepare.ensures.count
+
+pub returns-in-Err-clause-held : goal.returns-in-Err-clause-held
+returns-in-Err-clause-held g c held =
+    c.in-Err.ensures.held_err (apart_in _ _ c.self.inside.machine.table c.self.invariant.snapshot)
+    (subst (λ v. HoldsPorts g.G.RelayAddressGenerator.holds v.machine None) (sym c.self.view_is) held)
 
 pub returns-in-Err-clause-memory : goal.returns-in-Err-clause-memory
 returns-in-Err-clause-memory g c = ap (λ (s : ServerState _ _ _). record s { machine = c.prepare.new.self }) c.self.view_is
@@ -68,6 +74,12 @@ returns-then-is_err-clause-count g c =
     let failures = g.G.RelayAddressGenerator.failures in
     counts_same _ (failures c.prepare.new.self.ports) _ (subst (λ s. CountsOne (failures s.machine.ports) (failures c.prepare.new.self.ports)) c.self.view_is c.prepare.ensures.count)
     c.abandon.ensures.count
+
+pub returns-then-is_err-clause-held : goal.returns-then-is_err-clause-held
+returns-then-is_err-clause-held g c held =
+    let apart = apart_in _ _ c.self.inside.machine.table c.self.invariant.snapshot in
+    c.abandon.ensures.held (c.prepare.ensures.apart apart) c.in-Ok.ensures.ready
+    (c.in-Ok.ensures.held apart (subst (λ v. HoldsPorts g.G.RelayAddressGenerator.holds v.machine None) (sym c.self.view_is) held))
 
 pub returns-then-is_err-clause-memory : goal.returns-then-is_err-clause-memory
 returns-then-is_err-clause-memory g c =
@@ -132,6 +144,12 @@ returns-clause-count g c =
     let failures = g.G.RelayAddressGenerator.failures in
     counts_same _ (failures c.prepare.new.self.ports) _ (subst (λ s. CountsOne (failures s.machine.ports) (failures c.prepare.new.self.ports)) c.self.view_is c.prepare.ensures.count)
     c.apply-datagram.ensures.count
+
+pub returns-clause-held : goal.returns-clause-held
+returns-clause-held g c held =
+    let apart = apart_in _ _ c.self.inside.machine.table c.self.invariant.snapshot in
+    c.apply-datagram.ensures.held (c.prepare.ensures.apart apart)
+    (c.in-Ok.ensures.held apart (subst (λ v. HoldsPorts g.G.RelayAddressGenerator.holds v.machine None) (sym c.self.view_is) held))
 
 pub returns-clause-arrivals : goal.returns-clause-arrivals
 returns-clause-arrivals g c = ap (λ s. s.arrivals + 1) c.self.view_is

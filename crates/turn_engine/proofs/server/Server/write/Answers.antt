@@ -1,4 +1,4 @@
-use Rattle.std.proofs.Common.{rules, ◌↔◌, arith, length, take, drop, sym, ap, ◌∙◌, subst, refl}
+use Rattle.std.proofs.Common.{rules, arith, length, take, drop, sym, ap, ◌∙◌, subst, refl}
 use Rattle.turn_disk.specs.Disk.{EachImageSince}
 use Rattle.turn_record.specs.Records.{IsSnapshot}
 use Rattle.turn_record.specs.declared.version.Version.{Version}
@@ -86,7 +86,7 @@ invariant_of-self g c =
     }
 
 pub returns-clause-honest : goal.returns-clause-honest
-returns-clause-honest g c = subst (λ s. g.D.Disk.is_honest c.append.new.self.disk ↔ g.D.Disk.is_honest s.store.disk) c.self.view_is c.append.ensures.honest
+returns-clause-honest g c = subst (λ s. g.D.Disk.is_honest c.append.new.self.disk → g.D.Disk.is_honest s.store.disk) c.self.view_is c.append.ensures.honest
 
 pub returns-clause-form : goal.returns-clause-form
 returns-clause-form g c =
@@ -120,32 +120,29 @@ pub returns-clause-stages : goal.returns-clause-stages
 returns-clause-stages g c = λ honest h k old.
     let trace = g.D.Disk.trace in
     let rests = subst (λ s. Rests (trace s.store.disk).now s h k) (sym c.self.view_is) old in
-    let here = subst (λ s. g.D.Disk.is_honest s.store.disk) (sym c.self.view_is) honest in
     let stages = rw (c.table.ensures.value, c.payload.ensures.value) at c.append.ensures.stages in
     subst (λ s. InStages (trace s.store.disk) (trace c.append.new.self.disk) (StandsBy (form_of s.store) (take k h) (now_of s)) (EitherBy (form_of s.store) (take k h) (drop k h) (now_of s))) c.self.view_is
-    (stages_written _ _ _ h k rests (stages here rests.at (take k h) (drop k h) rests.stored (may_follow _ _ h k rests c.self.invariant.store_is c.self.invariant.snapshot.moment)
+    (stages_written _ _ _ h k rests (stages honest rests.at (take k h) (drop k h) rests.stored (may_follow _ _ h k rests c.self.invariant.store_is c.self.invariant.snapshot.moment)
     (has_size _ _ h k rests (some_acts c.acts.result _ c.acts.ensures.value c.if-acts-eq0.false) (few_acts _ _ _ _ c.self.invariant.few c.self.invariant.capped (ap (λ (b : Bounds). b.acts) c.self.invariant.store_is))) rests.staged (contents_are _ _ h k rests)))
 
 pub returns-clause-stop : goal.returns-clause-stop
 returns-clause-stop g c = λ honest h k old.
     let trace = g.D.Disk.trace in
     let rests = subst (λ s. Rests (trace s.store.disk).now s h k) (sym c.self.view_is) old in
-    let here = subst (λ s. g.D.Disk.is_honest s.store.disk) (sym c.self.view_is) honest in
     let stages = rw (c.table.ensures.value, c.payload.ensures.value) at c.append.ensures.stages in
     subst (λ s. EachImageSince (trace s.store.disk) (trace c.append.new.self.disk) (AtLeast (form_of s.store) h k (now_of s))) c.self.view_is
-    (written _ _ _ h k rests (stages here rests.at (take k h) (drop k h) rests.stored (may_follow _ _ h k rests c.self.invariant.store_is c.self.invariant.snapshot.moment)
+    (written _ _ _ h k rests (stages honest rests.at (take k h) (drop k h) rests.stored (may_follow _ _ h k rests c.self.invariant.store_is c.self.invariant.snapshot.moment)
     (has_size _ _ h k rests (some_acts c.acts.result _ c.acts.ensures.value c.if-acts-eq0.false) (few_acts _ _ _ _ c.self.invariant.few c.self.invariant.capped (ap (λ (b : Bounds). b.acts) c.self.invariant.store_is))) rests.staged (contents_are _ _ h k rests)))
 
 pub returns-clause-done : goal.returns-clause-done
 returns-clause-done g c = λ honest h k old.
     let trace = g.D.Disk.trace in
     let rests = subst (λ s. Rests (trace s.store.disk).now s h k) (sym c.self.view_is) old in
-    let here = subst (λ s. g.D.Disk.is_honest s.store.disk) (sym c.self.view_is) honest in
     elim c.match-append.branch [
       | in-Ok w ↦
           let done = rw (c.table.ensures.value, c.payload.ensures.value) at w.in-Ok.ensures.done in
           rw w.result-is (subst (λ s. Rests (trace c.append.new.self.disk).now (emptied s c.append.new.self) h (length h)) c.self.view_is
-          (all_stored _ _ _ c.append.new.self h k rests (done here rests.at (take k h) (drop k h) rests.stored
+          (all_stored _ _ _ c.append.new.self h k rests (done honest rests.at (take k h) (drop k h) rests.stored
           (may_follow _ _ h k rests c.self.invariant.store_is c.self.invariant.snapshot.moment) (has_size _ _ h k rests (some_acts c.acts.result _ c.acts.ensures.value c.if-acts-eq0.false) (few_acts _ _ _ _ c.self.invariant.few c.self.invariant.capped (ap (λ (b : Bounds). b.acts) c.self.invariant.store_is))) rests.staged (contents_are _ _ h k rests))))
       | in-Err w ↦ rw w.result-is tt
     ]

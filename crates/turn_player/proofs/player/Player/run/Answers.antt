@@ -11,4 +11,4 @@ returns-clause-plays g c = λ s same.
     (c.in_ok-held.ensures s (same ∙ sym (ap (λ p. p.config) c.self.view_is)))
 
 pub returns-clause-lives : goal.returns-clause-lives
-returns-clause-lives g c = λ form s p same bounds. goes_on _ _ _ s form p _ _ _ _ (λ old new. refl) bounds (returns-clause-plays g c s same)
+returns-clause-lives g c = λ form s p same bounds. goes_on _ _ _ s form p _ _ _ _ (λ old new. refl) (λ d. tt) bounds (returns-clause-plays g c s same)

@@ -5,7 +5,7 @@ use Rattle.turn_history.specs.Laws.{PortsApart, ReservedApart}
 use Rattle.turn_table.specs.State.{State}
 use Rattle.turn_table.specs.Table.{Agrees}
 use Rattle.turn_step.specs.Outcome.{Change, Outcome, change_of, event_at}
-use Rattle.turn_step.proofs.Holding.{apart_after, applied_holds, change_by, held_change, next_change, reserved_after}
+use Rattle.turn_step.proofs.Holding.{applied_holds, change_by, held_change, next_change}
 use Rattle.turn_step.proofs.Machines.{after_change}
 use Rattle.turn_step.proofs.machine.Machine.apply.Goals as goal
 
@@ -26,15 +26,15 @@ returns-in-Some-clause-after g c h after =
     after
 
 pub returns-in-Some-clause-held : goal.returns-in-Some-clause-held
-returns-in-Some-clause-held g c h after held =
+returns-in-Some-clause-held g c alone held =
     let holds = g.G.RelayAddressGenerator.holds in
     let s = c.self.inside.table in
     let p = c.into_inner-act.result in
     let change : Change = change_of p.0 (act_of p.1) in
     let is = change_by c.args.step _ c.into_parts-act.result.0 c.in-Some.change p p.1 c.into_parts-act.ensures c.in-Some.is c.into_inner-act.ensures refl in
     let next = next_change c.args.self.now _ c.args.step.change change c.self.view_is is c.requires.next in
-    let apart : PortsApart s.contents = subst (λ m. PortsApart m.table.contents) (sym c.self.view_is) (apart_after c.args.self.now h after) in
-    let reserved : ReservedApart s.contents = subst (λ m. ReservedApart m.table.contents) (sym c.self.view_is) (reserved_after c.args.self.now h after) in
+    let apart : PortsApart s.contents = subst (λ m. PortsApart m.table.contents) (sym c.self.view_is) alone.ports in
+    let reserved : ReservedApart s.contents = subst (λ m. ReservedApart m.table.contents) (sym c.self.view_is) alone.reserved in
     subst (λ (x : State). holds c.release.new.ports (is_taken x.contents)) (sym c.apply-freed.ensures.state)
     (applied_holds s.bounds c.moment-moment.result p.0 s.contents apart reserved (holds c.self.inside.ports) (holds c.release.new.ports) (act_of p.1) c.apply-freed.result
     next.fits c.apply-freed.ensures.freed c.release.ensures.held (held_change c.args.self.now _ c.args.step.change change c.self.view_is is holds held))

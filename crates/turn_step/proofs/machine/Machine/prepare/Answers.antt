@@ -7,7 +7,7 @@ use Rattle.turn_step.specs.Holding.{ports_with}
 use Rattle.turn_step.specs.State.{IsPurged, setting_of}
 use Rattle.turn_step.specs.Views.{arrival_of}
 use Rattle.turn_step.proofs.Machines.{after_later, agrees_later, answers_along, follows_outcome, purged_same, setting_is}
-use Rattle.turn_step.proofs.Holding.{held_later, nothing_taken, on_err}
+use Rattle.turn_step.proofs.Holding.{apart_later, held_later, nothing_taken, on_err}
 use Rattle.turn_step.proofs.machine.Machine.prepare.Goals as goal
 use Rattle.turn_step.proofs.machine.Machine.prepare.Given.{Over}
 
@@ -56,20 +56,28 @@ returns-in-Peer-clause-answers g c h after =
 
 -- ---- The ports that are held
 
+pub returns-in-Client-clause-apart : goal.returns-in-Client-clause-apart
+returns-in-Client-clause-apart g c apart = apart_later c.args.moment c.args.self.now.table c.client_step.new.self.table c.requires (later g c) apart
+
+pub returns-in-Peer-clause-apart : goal.returns-in-Peer-clause-apart
+returns-in-Peer-clause-apart g c apart =
+    apart_later c.args.moment c.args.self.now.table c.advance.new.table c.requires
+    (subst (λ s. IsPurged c.args.moment s c.advance.new.table) (ap (λ m. m.table) c.self.view_is) c.advance.ensures.table) apart
+
 pub returns-in-Client-clause-held : goal.returns-in-Client-clause-held
-returns-in-Client-clause-held g c h after held =
-    c.client_step.ensures.held (held_later g.G.RelayAddressGenerator.holds c.args.self.now _ c.advance.new.ports c.advance.new.table.contents h c.self.view_is after c.advance.ensures.held held)
+returns-in-Client-clause-held g c apart held =
+    c.client_step.ensures.held (held_later g.G.RelayAddressGenerator.holds c.args.self.now _ c.advance.new.ports c.advance.new.table.contents c.self.view_is apart c.advance.ensures.held held)
 
 pub returns-in-Client-clause-held_err : goal.returns-in-Client-clause-held_err
-returns-in-Client-clause-held_err g c h after held =
-    c.client_step.ensures.held_err (held_later g.G.RelayAddressGenerator.holds c.args.self.now _ c.advance.new.ports c.advance.new.table.contents h c.self.view_is after c.advance.ensures.held held)
+returns-in-Client-clause-held_err g c apart held =
+    c.client_step.ensures.held_err (held_later g.G.RelayAddressGenerator.holds c.args.self.now _ c.advance.new.ports c.advance.new.table.contents c.self.view_is apart c.advance.ensures.held held)
 
 pub returns-in-Peer-clause-held : goal.returns-in-Peer-clause-held
-returns-in-Peer-clause-held g c h after held =
+returns-in-Peer-clause-held g c apart held =
     let holds = g.G.RelayAddressGenerator.holds in
     nothing_taken (λ o. holds c.advance.new.ports (ports_with c.advance.new.table.contents o)) c.peer_step.result c.peer_step.ensures.nothing_done
-    (held_later holds c.args.self.now _ c.advance.new.ports c.advance.new.table.contents h c.self.view_is after c.advance.ensures.held held)
+    (held_later holds c.args.self.now _ c.advance.new.ports c.advance.new.table.contents c.self.view_is apart c.advance.ensures.held held)
 
 pub returns-in-Peer-clause-held_err : goal.returns-in-Peer-clause-held_err
-returns-in-Peer-clause-held_err g c h after held =
-    on_err c.peer_step.result (held_later g.G.RelayAddressGenerator.holds c.args.self.now _ c.advance.new.ports c.advance.new.table.contents h c.self.view_is after c.advance.ensures.held held)
+returns-in-Peer-clause-held_err g c apart held =
+    on_err c.peer_step.result (held_later g.G.RelayAddressGenerator.holds c.args.self.now _ c.advance.new.ports c.advance.new.table.contents c.self.view_is apart c.advance.ensures.held held)
