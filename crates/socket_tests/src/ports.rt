@@ -110,6 +110,54 @@ fn a_search_ends_where_the_system_has_no_socket(rt: HostRuntime) -> Result<(), F
     Ok(())
 }
 
+/// Four ports from 63,095 to 63,099 that are in use, and the other one.
+const ONE_LEFT: [([u16; 4], u16); 5] = [
+    ([63_096, 63_097, 63_098, 63_099], 63_095),
+    ([63_095, 63_097, 63_098, 63_099], 63_096),
+    ([63_095, 63_096, 63_098, 63_099], 63_097),
+    ([63_095, 63_096, 63_097, 63_099], 63_098),
+    ([63_095, 63_096, 63_097, 63_098], 63_099),
+];
+
+/// Whether a port is picked forty times, each time from another draw, and never with a failure.
+fn is_picked_each_time<R: Net, A: Allocator + Copy>(
+    ports: &mut SocketPorts<'_, R, A>,
+    left: u16,
+) -> bool {
+    for _ in 0..40 {
+        if ports.pick(&Empty, false) != Ok(Some(left)) {
+            return false;
+        }
+        ports.release(left);
+    }
+    ports.failures() == 0
+}
+
+fn finds_the_one_left(rt: &HostRuntime, refused: &[u16], left: u16) -> Result<bool, Fail> {
+    let calls = Cell::new(0);
+    let net = RefusingNet {
+        net: rt,
+        code: 98,
+        refused,
+        calls: &calls,
+    };
+    let poll = Poll::new(rt)?;
+    let range = PortRange::new(63_095, 63_099).ok_or("a range")?;
+    let registry = poll.registry().try_clone()?;
+    let mut ports = SocketPorts::new(rt.alloc(), &net, registry, HOME, range, SEED);
+    Ok(is_picked_each_time(&mut ports, left))
+}
+
+#[test]
+fn the_only_port_that_can_be_bound_is_found(rt: HostRuntime) -> Result<(), Fail> {
+    for (refused, left) in &ONE_LEFT {
+        if !finds_the_one_left(&rt, refused, *left)? {
+            return Err(Fail::new(*left));
+        }
+    }
+    Ok(())
+}
+
 /// The ports that are picked from 63,031 to 63,039, one after the other, by ChaCha20 of another program: its first words modulo 9 are
 /// 1, 8, 2, 8, 2, 6, 1, 2, and a search goes on from there to a port that has no socket.
 const PICKED: [u16; 8] = [

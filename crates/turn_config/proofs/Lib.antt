@@ -1,4 +1,5 @@
 pub mod Addresses
+pub mod Keys
 pub mod Numbers
 pub mod Passwords
 pub mod Splits

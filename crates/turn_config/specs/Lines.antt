@@ -7,6 +7,7 @@ use denote.Bor.{Bor}
 use Rattle.hex.specs.Hex.{decode_sized}
 use Rattle.turn_cred.specs.Shared.{password_of}
 use Rattle.turn_cred.specs.Users.{KeyMap, key_map}
+use Rattle.turn_mac.specs.Hmac.{auth_key}
 use Rattle.turn_types.specs.Config.{is_between, is_ordered}
 use Rattle.turn_types.specs.Limits.{AreInRange, max_bounds}
 use Rattle.turn_types.specs.declared.address.Endpoint.{Endpoint}
@@ -150,6 +151,11 @@ pub record CanBeUsed (realm : Option (List ℕ)) (quota : Option ℕ) (denied : 
 abbrev pub Lacks : Lines → Type 0
 Lacks lines = (lines.realm ≡ None) ⊎ (lines.secret ≡ None) ⊎ (lines.listen ≡ None) ⊎ (lines.relay ≡ None)
 
+-- the users' keys: that of each name is made of the name, the realm and the password, and a name without a password has none
+abbrev pub AreUsers : KeyMap → List ℕ → KeyMap → Type 0
+AreUsers passwords realm users =
+    (name : List ℕ) → map.get users name ≡ option_map (λ password. auth_key name realm password) (map.get passwords name)
+
 -- What the lines say together. Without a line, the quota is 10, and the limits are the max ones.
 pub record IsConfigured {A : Type 0} (lines : Lines) (c : Configured A) : Type 0 where
   pub realm : lines.realm ≡ Some c.realm.now
@@ -162,6 +168,7 @@ pub record IsConfigured {A : Type 0} (lines : Lines) (c : Configured A) : Type 0
   pub limits : c.config.limits ≡ unwrap_or lines.limits max_bounds
   pub passwords : passwords_of c.passwords.entries ≡ lines.passwords
   pub auth_secret : c.auth_secret ≡ lines.auth_secret
+  pub users : AreUsers lines.passwords c.realm.now c.credentials.users
   pub shared : c.credentials.secret ≡ lines.auth_secret
 
 -- a name has no line of its own, and is within the limit

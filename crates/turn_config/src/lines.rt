@@ -1,9 +1,11 @@
 //! The lines of a configuration, one setting each.
 
-ghost use Rattle.std.specs.Prelude.{◌≡◌, ◌≢◌, ◌&&◌, Ok, IfOk, MatchOption, OnErr, true, false, if◌then◌else◌, is_none, is_some};
+ghost use Rattle.std.specs.Prelude.{◌≡◌, ◌≢◌, ◌&&◌, Ok, IfOk, MatchOption, OnErr, OnOk, true, false, if◌then◌else◌, is_none, is_some};
+ghost use Rattle.std.specs.FinMap as map;
 ghost use Rattle.std.specs.Option.{unwrap_or};
+ghost use Rattle.turn_mac.specs.Hmac.{auth_key};
 ghost use Rattle.turn_types.specs.Limits.{max_bounds};
-ghost use Rattle.turn_config.specs.Lines.{IsConfigured, IsRealm, Lacks, Lines, Says, Sets, is_shared, no_lines, shared_password, skipped};
+ghost use Rattle.turn_config.specs.Lines.{AreUsers, IsConfigured, IsRealm, Lacks, Lines, Says, Sets, is_shared, no_lines, shared_password, skipped};
 ghost use Rattle.turn_config.specs.declared.settings.Setting.TheVariants.{Deny, User};
 
 use crate::settings::{
@@ -124,6 +126,18 @@ fn put<T: Drop>(place: &mut Option<T>, value: Option<T>) -> bool
     true
 }
 
+/// Gives a user the key of a password.
+fn add_key<A: Allocator + Copy>(
+    users: &mut Users<A>,
+    name: &[u8],
+    realm: &[u8],
+    password: &[u8],
+) -> Result<(), AllocError>
+    ensures { OnOk result (users.new ≡ map.insert users.old name.now (auth_key name.now realm.now password.now)) }
+{
+    users.add(name, generate_auth_key(name, realm, password))
+}
+
 impl<'a, A: Allocator + Copy> ConfigLines<'a, A> {
     /// No lines.
     pub fn new(alloc: A) -> ConfigLines<'a, A>
@@ -211,10 +225,12 @@ impl<'a, A: Allocator + Copy> ConfigLines<'a, A> {
         Ok(true)
     }
 
-    fn users(&self, realm: &[u8]) -> Result<Users<A>, AllocError> {
+    fn users(&self, realm: &[u8]) -> Result<Users<A>, AllocError>
+        ensures { IfOk result (AreUsers self.now.passwords realm.now) }
+    {
         let mut users = Users::new(self.alloc);
         for (name, password) in &self.passwords {
-            users.add(name, generate_auth_key(name, realm, password))?;
+            add_key(&mut users, name, realm, password)?;
         }
         Ok(users)
     }
@@ -229,7 +245,8 @@ impl<'a, A: Allocator + Copy> ConfigLines<'a, A> {
     }
 
     fn credentials(&self, realm: &[u8]) -> Result<Credentials<A>, AllocError>
-        ensures { IfOk result (λ c. c.secret ≡ self.now.auth_secret) }
+        ensures users { IfOk result (λ c. AreUsers self.now.passwords realm.now c.users) }
+        ensures secret { IfOk result (λ c. c.secret ≡ self.now.auth_secret) }
     {
         Ok(Credentials::new(self.users(realm)?, self.shared()?))
     }

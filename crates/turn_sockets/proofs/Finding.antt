@@ -1,4 +1,5 @@
 -- What is wanted in a range and in its parts; an entry that is inserted and removed.
+use Rattle.std.specs.Option.{IsSome}
 use Rattle.std.proofs.Common.{◌≡◌, ◌≤◌, ◌<◌, ◌+◌, ◌⊎◌, ℕ, Bool, true, refl, cond, List, [], ◌∷◌, Some, None, ap, subst, ◌∙◌, arith, inl, inr}
 use Rattle.std.specs.declared.cmp.Ordering.{Ordering}
 use Rattle.std.specs.declared.cmp.Ordering.TheVariants.{Less, Equal, Greater}
@@ -12,7 +13,7 @@ use Rattle.turn_sockets.specs.declared.ports.Search.{Search}
 use Rattle.turn_sockets.specs.declared.ports.Search.TheVariants.{Found, Nothing, Failed, Exhausted}
 use Rattle.turn_sockets.specs.declared.ports.Wanted.{Wanted}
 use Rattle.turn_sockets.specs.declared.ports.Wanted.TheVariants.{Port, Pair}
-use Rattle.turn_sockets.specs.Ports.{Inserts, IsWanted, NoneIsWanted, Searches}
+use Rattle.turn_sockets.specs.Ports.{AreLeftOut, Binds, Inserts, IsLeftOut, IsWanted, LeavesOutEach, NoneIsWanted, Searches, found_port}
 
 widened_port : (range wider : ℕ × ℕ) (taken : ℕ → Bool) (even : Bool) (port : ℕ) → wider.0 ≤ range.0 → range.1 ≤ wider.1
     → IsFree range taken even port → IsFree wider taken even port
@@ -77,6 +78,46 @@ searched range from taken wanted Nothing lower low above below none =
     none_in_both range from taken wanted above (subst (Searches (range.0, from) taken wanted) none below)
 searched range from taken wanted Failed lower low above below none = tt
 searched range from taken wanted Exhausted lower low above below none = tt
+
+-- the sockets of two maps with the same entries are left out for the same reasons
+same_left : {X : Type 0} (refuses : ℕ → Type 0) (old new : BTreeMap ℕ X) (wanted : Wanted) (port : ℕ) → IsUnchanged old new
+    → IsLeftOut refuses new wanted port → IsLeftOut refuses old wanted port
+same_left {X} refuses old new (Port even) port same left =
+    subst (λ (es : List (ℕ × X)). IsSome (lookup (is_at (nat_cmp port)) es) ⊎ refuses port) same left
+same_left {X} refuses old new Pair port same left =
+    subst (λ (es : List (ℕ × X)). (IsSome (lookup (is_at (nat_cmp port)) es) ⊎ refuses port) ⊎ (IsSome (lookup (is_at (nat_cmp (port + 1))) es) ⊎ refuses (port + 1))) same left
+
+left_in_both : {X : Type 0} (refuses : ℕ → Type 0) (sockets : BTreeMap ℕ X) (range : ℕ × ℕ) (from : ℕ) (taken : ℕ → Bool) (wanted : Wanted)
+    → AreLeftOut refuses sockets (from, range.1) taken wanted → AreLeftOut refuses sockets (range.0, from) taken wanted
+    → AreLeftOut refuses sockets range taken wanted
+left_in_both refuses sockets range from taken wanted upper lower port free =
+    elim (parted range from taken wanted port free) [ inl above ↦ upper port above | inr below ↦ lower port below ]
+
+-- what was left out of both parts of a range, where nothing is wanted in the lower one
+pub left_in_upper : {X : Type 0} (refuses : ℕ → Type 0) (exhausted : Type 0) (sockets : BTreeMap ℕ X) (range : ℕ × ℕ) (from : ℕ) (taken : ℕ → Bool) (wanted : Wanted) (upper lower : Search)
+    → LeavesOutEach refuses exhausted sockets (from, range.1) taken wanted upper → Searches (range.0, from) taken wanted lower → lower ≡ Nothing
+    → LeavesOutEach refuses exhausted sockets range taken wanted upper
+left_in_upper refuses exhausted sockets range from taken wanted (Found port) lower left below none = tt
+left_in_upper refuses exhausted sockets range from taken wanted Nothing lower left below none = tt
+left_in_upper refuses exhausted sockets range from taken wanted Failed lower left below none =
+    left_in_both refuses sockets range from taken wanted left (λ port free. absurd (subst (Searches (range.0, from) taken wanted) none below port free))
+left_in_upper refuses exhausted sockets range from taken wanted Exhausted lower left below none = left
+
+-- the same, where nothing was found in the upper one
+pub left_in_lower : {X : Type 0} (refuses : ℕ → Type 0) (exhausted : Type 0) (old new : BTreeMap ℕ X) (range : ℕ × ℕ) (from : ℕ) (taken : ℕ → Bool) (wanted : Wanted) (upper lower : Search)
+    → ((port : ℕ) → upper ≡ Found port → ⊥) → (upper ≡ Exhausted → ⊥) → Binds wanted old new (found_port upper)
+    → Searches (from, range.1) taken wanted upper → LeavesOutEach refuses exhausted old (from, range.1) taken wanted upper
+    → LeavesOutEach refuses exhausted new (range.0, from) taken wanted lower
+    → LeavesOutEach refuses exhausted old range taken wanted lower
+left_in_lower refuses exhausted old new range from taken wanted upper (Found port) other more same above left below = tt
+left_in_lower refuses exhausted old new range from taken wanted upper Nothing other more same above left below = tt
+left_in_lower refuses exhausted old new range from taken wanted (Found port) Failed other more same above left below = absurd (other port refl)
+left_in_lower refuses exhausted old new range from taken wanted Nothing Failed other more same above left below =
+    left_in_both refuses old range from taken wanted (λ port free. absurd (above port free)) (λ port free. same_left refuses old new wanted port same (below port free))
+left_in_lower refuses exhausted old new range from taken wanted Failed Failed other more same above left below =
+    left_in_both refuses old range from taken wanted left (λ port free. same_left refuses old new wanted port same (below port free))
+left_in_lower refuses exhausted old new range from taken wanted Exhausted Failed other more same above left below = absurd (more refl)
+left_in_lower refuses exhausted old new range from taken wanted upper Exhausted other more same above left below = below
 
 at_itself : (k : ℕ) → is_eq (nat_cmp k k) ≡ true
 at_itself k = grind (arith, nat_tests)

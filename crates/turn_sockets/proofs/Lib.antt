@@ -1,4 +1,5 @@
 pub mod Addresses
+pub mod Among
 pub mod Finding
 pub mod Listened
 pub mod Served

@@ -1,4 +1,5 @@
 pub mod Addresses
+pub mod Moments
 pub mod Order
 pub mod Own
 pub mod Pace

@@ -1,5 +1,5 @@
 -- Relay ports with a socket each. A range is its first and its last port.
-use Rattle.std.specs.Prelude.{ℕ, ◌≡◌, ◌+◌, ◌-◌, ◌%◌, ⊤, Bool, false, IsSome, is_some, Option, Some, None}
+use Rattle.std.specs.Prelude.{ℕ, ◌≡◌, ◌+◌, ◌-◌, ◌%◌, ◌⊎◌, ⊤, Bool, false, IsSome, is_some, Option, Some, None}
 use Rattle.std.specs.Ordering.{nat_cmp}
 use Rattle.std.specs.BTreeMap.{BTreeMap, get, insert_entry, IsUnchanged}
 use Rattle.rand_chacha.specs.ChaCha.{ChaCha, next_word}
@@ -53,6 +53,19 @@ Tries range taken wanted port (Some Done) = IsWanted range taken wanted port
 Tries range taken wanted port (Some Unavailable) = ⊤
 Tries range taken wanted port (Some bound.Exhausted) = ⊤
 
+-- why what is wanted at a port was left out: the port, or of a pair one of the two, has a socket or was refused
+abbrev pub IsLeftOut : {X : Type 0} → (ℕ → Type 0) → BTreeMap ℕ X → Wanted → ℕ → Type 0
+IsLeftOut refuses sockets (Port even) port = IsSome (get nat_cmp sockets port) ⊎ refuses port
+IsLeftOut refuses sockets Pair port =
+    (IsSome (get nat_cmp sockets port) ⊎ refuses port) ⊎ (IsSome (get nat_cmp sockets (port + 1)) ⊎ refuses (port + 1))
+
+-- why nothing was bound at a port where something is wanted
+abbrev pub LeavesOut : {X : Type 0} → (ℕ → Type 0) → Type 0 → BTreeMap ℕ X → Wanted → ℕ → Option Bound → Type 0
+LeavesOut refuses exhausted sockets wanted port None = ⊤
+LeavesOut refuses exhausted sockets wanted port (Some Done) = ⊤
+LeavesOut refuses exhausted sockets wanted port (Some Unavailable) = IsLeftOut refuses sockets wanted port
+LeavesOut refuses exhausted sockets wanted port (Some bound.Exhausted) = exhausted
+
 -- the port, if it was bound
 abbrev pub bound_port : ℕ → Option Bound → Option ℕ
 bound_port port None = None
@@ -66,6 +79,17 @@ Searches range taken wanted (Found port) = IsWanted range taken wanted port
 Searches range taken wanted Nothing = NoneIsWanted range taken wanted
 Searches range taken wanted Failed = ⊤
 Searches range taken wanted Exhausted = ⊤
+
+-- wherever what is wanted is free in a range it was left out
+abbrev pub AreLeftOut : {X : Type 0} → (ℕ → Type 0) → BTreeMap ℕ X → ℕ × ℕ → (ℕ → Bool) → Wanted → Type 0
+AreLeftOut refuses sockets range taken wanted = (port : ℕ) → IsWanted range taken wanted port → IsLeftOut refuses sockets wanted port
+
+-- why a search of a range found nothing: a search that failed came to each port of it
+abbrev pub LeavesOutEach : {X : Type 0} → (ℕ → Type 0) → Type 0 → BTreeMap ℕ X → ℕ × ℕ → (ℕ → Bool) → Wanted → Search → Type 0
+LeavesOutEach refuses exhausted sockets range taken wanted (Found port) = ⊤
+LeavesOutEach refuses exhausted sockets range taken wanted Nothing = ⊤
+LeavesOutEach refuses exhausted sockets range taken wanted Failed = AreLeftOut refuses sockets range taken wanted
+LeavesOutEach refuses exhausted sockets range taken wanted Exhausted = exhausted
 
 -- the port that a search found, of a pair the first
 abbrev pub found_port : Search → Option ℕ

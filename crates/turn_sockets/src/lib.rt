@@ -12,11 +12,12 @@ mod pace;
 mod ports;
 mod ready;
 mod received;
+mod search;
 
 pub use address::{address_of, endpoint_of};
 pub use buffer::{RECEIVE_BUFFER, receive_buffer, set_receive_buffer};
 pub use listening::{ListeningAddresses, MAX_LISTENING};
-pub use moment::{moment_at, moment_now};
+pub use moment::{Time, moment_at, moment_now};
 pub use order::{LISTENING, Order, clients_get_a_fifth};
 pub use own::OwnAddresses;
 pub use pace::Pace;

@@ -1,6 +1,7 @@
 //! The moment of a turn.
 
-ghost use Rattle.std.specs.Prelude.{◌≡◌, ◌<◌, ◌≤◌, ◌-◌, ◌^◌, IfSome, max};
+ghost use Rattle.std.specs.Prelude.{◌≡◌, ◌<◌, ◌≤◌, ◌-◌, ◌^◌, ℕ, IfSome, max};
+ghost use Rattle.turn_sockets.specs.Moments.{IsMoment};
 
 use std::rt::Clock;
 use std::time::SystemTime;
@@ -19,14 +20,33 @@ pub fn moment_at(clock: Moment, second: u64) -> Moment
     }
 }
 
-/// The moment of a turn by the system's time, of which one before 1970 counts as 1970. `None` if the system has no time.
-pub fn moment_now<C: Clock>(system: &C, clock: Moment) -> Option<Moment>
-    ensures { IfSome result (λ moment. clock ≤ moment) }
+/// What tells the moments of turns.
+pub trait Time: Clock {
+    // It has told this second. Of a clock that promises nothing it holds of each.
+    ghost told: { Self → ℕ → Type 0 };
+
+    /// The second, counted from 1970 on, of which one before counts as 0. `None` if there is no time.
+    fn second(&self) -> Option<u64>
+        ensures { IfSome result (λ second. told self.now second) };
+}
+
+impl<C: Clock> Time for &C {
+    ghost told = { λ _ _. Unit {0} };
+
+    fn second(&self) -> Option<u64> {
+        let now = SystemTime::now(self).ok()?;
+        match now.duration_since(SystemTime::UNIX_EPOCH) {
+            Ok(since) => Some(since.as_secs()),
+            Err(_) => Some(0),
+        }
+    }
+}
+
+/// The moment of a turn, by the server's clock. `None` if the system has no time.
+pub fn moment_now<T: Time>(system: &T, clock: Moment) -> Option<Moment>
+    ensures monotone { IfSome result (λ moment. clock ≤ moment) }
+    ensures told { IfSome result (λ moment. IsMoment (T.told system.now) clock moment) }
 {
-    let now = SystemTime::now(system).ok()?;
-    let second = match now.duration_since(SystemTime::UNIX_EPOCH) {
-        Ok(since) => since.as_secs(),
-        Err(_) => 0,
-    };
+    let second = system.second()?;
     Some(moment_at(clock, second))
 }

@@ -1,16 +1,17 @@
 //! Relay ports, each with a socket.
 
-ghost use Rattle.std.specs.Prelude.{◌≡◌, ◌≢◌, ◌<◌, ◌≤◌, ◌+◌, ◌^◌, ◌⊎◌, ℕ, Bool, true, [], Ok, Some, None, IfOk, OnErr, option_map};
+ghost use Rattle.std.specs.Prelude.{◌≡◌, ◌≢◌, ◌<◌, ◌≤◌, ◌+◌, ◌^◌, ◌⊎◌, ◌↔◌, ℕ, Bool, true, [], Ok, Some, None, IfOk, IsTrue, OnErr, is_some, option_map};
 ghost use Rattle.std.specs.BTreeMap.{IsUnchanged, Updates, get};
 ghost use Rattle.std.specs.Ordering.{nat_cmp};
 ghost use Rattle.rand_chacha.specs.ChaCha.{next_word, of_seed};
 ghost use Rattle.turn_ports.specs.Ports.{Failed, MayPick, MayPickPair, has_failed, with_pair, with_port, without_port};
-ghost use Rattle.turn_sockets.specs.Ports.{AreBound, Binds, HaveSockets, Inserts, IsBound, MayFind, Searches, Tries, bound_port, drawn_place, found_port};
+ghost use Rattle.turn_sockets.specs.Ports.{Binds, HaveSockets, Inserts, IsBound, MayFind, drawn_place};
 ghost use Rattle.turn_sockets.specs.declared.ports.Bound.TheVariants as binds;
 ghost use Rattle.turn_sockets.specs.declared.ports.Wanted.TheVariants as wants;
 
 use crate::address::address_of;
 use crate::buffer::{RECEIVE_BUFFER, set_receive_buffer};
+use crate::search::PortBinder;
 use mio::net::UdpSocket;
 use mio::{Interest, Registry, Token};
 use rand_chacha::ChaCha20Rng;
@@ -112,8 +113,16 @@ impl<'a, R: Net> Binder<'a, R> {
         let _ = set_receive_buffer(&socket, RECEIVE_BUFFER);
         Ok(socket)
     }
+}
 
-    // Binds a port that has no socket yet. Port 0 isn't bound, since the system would take another one.
+impl<'a, R: Net> PortBinder for Binder<'a, R> {
+    ghost use Rattle.std.specs.Prelude.{⊤};
+
+    ghost refuses = { λ _ _. ⊤ };
+
+    ghost is_exhausted = { λ _. ⊤ };
+
+    /// Port 0 isn't bound, since the system would take another one.
     fn bind<A: Allocator + Copy>(
         &self,
         sockets: &mut BTreeMap<u16, UdpSocket, A>,
@@ -135,164 +144,6 @@ impl<'a, R: Net> Binder<'a, R> {
             }
             Err(error) if is_of_port(&error) => Ok(Bound::Unavailable),
             Err(_) => Ok(Bound::Exhausted),
-        }
-    }
-
-    // Binds a port and the next one, which have no socket yet, or neither of them.
-    fn bind_both<A: Allocator + Copy>(
-        &self,
-        sockets: &mut BTreeMap<u16, UdpSocket, A>,
-        port: u16,
-    ) -> Result<Bound, AllocError>
-        requires next { port + 1 < 2 ^ 16 }
-        requires unbound { (get nat_cmp sockets.old port ≡ None) × (get nat_cmp sockets.old (port + 1) ≡ None) }
-        ensures bound { result ≡ Ok binds.Done → AreBound sockets.old sockets.new port }
-        ensures refused { result ≢ Ok binds.Done → IsUnchanged sockets.old sockets.new }
-        ensures never { port ≡ 0 → result ≢ Ok binds.Done }
-    {
-        let first = self.bind(sockets, port)?;
-        if first != Bound::Done {
-            return Ok(first);
-        }
-        let second = self.bind(sockets, port + 1);
-        let is_bound = second == Ok(Bound::Done);
-        if !is_bound {
-            let _ = sockets.remove(&port);
-        }
-        second
-    }
-
-    // Binds a port if it is free, and even where `even` asks for it; `None` where it isn't.
-    fn bind_free<A: Allocator + Copy, S: PortSet>(
-        &self,
-        sockets: &mut BTreeMap<u16, UdpSocket, A>,
-        range: (u16, u16),
-        port: u16,
-        taken: &S,
-        even: bool,
-    ) -> Result<Option<Bound>, AllocError>
-        requires { (range.0 ≤ port) × (port ≤ range.1) }
-        ensures tried { IfOk result (Tries range (S.has taken.now) (wants.Port even) port) }
-        ensures bound { IfOk result (λ tried. Binds (wants.Port even) sockets.old sockets.new (bound_port port tried)) }
-        ensures never { IfOk result (λ tried. bound_port port tried ≢ Some 0) }
-        ensures err { OnErr result (IsUnchanged sockets.old sockets.new) }
-    {
-        if even && port % 2 == 1 {
-            return Ok(None);
-        }
-        // A look-up here costs less than one in the table.
-        if sockets.contains_key(&port) {
-            return Ok(Some(Bound::Unavailable));
-        }
-        if taken.has(port) {
-            return Ok(None);
-        }
-        Ok(Some(self.bind(sockets, port)?))
-    }
-
-    // Binds a port and the next one if they are a free pair; `None` where they aren't.
-    fn bind_pair<A: Allocator + Copy, S: PortSet>(
-        &self,
-        sockets: &mut BTreeMap<u16, UdpSocket, A>,
-        range: (u16, u16),
-        port: u16,
-        taken: &S,
-    ) -> Result<Option<Bound>, AllocError>
-        requires { (range.0 ≤ port) × (port ≤ range.1) }
-        ensures tried { IfOk result (Tries range (S.has taken.now) wants.Pair port) }
-        ensures bound { IfOk result (λ tried. Binds wants.Pair sockets.old sockets.new (bound_port port tried)) }
-        ensures never { IfOk result (λ tried. bound_port port tried ≢ Some 0) }
-        ensures err { OnErr result (IsUnchanged sockets.old sockets.new) }
-    {
-        if port % 2 == 1 || range.1 <= port {
-            return Ok(None);
-        }
-        if sockets.contains_key(&port) || sockets.contains_key(&(port + 1)) {
-            return Ok(Some(Bound::Unavailable));
-        }
-        if taken.has(port) || taken.has(port + 1) {
-            return Ok(None);
-        }
-        Ok(Some(self.bind_both(sockets, port)?))
-    }
-
-    // Binds what is wanted at a port of a range; `None` where it isn't free. What has a socket and no allocation isn't available.
-    fn bind_wanted<A: Allocator + Copy, S: PortSet>(
-        &self,
-        sockets: &mut BTreeMap<u16, UdpSocket, A>,
-        range: (u16, u16),
-        port: u16,
-        taken: &S,
-        wanted: Wanted,
-    ) -> Result<Option<Bound>, AllocError>
-        requires { (range.0 ≤ port) × (port ≤ range.1) }
-        ensures tried { IfOk result (Tries range (S.has taken.now) wanted port) }
-        ensures bound { IfOk result (λ tried. Binds wanted sockets.old sockets.new (bound_port port tried)) }
-        ensures never { IfOk result (λ tried. bound_port port tried ≢ Some 0) }
-        ensures err { OnErr result (IsUnchanged sockets.old sockets.new) }
-    {
-        match wanted {
-            Wanted::Port { even } => self.bind_free(sockets, range, port, taken, even),
-            Wanted::Pair => self.bind_pair(sockets, range, port, taken),
-        }
-    }
-
-    // Binds what is wanted at the first port from one to another, both included. Ends where the system has no socket for any port.
-    fn search<A: Allocator + Copy, S: PortSet>(
-        &self,
-        sockets: &mut BTreeMap<u16, UdpSocket, A>,
-        from: u16,
-        to: u16,
-        taken: &S,
-        wanted: Wanted,
-    ) -> Result<Search, AllocError>
-        ensures found { IfOk result (Searches (from, to) (S.has taken.now) wanted) }
-        ensures bound { IfOk result (λ search. Binds wanted sockets.old sockets.new (found_port search)) }
-        ensures never { IfOk result (λ search. found_port search ≢ Some 0) }
-        ensures err { OnErr result (IsUnchanged sockets.old sockets.new) }
-    {
-        let mut has_failed = false;
-        for port in from..=to {
-            match self.bind_wanted(sockets, (from, to), port, taken, wanted)? {
-                None => {}
-                Some(Bound::Done) => return Ok(Search::Found(port)),
-                Some(Bound::Unavailable) => has_failed = true,
-                Some(Bound::Exhausted) => return Ok(Search::Exhausted),
-            }
-        }
-        if has_failed {
-            Ok(Search::Failed)
-        } else {
-            Ok(Search::Nothing)
-        }
-    }
-
-    // Binds what is wanted at the first port of a range from one of its ports on, or else at the first one below. A pair that begins
-    // below that port ends at it or below, so it is in one of both parts.
-    #[tactic(auto, using(crate::proofs::Finding::searched))]
-    fn search_around<A: Allocator + Copy, S: PortSet>(
-        &self,
-        sockets: &mut BTreeMap<u16, UdpSocket, A>,
-        range: (u16, u16),
-        from: u16,
-        taken: &S,
-        wanted: Wanted,
-    ) -> Result<Search, AllocError>
-        requires { (range.0 ≤ from) × (from ≤ range.1) }
-        ensures found { IfOk result (Searches range (S.has taken.now) wanted) }
-        ensures bound { IfOk result (λ search. Binds wanted sockets.old sockets.new (found_port search)) }
-        ensures never { IfOk result (λ search. found_port search ≢ Some 0) }
-        ensures err { OnErr result (IsUnchanged sockets.old sockets.new) }
-    {
-        let (first, last) = range;
-        let upper = self.search(sockets, from, last, taken, wanted)?;
-        if let Search::Found(_) | Search::Exhausted = upper {
-            return Ok(upper);
-        }
-        let lower = self.search(sockets, first, from, taken, wanted)?;
-        match lower {
-            Search::Nothing => Ok(upper),
-            Search::Found(_) | Search::Failed | Search::Exhausted => Ok(lower),
         }
     }
 }
@@ -330,6 +181,18 @@ impl<'a, R: Net, A: Allocator + Copy> SocketPorts<'a, R, A> {
         ensures { option_map (λ s. s.now) result ≡ get nat_cmp self.now.sockets port }
     {
         self.sockets.get(&port)
+    }
+
+    /// Whether each port that has a socket is in a set.
+    pub fn are_all_in<S: PortSet>(&self, ports: &S) -> bool
+        ensures { IsTrue result ↔ ((port : ℕ) → is_some (get nat_cmp self.now.sockets port) ≡ true → S.has ports.now port ≡ true) }
+    {
+        for port in self.sockets.keys() {
+            if !ports.has(*port) {
+                return false;
+            }
+        }
+        true
     }
 
     /// Whether an address is one of this machine: a socket is bound at it, at any port, and released.

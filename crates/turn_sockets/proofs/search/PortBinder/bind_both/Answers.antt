@@ -3,7 +3,7 @@ use Rattle.std.specs.Ordering.{nat_cmp}
 use Rattle.std.specs.Map.{remove_entry}
 use Rattle.std.specs.BTreeMap.{is_at}
 use Rattle.turn_sockets.proofs.Finding.{restored}
-use Rattle.turn_sockets.proofs.ports.Binder.bind_both.Goals as goal
+use Rattle.turn_sockets.proofs.search.PortBinder.bind_both.Goals as goal
 
 pub returns-then-not-is_bound-clause-refused : goal.returns-then-not-is_bound-clause-refused
 returns-then-not-is_bound-clause-refused g c = λ refused.
