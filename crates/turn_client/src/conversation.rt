@@ -249,7 +249,7 @@ impl<'a, D: Disk + Drop, R: Net + Drop, A: Allocator + Copy> Conversation<'a, D,
 
     /// One turn of the server.
     pub fn turn<C: Clock>(&mut self, clock: &C) -> Result<(), ClientFault> {
-        self.serving.turn(clock)?;
+        self.serving.turn(&clock)?;
         Ok(())
     }
 

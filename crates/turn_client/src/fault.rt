@@ -6,7 +6,8 @@ ghost use Rattle.turn_client.specs.declared.fault.ClientFault.TheVariants as fau
 use std::alloc::AllocError;
 use thiserror::Error;
 use turn_codec::PushError;
-use turn_serving::{StartFault, TurnFault};
+use turn_disk::Disk;
+use turn_serving::{StartFault, StartRefused, TurnFault};
 
 /// Why a client doesn't go on.
 #[derive(Clone, Copy, Debug, PartialEq, Eq, Error)]
@@ -33,11 +34,11 @@ pub enum ClientFault {
     Turn(TurnFault),
 }
 
-impl From<StartFault> for ClientFault {
-    ghost from_gives = { λ fault f. f ≡ faults.Start fault };
+impl<D: Disk + Drop> From<StartRefused<D>> for ClientFault {
+    ghost from_gives = { λ refused f. f ≡ faults.Start refused.fault };
 
-    fn from(fault: StartFault) -> ClientFault {
-        ClientFault::Start(fault)
+    fn from(refused: StartRefused<D>) -> ClientFault {
+        ClientFault::Start(refused.fault)
     }
 }
 

@@ -1,3 +1,4 @@
+pub mod Held
 pub mod Named
 pub mod Requests
 pub mod Starts

@@ -1,47 +1,131 @@
 -- A store that is opened, closed and opened again.
-use Rattle.std.proofs.Common.{◌≡◌, ℕ, true, List, Ok, take, sym, ap, ◌∙◌, subst}
+use Rattle.std.proofs.Common.{◌≡◌, ℕ, Bool, true, false, List, Ok, Err, take, refl, sym, ap, ◌∙◌, subst}
 use Rattle.turn_cred.specs.declared.handler.AuthHandler as handlers
 use Rattle.turn_disk.specs.declared.disk.Disk as disks
+use Rattle.turn_disk.proofs.Since.{since_join}
 use Rattle.turn_engine.specs.Calls.{Opening}
 use Rattle.turn_engine.specs.Images.{AtLeast}
 use Rattle.turn_engine.specs.Resting.{Opens}
 use Rattle.turn_engine.specs.Runs.{IsAt, start}
 use Rattle.turn_engine.specs.State.{ServerState, now_of}
+use Rattle.turn_engine.specs.declared.fault.OpenRefused.{OpenRefused}
 use Rattle.turn_engine.proofs.Runs.{opened}
 use Rattle.turn_history.specs.History.{History}
 use Rattle.turn_ports.specs.declared.generator.RelayAddressGenerator as generators
 use Rattle.turn_step.specs.Answer.{Setting}
 use Rattle.turn_step.specs.State.{setting_of}
-use Rattle.turn_store.specs.Areas.{Form}
+use Rattle.turn_record.specs.declared.version.Version.{Version}
+use Rattle.turn_record.specs.declared.version.Version.TheVariants.{V1, V2}
+use Rattle.turn_store.specs.Areas.{AreAreas, AreaHolds, Form}
 use Rattle.turn_store.specs.Carrying.{Carries}
 use Rattle.turn_store.specs.Images.{EachImage}
+use Rattle.turn_store.specs.State.{StoreState}
+use Rattle.turn_store.proofs.Sound.{holds_once}
+use Rattle.turn_store.proofs.Superblocks.{superblock_once}
 use Rattle.turn_types.specs.Config.{Config}
-use Rattle.turn_serving.specs.Starts.{BeginsRun, IsKept, Started}
+use Rattle.turn_serving.specs.Starts.{BeginsRun, IsKept, IsOfVersion, KeepsImages, Started, is_first}
 
-pub kept : {D H G : Type 0} (disk : disks.Ghosts D) (old : D) (config : Config) (users : H) (ports : G) (server : ServerState D H G) → Opening disk old config users ports (Ok server)
-    → (disk.is_honest old → (disk.trace server.store.disk).now.bytes ≡ (disk.trace old).now.bytes) → IsKept disk old server.store.disk
-kept disk old config users ports server call content =
-    record {
-      honest = call.honest;
-      content = content;
-      images = λ honest form h k m images. (call.stop honest form h k m images).after;
-    }
+-- ---- What an opening leaves of its disk
+
+pub opened_images : {D H G : Type 0} (disk : disks.Ghosts D) {old : D} {config : Config} {users : H} {ports : G} {server : ServerState D H G} → Opening disk old config users ports (Ok server)
+    → KeepsImages disk old server.store.disk
+opened_images disk call = record { honest = call.honest; stop = call.stop }
+
+pub refused_images : {D H G : Type 0} (disk : disks.Ghosts D) {old : D} {config : Config} {users : H} {ports : G} {refused : OpenRefused D H G} → Opening disk old config users ports (Err refused)
+    → KeepsImages disk old refused.disk
+refused_images disk call = record { honest = call.honest_err; stop = call.stop_err }
+
+pub kept : {D : Type 0} (disk : disks.Ghosts D) {old new : D} → KeepsImages disk old new → (disk.is_honest new → (disk.trace new).now.bytes ≡ (disk.trace old).now.bytes) → IsKept disk old new
+kept disk images content = record { images = images; content = content }
+
+pub joined : {D : Type 0} (disk : disks.Ghosts D) {old middle new : D} → KeepsImages disk old middle → KeepsImages disk middle new → KeepsImages disk old new
+joined disk first second = record {
+  honest = λ honest. first.honest (second.honest honest);
+  stop = λ honest form h k m images.
+      let one = first.stop (second.honest honest) form h k m images in
+      since_join _ _ _ _ one (second.stop honest form h k m one.after);
+}
+
+pub both_kept : {D : Type 0} (disk : disks.Ghosts D) {old middle new : D} → IsKept disk old middle → IsKept disk middle new → IsKept disk old new
+both_kept disk first second =
+    kept disk (joined disk first.images second.images) (λ honest. second.content honest ∙ first.content (second.images.honest honest))
+
+-- ---- The version that counts
+
+not_asked : false ≡ true → ⊥
+not_asked is = cc
+
+apart : V2 ≡ V1 → ⊥
+apart same = cc
+
+counted : {D : Type 0} {carry : Bool} (content : List ℕ) (store : StoreState D) (carries : Carries carry content store) → IsOfVersion carries.version content
+counted content store carries = record { size = store.area.size; bounds = store.bounds; generation = carries.generation; frames = carries.frames; counts = carries.counts }
+
+one_version : (v w : Version) (content : List ℕ) → IsOfVersion v content → IsOfVersion w content → v ≡ w
+one_version v w content one two =
+    let first = one.counts in
+    let second = two.counts in
+    let same = (superblock_once two.size one.size two.bounds one.bounds content second.superblock first.superblock).0 in
+    (holds_once v w one.size first.start first.other one.generation second.start second.other two.generation first.snapshot second.snapshot first.payloads second.payloads content
+    (record { places = first.places; area = first.area; yields = first.yields })
+    (record {
+      places = subst (λ (size : ℕ). AreAreas size second.start second.other) same second.places;
+      area = subst (λ (size : ℕ). AreaHolds w second.start size two.generation second.snapshot second.payloads content) same second.area;
+      yields = second.yields;
+    })).0
+
+-- a store that was opened without being carried over is of the version that counts
+pub version_read : {D : Type 0} (content : List ℕ) (store : StoreState D) → Carries false content store → IsOfVersion store.version content
+version_read content store carries =
+    let kept = carries.kept (λ is. not_asked is.asked) in
+    subst (λ (v : Version). IsOfVersion v content) (sym kept.0) (counted content store carries)
+
+-- where carrying over was asked for exactly at the first version, nothing that could be carried over was not
+pub carries_all : {D : Type 0} (v : Version) (content : List ℕ) (store : StoreState D) → IsOfVersion v content → Carries (is_first v) content store → Carries true content store
+carries_all V1 content store is carries = carries
+carries_all V2 content store is carries = record {
+  version = carries.version;
+  generation = carries.generation;
+  frames = carries.frames;
+  counts = carries.counts;
+  over = λ over. absurd (other over.old);
+  kept = λ never. carries.kept (λ over. not_asked over.asked);
+}
+  where
+    other : carries.version ≡ V1 → ⊥
+    other is_old = apart (one_version V2 carries.version content is (counted content store carries) ∙ is_old)
+
+-- nothing is carried over but a store of version 1
+pub not_first : (v : Version) (content : List ℕ) → IsOfVersion v content → (IsOfVersion V1 content → ⊥) → is_first v ≡ false
+not_first V1 content is never = absurd (never is)
+not_first V2 content is never = refl
+
+-- ---- A start
 
 pub started : {D H G : Type 0} (disk : disks.Ghosts D) (handler : handlers.Ghosts H) (generator : generators.Ghosts G) (old middle : D) (config : Config) (users again : H) (ports : G) (range : ℕ × ℕ) (server : ServerState D H G)
-    → IsKept disk old middle → again ≡ users → generator.range ports ≡ range → Opening disk middle config again ports (Ok server)
-    → (disk.is_honest middle → Carries true (disk.trace middle).now.bytes server.store) → Started disk handler generator old config users range server
-started disk handler generator old middle config users again ports range server same same_users in_range call carried =
+    → IsKept disk old middle → again ≡ users → generator.range ports ≡ range → Opening disk middle config again ports (Ok server) → (v : Version) → (disk.is_honest middle → IsOfVersion v (disk.trace old).now.bytes)
+    → (carry : Bool) → carry ≡ is_first v → (disk.is_honest server.store.disk → Carries carry (disk.trace middle).now.bytes server.store) → Started disk handler generator old config users range server
+started disk handler generator old middle config users again ports range server same same_users in_range call v version carry asked carried =
     record {
       setting = ap (setting_of handler.key_of generator.range) call.machine ∙ ap (λ u. record { config = config; keys = handler.key_of u; range = generator.range ports; pairs = server.machine.pairs }) same_users
           ∙ ap (λ (r : ℕ × ℕ). record { config = config; keys = handler.key_of users; range = r; pairs = server.machine.pairs }) in_range;
       pairs = call.pairs;
-      carried = λ honest. subst (λ (content : List ℕ). Carries true content server.store) (same.content honest) (carried (same.honest.1 honest));
+      carried = λ honest. carries_all v (disk.trace old).now.bytes server.store (version (call.honest honest))
+          (subst (λ (b : Bool). Carries b (disk.trace old).now.bytes server.store) asked
+          (subst (λ (content : List ℕ). Carries carry content server.store) (same.content (call.honest honest)) (carried honest)));
       nothing = call.nothing;
       runs = call.runs;
-      honest = (λ honest. same.honest.0 (call.honest.0 honest), λ honest. call.honest.1 (same.honest.1 honest));
+      honest = (joined disk same.images (opened_images disk call)).honest;
       rests = λ honest form h k m bounds images.
-          subst (λ (content : List ℕ). Opens form h k m content (disk.trace server.store.disk).now server) (same.content honest)
-          (call.rests (same.honest.1 honest) form h k m bounds (same.images honest form h k m images));
+          subst (λ (content : List ℕ). Opens form h k m content (disk.trace server.store.disk).now server) (same.content (call.honest honest))
+          (call.rests honest form h k m bounds (same.images.stop (call.honest honest) form h k m images).after);
+      reopened = record {
+        middle = middle;
+        generator = ports;
+        kept = same;
+        in_range = in_range;
+        opening = subst (λ u. Opening disk middle config u ports (Ok server)) same_users call;
+      };
     }
 
 pub started_as : {D H G : Type 0} {disk : disks.Ghosts D} {handler : handlers.Ghosts H} {generator : generators.Ghosts G} {old : D} {config : Config} {users : H} {range : ℕ × ℕ} {server result : ServerState D H G}
@@ -49,7 +133,7 @@ pub started_as : {D H G : Type 0} {disk : disks.Ghosts D} {handler : handlers.Gh
 started_as {disk = disk} {handler = handler} {generator = generator} {old = old} {config = config} {users = users} {range = range} same is = subst (λ s. Started disk handler generator old config users range s) (sym same) is
 
 pub begins : {D H G : Type 0} (disk : disks.Ghosts D) (handler : handlers.Ghosts H) (ports : generators.Ghosts G) (old : D) (config : Config) (users : H) (range : ℕ × ℕ) (server : ServerState D H G) (form : Form) (h : History) (k m : ℕ)
-    → Started disk handler ports old config users range server → disk.is_honest old → form.bounds ≡ config.limits → EachImage (disk.trace old).now (AtLeast form h k m)
+    → Started disk handler ports old config users range server → disk.is_honest server.store.disk → form.bounds ≡ config.limits → EachImage (disk.trace old).now (AtLeast form h k m)
     → BeginsRun disk handler ports (record { config = config; keys = handler.key_of users; range = range; pairs = server.machine.pairs }) h k server
 begins disk handler ports old config users range server form h k m begun honest bounds images =
     let o = begun.rests honest form h k m bounds images in
@@ -58,5 +142,5 @@ begins disk handler ports old config users range server form h k m begun honest 
       no_less = o.no_less;
       no_more = o.no_more;
       is_at = subst (λ (s : Setting). IsAt disk handler ports s (take o.count h) (now_of server) server start) begun.setting
-          (opened disk handler ports form h k m (disk.trace old).now.bytes server (begun.honest.1 honest) o (ap (λ s. s.outs) begun.nothing) (ap (λ s. s.arrivals) begun.nothing));
+          (opened disk handler ports form h k m (disk.trace old).now.bytes server honest o (ap (λ s. s.outs) begun.nothing) (ap (λ s. s.arrivals) begun.nothing));
     }

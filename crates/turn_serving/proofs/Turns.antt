@@ -1,16 +1,29 @@
 -- Calls in a row.
-use Rattle.std.proofs.Common.{arith, ◌≡◌, ◌≤◌, ℕ, List, [], ◌∷◌, ◌++◌, Result, Ok, Err, refl, sym, ap, ◌∙◌, subst}
+use Rattle.std.proofs.Common.{arith, ◌≡◌, ◌≤◌, ℕ, List, [], ◌∷◌, ◌++◌, Result, Ok, Err, None, length, refl, sym, ap, ◌∙◌, subst, append_assoc, append-nil}
 use Rattle.turn_cred.specs.declared.handler.AuthHandler as handlers
+use Rattle.turn_disk.proofs.Since.{since_join, since_same, since_weaken}
+use Rattle.turn_disk.specs.Disk.{EachImageSince}
 use Rattle.turn_disk.specs.declared.disk.Disk as disks
+use Rattle.turn_engine.proofs.Answered.{accepted-append, begins}
+use Rattle.turn_engine.proofs.Runs.{earlier, goes_on, stops}
 use Rattle.turn_engine.specs.Calls.{Commits, Submits}
-use Rattle.turn_engine.specs.Runs.{Commit, IsCall, Serves, Step, Submit, after_of, last_of}
+use Rattle.turn_engine.specs.Images.{AtLeast}
+use Rattle.turn_engine.specs.Runs.{BeginsWith, Commit, IsAt, IsCall, Place, Serves, Step, Submit, Taken, accepted, after_of, count_at, history_at, last_of}
 use Rattle.turn_engine.specs.State.{ServerState, now_of}
+use Rattle.turn_engine.proofs.Held.{stay_held}
 use Rattle.turn_engine.specs.declared.fault.SubmitRefused.{SubmitRefused}
 use Rattle.turn_engine.specs.declared.fault.SubmitRefused.TheVariants.{BatchFull, Memory, Stopped}
 use Rattle.turn_ports.specs.declared.generator.RelayAddressGenerator as generators
+use Rattle.turn_history.specs.History.{History}
+use Rattle.turn_sockets.specs.Moments.{IsMoment}
+use Rattle.turn_step.specs.Answer.{Setting}
 use Rattle.turn_step.specs.Outcome.{Arrives, Sent}
+use Rattle.turn_step.specs.State.{HoldsPorts}
+use Rattle.turn_store.specs.Areas.{Form}
+use Rattle.turn_store.specs.Images.{StandsForAt}
+use Rattle.turn_store.specs.State.{form_of}
 use Rattle.turn_store.specs.declared.fault.StoreFault.{StoreFault}
-use Rattle.turn_serving.specs.Turns.{Served}
+use Rattle.turn_serving.specs.Turns.{AreAt, At, Never, Served}
 
 module _ {D H G : Type 0} (disk : disks.Ghosts D) (handler : handlers.Ghosts H) (ports : generators.Ghosts G) where
   serves-append : (server : ServerState D H G) (first second : List (Step D H G)) → Serves disk handler ports server first → Serves disk handler ports (last_of server first) second
@@ -38,31 +51,144 @@ last_of-append : {D H G : Type 0} (server : ServerState D H G) (first second : L
 last_of-append server [] second = refl
 last_of-append server (x ∷ xs) second = last_of-append (after_of x) xs second
 
+are_at-append : {D H G : Type 0} (IsOne : ℕ → ℕ → Type 0) (server : ServerState D H G) (first second : List (Step D H G)) → AreAt IsOne server first → AreAt IsOne (last_of server first) second → AreAt IsOne server (first ++ second)
+are_at-append IsOne server [] second before after = after
+are_at-append IsOne server (Submit moment a result new ∷ xs) second before after = (before.0, are_at-append IsOne new xs second before.1 after)
+are_at-append IsOne server (Commit result new ∷ xs) second before after = are_at-append IsOne new xs second before after
+
+never_at : {D H G : Type 0} (IsOne : ℕ → ℕ → Type 0) (server : ServerState D H G) (steps : List (Step D H G)) → AreAt Never server steps → AreAt IsOne server steps
+never_at IsOne server [] at = tt
+never_at IsOne server (Submit moment a result new ∷ xs) at = absurd at.0
+never_at IsOne server (Commit result new ∷ xs) at = never_at IsOne new xs at
+
+-- ---- Moments
+
+-- at the moment itself it is still that moment
+still : (told : ℕ → Type 0) (clock moment : ℕ) → IsMoment told clock moment → IsMoment told moment moment
+still told clock moment is = record {
+  second = is.second;
+  was_told = is.was_told;
+  in_range = λ low. let same = is.in_range low in omega (arith, same);
+  beyond = λ high. refl;
+}
+
+module _ {D H G : Type 0} (disk : disks.Ghosts D) (handler : handlers.Ghosts H) (ports : generators.Ghosts G) (told : ℕ → Type 0) (moment : ℕ) where
+  -- whatever a call at the moment came to, it is still that moment
+  call_still : (old : ServerState D H G) (x : Step D H G) → IsCall disk handler ports old x → AreAt (At moment) old (x ∷ []) → IsMoment told (now_of old) moment → IsMoment told (now_of (after_of x)) moment
+  call_still old (Submit m a (Ok done) new) call at is = subst (λ (n : ℕ). IsMoment told n moment) (sym (call.clock ∙ at.0)) (still told (now_of old) moment is)
+  call_still old (Submit m a (Err Stopped) new) call at is = subst (λ (n : ℕ). IsMoment told n moment) (sym (ap now_of (call.unchanged refl))) is
+  call_still old (Submit m a (Err BatchFull) new) call at is = subst (λ (n : ℕ). IsMoment told n moment) (sym (ap now_of (call.unchanged_full refl))) is
+  call_still old (Submit m a (Err Memory) new) call at is = subst (λ (n : ℕ). IsMoment told n moment) (sym (call.memory_clock refl ∙ at.0)) (still told (now_of old) moment is)
+  call_still old (Commit (Ok outs) new) call at is = subst (λ (n : ℕ). IsMoment told n moment) (sym (ap now_of call.ok)) is
+  call_still old (Commit (Err fault) new) call at is = subst (λ (n : ℕ). IsMoment told n moment) (sym (ap now_of call.err)) is
+
+  all_told : (old : ServerState D H G) (steps : List (Step D H G)) → Serves disk handler ports old steps → AreAt (At moment) old steps → IsMoment told (now_of old) moment → AreAt (IsMoment told) old steps
+  all_told old [] serves at is = tt
+  all_told old (Submit m a result new ∷ xs) serves at is = (
+    subst (IsMoment told (now_of old)) (sym at.0) is,
+    all_told new xs serves.1 at.1 (call_still old (Submit m a result new) serves.0 (at.0, tt) is),
+  )
+  all_told old (Commit result new ∷ xs) serves at is = all_told new xs serves.1 at (call_still old (Commit result new) serves.0 tt is)
+
 module _ {D H G : Type 0} {disk : disks.Ghosts D} {handler : handlers.Ghosts H} {ports : generators.Ghosts G} where
-  pub no_call : (server : ServerState D H G) → Served disk handler ports server server
-  no_call server = record { steps = []; serves = tt; last = refl }
+  pub no_call : {IsOne : ℕ → ℕ → Type 0} (server : ServerState D H G) → Served disk handler ports IsOne server server
+  no_call server = record { steps = []; serves = tt; moments = tt; last = refl }
 
   pub submitted : {old new : ServerState D H G} {moment : ℕ} {a : Arrives} {result : Result Unit SubmitRefused} → Submits disk handler ports old new moment a result
-      → Served disk handler ports old new
-  submitted {new = new} {moment = moment} {a = a} {result = result} call = record { steps = Submit moment a result new ∷ []; serves = (call, tt); last = refl }
+      → Served disk handler ports (At moment) old new
+  submitted {new = new} {moment = moment} {a = a} {result = result} call = record { steps = Submit moment a result new ∷ []; serves = (call, tt); moments = (refl, tt); last = refl }
 
-  pub then : {old middle new : ServerState D H G} → Served disk handler ports old middle → Served disk handler ports middle new → Served disk handler ports old new
-  then {old = old} first second =
+  pub then : {IsOne : ℕ → ℕ → Type 0} {old middle new : ServerState D H G} → Served disk handler ports IsOne old middle → Served disk handler ports IsOne middle new → Served disk handler ports IsOne old new
+  then {IsOne = IsOne} {old = old} first second =
       record {
         steps = first.steps ++ second.steps;
         serves = serves-append disk handler ports old first.steps second.steps first.serves (subst (λ s. Serves disk handler ports s second.steps) (sym first.last) second.serves);
+        moments = are_at-append IsOne old first.steps second.steps first.moments (subst (λ s. AreAt IsOne s second.steps) (sym first.last) second.moments);
         last = last_of-append old first.steps second.steps ∙ ap (λ s. last_of s second.steps) first.last ∙ second.last;
       }
 
-  pub from : {old same new : ServerState D H G} → same ≡ old → Served disk handler ports same new → Served disk handler ports old new
-  from {new = new} is served = subst (λ s. Served disk handler ports s new) is served
+  -- calls without a submit are at whatever moments
+  pub none : {IsOne : ℕ → ℕ → Type 0} {old new : ServerState D H G} → Served disk handler ports Never old new → Served disk handler ports IsOne old new
+  none {IsOne = IsOne} {old = old} served = record { steps = served.steps; serves = served.serves; moments = never_at IsOne old served.steps served.moments; last = served.last }
 
-  pub to : {old new same : ServerState D H G} → same ≡ new → Served disk handler ports old new → Served disk handler ports old same
-  to {old = old} is served = subst (λ s. Served disk handler ports old s) (sym is) served
+  -- calls at one moment, which was one by the clock before them
+  pub at_told : {told : ℕ → Type 0} {moment : ℕ} {old new : ServerState D H G} → IsMoment told (now_of old) moment → Served disk handler ports (At moment) old new → Served disk handler ports (IsMoment told) old new
+  at_told {told = told} {moment = moment} {old = old} is served = record {
+    steps = served.steps;
+    serves = served.serves;
+    moments = all_told disk handler ports told moment old served.steps served.serves served.moments is;
+    last = served.last;
+  }
 
-  pub in_time : {old new : ServerState D H G} → Served disk handler ports old new → now_of old ≤ now_of new
+  pub held : {IsOne : ℕ → ℕ → Type 0} {old new : ServerState D H G} → Served disk handler ports IsOne old new → HoldsPorts ports.holds old.machine None → HoldsPorts ports.holds new.machine None
+  held {old = old} served holds =
+      subst (λ s. HoldsPorts ports.holds s.machine None) served.last (stay_held disk handler ports old served.steps served.serves holds)
+
+  pub from : {IsOne : ℕ → ℕ → Type 0} {old same new : ServerState D H G} → same ≡ old → Served disk handler ports IsOne same new → Served disk handler ports IsOne old new
+  from {IsOne = IsOne} {new = new} is served = subst (λ s. Served disk handler ports IsOne s new) is served
+
+  pub to : {IsOne : ℕ → ℕ → Type 0} {old new same : ServerState D H G} → same ≡ new → Served disk handler ports IsOne old new → Served disk handler ports IsOne old same
+  to {IsOne = IsOne} {old = old} is served = subst (λ s. Served disk handler ports IsOne old s) (sym is) served
+
+  pub in_time : {IsOne : ℕ → ℕ → Type 0} {old new : ServerState D H G} → Served disk handler ports IsOne old new → now_of old ≤ now_of new
   in_time {old = old} served = subst (λ s. now_of old ≤ now_of s) served.last (calls_in_time disk handler ports old served.steps served.serves)
 
-pub committed : {D H G : Type 0} {disk : disks.Ghosts D} {handler : handlers.Ghosts H} (ports : generators.Ghosts G) {old new : ServerState D H G} {result : Result (List Sent) StoreFault} → Commits disk old new result
-    → Served disk handler ports old new
-committed ports {new = new} {result = result} call = record { steps = Commit result new ∷ []; serves = (call, tt); last = refl }
+pub committed : {D H G : Type 0} {disk : disks.Ghosts D} {handler : handlers.Ghosts H} (ports : generators.Ghosts G) {IsOne : ℕ → ℕ → Type 0} {old new : ServerState D H G} {result : Result (List Sent) StoreFault} → Commits disk old new result
+    → Served disk handler ports IsOne old new
+committed ports {new = new} {result = result} call = record { steps = Commit result new ∷ []; serves = (call, tt); moments = tt; last = refl }
+
+-- ---- Stops
+
+begins_less : (form : Form) (h first second : History) (m n : ℕ) (image : List ℕ) → h ≡ first ++ second → m ≤ n → BeginsWith form h m image → BeginsWith form first n image
+begins_less form h first second m n image is less begun = record {
+  rest = second ++ begun.rest;
+  stands = record {
+    clock = begun.stands.clock;
+    bounded = let bounded = begun.stands.bounded in omega arith;
+    stands = subst (λ (l : History). StandsForAt form l begun.stands.clock image) (ap (λ (l : History). l ++ begun.rest) is ∙ append_assoc first second begun.rest) begun.stands.stands;
+  };
+}
+
+-- what was handed out at a place is the first part of its history
+handed_first : (h : History) (p : Place) → history_at h p ≡ (h ++ accepted p.handed) ++ accepted p.recent
+handed_first h p = ap (λ (l : History). h ++ l) (accepted-append p.handed p.recent) ∙ sym (append_assoc h (accepted p.handed) (accepted p.recent))
+
+module _ {D H G : Type 0} (disk : disks.Ghosts D) (handler : handlers.Ghosts H) (ports : generators.Ghosts G) (s : Setting) (h : History) (t : ℕ) where
+  handed_stays : (server : ServerState D H G) (p : Place) (m n : ℕ) (image : List ℕ) → m ≤ n → AtLeast (form_of server.store) (history_at h p) (count_at h p) m image
+      → BeginsWith (form_of server.store) (h ++ accepted p.handed) n image
+  handed_stays server p m n image less at =
+      let enough : length (h ++ accepted p.handed) ≤ count_at h p = omega arith in
+      begins_less (form_of server.store) (h ++ accepted p.handed) (h ++ accepted p.handed) [] m n image (sym (append-nil (h ++ accepted p.handed))) less
+      (begins (form_of server.store) (history_at h p) (h ++ accepted p.handed) (accepted p.recent) (count_at h p) m image (handed_first h p) enough at)
+
+  same_form : (old : ServerState D H G) (x : Step D H G) → IsCall disk handler ports old x → form_of (after_of x).store ≡ form_of old.store
+  same_form old (Submit moment a result new) call = ap form_of call.store
+  same_form old (Commit result new) call = call.form
+
+  calls_keep : (server : ServerState D H G) (p : Place) (steps : List (Step D H G)) → IsAt disk handler ports s h t server p → Serves disk handler ports server steps
+      → disk.is_honest (last_of server steps).store.disk
+      → EachImageSince (disk.trace server.store.disk) (disk.trace (last_of server steps).store.disk) (BeginsWith (form_of server.store) (h ++ accepted p.handed) (now_of (last_of server steps)))
+  calls_keep server p [] is serves honest = since_same _ _ _ refl (λ image left. let same : now_of server ≤ now_of server = omega arith in handed_stays server p (now_of server) (now_of server) image same (is.images image left))
+  calls_keep server p (x ∷ xs) is serves honest =
+      let last = last_of (after_of x) xs in
+      let now = earlier disk handler ports (after_of x) xs serves.1 honest in
+      let to = goes_on disk handler ports s h t server p (x ∷ []) is (serves.0, tt) now in
+      let first = call_in_time disk handler ports server x serves.0 in
+      let later = calls_in_time disk handler ports (after_of x) xs serves.1 in
+      let whole : now_of server ≤ now_of last = omega arith in
+      let longer : h ++ accepted to.end.handed ≡ (h ++ accepted p.handed) ++ accepted to.more =
+      ap (λ (l : List Taken). h ++ accepted l) to.handed ∙ ap (λ (l : History). h ++ l) (accepted-append p.handed to.more) ∙ sym (append_assoc h (accepted p.handed) (accepted to.more)) in
+      since_join _ _ _ _
+      (since_weaken _ _ _ _ (λ image at. handed_stays server p (now_of server) (now_of last) image whole at) (stops disk handler ports s h t server p x is serves.0 now))
+      (since_weaken _ _ _ _
+      (λ image begun. let same : now_of last ≤ now_of last = omega arith in
+      begins_less (form_of server.store) (h ++ accepted to.end.handed) (h ++ accepted p.handed) (accepted to.more) (now_of last) (now_of last) image longer same
+      (subst (λ (f : Form). BeginsWith f (h ++ accepted to.end.handed) (now_of last) image) (same_form server x serves.0) begun))
+      (calls_keep (after_of x) to.end xs to.is_at serves.1 honest))
+
+  -- whatever calls are made, what was handed out stays at every moment
+  pub keeps : {IsOne : ℕ → ℕ → Type 0} {old new : ServerState D H G} → Served disk handler ports IsOne old new → (p : Place) → IsAt disk handler ports s h t old p → disk.is_honest new.store.disk
+      → EachImageSince (disk.trace old.store.disk) (disk.trace new.store.disk) (BeginsWith (form_of old.store) (h ++ accepted p.handed) (now_of new))
+  keeps {old = old} served p is honest =
+      subst (λ (last : ServerState D H G). EachImageSince (disk.trace old.store.disk) (disk.trace last.store.disk) (BeginsWith (form_of old.store) (h ++ accepted p.handed) (now_of last))) served.last
+      (calls_keep old p served.steps is served.serves (subst (λ (last : ServerState D H G). disk.is_honest last.store.disk) (sym served.last) honest))

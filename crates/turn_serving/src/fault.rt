@@ -6,6 +6,7 @@ ghost use Rattle.turn_serving.specs.declared.fault.TurnFault.TheVariants as turn
 
 use std::alloc::{AllocError, AllocFailed};
 use thiserror::Error;
+use turn_disk::Disk;
 use turn_engine::CommitRefused;
 use turn_store::OpenFault;
 
@@ -15,12 +16,25 @@ pub enum StartFault {
     /// The store was not opened.
     #[error("{0}")]
     Store(OpenFault),
-    /// A relay port of a stored allocation, the relay address or a listening address can't be bound, there are too many
-    /// open files, or a disk that failed had other allocations when the store was opened again.
+    /// A relay port of a stored allocation, the relay address or a listening address can't be bound, or there are too many
+    /// open files.
     #[error("a socket can't be bound")]
     Socket,
     #[error("out of memory")]
     Memory,
+    /// The store was not opened again over its sockets.
+    #[error("{0}")]
+    Reopen(OpenFault),
+    /// A disk that failed had other allocations, or other reserved ports, when the store was opened again.
+    #[error("the store changed")]
+    Changed,
+}
+
+/// A server that was not started: why, and its disk.
+#[derive(Drop)]
+pub struct StartRefused<D: Disk> {
+    pub fault: StartFault,
+    pub disk: D,
 }
 
 impl From<AllocError> for StartFault {

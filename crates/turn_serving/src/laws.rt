@@ -1,11 +1,13 @@
 //! What follows of the contracts of `Setup::start` and `Serving::turn`, as clauses of a function that does nothing.
 
-ghost use Rattle.std.specs.Prelude.{◌≡◌, ℕ};
+ghost use Rattle.std.specs.Prelude.{◌≡◌, ℕ, None};
 ghost use Rattle.turn_engine.specs.Images.{AtLeast};
 ghost use Rattle.turn_engine.specs.Runs.{IsAt, Leads, Place};
 ghost use Rattle.turn_engine.specs.State.{ServerState};
 ghost use Rattle.turn_history.specs.History.{History};
+ghost use Rattle.turn_sockets.specs.Moments.{IsMoment};
 ghost use Rattle.turn_step.specs.Answer.{Setting};
+ghost use Rattle.turn_step.specs.State.{HoldsPorts};
 ghost use Rattle.turn_store.specs.Areas.{Form};
 ghost use Rattle.turn_store.specs.Images.{EachImage};
 ghost use Rattle.turn_types.specs.Config.{Config};
@@ -16,17 +18,25 @@ ghost use Rattle.turn_serving.specs.Turns.{Served};
 use turn_cred::AuthHandler;
 use turn_disk::Disk;
 use turn_ports::RelayAddressGenerator;
+use turn_sockets::Time;
 
 /// A start over an honest disk is at the start of a run after the first events of a history, if each image of the disk stands
 /// for such. Each turn leads on: what turns hand out is in order what the arrivals of the run were answered.
-pub fn turns_make_runs<D: Disk, H: AuthHandler, G: RelayAddressGenerator>()
+pub fn turns_make_runs<D: Disk, H: AuthHandler, G: RelayAddressGenerator, T: Time>()
     ensures starts { (old : D) (config : Config) (users : H) (range : ℕ × ℕ) (server : ServerState D H G) (form : Form) (h : History) (k m : ℕ)
         → Started D.Disk H.AuthHandler G.RelayAddressGenerator old config users range server
-        → D.is_honest old → form.bounds ≡ config.limits → EachImage (D.trace old).now (AtLeast form h k m)
+        → D.is_honest server.store.disk → form.bounds ≡ config.limits → EachImage (D.trace old).now (AtLeast form h k m)
         → BeginsRun D.Disk H.AuthHandler G.RelayAddressGenerator (record { config = config; keys = H.key_of users; range = range; pairs = server.machine.pairs }) h k server }
-    ensures goes_on { (s : Setting) (h : History) (t : ℕ) (old new : ServerState D H G) (p : Place)
-        → IsAt D.Disk H.AuthHandler G.RelayAddressGenerator s h t old p → (turn : Served D.Disk H.AuthHandler G.RelayAddressGenerator old new)
-        → Leads D.Disk H.AuthHandler G.RelayAddressGenerator s h t old p turn.steps }
+    ensures goes_on { (s : Setting) (h : History) (t : ℕ) (system : T) (old new : ServerState D H G) (p : Place)
+        → IsAt D.Disk H.AuthHandler G.RelayAddressGenerator s h t old p → (turn : Served D.Disk H.AuthHandler G.RelayAddressGenerator (IsMoment (T.told system)) old new)
+        → D.is_honest new.store.disk → Leads D.Disk H.AuthHandler G.RelayAddressGenerator s h t old p turn.steps }
+{}
+
+/// A start leaves relay ports that are held exactly once (`Setup::start`, clause `held`), and so does each turn, over any disk: between
+/// two turns, and between two calls of a turn, the generator holds the ports of the table's allocations and reservations and no other.
+pub fn turns_keep_ports<D: Disk, H: AuthHandler, G: RelayAddressGenerator, T: Time>()
+    ensures { (system : T) (old new : ServerState D H G) → Served D.Disk H.AuthHandler G.RelayAddressGenerator (IsMoment (T.told system)) old new
+        → HoldsPorts G.holds old.machine None → HoldsPorts G.holds new.machine None }
 {}
 
 /// A datagram that isn't a request of a method that asks for credentials changes nothing, so its commit makes no device call: data,

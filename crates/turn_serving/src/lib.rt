@@ -11,9 +11,9 @@ mod start;
 mod turn;
 mod watch;
 
-pub use fault::{StartFault, TurnFault};
+pub use fault::{StartFault, StartRefused, TurnFault};
 pub use kept::may_change;
-pub use laws::{others_change_nothing, turns_make_runs};
+pub use laws::{others_change_nothing, turns_keep_ports, turns_make_runs};
 pub use serving::{Commits, Serving, SocketServing};
 pub use start::Setup;
 pub use turn::RelaySockets;

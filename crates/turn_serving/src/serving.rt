@@ -1,7 +1,13 @@
 //! A server over sockets that serves.
 
-ghost use Rattle.std.specs.Prelude.{◌≡◌, ◌≤◌, OnOk, false};
+ghost use Rattle.std.specs.Prelude.{◌≡◌, ◌≤◌, ◌++◌, ℕ, IfOk, OnOk, false};
+ghost use Rattle.turn_disk.specs.Disk.{EachImageSince};
+ghost use Rattle.turn_engine.specs.Runs.{BeginsWith, IsAt, Place, accepted};
 ghost use Rattle.turn_engine.specs.State.{emptied, now_of};
+ghost use Rattle.turn_history.specs.History.{History};
+ghost use Rattle.turn_sockets.specs.Moments.{IsMoment};
+ghost use Rattle.turn_step.specs.Answer.{Setting};
+ghost use Rattle.turn_store.specs.State.{form_of};
 ghost use Rattle.turn_serving.specs.Turns.{Served};
 
 use crate::fault::TurnFault;
@@ -11,13 +17,12 @@ use crate::turn::{RelaySockets, Taken, Turn, Work, flush, send_all, submit_kept}
 use crate::watch::{Silent, Watch};
 use std::alloc::{AllocError, Allocator, Global};
 use std::marker::Model;
-use std::rt::Clock;
 use std::time::Duration;
 use turn_cred::AuthHandler;
 use turn_disk::Disk;
 use turn_engine::Server;
-use turn_sockets::{ListeningAddresses, Pace, SocketPorts, moment_now};
-use turn_types::{Endpoint, Limits};
+use turn_sockets::{ListeningAddresses, Pace, SocketPorts, Time, moment_now};
+use turn_types::{Endpoint, Limits, Moment};
 
 /// When the requests of clients are committed.
 #[derive(Clone, Copy, Debug, PartialEq, Eq)]
@@ -176,13 +181,22 @@ impl<
         (disk, handler)
     }
 
-    // Takes up to `burst` datagrams of each socket that may have some.
-    fn take_all<C: Clock>(&mut self, system: &C) -> Result<Taken, TurnFault>
-        ensures { Served D.Disk H.AuthHandler G.RelayAddressGenerator self.old self.new }
+    // At which moment something is submitted now.
+    fn moment<T: Time>(&self, system: &T) -> Result<Moment, TurnFault>
+        ensures is_one { IfOk result (λ moment. IsMoment (T.told system.now) (now_of self.now) moment) }
+        ensures late { IfOk result (λ moment. now_of self.now ≤ moment) }
     {
+        moment_now(system, self.server.clock()).ok_or(TurnFault::Clock)
+    }
+
+    // Takes up to `burst` datagrams of each socket that may have some.
+    fn take_all<T: Time>(&mut self, system: &T) -> Result<Taken, TurnFault>
+        ensures { Served D.Disk H.AuthHandler G.RelayAddressGenerator (IsMoment (T.told system.now)) self.old self.new }
+    {
+        let moment = self.moment(system)?;
         let turn = Turn {
             listening: &self.listening,
-            moment: moment_now(system, self.server.clock()).ok_or(TurnFault::Clock)?,
+            moment,
             burst: self.burst,
         };
         turn.tell(self.server.table());
@@ -196,7 +210,7 @@ impl<
     }
 
     // For how long nothing is to be done unless a datagram comes: at most 50 ms, and no longer than requests wait.
-    fn rest<C: Clock>(&self, system: &C) -> Duration {
+    fn rest<T: Time>(&self, system: &T) -> Duration {
         let most = Duration::from_millis(WAIT_MILLIS);
         if self.work.kept.is_empty() {
             return most;
@@ -212,8 +226,8 @@ impl<
     }
 
     // Takes what there is. If there is nothing it waits first.
-    fn take<C: Clock>(&mut self, system: &C) -> Result<Taken, TurnFault>
-        ensures { Served D.Disk H.AuthHandler G.RelayAddressGenerator self.old self.new }
+    fn take<T: Time>(&mut self, system: &T) -> Result<Taken, TurnFault>
+        ensures { Served D.Disk H.AuthHandler G.RelayAddressGenerator (IsMoment (T.told system.now)) self.old self.new }
     {
         let taken = self.take_all(system)?;
         if taken.any {
@@ -226,8 +240,8 @@ impl<
     }
 
     // If `share` is set, takes what came by now: it would wait for the commit that follows anyway. No request of it is kept.
-    fn take_late<C: Clock>(&mut self, system: &C, share: bool) -> Result<(), TurnFault>
-        ensures { Served D.Disk H.AuthHandler G.RelayAddressGenerator self.old self.new }
+    fn take_late<T: Time>(&mut self, system: &T, share: bool) -> Result<(), TurnFault>
+        ensures { Served D.Disk H.AuthHandler G.RelayAddressGenerator (IsMoment (T.told system.now)) self.old self.new }
     {
         if !share {
             return Ok(());
@@ -240,10 +254,10 @@ impl<
     }
 
     // Submits the requests that waited. To submit several takes a while, so what came meanwhile is taken too.
-    fn submit_waiting<C: Clock>(&mut self, system: &C) -> Result<(), TurnFault>
-        ensures { Served D.Disk H.AuthHandler G.RelayAddressGenerator self.old self.new }
+    fn submit_waiting<T: Time>(&mut self, system: &T) -> Result<(), TurnFault>
+        ensures { Served D.Disk H.AuthHandler G.RelayAddressGenerator (IsMoment (T.told system.now)) self.old self.new }
     {
-        let moment = moment_now(system, self.server.clock()).ok_or(TurnFault::Clock)?;
+        let moment = self.moment(system)?;
         self.listening.tell(moment, self.server.table());
         submit_kept(&self.listening, &mut self.server, moment, &self.work.kept)?;
         let share = self.work.kept.clear();
@@ -251,8 +265,8 @@ impl<
     }
 
     // Submits the requests that waited, and commits them. Notes how long the commit took.
-    fn commit_kept<C: Clock>(&mut self, system: &C) -> Result<(), TurnFault>
-        ensures served { Served D.Disk H.AuthHandler G.RelayAddressGenerator self.old self.new }
+    fn commit_kept<T: Time>(&mut self, system: &T) -> Result<(), TurnFault>
+        ensures served { Served D.Disk H.AuthHandler G.RelayAddressGenerator (IsMoment (T.told system.now)) self.old self.new }
         ensures done { OnOk result (self.new ≡ emptied self.new self.new.store) }
         ensures runs { OnOk result (self.new.store.stopped ≡ false) }
     {
@@ -266,8 +280,8 @@ impl<
     }
 
     // Commits the requests that waited, if they are due.
-    fn commit_due<C: Clock>(&mut self, system: &C) -> Result<bool, TurnFault>
-        ensures served { Served D.Disk H.AuthHandler G.RelayAddressGenerator self.old self.new }
+    fn commit_due<T: Time>(&mut self, system: &T) -> Result<bool, TurnFault>
+        ensures served { Served D.Disk H.AuthHandler G.RelayAddressGenerator (IsMoment (T.told system.now)) self.old self.new }
         ensures done { self.old ≡ emptied self.old self.old.store → OnOk result (self.new ≡ emptied self.new self.new.store) }
         ensures runs { self.old.store.stopped ≡ false → OnOk result (self.new.store.stopped ≡ false) }
     {
@@ -283,12 +297,18 @@ impl<
     /// later. Under `Commits::Paced` requests are kept, and committed at the end of the turn in which they are due.
     ///
     /// Nothing is sent that was not committed. After a commit that failed each later turn fails.
-    pub fn turn<C: Clock>(&mut self, system: &C) -> Result<(), TurnFault>
-        // Calls of `submit` and `commit`, each within its contract, the last of which leaves nothing staged.
-        ensures served { Served D.Disk H.AuthHandler G.RelayAddressGenerator self.old self.new }
+    pub fn turn<T: Time>(&mut self, system: &T) -> Result<(), TurnFault>
+        // Calls of `submit` and `commit`, each within its contract, the last of which leaves nothing staged. Each arrival is
+        // submitted at the later of the clock and a second that the system told.
+        ensures served { Served D.Disk H.AuthHandler G.RelayAddressGenerator (IsMoment (T.told system.now)) self.old self.new }
         ensures clock { now_of self.old ≤ now_of self.new }
         ensures done { OnOk result (self.new ≡ emptied self.new self.new.store) }
         ensures runs { OnOk result (self.new.store.stopped ≡ false) }
+        // Whatever run the server is in, at every moment of the turn each image stands for a history that begins with what was
+        // handed out before.
+        ensures stop { (s : Setting) (h : History) (t : ℕ) (p : Place) → IsAt D.Disk H.AuthHandler G.RelayAddressGenerator s h t self.old p
+            → D.is_honest self.new.store.disk → EachImageSince (D.trace self.old.store.disk) (D.trace self.new.store.disk)
+            (BeginsWith (form_of self.old.store) (h ++ accepted p.handed) (now_of self.new)) }
     {
         let taken = self.take(system)?;
         self.has_data |= taken.data;
@@ -299,13 +319,18 @@ impl<
     }
 
     /// So many turns, one after the other, or up to the first that fails.
-    pub fn turns<C: Clock>(&mut self, system: &C, count: u64) -> Result<(), TurnFault>
-        ensures served { Served D.Disk H.AuthHandler G.RelayAddressGenerator self.old self.new }
+    pub fn turns<T: Time>(&mut self, system: &T, count: u64) -> Result<(), TurnFault>
+        ensures served { Served D.Disk H.AuthHandler G.RelayAddressGenerator (IsMoment (T.told system.now)) self.old self.new }
         ensures clock { now_of self.old ≤ now_of self.new }
         // No turn leaves the server as it was; one turn or more that ended well are what one is.
         ensures none { count ≡ 0 → self.new ≡ self.old }
         ensures done { 1 ≤ count → OnOk result (self.new ≡ emptied self.new self.new.store) }
         ensures runs { 1 ≤ count → OnOk result (self.new.store.stopped ≡ false) }
+        // Whatever run the server is in, at every moment of the turns each image stands for a history that begins with what was
+        // handed out before.
+        ensures stop { (s : Setting) (h : History) (t : ℕ) (p : Place) → IsAt D.Disk H.AuthHandler G.RelayAddressGenerator s h t self.old p
+            → D.is_honest self.new.store.disk → EachImageSince (D.trace self.old.store.disk) (D.trace self.new.store.disk)
+            (BeginsWith (form_of self.old.store) (h ++ accepted p.handed) (now_of self.new)) }
     {
         for turned in 0..count {
             self.turn(system)?;

@@ -1,12 +1,19 @@
 //! How a server over sockets is started.
 
-ghost use Rattle.std.specs.Prelude.{◌≡◌, Ok, IfOk, true, false, unwrap_or};
+ghost use Rattle.std.specs.Prelude.{◌≡◌, ◌↔◌, ℕ, None, Ok, IfErr, IfOk, IsTrue, true, false, unwrap_or};
 ghost use Rattle.std.specs.List.{list_all};
+ghost use Rattle.turn_disk.specs.Disk.{EachImageSince};
 ghost use Rattle.turn_engine.specs.Calls.{Opening};
+ghost use Rattle.turn_engine.specs.Images.{AtLeast};
+ghost use Rattle.turn_history.specs.Fitting.{is_taken};
+ghost use Rattle.turn_history.specs.History.{History};
+ghost use Rattle.turn_store.specs.Areas.{Form};
+ghost use Rattle.turn_step.specs.State.{HoldsPorts};
 ghost use Rattle.turn_store.specs.Carrying.{Carries};
-ghost use Rattle.turn_serving.specs.Starts.{IsKept, Started, have_ports};
+ghost use Rattle.turn_store.specs.Images.{EachImage};
+ghost use Rattle.turn_serving.specs.Starts.{IsBeforeReopening, IsKept, IsOfVersion, KeepsImages, Started, have_ports, is_first};
 
-use crate::fault::StartFault;
+use crate::fault::{StartFault, StartRefused};
 use crate::listening::{ATTEMPTS, Listening, Waiting, pause};
 use crate::serving::{Commits, Serving, SocketServing};
 use crate::turn::{RelaySockets, Work};
@@ -20,7 +27,9 @@ use turn_disk::Disk;
 use turn_engine::Server;
 use turn_history::Reservation;
 use turn_ports::{PortRange, RelayAddressGenerator};
+use turn_record::Version;
 use turn_sockets::{Bound, Buffer, DataIds, ListeningAddresses, OwnAddresses, SocketPorts};
+use turn_store::Refused;
 use turn_table::Table;
 use turn_types::ServerConfig;
 
@@ -41,7 +50,15 @@ pub struct Setup<'c, A: Allocator = Global> {
     pub seed: [u8; 32],
 }
 
-/// Opens the store of a disk, and carries it over to version 2 if that is asked for and it can be. A refusal lets the disk go.
+/// What a server has beside its store.
+struct Beside<'a, R: Net, W: Watch + Drop, A: Allocator + Copy> {
+    sockets: SocketPorts<'a, R, A>,
+    listening: Listening<W, A>,
+    waiting: Waiting<A>,
+    work: Work<A>,
+}
+
+/// Opens the store of a disk, and carries it over to version 2 if that is asked for and it can be. A refusal returns the disk.
 fn open<
     D: Disk + Drop,
     H: AuthHandler + Drop,
@@ -54,15 +71,28 @@ fn open<
     handler: H,
     ports: G,
     carry: bool,
-) -> Result<Server<D, H, G, A>, StartFault>
+) -> Result<Server<D, H, G, A>, Refused<D>>
     ensures opens { IfOk result (λ server. Opening D.Disk disk config.now handler ports (Ok server)) }
-    ensures carried { D.is_honest disk → IfOk result (λ server. Carries carry (D.trace disk).now.bytes server.store) }
+    ensures carried { IfOk result (λ server. D.is_honest server.store.disk
+        → Carries carry (D.trace disk).now.bytes server.store) }
     ensures kept { carry ≡ false → IfOk result (λ server. IsKept D.Disk disk server.store.disk) }
+    ensures kept_err { carry ≡ false → IfErr result (λ r. IsKept D.Disk disk r.disk) }
+    ensures images_err { IfErr result (λ r. KeepsImages D.Disk disk r.disk) }
 {
     match Server::open_as(alloc, disk, config, handler, ports, carry) {
         Ok(server) => Ok(server),
-        Err(refused) => Err(StartFault::Store(refused.fault)),
+        Err(refused) => Err(Refused {
+            fault: refused.fault,
+            disk: refused.disk,
+        }),
     }
+}
+
+/// Whether a store of this version may have to be carried over.
+fn is_first(version: Version) -> bool
+    ensures { result ≡ is_first version }
+{
+    version == Version::V1
 }
 
 /// Adds the ports that a table reserves.
@@ -87,21 +117,38 @@ fn ports_of<A: Allocator + Copy>(alloc: A, table: &Table<A>) -> Result<Vec<u16, 
 }
 
 /// Opens the store of a disk, which keeps its version, and closes it. Returns the ports of its allocations too, and those that are
-/// reserved.
+/// reserved; and its version.
 fn look_into<D: Disk + Drop, H: AuthHandler + Drop, A: Allocator + Copy>(
     alloc: A,
     disk: D,
     config: &ServerConfig<A>,
     handler: H,
     ports: PortRange,
-) -> Result<(D, H, Vec<u16, A>), StartFault>
+) -> Result<(D, H, Vec<u16, A>, Version), StartRefused<D>>
     ensures kept { IfOk result (λ looked. IsKept D.Disk disk looked.0) }
     ensures handler { IfOk result (λ looked. looked.1 ≡ handler) }
+    ensures version { IfOk result (λ looked. D.is_honest looked.0 → IsOfVersion looked.3 (D.trace disk).now.bytes) }
+    ensures kept_err { IfErr result (λ r. IsKept D.Disk disk r.disk) }
 {
-    let server = open(alloc, disk, config, handler, ports, false)?;
-    let ports = ports_of(alloc, server.table())?;
+    let server = match open(alloc, disk, config, handler, ports, false) {
+        Ok(server) => server,
+        Err(Refused { fault, disk }) => {
+            return Err(StartRefused {
+                fault: StartFault::Store(fault),
+                disk,
+            });
+        }
+    };
+    let version = server.info().version;
+    let ports = ports_of(alloc, server.table());
     let (disk, handler, _) = server.close();
-    Ok((disk, handler, ports))
+    match ports {
+        Ok(ports) => Ok((disk, handler, ports, version)),
+        Err(_) => Err(StartRefused {
+            fault: StartFault::Memory,
+            disk,
+        }),
+    }
 }
 
 /// Binds a port, if it has no socket yet. While it is in use it tries again, up to two seconds.
@@ -162,6 +209,16 @@ fn have_sockets<D: Disk, H: AuthHandler, G: RelaySockets, A: Allocator + Copy>(
     have_reserved(server.ports(), server.table().reserved_ports())
 }
 
+/// Whether the ports that have a socket are those of the table, of its allocations and those that it reserves.
+fn holds_ports<D: Disk, H: AuthHandler, G: RelaySockets, A: Allocator + Copy>(
+    server: &Server<D, H, G, A>,
+) -> bool
+    ensures { IsTrue result
+        ↔ ((port : ℕ) → G.has_socket server.now.machine.ports port ≡ is_taken server.now.machine.table.contents port) }
+{
+    have_sockets(server) && server.ports().are_all_in(server.table())
+}
+
 impl<'c, A: Allocator + Copy> Setup<'c, A> {
     /// The address on which relay sockets are bound.
     fn bound(&self) -> u32
@@ -208,10 +265,40 @@ impl<'c, A: Allocator + Copy> Setup<'c, A> {
         Ok(sockets)
     }
 
+    /// All that a server needs beside its store, with a socket for each of these ports.
+    fn bind_beside<'a, R: Net + Drop, C: Clock, W: Watch + Drop>(
+        &self,
+        alloc: A,
+        net: &'a R,
+        system: &C,
+        ports: &[u16],
+        watch: W,
+    ) -> Result<Beside<'a, R, W, A>, StartFault>
+        ensures { IfOk result (λ beside. ⟦<SocketPorts<'a, R, A> as RelayAddressGenerator>⟧.range beside.sockets ≡ self.now.ports) }
+    {
+        let Ok(poll) = Poll::new(net) else {
+            return Err(StartFault::Socket);
+        };
+        let sockets = self.bind_ports(alloc, net, system, &poll, ports)?;
+        let listening = Listening::open(alloc, net, system, &poll, self.own(), watch)?;
+        let waiting = Waiting::new(alloc, poll)?;
+        let work = Work {
+            buffer: Buffer::new(alloc)?,
+            ids: DataIds::new(),
+            kept: self.commits.places(alloc, self.config.limits())?,
+        };
+        Ok(Beside {
+            sockets,
+            listening,
+            waiting,
+            work,
+        })
+    }
+
     /// Opens the store of a disk, binds the relay ports of its allocations and those that it reserves, binds the listening sockets, and
     /// opens the store again over these: so a fault of the store comes before one of a socket. A port that is in use is tried again
     /// for two seconds, in pauses by the system's clock. The second opening alone carries the store over to version 2, if it can
-    /// be, so that a start which finds a socket at fault leaves the store as it was.
+    /// be, so that a start which finds a socket at fault leaves the store as it was. A refusal returns the disk.
     pub fn start<'a, D: Disk + Drop, H: AuthHandler + Drop, R: Net + Drop, C: Clock>(
         &self,
         alloc: A,
@@ -219,12 +306,33 @@ impl<'c, A: Allocator + Copy> Setup<'c, A> {
         system: &C,
         disk: D,
         handler: H,
-    ) -> Result<SocketServing<'a, D, H, R, A>, StartFault>
+    ) -> Result<SocketServing<'a, D, H, R, A>, StartRefused<D>>
         ensures started { IfOk result (λ serving. Started D.Disk H.AuthHandler ⟦<SocketPorts<'a, R, A> as RelayAddressGenerator>⟧
             disk self.now.config.now handler self.now.ports serving) }
         // The relay port of each allocation has a socket, and each reserved port.
         ensures sockets { IfOk result (λ serving. have_ports (⟦<SocketPorts<'a, R, A> as RelaySockets>⟧.has_socket serving.machine.ports)
             serving.machine.table.contents ≡ true) }
+        // And no other port has one.
+        ensures held { IfOk result (λ serving. HoldsPorts ⟦<SocketPorts<'a, R, A> as RelayAddressGenerator>⟧.holds serving.machine None) }
+
+        // A store that isn't of version 1 keeps its content, and each one does at a refusal before the second opening.
+        ensures same { IfOk result (λ serving. D.is_honest serving.store.disk
+            → (IsOfVersion Version.V1 (D.trace disk).now.bytes → ⊥)
+            → (D.trace serving.store.disk).now.bytes ≡ (D.trace disk).now.bytes) }
+        ensures same_err { IfErr result (λ r. D.is_honest r.disk → (IsOfVersion Version.V1 (D.trace disk).now.bytes → ⊥)
+            → (D.trace r.disk).now.bytes ≡ (D.trace disk).now.bytes) }
+        ensures before_err { IfErr result (λ r. D.is_honest r.disk → IsBeforeReopening r.fault
+            → (D.trace r.disk).now.bytes ≡ (D.trace disk).now.bytes) }
+
+        // Where each image of the disk stands for the first events of a history, at least k of them, a stop at any moment of the
+        // start leaves such images, and so does a refusal.
+        ensures stop { IfOk result (λ serving. D.is_honest serving.store.disk → (form : Form) (h : History) (k m : ℕ)
+            → EachImage (D.trace disk).now (AtLeast form h k m)
+            → EachImageSince (D.trace disk) (D.trace serving.store.disk) (AtLeast form h k m)) }
+        ensures stop_err { IfErr result (λ r. D.is_honest r.disk → (form : Form) (h : History) (k m : ℕ)
+            → EachImage (D.trace disk).now (AtLeast form h k m)
+            → EachImageSince (D.trace disk) (D.trace r.disk) (AtLeast form h k m)) }
+        ensures honest_err { IfErr result (λ r. D.is_honest r.disk → D.is_honest disk) }
     {
         self.start_watched(alloc, net, system, disk, handler, Silent)
     }
@@ -245,30 +353,72 @@ impl<'c, A: Allocator + Copy> Setup<'c, A> {
         disk: D,
         handler: H,
         watch: W,
-    ) -> Result<SocketServing<'a, D, H, R, A, W>, StartFault>
+    ) -> Result<SocketServing<'a, D, H, R, A, W>, StartRefused<D>>
         ensures started { IfOk result (λ serving. Started D.Disk H.AuthHandler ⟦<SocketPorts<'a, R, A> as RelayAddressGenerator>⟧
             disk self.now.config.now handler self.now.ports serving) }
         // The relay port of each allocation has a socket, and each reserved port.
         ensures sockets { IfOk result (λ serving. have_ports (⟦<SocketPorts<'a, R, A> as RelaySockets>⟧.has_socket serving.machine.ports)
             serving.machine.table.contents ≡ true) }
+        // And no other port has one.
+        ensures held { IfOk result (λ serving. HoldsPorts ⟦<SocketPorts<'a, R, A> as RelayAddressGenerator>⟧.holds serving.machine None) }
+
+        // A store that isn't of version 1 keeps its content, and each one does at a refusal before the second opening.
+        ensures same { IfOk result (λ serving. D.is_honest serving.store.disk
+            → (IsOfVersion Version.V1 (D.trace disk).now.bytes → ⊥)
+            → (D.trace serving.store.disk).now.bytes ≡ (D.trace disk).now.bytes) }
+        ensures same_err { IfErr result (λ r. D.is_honest r.disk → (IsOfVersion Version.V1 (D.trace disk).now.bytes → ⊥)
+            → (D.trace r.disk).now.bytes ≡ (D.trace disk).now.bytes) }
+        ensures before_err { IfErr result (λ r. D.is_honest r.disk → IsBeforeReopening r.fault
+            → (D.trace r.disk).now.bytes ≡ (D.trace disk).now.bytes) }
+
+        // Where each image of the disk stands for the first events of a history, at least k of them, a stop at any moment of the
+        // start leaves such images, and so does a refusal.
+        ensures stop { IfOk result (λ serving. D.is_honest serving.store.disk → (form : Form) (h : History) (k m : ℕ)
+            → EachImage (D.trace disk).now (AtLeast form h k m)
+            → EachImageSince (D.trace disk) (D.trace serving.store.disk) (AtLeast form h k m)) }
+        ensures stop_err { IfErr result (λ r. D.is_honest r.disk → (form : Form) (h : History) (k m : ℕ)
+            → EachImage (D.trace disk).now (AtLeast form h k m)
+            → EachImageSince (D.trace disk) (D.trace r.disk) (AtLeast form h k m)) }
+        ensures honest_err { IfErr result (λ r. D.is_honest r.disk → D.is_honest disk) }
     {
-        let (disk, handler, ports) = look_into(alloc, disk, self.config, handler, self.ports)?;
-        let Ok(poll) = Poll::new(net) else {
-            return Err(StartFault::Socket);
+        let (disk, handler, ports, version) = match look_into(
+            alloc,
+            disk,
+            self.config,
+            handler,
+            self.ports,
+        ) {
+            Ok(looked) => looked,
+            Err(refused) => return Err(refused),
         };
-        let sockets = self.bind_ports(alloc, net, system, &poll, &ports)?;
-        let listening = Listening::open(alloc, net, system, &poll, self.own(), watch)?;
-        let waiting = Waiting::new(alloc, poll)?;
-        let work = Work {
-            buffer: Buffer::new(alloc)?,
-            ids: DataIds::new(),
-            kept: self.commits.places(alloc, self.config.limits())?,
+        let beside = match self.bind_beside(alloc, net, system, &ports, watch) {
+            Ok(beside) => beside,
+            Err(fault) => return Err(StartRefused { fault, disk }),
         };
+        let Beside {
+            sockets,
+            listening,
+            waiting,
+            work,
+        } = beside;
         // This opening may write, so it comes behind all else that may be refused.
-        let server = open(alloc, disk, self.config, handler, sockets, true)?;
+        let carry = is_first(version);
+        let server = match open(alloc, disk, self.config, handler, sockets, carry) {
+            Ok(server) => server,
+            Err(Refused { fault, disk }) => {
+                return Err(StartRefused {
+                    fault: StartFault::Reopen(fault),
+                    disk,
+                });
+            }
+        };
         // A disk that failed between the two openings may have said something else.
-        if !have_sockets(&server) {
-            return Err(StartFault::Socket);
+        if !holds_ports(&server) {
+            let (disk, _, _) = server.close();
+            return Err(StartRefused {
+                fault: StartFault::Changed,
+                disk,
+            });
         }
         Ok(Serving::new(server, listening, waiting, work, self.burst))
     }

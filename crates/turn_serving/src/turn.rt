@@ -1,10 +1,10 @@
 //! What a turn does with one socket.
 
-ghost use Rattle.std.specs.Prelude.{◌≡◌, ◌≢◌, ◌≤◌, ◌↔◌, ℕ, All, Bool, IsTrue, OnOk, false, is_some};
+ghost use Rattle.std.specs.Prelude.{◌≡◌, ◌≢◌, ◌≤◌, ◌↔◌, ℕ, All, Bool, IsTrue, OnOk, false, is_some, true};
 ghost use Rattle.std.specs.BTreeMap.{get};
 ghost use Rattle.std.specs.Ordering.{nat_cmp};
 ghost use Rattle.turn_engine.specs.State.{emptied, now_of};
-ghost use Rattle.turn_serving.specs.Turns.{Served};
+ghost use Rattle.turn_serving.specs.Turns.{At, Never, Served};
 ghost use Rattle.turn_sockets.specs.Own.{IsListening, IsNamed};
 
 use crate::fault::TurnFault;
@@ -17,7 +17,7 @@ use std::net::Net;
 use turn_cred::AuthHandler;
 use turn_disk::Disk;
 use turn_engine::{Server, SubmitRefused};
-use turn_ports::RelayAddressGenerator;
+use turn_ports::{PortSet, RelayAddressGenerator};
 use turn_sockets::{
     Buffer, DataIds, LISTENING, Order, OwnAddresses, Ready, Received, SocketPorts, address_of,
 };
@@ -34,6 +34,10 @@ pub trait RelaySockets: RelayAddressGenerator {
     fn socket(&self, port: u16) -> Option<&UdpSocket>
         ensures { is_some result ≡ has_socket self.now port };
 
+    /// Whether each port that has a socket is in a set.
+    fn are_all_in<S: PortSet>(&self, ports: &S) -> bool
+        ensures { IsTrue result ↔ ((port : ℕ) → has_socket self.now port ≡ true → S.has ports.now port ≡ true) };
+
     /// Whether an address is one of this machine.
     fn is_local(&self, ip: u32) -> bool;
 }
@@ -43,6 +47,10 @@ impl<'a, R: Net, A: Allocator + Copy> RelaySockets for SocketPorts<'a, R, A> {
 
     fn socket(&self, port: u16) -> Option<&UdpSocket> {
         self.socket(port)
+    }
+
+    fn are_all_in<S: PortSet>(&self, ports: &S) -> bool {
+        self.are_all_in(ports)
     }
 
     fn is_local(&self, ip: u32) -> bool {
@@ -108,7 +116,7 @@ pub(crate) fn flush<D: Disk, H: AuthHandler, G: RelaySockets, A: Allocator + Cop
     listening: &Listening<W, A>,
     server: &mut Server<D, H, G, A>,
 ) -> Result<(), TurnFault>
-    ensures served { Served D.Disk H.AuthHandler G.RelayAddressGenerator server.old server.new }
+    ensures served { Served D.Disk H.AuthHandler G.RelayAddressGenerator Never server.old server.new }
     ensures done { OnOk result (server.new ≡ emptied server.old server.new.store) }
     ensures runs { OnOk result (server.new.store.stopped ≡ false) }
     ensures clock { now_of server.new ≡ now_of server.old }
@@ -132,7 +140,7 @@ pub(crate) fn submit<
     arrival: &Arrival<'_>,
 ) -> Result<(), TurnFault>
     requires { now_of server.old ≤ moment }
-    ensures served { Served D.Disk H.AuthHandler G.RelayAddressGenerator server.old server.new }
+    ensures served { Served D.Disk H.AuthHandler G.RelayAddressGenerator (At moment) server.old server.new }
     ensures clock { now_of server.new ≤ moment }
 {
     if server.submit(moment, arrival) == Err(SubmitRefused::BatchFull) {
@@ -156,7 +164,7 @@ pub(crate) fn submit_kept<
     kept: &Kept<A>,
 ) -> Result<(), TurnFault>
     requires { now_of server.old ≤ moment }
-    ensures served { Served D.Disk H.AuthHandler G.RelayAddressGenerator server.old server.new }
+    ensures served { Served D.Disk H.AuthHandler G.RelayAddressGenerator (At moment) server.old server.new }
     ensures clock { now_of server.new ≤ moment }
 {
     for request in kept.requests() {
@@ -242,7 +250,7 @@ impl<'l, W: Watch + Drop, A: Allocator + Copy> Turn<'l, W, A> {
         from: Endpoint,
     ) -> Result<Took, TurnFault>
         requires { now_of server.old ≤ self.now.moment }
-        ensures served { Served D.Disk H.AuthHandler G.RelayAddressGenerator server.old server.new }
+        ensures served { Served D.Disk H.AuthHandler G.RelayAddressGenerator (At self.now.moment) server.old server.new }
         ensures clock { now_of server.new ≤ self.now.moment }
     {
         let Some(five_tuple) = self.listening.five_tuple_of(client, from) else {
@@ -270,7 +278,7 @@ impl<'l, W: Watch + Drop, A: Allocator + Copy> Turn<'l, W, A> {
         place: usize,
     ) -> Result<Took, TurnFault>
         requires { now_of server.old ≤ self.now.moment }
-        ensures served { Served D.Disk H.AuthHandler G.RelayAddressGenerator server.old server.new }
+        ensures served { Served D.Disk H.AuthHandler G.RelayAddressGenerator (At self.now.moment) server.old server.new }
         ensures clock { now_of server.new ≤ self.now.moment }
     {
         if kept.is_full() {
@@ -297,7 +305,7 @@ impl<'l, W: Watch + Drop, A: Allocator + Copy> Turn<'l, W, A> {
         port: u16,
     ) -> Result<Took, TurnFault>
         requires { now_of server.old ≤ self.now.moment }
-        ensures served { Served D.Disk H.AuthHandler G.RelayAddressGenerator server.old server.new }
+        ensures served { Served D.Disk H.AuthHandler G.RelayAddressGenerator (At self.now.moment) server.old server.new }
         ensures clock { now_of server.new ≤ self.now.moment }
     {
         let Some(socket) = server.ports().socket(port) else {
@@ -326,7 +334,7 @@ impl<'l, W: Watch + Drop, A: Allocator + Copy> Turn<'l, W, A> {
         token: usize,
     ) -> Result<Took, TurnFault>
         requires { now_of server.old ≤ self.now.moment }
-        ensures served { Served D.Disk H.AuthHandler G.RelayAddressGenerator server.old server.new }
+        ensures served { Served D.Disk H.AuthHandler G.RelayAddressGenerator (At self.now.moment) server.old server.new }
         ensures clock { now_of server.new ≤ self.now.moment }
     {
         match u16::try_from(token) {
@@ -347,7 +355,7 @@ impl<'l, W: Watch + Drop, A: Allocator + Copy> Turn<'l, W, A> {
         taken: &mut Taken,
     ) -> Result<bool, TurnFault>
         requires { now_of server.old ≤ self.now.moment }
-        ensures served { Served D.Disk H.AuthHandler G.RelayAddressGenerator server.old server.new }
+        ensures served { Served D.Disk H.AuthHandler G.RelayAddressGenerator (At self.now.moment) server.old server.new }
         ensures clock { now_of server.new ≤ self.now.moment }
     {
         for _turn in 0..self.burst {
@@ -370,7 +378,7 @@ impl<'l, W: Watch + Drop, A: Allocator + Copy> Turn<'l, W, A> {
         taken: &mut Taken,
     ) -> Result<(), TurnFault>
         requires { now_of server.old ≤ self.now.moment }
-        ensures served { Served D.Disk H.AuthHandler G.RelayAddressGenerator server.old server.new }
+        ensures served { Served D.Disk H.AuthHandler G.RelayAddressGenerator (At self.now.moment) server.old server.new }
         ensures clock { now_of server.new ≤ self.now.moment }
     {
         if ready.has(token) && !self.serve(server, work, token, taken)? {
@@ -388,7 +396,7 @@ impl<'l, W: Watch + Drop, A: Allocator + Copy> Turn<'l, W, A> {
         ready: &mut Ready<A>,
     ) -> Result<Taken, TurnFault>
         requires { now_of server.old ≤ self.now.moment }
-        ensures served { Served D.Disk H.AuthHandler G.RelayAddressGenerator server.old server.new }
+        ensures served { Served D.Disk H.AuthHandler G.RelayAddressGenerator (At self.now.moment) server.old server.new }
         ensures clock { now_of server.new ≤ self.now.moment }
     {
         let mut taken = Taken::NOTHING;

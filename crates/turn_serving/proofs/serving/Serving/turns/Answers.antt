@@ -1,5 +1,5 @@
 use Rattle.std.proofs.Common.{arith, rules}
-use Rattle.turn_serving.proofs.Turns.{in_time, then}
+use Rattle.turn_serving.proofs.Turns.{in_time, keeps, then}
 use Rattle.turn_serving.proofs.serving.Serving.turns.Goals as goal
 
 pub returns-in_err-turn-clause-served : goal.returns-in_err-turn-clause-served
@@ -20,3 +20,9 @@ returns-clause-done g c = search rules
 
 pub returns-clause-runs : goal.returns-clause-runs
 returns-clause-runs g c = search rules
+
+pub returns-in_err-turn-clause-stop : goal.returns-in_err-turn-clause-stop
+returns-in_err-turn-clause-stop g c s h t p is = keeps g.D.Disk g.H.AuthHandler g.G.RelayAddressGenerator s h t (returns-in_err-turn-clause-served g c) p is
+
+pub returns-clause-stop : goal.returns-clause-stop
+returns-clause-stop g c s h t p is = keeps g.D.Disk g.H.AuthHandler g.G.RelayAddressGenerator s h t c.loop-turned.invariant.0 p is

@@ -1,11 +1,49 @@
-use Rattle.std.proofs.Common.{sym, ◌∙◌}
-use Rattle.turn_serving.proofs.Starts.{started, started_as}
+use Rattle.std.proofs.Common.{sym, ap, ◌∙◌, subst}
+use Rattle.turn_serving.specs.Starts.{KeepsImages}
+use Rattle.turn_serving.proofs.Held.{all_pass}
+use Rattle.turn_serving.proofs.Starts.{both_kept, joined, not_first, opened_images, started, started_as}
 use Rattle.turn_serving.proofs.start.Setup.start_watched.Goals as goal
+
+pub returns-in-Err-open-clause-stop_err : goal.returns-in-Err-open-clause-stop_err
+returns-in-Err-open-clause-stop_err g c = (joined g.D.Disk c.in-Ok.ensures.kept.images c.in-Err-open.ensures.images_err).stop
+
+pub returns-in-Err-open-clause-same_err : goal.returns-in-Err-open-clause-same_err
+returns-in-Err-open-clause-same_err g c honest later =
+    let unasked = c.is_first-carry.ensures ∙ not_first _ _ (c.in-Ok.ensures.version (c.in-Err-open.ensures.images_err.honest honest)) later in
+    (both_kept g.D.Disk c.in-Ok.ensures.kept (c.in-Err-open.ensures.kept_err unasked)).content honest
+
+pub returns-then-not-holds_ports-clause-honest_err : goal.returns-then-not-holds_ports-clause-honest_err
+returns-then-not-holds_ports-clause-honest_err g c honest =
+    c.in-Ok.ensures.kept.images.honest (c.in-Ok-open.ensures.opens.honest (subst (λ d. g.D.Disk.is_honest d) c.close-disk.ensures.disk honest))
+
+pub returns-then-not-holds_ports-clause-same_err : goal.returns-then-not-holds_ports-clause-same_err
+returns-then-not-holds_ports-clause-same_err g c honest later =
+    let now = subst (λ d. g.D.Disk.is_honest d) c.close-disk.ensures.disk honest in
+    let unasked = c.is_first-carry.ensures ∙ not_first _ _ (c.in-Ok.ensures.version (c.in-Ok-open.ensures.opens.honest now)) later in
+    ap (λ d. (g.D.Disk.trace d).now.bytes) c.close-disk.ensures.disk ∙ (both_kept g.D.Disk c.in-Ok.ensures.kept (c.in-Ok-open.ensures.kept unasked)).content now
+
+pub returns-then-not-holds_ports-clause-stop_err : goal.returns-then-not-holds_ports-clause-stop_err
+returns-then-not-holds_ports-clause-stop_err g c =
+    (subst (λ d. KeepsImages g.D.Disk c.args.disk d) (sym c.close-disk.ensures.disk) (joined g.D.Disk c.in-Ok.ensures.kept.images (opened_images g.D.Disk c.in-Ok-open.ensures.opens))).stop
 
 pub returns-clause-started : goal.returns-clause-started
 returns-clause-started g c =
-    started_as c.new-5.ensures
-    (started g.D.Disk g.H.AuthHandler _ _ _ _ _ _ _ _ _ c.in_ok-disk.ensures.kept c.in_ok-disk.ensures.handler c.in_ok-sockets.ensures c.in_ok-server.ensures.opens c.in_ok-server.ensures.carried)
+    started_as c.new.ensures
+    (started g.D.Disk g.H.AuthHandler _ _ _ _ _ _ _ _ _ c.in-Ok.ensures.kept c.in-Ok.ensures.handler c.in-Ok-bind_beside.ensures c.in-Ok-open.ensures.opens _ c.in-Ok.ensures.version _ c.is_first-carry.ensures
+    c.in-Ok-open.ensures.carried)
 
 pub returns-clause-sockets : goal.returns-clause-sockets
-returns-clause-sockets g c = rw c.new-5.ensures (sym c.have_sockets.ensures ∙ search)
+returns-clause-sockets g c = rw c.new.ensures (all_pass _ c.in-Ok-open.server.machine.table.contents (c.holds_ports.ensures.0 search))
+
+pub returns-clause-held : goal.returns-clause-held
+returns-clause-held g c = rw c.new.ensures (c.holds_ports.ensures.0 search)
+
+pub returns-clause-same : goal.returns-clause-same
+returns-clause-same g c honest later =
+    let now = subst (λ s. g.D.Disk.is_honest s.store.disk) c.new.ensures honest in
+    let unasked = c.is_first-carry.ensures ∙ not_first _ _ (c.in-Ok.ensures.version (c.in-Ok-open.ensures.opens.honest now)) later in
+    ap (λ s. (g.D.Disk.trace s.store.disk).now.bytes) c.new.ensures ∙ (both_kept g.D.Disk c.in-Ok.ensures.kept (c.in-Ok-open.ensures.kept unasked)).content now
+
+pub returns-clause-stop : goal.returns-clause-stop
+returns-clause-stop g c =
+    (subst (λ s. KeepsImages g.D.Disk c.args.disk s.store.disk) (sym c.new.ensures) (joined g.D.Disk c.in-Ok.ensures.kept.images (opened_images g.D.Disk c.in-Ok-open.ensures.opens))).stop
