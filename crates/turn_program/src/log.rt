@@ -104,13 +104,23 @@ impl<L: Write + Drop> Lines<L> {
         }
     }
 
+    // The second of what is sent: that of its moment, or of a later one at which a table was looked at since, so that the log's seconds
+    // never go back.
+    fn second_of(&self, moment: Moment) -> u64 {
+        match self.looked {
+            Some(looked) if moment < looked => looked.seconds(),
+            _ => moment.seconds(),
+        }
+    }
+
     // Sees what was sent. Data is passed by after a look at its first byte.
     fn see<A: Allocator + Copy>(
         &mut self,
-        second: u64,
+        moment: Moment,
         table: &Table<A>,
         outgoing: &[Outgoing<A>],
     ) {
+        let second = self.second_of(moment);
         for datagram in outgoing {
             if let Outgoing::ToClient { five_tuple, bytes } = datagram {
                 if let Some(response) = response_of(bytes) {
@@ -199,7 +209,7 @@ impl<'l, L: Write + Drop> Watch for &'l Log<L> {
     ) {
         if let Some(lines) = &self.lines {
             if let Ok(mut lines) = lines.try_borrow_mut() {
-                lines.see(moment.seconds(), table, outgoing);
+                lines.see(moment, table, outgoing);
             }
         }
     }
