@@ -1,8 +1,10 @@
 mod addresses;
 mod carrying;
+mod channels;
 mod checks;
 mod conversations;
 mod credentials;
+mod endless;
 mod faults;
 mod formats;
 mod full_disk;

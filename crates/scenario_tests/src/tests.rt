@@ -5,6 +5,7 @@ mod configurations;
 mod events;
 mod examples;
 mod expects;
+mod failing;
 mod memory;
 mod messages;
 mod players;

@@ -72,6 +72,8 @@ abbrev pub of_start : StartFault → Fault
 of_start (start_faults.Store fault) = of_open fault
 of_start start_faults.Socket = Socket
 of_start start_faults.Memory = Memory
+of_start (start_faults.Reopen fault) = of_open fault
+of_start start_faults.Changed = Device
 
 abbrev pub of_turn : TurnFault → Fault
 of_turn (turn_faults.Commit fault) = of_store fault

@@ -19,7 +19,7 @@ pub fn second_now<C: Clock>(clock: &C) -> u64 {
     let Some(first) = Moment::new(0) else {
         return 0;
     };
-    match moment_now(clock, first) {
+    match moment_now(&clock, first) {
         Some(moment) => moment.seconds(),
         None => 0,
     }

@@ -1,6 +1,6 @@
 //! `turn check`.
 
-ghost use Rattle.std.specs.Prelude.{IfErr, OnOk, Some};
+ghost use Rattle.std.specs.Prelude.{◌≡◌, IfErr, OnOk, Some};
 ghost use Rattle.turn_program.specs.Checks.{IsStoreFault};
 ghost use Rattle.turn_reading.specs.Readings.{IsRead};
 ghost use Rattle.turn_store.specs.Replay.{Snapshot};
@@ -27,23 +27,27 @@ fn open_beside<R: Files<File = File>>(files: &R, store: &str) -> Result<FileDisk
     Ok(FileDisk::open_to_read(files, store)?)
 }
 
-/// Reads a store as a start opens it, under these limits, whether or not a server writes to it meanwhile.
+/// Reads a store as a start opens it, under these limits, whether or not a server writes to it meanwhile. Returns the disk too.
 pub fn check_store<D: Disk + Drop, C: Clock>(
     alloc: Global,
     clock: &C,
     disk: D,
     limits: Limits,
-) -> Result<(), Fault>
+) -> (D, Result<(), Fault>)
+    ensures honest { D.is_honest result.0 → D.is_honest disk }
+    ensures same { D.is_honest result.0 → (D.trace result.0).now.bytes ≡ (D.trace disk).now.bytes }
+
     // Of an honest disk, to which nobody else writes: the store holds a table, or the fault is that of an opening.
-    ensures read { D.is_honest disk → OnOk result ((t : Snapshot) × IsRead D (Some limits) (D.trace disk).now.bytes t) }
-    ensures why { D.is_honest disk → IfErr result (IsStoreFault limits (D.trace disk).now.bytes) }
+    ensures read { D.is_honest result.0 → OnOk result.1 ((t : Snapshot) × IsRead D (Some limits) (D.trace disk).now.bytes t) }
+    ensures why { D.is_honest result.0 → IfErr result.1 (IsStoreFault limits (D.trace disk).now.bytes) }
 {
-    match read_store(alloc, clock, disk, Some(limits)) {
+    let (disk, read) = read_store(alloc, clock, disk, Some(limits));
+    match read {
         Ok(reading) => {
             drop(reading);
-            Ok(())
+            (disk, Ok(()))
         }
-        Err(fault) => Err(Fault::from(fault)),
+        Err(fault) => (disk, Err(Fault::from(fault))),
     }
 }
 
@@ -58,7 +62,7 @@ pub fn run_check<R: Files<File = File> + AllocGlobal, C: Clock, W: Write>(
     out: &mut W,
 ) -> Result<(), Fault> {
     prepare(rt, config, listen, |limits| match store {
-        Some(store) => check_store(rt.alloc(), clock, open_beside(rt, store)?, limits),
+        Some(store) => check_store(rt.alloc(), clock, open_beside(rt, store)?, limits).1,
         None => Ok(()),
     })?;
     print_line("ok", out)

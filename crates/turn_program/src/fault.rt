@@ -182,6 +182,8 @@ impl From<StartFault> for Fault {
             StartFault::Store(fault) => Fault::from(fault),
             StartFault::Socket => Fault::Socket,
             StartFault::Memory => Fault::Memory,
+            StartFault::Reopen(fault) => Fault::from(fault),
+            StartFault::Changed => Fault::Device,
         }
     }
 }

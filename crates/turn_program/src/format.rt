@@ -1,6 +1,6 @@
 //! `turn format`.
 
-ghost use Rattle.std.specs.Prelude.{◌≡◌, [], ◌+◌, ◌*◌, ◌↔◌, ◌<◌, ◌≤◌, Err, IfErr, OnErr, OnOk, length};
+ghost use Rattle.std.specs.Prelude.{◌≡◌, [], ◌+◌, ◌*◌, ◌<◌, ◌≤◌, Err, IfErr, OnErr, OnOk, length};
 ghost use Rattle.turn_disk.specs.Counts.{CountOutcome, Rises};
 ghost use Rattle.turn_program.specs.declared.fault.Fault.TheVariants as faults;
 ghost use Rattle.turn_record.specs.declared.version.Version.TheVariants.{V2};
@@ -27,7 +27,7 @@ const PIECE: usize = 65_536;
 fn write_over<D: Disk>(disk: &mut D, piece: &[u8]) -> Result<(), DeviceFailed>
     requires { 0 < length piece.now }
     ensures size { D.capacity disk.new ≡ D.capacity disk.old }
-    ensures honest { D.is_honest disk.new ↔ D.is_honest disk.old }
+    ensures honest { D.is_honest disk.new → D.is_honest disk.old }
     ensures count { CountOutcome (D.failed disk.old) (D.failed disk.new) result }
 {
     let size = disk.size();
@@ -43,7 +43,7 @@ fn write_over<D: Disk>(disk: &mut D, piece: &[u8]) -> Result<(), DeviceFailed>
 /// Writes zeros over all bytes of a disk.
 fn write_zeros<D: Disk>(alloc: Global, disk: &mut D) -> Result<(), Fault>
     ensures size { D.capacity disk.new ≡ D.capacity disk.old }
-    ensures honest { D.is_honest disk.new ↔ D.is_honest disk.old }
+    ensures honest { D.is_honest disk.new → D.is_honest disk.old }
     ensures count { OnOk result (D.failed disk.new ≡ D.failed disk.old) }
     ensures device { result ≡ Err faults.Device → Rises (D.failed disk.old) (D.failed disk.new) }
 {
@@ -62,13 +62,13 @@ pub fn format_disk<D: Disk>(
 ) -> Result<(), Fault>
     requires { 64 + 2 * area ≡ D.capacity disk.old }
     ensures size { D.capacity disk.new ≡ D.capacity disk.old }
-    ensures honest { D.is_honest disk.new ↔ D.is_honest disk.old }
+    ensures honest { D.is_honest disk.new → D.is_honest disk.old }
     ensures count { OnOk result (D.failed disk.new ≡ D.failed disk.old) }
 
     // The first area counts, of version 2 and with generation 1, and each image stands for the empty history.
-    ensures formatted { D.is_honest disk.old
+    ensures formatted { D.is_honest disk.new
         → OnOk result (IsFormatted V2 (record { bounds = limits; area = area }) (D.trace disk.new).now) }
-    ensures done { D.is_honest disk.old
+    ensures done { D.is_honest disk.new
         → OnOk result (EachImage (D.trace disk.new).now (StandsForAt (record { bounds = limits; area = area }) [] 0)) }
 {
     write_zeros(alloc, disk)?;

@@ -41,6 +41,6 @@ pub fn run_inspect<R: Files<File = File> + AllocGlobal, C: Clock, W: Write>(
     out: &mut W,
 ) -> Result<(), Fault> {
     let disk = FileDisk::open_to_read(rt, store)?;
-    let reading = read_store(rt.alloc(), clock, disk, None)?;
-    print_lines(rt.alloc(), &lines_of(rt.alloc(), &reading, at)?, out)
+    let (_, read) = read_store(rt.alloc(), clock, disk, None);
+    print_lines(rt.alloc(), &lines_of(rt.alloc(), &read?, at)?, out)
 }

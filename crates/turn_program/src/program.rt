@@ -19,6 +19,7 @@ use std::io::Write;
 use std::net::Net;
 use std::random::RandomSource;
 use std::rt::{Clock, Files};
+use turn_disk::Unknown;
 use turn_words::{Command, command_of};
 
 fn run_command<
@@ -74,7 +75,7 @@ fn run_command<
                 listen,
                 log: *is_logged,
             };
-            run_serve(rt, clock, service, out, log)
+            run_serve::<Unknown, R, C, W, L>(rt, clock, service, out, log)
         }
         Command::Demo => run_demo(rt, clock, out),
         Command::Version => run_version(rt.alloc(), release, out),

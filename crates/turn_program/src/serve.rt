@@ -19,9 +19,9 @@ use std::thread;
 use std::time::Duration;
 use turn_config::ShownEndpoint;
 use turn_cred::Credentials;
-use turn_disk::{FileDisk, FileRefused};
+use turn_disk::{FileDisk, FileRefused, Start};
 use turn_ports::RelayAddressGenerator;
-use turn_serving::{Commits, Setup, SocketServing, StartFault, TurnFault};
+use turn_serving::{Commits, Setup, SocketServing, StartFault, StartRefused, TurnFault};
 use turn_types::Endpoint;
 
 /// What the words of `turn serve` say.
@@ -63,9 +63,9 @@ fn random_bytes<R: RandomSource>(rt: &R) -> Result<[u8; 32], Fault>
 const LISTENS_TWICE: &str = "listen: an address is given twice";
 
 /// A server over the store in a file, which a log watches.
-type FileServing<'a, 'l, R, L> = SocketServing<
+type FileServing<'a, 'l, S, R, L> = SocketServing<
     'a,
-    FileDisk<File>,
+    FileDisk<File, S>,
     Credentials,
     R,
     Global,
@@ -156,7 +156,9 @@ fn tell_start<R: Files<File = File> + Net + AllocGlobal, C: Clock, L: Write + Dr
     fault: StartFault,
 ) {
     match fault {
-        StartFault::Store(_) => tell_store(rt, clock, log, store),
+        StartFault::Store(_) | StartFault::Reopen(_) | StartFault::Changed => {
+            tell_store(rt, clock, log, store)
+        }
         StartFault::Socket => tell_sockets(rt, clock, log, addresses),
         StartFault::Memory => {}
     }
@@ -172,6 +174,7 @@ fn since<C: Clock>(clock: &C, began: Option<Duration>) -> Option<Duration> {
 fn start<
     'a,
     'l,
+    S: Start,
     R: Files<File = File> + Net + RandomSource + Drop + AllocGlobal,
     C: Clock,
     L: Write + Drop,
@@ -180,7 +183,7 @@ fn start<
     clock: &C,
     service: Service<'_>,
     log: &'l Log<L>,
-) -> Result<FileServing<'a, 'l, R, L>, Fault> {
+) -> Result<FileServing<'a, 'l, S, R, L>, Fault> {
     let Prepared {
         config,
         credentials,
@@ -197,9 +200,9 @@ fn start<
         commits: commits_of(service.turns),
         seed: random_bytes(rt)?,
     };
-    match setup.start_watched(rt.alloc(), rt, clock, disk, credentials, log) {
+    match setup.start_watched(rt.alloc(), rt, clock, disk.holding::<S>(), credentials, log) {
         Ok(serving) => Ok(serving),
-        Err(fault) => {
+        Err(StartRefused { fault, disk: _ }) => {
             let addresses = Addresses {
                 listen: listen.as_slice(),
                 relay: service.relay_bind.unwrap_or(config.relay()),
@@ -212,15 +215,15 @@ fn start<
 }
 
 /// Takes turns. At a fault of the store the log says which file it is.
-fn take_turns<R: Files + Net + Drop + AllocGlobal, C: Clock, L: Write + Drop>(
+fn take_turns<S: Start, R: Files + Net + Drop + AllocGlobal, C: Clock, L: Write + Drop>(
     rt: &R,
-    serving: &mut FileServing<'_, '_, R, L>,
+    serving: &mut FileServing<'_, '_, S, R, L>,
     clock: &C,
     service: Service<'_>,
     log: &Log<L>,
 ) -> Result<(), Fault> {
     // 2^64 turns of which each takes a microsecond are 580,000 years.
-    match serving.turns(clock, service.turns.unwrap_or(u64::MAX)) {
+    match serving.turns(&clock, service.turns.unwrap_or(u64::MAX)) {
         Ok(()) => Ok(()),
         Err(fault) => {
             if let TurnFault::Commit(_) = fault {
@@ -245,9 +248,9 @@ fn print_addresses<W: Write>(
 }
 
 /// Says where the server listens, takes the turns, and says how many there were.
-fn tell<R: Files + Net + Drop + AllocGlobal, C: Clock, W: Write, L: Write + Drop>(
+fn tell<S: Start, R: Files + Net + Drop + AllocGlobal, C: Clock, W: Write, L: Write + Drop>(
     rt: &R,
-    serving: &mut FileServing<'_, '_, R, L>,
+    serving: &mut FileServing<'_, '_, S, R, L>,
     clock: &C,
     service: Service<'_>,
     log: &Log<L>,
@@ -261,8 +264,10 @@ fn tell<R: Files + Net + Drop + AllocGlobal, C: Clock, W: Write, L: Write + Drop
     }
 }
 
-/// Serves for so many turns, or until the process is ended. If a log is asked for it is written to `lines`.
+/// Serves for so many turns, or until the process is ended. If a log is asked for it is written to `lines`. `S` stands for what the
+/// store's file held, whatever that is.
 pub fn run_serve<
+    S: Start,
     R: Files<File = File> + Net + RandomSource + Drop + AllocGlobal,
     C: Clock,
     W: Write,
@@ -270,7 +275,7 @@ pub fn run_serve<
 >(rt: &R, clock: &C, service: Service<'_>, out: &mut W, lines: L) -> Result<(), Fault> {
     let log = Log::new(rt.alloc(), lines, service.log);
     let began = clock.monotonic().ok();
-    let mut serving = start(rt, clock, service, &log)?;
+    let mut serving = start::<S, R, C, L>(rt, clock, service, &log)?;
     let started = Started {
         version: service.version,
         listen: serving.locals().as_slice(),

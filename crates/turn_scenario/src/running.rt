@@ -58,7 +58,7 @@ fn format_as<D: Disk>(
     area: usize,
 ) -> Result<(), FormatRefused>
     requires { 64 + 2 * area ≡ D.capacity disk.old }
-    ensures done { D.is_honest disk.old
+    ensures done { D.is_honest disk.new
         → OnOk result (EachImage (D.trace disk.new).now (StandsForAt (record { bounds = limits; area = area }) [] 0)) }
     ensures refused { IsErr result → (area < least_area version limits) ⊎ Rises (D.failed disk.old) (D.failed disk.new) }
 {

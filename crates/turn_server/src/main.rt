@@ -14,7 +14,7 @@ use turn_program::{Fault, LogStream, Release, fill_streams, report, run_words};
 
 /// What `turn version` says.
 const RELEASE: Release<'static> = Release {
-    version: "0.2.0",
+    version: "0.2.1",
     sources: SOURCES,
     toolchain: TOOLCHAIN,
 };

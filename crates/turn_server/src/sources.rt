@@ -1,7 +1,7 @@
 //! What this program is made from. This file is written by packaging/digest.
 
 /// The digest of the sources.
-pub const SOURCES: &str = "a3b50c4d278aeb1eb7facb1c21145163b413444d3df8a0e7a10954f71e1e8c2f";
+pub const SOURCES: &str = "d6279591a1e43bff0fb5432905097f6fcc0561ffbd9589707c29d6ec23a0ec0a";
 
 /// The toolchain, as it names itself.
 pub const TOOLCHAIN: &str = "rattle-kit-13f logic dac8208d650f15bf";

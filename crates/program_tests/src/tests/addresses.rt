@@ -132,6 +132,34 @@ fn a_call_goes_by_the_address_that_its_client_uses(rt: HostRuntime) -> Result<()
     Ok(())
 }
 
+/// Where the server's address is in the first frame of a store that was formatted. The frame is at 94: a gate, four bytes of length, the
+/// number of records, the kind of the first one, its moment in eight bytes, and the client's address in six.
+const STORED_SERVER: usize = 94 + 21;
+
+fn stored_server(disk: &MemoryDisk) -> Option<Endpoint> {
+    let bytes = disk.content().get(STORED_SERVER..STORED_SERVER + 6)?;
+    let [a, b, c, d, high, low] = bytes else {
+        return None;
+    };
+    Some(Endpoint {
+        ip: u32::from_be_bytes([*a, *b, *c, *d]),
+        port: u16::from_be_bytes([*high, *low]),
+    })
+}
+
+#[test]
+fn a_stored_five_tuple_ends_at_the_address_that_the_client_sent_to(
+    rt: HostRuntime,
+) -> Result<(), Fail> {
+    let mut talk = begin_at(&rt, two((HOME, 0), (ELSEWHERE, 0))?)?;
+    let second = talk.servers().as_slice().get(1).copied();
+    let called = call(&rt, &mut talk, second.ok_or("two addresses")?);
+    let (disk, _) = talk.end();
+    called?;
+    assert!(rt; stored_server(&disk) == second);
+    Ok(())
+}
+
 #[test]
 fn what_a_relay_port_sends_to_the_second_address_is_lost(rt: HostRuntime) -> Result<(), Fail> {
     let mut talk = begin_at(&rt, two((HOME, 63_101), (HOME, 63_102))?)?;

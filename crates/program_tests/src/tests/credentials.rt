@@ -38,230 +38,78 @@ password MXwhuuFe5NZQc9NGjlfG8crL1fI=
 {\"iceServers\": [{\"urls\": \"turn:192.0.2.100:3478?transport=udp\", \"username\": \"1700000000:\\\"\\\\\", \"credential\": \"MXwhuuFe5NZQc9NGjlfG8crL1fI=\"}]}
 ";
 
-/// The words, and what is printed.
+/// The words after the configuration's, and what is printed.
 type Case = (&'static [&'static str], &'static str);
 
 const MADE: [Case; 5] = [
     (
-        &[
-            "credential",
-            "--config",
-            "turn_credential.made",
-            "--at",
-            "1699996400",
-            "--life",
-            "3600",
-            "--name",
-            "alice",
-        ],
+        &["--at", "1699996400", "--life", "3600", "--name", "alice"],
         ALICE,
     ),
     (
-        &[
-            "credential",
-            "--config",
-            "turn_credential.made",
-            "--at",
-            "1700000000",
-            "--life",
-            "0",
-            "--name",
-            "alice",
-        ],
+        &["--at", "1700000000", "--life", "0", "--name", "alice"],
         ALICE,
     ),
     (
-        &[
-            "credential",
-            "--config",
-            "turn_credential.made",
-            "--at",
-            "0",
-            "--life",
-            "1700000000",
-            "--name=alice",
-        ],
+        &["--at", "0", "--life", "1700000000", "--name=alice"],
         ALICE,
     ),
+    (&["--at", "1699996400", "--life", "3600"], BARE),
     (
-        &[
-            "credential",
-            "--config",
-            "turn_credential.made",
-            "--at",
-            "1699996400",
-            "--life",
-            "3600",
-        ],
-        BARE,
-    ),
-    (
-        &[
-            "credential",
-            "--config",
-            "turn_credential.made",
-            "--at",
-            "1699996400",
-            "--life",
-            "3600",
-            "--name",
-            "\"\\",
-        ],
+        &["--at", "1699996400", "--life", "3600", "--name", "\"\\"],
         QUOTED,
     ),
 ];
 
 /// The last two: a name above the limit, and one with a `user` line.
-const REFUSED: [Case; 9] = [
-    (
-        &[
-            "credential",
-            "--config",
-            "turn_credential.refused",
-            "--at",
-            "0",
-            "--life",
-            "0",
-        ],
-        USAGE,
-    ),
-    (
-        &[
-            "credential",
-            "--config",
-            "turn_credential.refused",
-            "--at",
-            "1099511624175",
-            "--life",
-            "1",
-        ],
-        USAGE,
-    ),
-    (
-        &[
-            "credential",
-            "--config",
-            "turn_credential.refused",
-            "--at",
-            "1099511624176",
-            "--life",
-            "0",
-        ],
-        USAGE,
-    ),
-    (
-        &[
-            "credential",
-            "--config",
-            "turn_credential.refused",
-            "--at",
-            "1",
-            "--life",
-            "18446744073709551615",
-        ],
-        USAGE,
-    ),
-    (
-        &[
-            "credential",
-            "--config",
-            "turn_credential.refused",
-            "--at",
-            "1",
-            "--life",
-            "18446744073709551616",
-        ],
-        USAGE,
-    ),
-    (
-        &[
-            "credential",
-            "--config",
-            "turn_credential.refused",
-            "--at",
-            "1",
-            "--life",
-            "-1",
-        ],
-        USAGE,
-    ),
-    (
-        &[
-            "credential",
-            "--config",
-            "turn_credential.refused",
-            "--at",
-            "1699996400",
-            "--life",
-            "3600",
-            "--name",
-            "a\nb",
-        ],
-        USAGE,
-    ),
-    (
-        &[
-            "credential",
-            "--config",
-            "turn_credential.refused",
-            "--at",
-            "1699996400",
-            "--life",
-            "3600",
-            "--name",
-            "alicia",
-        ],
-        USAGE,
-    ),
-    (
-        &[
-            "credential",
-            "--config",
-            "turn_credential.refused",
-            "--at",
-            "1700000000",
-            "--life",
-            "1",
-        ],
-        USAGE,
-    ),
+const REFUSED: [&[&str]; 9] = [
+    &["--at", "0", "--life", "0"],
+    &["--at", "1099511624175", "--life", "1"],
+    &["--at", "1099511624176", "--life", "0"],
+    &["--at", "1", "--life", "18446744073709551615"],
+    &["--at", "1", "--life", "18446744073709551616"],
+    &["--at", "1", "--life", "-1"],
+    &["--at", "1699996400", "--life", "3600", "--name", "a\nb"],
+    &["--at", "1699996400", "--life", "3600", "--name", "alicia"],
+    &["--at", "1700000000", "--life", "1"],
 ];
 
-/// Where the configuration has no secret.
-const UNKNOWN: Case = (
-    &[
-        "credential",
-        "--config",
-        "turn_credential.refused",
-        "--at",
-        "1699996400",
-        "--life",
-        "3600",
-    ],
-    USAGE,
-);
+/// Words that are taken where the configuration has a secret.
+const ANY: &[&str] = &["--at", "1699996400", "--life", "3600"];
 
-fn play(rt: &HostRuntime, path: &str, lines: &str, case: &Case, status: u8) -> Result<(), Fail> {
-    let (words, text) = *case;
+/// Runs the command over a file of these lines.
+fn play<'w>(
+    rt: &HostRuntime,
+    path: &'w str,
+    lines: &str,
+    words: &[&'w str],
+    status: u8,
+    out: &str,
+    err: &str,
+) -> Result<(), Fail> {
+    let mut all = vec![in rt.alloc(); "credential"]?;
+    all.push("--config")?;
+    all.push(path)?;
+    all.extend_from_slice(words)?;
     fs::write(rt, path, lines.as_bytes())?;
-    let (out, err) = if status == 0 { (text, "") } else { ("", text) };
-    expect(rt, words, status, out, err)?;
+    expect(rt, all.as_slice(), status, out, err)?;
     fs::remove_file(rt, path)?;
     Ok(())
 }
 
 #[test]
 fn a_credential_expires_after_its_life(rt: HostRuntime) -> Result<(), Fail> {
-    for case in &MADE {
-        play(&rt, "turn_credential.made", LINES, case, 0)?;
+    for (words, out) in &MADE {
+        play(&rt, "turn_credential.made", LINES, words, 0, out, "")?;
     }
     Ok(())
 }
 
 #[test]
 fn a_credential_that_no_server_takes_is_a_usage_fault(rt: HostRuntime) -> Result<(), Fail> {
-    for case in &REFUSED {
-        play(&rt, "turn_credential.refused", LINES, case, 1)?;
+    let path = "turn_credential.refused";
+    for words in &REFUSED {
+        play(&rt, path, LINES, words, 1, "", USAGE)?;
     }
-    play(&rt, "turn_credential.refused", NO_SECRET, &UNKNOWN, 1)
+    play(&rt, path, NO_SECRET, ANY, 1, "", USAGE)
 }

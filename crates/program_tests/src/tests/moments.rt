@@ -40,7 +40,7 @@ const MOMENTS: [(Option<u64>, u64, Option<u64>); 7] = [
 ];
 
 fn seconds_at(system: Option<u64>, clock: u64) -> Option<u64> {
-    let moment = moment_now(&Still(system), Moment::new(clock)?)?;
+    let moment = moment_now(&&Still(system), Moment::new(clock)?)?;
     Some(moment.seconds())
 }
 

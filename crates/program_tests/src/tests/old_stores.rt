@@ -115,10 +115,10 @@ fn relays(
 ) -> Result<bool, Fail> {
     let mut peer = TimedSocket::open(rt.alloc(), rt, PEER)?;
     client.send_over_channel(0x4000, b"on")?;
-    serving.turn(&LATER)?;
+    serving.turn(&&LATER)?;
     let is_sent = peer.receive()? == (b"on".as_slice(), RELAYED);
     peer.send(RELAYED, b"back")?;
-    serving.turn(&LATER)?;
+    serving.turn(&&LATER)?;
     Ok(is_sent && client.receive()? == b"\x40\x00\x00\x04back".as_slice())
 }
 
@@ -131,11 +131,11 @@ fn ask(
 ) -> Result<Option<(u32, bool)>, ClientFault> {
     let request = client.plain_request(method)?;
     client.send(&request)?;
-    serving.turn(&LATER)?;
+    serving.turn(&&LATER)?;
     client.take_challenge()?;
     let request = client.request(method, attributes)?;
     client.send(&request)?;
-    serving.turn(&LATER)?;
+    serving.turn(&&LATER)?;
     match read_message(&client.receive_message()?) {
         Some(Received::Refreshed(lifetime)) => Ok(Some((lifetime, false))),
         Some(

@@ -140,12 +140,13 @@ const STARTS: [Case; 9] = [
     ),
 ];
 
-/// Serves by a configuration with these last lines, and this store.
+/// Serves by a configuration with these last lines, and this store, which keeps all its bytes.
 fn expect_serve(rt: &HostRuntime, case: &Case) -> Result<(), Fail> {
     let (lines, content, more, status, out, err) = *case;
     let config = format!(in rt.alloc(); "{CONFIG}{LIMITS}{lines}")?;
     fs::write(rt, "turn_serve.conf", config.as_bytes())?;
-    fs::write(rt, "turn_serve.store", content_of(rt.alloc(), content)?)?;
+    let content = content_of(rt.alloc(), content)?;
+    fs::write(rt, "turn_serve.store", &content)?;
     let mut words = vec![in rt.alloc();
         "serve",
         "--config",
@@ -155,6 +156,9 @@ fn expect_serve(rt: &HostRuntime, case: &Case) -> Result<(), Fail> {
     ]?;
     words.extend_from_slice(more)?;
     expect(rt, words.as_slice(), status, out, err)?;
+    if fs::read(rt, "turn_serve.store")?.as_slice() != content.as_slice() {
+        return Err(Fail::new("another store"));
+    }
     fs::remove_file(rt, "turn_serve.conf")?;
     fs::remove_file(rt, "turn_serve.store")?;
     Ok(())

@@ -218,19 +218,20 @@ limits 2 1 1 1 8
 const BINDING: &[u8] =
     b"\x00\x01\x00\x00\x21\x12\xA4\x42\x01\x02\x03\x04\x05\x06\x07\x08\x09\x0A\x0B\x0C";
 
-/// A standard output that sends three Binding requests to the server when something is printed for the first time.
+/// A standard output that sends three Binding requests to a port when something is printed for the first time.
 #[derive(Drop)]
-struct Caller<'a> {
-    client: &'a TimedSocket,
-    called: bool,
-    printed: Vec<u8>,
+pub struct Caller<'a> {
+    pub client: &'a TimedSocket,
+    pub port: u16,
+    pub called: bool,
+    pub printed: Vec<u8>,
 }
 
 impl Write for Caller<'_> {
     fn write(&mut self, buf: &[u8]) -> io::Result<usize> {
         if !self.called {
             self.called = true;
-            call(self.client);
+            call(self.client, self.port);
         }
         self.printed.extend_from_slice(buf)?;
         Ok(buf.len())
@@ -241,11 +242,8 @@ impl Write for Caller<'_> {
     }
 }
 
-fn call(client: &TimedSocket) {
-    let server = Endpoint {
-        ip: HOME,
-        port: 63_021,
-    };
+fn call(client: &TimedSocket, port: u16) {
+    let server = Endpoint { ip: HOME, port };
     for _ in 0..3u8 {
         let _ = client.send(server, BINDING);
     }
@@ -267,6 +265,7 @@ fn serve(rt: &HostRuntime, client: &TimedSocket, turns: &str, burst: &str) -> Op
     ];
     let mut out = Caller {
         client,
+        port: 63_021,
         called: false,
         printed: Vec::new(rt.alloc()),
     };
@@ -276,7 +275,7 @@ fn serve(rt: &HostRuntime, client: &TimedSocket, turns: &str, burst: &str) -> Op
 }
 
 /// How many Binding successes a socket has got by now.
-fn count_answers(client: &mut TimedSocket) -> u8 {
+pub fn count_answers(client: &mut TimedSocket) -> u8 {
     let mut answers = 0u8;
     for _ in 0..8u8 {
         if let Ok(([1, 1, ..], _)) = client.receive() {

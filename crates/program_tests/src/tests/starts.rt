@@ -139,7 +139,7 @@ fn start_over(rt: &HostRuntime, file: ChangingFile<'_>) -> Result<Came, Fail> {
             serving.close();
             (None, buffer)
         }
-        Err(fault) => (Some(fault), None),
+        Err(refused) => (Some(refused.fault), None),
     };
     Ok(Came { fault, buffer })
 }
@@ -182,12 +182,13 @@ fn a_start_needs_a_socket_for_each_port_of_its_second_opening(rt: HostRuntime) -
     let (empty, allocated) = (fresh(rt.alloc())?, allocated(rt.alloc())?);
     let buffer = Some(given_buffer(&rt)?);
     assert!(rt; outcome(&rt, &allocated, &allocated)? == started(buffer));
-    assert!(rt; outcome(&rt, &allocated, &empty)? == started(buffer));
     let refused = Came {
-        fault: Some(StartFault::Socket),
+        fault: Some(StartFault::Changed),
         ..started(None)
     };
     assert!(rt; outcome(&rt, &empty, &allocated)? == refused);
+    // Nor has another port one.
+    assert!(rt; outcome(&rt, &allocated, &empty)? == refused);
     Ok(())
 }
 
@@ -196,7 +197,7 @@ fn a_start_needs_a_socket_for_each_reserved_port(rt: HostRuntime) -> Result<(), 
     let (even, pair) = (even(rt.alloc())?, pair(rt.alloc())?);
     assert!(rt; outcome(&rt, &pair, &pair)? == started(Some(given_buffer(&rt)?)));
     let refused = Came {
-        fault: Some(StartFault::Socket),
+        fault: Some(StartFault::Changed),
         ..started(None)
     };
     assert!(rt; outcome(&rt, &even, &pair)? == refused);

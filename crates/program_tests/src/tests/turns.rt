@@ -49,6 +49,8 @@ pub fn begin_so(
 #[derive(Clone, Copy, PartialEq, Eq)]
 enum Place {
     Start,
+    /// In the second opening of a start.
+    Reopening,
     /// In the commit of the first Allocate.
     Commit,
     Later,
@@ -56,9 +58,11 @@ enum Place {
 
 /// A start opens the empty store twice, by 12 calls each: a sync, the superblock, four reads of each area's head, the snapshot
 /// and the gate after it. The commit of an Allocate makes four.
-const CALLS: [(u64, Place); 7] = [
+const CALLS: [(u64, Place); 9] = [
     (1, Place::Start),
-    (24, Place::Start),
+    (12, Place::Start),
+    (13, Place::Reopening),
+    (24, Place::Reopening),
     (25, Place::Commit),
     (26, Place::Commit),
     (27, Place::Commit),
@@ -92,6 +96,7 @@ fn expect_place(rt: &HostRuntime, call: u64, place: Place) -> Result<(), Fail> {
             found?
         }
         Err(ClientFault::Start(StartFault::Store(OpenFault::Device))) => Place::Start,
+        Err(ClientFault::Start(StartFault::Reopen(OpenFault::Device))) => Place::Reopening,
         Err(_) => return Err(Fail::new("another fault")),
     };
     if found == place {
@@ -141,6 +146,34 @@ fn requests_of_one_turn_share_a_commit(rt: HostRuntime) -> Result<(), Fail> {
         expect_failure(&rt, *burst, *call, *failure)?;
     }
     Ok(())
+}
+
+/// Whether the answers to two requests of one turn come in the order of the requests, and nothing else comes. The first answer is an
+/// error of 401, and the second one a Binding success.
+fn are_in_order(rt: &HostRuntime, talk: &mut Talk<'_>) -> Result<bool, ClientFault> {
+    let first = talk.client().plain_request(Method::ALLOCATE)?;
+    let second = talk.client().plain_request(Method::BINDING)?;
+    talk.client().send(&first)?;
+    talk.client().send(&second)?;
+    talk.turn(rt)?;
+    let is_first = talk.client().receive()?.get(8..20) == first.get(8..20);
+    let is_second = talk.client().receive()?.get(8..20) == second.get(8..20);
+    let is_all = matches!(talk.client().receive(), Err(ClientFault::Silent));
+    Ok(is_first && is_second && is_all)
+}
+
+#[test]
+fn the_answers_of_a_turn_are_sent_in_the_order_of_its_requests_once_each(
+    rt: HostRuntime,
+) -> Result<(), Fail> {
+    let mut talk = begin(&rt, 0, PORTS, 2)??;
+    let in_order = are_in_order(&rt, &mut talk);
+    talk.end();
+    if in_order? {
+        Ok(())
+    } else {
+        Err(Fail::new("another order"))
+    }
 }
 
 /// No datagram of a client: nothing, texts, headers that are cut or of another length, a channel of no allocation, and an

@@ -104,10 +104,11 @@ fn play(rt: &HostRuntime, seen: &Seen) -> Result<(), Fail> {
         commits: Commits::Paced,
         seed: [0; 32],
     };
-    let mut serving = setup.start_watched(rt.alloc(), rt, &clock, disk, credentials, seen)?;
+    let started = setup.start_watched(rt.alloc(), rt, &clock, disk, credentials, seen);
+    let mut serving = started.map_err(|refused| refused.fault)?;
     let client = TimedSocket::open(rt.alloc(), rt, Endpoint { ip: HOME, port: 0 })?;
     let sent = client.send(serving.local(), ALLOCATE);
-    let turned = serving.turns(&clock, 1);
+    let turned = serving.turns(&&clock, 1);
     serving.close();
     sent?;
     turned?;

@@ -1,4 +1,4 @@
-use Rattle.std.proofs.Common.{◌-◌, ◌≡◌, ◌↔◌, ◌≤◌}
+use Rattle.std.proofs.Common.{◌-◌, ◌≡◌, ◌≤◌}
 use Rattle.turn_program.proofs.format.write_over.Given as goal
 
 abbrev pub invariant-loop-done : goal.invariant-loop-done
@@ -6,7 +6,7 @@ invariant-loop-done g l = record {
   within : l.done ≤ l.size;
   size : g.D.Disk.capacity l.disk ≡ g.D.Disk.capacity l.initial.disk;
   count : g.D.Disk.failed l.disk ≡ g.D.Disk.failed l.initial.disk;
-  honest : g.D.Disk.is_honest l.disk ↔ g.D.Disk.is_honest l.initial.disk;
+  honest : g.D.Disk.is_honest l.disk → g.D.Disk.is_honest l.initial.disk;
 }
 
 abbrev pub decreases-loop-done : goal.decreases-loop-done
