@@ -4,6 +4,7 @@ use Rattle.std.specs.Option.{option_map}
 use Rattle.turn_history.specs.History.{PlainAct, Allocates, Renews, Permits, Binds}
 use Rattle.turn_history.specs.Table.{Entry, allocated, renewed, permitting, binding, still_permitted, still_bound}
 
+-- the entry after an act at the moment t, where nothing is ever removed: after a Renew of 0 it expires at t
 abbrev pub replayed : ℕ → PlainAct → Option Entry → Option Entry
 replayed t (Allocates user port granted tx token) o = Some (allocated t user port granted tx token)
 replayed t (Renews granted) o = option_map (renewed (t + granted)) o

@@ -4,14 +4,18 @@ use Rattle.std.specs.Int.{w16, w32, to_be_bytes}
 use Rattle.turn_types.specs.declared.message.Class.{Class}
 use Rattle.turn_types.specs.declared.message.Class.TheVariants.{Request, Indication, Success, Error}
 
+-- an attribute of a message: its type, 16 bits, and its value (RFC 8489, section 14)
 pub record Attribute : Type 0 where
+  -- its type
   pub kind : ℕ
   pub value : List ℕ
 
--- what a message says
+-- what a message says: its class, its method, its transaction id and its attributes in order (RFC 8489, section 5)
 pub record Content : Type 0 where
   pub class : Class
+  -- a number below 2^12
   pub method : ℕ
+  -- the transaction id, 12 bytes
   pub tx : List ℕ
   pub attributes : List Attribute
 
@@ -28,10 +32,11 @@ abbrev pub type_number : Class → ℕ → ℕ
 type_number class method =
     method / 128 * 512 + class_number class / 2 * 256 + method / 16 % 8 * 32 + class_number class % 2 * 16 + method % 16
 
+-- the magic cookie of each message (RFC 8489, section 5)
 abbrev pub cookie : ℕ
 cookie = 0x2112A442
 
--- type, length, value, and any padding up to a multiple of 4
+-- bytes encode an attribute: type, length, value, and any padding up to a multiple of 4
 pub record SpellsAttribute (bytes : List ℕ) (a : Attribute) : Type 0 where
   pub padding : List ℕ
   pub is : bytes ≡ to_be_bytes w16 a.kind ++ to_be_bytes w16 (length a.value) ++ a.value ++ padding
@@ -40,13 +45,13 @@ pub record SpellsAttribute (bytes : List ℕ) (a : Attribute) : Type 0 where
   pub kind_fits : a.kind < 2 ^ 16
   pub value_fits : length a.value < 2 ^ 16
 
--- the attributes one after the other
+-- bytes encode attributes, one after the other
 abbrev pub SpellsAttributes : List ℕ → List Attribute → Type 0
 SpellsAttributes bytes [] = bytes ≡ []
 SpellsAttributes bytes (a ∷ others) =
     (front : List ℕ) × (rest : List ℕ) × (bytes ≡ front ++ rest) × SpellsAttribute front a × SpellsAttributes rest others
 
--- the header and the attributes, whose size is the header's length
+-- bytes encode a message: the header, and the attributes, whose size is the header's length
 pub record Spells (bytes : List ℕ) (m : Content) : Type 0 where
   pub body : List ℕ
   pub is : bytes ≡ to_be_bytes w16 (type_number m.class m.method) ++ to_be_bytes w16 (length body)
@@ -65,11 +70,12 @@ pub record Datagram : Type 0 where
 abbrev pub size_of : Attribute → ℕ
 size_of a = 4 + (length a.value + 3) / 4 * 4
 
--- the attributes before the first of a type, and those from it on
+-- the attributes before the first of a type
 abbrev pub before : ℕ → List Attribute → List Attribute
 before kind [] = []
 before kind (a ∷ others) = if a.kind == kind then [] else a ∷ before kind others
 
+-- the attributes from the first of a type on
 abbrev pub from : ℕ → List Attribute → List Attribute
 from kind [] = []
 from kind (a ∷ others) = if a.kind == kind then a ∷ others else from kind others
@@ -103,10 +109,11 @@ padding_size n = (4 - n % 4) % 4
 abbrev pub canonical_attribute : Attribute → List ℕ
 canonical_attribute a = to_be_bytes w16 a.kind ++ to_be_bytes w16 (length a.value) ++ a.value ++ replicate (padding_size (length a.value)) 0
 
+-- attributes, one after the other, with zeros as padding
 abbrev pub canonical_attributes : List Attribute → List ℕ
 canonical_attributes attributes = flat_map canonical_attribute attributes
 
--- the encoding with zeros as padding
+-- the one encoding of a message with zeros as padding, in which the server writes
 unfoldable pub canonical : Content → List ℕ
 canonical m = to_be_bytes w16 (type_number m.class m.method) ++ to_be_bytes w16 (length (canonical_attributes m.attributes))
     ++ to_be_bytes w32 cookie ++ m.tx ++ canonical_attributes m.attributes

@@ -110,6 +110,7 @@ pub record Lines : Type 0 where
   pub passwords : KeyMap
   pub auth_secret : Option (List ℕ)
 
+-- what no lines say
 abbrev pub no_lines : Lines
 no_lines = record { realm = None; secret = None; listen = None; relay = None; quota = None; limits = None; denied = []; passwords = map.empty; auth_secret = None }
 

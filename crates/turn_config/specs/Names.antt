@@ -3,6 +3,7 @@ use Rattle.std.specs.Prelude.{ℕ, List, codes}
 use Rattle.turn_config.specs.declared.settings.Setting.{Setting}
 use Rattle.turn_config.specs.declared.settings.Setting.TheVariants.{Realm, Secret, Listen, Relay, Quota, Limits, Deny, User, AuthSecret}
 
+-- the first word of the line of a setting
 abbrev pub name_of : Setting → List ℕ
 name_of Realm = codes "realm"
 name_of Secret = codes "secret"

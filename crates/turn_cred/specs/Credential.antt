@@ -18,6 +18,7 @@ pub record Policy : Type 0 where
   pub secret : List ℕ
   pub name_bytes : ℕ
 
+-- the policy of a configuration
 abbrev pub policy_of : Config → Policy
 policy_of c = record { realm = c.realm; secret = c.secret; name_bytes = c.limits.name_bytes }
 
@@ -25,7 +26,7 @@ policy_of c = record { realm = c.realm; secret = c.secret; name_bytes = c.limits
 abbrev pub no_key : Key
 no_key = record { bytes = []; expiry = None }
 
--- a key by user name and realm, where there is one
+-- a key by user name and realm, where there is one: what an `AuthHandler` answers
 abbrev pub Keys : Type 0
 Keys = List ℕ → List ℕ → Option Key
 
@@ -33,21 +34,27 @@ Keys = List ℕ → List ℕ → Option Key
 abbrev pub has_expired : ℕ → Key → Bool
 has_expired t key = option_map_or (λ expiry. nat_le expiry t) key.expiry false
 
+-- the outcome of the credential check of a request (RFC 8489, section 9.2.4): 401, 400 or 438, or the credentials hold
 pub data Verdict : Type 0 where
   Challenge401 : Verdict
   Bad400 : Verdict
   Stale438 : Verdict
+  -- the user whose credentials hold, and the key
   Passed : (user : List ℕ) (key : Key) → Verdict
 
+-- a message has a MESSAGE-INTEGRITY
 abbrev pub has_integrity : Datagram → Bool
 has_integrity d = is_some (value_of message_integrity d.content.attributes)
 
--- the key of a user name in a realm, if that is a known user of the policy's realm
+-- the key of a user name in a realm: none where the realm isn't the policy's, the name is empty or longer than the limit, or
+-- the user isn't known
 unfoldable pub user_key : Policy → Keys → List ℕ → List ℕ → Option Key
 user_key p keys user its_realm =
     if bytes_eq its_realm p.realm && not (length user == 0) && not (nat_lt p.name_bytes (length user)) then keys user p.realm else None
 
--- the outcome of the credential check of a request: the first condition that applies
+-- The outcome of the credential check of a request, the first that applies (RFC 8489, section 9.2.4): no MESSAGE-INTEGRITY,
+-- 401; USERNAME, REALM or NONCE not seen, 400; no known user of the realm, 401; a MESSAGE-INTEGRITY that isn't right under
+-- the key, 401; a nonce that doesn't hold for the client, 438; else the credentials hold.
 unfoldable pub verdict : Policy → Keys → Datagram → Endpoint → ℕ → Verdict
 verdict p keys d client t =
     let user = unwrap_or (seen_value d.content username) [] in

@@ -12,7 +12,7 @@ use Rattle.turn_cred.specs.declared.key.Key.{Key}
 
 -- ---- Names
 
--- below 2^40 - 3600, as every moment
+-- a number, if it is a moment: below 2^40 - 3600 seconds
 abbrev pub as_moment : ℕ → Option ℕ
 as_moment n = if nat_lt n 1099511624176 then Some n else None
 
@@ -54,6 +54,6 @@ pub record Sources : Type 0 where
   pub users : KeyMap
   pub secret : Option (List ℕ)
 
--- the users' own keys go first
+-- the key of a name in a realm: the user's own, else that of the name under the secret
 unfoldable pub key_in : Sources → List ℕ → List ℕ → Option Key
 key_in sources name realm = option_or (lasting (map.get sources.users name)) (option_and_then (λ s. shared_key s name realm) sources.secret)

@@ -48,5 +48,6 @@ size_after : (content : List ℕ) (events : List Event) → AreHonest content ev
 size_after content [] honest = refl
 size_after content (event ∷ earlier) honest = size_kept event.0 event.1 event.2 event.3 (replay content earlier) honest.0 ∙ size_after content earlier honest.1
 
+-- a file whose answers are honest keeps the size of what it held when it was opened
 pub sized_by : (content : List ℕ) (events : List Event) (size : ℕ) → (length content ≡ size) × AreHonest content events → length (replay content events).now.bytes ≡ size
 sized_by content events size honest = size_after content events honest.1 ∙ honest.0

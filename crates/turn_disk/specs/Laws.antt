@@ -7,5 +7,6 @@ use Rattle.turn_disk.specs.Disk.{State, IsImage, IsSettled}
 abbrev pub ARisenCountDiffers : Type 0
 ARisenCountDiffers = (old new : ℕ) → Rises old new → new ≢ old
 
+-- with nothing pending, a stop leaves the content as it is
 abbrev pub ASettledDiskHasOneImage : Type 0
 ASettledDiskHasOneImage = (state : State) (image : List ℕ) → IsSettled state → IsImage state image → image ≡ state.bytes

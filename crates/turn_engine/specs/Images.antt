@@ -6,6 +6,7 @@ use Rattle.turn_store.specs.Images.{StandsBy}
 
 -- the image stands for the first events of a history, at least k of them, at a clock that is not later than a moment
 pub record AtLeast (form : Form) (h : History) (k moment : ℕ) (image : List ℕ) : Type 0 where
+  -- how many events the image stands for
   pub count : ℕ
   pub no_less : k ≤ count
   pub no_more : count ≤ length h

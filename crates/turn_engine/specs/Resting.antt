@@ -21,24 +21,29 @@ use Rattle.turn_engine.specs.State.{ServerState, now_of}
 pub record Rests {D H G : Type 0} (state : State) (server : ServerState D H G) (h : History) (k : ℕ) : Type 0 where
   pub after : IsAfter server.machine h
   pub within : k ≤ length h
+  -- the clock of what is stored
   pub at : ℕ
   pub at_late : at ≤ now_of server
   pub stored : RestsAt server.store state at (take k h)
   pub staged : server.payload ≡ bytes.payload (drop k h)
   pub counted : server.acts ≡ length (drop k h)
   pub from : AllFrom at (drop k h)
+  -- the store's version can hold each act that is staged
   pub writes : AllByRecursion (λ e. Writes server.store.version e.act) (drop k h)
 
 -- An arrival was taken: an answer after the history was staged, and the server rests on the history with its change.
 pub record Takes {D H G : Type 0} (setting : Setting) (state : State) (old new : ServerState D H G) (h : History) (k moment : ℕ) (failed : Bool) (a : Arrives) : Type 0 where
   pub outcome : Outcome
   pub answers : AnswersArrival setting h moment failed a outcome
+  -- the datagram of the outcome is staged, if there is one
   pub outs : new.outs ≡ old.outs ++ option_to_list outcome.sent
+  -- and so is its act
   pub rests : Rests state new (h ++ added moment outcome.change) k
 
 -- A server was opened from a content that stands for the first events of a history, at least k of them: it rests on these,
 -- all of them stored, at the moment of the content, which is not later than a moment.
 pub record Opens {D H G : Type 0} (form : Form) (h : History) (k moment : ℕ) (content : List ℕ) (state : State) (server : ServerState D H G) : Type 0 where
+  -- how many events the content stands for
   pub count : ℕ
   pub no_less : k ≤ count
   pub no_more : count ≤ length h

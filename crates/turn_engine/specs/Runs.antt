@@ -32,21 +32,21 @@ pub record Taken : Type 0 where
   pub pairs : Bool
   pub outcome : Outcome
 
--- the events that arrivals added
+-- the events that arrivals added to the history, in order
 abbrev pub accepted : List Taken → History
 accepted [] = []
 accepted (x ∷ xs) = added x.moment x.outcome.change ++ accepted xs
 
--- what is sent about them
+-- the datagrams that are sent about arrivals, in order
 abbrev pub sent_about : List Taken → List Sent
 sent_about [] = []
 sent_about (x ∷ xs) = option_to_list x.outcome.sent ++ sent_about xs
 
--- it was answered from the history, by the setting but for the flag of reserved ports, which is the arrival's own
+-- an arrival was answered from the history, by the setting but for the flag of reserved ports, which is the arrival's own
 abbrev pub IsAnswered : Setting → History → Taken → Type 0
 IsAnswered s h x = AnswersArrival (record s { pairs = x.pairs }) h x.moment x.failed x.arrival x.outcome
 
--- moments never fall, none is before the moment t, and each arrival is answered from the history before it
+-- arrivals in a row: moments never fall, none is before the moment t, and each arrival is answered from the history before it
 abbrev pub IsRun : Setting → History → ℕ → List Taken → Type 0
 IsRun s h t [] = Unit {0}
 IsRun s h t (x ∷ xs) = (t ≤ x.moment) × IsAnswered s h x × IsRun s (h ++ added x.moment x.outcome.change) x.moment xs
@@ -58,28 +58,32 @@ last_moment t (x ∷ xs) = last_moment x.moment xs
 
 -- ---- Calls in a row
 
--- a call, what it answered, and the server after it
+-- a call of a server, what it answered, and the server after it
 pub data Step (D H G : Type 0) : Type 0 where
   Submit : (moment : ℕ) (arrival : Arrives) (result : Result Unit SubmitRefused) (after : ServerState D H G) → Step D H G
   Commit : (result : Result (List Sent) StoreFault) (after : ServerState D H G) → Step D H G
 
+-- the server after a call
 abbrev pub after_of : {D H G : Type 0} → Step D H G → ServerState D H G
 after_of (Submit moment arrival result after) = after
 after_of (Commit result after) = after
 
+-- the server after calls in a row, or the one before them where there are none
 abbrev pub last_of : {D H G : Type 0} → ServerState D H G → List (Step D H G) → ServerState D H G
 last_of server [] = server
 last_of server (x ∷ xs) = last_of (after_of x) xs
 
+-- the datagrams of a commit's result, none of a fault
 abbrev pub datagrams_of : Result (List Sent) StoreFault → List Sent
 datagrams_of (Ok outs) = outs
 datagrams_of (Err fault) = []
 
+-- what a call handed out
 abbrev pub handed_by : {D H G : Type 0} → Step D H G → List Sent
 handed_by (Submit moment arrival result after) = []
 handed_by (Commit result after) = datagrams_of result
 
--- what the commits handed out, one after another
+-- what the commits among calls handed out, in order
 abbrev pub handed_out : {D H G : Type 0} → List (Step D H G) → List Sent
 handed_out [] = []
 handed_out (x ∷ xs) = handed_by x ++ handed_out xs
@@ -89,12 +93,15 @@ handed_out (x ∷ xs) = handed_by x ++ handed_out xs
 abbrev pub asked : Taken → ℕ × Arrives × Bool × Bool
 asked x = (x.moment, x.arrival, x.failed, x.pairs)
 
+-- the same of a call, or nothing of one that took no arrival; the generator failed if its count of failures changed in the
+-- call
 abbrev pub asked_by : {D H G : Type 0} → generators.Ghosts G → ServerState D H G → Step D H G → List (ℕ × Arrives × Bool × Bool)
 asked_by ports old (Submit moment arrival (Ok done) after) =
     (moment, arrival, has_failed (ports.failures old.machine.ports) (ports.failures after.machine.ports), old.machine.pairs) ∷ []
 asked_by ports old (Submit moment arrival (Err why) after) = []
 asked_by ports old (Commit result after) = []
 
+-- the same of calls in a row
 abbrev pub all_asked : {D H G : Type 0} → generators.Ghosts G → ServerState D H G → List (Step D H G) → List (ℕ × Arrives × Bool × Bool)
 all_asked ports server [] = []
 all_asked ports server (x ∷ xs) = asked_by ports server x ++ all_asked ports (after_of x) xs
@@ -111,23 +118,24 @@ Serves disk handler ports server (x ∷ xs) = IsCall disk handler ports server x
 
 -- ---- Where a run is
 
--- the arrivals that were taken up to the last commit that answered Ok, and those that were taken since
+-- where a run is: the arrivals that were taken up to the last commit that answered Ok, and those that were taken since
 pub record Place : Type 0 where
   pub handed : List Taken
   pub recent : List Taken
 
+-- the place of a run where nothing was taken
 abbrev pub start : Place
 start = record { handed = []; recent = [] }
 
--- the history after all that was taken
+-- the history after all arrivals of a place
 abbrev pub history_at : History → Place → History
 history_at h p = h ++ accepted (p.handed ++ p.recent)
 
--- how many of its events belong to what was handed out, or were there at the opening
+-- how many events of the history at a place belong to what was handed out, or were there at the opening
 abbrev pub count_at : History → Place → ℕ
 count_at h p = length (h ++ accepted p.handed)
 
--- no generator has counted another number of failures
+-- the count of failures is the same for all generators of the type
 abbrev pub NeverFails : {G : Type 0} → generators.Ghosts G → Type 0
 NeverFails {G = G} ports = (old new : G) → ports.failures old ≡ ports.failures new
 

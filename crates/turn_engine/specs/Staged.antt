@@ -5,7 +5,8 @@ use Rattle.turn_record.specs.declared.version.Version.{Version}
 use Rattle.turn_types.specs.Limits.{AreInRange}
 use Rattle.turn_types.specs.declared.limits.Bounds.{Bounds}
 
--- the limits, the version of the records, the payload of the acts that are staged, and how many there are
+-- what contracts see of a batch: the limits, the version of the records, the payload of the acts that are staged, and how
+-- many there are
 pub record Staged : Type 0 where
   pub bounds : Bounds
   pub version : Version

@@ -14,15 +14,19 @@ use Rattle.turn_types.specs.declared.limits.Bounds.{Bounds}
 pub record ServerState (D H G : Type 0) : Type 0 where
   pub store : StoreState D
   pub machine : MachineState H G
+  -- a count in one byte, and the act entries that are staged
   pub payload : List ℕ
   pub acts : ℕ
+  -- the datagrams that the next commit hands out
   pub outs : List Sent
+  -- since the last commit
   pub arrivals : ℕ
 
--- the moment of a server's table
+-- the moment of a server's table, in seconds, which is its clock
 abbrev pub now_of : {D H G : Type 0} → ServerState D H G → ℕ
 now_of s = s.machine.table.moment
 
+-- the limits of a server's configuration
 abbrev pub limits_of : {D H G : Type 0} → ServerState D H G → Bounds
 limits_of s = s.machine.config.limits
 

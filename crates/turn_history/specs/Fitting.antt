@@ -15,11 +15,11 @@ use Rattle.turn_types.specs.declared.message.Token.{Token}
 
 -- ---- The ranges of an event's values
 
--- some seconds that are granted (RFC 8656, section 7.2: at least the default of 600, and at most 3600)
+-- seconds that an Alloc may grant (RFC 8656, section 7.2: at least the default of 600, and at most 3600)
 abbrev pub IsLifetime : ℕ → Type 0
 IsLifetime granted = (600 ≤ granted) × (granted ≤ 3600)
 
--- RFC 8656, section 12
+-- a channel number: 0x4000 to 0x4FFF (RFC 8656, section 12)
 abbrev pub IsChannelNumber : ℕ → Type 0
 IsChannelNumber n = (0x4000 ≤ n) × (n ≤ 0x4FFF)
 
@@ -33,7 +33,9 @@ pub record IsTokenOf (port : ℕ) (token : Token) : Type 0 where
 abbrev pub IsTokenAfter : ℕ → Token → Type 0
 IsTokenAfter port token = (port % 2 ≡ 0) × IsTokenOf (port + 1) token
 
--- the values of an act are in their ranges under the limits
+-- The values of an act are in their ranges under the limits. A name has 1 to `name_bytes` bytes, a Renew grants 0 seconds or
+-- a lifetime, a transaction id has 12 bytes, a token comes with an even port, and a Permit names 1 to `permissions`
+-- addresses, each once.
 abbrev pub IsActInRange : Bounds → PlainAct → Type 0
 IsActInRange b (Allocates user port granted tx token) =
     ((1 ≤ length user) × (length user ≤ b.name_bytes) × All (λ x. x < 256) user)
@@ -47,12 +49,14 @@ IsActInRange b (Permits addresses) =
     × IsDistinct nat_eq addresses
 IsActInRange b (Binds number peer) = IsChannelNumber number × IsEndpoint peer
 
+-- the values of an event are in their ranges under the limits; a moment is below 2^40 - 3600 seconds
 pub record IsInRange (b : Bounds) (e : Event) : Type 0 where
   pub moment : e.moment < 2 ^ 40 - 3600
   pub tuple : IsTuple e.tuple
   pub act : IsActInRange b e.act
 
--- the values of an entry of a table at the moment t are in their ranges under the limits
+-- The values of an entry of a table at the moment t are in their ranges under the limits. It expires after t and within 3600
+-- seconds, each permission within 300, and each channel within 600.
 pub record IsEntryInRange (b : Bounds) (t : ℕ) (e : Entry) : Type 0 where
   pub made : IsActInRange b (Allocates e.user e.port e.granted e.tx e.token)
   pub expiry : (t < e.expiry) × (e.expiry ≤ t + 3600)
@@ -63,12 +67,13 @@ pub record IsEntryInRange (b : Bounds) (t : ℕ) (e : Entry) : Type 0 where
 abbrev pub AreEntriesInRange : Bounds → ℕ → Contents → Type 0
 AreEntriesInRange b t c = (f : FiveTuple) (e : Entry) → fin.get c.entries f ≡ Some e → IsTuple f × IsEntryInRange b t e
 
--- a reservation of an odd port in a table at the moment t
+-- a reservation in a table at the moment t: its port is odd, and it expires after t and within 30 seconds
 pub record IsReservationInRange (t q : ℕ) (r : Reservation) : Type 0 where
   pub port : (q < 2 ^ 16) × (q % 2 ≡ 1)
   pub token : IsTokenOf q r.token
   pub expiry : (t < r.expiry) × (r.expiry ≤ t + 30)
 
+-- each reservation of a table at the moment t is in its ranges
 abbrev pub AreReservationsInRange : ℕ → Contents → Type 0
 AreReservationsInRange t c = (q : ℕ) (r : Reservation) → fin.get c.reserved q ≡ Some r → IsReservationInRange t q r
 
@@ -102,19 +107,20 @@ FitsChannel b n p e =
     × (fin.len (fin.insert e.channels n (record { peer = p; expiry = 0 })) ≤ b.channels)
     × ((k : ℕ) (c : Channel) → fin.get e.channels k ≡ Some c → (k ≡ n → c.peer ≡ p) × (c.peer ≡ p → k ≡ n))
 
--- `FitsChannel` as tests, one for each error code of ChannelBind: `is_bound_elsewhere` is 400, `exceeds` is 508
+-- whether a channel is to the peer p
 abbrev pub is_peer : Endpoint → Channel → Bool
 is_peer p c = nat_eq c.peer.ip p.ip && nat_eq c.peer.port p.port
 
--- a channel has the number n exactly where it has the peer p
+-- whether a channel has the number n exactly where it has the peer p
 abbrev pub goes_with : ℕ → Endpoint → ℕ × Channel → Bool
 goes_with n p s = if nat_eq s.0 n then is_peer p s.1 else not (is_peer p s.1)
 
--- number n or the peer p is bound, but not to each other
+-- number n or the peer p is bound, but not to each other (400); where neither this nor `exceeds` holds, the channel fits
+-- (`FitsChannel`)
 abbrev pub is_bound_elsewhere : ℕ → Endpoint → Entry → Bool
 is_bound_elsewhere n p e = not (list_all (goes_with n p) (fin.entries e.channels))
 
--- with a channel of number n to the peer p, the permissions or the channels are more than the limits allow
+-- with a channel of number n to the peer p, the permissions or the channels would be more than the limits allow (508)
 abbrev pub exceeds : Bounds → ℕ → Endpoint → Entry → Bool
 exceeds b n p e =
     nat_lt b.permissions (fin.len (fin.insert e.permissions p.ip 0))
@@ -141,6 +147,6 @@ abbrev pub FitsAfter : Bounds → History → List Event → Type 0
 FitsAfter b h [] = Unit {0}
 FitsAfter b h (e ∷ es) = Follows b h e × FitsAfter b (h ++ e ∷ []) es
 
--- moments never fall, and each act fits the entries before it at its moment
+-- each event of a history may follow those before it: moments never fall, and each act fits the table before it at its moment
 abbrev pub IsFitting : Bounds → History → Type 0
 IsFitting b h = FitsAfter b [] h

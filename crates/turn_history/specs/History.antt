@@ -18,9 +18,14 @@ use Rattle.turn_history.specs.declared.reservation.Reservation.{Reservation}
 -- CreatePermission installs permissions (section 10), and a ChannelBind binds a channel and installs the permission
 -- of the peer's address (section 12).
 pub data PlainAct : Type 0 where
+  -- the user's name, the relayed port, the seconds granted, the request's transaction id, and the token of the next port if
+  -- that is reserved
   Allocates : (user : List ℕ) (port granted : ℕ) (tx : TxId) (token : Option Token) → PlainAct
+  -- seconds from now on; 0 deletes the allocation
   Renews : (granted : ℕ) → PlainAct
+  -- IPv4 addresses of peers
   Permits : (addresses : List ℕ) → PlainAct
+  -- a channel number and a peer
   Binds : (number : ℕ) (peer : Endpoint) → PlainAct
 
 -- an event of a history: an act on the allocation of a five-tuple, and its moment in seconds
@@ -29,11 +34,11 @@ pub record Event : Type 0 where
   pub tuple : FiveTuple
   pub act : PlainAct
 
--- the oldest event first
+-- the events that a server has accepted, the oldest first; what holds at a moment is read off them
 abbrev pub History : Type 0
 History = List Event
 
--- the latest moment of a history, or 0
+-- the latest moment of a history, in seconds, or 0
 abbrev pub clock : History → ℕ
 clock [] = 0
 clock (e ∷ es) = if nat_lt e.moment (clock es) then clock es else e.moment
@@ -56,7 +61,8 @@ until_first p (x ∷ xs) = if p x then [] else x ∷ until_first p xs
 
 -- ---- Allocations (sections 6 to 8)
 
--- what an Allocate gave
+-- what an Allocate gave: to whom, the relayed port, the seconds granted, by which request, and the token of the next port if
+-- it reserved that
 pub record Allocation : Type 0 where
   pub user : List ℕ
   pub port : ℕ
@@ -64,36 +70,41 @@ pub record Allocation : Type 0 where
   pub tx : TxId
   pub token : Option Token
 
+-- what an act makes, if it is an Alloc
 abbrev pub allocation_by : PlainAct → Option Allocation
 allocation_by (Allocates user port granted tx token) = Some (record { user = user; port = port; granted = granted; tx = tx; token = token })
 allocation_by (Renews granted) = None
 allocation_by (Permits addresses) = None
 allocation_by (Binds number peer) = None
 
--- for how many seconds an allocation lasts from here
+-- for how many seconds an act lets the allocation last from its moment on, if it is an Alloc or a Renew
 abbrev pub granted_by : PlainAct → Option ℕ
 granted_by (Allocates user port granted tx token) = Some granted
 granted_by (Renews granted) = Some granted
 granted_by (Permits addresses) = None
 granted_by (Binds number peer) = None
 
+-- what an event makes, if it is an Alloc
 abbrev pub allocation_at : Event → Option Allocation
 allocation_at e = allocation_by e.act
 
+-- the moment when an event lets the allocation expire, if it is an Alloc or a Renew
 abbrev pub span_at : Event → Option ℕ
 span_at e = option_map (λ g. e.moment + g) (granted_by e.act)
 
--- what the last Alloc of f gave
+-- what the last Alloc of f gave (RFC 8656, section 7.2)
 abbrev pub made : History → FiveTuple → Option Allocation
 made h f = first_some allocation_at (own h f)
 
--- when the last Alloc or Renew of f expires
+-- when the allocation of f expires: the moment plus the seconds of its last Alloc or Renew (RFC 8656, sections 7.2 and 8.2)
 abbrev pub span : History → FiveTuple → Option ℕ
 span h f = first_some span_at (own h f)
 
 -- f has an allocation at the moment t
 pub record IsLive (h : History) (t : ℕ) (f : FiveTuple) : Type 0 where
+  -- there was an Alloc of f
   pub made : IsSome (made h f)
+  -- what it or a later Renew granted has not expired
   pub ahead : IsSomeAnd (span h f) (λ x. t < x)
 
 -- the events of f after its last Alloc, the newest first
@@ -116,15 +127,18 @@ numbers_of (Renews granted) = []
 numbers_of (Permits addresses) = []
 numbers_of (Binds number peer) = number ∷ []
 
+-- when the permission of the address a expires that an event installs, if it installs one: 300 seconds later
 abbrev pub permission_at : ℕ → Event → Option ℕ
 permission_at a e = if list_any (nat_eq a) (addresses_of e.act) then Some (e.moment + 300) else None
 
+-- the channel of number n that an act at the moment m binds, if it binds one: it expires 600 seconds later
 abbrev pub channel_by : ℕ → ℕ → PlainAct → Option Channel
 channel_by n m (Allocates user port granted tx token) = None
 channel_by n m (Renews granted) = None
 channel_by n m (Permits addresses) = None
 channel_by n m (Binds number peer) = if n == number then Some (record { peer = peer; expiry = m + 600 }) else None
 
+-- the channel of number n that an event binds, if it binds one
 abbrev pub channel_at : ℕ → Event → Option Channel
 channel_at n e = channel_by n e.moment e.act
 
@@ -160,13 +174,15 @@ reservation_by q m (Renews granted) = None
 reservation_by q m (Permits addresses) = None
 reservation_by q m (Binds number peer) = None
 
+-- what an event says of the reservation of the port q, if it says something
 abbrev pub reservation_at : ℕ → Event → Option (Option Reservation)
 reservation_at q e = reservation_by q e.moment e.act
 
+-- an answer inside an answer as one: none if either is none
 abbrev pub flat : {X : Type 0} → Option (Option X) → Option X
 flat None = None
 flat (Some o) = o
 
--- the reservation of a port: by the last event that says something of it
+-- the reservation of a port: by the last event that says something of it (RFC 8656, section 7.2)
 unfoldable pub reservation : History → ℕ → Option Reservation
 reservation h q = flat (first_some (reservation_at q) (reverse h))

@@ -34,6 +34,7 @@ pub record IsLast {X : Type 0} (g : Event → Option X) (h : History) (f : FiveT
   pub place : h ≡ before ++ event ∷ after
   pub tuple : event.tuple ≡ f
   pub answer : g event ≡ Some x
+  -- no later event of f has an answer
   pub last : AllByRecursion (λ e. e.tuple ≡ f → g e ≡ None) after
 
 -- what the Allocate of an entry gave
@@ -49,6 +50,7 @@ pub record IsAfterAlloc (h : History) (f : FiveTuple) (e : Event) : Type 0 where
   pub place : h ≡ before ++ alloc ∷ (between ++ e ∷ after)
   pub alloc_tuple : alloc.tuple ≡ f
   pub is_alloc : IsSome (allocation_at alloc)
+  -- no later event of f is an Alloc
   pub last : AllByRecursion (λ x. x.tuple ≡ f → allocation_at x ≡ None) (between ++ e ∷ after)
   pub tuple : e.tuple ≡ f
 
@@ -76,9 +78,11 @@ InstalledAt h t f a m = HoldsFrom (Installs a) 300 h t f m
 abbrev pub BoundAt : History → ℕ → FiveTuple → ℕ → Endpoint → ℕ → Type 0
 BoundAt h t f n p m = HoldsFrom (IsBindOf n p) 600 h t f m
 
+-- f is live at t, and a permission of the address was installed after its last Alloc and holds still (RFC 8656, section 9)
 abbrev pub IsPermitted : History → ℕ → FiveTuple → ℕ → Type 0
 IsPermitted h t f a = IsLive h t f × ((m : ℕ) × InstalledAt h t f a m)
 
+-- f is live at t, and number n was bound to the peer p after its last Alloc and is still (RFC 8656, section 12)
 abbrev pub IsBound : History → ℕ → FiveTuple → ℕ → Endpoint → Type 0
 IsBound h t f n p = IsLive h t f × ((m : ℕ) × BoundAt h t f n p m)
 
@@ -99,6 +103,7 @@ IsAfterLatest seconds P x = (m : ℕ) × (x ≡ m + seconds) × IsLatest P m
 abbrev pub HasPermission : Contents → FiveTuple → ℕ → Type 0
 HasPermission c f a = IsSomeAnd (fin.get c.entries f) (λ e. IsSome (fin.get e.permissions a))
 
+-- the table has a permission of the address, which expires at the moment x
 abbrev pub PermissionEnds : Contents → FiveTuple → ℕ → ℕ → Type 0
 PermissionEnds c f a x = IsSomeAnd (fin.get c.entries f) (λ e. fin.get e.permissions a ≡ Some x)
 
@@ -106,6 +111,7 @@ PermissionEnds c f a x = IsSomeAnd (fin.get c.entries f) (λ e. fin.get e.permis
 abbrev pub HasChannel : Contents → FiveTuple → ℕ → Endpoint → Type 0
 HasChannel c f n p = IsSomeAnd (fin.get c.entries f) (λ e. IsSomeAnd (fin.get e.channels n) (λ d. d.peer ≡ p))
 
+-- the table has a channel of number n and peer p, which expires at the moment x
 abbrev pub ChannelEnds : Contents → FiveTuple → ℕ → Endpoint → ℕ → Type 0
 ChannelEnds c f n p x = IsSomeAnd (fin.get c.entries f) (λ e. fin.get e.channels n ≡ Some (record { peer = p; expiry = x }))
 
@@ -152,6 +158,7 @@ pub record ReservedAt (h : History) (t q : ℕ) (token : Token) (m : ℕ) : Type
   pub place : h ≡ before ++ event ∷ after
   pub reserves : Reserves q token event.act
   pub moment : event.moment ≡ m
+  -- no later event is an Alloc of the port
   pub untaken : AllByRecursion (λ e. IsAllocOf q e.act → ⊥) after
   pub ahead : t < m + 30
 

@@ -29,7 +29,7 @@ pub record Entry : Type 0 where
   pub permissions : FinMap nat_cmp ℕ
   pub channels : FinMap nat_cmp Channel
 
--- by five-tuples, in the order of their twelve bytes
+-- the entries of a table by their five-tuples, in the order of the twelve bytes of these
 abbrev pub Entries : Type 0
 Entries = FinMap tuple_cmp Entry
 
@@ -37,10 +37,12 @@ Entries = FinMap tuple_cmp Entry
 abbrev pub Reservations : Type 0
 Reservations = FinMap nat_cmp Reservation
 
+-- what a table holds: the entries of the live five-tuples, and the reserved ports
 pub record Contents : Type 0 where
   pub entries : Entries
   pub reserved : Reservations
 
+-- what an empty table holds
 unfoldable pub no_contents : Contents
 no_contents = record { entries = fin.empty; reserved = fin.empty }
 
@@ -51,16 +53,19 @@ abbrev pub ahead : ℕ → Option ℕ → Option ℕ
 ahead t None = None
 ahead t (Some x) = if nat_lt t x then Some x else None
 
+-- a channel, where it expires after the moment t
 abbrev pub channel_ahead : ℕ → Option Channel → Option Channel
 channel_ahead t None = None
 channel_ahead t (Some c) = if nat_lt t c.expiry then Some c else None
 
+-- a reservation, where it expires after the moment t
 abbrev pub reservation_ahead : ℕ → Option Reservation → Option Reservation
 reservation_ahead t None = None
 reservation_ahead t (Some r) = if nat_lt t r.expiry then Some r else None
 
 -- ---- The table of a history
 
+-- the map with the value x at the key k, if there is one
 abbrev pub insert_some : {K X : Type 0} {R : K → K → Ordering} → FinMap R X → K → Option X → FinMap R X
 insert_some m k None = m
 insert_some m k (Some x) = fin.insert m k x
@@ -70,14 +75,15 @@ unfoldable pub map_of : {K X : Type 0} (R : K → K → Ordering) → List K →
 map_of R [] g = fin.empty
 map_of R (k ∷ ks) g = insert_some (map_of R ks g) k (g k)
 
--- the permissions (RFC 8656, section 9) and channels (section 12) at a moment, read off the events after the last Alloc
+-- the permissions at the moment t (RFC 8656, section 9), read off the events after the last Alloc
 unfoldable pub permissions_in : ℕ → List Event → FinMap nat_cmp ℕ
 permissions_in t es = map_of nat_cmp (flat_map (λ e. addresses_of e.act) es) (λ a. ahead t (first_some (permission_at a) es))
 
+-- the channels at the moment t (RFC 8656, section 12), read off the events after the last Alloc
 unfoldable pub channels_in : ℕ → List Event → FinMap nat_cmp Channel
 channels_in t es = map_of nat_cmp (flat_map (λ e. numbers_of e.act) es) (λ n. channel_ahead t (first_some (channel_at n) es))
 
--- an entry there is of an Alloc, and of a moment when the allocation expires that is still to come
+-- an entry, where there are an Alloc and a moment still to come when the allocation expires
 abbrev pub entry_with : FinMap nat_cmp ℕ → FinMap nat_cmp Channel → Option Allocation → Option ℕ → Option Entry
 entry_with ps cs None x = None
 entry_with ps cs (Some a) None = None
@@ -90,6 +96,7 @@ entry_in t es =
     let since = until_first (λ e. is_some (allocation_at e)) es in
     entry_with (permissions_in t since) (channels_in t since) (first_some allocation_at es) (ahead t (first_some span_at es))
 
+-- the entry of the five-tuple f at the moment t, if it is live
 abbrev pub entry_of : History → ℕ → FiveTuple → Option Entry
 entry_of h t f = entry_in t (own h f)
 
@@ -97,24 +104,29 @@ entry_of h t f = entry_in t (own h f)
 unfoldable pub reservations : History → ℕ → Reservations
 reservations h t = map_of nat_cmp (flat_map (λ e. reserved_by e.act) h) (λ q. reservation_ahead t (reservation h q))
 
--- the map from each live five-tuple to its entry (RFC 8656, section 6), and the reserved ports
+-- the table of a history at a moment: the map from each live five-tuple to its entry (RFC 8656, section 6), and the reserved
+-- ports
 unfoldable pub table : History → ℕ → Contents
 table h t = record { entries = map_of tuple_cmp (map (λ e. e.tuple) h) (entry_of h t); reserved = reservations h t }
 
 -- ---- What the time that passes does to a table
 
+-- the permissions that expire after the moment t
 unfoldable pub still_permitted : ℕ → FinMap nat_cmp ℕ → FinMap nat_cmp ℕ
 still_permitted t m = map_of nat_cmp (fin.keys m) (λ a. ahead t (fin.get m a))
 
+-- the channels that expire after the moment t
 unfoldable pub still_bound : ℕ → FinMap nat_cmp Channel → FinMap nat_cmp Channel
 still_bound t m = map_of nat_cmp (fin.keys m) (λ n. channel_ahead t (fin.get m n))
 
+-- what of an entry expires after the moment t, if the allocation does
 abbrev pub kept : ℕ → Entry → Option Entry
 kept t e =
     if nat_lt t e.expiry
     then Some (record e { permissions = still_permitted t e.permissions; channels = still_bound t e.channels })
     else None
 
+-- the reserved ports whose reservations expire after the moment t
 unfoldable pub still_reserved : ℕ → Reservations → Reservations
 still_reserved t m = map_of nat_cmp (fin.keys m) (λ q. reservation_ahead t (fin.get m q))
 
@@ -178,7 +190,9 @@ reserving t (Renews granted) m = m
 reserving t (Permits addresses) m = m
 reserving t (Binds number peer) m = m
 
--- an act of the five-tuple f done to a table at the moment t
+-- What a table holds after an act of the five-tuple f at the moment t. An Alloc makes a fresh entry; a Renew sets the expiry,
+-- or with 0 removes the entry; a Permit installs permissions until t + 300; a Bind installs one permission until t + 300, and
+-- one channel until t + 600.
 unfoldable pub applied : ℕ → FiveTuple → PlainAct → Contents → Contents
 applied t f d c =
     record c { entries = with_entry c.entries f (applied_to t d (fin.get c.entries f)); reserved = reserving t d c.reserved }

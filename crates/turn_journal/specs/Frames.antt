@@ -7,9 +7,11 @@ use Rattle.turn_disk.specs.Disk.{ChangesOnly, EachImageSince, IsSettled, StandsA
 abbrev pub open_gate : ℕ
 open_gate = 0xA5
 
+-- there is an open gate at this position
 abbrev pub IsOpen : ℕ → List ℕ → Type 0
 IsOpen gate content = slice_index content gate ≡ open_gate
 
+-- there is a closed gate at this position: any byte but the open one
 abbrev pub IsClosed : ℕ → List ℕ → Type 0
 IsClosed gate content = slice_index content gate ≢ open_gate
 
@@ -75,6 +77,7 @@ pub record HoldsWith
 -- and the frame waits after its closed gate. From then on a stop leaves the frames with the new one or without, and the gate alone
 -- is written, once.
 pub record AddsFrame (from : ℕ) (payloads : List (List ℕ)) (payload : List ℕ) (gate limit : ℕ) (old new : Trace) : Type 0 where
+  -- the moment between the two stages
   pub mid : Trace
   pub first : EachImageSince old mid (HoldsWithout from payloads gate (5 + length payload) limit old.now.bytes)
   pub there : (new ≡ mid) ⊎ (IsSettled mid.now × IsWaiting gate payload limit mid.now.bytes)

@@ -14,10 +14,11 @@ is_401 bytes = nat_le 28 (length bytes) && ((slice_index bytes 20 == 0) && ((sli
 abbrev pub is_success : ℕ → Bool
 is_success b = (b == 3) || ((b == 4) || ((b == 8) || (b == 9)))
 
--- the same of an error
+-- the type's second byte is that of an error of one of these four, where the first is 1
 abbrev pub is_error : ℕ → Bool
 is_error b = (b == 19) || ((b == 20) || ((b == 24) || (b == 25)))
 
+-- which error a response is: 401, or another
 abbrev pub error_of : List ℕ → Response
 error_of bytes = if is_401 bytes then Unauthenticated else Error
 
@@ -38,6 +39,6 @@ place_of client = (client.ip + client.port) % 256
 abbrev pub IsNoted : List (Option Endpoint) → Endpoint → Type 0
 IsNoted places client = get_or places (place_of client) None ≡ Some client
 
--- the lines of a second
+-- how many lines a log has in a second, at most
 abbrev pub at_most : ℕ
 at_most = 200

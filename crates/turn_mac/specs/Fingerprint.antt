@@ -5,6 +5,7 @@ use Rattle.turn_codec.specs.AttributeTypes.{fingerprint}
 use Rattle.turn_codec.specs.Grammar.{Attribute, Content, Datagram, from, value_of}
 use Rattle.turn_mac.specs.Integrity.{fingerprint_of, front_of}
 
+-- a message has a FINGERPRINT
 unfoldable pub has_fingerprint : Content → Bool
 has_fingerprint m = is_some (value_of fingerprint m.attributes)
 

@@ -12,11 +12,11 @@ key_block digest key =
 abbrev pub masked : ℕ → List ℕ → List ℕ
 masked mask block = map (λ b. bit_xor b mask) block
 
--- H(K xor opad, H(K xor ipad, text))
+-- HMAC over a digest with blocks of 64 bytes: H(K xor opad, H(K xor ipad, text))
 unfoldable pub hmac : (List ℕ → List ℕ) → List ℕ → List ℕ → List ℕ
 hmac digest key text =
     digest (masked 0x5C (key_block digest key) ++ digest (masked 0x36 (key_block digest key) ++ text))
 
--- MD5 of the user's name, a colon, the realm, a colon and the password
+-- the long-term key, 16 bytes: MD5 of the user's name, a colon, the realm, a colon and the password
 abbrev pub auth_key : List ℕ → List ℕ → List ℕ → List ℕ
 auth_key user realm password = md5 (user ++ 58 ∷ realm ++ 58 ∷ password)

@@ -25,7 +25,7 @@ integrity_of key front = hmac sha1 key (with_length front (length front + 4))
 abbrev pub IntegrityHolds : List ℕ → Datagram → Type 0
 IntegrityHolds key d = value_of message_integrity d.content.attributes ≡ Some (integrity_of key (front_of message_integrity d))
 
--- the same as a test
+-- the same as a test: the law `integrity_is_decided`
 abbrev pub has_right_integrity : List ℕ → Datagram → Bool
 has_right_integrity key d =
     option_map_or (λ v. bytes_eq v (integrity_of key (front_of message_integrity d))) (value_of message_integrity d.content.attributes) false

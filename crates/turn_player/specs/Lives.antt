@@ -19,20 +19,22 @@ pub data Lasting : Type 0 where
   HandedOut : Taken → Lasting
   Found : Taken → Lasting
 
+-- the arrival
 abbrev pub taken_of : Lasting → Taken
 taken_of (HandedOut x) = x
 taken_of (Found x) = x
 
--- what was sent about it
+-- the datagram that was handed out about an arrival, if it was handed out and has one
 abbrev pub sent_by : Lasting → List Sent
 sent_by (HandedOut x) = option_to_list x.outcome.sent
 sent_by (Found x) = []
 
+-- the datagrams that were handed out about arrivals, in order
 abbrev pub sent_by_all : List Lasting → List Sent
 sent_by_all [] = []
 sent_by_all (x ∷ xs) = sent_by x ++ sent_by_all xs
 
--- the first n of the arrivals that have an act
+-- what an opening finds of arrivals that may get lost: the first n of those that have an act
 abbrev pub found : List Taken → ℕ → List Lasting
 found [] n = []
 found (x ∷ xs) zero = []
@@ -40,13 +42,15 @@ found (x ∷ xs) (suc n) = if is_some x.outcome.change then Found x ∷ found xs
 
 -- ---- What is asked, and what comes of it
 
--- A stop is one at rest or inside a commit or an opening.
+-- What is asked: an arrival at a moment, a commit, a stop, at rest or inside a commit or an opening, or an opening.
 pub data Input : Type 0 where
   Arrive : (moment : ℕ) (arrival : Arrives) → Input
   Commit : Input
   Stop : Input
   Open : Input
 
+-- what comes of an input: a refusal, a datagram, how many datagrams a commit handed out, a failed commit, an opening with its
+-- clock or its fault, or that no store is open
 pub data Said : Type 0 where
   Refused : SubmitRefused → Said
   Sends : Sent → Said
@@ -62,24 +66,27 @@ handing_out outs = map Sends outs ++ Committed (length outs) ∷ []
 
 -- ---- Where a life is
 
--- The arrivals that last, and those that were taken since and may get lost. No moment that was handed in is after the bound.
--- A server that runs reserves ports or doesn't, and has a clock; one that is halted had a commit that failed; where all is shut
--- no store is open.
+-- Where a life is: a server runs, or is halted after a commit that failed, or all is shut, and no store is open. The sure
+-- arrivals last; the recent ones were taken since, and may get lost. No moment that was handed in is after the bound. A
+-- server that runs reserves ports or doesn't, and has a clock.
 pub data Point : Type 0 where
   Running : (sure : List Lasting) (recent : List Taken) (pairs : Bool) (clock bound : ℕ) → Point
   Halted : (sure : List Lasting) (recent : List Taken) (bound : ℕ) → Point
   Shut : (sure : List Lasting) (recent : List Taken) (bound : ℕ) → Point
 
+-- the arrivals that last
 abbrev pub sure_of : Point → List Lasting
 sure_of (Running sure recent pairs c m) = sure
 sure_of (Halted sure recent m) = sure
 sure_of (Shut sure recent m) = sure
 
+-- the arrivals that were taken since, and may get lost
 abbrev pub recent_of : Point → List Taken
 recent_of (Running sure recent pairs c m) = recent
 recent_of (Halted sure recent m) = recent
 recent_of (Shut sure recent m) = recent
 
+-- a moment that none that was handed in is after
 abbrev pub bound_of : Point → ℕ
 bound_of (Running sure recent pairs c m) = m
 bound_of (Halted sure recent m) = m
@@ -95,24 +102,27 @@ unsettled_of (Shut sure recent m) = recent
 abbrev pub arrivals : List Lasting → List Taken → List Taken
 arrivals sure recent = map taken_of sure ++ recent
 
+-- all arrivals of a point that were taken and aren't lost
 abbrev pub arrivals_of : Point → List Taken
 arrivals_of p = arrivals (sure_of p) (recent_of p)
 
--- the history, and how many of its events last
+-- the history of a point: the events of all arrivals that were taken and aren't lost
 abbrev pub history_of : Point → History
 history_of p = accepted (arrivals_of p)
 
+-- those of its events that may be on the disk while no call runs
 abbrev pub settled_history_of : Point → History
 settled_history_of p = accepted (arrivals (sure_of p) (unsettled_of p))
 
+-- how many of its events last
 abbrev pub count_of : Point → ℕ
 count_of p = length (accepted (map taken_of (sure_of p)))
 
--- no store is open
+-- the point after a stop at rest: no store is open
 abbrev pub shut : Point → Point
 shut p = Shut (sure_of p) (unsettled_of p) (bound_of p)
 
--- the start of each life
+-- the start of each life: no store is open, nothing was taken, and the moment is 0
 abbrev pub formatted : Point
 formatted = Shut [] [] 0
 
@@ -122,19 +132,25 @@ formatted = Shut [] [] 0
 -- moment. Whether ports are reserved is the same from an opening on up to the next: the flag of the life's setting isn't read.
 -- Where the generator of ports can't fail, no answer says that it did.
 pub data Goes (s : Setting) (may_fail : Bool) : Point → Input → List Said → Point → Type 0 where
+  -- an arrival is taken: its outcome is any answer after the history
   takes : {sure : List Lasting} {recent : List Taken} {pairs : Bool} {c m t : ℕ} {a : Arrives} (failed : Bool) (o : Outcome)
       → AnswersArrival (record s { pairs = pairs }) (accepted (arrivals sure recent)) (max t c) failed a o → (failed ≡ true → may_fail ≡ true)
       → length recent < s.config.limits.acts
       → Goes s may_fail (Running sure recent pairs c m) (Arrive t a) []
       (Running sure (recent ++ record { moment = max t c; arrival = a; failed = failed; pairs = pairs; outcome = o } ∷ []) pairs (max t c) (max t m))
+  -- an arrival is refused for memory, and the clock is brought to its moment
   no_memory : {sure : List Lasting} {recent : List Taken} {pairs : Bool} {c m t : ℕ} {a : Arrives} → length recent < s.config.limits.acts
       → Goes s may_fail (Running sure recent pairs c m) (Arrive t a) (Refused refusals.Memory ∷ []) (Running sure recent pairs (max t c) (max t m))
+  -- the batch has as many arrivals as it may have
   is_full : {sure : List Lasting} {recent : List Taken} {pairs : Bool} {c m t : ℕ} {a : Arrives} → length recent ≡ s.config.limits.acts
       → Goes s may_fail (Running sure recent pairs c m) (Arrive t a) (Refused refusals.BatchFull ∷ []) (Running sure recent pairs c (max t m))
+  -- the store is stopped
   is_halted : {sure : List Lasting} {recent : List Taken} {m t : ℕ} {a : Arrives}
       → Goes s may_fail (Halted sure recent m) (Arrive t a) (Refused refusals.Stopped ∷ []) (Halted sure recent (max t m))
+  -- no store is open
   is_shut : {sure : List Lasting} {recent : List Taken} {m t : ℕ} {a : Arrives}
       → Goes s may_fail (Shut sure recent m) (Arrive t a) (Closed ∷ []) (Shut sure recent (max t m))
+  -- a commit hands out what was staged, and all arrivals last
   hands_out : {sure : List Lasting} {recent : List Taken} {pairs : Bool} {c m : ℕ}
       → Goes s may_fail (Running sure recent pairs c m) Commit (handing_out (sent_about recent)) (Running (sure ++ map HandedOut recent) [] pairs c m)
   -- a batch without acts can't fail
@@ -150,8 +166,10 @@ pub data Goes (s : Setting) (may_fail : Bool) : Point → Input → List Said �
   opens : {p : Point} (n : ℕ) (pairs : Bool) (c : ℕ) → n ≤ length (accepted (unsettled_of p)) → c ≤ bound_of p
       → clock (accepted (map taken_of (sure_of p ++ found (unsettled_of p) n))) ≤ c
       → Goes s may_fail p Open (Opened c ∷ []) (Running (sure_of p ++ found (unsettled_of p) n) [] pairs c (bound_of p))
+  -- an opening may fail, by the device or for memory alone
   not_opened : {p : Point} (fault : OpenFault) → IsPlain fault → Goes s may_fail p Open (NotOpened fault ∷ []) (shut p)
 
+-- inputs, one after another, lead from a point to a point
 pub data Life (s : Setting) (may_fail : Bool) : Point → List Input → List Said → Point → Type 0 where
   ends : {p : Point} → Life s may_fail p [] [] p
   goes_on : {p q : Point} {input : Input} {inputs : List Input} {said later : List Said} (next : Point)

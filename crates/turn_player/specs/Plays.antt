@@ -23,6 +23,7 @@ use Rattle.turn_player.specs.declared.step.Event.TheVariants as events
 use Rattle.turn_player.specs.declared.step.Step.{Step}
 use Rattle.turn_player.specs.declared.step.Step.TheVariants.{Arrive, Commit, Crash, Reopen, Fail, Stop}
 
+-- what an event of a player says
 abbrev pub said_of : {A : Type 0} → Event A → Said
 said_of (events.Refused why) = Refused why
 said_of (events.Sent out) = Sends (sent_of out)
@@ -32,10 +33,11 @@ said_of (events.Opened clock) = Opened clock
 said_of (events.NotOpened fault) = NotOpened fault
 said_of events.Closed = Closed
 
+-- the same, if there is an event
 abbrev pub said_if : {A : Type 0} → Option (Event A) → List Said
 said_if event = option_to_list (option_map said_of event)
 
--- a crash is a stop at rest and an opening
+-- the inputs of a step: a crash is a stop at rest and an opening
 abbrev pub inputs_of : Step → List Input
 inputs_of (Arrive moment arrival) = lives.Arrive moment (arrival_of arrival) ∷ []
 inputs_of Commit = lives.Commit ∷ []
@@ -44,6 +46,7 @@ inputs_of (Reopen carry) = lives.Open ∷ []
 inputs_of (Fail call) = []
 inputs_of (Stop call) = []
 
+-- the inputs of steps, in order
 abbrev pub inputs_of_all : List Step → List Input
 inputs_of_all [] = []
 inputs_of_all (step ∷ steps) = inputs_of step ++ inputs_of_all steps
@@ -72,6 +75,7 @@ pub data Plays {D H G : Type 0} (disk : disks.Ghosts D) (handler : handlers.Ghos
   fails : {w : World D H G} {call : _} → Plays disk handler ports s w (Fail call) [] w
   stops : {w : World D H G} {call : _} → Plays disk handler ports s w (Stop call) [] w
 
+-- steps of a player, one after another, lead from a world to a world
 pub data PlaysAll {D H G : Type 0} (disk : disks.Ghosts D) (handler : handlers.Ghosts H) (ports : generators.Ghosts G) (s : Setting) : World D H G → List Step → List Said → World D H G → Type 0 where
   done : {w : World D H G} → PlaysAll disk handler ports s w [] [] w
   then : {w v : World D H G} {step : Step} {steps : List Step} {said later : List Said} (next : World D H G)

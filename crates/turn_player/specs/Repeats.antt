@@ -25,6 +25,7 @@ pub record LastsAfter (s : Setting) (q : Point) (before : List Lasting) (x : Las
 
 -- the five-tuple has this allocation at the moment t
 pub record Has (h : History) (t : ℕ) (f : FiveTuple) (a : Allocation) : Type 0 where
+  -- its last Alloc made this allocation
   pub made : made h f ≡ Some a
   pub live : IsLive h t f
 

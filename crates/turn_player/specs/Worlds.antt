@@ -29,38 +29,45 @@ pub data World (D H G : Type 0) : Type 0 where
   Serving : ServerState D H G → World D H G
   Down : (disk : D) (handler : H) (ports : G) → World D H G
 
+-- the disk of a world
 abbrev pub disk_of : {D H G : Type 0} → World D H G → D
 disk_of (Serving server) = server.store.disk
 disk_of (Down disk handler ports) = disk
 
+-- the handler of the server, or for the next opening
 abbrev pub handler_of : {D H G : Type 0} → World D H G → H
 handler_of (Serving server) = server.machine.handler
 handler_of (Down disk handler ports) = handler
 
+-- the generator of the server, or for the next opening
 abbrev pub ports_of : {D H G : Type 0} → World D H G → G
 ports_of (Serving server) = server.machine.ports
 ports_of (Down disk handler ports) = ports
 
+-- what is said of a submit: nothing if the arrival was taken
 abbrev pub said_by_submit : Result Unit SubmitRefused → List Said
 said_by_submit (Ok done) = []
 said_by_submit (Err why) = Refused why ∷ []
 
+-- what is said of a commit
 abbrev pub said_by_commit : Result (List Sent) StoreFault → List Said
 said_by_commit (Ok outs) = handing_out outs
 said_by_commit (Err why) = Failed why ∷ []
 
+-- what is said of an opening
 abbrev pub said_by_open : {D H G : Type 0} → Result (ServerState D H G) (OpenRefused D H G) → List Said
 said_by_open (Ok server) = Opened (now_of server) ∷ []
 said_by_open (Err refused) = NotOpened refused.fault ∷ []
 
+-- the world after an opening: a server, or what the refusal returned
 abbrev pub world_after : {D H G : Type 0} → Result (ServerState D H G) (OpenRefused D H G) → World D H G
 world_after (Ok server) = Serving server
 world_after (Err refused) = Down refused.disk refused.handler refused.ports
 
 -- ---- Calls
 
--- After a stop the disk has this content and nothing is pending, and it is honest only if the disk of the call that was stopped is, once
--- that has ended. The next opening gets a handler with the same keys, and a generator with the same range.
+-- What the next opening finds after a stop: the disk has this content and nothing is pending, and it is honest only if the
+-- disk of the call that was stopped is, once that has ended. The handler has the same keys, and the generator the same range.
 pub record Restarts {D H G : Type 0} (disk : disks.Ghosts D) (handler : handlers.Ghosts H) (ports : generators.Ghosts G) (old : World D H G) (last : D) (image : List ℕ) (d : D) (h : H) (g : G) : Type 0 where
   pub bytes : (disk.trace d).now.bytes ≡ image
   pub settled : IsSettled (disk.trace d).now
@@ -87,6 +94,7 @@ pub data Call {D H G : Type 0} (disk : disks.Ghosts D) (handler : handlers.Ghost
       → (image : List ℕ) → IsLeft (disk.trace (disk_of w)) (disk.trace (disk_of (world_after result))) image → Restarts disk handler ports w (disk_of (world_after result)) image d h g
       → Call disk handler ports s w Stop [] (Down d h g)
 
+-- calls and stops, one after another
 pub data Calls {D H G : Type 0} (disk : disks.Ghosts D) (handler : handlers.Ghosts H) (ports : generators.Ghosts G) (s : Setting) : World D H G → List Input → List Said → World D H G → Type 0 where
   done : {w : World D H G} → Calls disk handler ports s w [] [] w
   then : {w v : World D H G} {input : Input} {inputs : List Input} {said later : List Said} (next : World D H G)
@@ -110,16 +118,20 @@ pub record Runs {D H G : Type 0} (disk : disks.Ghosts D) (handler : handlers.Gho
   pub clock : now_of server ≡ c
   pub bounded : c ≤ m
 
+-- a server whose store is stopped: each image of its disk has at least what lasts
 pub record IsHalted {D H G : Type 0} (disk : disks.Ghosts D) (handler : handlers.Ghosts H) (ports : generators.Ghosts G) (form : Form) (s : Setting) (server : ServerState D H G) (sure : List Lasting) (recent : List Taken) (m : ℕ) : Type 0 where
   pub stopped : server.store.stopped ≡ true
   pub same_setting : setting_of handler.key_of ports.range server.machine ≡ record s { pairs = server.machine.pairs }
   pub leaves : Leaves disk form server.store.disk sure recent m
 
+-- no server: keys and range are those of the setting, and each image of the disk has at least what lasts
 pub record IsDown {D H G : Type 0} (disk : disks.Ghosts D) (handler : handlers.Ghosts H) (ports : generators.Ghosts G) (form : Form) (s : Setting) (d : D) (h : H) (g : G) (sure : List Lasting) (recent : List Taken) (m : ℕ) : Type 0 where
   pub keys : handler.key_of h ≡ s.keys
   pub range : ports.range g ≡ s.range
   pub leaves : Leaves disk form d sure recent m
 
+-- a world stands at a point: a server that runs rests on all that was taken, of which what lasts is stored; else each image
+-- of the disk has at least what lasts
 abbrev pub Stands : {D H G : Type 0} → disks.Ghosts D → handlers.Ghosts H → generators.Ghosts G → Form → Setting → World D H G → Point → Type 0
 Stands disk handler ports form s (Serving server) (Running sure recent pairs c m) = Runs disk handler ports form s server sure recent pairs c m
 Stands disk handler ports form s (Serving server) (Halted sure recent m) = IsHalted disk handler ports form s server sure recent m

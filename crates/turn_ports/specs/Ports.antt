@@ -1,13 +1,14 @@
 -- Ports that may be allocated, and what a generator of relayed addresses may pick. A range is its first and its last port.
 use Rattle.std.specs.Prelude.{ℕ, ◌≡◌, ◌==◌, ◌≤◌, ◌<◌, ◌+◌, ◌%◌, ◌^◌, ◌&&◌, ◌||◌, Bool, true, false, not, Option, Some, None}
 
--- a port that may be allocated: of the range, not taken, and even if asked
+-- a port that may be allocated: below 2^16, of the range, not taken, and even if asked (RFC 8656, section 7.2)
 pub record IsFree (range : ℕ × ℕ) (taken : ℕ → Bool) (even : Bool) (port : ℕ) : Type 0 where
   pub is_port : port < 2 ^ 16
   pub in_range : (range.0 ≤ port) × (port ≤ range.1)
   pub untaken : taken port ≡ false
   pub parity : even ≡ true → port % 2 ≡ 0
 
+-- no number is a port that may be allocated
 abbrev pub NoneIsFree : ℕ × ℕ → (ℕ → Bool) → Bool → Type 0
 NoneIsFree range taken even = (port : ℕ) → ¬ IsFree range taken even port
 
@@ -27,6 +28,7 @@ pub record IsFreePair (range : ℕ × ℕ) (taken : ℕ → Bool) (port : ℕ) :
   pub first : IsFree range taken true port
   pub second : IsFree range taken false (port + 1)
 
+-- no number is the even port of a pair that may be allocated
 abbrev pub NoPairIsFree : ℕ × ℕ → (ℕ → Bool) → Type 0
 NoPairIsFree range taken = (port : ℕ) → ¬ IsFreePair range taken port
 

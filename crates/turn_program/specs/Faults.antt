@@ -24,25 +24,29 @@ use Rattle.turn_store.specs.declared.formatting.FormatRefused.TheVariants as for
 use Rattle.turn_words.specs.declared.fault.WordFault.{WordFault}
 use Rattle.turn_words.specs.declared.fault.WordFault.TheVariants as word_faults
 
+-- the fault of a store's file
 abbrev pub of_file : FileRefused → Fault
 of_file file_faults.InUse = StoreInUse
 of_file file_faults.Device = Device
 
+-- the fault of the words of a command line
 abbrev pub of_words : WordFault → Fault
 of_words word_faults.Usage = Usage
 of_words word_faults.BadDatagram = BadDatagram
 of_words word_faults.Memory = Memory
 
+-- the fault of a configuration
 abbrev pub of_config : ConfigFault → Fault
 of_config (config_faults.BadLine number) = BadLine number
 of_config config_faults.Memory = Memory
 
+-- the fault of a scenario text
 abbrev pub of_scenario : ScenarioFault → Fault
 of_scenario (scenario_faults.BadLine number) = BadLine number
 of_scenario (scenario_faults.Differs number) = Differs number
 of_scenario scenario_faults.Memory = Memory
 
--- a store that changes is one that a server has open
+-- the fault of a reading of a store; one that changes is one that a server has open
 abbrev pub of_reading : ReadingFault → Fault
 of_reading reading_faults.Device = Device
 of_reading reading_faults.Memory = Memory
@@ -51,6 +55,7 @@ of_reading reading_faults.LimitsDiffer = LimitsDiffer
 of_reading (reading_faults.Damaged place) = Damaged place
 of_reading reading_faults.Changing = StoreInUse
 
+-- the fault of an opening
 abbrev pub of_open : OpenFault → Fault
 of_open open_faults.Device = Device
 of_open open_faults.Memory = Memory
@@ -58,16 +63,18 @@ of_open open_faults.NotAStore = NotAStore
 of_open open_faults.LimitsDiffer = LimitsDiffer
 of_open (open_faults.Damaged place) = Damaged place
 
+-- the fault of a formatting, with the min size of an area where it is too small
 abbrev pub of_format : FormatRefused → Fault
 of_format format_faults.Device = Device
 of_format (format_faults.AreaTooSmall needed) = AreaTooSmall needed
 
--- a store stops after a failed device call
+-- the fault of a commit; a store stops after a failed device call
 abbrev pub of_store : StoreFault → Fault
 of_store store_faults.Device = Device
 of_store store_faults.Worn = Worn
 of_store store_faults.Stopped = Device
 
+-- the fault of a server's start
 abbrev pub of_start : StartFault → Fault
 of_start (start_faults.Store fault) = of_open fault
 of_start start_faults.Socket = Socket
@@ -75,13 +82,14 @@ of_start start_faults.Memory = Memory
 of_start (start_faults.Reopen fault) = of_open fault
 of_start start_faults.Changed = Device
 
+-- the fault of a turn
 abbrev pub of_turn : TurnFault → Fault
 of_turn (turn_faults.Commit fault) = of_store fault
 of_turn turn_faults.Socket = Socket
 of_turn turn_faults.Clock = Device
 of_turn turn_faults.Memory = Memory
 
--- in the demonstration an answer that doesn't come, or another one, is a fault of the sockets
+-- the fault of the demonstration; an answer that doesn't come, or another one, is of the sockets
 abbrev pub of_client : ClientFault → Fault
 of_client (client_faults.Start fault) = of_start fault
 of_client (client_faults.Turn fault) = of_turn fault

@@ -9,6 +9,8 @@ use Rattle.turn_rules.specs.Answer.{decision, judgement}
 use Rattle.turn_step.specs.Outcome.{Sent}
 use Rattle.turn_step.specs.Outcome.Sent.{ToClient, ToPeer}
 
+-- the configuration of `turn answer`: the realm example.org, a secret of 32 zero bytes, the relay address 198.51.100.1, a
+-- quota of 10, nothing denied, and the max limits
 abbrev pub profile : Config
 profile = record {
   realm = codes "example.org";
@@ -19,6 +21,7 @@ profile = record {
   limits = record { allocations = 1024; permissions = 32; channels = 32; acts = 64; name_bytes = 508 };
 }
 
+-- no user has a key
 abbrev pub no_keys : Keys
 no_keys user realm = None
 

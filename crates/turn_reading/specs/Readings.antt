@@ -20,11 +20,13 @@ use Rattle.turn_store.specs.declared.superblock.LimitsRefused.TheVariants as lim
 use Rattle.turn_table.specs.State as tables
 use Rattle.turn_types.specs.declared.limits.Bounds.{Bounds}
 
+-- the fault of limits that weren't read
 abbrev pub of_limits : LimitsRefused → ReadingFault
 of_limits limits_faults.Device = Device
 of_limits limits_faults.NotAStore = NotAStore
 
--- without given limits a store is read under its own, so that others at a second look are a change
+-- the fault of an opening under given limits, or under the store's own: without given ones, others at a second look are a
+-- change
 abbrev pub of_open : Option Bounds → OpenFault → ReadingFault
 of_open limits open_faults.Device = Device
 of_open limits open_faults.Memory = Memory

@@ -16,26 +16,30 @@ use Rattle.turn_record.specs.Snapshots.{entry_at, total_at, reservation_at, head
 use Rattle.turn_table.specs.State.{State}
 use Rattle.turn_types.specs.declared.limits.Bounds.{Bounds}
 
--- the code of what is still to come, for the model of the type that holds it
+-- what is still to come, as a number on one of two sides
 abbrev pub remaining_cases : Remaining → ℕ ⊎ ℕ
 remaining_cases (Entries n) = inl n
 remaining_cases (Reserved n) = inr n
 
+-- and back
 abbrev pub remaining_of : ℕ ⊎ ℕ → Remaining
 remaining_of (inl n) = Entries n
 remaining_of (inr n) = Reserved n
 
+-- the way there and back changes nothing
 abbrev pub remaining_again : (r : Remaining) → remaining_of (remaining_cases r) ≡ r
 remaining_again (Entries n) = refl
 remaining_again (Reserved n) = refl
 
+-- the code of what is still to come, for the model of the type that holds it
 abbrev pub remaining_code : Coded Remaining
 remaining_code = code_by (ℕ ⊎ ℕ) (coded⊎ coded_ℕ coded_ℕ) remaining_cases remaining_of remaining_again
 
--- a table that is being restored, and what is still to come
+-- how far a snapshot is read: a table that is being restored, and what is still to come
 abbrev pub Place : Type 0
 Place = State × Remaining
 
+-- what is still to come, read after the entries and reserved ports of the table
 abbrev pub remaining_at : Version → State → Remaining → List ℕ → Field (ℕ × Contents)
 remaining_at v s (Entries n) bytes = table_at v s.bounds s.moment n (fin.entries s.contents.entries) bytes
 remaining_at v s (Reserved n) bytes = reserving_at s.moment n (fin.entries s.contents.entries) (fin.entries s.contents.reserved) bytes
@@ -60,6 +64,7 @@ Next value rest (Ok (Some x)) read bytes = (more : List ℕ) → read (bytes ++ 
 Next value rest (Ok None) read bytes = read bytes ≡ Err Short
 Next value rest (Err e) read bytes = (more : List ℕ) → Fails e (read (bytes ++ more))
 
+-- the bytes ended inside a field
 abbrev pub is_short : Malformed → Bool
 is_short Short = true
 is_short BadTag = false
@@ -92,6 +97,8 @@ IsCut v s (Reserved n) bytes = reservation_at s.moment (fin.entries s.contents.e
 abbrev pub IsWaitingAt : Version → Place → List ℕ → Type 0
 IsWaitingAt v p bytes = ((is_done v p.1 ≡ true) × (bytes ≡ [])) ⊎ ((is_done v p.1 ≡ false) × IsCut v p.0 p.1 bytes)
 
+-- the bytes at hand are too few for the next item: the first twelve bytes, an entry, the number of reserved ports, or a
+-- reserved port; or the last item was read
 abbrev pub IsWaiting : Version → Bounds → Option Place → List ℕ → Type 0
 IsWaiting v b None bytes = head_at b bytes ≡ Err Short
 IsWaiting v b (Some p) bytes = IsWaitingAt v p bytes

@@ -10,29 +10,30 @@ use Rattle.turn_record.specs.Bytes.{act_entry, payload, snapshot}
 use Rattle.turn_record.specs.declared.version.Version.{Version}
 use Rattle.turn_record.specs.declared.version.Version.TheVariants.{V1, V2}
 
--- what a version can hold: version 1 no tokens and no reserved ports
+-- the acts that a version can hold: version 1 those that reserve no port
 abbrev pub Writes : Version → PlainAct → Type 0
 Writes V1 d = ReservesNone d
 Writes V2 d = Unit {0}
 
+-- the tables that a version can hold: version 1 those without tokens and reserved ports
 abbrev pub Holds : Version → Contents → Type 0
 Holds V1 c = HasNoTokens c
 Holds V2 c = Unit {0}
 
--- bytes spell an act entry, all of them
+-- bytes encode an act entry, all of them
 pub record SpellsAct (v : Version) (b : Bounds) (e : Event) (bytes : List ℕ) : Type 0 where
   pub writes : Writes v e.act
   pub in_range : IsInRange b e
   pub is : bytes ≡ act_entry e
 
--- its lengths fit the bytes that they are written in
+-- the lengths of an act fit the bytes that they are written in
 abbrev pub HasShortParts : PlainAct → Type 0
 HasShortParts (Allocates user port granted tx token) = (length user < 2 ^ 16) × (length tx.0 ≡ 12)
 HasShortParts (Renews granted) = Unit {0}
 HasShortParts (Permits xs) = length xs < 256
 HasShortParts (Binds number peer) = Unit {0}
 
--- the events of one frame
+-- the events of one frame: 1 to the limit of acts, in range, of which the version can hold each, and whose moments never fall
 pub record IsBatch (v : Version) (b : Bounds) (es : List Event) : Type 0 where
   pub some : 1 ≤ length es
   pub few : length es ≤ b.acts
@@ -40,7 +41,7 @@ pub record IsBatch (v : Version) (b : Bounds) (es : List Event) : Type 0 where
   pub later : NeverFall es
   pub writes : AllByRecursion (λ e. Writes v e.act) es
 
--- bytes spell a payload, all of them
+-- bytes encode a payload, all of them
 pub record SpellsPayload (v : Version) (b : Bounds) (es : List Event) (bytes : List ℕ) : Type 0 where
   pub batch : IsBatch v b es
   pub is : bytes ≡ payload es
@@ -57,40 +58,40 @@ pub record IsSnapshot (v : Version) (b : Bounds) (t : ℕ) (c : Contents) : Type
   pub ports : PortsApart c
   pub peers : PeersApart c
 
--- bytes spell a snapshot, all of them
+-- bytes encode a snapshot, all of them
 pub record SpellsSnapshot (v : Version) (b : Bounds) (t : ℕ) (c : Contents) (bytes : List ℕ) : Type 0 where
   pub fits : IsSnapshot v b t c
   pub is : bytes ≡ snapshot v t c
 
 -- ---- Sizes
 
--- of the act entry of an Alloc without its user, at most
+-- the size of an act entry of an Alloc without its user's name, in bytes, at most
 abbrev pub alloc_size : Version → ℕ
 alloc_size V1 = 41
 alloc_size V2 = 49
 
--- of an entry of a snapshot without its user, permissions and channels, at most
+-- the size of an entry of a snapshot without its user's name, permissions and channels, in bytes, at most
 abbrev pub entry_size : Version → ℕ
 entry_size V1 = 42
 entry_size V2 = 51
 
--- of an act entry under the limits
+-- the max size of an act entry under the limits, in bytes
 abbrev pub max_act : Version → Bounds → ℕ
 max_act v b = max (max (alloc_size v + b.name_bytes) (22 + 4 * b.permissions)) 29
 
--- of a payload under the limits
+-- the max size of a payload under the limits, in bytes
 abbrev pub max_payload : Version → Bounds → ℕ
 max_payload v b = 1 + b.acts * max_act v b
 
--- of an entry of a snapshot under the limits
+-- the max size of an entry of a snapshot under the limits, in bytes
 abbrev pub max_entry : Version → Bounds → ℕ
 max_entry v b = entry_size v + b.name_bytes + 12 * b.permissions + 16 * b.channels
 
--- of the reserved ports under the limits
+-- the max size of the reserved ports under the limits, in bytes
 abbrev pub max_reserved : Version → Bounds → ℕ
 max_reserved V1 b = 0
 max_reserved V2 b = 4 + 18 * b.allocations
 
--- of a snapshot under the limits
+-- the max size of a snapshot under the limits, in bytes
 abbrev pub max_snapshot : Version → Bounds → ℕ
 max_snapshot v b = 12 + b.allocations * max_entry v b + max_reserved v b

@@ -21,7 +21,7 @@ use Rattle.turn_types.specs.declared.address.FiveTuple.{FiveTuple}
 use Rattle.turn_types.specs.declared.limits.Bounds.{Bounds}
 use Rattle.turn_types.specs.declared.message.Token.{Token}
 
--- when something expires: after the moment t, and by at most so many seconds
+-- when something expires, in eight bytes: after the moment t, and by at most so many seconds
 unfoldable pub expiry_at : ℕ → ℕ → List ℕ → Field ℕ
 expiry_at t most bytes = do
   x ← number_at w64 bytes
@@ -29,22 +29,26 @@ expiry_at t most bytes = do
 
 -- ---- Permissions
 
+-- an address above the one before
 unfoldable pub address_after : List (ℕ × ℕ) → List ℕ → Field ℕ
 address_after before bytes = do
   a ← number_at w32 bytes
   judged (last_passes (λ last. nat_lt last.0 a.0) before) OutOfOrder a
 
+-- an address, and when its permission expires: within 300 seconds
 unfoldable pub permission_at : ℕ → List (ℕ × ℕ) → List ℕ → Field (ℕ × ℕ)
 permission_at t before bytes = do
   a ← address_after before bytes
   x ← expiry_at t 300 a.1
   Ok ((a.0, x.0), x.1)
 
+-- a count, and as many permissions
 unfoldable pub permission_list_at : Bounds → ℕ → List ℕ → Field (List (ℕ × ℕ))
 permission_list_at b t bytes = do
   n ← count_at 0 b.permissions bytes
   many (permission_at t) n.0 [] n.1
 
+-- the same, as a map
 abbrev pub permissions_at : Bounds → ℕ → List ℕ → Field (FinMap nat_cmp ℕ)
 permissions_at b t bytes = do
   ps ← permission_list_at b t bytes
@@ -52,6 +56,7 @@ permissions_at b t bytes = do
 
 -- ---- Channels
 
+-- a channel number above the one before
 unfoldable pub number_after : List (ℕ × Channel) → List ℕ → Field ℕ
 number_after before bytes = do
   n ← channel_number_at bytes
@@ -63,6 +68,7 @@ other_peer_at before bytes = do
   p ← endpoint_at bytes
   judged (not (list_any (λ c. is_peer p.0 c.1) before)) BadValue p
 
+-- a channel: its number, its peer, and when it expires: within 600 seconds
 unfoldable pub channel_at : ℕ → List (ℕ × Channel) → List ℕ → Field (ℕ × Channel)
 channel_at t before bytes = do
   n ← number_after before bytes
@@ -70,11 +76,13 @@ channel_at t before bytes = do
   x ← expiry_at t 600 p.1
   Ok ((n.0, record { peer = p.0; expiry = x.0 }), x.1)
 
+-- a count, and as many channels
 unfoldable pub channel_list_at : Bounds → ℕ → List ℕ → Field (List (ℕ × Channel))
 channel_list_at b t bytes = do
   n ← count_at 0 b.channels bytes
   many (channel_at t) n.0 [] n.1
 
+-- the same, as a map
 abbrev pub channels_at : Bounds → ℕ → List ℕ → Field (FinMap nat_cmp Channel)
 channels_at b t bytes = do
   cs ← channel_list_at b t bytes
@@ -82,6 +90,7 @@ channels_at b t bytes = do
 
 -- ---- Entries
 
+-- a five-tuple above the one before
 unfoldable pub tuple_after : List (FiveTuple × Entry) → List ℕ → Field FiveTuple
 tuple_after before bytes = do
   f ← tuple_at bytes
@@ -91,18 +100,19 @@ tuple_after before bytes = do
 abbrev pub is_free_after : List (FiveTuple × Entry) → ℕ → Bool
 is_free_after before port = not (list_any (λ e. e.1.port == port) before)
 
--- 1 where a token follows, which is beside an even port alone, and else 0
+-- a mark: 1 where a token follows, which is beside an even port alone, and else 0
 unfoldable pub mark_byte_at : ℕ → List ℕ → Field ℕ
 mark_byte_at port bytes = do
   m ← byte_at bytes
   judged (nat_eq m.0 0 || (nat_eq m.0 1 && is_even port)) BadValue m
 
+-- the token of a port
 abbrev pub some_token_at : ℕ → List ℕ → Field (Option Token)
 some_token_at port bytes = do
   k ← token_at port bytes
   Ok (Some k.0, k.1)
 
--- after a mark
+-- after a mark, the token of the port after this one, if there is one
 unfoldable pub token_if_at : ℕ → ℕ → List ℕ → Field (Option Token)
 token_if_at port mark bytes = if mark == 0 then Ok (None, bytes) else some_token_at (port + 1) bytes
 
@@ -117,6 +127,7 @@ mark_at V2 port bytes = do
 abbrev pub entry_with : Allocation → Option Token → ℕ → FinMap nat_cmp ℕ → FinMap nat_cmp Channel → Entry
 entry_with a k x ps cs = record { user = a.user; port = a.port; granted = a.granted; tx = a.tx; token = k; expiry = x; permissions = ps; channels = cs }
 
+-- an entry of a snapshot, after those before it
 unfoldable pub entry_at : Version → Bounds → ℕ → List (FiveTuple × Entry) → List ℕ → Field (FiveTuple × Entry)
 entry_at v b t before bytes = do
   f ← tuple_after before bytes
@@ -129,7 +140,7 @@ entry_at v b t before bytes = do
 
 -- ---- Counts
 
--- how many entries there are, or reserved ports
+-- how many entries there are, or reserved ports, in four bytes: at most `allocations`
 unfoldable pub total_at : Bounds → List ℕ → Field ℕ
 total_at b bytes = do
   n ← number_at w32 bytes
@@ -143,12 +154,13 @@ odd_port_at entries bytes = do
   q ← number_at w16 bytes
   judged (not (is_even q.0) && is_free_after entries q.0) BadValue q
 
--- above the last one
+-- a reserved port above the one before, if it is odd and no entry has it
 unfoldable pub reserved_port_after : List (FiveTuple × Entry) → List (ℕ × Reservation) → List ℕ → Field ℕ
 reserved_port_after entries before bytes = do
   q ← odd_port_at entries bytes
   judged (last_passes (λ last. nat_lt last.0 q.0) before) OutOfOrder q
 
+-- a reserved port, its token, and when the reservation expires: within 30 seconds
 unfoldable pub reservation_at : ℕ → List (FiveTuple × Entry) → List (ℕ × Reservation) → List ℕ → Field (ℕ × Reservation)
 reservation_at t entries before bytes = do
   q ← reserved_port_after entries before bytes
@@ -171,11 +183,12 @@ reserved_at V2 b t entries bytes = do
 
 -- ---- Snapshots
 
--- the first twelve bytes
+-- the first twelve bytes of a snapshot: its moment, and how many entries it has
 pub record Head : Type 0 where
   pub moment : ℕ
   pub count : ℕ
 
+-- the first twelve bytes
 unfoldable pub head_at : Bounds → List ℕ → Field Head
 head_at b bytes = do
   t ← moment_at bytes
@@ -188,11 +201,12 @@ table_at v b t n before bytes = do
   es ← many (entry_at v b t) n before bytes
   reserved_at v b t es.0 es.1
 
+-- a snapshot: its moment, and the table
 unfoldable pub snapshot_at : Version → Bounds → List ℕ → Field (ℕ × Contents)
 snapshot_at v b bytes = do
   h ← head_at b bytes
   table_at v b h.0.moment h.0.count [] h.1
 
--- the table and its moment that a byte list spells, or the first fault
+-- the moment and the table that a byte list encodes, all of it, or the first fault
 unfoldable pub snapshot_in : Version → Bounds → List ℕ → Result (ℕ × Contents) Malformed
 snapshot_in v b bytes = whole (snapshot_at v b bytes)

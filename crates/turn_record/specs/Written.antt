@@ -8,7 +8,7 @@ use Rattle.turn_types.specs.Limits.{max_bounds}
 use Rattle.turn_types.specs.declared.address.FiveTuple.{FiveTuple}
 use Rattle.turn_types.specs.declared.limits.Bounds.{Bounds}
 
--- its parts are no longer than the limits allow
+-- the parts of an entry are no longer than the limits allow
 pub record IsShort (b : Bounds) (e : Entry) : Type 0 where
   pub user : length e.user ≤ b.name_bytes
   pub tx : length e.tx.0 ≡ 12
@@ -16,7 +16,7 @@ pub record IsShort (b : Bounds) (e : Entry) : Type 0 where
   pub permissions : fin.len e.permissions ≤ b.permissions
   pub channels : fin.len e.channels ≤ b.channels
 
--- so are those of each entry, under the max limits
+-- the parts of each entry are no longer than the max limits allow
 abbrev pub AreShort : List (FiveTuple × Entry) → Type 0
 AreShort es = AllByRecursion (λ p. IsShort max_bounds p.1) es
 

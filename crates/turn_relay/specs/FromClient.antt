@@ -26,18 +26,20 @@ pub record PeerData : Type 0 where
   pub peer : Endpoint
   pub payload : List ℕ
 
--- from an allocation to a peer, unless it is longer than UDP carries
+-- data from an allocation to a peer, unless it is longer than UDP carries
 abbrev pub sent : Entry → Endpoint → List ℕ → Option PeerData
 sent e peer payload = if nat_le (length payload) max_payload then Some (record { port = e.port; peer = peer; payload = payload }) else None
 
 -- ---- Send indications (section 11.2)
 
+-- the class is that of an indication
 abbrev pub is_indication : Class → Bool
 is_indication Request = false
 is_indication Indication = true
 is_indication Success = false
 is_indication Error = false
 
+-- a Send indication
 abbrev pub is_send_indication : Content → Bool
 is_send_indication m = is_indication m.class && (m.method == send)
 
@@ -46,6 +48,7 @@ abbrev pub endpoint_at : ℕ → Addr → Option Endpoint
 endpoint_at port (V4 ip) = Some (record { ip = ip; port = port })
 endpoint_at port (V6 ip) = None
 
+-- an address with its port, where it is one of IPv4
 abbrev pub ipv4_endpoint : PeerAddress → Option Endpoint
 ipv4_endpoint address = endpoint_at address.port address.ip
 
@@ -57,6 +60,7 @@ peer_of m = option_and_then (λ value. option_and_then ipv4_endpoint (address_of
 abbrev pub is_permitted : Entry → Endpoint → Bool
 is_permitted e peer = is_some (fin.get e.permissions peer.ip)
 
+-- the payload goes to the peer, if the peer's address has a permission
 abbrev pub sent_to_permitted : Entry → Endpoint → List ℕ → Option PeerData
 sent_to_permitted e peer payload = if is_permitted e peer then sent e peer payload else None
 

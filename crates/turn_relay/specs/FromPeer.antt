@@ -34,7 +34,7 @@ data_indication tx peer payload = record {
   attributes = record { kind = types.xor_peer_address; value = xor_value peer } ∷ record { kind = types.payload; value = payload } ∷ [];
 }
 
--- by the number of the channel, if there is one
+-- the bytes for a client, by the number of the channel, if there is one
 abbrev pub written : Option ℕ → List ℕ → Endpoint → List ℕ → List ℕ
 written None tx peer payload = canonical (data_indication tx peer payload)
 written (Some number) tx peer payload = channel_spelling number payload
@@ -48,6 +48,7 @@ abbrev pub Says : Option ℕ → List ℕ → List ℕ → Endpoint → List ℕ
 Says None bytes tx peer payload = Spells bytes (data_indication tx peer payload)
 Says (Some number) bytes tx peer payload = SpellsChannelData bytes number payload
 
+-- bytes are the client's datagram of this data, with the transaction id if it is a Data indication
 abbrev pub IsForClient : List ℕ → List ℕ → ClientData → Type 0
 IsForClient bytes tx d = Says d.channel bytes tx d.peer d.payload
 
@@ -68,7 +69,7 @@ abbrev pub IsChannelFor : Entry → Endpoint → Option ℕ → Type 0
 IsChannelFor e peer None = (number : ℕ) → ¬ IsChannelTo e number peer
 IsChannelFor e peer (Some number) = IsChannelTo e number peer
 
--- to the client, unless its datagram would be longer than UDP carries
+-- data for the client, unless its datagram would be longer than UDP carries
 abbrev pub relayed : FiveTuple → Option ℕ → Endpoint → List ℕ → Option ClientData
 relayed f channel peer payload =
     if nat_le (size_for_client channel (length payload)) max_payload

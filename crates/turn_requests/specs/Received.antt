@@ -13,6 +13,7 @@ use Rattle.turn_codec.specs.Grammar.{Content, value_of}
 use Rattle.turn_requests.specs.declared.received.Received.{Received}
 use Rattle.turn_requests.specs.declared.received.Received.TheVariants.{Allocated, Refreshed, Success, Error, Data}
 
+-- an address with a port, where it is one of IPv4
 abbrev pub ipv4_with : Addr → ℕ → Option Endpoint
 ipv4_with (V4 ip) port = Some (record { ip = ip; port = port })
 ipv4_with (V6 ip) port = None
@@ -25,6 +26,7 @@ ipv4_of address = ipv4_with address.ip address.port
 unfoldable pub address_in : ℕ → Content → Option Endpoint
 address_in kind m = option_and_then ipv4_of (option_and_then (λ value. address_of value m.tx) (value_of kind m.attributes))
 
+-- the number in a value of four bytes
 abbrev pub seconds_of : Option (List ℕ) → Option ℕ
 seconds_of None = None
 seconds_of (Some value) = if length value == 4 then Some (from_be_bytes w32 value) else None
@@ -33,6 +35,7 @@ seconds_of (Some value) = if length value == 4 then Some (from_be_bytes w32 valu
 unfoldable pub lifetime_in : Content → Option ℕ
 lifetime_in m = seconds_of (value_of lifetime m.attributes)
 
+-- the token in a value of eight bytes
 abbrev pub token_of : Option (List ℕ) → Option Token
 token_of None = None
 token_of (Some value) = if length value == 8 then Some (record { 0 = value }) else None
@@ -41,6 +44,7 @@ token_of (Some value) = if length value == 8 then Some (record { 0 = value }) el
 unfoldable pub token_in : Content → Option Token
 token_in m = token_of (value_of reservation_token m.attributes)
 
+-- the code in a value of at least four bytes: its hundreds in the third, the rest in the fourth
 abbrev pub code_of : Option (List ℕ) → Option ℕ
 code_of None = None
 code_of (Some value) = if nat_le 4 (length value) then Some (slice_index value 2 * 100 + slice_index value 3) else None

@@ -34,6 +34,7 @@ is_transport (EvenPort reserves) = false
 is_transport DontFragment = false
 is_transport (ReservationToken token) = false
 
+-- a request's method and transaction id, before its attributes
 abbrev pub begun : Request → Content
 begun r = record { class = classes.Request; method = r.method; tx = r.tx.0; attributes = [] }
 

@@ -26,6 +26,7 @@ use Rattle.turn_rules.specs.Need.{MayHavePicked}
 use Rattle.turn_rules.specs.Outcome.{act_by, response_of}
 use Rattle.turn_rules.specs.Owner.{owner_outcome}
 
+-- the class is that of a request
 abbrev pub is_request : Class → Bool
 is_request Request = true
 is_request Indication = false
@@ -73,7 +74,7 @@ outcome_of pairs s c f t d v port = first_row (
 
 -- ---- What is decided
 
--- the user whose credentials hold
+-- the name of the user whose credentials hold, else the empty one
 abbrev pub user_of : Option Verdict → List ℕ
 user_of None = []
 user_of (Some Challenge401) = []
@@ -81,6 +82,7 @@ user_of (Some Bad400) = []
 user_of (Some Stale438) = []
 user_of (Some (Passed user key)) = user
 
+-- the key of the user whose credentials hold
 abbrev pub passed_key : Option Verdict → Option (List ℕ)
 passed_key None = None
 passed_key (Some Challenge401) = None
@@ -88,16 +90,16 @@ passed_key (Some Bad400) = None
 passed_key (Some Stale438) = None
 passed_key (Some (Passed user key)) = Some key.bytes
 
--- a response is signed where the credentials were checked and hold
+-- the key that a response is signed under: where the credentials were checked and hold
 abbrev pub key_of : Content → Option Verdict → Option (List ℕ)
 key_of m v = if is_protected m.method then passed_key v else None
 
--- a reply, and what is done to the allocation of the five-tuple
+-- what is decided about a message: a reply, if any, and an act on the allocation of the five-tuple, if any
 pub record Decided : Type 0 where
   pub reply : Option (List ℕ)
   pub act : Option PlainAct
 
--- the reply is the canonical spelling of the outcome's response
+-- the decision about a datagram: the reply is the canonical encoding of the outcome's response
 unfoldable pub decision : Bool → Config → Contents → FiveTuple → ℕ → Datagram → Option Verdict → Option ℕ → Decided
 decision pairs s c f t d v port =
     let outcome = outcome_of pairs s c f t d v port in
@@ -117,6 +119,7 @@ needed_if_passed pairs s c f t m (Some Stale438) = None
 needed_if_passed pairs s c f t m (Some (Passed user key)) =
     if is_expired c f t m key then None else if is_none (before_port pairs s c f user m) then needed_for c m else None
 
+-- which port is needed for a datagram, if one is: for an Allocate to which no row before applies
 unfoldable pub port_needed : Bool → Config → Contents → FiveTuple → ℕ → Datagram → Option Verdict → Option Need
 port_needed pairs s c f t d v = first_row (
     (is_dropped d, None) ∷
@@ -131,10 +134,10 @@ pub record MayAnswer (pairs : Bool) (s : Config) (range : ℕ × ℕ) (h : Histo
   pub picked : MayHavePicked range failed (table h t) (port_needed pairs s (table h t) f t d v) port
   pub decided : o ≡ decision pairs s (table h t) f t d v port
 
--- the credentials are checked for the protected methods alone
+-- the outcome of the credential check of a datagram, for the four methods that need credentials
 unfoldable pub judgement : Config → Keys → Endpoint → ℕ → Datagram → Option Verdict
 judgement s keys client t d = if is_protected d.content.method then Some (verdict (policy_of s) keys d client t) else None
 
--- the same, with the credentials checked
+-- what may be answered to a datagram after a history, with the credentials checked
 abbrev pub Answers : Bool → Config → Keys → ℕ × ℕ → History → ℕ → Bool → FiveTuple → Datagram → Decided → Type 0
 Answers pairs s keys range h t failed f d o = MayAnswer pairs s range h t failed f d (judgement s keys f.client t d) o

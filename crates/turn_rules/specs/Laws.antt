@@ -83,6 +83,7 @@ plain_capacity_rows s c user =
     (nat_le s.quota (count_of_user c user), refused AllocationQuotaReached) ∷
     (nat_le s.limits.allocations (fin.len c.entries), refused InsufficientCapacity) ∷ []
 
+-- the outcome before a port is asked for, by these rows, if one applies
 abbrev pub plain_before_port : Config → Contents → FiveTuple → List ℕ → Content → Option Outcome
 plain_before_port s c f user m = option_or (first_row (plain_rows (fin.get c.entries f) user m) None) (first_row (plain_capacity_rows s c user) None)
 

@@ -6,7 +6,7 @@ use Rattle.turn_ports.specs.Ports.{MayPick, MayPickPair}
 use Rattle.turn_rules.specs.declared.need.Need.{Need}
 use Rattle.turn_rules.specs.declared.need.Need.TheVariants.{Any, Even, Pair}
 
--- a free port, an even one, or a free pair (RFC 8656, section 7.2)
+-- what may be picked for a need: a free port, a free even one, or a free pair (RFC 8656, section 7.2)
 abbrev pub MayPickFor : ℕ × ℕ → Contents → Bool → Need → Option ℕ → Type 0
 MayPickFor range c failed Any port = MayPick range (is_taken c) false failed port
 MayPickFor range c failed Even port = MayPick range (is_taken c) true failed port

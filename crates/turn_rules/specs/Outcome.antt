@@ -21,23 +21,25 @@ use Rattle.turn_rules.specs.Unknown.{unknown_types}
 
 -- ---- Attributes
 
--- the types that aren't understood (RFC 8489, section 14.13)
+-- UNKNOWN-ATTRIBUTES with the types that aren't understood (RFC 8489, section 14.13)
 abbrev pub unknown_attribute : Content → Attribute
 unknown_attribute m = attribute unknown_attributes (flat_map (to_be_bytes w16) (unknown_types m))
 
--- 401 and 438 come with the realm and the nonce of the moment for the client (RFC 8489, section 9.2.4)
+-- the attributes of 401 and 438: the error, the realm, and the nonce of the moment for the client (RFC 8489, section 9.2.4)
 abbrev pub challenge : Config → Endpoint → ℕ → ErrorCode → List Attribute
 challenge s client t code = error_attribute code ∷ attribute realm s.realm ∷ attribute nonce (nonce_of s.secret t client) ∷ []
 
+-- a LIFETIME of so many seconds (RFC 8656, section 18.2)
 abbrev pub lifetime_attribute : ℕ → Attribute
 lifetime_attribute seconds = attribute lifetime (to_be_bytes w32 seconds)
 
--- the token of a reserved port, if there is one (RFC 8656, section 18.10)
+-- the RESERVATION-TOKEN of a reserved port, if there is one (RFC 8656, section 18.10)
 abbrev pub token_attributes : Option Token → List Attribute
 token_attributes None = []
 token_attributes (Some token) = attribute reservation_token token.0 ∷ []
 
--- the relayed address, the seconds that are granted, the client's address, and the token (RFC 8656, section 7.2)
+-- the attributes of an Allocate's success: the relayed address, the seconds that are granted, the client's address, and the
+-- token (RFC 8656, section 7.2)
 abbrev pub allocated : Config → Endpoint → ℕ → ℕ → Option Token → List Attribute
 allocated s client port seconds token =
     attribute xor_relayed_address (xor_value (record { ip = s.relay; port = port })) ∷

@@ -4,28 +4,30 @@ use Rattle.turn_history.specs.History.{PlainAct, Allocates, Renews, Permits, Bin
 use Rattle.turn_rules.specs.declared.need.Need.{Need}
 use Rattle.turn_rules.specs.declared.need.Need.TheVariants.{Any, Even, Pair}
 
--- a port that was picked for a need, or the second one of a pair
+-- q is the port that was picked for a need, or the second one of a pair
 abbrev pub picks : Need → ℕ → ℕ → Bool
 picks Any port q = q == port
 picks Even port q = q == port
 picks Pair port q = (q == port) || (q == port + 1)
 
+-- the same, where a port is needed
 abbrev pub picks_if_needed : Option Need → ℕ → ℕ → Bool
 picks_if_needed None port q = false
 picks_if_needed (Some need) port q = picks need port q
 
--- a port that was picked, if anything was
+-- the same, where a port was picked
 abbrev pub is_picked : Option Need → Option ℕ → ℕ → Bool
 is_picked needed None q = false
 is_picked needed (Some port) q = picks_if_needed needed port q
 
--- the port of an Alloc, and the next one where it reserves that
+-- q is the port of an Alloc, or the next one where the Alloc reserves that
 abbrev pub takes : PlainAct → ℕ → Bool
 takes (Allocates user port granted tx token) q = (q == port) || (is_some token && (q == port + 1))
 takes (Renews granted) q = false
 takes (Permits addresses) q = false
 takes (Binds number peer) q = false
 
+-- the same of an act, if there is one
 abbrev pub takes_if_any : Option PlainAct → ℕ → Bool
 takes_if_any None q = false
 takes_if_any (Some act) q = takes act q

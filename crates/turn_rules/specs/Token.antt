@@ -11,6 +11,6 @@ use Rattle.turn_types.specs.declared.message.Token.{Token}
 unfoldable pub token_input : ℕ → FiveTuple → List ℕ → List ℕ
 token_input t f tx = to_be_bytes w64 t ++ tuple_bytes f ++ tx
 
--- the token of a reserved port: the port, and six bytes of the digest
+-- the token of a reserved port: the port in two bytes, and six bytes of the HMAC-SHA256 under the secret
 unfoldable pub token_for : List ℕ → ℕ → FiveTuple → List ℕ → ℕ → Token
 token_for secret t f tx port = record { 0 = to_be_bytes w16 (port % 2 ^ 16) ++ take 6 (hmac sha256 secret (token_input t f tx)) }

@@ -12,11 +12,11 @@ AreAt IsOne server [] = Unit {0}
 AreAt IsOne server (Submit moment arrival result after ∷ steps) = IsOne (now_of server) moment × AreAt IsOne after steps
 AreAt IsOne server (Commit result after ∷ steps) = AreAt IsOne after steps
 
--- this moment alone, whatever the clock
+-- a moment that is this one, whatever the clock
 abbrev pub At : ℕ → ℕ → ℕ → Type 0
 At moment clock other = other ≡ moment
 
--- none
+-- no moment
 abbrev pub Never : ℕ → ℕ → Type 0
 Never clock moment = ⊥
 

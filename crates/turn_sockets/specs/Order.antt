@@ -2,10 +2,11 @@
 use Rattle.std.specs.Prelude.{◌≡◌, ℕ, zero, suc, ◌+◌, ◌≤◌, Bool, true, not, nat_lt, List, [], ◌∷◌, ◌++◌, length, filter, take, drop}
 use Rattle.std.specs.List.{list_any}
 
--- a relay socket's token is its port, and the others are those of listening sockets
+-- a token below 2^16, which is that of a relay socket: its port
 abbrev pub is_relay : ℕ → Bool
 is_relay token = nat_lt token 65536
 
+-- any other token, which is that of a listening socket
 abbrev pub is_listening : ℕ → Bool
 is_listening token = not (is_relay token)
 

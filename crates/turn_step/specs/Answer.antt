@@ -24,12 +24,15 @@ pub record Setting : Type 0 where
 
 -- ---- A client's bytes
 
+-- no reply, and no act
 abbrev pub undecided : Decided
 undecided = record { reply = None; act = None }
 
+-- a reply to the client, if there is one
 abbrev pub to_client : FiveTuple → Option (List ℕ) → Option Sent
 to_client f reply = option_map (ToClient f) reply
 
+-- data for a peer, if there is some
 abbrev pub to_peer : Option PeerData → Option Sent
 to_peer relayed = option_map (λ d. ToPeer d.port d.peer d.payload) relayed
 
@@ -61,6 +64,7 @@ pub record IsWritten (id : List ℕ) (d : ClientData) (sent : Option Sent) : Typ
   pub is : sent ≡ Some (ToClient d.five_tuple (client_datagram d id))
   pub says : IsForClient (client_datagram d id) id d
 
+-- the same of data, if there is some; else nothing is sent
 abbrev pub IsWrittenIfAny : List ℕ → Option ClientData → Option Sent → Type 0
 IsWrittenIfAny id None sent = sent ≡ None
 IsWrittenIfAny id (Some d) sent = IsWritten id d sent

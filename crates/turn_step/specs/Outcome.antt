@@ -21,14 +21,16 @@ pub record Change : Type 0 where
   pub tuple : FiveTuple
   pub act : PlainAct
 
+-- an act on the allocation of this five-tuple
 abbrev pub change_of : FiveTuple → PlainAct → Change
 change_of f a = record { tuple = f; act = a }
 
--- what is done about an arrival
+-- what is done about an arrival: a change of an allocation, if any, and a datagram, if any
 pub record Outcome : Type 0 where
   pub change : Option Change
   pub sent : Option Sent
 
+-- nothing is done, and nothing is sent
 abbrev pub nothing : Outcome
 nothing = record { change = None; sent = None }
 

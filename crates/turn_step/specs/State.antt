@@ -13,6 +13,8 @@ use Rattle.turn_step.specs.Answer.{AnswersArrival, Setting}
 use Rattle.turn_step.specs.Holding.{ports_with}
 use Rattle.turn_step.specs.Outcome.{Arrives, Change, Outcome, Sent, added, event_at}
 
+-- what contracts see of a machine: the configuration, the handler of users' keys, the generator of ports, the table, and
+-- whether ports may be reserved
 pub record MachineState (H G : Type 0) : Type 0 where
   pub config : Config
   pub handler : H
@@ -20,6 +22,7 @@ pub record MachineState (H G : Type 0) : Type 0 where
   pub table : State
   pub pairs : Bool
 
+-- what stays the same of a machine, as a setting
 abbrev pub setting_of : {H G : Type 0} → (H → Keys) → (G → ℕ × ℕ) → MachineState H G → Setting
 setting_of keys range m = record { config = m.config; keys = keys m.handler; range = range m.ports; pairs = m.pairs }
 
@@ -48,7 +51,7 @@ pub record KeepsSetting {H G : Type 0} (range : G → ℕ × ℕ) (old new : Mac
   pub range_is : range new.ports ≡ range old.ports
   pub pairs : new.pairs ≡ old.pairs
 
--- the count of failures is the same, or a call of pick failed
+-- the generator's count of failures is the same, or one pick failed
 abbrev pub CountsOne : ℕ → ℕ → Type 0
 CountsOne old new = (new ≡ old) ⊎ Failed old new
 
@@ -66,7 +69,7 @@ pub record IsPurged (t : ℕ) (old new : State) : Type 0 where
   pub same : old.moment ≡ t → new.contents ≡ old.contents
   pub later : old.moment < t → new.contents ≡ purged t old.contents
 
--- the room alone is another
+-- at most the room is another
 abbrev pub IsSameTable : State → State → Type 0
 IsSameTable old new = new ≡ record old { room = new.room }
 

@@ -5,10 +5,12 @@ use Rattle.turn_step.specs.declared.arrival.Outgoing.{Outgoing}
 use Rattle.turn_step.specs.declared.arrival.Outgoing.TheVariants as outgoing
 use Rattle.turn_step.specs.Outcome.{Arrives, Sent}
 
+-- an arrival of the code as the definitions have it
 abbrev pub arrival_of : Arrival → Arrives
 arrival_of (arrivals.Client five_tuple bytes) = Arrives.FromClient five_tuple bytes.now
 arrival_of (arrivals.Peer port from bytes id) = Arrives.FromPeer port from bytes.now id.0
 
+-- a datagram of the code as the definitions have it
 abbrev pub sent_of : {A : Type 0} → Outgoing A → Sent
 sent_of (outgoing.ToClient five_tuple bytes) = Sent.ToClient five_tuple bytes.items
 sent_of (outgoing.ToPeer port peer bytes) = Sent.ToPeer port peer bytes.items

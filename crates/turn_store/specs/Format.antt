@@ -24,11 +24,12 @@ pub record IsFormatted (v : Version) (form : Form) (state : State) : Type 0 wher
   pub holds : HoldsAt v form 64 (64 + form.area) 1 (fresh v) [] state
   pub closed : IsClosed (64 + form.area) state.bytes
 
--- no area counts, in any form and version: no opening succeeds
+-- no area counts, in any form and version: no opening over an honest disk succeeds
 abbrev pub HoldsNothing : List ℕ → Type 0
 HoldsNothing image =
     (v : Version) (form : Form) (snapshot : List ℕ) (payloads : List (List ℕ)) → Holds v form snapshot payloads image → ⊥
 
+-- an image holds nothing, or stands for the empty history at the clock 0
 abbrev pub HoldsNothingOrStands : Form → List ℕ → Type 0
 HoldsNothingOrStands form image = HoldsNothing image ⊎ StandsForAt form [] 0 image
 

@@ -20,9 +20,10 @@ pub record StandsBy (form : Form) (h : History) (moment : ℕ) (image : List ℕ
   pub bounded : clock ≤ moment
   pub stands : StandsForAt form h clock image
 
--- for the history before some events, or with them
+-- the image stands for the history before some events, or with them, at a clock that is not later than a moment
 abbrev pub EitherBy : Form → History → List Event → ℕ → List ℕ → Type 0
 EitherBy form h es moment image = StandsBy form h moment image ⊎ StandsBy form (h ++ es) moment image
 
+-- each image of a disk in this state has P
 abbrev pub EachImage : State → (List ℕ → Type 0) → Type 0
 EachImage state P = (image : List ℕ) → IsImage state image → P image

@@ -18,6 +18,7 @@ pub record IsNext (b : Bounds) (s : Snapshot) (e : Event) : Type 0 where
   pub later : s.moment ≤ e.moment
   pub fits : Fits b (purged e.moment s.contents) e.tuple e.act
 
+-- the table after an event, at the event's moment, without what has expired by then
 abbrev pub after : Snapshot → Event → Snapshot
 after s e = record { moment = e.moment; contents = applied e.moment e.tuple e.act (purged e.moment s.contents) }
 
@@ -26,6 +27,7 @@ abbrev pub GoOn : Bounds → Snapshot → List Event → Type 0
 GoOn b s [] = Unit {0}
 GoOn b s (e ∷ es) = IsNext b s e × GoOn b (after s e) es
 
+-- the table after events, in order
 abbrev pub after_all : Snapshot → List Event → Snapshot
 after_all s [] = s
 after_all s (e ∷ es) = after_all (after s e) es

@@ -19,13 +19,16 @@ pub record StoreState (D : Type 0) : Type 0 where
   pub disk : D
   pub bounds : Bounds
   pub version : Version
+  -- where the area that counts begins, its size, and where its log ends
   pub area : Area
+  -- where the other area begins, in bytes from the disk's first
   pub other : ℕ
   pub generation : ℕ
   pub frames : ℕ
   pub other_is_below : Bool
   pub stopped : Bool
 
+-- what never changes of a store
 abbrev pub form_of : {D : Type 0} → StoreState D → Form
 form_of s = record { bounds = s.bounds; area = s.area.size }
 

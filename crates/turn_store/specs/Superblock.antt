@@ -11,7 +11,7 @@ use Rattle.turn_types.specs.declared.limits.Bounds.{Bounds}
 abbrev pub magic : List ℕ
 magic = 0x52 ∷ 0x54 ∷ 0x55 ∷ 0x52 ∷ 0x4E ∷ 0x53 ∷ 0x54 ∷ 0x31 ∷ []
 
--- 36 of them
+-- 36 zeros
 abbrev pub zeros : List ℕ
 zeros = 0 ∷ 0 ∷ 0 ∷ 0 ∷ 0 ∷ 0 ∷ 0 ∷ 0 ∷ 0 ∷ 0 ∷ 0 ∷ 0 ∷ 0 ∷ 0 ∷ 0 ∷ 0 ∷ 0 ∷ 0 ∷ 0 ∷ 0 ∷ 0 ∷ 0 ∷ 0 ∷ 0 ∷ 0 ∷ 0 ∷ 0 ∷ 0 ∷ 0 ∷ 0 ∷ 0 ∷ 0 ∷ 0 ∷ 0 ∷ 0 ∷ 0 ∷ []
 
@@ -28,6 +28,7 @@ pub record HasSuperblock (area : ℕ) (b : Bounds) (content : List ℕ) : Type 0
   pub in_range : AreInRange b
   pub stands : StandsAt 0 (superblock area b) content
 
--- the min size of an area of a version: 14 bytes before the snapshot, the longest snapshot, a frame of 5 bytes and the longest payload, and the gate after it
+-- the min size of an area of a version, in bytes: 14 before the snapshot, the longest snapshot, a frame of 5 and the longest
+-- payload, and the gate after it
 abbrev pub least_area : Version → Bounds → ℕ
 least_area v b = 20 + max_snapshot v b + max_payload v b

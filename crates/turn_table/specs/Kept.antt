@@ -22,5 +22,6 @@ map_in R m = fin.from_sorted {R = R} m.0
 abbrev pub still_entry : ℕ → Entry → Entry
 still_entry t e = record e { permissions = still_permitted t e.permissions; channels = still_bound t e.channels }
 
+-- a five-tuple with what is left of its entry
 abbrev pub still_pair : ℕ → FiveTuple × Entry → FiveTuple × Entry
 still_pair t p = (p.0, still_entry t p.1)

@@ -20,6 +20,7 @@ pub record Live : Type 0 where
   pub held : Holdings
   pub room : ℕ
 
+-- the code of what is held, with the room
 abbrev pub live_code : Coded Live
 live_code =
     code_by (Holdings × ℕ) (coded× (fin.code tuple_code held_code) coded_ℕ)
@@ -58,5 +59,6 @@ pub record IsQuiet (t : ℕ) (e : Entry) : Type 0 where
   pub permissions : (a x : ℕ) → fin.get e.permissions a ≡ Some x → t ≤ x
   pub channels : (n : ℕ) (c : Channel) → fin.get e.channels n ≡ Some c → t ≤ c.expiry
 
+-- nothing of what is held expires before t
 abbrev pub AreQuiet : ℕ → Holdings → Type 0
 AreQuiet t m = (f : FiveTuple) (h : Held) → fin.get m f ≡ Some h → IsQuiet t h.entry

@@ -8,9 +8,11 @@ use Rattle.turn_table.specs.Live.{AreQuiet, HasRoom, Holdings, Live, PortIsUnuse
 use Rattle.turn_history.specs.Table.{Reservations}
 use Rattle.turn_table.specs.State.{Room, State}
 
+-- the room that was made, as the definitions have it
 abbrev pub room_of : Reserved → Room
 room_of r = record { tuple = r.tuple; permissions = r.permissions; channels = r.channels; ports = r.ports }
 
+-- a table of these limits at this moment, with what is held of the five-tuples, the reserved ports, and the room
 abbrev pub state_of : Bounds → ℕ → Holdings → Reservations → Option Room → State
 state_of b t m q r = record { bounds = b; moment = t; contents = record { entries = entries_of m; reserved = q }; room = r }
 

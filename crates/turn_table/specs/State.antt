@@ -27,15 +27,17 @@ pub record State : Type 0 where
   pub contents : Contents
   pub room : Option Room
 
--- five-tuples with their entries
+-- a five-tuple with its entry
 abbrev pub pair_of : FiveTuple × Held → FiveTuple × Entry
 pair_of p = (p.0, p.1.entry)
 
+-- five-tuples with their entries
 abbrev pub pairs : List (FiveTuple × Held) → List (FiveTuple × Entry)
 pairs xs = map pair_of xs
 
 -- ---- Codes
 
+-- an entry with its rooms is stored as these three
 abbrev pub held_code : Coded Held
 held_code =
     code_by (Entry × (ℕ × ℕ)) (coded× entry_code (coded× coded_ℕ coded_ℕ))
@@ -43,6 +45,7 @@ held_code =
     (λ p. record { entry = p.0; permission_room = p.1.0; channel_room = p.1.1 })
     (λ _. refl)
 
+-- room is stored as its four fields, one after the other
 abbrev pub room_code : Coded Room
 room_code =
     code_by (FiveTuple × (ℕ × (ℕ × ℕ))) (coded× tuple_code (coded× coded_ℕ (coded× coded_ℕ coded_ℕ)))
@@ -50,6 +53,7 @@ room_code =
     (λ p. record { tuple = p.0; permissions = p.1.0; channels = p.1.1.0; ports = p.1.1.1 })
     (λ _. refl)
 
+-- a table is stored as its four fields, one after the other
 abbrev pub state_code : Coded State
 state_code =
     code_by (Bounds × (ℕ × (Contents × Option Room))) (coded× bounds_code (coded× coded_ℕ (coded× contents_code (coded_option room_code))))

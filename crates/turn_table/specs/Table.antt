@@ -21,7 +21,8 @@ Agrees s h = s.contents ≡ table h s.moment
 abbrev pub AgreesOncePurged : ℕ → State → History → Type 0
 AgreesOncePurged t s h = purged t s.contents ≡ table h t
 
--- no five-tuple has a port that only one had, or that was reserved, and it isn't reserved
+-- a port becomes free: if no two five-tuples had one port, and none had a reserved one, no five-tuple has this one now, and
+-- it isn't reserved
 abbrev pub BecomesFree : Contents → Contents → ℕ → Type 0
 BecomesFree old new port = PortsApart old → ReservedApart old → PortIsFree new port × IsUnreserved new port
 
@@ -37,10 +38,11 @@ IsAbove c f = (g : FiveTuple) (e : Entry) → fin.get c.entries g ≡ Some e →
 abbrev pub IsAboveLast : Contents → FiveTuple → Type 0
 IsAboveLast c f = IfSome (slice_get (fin.entries c.entries) (length (fin.entries c.entries) - 1)) (λ p. tuple_cmp p.0 f ≡ Less)
 
--- the table with another entry of a five-tuple, or none, and no room for an act
+-- the table with this entry of a five-tuple, and no room for an act
 abbrev pub with_entry : State → FiveTuple → Entry → State
 with_entry s f e = record s { contents = record s.contents { entries = fin.insert s.contents.entries f e }; room = None }
 
+-- the table without an entry of a five-tuple, and no room for an act
 abbrev pub without_entry : State → FiveTuple → State
 without_entry s f = record s { contents = record s.contents { entries = fin.remove s.contents.entries f }; room = None }
 
@@ -83,7 +85,7 @@ pub record RemovesReservation (t : ℕ) (old new : Contents) (port : ℕ) : Type
   pub past : reservation.expiry ≤ t
   pub gone : new ≡ record old { reserved = fin.remove old.reserved port }
 
--- one of the two
+-- an entry, or the reservation of a port, has expired and is gone
 abbrev pub RemovesExpired : ℕ → Contents → Contents → ℕ → Type 0
 RemovesExpired t old new port = RemovesEntry t old new port ⊎ RemovesReservation t old new port
 

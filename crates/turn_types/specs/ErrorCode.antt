@@ -3,6 +3,7 @@ use Rattle.std.specs.Prelude.{ℕ, List, codes}
 use Rattle.turn_types.specs.declared.error.ErrorCode.{ErrorCode}
 use Rattle.turn_types.specs.declared.error.ErrorCode.TheVariants.{BadRequest, Unauthenticated, Forbidden, UnknownAttribute, AllocationMismatch, StaleNonce, AddressFamilyNotSupported, WrongCredentials, UnsupportedTransportProtocol, PeerAddressFamilyMismatch, AllocationQuotaReached, InsufficientCapacity}
 
+-- the number of an error code
 abbrev pub number_of : ErrorCode → ℕ
 number_of BadRequest = 400
 number_of Unauthenticated = 401
@@ -17,6 +18,7 @@ number_of PeerAddressFamilyMismatch = 443
 number_of AllocationQuotaReached = 486
 number_of InsufficientCapacity = 508
 
+-- the reason text of an error code, in UTF-8
 abbrev pub reason_of : ErrorCode → List ℕ
 reason_of BadRequest = codes "Bad Request"
 reason_of Unauthenticated = codes "Unauthenticated"
