@@ -16,7 +16,7 @@ has_unknown m = list_any (λ a. is_unknown a.kind) (seen m)
 unfoldable pub seen_value : Content → ℕ → Option (List ℕ)
 seen_value m kind = value_of kind (seen m)
 
--- an attribute of a type is seen
+-- an attribute of a type is seen: one that counts has it
 abbrev pub is_seen : Content → ℕ → Bool
 is_seen m kind = is_some (seen_value m kind)
 

@@ -25,7 +25,7 @@ abbrev pub skipped : List ℕ → Bool
 skipped [] = true
 skipped (byte ∷ bytes) = nat_eq byte 35
 
--- from 0x21 to 0x7E
+-- a byte from 0x21 to 0x7E
 abbrev pub is_visible : ℕ → Bool
 is_visible byte = is_between 33 126 byte
 
@@ -48,7 +48,7 @@ pub record IsAuthSecret (text : List ℕ) : Type 0 where
   pub long : 16 ≤ length text
   pub short : length text ≤ 128
 
--- from 1 to 1,024
+-- a number from 1 to 1,024
 pub record IsQuota (text : List ℕ) : Type 0 where
   pub number : IsNumberBelow 1025 text
   pub some : 1 ≤ number_of text

@@ -43,7 +43,7 @@ expiring_key secret name realm expiry = record { bytes = auth_key name realm (pa
 unfoldable pub shared_key : List ℕ → List ℕ → List ℕ → Option Key
 shared_key secret name realm = option_map (expiring_key secret name realm) (expiry_of name)
 
--- a key that doesn't expire
+-- a key that doesn't expire, of these bytes
 abbrev pub lasting : Option (List ℕ) → Option Key
 lasting bytes = option_map (λ b. record { bytes = b; expiry = None }) bytes
 

@@ -26,6 +26,6 @@ left_of outcome (range ∷ ranges) (inside ∷ past) bytes =
     replaced_at range.at (part_of outcome (take range.count (drop range.at bytes)))
     (left_of outcome ranges past inside.bytes)
 
--- what a crash leaves
+-- what a crash leaves of a disk in memory: its pending writes leave their parts over the bytes of the last sync
 abbrev pub left_by : Outcome → Trace → List ℕ
 left_by outcome trace = left_of outcome trace.now.pending trace.past trace.now.bytes

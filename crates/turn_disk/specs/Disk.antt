@@ -1,7 +1,7 @@
 -- A disk of fixed size: what a read returns, what a stop may leave of it, and when a stop may fall.
 use Rattle.std.specs.Prelude.{◌≡◌, ◌⊎◌, ◌∷◌, ◌++◌, ◌<◌, ◌≤◌, ◌+◌, [], List, ℕ, Result, MatchResult, length, slice_index}
 
--- so many positions, from here on
+-- a range of a disk: so many positions, from here on
 pub record Range : Type 0 where
   pub at : ℕ
   pub count : ℕ

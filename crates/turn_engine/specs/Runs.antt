@@ -88,20 +88,19 @@ abbrev pub handed_out : {D H G : Type 0} → List (Step D H G) → List Sent
 handed_out [] = []
 handed_out (x ∷ xs) = handed_by x ++ handed_out xs
 
--- the moment and the arrival of what was taken, whether the generator's count of failures changed in the call that took it, and
--- whether the server reserves ports
+-- of an arrival that was taken: its moment, the arrival, whether the generator's count of failures changed in the call that
+-- took it, and whether the server reserves ports
 abbrev pub asked : Taken → ℕ × Arrives × Bool × Bool
 asked x = (x.moment, x.arrival, x.failed, x.pairs)
 
--- the same of a call, or nothing of one that took no arrival; the generator failed if its count of failures changed in the
--- call
+-- what was asked in a call, as `asked` has it; nothing in one that took no arrival
 abbrev pub asked_by : {D H G : Type 0} → generators.Ghosts G → ServerState D H G → Step D H G → List (ℕ × Arrives × Bool × Bool)
 asked_by ports old (Submit moment arrival (Ok done) after) =
     (moment, arrival, has_failed (ports.failures old.machine.ports) (ports.failures after.machine.ports), old.machine.pairs) ∷ []
 asked_by ports old (Submit moment arrival (Err why) after) = []
 asked_by ports old (Commit result after) = []
 
--- the same of calls in a row
+-- what was asked in calls in a row, in order
 abbrev pub all_asked : {D H G : Type 0} → generators.Ghosts G → ServerState D H G → List (Step D H G) → List (ℕ × Arrives × Bool × Bool)
 all_asked ports server [] = []
 all_asked ports server (x ∷ xs) = asked_by ports server x ++ all_asked ports (after_of x) xs
@@ -153,8 +152,9 @@ pub record IsAt {D H G : Type 0} (disk : disks.Ghosts D) (handler : handlers.Gho
   pub arrivals : server.store.stopped ≡ false → server.arrivals ≡ length p.recent
   pub flags : NeverFails ports → AllByRecursion (λ x. x.failed ≡ false) (p.handed ++ p.recent)
 
--- Calls led from one place to another. The arrivals of the run are those that the calls took, in order, and the generator counts
--- as failed at one exactly where its count differs after the call; what the calls handed out is what the arrivals that were added to the handed ones were answered, in order, each once.
+-- Calls led from one place to another. The arrivals of the run are those that the calls took, in order, and the generator
+-- counts as failed at one exactly where its count differs after the call. What the calls handed out is what the arrivals that
+-- were added to the handed ones were answered, in order, each once.
 pub record Leads {D H G : Type 0} (disk : disks.Ghosts D) (handler : handlers.Ghosts H) (ports : generators.Ghosts G) (s : Setting) (h : History) (t : ℕ) (server : ServerState D H G) (p : Place) (steps : List (Step D H G)) : Type 0 where
   pub end : Place
   pub is_at : IsAt disk handler ports s h t (last_of server steps) end

@@ -100,7 +100,7 @@ entry_in t es =
 abbrev pub entry_of : History → ℕ → FiveTuple → Option Entry
 entry_of h t f = entry_in t (own h f)
 
--- the reserved ports at a moment
+-- the reserved ports of a history at a moment
 unfoldable pub reservations : History → ℕ → Reservations
 reservations h t = map_of nat_cmp (flat_map (λ e. reserved_by e.act) h) (λ q. reservation_ahead t (reservation h q))
 

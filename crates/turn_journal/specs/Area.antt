@@ -6,6 +6,6 @@ use Rattle.turn_journal.specs.declared.area.Area.{Area}
 abbrev pub end_of : Area → ℕ
 end_of area = area.start + area.end
 
--- the position after the area
+-- the position after the area, counted from the disk's first byte
 abbrev pub limit_of : Area → ℕ
 limit_of area = area.start + area.size

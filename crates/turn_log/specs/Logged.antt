@@ -31,11 +31,11 @@ response_of (a ∷ b ∷ rest) =
     else if (a == 1) && is_error b then Some (error_of (a ∷ b ∷ rest))
     else None
 
--- the place of a client among 256
+-- the place of a client among the 256 of a log
 abbrev pub place_of : Endpoint → ℕ
 place_of client = (client.ip + client.port) % 256
 
--- a client has its place
+-- a client is the one that is noted at its place
 abbrev pub IsNoted : List (Option Endpoint) → Endpoint → Type 0
 IsNoted places client = get_or places (place_of client) None ≡ Some client
 

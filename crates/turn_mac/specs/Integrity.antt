@@ -21,11 +21,12 @@ front_of kind d = take (offset_of kind d.content.attributes) d.bytes
 abbrev pub integrity_of : List ℕ → List ℕ → List ℕ
 integrity_of key front = hmac sha1 key (with_length front (length front + 4))
 
--- the first MESSAGE-INTEGRITY has the value that its place asks for
+-- The first MESSAGE-INTEGRITY is the HMAC-SHA1, under the key, of the o bytes before it, with o + 4 in the header's length
+-- (RFC 8489, section 14.5). So it has 20 bytes.
 abbrev pub IntegrityHolds : List ℕ → Datagram → Type 0
 IntegrityHolds key d = value_of message_integrity d.content.attributes ≡ Some (integrity_of key (front_of message_integrity d))
 
--- the same as a test: the law `integrity_is_decided`
+-- the same as `IntegrityHolds`, as a test: the law `integrity_is_decided`
 abbrev pub has_right_integrity : List ℕ → Datagram → Bool
 has_right_integrity key d =
     option_map_or (λ v. bytes_eq v (integrity_of key (front_of message_integrity d))) (value_of message_integrity d.content.attributes) false
@@ -34,7 +35,8 @@ has_right_integrity key d =
 abbrev pub fingerprint_of : List ℕ → List ℕ
 fingerprint_of front = to_be_bytes w32 (bit_xor (crc (with_length front (length front - 12))) 0x5354554E)
 
--- the first FINGERPRINT has the value that its place asks for, and is the last attribute
+-- The first FINGERPRINT is the last attribute, and the CRC-32 of the o bytes before it, with o - 12 in the header's length,
+-- exclusive or 0x5354554E (RFC 8489, section 14.7). So it has 4 bytes.
 abbrev pub FingerprintHolds : Datagram → Type 0
 FingerprintHolds d = FirstHas (from fingerprint d.content.attributes) (fingerprint_of (front_of fingerprint d)) true
 

@@ -19,7 +19,7 @@ pub data Lasting : Type 0 where
   HandedOut : Taken → Lasting
   Found : Taken → Lasting
 
--- the arrival
+-- the arrival that lasts
 abbrev pub taken_of : Lasting → Taken
 taken_of (HandedOut x) = x
 taken_of (Found x) = x
@@ -110,11 +110,11 @@ arrivals_of p = arrivals (sure_of p) (recent_of p)
 abbrev pub history_of : Point → History
 history_of p = accepted (arrivals_of p)
 
--- those of its events that may be on the disk while no call runs
+-- those events of a point's history that may be on the disk while no call runs
 abbrev pub settled_history_of : Point → History
 settled_history_of p = accepted (arrivals (sure_of p) (unsettled_of p))
 
--- how many of its events last
+-- how many events of a point's history last
 abbrev pub count_of : Point → ℕ
 count_of p = length (accepted (map taken_of (sure_of p)))
 

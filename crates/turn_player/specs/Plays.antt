@@ -33,7 +33,7 @@ said_of (events.Opened clock) = Opened clock
 said_of (events.NotOpened fault) = NotOpened fault
 said_of events.Closed = Closed
 
--- the same, if there is an event
+-- what an event of a player says, if there is one
 abbrev pub said_if : {A : Type 0} → Option (Event A) → List Said
 said_if event = option_to_list (option_map said_of event)
 

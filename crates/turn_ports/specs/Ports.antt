@@ -1,4 +1,5 @@
--- Ports that may be allocated, and what a generator of relayed addresses may pick. A range is its first and its last port.
+-- Ports that may be allocated, and what a generator of relayed addresses may pick. A range is its first and its last port,
+-- both included. A set of ports is a function from numbers to yes or no.
 use Rattle.std.specs.Prelude.{ℕ, ◌≡◌, ◌==◌, ◌≤◌, ◌<◌, ◌+◌, ◌%◌, ◌^◌, ◌&&◌, ◌||◌, Bool, true, false, not, Option, Some, None}
 
 -- a port that may be allocated: below 2^16, of the range, not taken, and even if asked (RFC 8656, section 7.2)

@@ -21,7 +21,7 @@ abbrev pub remaining_cases : Remaining → ℕ ⊎ ℕ
 remaining_cases (Entries n) = inl n
 remaining_cases (Reserved n) = inr n
 
--- and back
+-- what is still to come, of such a number: the inverse of `remaining_cases`
 abbrev pub remaining_of : ℕ ⊎ ℕ → Remaining
 remaining_of (inl n) = Entries n
 remaining_of (inr n) = Reserved n

@@ -48,7 +48,7 @@ permission_list_at b t bytes = do
   n ← count_at 0 b.permissions bytes
   many (permission_at t) n.0 [] n.1
 
--- the same, as a map
+-- the permissions of an entry, as a map
 abbrev pub permissions_at : Bounds → ℕ → List ℕ → Field (FinMap nat_cmp ℕ)
 permissions_at b t bytes = do
   ps ← permission_list_at b t bytes
@@ -82,7 +82,7 @@ channel_list_at b t bytes = do
   n ← count_at 0 b.channels bytes
   many (channel_at t) n.0 [] n.1
 
--- the same, as a map
+-- the channels of an entry, as a map
 abbrev pub channels_at : Bounds → ℕ → List ℕ → Field (FinMap nat_cmp Channel)
 channels_at b t bytes = do
   cs ← channel_list_at b t bytes
@@ -188,7 +188,7 @@ pub record Head : Type 0 where
   pub moment : ℕ
   pub count : ℕ
 
--- the first twelve bytes
+-- the first twelve bytes of a snapshot
 unfoldable pub head_at : Bounds → List ℕ → Field Head
 head_at b bytes = do
   t ← moment_at bytes

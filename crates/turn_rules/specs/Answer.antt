@@ -52,11 +52,13 @@ abbrev pub passed_outcome : Bool → Config → Contents → FiveTuple → ℕ �
 passed_outcome pairs s c f t user m port =
     if m.method == allocate then allocate_outcome pairs s c f t user m port else owner_outcome s (fin.get c.entries f) user m
 
--- a new allocation is asked for with a key that has expired: after the rows of an unknown attribute and of a five-tuple in use
+-- a new allocation is asked for with a key that has expired, which is 401: after the rows of an unknown attribute and of a
+-- five-tuple in use
 abbrev pub is_expired : Contents → FiveTuple → ℕ → Content → Key → Bool
 is_expired c f t m key = has_expired t key && ((m.method == allocate) && (not (has_unknown m) && is_none (fin.get c.entries f)))
 
--- by the outcome of the credential check, which is None where they aren't checked
+-- the outcome of one of the four methods that need credentials, by that of the credential check, which is None where they
+-- aren't checked
 abbrev pub by_verdict : Bool → Config → Contents → FiveTuple → ℕ → Content → Option Verdict → Option ℕ → Outcome
 by_verdict pairs s c f t m None port = Drop
 by_verdict pairs s c f t m (Some Challenge401) port = Challenge Unauthenticated

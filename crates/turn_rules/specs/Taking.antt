@@ -10,12 +10,12 @@ picks Any port q = q == port
 picks Even port q = q == port
 picks Pair port q = (q == port) || (q == port + 1)
 
--- the same, where a port is needed
+-- q is the port that was picked for what is needed, if something is, or the second one of a pair
 abbrev pub picks_if_needed : Option Need → ℕ → ℕ → Bool
 picks_if_needed None port q = false
 picks_if_needed (Some need) port q = picks need port q
 
--- the same, where a port was picked
+-- q is a port that was picked, if one was, or the second one of a pair
 abbrev pub is_picked : Option Need → Option ℕ → ℕ → Bool
 is_picked needed None q = false
 is_picked needed (Some port) q = picks_if_needed needed port q
@@ -27,7 +27,7 @@ takes (Renews granted) q = false
 takes (Permits addresses) q = false
 takes (Binds number peer) q = false
 
--- the same of an act, if there is one
+-- q is a port that an act takes, if there is one
 abbrev pub takes_if_any : Option PlainAct → ℕ → Bool
 takes_if_any None q = false
 takes_if_any (Some act) q = takes act q

@@ -14,7 +14,7 @@ use Rattle.turn_player.specs.Lives.{Input, Life, Point, Said, formatted}
 use Rattle.turn_player.specs.Plays.{PlayerState}
 use Rattle.turn_player.specs.Worlds.{Down, Stands, World}
 
--- it stands at the end of a life from a formatted disk on
+-- the player stands at the end of a life from a formatted disk on
 pub record Lived (disk : disks.Ghosts InMemory) (handler : handlers.Ghosts Sources) (ports : generators.Ghosts (ℕ × ℕ)) (p : PlayerState) : Type 0 where
   pub form : Form
   pub setting : Setting
@@ -28,7 +28,7 @@ pub record Lived (disk : disks.Ghosts InMemory) (handler : handlers.Ghosts Sourc
   pub is : p.world ≡ Some world
   pub stands : Stands disk handler ports form setting world end
 
--- if it stood there, it stands there still
+-- if the player stood at the end of a life from a formatted disk on, it does so still
 abbrev pub LivesOn : disks.Ghosts InMemory → handlers.Ghosts Sources → generators.Ghosts (ℕ × ℕ) → PlayerState → PlayerState → Type 0
 LivesOn disk handler ports old new = Lived disk handler ports old → Lived disk handler ports new
 

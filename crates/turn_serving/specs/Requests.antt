@@ -12,7 +12,7 @@ may_change [] = false
 may_change (a ∷ []) = false
 may_change (a ∷ b ∷ rest) = (a == 0) && ((b == 3) || ((b == 4) || ((b == 8) || (b == 9))))
 
--- the same of what arrives
+-- the same of an arrival; a peer's bytes never change the table
 abbrev pub may_change_by : Arrives → Bool
 may_change_by (FromClient f bytes) = may_change bytes
 may_change_by (FromPeer port from bytes id) = false

@@ -32,7 +32,7 @@ pub record KeepsImages {D : Type 0} (disk : disks.Ghosts D) (old new : D) : Type
   pub stop : disk.is_honest new → (form : Form) (h : History) (k m : ℕ) → EachImage (disk.trace old).now (AtLeast form h k m)
       → EachImageSince (disk.trace old) (disk.trace new) (AtLeast form h k m)
 
--- such calls, and the content is the same
+-- such calls led from one state of a disk to another, and the content is the same
 pub record IsKept {D : Type 0} (disk : disks.Ghosts D) (old new : D) : Type 0 where
   pub images : KeepsImages disk old new
   pub content : disk.is_honest new → (disk.trace new).now.bytes ≡ (disk.trace old).now.bytes
@@ -45,7 +45,7 @@ pub record IsOfVersion (v : Version) (content : List ℕ) : Type 0 where
   pub frames : ℕ
   pub counts : CountsAs size bounds v generation frames content
 
--- it is version 1
+-- a version is version 1
 abbrev pub is_first : Version → Bool
 is_first V1 = true
 is_first V2 = false

@@ -66,7 +66,7 @@ LeavesOut refuses exhausted sockets wanted port (Some Done) = ⊤
 LeavesOut refuses exhausted sockets wanted port (Some Unavailable) = IsLeftOut refuses sockets wanted port
 LeavesOut refuses exhausted sockets wanted port (Some bound.Exhausted) = exhausted
 
--- the port, if it was bound
+-- a port, if it was bound
 abbrev pub bound_port : ℕ → Option Bound → Option ℕ
 bound_port port None = None
 bound_port port (Some Done) = Some port

@@ -64,7 +64,7 @@ pub record IsWritten (id : List ℕ) (d : ClientData) (sent : Option Sent) : Typ
   pub is : sent ≡ Some (ToClient d.five_tuple (client_datagram d id))
   pub says : IsForClient (client_datagram d id) id d
 
--- the same of data, if there is some; else nothing is sent
+-- the client's datagram, which says the data, if there is some; else nothing
 abbrev pub IsWrittenIfAny : List ℕ → Option ClientData → Option Sent → Type 0
 IsWrittenIfAny id None sent = sent ≡ None
 IsWrittenIfAny id (Some d) sent = IsWritten id d sent

@@ -69,7 +69,7 @@ pub record IsPurged (t : ℕ) (old new : State) : Type 0 where
   pub same : old.moment ≡ t → new.contents ≡ old.contents
   pub later : old.moment < t → new.contents ≡ purged t old.contents
 
--- at most the room is another
+-- two tables are the same but for the room
 abbrev pub IsSameTable : State → State → Type 0
 IsSameTable old new = new ≡ record old { room = new.room }
 

@@ -1,6 +1,6 @@
 -- Bytes.
 use Rattle.std.specs.Prelude.{◌<◌, ℕ, List, slice_index}
 
--- each number of the list is a byte
+-- each number of a list is a byte
 abbrev pub AreBytes : List ℕ → Type 0
 AreBytes bytes = (i : ℕ) → slice_index bytes i < 256

@@ -22,7 +22,8 @@ pub record CountsAs (size : ℕ) (b : Bounds) (v : Version) (generation frames :
   pub yields : Yields other generation content
   pub count : frames ≡ length payloads
 
--- it was asked for, the version is the first, an area has room for the second, and there is a generation after this one
+-- a store is carried over: it was asked for, the version is the first, an area has room for the second, and there is a next
+-- generation
 pub record IsCarried (carry : Bool) (size : ℕ) (b : Bounds) (v : Version) (generation : ℕ) : Type 0 where
   pub asked : carry ≡ true
   pub old : v ≡ V1

@@ -31,7 +31,7 @@ IsPlain fault = FaultWith (λ place. ⊥) fault
 
 -- ---- An area
 
--- so many bytes from this position on
+-- a content has these bytes, so many, from this position on
 pub record HasBytes (at count : ℕ) (bytes content : List ℕ) : Type 0 where
   pub long : length bytes ≡ count
   pub stands : StandsAt at bytes content
@@ -48,7 +48,7 @@ pub record ReadsOn (v : Version) (b : Bounds) (s : Snapshot) (at count : ℕ) (t
   pub has : HasBytes at count bytes content
   pub goes : GoesOn v b s bytes t
 
--- these bytes are none
+-- these bytes are no payload that spells a batch that goes on
 pub record ReadsBad (v : Version) (b : Bounds) (s : Snapshot) (at count : ℕ) (content : List ℕ) : Type 0 where
   pub bytes : List ℕ
   pub has : HasBytes at count bytes content

@@ -12,6 +12,6 @@ pub record InStagesAt (gate : ℕ) (old new : Trace) (P Q : List ℕ → Type 0)
   pub second : EachImageSince mid new Q
   pub once : WritesOnce gate 1 mid new
 
--- the same, at some gate
+-- a call in two stages, at some gate
 abbrev pub InStages : Trace → Trace → (List ℕ → Type 0) → (List ℕ → Type 0) → Type 0
 InStages old new P Q = (gate : ℕ) × InStagesAt gate old new P Q

@@ -25,7 +25,7 @@ endpoint_bytes a = to_be_bytes w32 a.ip ++ to_be_bytes w16 a.port
 unfoldable pub tuple_bytes : FiveTuple → List ℕ
 tuple_bytes f = endpoint_bytes f.client ++ endpoint_bytes f.server
 
--- by the address, then by the port
+-- the order of endpoints: by the address, then by the port
 abbrev pub endpoint_cmp : Endpoint → Endpoint → Ordering
 endpoint_cmp a b = ordering_then (nat_cmp a.ip b.ip) (nat_cmp a.port b.port)
 
