@@ -12,6 +12,7 @@ channel_spelling number payload = to_be_bytes w16 number ++ to_be_bytes w16 (len
 
 -- a datagram begins with channel data; any bytes follow
 pub record SpellsChannelData (bytes : List ℕ) (number : ℕ) (payload : List ℕ) : Type 0 where
+  -- padding, or anything else
   pub rest : List ℕ
   pub is : bytes ≡ channel_spelling number payload ++ rest
   pub is_channel : IsChannel number

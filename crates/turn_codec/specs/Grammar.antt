@@ -53,6 +53,7 @@ SpellsAttributes bytes (a ∷ others) =
 
 -- bytes encode a message: the header, and the attributes, whose size is the header's length
 pub record Spells (bytes : List ℕ) (m : Content) : Type 0 where
+  -- the bytes of the attributes
   pub body : List ℕ
   pub is : bytes ≡ to_be_bytes w16 (type_number m.class m.method) ++ to_be_bytes w16 (length body)
       ++ to_be_bytes w32 cookie ++ m.tx ++ body
@@ -64,6 +65,7 @@ pub record Spells (bytes : List ℕ) (m : Content) : Type 0 where
 -- a datagram and what it says
 pub record Datagram : Type 0 where
   pub bytes : List ℕ
+  -- what the bytes say, where they encode a message
   pub content : Content
 
 -- an attribute's size with its padding

@@ -101,13 +101,16 @@ pub record IsUser (text name password : List ℕ) : Type 0 where
 -- what lines say so far
 pub record Lines : Type 0 where
   pub realm : Option (List ℕ)
+  -- 32 bytes, of 64 hexadecimal digits
   pub secret : Option (List ℕ)
   pub listen : Option Endpoint
   pub relay : Option Relay
   pub quota : Option ℕ
   pub limits : Option Bounds
   pub denied : List IpRange
+  -- by users' names
   pub passwords : KeyMap
+  -- the shared secret of time-limited credentials
   pub auth_secret : Option (List ℕ)
 
 -- what no lines say

@@ -15,7 +15,9 @@ use Rattle.turn_cred.specs.declared.key.Key.{Key}
 -- what credentials are judged by: the realm, the secret of the nonces, and how long a user's name may be
 pub record Policy : Type 0 where
   pub realm : List ℕ
+  -- the 32 bytes that nonces are made with
   pub secret : List ℕ
+  -- how many bytes a user's name has at most
   pub name_bytes : ℕ
 
 -- the policy of a configuration

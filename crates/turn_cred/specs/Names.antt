@@ -13,6 +13,7 @@ colon_and (Some bytes) = 58 ∷ bytes
 -- the name is the decimal numeral of its expiry time, without a sign or a leading zero, and then nothing or a colon and anything
 pub record HasExpiry (name : List ℕ) (expiry : ℕ) : Type 0 where
   pub digits : List ℕ
+  -- what comes after the colon, if there is one
   pub rest : Option (List ℕ)
   pub spelled : name ≡ digits ++ colon_and rest
   pub numeral : IsNumeral 10 digits

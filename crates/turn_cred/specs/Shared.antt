@@ -52,6 +52,7 @@ lasting bytes = option_map (λ b. record { bytes = b; expiry = None }) bytes
 -- users with keys of their own, and the secret of all other names, if there is one
 pub record Sources : Type 0 where
   pub users : KeyMap
+  -- the secret that is shared with a web service
   pub secret : Option (List ℕ)
 
 -- the key of a name in a realm: the user's own, else that of the name under the secret

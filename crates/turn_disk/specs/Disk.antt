@@ -3,13 +3,16 @@ use Rattle.std.specs.Prelude.{◌≡◌, ◌⊎◌, ◌∷◌, ◌++◌, ◌<◌
 
 -- a range of a disk: so many positions, from here on
 pub record Range : Type 0 where
+  -- counted from the disk's first byte
   pub at : ℕ
   pub count : ℕ
 
 -- What a read returns, and what was written since the last sync, the newest write first. A range that was
 -- written is pending.
 pub record State : Type 0 where
+  -- what a read returns
   pub bytes : List ℕ
+  -- what was written since the last sync, the newest write first
   pub pending : List Range
 
 -- the state now, and the state inside each device call so far in which a stop may have fallen, the newest
@@ -79,6 +82,7 @@ EachImageOf (state ∷ states) P = ((image : List ℕ) → IsImage state image �
 -- A stop at any moment since old leaves an image that has P: before the first device call, inside one,
 -- between two, or after the last.
 pub record EachImageSince (old new : Trace) (P : List ℕ → Type 0) : Type 0 where
+  -- the states inside the device calls since old
   pub added : List State
   pub past : new.past ≡ added ++ old.past
   pub before : (image : List ℕ) → IsImage old.now image → P image

@@ -26,9 +26,12 @@ use Rattle.turn_engine.specs.declared.fault.SubmitRefused.{SubmitRefused}
 -- an arrival that was taken at a moment, whether the generator of ports failed, whether the server reserves ports, and what was
 -- answered
 pub record Taken : Type 0 where
+  -- at which it was answered, in seconds
   pub moment : ℕ
   pub arrival : Arrives
+  -- whether the generator of ports failed
   pub failed : Bool
+  -- whether the server reserved ports then
   pub pairs : Bool
   pub outcome : Outcome
 
@@ -119,7 +122,9 @@ Serves disk handler ports server (x ∷ xs) = IsCall disk handler ports server x
 
 -- where a run is: the arrivals that were taken up to the last commit that answered Ok, and those that were taken since
 pub record Place : Type 0 where
+  -- up to the last commit that answered Ok
   pub handed : List Taken
+  -- since then
   pub recent : List Taken
 
 -- the place of a run where nothing was taken
@@ -158,6 +163,7 @@ pub record IsAt {D H G : Type 0} (disk : disks.Ghosts D) (handler : handlers.Gho
 pub record Leads {D H G : Type 0} (disk : disks.Ghosts D) (handler : handlers.Ghosts H) (ports : generators.Ghosts G) (s : Setting) (h : History) (t : ℕ) (server : ServerState D H G) (p : Place) (steps : List (Step D H G)) : Type 0 where
   pub end : Place
   pub is_at : IsAt disk handler ports s h t (last_of server steps) end
+  -- the arrivals that were handed out by these calls
   pub more : List Taken
   pub handed : end.handed ≡ p.handed ++ more
   pub sent : handed_out steps ≡ sent_about more
@@ -170,6 +176,7 @@ pub record IsSilent {D H G : Type 0} (server : ServerState D H G) (steps : List 
 
 -- the image stands for a history that begins with this one
 pub record BeginsWith (form : Form) (h : History) (moment : ℕ) (image : List ℕ) : Type 0 where
+  -- the events after it
   pub rest : History
   pub stands : StandsBy form (h ++ rest) moment image
 

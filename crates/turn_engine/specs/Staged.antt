@@ -10,7 +10,9 @@ use Rattle.turn_types.specs.declared.limits.Bounds.{Bounds}
 pub record Staged : Type 0 where
   pub bounds : Bounds
   pub version : Version
+  -- a count in one byte, and the act entries that are staged
   pub payload : List ℕ
+  -- how many these are
   pub acts : ℕ
 
 -- a buffer has room for as many acts as the limits allow, and its payload begins with their number

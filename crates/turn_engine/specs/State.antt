@@ -16,6 +16,7 @@ pub record ServerState (D H G : Type 0) : Type 0 where
   pub machine : MachineState H G
   -- a count in one byte, and the act entries that are staged
   pub payload : List ℕ
+  -- how many acts are staged
   pub acts : ℕ
   -- the datagrams that the next commit hands out
   pub outs : List Sent

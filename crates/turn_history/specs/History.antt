@@ -30,6 +30,7 @@ pub data PlainAct : Type 0 where
 
 -- an event of a history: an act on the allocation of a five-tuple, and its moment in seconds
 pub record Event : Type 0 where
+  -- in seconds
   pub moment : ℕ
   pub tuple : FiveTuple
   pub act : PlainAct
@@ -66,6 +67,7 @@ until_first p (x ∷ xs) = if p x then [] else x ∷ until_first p xs
 pub record Allocation : Type 0 where
   pub user : List ℕ
   pub port : ℕ
+  -- in seconds
   pub granted : ℕ
   pub tx : TxId
   pub token : Option Token

@@ -22,11 +22,15 @@ use Rattle.turn_history.specs.declared.reservation.Reservation.{Reservation}
 pub record Entry : Type 0 where
   pub user : List ℕ
   pub port : ℕ
+  -- in seconds, by the Alloc
   pub granted : ℕ
   pub tx : TxId
   pub token : Option Token
+  -- the moment when the allocation expires, in seconds (exclusive)
   pub expiry : ℕ
+  -- by address, the moment when the permission expires
   pub permissions : FinMap nat_cmp ℕ
+  -- by channel number, the peer and the moment when the channel expires
   pub channels : FinMap nat_cmp Channel
 
 -- the entries of a table by their five-tuples, in the order of the twelve bytes of these
@@ -39,7 +43,9 @@ Reservations = FinMap nat_cmp Reservation
 
 -- what a table holds: the entries of the live five-tuples, and the reserved ports
 pub record Contents : Type 0 where
+  -- by five-tuple
   pub entries : Entries
+  -- by port
   pub reserved : Reservations
 
 -- what an empty table holds

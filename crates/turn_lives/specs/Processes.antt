@@ -49,10 +49,12 @@ pub record Follows {D N : Type 0} (disk : disks.Ghosts D) (following : disks.Gho
 -- One process leads from a disk to a disk. It was started, with users who have the keys of the setting, took turns, and was stopped; or
 -- its start was refused, or stopped at any moment.
 pub data Process {D N H G T : Type 0} (disk : disks.Ghosts D) (following : disks.Ghosts N) (handler : handlers.Ghosts H) (ports : generators.Ghosts G) (time : times.Ghosts T) (s : Setting) : D → List Input → List Said → N → Type 0 where
+  -- the start opened the store and had its sockets
   serves : {old last : D} {new : N} {server after : ServerState D H G} {image : List ℕ} (users : H) (system : T) → handler.key_of users ≡ s.keys
       → Started disk handler ports old s.config users s.range server → (turns : Served disk handler ports (IsMoment (time.told system)) server after)
       → IsStopped disk after image last → Follows disk following last image new
       → Process disk following handler ports time s old (lives.Open ∷ (inputs_of turns.steps ++ lives.Stop ∷ [])) (Opened (now_of server) ∷ said_of turns.steps) new
+  -- the start was refused, or stopped
   starts_no_server : {old last : D} {new : N} {image : List ℕ} → KeepsImages disk old last → IsLeft (disk.trace old) (disk.trace last) image
       → Follows disk following last image new → Process disk following handler ports time s old (lives.Stop ∷ []) [] new
 
@@ -64,8 +66,11 @@ pub data Processes {I D H G T : Type 0} (disk_of : I → disks.Ghosts D) (handle
 
 -- These inputs led from a point of a life at which all is shut to another, and each image of the disk has what lasts there.
 pub record LiveOn {D : Type 0} (disk : disks.Ghosts D) (form : Form) (s : Setting) (may_fail : Bool) (sure : List Lasting) (recent : List Taken) (m : ℕ) (inputs : List Input) (said : List Said) (new : D) : Type 0 where
+  -- the arrivals that last at the point
   pub lasting : List Lasting
+  -- those that may get lost
   pub unsettled : List Taken
+  -- a moment that none that was handed in is after
   pub bound : ℕ
   pub life : Life s may_fail (Shut sure recent m) inputs said (Shut lasting unsettled bound)
   pub leaves : Leaves disk form new lasting unsettled bound

@@ -35,6 +35,7 @@ pub record IsOneRun (s : Setting) (may_fail : Bool) (sent : List Sent) (p : Poin
 
 -- what lasts stays: it is the beginning of what lasts later
 pub record Keeps (p q : Point) : Type 0 where
+  -- the arrivals that last later, and did not before
   pub more : List Lasting
   pub sure : sure_of q ≡ sure_of p ++ more
 
@@ -49,5 +50,6 @@ pub record IsWhole {D H G : Type 0} (disk : disks.Ghosts D) (handler : handlers.
 -- with that and what the arrival added.
 pub record Lasts {D : Type 0} (disk : disks.Ghosts D) (form : Form) (s : Setting) (before : List Lasting) (x : Taken) (d : D) : Type 0 where
   pub answered : IsAnswered s (accepted (map taken_of before)) x
+  -- a moment that the clock of no image is after
   pub bound : ℕ
   pub images : EachImage (disk.trace d).now (BeginsWith form (accepted (map taken_of before) ++ added x.moment x.outcome.change) bound)

@@ -54,10 +54,13 @@ pub data Input : Type 0 where
 pub data Said : Type 0 where
   Refused : SubmitRefused → Said
   Sends : Sent → Said
+  -- how many datagrams were handed out
   Committed : (count : ℕ) → Said
   Failed : StoreFault → Said
+  -- the clock, in seconds
   Opened : (clock : ℕ) → Said
   NotOpened : OpenFault → Said
+  -- no store is open
   Closed : Said
 
 -- what a commit says that hands this out

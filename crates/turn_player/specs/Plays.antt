@@ -84,6 +84,7 @@ pub data PlaysAll {D H G : Type 0} (disk : disks.Ghosts D) (handler : handlers.G
 -- what contracts see of a player: nothing of the world where a step met no memory
 pub record PlayerState : Type 0 where
   pub config : Config
+  -- none, where a step met no memory
   pub world : Option (World InMemory Sources (ℕ × ℕ))
 
 -- a player made just these steps, and said this

@@ -85,11 +85,14 @@ pub data Call {D H G : Type 0} (disk : disks.Ghosts D) (handler : handlers.Ghost
   no_commit : {d : D} {h : H} {g : G} → Call disk handler ports s (Down d h g) Commit (Closed ∷ []) (Down d h g)
   opens : {w : World D H G} (result : Result (ServerState D H G) (OpenRefused D H G)) → Opening disk (disk_of w) s.config (handler_of w) (ports_of w) result
       → Call disk handler ports s w Open (said_by_open result) (world_after result)
+  -- at rest
   stops : {w : World D H G} {d : D} {h : H} {g : G} (image : List ℕ) → IsImage (disk.trace (disk_of w)).now image → Restarts disk handler ports w (disk_of w) image d h g
       → Call disk handler ports s w Stop [] (Down d h g)
+  -- inside a commit
   commit_stops : {old new : ServerState D H G} {d : D} {h : H} {g : G} (result : Result (List Sent) StoreFault) → Commits disk old new result
       → (image : List ℕ) → IsLeft (disk.trace old.store.disk) (disk.trace new.store.disk) image → Restarts disk handler ports (Serving old) new.store.disk image d h g
       → Call disk handler ports s (Serving old) Stop [] (Down d h g)
+  -- inside an opening
   open_stops : {w : World D H G} {d : D} {h : H} {g : G} (result : Result (ServerState D H G) (OpenRefused D H G)) → Opening disk (disk_of w) s.config (handler_of w) (ports_of w) result
       → (image : List ℕ) → IsLeft (disk.trace (disk_of w)) (disk.trace (disk_of (world_after result))) image → Restarts disk handler ports w (disk_of (world_after result)) image d h g
       → Call disk handler ports s w Stop [] (Down d h g)

@@ -22,6 +22,7 @@ use Rattle.turn_relay.specs.Udp.{max_payload}
 
 -- a datagram for a peer: the relayed port that it goes from, the peer, and the payload
 pub record PeerData : Type 0 where
+  -- the relayed port that it goes from
   pub port : ℕ
   pub peer : Endpoint
   pub payload : List ℕ

@@ -19,6 +19,7 @@ use Rattle.turn_relay.specs.Udp.{max_payload}
 -- the peer, and the payload
 pub record ClientData : Type 0 where
   pub five_tuple : FiveTuple
+  -- the number of the channel that carries it, if one does
   pub channel : Option ℕ
   pub peer : Endpoint
   pub payload : List ℕ
@@ -80,7 +81,10 @@ relayed f channel peer payload =
 -- has the port, and where the peer's address has no permission; else the client gets it, over the channel that is
 -- bound to the peer if one is
 pub data SendsToClient (c : Contents) (port : ℕ) (peer : Endpoint) (payload : List ℕ) (o : Option ClientData) : Type 0 where
+  -- no allocation has the relayed port
   NoAllocation : PortIsFree c port → o ≡ None → SendsToClient c port peer payload o
+  -- the peer's address has no permission
   NoPermission : (f : FiveTuple) (e : Entry) → IsAt c port f e → is_permitted e peer ≡ false → o ≡ None → SendsToClient c port peer payload o
+  -- the client gets the data
   Relayed : (f : FiveTuple) (e : Entry) (channel : Option ℕ) → IsAt c port f e → is_permitted e peer ≡ true → IsChannelFor e peer channel
       → o ≡ relayed f channel peer payload → SendsToClient c port peer payload o

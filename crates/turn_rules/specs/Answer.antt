@@ -98,6 +98,7 @@ key_of m v = if is_protected m.method then passed_key v else None
 
 -- what is decided about a message: a reply, if any, and an act on the allocation of the five-tuple, if any
 pub record Decided : Type 0 where
+  -- bytes for the client
   pub reply : Option (List ℕ)
   pub act : Option PlainAct
 
@@ -132,6 +133,7 @@ port_needed pairs s c f t d v = first_row (
 -- what may be answered to a datagram of the five-tuple f at the moment t after a history, by the outcome of the credential
 -- check: nothing but the port is left free
 pub record MayAnswer (pairs : Bool) (s : Config) (range : ℕ × ℕ) (h : History) (t : ℕ) (failed : Bool) (f : FiveTuple) (d : Datagram) (v : Option Verdict) (o : Decided) : Type 0 where
+  -- the port that was picked, if one was
   pub port : Option ℕ
   pub picked : MayHavePicked range failed (table h t) (port_needed pairs s (table h t) f t d v) port
   pub decided : o ≡ decision pairs s (table h t) f t d v port

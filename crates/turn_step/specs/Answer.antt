@@ -19,7 +19,9 @@ use Rattle.turn_step.specs.Outcome.Sent.{ToClient, ToPeer}
 pub record Setting : Type 0 where
   pub config : Config
   pub keys : Keys
+  -- the first and the last port of the range
   pub range : ℕ × ℕ
+  -- whether ports may be reserved
   pub pairs : Bool
 
 -- ---- A client's bytes
@@ -53,6 +55,7 @@ pub record AnswersClient (s : Setting) (h : History) (t : ℕ) (failed : Bool) (
   pub relayed : Option PeerData
   pub decides : Decides s h t failed f bytes decided
   pub sends : SendsToPeer (table h t) f bytes relayed
+  -- a message is decided about, or data is sent, or neither
   pub one : (decided ≡ undecided) ⊎ (relayed ≡ None)
   pub sent : o.sent ≡ option_or (to_peer relayed) (to_client f decided.reply)
   pub change : o.change ≡ option_map (change_of f) decided.act

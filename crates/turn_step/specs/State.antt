@@ -17,9 +17,12 @@ use Rattle.turn_step.specs.Outcome.{Arrives, Change, Outcome, Sent, added, event
 -- whether ports may be reserved
 pub record MachineState (H G : Type 0) : Type 0 where
   pub config : Config
+  -- what knows the keys of users
   pub handler : H
+  -- the generator of relayed addresses
   pub ports : G
   pub table : State
+  -- whether ports may be reserved
   pub pairs : Bool
 
 -- what stays the same of a machine, as a setting

@@ -12,12 +12,15 @@ use Rattle.turn_types.specs.declared.limits.Bounds.{Bounds}
 -- what never changes of a store: its limits, and the size of an area
 pub record Form : Type 0 where
   pub bounds : Bounds
+  -- the size of an area, in bytes
   pub area : ℕ
 
 -- the limits are in range, an area of this version has room for each batch, and each byte has a position
 pub record IsForm (v : Version) (form : Form) : Type 0 where
   pub in_range : AreInRange form.bounds
+  -- an area has room for the longest snapshot and the longest payload
   pub room : least_area v form.bounds ≤ form.area
+  -- each byte has a position below 2^64
   pub addressable : 64 + 2 * form.area < 2 ^ 64
 
 -- the areas follow the superblock, in either order
@@ -57,12 +60,16 @@ Yields start generation content = IsClosed start content ⊎ IsBelow start gener
 pub record Holds (v : Version) (form : Form) (snapshot : List ℕ) (payloads : List (List ℕ)) (image : List ℕ) : Type 0 where
   pub is_form : IsForm v form
   pub front : StandsAt 0 (superblock form.area form.bounds) image
+  -- the image has no other bytes
   pub whole : length image ≡ 64 + 2 * form.area
+  -- where the active area begins
   pub start : ℕ
+  -- where the other one begins
   pub other : ℕ
   pub places : AreAreas form.area start other
   pub generation : ℕ
   pub area : AreaHolds v start form.area generation snapshot payloads image
+  -- the other area doesn't count
   pub yields : Yields other generation image
 
 -- Nothing is pending, and the area at start holds this snapshot and these payloads.

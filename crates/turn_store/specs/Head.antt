@@ -1,4 +1,4 @@
--- The first 14 bytes of an area.
+-- The first 14 bytes of an area: its gate, its version, its generation and the length of its snapshot.
 use Rattle.std.specs.Prelude.{◌^◌, ◌<◌, ◌≡◌, ◌⊎◌, ◌+◌, ◌↔◌, ℕ, List, slice_index, IsTrue, true, false}
 use Rattle.std.specs.Int.{to_be_bytes, w32, w64}
 use Rattle.turn_disk.specs.Disk.{StandsAt}

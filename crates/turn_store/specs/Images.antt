@@ -16,6 +16,7 @@ pub record StandsForAt (form : Form) (h : History) (clock : ℕ) (image : List �
 
 -- the image stands for the history, at a clock that is not later than a moment
 pub record StandsBy (form : Form) (h : History) (moment : ℕ) (image : List ℕ) : Type 0 where
+  -- the latest moment that is written in the image
   pub clock : ℕ
   pub bounded : clock ≤ moment
   pub stands : StandsForAt form h clock image

@@ -26,9 +26,12 @@ pub record HasSize (v : Version) (b : Bounds) (es : List Event) : Type 0 where
 -- that is written.
 pub record Spells (v : Version) (b : Bounds) (h : History) (c : ℕ) (bytes : List ℕ) (payloads : List (List ℕ)) : Type 0 where
   pub fitting : IsFitting b h
+  -- the events that are in the snapshot alone
   pub before : History
+  -- the events of each payload
   pub batches : List (List Event)
   pub whole : h ≡ before ++ all_of batches
+  -- that of the snapshot
   pub moment : ℕ
   pub in_range : moment < 2 ^ 40 - 3600
   pub late : clock before ≤ moment

@@ -23,9 +23,13 @@ pub record StoreState (D : Type 0) : Type 0 where
   pub area : Area
   -- where the other area begins, in bytes from the disk's first
   pub other : ℕ
+  -- that of the area that counts
   pub generation : ℕ
+  -- how many frames that has
   pub frames : ℕ
+  -- whether the generation of the other area is below
   pub other_is_below : Bool
+  -- a device call of a commit failed, and no more is written
   pub stopped : Bool
 
 -- what never changes of a store

@@ -18,6 +18,7 @@ Holdings = fin.FinMap tuple_cmp Held
 -- what is held, and for how many more five-tuples there is room
 pub record Live : Type 0 where
   pub held : Holdings
+  -- for how many more five-tuples
   pub room : ℕ
 
 -- the code of what is held, with the room

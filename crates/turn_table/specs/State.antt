@@ -9,20 +9,26 @@ use Rattle.turn_types.specs.declared.address.FiveTuple.{FiveTuple}
 -- an entry, and for how many more permissions and channels it has room
 pub record Held : Type 0 where
   pub entry : Entry
+  -- for how many more permissions
   pub permission_room : ℕ
+  -- for how many more channels
   pub channel_room : ℕ
 
 -- room for an act of a five-tuple: for an entry of it, or for so many more permissions and channels in the one that is there, and for so many more reserved ports
 pub record Room : Type 0 where
   pub tuple : FiveTuple
+  -- for how many more permissions, if the five-tuple has an entry
   pub permissions : ℕ
+  -- for how many more channels, if it has one
   pub channels : ℕ
+  -- for how many more reserved ports
   pub ports : ℕ
 
 -- a table: its limits, its moment, what it holds, and for which act there is room. A table is "as it was" where the
 -- first three are: the room is not spoken of then.
 pub record State : Type 0 where
   pub bounds : Bounds
+  -- at which its entries are those that live, in seconds
   pub moment : ℕ
   pub contents : Contents
   pub room : Option Room

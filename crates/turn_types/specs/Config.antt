@@ -18,6 +18,7 @@ pub record Config : Type 0 where
   pub quota : ℕ
   -- at most 64 ranges of addresses that no peer may have
   pub denied : List IpRange
+  -- how many allocations, permissions, channels, acts and bytes of a name there may be
   pub limits : Bounds
 
 -- a number from low to high, both included
