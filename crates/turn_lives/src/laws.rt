@@ -46,6 +46,11 @@ pub fn processes_make_lives<D: Disk, N: Disk, H: AuthHandler, G: RelayAddressGen
 {}
 
 /// The same of processes over a file, which each of them opens anew: a disk by what the file held then.
+///
+/// Clause `whole`, with `rests` of `Server::open_as` for the table, is the claim: for every list of arrivals with moments that never
+/// go back, stopped before, between or inside any disk write or sync, opening the store yields the allocation table of a prefix of
+/// the accepted requests that holds every request whose success response was handed out; from there every arrival is answered as
+/// RFC 8656, in this project's written profile, allows for that table. docs/PROOF.md goes through it word by word.
 pub fn files_make_lives<
     F: FileExt + OpenFile,
     S: Start,
