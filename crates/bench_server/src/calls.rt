@@ -4,6 +4,7 @@ use crate::datagrams::{CLIENT, ID, PEER, five_tuple};
 use crate::servers::{Engine, PORT, Rules, apply};
 use bench_time::Measured;
 use std::alloc::{AllocError, Global};
+use turn_codec::is_channel_data_number;
 use turn_history::{Act, Addresses};
 use turn_relay::{from_client, from_peer};
 use turn_step::{Arrival, Outgoing};
@@ -176,7 +177,7 @@ impl Relayed<'_> {
         let table = self.server.table();
         match from_peer(table, PORT, PEER, self.bytes, table.moment()) {
             Some(data) => match data.channel {
-                Some(number) if 0x4000 <= number && number < 0x8000 => {
+                Some(number) if is_channel_data_number(number) => {
                     data.write(self.alloc, ID).is_ok()
                 }
                 _ => false,

@@ -1,9 +1,16 @@
 //! ChannelData (RFC 8656, section 12.4).
 
-ghost use Rattle.std.specs.Prelude.{◌≡◌, ◌<◌, ◌^◌, ℕ, List, IsSomeAnd, length, IfSome, IfOk};
+ghost use Rattle.std.specs.Prelude.{◌≡◌, ◌<◌, ◌^◌, ◌↔◌, ℕ, List, IsTrue, IsSomeAnd, length, IfSome, IfOk};
 ghost use Rattle.turn_codec.specs.Channel.{IsChannel, channel_spelling, SpellsChannelData};
 
 use std::alloc::{AllocError, Allocator};
+
+/// Whether ChannelData may have the number: 0x4000 to 0x7FFF, whose first two bits are 01.
+pub fn is_channel_data_number(number: u16) -> bool
+    ensures { IsTrue result ↔ IsChannel number }
+{
+    0x4000 <= number && number <= 0x7FFF
+}
 
 /// Data on a channel. The payload is a slice of the datagram that it was read from.
 #[derive(Clone, Copy, Debug)]
@@ -29,7 +36,7 @@ impl<'a> ChannelData<'a> {
             [k, l, m, n, rest @ ..] => {
                 let number = u16::from_be_bytes([*k, *l]);
                 let size = u16::from_be_bytes([*m, *n]) as usize;
-                if number < 0x4000 || 0x8000 <= number || rest.len() < size {
+                if !is_channel_data_number(number) || rest.len() < size {
                     return None;
                 }
                 Some(ChannelData {

@@ -13,6 +13,6 @@ pub use address::{read_xor_address, xor_address};
 pub use attribute::Attributes;
 pub use attribute_type::AttributeType;
 pub use builder::{Builder, PushError};
-pub use channel::ChannelData;
+pub use channel::{ChannelData, is_channel_data_number};
 pub use laws::{address_again, one_message, values_are_bytes};
 pub use message::{Located, Malformed, Message};

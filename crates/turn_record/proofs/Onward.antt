@@ -6,7 +6,7 @@ use Rattle.turn_record.specs.declared.fault.Malformed.{Malformed}
 use Rattle.turn_record.specs.declared.fault.Malformed.TheVariants.{Short, BadTag, BadValue, OutOfOrder, TrailingBytes}
 use Rattle.turn_record.specs.declared.fault.ReadError.{ReadError}
 use Rattle.turn_record.specs.declared.fault.ReadError.TheVariants as errors
-use Rattle.std.specs.Prelude.{IfSome}
+use Rattle.std.specs.Prelude.{IfOk, IfSome, if◌then◌else◌}
 use Rattle.std.specs.Ordering.{is_lt}
 use Rattle.std.specs.declared.cmp.Ordering.{Ordering}
 use Rattle.std.specs.declared.cmp.Ordering.TheVariants.{Less, Equal, Greater}
@@ -17,7 +17,7 @@ use Rattle.turn_history.specs.Table.{Contents, Entry, Reservations, no_contents}
 use Rattle.turn_history.specs.declared.reservation.Reservation.{Reservation}
 use Rattle.std.specs.Ordering.{nat_cmp}
 use Rattle.turn_record.specs.Pieces.{Expects}
-use Rattle.turn_record.specs.Places.{HasRoom, IsCut, Place, IsWaiting, IsWaitingAt, ends_with_entries, gives, is_done, is_short, more_at}
+use Rattle.turn_record.specs.Places.{HasRoom, IsCut, Place, IsWaiting, IsWaitingAt, Next, ends_with_entries, gives, if_whole, is_done, is_short, more_at}
 use Rattle.turn_record.specs.Snapshots.{Head, entry_at, total_at, reservation_at, reserving_at, reserved_at, head_at, snapshot_at, snapshot_in, table_at}
 use Rattle.turn_record.specs.declared.restored.Remaining.{Remaining}
 use Rattle.turn_record.specs.declared.restored.Remaining.TheVariants.{Entries, Reserved}
@@ -30,7 +30,7 @@ use Rattle.turn_table.specs.State.{State}
 use Rattle.turn_types.specs.FiveTuple.{tuple_cmp}
 use Rattle.turn_types.specs.declared.address.FiveTuple.{FiveTuple}
 use Rattle.turn_types.specs.declared.limits.Bounds.{Bounds}
-use Rattle.turn_record.specs.Reading.{Field, Fails, many, moment_at, number_at, passes, whole}
+use Rattle.turn_record.specs.Reading.{Field, Fails, Gives, many, moment_at, number_at, passes, whole}
 use Rattle.turn_record.proofs.Lasting.{Stays, Grows, Lasts}
 
 pub next_ok : {A : Type 0} (read : List ℕ → Field A) → Lasts read → (bytes : List ℕ) (x : A) (rest : List ℕ) → read bytes ≡ Ok (x, rest) → (more : List ℕ) → read (bytes ++ more) ≡ Ok (x, rest ++ more)
@@ -52,6 +52,26 @@ next_none read bytes BadTag e s = absurd cc
 next_none read bytes BadValue e s = absurd cc
 next_none read bytes OutOfOrder e s = absurd cc
 next_none read bytes TrailingBytes e s = absurd cc
+
+-- what a field gives is what is next, where nothing is given yet while the bytes end inside it
+pub next_of : {X Y : Type 0} (value : X → Y) (rest : X → List ℕ) (read : List ℕ → Field Y) → Lasts read → (bytes : List ℕ) (r : Result X ReadError) → Gives (λ x. (value x, rest x)) r (read bytes)
+    → Next value rest (if_whole r) read bytes
+next_of value rest read lasts bytes (Ok x) gives = next_ok read lasts bytes (value x) (rest x) gives
+next_of value rest read lasts bytes (Err errors.Memory) gives = λ more. tt
+next_of value rest read lasts bytes (Err (errors.Malformed f)) gives = by_fault (is_short f) refl
+  where
+    by_fault : (b : Bool) → is_short f ≡ b → Next value rest (if b then Ok None else Err (errors.Malformed f)) read bytes
+    by_fault true short = next_none read bytes f gives short
+    by_fault false whole = next_err read lasts bytes f gives whole
+
+pub whole_keeps : {X : Type 0} (P : X → Type 0) (r : Result X ReadError) → IfOk r P → IfOk (if_whole r) (λ o. IfSome o P)
+whole_keeps P (Ok x) is = is
+whole_keeps P (Err errors.Memory) is = tt
+whole_keeps P (Err (errors.Malformed f)) is = by_fault (is_short f)
+  where
+    by_fault : (b : Bool) → IfOk (if b then Ok None else Err (errors.Malformed f)) (λ o. IfSome o P)
+    by_fault true = tt
+    by_fault false = tt
 
 -- one element more was read
 pub many_more : {A : Type 0} (item : List A → List ℕ → Field A) (left : ℕ) (before : List A) (bytes : List ℕ) (x : A) (after : List ℕ) → 0 < left → item before bytes ≡ Ok (x, after)

@@ -1,5 +1,5 @@
 -- A snapshot that is read as far as a place: what the bytes give that follow.
-use Rattle.std.specs.Prelude.{◌≡◌, ◌⊎◌, ℕ, zero, suc, ◌+◌, ◌<◌, ◌≤◌, ◌==◌, ◌&&◌, List, [], ◌++◌, Bool, true, false, Option, Some, None, Result, Ok, Err, refl}
+use Rattle.std.specs.Prelude.{◌≡◌, ◌⊎◌, ℕ, zero, suc, ◌+◌, ◌<◌, ◌≤◌, ◌==◌, ◌&&◌, List, [], ◌++◌, Bool, true, false, if◌then◌else◌, Option, Some, None, Result, Ok, Err, refl}
 use Rattle.std.proofs.Common.{inl, inr}
 use Rattle.std.specs.Coded.{Coded, code_by, coded⊎, coded_ℕ}
 use Rattle.std.specs.FinMap as fin
@@ -7,6 +7,7 @@ use Rattle.turn_history.specs.Table.{Contents}
 use Rattle.turn_record.specs.declared.fault.Malformed.{Malformed}
 use Rattle.turn_record.specs.declared.fault.Malformed.TheVariants.{Short, BadTag, BadValue, OutOfOrder, TrailingBytes}
 use Rattle.turn_record.specs.declared.fault.ReadError.{ReadError}
+use Rattle.turn_record.specs.declared.fault.ReadError.TheVariants as errors
 use Rattle.turn_record.specs.declared.restored.Remaining.{Remaining}
 use Rattle.turn_record.specs.declared.restored.Remaining.TheVariants.{Entries, Reserved}
 use Rattle.turn_record.specs.declared.version.Version.{Version}
@@ -71,6 +72,12 @@ is_short BadTag = false
 is_short BadValue = false
 is_short OutOfOrder = false
 is_short TrailingBytes = false
+
+-- what was read from bytes, or nothing yet where they end inside a field
+abbrev pub if_whole : {X : Type 0} → Result X ReadError → Result (Option X) ReadError
+if_whole (Ok x) = Ok (Some x)
+if_whole (Err errors.Memory) = Err errors.Memory
+if_whole (Err (errors.Malformed f)) = if is_short f then Ok None else Err (errors.Malformed f)
 
 -- a table has room for what is still to come, and no reserved ports before all entries are there
 abbrev pub HasRoom : State → Remaining → Type 0

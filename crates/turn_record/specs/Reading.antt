@@ -3,6 +3,7 @@
 use Rattle.std.specs.Prelude.{◌≡◌, ℕ, zero, suc, ◌-◌, ◌^◌, Bool, true, not, ◌&&◌, ◌||◌, List, [], ◌∷◌, ◌++◌, length, take, drop, Option, Some, None, Result, Ok, Err, slice_get, nat_lt, nat_le, nat_eq, ◌==◌, ◌+◌, ◌%◌, if◌then◌else◌}
 use Rattle.std.specs.List.{list_any}
 use Rattle.std.specs.Int.{Width, w16, w32, w64, byte_len, from_be_bytes}
+use Rattle.turn_history.specs.Fitting.{is_channel_number}
 use Rattle.turn_history.specs.History.{PlainAct, Allocates, Renews, Permits, Binds, Allocation, Event}
 use Rattle.turn_record.specs.declared.fault.Malformed.{Malformed}
 use Rattle.turn_record.specs.declared.fault.Malformed.TheVariants.{Short, BadTag, BadValue, OutOfOrder, TrailingBytes}
@@ -141,7 +142,7 @@ token_at port bytes = do
 unfoldable pub channel_number_at : List ℕ → Field ℕ
 channel_number_at bytes = do
   n ← number_at w16 bytes
-  judged (nat_le 0x4000 n.0 && nat_le n.0 0x4FFF) BadValue n
+  judged (is_channel_number n.0) BadValue n
 
 -- a count in one byte, from low up to high
 unfoldable pub count_at : ℕ → ℕ → List ℕ → Field ℕ

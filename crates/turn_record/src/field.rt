@@ -6,7 +6,7 @@ ghost use Rattle.turn_record.specs.Reading.{Gives, byte_at, bytes_at, channel_nu
 
 use crate::fault::{Malformed, ReadError};
 use std::alloc::Allocator;
-use turn_history::UserName;
+use turn_history::{UserName, is_channel_number};
 use turn_types::{Bounds, Endpoint, FiveTuple, Moment, Token, TxId};
 
 pub(crate) fn byte_of(bytes: &[u8]) -> Result<(u8, &[u8]), ReadError>
@@ -182,7 +182,7 @@ pub(crate) fn channel_number_of(bytes: &[u8]) -> Result<(u16, &[u8]), ReadError>
     ensures { Gives (λ x. (x.0, x.1.now)) result (channel_number_at bytes.now) }
 {
     let (number, rest) = u16_of(bytes)?;
-    if number < 0x4000 || 0x4FFF < number {
+    if !is_channel_number(number) {
         return Err(ReadError::Malformed(Malformed::BadValue));
     }
     Ok((number, rest))

@@ -125,10 +125,8 @@ fn whole_snapshot<A: Allocator + Copy>(
     ensures fault { Gives (λ t. (t.moment, t.contents)) result (snapshot_in version limits bytes.now) }
     ensures limits { IfOk result (λ t. t.bounds ≡ limits) }
 {
-    match advance(alloc, version, limits, None, bytes) {
-        Err(error) => Err(error),
-        Ok((restored, _)) => conclude(version, restored),
-    }
+    let (restored, _) = advance(alloc, version, limits, None, bytes)?;
+    conclude(version, restored)
 }
 
 /// The table that the bytes, all of them, are the version's snapshot of, at its moment.

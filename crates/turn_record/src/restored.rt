@@ -3,7 +3,7 @@
 ghost use Rattle.std.specs.Prelude.{◌≡◌, ◌≤◌, ◌<◌, ◌⊎◌, ◌++◌, List, ℕ, IfOk, IfSome, None, Some, true, false};
 ghost use Rattle.std.specs.FinMap as fin;
 ghost use Rattle.turn_history.specs.Fitting.{PortIsFree};
-ghost use Rattle.turn_record.specs.Places.{IsWaiting, IsWaitingAt, Next, Steps, Takes, ends_with_entries, gives, is_done, is_short, more_at};
+ghost use Rattle.turn_record.specs.Places.{IsWaiting, IsWaitingAt, Next, Steps, Takes, ends_with_entries, gives, if_whole, is_done, is_short, more_at};
 ghost use Rattle.turn_record.specs.Reading.{Gives};
 ghost use Rattle.turn_record.specs.Snapshots.{entry_at, head_at, reservation_at, total_at};
 ghost use Rattle.turn_record.specs.declared.restored.Remaining.TheVariants as to_come;
@@ -84,10 +84,27 @@ fn is_short(fault: Malformed) -> bool
     }
 }
 
+/// What was read from bytes; `None` where they end inside a field.
+fn if_whole<T: Drop>(read: Result<T, ReadError>) -> Result<Option<T>, ReadError>
+    ensures { result ≡ if_whole read }
+{
+    match read {
+        Ok(read) => Ok(Some(read)),
+        Err(ReadError::Memory) => Err(ReadError::Memory),
+        Err(ReadError::Malformed(fault)) => {
+            if is_short(fault) {
+                return Ok(None);
+            }
+            Err(ReadError::Malformed(fault))
+        }
+    }
+}
+
 /// The head of a snapshot; `None` where it isn't whole yet.
 fn next_head(limits: Limits, bytes: &[u8]) -> Result<Option<(Moment, u32, &[u8])>, ReadError>
     ensures { Next (λ x. record { moment = x.0; count = x.1 }) (λ x. x.2.now) result (head_at limits) bytes.now }
 {
+    // As `if_whole`, which has no proof of a moment beside a slice.
     match head_of(limits, bytes) {
         Ok(read) => Ok(Some(read)),
         Err(ReadError::Memory) => Err(ReadError::Memory),
@@ -111,32 +128,14 @@ fn next_entry<'a, A: Allocator + Copy>(
     ensures above { IfOk result (λ o. IfSome o (λ x. IsAbove table.now.contents x.0)) }
     ensures free { IfOk result (λ o. IfSome o (λ x. PortIsFree table.now.contents x.1.entry.port)) }
 {
-    match entry_after(alloc, version, table, bytes) {
-        Ok(read) => Ok(Some(read)),
-        Err(ReadError::Memory) => Err(ReadError::Memory),
-        Err(ReadError::Malformed(fault)) => {
-            if is_short(fault) {
-                return Ok(None);
-            }
-            Err(ReadError::Malformed(fault))
-        }
-    }
+    if_whole(entry_after(alloc, version, table, bytes))
 }
 
 /// The count of the reserved ports; `None` where it isn't whole yet.
 fn next_total(limits: Limits, bytes: &[u8]) -> Result<Option<(u32, &[u8])>, ReadError>
     ensures { Next (λ x. x.0) (λ x. x.1.now) result (total_at limits) bytes.now }
 {
-    match total_of(limits, bytes) {
-        Ok(read) => Ok(Some(read)),
-        Err(ReadError::Memory) => Err(ReadError::Memory),
-        Err(ReadError::Malformed(fault)) => {
-            if is_short(fault) {
-                return Ok(None);
-            }
-            Err(ReadError::Malformed(fault))
-        }
-    }
+    if_whole(total_of(limits, bytes))
 }
 
 /// The reserved port after those of a table; `None` where it isn't whole yet.
@@ -148,16 +147,7 @@ fn next_reservation<'a, A: Allocator + Copy>(
     ensures free { IfOk result (λ o. IfSome o (λ x. PortIsFree table.now.contents x.0)) }
     ensures above { IfOk result (λ o. IfSome o (λ x. IsAboveReserved table.now.contents x.0)) }
 {
-    match reservation_after(table, bytes) {
-        Ok(read) => Ok(Some(read)),
-        Err(ReadError::Memory) => Err(ReadError::Memory),
-        Err(ReadError::Malformed(fault)) => {
-            if is_short(fault) {
-                return Ok(None);
-            }
-            Err(ReadError::Malformed(fault))
-        }
-    }
+    if_whole(reservation_after(table, bytes))
 }
 
 /// Reads the next of so many entries into a table, and returns the bytes after it; `None` where it isn't whole yet.
@@ -173,15 +163,12 @@ fn restore_entry<'a, A: Allocator + Copy>(
     ensures bounds { restored.new.0.bounds ≡ restored.old.0.bounds }
     ensures takes { Takes version (λ rest. rest.now) restored.old restored.new result bytes.now }
 {
-    match next_entry(alloc, version, &restored.table, bytes) {
-        Err(error) => Err(error),
-        Ok(None) => Ok(None),
-        Ok(Some((tuple, entry, rest))) => {
-            restored.table.restore(tuple, entry)?;
-            restored.remaining = Remaining::Entries(left - 1);
-            Ok(Some(rest))
-        }
-    }
+    let Some((tuple, entry, rest)) = next_entry(alloc, version, &restored.table, bytes)? else {
+        return Ok(None);
+    };
+    restored.table.restore(tuple, entry)?;
+    restored.remaining = Remaining::Entries(left - 1);
+    Ok(Some(rest))
 }
 
 /// Reads the count of the reserved ports, which follows the last entry.
@@ -195,14 +182,11 @@ fn restore_total<'a, A: Allocator + Copy>(
     ensures bounds { restored.new.0.bounds ≡ restored.old.0.bounds }
     ensures takes { Takes version (λ rest. rest.now) restored.old restored.new result bytes.now }
 {
-    match next_total(restored.table.limits(), bytes) {
-        Err(error) => Err(error),
-        Ok(None) => Ok(None),
-        Ok(Some((count, rest))) => {
-            restored.remaining = Remaining::Reserved(count);
-            Ok(Some(rest))
-        }
-    }
+    let Some((count, rest)) = next_total(restored.table.limits(), bytes)? else {
+        return Ok(None);
+    };
+    restored.remaining = Remaining::Reserved(count);
+    Ok(Some(rest))
 }
 
 /// Reads the next of so many reserved ports into a table.
@@ -217,15 +201,12 @@ fn restore_reserved<'a, A: Allocator + Copy>(
     ensures bounds { restored.new.0.bounds ≡ restored.old.0.bounds }
     ensures takes { Takes version (λ rest. rest.now) restored.old restored.new result bytes.now }
 {
-    match next_reservation(&restored.table, bytes) {
-        Err(error) => Err(error),
-        Ok(None) => Ok(None),
-        Ok(Some((port, reservation, rest))) => {
-            restored.table.restore_reserved(port, reservation)?;
-            restored.remaining = Remaining::Reserved(left - 1);
-            Ok(Some(rest))
-        }
-    }
+    let Some((port, reservation, rest)) = next_reservation(&restored.table, bytes)? else {
+        return Ok(None);
+    };
+    restored.table.restore_reserved(port, reservation)?;
+    restored.remaining = Remaining::Reserved(left - 1);
+    Ok(Some(rest))
 }
 
 /// Reads the next item into a table, and returns the bytes after it; `None` where it isn't whole yet.
@@ -283,11 +264,10 @@ fn restore_items<'a, A: Allocator + Copy>(
 {
     let mut rest = bytes;
     while !is_done(version, restored.remaining) {
-        match restore_next(alloc, version, restored, rest) {
-            Err(error) => return Err(error),
-            Ok(None) => return Ok(rest),
-            Ok(Some(after)) => rest = after,
-        }
+        let Some(after) = restore_next(alloc, version, restored, rest)? else {
+            return Ok(rest);
+        };
+        rest = after;
     }
     Ok(rest)
 }
@@ -332,10 +312,8 @@ fn begin<'a, A: Allocator + Copy>(
         Ok(Some((moment, count, rest))) => {
             let table = Table::new(alloc, limits, moment);
             let remaining = Remaining::Entries(count);
-            match go_on(alloc, version, Restored { table, remaining }, rest) {
-                Err(error) => Err(error),
-                Ok((restored, rest)) => Ok((Some(restored), rest)),
-            }
+            let (restored, rest) = go_on(alloc, version, Restored { table, remaining }, rest)?;
+            Ok((Some(restored), rest))
         }
     }
 }
@@ -354,10 +332,10 @@ pub(crate) fn advance<'a, A: Allocator + Copy>(
 {
     match restored {
         None => begin(alloc, version, limits, bytes),
-        Some(restored) => match go_on(alloc, version, restored, bytes) {
-            Err(error) => Err(error),
-            Ok((restored, rest)) => Ok((Some(restored), rest)),
-        },
+        Some(restored) => {
+            let (restored, rest) = go_on(alloc, version, restored, bytes)?;
+            Ok((Some(restored), rest))
+        }
     }
 }
 
@@ -396,12 +374,8 @@ pub(crate) fn step<A: Allocator + Copy>(
 {
     held.extend_from_slice(piece)?;
     let mut kept = Vec::new(alloc);
-    match advance(alloc, version, limits, restored, held) {
-        Err(error) => Err(error),
-        Ok((restored, rest)) => {
-            kept.extend_from_slice(rest)?;
-            *held = kept;
-            Ok(restored)
-        }
-    }
+    let (restored, rest) = advance(alloc, version, limits, restored, held)?;
+    kept.extend_from_slice(rest)?;
+    *held = kept;
+    Ok(restored)
 }

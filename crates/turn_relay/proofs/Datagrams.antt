@@ -1,12 +1,14 @@
 -- A client's datagram is a message, or channel data, or neither.
-use Rattle.std.proofs.Common.{◌≡◌, ℕ, List, take, Option, None, refl, sym, ap, ◌∙◌, arith}
+use Rattle.std.proofs.Common.{◌≡◌, ℕ, List, [], ◌++◌, length, take, drop, Option, None, refl, sym, ap, ◌∙◌, arith}
 use Rattle.std.specs.FinMap as fin
 use Rattle.std.specs.Int.{w16, to_be_bytes, from_be_bytes}
+use Rattle.std.proofs.lemmas.List.{take_at}
 use Rattle.std.proofs.lemmas.Nat.{from_be_bytes-to_be_bytes_2}
 use Rattle.turn_types.specs.declared.address.FiveTuple.{FiveTuple}
 use Rattle.turn_history.specs.Table.{Contents}
 use Rattle.turn_codec.specs.Channel.{SpellsChannelData}
-use Rattle.turn_codec.specs.Grammar.{Content, Datagram, Spells, type_number}
+use Rattle.turn_codec.specs.Grammar.{Content, Spells, type_number}
+use Rattle.turn_codec.proofs.Header.{one_message}
 use Rattle.turn_codec.proofs.TypeNumber.{type_number_fits}
 use Rattle.turn_relay.specs.FromClient.{PeerData, SendsToPeer, sent_by_channel_data, sent_by_message}
 
@@ -20,24 +22,35 @@ not_both bytes m number payload s d =
     let channel = from_be_bytes-to_be_bytes_2 number (omega (arith, d.is_channel)) in
     omega (arith, first, kind, channel, small, d.is_channel)
 
+-- bytes encode one channel data
+pub one_channel_data : (bytes : List ℕ) (n m : ℕ) (p q : List ℕ) → SpellsChannelData bytes n p → SpellsChannelData bytes m q → (n ≡ m) × (p ≡ q)
+one_channel_data bytes n m p q a b =
+    let both = sym a.is ∙ b.is in
+    let first : from_be_bytes w16 (to_be_bytes w16 n) ≡ from_be_bytes w16 (to_be_bytes w16 m) = ap (λ (l : List ℕ). from_be_bytes w16 (take 2 l)) both in
+    let second : from_be_bytes w16 (to_be_bytes w16 (length p)) ≡ from_be_bytes w16 (to_be_bytes w16 (length q)) = ap (λ (l : List ℕ). from_be_bytes w16 (take 2 (drop 2 l))) both in
+    let size : length p ≡ length q = sym (from_be_bytes-to_be_bytes_2 (length p) (omega (arith, a.fits))) ∙ second ∙ from_be_bytes-to_be_bytes_2 (length q) (omega (arith, b.fits)) in
+    let others : take (length p) (p ++ a.rest) ≡ take (length p) (q ++ b.rest) = ap (λ (l : List ℕ). take (length p) (drop 4 l)) both in (
+      sym (from_be_bytes-to_be_bytes_2 n (omega (arith, a.is_channel))) ∙ first ∙ from_be_bytes-to_be_bytes_2 m (omega (arith, b.is_channel)),
+      sym (take_at p a.rest (length p) refl) ∙ others ∙ take_at q b.rest (length p) (sym size),
+    )
+
 module _ (c : Contents) (f : FiveTuple) (bytes : List ℕ) where
   pub of_channel_data : (number : ℕ) (payload : List ℕ) (o : Option PeerData) → SpellsChannelData bytes number payload
-      → ((n : ℕ) (p : List ℕ) → SpellsChannelData bytes n p → (number ≡ n) × (payload ≡ p))
       → o ≡ sent_by_channel_data (fin.get c.entries f) number payload → SendsToPeer c f bytes o
-  of_channel_data number payload o found only is = record {
+  of_channel_data number payload o found is = record {
     message = λ m s. absurd (not_both bytes m number payload s found);
     channel_data = λ n p s. (
-        let same = only n p s in
+        let same = one_channel_data bytes number n payload p found s in
         is ∙ ap (λ k. sent_by_channel_data (fin.get c.entries f) k payload) same.0 ∙ ap (sent_by_channel_data (fin.get c.entries f) n) same.1);
     neither = λ _ none. absurd (none number payload found);
   }
 
-  pub of_message : (d : Datagram) (o : Option PeerData) → Spells bytes d.content → ((m : Content) → Spells bytes m → d ≡ record { bytes = bytes; content = m })
-      → o ≡ sent_by_message (fin.get c.entries f) d → SendsToPeer c f bytes o
-  of_message d o found only is = record {
-    message = λ m s. is ∙ ap (sent_by_message (fin.get c.entries f)) (only m s);
-    channel_data = λ n p s. absurd (not_both bytes d.content n p found s);
-    neither = λ none _. absurd (none d.content found);
+  pub of_message : (d : Content) (o : Option PeerData) → Spells bytes d → o ≡ sent_by_message (fin.get c.entries f) (record { bytes = bytes; content = d })
+      → SendsToPeer c f bytes o
+  of_message d o found is = record {
+    message = λ m s. is ∙ ap (λ (k : Content). sent_by_message (fin.get c.entries f) (record { bytes = bytes; content = k })) (one_message bytes bytes [] [] d m found s refl).1;
+    channel_data = λ n p s. absurd (not_both bytes d n p found s);
+    neither = λ none _. absurd (none d found);
   }
 
   pub of_neither : ((m : Content) → ¬ Spells bytes m) → ((n : ℕ) (p : List ℕ) → ¬ SpellsChannelData bytes n p) → SendsToPeer c f bytes None

@@ -1,7 +1,8 @@
 //! What a client's datagram sends.
 
-ghost use Rattle.std.specs.Prelude.{◌≡◌, ◌≤◌, length, option_map, IfSome};
+ghost use Rattle.std.specs.Prelude.{◌≡◌, ◌≤◌, ℕ, List, length, option_map, IfSome};
 ghost use Rattle.std.specs.FinMap as fin;
+ghost use Rattle.turn_codec.specs.Channel.{SpellsChannelData};
 ghost use Rattle.turn_relay.specs.FromClient.{SendsToPeer, is_send_indication, peer_of, sent, sent_by_channel_data, sent_by_message};
 ghost use Rattle.turn_relay.specs.Udp.{max_payload};
 ghost use Rattle.turn_relay.specs.Views.{peer_data};
@@ -104,6 +105,42 @@ fn by_channel_data<'a, A: Allocator + Copy>(
     send_to(entry, channel.peer, payload)
 }
 
+/// What the channel data of a client sends to a peer: the payload, over a channel that is bound (RFC 8656, section 12.6),
+/// unless it has more than 65,507 bytes. The table was purged at the moment of the arrival.
+pub fn from_channel_data<'a, A: Allocator + Copy>(
+    table: &Table<A>,
+    five_tuple: FiveTuple,
+    channel_data: &ChannelData<'a>,
+    moment: Moment,
+) -> Option<ToPeer<'a>>
+    requires purged { table.now.moment ≡ moment }
+    ensures sends { (bytes : List ℕ) → SpellsChannelData bytes channel_data.now.number channel_data.now.payload.now →
+        SendsToPeer table.now.contents five_tuple bytes (option_map peer_data result) }
+    ensures history { (h : History) (bytes : List ℕ) → Agrees table.now h → SpellsChannelData bytes channel_data.now.number channel_data.now.payload.now →
+        SendsToPeer (tables.table h moment) five_tuple bytes (option_map peer_data result) }
+    ensures size { IfSome result (λ x. length x.bytes.now ≤ max_payload) }
+{
+    by_channel_data(table, five_tuple, channel_data.number, channel_data.payload)
+}
+
+/// What a message of a client sends to a peer: the DATA of a Send indication to a peer whose address has a permission (RFC
+/// 8656, section 11.2), unless it has more than 65,507 bytes. The table was purged at the moment of the arrival.
+pub fn from_message<'a, A: Allocator + Copy>(
+    table: &Table<A>,
+    five_tuple: FiveTuple,
+    message: &Message<'a>,
+    moment: Moment,
+) -> Option<ToPeer<'a>>
+    requires purged { table.now.moment ≡ moment }
+    ensures sends { SendsToPeer table.now.contents five_tuple message.now.bytes (option_map peer_data result) }
+    ensures history { (h : History) → Agrees table.now h →
+        SendsToPeer (tables.table h moment) five_tuple message.now.bytes (option_map peer_data result) }
+    ensures size { IfSome result (λ x. length x.bytes.now ≤ max_payload) }
+{
+    let _bytes = message.as_bytes();
+    by_message(table, five_tuple, message)
+}
+
 /// What a client's datagram sends to a peer: the payload of ChannelData on a channel that is bound (RFC 8656,
 /// section 12.6), or the DATA of a Send indication to a peer whose address has a permission (section 11.2). All
 /// other datagrams send nothing, and so do payloads of more than 65,507 bytes. The table was purged at the moment of
@@ -121,10 +158,10 @@ pub fn from_client<'a, A: Allocator + Copy>(
     ensures size { IfSome result (λ x. length x.bytes.now ≤ max_payload) }
 {
     if let Some(data) = ChannelData::parse(datagram) {
-        return by_channel_data(table, five_tuple, data.number, data.payload);
+        return from_channel_data(table, five_tuple, &data, moment);
     }
     match Message::parse(datagram) {
-        Ok(message) => by_message(table, five_tuple, &message),
+        Ok(message) => from_message(table, five_tuple, &message, moment),
         Err(_) => None,
     }
 }

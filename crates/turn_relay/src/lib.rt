@@ -5,7 +5,7 @@ mod client;
 mod laws;
 mod peer;
 
-pub use client::{ToPeer, from_client};
+pub use client::{ToPeer, from_channel_data, from_client, from_message};
 pub use laws::{relayed_in_one_way, sends_as_permitted, sends_by_own_events};
 pub use peer::{ToClient, from_peer};
 

@@ -9,7 +9,9 @@ ghost use Rattle.turn_mac.specs.Integrity.{IntegrityHolds};
 ghost use Rattle.turn_requests.specs.Sending.{identified, is_transport, named, send_of, signed, with_one};
 
 use std::alloc::{AllocError, Allocator, Global};
-use turn_codec::{AttributeType, Builder, ChannelData, PushError, xor_address};
+use turn_codec::{
+    AttributeType, Builder, ChannelData, PushError, is_channel_data_number, xor_address,
+};
 use turn_mac::append_integrity;
 use turn_types::{Class, Endpoint, Method, Token, TxId};
 
@@ -195,7 +197,7 @@ pub fn channel_data(number: u16, payload: &[u8]) -> Option<ChannelData<'_>>
         × (d.number ≡ number) × (d.payload.now ≡ payload.now)) }
     ensures none { IfNone result ((number < 2 ^ 14) ⊎ ((2 ^ 15 ≤ number) ⊎ (2 ^ 16 ≤ length payload.now))) }
 {
-    if number < 0x4000 || 0x8000 <= number || 0xFFFF < payload.len() {
+    if !is_channel_data_number(number) || 0xFFFF < payload.len() {
         return None;
     }
     Some(ChannelData { number, payload })

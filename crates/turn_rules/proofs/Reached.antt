@@ -6,7 +6,7 @@ use Rattle.std.specs.Int.{w16, from_be_bytes}
 use Rattle.std.specs.List.{list_any}
 use Rattle.std.specs.Option.{option_or}
 use Rattle.std.proofs.lemmas.Bool.Decides.{nat_tests}
-use Rattle.turn_types.specs.Config.{Config, is_between}
+use Rattle.turn_types.specs.Config.{Config}
 use Rattle.turn_types.specs.Methods.{allocate, binding, refresh, create_permission}
 use Rattle.turn_types.specs.Rows.{first_row}
 use Rattle.turn_types.specs.declared.error.ErrorCode.TheVariants.{Unauthenticated}
@@ -18,7 +18,7 @@ use Rattle.turn_types.specs.declared.address.PeerAddress.{PeerAddress}
 use Rattle.turn_types.specs.declared.message.Token.{Token}
 use Rattle.std.proofs.lemmas.Bool.{and_parts, or_parts}
 use Rattle.turn_history.proofs.Tests.{channel_fits}
-use Rattle.turn_history.specs.Fitting.{FitsChannel, IsChannelNumber}
+use Rattle.turn_history.specs.Fitting.{FitsChannel, IsChannelNumber, is_channel_number}
 use Rattle.turn_history.specs.Table.{Contents, Entry, install}
 use Rattle.turn_codec.specs.AttributeTypes.{channel_number, even_port, requested_address_family, reservation_token, xor_peer_address}
 use Rattle.turn_codec.specs.Grammar.{Content, Datagram}
@@ -55,9 +55,9 @@ at_most a b h = grind (arith, nat_tests)
 
 -- a number that a request names is a channel's
 in_range_is : (n : ℕ) → IfSome (in_range n) IsChannelNumber
-in_range_is n = by_test (is_between 0x4000 0x4FFF n) refl
+in_range_is n = by_test (is_channel_number n) refl
   where
-    by_test : (b : Bool) → is_between 0x4000 0x4FFF n ≡ b → IfSome (if b then Some n else None) IsChannelNumber
+    by_test : (b : Bool) → is_channel_number n ≡ b → IfSome (if b then Some n else None) IsChannelNumber
     by_test true e =
         let parts = and_parts (nat_le 0x4000 n) (nat_le n 0x4FFF) e in
         (at_most 0x4000 n parts.0, at_most n 0x4FFF parts.1)

@@ -170,7 +170,7 @@ pub fn needs_port<C: Allocator, T: Allocator + Copy>(
     ensures answers { (h : History) → Agrees table.now h →
         result ≡ port_needed pairs config.now (tables.table h moment) request.now.five_tuple moment request.now.message (verdict_in request.now) }
 {
-    if is_dropped(&request.message) || request.message.method() != Method::ALLOCATE {
+    if request.message.method() != Method::ALLOCATE || is_dropped(&request.message) {
         return None;
     }
     let Some(Verdict::Passed { user, key }) = request.verdict else {

@@ -3,18 +3,17 @@ use Rattle.std.proofs.Common.{◌≡◌, ℕ, Bool, true, false, List, Option, S
 use Rattle.std.specs.Option.{option_or}
 use Rattle.turn_types.specs.declared.address.Endpoint.{Endpoint}
 use Rattle.turn_types.specs.declared.address.FiveTuple.{FiveTuple}
-use Rattle.turn_types.specs.declared.message.Class.{Class}
-use Rattle.turn_types.specs.declared.message.Class.TheVariants.{Request, Indication, Success, Error}
 use Rattle.turn_history.specs.History.{History}
-use Rattle.turn_history.specs.Table.{Entry, table}
+use Rattle.turn_history.specs.Table.{table}
 use Rattle.turn_codec.specs.Channel.{SpellsChannelData}
 use Rattle.turn_codec.specs.Grammar.{Content, Datagram, Spells}
 use Rattle.turn_rules.specs.Answer.{Answers, Decided, decision, is_dropped, is_request, judgement, outcome_of}
-use Rattle.turn_relay.specs.FromClient.{PeerData, sent_by_message}
+use Rattle.turn_relay.specs.FromClient.{PeerData}
 use Rattle.turn_step.specs.Answer.{AnswersClient, Setting, to_client, to_peer, undecided}
 use Rattle.turn_step.specs.Laws.{HasNoReply}
 use Rattle.turn_step.specs.Outcome.{Outcome, change_of, nothing}
 use Rattle.turn_step.specs.Outcome.Sent.{ToClient, ToPeer}
+use Rattle.turn_step.proofs.Dropped.{request_sends_nothing}
 
 -- a message that is no request is decided about in no other way
 decides_nothing : (s : Setting) (h : History) (t : ℕ) (failed : Bool) (f : FiveTuple) (d : Datagram) (x : Decided) → is_request d.content.class ≡ false
@@ -24,16 +23,6 @@ decides_nothing s h t failed f d x other a =
     let dropped : is_dropped d ≡ true = rw other refl in
     let empty : decision s.pairs s.config (table h t) f t d (judgement s.config s.keys f.client t d) a.port ≡ undecided = rw dropped refl in
     a.decided ∙ empty
-
-sends_nothing : (e : Option Entry) (d : Datagram) → is_request d.content.class ≡ true → sent_by_message e d ≡ None
-unfolding sent_by_message
-sends_nothing e d request = by_class d.content.class refl
-  where
-    by_class : (k : Class) → d.content.class ≡ k → sent_by_message e d ≡ None
-    by_class Request same = rw same refl
-    by_class Indication same = let no = rw same at request in cc
-    by_class Success same = let no = rw same at request in cc
-    by_class Error same = let no = rw same at request in cc
 
 no_data : (f : FiveTuple) (reply : Option (List ℕ)) (port : ℕ) (peer : Endpoint) (payload : List ℕ) → to_client f reply ≡ Some (ToPeer port peer payload) → ⊥
 no_data f None port peer payload is = cc
@@ -47,7 +36,7 @@ module _ (s : Setting) (h : History) (t : ℕ) (failed : Bool) (f : FiveTuple) (
   pub request_relays_nothing : (m : Content) → Spells bytes m → is_request m.class ≡ true → AnswersClient s h t failed f bytes o
       → (port : ℕ) (peer : Endpoint) (payload : List ℕ) → o.sent ≡ Some (ToPeer port peer payload) → ⊥
   request_relays_nothing m spells request a port peer payload is =
-      let none : a.relayed ≡ None = a.sends.message m spells ∙ sends_nothing _ (record { bytes = bytes; content = m }) request in
+      let none : a.relayed ≡ None = a.sends.message m spells ∙ request_sends_nothing _ (record { bytes = bytes; content = m }) request in
       no_data f a.decided.reply port peer payload (sym (ap (λ r. option_or (to_peer r) (to_client f a.decided.reply)) none) ∙ sym a.sent ∙ is)
 
   undecided_no_reply : (a : AnswersClient s h t failed f bytes o) → a.decided ≡ undecided → HasNoReply o

@@ -13,18 +13,18 @@ ghost use Rattle.turn_step.specs.Views.{arrival_of, sent_of};
 ghost use Rattle.turn_table.specs.Table.{Agrees};
 
 use crate::arrival::{Arrival, Outgoing};
-use crate::client::{read_request, to_peer};
+use crate::client::{data_step, is_request};
 use crate::peer::peer_step;
 use crate::purge::{advance, release, release_for};
 use crate::request::{judge, pick, settle};
 use crate::step::Step;
 use std::alloc::{AllocError, AllocFailed, Allocator, Global};
 use std::marker::Model;
-use turn_codec::Message;
+use turn_codec::{ChannelData, Message};
 use turn_cred::{AuthHandler, Checker};
 use turn_history::Act;
 use turn_ports::RelayAddressGenerator;
-use turn_relay::from_client;
+use turn_relay::{from_channel_data, from_message};
 use turn_rules::{Need, Request, needs_port};
 use turn_table::Table;
 use turn_types::{FiveTuple, Moment, ServerConfig};
@@ -228,13 +228,18 @@ impl<H: AuthHandler, G: RelayAddressGenerator, A: Allocator + Copy> Machine<H, G
         ensures held { HoldsPorts G.holds self.old None → IfOk result (λ s. HoldsPorts G.holds self.new s.change) }
         ensures held_err { HoldsPorts G.holds self.old None → OnErr result (HoldsPorts G.holds self.new None) }
     {
-        if let Some(data) = from_client(&self.table, five_tuple, bytes, moment) {
-            return Ok(Step::new(None, Some(to_peer(self.alloc, data)?)));
+        if let Some(data) = ChannelData::parse(bytes) {
+            let sent = from_channel_data(&self.table, five_tuple, &data, moment);
+            return data_step(self.alloc, sent);
         }
-        match read_request(bytes) {
-            Some(message) => self.request_step(moment, five_tuple, message),
-            None => Ok(Step::new(None, None)),
+        let Ok(message) = Message::parse(bytes) else {
+            return Ok(Step::new(None, None));
+        };
+        if is_request(&message) {
+            return self.request_step(moment, five_tuple, message);
         }
+        let sent = from_message(&self.table, five_tuple, &message, moment);
+        data_step(self.alloc, sent)
     }
 
     /// The first half of a step, at a moment that isn't before the table's: removes what has expired, decides, and makes

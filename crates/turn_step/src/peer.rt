@@ -12,6 +12,7 @@ ghost use Rattle.turn_table.specs.Table.{Agrees};
 use crate::arrival::Outgoing;
 use crate::step::Step;
 use std::alloc::{AllocError, Allocator};
+use turn_codec::is_channel_data_number;
 use turn_relay::{ToClient, from_peer};
 use turn_table::Table;
 use turn_types::{Endpoint, Moment, TxId};
@@ -22,7 +23,7 @@ fn has_channel_number(relayed: &ToClient<'_>) -> bool
     ensures { IsTrue result ↔ ForSome relayed.now.channel IsChannel }
 {
     match relayed.channel {
-        Some(number) => 0x4000 <= number && number < 0x8000,
+        Some(number) => is_channel_data_number(number),
         None => true,
     }
 }

@@ -3,7 +3,7 @@
 ghost use Rattle.std.specs.Prelude.{◌≡◌, ◌+◌, ◌≤◌, ◌↔◌, IsTrue, not, ◌||◌, is_some, nat_eq};
 ghost use Rattle.std.specs.FinMap as fin;
 ghost use Rattle.std.specs.List.{list_all, list_any};
-ghost use Rattle.turn_history.specs.Fitting.{FitsChannel, IsChannelNumber, exceeds, goes_with, is_bound_elsewhere};
+ghost use Rattle.turn_history.specs.Fitting.{FitsChannel, exceeds, goes_with, is_bound_elsewhere};
 ghost use Rattle.turn_history.specs.Table.{install};
 ghost use Rattle.turn_history.specs.declared.channel.Channel.{Channel};
 
@@ -108,11 +108,4 @@ pub(crate) fn is_bound_elsewhere<A: Allocator + Copy>(
     ensures { result ≡ is_bound_elsewhere number peer entry.now.entry }
 {
     !go_together(entry.channels.items(), number, peer)
-}
-
-/// RFC 8656, section 12.
-pub(crate) fn is_channel_number(number: u16) -> bool
-    ensures { IsTrue result ↔ IsChannelNumber number }
-{
-    0x4000 <= number && number <= 0x4FFF
 }

@@ -23,12 +23,12 @@ ghost use Rattle.turn_types.specs.declared.address.FiveTuple.{FiveTuple};
 use crate::allocations::Allocations;
 use crate::edit::Reserved;
 use crate::entry::Entry;
-use crate::fits::{fits_channel, fits_permissions, is_channel_number};
+use crate::fits::{fits_channel, fits_permissions};
 use crate::search::{expired_port_of, named_port_of};
 use crate::sorted_map::SortedMap;
 use std::alloc::{AllocError, Allocator, Global};
 use std::marker::Model;
-use turn_history::{Act, Reservation};
+use turn_history::{Act, Reservation, is_channel_number};
 use turn_ports::PortSet;
 use turn_types::{Endpoint, FiveTuple, Limits, Moment, Token};
 

@@ -1,4 +1,5 @@
 use Rattle.std.proofs.Common.{◌++◌, ◌∙◌, []}
+use Rattle.std.proofs.lemmas.Result.{err_from_is_err_and}
 use Rattle.turn_record.proofs.Onward.{begun_at, fails_same, head_count, not_begun, room_begun}
 use Rattle.turn_record.proofs.restored.begin.Goals as goal
 
@@ -10,12 +11,16 @@ invariant_of-go_on g c =
 pub returns-in-Err-clause-goes : goal.returns-in-Err-clause-goes
 returns-in-Err-clause-goes g c = λ more. not_begun c.args.version c.args.limits c.in-Err.error (c.args.bytes.now ++ more) (c.in-Err.ensures more)
 
-pub returns-in-Err-go_on-clause-goes : goal.returns-in-Err-go_on-clause-goes
-returns-in-Err-go_on-clause-goes g c = λ more.
+pub returns-in_err-restored-in-Ok-Some-clause-goes : goal.returns-in_err-restored-in-Ok-Some-clause-goes
+returns-in_err-restored-in-Ok-Some-clause-goes g c = λ more.
     let head = rw c.in-Ok-Some.field-0-is at c.in-Ok-Some.ensures in
-    fails_same c.in-Err-go_on.error _ _ (begun_at c.args.version c.args.limits c.args.bytes.now c.in-Ok-Some.rest.now more c.in-Ok-Some.moment c.in-Ok-Some.count c.new-table.result c.new-table.ensures (head more)) (c.in-Err-go_on.ensures.goes c.args.limits more)
+    let p = err_from_is_err_and c.from_residual.result c.from_residual.ensures.1 in
+    rw (p.1, p.2) (fails_same c.in_err-restored-in-Ok-Some.field-0.0 _ _ (begun_at c.args.version c.args.limits c.args.bytes.now c.in-Ok-Some.rest.now more c.in-Ok-Some.moment c.in-Ok-Some.count c.new-table.result c.new-table.ensures (head more)) (c.in_err-restored-in-Ok-Some.ensures.goes c.args.limits more))
 
-pub returns-in-Ok-clause-goes : goal.returns-in-Ok-clause-goes
-returns-in-Ok-clause-goes g c = λ more.
+pub returns-in_ok-restored-in-Ok-Some-clause-goes : goal.returns-in_ok-restored-in-Ok-Some-clause-goes
+returns-in_ok-restored-in-Ok-Some-clause-goes g c = λ more.
     let head = rw c.in-Ok-Some.field-0-is at c.in-Ok-Some.ensures in
-    begun_at c.args.version c.args.limits c.args.bytes.now c.in-Ok-Some.rest.now more c.in-Ok-Some.moment c.in-Ok-Some.count c.new-table.result c.new-table.ensures (head more) ∙ c.in-Ok.ensures.goes c.args.limits more
+    begun_at c.args.version c.args.limits c.args.bytes.now c.in-Ok-Some.rest.now more c.in-Ok-Some.moment c.in-Ok-Some.count c.new-table.result c.new-table.ensures (head more) ∙ c.in_ok-restored-in-Ok-Some.ensures.goes c.args.limits more
+
+pub returns-in_ok-restored-in-Ok-Some-clause-waits : goal.returns-in_ok-restored-in-Ok-Some-clause-waits
+returns-in_ok-restored-in-Ok-Some-clause-waits g c = c.in_ok-restored-in-Ok-Some.ensures.waits

@@ -1,15 +1,18 @@
-use Rattle.std.proofs.Common.{sym}
 use Rattle.std.specs.FinMap as fin
+use Rattle.turn_history.specs.Fitting.{PortIsFree}
 use Rattle.turn_record.specs.Snapshots.{entry_at}
 use Rattle.turn_record.proofs.Lasting.{lasts_entry}
-use Rattle.turn_record.proofs.Onward.{next_ok, next_err}
+use Rattle.turn_record.proofs.Onward.{next_of, whole_keeps}
 use Rattle.turn_record.proofs.restored.next_entry.Goals as goal
+use Rattle.turn_table.specs.Table.{IsAbove}
 
-pub returns-in-Ok-clause-next : goal.returns-in-Ok-clause-next
-returns-in-Ok-clause-next g c =
-    next_ok (entry_at c.args.version c.args.table.now.bounds c.args.table.now.moment (fin.entries c.args.table.now.contents.entries)) (lasts_entry _ _ _ _) c.args.bytes.now _ _ c.in-Ok.ensures.gives
+pub returns-clause-next : goal.returns-clause-next
+returns-clause-next g c =
+    let s = c.args.table.now in
+    rw c.if_whole.ensures (next_of _ _ (entry_at c.args.version s.bounds s.moment (fin.entries s.contents.entries)) (lasts_entry _ _ _ _) c.args.bytes.now c.entry_after.result c.entry_after.ensures.gives)
 
-pub returns-else-is_short-clause-next : goal.returns-else-is_short-clause-next
-returns-else-is_short-clause-next g c =
-    next_err (entry_at c.args.version c.args.table.now.bounds c.args.table.now.moment (fin.entries c.args.table.now.contents.entries)) (lasts_entry _ _ _ _) c.args.bytes.now c.in-Err-Malformed.fault
-    (rw c.in-Err-Malformed.field-0-is at c.in-Err-Malformed.ensures.gives) (sym c.if-is_short.ensures)
+pub returns-clause-above : goal.returns-clause-above
+returns-clause-above g c = rw c.if_whole.ensures (whole_keeps (λ x. IsAbove c.args.table.now.contents x.0) c.entry_after.result c.entry_after.ensures.above)
+
+pub returns-clause-free : goal.returns-clause-free
+returns-clause-free g c = rw c.if_whole.ensures (whole_keeps (λ x. PortIsFree c.args.table.now.contents x.1.entry.port) c.entry_after.result c.entry_after.ensures.free)

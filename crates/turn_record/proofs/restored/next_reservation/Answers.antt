@@ -1,17 +1,19 @@
-use Rattle.std.proofs.Common.{sym}
 use Rattle.std.specs.FinMap as fin
+use Rattle.turn_history.specs.Fitting.{PortIsFree}
 use Rattle.turn_record.specs.Snapshots.{reservation_at}
 use Rattle.turn_record.proofs.Lasting.{lasts_reservation}
-use Rattle.turn_record.proofs.Onward.{next_ok, next_err}
+use Rattle.turn_record.proofs.Onward.{next_of, whole_keeps}
 use Rattle.turn_record.proofs.restored.next_reservation.Goals as goal
+use Rattle.turn_table.specs.Table.{IsAboveReserved}
 
-pub returns-in-Ok-clause-next : goal.returns-in-Ok-clause-next
-returns-in-Ok-clause-next g c =
+pub returns-clause-next : goal.returns-clause-next
+returns-clause-next g c =
     let s = c.args.table.now in
-    next_ok (reservation_at s.moment (fin.entries s.contents.entries) (fin.entries s.contents.reserved)) (lasts_reservation _ _ _) c.args.bytes.now _ _ c.in-Ok.ensures.gives
+    rw c.if_whole.ensures (next_of _ _ (reservation_at s.moment (fin.entries s.contents.entries) (fin.entries s.contents.reserved)) (lasts_reservation _ _ _) c.args.bytes.now
+    c.reservation_after.result c.reservation_after.ensures.gives)
 
-pub returns-else-is_short-clause-next : goal.returns-else-is_short-clause-next
-returns-else-is_short-clause-next g c =
-    let s = c.args.table.now in
-    next_err (reservation_at s.moment (fin.entries s.contents.entries) (fin.entries s.contents.reserved)) (lasts_reservation _ _ _) c.args.bytes.now c.in-Err-Malformed.fault
-    (rw c.in-Err-Malformed.field-0-is at c.in-Err-Malformed.ensures.gives) (sym c.if-is_short.ensures)
+pub returns-clause-above : goal.returns-clause-above
+returns-clause-above g c = rw c.if_whole.ensures (whole_keeps (λ x. IsAboveReserved c.args.table.now.contents x.0) c.reservation_after.result c.reservation_after.ensures.above)
+
+pub returns-clause-free : goal.returns-clause-free
+returns-clause-free g c = rw c.if_whole.ensures (whole_keeps (λ x. PortIsFree c.args.table.now.contents x.0) c.reservation_after.result c.reservation_after.ensures.free)

@@ -1,11 +1,7 @@
-use Rattle.std.proofs.Common.{sym}
 use Rattle.turn_record.specs.Snapshots.{total_at}
 use Rattle.turn_record.proofs.Lasting.{lasts_total}
-use Rattle.turn_record.proofs.Onward.{next_ok, next_err}
+use Rattle.turn_record.proofs.Onward.{next_of}
 use Rattle.turn_record.proofs.restored.next_total.Goals as goal
 
-pub returns-in-Ok : goal.returns-in-Ok
-returns-in-Ok c = next_ok (total_at c.args.limits) (lasts_total _) c.args.bytes.now _ _ c.in-Ok.ensures
-
-pub returns-else-is_short : goal.returns-else-is_short
-returns-else-is_short c = next_err (total_at c.args.limits) (lasts_total _) c.args.bytes.now c.in-Err-Malformed.fault (rw c.in-Err-Malformed.field-0-is at c.in-Err-Malformed.ensures) (sym c.if-is_short.ensures)
+pub returns : goal.returns
+returns c = rw c.if_whole.ensures (next_of _ _ (total_at c.args.limits) (lasts_total _) c.args.bytes.now c.total_of.result c.total_of.ensures)
