@@ -1,3 +1,4 @@
+pub mod Device
 pub mod Since
 pub mod Standing
 mod Pieces

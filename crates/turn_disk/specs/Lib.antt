@@ -1,5 +1,6 @@
 pub mod Disk
 pub mod Counts
+pub mod Device
 pub mod Calls
 pub mod Crash
 pub mod Laws

@@ -1,7 +1,7 @@
 //! A write of bytes that are made piece by piece.
 
-ghost use Rattle.std.specs.Prelude.{◌-◌, ◌≡◌, ◌++◌, [], ◌+◌, ◌^◌, ◌<◌, ◌≤◌, ℕ, List, length, take, OnOk};
-ghost use Rattle.turn_disk.specs.Counts.{CountOutcome};
+ghost use Rattle.std.specs.Prelude.{◌-◌, ◌≡◌, ◌++◌, [], ◌+◌, ◌^◌, ◌<◌, ◌≤◌, ℕ, List, length, take, OnOk, IsErr};
+ghost use Rattle.turn_disk.specs.Device.{Uses};
 ghost use Rattle.turn_disk.specs.Disk.{ChangesOnly, EachImageSince, IsSettled, WritesThrough};
 
 use crate::disk::{DeviceFailed, Disk};
@@ -117,9 +117,7 @@ pub fn write_produced<D: Disk, P: Producer>(
 ) -> Result<(), DeviceFailed>
     requires place { at + length (P.rest producer.old) ≤ D.capacity disk.old }
     requires addressable { at + length (P.rest producer.old) < 2 ^ 64 }
-    ensures size { D.capacity disk.new ≡ D.capacity disk.old }
-    ensures count { CountOutcome (D.failed disk.old) (D.failed disk.new) result }
-    ensures honest { D.is_honest disk.new → D.is_honest disk.old }
+    ensures uses { Uses D.Disk disk.old disk.new (IsErr result) }
 
     // A stop at any moment changes nothing outside the range.
     ensures stop { D.is_honest disk.new → IsSettled (D.trace disk.old).now

@@ -1,7 +1,7 @@
 //! Reads.
 
-ghost use Rattle.std.specs.Prelude.{◌≡◌, ◌+◌, ◌++◌, ◌≤◌, ◌<◌, ◌^◌, IfOk, OnOk, drop, length, take};
-ghost use Rattle.turn_disk.specs.Counts.{CountOutcome};
+ghost use Rattle.std.specs.Prelude.{◌≡◌, ◌+◌, ◌++◌, ◌≤◌, ◌<◌, ◌^◌, IfOk, OnOk, drop, length, take, IsErr};
+ghost use Rattle.turn_disk.specs.Device.{Reads};
 ghost use Rattle.turn_disk.specs.Disk.{StandsAt};
 
 use crate::disk::{DeviceFailed, Disk};
@@ -10,10 +10,7 @@ use crate::produced::PIECE;
 /// Reads the bytes from this position on, in one device call.
 pub fn read_array<D: Disk, const N: usize>(disk: &mut D, at: usize) -> Result<[u8; N], DeviceFailed>
     requires { at + N ≤ D.capacity disk.old }
-    ensures size { D.capacity disk.new ≡ D.capacity disk.old }
-    ensures count { CountOutcome (D.failed disk.old) (D.failed disk.new) result }
-    ensures honest { D.is_honest disk.new → D.is_honest disk.old }
-    ensures same { D.is_honest disk.new → D.trace disk.new ≡ D.trace disk.old }
+    ensures reads { Reads D.Disk disk.old disk.new (IsErr result) }
     ensures bytes { D.is_honest disk.new → IfOk result (λ bytes. StandsAt at bytes (D.trace disk.old).now.bytes) }
 {
     let mut bytes = [0; N];
@@ -31,10 +28,7 @@ fn read_part<D: Disk>(
 ) -> Result<(), DeviceFailed>
     requires part { done + size ≤ length buffer.old }
     requires place { at + size ≤ D.capacity disk.old }
-    ensures size { D.capacity disk.new ≡ D.capacity disk.old }
-    ensures count { CountOutcome (D.failed disk.old) (D.failed disk.new) result }
-    ensures honest { D.is_honest disk.new → D.is_honest disk.old }
-    ensures same { D.is_honest disk.new → D.trace disk.new ≡ D.trace disk.old }
+    ensures reads { Reads D.Disk disk.old disk.new (IsErr result) }
     ensures len { length buffer.new ≡ length buffer.old }
     ensures front { D.is_honest disk.new → OnOk result (take (done + size) buffer.new
         ≡ take done buffer.old ++ take size (drop at (D.trace disk.old).now.bytes)) }
@@ -48,10 +42,7 @@ fn read_part<D: Disk>(
 pub fn read_pieces<D: Disk>(disk: &mut D, at: usize, buffer: &mut [u8]) -> Result<(), DeviceFailed>
     requires place { at + length buffer.old ≤ D.capacity disk.old }
     requires addressable { at + length buffer.old < 2 ^ 64 }
-    ensures size { D.capacity disk.new ≡ D.capacity disk.old }
-    ensures count { CountOutcome (D.failed disk.old) (D.failed disk.new) result }
-    ensures honest { D.is_honest disk.new → D.is_honest disk.old }
-    ensures same { D.is_honest disk.new → D.trace disk.new ≡ D.trace disk.old }
+    ensures reads { Reads D.Disk disk.old disk.new (IsErr result) }
     ensures len { length buffer.new ≡ length buffer.old }
     ensures bytes { D.is_honest disk.new → OnOk result (StandsAt at buffer.new (D.trace disk.old).now.bytes) }
 {

@@ -1,7 +1,7 @@
 //! Writes, with what a stop at any moment of them may leave. Crates above use these clauses, and never what is pending.
 
-ghost use Rattle.std.specs.Prelude.{◌≡◌, ◌+◌, ◌≤◌, ℕ, List, length, OnOk};
-ghost use Rattle.turn_disk.specs.Counts.{CountOutcome};
+ghost use Rattle.std.specs.Prelude.{◌≡◌, ◌+◌, ◌≤◌, ℕ, List, length, OnOk, IsErr};
+ghost use Rattle.turn_disk.specs.Device.{Uses};
 ghost use Rattle.turn_disk.specs.Disk.{ChangesOnly, EachImageSince, IsSettled, IsSettledBut, ThroughOutcome, WritesThrough, WriteOutcome};
 
 use crate::disk::{DeviceFailed, Disk};
@@ -13,9 +13,7 @@ pub(crate) fn write_within<D: Disk>(
     bytes: &[u8],
 ) -> Result<(), DeviceFailed>
     requires { at + length bytes.now ≤ D.capacity disk.old }
-    ensures size { D.capacity disk.new ≡ D.capacity disk.old }
-    ensures count { CountOutcome (D.failed disk.old) (D.failed disk.new) result }
-    ensures honest { D.is_honest disk.new → D.is_honest disk.old }
+    ensures uses { Uses D.Disk disk.old disk.new (IsErr result) }
 
     // A stop at any moment changes nothing outside the range, nor does the call.
     ensures stop { D.is_honest disk.new → (from count : ℕ) (base : List ℕ)
@@ -31,9 +29,7 @@ pub(crate) fn write_within<D: Disk>(
 /// Writes these bytes, and syncs.
 pub fn write_through<D: Disk>(disk: &mut D, at: usize, bytes: &[u8]) -> Result<(), DeviceFailed>
     requires { at + length bytes.now ≤ D.capacity disk.old }
-    ensures size { D.capacity disk.new ≡ D.capacity disk.old }
-    ensures count { CountOutcome (D.failed disk.old) (D.failed disk.new) result }
-    ensures honest { D.is_honest disk.new → D.is_honest disk.old }
+    ensures uses { Uses D.Disk disk.old disk.new (IsErr result) }
 
     // A stop at any moment changes nothing outside the range.
     ensures stop { D.is_honest disk.new → IsSettled (D.trace disk.old).now

@@ -1,9 +1,12 @@
 -- What an opening yields.
 use Rattle.std.proofs.Common.{◌≡◌, ◌≤◌, ◌⊎◌, ⊎_elim, ℕ, Bool, List, [], ◌∷◌, length, take, drop, Result, Ok, Err, refl, sym, ap, ◌∙◌, subst, arith}
-use Rattle.std.specs.Prelude.{IfOk, IfErr}
+use Rattle.std.specs.Prelude.{IfOk, IfErr, IsErrAnd}
 use Rattle.std.proofs.Math.ListN.{drop_of_length-le}
 use Rattle.std.specs.List.{AllByRecursion}
+use Rattle.turn_disk.specs.Device.{Uses}
 use Rattle.turn_disk.specs.Disk.{State, Trace, IsImage, EachImageSince}
+use Rattle.turn_disk.specs.declared.disk.Disk as disks
+use Rattle.turn_disk.proofs.Device.{uses_as}
 use Rattle.turn_disk.proofs.Since.{since_weaken}
 use Rattle.turn_history.specs.Fitting.{IsFitting}
 use Rattle.turn_history.specs.History.{Event, History, clock}
@@ -18,12 +21,15 @@ use Rattle.turn_store.specs.Opened.{OpensTo}
 use Rattle.turn_store.specs.Replay.{Snapshot}
 use Rattle.turn_store.specs.State.{RestsAt}
 use Rattle.turn_store.specs.Tables.{snapshot_of}
+use Rattle.turn_store.specs.declared.fault.OpenFault.TheVariants.{Device}
 use Rattle.turn_store.proofs.Spelling.{clock_late}
 use Rattle.turn_table.specs.State as tables_state
 use Rattle.turn_types.specs.declared.limits.Bounds.{Bounds}
+use Rattle.turn_engine.specs.Calls.{disk_after}
 use Rattle.turn_engine.specs.Images.{AtLeast}
 use Rattle.turn_engine.specs.Resting.{Opens, Rests}
 use Rattle.turn_engine.specs.State.{IsSound, ServerState, has_pairs, limits_of, now_of}
+use Rattle.turn_engine.specs.declared.fault.OpenRefused.{OpenRefused}
 use Rattle.turn_engine.proofs.Lists.{length-take-le, take_of_length-le}
 
 pub fresh_sound : (b limits store batch : Bounds) (v staged : Version) (acts : ℕ) (pairs : Bool) (table read : tables_state.State) → limits ≡ b → table ≡ read → store ≡ b → batch ≡ b → read.bounds ≡ b
@@ -48,6 +54,20 @@ of_made x P (Err e) is p = tt
 pub of_refused : {X E : Type 0} (e : E) (P : E → Type 0) (r : Result X E) → IfErr r (λ f. f ≡ e) → P e → IfErr r P
 of_refused e P (Ok x) is p = tt
 of_refused e P (Err f) is p = subst P (sym is) p
+
+-- what holds of the disk of a server, which a refusal returns too, holds of the disk after an opening
+pub after_over : {D H G : Type 0} (P : D → Type 0) (server : ServerState D H G) (refused : OpenRefused D H G) (r : Result (ServerState D H G) (OpenRefused D H G))
+    → IfOk r (λ s. s ≡ server) → IfErr r (λ e. e ≡ refused) → refused.disk ≡ server.store.disk → P server.store.disk → P (disk_after r)
+after_over P server refused (Ok s) is not same p = subst (λ v. P v.store.disk) (sym is) p
+after_over P server refused (Err e) not is same p = subst (λ v. P v.disk) (sym is) (subst P (sym same) p)
+
+-- an opening that returns a server, or refuses it for another reason than the device, uses the disk as the opening of the store did
+pub uses_over : {D H G : Type 0} (disk : disks.Ghosts D) (old : D) (server : ServerState D H G) (refused : OpenRefused D H G) (r : Result (ServerState D H G) (OpenRefused D H G))
+    → IfOk r (λ s. s ≡ server) → IfErr r (λ e. e ≡ refused) → refused.disk ≡ server.store.disk → (refused.fault ≡ Device → ⊥)
+    → Uses disk old server.store.disk ⊥ → Uses disk old (disk_after r) (IsErrAnd r (λ e. e.fault ≡ Device))
+uses_over disk old server refused (Ok s) is not same other uses = subst (λ v. Uses disk old v.store.disk ⊥) (sym is) uses
+uses_over disk old server refused (Err e) not is same other uses =
+    uses_as (λ device. other (sym (ap (λ v. v.fault) is) ∙ device)) (λ never. absurd never) (subst (λ v. Uses disk old v.disk ⊥) (sym is) (subst (λ d. Uses disk old d ⊥) (sym same) uses))
 
 -- the content is an image
 pub image_self : (state : State) → IsImage state state.bytes

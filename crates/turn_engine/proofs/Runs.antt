@@ -74,7 +74,7 @@ module _ {D H G : Type 0} (disk : disks.Ghosts D) (handler : handlers.Ghosts H) 
   -- a disk that is honest after calls was so before them
   pub call_earlier : (server : ServerState D H G) (x : Step D H G) → IsCall disk handler ports server x → disk.is_honest (after_of x).store.disk → disk.is_honest server.store.disk
   call_earlier server (Submit moment a result after) call honest = subst (λ z. disk.is_honest z.disk) call.store honest
-  call_earlier server (Commit result after) call honest = call.honest honest
+  call_earlier server (Commit result after) call honest = call.uses.honest honest
 
   pub earlier : (server : ServerState D H G) (steps : List (Step D H G)) → Serves disk handler ports server steps → disk.is_honest (last_of server steps).store.disk → disk.is_honest server.store.disk
   earlier server [] serves honest = honest

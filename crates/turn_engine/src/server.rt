@@ -3,7 +3,7 @@
 ghost use Rattle.std.specs.Prelude.{◌≡◌, ◌≢◌, ◌+◌, ◌-◌, ◌^◌, ◌≤◌, ◌<◌, ◌↔◌, ◌++◌, ℕ, [], ◌∷◌, Ok, Err, Some, None, IsOk, IfOk, IfErr, IfSome, IfNone, OnOk, OnErr, true, false, length, map, take, drop, option_map, vec_len, vec_capacity, List};
 ghost use Rattle.std.specs.Option.{option_to_list};
 ghost use Rattle.std.specs.Result.{result_map_both};
-ghost use Rattle.turn_disk.specs.Counts.{Rises};
+ghost use Rattle.turn_disk.specs.Device.{Uses};
 ghost use Rattle.turn_disk.specs.Disk.{EachImageSince};
 ghost use Rattle.turn_history.specs.Fitting.{IsInRange};
 ghost use Rattle.turn_history.specs.History.{Event, History};
@@ -21,7 +21,7 @@ ghost use Rattle.turn_store.specs.Refused.{IsPlain, WhyRefused};
 ghost use Rattle.turn_store.specs.Stages.{InStages};
 ghost use Rattle.turn_store.specs.State.{form_of};
 ghost use Rattle.turn_store.specs.Tables.{snapshot_of};
-ghost use Rattle.turn_engine.specs.Calls.{Commits, Opening, Submits};
+ghost use Rattle.turn_engine.specs.Calls.{Commits, Opening, Submits, disk_after};
 ghost use Rattle.turn_engine.specs.Images.{AtLeast};
 ghost use Rattle.turn_engine.specs.Resting.{Opens, Rests, Takes};
 ghost use Rattle.turn_engine.specs.State.{emptied, has_pairs, limits_of, now_of};
@@ -188,46 +188,13 @@ impl<D: Disk, H: AuthHandler, G: RelayAddressGenerator, A: Allocator + Copy> Ser
         ports: G,
         carry: bool,
     ) -> Result<Server<D, H, G, A>, OpenRefused<D, H, G>>
-        ensures machine { IfOk result (λ s. s.machine ≡ record { config = config.now; handler = handler; ports = ports; table = s.machine.table; pairs = s.machine.pairs }) }
-        ensures pairs { IfOk result (λ s. s.machine.pairs ≡ has_pairs s.store.version) }
-        ensures nothing { IfOk result (λ s. s ≡ emptied s s.store) }
-        ensures runs { IfOk result (λ s. s.store.stopped ≡ false) }
-        ensures returned { IfErr result (λ r. (r.handler ≡ handler) × (r.ports ≡ ports)) }
-
-        ensures honest { IfOk result (λ s. D.is_honest s.store.disk → D.is_honest disk) }
-        ensures honest_err { IfErr result (λ r. D.is_honest r.disk → D.is_honest disk) }
-        ensures count { IfOk result (λ s. D.failed s.store.disk ≡ D.failed disk) }
-        ensures device { IfErr result (λ r. r.fault ≡ OpenFault.Device → Rises (D.failed disk) (D.failed r.disk)) }
-        ensures count_not { IfErr result (λ r. r.fault ≢ OpenFault.Device → D.failed r.disk ≡ D.failed disk) }
-
-        // What the store holds, and the reason of each refusal: the first that applies.
-        ensures opened { IfOk result (λ s. D.is_honest s.store.disk
-            → IsOpened s.store (D.trace s.store.disk).now (snapshot_of s.machine.table)) }
-        ensures why { IfErr result (λ r. D.is_honest r.disk → WhyRefused config.now.limits (D.trace disk).now.bytes r.fault) }
-
-        // Exactly a store of version 1 is carried over whose areas have room for version 2, and which isn't worn.
-        ensures carried { IfOk result (λ s. D.is_honest s.store.disk → Carries carry (D.trace disk).now.bytes s.store) }
-        ensures same { carry ≡ false → IfOk result (λ s. D.is_honest s.store.disk
-            → (D.trace s.store.disk).now.bytes ≡ (D.trace disk).now.bytes) }
-        ensures same_err { carry ≡ false → IfErr result (λ r. D.is_honest r.disk
-            → (D.trace r.disk).now.bytes ≡ (D.trace disk).now.bytes) }
-
-        // Where each image of the disk stands for the first events of a history, at least k of them, the server rests on
-        // such a part of it, a refusal is of the device or of memory, and a stop leaves such images.
-        ensures rests { IfOk result (λ s. D.is_honest s.store.disk → (form : Form) (h : History) (k m : ℕ)
-            → form.bounds ≡ config.now.limits → EachImage (D.trace disk).now (AtLeast form h k m)
-            → Opens form h k m (D.trace disk).now.bytes (D.trace s.store.disk).now s) }
-        ensures sound { IfErr result (λ r. D.is_honest r.disk → (form : Form) (h : History) (k m : ℕ)
-            → form.bounds ≡ config.now.limits → EachImage (D.trace disk).now (AtLeast form h k m) → IsPlain r.fault) }
-        ensures stop { IfOk result (λ s. D.is_honest s.store.disk → (form : Form) (h : History) (k m : ℕ)
-            → EachImage (D.trace disk).now (AtLeast form h k m)
-            → EachImageSince (D.trace disk) (D.trace s.store.disk) (AtLeast form h k m)) }
-        ensures stop_err { IfErr result (λ r. D.is_honest r.disk → (form : Form) (h : History) (k m : ℕ)
-            → EachImage (D.trace disk).now (AtLeast form h k m)
-            → EachImageSince (D.trace disk) (D.trace r.disk) (AtLeast form h k m)) }
-
-        // All of this as one record, of which the laws of lives speak.
         ensures call { Opening D.Disk disk config.now handler ports result }
+
+        // Exactly a store of version 1 is carried over whose areas have room for version 2, and which isn't worn. Where nothing is to be
+        // carried over the content stays.
+        ensures carried { IfOk result (λ s. D.is_honest s.store.disk → Carries carry (D.trace disk).now.bytes s.store) }
+        ensures same { carry ≡ false → D.is_honest (disk_after result)
+            → (D.trace (disk_after result)).now.bytes ≡ (D.trace disk).now.bytes }
     {
         let limits = config.limits();
         let Ok(config) = config.try_clone(alloc) else {
@@ -260,42 +227,8 @@ impl<D: Disk, H: AuthHandler, G: RelayAddressGenerator, A: Allocator + Copy> Ser
         handler: H,
         ports: G,
     ) -> Result<Server<D, H, G, A>, OpenRefused<D, H, G>>
-        ensures machine { IfOk result (λ s. s.machine ≡ record { config = config.now; handler = handler; ports = ports; table = s.machine.table; pairs = s.machine.pairs }) }
-        ensures pairs { IfOk result (λ s. s.machine.pairs ≡ has_pairs s.store.version) }
-        ensures nothing { IfOk result (λ s. s ≡ emptied s s.store) }
-        ensures runs { IfOk result (λ s. s.store.stopped ≡ false) }
-        ensures returned { IfErr result (λ r. (r.handler ≡ handler) × (r.ports ≡ ports)) }
-
-        ensures honest { IfOk result (λ s. D.is_honest s.store.disk → D.is_honest disk) }
-        ensures honest_err { IfErr result (λ r. D.is_honest r.disk → D.is_honest disk) }
-        ensures count { IfOk result (λ s. D.failed s.store.disk ≡ D.failed disk) }
-        ensures device { IfErr result (λ r. r.fault ≡ OpenFault.Device → Rises (D.failed disk) (D.failed r.disk)) }
-        ensures count_not { IfErr result (λ r. r.fault ≢ OpenFault.Device → D.failed r.disk ≡ D.failed disk) }
-
-        // What the store holds, and the reason of each refusal: the first that applies.
-        ensures opened { IfOk result (λ s. D.is_honest s.store.disk
-            → IsOpened s.store (D.trace s.store.disk).now (snapshot_of s.machine.table)) }
-        ensures why { IfErr result (λ r. D.is_honest r.disk → WhyRefused config.now.limits (D.trace disk).now.bytes r.fault) }
-
-        // Exactly a store of version 1 is carried over whose areas have room for version 2, and which isn't worn.
-        ensures carried { IfOk result (λ s. D.is_honest s.store.disk → Carries true (D.trace disk).now.bytes s.store) }
-
-        // Where each image of the disk stands for the first events of a history, at least k of them, the server rests on
-        // such a part of it, a refusal is of the device or of memory, and a stop leaves such images.
-        ensures rests { IfOk result (λ s. D.is_honest s.store.disk → (form : Form) (h : History) (k m : ℕ)
-            → form.bounds ≡ config.now.limits → EachImage (D.trace disk).now (AtLeast form h k m)
-            → Opens form h k m (D.trace disk).now.bytes (D.trace s.store.disk).now s) }
-        ensures sound { IfErr result (λ r. D.is_honest r.disk → (form : Form) (h : History) (k m : ℕ)
-            → form.bounds ≡ config.now.limits → EachImage (D.trace disk).now (AtLeast form h k m) → IsPlain r.fault) }
-        ensures stop { IfOk result (λ s. D.is_honest s.store.disk → (form : Form) (h : History) (k m : ℕ)
-            → EachImage (D.trace disk).now (AtLeast form h k m)
-            → EachImageSince (D.trace disk) (D.trace s.store.disk) (AtLeast form h k m)) }
-        ensures stop_err { IfErr result (λ r. D.is_honest r.disk → (form : Form) (h : History) (k m : ℕ)
-            → EachImage (D.trace disk).now (AtLeast form h k m)
-            → EachImageSince (D.trace disk) (D.trace r.disk) (AtLeast form h k m)) }
-
-        // All of this as one record, of which the laws of lives speak.
         ensures call { Opening D.Disk disk config.now handler ports result }
+        ensures carried { IfOk result (λ s. D.is_honest s.store.disk → Carries true (D.trace disk).now.bytes s.store) }
     {
         Server::open_as(alloc, disk, config, handler, ports, true)
     }
@@ -362,35 +295,6 @@ impl<D: Disk, H: AuthHandler, G: RelayAddressGenerator, A: Allocator + Copy> Ser
     /// Takes an arrival at a moment that isn't before the clock.
     pub fn submit(&mut self, moment: Moment, arrival: &Arrival<'_>) -> Result<(), SubmitRefused>
         requires { now_of self.old ≤ moment }
-
-        // The reasons in their order, and what is left of the server.
-        ensures stopped { (result ≡ Err SubmitRefused.Stopped) ↔ (self.old.store.stopped ≡ true) }
-        ensures full { (result ≡ Err SubmitRefused.BatchFull)
-            ↔ ((self.old.store.stopped ≡ false) × (self.old.arrivals ≡ (limits_of self.old).acts)) }
-        ensures unchanged { (result ≡ Err SubmitRefused.Stopped) → self.new ≡ self.old }
-        ensures unchanged_full { (result ≡ Err SubmitRefused.BatchFull) → self.new ≡ self.old }
-        ensures memory { result ≡ Err SubmitRefused.Memory → self.new ≡ record self.old { machine = self.new.machine } }
-        ensures memory_clock { result ≡ Err SubmitRefused.Memory → now_of self.new ≡ moment }
-        ensures memory_table { result ≡ Err SubmitRefused.Memory → IsPurged moment self.old.machine.table self.new.machine.table }
-
-        ensures store { self.new.store ≡ self.old.store }
-        ensures setting { KeepsSetting G.range self.old.machine self.new.machine }
-        ensures count { CountsOne (G.failures self.old.machine.ports) (G.failures self.new.machine.ports) }
-
-        // Where the generator held the ports of the table and no other, it does so afterwards, whatever the answer.
-        ensures held { HoldsPorts G.holds self.old.machine None → HoldsPorts G.holds self.new.machine None }
-
-        ensures clock { OnOk result (now_of self.new ≡ moment) }
-        ensures arrivals { OnOk result (self.new.arrivals ≡ self.old.arrivals + 1) }
-
-        // For each history on which the server rests.
-        ensures ok { (h : History) (k : ℕ) → Rests (D.trace self.old.store.disk).now self.old h k
-            → OnOk result (Takes (setting_of H.key_of G.range self.old.machine) (D.trace self.old.store.disk).now self.old self.new h k moment
-            (has_failed (G.failures self.old.machine.ports) (G.failures self.new.machine.ports)) (arrival_of arrival.now)) }
-        ensures rests { (h : History) (k : ℕ) → Rests (D.trace self.old.store.disk).now self.old h k
-            → OnErr result (Rests (D.trace self.old.store.disk).now self.new h k) }
-
-        // All of this as one record, of which the laws of runs speak.
         ensures call { Submits D.Disk H.AuthHandler G.RelayAddressGenerator self.old self.new moment (arrival_of arrival.now) result }
     {
         if let Some(refused) = self.refusal() {
@@ -404,7 +308,6 @@ impl<D: Disk, H: AuthHandler, G: RelayAddressGenerator, A: Allocator + Copy> Ser
 
     // Writes the acts that were accepted since the last commit, if there are any.
     fn write(&mut self) -> Result<(), StoreFault>
-        ensures honest { D.is_honest self.new.store.disk → D.is_honest self.old.store.disk }
         ensures form { form_of self.new.store ≡ form_of self.old.store }
         ensures rest { self.new ≡ record self.old { store = self.new.store } }
         ensures runs { OnOk result (self.new.store.stopped ≡ false) }
@@ -413,8 +316,7 @@ impl<D: Disk, H: AuthHandler, G: RelayAddressGenerator, A: Allocator + Copy> Ser
         ensures unchanged { self.old.store.stopped ≡ true → self.new ≡ self.old }
         ensures nothing { self.old.store.stopped ≡ false → self.old.acts ≡ 0 → IsOk result × (self.new.store ≡ self.old.store) }
 
-        ensures count { OnOk result (D.failed self.new.store.disk ≡ D.failed self.old.store.disk) }
-        ensures device { result ≡ Err StoreFault.Device → Rises (D.failed self.old.store.disk) (D.failed self.new.store.disk) }
+        ensures uses { Uses D.Disk self.old.store.disk self.new.store.disk (result ≡ Err StoreFault.Device) }
         ensures worn { (result ≡ Err StoreFault.Worn) ↔ ((self.old.store.stopped ≡ false) × (1 ≤ self.old.acts)
             × (self.old.store.generation ≡ 2 ^ 64 - 1)
             × (self.old.store.area.size < self.old.store.area.end + 6 + length self.old.payload)) }
@@ -455,38 +357,6 @@ impl<D: Disk, H: AuthHandler, G: RelayAddressGenerator, A: Allocator + Copy> Ser
 
     /// Writes the acts that were accepted since the last commit, and returns what is to be sent, in order.
     pub fn commit(&mut self) -> Result<Vec<Outgoing<A>, A>, StoreFault>
-        ensures handed { IfOk result (λ outs. map sent_of outs.items ≡ self.old.outs) }
-        ensures ok { OnOk result (self.new ≡ emptied self.old self.new.store) }
-        ensures err { OnErr result (self.new ≡ record self.old { store = self.new.store }) }
-        ensures runs { OnOk result (self.new.store.stopped ≡ false) }
-        ensures stops { OnErr result (self.new.store.stopped ≡ true) }
-        ensures stopped { (result ≡ Err StoreFault.Stopped) ↔ (self.old.store.stopped ≡ true) }
-        ensures unchanged { self.old.store.stopped ≡ true → self.new ≡ self.old }
-
-        // A batch without acts can't fail, and nothing is written.
-        ensures nothing { self.old.store.stopped ≡ false → self.old.acts ≡ 0 → IsOk result × (self.new.store ≡ self.old.store) }
-
-        // Device comes with one failed call. Worn comes without a device call, at the last generation.
-        ensures honest { D.is_honest self.new.store.disk → D.is_honest self.old.store.disk }
-        ensures form { form_of self.new.store ≡ form_of self.old.store }
-        ensures count { OnOk result (D.failed self.new.store.disk ≡ D.failed self.old.store.disk) }
-        ensures device { result ≡ Err StoreFault.Device → Rises (D.failed self.old.store.disk) (D.failed self.new.store.disk) }
-        ensures worn { (result ≡ Err StoreFault.Worn) ↔ ((self.old.store.stopped ≡ false) × (1 ≤ self.old.acts)
-            × (self.old.store.generation ≡ 2 ^ 64 - 1)
-            × (self.old.store.area.size < self.old.store.area.end + 6 + length self.old.payload)) }
-        ensures untouched_worn { result ≡ Err StoreFault.Worn → self.new.store.disk ≡ self.old.store.disk }
-
-        // For each history on which the server rests: up to some moment of the call a stop leaves what is stored of it, from
-        // then on that or all of it; so it always leaves what is stored, or more. At Ok all is stored.
-        ensures stages { D.is_honest self.new.store.disk → (h : History) (k : ℕ) → Rests (D.trace self.old.store.disk).now self.old h k
-            → InStages (D.trace self.old.store.disk) (D.trace self.new.store.disk) (StandsBy (form_of self.old.store) (take k h) (now_of self.old))
-            (EitherBy (form_of self.old.store) (take k h) (drop k h) (now_of self.old)) }
-        ensures stop { D.is_honest self.new.store.disk → (h : History) (k : ℕ) → Rests (D.trace self.old.store.disk).now self.old h k
-            → EachImageSince (D.trace self.old.store.disk) (D.trace self.new.store.disk) (AtLeast (form_of self.old.store) h k (now_of self.old)) }
-        ensures rests { D.is_honest self.new.store.disk → (h : History) (k : ℕ) → Rests (D.trace self.old.store.disk).now self.old h k
-            → OnOk result (Rests (D.trace self.new.store.disk).now self.new h (length h)) }
-
-        // All of this as one record, of which the laws of runs speak.
         ensures call { Commits D.Disk self.old self.new (result_map_both (λ outs. map sent_of outs.items) (λ fault. fault) result) }
     {
         self.write()?;

@@ -1,7 +1,7 @@
 //! The steps at a gate, each with what a stop inside it leaves.
 
-ghost use Rattle.std.specs.Prelude.{◌≡◌, ◌+◌, ◌<◌, ◌≤◌, ◌^◌, ℕ, List, length, OnOk, IfOk};
-ghost use Rattle.turn_disk.specs.Counts.{CountOutcome};
+ghost use Rattle.std.specs.Prelude.{◌≡◌, ◌+◌, ◌<◌, ◌≤◌, ◌^◌, ℕ, List, length, OnOk, IfOk, IsErr};
+ghost use Rattle.turn_disk.specs.Device.{Reads, Uses};
 ghost use Rattle.turn_disk.specs.Disk.{EachImageSince, IsSettled, WritesOnce, WritesThrough};
 ghost use Rattle.turn_journal.specs.Frames.{HoldsFramesTo, IsWaiting, HoldsWithout, HoldsWithOrWithout, HoldsWith};
 ghost use Rattle.turn_journal.specs.Scan.{HasLength};
@@ -18,9 +18,7 @@ pub const CLOSED: u8 = 0;
 pub fn write_after<D: Disk>(disk: &mut D, gate: usize, bytes: &[u8]) -> Result<(), DeviceFailed>
     requires place { gate + 1 + length bytes.now ≤ D.capacity disk.old }
     requires addressable { gate + 1 < 2 ^ 64 }
-    ensures size { D.capacity disk.new ≡ D.capacity disk.old }
-    ensures count { CountOutcome (D.failed disk.old) (D.failed disk.new) result }
-    ensures honest { D.is_honest disk.new → D.is_honest disk.old }
+    ensures uses { Uses D.Disk disk.old disk.new (IsErr result) }
 
     // A stop at any moment leaves the frames up to the gate.
     ensures stop { let old = (D.trace disk.old).now in
@@ -38,9 +36,7 @@ pub fn write_after<D: Disk>(disk: &mut D, gate: usize, bytes: &[u8]) -> Result<(
 /// Opens the gate after which a frame waits, and syncs.
 pub fn open_gate<D: Disk>(disk: &mut D, gate: usize) -> Result<(), DeviceFailed>
     requires { gate + 1 ≤ D.capacity disk.old }
-    ensures size { D.capacity disk.new ≡ D.capacity disk.old }
-    ensures count { CountOutcome (D.failed disk.old) (D.failed disk.new) result }
-    ensures honest { D.is_honest disk.new → D.is_honest disk.old }
+    ensures uses { Uses D.Disk disk.old disk.new (IsErr result) }
 
     // A stop at any moment leaves the frames up to the gate, with the one that waits or without.
     ensures stop { let old = (D.trace disk.old).now in
@@ -65,10 +61,7 @@ pub fn open_gate<D: Disk>(disk: &mut D, gate: usize) -> Result<(), DeviceFailed>
 pub fn read_length<D: Disk>(disk: &mut D, gate: usize) -> Result<usize, DeviceFailed>
     requires place { gate + 5 ≤ D.capacity disk.old }
     requires addressable { gate + 1 < 2 ^ 64 }
-    ensures size { D.capacity disk.new ≡ D.capacity disk.old }
-    ensures count { CountOutcome (D.failed disk.old) (D.failed disk.new) result }
-    ensures honest { D.is_honest disk.new → D.is_honest disk.old }
-    ensures same { D.is_honest disk.new → D.trace disk.new ≡ D.trace disk.old }
+    ensures reads { Reads D.Disk disk.old disk.new (IsErr result) }
     ensures length { D.is_honest disk.new → IfOk result (λ count. HasLength gate count (D.trace disk.old).now.bytes) }
 {
     let bytes = read_array(disk, gate + 1)?;

@@ -2,7 +2,7 @@
 //! disk before anything is written after it.
 
 ghost use Rattle.std.specs.Prelude.{◌≡◌, ◌+◌, ◌<◌, ◌≤◌, ◌^◌, ◌↔◌, ℕ, List, length, OnOk, OnErr, IfOk, IfErr, IsTrue};
-ghost use Rattle.turn_disk.specs.Counts.{Rises};
+ghost use Rattle.turn_disk.specs.Device.{Reads, Uses};
 ghost use Rattle.turn_disk.specs.Disk.{EachImageSince, IsSettled};
 ghost use Rattle.turn_journal.specs.Area.{end_of, limit_of};
 ghost use Rattle.turn_journal.specs.Frames.{gate_after, AddsFrame, HoldsFramesTo, HoldsWithOrWithout, HoldsWith};
@@ -132,15 +132,11 @@ impl<A: Allocator> Journal<A> {
         requires place { self.old.start + self.old.size ≤ D.capacity disk.old }
         requires short { length payload.now ≤ self.old.max_payload }
 
-        ensures size { D.capacity disk.new ≡ D.capacity disk.old }
-        ensures honest { D.is_honest disk.new → D.is_honest disk.old }
+        ensures uses { Uses D.Disk disk.old disk.new (result ≡ Err AppendRefused.Device) }
 
         ensures appended { OnOk result (self.new ≡ record self.old { end = gate_after self.old.end payload.now }) }
         ensures full { (result ≡ Err AppendRefused.Full) ↔ (self.old.size < self.old.end + 6 + length payload.now) }
         ensures untouched { result ≡ Err AppendRefused.Full → disk.new ≡ disk.old }
-        ensures device { IfErr result (λ refused. refused ≡ AppendRefused.Device
-            → Rises (D.failed disk.old) (D.failed disk.new)) }
-        ensures count { OnOk result (D.failed disk.new ≡ D.failed disk.old) }
         ensures kept { OnErr result (self.new ≡ self.old) }
 
         // A stop leaves the frames from before alone until the frame is durable after its closed gate; from then on, with the
@@ -180,14 +176,7 @@ impl<A: Allocator> Journal<A> {
         requires place { self.now.start + self.now.size ≤ D.capacity disk.old }
         requires gate { at < self.now.size }
 
-        ensures size { D.capacity disk.new ≡ D.capacity disk.old }
-        ensures honest { D.is_honest disk.new → D.is_honest disk.old }
-        ensures same { D.is_honest disk.new → D.trace disk.new ≡ D.trace disk.old }
-        ensures device { IfErr result (λ refused. refused ≡ ScanRefused.Device
-            → Rises (D.failed disk.old) (D.failed disk.new)) }
-        ensures count { OnOk result (D.failed disk.new ≡ D.failed disk.old) }
-        ensures count_bad { IfErr result (λ refused. refused ≡ ScanRefused.BadFrame
-            → D.failed disk.new ≡ D.failed disk.old) }
+        ensures reads { Reads D.Disk disk.old disk.new (result ≡ Err ScanRefused.Device) }
 
         ensures admitted { IfOk result (λ found. (count : _) → found ≡ Found.Frame count
             → IsAdmitted at self.now.size self.now.max_payload count) }

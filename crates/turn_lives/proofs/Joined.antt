@@ -79,7 +79,7 @@ module _ {D H G : Type 0} (disk : disks.Ghosts D) (handler : handlers.Ghosts H) 
   -- a disk that is honest after a stop was so before it
   before_stop : (server : ServerState D H G) (image : List ℕ) (last : D) → IsStopped disk server image last → disk.is_honest last → disk.is_honest server.store.disk
   before_stop server image _ (processes.at_rest of) honest = honest
-  before_stop server image _ (processes.in_commit result call of) honest = call.honest honest
+  before_stop server image _ (processes.in_commit result call of) honest = call.uses.honest honest
 
   before_turns : (server : ServerState D H G) (steps : List (Step D H G)) (after : ServerState D H G) → Serves disk handler ports server steps → last_of server steps ≡ after
       → disk.is_honest after.store.disk → disk.is_honest server.store.disk

@@ -143,24 +143,24 @@ module _ {D H G : Type 0} (disk : disks.Ghosts D) (handler : handlers.Ghosts H) 
       → Opening disk (disk_of w) s.config (handler_of w) (ports_of w) result → disk.is_honest (disk_of (world_after result))
       → EachImageSince (disk.trace (disk_of w)) (disk.trace (disk_of (world_after result))) (AtLeast form (settled_history_of p) (count_of p) (bound_of p))
   open_since p w (Ok server) stands call honest = let l = leaves w p stands in call.stop honest form (settled_history_of p) (count_of p) (bound_of p) l.images
-  open_since p w (Err refused) stands call honest = let l = leaves w p stands in call.stop_err honest form (settled_history_of p) (count_of p) (bound_of p) l.images
+  open_since p w (Err refused) stands call honest = let l = leaves w p stands in call.stop honest form (settled_history_of p) (count_of p) (bound_of p) l.images
 
   -- ---- Honesty
 
   -- a disk that is honest after calls and stops was so before them
   opening_earlier : (w : World D H G) (result : Result (ServerState D H G) (OpenRefused D H G)) → Opening disk (disk_of w) s.config (handler_of w) (ports_of w) result
       → disk.is_honest (disk_of (world_after result)) → disk.is_honest (disk_of w)
-  opening_earlier w (Ok server) call honest = call.honest honest
-  opening_earlier w (Err refused) call honest = call.honest_err honest
+  opening_earlier w (Ok server) call honest = call.uses.honest honest
+  opening_earlier w (Err refused) call honest = call.uses.honest honest
 
   call_earlier : (w v : World D H G) (input : Input) (said : List Said) → Call disk handler ports s w input said v → disk.is_honest (disk_of v) → disk.is_honest (disk_of w)
   call_earlier _ _ _ _ (worlds.submits result call) honest = subst (λ z. disk.is_honest z.disk) call.store honest
   call_earlier _ _ _ _ worlds.no_submit honest = honest
-  call_earlier _ _ _ _ (worlds.commits result call) honest = call.honest honest
+  call_earlier _ _ _ _ (worlds.commits result call) honest = call.uses.honest honest
   call_earlier _ _ _ _ worlds.no_commit honest = honest
   call_earlier w _ _ _ (worlds.opens result call) honest = opening_earlier w result call honest
   call_earlier _ _ _ _ (worlds.stops image of is) honest = is.honest honest
-  call_earlier _ _ _ _ (worlds.commit_stops result call image of is) honest = call.honest (is.honest honest)
+  call_earlier _ _ _ _ (worlds.commit_stops result call image of is) honest = call.uses.honest (is.honest honest)
   call_earlier w _ _ _ (worlds.open_stops result call image of is) honest = opening_earlier w result call (is.honest honest)
 
   earlier : (w v : World D H G) (inputs : List Input) (said : List Said) → Calls disk handler ports s w inputs said v → disk.is_honest (disk_of v) → disk.is_honest (disk_of w)
@@ -425,7 +425,7 @@ module _ {D H G : Type 0} (disk : disks.Ghosts D) (handler : handlers.Ghosts H) 
           stands = record {
             keys = ap handler.key_of call.returned.0 ∙ keys_at w p stands;
             range = ap ports.range call.returned.1 ∙ range_at w p stands;
-            leaves = record { honest = honest; images = (call.stop_err honest form (settled_history_of p) (count_of p) (bound_of p) l.images).after };
+            leaves = record { honest = honest; images = (call.stop honest form (settled_history_of p) (count_of p) (bound_of p) l.images).after };
           };
         }
 

@@ -5,7 +5,7 @@ use Rattle.turn_disk.specs.Counts.{Rises}
 use Rattle.turn_store.specs.declared.formatting.FormatRefused.{FormatRefused}
 use Rattle.turn_store.specs.declared.formatting.FormatRefused.TheVariants.{AreaTooSmall, Device}
 
-pub why_refused : (r : Result (Unit {0}) FormatRefused) (area least old new : ℕ) → IfErr r (λ f. f ≡ Device → Rises old new)
+pub why_refused : (r : Result (Unit {0}) FormatRefused) (area least old new : ℕ) → (r ≡ Err Device → Rises old new)
     → ((needed : ℕ) → (r ≡ Err (AreaTooSmall needed)) ↔ ((area < least) × (needed ≡ least)))
     → IsErr r → (area < least) ⊎ Rises old new
 why_refused (Ok x) area least old new device small e = absurd cc

@@ -29,11 +29,11 @@ use Rattle.turn_serving.specs.Starts.{BeginsRun, IsKept, IsOfVersion, KeepsImage
 
 pub opened_images : {D H G : Type 0} (disk : disks.Ghosts D) {old : D} {config : Config} {users : H} {ports : G} {server : ServerState D H G} → Opening disk old config users ports (Ok server)
     → KeepsImages disk old server.store.disk
-opened_images disk call = record { honest = call.honest; stop = call.stop }
+opened_images disk call = record { honest = call.uses.honest; stop = call.stop }
 
 pub refused_images : {D H G : Type 0} (disk : disks.Ghosts D) {old : D} {config : Config} {users : H} {ports : G} {refused : OpenRefused D H G} → Opening disk old config users ports (Err refused)
     → KeepsImages disk old refused.disk
-refused_images disk call = record { honest = call.honest_err; stop = call.stop_err }
+refused_images disk call = record { honest = call.uses.honest; stop = call.stop }
 
 pub kept : {D : Type 0} (disk : disks.Ghosts D) {old new : D} → KeepsImages disk old new → (disk.is_honest new → (disk.trace new).now.bytes ≡ (disk.trace old).now.bytes) → IsKept disk old new
 kept disk images content = record { images = images; content = content }
@@ -110,15 +110,15 @@ started disk handler generator old middle config users again ports range server 
       setting = ap (setting_of handler.key_of generator.range) call.machine ∙ ap (λ u. record { config = config; keys = handler.key_of u; range = generator.range ports; pairs = server.machine.pairs }) same_users
           ∙ ap (λ (r : ℕ × ℕ). record { config = config; keys = handler.key_of users; range = r; pairs = server.machine.pairs }) in_range;
       pairs = call.pairs;
-      carried = λ honest. carries_all v (disk.trace old).now.bytes server.store (version (call.honest honest))
+      carried = λ honest. carries_all v (disk.trace old).now.bytes server.store (version (call.uses.honest honest))
           (subst (λ (b : Bool). Carries b (disk.trace old).now.bytes server.store) asked
-          (subst (λ (content : List ℕ). Carries carry content server.store) (same.content (call.honest honest)) (carried honest)));
+          (subst (λ (content : List ℕ). Carries carry content server.store) (same.content (call.uses.honest honest)) (carried honest)));
       nothing = call.nothing;
       runs = call.runs;
       honest = (joined disk same.images (opened_images disk call)).honest;
       rests = λ honest form h k m bounds images.
-          subst (λ (content : List ℕ). Opens form h k m content (disk.trace server.store.disk).now server) (same.content (call.honest honest))
-          (call.rests honest form h k m bounds (same.images.stop (call.honest honest) form h k m images).after);
+          subst (λ (content : List ℕ). Opens form h k m content (disk.trace server.store.disk).now server) (same.content (call.uses.honest honest))
+          (call.rests honest form h k m bounds (same.images.stop (call.uses.honest honest) form h k m images).after);
       reopened = record {
         middle = middle;
         generator = ports;

@@ -15,10 +15,13 @@ use Rattle.turn_store.specs.Areas.{Form, Holds, RestsOn}
 use Rattle.turn_store.specs.Carrying.{Carries, CountsAs, IsCarried}
 use Rattle.turn_store.specs.Images.{StandsBy, StandsForAt}
 use Rattle.turn_store.specs.Opened.{IsOpened, OpensTo}
+use Rattle.turn_store.specs.Opening.{disk_of}
 use Rattle.turn_store.specs.Refused.{IsPlain, WhyRefused}
 use Rattle.turn_store.specs.Replay.{Snapshot}
 use Rattle.turn_store.specs.Stages.{InStagesAt}
 use Rattle.turn_store.specs.State.{MayFollow, RestsAt, Shows, StoreState, carried, carried_area, form_of}
+use Rattle.turn_store.specs.declared.store.Opened.{Opened}
+use Rattle.turn_store.specs.declared.store.Refused.{Refused}
 use Rattle.turn_store.specs.declared.fault.OpenFault.{OpenFault}
 use Rattle.turn_store.specs.declared.fault.OpenFault.TheVariants.{Device, Memory, NotAStore, LimitsDiffer, Damaged}
 use Rattle.turn_types.specs.declared.limits.Bounds.{Bounds}
@@ -177,6 +180,15 @@ on_ok P Q (Err e) f h = h
 pub on_err : {X E : Type 0} (P Q : E → Type 0) (r : Result X E) → ((e : E) → P e → Q e) → IfErr r P → IfErr r Q
 on_err P Q (Ok x) f h = h
 on_err P Q (Err e) f h = f e h
+
+-- what holds of the disk after an opening holds of the store's, and of the one that was returned
+pub at_ok : {D A : Type 0} (P : D → Type 0) (r : Result (Opened D A) (Refused D)) → P (disk_of r) → IfOk r (λ o. P o.store.disk)
+at_ok P (Ok opened) h = h
+at_ok P (Err refused) h = tt
+
+pub at_err : {D A : Type 0} (P : D → Type 0) (r : Result (Opened D A) (Refused D)) → P (disk_of r) → IfErr r (λ e. P e.disk)
+at_err P (Ok opened) h = tt
+at_err P (Err refused) h = h
 
 pub and_ok : {X E : Type 0} (P Q : X → Type 0) (r : Result X E) → IfOk r P → IfOk r Q → IfOk r (λ x. P x × Q x)
 and_ok P Q (Ok x) one two = (one, two)

@@ -6,6 +6,7 @@ pub mod Head
 pub mod Images
 pub mod Laws
 pub mod Opened
+pub mod Opening
 pub mod Refused
 pub mod Replay
 pub mod Spells

@@ -1,7 +1,7 @@
 //! The three steps that put a snapshot into the area that doesn't count, and let that one count.
 
-ghost use Rattle.std.specs.Prelude.{◌≡◌, ◌⊎◌, [], ◌∷◌, ◌++◌, ◌+◌, ◌≤◌, ◌<◌, ◌^◌, ℕ, List, true, length, OnOk};
-ghost use Rattle.turn_disk.specs.Counts.{CountOutcome};
+ghost use Rattle.std.specs.Prelude.{◌≡◌, ◌⊎◌, [], ◌∷◌, ◌++◌, ◌+◌, ◌≤◌, ◌<◌, ◌^◌, ℕ, List, true, length, OnOk, IsErr};
+ghost use Rattle.turn_disk.specs.Device.{Uses};
 ghost use Rattle.turn_disk.specs.Disk.{EachImageSince, StandsAt, WritesOnce};
 ghost use Rattle.turn_journal.specs.Frames.{IsClosed};
 ghost use Rattle.turn_record.specs.declared.version.Version.{Version};
@@ -16,9 +16,7 @@ use turn_disk::{DeviceFailed, Disk, Producer, write_produced, write_through};
 // gate could open the wrong area.
 fn close<D: Disk>(disk: &mut D, gate: usize, is_below: bool) -> Result<(), DeviceFailed>
     requires { gate < D.capacity disk.old }
-    ensures size { D.capacity disk.new ≡ D.capacity disk.old }
-    ensures count { CountOutcome (D.failed disk.old) (D.failed disk.new) result }
-    ensures honest { D.is_honest disk.new → D.is_honest disk.old }
+    ensures uses { Uses D.Disk disk.old disk.new (IsErr result) }
 
     // A stop at any moment leaves what was there.
     ensures stop { let old = D.trace disk.old in
@@ -41,9 +39,7 @@ fn close<D: Disk>(disk: &mut D, gate: usize, is_below: bool) -> Result<(), Devic
 fn fill<D: Disk, P: Producer>(disk: &mut D, gate: usize, front: &mut P) -> Result<(), DeviceFailed>
     requires place { gate + 1 + length (P.rest front.old) ≤ D.capacity disk.old }
     requires addressable { gate + 1 + length (P.rest front.old) < 2 ^ 64 }
-    ensures size { D.capacity disk.new ≡ D.capacity disk.old }
-    ensures count { CountOutcome (D.failed disk.old) (D.failed disk.new) result }
-    ensures honest { D.is_honest disk.new → D.is_honest disk.old }
+    ensures uses { Uses D.Disk disk.old disk.new (IsErr result) }
 
     // A stop at any moment leaves what was there, whatever is written.
     ensures stop { let old = D.trace disk.old in
@@ -66,9 +62,7 @@ fn fill<D: Disk, P: Producer>(disk: &mut D, gate: usize, front: &mut P) -> Resul
 // Opens the other area's gate: from then on it counts.
 fn switch<D: Disk>(disk: &mut D, gate: usize) -> Result<(), DeviceFailed>
     requires { gate < D.capacity disk.old }
-    ensures size { D.capacity disk.new ≡ D.capacity disk.old }
-    ensures count { CountOutcome (D.failed disk.old) (D.failed disk.new) result }
-    ensures honest { D.is_honest disk.new → D.is_honest disk.old }
+    ensures uses { Uses D.Disk disk.old disk.new (IsErr result) }
 
     // A stop at any moment leaves what was there, or the new snapshot alone.
     ensures stop { let old = D.trace disk.old in
@@ -101,9 +95,7 @@ pub fn replace<D: Disk, P: Producer>(
 ) -> Result<(), DeviceFailed>
     requires place { gate + 1 + length (P.rest front.old) ≤ D.capacity disk.old }
     requires addressable { gate + 1 + length (P.rest front.old) < 2 ^ 64 }
-    ensures size { D.capacity disk.new ≡ D.capacity disk.old }
-    ensures count { CountOutcome (D.failed disk.old) (D.failed disk.new) result }
-    ensures honest { D.is_honest disk.new → D.is_honest disk.old }
+    ensures uses { Uses D.Disk disk.old disk.new (IsErr result) }
 
     // Up to some moment a stop leaves what was there; from then on what was there, or the new snapshot alone, and this gate alone
     // is written, once.

@@ -1,8 +1,8 @@
 //! A store is made of a disk: zeros over the superblock, the areas, the superblock, the first area's gate. So from the first sync
 //! until the last write no image is a store.
 
-ghost use Rattle.std.specs.Prelude.{◌≡◌, [], ◌∷◌, ◌++◌, ◌+◌, ◌*◌, ◌≤◌, ◌<◌, ◌^◌, ◌↔◌, IfErr, OnOk};
-ghost use Rattle.turn_disk.specs.Counts.{CountOutcome, Rises};
+ghost use Rattle.std.specs.Prelude.{◌≡◌, [], ◌∷◌, ◌++◌, ◌+◌, ◌*◌, ◌≤◌, ◌<◌, ◌^◌, ◌↔◌, IfErr, OnOk, IsErr, Err};
+ghost use Rattle.turn_disk.specs.Device.{Uses};
 ghost use Rattle.turn_disk.specs.Disk.{ChangesOnly, EachImageSince, IsSettled, ThroughOutcome, WritesThrough};
 ghost use Rattle.turn_record.specs.declared.version.Version.{Version};
 ghost use Rattle.turn_record.specs.declared.version.Version.TheVariants.{V1, V2};
@@ -52,9 +52,7 @@ impl From<DeviceFailed> for FormatRefused {
 // Writes the first area with a closed gate: two device calls.
 fn lay_first<D: Disk>(disk: &mut D, version: Version) -> Result<(), DeviceFailed>
     requires { 64 + 31 ≤ D.capacity disk.old }
-    ensures size { D.capacity disk.new ≡ D.capacity disk.old }
-    ensures count { CountOutcome (D.failed disk.old) (D.failed disk.new) result }
-    ensures honest { D.is_honest disk.new → D.is_honest disk.old }
+    ensures uses { Uses D.Disk disk.old disk.new (IsErr result) }
     ensures done { D.is_honest disk.new → OnOk result
         (WritesThrough 64 (0 ∷ (area_front version 1 (fresh version) ++ 0 ∷ [])) (D.trace disk.old).now (D.trace disk.new).now) }
     ensures once { D.is_honest disk.new
@@ -70,9 +68,7 @@ fn lay_first<D: Disk>(disk: &mut D, version: Version) -> Result<(), DeviceFailed
 fn lay_areas<D: Disk>(disk: &mut D, version: Version, area: usize) -> Result<(), DeviceFailed>
     requires place { 64 + 2 * area ≡ D.capacity disk.old }
     requires room { 31 < area }
-    ensures size { D.capacity disk.new ≡ D.capacity disk.old }
-    ensures count { CountOutcome (D.failed disk.old) (D.failed disk.new) result }
-    ensures honest { D.is_honest disk.new → D.is_honest disk.old }
+    ensures uses { Uses D.Disk disk.old disk.new (IsErr result) }
     ensures addressable { 64 + 2 * area < 2 ^ 64 }
 
     // A stop at any moment changes nothing before the areas.
@@ -92,9 +88,7 @@ fn open_first<D: Disk>(disk: &mut D, limits: Limits, area: usize) -> Result<(), 
     requires place { 64 + 2 * area ≡ D.capacity disk.old }
     requires room { 31 < area }
     requires addressable { 64 + 2 * area < 2 ^ 64 }
-    ensures size { D.capacity disk.new ≡ D.capacity disk.old }
-    ensures count { CountOutcome (D.failed disk.old) (D.failed disk.new) result }
-    ensures honest { D.is_honest disk.new → D.is_honest disk.old }
+    ensures uses { Uses D.Disk disk.old disk.new (IsErr result) }
     ensures done { D.is_honest disk.new → (v : Version) → least_area v limits ≤ area → IsLaid v area (D.trace disk.old).now
         → OnOk result (IsFormatted v (record { bounds = limits; area = area }) (D.trace disk.new).now) }
 
@@ -116,11 +110,7 @@ fn format_as<D: Disk>(
     area: usize,
 ) -> Result<(), FormatRefused>
     requires { 64 + 2 * area ≡ D.capacity disk.old }
-    ensures size { D.capacity disk.new ≡ D.capacity disk.old }
-    ensures honest { D.is_honest disk.new → D.is_honest disk.old }
-    ensures device { IfErr result (λ refused. refused ≡ FormatRefused.Device
-        → Rises (D.failed disk.old) (D.failed disk.new)) }
-    ensures count { OnOk result (D.failed disk.new ≡ D.failed disk.old) }
+    ensures uses { Uses D.Disk disk.old disk.new (result ≡ Err FormatRefused.Device) }
     ensures too_small { (needed : _) → (result ≡ Err (FormatRefused.AreaTooSmall needed))
         ↔ ((area < least_area version limits) × (needed ≡ least_area version limits)) }
     ensures untouched { area < least_area version limits → disk.new ≡ disk.old }
@@ -144,11 +134,7 @@ fn format_as<D: Disk>(
 /// Makes a disk a store of these limits, of version 2, which holds nothing. It takes no memory.
 pub fn format<D: Disk>(disk: &mut D, limits: Limits, area: usize) -> Result<(), FormatRefused>
     requires { 64 + 2 * area ≡ D.capacity disk.old }
-    ensures size { D.capacity disk.new ≡ D.capacity disk.old }
-    ensures honest { D.is_honest disk.new → D.is_honest disk.old }
-    ensures device { IfErr result (λ refused. refused ≡ FormatRefused.Device
-        → Rises (D.failed disk.old) (D.failed disk.new)) }
-    ensures count { OnOk result (D.failed disk.new ≡ D.failed disk.old) }
+    ensures uses { Uses D.Disk disk.old disk.new (result ≡ Err FormatRefused.Device) }
 
     // An area below the min size is refused, and nothing is written.
     ensures too_small { (needed : _) → (result ≡ Err (FormatRefused.AreaTooSmall needed))
@@ -176,11 +162,7 @@ pub fn format_version1<D: Disk>(
     area: usize,
 ) -> Result<(), FormatRefused>
     requires { 64 + 2 * area ≡ D.capacity disk.old }
-    ensures size { D.capacity disk.new ≡ D.capacity disk.old }
-    ensures honest { D.is_honest disk.new → D.is_honest disk.old }
-    ensures device { IfErr result (λ refused. refused ≡ FormatRefused.Device
-        → Rises (D.failed disk.old) (D.failed disk.new)) }
-    ensures count { OnOk result (D.failed disk.new ≡ D.failed disk.old) }
+    ensures uses { Uses D.Disk disk.old disk.new (result ≡ Err FormatRefused.Device) }
 
     // An area below the min size is refused, and nothing is written.
     ensures too_small { (needed : _) → (result ≡ Err (FormatRefused.AreaTooSmall needed))

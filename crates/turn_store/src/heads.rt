@@ -1,8 +1,8 @@
 //! The first 14 bytes of an area.
 
-ghost use Rattle.std.specs.Prelude.{◌≡◌, ◌⊎◌, ◌+◌, ◌≤◌, ◌<◌, ◌^◌, IfOk, IfSome, IsNone, slice_index};
+ghost use Rattle.std.specs.Prelude.{◌≡◌, ◌⊎◌, ◌+◌, ◌≤◌, ◌<◌, ◌^◌, IfOk, IfSome, IsNone, slice_index, IsErr};
 ghost use Rattle.std.specs.Int.{to_be_bytes, w32, w64};
-ghost use Rattle.turn_disk.specs.Counts.{CountOutcome};
+ghost use Rattle.turn_disk.specs.Device.{Reads};
 ghost use Rattle.turn_disk.specs.Disk.{StandsAt};
 ghost use Rattle.turn_store.specs.Head.{IsHead, Beats, NoneCounts};
 
@@ -21,10 +21,7 @@ pub struct Head {
 // Reads one byte.
 fn read_byte<D: Disk>(disk: &mut D, at: usize) -> Result<u8, DeviceFailed>
     requires { at + 1 ≤ D.capacity disk.old }
-    ensures size { D.capacity disk.new ≡ D.capacity disk.old }
-    ensures count { CountOutcome (D.failed disk.old) (D.failed disk.new) result }
-    ensures honest { D.is_honest disk.new → D.is_honest disk.old }
-    ensures same { D.is_honest disk.new → D.trace disk.new ≡ D.trace disk.old }
+    ensures reads { Reads D.Disk disk.old disk.new (IsErr result) }
     ensures value { D.is_honest disk.new → IfOk result (λ b. slice_index (D.trace disk.old).now.bytes at ≡ b) }
 {
     let bytes: [u8; 1] = read_array(disk, at)?;
@@ -34,10 +31,7 @@ fn read_byte<D: Disk>(disk: &mut D, at: usize) -> Result<u8, DeviceFailed>
 // Reads a number of four bytes.
 fn read_u32<D: Disk>(disk: &mut D, at: usize) -> Result<u32, DeviceFailed>
     requires { at + 4 ≤ D.capacity disk.old }
-    ensures size { D.capacity disk.new ≡ D.capacity disk.old }
-    ensures count { CountOutcome (D.failed disk.old) (D.failed disk.new) result }
-    ensures honest { D.is_honest disk.new → D.is_honest disk.old }
-    ensures same { D.is_honest disk.new → D.trace disk.new ≡ D.trace disk.old }
+    ensures reads { Reads D.Disk disk.old disk.new (IsErr result) }
     ensures value { D.is_honest disk.new
         → IfOk result (λ n. StandsAt at (to_be_bytes w32 n) (D.trace disk.old).now.bytes) }
 {
@@ -48,10 +42,7 @@ fn read_u32<D: Disk>(disk: &mut D, at: usize) -> Result<u32, DeviceFailed>
 // Reads a number of eight bytes.
 fn read_u64<D: Disk>(disk: &mut D, at: usize) -> Result<u64, DeviceFailed>
     requires { at + 8 ≤ D.capacity disk.old }
-    ensures size { D.capacity disk.new ≡ D.capacity disk.old }
-    ensures count { CountOutcome (D.failed disk.old) (D.failed disk.new) result }
-    ensures honest { D.is_honest disk.new → D.is_honest disk.old }
-    ensures same { D.is_honest disk.new → D.trace disk.new ≡ D.trace disk.old }
+    ensures reads { Reads D.Disk disk.old disk.new (IsErr result) }
     ensures value { D.is_honest disk.new
         → IfOk result (λ n. StandsAt at (to_be_bytes w64 n) (D.trace disk.old).now.bytes) }
 {
@@ -63,10 +54,7 @@ fn read_u64<D: Disk>(disk: &mut D, at: usize) -> Result<u64, DeviceFailed>
 pub fn read_head<D: Disk>(disk: &mut D, at: usize) -> Result<Head, DeviceFailed>
     requires place { at + 14 ≤ D.capacity disk.old }
     requires addressable { at + 14 < 2 ^ 64 }
-    ensures size { D.capacity disk.new ≡ D.capacity disk.old }
-    ensures count { CountOutcome (D.failed disk.old) (D.failed disk.new) result }
-    ensures honest { D.is_honest disk.new → D.is_honest disk.old }
-    ensures same { D.is_honest disk.new → D.trace disk.new ≡ D.trace disk.old }
+    ensures reads { Reads D.Disk disk.old disk.new (IsErr result) }
     ensures generation { IfOk result (λ head. head.generation < 2 ^ 64) }
     ensures snapshot { IfOk result (λ head. head.snapshot < 2 ^ 32) }
     ensures head { D.is_honest disk.new → IfOk result (λ head. IsHead at head (D.trace disk.old).now.bytes) }

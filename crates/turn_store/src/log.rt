@@ -1,7 +1,7 @@
 //! The log of an area, replayed.
 
-ghost use Rattle.std.specs.Prelude.{◌≡◌, ◌≢◌, ◌+◌, ◌≤◌, ◌<◌, ◌↔◌, IfOk, IfErr, OnOk, length};
-ghost use Rattle.turn_disk.specs.Counts.{Rises};
+ghost use Rattle.std.specs.Prelude.{◌≡◌, ◌≢◌, ◌+◌, ◌≤◌, ◌<◌, ◌↔◌, IfOk, IfErr, OnOk, length, Err};
+ghost use Rattle.turn_disk.specs.Device.{Reads};
 ghost use Rattle.turn_journal.specs.Area.{end_of, limit_of};
 ghost use Rattle.turn_journal.specs.Scan.{IsAdmitted, IsFound, IsBadFrame};
 ghost use Rattle.turn_record.specs.Records.{IsSnapshot, max_payload};
@@ -26,12 +26,7 @@ fn found_at<D: Disk, A: Allocator>(
 ) -> Result<Found, OpenFault>
     requires place { journal.now.start + journal.now.size ≤ D.capacity disk.old }
     requires gate { at < journal.now.size }
-    ensures size { D.capacity disk.new ≡ D.capacity disk.old }
-    ensures honest { D.is_honest disk.new → D.is_honest disk.old }
-    ensures same { D.is_honest disk.new → D.trace disk.new ≡ D.trace disk.old }
-    ensures device { IfErr result (λ fault. fault ≡ OpenFault.Device → Rises (D.failed disk.old) (D.failed disk.new)) }
-    ensures count { OnOk result (D.failed disk.new ≡ D.failed disk.old) }
-    ensures count_not { IfErr result (λ fault. fault ≢ OpenFault.Device → D.failed disk.new ≡ D.failed disk.old) }
+    ensures reads { Reads D.Disk disk.old disk.new (result ≡ Err OpenFault.Device) }
     ensures admitted { IfOk result (λ found. (n : _) → found ≡ Found.Frame n
         → IsAdmitted at journal.now.size journal.now.max_payload n) }
     ensures found { D.is_honest disk.new → IfOk result
@@ -74,12 +69,7 @@ pub fn replay_log<D: Disk, A: Allocator + Copy>(
     requires payload { journal.now.max_payload ≡ max_payload version limits }
     requires buffer { length payload.old ≡ max_payload version limits }
     requires bounds { table.old.bounds ≡ limits }
-    ensures size { D.capacity disk.new ≡ D.capacity disk.old }
-    ensures honest { D.is_honest disk.new → D.is_honest disk.old }
-    ensures same { D.is_honest disk.new → D.trace disk.new ≡ D.trace disk.old }
-    ensures device { IfErr result (λ fault. fault ≡ OpenFault.Device → Rises (D.failed disk.old) (D.failed disk.new)) }
-    ensures count { OnOk result (D.failed disk.new ≡ D.failed disk.old) }
-    ensures count_not { IfErr result (λ fault. fault ≢ OpenFault.Device → D.failed disk.new ≡ D.failed disk.old) }
+    ensures reads { Reads D.Disk disk.old disk.new (result ≡ Err OpenFault.Device) }
     ensures bounds { table.new.bounds ≡ table.old.bounds }
     ensures snapshot { IsSnapshot version limits table.old.moment table.old.contents
         → OnOk result (IsSnapshot version limits table.new.moment table.new.contents) }

@@ -1,7 +1,7 @@
 //! What a store holds is read: its superblock, the area that counts, the snapshot and the log.
 
-ghost use Rattle.std.specs.Prelude.{◌≡◌, ◌≢◌, ◌+◌, ◌*◌, ◌≤◌, ◌<◌, ◌^◌, ◌↔◌, ℕ, IfOk, IfErr, IfSome, IsNone, IsTrue, OnOk};
-ghost use Rattle.turn_disk.specs.Counts.{Rises};
+ghost use Rattle.std.specs.Prelude.{◌≡◌, ◌≢◌, ◌+◌, ◌*◌, ◌≤◌, ◌<◌, ◌^◌, ◌↔◌, ℕ, IfOk, IfErr, IfSome, IsNone, IsTrue, OnOk, Err};
+ghost use Rattle.turn_disk.specs.Device.{Reads, Uses};
 ghost use Rattle.turn_disk.specs.Disk.{EachImageSince, IsImage, IsSettled};
 ghost use Rattle.turn_record.specs.Records.{IsSnapshot, max_payload, max_snapshot};
 ghost use Rattle.turn_record.specs.declared.version.Version.{Version};
@@ -67,12 +67,7 @@ fn load_area<D: Disk, A: Allocator + Copy>(
     requires addressable { start + size < 2 ^ 64 }
     requires generation { head.generation < 2 ^ 64 }
     requires snapshot { head.snapshot < 2 ^ 32 }
-    ensures size { D.capacity disk.new ≡ D.capacity disk.old }
-    ensures honest { D.is_honest disk.new → D.is_honest disk.old }
-    ensures same { D.is_honest disk.new → D.trace disk.new ≡ D.trace disk.old }
-    ensures device { IfErr result (λ fault. fault ≡ OpenFault.Device → Rises (D.failed disk.old) (D.failed disk.new)) }
-    ensures count { OnOk result (D.failed disk.new ≡ D.failed disk.old) }
-    ensures count_not { IfErr result (λ fault. fault ≢ OpenFault.Device → D.failed disk.new ≡ D.failed disk.old) }
+    ensures reads { Reads D.Disk disk.old disk.new (result ≡ Err OpenFault.Device) }
     ensures area { IfOk result (λ l. (l.journal.start ≡ start) × (l.journal.size ≡ size) × (l.journal.max_payload ≡ max_payload l.version limits)) }
     ensures room { IfOk result (λ l. least_area l.version limits ≤ size) }
     ensures bounds { IfOk result (λ l. l.table.bounds ≡ limits) }
@@ -140,12 +135,7 @@ fn choose<D: Disk, A: Allocator + Copy>(
     requires place { 64 + 2 * size ≡ D.capacity disk.old }
     requires addressable { 64 + 2 * size < 2 ^ 64 }
     requires room { 20 ≤ size }
-    ensures size { D.capacity disk.new ≡ D.capacity disk.old }
-    ensures honest { D.is_honest disk.new → D.is_honest disk.old }
-    ensures same { D.is_honest disk.new → D.trace disk.new ≡ D.trace disk.old }
-    ensures device { IfErr result (λ fault. fault ≡ OpenFault.Device → Rises (D.failed disk.old) (D.failed disk.new)) }
-    ensures count { OnOk result (D.failed disk.new ≡ D.failed disk.old) }
-    ensures count_not { IfErr result (λ fault. fault ≢ OpenFault.Device → D.failed disk.new ≡ D.failed disk.old) }
+    ensures reads { Reads D.Disk disk.old disk.new (result ≡ Err OpenFault.Device) }
     ensures area { IfOk result (λ r. (r.loaded.journal.size ≡ size) × (r.loaded.journal.max_payload ≡ max_payload r.loaded.version limits)) }
     ensures room { IfOk result (λ r. least_area r.loaded.version limits ≤ size) }
     ensures places { IfOk result (λ r. (r.loaded.journal.start ≤ 64 + size) × (r.other ≤ 64 + size)) }
@@ -199,12 +189,7 @@ fn are_same(first: Limits, second: Limits) -> bool
 
 // The size of an area, by the superblock, which has to have these limits.
 fn read_area_size<D: Disk>(disk: &mut D, limits: Limits) -> Result<usize, OpenFault>
-    ensures size { D.capacity disk.new ≡ D.capacity disk.old }
-    ensures honest { D.is_honest disk.new → D.is_honest disk.old }
-    ensures same { D.is_honest disk.new → D.trace disk.new ≡ D.trace disk.old }
-    ensures device { IfErr result (λ fault. fault ≡ OpenFault.Device → Rises (D.failed disk.old) (D.failed disk.new)) }
-    ensures count { OnOk result (D.failed disk.new ≡ D.failed disk.old) }
-    ensures count_not { IfErr result (λ fault. fault ≢ OpenFault.Device → D.failed disk.new ≡ D.failed disk.old) }
+    ensures reads { Reads D.Disk disk.old disk.new (result ≡ Err OpenFault.Device) }
     ensures place { IfOk result (λ area. 64 + 2 * area ≡ D.capacity disk.old) }
     ensures addressable { D.capacity disk.old < 2 ^ 64 }
     ensures room { IfOk result (λ area. least_area V1 limits ≤ area) }
@@ -238,11 +223,7 @@ pub fn load<D: Disk, A: Allocator + Copy>(
     disk: &mut D,
     limits: Limits,
 ) -> Result<Chosen<A>, OpenFault>
-    ensures size { D.capacity disk.new ≡ D.capacity disk.old }
-    ensures honest { D.is_honest disk.new → D.is_honest disk.old }
-    ensures device { IfErr result (λ fault. fault ≡ OpenFault.Device → Rises (D.failed disk.old) (D.failed disk.new)) }
-    ensures count { OnOk result (D.failed disk.new ≡ D.failed disk.old) }
-    ensures count_not { IfErr result (λ fault. fault ≢ OpenFault.Device → D.failed disk.new ≡ D.failed disk.old) }
+    ensures uses { Uses D.Disk disk.old disk.new (result ≡ Err OpenFault.Device) }
     ensures same { D.is_honest disk.new → (D.trace disk.new).now.bytes ≡ (D.trace disk.old).now.bytes }
     ensures stop { D.is_honest disk.new
         → EachImageSince (D.trace disk.old) (D.trace disk.new) (IsImage (D.trace disk.old).now) }

@@ -1,7 +1,7 @@
 //! The events of a log, applied to the table of the snapshot before it.
 
-ghost use Rattle.std.specs.Prelude.{◌≡◌, ◌≢◌, ◌+◌, ◌^◌, ◌<◌, ◌≤◌, List, None, OnOk, IfOk, IfErr, length};
-ghost use Rattle.turn_disk.specs.Counts.{Rises};
+ghost use Rattle.std.specs.Prelude.{◌≡◌, ◌≢◌, ◌+◌, ◌^◌, ◌<◌, ◌≤◌, List, None, OnOk, IfOk, IfErr, length, Err};
+ghost use Rattle.turn_disk.specs.Device.{Reads};
 ghost use Rattle.turn_disk.specs.Disk.{StandsAt};
 ghost use Rattle.turn_history.specs.Act.{event_of};
 ghost use Rattle.turn_history.specs.History as histories;
@@ -154,12 +154,7 @@ fn replay_payload<D: Disk, A: Allocator + Copy>(
     requires bounds { table.old.bounds ≡ limits }
     requires place { at + length buffer.old ≤ D.capacity disk.old }
     requires addressable { at + length buffer.old < 2 ^ 64 }
-    ensures size { D.capacity disk.new ≡ D.capacity disk.old }
-    ensures honest { D.is_honest disk.new → D.is_honest disk.old }
-    ensures same { D.is_honest disk.new → D.trace disk.new ≡ D.trace disk.old }
-    ensures device { IfErr result (λ fault. fault ≡ FrameFault.Device → Rises (D.failed disk.old) (D.failed disk.new)) }
-    ensures count { OnOk result (D.failed disk.new ≡ D.failed disk.old) }
-    ensures count_not { IfErr result (λ fault. fault ≢ FrameFault.Device → D.failed disk.new ≡ D.failed disk.old) }
+    ensures reads { Reads D.Disk disk.old disk.new (result ≡ Err FrameFault.Device) }
     ensures len { length buffer.new ≡ length buffer.old }
     ensures bounds { table.new.bounds ≡ table.old.bounds }
     ensures stands { D.is_honest disk.new → IfErr result (λ fault. fault ≢ FrameFault.Device
@@ -191,12 +186,7 @@ pub fn replay_frame<D: Disk, A: Allocator + Copy>(
     requires room { count ≤ length buffer.old }
     requires place { at + count ≤ D.capacity disk.old }
     requires addressable { at + count < 2 ^ 64 }
-    ensures size { D.capacity disk.new ≡ D.capacity disk.old }
-    ensures honest { D.is_honest disk.new → D.is_honest disk.old }
-    ensures same { D.is_honest disk.new → D.trace disk.new ≡ D.trace disk.old }
-    ensures device { IfErr result (λ fault. fault ≡ FrameFault.Device → Rises (D.failed disk.old) (D.failed disk.new)) }
-    ensures count { OnOk result (D.failed disk.new ≡ D.failed disk.old) }
-    ensures count_not { IfErr result (λ fault. fault ≢ FrameFault.Device → D.failed disk.new ≡ D.failed disk.old) }
+    ensures reads { Reads D.Disk disk.old disk.new (result ≡ Err FrameFault.Device) }
     ensures len { length buffer.new ≡ length buffer.old }
     ensures bounds { table.new.bounds ≡ table.old.bounds }
     ensures snapshot { IsSnapshot version limits table.old.moment table.old.contents

@@ -1,7 +1,7 @@
 //! A snapshot, read in pieces.
 
-ghost use Rattle.std.specs.Prelude.{◌≡◌, ◌≢◌, ◌+◌, ◌++◌, ◌≤◌, ◌<◌, ◌^◌, ℕ, List, IfOk, IfErr, OnOk, drop, length, take};
-ghost use Rattle.turn_disk.specs.Counts.{CountOutcome, Rises};
+ghost use Rattle.std.specs.Prelude.{◌≡◌, ◌≢◌, ◌+◌, ◌++◌, ◌≤◌, ◌<◌, ◌^◌, ℕ, List, IfOk, IfErr, OnOk, drop, length, take, IsErr, Err};
+ghost use Rattle.turn_disk.specs.Device.{Reads};
 ghost use Rattle.turn_record.specs.Pieces.{WasFed};
 ghost use Rattle.turn_record.specs.Records.{IsSnapshot};
 ghost use Rattle.turn_record.specs.declared.version.Version.{Version};
@@ -26,10 +26,7 @@ fn read_front<D: Disk>(
 ) -> Result<(), DeviceFailed>
     requires fits { size ≤ 4096 }
     requires place { at + size ≤ D.capacity disk.old }
-    ensures size { D.capacity disk.new ≡ D.capacity disk.old }
-    ensures count { CountOutcome (D.failed disk.old) (D.failed disk.new) result }
-    ensures honest { D.is_honest disk.new → D.is_honest disk.old }
-    ensures same { D.is_honest disk.new → D.trace disk.new ≡ D.trace disk.old }
+    ensures reads { Reads D.Disk disk.old disk.new (IsErr result) }
     ensures len { length piece.new ≡ 4096 }
     ensures value { D.is_honest disk.new
         → OnOk result (take size piece.new ≡ take size (drop at (D.trace disk.old).now.bytes)) }
@@ -55,10 +52,7 @@ fn feed_piece<D: Disk, A: Allocator + Copy>(
 ) -> Result<(), DeviceFailed>
     requires fits { size ≤ 4096 }
     requires place { at + size ≤ D.capacity disk.old }
-    ensures size { D.capacity disk.new ≡ D.capacity disk.old }
-    ensures count { CountOutcome (D.failed disk.old) (D.failed disk.new) result }
-    ensures honest { D.is_honest disk.new → D.is_honest disk.old }
-    ensures same { D.is_honest disk.new → D.trace disk.new ≡ D.trace disk.old }
+    ensures reads { Reads D.Disk disk.old disk.new (IsErr result) }
     ensures bytes { D.is_honest disk.new → OnOk result (AreBytes (take size (drop at (D.trace disk.old).now.bytes))) }
     ensures fed_some { OnOk result ((v : Version) (b : Bounds) (fed : List ℕ) → AreBytes fed
         → WasFed v b reader.old fed → (more : List ℕ) × AreBytes more × WasFed v b reader.new more) }
@@ -82,12 +76,7 @@ pub fn read_snapshot<D: Disk, A: Allocator + Copy>(
 ) -> Result<Table<A>, OpenFault>
     requires place { at + count ≤ D.capacity disk.old }
     requires addressable { at + count < 2 ^ 64 }
-    ensures size { D.capacity disk.new ≡ D.capacity disk.old }
-    ensures honest { D.is_honest disk.new → D.is_honest disk.old }
-    ensures same { D.is_honest disk.new → D.trace disk.new ≡ D.trace disk.old }
-    ensures device { IfErr result (λ fault. fault ≡ OpenFault.Device → Rises (D.failed disk.old) (D.failed disk.new)) }
-    ensures count { OnOk result (D.failed disk.new ≡ D.failed disk.old) }
-    ensures count_not { IfErr result (λ fault. fault ≢ OpenFault.Device → D.failed disk.new ≡ D.failed disk.old) }
+    ensures reads { Reads D.Disk disk.old disk.new (result ≡ Err OpenFault.Device) }
     ensures bounds { IfOk result (λ table. table.bounds ≡ limits) }
     ensures snapshot { IfOk result (λ table. IsSnapshot version limits table.moment table.contents) }
     ensures read { D.is_honest disk.new → IfOk result (λ table.

@@ -1,7 +1,7 @@
 //! A store: the area that counts, and the other one.
 
-ghost use Rattle.std.specs.Prelude.{◌≡◌, ◌≢◌, ◌⊎◌, [], ◌∷◌, ◌++◌, ◌+◌, ◌-◌, ◌≤◌, ◌<◌, ◌^◌, ◌↔◌, ℕ, List, true, false, Some, Ok, Err, length, IsTrue, IfOk, IfErr, MatchBool, OnOk, OnErr};
-ghost use Rattle.turn_disk.specs.Counts.{CountOutcome, Rises};
+ghost use Rattle.std.specs.Prelude.{◌≡◌, ◌≢◌, ◌⊎◌, [], ◌∷◌, ◌++◌, ◌+◌, ◌-◌, ◌≤◌, ◌<◌, ◌^◌, ◌↔◌, ℕ, List, true, false, Some, Ok, Err, length, IsTrue, IfOk, IfErr, MatchBool, OnOk, OnErr, IsErr, IsErrAnd};
+ghost use Rattle.turn_disk.specs.Device.{Uses};
 ghost use Rattle.turn_history.specs.History.{Event, History};
 ghost use Rattle.turn_history.specs.Table as tables;
 ghost use Rattle.turn_record.specs.Bytes as bytes;
@@ -13,7 +13,8 @@ ghost use Rattle.turn_journal.specs.Area.{end_of};
 ghost use Rattle.turn_store.specs.Areas.{Form, Holds, RestsOn};
 ghost use Rattle.turn_store.specs.Carrying.{Carries, IsCarried};
 ghost use Rattle.turn_store.specs.Images.{EitherBy, StandsBy, StandsForAt};
-ghost use Rattle.turn_store.specs.Opened.{IsOpened, OpensTo};
+ghost use Rattle.turn_store.specs.Opened.{OpensTo};
+ghost use Rattle.turn_store.specs.Opening.{Opening, disk_of};
 ghost use Rattle.turn_store.specs.Refused.{IsPlain, WhyRefused};
 ghost use Rattle.turn_store.specs.Spells.{HasSize};
 ghost use Rattle.turn_store.specs.Stages.{InStages, InStagesAt};
@@ -56,9 +57,7 @@ fn write_snapshot<D: Disk, A: Allocator + Copy>(
     requires small { next.size < 2 ^ 32 }
     requires place { gate + 15 + next.size ≤ D.capacity disk.old }
     requires addressable { D.capacity disk.old < 2 ^ 64 }
-    ensures size { D.capacity disk.new ≡ D.capacity disk.old }
-    ensures count { CountOutcome (D.failed disk.old) (D.failed disk.new) result }
-    ensures honest { D.is_honest disk.new → D.is_honest disk.old }
+    ensures uses { Uses D.Disk disk.old disk.new (IsErr result) }
 
     // Up to some moment a stop leaves what was there; from then on that, or the new snapshot alone, and this
     // gate alone is written, once.
@@ -216,8 +215,7 @@ impl<D: Disk, A: Allocator + Copy> Store<D, A> {
         requires short { length payload.now ≤ max_payload self.old.version self.old.bounds }
         requires room { self.old.area.end + 6 + length payload.now ≤ self.old.area.size }
 
-        ensures honest { D.is_honest self.new.disk → D.is_honest self.old.disk }
-        ensures count { CountOutcome (D.failed self.old.disk) (D.failed self.new.disk) result }
+        ensures uses { Uses D.Disk self.old.disk self.new.disk (IsErr result) }
         ensures ok { OnOk result (self.new ≡ framed self.old (length payload.now) self.new.disk) }
         ensures err { OnErr result (self.new ≡ record self.old { disk = self.new.disk; stopped = true }) }
 
@@ -267,8 +265,7 @@ impl<D: Disk, A: Allocator + Copy> Store<D, A> {
         requires limits { table.now.bounds ≡ self.old.bounds }
         requires snapshot { IsSnapshot self.old.version table.now.bounds table.now.moment table.now.contents }
 
-        ensures honest { D.is_honest self.new.disk → D.is_honest self.old.disk }
-        ensures count { CountOutcome (D.failed self.old.disk) (D.failed self.new.disk) result }
+        ensures uses { Uses D.Disk self.old.disk self.new.disk (IsErr result) }
         ensures ok { OnOk result (self.new
             ≡ swapped self.old (length (bytes.snapshot self.old.version table.now.moment table.now.contents)) self.new.disk) }
         ensures err { OnErr result (self.new ≡ record self.old { disk = self.new.disk; stopped = true }) }
@@ -314,7 +311,6 @@ impl<D: Disk, A: Allocator + Copy> Store<D, A> {
         requires limits { table.now.bounds ≡ self.old.bounds }
         requires snapshot { IsSnapshot self.old.version table.now.bounds table.now.moment table.now.contents }
 
-        ensures honest { D.is_honest self.new.disk → D.is_honest self.old.disk }
         ensures framed { result ≡ Ok false → self.new ≡ framed self.old (length payload.now) self.new.disk }
         ensures compacted { result ≡ Ok true → self.new
             ≡ swapped self.old (length (bytes.snapshot self.old.version table.now.moment table.now.contents)) self.new.disk }
@@ -322,8 +318,7 @@ impl<D: Disk, A: Allocator + Copy> Store<D, A> {
             ↔ (self.old.area.size < self.old.area.end + 6 + length payload.now)) }
 
         // Device comes with one failed call. Worn and Stopped come without a device call.
-        ensures count { OnOk result (D.failed self.new.disk ≡ D.failed self.old.disk) }
-        ensures device { result ≡ Err StoreFault.Device → Rises (D.failed self.old.disk) (D.failed self.new.disk) }
+        ensures uses { Uses D.Disk self.old.disk self.new.disk (result ≡ Err StoreFault.Device) }
         ensures worn { (result ≡ Err StoreFault.Worn) ↔ ((self.old.stopped ≡ false) × (self.old.generation ≡ 2 ^ 64 - 1)
             × (self.old.area.size < self.old.area.end + 6 + length payload.now)) }
         ensures untouched_worn { result ≡ Err StoreFault.Worn → self.new.disk ≡ self.old.disk }
@@ -370,13 +365,11 @@ impl<D: Disk, A: Allocator + Copy> Store<D, A> {
         requires limits { table.now.bounds ≡ self.old.bounds }
         requires snapshot { IsSnapshot self.old.version table.now.bounds table.now.moment table.now.contents }
 
-        ensures honest { D.is_honest self.new.disk → D.is_honest self.old.disk }
         ensures compacted { OnOk result (self.new
             ≡ swapped self.old (length (bytes.snapshot self.old.version table.now.moment table.now.contents)) self.new.disk) }
 
         // Device comes with one failed call. Worn and Stopped come without a device call.
-        ensures count { OnOk result (D.failed self.new.disk ≡ D.failed self.old.disk) }
-        ensures device { result ≡ Err StoreFault.Device → Rises (D.failed self.old.disk) (D.failed self.new.disk) }
+        ensures uses { Uses D.Disk self.old.disk self.new.disk (result ≡ Err StoreFault.Device) }
         ensures worn { (result ≡ Err StoreFault.Worn)
             ↔ ((self.old.stopped ≡ false) × (self.old.generation ≡ 2 ^ 64 - 1)) }
         ensures untouched_worn { result ≡ Err StoreFault.Worn → self.new.disk ≡ self.old.disk }
@@ -466,8 +459,7 @@ impl<D: Disk, A: Allocator + Copy> Store<D, A> {
         requires within { self.old.other + 15 + size ≤ D.capacity self.old.disk }
         requires journal { journal ≡ carried_area self.old size }
 
-        ensures honest { D.is_honest self.new.disk → D.is_honest self.old.disk }
-        ensures count { CountOutcome (D.failed self.old.disk) (D.failed self.new.disk) result }
+        ensures uses { Uses D.Disk self.old.disk self.new.disk (IsErr result) }
         ensures ok { OnOk result (self.new ≡ carried self.old (carried_area self.old size) self.new.disk) }
         ensures err { OnErr result (self.new ≡ record self.old { disk = self.new.disk; stopped = true }) }
 
@@ -516,11 +508,8 @@ fn carry_over<D: Disk, A: Allocator + Copy>(
     requires generation { opened.store.generation < 2 ^ 64 - 1 }
     requires area { least_area V2 opened.store.bounds ≤ opened.store.area.size }
 
-    ensures honest { IfOk result (λ o. D.is_honest o.store.disk → D.is_honest opened.store.disk) }
-    ensures honest_err { IfErr result (λ r. D.is_honest r.disk → D.is_honest opened.store.disk) }
-    ensures count { IfOk result (λ o. D.failed o.store.disk ≡ D.failed opened.store.disk) }
+    ensures uses { Uses D.Disk opened.store.disk (disk_of result) (IsErrAnd result (λ r. r.fault ≡ OpenFault.Device)) }
     ensures plain { IfErr result (λ r. IsPlain r.fault) }
-    ensures device { IfErr result (λ r. r.fault ≡ OpenFault.Device → Rises (D.failed opened.store.disk) (D.failed r.disk)) }
     ensures untouched { IfErr result (λ r. r.fault ≢ OpenFault.Device → r.disk ≡ opened.store.disk) }
     ensures table { IfOk result (λ o. o.table ≡ opened.table) }
     ensures store { IfOk result (λ o. o.store ≡ carried opened.store
@@ -530,12 +519,9 @@ fn carry_over<D: Disk, A: Allocator + Copy>(
         → Shows o.store (D.trace o.store.disk).now (bytes.snapshot V2 opened.table.moment opened.table.contents) []) }
 
     // A stop at any moment leaves the history that was opened.
-    ensures stop { IfOk result (λ o. D.is_honest o.store.disk → (form : Form) (h : History) (clock : ℕ)
+    ensures stop { D.is_honest (disk_of result) → (form : Form) (h : History) (clock : ℕ)
         → OpensTo form h clock opened.store (D.trace opened.store.disk).now (snapshot_of opened.table)
-        → EachImageSince (D.trace opened.store.disk) (D.trace o.store.disk) (StandsBy form h clock)) }
-    ensures stop_err { IfErr result (λ r. D.is_honest r.disk → (form : Form) (h : History) (clock : ℕ)
-        → OpensTo form h clock opened.store (D.trace opened.store.disk).now (snapshot_of opened.table)
-        → EachImageSince (D.trace opened.store.disk) (D.trace r.disk) (StandsBy form h clock)) }
+        → EachImageSince (D.trace opened.store.disk) (D.trace (disk_of result)) (StandsBy form h clock) }
     ensures rests { IfOk result (λ o. D.is_honest o.store.disk → (form : Form) (h : History) (clock : ℕ)
         → OpensTo form h clock opened.store (D.trace opened.store.disk).now (snapshot_of opened.table)
         → OpensTo form h clock o.store (D.trace o.store.disk).now (snapshot_of o.table)) }
@@ -560,38 +546,7 @@ fn carry_over<D: Disk, A: Allocator + Copy>(
 impl<D: Disk, A: Allocator + Copy> Store<D, A> {
     // Opens the store of a disk, whose content stays.
     fn open_unchanged(alloc: A, disk: D, limits: Limits) -> Result<Opened<D, A>, Refused<D>>
-        ensures honest { IfOk result (λ o. D.is_honest o.store.disk → D.is_honest disk) }
-        ensures honest_err { IfErr result (λ r. D.is_honest r.disk → D.is_honest disk) }
-        ensures count { IfOk result (λ o. D.failed o.store.disk ≡ D.failed disk) }
-        ensures device { IfErr result (λ r. r.fault ≡ OpenFault.Device → Rises (D.failed disk) (D.failed r.disk)) }
-        ensures count_not { IfErr result (λ r. r.fault ≢ OpenFault.Device → D.failed r.disk ≡ D.failed disk) }
-        ensures bounds { IfOk result (λ o. (o.store.bounds ≡ limits) × (o.table.bounds ≡ limits)) }
-        ensures runs { IfOk result (λ o. o.store.stopped ≡ false) }
-        ensures snapshot { IfOk result (λ o. IsSnapshot o.store.version limits o.table.moment o.table.contents) }
-
-        // The content stays, and a stop at any moment leaves what it might have left before.
-        ensures same { IfOk result (λ o. D.is_honest o.store.disk → (D.trace o.store.disk).now.bytes ≡ (D.trace disk).now.bytes) }
-        ensures same_err { IfErr result (λ r. D.is_honest r.disk → (D.trace r.disk).now.bytes ≡ (D.trace disk).now.bytes) }
-        ensures stop { IfOk result (λ o. D.is_honest o.store.disk
-            → EachImageSince (D.trace disk) (D.trace o.store.disk) (IsImage (D.trace disk).now)) }
-        ensures stop_err { IfErr result (λ r. D.is_honest r.disk
-            → EachImageSince (D.trace disk) (D.trace r.disk) (IsImage (D.trace disk).now)) }
-
-        // The sync comes first: a refusal that isn't its failure finds nothing pending.
-        ensures settled { IfErr result (λ r. D.is_honest r.disk → r.fault ≢ OpenFault.Device → IsSettled (D.trace r.disk).now) }
-
-        // What was read, and the reason of each refusal: the first that applies.
-        ensures opened { IfOk result (λ o. D.is_honest o.store.disk
-            → IsOpened o.store (D.trace o.store.disk).now (snapshot_of o.table)) }
-        ensures why { IfErr result (λ r. D.is_honest r.disk → WhyRefused limits (D.trace disk).now.bytes r.fault) }
-
-        // If the content stands for a history, the store rests on it, the table is the history's, and a refusal is of the
-        // device or of memory.
-        ensures rests { IfOk result (λ o. D.is_honest o.store.disk → (form : Form) (h : History) (clock : ℕ)
-            → form.bounds ≡ limits → StandsForAt form h clock (D.trace disk).now.bytes
-            → OpensTo form h clock o.store (D.trace o.store.disk).now (snapshot_of o.table)) }
-        ensures sound { IfErr result (λ r. D.is_honest r.disk → (form : Form) (h : History) (clock : ℕ) → form.bounds ≡ limits
-            → StandsForAt form h clock (D.trace disk).now.bytes → IsPlain r.fault) }
+        ensures { Opening D.Disk disk limits false result }
     {
         let mut disk = disk;
         match load(alloc, &mut disk, limits) {
@@ -634,53 +589,7 @@ impl<D: Disk, A: Allocator + Copy> Store<D, A> {
         limits: Limits,
         carry: bool,
     ) -> Result<Opened<D, A>, Refused<D>>
-        ensures honest { IfOk result (λ o. D.is_honest o.store.disk → D.is_honest disk) }
-        ensures honest_err { IfErr result (λ r. D.is_honest r.disk → D.is_honest disk) }
-        ensures count { IfOk result (λ o. D.failed o.store.disk ≡ D.failed disk) }
-        ensures device { IfErr result (λ r. r.fault ≡ OpenFault.Device → Rises (D.failed disk) (D.failed r.disk)) }
-        ensures count_not { IfErr result (λ r. r.fault ≢ OpenFault.Device → D.failed r.disk ≡ D.failed disk) }
-        ensures bounds { IfOk result (λ o. (o.store.bounds ≡ limits) × (o.table.bounds ≡ limits)) }
-        ensures runs { IfOk result (λ o. o.store.stopped ≡ false) }
-        ensures snapshot { IfOk result (λ o. IsSnapshot o.store.version limits o.table.moment o.table.contents) }
-
-        // A stop at any moment leaves what it might have left before, or an image that stands for the same history.
-        ensures stop { IfOk result (λ o. D.is_honest o.store.disk → (form : Form) (h : History) (clock : ℕ)
-            → StandsForAt form h clock (D.trace disk).now.bytes
-            → EachImageSince (D.trace disk) (D.trace o.store.disk) (λ image. IsImage
-            (D.trace disk).now image ⊎ StandsBy form h clock image)) }
-        ensures stop_err { IfErr result (λ r. D.is_honest r.disk → (form : Form) (h : History) (clock : ℕ)
-            → StandsForAt form h clock (D.trace disk).now.bytes
-            → EachImageSince (D.trace disk) (D.trace r.disk) (λ image. IsImage
-            (D.trace disk).now image ⊎ StandsBy form h clock image)) }
-
-        // Where nothing is to be carried over the content stays, and a stop at any moment leaves what it might have left before.
-        ensures same { carry ≡ false → IfOk result (λ o. D.is_honest o.store.disk
-            → (D.trace o.store.disk).now.bytes ≡ (D.trace disk).now.bytes) }
-        ensures same_err { carry ≡ false → IfErr result (λ r. D.is_honest r.disk
-            → (D.trace r.disk).now.bytes ≡ (D.trace disk).now.bytes) }
-        ensures stop_kept { carry ≡ false → IfOk result (λ o. D.is_honest o.store.disk
-            → EachImageSince (D.trace disk) (D.trace o.store.disk) (IsImage (D.trace disk).now)) }
-        ensures stop_kept_err { carry ≡ false → IfErr result (λ r. D.is_honest r.disk
-            → EachImageSince (D.trace disk) (D.trace r.disk) (IsImage (D.trace disk).now)) }
-
-        // The sync comes first: a refusal that isn't of the device finds nothing pending.
-        ensures settled { IfErr result (λ r. D.is_honest r.disk → r.fault ≢ OpenFault.Device → IsSettled (D.trace r.disk).now) }
-
-        // What the store holds, and the reason of each refusal: the first that applies.
-        ensures opened { IfOk result (λ o. D.is_honest o.store.disk
-            → IsOpened o.store (D.trace o.store.disk).now (snapshot_of o.table)) }
-        ensures why { IfErr result (λ r. D.is_honest r.disk → WhyRefused limits (D.trace disk).now.bytes r.fault) }
-
-        // Exactly a store of version 1 is carried over whose areas have room for version 2, and which isn't worn.
-        ensures carried { IfOk result (λ o. D.is_honest o.store.disk → Carries carry (D.trace disk).now.bytes o.store) }
-
-        // If the content stands for a history, the store rests on it, the table is the history's, and a refusal is of the
-        // device or of memory.
-        ensures rests { IfOk result (λ o. D.is_honest o.store.disk → (form : Form) (h : History) (clock : ℕ)
-            → form.bounds ≡ limits → StandsForAt form h clock (D.trace disk).now.bytes
-            → OpensTo form h clock o.store (D.trace o.store.disk).now (snapshot_of o.table)) }
-        ensures sound { IfErr result (λ r. D.is_honest r.disk → (form : Form) (h : History) (clock : ℕ) → form.bounds ≡ limits
-            → StandsForAt form h clock (D.trace disk).now.bytes → IsPlain r.fault) }
+        ensures { Opening D.Disk disk limits carry result }
     {
         let opened = match Store::open_unchanged(alloc, disk, limits) {
             Ok(opened) => opened,
@@ -695,43 +604,7 @@ impl<D: Disk, A: Allocator + Copy> Store<D, A> {
     /// Opens the store of a disk, which was formatted with these limits, and carries it over to version 2 if it can be, as
     /// `open_as` does.
     pub fn open(alloc: A, disk: D, limits: Limits) -> Result<Opened<D, A>, Refused<D>>
-        ensures honest { IfOk result (λ o. D.is_honest o.store.disk → D.is_honest disk) }
-        ensures honest_err { IfErr result (λ r. D.is_honest r.disk → D.is_honest disk) }
-        ensures count { IfOk result (λ o. D.failed o.store.disk ≡ D.failed disk) }
-        ensures device { IfErr result (λ r. r.fault ≡ OpenFault.Device → Rises (D.failed disk) (D.failed r.disk)) }
-        ensures count_not { IfErr result (λ r. r.fault ≢ OpenFault.Device → D.failed r.disk ≡ D.failed disk) }
-        ensures bounds { IfOk result (λ o. (o.store.bounds ≡ limits) × (o.table.bounds ≡ limits)) }
-        ensures runs { IfOk result (λ o. o.store.stopped ≡ false) }
-        ensures snapshot { IfOk result (λ o. IsSnapshot o.store.version limits o.table.moment o.table.contents) }
-
-        // A stop at any moment leaves what it might have left before, or an image that stands for the same history.
-        ensures stop { IfOk result (λ o. D.is_honest o.store.disk → (form : Form) (h : History) (clock : ℕ)
-            → StandsForAt form h clock (D.trace disk).now.bytes
-            → EachImageSince (D.trace disk) (D.trace o.store.disk) (λ image. IsImage
-            (D.trace disk).now image ⊎ StandsBy form h clock image)) }
-        ensures stop_err { IfErr result (λ r. D.is_honest r.disk → (form : Form) (h : History) (clock : ℕ)
-            → StandsForAt form h clock (D.trace disk).now.bytes
-            → EachImageSince (D.trace disk) (D.trace r.disk) (λ image. IsImage
-            (D.trace disk).now image ⊎ StandsBy form h clock image)) }
-
-        // The sync comes first: a refusal that isn't of the device finds nothing pending.
-        ensures settled { IfErr result (λ r. D.is_honest r.disk → r.fault ≢ OpenFault.Device → IsSettled (D.trace r.disk).now) }
-
-        // What the store holds, and the reason of each refusal: the first that applies.
-        ensures opened { IfOk result (λ o. D.is_honest o.store.disk
-            → IsOpened o.store (D.trace o.store.disk).now (snapshot_of o.table)) }
-        ensures why { IfErr result (λ r. D.is_honest r.disk → WhyRefused limits (D.trace disk).now.bytes r.fault) }
-
-        // Exactly a store of version 1 is carried over whose areas have room for version 2, and which isn't worn.
-        ensures carried { IfOk result (λ o. D.is_honest o.store.disk → Carries true (D.trace disk).now.bytes o.store) }
-
-        // If the content stands for a history, the store rests on it, the table is the history's, and a refusal is of the
-        // device or of memory.
-        ensures rests { IfOk result (λ o. D.is_honest o.store.disk → (form : Form) (h : History) (clock : ℕ)
-            → form.bounds ≡ limits → StandsForAt form h clock (D.trace disk).now.bytes
-            → OpensTo form h clock o.store (D.trace o.store.disk).now (snapshot_of o.table)) }
-        ensures sound { IfErr result (λ r. D.is_honest r.disk → (form : Form) (h : History) (clock : ℕ) → form.bounds ≡ limits
-            → StandsForAt form h clock (D.trace disk).now.bytes → IsPlain r.fault) }
+        ensures { Opening D.Disk disk limits true result }
     {
         Store::open_as(alloc, disk, limits, true)
     }

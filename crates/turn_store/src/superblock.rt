@@ -1,7 +1,7 @@
 //! The first 64 bytes of a store: the size of an area, and the limits.
 
-ghost use Rattle.std.specs.Prelude.{◌≡◌, ◌≢◌, ◌+◌, ◌<◌, ◌^◌, ℕ, IfSome, IsNone, IfOk, IfErr, OnOk, length};
-ghost use Rattle.turn_disk.specs.Counts.{Rises};
+ghost use Rattle.std.specs.Prelude.{◌≡◌, ◌≢◌, ◌+◌, ◌<◌, ◌^◌, ℕ, IfSome, IsNone, IfOk, IfErr, OnOk, length, Err};
+ghost use Rattle.turn_disk.specs.Device.{Reads};
 ghost use Rattle.turn_record.specs.declared.version.Version.TheVariants.{V2};
 ghost use Rattle.turn_store.specs.Superblock.{HasSuperblock, least_area, superblock};
 ghost use Rattle.turn_store.specs.declared.superblock.LimitsRefused.TheVariants.{Device};
@@ -113,14 +113,7 @@ fn superblock_in(bytes: &[u8; 64]) -> Option<Superblock>
 
 /// Reads the superblock, in at most one device call.
 pub fn read_superblock<D: Disk>(disk: &mut D) -> Result<Superblock, LimitsRefused>
-    ensures size { D.capacity disk.new ≡ D.capacity disk.old }
-    ensures honest { D.is_honest disk.new → D.is_honest disk.old }
-    ensures same { D.is_honest disk.new → D.trace disk.new ≡ D.trace disk.old }
-    ensures device { IfErr result (λ refused. refused ≡ LimitsRefused.Device
-        → Rises (D.failed disk.old) (D.failed disk.new)) }
-    ensures count { OnOk result (D.failed disk.new ≡ D.failed disk.old) }
-    ensures count_not { IfErr result (λ refused. refused ≡ LimitsRefused.NotAStore
-        → D.failed disk.new ≡ D.failed disk.old) }
+    ensures reads { Reads D.Disk disk.old disk.new (result ≡ Err LimitsRefused.Device) }
     ensures found { D.is_honest disk.new
         → IfOk result (λ s. HasSuperblock s.area s.limits (D.trace disk.old).now.bytes) }
     ensures none { D.is_honest disk.new → IfErr result (λ refused. refused ≡ LimitsRefused.NotAStore
@@ -138,14 +131,7 @@ pub fn read_superblock<D: Disk>(disk: &mut D) -> Result<Superblock, LimitsRefuse
 
 /// The limits that the store of a disk was formatted with.
 pub fn limits<D: Disk>(disk: &mut D) -> Result<Limits, LimitsRefused>
-    ensures size { D.capacity disk.new ≡ D.capacity disk.old }
-    ensures honest { D.is_honest disk.new → D.is_honest disk.old }
-    ensures same { D.is_honest disk.new → D.trace disk.new ≡ D.trace disk.old }
-    ensures device { IfErr result (λ refused. refused ≡ LimitsRefused.Device
-        → Rises (D.failed disk.old) (D.failed disk.new)) }
-    ensures count { OnOk result (D.failed disk.new ≡ D.failed disk.old) }
-    ensures count_not { IfErr result (λ refused. refused ≡ LimitsRefused.NotAStore
-        → D.failed disk.new ≡ D.failed disk.old) }
+    ensures reads { Reads D.Disk disk.old disk.new (result ≡ Err LimitsRefused.Device) }
 
     // The limits are those of the superblock, and a disk without one is refused.
     ensures found { D.is_honest disk.new

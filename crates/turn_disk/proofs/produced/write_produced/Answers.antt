@@ -23,18 +23,18 @@ pieces-preserved g c =
       size_of_piece = c.fill_piece-count.ensures.len;
       within = given.within;
       rest = given.remaining;
-      size = c.write_within.ensures.size ∙ inv.size;
-      count = c.in_ok-write_within.ensures.count ∙ inv.count;
-      honest = λ h. inv.honest (c.write_within.ensures.honest h);
+      size = c.write_within.ensures.uses.size ∙ inv.size;
+      count = c.in_ok-write_within.ensures.uses.count (λ e. cc) ∙ inv.count;
+      honest = λ h. inv.honest (c.write_within.ensures.uses.honest h);
       so_far = λ honest settled.
-          more_so_far c.args.at _ _ c.pieces.done (c.pieces.done + c.fill_piece-count.result) _ _ _ (omega arith) given.within (next_is _ _ _ _ _ given) (inv.so_far (c.write_within.ensures.honest honest) settled) (c.in_ok-write_within.ensures.outcome honest);
+          more_so_far c.args.at _ _ c.pieces.done (c.pieces.done + c.fill_piece-count.result) _ _ _ (omega arith) given.within (next_is _ _ _ _ _ given) (inv.so_far (c.write_within.ensures.uses.honest honest) settled) (c.in_ok-write_within.ensures.outcome honest);
     }
 
 pub returns-in_err-write_within-clause-stop : goal.returns-in_err-write_within-clause-stop
 returns-in_err-write_within-clause-stop g c = λ honest settled.
     let inv = c.pieces.invariant in
     let given = next_given _ c.pieces.done c.fill_piece-count.result c.fill_piece-count.new.piece _ _ inv.within inv.rest (omega (arith, c.fill_piece-count.ensures.small, c.fill_piece-count.ensures.len)) c.fill_piece-count.ensures.gives (λ none. c.fill_piece-count.ensures.ends (omega (arith, none))) in
-    stopped_so_far c.args.at _ _ c.pieces.done (c.pieces.done + c.fill_piece-count.result) _ _ _ (omega arith) given.within (next_is _ _ _ _ _ given) (inv.so_far (c.write_within.ensures.honest honest) settled) (c.in_err-write_within.ensures.outcome honest)
+    stopped_so_far c.args.at _ _ c.pieces.done (c.pieces.done + c.fill_piece-count.result) _ _ _ (omega arith) given.within (next_is _ _ _ _ _ given) (inv.so_far (c.write_within.ensures.uses.honest honest) settled) (c.in_err-write_within.ensures.outcome honest)
 
 pub returns-in_err-sync-clause-stop : goal.returns-in_err-sync-clause-stop
 returns-in_err-sync-clause-stop g c = λ honest settled.

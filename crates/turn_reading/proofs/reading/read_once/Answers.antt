@@ -2,7 +2,7 @@ use Rattle.std.proofs.Common.{◌≡◌, refl, sym, subst}
 use Rattle.turn_reading.proofs.reading.read_once.Goals as goal
 
 pub returns-in-Ok-clause-honest : goal.returns-in-Ok-clause-honest
-returns-in-Ok-clause-honest g c honest = c.in-Ok.ensures.honest (subst (λ disk. g.D.Disk.is_honest disk) c.into_disk.ensures honest)
+returns-in-Ok-clause-honest g c honest = c.in-Ok.ensures.uses.honest (subst (λ disk. g.D.Disk.is_honest disk) c.into_disk.ensures honest)
 
 pub returns-in-Ok-clause-same : goal.returns-in-Ok-clause-same
 returns-in-Ok-clause-same g c honest =

@@ -15,7 +15,7 @@ pub returns-in_err-fill-clause-stages : goal.returns-in_err-fill-clause-stages
 returns-in_err-fill-clause-stages g c = λ honest v w form start generation end snapshot next payloads fits short fitting room front_is rests.
     let P = Holds v form snapshot payloads in
     let small : length (g.P.Producer.rest c.args.front.now) < form.area = omega (arith, ap length front_is, length-append (area_front w (generation + 1) next) (0 ∷ []), length-area_front w (generation + 1) next) in
-    let before = c.fill.ensures.honest honest in
+    let before = c.fill.ensures.uses.honest honest in
     let closed_since = c.close.ensures.stop before v form start generation end snapshot payloads rests in
     let closed = c.in_ok-close.ensures.done before v form start generation end snapshot payloads rests in
     stages_first_at c.args.gate _ _ P (λ (image : List ℕ). Holds v form snapshot payloads image ⊎ Holds w form next [] image) (λ image holds. inl holds)
@@ -25,8 +25,8 @@ pub returns-in_err-switch-clause-stages : goal.returns-in_err-switch-clause-stag
 returns-in_err-switch-clause-stages g c = λ honest v w form start generation end snapshot next payloads fits short fitting room front_is rests.
     let P = Holds v form snapshot payloads in
     let small : length (g.P.Producer.rest c.args.front.now) < form.area = omega (arith, ap length front_is, length-append (area_front w (generation + 1) next) (0 ∷ []), length-area_front w (generation + 1) next) in
-    let filling = c.switch.ensures.honest honest in
-    let before = c.fill.ensures.honest filling in
+    let filling = c.switch.ensures.uses.honest honest in
+    let before = c.fill.ensures.uses.honest filling in
     let closed_since = c.close.ensures.stop before v form start generation end snapshot payloads rests in
     let closed = c.in_ok-close.ensures.done before v form start generation end snapshot payloads rests in
     let filled_since = since_join _ _ _ P closed_since (c.fill.ensures.stop filling v form start generation snapshot payloads small closed.0 closed.1) in
@@ -38,8 +38,8 @@ pub returns-clause-stages : goal.returns-clause-stages
 returns-clause-stages g c = λ honest v w form start generation end snapshot next payloads fits short fitting room front_is rests.
     let P = Holds v form snapshot payloads in
     let small : length (g.P.Producer.rest c.args.front.now) < form.area = omega (arith, ap length front_is, length-append (area_front w (generation + 1) next) (0 ∷ []), length-area_front w (generation + 1) next) in
-    let filling = c.switch.ensures.honest honest in
-    let before = c.fill.ensures.honest filling in
+    let filling = c.switch.ensures.uses.honest honest in
+    let before = c.fill.ensures.uses.honest filling in
     let closed_since = c.close.ensures.stop before v form start generation end snapshot payloads rests in
     let closed = c.in_ok-close.ensures.done before v form start generation end snapshot payloads rests in
     let filled_since = since_join _ _ _ P closed_since (c.fill.ensures.stop filling v form start generation snapshot payloads small closed.0 closed.1) in
@@ -50,8 +50,8 @@ returns-clause-stages g c = λ honest v w form start generation end snapshot nex
 pub returns-clause-done : goal.returns-clause-done
 returns-clause-done g c = λ honest v w form start generation end snapshot next payloads fits short fitting room front_is rests.
     let small : length (g.P.Producer.rest c.args.front.now) < form.area = omega (arith, ap length front_is, length-append (area_front w (generation + 1) next) (0 ∷ []), length-area_front w (generation + 1) next) in
-    let filling = c.switch.ensures.honest honest in
-    let before = c.fill.ensures.honest filling in
+    let filling = c.switch.ensures.uses.honest honest in
+    let before = c.fill.ensures.uses.honest filling in
     let closed = c.in_ok-close.ensures.done before v form start generation end snapshot payloads rests in
     let filled = c.in_ok-fill.ensures.done filling v form start generation snapshot payloads small closed.0 closed.1 in
     let there = subst (λ (f : List ℕ). StandsAt (c.args.gate + 1) f (g.D.Disk.trace c.fill.new.disk).now.bytes) front_is filled.2 in

@@ -9,12 +9,12 @@ use Rattle.turn_store.proofs.formatting.format_as.Goals as goal
 
 pub returns-clause-formatted : goal.returns-clause-formatted
 returns-clause-formatted g c = λ honest.
-    let laying = c.open_first.ensures.honest honest in
+    let laying = c.open_first.ensures.uses.honest honest in
     c.in_ok-open_first.ensures.done honest c.args.version (omega (arith, c.if-area-needed.false, c.least_area_of-needed.ensures.value)) (c.in_ok-lay_areas.ensures.done laying)
 
 pub returns-clause-done : goal.returns-clause-done
 returns-clause-done g c = λ honest.
-    let laying = c.open_first.ensures.honest honest in
+    let laying = c.open_first.ensures.uses.honest honest in
     stands_for_nothing c.args.version _ _ (c.in_ok-open_first.ensures.done honest c.args.version (omega (arith, c.if-area-needed.false, c.least_area_of-needed.ensures.value)) (c.in_ok-lay_areas.ensures.done laying))
 
 pub returns-in_err-write_through-clause-order : goal.returns-in_err-write_through-clause-order
@@ -23,7 +23,7 @@ returns-in_err-write_through-clause-order g c = λ honest.
 
 pub returns-in_err-lay_areas-clause-order : goal.returns-in_err-lay_areas-clause-order
 returns-in_err-lay_areas-clause-order g c = λ honest.
-    let before = c.lay_areas.ensures.honest honest in
+    let before = c.lay_areas.ensures.uses.honest honest in
     let form : Form = record { bounds = c.args.limits; area = c.args.area } in
     let wiped = g.D.Disk.trace c.write_through.new.disk in
     let wrote = c.in_ok-write_through.ensures.done before in
@@ -33,8 +33,8 @@ returns-in_err-lay_areas-clause-order g c = λ honest.
 
 pub returns-in_err-open_first-clause-order : goal.returns-in_err-open_first-clause-order
 returns-in_err-open_first-clause-order g c = λ honest.
-    let laying = c.open_first.ensures.honest honest in
-    let before = c.lay_areas.ensures.honest laying in
+    let laying = c.open_first.ensures.uses.honest honest in
+    let before = c.lay_areas.ensures.uses.honest laying in
     let form : Form = record { bounds = c.args.limits; area = c.args.area } in
     let wiped = g.D.Disk.trace c.write_through.new.disk in
     let wrote = c.in_ok-write_through.ensures.done before in
@@ -46,8 +46,8 @@ returns-in_err-open_first-clause-order g c = λ honest.
 
 pub returns-clause-order : goal.returns-clause-order
 returns-clause-order g c = λ honest.
-    let laying = c.open_first.ensures.honest honest in
-    let before = c.lay_areas.ensures.honest laying in
+    let laying = c.open_first.ensures.uses.honest honest in
+    let before = c.lay_areas.ensures.uses.honest laying in
     let form : Form = record { bounds = c.args.limits; area = c.args.area } in
     let wiped = g.D.Disk.trace c.write_through.new.disk in
     let wrote = c.in_ok-write_through.ensures.done before in

@@ -9,7 +9,7 @@ use Rattle.turn_store.proofs.formatting.lay_areas.Goals as goal
 
 pub returns-clause-done : goal.returns-clause-done
 returns-clause-done g c = λ honest.
-    let before = c.lay_first.ensures.honest honest in
+    let before = c.lay_first.ensures.uses.honest honest in
     let writes = c.in_ok-write_at.ensures.outcome before in
     let second : c.size.result - c.args.area ≡ 64 + c.args.area = omega (arith, c.size.ensures, c.requires.place) in
     let old = g.D.Disk.trace c.args.disk.now in
@@ -36,7 +36,7 @@ returns-in_err-lay_first-clause-stop g c = λ honest settled.
     let base = old.now.bytes in
     let but = settled_but 64 (2 * c.args.area) old.now settled in
     let second : c.size.result - c.args.area ≡ 64 + c.args.area = omega (arith, c.size.ensures, c.requires.place) in
-    let wrote = since_within 64 (2 * c.args.area) base old mid but (c.size.result - c.args.area) 1 (omega (arith, second)) (omega (arith, second, c.requires.room)) (outcome_range (c.size.result - c.args.area) (0 ∷ []) old mid c.write_at.result (c.write_at.ensures.outcome (c.lay_first.ensures.honest honest))) in
+    let wrote = since_within 64 (2 * c.args.area) base old mid but (c.size.result - c.args.area) 1 (omega (arith, second)) (omega (arith, second, c.requires.room)) (outcome_range (c.size.result - c.args.area) (0 ∷ []) old mid c.write_at.result (c.write_at.ensures.outcome (c.lay_first.ensures.uses.honest honest))) in
     since_join old mid _ (ChangesOnly 64 (2 * c.args.area) base) wrote.0
     (since_through_but 64 (2 * c.args.area) base mid _ wrote.1 64 (0 ∷ (area_front c.args.version 1 (fresh c.args.version) ++ 0 ∷ [])) (omega arith) (omega (arith, length-laid c.args.version, c.requires.room)) c.lay_first.result (c.lay_first.ensures.once honest))
 
@@ -47,6 +47,6 @@ returns-clause-stop g c = λ honest settled.
     let base = old.now.bytes in
     let but = settled_but 64 (2 * c.args.area) old.now settled in
     let second : c.size.result - c.args.area ≡ 64 + c.args.area = omega (arith, c.size.ensures, c.requires.place) in
-    let wrote = since_within 64 (2 * c.args.area) base old mid but (c.size.result - c.args.area) 1 (omega (arith, second)) (omega (arith, second, c.requires.room)) (outcome_range (c.size.result - c.args.area) (0 ∷ []) old mid c.write_at.result (c.write_at.ensures.outcome (c.lay_first.ensures.honest honest))) in
+    let wrote = since_within 64 (2 * c.args.area) base old mid but (c.size.result - c.args.area) 1 (omega (arith, second)) (omega (arith, second, c.requires.room)) (outcome_range (c.size.result - c.args.area) (0 ∷ []) old mid c.write_at.result (c.write_at.ensures.outcome (c.lay_first.ensures.uses.honest honest))) in
     since_join old mid _ (ChangesOnly 64 (2 * c.args.area) base) wrote.0
     (since_through_but 64 (2 * c.args.area) base mid _ wrote.1 64 (0 ∷ (area_front c.args.version 1 (fresh c.args.version) ++ 0 ∷ [])) (omega arith) (omega (arith, length-laid c.args.version, c.requires.room)) c.lay_first.result (c.lay_first.ensures.once honest))

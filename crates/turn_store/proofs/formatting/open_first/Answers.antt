@@ -10,7 +10,7 @@ use Rattle.turn_store.proofs.formatting.open_first.Goals as goal
 
 pub returns-clause-done : goal.returns-clause-done
 returns-clause-done g c = λ honest v room laid.
-    let before = c.write_through-2.ensures.honest honest in
+    let before = c.write_through-2.ensures.uses.honest honest in
     let named = (g.D.Disk.trace c.write_through.new.disk).now in
     formatted v (record { bounds = c.args.limits; area = c.args.area }) _ named _
     (record { in_range = c.superblock_bytes-superblock.ensures.range; room = room; addressable = c.requires.addressable }) c.requires.room laid
@@ -27,7 +27,7 @@ returns-in_err-write_through-clause-stop g c = λ honest v room laid.
 
 pub returns-in_err-write_through-2-clause-stop : goal.returns-in_err-write_through-2-clause-stop
 returns-in_err-write_through-2-clause-stop g c = λ honest v room laid.
-    let before = c.write_through-2.ensures.honest honest in
+    let before = c.write_through-2.ensures.uses.honest honest in
     let form : Form = record { bounds = c.args.limits; area = c.args.area } in
     let old = g.D.Disk.trace c.args.disk.now in
     let named = g.D.Disk.trace c.write_through.new.disk in
@@ -41,7 +41,7 @@ returns-in_err-write_through-2-clause-stop g c = λ honest v room laid.
 
 pub returns-clause-stop : goal.returns-clause-stop
 returns-clause-stop g c = λ honest v room laid.
-    let before = c.write_through-2.ensures.honest honest in
+    let before = c.write_through-2.ensures.uses.honest honest in
     let form : Form = record { bounds = c.args.limits; area = c.args.area } in
     let old = g.D.Disk.trace c.args.disk.now in
     let named = g.D.Disk.trace c.write_through.new.disk in

@@ -29,7 +29,7 @@ frames-init g c = record {
 pub returns-in-Err-clause-faults : goal.returns-in-Err-clause-faults
 returns-in-Err-clause-faults g c = λ h.
     let inv = c.frames.invariant in
-    let before = c.found_at.ensures.honest h in
+    let before = c.found_at.ensures.reads.honest h in
     let j = c.args.journal.now in
     let gate = j.start + c.frames.end in
     let content = (g.D.Disk.trace c.args.disk.now).now.bytes in
@@ -39,7 +39,7 @@ returns-in-Err-clause-faults g c = λ h.
 pub returns-in-End-clause-log : goal.returns-in-End-clause-log
 returns-in-End-clause-log g c = λ h.
     let inv = c.frames.invariant in
-    let before = c.found_at.ensures.honest h in
+    let before = c.found_at.ensures.reads.honest h in
     let j = c.args.journal.now in
     let gate = j.start + c.frames.end in
     let content = (g.D.Disk.trace c.args.disk.now).now.bytes in
@@ -47,18 +47,14 @@ returns-in-End-clause-log g c = λ h.
     let closed : IsClosed gate content = subst (λ (t : Trace). IsClosed gate t.now.bytes) (inv.same before) found in
     all_read c.args.version c.args.limits (end_of j) (snapshot_of c.args.table.now) gate (limit_of j) c.frames.frames (snapshot_of c.frames.table) content (inv.so_far before) closed (omega (arith, inv.within))
 
-pub returns-in-Err-replay_frame-clause-count_not : goal.returns-in-Err-replay_frame-clause-count_not
-returns-in-Err-replay_frame-clause-count_not g c = λ other.
-    c.in-Err-replay_frame.ensures.count_not (λ is. other (c.fault_at.ensures.device.1 is)) ∙ (c.in-Ok.ensures.count ∙ c.frames.invariant.count)
-
 pub returns-in-Err-replay_frame-clause-faults : goal.returns-in-Err-replay_frame-clause-faults
 returns-in-Err-replay_frame-clause-faults g c = λ h.
     let inv = c.frames.invariant in
     let j = c.args.journal.now in
     let gate = j.start + c.frames.end in
     let content = (g.D.Disk.trace c.args.disk.now).now.bytes in
-    let still = c.replay_frame.ensures.honest h in
-    let here = c.found_at.ensures.honest still in
+    let still = c.replay_frame.ensures.reads.honest h in
+    let here = c.found_at.ensures.reads.honest still in
     let found = subst (λ f. IsFound gate (limit_of j) j.max_payload (g.D.Disk.trace c.frames.disk).now.bytes f) c.in-Frame.is (c.in-Ok.ensures.found still) in
     let there = subst (λ (t : Trace). IsOpen gate t.now.bytes × HasLength gate c.in-Frame.count t.now.bytes) (inv.same here) (found.0, found.1) in
     let start_is = c.start-start.ensures.start in
@@ -66,7 +62,7 @@ returns-in-Err-replay_frame-clause-faults g c = λ h.
     faults_weaken _ _
     (λ place_ is.
     let read : ReadsBad c.args.version c.args.limits (snapshot_of c.frames.table) (c.start-start.result + c.frames.end + 5) c.in-Frame.count content =
-    subst (λ (t : Trace). ReadsBad c.args.version c.args.limits (snapshot_of c.frames.table) (c.start-start.result + c.frames.end + 5) c.in-Frame.count t.now.bytes) (c.found_at.ensures.same still ∙ inv.same here)
+    subst (λ (t : Trace). ReadsBad c.args.version c.args.limits (snapshot_of c.frames.table) (c.start-start.result + c.frames.end + 5) c.in-Frame.count t.now.bytes) (c.found_at.ensures.reads.same still ∙ inv.same here)
     (c.in-Err-replay_frame.ensures.bad h is.1) in
     let frame : IsFrame gate read.bytes content = frame_is gate c.in-Frame.count read.bytes content read.has.long there.0 there.1 (subst (λ (n : ℕ). StandsAt n read.bytes content) place read.has.stands) in
     broken_payload c.args.version c.args.limits (end_of j) (limit_of j) (snapshot_of c.args.table.now) gate c.frames.frames (snapshot_of c.frames.table) read.bytes content (inv.so_far here) frame
@@ -84,23 +80,23 @@ frames-preserved g c =
     record {
       within = omega (arith, admitted.1);
       few = omega (arith, inv.few);
-      size = c.replay_frame.ensures.size ∙ (c.found_at.ensures.size ∙ inv.size);
-      count = c.in-Ok-replay_frame.ensures.count ∙ (c.in-Ok.ensures.count ∙ inv.count);
-      honest = λ h. inv.honest (c.found_at.ensures.honest (c.replay_frame.ensures.honest h));
+      size = c.replay_frame.ensures.reads.size ∙ (c.found_at.ensures.reads.size ∙ inv.size);
+      count = c.in-Ok-replay_frame.ensures.reads.count (λ e. cc) ∙ (c.in-Ok.ensures.reads.count (λ e. cc) ∙ inv.count);
+      honest = λ h. inv.honest (c.found_at.ensures.reads.honest (c.replay_frame.ensures.reads.honest h));
       same = λ h.
-          let still = c.replay_frame.ensures.honest h in
-          c.replay_frame.ensures.same h ∙ (c.found_at.ensures.same still ∙ inv.same (c.found_at.ensures.honest still));
+          let still = c.replay_frame.ensures.reads.honest h in
+          c.replay_frame.ensures.reads.same h ∙ (c.found_at.ensures.reads.same still ∙ inv.same (c.found_at.ensures.reads.honest still));
       buffer = c.replay_frame.ensures.len ∙ inv.buffer;
       bounds = c.replay_frame.ensures.bounds ∙ inv.bounds;
       snapshot = λ is. c.in-Ok-replay_frame.ensures.snapshot (inv.snapshot is);
       so_far = λ h.
-          let still = c.replay_frame.ensures.honest h in
-          let here = c.found_at.ensures.honest still in
+          let still = c.replay_frame.ensures.reads.honest h in
+          let here = c.found_at.ensures.reads.honest still in
           let found = subst (λ f. IsFound gate (limit_of j) j.max_payload (g.D.Disk.trace c.frames.disk).now.bytes f) c.in-Frame.is (c.in-Ok.ensures.found still) in
           let there = subst (λ (t : Trace). IsOpen gate t.now.bytes × HasLength gate c.in-Frame.count t.now.bytes) (inv.same here) (found.0, found.1) in
           let place : c.start-start.result + c.frames.end + 5 ≡ gate + 5 = ap (λ (n : ℕ). n + c.frames.end + 5) start_is in
           let read : ReadsOn c.args.version c.args.limits (snapshot_of c.frames.table) (c.start-start.result + c.frames.end + 5) c.in-Frame.count (snapshot_of c.replay_frame.new.table) content =
-          subst (λ (t : Trace). ReadsOn c.args.version c.args.limits (snapshot_of c.frames.table) (c.start-start.result + c.frames.end + 5) c.in-Frame.count (snapshot_of c.replay_frame.new.table) t.now.bytes) (c.found_at.ensures.same still ∙ inv.same here)
+          subst (λ (t : Trace). ReadsOn c.args.version c.args.limits (snapshot_of c.frames.table) (c.start-start.result + c.frames.end + 5) c.in-Frame.count (snapshot_of c.replay_frame.new.table) t.now.bytes) (c.found_at.ensures.reads.same still ∙ inv.same here)
           (c.in-Ok-replay_frame.ensures.goes h) in
           let frame : IsFrame gate read.bytes content = frame_is gate c.in-Frame.count read.bytes content read.has.long there.0 there.1 (subst (λ (n : ℕ). StandsAt n read.bytes content) place read.has.stands) in
           let more = one_more c.args.version c.args.limits (end_of j) (snapshot_of c.args.table.now) gate c.frames.frames (snapshot_of c.frames.table) (snapshot_of c.replay_frame.new.table) read.bytes content (inv.so_far here) frame read.goes in

@@ -1,4 +1,5 @@
 use Rattle.std.proofs.Common.{◌+◌, ◌∙◌, ℕ, refl, sym, subst, nat_lt}
+use Rattle.turn_disk.proofs.Device.{reads_as, reads_then}
 use Rattle.turn_disk.specs.Disk.{Trace}
 use Rattle.turn_store.specs.Head.{IsHead}
 use Rattle.turn_store.specs.Opened.{AreaIsRead, IsChosen}
@@ -16,10 +17,10 @@ returns-in-Ok-clause-chosen g c = λ honest.
     let other = c.in-Some.other in
     let loaded = c.in-Ok.loaded in
     let t = snapshot_of loaded.table in
-    let h2 = c.load_area.ensures.honest honest in
-    let h1 = c.read_head-2.ensures.honest h2 in
-    let s1 = c.read_head.ensures.same h1 in
-    let s2 = c.read_head-2.ensures.same h2 ∙ s1 in
+    let h2 = c.load_area.ensures.reads.honest honest in
+    let h1 = c.read_head-2.ensures.reads.honest h2 in
+    let s1 = c.read_head.ensures.reads.same h1 in
+    let s2 = c.read_head-2.ensures.reads.same h2 ∙ s1 in
     let content = (g.D.Disk.trace c.args.disk.now).now.bytes in
     let read : AreRead size _ _ area other content = record {
       first_start = refl;
@@ -40,10 +41,10 @@ returns-in-Err-clause-faults g c = λ honest.
     let size = c.args.size in
     let area = c.in-Some.area in
     let other = c.in-Some.other in
-    let h2 = c.load_area.ensures.honest honest in
-    let h1 = c.read_head-2.ensures.honest h2 in
-    let s1 = c.read_head.ensures.same h1 in
-    let s2 = c.read_head-2.ensures.same h2 ∙ s1 in
+    let h2 = c.load_area.ensures.reads.honest honest in
+    let h1 = c.read_head-2.ensures.reads.honest h2 in
+    let s1 = c.read_head.ensures.reads.same h1 in
+    let s2 = c.read_head-2.ensures.reads.same h2 ∙ s1 in
     let content = (g.D.Disk.trace c.args.disk.now).now.bytes in
     let read : AreRead size _ _ area other content = record {
       first_start = refl;
@@ -54,3 +55,6 @@ returns-in-Err-clause-faults g c = λ honest.
     } in
     let why = subst (λ (x : Trace). FaultWith (AreaIsBad b area.start size area.head x.now.bytes) c.in-Err.fault) s2 (c.in-Err.ensures.faults honest) in
     faults_weaken (AreaIsBad b area.start size area.head content) (StoreIsBad b size content) (bad_store size _ _ area other content read b c.in-Some.ensures.counts) c.in-Err.fault why
+
+pub returns-in-Ok-clause-reads : goal.returns-in-Ok-clause-reads
+returns-in-Ok-clause-reads g c = reads_as (λ e. cc) (λ e. cc) (reads_then c.in_ok-first_head.ensures.reads (λ e. cc) (reads_then c.in_ok-second_head.ensures.reads (λ e. cc) c.in-Ok.ensures.reads))

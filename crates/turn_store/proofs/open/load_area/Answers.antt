@@ -1,5 +1,4 @@
-use Rattle.std.proofs.Common.{◌≡◌, ◌+◌, ℕ, inl, inr, refl, ◌∙◌, ap, sym, subst, arith}
-use Rattle.turn_disk.specs.Counts.{Rises}
+use Rattle.std.proofs.Common.{◌≡◌, ◌+◌, ℕ, inl, inr, refl, ap, sym, subst, arith}
 use Rattle.turn_disk.specs.Disk.{Trace}
 use Rattle.turn_journal.specs.Area.{end_of, limit_of}
 use Rattle.turn_journal.specs.declared.area.Area.{Area}
@@ -23,38 +22,26 @@ returns-in-Err-clause-faults g c = λ honest.
 pub returns-in-Err-replay_log-clause-faults : goal.returns-in-Err-replay_log-clause-faults
 returns-in-Err-replay_log-clause-faults g c = λ honest.
     let first = snapshot_of c.in-Ok.table in
-    let here = c.replay_log.ensures.honest honest in
+    let here = c.replay_log.ensures.reads.honest honest in
     let good = c.in-Ok.ensures.read here in
     let content = (g.D.Disk.trace c.args.disk.now).now.bytes in
     let place : c.args.start + (14 + c.args.head.snapshot) ≡ c.args.start + 14 + c.args.head.snapshot = omega arith in
     faults_weaken _ _
     (λ at is.
     let there = subst (λ (a : Area). BreaksAt c.in-Some.version c.args.limits (end_of a) (limit_of a) first (g.D.Disk.trace c.read_snapshot.new.disk).now.bytes at) c.in_ok-journal.ensures is in
-    let at_first = subst (λ (t : Trace). BreaksAt c.in-Some.version c.args.limits (c.args.start + (14 + c.args.head.snapshot)) (c.args.start + c.args.size) first t.now.bytes at) (c.read_snapshot.ensures.same here) there in
+    let at_first = subst (λ (t : Trace). BreaksAt c.in-Some.version c.args.limits (c.args.start + (14 + c.args.head.snapshot)) (c.args.start + c.args.size) first t.now.bytes at) (c.read_snapshot.ensures.reads.same here) there in
     inr (c.in-Some.version, c.in-Some.ensures.some, inr (first, good, subst (λ (n : ℕ). BreaksAt c.in-Some.version c.args.limits n (c.args.start + c.args.size) first content at) place at_first)))
     c.in-Err-replay_log.fault (c.in-Err-replay_log.ensures.faults honest)
 
 pub returns-in-Ok-replay_log-clause-read : goal.returns-in-Ok-replay_log-clause-read
 returns-in-Ok-replay_log-clause-read g c = λ honest.
     let v = c.in-Some.version in
-    let here = c.replay_log.ensures.honest honest in
+    let here = c.replay_log.ensures.reads.honest honest in
     let first = snapshot_of c.in-Ok.table in
     let end = c.in-Ok-replay_log.end in
     let frames = c.in-Ok-replay_log.frames in
     let t = snapshot_of c.replay_log.new.table in
     let log = subst (λ (a : Area). LogIsRead v c.args.limits (end_of a) first (a.start + end) (limit_of a) frames t (g.D.Disk.trace c.read_snapshot.new.disk).now.bytes) c.in_ok-journal.ensures (c.in-Ok-replay_log.ensures.log honest) in
-    let log_first = subst (λ (x : Trace). LogIsRead v c.args.limits (c.args.start + (14 + c.args.head.snapshot)) first (c.args.start + end) (c.args.start + c.args.size) frames t x.now.bytes) (c.read_snapshot.ensures.same here) log in
+    let log_first = subst (λ (x : Trace). LogIsRead v c.args.limits (c.args.start + (14 + c.args.head.snapshot)) first (c.args.start + end) (c.args.start + c.args.size) frames t x.now.bytes) (c.read_snapshot.ensures.reads.same here) log in
     let read = area_is_read v c.args.limits c.args.start c.args.size c.args.head first t end frames (g.D.Disk.trace c.args.disk.now).now.bytes c.requires.generation c.requires.snapshot c.in-Some.ensures.some.version (c.in-Ok.ensures.read here) log_first in
     subst (λ (n : ℕ). AreaIsRead v c.args.limits c.args.start c.args.size c.args.head n frames t (g.D.Disk.trace c.args.disk.now).now.bytes) (sym (ap (λ (a : Area). a.end) c.move_to.ensures)) read
-
-pub returns-in-Err-replay_log-clause-honest : goal.returns-in-Err-replay_log-clause-honest
-returns-in-Err-replay_log-clause-honest g c = λ h. c.read_snapshot.ensures.honest (c.replay_log.ensures.honest h)
-
-pub returns-in-Err-replay_log-clause-same : goal.returns-in-Err-replay_log-clause-same
-returns-in-Err-replay_log-clause-same g c = λ h. c.replay_log.ensures.same h ∙ c.read_snapshot.ensures.same (c.replay_log.ensures.honest h)
-
-pub returns-in-Err-replay_log-clause-device : goal.returns-in-Err-replay_log-clause-device
-returns-in-Err-replay_log-clause-device g c = λ is. subst (λ (n : ℕ). Rises n (g.D.Disk.failed c.replay_log.new.disk)) c.in-Ok.ensures.count (c.in-Err-replay_log.ensures.device is)
-
-pub returns-in-Err-replay_log-clause-count_not : goal.returns-in-Err-replay_log-clause-count_not
-returns-in-Err-replay_log-clause-count_not g c = λ other. c.in-Err-replay_log.ensures.count_not other ∙ c.in-Ok.ensures.count

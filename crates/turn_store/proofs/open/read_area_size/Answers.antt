@@ -26,7 +26,7 @@ returns-then-not-is_whole-clause-why g c = λ honest.
       inl (
         refl,
         inr (λ whole.
-            not_both c.is_whole.result (c.is_whole.ensures.1 (c.size-size.ensures ∙ sym (g.met.D.Disk.sized c.args.disk.now (c.read_superblock.ensures.honest honest)) ∙ whole)) c.if-not-is_whole.true),
+            not_both c.is_whole.result (c.is_whole.ensures.1 (c.size-size.ensures ∙ sym (g.met.D.Disk.sized c.args.disk.now (c.read_superblock.ensures.reads.honest honest)) ∙ whole)) c.if-not-is_whole.true),
       ),
     )
 

@@ -27,20 +27,20 @@ loop-done-preserved g c =
     let inv = c.loop-done.invariant in
     record {
       within = omega (arith, inv.within);
-      size = c.feed_piece.ensures.size ∙ inv.size;
-      count = c.in_ok-feed_piece.ensures.count ∙ inv.count;
-      honest = λ h. inv.honest (c.feed_piece.ensures.honest h);
-      same = λ h. c.feed_piece.ensures.same h ∙ inv.same (c.feed_piece.ensures.honest h);
+      size = c.feed_piece.ensures.reads.size ∙ inv.size;
+      count = c.in_ok-feed_piece.ensures.reads.count (λ e. cc) ∙ inv.count;
+      honest = λ h. inv.honest (c.feed_piece.ensures.reads.honest h);
+      same = λ h. c.feed_piece.ensures.reads.same h ∙ inv.same (c.feed_piece.ensures.reads.honest h);
       some = c.in_ok-feed_piece.ensures.fed_some c.args.version c.args.limits inv.some.0 inv.some.1 inv.some.2;
       bytes = λ h.
-          let earlier = c.feed_piece.ensures.honest h in
+          let earlier = c.feed_piece.ensures.reads.honest h in
           let content = (g.D.Disk.trace c.args.disk.now).now.bytes in
           let size = c.min-size.result in
           let fits : c.args.at + c.loop-done.done ≤ length content = omega (arith, inv.within, c.requires.place, g.met.D.Disk.sized c.args.disk.now (inv.honest earlier)) in
           let piece = subst (λ (t : Trace). AreBytes (take size (drop (c.args.at + c.loop-done.done) t.now.bytes))) (inv.same earlier) (c.in_ok-feed_piece.ensures.bytes h) in
           subst AreBytes (sym (piece_more c.args.at c.loop-done.done size content fits)) (bytes_join _ _ (inv.bytes earlier) piece);
       fed = λ h.
-          let earlier = c.feed_piece.ensures.honest h in
+          let earlier = c.feed_piece.ensures.reads.honest h in
           let content = (g.D.Disk.trace c.args.disk.now).now.bytes in
           let size = c.min-size.result in
           let fits : c.args.at + c.loop-done.done ≤ length content = omega (arith, inv.within, c.requires.place, g.met.D.Disk.sized c.args.disk.now (inv.honest earlier)) in
@@ -76,3 +76,8 @@ returns-in-Ok-clause-snapshot g c =
     let some = c.loop-done.invariant.some in
     let range : AreInRange c.args.limits = subst AreInRange c.bounds-bounds.ensures.value c.bounds-bounds.ensures.range in
     fed_snapshot c.args.version c.args.limits range some.0 some.1 (snapshot_of c.in-Ok.table) (c.in-Ok.ensures.gives c.args.version c.args.limits some.0 some.2)
+
+pub returns-in-Ok-clause-reads : goal.returns-in-Ok-clause-reads
+returns-in-Ok-clause-reads g c =
+    let inv = c.loop-done.invariant in
+    record { size = inv.size; device = λ e. cc; count = λ none. inv.count; honest = inv.honest; same = inv.same }

@@ -26,9 +26,6 @@ returns-then-is_stopped-clause-stopped g c = (λ _. returns-then-is_stopped-clau
 pub returns-then-is_stopped-clause-nothing : goal.returns-then-is_stopped-clause-nothing
 returns-then-is_stopped-clause-nothing g c = λ runs _. let is = returns-then-is_stopped-clause-stops g c in cc
 
-pub returns-then-is_stopped-clause-device : goal.returns-then-is_stopped-clause-device
-returns-then-is_stopped-clause-device g c = λ e. cc
-
 pub returns-then-is_stopped-clause-worn : goal.returns-then-is_stopped-clause-worn
 returns-then-is_stopped-clause-worn g c = (λ e. cc, λ facts. let runs = facts.0 in let is = returns-then-is_stopped-clause-stops g c in cc)
 
@@ -49,9 +46,6 @@ returns-then-acts-eq0-clause-runs g c = ap (λ s. s.store.stopped) (sym c.self.v
 
 pub returns-then-acts-eq0-clause-stopped : goal.returns-then-acts-eq0-clause-stopped
 returns-then-acts-eq0-clause-stopped g c = let runs = returns-then-acts-eq0-clause-runs g c in (λ e. cc, λ is. cc)
-
-pub returns-then-acts-eq0-clause-device : goal.returns-then-acts-eq0-clause-device
-returns-then-acts-eq0-clause-device g c = λ e. cc
 
 pub returns-then-acts-eq0-clause-worn : goal.returns-then-acts-eq0-clause-worn
 returns-then-acts-eq0-clause-worn g c =
@@ -85,9 +79,6 @@ invariant_of-self g c =
       snapshot = subst (λ (v : Version). IsSnapshot v c.self.inside.machine.config.limits table.moment table.contents) (sym same) s.snapshot;
     }
 
-pub returns-clause-honest : goal.returns-clause-honest
-returns-clause-honest g c = subst (λ s. g.D.Disk.is_honest c.append.new.self.disk → g.D.Disk.is_honest s.store.disk) c.self.view_is c.append.ensures.honest
-
 pub returns-clause-form : goal.returns-clause-form
 returns-clause-form g c =
     form_kept c.self.inside.store c.append.new.self _ _ c.append.result c.append.ensures.framed c.append.ensures.compacted c.append.ensures.stops ∙ ap (λ s. form_of s.store) c.self.view_is
@@ -103,12 +94,6 @@ returns-clause-stopped g c = search rules
 
 pub returns-clause-nothing : goal.returns-clause-nothing
 returns-clause-nothing g c = λ runs none. absurd (omega (arith, none, some_acts c.acts.result _ (c.acts.ensures.value ∙ ap (λ s. s.acts) c.self.view_is) c.if-acts-eq0.false))
-
-pub returns-clause-count : goal.returns-clause-count
-returns-clause-count g c = search rules
-
-pub returns-clause-device : goal.returns-clause-device
-returns-clause-device g c = search rules
 
 pub returns-clause-worn : goal.returns-clause-worn
 returns-clause-worn g c = search rules

@@ -1,23 +1,56 @@
-use Rattle.std.proofs.Common.{◌∙◌, ℕ, List, refl, sym, subst}
+use Rattle.std.proofs.Common.{◌∙◌, ℕ, List, Err, false, ap, refl, sym, subst}
+use Rattle.turn_disk.proofs.Device.{uses_as}
 use Rattle.turn_store.specs.Images.{StandsForAt}
 use Rattle.turn_store.specs.Opened.{IsChosen}
 use Rattle.turn_store.specs.Superblock.{HasSuperblock}
 use Rattle.turn_store.specs.Tables.{snapshot_of}
+use Rattle.turn_store.proofs.Carried.{counts_as, kept_carries, kept_since}
 use Rattle.turn_store.proofs.Opens.{opened, opens_to}
 use Rattle.turn_store.proofs.store.Store.open_unchanged.Goals as goal
 
-pub returns-in-Ok-clause-opened : goal.returns-in-Ok-clause-opened
-returns-in-Ok-clause-opened g c = λ honest.
+pub returns-in-Ok : goal.returns-in-Ok
+returns-in-Ok g c =
     let r = c.in-Ok.chosen in
     let is = c.in-Ok.ensures in
+    let opened_now = λ (honest : g.D.Disk.is_honest c.load.new.disk).
     let state = (g.D.Disk.trace c.load.new.disk).now in
     let same = is.same honest in
     let has = subst (λ (l : List ℕ). HasSuperblock r.loaded.journal.size c.args.limits l) (sym same) (is.superblock honest) in
     let chosen = subst (λ (l : List ℕ). IsChosen r.loaded.version c.args.limits r.loaded.journal.size r.loaded.journal.start r.other r.generation r.loaded.journal.end r.loaded.frames r.other_is_below (snapshot_of r.loaded.table) l)
     (sym same) (is.chosen honest) in
-    opened _ state (snapshot_of r.loaded.table) (is.settled honest) has is.area.0 (g.met.D.Disk.sized c.load.new.disk honest ∙ sym is.place) (rw is.place is.addressable) chosen
+    opened _ state (snapshot_of r.loaded.table) (is.settled honest) has is.area.0 (g.met.D.Disk.sized c.load.new.disk honest ∙ sym is.place) (rw is.place is.addressable) chosen in
+    record {
+      uses = uses_as (λ never. absurd never) (λ e. cc) is.uses;
+      bounds = (refl, is.bounds);
+      runs = refl;
+      snapshot = is.snapshot;
+      stop = λ honest form h clock stands. kept_since form h clock _ _ (is.stop honest);
+      same = λ no honest. is.same honest;
+      stop_kept = λ no honest. is.stop honest;
+      settled = tt;
+      opened = opened_now;
+      why = tt;
+      carried = λ honest. kept_carries false _ _ (counts_as _ _ _ _ (opened_now honest) (is.same honest)) (λ over. let asked = over.asked in cc);
+      rests = λ honest form h clock same stands.
+          opens_to form h clock _ _ (snapshot_of r.loaded.table) (opened_now honest) (sym same) refl (subst (λ (l : List ℕ). StandsForAt form h clock l) (sym (is.same honest)) stands);
+      sound = tt;
+    }
 
-pub returns-in-Ok-clause-rests : goal.returns-in-Ok-clause-rests
-returns-in-Ok-clause-rests g c = λ honest form h clock same stands.
-    opens_to form h clock _ _ (snapshot_of c.in-Ok.chosen.loaded.table) (returns-in-Ok-clause-opened g c honest) (sym same) refl
-    (subst (λ (l : List ℕ). StandsForAt form h clock l) (sym (c.in-Ok.ensures.same honest)) stands)
+pub returns-in-Err : goal.returns-in-Err
+returns-in-Err g c =
+    let is = c.in-Err.ensures in
+    record {
+      uses = uses_as (λ same. ap Err same) (λ e. cc) is.uses;
+      bounds = tt;
+      runs = tt;
+      snapshot = tt;
+      stop = λ honest form h clock stands. kept_since form h clock _ _ (is.stop honest);
+      same = λ no honest. is.same honest;
+      stop_kept = λ no honest. is.stop honest;
+      settled = is.settled_err;
+      opened = tt;
+      why = is.why;
+      carried = tt;
+      rests = tt;
+      sound = is.sound;
+    }

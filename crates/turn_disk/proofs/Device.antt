@@ -1,0 +1,45 @@
+-- What calls say of the disks that they use.
+use Rattle.std.proofs.Common.{◌∙◌, ℕ, subst}
+use Rattle.turn_disk.specs.Counts.{Rises}
+use Rattle.turn_disk.specs.Device.{Reads, Uses}
+use Rattle.turn_disk.specs.declared.disk.Disk as disks
+
+-- that a device call failed may be said in another way
+pub uses_as : {D : Type 0} {disk : disks.Ghosts D} {old new : D} {P Q : Type 0} → (Q → P) → (P → Q) → Uses disk old new P → Uses disk old new Q
+uses_as back on uses = record {
+  size = uses.size;
+  device = λ failed. uses.device (back failed);
+  count = λ none. uses.count (λ failed. none (on failed));
+  honest = uses.honest;
+}
+
+-- a call in which no device call failed, and another
+pub uses_then : {D : Type 0} {disk : disks.Ghosts D} {old mid new : D} {P Q : Type 0} → Uses disk old mid P → (P → ⊥) → Uses disk mid new Q → Uses disk old new Q
+uses_then {disk = disk} {new = new} first none second = record {
+  size = second.size ∙ first.size;
+  device = λ failed. subst (λ (n : ℕ). Rises n (disk.failed new)) (first.count none) (second.device failed);
+  count = λ fine. second.count fine ∙ first.count none;
+  honest = λ honest. first.honest (second.honest honest);
+}
+
+-- a call that only reads uses the disk too
+pub uses_of : {D : Type 0} {disk : disks.Ghosts D} {old new : D} {P : Type 0} → Reads disk old new P → Uses disk old new P
+uses_of reads = record { size = reads.size; device = reads.device; count = reads.count; honest = reads.honest }
+
+pub reads_as : {D : Type 0} {disk : disks.Ghosts D} {old new : D} {P Q : Type 0} → (Q → P) → (P → Q) → Reads disk old new P → Reads disk old new Q
+reads_as back on reads = record {
+  size = reads.size;
+  device = λ failed. reads.device (back failed);
+  count = λ none. reads.count (λ failed. none (on failed));
+  honest = reads.honest;
+  same = reads.same;
+}
+
+pub reads_then : {D : Type 0} {disk : disks.Ghosts D} {old mid new : D} {P Q : Type 0} → Reads disk old mid P → (P → ⊥) → Reads disk mid new Q → Reads disk old new Q
+reads_then {disk = disk} {new = new} first none second = record {
+  size = second.size ∙ first.size;
+  device = λ failed. subst (λ (n : ℕ). Rises n (disk.failed new)) (first.count none) (second.device failed);
+  count = λ fine. second.count fine ∙ first.count none;
+  honest = λ honest. first.honest (second.honest honest);
+  same = λ honest. second.same honest ∙ first.same (second.honest honest);
+}
