@@ -1,9 +1,9 @@
 //! Datagrams that are cut, or one of whose bits is flipped.
 
-use crate::player::{Player, of_client};
+use crate::player::Player;
 use crate::row::{ALLOCATE, ALLOCATED, REQUEST, Row};
 use crate::setup::{SMALL, made};
-use requests_for_tests::{FIRST, code_of, five_tuple};
+use requests_for_tests::{FIRST, code_of, five_tuple, of_client};
 use std::alloc::Global;
 use std::process::Abort;
 use turn_codec::{Malformed, Message};

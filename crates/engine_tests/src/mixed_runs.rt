@@ -1,11 +1,11 @@
 //! A server beside the rules alone, over a long mixed run.
 
-use crate::player::{Player, moment, of_client};
+use crate::player::{Player, moment};
 use crate::same::{are_same, is_same_table};
 use crate::setup::{LARGE, Setup, made};
 use requests_for_tests::{
     ALICE, Attribute, BOB, FIRST, HOUR, ID, Kind, LOWEST, PEER, PEER_ENDPOINT, Ports, SECOND, UDP,
-    ZERO, credentials, nonce_of, signed,
+    ZERO, credentials, nonce_of, of_client, signed,
 };
 use std::alloc::Global;
 use std::process::Abort;

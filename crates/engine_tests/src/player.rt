@@ -5,7 +5,7 @@ use crate::same::{are_live, are_reserved, are_sent, has_at};
 use crate::setup::{Setup, made};
 use refusing::Refusing;
 use requests_for_tests::{
-    Attribute, FIRST, ID, Kind, Ports, User, credentials, five_tuple, nonce_of, signed,
+    Attribute, FIRST, Kind, Ports, User, credentials, nonce_of, of_client, of_peer, signed,
 };
 use std::alloc::{Allocator, Global};
 use std::process::Abort;
@@ -18,22 +18,6 @@ use turn_types::{Endpoint, Moment};
 
 pub fn moment(rt: &impl Abort, second: u64) -> Moment {
     Moment::new(second).expect(rt, "a moment")
-}
-
-pub fn of_client<'a>(client: Endpoint, bytes: &'a [u8]) -> Arrival<'a> {
-    Arrival::Client {
-        five_tuple: five_tuple(client),
-        bytes,
-    }
-}
-
-pub fn of_peer<'a>(from: Endpoint, bytes: &'a [u8]) -> Arrival<'a> {
-    Arrival::Peer {
-        port: 50000,
-        from,
-        bytes,
-        id: ID,
-    }
 }
 
 /// What a player plays.

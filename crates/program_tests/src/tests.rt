@@ -21,6 +21,7 @@ mod pairs;
 mod replay;
 mod serving;
 mod sockets;
+mod started;
 mod starts;
 mod store_words;
 mod streams;
@@ -30,6 +31,7 @@ mod watches;
 mod words;
 mod writers;
 
+use std::io::{self, Write};
 use std::rt::Clock;
 use std::test::Fail;
 use turn_program::{Release, run_words};
@@ -49,6 +51,19 @@ pub const RELEASE: Release<'static> = Release {
 
 const USAGE: &str = "turn: usage\n";
 
+/// The status of the program by a clock on the words after its name, without a log.
+fn run_by<C: Clock, W: Write, E: Write>(
+    rt: &HostRuntime,
+    clock: &C,
+    words: &[&str],
+    out: &mut W,
+    err: &mut E,
+) -> Result<u8, Fail> {
+    let mut line = vec![in rt.alloc(); "turn"]?;
+    line.extend_from_slice(words)?;
+    Ok(run_words(rt, clock, RELEASE, line.as_slice(), out, err, io::sink()))
+}
+
 /// Runs the program by a clock on the words after its name, and fails with the words if its status or what it writes differs.
 fn expect_by<C: Clock>(
     rt: &HostRuntime,
@@ -58,18 +73,8 @@ fn expect_by<C: Clock>(
     out: &str,
     err: &str,
 ) -> Result<(), Fail> {
-    let mut line = vec![in rt.alloc(); "turn"]?;
-    line.extend_from_slice(words)?;
     let (mut written, mut said) = (Vec::new(rt.alloc()), Vec::new(rt.alloc()));
-    let got = run_words(
-        rt,
-        clock,
-        RELEASE,
-        line.as_slice(),
-        &mut written,
-        &mut said,
-        std::io::sink(),
-    );
+    let got = run_by(rt, clock, words, &mut written, &mut said)?;
     if got != status || written.as_slice() != out.as_bytes() || said.as_slice() != err.as_bytes() {
         return Err(Fail::new(format_args!("{words:?}")));
     }

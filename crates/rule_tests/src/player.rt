@@ -3,8 +3,8 @@
 use crate::row::Row;
 use crate::setup::{Setup, moment_at, value_of};
 use requests_for_tests::{
-    Attribute, FIRST, ID, Kind, PEER_ENDPOINT, PEER_IP, Ports, THIRD, User, code_of, credentials,
-    five_tuple, nonce_of, signed,
+    Attribute, FIRST, Kind, PEER_ENDPOINT, PEER_IP, Ports, THIRD, User, code_of, credentials,
+    five_tuple, nonce_of, of_client, of_peer, signed,
 };
 use std::alloc::{Allocator, Global};
 use std::process::Abort;
@@ -16,28 +16,12 @@ use turn_step::{Arrival, Machine, Outgoing};
 use turn_table::Table;
 use turn_types::{Endpoint, Moment};
 
-fn of_client<'a>(client: Endpoint, bytes: &'a [u8]) -> Arrival<'a> {
-    Arrival::Client {
-        five_tuple: five_tuple(client),
-        bytes,
-    }
-}
-
-fn of_peer<'a>(port: u16, from: Endpoint, bytes: &'a [u8]) -> Arrival<'a> {
-    Arrival::Peer {
-        port,
-        from,
-        bytes,
-        id: ID,
-    }
-}
-
 /// The second of a row, and its arrival, whose datagram is given.
 fn arrival_of<'a>(rt: &impl Abort, row: &Row, bytes: &'a [u8]) -> (u64, Arrival<'a>) {
     match row {
         Row::Ask(second, _, client, _, _, _) => (*second, of_client(*client, bytes)),
         Row::Send(second, _, _) => (*second, of_client(FIRST, bytes)),
-        Row::Receive(second, from, _, _) => (*second, of_peer(50000, *from, bytes)),
+        Row::Receive(second, from, _, _) => (*second, of_peer(*from, bytes)),
         _ => panic!(rt; "a row without an arrival"),
     }
 }
@@ -250,7 +234,7 @@ impl<A: Allocator + Copy> Player<A> {
         from: Endpoint,
         bytes: &[u8],
     ) -> Option<Vec<u8, A>> {
-        match self.arrive(rt, second, &of_peer(50000, from, bytes)) {
+        match self.arrive(rt, second, &of_peer(from, bytes)) {
             Some(out) => Some(to_client(rt, FIRST, out)),
             None => None,
         }

@@ -15,7 +15,7 @@ use turn_disk::Disk;
 use turn_mac::generate_auth_key;
 use turn_ports::PortRange;
 use turn_requests::{Attribute, Received, read_message};
-use turn_serving::{Commits, Setup, SocketServing};
+use turn_serving::{Commits, Setup, Silent, SocketServing};
 use turn_sockets::ListeningAddresses;
 use turn_types::{Bounds, ConfigError, Endpoint, Limits, Method, ServerConfig, Settings};
 
@@ -196,7 +196,7 @@ impl<'a, R: Net + Drop, A: Allocator + Copy> Loopback<'a, R, A> {
             commits,
             seed: seed_of(client.local()),
         };
-        let serving = setup.start(alloc, net, system, disk, users)?;
+        let serving = setup.start(alloc, net, system, disk, users, Silent)?;
         client.set_server(serving.local());
         Ok(Conversation {
             alloc,

@@ -1,4 +1,4 @@
-//! Writes, with what a stop at any moment of them may leave. Crates above use these clauses, and never what is pending.
+//! Writes, with what a stop at any moment of them may leave.
 
 ghost use Rattle.std.specs.Prelude.{◌≡◌, ◌+◌, ◌≤◌, ℕ, List, length, OnOk, IsErr};
 ghost use Rattle.turn_disk.specs.Device.{Uses};

@@ -75,7 +75,7 @@ pub record HoldsWith
 
 -- How a frame is added. Up to some moment a stop leaves the frames from before alone. There the call ended, or nothing is pending
 -- and the frame waits after its closed gate. From then on a stop leaves the frames with the new one or without, and the gate alone
--- is written, once.
+-- is written, at most once.
 pub record AddsFrame (from : ℕ) (payloads : List (List ℕ)) (payload : List ℕ) (gate limit : ℕ) (old new : Trace) : Type 0 where
   -- the moment between the two stages
   pub mid : Trace

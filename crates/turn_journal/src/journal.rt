@@ -140,7 +140,7 @@ impl<A: Allocator> Journal<A> {
         ensures kept { OnErr result (self.new ≡ self.old) }
 
         // A stop leaves the frames from before alone until the frame is durable after its closed gate; from then on, with the
-        // new one or without, and the gate alone is written, once.
+        // new one or without, and the gate alone is written, at most once.
         ensures stages { let old = (D.trace disk.old).now in
             D.is_honest disk.new → IsSettled old → (from : ℕ) (payloads : List (List ℕ))
             → HoldsFramesTo from payloads (end_of self.old) (limit_of self.old) old.bytes

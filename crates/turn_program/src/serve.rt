@@ -200,7 +200,7 @@ fn start<
         commits: commits_of(service.turns),
         seed: random_bytes(rt)?,
     };
-    match setup.start_watched(rt.alloc(), rt, clock, disk.holding::<S>(), credentials, log) {
+    match setup.start(rt.alloc(), rt, clock, disk.holding::<S>(), credentials, log) {
         Ok(serving) => Ok(serving),
         Err(StartRefused { fault, disk: _ }) => {
             let addresses = Addresses {

@@ -17,7 +17,7 @@ use crate::fault::{StartFault, StartRefused};
 use crate::listening::{ATTEMPTS, Listening, Waiting, pause};
 use crate::serving::{Commits, Serving, SocketServing};
 use crate::turn::{RelaySockets, Work};
-use crate::watch::{Silent, Watch};
+use crate::watch::Watch;
 use mio::Poll;
 use std::alloc::{AllocError, Allocator, Global};
 use std::net::Net;
@@ -299,46 +299,8 @@ impl<'c, A: Allocator + Copy> Setup<'c, A> {
     /// opens the store again over these: so a fault of the store comes before one of a socket. A port that is in use is tried again
     /// for two seconds, in pauses by the system's clock. The second opening alone carries the store over to version 2, if it can
     /// be, so that a start which finds a socket at fault leaves the store as it was. A refusal returns the disk.
-    pub fn start<'a, D: Disk + Drop, H: AuthHandler + Drop, R: Net + Drop, C: Clock>(
-        &self,
-        alloc: A,
-        net: &'a R,
-        system: &C,
-        disk: D,
-        handler: H,
-    ) -> Result<SocketServing<'a, D, H, R, A>, StartRefused<D>>
-        ensures started { IfOk result (λ serving. Started D.Disk H.AuthHandler ⟦<SocketPorts<'a, R, A> as RelayAddressGenerator>⟧
-            disk self.now.config.now handler self.now.ports serving) }
-        // The relay port of each allocation has a socket, and each reserved port.
-        ensures sockets { IfOk result (λ serving. have_ports (⟦<SocketPorts<'a, R, A> as RelaySockets>⟧.has_socket serving.machine.ports)
-            serving.machine.table.contents ≡ true) }
-        // And no other port has one.
-        ensures held { IfOk result (λ serving. HoldsPorts ⟦<SocketPorts<'a, R, A> as RelayAddressGenerator>⟧.holds serving.machine None) }
-
-        // A store that isn't of version 1 keeps its content, and each one does at a refusal before the second opening.
-        ensures same { IfOk result (λ serving. D.is_honest serving.store.disk
-            → (IsOfVersion Version.V1 (D.trace disk).now.bytes → ⊥)
-            → (D.trace serving.store.disk).now.bytes ≡ (D.trace disk).now.bytes) }
-        ensures same_err { IfErr result (λ r. D.is_honest r.disk → (IsOfVersion Version.V1 (D.trace disk).now.bytes → ⊥)
-            → (D.trace r.disk).now.bytes ≡ (D.trace disk).now.bytes) }
-        ensures before_err { IfErr result (λ r. D.is_honest r.disk → IsBeforeReopening r.fault
-            → (D.trace r.disk).now.bytes ≡ (D.trace disk).now.bytes) }
-
-        // Where each image of the disk stands for the first events of a history, at least k of them, a stop at any moment of the
-        // start leaves such images, and so does a refusal.
-        ensures stop { IfOk result (λ serving. D.is_honest serving.store.disk → (form : Form) (h : History) (k m : ℕ)
-            → EachImage (D.trace disk).now (AtLeast form h k m)
-            → EachImageSince (D.trace disk) (D.trace serving.store.disk) (AtLeast form h k m)) }
-        ensures stop_err { IfErr result (λ r. D.is_honest r.disk → (form : Form) (h : History) (k m : ℕ)
-            → EachImage (D.trace disk).now (AtLeast form h k m)
-            → EachImageSince (D.trace disk) (D.trace r.disk) (AtLeast form h k m)) }
-        ensures honest_err { IfErr result (λ r. D.is_honest r.disk → D.is_honest disk) }
-    {
-        self.start_watched(alloc, net, system, disk, handler, Silent)
-    }
-
-    /// The same, where `watch` sees what the server sends.
-    pub fn start_watched<
+    /// `watch` sees what the server sends.
+    pub fn start<
         'a,
         D: Disk + Drop,
         H: AuthHandler + Drop,

@@ -3,7 +3,7 @@ use Rattle.std.specs.Prelude.{◌≡◌, ◌⊎◌, ℕ, List}
 use Rattle.turn_disk.specs.Disk.{Trace, EachImageSince, IsSettled, WritesOnce}
 
 -- Up to some moment of the call a stop leaves an image that has P. There the call ended, or nothing is pending. From then on a stop
--- leaves an image that has Q, and one byte, the gate, is written, once.
+-- leaves an image that has Q, and one byte, the gate, is written, at most once.
 pub record InStagesAt (gate : ℕ) (old new : Trace) (P Q : List ℕ → Type 0) : Type 0 where
   -- the moment between the two stages
   pub mid : Trace

@@ -98,7 +98,7 @@ pub fn replace<D: Disk, P: Producer>(
     ensures uses { Uses D.Disk disk.old disk.new (IsErr result) }
 
     // Up to some moment a stop leaves what was there; from then on what was there, or the new snapshot alone, and this gate alone
-    // is written, once.
+    // is written, at most once.
     ensures stages { let old = D.trace disk.old in
         D.is_honest disk.new → (v w : Version) (form : Form) (start generation end : ℕ) (snapshot next : List ℕ) (payloads : List (List ℕ))
         → generation + 1 < 2 ^ 64 → length next < 2 ^ 32 → least_area w form.bounds ≤ form.area → 14 + length next < form.area

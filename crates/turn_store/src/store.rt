@@ -60,7 +60,7 @@ fn write_snapshot<D: Disk, A: Allocator + Copy>(
     ensures uses { Uses D.Disk disk.old disk.new (IsErr result) }
 
     // Up to some moment a stop leaves what was there; from then on that, or the new snapshot alone, and this
-    // gate alone is written, once.
+    // gate alone is written, at most once.
     ensures stages { let old = D.trace disk.old in
         D.is_honest disk.new → (v : Version) (form : Form) (start generation end : ℕ) (s : List ℕ) (ps : List (List ℕ))
         → next.generation ≡ generation + 1 → next.generation < 2 ^ 64
@@ -220,7 +220,7 @@ impl<D: Disk, A: Allocator + Copy> Store<D, A> {
         ensures err { OnErr result (self.new ≡ record self.old { disk = self.new.disk; stopped = true }) }
 
         // Up to some moment a stop leaves what was there; from then on that, or with the frame, and the gate at
-        // the log's end alone is written, once.
+        // the log's end alone is written, at most once.
         ensures stages { D.is_honest self.new.disk → (s : List ℕ) (ps : List (List ℕ))
             → Shows self.old (D.trace self.old.disk).now s ps
             → InStagesAt (end_of self.old.area) (D.trace self.old.disk) (D.trace self.new.disk)
@@ -271,7 +271,7 @@ impl<D: Disk, A: Allocator + Copy> Store<D, A> {
         ensures err { OnErr result (self.new ≡ record self.old { disk = self.new.disk; stopped = true }) }
 
         // Up to some moment a stop leaves what was there; from then on that, or the new snapshot alone, and the
-        // gate of the other area alone is written, once.
+        // gate of the other area alone is written, at most once.
         ensures stages { D.is_honest self.new.disk → (s : List ℕ) (ps : List (List ℕ))
             → Shows self.old (D.trace self.old.disk).now s ps
             → InStagesAt self.old.other (D.trace self.old.disk) (D.trace self.new.disk)
@@ -327,7 +327,7 @@ impl<D: Disk, A: Allocator + Copy> Store<D, A> {
         ensures stops { OnErr result (self.new ≡ record self.old { disk = self.new.disk; stopped = true }) }
 
         // Up to some moment a stop leaves the history from before at its clock; from then on the history from before, or with
-        // the batch, at a moment that is at most the table's, and one gate alone is written, once.
+        // the batch, at a moment that is at most the table's, and one gate alone is written, at most once.
         ensures stages { D.is_honest self.new.disk → (c : ℕ) (h : History) (es : List Event)
             → RestsAt self.old (D.trace self.old.disk).now c h → MayFollow self.old.bounds c h es table.now.moment
             → HasSize self.old.version self.old.bounds es → payload.now ≡ bytes.payload es
@@ -378,7 +378,7 @@ impl<D: Disk, A: Allocator + Copy> Store<D, A> {
         ensures stops { OnErr result (self.new ≡ record self.old { disk = self.new.disk; stopped = true }) }
 
         // Up to some moment a stop leaves the history at its clock; from then on at a moment that is at most the table's,
-        // and the gate of the other area alone is written, once.
+        // and the gate of the other area alone is written, at most once.
         ensures stages { D.is_honest self.new.disk → (c : ℕ) (h : History)
             → RestsAt self.old (D.trace self.old.disk).now c h → MayFollow self.old.bounds c h [] table.now.moment
             → table.now.contents ≡ tables.table h table.now.moment
@@ -464,7 +464,7 @@ impl<D: Disk, A: Allocator + Copy> Store<D, A> {
         ensures err { OnErr result (self.new ≡ record self.old { disk = self.new.disk; stopped = true }) }
 
         // Up to some moment a stop leaves what was there; from then on that, or the new snapshot alone, and the
-        // gate of the other area alone is written, once.
+        // gate of the other area alone is written, at most once.
         ensures stages { D.is_honest self.new.disk → (s : List ℕ) (ps : List (List ℕ))
             → Shows self.old (D.trace self.old.disk).now s ps
             → InStagesAt self.old.other (D.trace self.old.disk) (D.trace self.new.disk)

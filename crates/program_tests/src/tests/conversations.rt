@@ -109,10 +109,7 @@ fn are_right(rt: &HostRuntime, talk: &mut Talk<'_>, first: &Allocated) -> bool {
 /// Each step comes out right in one conversation.
 fn expect_steps(rt: &HostRuntime, path: &str) -> Result<(), Fail> {
     let mut talk = begin(rt, path, 1)?;
-    let right = match allocate(rt, &mut talk) {
-        Ok(first) => Ok(are_right(rt, &mut talk, &first)),
-        Err(fail) => Err(fail),
-    };
+    let right = allocate(rt, &mut talk).map(|first| are_right(rt, &mut talk, &first));
     talk.end();
     let _ = fs::remove_file(rt, path);
     if right? {

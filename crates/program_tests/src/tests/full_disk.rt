@@ -1,11 +1,9 @@
 //! A device without room for a whole store.
 
+use files_for_tests::{FileCalls, TestFile};
 use std::alloc::Global;
 use std::cell::Cell;
-use std::fs::{Metadata, OpenFile};
-use std::io;
-use std::io::{Error, ErrorKind};
-use std::os::unix::fs::FileExt;
+use std::io::{self, Error, ErrorKind};
 use std::test::Fail;
 use turn_disk::FileDisk;
 use turn_program::{Fault, format_disk};
@@ -18,12 +16,8 @@ struct FullFile<'a> {
     is_marked: &'a Cell<bool>,
 }
 
-impl FileExt for FullFile<'_> {
-    fn read_at(&self, _buf: &mut [u8], _offset: u64) -> io::Result<usize> {
-        Err(Error::from(ErrorKind::Other))
-    }
-
-    fn write_at(&self, buf: &[u8], offset: u64) -> io::Result<usize> {
+impl FileCalls for FullFile<'_> {
+    fn write(&self, buf: &[u8], offset: u64) -> io::Result<usize> {
         if self.room <= offset {
             return Err(Error::from(ErrorKind::StorageFull));
         }
@@ -31,24 +25,6 @@ impl FileExt for FullFile<'_> {
             self.is_marked.set(true);
         }
         Ok(buf.len().min((self.room - offset) as usize))
-    }
-}
-
-impl OpenFile for FullFile<'_> {
-    fn metadata(&self) -> io::Result<Metadata> {
-        Err(Error::from(ErrorKind::Other))
-    }
-
-    fn set_len(&self, _size: u64) -> io::Result<()> {
-        Ok(())
-    }
-
-    fn sync_all(&self) -> io::Result<()> {
-        Ok(())
-    }
-
-    fn sync_data(&self) -> io::Result<()> {
-        Ok(())
     }
 }
 
@@ -76,7 +52,7 @@ fn play(alloc: Global, room: u64, is_formatted: bool) -> Result<(), Fail> {
         room,
         is_marked: &is_marked,
     };
-    let mut disk = FileDisk::new(file, 200_064);
+    let mut disk = FileDisk::new(TestFile(file), 200_064);
     let expected = if is_formatted {
         Ok(())
     } else {

@@ -2,7 +2,7 @@
 
 use super::formats::{fresh, put};
 use super::inspections::FRAME;
-use super::{RELEASE, expect_by};
+use super::{expect_by, run_by};
 use std::cell::Cell;
 use std::fs::{self, File};
 use std::io::{self, Write};
@@ -10,7 +10,6 @@ use std::rt::Clock;
 use std::test::Fail;
 use std::time::Duration;
 use turn_disk::{FileDisk, FileRefused};
-use turn_program::run_words;
 
 const CONFIG: &str = "realm example.org
 secret 0000000000000000000000000000000000000000000000000000000000000000
@@ -143,18 +142,8 @@ fn expect_in_use(rt: &HostRuntime, case: &Case) -> Result<(), Fail> {
 fn starts_after(rt: &HostRuntime, last: u32) -> Result<bool, Fail> {
     make_store(rt)?;
     let clock = make_pauses(rt, last, FileDisk::open(rt, STORE)?);
-    let mut line = vec![in rt.alloc(); "turn"]?;
-    line.extend_from_slice(&SERVE)?;
     let (mut out, mut err) = (Vec::new(rt.alloc()), Vec::new(rt.alloc()));
-    let status = run_words(
-        rt,
-        &clock,
-        RELEASE,
-        line.as_slice(),
-        &mut out,
-        &mut err,
-        io::sink(),
-    );
+    let status = run_by(rt, &clock, &SERVE, &mut out, &mut err)?;
     Ok(status == 0 && clock.count.get() == last)
 }
 
@@ -183,23 +172,13 @@ impl Write for Prober<'_> {
 /// Whether a command prints something, has the store's lock at each write, and releases it at its end.
 fn has_lock(rt: &HostRuntime, words: &[&str]) -> Result<bool, Fail> {
     make_store(rt)?;
-    let mut line = vec![in rt.alloc(); "turn"]?;
-    line.extend_from_slice(words)?;
     let mut out = Prober {
         rt,
         writes: 0,
         refused: 0,
     };
     let mut err = Vec::new(rt.alloc());
-    let status = run_words(
-        rt,
-        rt,
-        RELEASE,
-        line.as_slice(),
-        &mut out,
-        &mut err,
-        io::sink(),
-    );
+    let status = run_by(rt, rt, words, &mut out, &mut err)?;
     let is_free = FileDisk::open(rt, STORE).is_ok();
     Ok(status == 0 && 0 < out.writes && out.writes == out.refused && is_free)
 }

@@ -4,14 +4,14 @@
 use super::formats::put;
 use super::moments::Still;
 use super::sockets::HOME;
+use super::started::start;
 use std::alloc::Global;
 use std::test::Fail;
 use turn_client::{Client, ClientFault, Credentials, TimedSocket};
-use turn_config::{Configured, read_config};
+use turn_config::read_config;
 use turn_disk::MemoryDisk;
 use turn_requests::{Attribute, Received, read_message};
-use turn_serving::{Commits, Setup, SocketServing};
-use turn_sockets::ListeningAddresses;
+use turn_serving::{Commits, Silent, SocketServing};
 use turn_types::{Endpoint, Method};
 
 /// What the server was started with.
@@ -83,28 +83,10 @@ fn make_disk(alloc: Global) -> Result<MemoryDisk, Fail> {
     Ok(MemoryDisk::new(alloc, content))
 }
 
-fn start(rt: &HostRuntime) -> Result<Serving<'_>, Fail> {
-    let Configured {
-        config,
-        credentials,
-        listen,
-        ports,
-        ..
-    } = read_config(rt.alloc(), CONFIG).map_err(|_| "a configuration")?;
-    let setup = Setup {
-        config: &config,
-        listen: &ListeningAddresses::one(listen),
-        ports,
-        relay_bind: None,
-        burst: 1,
-        commits: Commits::EachTurn,
-        seed: [0; 32],
-    };
+fn begin(rt: &HostRuntime) -> Result<Serving<'_>, Fail> {
+    let configured = read_config(rt.alloc(), CONFIG).map_err(|_| "a configuration")?;
     let disk = make_disk(rt.alloc())?;
-    match setup.start(rt.alloc(), rt, &LATER, disk, credentials) {
-        Ok(serving) => Ok(serving),
-        Err(_) => Err(Fail::new("no start")),
-    }
+    Ok(start(rt, configured, Commits::EachTurn, &LATER, disk, Silent)?)
 }
 
 /// Data goes both ways over the channel, without any request.
@@ -170,7 +152,7 @@ fn is_carried(disk: &MemoryDisk) -> bool {
 
 #[test]
 fn the_calls_of_a_store_from_before_version_2_go_on(rt: HostRuntime) -> Result<(), Fail> {
-    let mut serving = start(&rt)?;
+    let mut serving = begin(&rt)?;
     let went_on = goes_on(&rt, &mut serving);
     let (disk, _) = serving.close();
     if went_on? && is_carried(&disk) {

@@ -2,67 +2,19 @@
 
 use super::formats::{formatted, fresh, put};
 use super::inspections::{FRAME, PAIR};
+use super::started::start;
+use files_for_tests::{Changing, TestFile};
 use std::alloc::Global;
 use std::cell::Cell;
-use std::fs::{self, Metadata, OpenFile};
-use std::io;
-use std::io::{Error, ErrorKind};
-use std::os::unix::fs::FileExt;
+use std::fs;
 use std::test::Fail;
+use turn_config::read_config;
 use turn_config::values::{number_32, split_once};
-use turn_config::{Configured, read_config};
 use turn_cred::AuthHandler;
 use turn_disk::{Disk, FileDisk};
 use turn_engine::Server;
-use turn_serving::{Commits, RelaySockets, Setup, StartFault};
-use turn_sockets::{ListeningAddresses, receive_buffer};
-
-/// A file that has one content up to its first sync, and another from its second sync on. An opening begins with a sync.
-#[derive(Drop)]
-struct ChangingFile<'a> {
-    first: &'a [u8],
-    second: &'a [u8],
-    syncs: &'a Cell<u32>,
-}
-
-impl FileExt for ChangingFile<'_> {
-    fn read_at(&self, buf: &mut [u8], offset: u64) -> io::Result<usize> {
-        let content = if self.syncs.get() < 2 {
-            self.first
-        } else {
-            self.second
-        };
-        let Some(rest) = content.get(offset as usize..) else {
-            return Ok(0);
-        };
-        let size = buf.len().min(rest.len());
-        buf[..size].copy_from_slice(&rest[..size]);
-        Ok(size)
-    }
-
-    fn write_at(&self, _buf: &[u8], _offset: u64) -> io::Result<usize> {
-        Err(Error::from(ErrorKind::Other))
-    }
-}
-
-impl OpenFile for ChangingFile<'_> {
-    fn metadata(&self) -> io::Result<Metadata> {
-        Err(Error::from(ErrorKind::Other))
-    }
-
-    fn set_len(&self, _size: u64) -> io::Result<()> {
-        Err(Error::from(ErrorKind::Other))
-    }
-
-    fn sync_all(&self) -> io::Result<()> {
-        self.sync_data()
-    }
-
-    fn sync_data(&self) -> io::Result<()> {
-        self.syncs.set(self.syncs.get().wrapping_add(1));
-        Ok(())
-    }
-}
+use turn_serving::{Commits, RelaySockets, Silent, StartFault};
+use turn_sockets::receive_buffer;
 
 const CONFIG: &[u8] = b"realm example.org
 user alice wonder
@@ -114,32 +66,17 @@ fn buffer_at<D: Disk, H: AuthHandler, G: RelaySockets>(
 }
 
 /// What a start over a file comes to.
-fn start_over(rt: &HostRuntime, file: ChangingFile<'_>) -> Result<Came, Fail> {
-    let Configured {
-        config,
-        credentials,
-        listen,
-        ports,
-        ..
-    } = read_config(rt.alloc(), CONFIG).map_err(|_| "a configuration")?;
-    let setup = Setup {
-        config: &config,
-        listen: &ListeningAddresses::one(listen),
-        ports,
-        relay_bind: None,
-        burst: 1,
-        commits: Commits::EachTurn,
-        seed: [0; 32],
-    };
+fn start_over(rt: &HostRuntime, file: Changing<'_>) -> Result<Came, Fail> {
+    let configured = read_config(rt.alloc(), CONFIG).map_err(|_| "a configuration")?;
     let size = file.first.len();
-    let disk = FileDisk::new(file, size);
-    let (fault, buffer) = match setup.start(rt.alloc(), rt, rt, disk, credentials) {
+    let disk = FileDisk::new(TestFile(file), size);
+    let (fault, buffer) = match start(rt, configured, Commits::EachTurn, rt, disk, Silent) {
         Ok(serving) => {
             let buffer = buffer_at(serving.server(), 63_019);
             serving.close();
             (None, buffer)
         }
-        Err(refused) => (Some(refused.fault), None),
+        Err(fault) => (Some(fault), None),
     };
     Ok(Came { fault, buffer })
 }
@@ -149,7 +86,7 @@ fn outcome(rt: &HostRuntime, first: &[u8], second: &[u8]) -> Result<Came, Fail> 
     let syncs = Cell::new(0);
     let came = start_over(
         rt,
-        ChangingFile {
+        Changing {
             first,
             second,
             syncs: &syncs,

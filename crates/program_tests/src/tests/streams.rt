@@ -3,12 +3,12 @@
 use super::formats::{formatted, fresh, put};
 use super::inspections::FRAME;
 use super::replay::SCENARIO;
-use super::{BINDING, FROM, RELEASE};
+use super::{BINDING, FROM, run_by};
 use std::fs::{self, File};
 use std::io;
 use std::os::fd::{AsFd, AsRawFd, IntoRawFd, OwnedFd};
 use std::test::Fail;
-use turn_program::{fill_streams, run_words};
+use turn_program::fill_streams;
 
 const CONFIG: &str = "realm example.org
 secret 0000000000000000000000000000000000000000000000000000000000000000
@@ -110,19 +110,7 @@ const CASES: [Case; 8] = [
 /// Runs a command over a store with an allocation. Returns the status, and what the file has then.
 fn run(rt: &HostRuntime, words: &[&str], store: &[u8]) -> Result<(u8, Vec<u8>), Fail> {
     fs::write(rt, "turn_streams.store", store)?;
-    let mut line = vec![in rt.alloc(); "turn"]?;
-    line.extend_from_slice(words)?;
-    let mut out = io::writer(rt);
-    let mut err = rt.stderr();
-    let status = run_words(
-        rt,
-        rt,
-        RELEASE,
-        line.as_slice(),
-        &mut out,
-        &mut err,
-        io::sink(),
-    );
+    let status = run_by(rt, rt, words, &mut io::writer(rt), &mut rt.stderr())?;
     Ok((status, fs::read(rt, "turn_streams.store")?))
 }
 

@@ -1,6 +1,7 @@
 //! What a watch sees of a server whose clock goes on within a turn.
 
 use super::sockets::HOME;
+use super::started::start;
 use std::alloc::Allocator;
 use std::cell::Cell;
 use std::io;
@@ -10,8 +11,7 @@ use std::time::Duration;
 use turn_client::TimedSocket;
 use turn_config::{Configured, read_config};
 use turn_disk::MemoryDisk;
-use turn_serving::{Commits, Setup, Watch};
-use turn_sockets::ListeningAddresses;
+use turn_serving::{Commits, Watch};
 use turn_step::Outgoing;
 use turn_store::{format, least_area};
 use turn_table::Table;
@@ -87,25 +87,7 @@ fn play(rt: &HostRuntime, seen: &Seen) -> Result<(), Fail> {
     };
     let configured = read_config(rt.alloc(), CONFIG)?;
     let disk = new_disk(rt, &configured)?;
-    let Configured {
-        config,
-        credentials,
-        listen,
-        ports,
-        ..
-    } = configured;
-    let listen = ListeningAddresses::one(listen);
-    let setup = Setup {
-        config: &config,
-        listen: &listen,
-        ports,
-        relay_bind: None,
-        burst: 1,
-        commits: Commits::Paced,
-        seed: [0; 32],
-    };
-    let started = setup.start_watched(rt.alloc(), rt, &clock, disk, credentials, seen);
-    let mut serving = started.map_err(|refused| refused.fault)?;
+    let mut serving = start(rt, configured, Commits::Paced, &clock, disk, seen)?;
     let client = TimedSocket::open(rt.alloc(), rt, Endpoint { ip: HOME, port: 0 })?;
     let sent = client.send(serving.local(), ALLOCATE);
     let turned = serving.turns(&&clock, 1);

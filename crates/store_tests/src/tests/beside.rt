@@ -1,11 +1,10 @@
 //! Readings of a store to which a server writes between any two device calls.
 
-use super::recorded::{Record, Shape, copy_at, put_at, record_calls};
+use super::recorded::{Record, Shape, put_at, record_calls};
+use files_for_tests::{FileCalls, TestFile, copy_at};
 use std::alloc::Global;
 use std::cell::{Cell, RefCell};
-use std::fs::{Metadata, OpenFile};
 use std::io::{self, Error, ErrorKind};
-use std::os::unix::fs::FileExt;
 use std::process::Abort;
 use std::rt::Clock;
 use std::time::Duration;
@@ -113,35 +112,13 @@ struct Shared<'a> {
     writer: &'a Writer<'a>,
 }
 
-impl FileExt for Shared<'_> {
-    fn read_at(&self, buf: &mut [u8], offset: u64) -> io::Result<usize> {
+impl FileCalls for Shared<'_> {
+    fn read(&self, buf: &mut [u8], offset: u64) -> io::Result<usize> {
         self.writer.step();
         match self.writer.bytes.try_borrow() {
             Ok(bytes) => Ok(copy_at(&bytes, buf, offset)),
             Err(_) => Err(Error::from(ErrorKind::Other)),
         }
-    }
-
-    fn write_at(&self, _buf: &[u8], _offset: u64) -> io::Result<usize> {
-        Err(Error::from(ErrorKind::Other))
-    }
-}
-
-impl OpenFile for Shared<'_> {
-    fn metadata(&self) -> io::Result<Metadata> {
-        Err(Error::from(ErrorKind::Other))
-    }
-
-    fn set_len(&self, _size: u64) -> io::Result<()> {
-        Err(Error::from(ErrorKind::Other))
-    }
-
-    fn sync_all(&self) -> io::Result<()> {
-        self.sync_data()
-    }
-
-    fn sync_data(&self) -> io::Result<()> {
-        Ok(())
     }
 }
 
@@ -163,7 +140,7 @@ fn version_of(shape: Shape, table: &Table) -> Option<u16> {
 fn is_right(alloc: Global, writer: &Writer<'_>) -> bool {
     writer.go_round();
     let before = writer.version();
-    let disk = FileDisk::new(Shared { writer }, writer.record.first.len());
+    let disk = FileDisk::new(TestFile(Shared { writer }), writer.record.first.len());
     let (_, Ok(reading)) = read_store(alloc, writer, disk, None) else {
         return false;
     };

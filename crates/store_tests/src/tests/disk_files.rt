@@ -1,10 +1,10 @@
 ghost use Rattle.std.specs.Prelude.{◌≤◌, IfOk};
 
 use super::disks::{read, write};
+use files_for_tests::{FileCalls, TestFile};
 use std::cell::Cell;
-use std::fs::{File, Files, Metadata, OpenFile};
+use std::fs::{File, Files};
 use std::io::{Error, ErrorKind};
-use std::os::unix::fs::FileExt;
 use std::process::Abort;
 use std::{fs, io};
 use turn_disk::{Disk, FileDisk, FileRefused};
@@ -152,33 +152,19 @@ impl SlowFile {
     }
 }
 
-impl FileExt for SlowFile {
-    fn read_at(&self, buf: &mut [u8], offset: u64) -> io::Result<usize> {
+impl FileCalls for SlowFile {
+    fn read(&self, buf: &mut [u8], offset: u64) -> io::Result<usize> {
         if let Some(byte) = buf.first_mut() {
             *byte = (offset % 256) as u8;
         }
         self.step(buf.len())
     }
 
-    fn write_at(&self, buf: &[u8], _offset: u64) -> io::Result<usize> {
+    fn write(&self, buf: &[u8], _offset: u64) -> io::Result<usize> {
         self.step(buf.len())
     }
-}
 
-impl OpenFile for SlowFile {
-    fn metadata(&self) -> io::Result<Metadata> {
-        Err(Error::from(ErrorKind::Other))
-    }
-
-    fn set_len(&self, _size: u64) -> io::Result<()> {
-        Ok(())
-    }
-
-    fn sync_all(&self) -> io::Result<()> {
-        Err(Error::from(ErrorKind::Other))
-    }
-
-    fn sync_data(&self) -> io::Result<()> {
+    fn sync(&self) -> io::Result<()> {
         Err(Error::from(ErrorKind::Other))
     }
 }
@@ -188,7 +174,7 @@ fn short_counts_and_interruptions_are_no_failures(rt: HostRuntime) {
     let file = SlowFile {
         calls: Cell::new(0),
     };
-    let mut disk = FileDisk::new(file, 100);
+    let mut disk = FileDisk::new(TestFile(file), 100);
     let mut buffer = [0; 5];
     assert!(rt; read(&rt, &mut disk, 7, &mut buffer));
     assert!(rt; buffer == [7, 8, 9, 10, 11]);
@@ -204,30 +190,16 @@ struct SyncedFile<'a> {
     syncs: &'a Cell<u64>,
 }
 
-impl FileExt for SyncedFile<'_> {
-    fn read_at(&self, buf: &mut [u8], _offset: u64) -> io::Result<usize> {
+impl FileCalls for SyncedFile<'_> {
+    fn read(&self, buf: &mut [u8], _offset: u64) -> io::Result<usize> {
         Ok(buf.len())
     }
 
-    fn write_at(&self, buf: &[u8], _offset: u64) -> io::Result<usize> {
+    fn write(&self, buf: &[u8], _offset: u64) -> io::Result<usize> {
         Ok(buf.len())
     }
-}
 
-impl OpenFile for SyncedFile<'_> {
-    fn metadata(&self) -> io::Result<Metadata> {
-        Err(Error::from(ErrorKind::Other))
-    }
-
-    fn set_len(&self, _size: u64) -> io::Result<()> {
-        Ok(())
-    }
-
-    fn sync_all(&self) -> io::Result<()> {
-        Err(Error::from(ErrorKind::Other))
-    }
-
-    fn sync_data(&self) -> io::Result<()> {
+    fn sync(&self) -> io::Result<()> {
         self.syncs.set(self.syncs.get().wrapping_add(1));
         Ok(())
     }
@@ -237,7 +209,7 @@ impl OpenFile for SyncedFile<'_> {
 #[test]
 fn a_sync_is_one_of_the_file(rt: HostRuntime) {
     let syncs = Cell::new(0);
-    let mut disk = FileDisk::new(SyncedFile { syncs: &syncs }, 100);
+    let mut disk = FileDisk::new(TestFile(SyncedFile { syncs: &syncs }), 100);
     assert!(rt; write(&rt, &mut disk, 7, b"abcd"));
     assert!(rt; syncs.get() == 0);
     assert!(rt; disk.sync().is_ok());

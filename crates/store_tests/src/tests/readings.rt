@@ -2,14 +2,13 @@
 
 use super::batches::store_after;
 use super::limits::{SMALL, limits_of, small_limits};
-use super::recorded::{copy_at, put_at};
+use super::recorded::put_at;
 use super::stores::small_store;
+use files_for_tests::{Changing, TestFile};
 use refusing::Refusing;
 use std::alloc::Global;
 use std::cell::Cell;
-use std::fs::{Metadata, OpenFile};
 use std::io::{self, Error, ErrorKind};
-use std::os::unix::fs::FileExt;
 use std::process::Abort;
 use std::rt::Clock;
 use std::time::Duration;
@@ -39,49 +38,6 @@ impl Clock for Counter {
     }
 }
 
-/// A file that has one content up to its first sync, and another from its second sync on. A reading begins with the limits, if none
-/// are given, and then syncs.
-#[derive(Drop)]
-struct Changing<'a> {
-    first: &'a [u8],
-    second: &'a [u8],
-    syncs: Cell<u32>,
-}
-
-impl FileExt for Changing<'_> {
-    fn read_at(&self, buf: &mut [u8], offset: u64) -> io::Result<usize> {
-        let content = if self.syncs.get() < 2 {
-            self.first
-        } else {
-            self.second
-        };
-        Ok(copy_at(content, buf, offset))
-    }
-
-    fn write_at(&self, _buf: &[u8], _offset: u64) -> io::Result<usize> {
-        Err(Error::from(ErrorKind::Other))
-    }
-}
-
-impl OpenFile for Changing<'_> {
-    fn metadata(&self) -> io::Result<Metadata> {
-        Err(Error::from(ErrorKind::Other))
-    }
-
-    fn set_len(&self, _size: u64) -> io::Result<()> {
-        Err(Error::from(ErrorKind::Other))
-    }
-
-    fn sync_all(&self) -> io::Result<()> {
-        self.sync_data()
-    }
-
-    fn sync_data(&self) -> io::Result<()> {
-        self.syncs.set(self.syncs.get().wrapping_add(1));
-        Ok(())
-    }
-}
-
 /// Bytes that are written over in a fresh store from a position on.
 type Edit = (usize, &'static [u8]);
 
@@ -97,7 +53,7 @@ const SECOND_GENERATION: Edit = (66, b"\x00\x00\x00\x00\x00\x00\x00\x02");
 
 const NO_STORE: Edit = (0, b"\x53");
 
-/// What a file holds up to its first sync, what it holds from its second one on, how many bytes it has, the generation that is
+/// A reading begins with the limits, if none are given, and then syncs. What a file holds up to its first sync, what it holds from its second one on, how many bytes it has, the generation that is
 /// read or the fault, and how many pauses there are.
 type Case = (Edit, Edit, usize, Result<u64, ReadingFault>, u32);
 
@@ -143,17 +99,15 @@ fn play(rt: &impl Abort, alloc: Global, case: &Case, limits: Option<Limits>) {
         edited(rt, alloc, first, size),
         edited(rt, alloc, second, size),
     );
+    let syncs = Cell::new(0);
     let file = Changing {
         first: &first,
         second: &second,
-        syncs: Cell::new(0),
+        syncs: &syncs,
     };
     let clock = make_counter();
-    let (_, read) = read_store(alloc, &clock, FileDisk::new(file, 540), limits);
-    let got = match read {
-        Ok(reading) => Ok(reading.info.generation),
-        Err(fault) => Err(fault),
-    };
+    let (_, read) = read_store(alloc, &clock, FileDisk::new(TestFile(file), 540), limits);
+    let got = read.map(|reading| reading.info.generation);
     assert!(rt; got == expected);
     assert!(rt; clock.pauses.get() == pauses);
 }
@@ -200,18 +154,16 @@ fn a_store_of_other_limits_than_the_given_ones_is_refused(rt: HostRuntime) {
 
 /// Reads a store with an allocation and a frame, with so many allocations before one is refused. Returns whether one was.
 fn refuse_growth(rt: &impl Abort, alloc: Global, content: &[u8], served: u64) -> bool {
+    let syncs = Cell::new(0);
     let file = Changing {
         first: content,
         second: content,
-        syncs: Cell::new(0),
+        syncs: &syncs,
     };
     let clock = make_counter();
     let refusing = Refusing::new(alloc, served);
-    let (_, read) = read_store(&refusing, &clock, FileDisk::new(file, 540), None);
-    let got = match read {
-        Ok(reading) => Ok(reading.table.len()),
-        Err(fault) => Err(fault),
-    };
+    let (_, read) = read_store(&refusing, &clock, FileDisk::new(TestFile(file), 540), None);
+    let got = read.map(|reading| reading.table.len());
     let expected = if refusing.has_refused() {
         Err(ReadingFault::Memory)
     } else {

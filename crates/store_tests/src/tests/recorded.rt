@@ -1,16 +1,15 @@
 //! What a store writes, call by call, while batches are added to it and snapshots are written.
 
-ghost use Rattle.std.specs.Prelude.{◌≡◌, ◌≤◌, ◌↔◌, IsTrue, length};
+ghost use Rattle.std.specs.Prelude.{◌≡◌, ◌↔◌, IsTrue};
 ghost use Rattle.turn_record.specs.declared.version.Version.TheVariants.{V1};
 
 use super::limits::limits_of;
 use super::stores::format_disk;
+use files_for_tests::{FileCalls, TestFile, copy_at};
 use std::alloc::Global;
 use std::cell::RefCell;
-use std::fs::{Metadata, OpenFile};
 use std::io::{self, Error, ErrorKind};
 use std::marker::Model;
-use std::os::unix::fs::FileExt;
 use std::process::Abort;
 use turn_disk::FileDisk;
 use turn_record::{Version, max_payload, read_snapshot};
@@ -132,18 +131,6 @@ struct Content {
     calls: Vec<Call>,
 }
 
-/// Fills the buffer with the bytes from an offset on, as far as there are any.
-pub fn copy_at(bytes: &[u8], buf: &mut [u8], offset: u64) -> usize
-    ensures { result ≤ length buf.new }
-{
-    let Some(rest) = bytes.get(offset as usize..) else {
-        return 0;
-    };
-    let size = buf.len().min(rest.len());
-    buf[..size].copy_from_slice(&rest[..size]);
-    size
-}
-
 /// Writes bytes over those from a position on, if there are as many.
 pub fn put_at(bytes: &mut [u8], at: usize, over: &[u8]) {
     if let Some(place) = bytes.get_mut(at..at.saturating_add(over.len()))
@@ -160,15 +147,15 @@ struct Recorder<'a> {
     content: &'a RefCell<Content>,
 }
 
-impl FileExt for Recorder<'_> {
-    fn read_at(&self, buf: &mut [u8], offset: u64) -> io::Result<usize> {
+impl FileCalls for Recorder<'_> {
+    fn read(&self, buf: &mut [u8], offset: u64) -> io::Result<usize> {
         match self.content.try_borrow() {
             Ok(content) => Ok(copy_at(&content.bytes, buf, offset)),
             Err(_) => Err(Error::from(ErrorKind::Other)),
         }
     }
 
-    fn write_at(&self, buf: &[u8], offset: u64) -> io::Result<usize> {
+    fn write(&self, buf: &[u8], offset: u64) -> io::Result<usize> {
         let Ok(mut content) = self.content.try_borrow_mut() else {
             return Err(Error::from(ErrorKind::Other));
         };
@@ -177,24 +164,6 @@ impl FileExt for Recorder<'_> {
         let bytes = Vec::from_slice(self.alloc, buf)?;
         content.calls.push(Call { at, bytes })?;
         Ok(buf.len())
-    }
-}
-
-impl OpenFile for Recorder<'_> {
-    fn metadata(&self) -> io::Result<Metadata> {
-        Err(Error::from(ErrorKind::Other))
-    }
-
-    fn set_len(&self, _size: u64) -> io::Result<()> {
-        Err(Error::from(ErrorKind::Other))
-    }
-
-    fn sync_all(&self) -> io::Result<()> {
-        Ok(())
-    }
-
-    fn sync_data(&self) -> io::Result<()> {
-        Ok(())
     }
 }
 
@@ -207,7 +176,7 @@ fn is_first(version: Version) -> bool
 /// An open store of version 1, and its limits.
 #[derive(Drop)]
 struct Stored<'a> {
-    store: Store<FileDisk<Recorder<'a>>>,
+    store: Store<FileDisk<TestFile<Recorder<'a>>>>,
     limits: Limits,
     shape: Shape,
 }
@@ -229,7 +198,7 @@ impl<'a> Stored<'a> {
     fn open(
         rt: &impl Abort,
         alloc: Global,
-        disk: FileDisk<Recorder<'a>>,
+        disk: FileDisk<TestFile<Recorder<'a>>>,
         shape: Shape,
     ) -> Stored<'a> {
         let limits = shape.limits(rt);
@@ -286,7 +255,7 @@ fn begin<'a>(
     area: usize,
 ) -> Stored<'a> {
     assert!(rt; area <= 2_000_000);
-    let mut disk = FileDisk::new(Recorder { alloc, content }, 64 + 2 * area);
+    let mut disk = FileDisk::new(TestFile(Recorder { alloc, content }), 64 + 2 * area);
     assert!(rt; format_disk(rt, &mut disk, shape.limits(rt), area).is_ok());
     let mut stored = Stored::open(rt, alloc, disk, shape);
     stored.compact(rt, alloc, 0);

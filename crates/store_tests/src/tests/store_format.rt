@@ -111,10 +111,7 @@ fn limits_changed(
 ) -> Result<u16, LimitsRefused> {
     let mut disk = disk_of(rt, alloc, content);
     assert!(rt; write(rt, &mut disk, place, &[byte]));
-    match limits(&mut disk) {
-        Ok(limits) => Ok(limits.name_bytes()),
-        Err(refused) => Err(refused),
-    }
+    Ok(limits(&mut disk)?.name_bytes())
 }
 
 #[test]

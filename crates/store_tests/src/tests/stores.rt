@@ -188,20 +188,13 @@ impl<A: Allocator + Copy> TestStore<A> {
         assert!(rt; payload.len() <= max_payload(self.version, self.limits));
         assert!(rt; are_versions_same(table.version, self.version));
         assert!(rt; are_same(table.table.limits(), self.limits));
-        match self.store.append(payload, &table.table) {
-            Ok(true) => Ok(true),
-            Ok(false) => Ok(false),
-            Err(fault) => Err(fault),
-        }
+        self.store.append(payload, &table.table)
     }
 
     pub fn compact(&mut self, rt: &impl Abort, table: &SnapshotTable<A>) -> Result<(), StoreFault> {
         assert!(rt; are_versions_same(table.version, self.version));
         assert!(rt; are_same(table.table.limits(), self.limits));
-        match self.store.compact(&table.table) {
-            Ok(()) => Ok(()),
-            Err(fault) => Err(fault),
-        }
+        self.store.compact(&table.table)
     }
 
     pub fn info(&self) -> Info {

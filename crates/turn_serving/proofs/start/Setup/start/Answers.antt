@@ -2,7 +2,7 @@ use Rattle.std.proofs.Common.{sym, ap, ◌∙◌, subst}
 use Rattle.turn_serving.specs.Starts.{KeepsImages}
 use Rattle.turn_serving.proofs.Held.{all_pass}
 use Rattle.turn_serving.proofs.Starts.{both_kept, joined, not_first, opened_images, started, started_as}
-use Rattle.turn_serving.proofs.start.Setup.start_watched.Goals as goal
+use Rattle.turn_serving.proofs.start.Setup.start.Goals as goal
 
 pub returns-in-Err-open-clause-stop_err : goal.returns-in-Err-open-clause-stop_err
 returns-in-Err-open-clause-stop_err g c = (joined g.D.Disk c.in-Ok.ensures.kept.images c.in-Err-open.ensures.images_err).stop

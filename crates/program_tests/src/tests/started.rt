@@ -1,0 +1,40 @@
+//! A server that is started over a disk.
+
+use std::alloc::Global;
+use std::rt::Clock;
+use turn_config::Configured;
+use turn_cred::Credentials;
+use turn_disk::Disk;
+use turn_serving::{Commits, Setup, SocketServing, StartFault, Watch};
+use turn_sockets::ListeningAddresses;
+
+/// Starts a server as a configuration says. A turn takes one datagram of a socket.
+pub fn start<'a, D: Disk + Drop, C: Clock, W: Watch + Drop>(
+    rt: &'a HostRuntime,
+    configured: Configured<'_>,
+    commits: Commits,
+    system: &C,
+    disk: D,
+    watch: W,
+) -> Result<SocketServing<'a, D, Credentials, HostRuntime, Global, W>, StartFault> {
+    let Configured {
+        config,
+        credentials,
+        listen,
+        ports,
+        ..
+    } = configured;
+    let setup = Setup {
+        config: &config,
+        listen: &ListeningAddresses::one(listen),
+        ports,
+        relay_bind: None,
+        burst: 1,
+        commits,
+        seed: [0; 32],
+    };
+    match setup.start(rt.alloc(), rt, system, disk, credentials, watch) {
+        Ok(serving) => Ok(serving),
+        Err(refused) => Err(refused.fault),
+    }
+}
