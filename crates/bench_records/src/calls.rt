@@ -13,7 +13,9 @@ use turn_types::Limits;
 /// Reads a snapshot as a whole, and lets the table go.
 #[derive(Drop)]
 pub struct ReadWhole<'a> {
+    /// The allocator of the table.
     pub alloc: Global,
+    /// The snapshot.
     pub bytes: &'a [u8],
 }
 
@@ -29,7 +31,9 @@ impl Measured for ReadWhole<'_> {
 /// Reads a snapshot in pieces, and lets the table go.
 #[derive(Drop)]
 pub struct ReadPieces<'a> {
+    /// The allocator of the table.
     pub alloc: Global,
+    /// The snapshot.
     pub bytes: &'a [u8],
 }
 
@@ -74,6 +78,7 @@ pub struct WritePieces<'a> {
 }
 
 impl<'a> WritePieces<'a> {
+    /// Of a table whose snapshot has so many bytes.
     pub fn new(kept: &'a Kept, size: usize) -> WritePieces<'a> {
         WritePieces {
             kept,
@@ -107,6 +112,7 @@ pub struct WriteWhole<'a> {
 }
 
 impl<'a> WriteWhole<'a> {
+    /// Of a table whose snapshot has so many bytes, with room for these.
     pub fn new(alloc: Global, kept: &'a Kept, size: usize) -> Result<WriteWhole<'a>, AllocError> {
         let out = Vec::with_capacity(alloc, size)?;
         Ok(WriteWhole { kept, out, size })

@@ -40,6 +40,7 @@ impl Kept {
         write_snapshot(out, Version::V1, &self.table).is_ok()
     }
 
+    /// A writer of its snapshot in pieces.
     pub fn writer(&self) -> SnapshotWriter<'_> {
         SnapshotWriter::new(Version::V1, &self.table)
     }

@@ -19,18 +19,23 @@ const PEER: u32 = 0xCB00_7105;
 /// How many entries a snapshot has, up to `ENTRIES`, and how many permissions and channels each entry has.
 #[derive(Clone, Copy)]
 pub struct Shape {
+    /// Of the snapshot.
     pub entries: u16,
+    /// Of each entry.
     pub permissions: u8,
+    /// Of each entry.
     pub channels: u8,
 }
 
 impl Shape {
+    /// As many entries as the max limits allow, without permissions and channels.
     pub const PLAIN: Shape = Shape {
         entries: ENTRIES,
         permissions: 0,
         channels: 0,
     };
 
+    /// As many entries, with a few of each.
     pub const WITH_PEERS: Shape = Shape {
         entries: ENTRIES,
         permissions: 4,

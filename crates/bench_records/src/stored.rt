@@ -103,6 +103,7 @@ impl Stored {
         info.version == version && self.table.len() == entries && info.frames == frames
     }
 
+    /// The disk of the store.
     pub fn into_disk(self) -> FileDisk {
         self.store.into_disk()
     }

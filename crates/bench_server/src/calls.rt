@@ -27,8 +27,11 @@ fn starts(out: &Outgoing, bytes: &[u8]) -> bool {
 /// start with these bytes.
 #[derive(Drop)]
 pub struct Committed<'a> {
+    /// The server over a store.
     pub server: &'a mut Engine,
+    /// What is submitted.
     pub arrival: Arrival<'a>,
+    /// What each datagram that is handed out starts with.
     pub starts: &'static [u8],
 }
 
@@ -50,8 +53,11 @@ impl Measured for Committed<'_> {
 /// A step without a store, which sends a datagram that starts with these bytes.
 #[derive(Drop)]
 pub struct Stepped<'a> {
+    /// The machine.
     pub server: &'a mut Rules,
+    /// What arrives.
     pub arrival: Arrival<'a>,
+    /// What the datagram that is sent starts with.
     pub starts: &'static [u8],
 }
 
@@ -73,9 +79,13 @@ impl Measured for Stepped<'_> {
 /// The steps of an Allocate and of the Refresh that ends the allocation, both of one client.
 #[derive(Drop)]
 pub struct Released<'a> {
+    /// The machine.
     pub server: &'a mut Rules,
+    /// The client's.
     pub five_tuple: FiveTuple,
+    /// The datagram of the Allocate.
     pub allocate: &'a [u8],
+    /// The datagram of the Refresh of 0 seconds.
     pub release: &'a [u8],
 }
 
@@ -97,7 +107,9 @@ impl Measured for Released<'_> {
 /// The first half of a step that has an act, which is then abandoned, so that the server is as before.
 #[derive(Drop)]
 pub struct Prepared<'a> {
+    /// The machine.
     pub server: &'a mut Rules,
+    /// A request that is granted.
     pub arrival: Arrival<'a>,
 }
 
@@ -116,6 +128,7 @@ impl Measured for Prepared<'_> {
 /// The purge of a table, a second later each time, in which nothing has expired.
 #[derive(Drop)]
 pub struct Purged {
+    /// The table, in which nothing expires soon.
     pub table: Table,
 }
 
@@ -132,8 +145,11 @@ impl Measured for Purged {
 /// gives it anew. Each call is 300 seconds after the one before.
 #[derive(Drop)]
 pub struct Walked {
+    /// The allocator of the table.
     pub alloc: Global,
+    /// The table.
     pub table: Table,
+    /// Of the client whose permission expires.
     pub five_tuple: FiveTuple,
 }
 
@@ -158,9 +174,13 @@ impl Measured for Walked {
 /// What the relay alone makes of data: a client's payload in a vector of its own, or a client's datagram.
 #[derive(Drop)]
 pub struct Relayed<'a> {
+    /// The allocator of what is relayed.
     pub alloc: Global,
+    /// The machine, whose table is read alone.
     pub server: &'a Rules,
+    /// The datagram.
     pub bytes: &'a [u8],
+    /// Whether the peer sent it.
     pub is_of_peer: bool,
 }
 

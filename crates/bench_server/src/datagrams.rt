@@ -22,12 +22,16 @@ pub const PEER: Endpoint = Endpoint {
 /// The number of that channel.
 pub const CHANNEL: u16 = 0x4000;
 
+/// The transaction id of all requests.
 pub const ID: TxId = TxId([7; 12]);
 
+/// The realm of the server.
 pub const REALM: &[u8] = b"example.org";
 
+/// The name of the only user.
 pub const NAME: &[u8] = b"alice";
 
+/// What nonces are made with.
 pub const SECRET: [u8; 32] = [0; 32];
 
 /// The client of a place in the table; the first is the one whose datagrams are measured.

@@ -14,7 +14,9 @@ pub trait Measured {
 /// How often a call did what it is measured for, and the time of all calls.
 #[derive(Clone, Copy, Debug, PartialEq, Eq)]
 pub struct Timing {
+    /// How often it did that.
     pub done: usize,
+    /// Of all calls, in microseconds.
     pub micros: u128,
 }
 

@@ -10,6 +10,7 @@ use turn_step::{Arrival, Machine, Outgoing};
 use turn_table::Table;
 use turn_types::{Endpoint, Limits, Moment, ServerConfig, Settings, TxId};
 
+/// The machine that stands for the captured server.
 pub type Server = Machine<Users, PortRange>;
 
 /// 198.18.0.1:3478.
@@ -26,6 +27,7 @@ const SECRET: [u8; 32] = [
     26, 27, 28, 29, 30, 31,
 ];
 
+/// An address and port of the standard library as those of `turn_types`.
 pub fn endpoint(address: SocketAddrV4) -> Endpoint {
     Endpoint {
         ip: u32::from(*address.ip()),
@@ -33,6 +35,7 @@ pub fn endpoint(address: SocketAddrV4) -> Endpoint {
     }
 }
 
+/// An address and port of `turn_types` as those of the standard library.
 pub fn address(endpoint: Endpoint) -> SocketAddrV4 {
     SocketAddrV4::new(Ipv4Addr::from(endpoint.ip), endpoint.port)
 }

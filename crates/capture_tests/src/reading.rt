@@ -6,7 +6,9 @@ use turn_types::Class;
 /// What a client got.
 #[derive(Clone, Copy)]
 pub enum Got<'a> {
+    /// A success response.
     Success,
+    /// The code of an error response.
     Error(u16),
     /// ChannelData, or a Data indication: what the peer sent.
     Data(&'a [u8]),
@@ -14,6 +16,7 @@ pub enum Got<'a> {
     Nothing,
 }
 
+/// Whether a datagram is ChannelData or a message.
 pub fn is_read(bytes: &[u8]) -> bool {
     ChannelData::parse(bytes).is_some() || Message::parse(bytes).is_ok()
 }
@@ -32,6 +35,7 @@ fn read_message<'a>(message: &Message<'a>) -> Option<Got<'a>> {
     }
 }
 
+/// What a datagram to a client is.
 pub fn read<'a>(bytes: &'a [u8]) -> Got<'a> {
     if let Some(data) = ChannelData::parse(bytes) {
         return Got::Data(data.payload);

@@ -8,6 +8,7 @@ use turn_mac::generate_auth_key;
 use turn_requests::{Attribute, Request, build_request};
 use turn_types::{Class, Endpoint, FiveTuple, Method, Moment, TxId};
 
+/// The realm of the server.
 pub const REALM: &[u8] = b"example.org";
 
 /// The transaction id of alice's requests.
@@ -60,21 +61,28 @@ pub fn five_tuple(client: Endpoint) -> FiveTuple {
     }
 }
 
+/// Who sends a request.
 #[derive(Clone, Copy)]
 pub enum User {
+    /// A user with a key of her own.
     Alice,
+    /// Another user with a key of his own.
     Bob,
     /// A time-limited name, which expires at second 1010.
     Guest,
 }
 
+/// `User::Alice`.
 pub const ALICE: User = User::Alice;
 
+/// `User::Bob`.
 pub const BOB: User = User::Bob;
 
+/// `User::Guest`.
 pub const GUEST: User = User::Guest;
 
 impl User {
+    /// The user's name.
     pub fn name(self) -> &'static [u8] {
         match self {
             User::Alice => b"alice",
@@ -83,6 +91,7 @@ impl User {
         }
     }
 
+    /// The user's key in the realm, 16 bytes (RFC 8489, section 9.2.2).
     pub fn key(self) -> [u8; 16] {
         let password: &[u8] = match self {
             User::Alice => b"wonder",
@@ -105,13 +114,18 @@ impl User {
 /// What a client asks for. A constant can't borrow a `Method`.
 #[derive(Clone, Copy)]
 pub enum Kind {
+    /// RFC 8656, section 7.
     Allocate,
+    /// RFC 8656, section 8.
     Refresh,
+    /// RFC 8656, section 10.
     CreatePermission,
+    /// RFC 8656, section 12.
     ChannelBind,
 }
 
 impl Kind {
+    /// The method of the request.
     pub fn method(self) -> Method {
         match self {
             Kind::Allocate => Method::ALLOCATE,
@@ -122,13 +136,16 @@ impl Kind {
     }
 }
 
+/// REQUESTED-TRANSPORT of UDP, protocol 17.
 pub const UDP: Attribute = Attribute::Transport(17);
 
 /// DONT-FRAGMENT, which a server of this project doesn't understand.
 pub const FLAG: Attribute = Attribute::DontFragment;
 
+/// LIFETIME of 3,600 seconds.
 pub const HOUR: Attribute = Attribute::Lifetime(3600);
 
+/// LIFETIME of 0, by which a Refresh deletes the allocation.
 pub const ZERO: Attribute = Attribute::Lifetime(0);
 
 /// The channel number 0x4000, the lowest one.
@@ -143,6 +160,7 @@ pub const OTHER: Attribute = Attribute::Peer(Endpoint {
     port: 7000,
 });
 
+/// The moment of a second.
 pub fn at(second: u64) -> Result<Moment, Fail> {
     Ok(Moment::new(second).ok_or("a moment")?)
 }

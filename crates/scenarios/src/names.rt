@@ -1,5 +1,6 @@
 //! The texts, in the order in which they are replayed.
 
+/// The names of the files in `data`, without `.txt`.
 pub const NAMES: [&str; 101] = [
     "example_kept",
     "example_lost",

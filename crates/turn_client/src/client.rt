@@ -17,8 +17,11 @@ use turn_types::{Class, Endpoint, Method, TxId};
 /// Who a client is.
 #[derive(Clone, Copy, Debug)]
 pub struct Credentials<'c> {
+    /// The name, in bytes.
     pub user: &'c [u8],
+    /// The server's realm, in bytes.
     pub realm: &'c [u8],
+    /// The password, in bytes.
     pub password: &'c [u8],
 }
 
@@ -74,6 +77,7 @@ impl<'c, A: Allocator + Copy> Client<'c, A> {
         })
     }
 
+    /// The address of the client's socket, with the port that the system chose if it was to choose one.
     pub fn local(&self) -> Endpoint {
         self.socket.local()
     }

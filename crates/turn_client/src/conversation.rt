@@ -96,9 +96,13 @@ impl<'a, D: Disk + Drop, R: Net, A: Allocator + Copy> Model for Conversation<'a,
 /// An Allocate, the success that it got, and what that says.
 #[derive(Drop)]
 pub struct Allocated<A: Allocator = Global> {
+    /// The whole datagram of the request.
     pub request: Vec<u8, A>,
+    /// The whole datagram of the response.
     pub response: Vec<u8, A>,
+    /// The relayed port.
     pub port: u16,
+    /// In seconds.
     pub lifetime: u32,
 }
 
@@ -243,6 +247,7 @@ impl<'a, D: Disk + Drop, R: Net + Drop, A: Allocator + Copy> Conversation<'a, D,
         (disk, loopback)
     }
 
+    /// The client.
     pub fn client(&mut self) -> &mut Client<'static, A> {
         &mut self.client
     }
@@ -283,6 +288,7 @@ impl<'a, D: Disk + Drop, R: Net + Drop, A: Allocator + Copy> Conversation<'a, D,
         self.client.take_challenge()
     }
 
+    /// An Allocate with the nonce of the last challenge. `Unexpected` where anything but a success comes.
     pub fn allocate<C: Clock>(&mut self, clock: &C) -> Result<Allocated<A>, ClientFault> {
         let alloc = self.alloc;
         let request = self.client.request(Method::ALLOCATE, &[])?;

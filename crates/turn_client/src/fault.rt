@@ -24,6 +24,7 @@ pub enum ClientFault {
     /// A request would be too long for a message.
     #[error("too long")]
     TooLong,
+    /// An allocation failed.
     #[error("out of memory")]
     Memory,
     /// The server didn't start.

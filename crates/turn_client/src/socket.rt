@@ -57,6 +57,7 @@ impl<A: Allocator> TimedSocket<A> {
         self.local
     }
 
+    /// Sends one datagram. `Socket` where the system doesn't take it.
     pub fn send(&self, to: Endpoint, bytes: &[u8]) -> Result<(), ClientFault>
         ensures { IfErr result (λ fault. fault ≡ ClientFault.Socket) }
     {

@@ -23,42 +23,61 @@ impl Model for AttributeType {
 }
 
 impl AttributeType {
+    /// RFC 8489, section 14.1.
     pub const MAPPED_ADDRESS: AttributeType = AttributeType { number: 0x0001 };
 
+    /// RFC 8489, section 14.3.
     pub const USERNAME: AttributeType = AttributeType { number: 0x0006 };
 
+    /// RFC 8489, section 14.5.
     pub const MESSAGE_INTEGRITY: AttributeType = AttributeType { number: 0x0008 };
 
+    /// RFC 8489, section 14.8.
     pub const ERROR_CODE: AttributeType = AttributeType { number: 0x0009 };
 
+    /// RFC 8489, section 14.13.
     pub const UNKNOWN_ATTRIBUTES: AttributeType = AttributeType { number: 0x000A };
 
+    /// RFC 8656, section 18.1.
     pub const CHANNEL_NUMBER: AttributeType = AttributeType { number: 0x000C };
 
+    /// RFC 8656, section 18.2.
     pub const LIFETIME: AttributeType = AttributeType { number: 0x000D };
 
+    /// RFC 8656, section 18.3.
     pub const XOR_PEER_ADDRESS: AttributeType = AttributeType { number: 0x0012 };
 
+    /// RFC 8656, section 18.4.
     pub const DATA: AttributeType = AttributeType { number: 0x0013 };
 
+    /// RFC 8489, section 14.9.
     pub const REALM: AttributeType = AttributeType { number: 0x0014 };
 
+    /// RFC 8489, section 14.10.
     pub const NONCE: AttributeType = AttributeType { number: 0x0015 };
 
+    /// RFC 8656, section 18.5.
     pub const XOR_RELAYED_ADDRESS: AttributeType = AttributeType { number: 0x0016 };
 
+    /// RFC 8656, section 18.6.
     pub const REQUESTED_ADDRESS_FAMILY: AttributeType = AttributeType { number: 0x0017 };
 
+    /// RFC 8656, section 18.7.
     pub const EVEN_PORT: AttributeType = AttributeType { number: 0x0018 };
 
+    /// RFC 8656, section 18.8.
     pub const REQUESTED_TRANSPORT: AttributeType = AttributeType { number: 0x0019 };
 
+    /// RFC 8489, section 14.2.
     pub const XOR_MAPPED_ADDRESS: AttributeType = AttributeType { number: 0x0020 };
 
+    /// RFC 8656, section 18.10.
     pub const RESERVATION_TOKEN: AttributeType = AttributeType { number: 0x0022 };
 
+    /// RFC 8489, section 14.14.
     pub const SOFTWARE: AttributeType = AttributeType { number: 0x8022 };
 
+    /// RFC 8489, section 14.7.
     pub const FINGERPRINT: AttributeType = AttributeType { number: 0x8028 };
 
     /// The types that this server knows, in the order of their numbers.

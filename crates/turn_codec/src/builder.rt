@@ -17,8 +17,10 @@ use turn_types::{Class, Method, TxId};
 /// Why an attribute was not added.
 #[derive(Clone, Copy, Debug, PartialEq, Eq, Error)]
 pub enum PushError {
+    /// The length in the header is a multiple of 4 in 16 bits (RFC 8489, section 5).
     #[error("the attributes would have more than 65,532 bytes")]
     TooLong,
+    /// An allocation failed.
     #[error("out of memory")]
     Memory,
 }

@@ -17,6 +17,7 @@ pub fn is_channel_data_number(number: u16) -> bool
 pub struct ChannelData<'a> {
     /// The channel's number, from 0x4000 to 0x7FFF.
     pub number: u16,
+    /// At most 65,535 bytes, since the length has 16 bits.
     pub payload: &'a [u8],
 }
 

@@ -16,14 +16,19 @@ use turn_types::{Class, Method, TxId};
 /// Why bytes are no message: the first that applies.
 #[derive(Clone, Copy, Debug, PartialEq, Eq, Error)]
 pub enum Malformed {
+    /// Fewer bytes than a header has.
     #[error("the datagram has fewer than 20 bytes")]
     Short,
+    /// The first byte is 64 or more: ChannelData (RFC 8656, section 12.4), or neither.
     #[error("the first two bits of the datagram are not zero")]
     NotStun,
+    /// The four bytes after the length aren't 0x2112A442 (RFC 8489, section 5).
     #[error("the datagram doesn't have the magic cookie")]
     BadCookie,
+    /// The length counts what comes after the header, with padding (RFC 8489, section 5).
     #[error("the length in the header is no multiple of 4, or not that of the bytes after the header")]
     BadLength,
+    /// An attribute has its type and length in 4 bytes, its value, and padding to a multiple of 4 (RFC 8489, section 14).
     #[error("an attribute passes the end of the datagram")]
     AttributeOverruns,
 }

@@ -12,6 +12,7 @@ pub enum ConfigFault {
     /// The first bad line. A needed line that is missing makes the line after the last one bad.
     #[error("line {0}: bad line")]
     BadLine(u64),
+    /// An allocation failed.
     #[error("memory")]
     Memory,
 }

@@ -70,12 +70,15 @@ impl<'a, A: Allocator> Model for ConfigLines<'a, A> {
 /// What a whole configuration says: what a server is made of, and the passwords that a client needs.
 #[derive(Drop)]
 pub struct Configured<'a, A: Allocator = Global> {
+    /// The configuration of a server.
     pub config: ServerConfig<A>,
     /// The users by their keys, and the secret of all other names, if there is one.
     pub credentials: Credentials<A>,
     /// The address that clients send to.
     pub listen: Endpoint,
+    /// The range of the relayed ports.
     pub ports: PortRange,
+    /// The realm, as the configuration has it: 1 to 127 bytes.
     pub realm: &'a [u8],
     /// The passwords by the users' names.
     pub passwords: BTreeMap<Vec<u8, A>, &'a [u8], A>,

@@ -8,6 +8,7 @@ use turn_types::Moment;
 /// A user's key.
 #[derive(Clone, Copy)]
 pub struct Key {
+    /// MD5 of the name, the realm and the password, with colons between (RFC 8489, section 9.2.2).
     pub bytes: [u8; 16],
     /// The expiry time, from which on the key makes no new allocation, if it has one.
     pub expiry: Option<Moment>,

@@ -116,6 +116,7 @@ impl<A: Allocator> Model for Credentials<A> {
 }
 
 impl<A: Allocator> Credentials<A> {
+    /// Users, and a secret for all other names. Without a secret no other name has a key.
     pub fn new(users: Users<A>, shared: Option<SharedSecret<A>>) -> Credentials<A>
         ensures { result ≡ record { users = users; secret = shared } }
     {

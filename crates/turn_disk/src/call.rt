@@ -5,5 +5,6 @@
 pub enum Call {
     /// From this position on, so many bytes.
     Wrote(usize, usize),
+    /// A sync that succeeded.
     Synced,
 }

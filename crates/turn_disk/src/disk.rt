@@ -28,6 +28,7 @@ pub trait Disk {
     /// What a read returns, and what a stop may leave, now and inside each device call so far.
     ghost trace: { Self → Trace };
 
+    /// How many bytes it has. It never changes.
     fn size(&self) -> usize
         ensures { result ≡ capacity self.now };
 
@@ -60,5 +61,6 @@ pub trait Disk {
         ensures honest { is_honest self.new → is_honest self.old }
         ensures outcome { is_honest self.new → SyncOutcome (trace self.old) (trace self.new) result };
 
+    /// An honest disk holds as many bytes as it has.
     ghost sized: { (disk : Self) → is_honest disk → length (trace disk).now.bytes ≡ capacity disk };
 }

@@ -2,6 +2,7 @@
 
 use std::cell::Cell;
 
+/// The calls that are to fail: one by itself, and all from one on.
 #[derive(Drop)]
 pub struct Faults {
     // How many calls succeed before one that fails.
@@ -11,6 +12,7 @@ pub struct Faults {
 }
 
 impl Faults {
+    /// No call is to fail.
     pub fn none() -> Faults {
         Faults {
             fail: Cell::new(None),
@@ -32,6 +34,7 @@ impl Faults {
         self.stop.set(Some(nearest));
     }
 
+    /// No call is to fail from now on.
     pub fn forget(&self) {
         self.fail.set(None);
         self.stop.set(None);

@@ -34,6 +34,7 @@ impl<A: Allocator> Model for Memory<A> {
 }
 
 impl<A: Allocator + Copy> Memory<A> {
+    /// Bytes of which nothing is pending. It takes no memory.
     pub fn new(alloc: A, content: Vec<u8, A>) -> Memory<A>
         ensures { result ≡ record { now = record { bytes = content.items; pending = [] }; past = [] } }
     {
@@ -46,12 +47,14 @@ impl<A: Allocator + Copy> Memory<A> {
 }
 
 impl<A: Allocator> Memory<A> {
+    /// What a read returns.
     pub fn bytes(&self) -> &[u8]
         ensures { result.now ≡ self.now.now.bytes }
     {
         self.content.as_slice()
     }
 
+    /// Fills the buffer with the bytes from a position on.
     pub fn read(&self, at: usize, buffer: &mut [u8])
         requires { at + length buffer.old ≤ length self.now.now.bytes }
         ensures { buffer.new ≡ take (length buffer.old) (drop at self.now.now.bytes) }

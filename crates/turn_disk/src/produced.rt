@@ -37,6 +37,7 @@ impl<'a> Model for Bytes<'a> {
 }
 
 impl<'a> Bytes<'a> {
+    /// A producer of these bytes, each once.
     pub fn new(bytes: &'a [u8]) -> Bytes<'a>
         ensures { result ≡ bytes.now }
     {
@@ -59,7 +60,9 @@ impl<'a> Producer for Bytes<'a> {
 /// Produces the bytes of the first producer, and then those of the second.
 #[derive(Drop)]
 pub struct Chain<A: Producer, B: Producer> {
+    /// Whose bytes come first.
     pub first: A,
+    /// Whose bytes come once the first has none left.
     pub second: B,
 }
 

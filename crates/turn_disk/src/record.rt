@@ -19,6 +19,7 @@ pub(crate) const SYNC: u8 = 2;
 #[derive(Drop)]
 pub struct Record {
     marker: PhantomData<u8>,
+    /// The newest first.
     pub ghost events: { List Event },
 }
 

@@ -4,6 +4,7 @@ ghost use Rattle.std.specs.Prelude.{ℕ, [], List};
 
 /// What a file held when it was opened. No code can read it, so what is proved over `S: Start` holds for each content.
 pub trait Start: Drop {
+    /// The bytes that it held.
     ghost content: { List ℕ };
 }
 

@@ -35,8 +35,12 @@ impl From<AllocError> for SubmitRefused {
 /// A server that was not opened: why, and what it was to be made of.
 #[derive(Drop)]
 pub struct OpenRefused<D: Disk, H: AuthHandler, G: RelayAddressGenerator> {
+    /// Why it was not opened.
     pub fault: OpenFault,
+    /// The disk, after the device calls that were made.
     pub disk: D,
+    /// The handler, as it was passed.
     pub handler: H,
+    /// The generator, as it was passed.
     pub ports: G,
 }

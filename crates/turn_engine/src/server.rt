@@ -386,12 +386,14 @@ impl<D: Disk, H: AuthHandler, G: RelayAddressGenerator, A: Allocator + Copy> Ser
         self.store.info()
     }
 
+    /// The generator of relayed ports.
     pub fn ports(&self) -> &G
         ensures { result.now ≡ self.now.machine.ports }
     {
         self.machine.ports()
     }
 
+    /// The table at the clock, with what is staged.
     pub fn table(&self) -> &Table<A>
         ensures value { result.now ≡ self.now.machine.table }
         ensures apart { HasPortsApart self.now.machine.table }
@@ -399,6 +401,7 @@ impl<D: Disk, H: AuthHandler, G: RelayAddressGenerator, A: Allocator + Copy> Ser
         self.machine.table()
     }
 
+    /// The disk of the store.
     pub fn disk(&self) -> &D
         ensures { result.now ≡ self.now.store.disk }
     {

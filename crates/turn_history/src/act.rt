@@ -88,30 +88,43 @@ pub enum Act<A: Allocator = Global> {
     /// A new allocation: for a user, with a relayed port, granted for so many seconds, by the request with this
     /// transaction id.
     Alloc {
+        /// Who asked for it.
         user: UserName<A>,
+        /// The relayed port.
         port: u16,
+        /// In seconds, from the act's moment on.
         granted: u32,
+        /// The transaction id of the Allocate.
         tx: TxId,
     },
     /// A new allocation with an even port, which reserves the next port for 30 seconds for who names the token.
     AllocEven {
+        /// Who asked for it.
         user: UserName<A>,
+        /// The relayed port, which is even.
         port: u16,
+        /// In seconds, from the act's moment on.
         granted: u32,
+        /// The transaction id of the Allocate.
         tx: TxId,
+        /// What the next port is reserved with.
         token: Token,
     },
     /// The allocation expires so many seconds from now; 0 deletes it.
     Renew {
+        /// In seconds.
         granted: u32,
     },
     /// Permissions for IPv4 addresses, for 300 seconds.
     Permit {
+        /// Of peers. Ports don't count (RFC 8656, section 9).
         addresses: Addresses<A>,
     },
     /// A channel to a peer for 600 seconds, and a permission for its address for 300 seconds.
     Bind {
+        /// The channel's number, from 0x4000 to 0x4FFF.
         number: u16,
+        /// The peer's address and port.
         peer: Endpoint,
     },
 }

@@ -6,6 +6,8 @@ use turn_types::Token;
 /// (exclusive).
 #[derive(Clone, Copy, Debug, PartialEq, Eq)]
 pub struct Reservation {
+    /// By which an Allocate names the port (RFC 8656, section 18.10).
     pub token: Token,
+    /// In seconds (exclusive).
     pub expiry: u64,
 }

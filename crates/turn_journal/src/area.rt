@@ -5,6 +5,7 @@
 pub struct Area {
     /// The disk's position at which the area begins.
     pub start: usize,
+    /// How many bytes the area has.
     pub size: usize,
     /// The length of the longest payload.
     pub max_payload: usize,

@@ -6,6 +6,7 @@ ghost use Rattle.turn_log.specs.Logged.{is_401, response_of};
 /// A response to a request that asks for credentials.
 #[derive(Clone, Copy, Debug, PartialEq, Eq)]
 pub enum Response {
+    /// A success response.
     Success,
     /// An error of code 401: no credentials, or wrong ones.
     Unauthenticated,

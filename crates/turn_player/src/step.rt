@@ -12,6 +12,7 @@ use turn_types::Moment;
 pub enum Step<'a> {
     /// An arrival at a moment, or at the server's clock where that is later.
     Arrive(Moment, Arrival<'a>),
+    /// A commit of what was taken since the last one.
     Commit,
     /// The disk becomes the image that the outcome names, failures that are still to come are cancelled, and the store is
     /// opened, and carried over to version 2 if it can be.

@@ -7,8 +7,10 @@ use std::alloc::AllocError;
 
 /// A set of ports, such as those of the live allocations.
 pub trait PortSet {
+    /// Which ports are in the set.
     ghost has: { Self → ℕ → Bool };
 
+    /// Whether a port is in the set.
     fn has(&self, port: u16) -> bool
         ensures { result ≡ has self.now port };
 
@@ -44,11 +46,13 @@ pub trait PortSet {
 /// A generator may hold something for each port that it gave out, as a bound socket, so a port that was picked is
 /// released once no allocation has it.
 pub trait RelayAddressGenerator {
+    /// The first and the last port.
     ghost range: { Self → ℕ × ℕ };
 
+    /// How many calls of `pick` and `pick_pair` failed, modulo 2^64.
     ghost failures: { Self → ℕ };
 
-    // The generator holds something for each port of this set, and for no other. One that never holds anything says it of every set.
+    /// The generator holds something for each port of this set, and for no other. One that never holds anything says it of every set.
     ghost holds: { Self → (ℕ → Bool) → Type 0 };
 
     /// The first and the last port.

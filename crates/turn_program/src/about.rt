@@ -101,8 +101,11 @@ pub fn tell_store<R: Files + AllocGlobal, C: Clock, L: Write + Drop>(
 /// Where a server's sockets are bound.
 #[derive(Clone, Copy)]
 pub struct Addresses<'a> {
+    /// The addresses that clients send to.
     pub listen: &'a [Endpoint],
+    /// The IPv4 address on which relay sockets are bound.
     pub relay: u32,
+    /// The range of the relay ports.
     pub ports: PortRange,
 }
 

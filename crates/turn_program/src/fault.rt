@@ -55,6 +55,7 @@ pub enum Fault {
     /// A scenario's report is not what a line of it expects.
     #[error("turn: line {0}: differs")]
     Differs(u64),
+    /// An allocation failed.
     #[error("turn: memory")]
     Memory,
 }

@@ -178,6 +178,7 @@ impl<L: Write + Drop> Log<L> {
         }
     }
 
+    /// Whether anything is written.
     pub fn is_kept(&self) -> bool {
         self.lines.is_some()
     }

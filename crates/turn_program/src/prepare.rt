@@ -18,10 +18,15 @@ use turn_types::{Endpoint, Limits, ServerConfig};
 /// A configuration, and what was taken of a store.
 #[derive(Drop)]
 pub struct Prepared<S> {
+    /// The configuration.
     pub config: ServerConfig,
+    /// The handler of its users.
     pub credentials: Credentials,
+    /// The addresses that clients send to, the configuration's first.
     pub listen: ListeningAddresses,
+    /// The range of the relay ports.
     pub ports: PortRange,
+    /// What was taken of the store.
     pub store: S,
 }
 

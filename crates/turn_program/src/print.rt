@@ -6,6 +6,7 @@ use crate::fault::Fault;
 use std::alloc::{AllocError, Global};
 use std::io::Write;
 
+/// Writes a line and a newline, and flushes.
 pub fn print_line<W: Write>(line: &str, out: &mut W) -> Result<(), Fault>
     ensures { IsOkUnless result Fault.Device }
 {

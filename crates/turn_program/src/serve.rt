@@ -29,10 +29,15 @@ use turn_types::Endpoint;
 pub struct Service<'a> {
     /// The program's version, which a log begins with.
     pub version: &'a str,
+    /// The path of the configuration.
     pub config: &'a str,
+    /// The path of the store.
     pub store: &'a str,
+    /// After how many turns the server ends, if it does.
     pub turns: Option<u64>,
+    /// How many datagrams a turn takes of each socket.
     pub burst: u8,
+    /// The address on which relay sockets are bound, if it isn't the one that clients are told.
     pub relay_bind: Option<u32>,
     /// The addresses that clients send to, beside the configuration's.
     pub listen: &'a [Endpoint],

@@ -14,12 +14,15 @@ use turn_types::Endpoint;
 /// What is said of a start.
 #[derive(Clone, Copy)]
 pub struct Started<'a> {
+    /// The program's version.
     pub version: &'a str,
     /// The addresses that clients send to.
     pub listen: &'a [Endpoint],
     /// The first and the last relay port.
     pub ports: (u16, u16),
+    /// The path of the store.
     pub store: &'a str,
+    /// The generation of the store, which each snapshot raises by one.
     pub generation: u64,
     /// How many allocations of the store are live.
     pub live: u64,

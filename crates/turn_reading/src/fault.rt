@@ -13,6 +13,7 @@ pub enum ReadingFault {
     /// A device call failed.
     #[error("a device call failed")]
     Device,
+    /// An allocation failed.
     #[error("out of memory")]
     Memory,
     /// The disk doesn't begin with a superblock.

@@ -30,6 +30,7 @@ const PAUSE: u64 = 10;
 /// What was read of a store.
 #[derive(Drop)]
 pub struct Reading<A: Allocator = Global> {
+    /// The version, the generation and the count of frames.
     pub info: Info,
     /// At the latest moment that is written.
     pub table: Table<A>,

@@ -11,6 +11,7 @@ pub enum Malformed {
     /// The bytes end inside a field.
     #[error("the bytes end inside a field")]
     Short,
+    /// The first byte of an act is none that its version has.
     #[error("no act has this tag")]
     BadTag,
     /// A value that is out of its range, or that must not stand twice and does.
@@ -19,6 +20,7 @@ pub enum Malformed {
     /// A key that isn't above the one before, or a moment that is below it.
     #[error("a key or a moment is out of order")]
     OutOfOrder,
+    /// More bytes than one value has.
     #[error("there are bytes after the last field")]
     TrailingBytes,
 }
@@ -26,8 +28,10 @@ pub enum Malformed {
 /// Why bytes couldn't be read.
 #[derive(Clone, Copy, Debug, PartialEq, Eq, Error)]
 pub enum ReadError {
+    /// An allocation failed.
     #[error("out of memory")]
     Memory,
+    /// The bytes encode nothing, and why.
     #[error("{0}")]
     Malformed(Malformed),
 }

@@ -22,6 +22,7 @@ use turn_types::{Addr, Class, Endpoint, FiveTuple, Method, Moment};
 pub struct ToPeer<'a> {
     /// The relayed port that it goes from.
     pub port: u16,
+    /// The peer's address and port.
     pub peer: Endpoint,
     /// At most 65,507 bytes.
     pub bytes: &'a [u8],

@@ -28,10 +28,13 @@ const MAX_INDICATED: usize = MAX_PAYLOAD / 4 * 4 - 36;
 /// Data for a client. It is a peer's datagram.
 #[derive(Clone, Copy, Debug)]
 pub struct ToClient<'a> {
+    /// Of the allocation whose relayed port the datagram came to.
     pub five_tuple: FiveTuple,
     /// The number of the channel that is bound to the peer, if one is.
     pub channel: Option<u16>,
+    /// Who sent it.
     pub peer: Endpoint,
+    /// The peer's whole payload.
     pub bytes: &'a [u8],
 }
 

@@ -45,11 +45,15 @@ pub enum Attribute {
 /// A request and who sends it.
 #[derive(Clone, Copy, Debug)]
 pub struct Request<'a> {
+    /// The method; the class is a request's.
     pub method: Method,
+    /// The transaction id, which the response has too.
     pub tx: TxId,
     /// What it has before the credentials, in this order.
     pub attributes: &'a [Attribute],
+    /// USERNAME, in bytes.
     pub user: &'a [u8],
+    /// REALM, in bytes: that of the server's challenge.
     pub realm: &'a [u8],
 }
 

@@ -28,7 +28,9 @@ use turn_types::{Class, ErrorCode, FiveTuple, Method, Moment, ServerConfig};
 /// A message from a client.
 #[derive(Drop)]
 pub struct Request<'a> {
+    /// The message, which was read.
     pub message: Message<'a>,
+    /// Where it came from and to.
     pub five_tuple: FiveTuple,
     /// The outcome of the credential check, or `None` for Binding, which asks for no credentials.
     pub verdict: Option<Verdict<'a>>,

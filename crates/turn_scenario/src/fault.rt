@@ -11,11 +11,13 @@ use turn_codec::PushError;
 /// Why a scenario ended without a report: the first fault in the order of its lines, which are numbered from 1.
 #[derive(Clone, Copy, Debug, PartialEq, Eq, Error)]
 pub enum ScenarioFault {
+    /// The first line that is malformed or can't be done.
     #[error("line {0}: bad line")]
     BadLine(u64),
     /// An `expect` line differs from the next line of the report, or there is none.
     #[error("line {0}: differs")]
     Differs(u64),
+    /// An allocation failed.
     #[error("memory")]
     Memory,
 }

@@ -5,6 +5,7 @@ use std::alloc::{AllocError, Allocator, Global};
 /// The lines of a report, without their newlines.
 #[derive(Drop)]
 pub struct Report<A: Allocator = Global> {
+    /// In their order.
     pub lines: Vec<String<A>, A>,
 }
 

@@ -20,6 +20,7 @@ pub enum StartFault {
     /// open files.
     #[error("a socket can't be bound")]
     Socket,
+    /// An allocation failed.
     #[error("out of memory")]
     Memory,
     /// The store was not opened again over its sockets.
@@ -33,7 +34,9 @@ pub enum StartFault {
 /// A server that was not started: why, and its disk.
 #[derive(Drop)]
 pub struct StartRefused<D: Disk> {
+    /// Why it was not started.
     pub fault: StartFault,
+    /// The disk, after the device calls that were made.
     pub disk: D,
 }
 
@@ -57,6 +60,7 @@ pub enum TurnFault {
     /// The system has no time.
     #[error("no time")]
     Clock,
+    /// An allocation failed.
     #[error("out of memory")]
     Memory,
 }

@@ -157,6 +157,7 @@ impl<
         &self.listening.own.listening
     }
 
+    /// The server over the store.
     pub fn server(&self) -> &Server<D, H, G, A>
         ensures { result.now ≡ self.now }
     {

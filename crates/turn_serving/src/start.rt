@@ -36,6 +36,7 @@ use turn_types::ServerConfig;
 /// What a server is started with, beside its disk and the handler of its users.
 #[derive(Clone, Copy)]
 pub struct Setup<'c, A: Allocator = Global> {
+    /// The configuration, with the limits that the store was formatted with.
     pub config: &'c ServerConfig<A>,
     /// The addresses that clients send to. Port 0 is any free one.
     pub listen: &'c ListeningAddresses,
@@ -45,6 +46,7 @@ pub struct Setup<'c, A: Allocator = Global> {
     pub relay_bind: Option<u32>,
     /// How many datagrams a turn takes of each socket.
     pub burst: u8,
+    /// When what was accepted is written.
     pub commits: Commits,
     /// What relay ports are drawn from: random bytes, new at each start.
     pub seed: [u8; 32],

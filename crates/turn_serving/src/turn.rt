@@ -27,7 +27,7 @@ use turn_types::{Endpoint, Moment};
 
 /// Relay ports with sockets.
 pub trait RelaySockets: RelayAddressGenerator {
-    // Whether a port has a socket.
+    /// Whether a port has a socket.
     ghost has_socket: { Self → ℕ → Bool };
 
     /// The socket of a port.

@@ -22,7 +22,7 @@ pub fn moment_at(clock: Moment, second: u64) -> Moment
 
 /// What tells the moments of turns.
 pub trait Time: Clock {
-    // It has told this second. Of a clock that promises nothing it holds of each.
+    /// It has told this second. Of a clock that promises nothing it holds of each.
     ghost told: { Self → ℕ → Type 0 };
 
     /// The second, counted from 1970 on, of which one before counts as 0. `None` if there is no time.

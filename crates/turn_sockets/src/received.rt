@@ -84,6 +84,7 @@ pub struct Buffer<A: Allocator = Global> {
 }
 
 impl<A: Allocator> Buffer<A> {
+    /// Room for 65,536 bytes, which is more than a datagram has.
     pub fn new(alloc: A) -> Result<Buffer<A>, AllocError> {
         Ok(Buffer {
             bytes: Vec::from_elem(alloc, 0u8, MAX_DATAGRAM)?,

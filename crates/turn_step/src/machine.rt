@@ -32,10 +32,15 @@ use turn_types::{FiveTuple, Moment, ServerConfig};
 /// The configuration, the users' keys, the generator of ports and the table of a machine, and whether it reserves ports.
 #[derive(Drop)]
 pub struct Parts<H: AuthHandler, G: RelayAddressGenerator, A: Allocator = Global> {
+    /// The configuration.
     pub config: ServerConfig<A>,
+    /// Who knows the users' keys.
     pub handler: H,
+    /// The generator of relayed ports.
     pub ports: G,
+    /// The live allocations and the reserved ports.
     pub table: Table<A>,
+    /// Whether ports may be reserved (EVEN-PORT with the R bit: RFC 8656, section 7.2).
     pub pairs: bool,
 }
 
@@ -130,6 +135,7 @@ impl<H: AuthHandler, G: RelayAddressGenerator, A: Allocator + Copy> Machine<H, G
         self.table.moment()
     }
 
+    /// The table at its moment.
     pub fn table(&self) -> &Table<A>
         ensures value { result.now ≡ self.now.table }
         ensures limits { result.now.bounds ≡ self.now.config.limits }
@@ -137,18 +143,21 @@ impl<H: AuthHandler, G: RelayAddressGenerator, A: Allocator + Copy> Machine<H, G
         &self.table
     }
 
+    /// The generator of relayed ports.
     pub fn ports(&self) -> &G
         ensures { result.now ≡ self.now.ports }
     {
         &self.ports
     }
 
+    /// The configuration.
     pub fn config(&self) -> &ServerConfig<A>
         ensures { result.now ≡ self.now.config }
     {
         &self.config
     }
 
+    /// What the machine was made of, as it is now.
     pub fn into_parts(self) -> Parts<H, G, A>
         ensures { record { config = result.config; handler = result.handler; ports = result.ports; table = result.table; pairs = result.pairs } ≡ self }
     {

@@ -14,6 +14,7 @@ pub enum OpenFault {
     /// A device call failed.
     #[error("a device call failed")]
     Device,
+    /// An allocation failed.
     #[error("out of memory")]
     Memory,
     /// The disk doesn't begin with a superblock.

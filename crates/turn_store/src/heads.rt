@@ -12,9 +12,13 @@ use turn_disk::{DeviceFailed, Disk, read_array};
 /// What an area begins with: its gate, the version, the generation and the length of the snapshot.
 #[derive(Clone, Copy, Debug, PartialEq, Eq)]
 pub struct Head {
+    /// Whether the gate is open.
     pub is_open: bool,
+    /// The byte of the version, which may be none that there is.
     pub version: u8,
+    /// The generation.
     pub generation: u64,
+    /// The length of the snapshot, in bytes.
     pub snapshot: u32,
 }
 
@@ -74,7 +78,9 @@ pub fn read_head<D: Disk>(disk: &mut D, at: usize) -> Result<Head, DeviceFailed>
 /// Where an area begins, and its head.
 #[derive(Clone, Copy, Debug, PartialEq, Eq)]
 pub struct Placed {
+    /// The disk's position at which the area begins.
     pub start: usize,
+    /// What the area begins with.
     pub head: Head,
 }
 

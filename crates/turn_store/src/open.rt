@@ -30,9 +30,13 @@ use turn_types::Limits;
 /// What an area holds: its version, its journal, the table at its end, and the number of frames.
 #[derive(Drop)]
 pub struct Loaded<A: Allocator = Global> {
+    /// The version of its records.
     pub version: Version,
+    /// The log after the snapshot.
     pub journal: Journal<A>,
+    /// The snapshot's table, after the frames of the log.
     pub table: Table<A>,
+    /// How many frames the log has.
     pub frames: usize,
 }
 
@@ -119,9 +123,13 @@ fn load_area<D: Disk, A: Allocator + Copy>(
 /// The area that counts, as it was read, and what is known of the other one.
 #[derive(Drop)]
 pub struct Chosen<A: Allocator = Global> {
+    /// The area that counts.
     pub loaded: Loaded<A>,
+    /// Where the other area begins, in bytes from the disk's first one.
     pub other: usize,
+    /// The generation of the area that counts.
     pub generation: u64,
+    /// Whether the generation of the other area is below.
     pub other_is_below: bool,
 }
 

@@ -23,7 +23,9 @@ use turn_types::{Limits, Moment};
 /// Why a frame was not applied.
 #[derive(Clone, Copy, Debug, PartialEq, Eq)]
 pub enum FrameFault {
+    /// A device call failed.
     Device,
+    /// An allocation failed.
     Memory,
     /// Its payload encodes no batch, or an event is before the table's moment or doesn't fit.
     Bad,

@@ -144,8 +144,11 @@ impl<D: Disk, A: Allocator> Model for Store<D, A> {
 /// The version and the generation of the area that counts, and how many frames it has.
 #[derive(Clone, Copy, Debug, PartialEq, Eq)]
 pub struct Info {
+    /// The version of the records.
     pub version: Version,
+    /// 1 after `format`; each snapshot raises it by one, up to 2^64 - 1.
     pub generation: u64,
+    /// How many batches there are after the snapshot.
     pub frames: usize,
 }
 
@@ -170,12 +173,14 @@ impl<D: Disk, A: Allocator + Copy> Store<D, A> {
         self.stopped
     }
 
+    /// The disk of the store.
     pub fn disk(&self) -> &D
         ensures { result.now ≡ self.now.disk }
     {
         &self.disk
     }
 
+    /// The disk, as it is.
     pub fn into_disk(self) -> D
         ensures { result ≡ self.disk }
     {
@@ -406,14 +411,18 @@ impl<D: Disk, A: Allocator + Copy> Store<D, A> {
 /// A store that was opened, and the table that it holds, at the latest moment that is written.
 #[derive(Drop)]
 pub struct Opened<D: Disk, A: Allocator = Global> {
+    /// The store, to which batches can be added.
     pub store: Store<D, A>,
+    /// The table that it holds.
     pub table: Table<A>,
 }
 
 /// A disk that was not opened, and why.
 #[derive(Drop)]
 pub struct Refused<D: Disk> {
+    /// Why it was not opened.
     pub fault: OpenFault,
+    /// The disk, after the device calls that were made.
     pub disk: D,
 }
 

@@ -37,6 +37,7 @@ impl From<DeviceFailed> for LimitsRefused {
 pub struct Superblock {
     /// The size of an area.
     pub area: usize,
+    /// The limits that the store was formatted with.
     pub limits: Limits,
 }
 

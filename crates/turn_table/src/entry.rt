@@ -34,13 +34,21 @@ pub struct Entry<A: Allocator = Global> {
 /// permissions, ascending by address, and channels, ascending by number, each with its own expiry time.
 #[derive(Drop)]
 pub struct EntryParts<A: Allocator = Global> {
+    /// Who made the allocation.
     pub user: UserName<A>,
+    /// The relayed port.
     pub port: u16,
+    /// The lifetime that the Allocate was granted, in seconds.
     pub granted: u32,
+    /// The transaction id of the Allocate.
     pub tx: TxId,
+    /// The token with which the Allocate reserved the next port, if it did.
     pub token: Option<Token>,
+    /// When the allocation expires, in seconds (exclusive).
     pub expiry: u64,
+    /// IPv4 addresses of peers, ascending, each with its expiry time in seconds (exclusive).
     pub permissions: Vec<(u32, u64), A>,
+    /// Numbers of channels, ascending, each with its peer and its expiry time.
     pub channels: Vec<(u16, Channel), A>,
 }
 

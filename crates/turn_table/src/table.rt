@@ -133,6 +133,7 @@ impl<A: Allocator + Copy> Table<A> {
         }
     }
 
+    /// The most that the table may hold.
     pub fn limits(&self) -> Limits
         ensures { result ≡ self.now.bounds }
     {
@@ -153,6 +154,7 @@ impl<A: Allocator + Copy> Table<A> {
         self.allocations.len()
     }
 
+    /// Whether it has no entry. Ports may be reserved all the same.
     pub fn is_empty(&self) -> bool
         ensures { IsTrue result ↔ (fin.len self.now.contents.entries ≡ 0) }
     {

@@ -12,14 +12,18 @@ pub enum Addr {
 /// The address and port of a peer, as a request names it (RFC 8656, section 18.3).
 #[derive(Clone, Copy, Debug, PartialEq, Eq)]
 pub struct PeerAddress {
+    /// The IP address.
     pub ip: Addr,
+    /// The UDP port.
     pub port: u16,
 }
 
 /// An IPv4 address and a port.
 #[derive(Clone, Copy, Debug, PartialEq, Eq, PartialOrd, Ord, Hash)]
 pub struct Endpoint {
+    /// The IPv4 address: its highest byte is the address's first.
     pub ip: u32,
+    /// The UDP port.
     pub port: u16,
 }
 
@@ -28,6 +32,8 @@ pub struct Endpoint {
 /// bytes in network byte order.
 #[derive(Clone, Copy, Debug, PartialEq, Eq, PartialOrd, Ord, Hash)]
 pub struct FiveTuple {
+    /// Where the client sends from.
     pub client: Endpoint,
+    /// Where the client sends to.
     pub server: Endpoint,
 }

@@ -14,19 +14,25 @@ use thiserror::Error;
 /// Addresses from a first to a last.
 #[derive(Clone, Copy, Debug, PartialEq, Eq)]
 pub struct IpRange {
+    /// The lowest address, which is in the range.
     pub first: u32,
+    /// The highest address, which is in the range too.
     pub last: u32,
 }
 
 /// Why a configuration was refused: the first that applies.
 #[derive(Clone, Copy, Debug, PartialEq, Eq, Error)]
 pub enum ConfigError {
+    /// The realm is empty or too long.
     #[error("the realm doesn't have 1 to 127 bytes")]
     BadRealm,
+    /// The quota is out of its range.
     #[error("the quota isn't 1 to 1,024")]
     BadQuota,
+    /// There are too many denied ranges, or one is not in order.
     #[error("more than 64 ranges are denied, or one whose first address is after its last")]
     BadRange,
+    /// An allocation failed.
     #[error("out of memory")]
     Memory,
 }
@@ -54,6 +60,7 @@ pub struct Settings<'a> {
     pub quota: u32,
     /// At most 64 ranges of addresses that no peer may have.
     pub denied: &'a [IpRange],
+    /// The most that the server holds.
     pub limits: Limits,
 }
 

@@ -44,18 +44,25 @@ impl Model for Method {
 }
 
 impl Method {
+    /// Asks for the address that the request comes from (RFC 8489, section 18.2).
     pub const BINDING: Method = Method { number: 0x001 };
 
+    /// Makes an allocation (RFC 8656, section 7).
     pub const ALLOCATE: Method = Method { number: 0x003 };
 
+    /// Sets the lifetime of an allocation, or deletes it (RFC 8656, section 8).
     pub const REFRESH: Method = Method { number: 0x004 };
 
+    /// Data from a client to a peer (RFC 8656, section 11.1).
     pub const SEND: Method = Method { number: 0x006 };
 
+    /// Data from a peer to a client (RFC 8656, section 11.3).
     pub const DATA: Method = Method { number: 0x007 };
 
+    /// Permits peers (RFC 8656, section 10).
     pub const CREATE_PERMISSION: Method = Method { number: 0x008 };
 
+    /// Binds a channel to a peer, and permits its address (RFC 8656, section 12).
     pub const CHANNEL_BIND: Method = Method { number: 0x009 };
 
     /// The methods that TURN has, in the order of their numbers (RFC 8489, section 18.2; RFC 8656, section 17).

@@ -35,47 +35,69 @@ use turn_types::{Endpoint, Moment};
 pub enum Command {
     /// The answer to one datagram that a client sends at a moment.
     Answer {
+        /// The client's address, by `--from`.
         from: Endpoint,
+        /// When it is sent, by `--at`; 0 if there is no such option.
         at: Moment,
+        /// The bytes that were written as pairs of hex digits.
         datagram: Vec<u8>,
     },
     /// The report of the scenario in a file.
     Replay {
+        /// The path of the scenario.
         file: String,
     },
     /// A user's name that expires at a moment, with its password under the secret of a configuration. The name given, if there is
     /// one, comes after the moment.
     Credential {
+        /// The path of the configuration.
         config: String,
+        /// What comes after the moment and a colon, by `--name`.
         name: Option<String>,
+        /// The moment of `--at` and the seconds of `--life` after it.
         expiry: Moment,
     },
     /// A new store in a file, with the limits of a configuration and two areas of so many bytes.
     Format {
+        /// The path of the configuration.
         config: String,
+        /// The path of the store.
         store: String,
+        /// The size of each of the two areas, in bytes.
         area: u32,
     },
     /// What the store in a file holds.
     Inspect {
+        /// The path of the store.
         store: String,
+        /// The moment at which the table is shown, by `--at`, if it is not before the table's own.
         at: Option<Moment>,
     },
     /// Whether a server would start with a configuration, as far as its sockets, and with a store if one is given. `listen` are
     /// the addresses that clients send to beside the configuration's.
     Check {
+        /// The path of the configuration.
         config: String,
+        /// The path of the store, if one is given.
         store: Option<String>,
+        /// The addresses of `--listen`, in their order.
         listen: Vec<Endpoint>,
     },
     /// A server over sockets and the store in a file, for so many turns if that is given. It keeps a log if that is asked for.
     Serve {
+        /// The path of the configuration.
         config: String,
+        /// The path of the store.
         store: String,
+        /// After how many turns it ends, if it does.
         turns: Option<u64>,
+        /// How many datagrams a turn takes of each socket, 1 to 64.
         burst: u8,
+        /// The address on which relay sockets are bound, if it isn't the configuration's.
         relay_bind: Option<u32>,
+        /// The addresses of `--listen`, in their order, which clients send to beside the configuration's.
         listen: Vec<Endpoint>,
+        /// Whether a log is kept.
         log: bool,
     },
     /// A server over sockets that shows what it does.

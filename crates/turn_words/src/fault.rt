@@ -15,6 +15,7 @@ pub enum WordFault {
     /// A datagram that isn't written as pairs of hex digits.
     #[error("bad datagram")]
     BadDatagram,
+    /// An allocation failed.
     #[error("memory")]
     Memory,
 }

@@ -12,6 +12,7 @@ use std::alloc::{AllocError, Global};
 use turn_config::values::{bytes, endpoint, moment};
 use turn_types::Moment;
 
+/// The words of `answer`: `--from`, `--at` and a datagram.
 pub fn answer_command<'a>(alloc: Global) -> Result<clap::Command<'a>, AllocError> {
     clap::Command::new(alloc, "answer")
         .arg(option(alloc, "from").required(true))?
@@ -46,6 +47,7 @@ fn answer(alloc: Global, from: &[u8], at: Option<&[u8]>, hex: &[u8]) -> Result<C
     Ok(Command::Answer { from, at, datagram })
 }
 
+/// The values of `answer`. `Usage` where one is malformed or out of range, `BadDatagram` for the datagram.
 pub fn answer_of(alloc: Global, found: &ArgMatches<'_>) -> Result<Command, WordFault>
     ensures { IfOk result (λ command. IsInRange command) }
 {

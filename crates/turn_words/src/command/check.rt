@@ -10,6 +10,7 @@ use crate::fault::WordFault;
 use clap::ArgMatches;
 use std::alloc::{AllocError, Global};
 
+/// The words of `check`: `--config`, `--store` and any number of `--listen`.
 pub fn check_command<'a>(alloc: Global) -> Result<clap::Command<'a>, AllocError> {
     clap::Command::new(alloc, "check")
         .arg(option(alloc, "config").required(true))?
@@ -25,6 +26,7 @@ pub fn owned(alloc: Global, text: Option<&str>) -> Result<Option<String>, AllocE
     }
 }
 
+/// The values of `check`. `Usage` where an address is malformed.
 pub fn check_of(alloc: Global, found: &ArgMatches<'_>) -> Result<Command, WordFault>
     ensures { IfOk result (λ command. IsInRange command) }
 {

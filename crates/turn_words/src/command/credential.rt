@@ -14,6 +14,7 @@ use std::alloc::{AllocError, Global};
 use turn_config::values::{moment, number};
 use turn_types::Moment;
 
+/// The words of `credential`: `--config`, `--name`, `--at` and `--life`.
 pub fn credential_command<'a>(alloc: Global) -> Result<clap::Command<'a>, AllocError> {
     clap::Command::new(alloc, "credential")
         .arg(option(alloc, "config").required(true))?
@@ -50,6 +51,7 @@ fn name_in(alloc: Global, text: Option<&str>) -> Result<Option<String>, WordFaul
     }
 }
 
+/// The values of `credential`. `Usage` where one is malformed or out of range.
 pub fn credential_of(alloc: Global, found: &ArgMatches<'_>) -> Result<Command, WordFault>
     ensures { IfOk result (λ command. IsInRange command) }
 {

@@ -10,6 +10,7 @@ use clap::ArgMatches;
 use std::alloc::{AllocError, Global};
 use turn_config::values::number_32;
 
+/// The words of `format`: `--config`, `--store` and `--area`.
 pub fn format_command<'a>(alloc: Global) -> Result<clap::Command<'a>, AllocError> {
     clap::Command::new(alloc, "format")
         .arg(option(alloc, "config").required(true))?
@@ -17,6 +18,7 @@ pub fn format_command<'a>(alloc: Global) -> Result<clap::Command<'a>, AllocError
         .arg(option(alloc, "area").required(true))
 }
 
+/// The values of `format`. `Usage` where the size is malformed or out of range.
 pub fn format_of(alloc: Global, found: &ArgMatches<'_>) -> Result<Command, WordFault>
     ensures { IfOk result (λ command. IsInRange command) }
 {

@@ -12,6 +12,7 @@ use std::alloc::{AllocError, Global};
 use turn_config::values::moment;
 use turn_types::Moment;
 
+/// The words of `inspect`: `--store` and `--at`.
 pub fn inspect_command<'a>(alloc: Global) -> Result<clap::Command<'a>, AllocError> {
     clap::Command::new(alloc, "inspect")
         .arg(option(alloc, "store").required(true))?
@@ -38,6 +39,7 @@ pub fn shown_at(at: Option<Moment>, clock: Moment) -> Moment
     }
 }
 
+/// The values of `inspect`. `Usage` where the moment is malformed or out of range.
 pub fn inspect_of(alloc: Global, found: &ArgMatches<'_>) -> Result<Command, WordFault>
     ensures { IfOk result (λ command. IsInRange command) }
 {

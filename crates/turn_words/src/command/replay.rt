@@ -9,10 +9,12 @@ use crate::fault::WordFault;
 use clap::ArgMatches;
 use std::alloc::{AllocError, Global};
 
+/// The words of `replay`: a file.
 pub fn replay_command<'a>(alloc: Global) -> Result<clap::Command<'a>, AllocError> {
     clap::Command::new(alloc, "replay").arg(value(alloc, "FILE"))
 }
 
+/// The values of `replay`.
 pub fn replay_of(alloc: Global, found: &ArgMatches<'_>) -> Result<Command, WordFault>
     ensures { IfOk result (λ command. IsInRange command) }
 {

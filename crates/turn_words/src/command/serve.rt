@@ -15,6 +15,7 @@ use turn_config::values::{ip, number};
 /// How many datagrams of a socket may be taken in a turn.
 const MAX_BURST: u64 = 64;
 
+/// The words of `serve`: `--config`, `--store`, `--turns`, `--burst`, `--relay-bind`, any number of `--listen`, and `--log`.
 pub fn serve_command<'a>(alloc: Global) -> Result<clap::Command<'a>, AllocError> {
     clap::Command::new(alloc, "serve")
         .arg(option(alloc, "config").required(true))?
@@ -71,6 +72,7 @@ fn text_of<'a>(found: &ArgMatches<'a>, name: &str) -> Option<&'a [u8]> {
     found.get_str(name).map(|text| text.as_bytes())
 }
 
+/// The values of `serve`. `Usage` where one is malformed or out of range.
 pub fn serve_of(alloc: Global, found: &ArgMatches<'_>) -> Result<Command, WordFault>
     ensures { IfOk result (λ command. IsInRange command) }
 {
