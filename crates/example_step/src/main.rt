@@ -1,15 +1,22 @@
-//! A TURN server's steps by hand: a client allocates a relayed port and permits a peer, and data goes both ways. The
-//! requests, and the output in `stdout`, are made by another program.
+//! A TURN server's steps by hand: a client allocates a relayed port and permits a peer, and data goes both ways. The output
+//! in `stdout` is made by another program.
 #![tactic(auto)]
 
 use anyhow::{Context, Result, bail};
 use std::alloc::Global;
-use turn_cred::Users;
-use turn_mac::generate_auth_key;
-use turn_ports::PortRange;
-use turn_step::{Arrival, Machine, Outgoing};
-use turn_table::Table;
-use turn_types::{Endpoint, FiveTuple, Limits, Moment, ServerConfig, Settings, TxId};
+use turn::messages::{
+    Attribute, AttributeType, Builder, Class, Message, Method, Request, build_request, build_send,
+};
+use turn::rules::{
+    Arrival, Endpoint, FiveTuple, Limits, Machine, Moment, Outgoing, PortRange, ServerConfig,
+    Settings, Table, TxId, Users, generate_auth_key,
+};
+
+const REALM: &[u8] = b"example.org";
+
+const USER: &[u8] = b"alice";
+
+const PASSWORD: &[u8] = b"wonder";
 
 /// The client 192.0.2.1:32853, and the server's address that it sends to, 192.0.2.100:3478.
 const FIVE_TUPLE: FiveTuple = FiveTuple {
@@ -29,35 +36,17 @@ const PEER: Endpoint = Endpoint {
     port: 7000,
 };
 
-const ID: TxId = TxId([1, 2, 3, 4, 5, 6, 7, 8, 9, 10, 11, 12]);
+/// The transaction id of the Allocates. The response has it again, by which a client knows what is answered.
+const ALLOCATE_ID: TxId = TxId([1, 2, 3, 4, 5, 6, 7, 8, 9, 10, 11, 12]);
 
-/// What the client sends, each datagram with its second: an Allocate without credentials, which is challenged; the same
-/// with the credentials of alice and the nonce of the challenge; a CreatePermission for the peer; `hello` for the peer.
-const DATAGRAMS: [(u64, &str); 4] = [
-    (
-        1000,
-        "000300082112a4420102030405060708090a0b0c0019000411000000",
-    ),
-    (
-        1000,
-        "000300902112a4420102030405060708090a0b0c001900041100000000060005616c6963650000000014000b6578616d706c652e6f726700001500503030303030303030303030303033653836376234363161613630393434666632643533616132333762363430376331616236373739633534386532393739373662336265643037383430353639343839000800142e8b21b3d028a40d856c10c6e9597ba44aa87efa",
-    ),
-    (
-        1000,
-        "000800942112a4420102030405060708090a0b0d0012000800013a4aea12d54700060005616c6963650000000014000b6578616d706c652e6f726700001500503030303030303030303030303033653836376234363161613630393434666632643533616132333762363430376331616236373739633534386532393739373662336265643037383430353639343839000800140d3b33a728748711d746305715d473a9b0cffc19",
-    ),
-    (
-        1001,
-        "001600182112a4420102030405060708090a0b0e0012000800013a4aea12d5470013000568656c6c6f000000",
-    ),
-];
+const PERMISSION_ID: TxId = TxId([1, 2, 3, 4, 5, 6, 7, 8, 9, 10, 11, 13]);
 
 type Server = Machine<Users, PortRange>;
 
 /// A server of one user, with the relayed ports 50000 to 50009 of 198.51.100.1 and an empty table.
 fn server(alloc: Global) -> Result<Server> {
     let settings = Settings {
-        realm: b"example.org",
+        realm: REALM,
         secret: [0; 32],
         relay: 0xC633_6401,
         quota: 2,
@@ -66,10 +55,7 @@ fn server(alloc: Global) -> Result<Server> {
     };
     let config = ServerConfig::new(alloc, settings)?;
     let mut users = Users::new(alloc);
-    users.add(
-        b"alice",
-        generate_auth_key(b"alice", b"example.org", b"wonder"),
-    )?;
+    users.add(USER, generate_auth_key(USER, REALM, PASSWORD))?;
     let ports = PortRange::new(50000, 50009).context("ports")?;
     let table = Table::new(alloc, config.limits(), Moment::new(0).context("moment")?);
     Machine::new(alloc, config, users, ports, table, false)
@@ -77,57 +63,104 @@ fn server(alloc: Global) -> Result<Server> {
         .context("memory")
 }
 
-/// Hands an arrival at a second to the server, and prints what it sends.
-fn step(rt: &HostRuntime, server: &mut Server, second: u64, arrival: &Arrival<'_>) -> Result<()> {
+/// Hands an arrival at a second to the server, and prints and returns what is to be sent, which is at most one datagram.
+fn play(
+    rt: &HostRuntime,
+    server: &mut Server,
+    second: u64,
+    arrival: &Arrival<'_>,
+) -> Result<Option<Outgoing>> {
     let moment = Moment::new(second).context("moment")?;
+    // `Machine::step` requires it: without these lines the example isn't proved.
     if moment < server.moment() {
         bail!("the clock went back");
     }
-    match server.step(moment, arrival)? {
+    let outgoing = server.step(moment, arrival)?;
+    match &outgoing {
         Some(Outgoing::ToClient { bytes, .. }) => {
-            println!(rt;
-                "{second} to the client: {}",
-                hex::encode(rt.alloc(), bytes.as_slice())?
-            )?;
+            let text = hex::encode(rt.alloc(), bytes.as_slice())?;
+            println!(rt; "{second} to the client: {text}")?;
         }
         Some(Outgoing::ToPeer { port, bytes, .. }) => {
-            println!(rt;
-                "{second} from port {port} to the peer: {}",
-                hex::encode(rt.alloc(), bytes.as_slice())?
-            )?;
+            let text = hex::encode(rt.alloc(), bytes.as_slice())?;
+            println!(rt; "{second} from port {port} to the peer: {text}")?;
         }
         None => println!(rt; "{second} nothing")?,
     }
-    Ok(())
+    Ok(outgoing)
+}
+
+fn from_client(bytes: &[u8]) -> Arrival<'_> {
+    Arrival::Client {
+        five_tuple: FIVE_TUPLE,
+        bytes,
+    }
+}
+
+/// An Allocate without credentials, for UDP: protocol 17 (RFC 8656, section 18.8).
+fn plain_allocate(alloc: Global) -> Result<Vec<u8>> {
+    let mut message = Builder::new(alloc, Class::Request, Method::ALLOCATE, ALLOCATE_ID)?;
+    message.push(AttributeType::REQUESTED_TRANSPORT, &[17, 0, 0, 0])?;
+    Ok(message.finish())
+}
+
+/// The nonce of a challenge, which the client's requests have from then on.
+fn nonce_of(alloc: Global, challenge: &Option<Outgoing>) -> Result<Vec<u8>> {
+    let Some(Outgoing::ToClient { bytes, .. }) = challenge else {
+        bail!("no challenge");
+    };
+    let message = Message::parse(bytes)?;
+    let nonce = message.find(AttributeType::NONCE).context("nonce")?;
+    Ok(Vec::from_slice(alloc, nonce)?)
+}
+
+/// A request with the user's credentials and these attributes.
+fn signed(
+    alloc: Global,
+    method: Method,
+    tx: TxId,
+    attributes: &[Attribute],
+    nonce: &[u8],
+) -> Result<Vec<u8>> {
+    let request = Request {
+        method,
+        tx,
+        attributes,
+        user: USER,
+        realm: REALM,
+    };
+    let key = generate_auth_key(USER, REALM, PASSWORD);
+    Ok(build_request(alloc, &request, &key, nonce)?)
 }
 
 fn main(rt: HostRuntime) -> Result<()> {
-    let mut server = server(rt.alloc())?;
-    for (second, text) in &DATAGRAMS {
-        let bytes = hex::decode(rt.alloc(), *text)?;
-        step(
-            &rt,
-            &mut server,
-            *second,
-            &Arrival::Client {
-                five_tuple: FIVE_TUPLE,
-                bytes: &bytes,
-            },
-        )?;
-    }
-    // The permission lasts 300 seconds.
+    let alloc = rt.alloc();
+    let mut server = server(alloc)?;
+    let allocate = plain_allocate(alloc)?;
+    let challenge = play(&rt, &mut server, 1000, &from_client(&allocate))?;
+    let nonce = nonce_of(alloc, &challenge)?;
+    let allocate = signed(alloc, Method::ALLOCATE, ALLOCATE_ID, &[], &nonce)?;
+    play(&rt, &mut server, 1000, &from_client(&allocate))?;
+    let attributes = [Attribute::Peer(PEER)];
+    let permit = signed(
+        alloc,
+        Method::CREATE_PERMISSION,
+        PERMISSION_ID,
+        &attributes,
+        &nonce,
+    )?;
+    play(&rt, &mut server, 1000, &from_client(&permit))?;
+    let hello = build_send(alloc, PEER, b"hello")?;
+    play(&rt, &mut server, 1001, &from_client(&hello))?;
+    // The permission lasts 300 seconds (RFC 8656, section 9).
     for second in [1299, 1300] {
-        step(
-            &rt,
-            &mut server,
-            second,
-            &Arrival::Peer {
-                port: 50000,
-                from: PEER,
-                bytes: b"hello",
-                id: ID,
-            },
-        )?;
+        let arrival = Arrival::Peer {
+            port: 50000,
+            from: PEER,
+            bytes: b"hello",
+            id: ALLOCATE_ID,
+        };
+        play(&rt, &mut server, second, &arrival)?;
     }
     Ok(())
 }

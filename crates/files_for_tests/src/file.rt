@@ -25,7 +25,7 @@ pub trait FileCalls {
     }
 }
 
-/// A file with these calls. It has no metadata, and its length can't be set.
+/// A file with these calls. It has no metadata, its length can't be set, and it is synced by `sync_data` alone: `sync_all` fails.
 #[derive(Drop)]
 pub struct TestFile<F>(pub F);
 
@@ -49,7 +49,7 @@ impl<F: FileCalls> OpenFile for TestFile<F> {
     }
 
     fn sync_all(&self) -> io::Result<()> {
-        self.0.sync()
+        Err(Error::from(ErrorKind::Other))
     }
 
     fn sync_data(&self) -> io::Result<()> {

@@ -101,7 +101,7 @@ module _ {D N H G T : Type 0} (disk : disks.Ghosts D) (following : disks.Ghosts 
         let h = accepted (arrivals sure recent) in
         let k = length (accepted (map taken_of sure)) in
         let ended = before_stop disk handler ports s after image last stopped (next.honest honest) in
-        let kept = again.opening.honest (before_turns disk handler ports s server turns.steps after turns.serves turns.last ended) in
+        let kept = again.opening.uses.honest (before_turns disk handler ports s server turns.steps after turns.serves turns.last ended) in
         let w : World D H G = Down again.middle users again.generator in
         let stands : IsDown disk handler ports form s again.middle users again.generator sure recent m = record {
           keys = keys;

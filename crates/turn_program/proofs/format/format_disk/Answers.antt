@@ -1,8 +1,8 @@
-use Rattle.std.proofs.Common.{rules}
+use Rattle.std.proofs.Common.{rules, ◌∙◌}
 use Rattle.turn_program.proofs.format.format_disk.Goals as goal
 
 pub returns-clause-count : goal.returns-clause-count
-returns-clause-count g c = search rules
+returns-clause-count g c = c.in_ok-format.ensures.uses.count (λ e. cc) ∙ c.in_ok-write_zeros.ensures.count
 
 pub returns-clause-formatted : goal.returns-clause-formatted
 returns-clause-formatted g c = search rules

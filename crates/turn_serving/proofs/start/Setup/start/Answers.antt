@@ -14,12 +14,12 @@ returns-in-Err-open-clause-same_err g c honest later =
 
 pub returns-then-not-holds_ports-clause-honest_err : goal.returns-then-not-holds_ports-clause-honest_err
 returns-then-not-holds_ports-clause-honest_err g c honest =
-    c.in-Ok.ensures.kept.images.honest (c.in-Ok-open.ensures.opens.honest (subst (λ d. g.D.Disk.is_honest d) c.close-disk.ensures.disk honest))
+    c.in-Ok.ensures.kept.images.honest (c.in-Ok-open.ensures.opens.uses.honest (subst (λ d. g.D.Disk.is_honest d) c.close-disk.ensures.disk honest))
 
 pub returns-then-not-holds_ports-clause-same_err : goal.returns-then-not-holds_ports-clause-same_err
 returns-then-not-holds_ports-clause-same_err g c honest later =
     let now = subst (λ d. g.D.Disk.is_honest d) c.close-disk.ensures.disk honest in
-    let unasked = c.is_first-carry.ensures ∙ not_first _ _ (c.in-Ok.ensures.version (c.in-Ok-open.ensures.opens.honest now)) later in
+    let unasked = c.is_first-carry.ensures ∙ not_first _ _ (c.in-Ok.ensures.version (c.in-Ok-open.ensures.opens.uses.honest now)) later in
     ap (λ d. (g.D.Disk.trace d).now.bytes) c.close-disk.ensures.disk ∙ (both_kept g.D.Disk c.in-Ok.ensures.kept (c.in-Ok-open.ensures.kept unasked)).content now
 
 pub returns-then-not-holds_ports-clause-stop_err : goal.returns-then-not-holds_ports-clause-stop_err
@@ -41,7 +41,7 @@ returns-clause-held g c = rw c.new.ensures (c.holds_ports.ensures.0 search)
 pub returns-clause-same : goal.returns-clause-same
 returns-clause-same g c honest later =
     let now = subst (λ s. g.D.Disk.is_honest s.store.disk) c.new.ensures honest in
-    let unasked = c.is_first-carry.ensures ∙ not_first _ _ (c.in-Ok.ensures.version (c.in-Ok-open.ensures.opens.honest now)) later in
+    let unasked = c.is_first-carry.ensures ∙ not_first _ _ (c.in-Ok.ensures.version (c.in-Ok-open.ensures.opens.uses.honest now)) later in
     ap (λ s. (g.D.Disk.trace s.store.disk).now.bytes) c.new.ensures ∙ (both_kept g.D.Disk c.in-Ok.ensures.kept (c.in-Ok-open.ensures.kept unasked)).content now
 
 pub returns-clause-stop : goal.returns-clause-stop

@@ -1,0 +1,48 @@
+//! A TURN server without sockets (RFC 8656 over UDP and IPv4, in this project's profile), for programs that bring their own. It has no
+//! function of its own: each item is that of a crate below, with its contract.
+//!
+//! - `rules`: what an arrival sends, and what it does to the table of allocations.
+//! - `engine`: the same over a store on a disk, which survives stops at any moment.
+//! - `messages`: what a client writes and reads, for tests and for clients.
+//! - `scenarios`: servers over a disk in memory that fails and crashes when it is told to, by steps or by a text.
+//!
+//! # What a program does, in order
+//!
+//! 1. A configuration: `ServerConfig::new`, of `Settings` that are in range. `Limits` bound what a server holds.
+//! 2. A handler, which knows the keys of users: `Users` (a list), `SharedSecret` (time-limited names), `Credentials` (both), or an
+//!    `AuthHandler` of its own, as in `example_handler`. A user's key is `generate_auth_key` of name, realm and password.
+//! 3. A generator of relayed ports: `PortRange`, which binds nothing, or a `RelayAddressGenerator` of its own, which may hold a socket for
+//!    each port that it gives out.
+//! 4. A machine or a server. `Machine::new` is over a `Table` in memory, as in `example_step`. `Server::open` is over a `Disk` with a
+//!    store, as in `example_crash`. `format` makes a disk a store once: it has `64 + 2 * area` bytes, and `area` is at least
+//!    `least_area` of the limits. `FileDisk` is a file, and `MemoryDisk` is for tests.
+//! 5. Datagrams in, each as an `Arrival` at a `Moment`. The moments of a machine or a server never go back, nor do those of all servers over
+//!    one store: `Machine::step` requires a moment that is not before `Machine::moment`, and `Server::submit` one that is not before
+//!    `Server::clock`.
+//! 6. Datagrams out, each as an `Outgoing`. An arrival leads to at most one. `Machine::step` returns it. `Server::submit` stages it, and
+//!    `Server::commit` returns all that are staged, in their order.
+//!
+//! A success response may be sent once `Server::commit` has returned it: only then is what it says durable. A commit that fails returns
+//! nothing, and the server is stopped: each later call is refused. Then `Server::close` returns the disk, which may be opened
+//! again. A program that stores acts itself does so between `Machine::prepare`, which decides, and `Machine::apply`, which returns
+//! what is to be sent.
+//!
+//! # Units
+//!
+//! - A `Moment` is a number of seconds, below 2^40 - 3,600, since any start that all moments share. Lifetimes are in seconds.
+//! - An IPv4 address is a `u32` whose highest byte is the address's first: 192.0.2.1 is `0xC000_0201`. A port is its number.
+//! - The bytes of an arrival and of an outgoing datagram are the whole payload of a UDP datagram, as on the wire: numbers in them are in
+//!   network byte order.
+//! - Sizes and positions on a disk are in bytes.
+//!
+//! # Errors
+//!
+//! Calls that allocate return an error where memory is out. After `SubmitRefused::Memory`, and after an `Err` of `Machine::step`, the
+//! clock is at the arrival's moment, what has expired by then is gone, nothing else has changed, and further arrivals are taken.
+//! `SubmitRefused::BatchFull` comes once as many arrivals are staged as `Limits::acts` says, 1 to 64, until the next commit.
+#![tactic(auto)]
+
+pub mod engine;
+pub mod messages;
+pub mod rules;
+pub mod scenarios;
