@@ -2,10 +2,13 @@
 //! and answered.
 #![tactic(auto)]
 
+mod calls;
 mod fault;
 mod kept;
 mod laws;
 mod listening;
+mod relay_sockets;
+mod sending;
 mod serving;
 mod start;
 mod turn;
@@ -14,7 +17,7 @@ mod watch;
 pub use fault::{StartFault, StartRefused, TurnFault};
 pub use kept::may_change;
 pub use laws::{others_change_nothing, turns_keep_ports, turns_make_runs};
+pub use relay_sockets::RelaySockets;
 pub use serving::{Commits, Serving, SocketServing};
 pub use start::Setup;
-pub use turn::RelaySockets;
 pub use watch::{Silent, Watch};

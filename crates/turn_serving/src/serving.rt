@@ -10,10 +10,13 @@ ghost use Rattle.turn_step.specs.Answer.{Setting};
 ghost use Rattle.turn_store.specs.State.{form_of};
 ghost use Rattle.turn_serving.specs.Turns.{Served};
 
+use crate::calls::{flush, submit_kept};
 use crate::fault::TurnFault;
 use crate::kept::Kept;
 use crate::listening::{Listening, WAIT_MILLIS, Waiting};
-use crate::turn::{RelaySockets, Taken, Turn, Work, flush, send_all, submit_kept};
+use crate::relay_sockets::RelaySockets;
+use crate::sending::send_all;
+use crate::turn::{Taken, Turn, Work};
 use crate::watch::{Silent, Watch};
 use std::alloc::{AllocError, Allocator, Global};
 use std::marker::Model;

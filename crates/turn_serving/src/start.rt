@@ -15,8 +15,9 @@ ghost use Rattle.turn_serving.specs.Starts.{IsBeforeReopening, IsKept, IsOfVersi
 
 use crate::fault::{StartFault, StartRefused};
 use crate::listening::{ATTEMPTS, Listening, Waiting, pause};
+use crate::relay_sockets::RelaySockets;
 use crate::serving::{Commits, Serving, SocketServing};
-use crate::turn::{RelaySockets, Work};
+use crate::turn::Work;
 use crate::watch::Watch;
 use mio::Poll;
 use std::alloc::{AllocError, Allocator, Global};

@@ -1,181 +1,25 @@
 //! What a turn does with one socket.
 
-ghost use Rattle.std.specs.Prelude.{◌≡◌, ◌≢◌, ◌≤◌, ◌↔◌, ℕ, All, Bool, IsTrue, OnOk, false, is_some, true};
+ghost use Rattle.std.specs.Prelude.{◌≤◌, false, true};
 ghost use Rattle.std.specs.BTreeMap.{get};
-ghost use Rattle.std.specs.Ordering.{nat_cmp};
-ghost use Rattle.turn_engine.specs.State.{emptied, now_of};
-ghost use Rattle.turn_serving.specs.Turns.{At, Never, Served};
-ghost use Rattle.turn_sockets.specs.Own.{IsListening, IsNamed};
+ghost use Rattle.turn_engine.specs.State.{now_of};
+ghost use Rattle.turn_serving.specs.Turns.{At, Served};
 
+use crate::calls::{flush, submit};
 use crate::fault::TurnFault;
 use crate::kept::{Kept, may_change};
 use crate::listening::{ClientSocket, Listening};
+use crate::relay_sockets::RelaySockets;
 use crate::watch::Watch;
-use mio::net::UdpSocket;
 use std::alloc::{Allocator, Global};
-use std::net::Net;
 use turn_cred::AuthHandler;
 use turn_disk::Disk;
-use turn_engine::{Server, SubmitRefused};
-use turn_ports::{PortSet, RelayAddressGenerator};
-use turn_sockets::{
-    Buffer, DataIds, LISTENING, Order, OwnAddresses, Ready, Received, SocketPorts, address_of,
-};
-use turn_step::{Arrival, Outgoing};
+use turn_engine::Server;
+use turn_ports::RelayAddressGenerator;
+use turn_sockets::{Buffer, DataIds, LISTENING, Order, Ready, Received};
+use turn_step::Arrival;
 use turn_table::Table;
 use turn_types::{Endpoint, Moment};
-
-/// Relay ports with sockets.
-pub trait RelaySockets: RelayAddressGenerator {
-    /// Whether a port has a socket.
-    ghost has_socket: { Self → ℕ → Bool };
-
-    /// The socket of a port.
-    fn socket(&self, port: u16) -> Option<&UdpSocket>
-        ensures { is_some result ≡ has_socket self.now port };
-
-    /// Whether each port that has a socket is in a set.
-    fn are_all_in<S: PortSet>(&self, ports: &S) -> bool
-        ensures { IsTrue result ↔ ((port : ℕ) → has_socket self.now port ≡ true → S.has ports.now port ≡ true) };
-
-    /// Whether an address is one of this machine.
-    fn is_local(&self, ip: u32) -> bool;
-}
-
-impl<'a, R: Net, A: Allocator + Copy> RelaySockets for SocketPorts<'a, R, A> {
-    ghost has_socket = { λ ports port. is_some (get nat_cmp ports.sockets port) };
-
-    fn socket(&self, port: u16) -> Option<&UdpSocket> {
-        self.socket(port)
-    }
-
-    fn are_all_in<S: PortSet>(&self, ports: &S) -> bool {
-        self.are_all_in(ports)
-    }
-
-    fn is_local(&self, ip: u32) -> bool {
-        self.is_local(ip)
-    }
-}
-
-/// Whether what a relay port sends to a peer would come to a socket that clients send to. Where only one with the address 0.0.0.0
-/// may be meant, the peer's has to be one of this machine.
-#[tactic(auto, using(crate::proofs::Named::by_name, crate::proofs::Named::listens))]
-fn is_listening<G: RelaySockets>(own: &OwnAddresses, ports: &G, peer: Endpoint) -> bool
-    ensures only { IsTrue result → IsListening own.now peer }
-    ensures named { All (λ a. a.ip ≢ 0) own.now.listening → (IsTrue result ↔ IsListening own.now peer) }
-    ensures by_name { IsNamed own.now peer → IsTrue result }
-{
-    own.is_listening(peer) && (own.is_named(peer) || ports.is_local(peer.ip))
-}
-
-/// Sends a datagram, to a client by the socket that its five-tuple names. One that can't be sent is lost, as on any link; so is one
-/// from a relay port to the server itself, and one to a client of an address that no socket has any more.
-fn send<G: RelaySockets, A: Allocator + Copy, W: Watch + Drop>(
-    listening: &Listening<W, A>,
-    ports: &G,
-    outgoing: &Outgoing<A>,
-) {
-    match outgoing {
-        Outgoing::ToClient { five_tuple, bytes } => {
-            // The address that the client sent to.
-            if let Some(client) = listening.socket_of(*five_tuple) {
-                let to = address_of(five_tuple.client);
-                let _ = client.socket.send_to(bytes.as_slice(), to);
-            }
-        }
-        Outgoing::ToPeer { port, peer, bytes } => {
-            if is_listening(&listening.own, ports, *peer) {
-                return;
-            }
-            if let Some(socket) = ports.socket(*port) {
-                let _ = socket.send_to(bytes.as_slice(), address_of(*peer));
-            }
-        }
-    }
-}
-
-/// Sends what a commit handed out, in its order. Then the watch sees it.
-pub(crate) fn send_all<
-    D: Disk,
-    H: AuthHandler,
-    G: RelaySockets,
-    A: Allocator + Copy,
-    W: Watch + Drop,
->(listening: &Listening<W, A>, server: &Server<D, H, G, A>, outgoing: &[Outgoing<A>]) {
-    for datagram in outgoing {
-        send(listening, server.ports(), datagram);
-    }
-    listening
-        .watch
-        .sent(server.clock(), server.table(), outgoing);
-}
-
-/// Commits, and sends what is handed out.
-pub(crate) fn flush<D: Disk, H: AuthHandler, G: RelaySockets, A: Allocator + Copy, W: Watch + Drop>(
-    listening: &Listening<W, A>,
-    server: &mut Server<D, H, G, A>,
-) -> Result<(), TurnFault>
-    ensures served { Served D.Disk H.AuthHandler G.RelayAddressGenerator Never server.old server.new }
-    ensures done { OnOk result (server.new ≡ emptied server.old server.new.store) }
-    ensures runs { OnOk result (server.new.store.stopped ≡ false) }
-    ensures clock { now_of server.new ≡ now_of server.old }
-{
-    let outgoing = server.commit()?;
-    send_all(listening, server, &outgoing);
-    Ok(())
-}
-
-/// Submits an arrival. Where the batch is full, it is committed first. An arrival that is refused for memory is dropped.
-pub(crate) fn submit<
-    D: Disk,
-    H: AuthHandler,
-    G: RelaySockets,
-    A: Allocator + Copy,
-    W: Watch + Drop,
->(
-    listening: &Listening<W, A>,
-    server: &mut Server<D, H, G, A>,
-    moment: Moment,
-    arrival: &Arrival<'_>,
-) -> Result<(), TurnFault>
-    requires { now_of server.old ≤ moment }
-    ensures served { Served D.Disk H.AuthHandler G.RelayAddressGenerator (At moment) server.old server.new }
-    ensures clock { now_of server.new ≤ moment }
-{
-    if server.submit(moment, arrival) == Err(SubmitRefused::BatchFull) {
-        flush(listening, server)?;
-        let _ = server.submit(moment, arrival);
-    }
-    Ok(())
-}
-
-/// Submits requests that waited, in their order.
-pub(crate) fn submit_kept<
-    D: Disk,
-    H: AuthHandler,
-    G: RelaySockets,
-    A: Allocator + Copy,
-    W: Watch + Drop,
->(
-    listening: &Listening<W, A>,
-    server: &mut Server<D, H, G, A>,
-    moment: Moment,
-    kept: &Kept<A>,
-) -> Result<(), TurnFault>
-    requires { now_of server.old ≤ moment }
-    ensures served { Served D.Disk H.AuthHandler G.RelayAddressGenerator (At moment) server.old server.new }
-    ensures clock { now_of server.new ≤ moment }
-{
-    for request in kept.requests() {
-        let arrival = Arrival::Client {
-            five_tuple: request.five_tuple,
-            bytes: request.bytes.as_slice(),
-        };
-        submit(listening, server, moment, &arrival)?;
-    }
-    Ok(())
-}
 
 /// What a turn works with, beside the server.
 #[derive(Drop)]

@@ -1,5 +1,5 @@
 use Rattle.turn_serving.proofs.Turns.{committed}
-use Rattle.turn_serving.proofs.turn.flush.Goals as goal
+use Rattle.turn_serving.proofs.calls.flush.Goals as goal
 
 pub returns-in_err-outgoing-clause-served : goal.returns-in_err-outgoing-clause-served
 returns-in_err-outgoing-clause-served g c = committed g.G.RelayAddressGenerator c.in_err-outgoing.ensures.call

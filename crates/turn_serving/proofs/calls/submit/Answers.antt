@@ -1,5 +1,5 @@
 use Rattle.turn_serving.proofs.Turns.{none, submitted, then}
-use Rattle.turn_serving.proofs.turn.submit.Goals as goal
+use Rattle.turn_serving.proofs.calls.submit.Goals as goal
 
 pub returns-in_ok-flush-clause-served : goal.returns-in_ok-flush-clause-served
 returns-in_ok-flush-clause-served g c = then (submitted c.submit.ensures.call) (then (none c.flush.ensures.served) (submitted c.submit-then-eq.ensures.call))

@@ -1,0 +1,85 @@
+//! The calls of a server in a turn: of `submit` and of `commit`.
+
+ghost use Rattle.std.specs.Prelude.{◌≡◌, ◌≤◌, OnOk, false};
+ghost use Rattle.turn_engine.specs.State.{emptied, now_of};
+ghost use Rattle.turn_serving.specs.Turns.{At, Never, Served};
+
+use crate::fault::TurnFault;
+use crate::kept::Kept;
+use crate::listening::Listening;
+use crate::relay_sockets::RelaySockets;
+use crate::sending::send_all;
+use crate::watch::Watch;
+use std::alloc::Allocator;
+use turn_cred::AuthHandler;
+use turn_disk::Disk;
+use turn_engine::{Server, SubmitRefused};
+use turn_ports::RelayAddressGenerator;
+use turn_step::Arrival;
+use turn_types::Moment;
+
+/// Commits, and sends what is handed out.
+pub(crate) fn flush<D: Disk, H: AuthHandler, G: RelaySockets, A: Allocator + Copy, W: Watch + Drop>(
+    listening: &Listening<W, A>,
+    server: &mut Server<D, H, G, A>,
+) -> Result<(), TurnFault>
+    ensures served { Served D.Disk H.AuthHandler G.RelayAddressGenerator Never server.old server.new }
+    ensures done { OnOk result (server.new ≡ emptied server.old server.new.store) }
+    ensures runs { OnOk result (server.new.store.stopped ≡ false) }
+    ensures clock { now_of server.new ≡ now_of server.old }
+{
+    let outgoing = server.commit()?;
+    send_all(listening, server, &outgoing);
+    Ok(())
+}
+
+/// Submits an arrival. Where the batch is full, it is committed first. An arrival that is refused for memory is dropped.
+pub(crate) fn submit<
+    D: Disk,
+    H: AuthHandler,
+    G: RelaySockets,
+    A: Allocator + Copy,
+    W: Watch + Drop,
+>(
+    listening: &Listening<W, A>,
+    server: &mut Server<D, H, G, A>,
+    moment: Moment,
+    arrival: &Arrival<'_>,
+) -> Result<(), TurnFault>
+    requires { now_of server.old ≤ moment }
+    ensures served { Served D.Disk H.AuthHandler G.RelayAddressGenerator (At moment) server.old server.new }
+    ensures clock { now_of server.new ≤ moment }
+{
+    if server.submit(moment, arrival) == Err(SubmitRefused::BatchFull) {
+        flush(listening, server)?;
+        let _ = server.submit(moment, arrival);
+    }
+    Ok(())
+}
+
+/// Submits requests that waited, in their order.
+pub(crate) fn submit_kept<
+    D: Disk,
+    H: AuthHandler,
+    G: RelaySockets,
+    A: Allocator + Copy,
+    W: Watch + Drop,
+>(
+    listening: &Listening<W, A>,
+    server: &mut Server<D, H, G, A>,
+    moment: Moment,
+    kept: &Kept<A>,
+) -> Result<(), TurnFault>
+    requires { now_of server.old ≤ moment }
+    ensures served { Served D.Disk H.AuthHandler G.RelayAddressGenerator (At moment) server.old server.new }
+    ensures clock { now_of server.new ≤ moment }
+{
+    for request in kept.requests() {
+        let arrival = Arrival::Client {
+            five_tuple: request.five_tuple,
+            bytes: request.bytes.as_slice(),
+        };
+        submit(listening, server, moment, &arrival)?;
+    }
+    Ok(())
+}

@@ -1,0 +1,44 @@
+//! Relay ports with sockets.
+
+ghost use Rattle.std.specs.Prelude.{◌≡◌, ◌↔◌, ℕ, Bool, IsTrue, is_some, true};
+ghost use Rattle.std.specs.BTreeMap.{get};
+ghost use Rattle.std.specs.Ordering.{nat_cmp};
+
+use mio::net::UdpSocket;
+use std::alloc::Allocator;
+use std::net::Net;
+use turn_ports::{PortSet, RelayAddressGenerator};
+use turn_sockets::SocketPorts;
+
+/// Relay ports with sockets.
+pub trait RelaySockets: RelayAddressGenerator {
+    /// Whether a port has a socket.
+    ghost has_socket: { Self → ℕ → Bool };
+
+    /// The socket of a port.
+    fn socket(&self, port: u16) -> Option<&UdpSocket>
+        ensures { is_some result ≡ has_socket self.now port };
+
+    /// Whether each port that has a socket is in a set.
+    fn are_all_in<S: PortSet>(&self, ports: &S) -> bool
+        ensures { IsTrue result ↔ ((port : ℕ) → has_socket self.now port ≡ true → S.has ports.now port ≡ true) };
+
+    /// Whether an address is one of this machine.
+    fn is_local(&self, ip: u32) -> bool;
+}
+
+impl<'a, R: Net, A: Allocator + Copy> RelaySockets for SocketPorts<'a, R, A> {
+    ghost has_socket = { λ ports port. is_some (get nat_cmp ports.sockets port) };
+
+    fn socket(&self, port: u16) -> Option<&UdpSocket> {
+        self.socket(port)
+    }
+
+    fn are_all_in<S: PortSet>(&self, ports: &S) -> bool {
+        self.are_all_in(ports)
+    }
+
+    fn is_local(&self, ip: u32) -> bool {
+        self.is_local(ip)
+    }
+}
