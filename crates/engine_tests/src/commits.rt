@@ -3,7 +3,7 @@
 use crate::player::play;
 use crate::row::{ALLOCATE, REQUEST, Row, SUCCESS, Sent};
 use crate::setup::{PAIR, SMALL};
-use requests_for_tests::{BOB, FIRST, Kind, SECOND, UDP};
+use test_requests::{BOB, FIRST, Kind, SECOND, UDP};
 
 /// An open gate, version 1, generation 1, a snapshot of 12 bytes (moment 0, no entry), a closed gate.
 const FRESH_AREA: &[u8] = b"\xa5\x01\x00\x00\x00\x00\x00\x00\x00\x01\x00\x00\x00\x0c\

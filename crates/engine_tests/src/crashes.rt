@@ -3,10 +3,10 @@
 use crate::player::{Player, play_on};
 use crate::row::{Row, Sent};
 use crate::stops::staged;
-use requests_for_tests::FIRST;
 use std::alloc::Global;
 use std::process::Abort;
-use turn_disk::Outcome;
+use test_requests::FIRST;
+use turn_disk::CrashOutcome;
 
 /// The store has alice's allocation of 1000, and her Allocate at 1200 is answered by the same success.
 const AT_1000: &[Row] = &[
@@ -31,7 +31,7 @@ const HANDED_OUT: [(u64, &[Row]); 2] = [(1000, AT_1000), (1006, AT_1006)];
 
 fn commit_and_crash(rt: &impl Abort, mut player: Player, rows: &[Row]) {
     player.play(rt, &[Row::Commit(&[Sent::Code(FIRST, 0)])]);
-    player.crash_and_play(rt, Outcome::Lost, rows);
+    player.crash_and_play(rt, CrashOutcome::Lost, rows);
 }
 
 fn crash_after(rt: &impl Abort, alloc: Global, second: u64, rows: &[Row]) {

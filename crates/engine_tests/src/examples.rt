@@ -3,7 +3,7 @@
 use crate::player::play;
 use crate::row::{Row, Sent};
 use crate::setup::SMALL;
-use requests_for_tests::{ALICE, FIRST, FLAG, HOUR, Kind, LOWEST, PEER, PEER_ENDPOINT, UDP, ZERO};
+use test_requests::{ALICE, FIRST, FLAG, HOUR, Kind, LOWEST, PEER, PEER_ENDPOINT, UDP, ZERO};
 
 // ---- Without credentials
 

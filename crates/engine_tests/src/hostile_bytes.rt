@@ -3,10 +3,10 @@
 use crate::player::Player;
 use crate::row::{ALLOCATE, ALLOCATED, REQUEST, Row};
 use crate::setup::{SMALL, made};
-use requests_for_tests::{FIRST, code_of, five_tuple, of_client};
 use std::alloc::Global;
 use std::process::Abort;
-use turn_codec::{Malformed, Message};
+use test_requests::{FIRST, code_of, five_tuple, of_client};
+use turn_codec::{Message, MessageError};
 use turn_disk::Disk;
 use turn_step::Outgoing;
 use turn_types::Method;
@@ -39,9 +39,9 @@ fn front(len: usize) -> &'static [u8] {
 /// Why the bytes before a place are no message: a header has 20 bytes, and the length in it is that of the whole Allocate.
 fn is_malformed(place: usize) -> bool {
     let expected = if place < 20 {
-        Malformed::Short
+        MessageError::Short
     } else {
-        Malformed::BadLength
+        MessageError::BadLength
     };
     match Message::parse(front(place)) {
         Ok(_) => false,

@@ -3,12 +3,12 @@
 use crate::player::{Player, moment};
 use crate::same::{are_same, is_same_table};
 use crate::setup::{LARGE, Setup, made};
-use requests_for_tests::{
+use std::alloc::Global;
+use std::process::Abort;
+use test_requests::{
     ALICE, Attribute, BOB, FIRST, HOUR, ID, Kind, LOWEST, PEER, PEER_ENDPOINT, Ports, SECOND, UDP,
     ZERO, credentials, nonce_of, of_client, signed,
 };
-use std::alloc::Global;
-use std::process::Abort;
 use turn_cred::Credentials;
 use turn_step::{Arrival, Machine, Outgoing};
 use turn_table::Table;

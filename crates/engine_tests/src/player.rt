@@ -3,15 +3,15 @@
 use crate::row::{REQUEST, Row, SUCCESS, Sent};
 use crate::same::{are_live, are_reserved, are_sent, has_at};
 use crate::setup::{Setup, made};
-use refusing::Refusing;
-use requests_for_tests::{
-    Attribute, FIRST, Kind, Ports, User, credentials, nonce_of, of_client, of_peer, signed,
-};
+use failing_alloc::FailingAlloc;
 use std::alloc::{Allocator, Global};
 use std::process::Abort;
+use test_requests::{
+    Attribute, FIRST, Kind, Ports, User, credentials, nonce_of, of_client, of_peer, signed,
+};
 use turn_cred::Credentials;
-use turn_disk::{Disk, MemoryDisk, Outcome};
-use turn_engine::{CommitRefused, Server, SubmitRefused};
+use turn_disk::{CrashOutcome, Disk, MemoryDisk};
+use turn_engine::{CommitError, Server, SubmitError};
 use turn_step::{Arrival, Outgoing};
 use turn_table::Table;
 use turn_types::{Endpoint, Moment};
@@ -111,7 +111,7 @@ impl<A: Allocator + Copy> Player<A> {
         rt: &impl Abort,
         second: u64,
         arrival: &Arrival<'_>,
-    ) -> Result<(), SubmitRefused> {
+    ) -> Result<(), SubmitError> {
         let moment = moment(rt, second);
         assert!(rt; self.server.clock() <= moment);
         self.server.submit(moment, arrival)
@@ -139,7 +139,7 @@ impl<A: Allocator + Copy> Player<A> {
         client: Endpoint,
         kind: Kind,
         attributes: &[Attribute],
-    ) -> Result<(), SubmitRefused> {
+    ) -> Result<(), SubmitError> {
         let nonce = made(rt, nonce_of(second, client), "a nonce");
         let signed = signed(self.alloc, user, kind, &nonce, attributes);
         let bytes = made(rt, signed, "a request");
@@ -147,7 +147,7 @@ impl<A: Allocator + Copy> Player<A> {
     }
 
     /// Submits the arrival of a row.
-    pub fn submit(&mut self, rt: &impl Abort, row: &Row) -> Result<(), SubmitRefused> {
+    pub fn submit(&mut self, rt: &impl Abort, row: &Row) -> Result<(), SubmitError> {
         match row {
             Row::Ask(second, user, client, kind, attributes) => {
                 self.ask(rt, *second, *user, *client, *kind, attributes)
@@ -170,7 +170,7 @@ impl<A: Allocator + Copy> Player<A> {
     pub fn lacks_memory(
         &mut self,
         rt: &impl Abort,
-        refusing: &Refusing<Global>,
+        refusing: &FailingAlloc<Global>,
         row: &Row,
         served: u64,
     ) -> bool {
@@ -180,7 +180,7 @@ impl<A: Allocator + Copy> Player<A> {
         refusing.arm(u64::MAX);
         match taken {
             Ok(()) => assert!(rt; !was_refused),
-            Err(refused) => assert!(rt; was_refused && refused == SubmitRefused::Memory),
+            Err(refused) => assert!(rt; was_refused && refused == SubmitError::Memory),
         }
         was_refused
     }
@@ -192,7 +192,7 @@ impl<A: Allocator + Copy> Player<A> {
     }
 
     /// Whether a commit is refused for this reason.
-    pub fn fails(&mut self, wanted: CommitRefused) -> bool {
+    pub fn fails(&mut self, wanted: CommitError) -> bool {
         match self.server.commit() {
             Ok(_) => false,
             Err(refused) => refused == wanted,
@@ -200,7 +200,7 @@ impl<A: Allocator + Copy> Player<A> {
     }
 
     /// Whether the arrival of a row is refused for this reason, and nothing changes.
-    fn refuses(&mut self, rt: &impl Abort, row: &Row, wanted: SubmitRefused) -> bool {
+    fn refuses(&mut self, rt: &impl Abort, row: &Row, wanted: SubmitError) -> bool {
         let (clock, len) = (self.clock(), self.table().len());
         let is_refused = self.submit(rt, row) == Err(wanted);
         is_refused && self.clock() == clock && self.table().len() == len
@@ -222,8 +222,8 @@ impl<A: Allocator + Copy> Player<A> {
     /// Whether the server is stopped: the arrival of a row and a commit are refused, and the disk stays as it is.
     fn is_stopped(&mut self, rt: &impl Abort, row: &Row) -> bool {
         let kept = self.kept(rt);
-        let refuses = self.refuses(rt, row, SubmitRefused::Stopped);
-        refuses && self.fails(CommitRefused::Stopped) && self.keeps(&kept)
+        let refuses = self.refuses(rt, row, SubmitError::Stopped);
+        refuses && self.fails(CommitError::Stopped) && self.keeps(&kept)
     }
 
     /// Whether a commit hands out nothing and makes no device call.
@@ -250,7 +250,7 @@ impl<A: Allocator + Copy> Player<A> {
             Row::Ask(_, _, _, _, _) | Row::Client(_, _, _) | Row::Peer(_, _, _) => {
                 self.submit(rt, row).is_ok()
             }
-            Row::Full(_, _, _) => self.refuses(rt, row, SubmitRefused::BatchFull),
+            Row::Full(_, _, _) => self.refuses(rt, row, SubmitError::BatchFull),
             Row::Again(_) => {
                 self.submit(rt, row).is_ok() && self.hands_out(rt, &[Sent::Client(FIRST, SUCCESS)])
             }
@@ -288,7 +288,7 @@ impl<A: Allocator + Copy> Player<A> {
 
 impl Player {
     /// Crashes the disk of the closed server, and plays rows at a server that opens it.
-    pub fn crash_and_play(self, rt: &impl Abort, outcome: Outcome, rows: &[Row]) {
+    pub fn crash_and_play(self, rt: &impl Abort, outcome: CrashOutcome, rows: &[Row]) {
         let (alloc, setup) = (self.alloc, self.setup);
         let mut disk = self.close();
         disk.crash(outcome);

@@ -6,18 +6,18 @@ use crate::row::{Row, Sent};
 use crate::same::{are_same, is_same_table};
 use crate::setup::{LARGE, SMALL, made};
 use crate::stops::act_of;
-use refusing::Refusing;
-use requests_for_tests::{
+use failing_alloc::FailingAlloc;
+use std::alloc::{Allocator, Global};
+use std::process::Abort;
+use test_requests::{
     ALICE, BOB, FIRST, HOUR, Kind, LOWEST, PEER, PEER_ENDPOINT, Ports, SECOND, UDP, ZERO,
     credentials,
 };
-use std::alloc::{Allocator, Global};
-use std::process::Abort;
 use turn_cred::Credentials;
 use turn_disk::{Disk, MemoryDisk};
-use turn_engine::{OpenRefused, Server};
+use turn_engine::{Server, ServerOpenError};
 use turn_step::Outgoing;
-use turn_store::OpenFault;
+use turn_store::OpenError;
 use turn_types::ServerConfig;
 
 // ---- Arrivals
@@ -188,7 +188,7 @@ fn go_on<A: Allocator + Copy>(
 /// Whether the growth after so many is refused, which the result says, and after which the server goes on.
 fn is_refused<A: Allocator + Copy>(
     rt: &impl Abort,
-    refusing: &Refusing<Global>,
+    refusing: &FailingAlloc<Global>,
     player: &mut Player<A>,
     other: &mut Player<A>,
     (before, row): &(Before, Row),
@@ -205,7 +205,7 @@ fn is_refused<A: Allocator + Copy>(
 
 /// The same of two new servers.
 fn is_refused_at_first(rt: &impl Abort, alloc: Global, rows: &(Before, Row), served: u64) -> bool {
-    let refusing = Refusing::new(alloc, u64::MAX);
+    let refusing = FailingAlloc::new(alloc, u64::MAX);
     let mut player = Player::new(rt, &refusing, alloc, &LARGE);
     let mut other = Player::new(rt, &refusing, alloc, &LARGE);
     is_refused(rt, &refusing, &mut player, &mut other, rows, served)
@@ -265,7 +265,7 @@ fn disk_of<A: Allocator + Copy>(rt: &impl Abort, alloc: A, content: &[u8]) -> Me
 }
 
 /// What an opening returns that is refused.
-type Refused<A> = OpenRefused<MemoryDisk<A>, Credentials, Ports>;
+type Refused<A> = ServerOpenError<MemoryDisk<A>, Credentials, Ports>;
 
 /// What an opening returned after an allocation failure opens the store, whose server goes on as `OPENED` says.
 fn open_again<A: Allocator + Copy>(
@@ -275,7 +275,7 @@ fn open_again<A: Allocator + Copy>(
     config: &ServerConfig<A>,
     refused: Refused<A>,
 ) {
-    let OpenRefused {
+    let ServerOpenError {
         disk,
         handler,
         ports,
@@ -289,7 +289,7 @@ fn open_again<A: Allocator + Copy>(
 
 /// Whether a refusal is for memory, and the disk is as it was.
 fn is_for_memory<A: Allocator>(refused: &Refused<A>, content: &[u8]) -> bool {
-    refused.fault == OpenFault::Memory
+    refused.fault == OpenError::Memory
         && refused.disk.content() == content
         && refused.disk.failures() == 0
 }
@@ -297,7 +297,7 @@ fn is_for_memory<A: Allocator>(refused: &Refused<A>, content: &[u8]) -> bool {
 /// Whether an opening is refused where the growth after so many is, after which it succeeds.
 fn opening_is_refused<A: Allocator + Copy>(
     rt: &impl Abort,
-    refusing: &Refusing<Global>,
+    refusing: &FailingAlloc<Global>,
     inner: A,
     alloc: Global,
     content: &[u8],
@@ -322,7 +322,7 @@ fn opening_is_refused<A: Allocator + Copy>(
 
 /// How many growths the opening takes, each of which is refused once.
 fn growths_of_an_opening(rt: &impl Abort, alloc: Global, content: &[u8]) -> u64 {
-    let refusing = Refusing::new(alloc, u64::MAX);
+    let refusing = FailingAlloc::new(alloc, u64::MAX);
     for served in 0..64u64 {
         if !opening_is_refused(rt, &refusing, &refusing, alloc, content, served) {
             return served;
@@ -342,7 +342,7 @@ fn opening_that_lacks_memory_returns_what_it_was_passed(rt: HostRuntime) {
 /// Commits an act, with no memory for any growth.
 fn commits_without_memory<A: Allocator + Copy>(
     rt: &impl Abort,
-    refusing: &Refusing<Global>,
+    refusing: &FailingAlloc<Global>,
     player: &mut Player<A>,
     act: &Row,
 ) -> bool {
@@ -357,7 +357,7 @@ fn commits_without_memory<A: Allocator + Copy>(
 /// Thirteen commits, two of which compact.
 fn commit_each<A: Allocator + Copy>(
     rt: &impl Abort,
-    refusing: &Refusing<Global>,
+    refusing: &FailingAlloc<Global>,
     player: &mut Player<A>,
 ) {
     for second in 1000..1013u64 {
@@ -375,7 +375,7 @@ fn reserved<A: Allocator + Copy>(rt: &impl Abort, alloc: A) -> MemoryDisk<A> {
 }
 
 fn commit_over_reserved(rt: &impl Abort, alloc: Global) {
-    let refusing = Refusing::new(alloc, u64::MAX);
+    let refusing = FailingAlloc::new(alloc, u64::MAX);
     let disk = reserved(rt, &refusing);
     let mut player = Player::open(rt, &refusing, alloc, &SMALL, disk);
     commit_each(rt, &refusing, &mut player);

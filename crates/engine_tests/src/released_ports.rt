@@ -4,10 +4,10 @@ use crate::player::{Player, play};
 use crate::row::{ALLOCATE, ALLOCATED, Row, Sent};
 use crate::setup::LARGE;
 use crate::stops::staged;
-use refusing::Refusing;
-use requests_for_tests::{ALICE, Attribute, BOB, FIRST, HOUR, Kind, PEER, SECOND, UDP, ZERO};
+use failing_alloc::FailingAlloc;
 use std::alloc::{Allocator, Global};
 use std::process::Abort;
+use test_requests::{ALICE, Attribute, BOB, FIRST, HOUR, Kind, PEER, SECOND, UDP, ZERO};
 
 /// An allocation of bob at the second client for an hour from second 1000 on.
 const BOBS: Row = Row::Ask(1000, BOB, SECOND, Kind::Allocate, &[UDP, HOUR]);
@@ -117,7 +117,7 @@ const ASKED: [Row; 4] = [
 /// The same of a server that has the allocation.
 fn lacks_memory_beside<A: Allocator + Copy>(
     rt: &impl Abort,
-    refusing: &Refusing<Global>,
+    refusing: &FailingAlloc<Global>,
     player: &mut Player<A>,
     served: u64,
 ) -> bool {
@@ -132,7 +132,7 @@ fn lacks_memory_beside<A: Allocator + Copy>(
 
 /// Whether bob's Allocate beside alice's allocation lacks memory where the growth after so many is refused.
 fn lacks_memory(rt: &impl Abort, alloc: Global, served: u64) -> bool {
-    let refusing = Refusing::new(alloc, u64::MAX);
+    let refusing = FailingAlloc::new(alloc, u64::MAX);
     let mut player = Player::new(rt, &refusing, alloc, &LARGE);
     lacks_memory_beside(rt, &refusing, &mut player, served)
 }

@@ -4,10 +4,10 @@ use crate::commits::BOBS_SUCCESS;
 use crate::player::{Player, play};
 use crate::row::{ALLOCATE, ALLOCATED, Row, Sent};
 use crate::setup::{FIRST_VERSION, SECOND_VERSION};
-use requests_for_tests::{ALICE, Attribute, BOB, FIRST, Kind, SECOND, UDP};
 use std::alloc::Global;
 use std::process::Abort;
-use turn_disk::Outcome;
+use test_requests::{ALICE, Attribute, BOB, FIRST, Kind, SECOND, UDP};
+use turn_disk::CrashOutcome;
 use turn_types::Token;
 
 /// EVEN-PORT with the R bit.
@@ -144,7 +144,7 @@ const AFTER_A_CRASH: [&[Row]; 3] = [&TAKEN, &PASSED_OVER, &EXPIRED];
 
 fn reserve_and_crash(rt: &impl Abort, mut player: Player, rows: &[Row]) {
     player.play(rt, &RESERVED);
-    player.crash_and_play(rt, Outcome::Lost, rows);
+    player.crash_and_play(rt, CrashOutcome::Lost, rows);
 }
 
 fn crash(rt: &impl Abort, alloc: Global, rows: &[Row]) {

@@ -1,7 +1,7 @@
 //! Rows of tests.
 
-use requests_for_tests::{Attribute, FIRST, Kind, User};
-use turn_engine::CommitRefused;
+use test_requests::{Attribute, FIRST, Kind, User};
+use turn_engine::CommitError;
 use turn_types::{Endpoint, Token};
 
 /// A datagram that a commit hands out.
@@ -41,7 +41,7 @@ pub enum Row {
     /// From here on the device call of this number fails, 1 being the next one, if there is one.
     FailCall(u64),
     /// A commit, which is refused.
-    Fails(CommitRefused),
+    Fails(CommitError),
     /// Alice's first Allocate at a second, and a commit. Both are refused since the server is stopped, and the disk stays as
     /// it is.
     Stopped(u64),

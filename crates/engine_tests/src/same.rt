@@ -2,9 +2,9 @@
 
 use crate::row::{Live, Reserved, Sent};
 use crate::setup::made;
-use requests_for_tests::{code_of, five_tuple};
 use std::alloc::Allocator;
 use std::process::Abort;
+use test_requests::{code_of, five_tuple};
 use turn_codec::Message;
 use turn_step::Outgoing;
 use turn_table::{Entry, Table};

@@ -1,9 +1,9 @@
 //! What a server of a test is made of.
 
-use requests_for_tests::{Ports, config};
 use std::alloc::Allocator;
 use std::process::Abort;
 use std::test::Fail;
+use test_requests::{Ports, config};
 use turn_disk::{Disk, MemoryDisk};
 use turn_ports::PortRange;
 use turn_record::Version;

@@ -3,9 +3,9 @@
 use crate::player::Player;
 use crate::row::{ALLOCATE, ALLOCATED, Row, Sent};
 use crate::setup::SMALL;
-use requests_for_tests::{ALICE, FIRST, Kind};
 use std::alloc::Global;
 use std::process::Abort;
+use test_requests::{ALICE, FIRST, Kind};
 
 /// Alice's Refresh.
 fn refresh(second: u64) -> Row {

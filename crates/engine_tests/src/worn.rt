@@ -4,11 +4,11 @@ use crate::player::{Player, play_on};
 use crate::row::{Row, Sent};
 use crate::setup::SMALL;
 use crate::stops::staged;
-use requests_for_tests::{ALICE, FIRST, Kind};
 use std::alloc::Global;
 use std::process::Abort;
+use test_requests::{ALICE, FIRST, Kind};
 use turn_disk::{Disk, MemoryDisk};
-use turn_engine::CommitRefused;
+use turn_engine::CommitError;
 
 /// The disk with the last generation in its first area.
 fn with_last_generation(rt: &impl Abort, alloc: Global, disk: &MemoryDisk) -> MemoryDisk {
@@ -32,9 +32,9 @@ const WORN: [Row; 9] = [
     Row::FailCall(1),
     Row::Ask(1006, ALICE, FIRST, Kind::Refresh, &[]),
     Row::Live(&[(FIRST, 50000, 1606)]),
-    Row::Fails(CommitRefused::Worn),
+    Row::Fails(CommitError::Worn),
     Row::Stopped(1007),
-    Row::Fails(CommitRefused::Stopped),
+    Row::Fails(CommitError::Stopped),
     Row::FailCall(u64::MAX),
 ];
 

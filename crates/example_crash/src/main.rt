@@ -6,7 +6,7 @@ ghost use Rattle.std.specs.Prelude.{◌<◌};
 
 use anyhow::{Context, Result, bail};
 use std::alloc::Global;
-use turn::engine::{MemoryDisk, Outcome, Server, format, least_area};
+use turn::engine::{CrashOutcome, MemoryDisk, Server, format, least_area};
 use turn::messages::{Method, Request, build_request};
 use turn::rules::{
     Arrival, Endpoint, FiveTuple, Limits, Moment, Nonces, Outgoing, PortRange, ServerConfig,
@@ -128,7 +128,7 @@ fn port_of(server: &Stored, user: User) -> u16 {
 }
 
 /// Stops the disk at a device call of the commit that has bob's allocation, lets it crash, and prints what is there then.
-fn stop(rt: &HostRuntime, call: u64, outcome: Outcome) -> Result<()>
+fn stop(rt: &HostRuntime, call: u64, outcome: CrashOutcome) -> Result<()>
     requires { 0 < call }
 {
     let alloc = rt.alloc();
@@ -152,7 +152,7 @@ fn stop(rt: &HostRuntime, call: u64, outcome: Outcome) -> Result<()>
 fn main(rt: HostRuntime) -> Result<()> {
     // A commit of one batch is a write, a sync, a write of one byte, and a sync. At call 5 it is done.
     for call in 1..=5 {
-        for outcome in [Outcome::Lost, Outcome::Kept] {
+        for outcome in [CrashOutcome::Lost, CrashOutcome::Kept] {
             stop(&rt, call, outcome)?;
         }
     }

@@ -8,7 +8,7 @@ ghost use Rattle.example_handler.specs.Devices.{device_key};
 
 use anyhow::{Context, Result, bail};
 use std::alloc::Global;
-use turn::messages::{Message, Method, Received, Request, build_request, read_message};
+use turn::messages::{Message, Method, Request, ServerMessage, build_request, read_message};
 use turn::rules::{
     Arrival, AuthHandler, Endpoint, FiveTuple, Key, Limits, Machine, Moment, Nonces, Outgoing,
     PortRange, ServerConfig, Settings, Table, TxId, generate_auth_key,
@@ -120,10 +120,10 @@ fn ask(rt: &HostRuntime, server: &mut Server, name: &str, password: &[u8]) -> Re
         bail!("no response");
     };
     match read_message(&Message::parse(&bytes)?) {
-        Some(Received::Allocated { port, lifetime, .. }) => {
+        Some(ServerMessage::Allocated { port, lifetime, .. }) => {
             println!(rt; "{name}: port {port} for {lifetime} seconds")?;
         }
-        Some(Received::Error(code)) => println!(rt; "{name}: error {code}")?,
+        Some(ServerMessage::Error(code)) => println!(rt; "{name}: error {code}")?,
         _ => bail!("another response"),
     }
     Ok(())

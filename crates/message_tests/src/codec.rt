@@ -1,10 +1,10 @@
 //! Tests of `turn_codec`.
 
-use refusing::Refusing;
+use failing_alloc::FailingAlloc;
 use std::alloc::{AllocError, Global};
 use std::test::Fail;
 use turn_codec::{
-    AttributeType, Builder, ChannelData, Malformed, Message, PushError, read_xor_address,
+    AttributeType, Builder, ChannelData, Message, MessageError, PushError, read_xor_address,
     xor_address,
 };
 use turn_types::{Addr, Class, Endpoint, Method, PeerAddress, TxId};
@@ -64,12 +64,12 @@ fn a_header_is_read(rt: HostRuntime) -> Result<(), Fail> {
     Ok(())
 }
 
-fn fault_of(bytes: &[u8]) -> Option<Malformed> {
+fn fault_of(bytes: &[u8]) -> Option<MessageError> {
     Message::parse(bytes).err()
 }
 
 /// The fault of the request where one of its bytes is another.
-fn fault_with(place: usize, byte: u8) -> Option<Malformed> {
+fn fault_with(place: usize, byte: u8) -> Option<MessageError> {
     let mut bytes = REQUEST;
     if place < bytes.len() {
         bytes[place] = byte;
@@ -78,14 +78,14 @@ fn fault_with(place: usize, byte: u8) -> Option<Malformed> {
 }
 
 /// A place, another byte there, and the fault.
-const FAULTS: [(usize, u8, Malformed); 7] = [
-    (0, 0x40, Malformed::NotStun),
-    (0, 0x80, Malformed::NotStun),
-    (4, 0x20, Malformed::BadCookie),
-    (7, 0x43, Malformed::BadCookie),
-    (2, 0x01, Malformed::BadLength),
-    (3, 0x02, Malformed::BadLength),
-    (3, 0x04, Malformed::BadLength),
+const FAULTS: [(usize, u8, MessageError); 7] = [
+    (0, 0x40, MessageError::NotStun),
+    (0, 0x80, MessageError::NotStun),
+    (4, 0x20, MessageError::BadCookie),
+    (7, 0x43, MessageError::BadCookie),
+    (2, 0x01, MessageError::BadLength),
+    (3, 0x02, MessageError::BadLength),
+    (3, 0x04, MessageError::BadLength),
 ];
 
 const LONGER: [u8; 21] = [
@@ -94,10 +94,10 @@ const LONGER: [u8; 21] = [
 
 #[test]
 fn what_is_no_message_is_refused_by_its_first_fault(rt: HostRuntime) {
-    assert!(rt; fault_of(&[]) == Some(Malformed::Short));
-    assert!(rt; fault_of(&[0xFF; 19]) == Some(Malformed::Short));
-    assert!(rt; fault_of(&[0xFF; 20]) == Some(Malformed::NotStun));
-    assert!(rt; fault_of(&LONGER) == Some(Malformed::BadLength));
+    assert!(rt; fault_of(&[]) == Some(MessageError::Short));
+    assert!(rt; fault_of(&[0xFF; 19]) == Some(MessageError::Short));
+    assert!(rt; fault_of(&[0xFF; 20]) == Some(MessageError::NotStun));
+    assert!(rt; fault_of(&LONGER) == Some(MessageError::BadLength));
     for (place, byte, fault) in &FAULTS {
         assert!(rt; fault_with(*place, *byte) == Some(*fault));
     }
@@ -105,7 +105,7 @@ fn what_is_no_message_is_refused_by_its_first_fault(rt: HostRuntime) {
 
 #[test]
 fn faults_are_printed(rt: HostRuntime) -> Result<(), Fail> {
-    let malformed = format!(in rt.alloc(); "{}", Malformed::BadCookie)?;
+    let malformed = format!(in rt.alloc(); "{}", MessageError::BadCookie)?;
     assert!(rt; malformed.as_str() == "the datagram doesn't have the magic cookie");
     let too_long = format!(in rt.alloc(); "{}", PushError::TooLong)?;
     assert!(rt; too_long.as_str() == "the attributes would have more than 65,532 bytes");
@@ -118,7 +118,7 @@ const NAMED: [u8; 28] =
     \x00\x06\x00\x00\xee\xee\xee\xee";
 
 /// How many bytes the name is read to have where its attribute has another length.
-fn name_size(size: u8) -> Result<Option<usize>, Malformed> {
+fn name_size(size: u8) -> Result<Option<usize>, MessageError> {
     let mut bytes = NAMED;
     bytes[23] = size;
     match Message::parse(&bytes)?.find(AttributeType::USERNAME) {
@@ -129,12 +129,12 @@ fn name_size(size: u8) -> Result<Option<usize>, Malformed> {
 
 #[test]
 fn an_attribute_ends_where_the_message_does(rt: HostRuntime) {
-    assert!(rt; name_size(0) == Err(Malformed::AttributeOverruns));
+    assert!(rt; name_size(0) == Err(MessageError::AttributeOverruns));
     assert!(rt; name_size(1) == Ok(Some(1)));
     assert!(rt; name_size(2) == Ok(Some(2)));
     assert!(rt; name_size(3) == Ok(Some(3)));
     assert!(rt; name_size(4) == Ok(Some(4)));
-    assert!(rt; name_size(5) == Err(Malformed::AttributeOverruns));
+    assert!(rt; name_size(5) == Err(MessageError::AttributeOverruns));
 }
 
 /// USERNAME twice, MESSAGE-INTEGRITY, and REALM after it; padding that isn't zero.
@@ -304,7 +304,7 @@ fn a_malformed_address_is_none(rt: HostRuntime) {
 /// Whether a value of so many bytes is refused as too long.
 fn is_too_long(
     alloc: Global,
-    builder: &mut Builder<&Refusing<Global>>,
+    builder: &mut Builder<&FailingAlloc<Global>>,
     size: usize,
 ) -> Result<bool, AllocError> {
     let value = vec![in alloc; 0u8; size]?;
@@ -317,7 +317,7 @@ const TOO_LONG: [usize; 4] = [65_529, 65_532, 65_535, 65_536];
 fn a_value_that_is_too_long_is_refused_before_memory_is_asked_for(
     rt: HostRuntime,
 ) -> Result<(), Fail> {
-    let refusing = Refusing::new(rt.alloc(), u64::MAX);
+    let refusing = FailingAlloc::new(rt.alloc(), u64::MAX);
     let mut builder = Builder::new(&refusing, Class::Request, Method::SEND, ID)?;
     refusing.arm(0);
     for size in &TOO_LONG {
@@ -337,7 +337,7 @@ fn longest_value(alloc: Global) -> Result<Vec<u8>, AllocError> {
 
 /// Whether a push of an attribute has an outcome, after which the message has a size.
 fn has_outcome(
-    builder: &mut Builder<&Refusing<Global>>,
+    builder: &mut Builder<&FailingAlloc<Global>>,
     kind: AttributeType,
     value: &[u8],
     outcome: Result<(), PushError>,
@@ -354,7 +354,7 @@ fn has_the_data(bytes: &[u8], data: &[u8]) -> bool {
 }
 
 /// Whether a value fills a message, after its growth is refused once.
-fn fills(builder: &mut Builder<&Refusing<Global>>, value: &[u8]) -> bool {
+fn fills(builder: &mut Builder<&FailingAlloc<Global>>, value: &[u8]) -> bool {
     let (data, more) = (AttributeType::DATA, AttributeType::EVEN_PORT);
     has_outcome(builder, data, value, Err(PushError::Memory), 20)
         && has_outcome(builder, data, value, Ok(()), 65_552)
@@ -364,7 +364,7 @@ fn fills(builder: &mut Builder<&Refusing<Global>>, value: &[u8]) -> bool {
 #[test]
 fn the_longest_message_is_written(rt: HostRuntime) -> Result<(), Fail> {
     let value = longest_value(rt.alloc())?;
-    let refusing = Refusing::new(rt.alloc(), u64::MAX);
+    let refusing = FailingAlloc::new(rt.alloc(), u64::MAX);
     let mut builder = Builder::new(&refusing, Class::Request, Method::SEND, ID)?;
     refusing.arm(0);
     assert!(rt; fills(&mut builder, &value));
@@ -374,7 +374,7 @@ fn the_longest_message_is_written(rt: HostRuntime) -> Result<(), Fail> {
 
 #[test]
 fn a_message_takes_memory_twice(rt: HostRuntime) -> Result<(), Fail> {
-    let refusing = Refusing::new(rt.alloc(), 0);
+    let refusing = FailingAlloc::new(rt.alloc(), 0);
     assert!(rt; Builder::new(&refusing, Class::Error, Method::REFRESH, ID).is_err());
     refusing.arm(1);
     let mut builder = Builder::new(&refusing, Class::Error, Method::REFRESH, ID)?;
@@ -395,7 +395,7 @@ fn a_message_takes_memory_twice(rt: HostRuntime) -> Result<(), Fail> {
 }
 
 /// Whether a message with room for 24 bytes of attributes is filled without memory, and grows at a second try.
-fn fills_its_capacity(builder: &mut Builder<&Refusing<Global>>) -> bool {
+fn fills_its_capacity(builder: &mut Builder<&FailingAlloc<Global>>) -> bool {
     let (seconds, more) = (AttributeType::LIFETIME, AttributeType::EVEN_PORT);
     has_outcome(builder, AttributeType::REALM, b"example.org", Ok(()), 36)
         && has_outcome(builder, seconds, &[0, 0, 2, 88], Ok(()), 44)
@@ -405,7 +405,7 @@ fn fills_its_capacity(builder: &mut Builder<&Refusing<Global>>) -> bool {
 
 #[test]
 fn a_message_with_a_capacity_takes_memory_once(rt: HostRuntime) -> Result<(), Fail> {
-    let refusing = Refusing::new(rt.alloc(), 1);
+    let refusing = FailingAlloc::new(rt.alloc(), 1);
     let mut builder = Builder::with_capacity(&refusing, Class::Request, Method::ALLOCATE, ID, 24)?;
     assert!(rt; refusing.left() == 0);
     assert!(rt; fills_its_capacity(&mut builder));
@@ -451,7 +451,7 @@ fn channel_data_is_written_in_one_allocation(rt: HostRuntime) -> Result<(), Fail
         number: 0x4000,
         payload: b"abc",
     };
-    let refusing = Refusing::new(rt.alloc(), 0);
+    let refusing = FailingAlloc::new(rt.alloc(), 0);
     assert!(rt; data.write(&refusing).is_err());
     refusing.arm(1);
     let written = data.write(&refusing)?;

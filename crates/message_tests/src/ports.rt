@@ -4,7 +4,7 @@ ghost use Rattle.std.specs.Prelude.{◌≡◌, ◌==◌, ◌&&◌, ⊤, IfOk, fa
 ghost use Rattle.std.specs.List.{list_any};
 ghost use Rattle.turn_ports.specs.Ports.{IsLowestFree, MayPick, MayPickPair};
 
-use refusing::Refusing;
+use failing_alloc::FailingAlloc;
 use std::alloc::{AllocError, Allocator};
 use std::cell::Cell;
 use std::test::Fail;
@@ -389,7 +389,7 @@ const FIRST_TAKEN: Taken<'static> = Taken { ports: &[50000] };
 
 #[test]
 fn an_allocation_failure_is_no_failure_of_the_generator(rt: HostRuntime) -> Result<(), Fail> {
-    let refusing = Refusing::new(rt.alloc(), 0);
+    let refusing = FailingAlloc::new(rt.alloc(), 0);
     let mut ports = bindings(&refusing)?;
     assert!(rt; pick_from(&mut ports, &NONE_TAKEN, false).is_err());
     assert!(rt; ports.failures() == u64::MAX);
@@ -400,7 +400,7 @@ fn an_allocation_failure_is_no_failure_of_the_generator(rt: HostRuntime) -> Resu
 
 #[test]
 fn an_allocation_failure_leaves_no_port_of_a_pair(rt: HostRuntime) -> Result<(), Fail> {
-    let refusing = Refusing::new(rt.alloc(), 0);
+    let refusing = FailingAlloc::new(rt.alloc(), 0);
     let mut ports = bindings(&refusing)?;
     assert!(rt; pick_pair_from(&mut ports, &FIRST_TAKEN).is_err());
     assert!(rt; ports.failures() == u64::MAX && ports.bound.is_empty());

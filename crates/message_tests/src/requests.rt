@@ -1,10 +1,10 @@
 //! Tests of `turn_requests`: tokens of reservations.
 
-use refusing::Refusing;
+use failing_alloc::FailingAlloc;
 use std::test::Fail;
 use turn_codec::{Message, PushError};
 use turn_mac::generate_auth_key;
-use turn_requests::{Attribute, Received, Request, build_request, read_message};
+use turn_requests::{Attribute, Request, ServerMessage, build_request, read_message};
 use turn_types::{Method, Token, TxId};
 
 const TOKEN: Token = Token([0xC3, 0x51, 0xD5, 0x74, 0xB1, 0x5A, 0x49, 0xFA]);
@@ -29,7 +29,7 @@ fn a_request_names_a_token(rt: HostRuntime) -> Result<(), Fail> {
     let key = generate_auth_key(b"alice", b"example.org", b"wonder");
     let bytes = build_request(rt.alloc(), &request, &key, b"nonce")?;
     assert!(rt; bytes.as_slice() == REQUEST);
-    let refusing = Refusing::new(rt.alloc(), 0);
+    let refusing = FailingAlloc::new(rt.alloc(), 0);
     assert!(rt;
         matches!(
             build_request(&refusing, &request, &key, b"nonce"),
@@ -66,7 +66,7 @@ fn is_allocated(bytes: &[u8], wanted: Option<Token>) -> bool {
     };
     match read_message(&message) {
         Some(
-            Received::Allocated {
+            ServerMessage::Allocated {
                 port,
                 lifetime,
                 token,

@@ -1,6 +1,6 @@
 //! Tests of `turn_types`.
 
-use refusing::Refusing;
+use failing_alloc::FailingAlloc;
 use std::alloc::Global;
 use std::test::Fail;
 use turn_types::{
@@ -213,7 +213,7 @@ const FAULTS: [(&[u8], u32, &[IpRange], ConfigError); 7] = [
 
 /// The fault of a realm, a quota and ranges.
 fn fault_of(
-    refusing: &Refusing<Global>,
+    refusing: &FailingAlloc<Global>,
     realm: &[u8],
     quota: u32,
     denied: &[IpRange],
@@ -229,7 +229,7 @@ fn fault_of(
 
 #[test]
 fn a_configuration_is_refused_by_its_first_fault(rt: HostRuntime) {
-    let refusing = Refusing::new(rt.alloc(), 0);
+    let refusing = FailingAlloc::new(rt.alloc(), 0);
     for (realm, quota, denied, fault) in &FAULTS {
         refusing.arm(0);
         assert!(rt; fault_of(&refusing, realm, *quota, denied) == Some(*fault));
@@ -244,19 +244,19 @@ fn faults_of_configurations_are_printed(rt: HostRuntime) -> Result<(), Fail> {
 }
 
 /// The fault of settings that are in range.
-fn fault_of_settings(refusing: &Refusing<Global>) -> Option<ConfigError> {
+fn fault_of_settings(refusing: &FailingAlloc<Global>) -> Option<ConfigError> {
     fault_of(refusing, SETTINGS.realm, SETTINGS.quota, SETTINGS.denied)
 }
 
 /// Whether a copy is refused.
-fn is_copy_refused(config: &ServerConfig, refusing: &Refusing<Global>) -> bool {
+fn is_copy_refused(config: &ServerConfig, refusing: &FailingAlloc<Global>) -> bool {
     config.try_clone(refusing).is_err()
 }
 
 #[test]
 fn a_configuration_takes_memory_twice(rt: HostRuntime) -> Result<(), Fail> {
     let config = ServerConfig::new(rt.alloc(), SETTINGS)?;
-    let refusing = Refusing::new(rt.alloc(), 0);
+    let refusing = FailingAlloc::new(rt.alloc(), 0);
     for served in 0..2u64 {
         refusing.arm(served);
         assert!(rt; fault_of_settings(&refusing) == Some(ConfigError::Memory));

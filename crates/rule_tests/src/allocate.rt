@@ -3,7 +3,7 @@
 use crate::player::play;
 use crate::row::Row;
 use crate::setup::{SETUP, Setup};
-use requests_for_tests::{ALICE, FIRST, Kind, UDP};
+use test_requests::{ALICE, FIRST, Kind, UDP};
 
 const ALLOCATE: Kind = Kind::Allocate;
 

@@ -2,9 +2,9 @@
 
 use crate::player::Player;
 use crate::setup::{SETUP, value_of};
-use requests_for_tests::{FIRST, code_of};
 use std::alloc::Global;
 use std::process::Abort;
+use test_requests::{FIRST, code_of};
 use turn_codec::{AttributeType, Builder, Message};
 use turn_types::{Class, Method, TxId};
 

@@ -2,9 +2,9 @@
 
 use crate::player::Player;
 use crate::setup::{SETUP, value_of};
-use requests_for_tests::{ALICE, FIRST, ID, Kind, REALM, User, code_of, nonce_of, signed};
 use std::alloc::Global;
 use std::process::Abort;
+use test_requests::{ALICE, FIRST, ID, Kind, REALM, User, code_of, nonce_of, signed};
 use turn_codec::{AttributeType, Builder, Message};
 use turn_mac::{append_integrity, integrity_holds};
 use turn_types::{Class, Endpoint, Method};

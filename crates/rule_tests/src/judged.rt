@@ -1,12 +1,12 @@
 //! The calls that judge a request, without a step.
 
 use crate::setup::value_of;
-use requests_for_tests::{FIRST, credentials, five_tuple};
 use std::alloc::Global;
 use std::process::Abort;
+use test_requests::{FIRST, credentials, five_tuple};
 use turn_codec::Message;
 use turn_cred::Checker;
-use turn_rules::{Request, is_protected};
+use turn_rules::{ClientMessage, is_protected};
 use turn_types::{Moment, ServerConfig};
 
 /// A datagram of 192.0.2.1:32853, with the outcome of the credential check at a moment.
@@ -16,7 +16,7 @@ pub fn judged<'a>(
     config: &ServerConfig,
     bytes: &'a [u8],
     moment: Moment,
-) -> Request<'a> {
+) -> ClientMessage<'a> {
     let message = Message::parse(bytes).expect(rt, "a message");
     let verdict = if is_protected(message.method()) {
         let credentials = value_of(rt, credentials(alloc));
@@ -27,7 +27,7 @@ pub fn judged<'a>(
     } else {
         None
     };
-    Request {
+    ClientMessage {
         message,
         five_tuple: five_tuple(FIRST),
         verdict,

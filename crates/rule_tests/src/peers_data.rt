@@ -3,9 +3,9 @@
 use crate::player::{Player, is_same};
 use crate::row::{ALLOCATED, BOUND, PERMITTED, Row};
 use crate::setup::SETUP;
-use requests_for_tests::PEER_ENDPOINT;
 use std::alloc::Global;
 use std::process::Abort;
+use test_requests::PEER_ENDPOINT;
 use turn_types::Endpoint;
 
 const P: Endpoint = PEER_ENDPOINT;

@@ -2,12 +2,12 @@
 
 use crate::row::Row;
 use crate::setup::{Setup, moment_at, value_of};
-use requests_for_tests::{
+use std::alloc::{Allocator, Global};
+use std::process::Abort;
+use test_requests::{
     Attribute, FIRST, Kind, PEER_ENDPOINT, PEER_IP, Ports, THIRD, User, code_of, credentials,
     five_tuple, nonce_of, of_client, of_peer, signed,
 };
-use std::alloc::{Allocator, Global};
-use std::process::Abort;
 use turn_codec::Message;
 use turn_cred::Credentials;
 use turn_mac::integrity_holds;

@@ -2,8 +2,8 @@
 
 use crate::setup::moment_at;
 use crate::tables::{PEER_IP, Step, act_of, peer, purge_to, token_after, tuple};
-use history_tables::{Entry, reserved_at, table_at};
-use refusing::Refusing;
+use failing_alloc::FailingAlloc;
+use reference_table::{Entry, reserved_at, table_at};
 use std::alloc::{Allocator, Global};
 use std::collections::BTreeMap;
 use std::process::Abort;
@@ -70,8 +70,8 @@ fn expiries<A: Allocator>(table: &Reference<A>) -> (u64, u64, u64) {
 /// Whether the reference fails, which it does only where a growth is refused. It then succeeds with all memory.
 fn is_refused<'a>(
     rt: &impl Abort,
-    refusing: &'a Refusing<Global>,
-    history: &[Event<&'a Refusing<Global>>],
+    refusing: &'a FailingAlloc<Global>,
+    history: &[Event<&'a FailingAlloc<Global>>],
     served: u64,
 ) -> bool {
     let moment = moment_at(rt, 1800);
@@ -91,8 +91,8 @@ fn is_refused<'a>(
 /// How many growths the reference takes, each of which is refused once.
 fn growths_of<'a>(
     rt: &impl Abort,
-    refusing: &'a Refusing<Global>,
-    history: &[Event<&'a Refusing<Global>>],
+    refusing: &'a FailingAlloc<Global>,
+    history: &[Event<&'a FailingAlloc<Global>>],
 ) -> u64 {
     for served in 0..100u64 {
         if !is_refused(rt, refusing, history, served) {
@@ -104,7 +104,7 @@ fn growths_of<'a>(
 
 #[test]
 fn the_reference_fails_only_without_memory(rt: HostRuntime) {
-    let refusing = Refusing::new(rt.alloc(), u64::MAX);
+    let refusing = FailingAlloc::new(rt.alloc(), u64::MAX);
     let history = history_of(&rt, &refusing, &INSTALLED_AGAIN);
     assert!(rt; 3 < growths_of(&rt, &refusing, &history));
 }

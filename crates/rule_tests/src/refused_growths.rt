@@ -4,17 +4,17 @@ use crate::judged::judged;
 use crate::player::{Player, is_same};
 use crate::row::{ALLOCATED, BOUND, PAIR, PAIRED, PERMITTED, Row, TOKEN};
 use crate::setup::{RESERVING, SETUP, Setup, moment_at, value_of};
-use refusing::Refusing;
-use requests_for_tests::{
+use failing_alloc::FailingAlloc;
+use std::alloc::Global;
+use std::process::Abort;
+use test_requests::{
     ALICE, Attribute, BOB, FIRST, ID, Kind, LOWEST, OTHER, PEER, PEER_ENDPOINT, REALM, SECOND, UDP,
     ZERO, five_tuple, nonce_of, signed,
 };
-use std::alloc::Global;
-use std::process::Abort;
 use turn_codec::{AttributeType, Builder, Message};
 use turn_mac::{append_fingerprint, append_integrity};
 use turn_relay::{ToClient, from_client, from_peer};
-use turn_rules::{Decision, Request, decide};
+use turn_rules::{ClientMessage, Decision, decide};
 use turn_table::Table;
 use turn_types::{Class, Method, ServerConfig};
 
@@ -24,7 +24,7 @@ fn has_fingerprint(rt: &impl Abort, reply: &[u8]) -> bool {
 }
 
 /// What is decided about a request: whether there is an act, and whether the reply has a FINGERPRINT.
-fn found(rt: &impl Abort, decided: &Decision<&Refusing<Global>>) -> (bool, bool) {
+fn found(rt: &impl Abort, decided: &Decision<&FailingAlloc<Global>>) -> (bool, bool) {
     match &decided.reply {
         Some(reply) => (decided.act.is_some(), has_fingerprint(rt, reply)),
         None => panic!(rt; "no reply"),
@@ -35,10 +35,10 @@ fn found(rt: &impl Abort, decided: &Decision<&Refusing<Global>>) -> (bool, bool)
 /// answers it.
 fn decided(
     rt: &impl Abort,
-    refusing: &Refusing<Global>,
+    refusing: &FailingAlloc<Global>,
     table: &Table,
     config: &ServerConfig,
-    request: &Request<'_>,
+    request: &ClientMessage<'_>,
     port: Option<u16>,
 ) -> Option<(bool, bool)> {
     let moment = table.moment();
@@ -63,10 +63,10 @@ fn growths_with(
     alloc: Global,
     table: &Table,
     config: &ServerConfig,
-    request: &Request<'_>,
+    request: &ClientMessage<'_>,
     port: Option<u16>,
 ) -> (u64, (bool, bool)) {
-    let refusing = Refusing::new(alloc, u64::MAX);
+    let refusing = FailingAlloc::new(alloc, u64::MAX);
     for served in 0..8u64 {
         refusing.arm(served);
         if let Some(found) = decided(rt, &refusing, table, config, request, port) {
@@ -159,9 +159,9 @@ const CHANNEL_DATA: &[u8] = b"\x40\x00\x00\x05hello";
 /// The client's datagram, or `None` after an allocation failure.
 fn written<'a>(
     rt: &impl Abort,
-    refusing: &'a Refusing<Global>,
+    refusing: &'a FailingAlloc<Global>,
     out: &ToClient<'_>,
-) -> Option<Vec<u8, &'a Refusing<Global>>> {
+) -> Option<Vec<u8, &'a FailingAlloc<Global>>> {
     match out.channel {
         Some(number) => {
             assert!(rt; 0x4000 <= number && number < 0x8000 && out.bytes.len() <= 65503);
@@ -178,8 +178,8 @@ fn written<'a>(
 /// served. Data of a client takes none.
 fn write_at_once(
     rt: &impl Abort,
-    refusing: &Refusing<Global>,
-    table: &Table<&Refusing<Global>>,
+    refusing: &FailingAlloc<Global>,
+    table: &Table<&FailingAlloc<Global>>,
     wanted: &[u8],
 ) {
     let moment = table.moment();
@@ -197,8 +197,8 @@ fn write_at_once(
 /// Peers' data is written at once, as an indication and over a channel.
 fn write_both(
     rt: &impl Abort,
-    refusing: &Refusing<Global>,
-    player: &mut Player<&Refusing<Global>>,
+    refusing: &FailingAlloc<Global>,
+    player: &mut Player<&FailingAlloc<Global>>,
 ) {
     player.play(rt, &[ALLOCATED, PERMITTED]);
     write_at_once(rt, refusing, player.table(), INDICATION);
@@ -208,7 +208,7 @@ fn write_both(
 
 #[test]
 fn peers_data_takes_the_memory_of_the_datagram(rt: HostRuntime) {
-    let refusing = Refusing::new(rt.alloc(), u64::MAX);
+    let refusing = FailingAlloc::new(rt.alloc(), u64::MAX);
     let mut player = Player::new(&rt, &refusing, rt.alloc(), &SETUP);
     write_both(&rt, &refusing, &mut player);
 }
@@ -302,8 +302,8 @@ const GROWTHS: [(Setup, &[Row], Row, usize); 11] = [
 /// same arrival is answered. Where no growth is left to be refused the row is taken at once.
 fn released_at(
     rt: &impl Abort,
-    refusing: &Refusing<Global>,
-    player: &mut Player<&Refusing<Global>>,
+    refusing: &FailingAlloc<Global>,
+    player: &mut Player<&FailingAlloc<Global>>,
     row: &Row,
     served: u64,
 ) -> Option<usize> {
@@ -333,7 +333,7 @@ fn released_after(
     row: &Row,
     served: u64,
 ) -> Option<usize> {
-    let refusing = Refusing::new(alloc, u64::MAX);
+    let refusing = FailingAlloc::new(alloc, u64::MAX);
     let mut player = Player::new(rt, &refusing, alloc, setup);
     player.play(rt, before);
     released_at(rt, &refusing, &mut player, row, served)

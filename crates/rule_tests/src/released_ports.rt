@@ -3,8 +3,8 @@
 use crate::player::{Player, play};
 use crate::row::{ALLOCATED, BOUND, PERMITTED, Row};
 use crate::setup::{SETUP, Setup};
-use requests_for_tests::{ALICE, BOB, FIRST, HOUR, Kind, PEER_IP, SECOND, THIRD, UDP, ZERO};
 use std::process::Abort;
+use test_requests::{ALICE, BOB, FIRST, HOUR, Kind, PEER_IP, SECOND, THIRD, UDP, ZERO};
 
 const ALLOCATE: Kind = Kind::Allocate;
 

@@ -3,12 +3,12 @@
 use crate::player::{Player, play};
 use crate::row::{EVEN, PAIR, PAIRED, Row, TOKEN};
 use crate::setup::{RESERVING, SETUP, Setup, value_of};
-use requests_for_tests::{
+use std::alloc::Global;
+use std::process::Abort;
+use test_requests::{
     ALICE, Attribute, BOB, FIRST, FLAG, HOUR, ID, Kind, LOWEST, OTHER, PEER, PEER_IP, REALM,
     SECOND, THIRD, UDP, User, ZERO, code_of, nonce_of,
 };
-use std::alloc::Global;
-use std::process::Abort;
 use turn_codec::{AttributeType, Builder, Message};
 use turn_mac::hmac_sha1;
 use turn_types::{Bounds, Class, Endpoint, Method, Token};

@@ -1,6 +1,6 @@
 //! Rows of tests.
 
-use requests_for_tests::{ALICE, Attribute, FIRST, HOUR, Kind, LOWEST, PEER, UDP, User};
+use test_requests::{ALICE, Attribute, FIRST, HOUR, Kind, LOWEST, PEER, UDP, User};
 use turn_types::{Endpoint, Token};
 
 /// What a test does and finds, each at a second. Seconds never fall.

@@ -1,9 +1,9 @@
 //! What a server of a test is made of.
 
-use requests_for_tests::{Ports, config};
 use std::alloc::Allocator;
 use std::process::Abort;
 use std::test::Fail;
+use test_requests::{Ports, config};
 use turn_ports::PortRange;
 use turn_types::{Bounds, Limits, Moment, ServerConfig};
 
@@ -68,6 +68,6 @@ pub fn moment_at(rt: &impl Abort, seconds: u64) -> Moment {
 pub fn value_of<T>(rt: &impl Abort, outcome: Result<T, Fail>) -> T {
     match outcome {
         Ok(value) => value,
-        Err(_) => panic!(rt; "a call of requests_for_tests fails"),
+        Err(_) => panic!(rt; "a call of test_requests fails"),
     }
 }

@@ -4,7 +4,7 @@ ghost use Rattle.std.specs.Prelude.{IsTrue};
 ghost use Rattle.turn_table.specs.Table.{IsAbove, IsAboveReserved};
 
 use crate::setup::moment_at;
-use refusing::Refusing;
+use failing_alloc::FailingAlloc;
 use std::alloc::{Allocator, Global};
 use std::process::Abort;
 use turn_history::{Act, Addresses, Channel, Reservation, UserName};
@@ -180,7 +180,7 @@ fn peer_is<A: Allocator + Copy>(table: &Table<A>, client: u16, number: u16, port
     }
 }
 
-type Refused<'a> = &'a Refusing<Global>;
+type Refused<'a> = &'a FailingAlloc<Global>;
 
 /// Restores the entry of a client where a growth may be refused, which changes nothing, and returns whether it is restored.
 fn is_restored<'a>(
@@ -229,7 +229,7 @@ fn restore_all<'a>(rt: &impl Abort, refusing: Refused<'a>, table: &mut Table<Ref
 
 #[test]
 fn a_restore_that_lacks_memory_changes_nothing(rt: HostRuntime) {
-    let refusing = Refusing::new(rt.alloc(), u64::MAX);
+    let refusing = FailingAlloc::new(rt.alloc(), u64::MAX);
     let mut table = Table::new(&refusing, Limits::MAX, moment_at(&rt, 1000));
     restore_all(&rt, &refusing, &mut table);
 }
@@ -249,7 +249,7 @@ fn restore_port<A: Allocator + Copy>(rt: &impl Abort, table: &mut Table<A>, port
 
 #[test]
 fn a_restored_port_takes_memory(rt: HostRuntime) {
-    let refusing = Refusing::new(rt.alloc(), 0);
+    let refusing = FailingAlloc::new(rt.alloc(), 0);
     let mut table = Table::new(&refusing, Limits::MAX, moment_at(&rt, 1000));
     assert!(rt; !restore_port(&rt, &mut table, 50001) && table.reserved_len() == 0);
     refusing.arm(u64::MAX);
@@ -346,7 +346,7 @@ fn apply_all<'a>(rt: &impl Abort, refusing: Refused<'a>, table: &mut Table<Refus
 
 #[test]
 fn each_growth_is_refused_in_turn(rt: HostRuntime) {
-    let refusing = Refusing::new(rt.alloc(), u64::MAX);
+    let refusing = FailingAlloc::new(rt.alloc(), u64::MAX);
     let mut table = Table::new(&refusing, Limits::MAX, moment_at(&rt, 1000));
     apply_all(&rt, &refusing, &mut table);
 }

@@ -3,11 +3,11 @@
 use crate::player::{Player, is_same, play};
 use crate::row::{EVEN, PAIR, PAIRED, Row, TOKEN};
 use crate::setup::{RESERVING, SETUP, Setup, value_of};
-use requests_for_tests::{
-    ALICE, Attribute, BOB, FIRST, FLAG, GUEST, HOUR, Kind, LOWEST, PEER, SECOND, UDP, ZERO, code_of,
-};
 use std::alloc::Global;
 use std::process::Abort;
+use test_requests::{
+    ALICE, Attribute, BOB, FIRST, FLAG, GUEST, HOUR, Kind, LOWEST, PEER, SECOND, UDP, ZERO, code_of,
+};
 use turn_codec::Message;
 
 // The requests of the names `1700000000:alice` and `1700000000`, with nonces of second 1699999999, and the replies: by Python's modules

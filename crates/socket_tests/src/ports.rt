@@ -1,7 +1,7 @@
 //! Which ports are picked, and how often the system is asked.
 
+use failing_alloc::FailingAlloc;
 use mio::Poll;
-use refusing::Refusing;
 use std::alloc::Allocator;
 use std::cell::Cell;
 use std::io::{self, Error, ErrorKind};
@@ -321,7 +321,7 @@ fn keeps_pairs<R: Net, A: Allocator + Copy>(ports: &mut SocketPorts<'_, R, A>) -
 
 /// Whether pairs are kept where so many growths are served and the next one is refused.
 fn keeps_pairs_after(rt: &HostRuntime, served: u64) -> Result<Option<bool>, Fail> {
-    let refusing = Refusing::new(rt.alloc(), served);
+    let refusing = FailingAlloc::new(rt.alloc(), served);
     let poll = Poll::new(rt)?;
     let range = PortRange::new(63_102, 63_125).ok_or("a range")?;
     let registry = poll.registry().try_clone()?;

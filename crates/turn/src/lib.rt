@@ -37,9 +37,9 @@
 //!
 //! # Errors
 //!
-//! Calls that allocate return an error where memory is out. After `SubmitRefused::Memory`, and after an `Err` of `Machine::step`, the
+//! Calls that allocate return an error where memory is out. After `SubmitError::Memory`, and after an `Err` of `Machine::step`, the
 //! clock is at the arrival's moment, what has expired by then is gone, nothing else has changed, and further arrivals are taken.
-//! `SubmitRefused::BatchFull` comes once as many arrivals are staged as `Limits::acts` says, 1 to 64, until the next commit.
+//! `SubmitError::BatchFull` comes once as many arrivals are staged as `Limits::acts` says, 1 to 64, until the next commit.
 #![tactic(auto)]
 
 pub mod engine;

@@ -2,7 +2,7 @@
 
 ghost use Rattle.std.specs.Prelude.{◌≡◌, ◌≤◌, ◌<◌, ◌⊎◌, ◌↔◌, ◌^◌, Err, IfErr, length};
 
-use crate::fault::ClientFault;
+use crate::error::ClientError;
 use crate::socket::TimedSocket;
 use std::alloc::{Allocator, Global};
 use std::marker::Model;
@@ -10,13 +10,13 @@ use std::net::Net;
 use turn_codec::{AttributeType, Builder, Message};
 use turn_mac::generate_auth_key;
 use turn_requests::{
-    Attribute, Received, Request, build_request, build_send, channel_data, read_message,
+    Attribute, Request, ServerMessage, build_request, build_send, channel_data, read_message,
 };
 use turn_types::{Class, Endpoint, Method, TxId};
 
 /// Who a client is.
 #[derive(Clone, Copy, Debug)]
-pub struct Credentials<'c> {
+pub struct ClientCredentials<'c> {
     /// The name, in bytes.
     pub user: &'c [u8],
     /// The server's realm, in bytes.
@@ -30,7 +30,7 @@ pub struct Client<'c, A: Allocator = Global> {
     alloc: A,
     socket: TimedSocket<A>,
     server: Endpoint,
-    credentials: Credentials<'c>,
+    credentials: ClientCredentials<'c>,
     // The nonce of the server's last challenge.
     nonce: Vec<u8, A>,
     // How many requests there were.
@@ -65,8 +65,8 @@ impl<'c, A: Allocator + Copy> Client<'c, A> {
         net: &R,
         at: Endpoint,
         server: Endpoint,
-        credentials: Credentials<'c>,
-    ) -> Result<Client<'c, A>, ClientFault> {
+        credentials: ClientCredentials<'c>,
+    ) -> Result<Client<'c, A>, ClientError> {
         Ok(Client {
             alloc,
             socket: TimedSocket::open(alloc, net, at)?,
@@ -95,7 +95,7 @@ impl<'c, A: Allocator + Copy> Client<'c, A> {
     }
 
     /// A request without credentials and attributes, as it is sent.
-    pub fn plain_request(&mut self, method: Method) -> Result<Vec<u8, A>, ClientFault> {
+    pub fn plain_request(&mut self, method: Method) -> Result<Vec<u8, A>, ClientError> {
         let tx = self.next_tx();
         Ok(Builder::new(self.alloc, Class::Request, method, tx)?.finish())
     }
@@ -105,8 +105,8 @@ impl<'c, A: Allocator + Copy> Client<'c, A> {
         &mut self,
         method: Method,
         attributes: &[Attribute],
-    ) -> Result<Vec<u8, A>, ClientFault> {
-        let Credentials {
+    ) -> Result<Vec<u8, A>, ClientError> {
+        let ClientCredentials {
             user,
             realm,
             password,
@@ -123,52 +123,52 @@ impl<'c, A: Allocator + Copy> Client<'c, A> {
     }
 
     /// Sends a datagram to the server.
-    pub fn send(&self, bytes: &[u8]) -> Result<(), ClientFault>
-        ensures { IfErr result (λ fault. fault ≡ ClientFault.Socket) }
+    pub fn send(&self, bytes: &[u8]) -> Result<(), ClientError>
+        ensures { IfErr result (λ fault. fault ≡ ClientError.Socket) }
     {
         self.socket.send(self.server, bytes)
     }
 
     /// Sends data to a peer, in a Send indication.
-    pub fn send_to_peer(&self, peer: Endpoint, payload: &[u8]) -> Result<(), ClientFault> {
+    pub fn send_to_peer(&self, peer: Endpoint, payload: &[u8]) -> Result<(), ClientError> {
         self.send(&build_send(self.alloc, peer, payload)?)
     }
 
     /// Sends data over a channel: a number from 0x4000 to 0x7FFF, and at most 65,535 bytes.
-    pub fn send_over_channel(&self, number: u16, payload: &[u8]) -> Result<(), ClientFault>
-        ensures { (result ≡ Err ClientFault.TooLong)
+    pub fn send_over_channel(&self, number: u16, payload: &[u8]) -> Result<(), ClientError>
+        ensures { (result ≡ Err ClientError.TooLong)
             ↔ ((number < 2 ^ 14) ⊎ ((2 ^ 15 ≤ number) ⊎ (2 ^ 16 ≤ length payload.now))) }
     {
-        let data = channel_data(number, payload).ok_or(ClientFault::TooLong)?;
+        let data = channel_data(number, payload).ok_or(ClientError::TooLong)?;
         self.send(&data.write(self.alloc)?)
     }
 
     /// The next datagram of the server.
-    pub fn receive(&mut self) -> Result<&[u8], ClientFault> {
+    pub fn receive(&mut self) -> Result<&[u8], ClientError> {
         let server = self.server;
         let (bytes, from) = self.socket.receive()?;
         if from == server {
             Ok(bytes)
         } else {
-            Err(ClientFault::Unexpected)
+            Err(ClientError::Unexpected)
         }
     }
 
     /// The next message of the server.
-    pub fn receive_message(&mut self) -> Result<Message<'_>, ClientFault> {
-        Message::parse(self.receive()?).map_err(|_| ClientFault::Unexpected)
+    pub fn receive_message(&mut self) -> Result<Message<'_>, ClientError> {
+        Message::parse(self.receive()?).map_err(|_| ClientError::Unexpected)
     }
 
     /// Receives a challenge. Returns its code, and keeps its nonce for the next requests.
-    pub fn take_challenge(&mut self) -> Result<u16, ClientFault> {
+    pub fn take_challenge(&mut self) -> Result<u16, ClientError> {
         let alloc = self.alloc;
         let challenge = self.receive_message()?;
-        let Some(Received::Error(code)) = read_message(&challenge) else {
-            return Err(ClientFault::Unexpected);
+        let Some(ServerMessage::Error(code)) = read_message(&challenge) else {
+            return Err(ClientError::Unexpected);
         };
         let nonce = challenge
             .find(AttributeType::NONCE)
-            .ok_or(ClientFault::Unexpected)?;
+            .ok_or(ClientError::Unexpected)?;
         let nonce = Vec::from_slice(alloc, nonce)?;
         self.nonce = nonce;
         Ok(code)

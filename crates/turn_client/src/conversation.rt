@@ -2,8 +2,8 @@
 
 ghost use Rattle.std.specs.Prelude.{◌≡◌};
 
-use crate::client::{Client, Credentials};
-use crate::fault::ClientFault;
+use crate::client::{Client, ClientCredentials};
+use crate::error::ClientError;
 use crate::socket::TimedSocket;
 use std::alloc::{AllocError, Allocator, Global};
 use std::marker::Model;
@@ -14,7 +14,7 @@ use turn_cred::Users;
 use turn_disk::Disk;
 use turn_mac::generate_auth_key;
 use turn_ports::PortRange;
-use turn_requests::{Attribute, Received, read_message};
+use turn_requests::{Attribute, ServerMessage, read_message};
 use turn_serving::{Commits, Setup, Silent, SocketServing};
 use turn_sockets::ListeningAddresses;
 use turn_types::{Bounds, ConfigError, Endpoint, Limits, Method, ServerConfig, Settings};
@@ -28,7 +28,7 @@ const ANY_PORT: Endpoint = Endpoint {
     port: 0,
 };
 
-const CREDENTIALS: Credentials<'static> = Credentials {
+const CREDENTIALS: ClientCredentials<'static> = ClientCredentials {
     user: b"alice",
     realm: b"example.org",
     password: b"wonder",
@@ -132,7 +132,7 @@ fn seed_of(client: Endpoint) -> [u8; 32] {
 }
 
 fn make_users<A: Allocator + Copy>(alloc: A) -> Result<Users<A>, AllocError> {
-    let Credentials {
+    let ClientCredentials {
         user,
         realm,
         password,
@@ -151,7 +151,7 @@ impl<'a, R: Net + Drop, A: Allocator + Copy> Loopback<'a, R, A> {
         ports: PortRange,
         burst: u8,
         commits: Commits,
-    ) -> Result<Loopback<'a, R, A>, ClientFault> {
+    ) -> Result<Loopback<'a, R, A>, ClientError> {
         let client = Client::open(alloc, net, ANY_PORT, ANY_PORT, CREDENTIALS)?;
         let peer = TimedSocket::open(alloc, net, ANY_PORT)?;
         Ok(Loopback {
@@ -178,7 +178,7 @@ impl<'a, R: Net + Drop, A: Allocator + Copy> Loopback<'a, R, A> {
         self,
         system: &C,
         disk: D,
-    ) -> Result<Conversation<'a, D, R, A>, ClientFault> {
+    ) -> Result<Conversation<'a, D, R, A>, ClientError> {
         let Loopback {
             alloc,
             net,
@@ -253,7 +253,7 @@ impl<'a, D: Disk + Drop, R: Net + Drop, A: Allocator + Copy> Conversation<'a, D,
     }
 
     /// One turn of the server.
-    pub fn turn<C: Clock>(&mut self, clock: &C) -> Result<(), ClientFault> {
+    pub fn turn<C: Clock>(&mut self, clock: &C) -> Result<(), ClientError> {
         self.serving.turn(&clock)?;
         Ok(())
     }
@@ -274,14 +274,14 @@ impl<'a, D: Disk + Drop, R: Net + Drop, A: Allocator + Copy> Conversation<'a, D,
     }
 
     // Sends a datagram to the server, and returns its answer.
-    fn exchange<C: Clock>(&mut self, clock: &C, bytes: &[u8]) -> Result<Message<'_>, ClientFault> {
+    fn exchange<C: Clock>(&mut self, clock: &C, bytes: &[u8]) -> Result<Message<'_>, ClientError> {
         self.client.send(bytes)?;
         self.turn(clock)?;
         self.client.receive_message()
     }
 
     /// An Allocate without credentials. Returns the code of the challenge, and keeps its nonce.
-    pub fn challenge<C: Clock>(&mut self, clock: &C) -> Result<u16, ClientFault> {
+    pub fn challenge<C: Clock>(&mut self, clock: &C) -> Result<u16, ClientError> {
         let request = self.client.plain_request(Method::ALLOCATE)?;
         self.client.send(&request)?;
         self.turn(clock)?;
@@ -289,12 +289,12 @@ impl<'a, D: Disk + Drop, R: Net + Drop, A: Allocator + Copy> Conversation<'a, D,
     }
 
     /// An Allocate with the nonce of the last challenge. `Unexpected` where anything but a success comes.
-    pub fn allocate<C: Clock>(&mut self, clock: &C) -> Result<Allocated<A>, ClientFault> {
+    pub fn allocate<C: Clock>(&mut self, clock: &C) -> Result<Allocated<A>, ClientError> {
         let alloc = self.alloc;
         let request = self.client.request(Method::ALLOCATE, &[])?;
         let message = self.exchange(clock, &request)?;
-        let Some(Received::Allocated { port, lifetime, .. }) = read_message(&message) else {
-            return Err(ClientFault::Unexpected);
+        let Some(ServerMessage::Allocated { port, lifetime, .. }) = read_message(&message) else {
+            return Err(ClientError::Unexpected);
         };
         let response = Vec::from_slice(alloc, message.as_bytes())?;
         Ok(Allocated {
@@ -310,7 +310,7 @@ impl<'a, D: Disk + Drop, R: Net + Drop, A: Allocator + Copy> Conversation<'a, D,
         &mut self,
         clock: &C,
         first: &Allocated<A>,
-    ) -> Result<bool, ClientFault> {
+    ) -> Result<bool, ClientError> {
         let message = self.exchange(clock, &first.request)?;
         Ok(message.as_bytes() == first.response.as_slice())
     }
@@ -321,46 +321,46 @@ impl<'a, D: Disk + Drop, R: Net + Drop, A: Allocator + Copy> Conversation<'a, D,
         clock: &C,
         method: Method,
         attributes: &[Attribute],
-    ) -> Result<(), ClientFault> {
+    ) -> Result<(), ClientError> {
         let request = self.client.request(method, attributes)?;
         let message = self.exchange(clock, &request)?;
         match read_message(&message) {
-            Some(Received::Success) => Ok(()),
-            _ => Err(ClientFault::Unexpected),
+            Some(ServerMessage::Success) => Ok(()),
+            _ => Err(ClientError::Unexpected),
         }
     }
 
     /// A CreatePermission for the peer.
-    pub fn permit<C: Clock>(&mut self, clock: &C) -> Result<(), ClientFault> {
+    pub fn permit<C: Clock>(&mut self, clock: &C) -> Result<(), ClientError> {
         let peer = self.peer();
         self.ask(clock, Method::CREATE_PERMISSION, &[Attribute::Peer(peer)])
     }
 
     /// A ChannelBind of a number to the peer.
-    pub fn bind<C: Clock>(&mut self, clock: &C, number: u16) -> Result<(), ClientFault> {
+    pub fn bind<C: Clock>(&mut self, clock: &C, number: u16) -> Result<(), ClientError> {
         let peer = self.peer();
         let attributes = [Attribute::Channel(number), Attribute::Peer(peer)];
         self.ask(clock, Method::CHANNEL_BIND, &attributes)
     }
 
     /// A Refresh for a number of seconds. Returns how many are granted.
-    pub fn refresh<C: Clock>(&mut self, clock: &C, seconds: u32) -> Result<u32, ClientFault> {
+    pub fn refresh<C: Clock>(&mut self, clock: &C, seconds: u32) -> Result<u32, ClientError> {
         let attributes = [Attribute::Lifetime(seconds)];
         let request = self.client.request(Method::REFRESH, &attributes)?;
         let message = self.exchange(clock, &request)?;
         match read_message(&message) {
-            Some(Received::Refreshed(granted)) => Ok(granted),
-            _ => Err(ClientFault::Unexpected),
+            Some(ServerMessage::Refreshed(granted)) => Ok(granted),
+            _ => Err(ClientError::Unexpected),
         }
     }
 
     // What the peer gets from a relayed port.
-    fn at_peer<C: Clock>(&mut self, clock: &C, port: u16) -> Result<Vec<u8, A>, ClientFault> {
+    fn at_peer<C: Clock>(&mut self, clock: &C, port: u16) -> Result<Vec<u8, A>, ClientError> {
         self.turn(clock)?;
         let alloc = self.alloc;
         let (bytes, from) = self.peer.receive()?;
         if from.ip != LOOPBACK || from.port != port {
-            return Err(ClientFault::Unexpected);
+            return Err(ClientError::Unexpected);
         }
         Ok(Vec::from_slice(alloc, bytes)?)
     }
@@ -371,7 +371,7 @@ impl<'a, D: Disk + Drop, R: Net + Drop, A: Allocator + Copy> Conversation<'a, D,
         clock: &C,
         port: u16,
         payload: &[u8],
-    ) -> Result<Vec<u8, A>, ClientFault> {
+    ) -> Result<Vec<u8, A>, ClientError> {
         self.client.send_to_peer(self.peer.local(), payload)?;
         self.at_peer(clock, port)
     }
@@ -383,7 +383,7 @@ impl<'a, D: Disk + Drop, R: Net + Drop, A: Allocator + Copy> Conversation<'a, D,
         number: u16,
         port: u16,
         payload: &[u8],
-    ) -> Result<Vec<u8, A>, ClientFault> {
+    ) -> Result<Vec<u8, A>, ClientError> {
         self.client.send_over_channel(number, payload)?;
         self.at_peer(clock, port)
     }
@@ -394,7 +394,7 @@ impl<'a, D: Disk + Drop, R: Net + Drop, A: Allocator + Copy> Conversation<'a, D,
         clock: &C,
         port: u16,
         payload: &[u8],
-    ) -> Result<(), ClientFault> {
+    ) -> Result<(), ClientError> {
         let relayed = Endpoint { ip: LOOPBACK, port };
         self.peer.send(relayed, payload)?;
         self.turn(clock)?;
@@ -407,13 +407,15 @@ impl<'a, D: Disk + Drop, R: Net + Drop, A: Allocator + Copy> Conversation<'a, D,
         clock: &C,
         port: u16,
         payload: &[u8],
-    ) -> Result<Vec<u8, A>, ClientFault> {
+    ) -> Result<Vec<u8, A>, ClientError> {
         self.send_back(clock, port, payload)?;
         let (alloc, peer) = (self.alloc, self.peer());
         let message = self.client.receive_message()?;
         match read_message(&message) {
-            Some(Received::Data(from, bytes)) if from == peer => Ok(Vec::from_slice(alloc, bytes)?),
-            _ => Err(ClientFault::Unexpected),
+            Some(ServerMessage::Data(from, bytes)) if from == peer => Ok(Vec::from_slice(
+                alloc, bytes,
+            )?),
+            _ => Err(ClientError::Unexpected),
         }
     }
 
@@ -424,12 +426,12 @@ impl<'a, D: Disk + Drop, R: Net + Drop, A: Allocator + Copy> Conversation<'a, D,
         number: u16,
         port: u16,
         payload: &[u8],
-    ) -> Result<Vec<u8, A>, ClientFault> {
+    ) -> Result<Vec<u8, A>, ClientError> {
         self.send_back(clock, port, payload)?;
         let alloc = self.alloc;
-        let data = ChannelData::parse(self.client.receive()?).ok_or(ClientFault::Unexpected)?;
+        let data = ChannelData::parse(self.client.receive()?).ok_or(ClientError::Unexpected)?;
         if data.number != number {
-            return Err(ClientFault::Unexpected);
+            return Err(ClientError::Unexpected);
         }
         Ok(Vec::from_slice(alloc, data.payload)?)
     }

@@ -4,10 +4,10 @@
 
 mod client;
 mod conversation;
-mod fault;
+mod error;
 mod socket;
 
-pub use client::{Client, Credentials};
+pub use client::{Client, ClientCredentials};
 pub use conversation::{Allocated, Conversation, Loopback, limits};
-pub use fault::ClientFault;
+pub use error::ClientError;
 pub use socket::TimedSocket;

@@ -2,7 +2,7 @@
 
 ghost use Rattle.std.specs.Prelude.{◌≡◌, IfErr};
 
-use crate::fault::ClientFault;
+use crate::error::ClientError;
 use std::alloc::{Allocator, Global};
 use std::marker::Model;
 use std::net::{Net, UdpSocket};
@@ -43,8 +43,8 @@ fn bind<R: Net>(net: &R, at: Endpoint) -> Option<(UdpSocket, Endpoint)> {
 
 impl<A: Allocator> TimedSocket<A> {
     /// Binds a socket. Port 0 is any free one.
-    pub fn open<R: Net>(alloc: A, net: &R, at: Endpoint) -> Result<TimedSocket<A>, ClientFault> {
-        let (socket, local) = bind(net, at).ok_or(ClientFault::Socket)?;
+    pub fn open<R: Net>(alloc: A, net: &R, at: Endpoint) -> Result<TimedSocket<A>, ClientError> {
+        let (socket, local) = bind(net, at).ok_or(ClientError::Socket)?;
         Ok(TimedSocket {
             socket,
             local,
@@ -58,26 +58,26 @@ impl<A: Allocator> TimedSocket<A> {
     }
 
     /// Sends one datagram. `Socket` where the system doesn't take it.
-    pub fn send(&self, to: Endpoint, bytes: &[u8]) -> Result<(), ClientFault>
-        ensures { IfErr result (λ fault. fault ≡ ClientFault.Socket) }
+    pub fn send(&self, to: Endpoint, bytes: &[u8]) -> Result<(), ClientError>
+        ensures { IfErr result (λ fault. fault ≡ ClientError.Socket) }
     {
         match self.socket.send_to(bytes, address_of(to)) {
             Ok(_) => Ok(()),
-            Err(_) => Err(ClientFault::Socket),
+            Err(_) => Err(ClientError::Socket),
         }
     }
 
     /// The next datagram, and who sent it.
-    pub fn receive(&mut self) -> Result<(&[u8], Endpoint), ClientFault> {
+    pub fn receive(&mut self) -> Result<(&[u8], Endpoint), ClientError> {
         let Ok((size, from)) = self.socket.recv_from(self.bytes.as_mut_slice()) else {
-            return Err(ClientFault::Silent);
+            return Err(ClientError::Silent);
         };
         let bytes = self
             .bytes
             .as_slice()
             .get(..size)
-            .ok_or(ClientFault::Unexpected)?;
-        let from = endpoint_of(from).ok_or(ClientFault::Unexpected)?;
+            .ok_or(ClientError::Unexpected)?;
+        let from = endpoint_of(from).ok_or(ClientError::Unexpected)?;
         Ok((bytes, from))
     }
 }

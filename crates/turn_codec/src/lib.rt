@@ -15,4 +15,4 @@ pub use attribute_type::AttributeType;
 pub use builder::{Builder, PushError};
 pub use channel::{ChannelData, is_channel_data_number};
 pub use laws::{address_again, one_message, values_are_bytes};
-pub use message::{Located, Malformed, Message};
+pub use message::{Located, Message, MessageError};

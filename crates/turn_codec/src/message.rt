@@ -15,7 +15,7 @@ use turn_types::{Class, Method, TxId};
 
 /// Why bytes are no message: the first that applies.
 #[derive(Clone, Copy, Debug, PartialEq, Eq, Error)]
-pub enum Malformed {
+pub enum MessageError {
     /// Fewer bytes than a header has.
     #[error("the datagram has fewer than 20 bytes")]
     Short,
@@ -62,7 +62,7 @@ fn has_right_length(bytes: &[u8]) -> bool
 
 impl<'a> Message<'a> {
     /// The message that a datagram encodes. A datagram with a byte after its last attribute is none.
-    pub fn parse(bytes: &'a [u8]) -> Result<Message<'a>, Malformed>
+    pub fn parse(bytes: &'a [u8]) -> Result<Message<'a>, MessageError>
         // What is read is what the datagram encodes.
         ensures found { IfOk result (λ m. (m.bytes ≡ bytes.now) × Spells bytes.now m.content) }
         // What a datagram encodes is read.
@@ -70,19 +70,19 @@ impl<'a> Message<'a> {
         ensures refused { IfErr result (λ e. e ≡ fault_of bytes.now) }
     {
         if bytes.len() < 20 {
-            return Err(Malformed::Short);
+            return Err(MessageError::Short);
         }
         if bytes[0] >= 64 {
-            return Err(Malformed::NotStun);
+            return Err(MessageError::NotStun);
         }
         if u32::from_be_bytes([bytes[4], bytes[5], bytes[6], bytes[7]]) != COOKIE {
-            return Err(Malformed::BadCookie);
+            return Err(MessageError::BadCookie);
         }
         if !has_right_length(bytes) {
-            return Err(Malformed::BadLength);
+            return Err(MessageError::BadLength);
         }
         if !are_attributes(&bytes[20..]) {
-            return Err(Malformed::AttributeOverruns);
+            return Err(MessageError::AttributeOverruns);
         }
         Ok(Message { bytes })
     }

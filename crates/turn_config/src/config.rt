@@ -8,7 +8,7 @@ use thiserror::Error;
 
 /// Why a configuration was not read.
 #[derive(Clone, Copy, Debug, PartialEq, Eq, Error)]
-pub enum ConfigFault {
+pub enum ConfigTextError {
     /// The first bad line. A needed line that is missing makes the line after the last one bad.
     #[error("line {0}: bad line")]
     BadLine(u64),
@@ -17,13 +17,13 @@ pub enum ConfigFault {
     Memory,
 }
 
-impl From<AllocError> for ConfigFault {
-    ghost use Rattle.turn_config.specs.declared.config.ConfigFault.TheVariants.{Memory};
+impl From<AllocError> for ConfigTextError {
+    ghost use Rattle.turn_config.specs.declared.config.ConfigTextError.TheVariants.{Memory};
 
     ghost from_gives = { λ _ f. f ≡ Memory };
 
-    fn from(_error: AllocError) -> ConfigFault {
-        ConfigFault::Memory
+    fn from(_error: AllocError) -> ConfigTextError {
+        ConfigTextError::Memory
     }
 }
 
@@ -31,17 +31,17 @@ impl From<AllocError> for ConfigFault {
 pub fn read_config<A: Allocator + Copy>(
     alloc: A,
     text: &[u8],
-) -> Result<Configured<'_, A>, ConfigFault> {
+) -> Result<Configured<'_, A>, ConfigTextError> {
     let mut lines = ConfigLines::new(alloc);
     let mut number = 0u64;
     for line in text.split(|byte| *byte == b'\n') {
         number = number.wrapping_add(1);
         if !is_skipped(line) && !lines.take(line)? {
-            return Err(ConfigFault::BadLine(number));
+            return Err(ConfigTextError::BadLine(number));
         }
     }
     // What is after the last newline is a line if it isn't empty.
     let is_open = text.last().is_some_and(|byte| *byte != b'\n');
     let after = number.wrapping_add(u64::from(is_open));
-    lines.finish()?.ok_or(ConfigFault::BadLine(after))
+    lines.finish()?.ok_or(ConfigTextError::BadLine(after))
 }

@@ -7,6 +7,6 @@ mod settings;
 mod shown;
 pub mod values;
 
-pub use config::{ConfigFault, read_config};
+pub use config::{ConfigTextError, read_config};
 pub use lines::{ConfigLines, Configured, is_skipped};
 pub use shown::{ShownEndpoint, ShownIp};

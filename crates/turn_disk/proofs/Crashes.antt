@@ -8,17 +8,17 @@ use Rattle.turn_disk.proofs.Replaced.{size_is, front_is, back_is, take_front, dr
 use Rattle.turn_disk.proofs.Recorded.{reverse_push}
 use Rattle.turn_disk.specs.declared.call.Call.{Call}
 use Rattle.turn_disk.specs.declared.call.Call.TheVariants.{Wrote, Synced}
-use Rattle.turn_disk.specs.declared.outcome.Outcome.{Outcome}
-use Rattle.turn_disk.specs.declared.outcome.Outcome.TheVariants.{Lost, Kept, Half, Fill}
+use Rattle.turn_disk.specs.declared.outcome.CrashOutcome.{CrashOutcome}
+use Rattle.turn_disk.specs.declared.outcome.CrashOutcome.TheVariants.{Lost, Kept, Half, Fill}
 
-pub part_short : (outcome : Outcome) (bytes : List ℕ) → length (part_of outcome bytes) ≤ length bytes
+pub part_short : (outcome : CrashOutcome) (bytes : List ℕ) → length (part_of outcome bytes) ≤ length bytes
 part_short Lost bytes = omega arith
 part_short Kept bytes = omega arith
 part_short Half bytes = omega (arith, length-take (length bytes / 2) bytes)
 part_short (Fill byte) bytes = omega (arith, length-replicate (length bytes) byte)
 
 -- what a crash leaves is an image
-pub left_image : (outcome : Outcome) (calls : List Call) (replaced content : List ℕ) → IsRecord calls (length replaced) (length content)
+pub left_image : (outcome : CrashOutcome) (calls : List Call) (replaced content : List ℕ) → IsRecord calls (length replaced) (length content)
     → IsImage (record { bytes = content; pending = pending_of calls }) (left_of outcome (pending_of calls) (past_of calls replaced content) content)
 left_image outcome [] replaced content is = record { size = refl; same = λ i out. refl }
 left_image outcome (Synced ∷ calls) replaced content is = record { size = refl; same = λ i out. refl }
@@ -47,7 +47,7 @@ left_image outcome (Wrote at count ∷ calls) replaced content is =
     }
 
 -- One write, the newest: it was undone, the older ones left their parts, and it leaves its own. In the meantime its bytes were in the record.
-module _ (outcome : Outcome) (calls older : List Call) (at count kept : ℕ) (content replaced : List ℕ)
+module _ (outcome : CrashOutcome) (calls older : List Call) (at count kept : ℕ) (content replaced : List ℕ)
     (calls_are : calls ≡ older ++ Wrote at count ∷ []) (fits : kept ≤ length replaced) (is : IsRecord (reverse calls) kept (length content))
     (taken_back exchanged : List ℕ) (taken_back_is : taken_back ≡ replaced_at at (take count (drop (kept - count) replaced)) content)
     (exchanged_is : exchanged ≡ replaced_at (kept - count) (take count (drop at content)) replaced) where

@@ -10,7 +10,7 @@ uses_as back on uses = record {
   size = uses.size;
   device = λ failed. uses.device (back failed);
   count = λ none. uses.count (λ failed. none (on failed));
-  honest = uses.honest;
+  crash_model = uses.crash_model;
 }
 
 -- a call in which no device call failed, and another
@@ -19,19 +19,19 @@ uses_then {disk = disk} {new = new} first none second = record {
   size = second.size ∙ first.size;
   device = λ failed. subst (λ (n : ℕ). Rises n (disk.failed new)) (first.count none) (second.device failed);
   count = λ fine. second.count fine ∙ first.count none;
-  honest = λ honest. first.honest (second.honest honest);
+  crash_model = λ crash_model. first.crash_model (second.crash_model crash_model);
 }
 
 -- a call that only reads uses the disk too
 pub uses_of : {D : Type 0} {disk : disks.Ghosts D} {old new : D} {P : Type 0} → Reads disk old new P → Uses disk old new P
-uses_of reads = record { size = reads.size; device = reads.device; count = reads.count; honest = reads.honest }
+uses_of reads = record { size = reads.size; device = reads.device; count = reads.count; crash_model = reads.crash_model }
 
 pub reads_as : {D : Type 0} {disk : disks.Ghosts D} {old new : D} {P Q : Type 0} → (Q → P) → (P → Q) → Reads disk old new P → Reads disk old new Q
 reads_as back on reads = record {
   size = reads.size;
   device = λ failed. reads.device (back failed);
   count = λ none. reads.count (λ failed. none (on failed));
-  honest = reads.honest;
+  crash_model = reads.crash_model;
   same = reads.same;
 }
 
@@ -40,6 +40,6 @@ reads_then {disk = disk} {new = new} first none second = record {
   size = second.size ∙ first.size;
   device = λ failed. subst (λ (n : ℕ). Rises n (disk.failed new)) (first.count none) (second.device failed);
   count = λ fine. second.count fine ∙ first.count none;
-  honest = λ honest. first.honest (second.honest honest);
-  same = λ honest. second.same honest ∙ first.same (second.honest honest);
+  crash_model = λ crash_model. first.crash_model (second.crash_model crash_model);
+  same = λ crash_model. second.same crash_model ∙ first.same (second.crash_model crash_model);
 }

@@ -6,8 +6,8 @@ use Rattle.turn_disk.specs.Disk.{Trace, inside_write}
 use Rattle.turn_disk.specs.Crash.{replaced_at}
 
 -- which call it was (0 a read, 1 a write, 2 a sync), its position, whether it succeeded, and the bytes that it read or wrote
-abbrev pub Event : Type 0
-Event = ℕ × ℕ × Bool × List ℕ
+abbrev pub LoggedCall : Type 0
+LoggedCall = ℕ × ℕ × Bool × List ℕ
 
 -- The trace after a call: a read, a write, a sync. A write that fails leaves its range pending, and what a read returns as it was.
 abbrev pub after_call : ℕ → ℕ → Bool → List ℕ → Trace → Trace
@@ -20,7 +20,7 @@ after_call (suc zero) at false bytes t = record { now = inside_write at (length 
 after_call (suc (suc more)) at succeeded bytes t = record { now = record { bytes = t.now.bytes; pending = [] }; past = t.now ∷ t.past }
 
 -- the trace of a file that held these bytes, after these calls, of which the newest comes first
-abbrev pub replay : List ℕ → List Event → Trace
+abbrev pub replay : List ℕ → List LoggedCall → Trace
 replay content [] = record { now = record { bytes = content; pending = [] }; past = [] }
 replay content (event ∷ earlier) = after_call event.0 event.1 event.2 event.3 (replay content earlier)
 
@@ -31,9 +31,9 @@ Agrees (suc zero) at bytes t = at + length bytes ≤ length t.now.bytes
 Agrees (suc (suc more)) at bytes t = Unit {0}
 
 -- each answer was that of a file which held these bytes and kept what was written
-abbrev pub AreHonest : List ℕ → List Event → Type 0
-AreHonest content [] = Unit {0}
-AreHonest content (event ∷ earlier) = Agrees event.0 event.1 event.3 (replay content earlier) × AreHonest content earlier
+abbrev pub FollowCrashModel : List ℕ → List LoggedCall → Type 0
+FollowCrashModel content [] = Unit {0}
+FollowCrashModel content (event ∷ earlier) = Agrees event.0 event.1 event.3 (replay content earlier) × FollowCrashModel content earlier
 
 -- the size stays
 size_kept : (call at : ℕ) (succeeded : Bool) (bytes : List ℕ) (t : Trace) → Agrees call at bytes t → length (after_call call at succeeded bytes t).now.bytes ≡ length t.now.bytes
@@ -44,10 +44,10 @@ size_kept (suc zero) at true bytes t fits =
 size_kept (suc zero) at false bytes t fits = refl
 size_kept (suc (suc more)) at succeeded bytes t agrees = refl
 
-size_after : (content : List ℕ) (events : List Event) → AreHonest content events → length (replay content events).now.bytes ≡ length content
-size_after content [] honest = refl
-size_after content (event ∷ earlier) honest = size_kept event.0 event.1 event.2 event.3 (replay content earlier) honest.0 ∙ size_after content earlier honest.1
+size_after : (content : List ℕ) (events : List LoggedCall) → FollowCrashModel content events → length (replay content events).now.bytes ≡ length content
+size_after content [] crash_model = refl
+size_after content (event ∷ earlier) crash_model = size_kept event.0 event.1 event.2 event.3 (replay content earlier) crash_model.0 ∙ size_after content earlier crash_model.1
 
--- a file whose answers are honest keeps the size of what it held when it was opened
-pub sized_by : (content : List ℕ) (events : List Event) (size : ℕ) → (length content ≡ size) × AreHonest content events → length (replay content events).now.bytes ≡ size
-sized_by content events size honest = size_after content events honest.1 ∙ honest.0
+-- a file whose answers follow the crash model keeps the size of what it held when it was opened
+pub sized_by : (content : List ℕ) (events : List LoggedCall) (size : ℕ) → (length content ≡ size) × FollowCrashModel content events → length (replay content events).now.bytes ≡ size
+sized_by content events size crash_model = size_after content events crash_model.1 ∙ crash_model.0

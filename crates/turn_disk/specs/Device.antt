@@ -12,8 +12,8 @@ pub record Uses {D : Type 0} (disk : disks.Ghosts D) (old new : D) (failed : Typ
   pub device : failed → Rises (disk.failed old) (disk.failed new)
   -- and stays if none did
   pub count : (failed → ⊥) → disk.failed new ≡ disk.failed old
-  -- a disk that is honest was honest before
-  pub honest : disk.is_honest new → disk.is_honest old
+  -- a disk that follows the crash model followed the crash model before
+  pub crash_model : disk.follows_crash_model new → disk.follows_crash_model old
 
 -- a call that only reads, likewise
 pub record Reads {D : Type 0} (disk : disks.Ghosts D) (old new : D) (failed : Type 0) : Type 0 where
@@ -23,7 +23,7 @@ pub record Reads {D : Type 0} (disk : disks.Ghosts D) (old new : D) (failed : Ty
   pub device : failed → Rises (disk.failed old) (disk.failed new)
   -- and stays if none did
   pub count : (failed → ⊥) → disk.failed new ≡ disk.failed old
-  -- a disk that is honest was honest before
-  pub honest : disk.is_honest new → disk.is_honest old
+  -- a disk that follows the crash model followed the crash model before
+  pub crash_model : disk.follows_crash_model new → disk.follows_crash_model old
   -- what the disk holds stays, and what a stop may leave of it
-  pub same : disk.is_honest new → disk.trace new ≡ disk.trace old
+  pub same : disk.follows_crash_model new → disk.trace new ≡ disk.trace old

@@ -1,6 +1,6 @@
 -- What contracts see of the disks.
 use Rattle.std.specs.Prelude.{ℕ, List}
-use Rattle.turn_disk.specs.Calls.{Event}
+use Rattle.turn_disk.specs.Calls.{LoggedCall}
 use Rattle.turn_disk.specs.Disk.{Trace}
 
 -- a disk in memory: its trace, and the count of its failures
@@ -15,4 +15,4 @@ pub record InFile : Type 0 where
   -- how many device calls failed, modulo 2^64
   pub failures : ℕ
   -- the calls with their answers, the newest first
-  pub events : List Event
+  pub events : List LoggedCall

@@ -1,4 +1,4 @@
-//! A disk of fixed size. What a stop may leave of an honest one is a part of its trace.
+//! A disk of fixed size. What a stop may leave of one that follows the crash model is a part of its trace.
 
 ghost use Rattle.std.specs.Prelude.{◌≡◌, ◌+◌, ◌≤◌, ℕ, length, take, drop, OnOk};
 ghost use Rattle.turn_disk.specs.Counts.{CountOutcome};
@@ -9,7 +9,7 @@ use thiserror::Error;
 /// A device call that failed.
 #[derive(Clone, Copy, Debug, PartialEq, Eq, Error)]
 #[error("a device call failed")]
-pub struct DeviceFailed;
+pub struct DeviceError;
 
 /// A disk of fixed size. Positions are counted in bytes from its first one.
 ///
@@ -23,7 +23,7 @@ pub trait Disk {
 
     /// That each answer so far was that of a disk which keeps what was synced. It may cease to hold at any call, and no code can tell:
     /// the clauses that begin with this hold as long as it does.
-    ghost is_honest: { Self → Type 0 };
+    ghost follows_crash_model: { Self → Type 0 };
 
     /// What a read returns, and what a stop may leave, now and inside each device call so far.
     ghost trace: { Self → Trace };
@@ -37,30 +37,30 @@ pub trait Disk {
         ensures { result ≡ failed self.now };
 
     /// Fills the buffer with the bytes from this position on. After a failure the buffer may hold anything.
-    fn read_at(&mut self, at: usize, buffer: &mut [u8]) -> Result<(), DeviceFailed>
+    fn read_at(&mut self, at: usize, buffer: &mut [u8]) -> Result<(), DeviceError>
         requires { at + length buffer.old ≤ capacity self.old }
         ensures size { capacity self.new ≡ capacity self.old }
         ensures count { CountOutcome (failed self.old) (failed self.new) result }
-        ensures honest { is_honest self.new → is_honest self.old }
-        ensures same { is_honest self.new → trace self.new ≡ trace self.old }
-        ensures bytes { is_honest self.new
+        ensures crash_model { follows_crash_model self.new → follows_crash_model self.old }
+        ensures same { follows_crash_model self.new → trace self.new ≡ trace self.old }
+        ensures bytes { follows_crash_model self.new
             → OnOk result (buffer.new ≡ take (length buffer.old) (drop at (trace self.old).now.bytes)) };
 
     /// Writes these bytes from this position on; they are pending until the next sync.
-    fn write_at(&mut self, at: usize, bytes: &[u8]) -> Result<(), DeviceFailed>
+    fn write_at(&mut self, at: usize, bytes: &[u8]) -> Result<(), DeviceError>
         requires { at + length bytes.now ≤ capacity self.old }
         ensures size { capacity self.new ≡ capacity self.old }
         ensures count { CountOutcome (failed self.old) (failed self.new) result }
-        ensures honest { is_honest self.new → is_honest self.old }
-        ensures outcome { is_honest self.new → WriteOutcome at bytes.now (trace self.old) (trace self.new) result };
+        ensures crash_model { follows_crash_model self.new → follows_crash_model self.old }
+        ensures outcome { follows_crash_model self.new → WriteOutcome at bytes.now (trace self.old) (trace self.new) result };
 
     /// Makes all that is pending durable.
-    fn sync(&mut self) -> Result<(), DeviceFailed>
+    fn sync(&mut self) -> Result<(), DeviceError>
         ensures size { capacity self.new ≡ capacity self.old }
         ensures count { CountOutcome (failed self.old) (failed self.new) result }
-        ensures honest { is_honest self.new → is_honest self.old }
-        ensures outcome { is_honest self.new → SyncOutcome (trace self.old) (trace self.new) result };
+        ensures crash_model { follows_crash_model self.new → follows_crash_model self.old }
+        ensures outcome { follows_crash_model self.new → SyncOutcome (trace self.old) (trace self.new) result };
 
-    /// An honest disk holds as many bytes as it has.
-    ghost sized: { (disk : Self) → is_honest disk → length (trace disk).now.bytes ≡ capacity disk };
+    /// A disk that follows the crash model holds as many bytes as it has.
+    ghost sized: { (disk : Self) → follows_crash_model disk → length (trace disk).now.bytes ≡ capacity disk };
 }

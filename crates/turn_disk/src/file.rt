@@ -1,12 +1,12 @@
-//! A disk over a file. It is honest as long as the answers are those of a file that keeps what was written.
+//! A disk over a file. It follows the crash model as long as the answers are those of a file that keeps what was written.
 
 ghost use Rattle.std.specs.Prelude.{◌≡◌, [], IfErr, IfOk, length};
-ghost use Rattle.turn_disk.specs.Calls.{AreHonest, replay};
+ghost use Rattle.turn_disk.specs.Calls.{FollowCrashModel, replay};
 
-use crate::disk::{DeviceFailed, Disk};
+use crate::disk::{DeviceError, Disk};
 use crate::failures::raise;
-use crate::opened::{FileRefused, lock, open_apart};
-use crate::record::{READ, Record, SYNC, WRITE};
+use crate::opened::{FileError, lock, open_apart};
+use crate::record::{CallRecord, READ, SYNC, WRITE};
 use crate::start::{Start, Unknown};
 use std::fs::{File, Files, OpenFile, OpenOptions};
 use std::marker::{Model, PhantomData};
@@ -23,7 +23,7 @@ pub struct FileDisk<F: FileExt + OpenFile = File, S: Start = Unknown> {
     file: F,
     size: usize,
     failures: u64,
-    calls: Record,
+    calls: CallRecord,
     start: PhantomData<S>,
 }
 
@@ -44,7 +44,7 @@ impl<F: FileExt + OpenFile> FileDisk<F> {
             file,
             size,
             failures: 0,
-            calls: Record::new(),
+            calls: CallRecord::new(),
             start: PhantomData,
         }
     }
@@ -77,7 +77,7 @@ impl FileDisk<File> {
         files: &R,
         path: &str,
         size: usize,
-    ) -> Result<FileDisk<File>, FileRefused>
+    ) -> Result<FileDisk<File>, FileError>
         ensures size { IfOk result (λ disk. disk.size ≡ size) }
         ensures failures { IfOk result (λ disk. disk.failures ≡ 0) }
         ensures events { IfOk result (λ disk. disk.events ≡ []) }
@@ -92,7 +92,7 @@ impl FileDisk<File> {
     }
 
     /// Opens an existing file, and takes its lock.
-    pub fn open<R: Files<File = File>>(files: &R, path: &str) -> Result<FileDisk<File>, FileRefused>
+    pub fn open<R: Files<File = File>>(files: &R, path: &str) -> Result<FileDisk<File>, FileError>
         ensures failures { IfOk result (λ disk. disk.failures ≡ 0) }
         ensures events { IfOk result (λ disk. disk.events ≡ []) }
     {
@@ -107,10 +107,10 @@ impl FileDisk<File> {
     pub fn open_to_read<R: Files<File = File>>(
         files: &R,
         path: &str,
-    ) -> Result<FileDisk<File>, FileRefused>
+    ) -> Result<FileDisk<File>, FileError>
         ensures failures { IfOk result (λ disk. disk.failures ≡ 0) }
         ensures events { IfOk result (λ disk. disk.events ≡ []) }
-        ensures unlocked { IfErr result (λ refused. refused ≡ FileRefused.Device) }
+        ensures unlocked { IfErr result (λ refused. refused ≡ FileError.Device) }
     {
         let mut options = OpenOptions::new();
         options.read(true);
@@ -119,10 +119,10 @@ impl FileDisk<File> {
     }
 
     // A disk of all bytes of a file.
-    fn whole(file: File) -> Result<FileDisk<File>, FileRefused>
+    fn whole(file: File) -> Result<FileDisk<File>, FileError>
         ensures failures { IfOk result (λ disk. disk.failures ≡ 0) }
         ensures events { IfOk result (λ disk. disk.events ≡ []) }
-        ensures device { IfErr result (λ refused. refused ≡ FileRefused.Device) }
+        ensures device { IfErr result (λ refused. refused ≡ FileError.Device) }
     {
         let len = file.metadata()?.len();
         Ok(FileDisk::new(file, len as usize))
@@ -137,11 +137,11 @@ impl<F: FileExt + OpenFile, S: Start> Disk for FileDisk<F, S> {
 
     ghost failed = { λ disk. disk.failures };
 
-    ghost is_honest = { λ disk. (length S.Start.content ≡ disk.size) × AreHonest S.Start.content disk.events };
+    ghost follows_crash_model = { λ disk. (length S.Start.content ≡ disk.size) × FollowCrashModel S.Start.content disk.events };
 
     ghost trace = { λ disk. replay S.Start.content disk.events };
 
-    ghost sized = { λ disk honest. sized_by S.Start.content disk.events disk.size honest };
+    ghost sized = { λ disk crash_model. sized_by S.Start.content disk.events disk.size crash_model };
 
     fn size(&self) -> usize {
         self.size
@@ -151,7 +151,7 @@ impl<F: FileExt + OpenFile, S: Start> Disk for FileDisk<F, S> {
         self.failures
     }
 
-    fn read_at(&mut self, at: usize, buffer: &mut [u8]) -> Result<(), DeviceFailed> {
+    fn read_at(&mut self, at: usize, buffer: &mut [u8]) -> Result<(), DeviceError> {
         match self.file.read_exact_at(buffer, at as u64) {
             Ok(()) => {
                 self.calls.note(READ, at, true, buffer);
@@ -161,7 +161,7 @@ impl<F: FileExt + OpenFile, S: Start> Disk for FileDisk<F, S> {
         }
     }
 
-    fn write_at(&mut self, at: usize, bytes: &[u8]) -> Result<(), DeviceFailed> {
+    fn write_at(&mut self, at: usize, bytes: &[u8]) -> Result<(), DeviceError> {
         match self.file.write_all_at(bytes, at as u64) {
             Ok(()) => {
                 self.calls.note(WRITE, at, true, bytes);
@@ -174,7 +174,7 @@ impl<F: FileExt + OpenFile, S: Start> Disk for FileDisk<F, S> {
         }
     }
 
-    fn sync(&mut self) -> Result<(), DeviceFailed> {
+    fn sync(&mut self) -> Result<(), DeviceError> {
         match self.file.sync_data() {
             Ok(()) => {
                 self.calls.note(SYNC, 0, true, &[]);

@@ -7,7 +7,7 @@ ghost use Rattle.turn_disk.specs.Disk.{IsImage, Writes, Syncs};
 ghost use Rattle.turn_disk.specs.Record.{IsRecord, trace_of};
 
 use crate::call::Call;
-use crate::outcome::Outcome;
+use crate::outcome::CrashOutcome;
 use std::alloc::{AllocError, Allocator, Global};
 use std::marker::Model;
 
@@ -94,7 +94,7 @@ impl<A: Allocator> Memory<A> {
     }
 
     /// The bytes become an image, and the record ends.
-    pub fn crash(&mut self, outcome: Outcome)
+    pub fn crash(&mut self, outcome: CrashOutcome)
         ensures left { self.new ≡ record { now = record { bytes = left_by outcome self.old; pending = [] }; past = [] } }
         ensures image { IsImage self.old.now self.new.now.bytes }
     {
@@ -157,16 +157,16 @@ fn exchange<A: Allocator>(
 }
 
 // What a crash leaves of one write of these bytes.
-fn put_part<A: Allocator>(content: &mut Vec<u8, A>, at: usize, bytes: &[u8], outcome: Outcome)
+fn put_part<A: Allocator>(content: &mut Vec<u8, A>, at: usize, bytes: &[u8], outcome: CrashOutcome)
     requires { at + length bytes.now ≤ length content.old.items }
     ensures size { length content.new.items ≡ length content.old.items }
     ensures content { content.new.items ≡ replaced_at at (part_of outcome bytes.now) content.old.items }
 {
     match outcome {
-        Outcome::Lost => {}
-        Outcome::Kept => overwrite(content, at, bytes),
-        Outcome::Half => overwrite(content, at, &bytes[..bytes.len() / 2]),
-        Outcome::Fill(byte) => content[at..at + bytes.len()].fill(byte),
+        CrashOutcome::Lost => {}
+        CrashOutcome::Kept => overwrite(content, at, bytes),
+        CrashOutcome::Half => overwrite(content, at, &bytes[..bytes.len() / 2]),
+        CrashOutcome::Fill(byte) => content[at..at + bytes.len()].fill(byte),
     }
 }
 
@@ -177,7 +177,7 @@ fn leave<A: Allocator>(
     replaced: &mut Vec<u8, A>,
     kept: usize,
     calls: &[Call],
-    outcome: Outcome,
+    outcome: CrashOutcome,
 )
     requires kept { kept ≤ length replaced.old.items }
     requires is_record { IsRecord (reverse calls.now) kept (length content.old.items) }

@@ -1,14 +1,14 @@
-//! A disk in memory, which is honest, and which a test stops and crashes.
+//! A disk in memory, which follows the crash model, and which a test stops and crashes.
 
 ghost use Rattle.std.specs.Prelude.{◌≡◌, ◌<◌, [], length};
 ghost use Rattle.turn_disk.specs.Crash.{left_by};
 ghost use Rattle.turn_disk.specs.Disk.{IsImage};
 
-use crate::disk::{DeviceFailed, Disk};
+use crate::disk::{DeviceError, Disk};
 use crate::failures::raise;
 use crate::faults::Faults;
 use crate::memory::Memory;
-use crate::outcome::Outcome;
+use crate::outcome::CrashOutcome;
 use std::alloc::{AllocError, Allocator, Global};
 use std::marker::Model;
 
@@ -81,7 +81,7 @@ impl<A: Allocator> MemoryDisk<A> {
     }
 
     /// The disk becomes the image that the outcome names, nothing is pending, and failures that are still to come are cancelled.
-    pub fn crash(&mut self, outcome: Outcome)
+    pub fn crash(&mut self, outcome: CrashOutcome)
         ensures left { self.new.trace.now ≡ record { bytes = left_by outcome self.old.trace; pending = [] } }
         ensures image { IsImage self.old.trace.now self.new.trace.now.bytes }
         ensures past { self.new.trace.past ≡ [] }
@@ -106,11 +106,11 @@ impl<A: Allocator> Disk for MemoryDisk<A> {
 
     ghost failed = { λ disk. disk.failures };
 
-    ghost is_honest = { λ _. Unit {0} };
+    ghost follows_crash_model = { λ _. Unit {0} };
 
     ghost trace = { λ disk. disk.trace };
 
-    ghost sized = { λ disk honest. refl };
+    ghost sized = { λ disk crash_model. refl };
 
     fn size(&self) -> usize {
         self.memory.bytes().len()
@@ -120,7 +120,7 @@ impl<A: Allocator> Disk for MemoryDisk<A> {
         self.failures
     }
 
-    fn read_at(&mut self, at: usize, buffer: &mut [u8]) -> Result<(), DeviceFailed> {
+    fn read_at(&mut self, at: usize, buffer: &mut [u8]) -> Result<(), DeviceError> {
         if self.faults.next_call_fails() {
             return Err(raise(&mut self.failures));
         }
@@ -128,7 +128,7 @@ impl<A: Allocator> Disk for MemoryDisk<A> {
         Ok(())
     }
 
-    fn write_at(&mut self, at: usize, bytes: &[u8]) -> Result<(), DeviceFailed> {
+    fn write_at(&mut self, at: usize, bytes: &[u8]) -> Result<(), DeviceError> {
         let fails = self.faults.next_call_fails();
         let Ok(()) = self.memory.write(at, bytes) else {
             return Err(raise(&mut self.failures));
@@ -139,7 +139,7 @@ impl<A: Allocator> Disk for MemoryDisk<A> {
         Ok(())
     }
 
-    fn sync(&mut self) -> Result<(), DeviceFailed> {
+    fn sync(&mut self) -> Result<(), DeviceError> {
         if self.faults.next_call_fails() {
             return Err(raise(&mut self.failures));
         }

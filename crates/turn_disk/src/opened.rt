@@ -2,7 +2,7 @@
 
 ghost use Rattle.std.specs.Fd.{file_raw_fd};
 ghost use Rattle.std.specs.Prelude.{◌≡◌, ◌≤ℤ◌, ◌↔◌, pos, IfErr, IfOk, IsTrue};
-ghost use Rattle.turn_disk.specs.declared.opened.FileRefused.TheVariants.{Device};
+ghost use Rattle.turn_disk.specs.declared.opened.FileError.TheVariants.{Device};
 
 use std::fs::{self, File, Files, OpenOptions, TryLockError};
 use std::io::{self, ErrorKind};
@@ -11,7 +11,7 @@ use thiserror::Error;
 
 /// Why a file isn't opened as a disk.
 #[derive(Clone, Copy, Debug, PartialEq, Eq, Error)]
-pub enum FileRefused {
+pub enum FileError {
     /// The file's lock is held by whoever has it open as a disk to write to.
     #[error("the file is in use")]
     InUse,
@@ -20,20 +20,20 @@ pub enum FileRefused {
     Device,
 }
 
-impl From<io::Error> for FileRefused {
+impl From<io::Error> for FileError {
     ghost from_gives = { λ _ refused. refused ≡ Device };
 
-    fn from(_error: io::Error) -> FileRefused {
-        FileRefused::Device
+    fn from(_error: io::Error) -> FileError {
+        FileError::Device
     }
 }
 
 /// For programs that report errors of files alone, as the standard library has it for a lock.
-impl From<FileRefused> for io::Error {
-    fn from(refused: FileRefused) -> io::Error {
+impl From<FileError> for io::Error {
+    fn from(refused: FileError) -> io::Error {
         match refused {
-            FileRefused::InUse => io::Error::from(ErrorKind::WouldBlock),
-            FileRefused::Device => io::Error::from(ErrorKind::Other),
+            FileError::InUse => io::Error::from(ErrorKind::WouldBlock),
+            FileError::Device => io::Error::from(ErrorKind::Other),
         }
     }
 }
@@ -60,22 +60,22 @@ pub fn open_apart<R: Files<File = File>>(
     files: &R,
     path: &str,
     options: &OpenOptions,
-) -> Result<File, FileRefused>
+) -> Result<File, FileError>
     ensures apart { IfOk result (λ file. pos 3 ≤ℤ file_raw_fd file) }
-    ensures device { IfErr result (λ refused. refused ≡ FileRefused.Device) }
+    ensures device { IfErr result (λ refused. refused ≡ FileError.Device) }
 {
     let file = open_regular(files, path, options)?;
     if !is_apart(file.as_raw_fd()) {
-        return Err(FileRefused::Device);
+        return Err(FileError::Device);
     }
     Ok(file)
 }
 
 /// Takes the lock of a file, which lasts as long as the file is open.
-pub fn lock(file: &File) -> Result<(), FileRefused> {
+pub fn lock(file: &File) -> Result<(), FileError> {
     match file.try_lock() {
         Ok(()) => Ok(()),
-        Err(TryLockError::WouldBlock) => Err(FileRefused::InUse),
-        Err(TryLockError::Error(_)) => Err(FileRefused::Device),
+        Err(TryLockError::WouldBlock) => Err(FileError::InUse),
+        Err(TryLockError::Error(_)) => Err(FileError::Device),
     }
 }

@@ -2,7 +2,7 @@
 
 /// What a crash leaves of each write that is pending.
 #[derive(Clone, Copy, Debug, PartialEq, Eq)]
-pub enum Outcome {
+pub enum CrashOutcome {
     /// Nothing of it.
     Lost,
     /// All that it wrote.

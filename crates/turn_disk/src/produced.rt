@@ -4,7 +4,7 @@ ghost use Rattle.std.specs.Prelude.{◌-◌, ◌≡◌, ◌++◌, [], ◌+◌, �
 ghost use Rattle.turn_disk.specs.Device.{Uses};
 ghost use Rattle.turn_disk.specs.Disk.{ChangesOnly, EachImageSince, IsSettled, WritesThrough};
 
-use crate::disk::{DeviceFailed, Disk};
+use crate::disk::{DeviceError, Disk};
 use crate::writes::write_within;
 use std::marker::Model;
 
@@ -117,17 +117,17 @@ pub fn write_produced<D: Disk, P: Producer>(
     disk: &mut D,
     at: usize,
     producer: &mut P,
-) -> Result<(), DeviceFailed>
+) -> Result<(), DeviceError>
     requires place { at + length (P.rest producer.old) ≤ D.capacity disk.old }
     requires addressable { at + length (P.rest producer.old) < 2 ^ 64 }
     ensures uses { Uses D.Disk disk.old disk.new (IsErr result) }
 
     // A stop at any moment changes nothing outside the range.
-    ensures stop { D.is_honest disk.new → IsSettled (D.trace disk.old).now
+    ensures stop { D.follows_crash_model disk.new → IsSettled (D.trace disk.old).now
         → EachImageSince (D.trace disk.old) (D.trace disk.new)
         (ChangesOnly at (length (P.rest producer.old)) (D.trace disk.old).now.bytes) }
 
-    ensures done { D.is_honest disk.new → IsSettled (D.trace disk.old).now
+    ensures done { D.follows_crash_model disk.new → IsSettled (D.trace disk.old).now
         → OnOk result (WritesThrough at (P.rest producer.old) (D.trace disk.old).now (D.trace disk.new).now) }
 {
     let mut piece = [0u8; PIECE];

@@ -4,14 +4,14 @@ ghost use Rattle.std.specs.Prelude.{◌≡◌, ◌+◌, ◌++◌, ◌≤◌, ◌
 ghost use Rattle.turn_disk.specs.Device.{Reads};
 ghost use Rattle.turn_disk.specs.Disk.{StandsAt};
 
-use crate::disk::{DeviceFailed, Disk};
+use crate::disk::{DeviceError, Disk};
 use crate::produced::PIECE;
 
 /// Reads the bytes from this position on, in one device call.
-pub fn read_array<D: Disk, const N: usize>(disk: &mut D, at: usize) -> Result<[u8; N], DeviceFailed>
+pub fn read_array<D: Disk, const N: usize>(disk: &mut D, at: usize) -> Result<[u8; N], DeviceError>
     requires { at + N ≤ D.capacity disk.old }
     ensures reads { Reads D.Disk disk.old disk.new (IsErr result) }
-    ensures bytes { D.is_honest disk.new → IfOk result (λ bytes. StandsAt at bytes (D.trace disk.old).now.bytes) }
+    ensures bytes { D.follows_crash_model disk.new → IfOk result (λ bytes. StandsAt at bytes (D.trace disk.old).now.bytes) }
 {
     let mut bytes = [0; N];
     disk.read_at(at, &mut bytes)?;
@@ -25,12 +25,12 @@ fn read_part<D: Disk>(
     buffer: &mut [u8],
     done: usize,
     size: usize,
-) -> Result<(), DeviceFailed>
+) -> Result<(), DeviceError>
     requires part { done + size ≤ length buffer.old }
     requires place { at + size ≤ D.capacity disk.old }
     ensures reads { Reads D.Disk disk.old disk.new (IsErr result) }
     ensures len { length buffer.new ≡ length buffer.old }
-    ensures front { D.is_honest disk.new → OnOk result (take (done + size) buffer.new
+    ensures front { D.follows_crash_model disk.new → OnOk result (take (done + size) buffer.new
         ≡ take done buffer.old ++ take size (drop at (D.trace disk.old).now.bytes)) }
 {
     disk.read_at(at, &mut buffer[done..done + size])?;
@@ -39,12 +39,12 @@ fn read_part<D: Disk>(
 
 /// Fills the buffer with the bytes from this position on, in device calls of at most 4,096 bytes. After a failure the
 /// buffer may hold anything.
-pub fn read_pieces<D: Disk>(disk: &mut D, at: usize, buffer: &mut [u8]) -> Result<(), DeviceFailed>
+pub fn read_pieces<D: Disk>(disk: &mut D, at: usize, buffer: &mut [u8]) -> Result<(), DeviceError>
     requires place { at + length buffer.old ≤ D.capacity disk.old }
     requires addressable { at + length buffer.old < 2 ^ 64 }
     ensures reads { Reads D.Disk disk.old disk.new (IsErr result) }
     ensures len { length buffer.new ≡ length buffer.old }
-    ensures bytes { D.is_honest disk.new → OnOk result (StandsAt at buffer.new (D.trace disk.old).now.bytes) }
+    ensures bytes { D.follows_crash_model disk.new → OnOk result (StandsAt at buffer.new (D.trace disk.old).now.bytes) }
 {
     let mut done = 0;
     while done < buffer.len() {

@@ -2,7 +2,7 @@
 
 ghost use Rattle.std.specs.Prelude.{◌≡◌, ◌∷◌, [], List};
 ghost use Rattle.std.specs.Borrow.{ftrue};
-ghost use Rattle.turn_disk.specs.Calls.{Event};
+ghost use Rattle.turn_disk.specs.Calls.{LoggedCall};
 
 use std::marker::{Model, PhantomData};
 
@@ -17,21 +17,21 @@ pub(crate) const SYNC: u8 = 2;
 
 /// The calls so far, the newest first. It takes no memory: it exists in proofs alone.
 #[derive(Drop)]
-pub struct Record {
+pub struct CallRecord {
     marker: PhantomData<u8>,
     /// The newest first.
-    pub ghost events: { List Event },
+    pub ghost events: { List LoggedCall },
 }
 
-impl Model for Record {
+impl Model for CallRecord {
     ghost also_owns = { λ _. ftrue };
 }
 
-impl Record {
-    pub(crate) fn new() -> Record
+impl CallRecord {
+    pub(crate) fn new() -> CallRecord
         ensures { result.events ≡ [] }
     {
-        Record {
+        CallRecord {
             marker: PhantomData,
         }
     }

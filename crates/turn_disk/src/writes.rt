@@ -4,44 +4,44 @@ ghost use Rattle.std.specs.Prelude.{◌≡◌, ◌+◌, ◌≤◌, ℕ, List, le
 ghost use Rattle.turn_disk.specs.Device.{Uses};
 ghost use Rattle.turn_disk.specs.Disk.{ChangesOnly, EachImageSince, IsSettled, IsSettledBut, ThroughOutcome, WritesThrough, WriteOutcome};
 
-use crate::disk::{DeviceFailed, Disk};
+use crate::disk::{DeviceError, Disk};
 
 /// Writes, within a range outside which nothing is pending.
 pub(crate) fn write_within<D: Disk>(
     disk: &mut D,
     at: usize,
     bytes: &[u8],
-) -> Result<(), DeviceFailed>
+) -> Result<(), DeviceError>
     requires { at + length bytes.now ≤ D.capacity disk.old }
     ensures uses { Uses D.Disk disk.old disk.new (IsErr result) }
 
     // A stop at any moment changes nothing outside the range, nor does the call.
-    ensures stop { D.is_honest disk.new → (from count : ℕ) (base : List ℕ)
+    ensures stop { D.follows_crash_model disk.new → (from count : ℕ) (base : List ℕ)
         → from ≤ at → at + length bytes.now ≤ from + count → IsSettledBut from count base (D.trace disk.old).now
         → EachImageSince (D.trace disk.old) (D.trace disk.new) (ChangesOnly from count base)
         × IsSettledBut from count base (D.trace disk.new).now }
 
-    ensures outcome { D.is_honest disk.new → WriteOutcome at bytes.now (D.trace disk.old) (D.trace disk.new) result }
+    ensures outcome { D.follows_crash_model disk.new → WriteOutcome at bytes.now (D.trace disk.old) (D.trace disk.new) result }
 {
     disk.write_at(at, bytes)
 }
 
 /// Writes these bytes, and syncs.
-pub fn write_through<D: Disk>(disk: &mut D, at: usize, bytes: &[u8]) -> Result<(), DeviceFailed>
+pub fn write_through<D: Disk>(disk: &mut D, at: usize, bytes: &[u8]) -> Result<(), DeviceError>
     requires { at + length bytes.now ≤ D.capacity disk.old }
     ensures uses { Uses D.Disk disk.old disk.new (IsErr result) }
 
     // A stop at any moment changes nothing outside the range.
-    ensures stop { D.is_honest disk.new → IsSettled (D.trace disk.old).now
+    ensures stop { D.follows_crash_model disk.new → IsSettled (D.trace disk.old).now
         → EachImageSince (D.trace disk.old) (D.trace disk.new)
         (ChangesOnly at (length bytes.now) (D.trace disk.old).now.bytes) }
 
     // Whatever was pending before, it is synced too.
-    ensures done { D.is_honest disk.new
+    ensures done { D.follows_crash_model disk.new
         → OnOk result (WritesThrough at bytes.now (D.trace disk.old).now (D.trace disk.new).now) }
 
     // The bytes are written once and synced once, and no other device call changes the disk.
-    ensures once { D.is_honest disk.new → ThroughOutcome at bytes.now (D.trace disk.old) (D.trace disk.new) result }
+    ensures once { D.follows_crash_model disk.new → ThroughOutcome at bytes.now (D.trace disk.old) (D.trace disk.new) result }
 {
     write_within(disk, at, bytes)?;
     disk.sync()?;

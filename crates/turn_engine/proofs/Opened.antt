@@ -19,17 +19,17 @@ use Rattle.turn_store.specs.Areas.{Form}
 use Rattle.turn_store.specs.Images.{EachImage, StandsBy, StandsForAt}
 use Rattle.turn_store.specs.Opened.{OpensTo}
 use Rattle.turn_store.specs.Replay.{Snapshot}
-use Rattle.turn_store.specs.State.{RestsAt}
+use Rattle.turn_store.specs.State.{RecoversToAt}
 use Rattle.turn_store.specs.Tables.{snapshot_of}
-use Rattle.turn_store.specs.declared.fault.OpenFault.TheVariants.{Device}
+use Rattle.turn_store.specs.declared.error.OpenError.TheVariants.{Device}
 use Rattle.turn_store.proofs.Spelling.{clock_late}
 use Rattle.turn_table.specs.State as tables_state
 use Rattle.turn_types.specs.declared.limits.Bounds.{Bounds}
 use Rattle.turn_engine.specs.Calls.{disk_after}
 use Rattle.turn_engine.specs.Images.{AtLeast}
-use Rattle.turn_engine.specs.Resting.{Opens, Rests}
+use Rattle.turn_engine.specs.Recovering.{Opens, RecoversTo}
 use Rattle.turn_engine.specs.State.{IsSound, ServerState, has_pairs, limits_of, now_of}
-use Rattle.turn_engine.specs.declared.fault.OpenRefused.{OpenRefused}
+use Rattle.turn_engine.specs.declared.error.ServerOpenError.{ServerOpenError}
 use Rattle.turn_engine.proofs.Lists.{length-take-le, take_of_length-le}
 
 pub fresh_sound : (b limits store batch : Bounds) (v staged : Version) (acts : ℕ) (pairs : Bool) (table read : tables_state.State) → limits ≡ b → table ≡ read → store ≡ b → batch ≡ b → read.bounds ≡ b
@@ -56,13 +56,13 @@ of_refused e P (Ok x) is p = tt
 of_refused e P (Err f) is p = subst P (sym is) p
 
 -- what holds of the disk of a server, which a refusal returns too, holds of the disk after an opening
-pub after_over : {D H G : Type 0} (P : D → Type 0) (server : ServerState D H G) (refused : OpenRefused D H G) (r : Result (ServerState D H G) (OpenRefused D H G))
+pub after_over : {D H G : Type 0} (P : D → Type 0) (server : ServerState D H G) (refused : ServerOpenError D H G) (r : Result (ServerState D H G) (ServerOpenError D H G))
     → IfOk r (λ s. s ≡ server) → IfErr r (λ e. e ≡ refused) → refused.disk ≡ server.store.disk → P server.store.disk → P (disk_after r)
 after_over P server refused (Ok s) is not same p = subst (λ v. P v.store.disk) (sym is) p
 after_over P server refused (Err e) not is same p = subst (λ v. P v.disk) (sym is) (subst P (sym same) p)
 
 -- an opening that returns a server, or refuses it for another reason than the device, uses the disk as the opening of the store did
-pub uses_over : {D H G : Type 0} (disk : disks.Ghosts D) (old : D) (server : ServerState D H G) (refused : OpenRefused D H G) (r : Result (ServerState D H G) (OpenRefused D H G))
+pub uses_over : {D H G : Type 0} (disk : disks.Ghosts D) (old : D) (server : ServerState D H G) (refused : ServerOpenError D H G) (r : Result (ServerState D H G) (ServerOpenError D H G))
     → IfOk r (λ s. s ≡ server) → IfErr r (λ e. e ≡ refused) → refused.disk ≡ server.store.disk → (refused.fault ≡ Device → ⊥)
     → Uses disk old server.store.disk ⊥ → Uses disk old (disk_after r) (IsErrAnd r (λ e. e.fault ≡ Device))
 uses_over disk old server refused (Ok s) is not same other uses = subst (λ v. Uses disk old v.store.disk ⊥) (sym is) uses
@@ -88,9 +88,9 @@ module _ {D H G : Type 0} (form : Form) (h : History) (k m : ℕ) (content : Lis
   abbrev first : History
   first = take at.count h
 
-  rests_on : (c : ℕ) → StandsForAt form first c content → OpensTo form first c server.store state (snapshot_of server.machine.table) → form.bounds ≡ limits_of server
-      → server.payload ≡ 0 ∷ [] → server.acts ≡ 0 → Rests state server first at.count
-  rests_on c stands is bounds payload acts =
+  recovers_to_it : (c : ℕ) → StandsForAt form first c content → OpensTo form first c server.store state (snapshot_of server.machine.table) → form.bounds ≡ limits_of server
+      → server.payload ≡ 0 ∷ [] → server.acts ≡ 0 → RecoversTo state server first at.count
+  recovers_to_it c stands is bounds payload acts =
       let long : length first ≡ at.count = length-take-le at.count h at.no_more in
       let same : take at.count first ≡ first = take_of_length-le at.count first (omega arith) in
       let none : drop at.count first ≡ [] = drop_of_length-le first (omega arith) in
@@ -105,7 +105,7 @@ module _ {D H G : Type 0} (form : Form) (h : History) (k m : ℕ) (content : Lis
         within = omega arith;
         at = c;
         at_late = omega arith;
-        stored = subst (λ (l : History). RestsAt server.store state c l) (sym same) is.rests;
+        stored = subst (λ (l : History). RecoversToAt server.store state c l) (sym same) is.recovers;
         staged = payload ∙ ap (λ (l : History). length l ∷ bytes.each bytes.act_entry l) (sym none);
         counted = acts ∙ ap (λ (l : History). length l) (sym none);
         from = subst (AllFrom c) (sym none) tt;
@@ -122,7 +122,7 @@ module _ {D H G : Type 0} (form : Form) (h : History) (k m : ℕ) (content : Lis
         no_less = at.no_less;
         no_more = at.no_more;
         same_form = is.same_form;
-        rests = rests_on at.stands.clock at.stands.stands is bounds payload acts;
+        recovers = recovers_to_it at.stands.clock at.stands.stands is bounds payload acts;
         stands = subst (λ (c : ℕ). StandsForAt form first c content) (sym moment) at.stands.stands;
         bounded = omega arith;
       }

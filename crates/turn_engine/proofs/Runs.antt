@@ -16,16 +16,16 @@ use Rattle.turn_step.specs.Outcome.{Arrives, Sent, added}
 use Rattle.turn_step.specs.State.{KeepsSetting, MachineState, setting_of}
 use Rattle.turn_store.specs.Areas.{Form}
 use Rattle.turn_store.specs.State.{form_of}
-use Rattle.turn_store.specs.declared.fault.StoreFault.{StoreFault}
-use Rattle.turn_store.specs.declared.fault.StoreFault.TheVariants as faults
+use Rattle.turn_store.specs.declared.error.StoreError.{StoreError}
+use Rattle.turn_store.specs.declared.error.StoreError.TheVariants as faults
 use Rattle.turn_types.specs.Config.{Config}
 use Rattle.turn_engine.specs.Calls.{Commits, Submits}
 use Rattle.turn_engine.specs.Images.{AtLeast}
-use Rattle.turn_engine.specs.Resting.{Opens, Rests}
-use Rattle.turn_engine.specs.Runs.{Commit, IsAnswered, IsAt, IsCall, IsRun, IsSilent, Lasts, Leads, NeverFails, Place, Serves, Step, Submit, Taken, accepted, after_of, all_asked, asked, asked_by, count_at, datagrams_of, handed_by, handed_out, history_at, last_moment, last_of, sent_about, start}
+use Rattle.turn_engine.specs.Recovering.{Opens, RecoversTo}
+use Rattle.turn_engine.specs.Runs.{Commit, IsAnswered, IsAtPlace, IsCall, IsRun, IsSilent, Lasts, Leads, NeverFails, Place, Serves, ServerCall, Submit, Taken, accepted, after_of, all_asked, asked, asked_by, count_at, datagrams_of, handed_by, handed_out, history_at, last_moment, last_of, sent_about, start}
 use Rattle.turn_engine.specs.State.{ServerState, now_of}
-use Rattle.turn_engine.specs.declared.fault.SubmitRefused.{SubmitRefused}
-use Rattle.turn_engine.specs.declared.fault.SubmitRefused.TheVariants.{BatchFull, Memory, Stopped}
+use Rattle.turn_engine.specs.declared.error.SubmitError.{SubmitError}
+use Rattle.turn_engine.specs.declared.error.SubmitError.TheVariants.{BatchFull, Memory, Stopped}
 use Rattle.turn_engine.proofs.Answered.{answered_at, begins, history-cut, history-push, last_moment-push, run-push, sent_about-append}
 use Rattle.turn_engine.proofs.Lists.{all-append, length-take-le}
 use Rattle.turn_engine.proofs.Written.{images_stored}
@@ -40,7 +40,7 @@ not_both b yes_is no_is = cc
 pub ok_is_no_error : {T E : Type 0} (x : T) (e : E) → Ok x ≡ Err e → ⊥
 ok_is_no_error x e is = cc
 
-pub memory_is_not_stopped : (r : Result Unit SubmitRefused) → r ≡ Err Memory → r ≡ Err Stopped → ⊥
+pub memory_is_not_stopped : (r : Result Unit SubmitError) → r ≡ Err Memory → r ≡ Err Stopped → ⊥
 memory_is_not_stopped r memory stopped = cc
 
 pub none_failed : (old new : ℕ) → old ≡ new → has_failed old new ≡ false
@@ -57,11 +57,11 @@ setting_kept {H = H} keys range old new kept =
 
 module _ {D H G : Type 0} (disk : disks.Ghosts D) (handler : handlers.Ghosts H) (ports : generators.Ghosts G) where
   -- a call of a stopped server leaves it as it was, and hands nothing out
-  silent_call : (server : ServerState D H G) (x : Step D H G) → server.store.stopped ≡ true → IsCall disk handler ports server x → (after_of x ≡ server) × (handed_by x ≡ [])
+  silent_call : (server : ServerState D H G) (x : ServerCall D H G) → server.store.stopped ≡ true → IsCall disk handler ports server x → (after_of x ≡ server) × (handed_by x ≡ [])
   silent_call server (Submit moment a result after) stopped call = (call.unchanged (call.stopped.1 stopped), refl)
   silent_call server (Commit result after) stopped call = (call.unchanged stopped, ap datagrams_of (call.stopped.1 stopped))
 
-  pub silent : (server : ServerState D H G) (steps : List (Step D H G)) → server.store.stopped ≡ true → Serves disk handler ports server steps → IsSilent server steps
+  pub silent : (server : ServerState D H G) (steps : List (ServerCall D H G)) → server.store.stopped ≡ true → Serves disk handler ports server steps → IsSilent server steps
   silent server [] stopped serves = record { none = refl; same = refl }
   silent server (x ∷ xs) stopped serves =
       let one = silent_call server x stopped serves.0 in
@@ -71,16 +71,16 @@ module _ {D H G : Type 0} (disk : disks.Ghosts D) (handler : handlers.Ghosts H) 
         same = rest.same ∙ one.0;
       }
 
-  -- a disk that is honest after calls was so before them
-  pub call_earlier : (server : ServerState D H G) (x : Step D H G) → IsCall disk handler ports server x → disk.is_honest (after_of x).store.disk → disk.is_honest server.store.disk
-  call_earlier server (Submit moment a result after) call honest = subst (λ z. disk.is_honest z.disk) call.store honest
-  call_earlier server (Commit result after) call honest = call.uses.honest honest
+  -- a disk that follows the crash model after calls was so before them
+  pub call_earlier : (server : ServerState D H G) (x : ServerCall D H G) → IsCall disk handler ports server x → disk.follows_crash_model (after_of x).store.disk → disk.follows_crash_model server.store.disk
+  call_earlier server (Submit moment a result after) call crash_model = subst (λ z. disk.follows_crash_model z.disk) call.store crash_model
+  call_earlier server (Commit result after) call crash_model = call.uses.crash_model crash_model
 
-  pub earlier : (server : ServerState D H G) (steps : List (Step D H G)) → Serves disk handler ports server steps → disk.is_honest (last_of server steps).store.disk → disk.is_honest server.store.disk
-  earlier server [] serves honest = honest
-  earlier server (x ∷ xs) serves honest = call_earlier server x serves.0 (earlier (after_of x) xs serves.1 honest)
+  pub earlier : (server : ServerState D H G) (steps : List (ServerCall D H G)) → Serves disk handler ports server steps → disk.follows_crash_model (last_of server steps).store.disk → disk.follows_crash_model server.store.disk
+  earlier server [] serves crash_model = crash_model
+  earlier server (x ∷ xs) serves crash_model = call_earlier server x serves.0 (earlier (after_of x) xs serves.1 crash_model)
 
-  runs_on : (old new : ServerState D H G) (moment : ℕ) (a : Arrives) (result : Result Unit SubmitRefused) → Submits disk handler ports old new moment a result → (result ≡ Err Stopped → ⊥)
+  runs_on : (old new : ServerState D H G) (moment : ℕ) (a : Arrives) (result : Result Unit SubmitError) → Submits disk handler ports old new moment a result → (result ≡ Err Stopped → ⊥)
       → old.store.stopped ≡ false
   runs_on old new moment a result call not_stopped = elim (by_bool old.store.stopped) [
     | inl stopped ↦ absurd (not_stopped (call.stopped.1 stopped))
@@ -88,31 +88,31 @@ module _ {D H G : Type 0} (disk : disks.Ghosts D) (handler : handlers.Ghosts H) 
   ]
 
   module _ (s : Setting) (h : History) (t : ℕ) where
-    -- a server that rests on all that was taken
-    at_rest : (server : ServerState D H G) (p : Place) → IsRun s h t (p.handed ++ p.recent) → last_moment t (p.handed ++ p.recent) ≤ now_of server → disk.is_honest server.store.disk
-        → setting_of handler.key_of ports.range server.machine ≡ s → Rests (disk.trace server.store.disk).now server (history_at h p) (count_at h p) → server.outs ≡ sent_about p.recent
-        → server.arrivals ≡ length p.recent → (NeverFails ports → AllByRecursion (λ x. x.failed ≡ false) (p.handed ++ p.recent)) → IsAt disk handler ports s h t server p
-    at_rest server p run late honest same rests outs arrivals flags = record {
+    -- a server that recovers to all that was taken
+    at_rest : (server : ServerState D H G) (p : Place) → IsRun s h t (p.handed ++ p.recent) → last_moment t (p.handed ++ p.recent) ≤ now_of server → disk.follows_crash_model server.store.disk
+        → setting_of handler.key_of ports.range server.machine ≡ s → RecoversTo (disk.trace server.store.disk).now server (history_at h p) (count_at h p) → server.outs ≡ sent_about p.recent
+        → server.arrivals ≡ length p.recent → (NeverFails ports → AllByRecursion (λ x. x.failed ≡ false) (p.handed ++ p.recent)) → IsAtPlace disk handler ports s h t server p
+    at_rest server p run late crash_model same recovers outs arrivals flags = record {
       is_run = run;
       in_time = late;
-      honest = honest;
+      crash_model = crash_model;
       same_setting = same;
-      images = images_stored (disk.trace server.store.disk).now server (history_at h p) (count_at h p) rests;
-      rests = λ runs. rests;
+      images = images_stored (disk.trace server.store.disk).now server (history_at h p) (count_at h p) recovers;
+      recovers = λ runs. recovers;
       outs = λ runs. outs;
       arrivals = λ runs. arrivals;
       flags = flags;
     }
 
-    record Advances (old : ServerState D H G) (p : Place) (x : Step D H G) : Type 0 where
+    record Advances (old : ServerState D H G) (p : Place) (x : ServerCall D H G) : Type 0 where
       end : Place
-      is_at : IsAt disk handler ports s h t (after_of x) end
+      is_at : IsAtPlace disk handler ports s h t (after_of x) end
       more : List Taken
       handed : end.handed ≡ p.handed ++ more
       sent : handed_by x ≡ sent_about more
       arrivals : map asked (end.handed ++ end.recent) ≡ map asked (p.handed ++ p.recent) ++ asked_by ports old x
 
-    stays : (old : ServerState D H G) (p : Place) (x : Step D H G) → IsAt disk handler ports s h t (after_of x) p → handed_by x ≡ [] → asked_by ports old x ≡ [] → Advances old p x
+    stays : (old : ServerState D H G) (p : Place) (x : ServerCall D H G) → IsAtPlace disk handler ports s h t (after_of x) p → handed_by x ≡ [] → asked_by ports old x ≡ [] → Advances old p x
     stays old p x is none no_arrival = record {
       end = p;
       is_at = is;
@@ -122,11 +122,11 @@ module _ {D H G : Type 0} (disk : disks.Ghosts D) (handler : handlers.Ghosts H) 
       arrivals = sym (append-nil (map asked (p.handed ++ p.recent))) ∙ ap (λ (l : List (ℕ × Arrives × Bool × Bool)). map asked (p.handed ++ p.recent) ++ l) (sym no_arrival);
     }
 
-    took : (old new : ServerState D H G) (p : Place) (moment : ℕ) (a : Arrives) (u : Unit) → IsAt disk handler ports s h t old p → Submits disk handler ports old new moment a (Ok u)
+    took : (old new : ServerState D H G) (p : Place) (moment : ℕ) (a : Arrives) (u : Unit) → IsAtPlace disk handler ports s h t old p → Submits disk handler ports old new moment a (Ok u)
         → Advances old p (Submit moment a (Ok u) new)
     took old new p moment a u is call =
         let runs = runs_on old new moment a (Ok u) call (ok_is_no_error u Stopped) in
-        let takes = call.takes (history_at h p) (count_at h p) (is.rests runs) in
+        let takes = call.takes (history_at h p) (count_at h p) (is.recovers runs) in
         let x : Taken = record {
           moment = moment;
           arrival = a;
@@ -143,15 +143,15 @@ module _ {D H G : Type 0} (disk : disks.Ghosts D) (handler : handlers.Ghosts H) 
         let now : now_of new ≡ moment = call.clock in
         let longer : (p.handed ++ p.recent) ++ x ∷ [] ≡ p.handed ++ (p.recent ++ x ∷ []) = append_assoc p.handed p.recent (x ∷ []) in
         let last : last_moment t (p.handed ++ (p.recent ++ x ∷ [])) ≡ moment = ap (last_moment t) (sym longer) ∙ last_moment-push t (p.handed ++ p.recent) x in
-        let here = subst (λ z. Rests (disk.trace z.disk).now new (history_at h p ++ added moment x.outcome.change) (count_at h p)) (sym call.store) takes.rests in
-        let rests = subst (λ (l : History). Rests (disk.trace new.store.disk).now new l (count_at h p)) (sym (history-push h p.handed p.recent x)) here in
+        let here = subst (λ z. RecoversTo (disk.trace z.disk).now new (history_at h p ++ added moment x.outcome.change) (count_at h p)) (sym call.store) takes.recovers in
+        let recovers = subst (λ (l : History). RecoversTo (disk.trace new.store.disk).now new l (count_at h p)) (sym (history-push h p.handed p.recent x)) here in
         let outs : new.outs ≡ sent_about (p.recent ++ x ∷ []) =
         takes.outs ∙ ap (λ (l : List Sent). l ++ option_to_list x.outcome.sent) (is.outs runs)
         ∙ ap (λ (l : List Sent). sent_about p.recent ++ l) (sym (append-nil (option_to_list x.outcome.sent))) ∙ sym (sent_about-append p.recent (x ∷ [])) in
         record {
           end = q;
           is_at = at_rest new q (subst (IsRun s h t) longer (run-push s h t (p.handed ++ p.recent) x is.is_run (omega arith) answers)) (omega arith)
-              (subst (λ z. disk.is_honest z.disk) (sym call.store) is.honest) same rests outs
+              (subst (λ z. disk.follows_crash_model z.disk) (sym call.store) is.crash_model) same recovers outs
               (call.arrivals ∙ ap (λ (n : ℕ). n + 1) (is.arrivals runs) ∙ sym (length-append p.recent (x ∷ [])))
               (λ never. subst (AllByRecursion (λ y. y.failed ≡ false)) longer
               (all-append (λ (y : Taken). y.failed ≡ false) (p.handed ++ p.recent) (x ∷ []) (is.flags never) (none_failed _ _ (never old.machine.ports new.machine.ports), tt)));
@@ -161,23 +161,23 @@ module _ {D H G : Type 0} (disk : disks.Ghosts D) (handler : handlers.Ghosts H) 
           arrivals = ap (map asked) (sym longer) ∙ map-append asked (p.handed ++ p.recent) (x ∷ []);
         }
 
-    refused : (old new : ServerState D H G) (p : Place) (moment : ℕ) (a : Arrives) (why : SubmitRefused) → IsAt disk handler ports s h t old p → Submits disk handler ports old new moment a (Err why)
-        → IsAt disk handler ports s h t new p
-    refused old new p moment a Stopped is call = subst (λ (v : ServerState D H G). IsAt disk handler ports s h t v p) (sym (call.unchanged refl)) is
-    refused old new p moment a BatchFull is call = subst (λ (v : ServerState D H G). IsAt disk handler ports s h t v p) (sym (call.unchanged_full refl)) is
+    refused : (old new : ServerState D H G) (p : Place) (moment : ℕ) (a : Arrives) (why : SubmitError) → IsAtPlace disk handler ports s h t old p → Submits disk handler ports old new moment a (Err why)
+        → IsAtPlace disk handler ports s h t new p
+    refused old new p moment a Stopped is call = subst (λ (v : ServerState D H G). IsAtPlace disk handler ports s h t v p) (sym (call.unchanged refl)) is
+    refused old new p moment a BatchFull is call = subst (λ (v : ServerState D H G). IsAtPlace disk handler ports s h t v p) (sym (call.unchanged_full refl)) is
     refused old new p moment a Memory is call =
         let runs = runs_on old new moment a (Err Memory) call (memory_is_not_stopped (Err Memory) refl) in
         let in_time = is.in_time in
         let le = call.in_time in
         let now : now_of new ≡ moment = call.memory_clock refl in
-        at_rest new p is.is_run (omega arith) (subst (λ z. disk.is_honest z.disk) (sym call.store) is.honest)
+        at_rest new p is.is_run (omega arith) (subst (λ z. disk.follows_crash_model z.disk) (sym call.store) is.crash_model)
         (setting_kept handler.key_of ports.range old.machine new.machine call.setting ∙ is.same_setting)
-        (subst (λ z. Rests (disk.trace z.disk).now new (history_at h p) (count_at h p)) (sym call.store) (call.rests (history_at h p) (count_at h p) (is.rests runs)))
+        (subst (λ z. RecoversTo (disk.trace z.disk).now new (history_at h p) (count_at h p)) (sym call.store) (call.recovers (history_at h p) (count_at h p) (is.recovers runs)))
         (ap (λ (v : ServerState D H G). v.outs) (call.memory refl) ∙ is.outs runs) (ap (λ (v : ServerState D H G). v.arrivals) (call.memory refl) ∙ is.arrivals runs) is.flags
 
-    committed : (old new : ServerState D H G) (p : Place) (outs : List Sent) → IsAt disk handler ports s h t old p → Commits disk old new (Ok outs) → disk.is_honest new.store.disk
+    committed : (old new : ServerState D H G) (p : Place) (outs : List Sent) → IsAtPlace disk handler ports s h t old p → Commits disk old new (Ok outs) → disk.follows_crash_model new.store.disk
         → Advances old p (Commit (Ok outs) new)
-    committed old new p outs is call honest = elim (by_bool old.store.stopped) [
+    committed old new p outs is call crash_model = elim (by_bool old.store.stopped) [
       | inl stopped ↦ absurd (ok_is_no_error outs faults.Stopped (call.stopped.1 stopped))
       | inr runs ↦
           let q : Place = record { handed = p.handed ++ p.recent; recent = [] } in
@@ -185,12 +185,12 @@ module _ {D H G : Type 0} (disk : disks.Ghosts D) (handler : handlers.Ghosts H) 
           let in_time = is.in_time in
           let now : now_of new ≡ now_of old = ap (λ (v : ServerState D H G). now_of v) call.ok in
           let last : last_moment t ((p.handed ++ p.recent) ++ []) ≡ last_moment t (p.handed ++ p.recent) = ap (last_moment t) none in
-          let rests = call.rests honest (history_at h p) (count_at h p) (is.rests runs) in
+          let recovers = call.recovers crash_model (history_at h p) (count_at h p) (is.recovers runs) in
           record {
             end = q;
-            is_at = at_rest new q (subst (IsRun s h t) (sym none) is.is_run) (omega arith) honest
+            is_at = at_rest new q (subst (IsRun s h t) (sym none) is.is_run) (omega arith) crash_model
                 (ap (λ (v : ServerState D H G). setting_of handler.key_of ports.range v.machine) call.ok ∙ is.same_setting)
-                (subst (λ (l : List Taken). Rests (disk.trace new.store.disk).now new (h ++ accepted l) (count_at h q)) (sym none) rests)
+                (subst (λ (l : List Taken). RecoversTo (disk.trace new.store.disk).now new (h ++ accepted l) (count_at h q)) (sym none) recovers)
                 (ap (λ (v : ServerState D H G). v.outs) call.ok) (ap (λ (v : ServerState D H G). v.arrivals) call.ok)
                 (λ never. subst (AllByRecursion (λ y. y.failed ≡ false)) (sym none) (is.flags never));
             more = p.recent;
@@ -200,39 +200,39 @@ module _ {D H G : Type 0} (disk : disks.Ghosts D) (handler : handlers.Ghosts H) 
           }
     ]
 
-    failed : (old new : ServerState D H G) (p : Place) (why : StoreFault) → IsAt disk handler ports s h t old p → Commits disk old new (Err why) → disk.is_honest new.store.disk
-        → IsAt disk handler ports s h t new p
-    failed old new p why is call honest = elim (by_bool old.store.stopped) [
-      | inl stopped ↦ subst (λ (v : ServerState D H G). IsAt disk handler ports s h t v p) (sym (call.unchanged stopped)) is
+    failed : (old new : ServerState D H G) (p : Place) (why : StoreError) → IsAtPlace disk handler ports s h t old p → Commits disk old new (Err why) → disk.follows_crash_model new.store.disk
+        → IsAtPlace disk handler ports s h t new p
+    failed old new p why is call crash_model = elim (by_bool old.store.stopped) [
+      | inl stopped ↦ subst (λ (v : ServerState D H G). IsAtPlace disk handler ports s h t v p) (sym (call.unchanged stopped)) is
       | inr runs ↦
           let in_time = is.in_time in
           let now : now_of new ≡ now_of old = ap (λ (v : ServerState D H G). now_of v) call.err in
-          let since = call.stop honest (history_at h p) (count_at h p) (is.rests runs) in
+          let since = call.stop crash_model (history_at h p) (count_at h p) (is.recovers runs) in
           record {
             is_run = is.is_run;
             in_time = omega arith;
-            honest = honest;
+            crash_model = crash_model;
             same_setting = ap (λ (v : ServerState D H G). setting_of handler.key_of ports.range v.machine) call.err ∙ is.same_setting;
             images = λ image left.
                 subst (λ (f : Form). AtLeast f (history_at h p) (count_at h p) (now_of new) image) (sym call.form)
                 (subst (λ (m : ℕ). AtLeast (form_of old.store) (history_at h p) (count_at h p) m image) (sym now) (since.after image left));
-            rests = λ goes. absurd (not_both new.store.stopped call.stops goes);
+            recovers = λ goes. absurd (not_both new.store.stopped call.stops goes);
             outs = λ goes. absurd (not_both new.store.stopped call.stops goes);
             arrivals = λ goes. absurd (not_both new.store.stopped call.stops goes);
             flags = is.flags;
           }
     ]
 
-    advances : (server : ServerState D H G) (p : Place) (x : Step D H G) → IsAt disk handler ports s h t server p → IsCall disk handler ports server x
-        → disk.is_honest (after_of x).store.disk → Advances server p x
-    advances server p (Submit moment a (Ok u) after) is call honest = took server after p moment a u is call
-    advances server p (Submit moment a (Err why) after) is call honest = stays server p (Submit moment a (Err why) after) (refused server after p moment a why is call) refl refl
-    advances server p (Commit (Ok outs) after) is call honest = committed server after p outs is call honest
-    advances server p (Commit (Err why) after) is call honest = stays server p (Commit (Err why) after) (failed server after p why is call honest) refl refl
+    advances : (server : ServerState D H G) (p : Place) (x : ServerCall D H G) → IsAtPlace disk handler ports s h t server p → IsCall disk handler ports server x
+        → disk.follows_crash_model (after_of x).store.disk → Advances server p x
+    advances server p (Submit moment a (Ok u) after) is call crash_model = took server after p moment a u is call
+    advances server p (Submit moment a (Err why) after) is call crash_model = stays server p (Submit moment a (Err why) after) (refused server after p moment a why is call) refl refl
+    advances server p (Commit (Ok outs) after) is call crash_model = committed server after p outs is call crash_model
+    advances server p (Commit (Err why) after) is call crash_model = stays server p (Commit (Err why) after) (failed server after p why is call crash_model) refl refl
 
-    pub goes_on : (server : ServerState D H G) (p : Place) (steps : List (Step D H G)) → IsAt disk handler ports s h t server p → Serves disk handler ports server steps
-        → disk.is_honest (last_of server steps).store.disk → Leads disk handler ports s h t server p steps
-    goes_on server p [] is serves honest = record {
+    pub goes_on : (server : ServerState D H G) (p : Place) (steps : List (ServerCall D H G)) → IsAtPlace disk handler ports s h t server p → Serves disk handler ports server steps
+        → disk.follows_crash_model (last_of server steps).store.disk → Leads disk handler ports s h t server p steps
+    goes_on server p [] is serves crash_model = record {
       end = p;
       is_at = is;
       more = [];
@@ -240,9 +240,9 @@ module _ {D H G : Type 0} (disk : disks.Ghosts D) (handler : handlers.Ghosts H) 
       sent = refl;
       arrivals = sym (append-nil (map asked (p.handed ++ p.recent)));
     }
-    goes_on server p (x ∷ xs) is serves honest =
-        let one = advances server p x is serves.0 (earlier (after_of x) xs serves.1 honest) in
-        let rest = goes_on (after_of x) one.end xs one.is_at serves.1 honest in
+    goes_on server p (x ∷ xs) is serves crash_model =
+        let one = advances server p x is serves.0 (earlier (after_of x) xs serves.1 crash_model) in
+        let rest = goes_on (after_of x) one.end xs one.is_at serves.1 crash_model in
         record {
           end = rest.end;
           is_at = rest.is_at;
@@ -254,22 +254,22 @@ module _ {D H G : Type 0} (disk : disks.Ghosts D) (handler : handlers.Ghosts H) 
         }
 
     -- a stop in a call
-    pub stops : (server : ServerState D H G) (p : Place) (x : Step D H G) → IsAt disk handler ports s h t server p → IsCall disk handler ports server x
-        → disk.is_honest (after_of x).store.disk
+    pub stops : (server : ServerState D H G) (p : Place) (x : ServerCall D H G) → IsAtPlace disk handler ports s h t server p → IsCall disk handler ports server x
+        → disk.follows_crash_model (after_of x).store.disk
         → EachImageSince (disk.trace server.store.disk) (disk.trace (after_of x).store.disk) (AtLeast (form_of server.store) (history_at h p) (count_at h p) (now_of server))
-    stops server p (Submit moment a result after) is call honest = since_same _ _ _ (ap (λ z. disk.trace z.disk) call.store) is.images
-    stops server p (Commit result after) is call honest = elim (by_bool server.store.stopped) [
+    stops server p (Submit moment a result after) is call crash_model = since_same _ _ _ (ap (λ z. disk.trace z.disk) call.store) is.images
+    stops server p (Commit result after) is call crash_model = elim (by_bool server.store.stopped) [
       | inl stopped ↦ since_same _ _ _ (ap (λ (v : ServerState D H G). disk.trace v.store.disk) (call.unchanged stopped)) is.images
-      | inr runs ↦ call.stop honest (history_at h p) (count_at h p) (is.rests runs)
+      | inr runs ↦ call.stop crash_model (history_at h p) (count_at h p) (is.recovers runs)
     ]
 
     -- what was answered lasts
-    pub lasts : (server : ServerState D H G) (p : Place) (before : List Taken) (x : Taken) (after : List Taken) (steps : List (Step D H G)) (call : Step D H G)
-        → IsAt disk handler ports s h t server p → p.handed ≡ before ++ x ∷ after → Serves disk handler ports server steps → IsCall disk handler ports (last_of server steps) call
-        → disk.is_honest (after_of call).store.disk → Lasts disk s (h ++ accepted before) x (last_of server steps) (after_of call)
-    lasts server p before x after steps call is place serves calls honest =
+    pub lasts : (server : ServerState D H G) (p : Place) (before : List Taken) (x : Taken) (after : List Taken) (steps : List (ServerCall D H G)) (call : ServerCall D H G)
+        → IsAtPlace disk handler ports s h t server p → p.handed ≡ before ++ x ∷ after → Serves disk handler ports server steps → IsCall disk handler ports (last_of server steps) call
+        → disk.follows_crash_model (after_of call).store.disk → Lasts disk s (h ++ accepted before) x (last_of server steps) (after_of call)
+    lasts server p before x after steps call is place serves calls crash_model =
         let last = last_of server steps in
-        let to = goes_on server p steps is serves (call_earlier last call calls honest) in
+        let to = goes_on server p steps is serves (call_earlier last call calls crash_model) in
         let first = (h ++ accepted before) ++ added x.moment x.outcome.change in
         let handed : to.end.handed ≡ before ++ x ∷ (after ++ to.more) = to.handed ∙ ap (λ (l : List Taken). l ++ to.more) place ∙ append_assoc before (x ∷ after) to.more in
         let whole : to.end.handed ++ to.end.recent ≡ before ++ x ∷ ((after ++ to.more) ++ to.end.recent) =
@@ -283,24 +283,24 @@ module _ {D H G : Type 0} (disk : disks.Ghosts D) (handler : handlers.Ghosts H) 
               (subst (IsRun s h t) (ap (λ (l : List Taken). l ++ p.recent) place ∙ append_assoc before (x ∷ after) p.recent) is.is_run);
           images = since_weaken _ _ (AtLeast (form_of last.store) (history_at h to.end) (count_at h to.end) (now_of last)) _
               (λ image at. begins (form_of last.store) (history_at h to.end) first (accepted ((after ++ to.more) ++ to.end.recent)) (count_at h to.end) (now_of last) image all long at)
-              (stops last to.end call to.is_at calls honest);
+              (stops last to.end call to.is_at calls crash_model);
         }
       where
         at_most : (m n : ℕ) → m ≤ m + n
         at_most m n = omega arith
 
 pub starts : {D H G : Type 0} (disk : disks.Ghosts D) (handler : handlers.Ghosts H) (ports : generators.Ghosts G) (server : ServerState D H G) (h : History) (k : ℕ)
-    → disk.is_honest server.store.disk → Rests (disk.trace server.store.disk).now server h k → k ≡ length h → server.outs ≡ [] → server.arrivals ≡ 0
-    → IsAt disk handler ports (setting_of handler.key_of ports.range server.machine) h (now_of server) server start
-starts disk handler ports server h k honest rests all none fresh =
+    → disk.follows_crash_model server.store.disk → RecoversTo (disk.trace server.store.disk).now server h k → k ≡ length h → server.outs ≡ [] → server.arrivals ≡ 0
+    → IsAtPlace disk handler ports (setting_of handler.key_of ports.range server.machine) h (now_of server) server start
+starts disk handler ports server h k crash_model recovers all none fresh =
     let state = (disk.trace server.store.disk).now in
     let same : h ++ [] ≡ h = append-nil h in
     let count : k ≡ length (h ++ []) = all ∙ ap (λ (l : History). length l) (sym same) in
-    at_rest disk handler ports (setting_of handler.key_of ports.range server.machine) h (now_of server) server start tt (omega arith) honest refl
-    (subst (λ (n : ℕ). Rests state server (h ++ []) n) count (subst (λ (l : History). Rests state server l k) (sym same) rests)) none fresh (λ never. tt)
+    at_rest disk handler ports (setting_of handler.key_of ports.range server.machine) h (now_of server) server start tt (omega arith) crash_model refl
+    (subst (λ (n : ℕ). RecoversTo state server (h ++ []) n) count (subst (λ (l : History). RecoversTo state server l k) (sym same) recovers)) none fresh (λ never. tt)
 
 pub opened : {D H G : Type 0} (disk : disks.Ghosts D) (handler : handlers.Ghosts H) (ports : generators.Ghosts G) (form : Form) (h : History) (k m : ℕ) (content : List ℕ) (server : ServerState D H G)
-    → disk.is_honest server.store.disk → (o : Opens form h k m content (disk.trace server.store.disk).now server) → server.outs ≡ [] → server.arrivals ≡ 0
-    → IsAt disk handler ports (setting_of handler.key_of ports.range server.machine) (take o.count h) (now_of server) server start
-opened disk handler ports form h k m content server honest o none fresh =
-    starts disk handler ports server (take o.count h) o.count honest o.rests (sym (length-take-le o.count h o.no_more)) none fresh
+    → disk.follows_crash_model server.store.disk → (o : Opens form h k m content (disk.trace server.store.disk).now server) → server.outs ≡ [] → server.arrivals ≡ 0
+    → IsAtPlace disk handler ports (setting_of handler.key_of ports.range server.machine) (take o.count h) (now_of server) server start
+opened disk handler ports form h k m content server crash_model o none fresh =
+    starts disk handler ports server (take o.count h) o.count crash_model o.recovers (sym (length-take-le o.count h o.no_more)) none fresh

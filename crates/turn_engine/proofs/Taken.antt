@@ -1,4 +1,4 @@
--- What an arrival makes of what a server keeps and rests on.
+-- What an arrival makes of what a server keeps and recovers to.
 use Rattle.std.proofs.Common.{◌≡◌, ◌≤◌, ◌<◌, ◌+◌, ◌-◌, ◌^◌, inl, inr, ℕ, Bool, false, List, ◌++◌, length, take, drop, Option, Some, None, refl, sym, ap, ◌∙◌, subst, arith, length-append}
 use Rattle.std.proofs.Math.Nat.{eq-or-lt_of_le}
 use Rattle.std.proofs.lemmas.List.{take-append-le, drop-append-le}
@@ -16,12 +16,12 @@ use Rattle.turn_record.specs.declared.version.Version.{Version}
 use Rattle.turn_record.specs.declared.version.Version.TheVariants.{V1, V2}
 use Rattle.turn_step.specs.Outcome.{Change, added, event_at}
 use Rattle.turn_step.specs.State.{CountsOne, IsAfter, IsPurged, KeepsSetting, MachineState, MayBeNext, changed}
-use Rattle.turn_store.specs.State.{RestsAt}
+use Rattle.turn_store.specs.State.{RecoversToAt}
 use Rattle.turn_table.specs.State.{State}
 use Rattle.turn_table.specs.Table.{Agrees}
 use Rattle.turn_types.specs.Config.{Config}
 use Rattle.turn_types.specs.declared.limits.Bounds.{Bounds}
-use Rattle.turn_engine.specs.Resting.{Rests}
+use Rattle.turn_engine.specs.Recovering.{RecoversTo}
 use Rattle.turn_engine.specs.State.{IsSound, ServerState, has_pairs, now_of}
 use Rattle.turn_engine.proofs.Lists.{all-append, added_few, added_from}
 
@@ -92,7 +92,7 @@ keeps_both range old mid new first second = record {
   pairs = second.pairs ∙ first.pairs;
 }
 
--- ---- What it rests on
+-- ---- What it recovers to
 
 pub after_same : {H G : Type 0} (m n : MachineState H G) (h : History) → n.config ≡ m.config → n.table ≡ m.table → IsAfter m h → IsAfter n h
 after_same m n h config table after = record {
@@ -102,20 +102,20 @@ after_same m n h config table after = record {
 }
 
 -- a server whose machine alone is another, at a later moment
-pub rests_later : {D H G : Type 0} (state : disks.State) (old new : ServerState D H G) (h : History) (k : ℕ) → Rests state old h k → new.store ≡ old.store → new.payload ≡ old.payload
-    → new.acts ≡ old.acts → now_of old ≤ now_of new → IsAfter new.machine h → Rests state new h k
-rests_later state old new h k rests store payload acts le after =
-    let late = rests.at_late in
+pub recovers_later : {D H G : Type 0} (state : disks.State) (old new : ServerState D H G) (h : History) (k : ℕ) → RecoversTo state old h k → new.store ≡ old.store → new.payload ≡ old.payload
+    → new.acts ≡ old.acts → now_of old ≤ now_of new → IsAfter new.machine h → RecoversTo state new h k
+recovers_later state old new h k recovers store payload acts le after =
+    let late = recovers.at_late in
     record {
       after = after;
-      within = rests.within;
-      at = rests.at;
+      within = recovers.within;
+      at = recovers.at;
       at_late = omega arith;
-      stored = subst (λ s. RestsAt s state rests.at (take k h)) (sym store) rests.stored;
-      staged = payload ∙ rests.staged;
-      counted = acts ∙ rests.counted;
-      from = rests.from;
-      writes = subst (λ s. AllByRecursion (λ (e : Event). Writes s.version e.act) (drop k h)) (sym store) rests.writes;
+      stored = subst (λ s. RecoversToAt s state recovers.at (take k h)) (sym store) recovers.stored;
+      staged = payload ∙ recovers.staged;
+      counted = acts ∙ recovers.counted;
+      from = recovers.from;
+      writes = subst (λ s. AllByRecursion (λ (e : Event). Writes s.version e.act) (drop k h)) (sym store) recovers.writes;
     }
 
 -- a change that reserves no port where none may be reserved is one that the version can hold
@@ -129,28 +129,28 @@ added_writes v t None writes = tt
 added_writes v t (Some c) writes = (writes, tt)
 
 -- a server that took an arrival
-pub rests_taken : {D H G : Type 0} (state : disks.State) (old new : ServerState D H G) (h : History) (k t : ℕ) (change : Option Change) → Rests state old h k → new.store ≡ old.store
+pub recovers_taken : {D H G : Type 0} (state : disks.State) (old new : ServerState D H G) (h : History) (k t : ℕ) (change : Option Change) → RecoversTo state old h k → new.store ≡ old.store
     → ((es : List Event) → old.payload ≡ bytes.payload es → new.payload ≡ bytes.payload (es ++ added t change)) → new.acts ≡ old.acts + length (added t change)
-    → now_of old ≤ t → now_of new ≡ t → IfSome change (λ c. Writes old.store.version c.act) → IsAfter new.machine (h ++ added t change) → Rests state new (h ++ added t change) k
-rests_taken state old new h k t change rests store payload acts le now writes after =
+    → now_of old ≤ t → now_of new ≡ t → IfSome change (λ c. Writes old.store.version c.act) → IsAfter new.machine (h ++ added t change) → RecoversTo state new (h ++ added t change) k
+recovers_taken state old new h k t change recovers store payload acts le now writes after =
     let more = added t change in
-    let late = rests.at_late in
-    let within = rests.within in
+    let late = recovers.at_late in
+    let within = recovers.within in
     let longer : length (h ++ more) ≡ length h + length more = length-append h more in
-    let front : take k (h ++ more) ≡ take k h = take-append-le k h more rests.within in
-    let rest : drop k (h ++ more) ≡ drop k h ++ more = drop-append-le k h more rests.within in
-    let counted = rests.counted in
+    let front : take k (h ++ more) ≡ take k h = take-append-le k h more recovers.within in
+    let rest : drop k (h ++ more) ≡ drop k h ++ more = drop-append-le k h more recovers.within in
+    let counted = recovers.counted in
     let count : length (drop k h ++ more) ≡ length (drop k h) + length more = length-append (drop k h) more in
     let sum : new.acts ≡ length (drop k h ++ more) = omega arith in
     record {
       after = after;
       within = omega arith;
-      at = rests.at;
+      at = recovers.at;
       at_late = omega arith;
-      stored = subst (λ s. RestsAt s state rests.at (take k (h ++ more))) (sym store) (subst (λ (l : History). RestsAt old.store state rests.at l) (sym front) rests.stored);
-      staged = payload (drop k h) rests.staged ∙ ap bytes.payload (sym rest);
+      stored = subst (λ s. RecoversToAt s state recovers.at (take k (h ++ more))) (sym store) (subst (λ (l : History). RecoversToAt old.store state recovers.at l) (sym front) recovers.stored);
+      staged = payload (drop k h) recovers.staged ∙ ap bytes.payload (sym rest);
       counted = sum ∙ ap (λ (l : History). length l) (sym rest);
-      from = subst (AllFrom rests.at) (sym rest) (all-append (λ (e : Event). rests.at ≤ e.moment) (drop k h) more rests.from (added_from rests.at t change (omega arith)));
+      from = subst (AllFrom recovers.at) (sym rest) (all-append (λ (e : Event). recovers.at ≤ e.moment) (drop k h) more recovers.from (added_from recovers.at t change (omega arith)));
       writes = subst (λ s. AllByRecursion (λ (e : Event). Writes s.version e.act) (drop k (h ++ more))) (sym store) (subst (AllByRecursion (λ (e : Event). Writes old.store.version e.act)) (sym rest)
-          (all-append (λ (e : Event). Writes old.store.version e.act) (drop k h) more rests.writes (added_writes old.store.version t change writes)));
+          (all-append (λ (e : Event). Writes old.store.version e.act) (drop k h) more recovers.writes (added_writes old.store.version t change writes)));
     }

@@ -1,4 +1,4 @@
--- What a commit makes of what a server rests on, and of its disk.
+-- What a commit makes of what a server recovers to, and of its disk.
 use Rattle.std.proofs.Common.{inl, ◌≡◌, ◌≢◌, ◌≤◌, ◌<◌, ◌-◌, ◌^◌, ⊎_elim, ℕ, Bool, true, false, List, [], ◌∷◌, ◌++◌, length, take, drop, Result, Ok, Err, refl, sym, ap, ◌∙◌, subst, arith, append-nil}
 use Rattle.std.proofs.lemmas.List.{take-append-drop}
 use Rattle.std.proofs.Math.Seq.{take-length, drop-length}
@@ -16,24 +16,24 @@ use Rattle.turn_store.specs.Areas.{Form, Holds}
 use Rattle.turn_store.specs.Images.{EachImage, EitherBy, StandsBy, StandsForAt}
 use Rattle.turn_store.specs.Spells.{HasSize}
 use Rattle.turn_store.specs.Stages.{InStages}
-use Rattle.turn_store.specs.State.{MayFollow, RestsAt, StoreState, form_of, framed, swapped}
-use Rattle.turn_store.specs.declared.fault.StoreFault.{StoreFault}
+use Rattle.turn_store.specs.State.{MayFollow, RecoversToAt, StoreState, form_of, framed, swapped}
+use Rattle.turn_store.specs.declared.error.StoreError.{StoreError}
 use Rattle.turn_store.proofs.Staged.{stages_all, stages_first, stages_weaken}
 use Rattle.turn_types.specs.declared.limits.Bounds.{Bounds}
 use Rattle.turn_engine.specs.Images.{AtLeast}
-use Rattle.turn_engine.specs.Resting.{Rests}
+use Rattle.turn_engine.specs.Recovering.{RecoversTo}
 use Rattle.turn_engine.specs.State.{ServerState, emptied, limits_of, now_of}
 use Rattle.turn_engine.proofs.Lists.{none_left}
 
 -- the form of a store is kept, whatever an append answers
-pub form_kept : {D : Type 0} (old new : StoreState D) (count size : ℕ) (result : Result Bool StoreFault) → (result ≡ Ok false → new ≡ framed old count new.disk)
+pub form_kept : {D : Type 0} (old new : StoreState D) (count size : ℕ) (result : Result Bool StoreError) → (result ≡ Ok false → new ≡ framed old count new.disk)
     → (result ≡ Ok true → new ≡ swapped old size new.disk) → OnErr result (new ≡ record old { disk = new.disk; stopped = true }) → form_of new ≡ form_of old
 form_kept old new count size (Ok false) one two err = ap form_of (one refl)
 form_kept old new count size (Ok true) one two err = ap form_of (two refl)
 form_kept old new count size (Err e) one two err = ap form_of err
 
 -- and its version
-pub version_kept : {D : Type 0} (old new : StoreState D) (count size : ℕ) (result : Result Bool StoreFault) → (result ≡ Ok false → new ≡ framed old count new.disk)
+pub version_kept : {D : Type 0} (old new : StoreState D) (count size : ℕ) (result : Result Bool StoreError) → (result ≡ Ok false → new ≡ framed old count new.disk)
     → (result ≡ Ok true → new ≡ swapped old size new.disk) → OnErr result (new ≡ record old { disk = new.disk; stopped = true }) → new.version ≡ old.version
 version_kept old new count size (Ok false) one two err = ap (λ s. s.version) (one refl)
 version_kept old new count size (Ok true) one two err = ap (λ s. s.version) (two refl)
@@ -41,12 +41,12 @@ version_kept old new count size (Err e) one two err = ap (λ s. s.version) err
 
 -- ---- Images
 
--- what a store that rests on a history leaves
-pub stood : {D : Type 0} (store : StoreState D) (state : State) (c : ℕ) (h : History) → RestsAt store state c h → (image : List ℕ) → IsImage state image → StandsForAt (form_of store) h c image
-stood store state c h rests image is =
-    let on = rests.shows.rests in
+-- what a store that recovers to a history leaves
+pub stood : {D : Type 0} (store : StoreState D) (state : State) (c : ℕ) (h : History) → RecoversToAt store state c h → (image : List ℕ) → IsImage state image → StandsForAt (form_of store) h c image
+stood store state c h recovers image is =
+    let on = recovers.shows.recovers in
     let holds = on.holds in
-    let whole : Holds store.version (form_of store) rests.snapshot rests.payloads state.bytes = record {
+    let whole : Holds store.version (form_of store) recovers.snapshot recovers.payloads state.bytes = record {
       is_form = holds.is_form;
       front = holds.front;
       whole = holds.whole;
@@ -59,10 +59,10 @@ stood store state c h rests image is =
     } in
     record {
       version = store.version;
-      snapshot = rests.snapshot;
-      payloads = rests.payloads;
-      holds = subst (λ (l : List ℕ). Holds store.version (form_of store) rests.snapshot rests.payloads l) (sym (image_settled state holds.settled image is)) whole;
-      spells = rests.spells;
+      snapshot = recovers.snapshot;
+      payloads = recovers.payloads;
+      holds = subst (λ (l : List ℕ). Holds store.version (form_of store) recovers.snapshot recovers.payloads l) (sym (image_settled state holds.settled image is)) whole;
+      spells = recovers.spells;
     }
 
 least_first : (form : Form) (h : History) (k m : ℕ) (image : List ℕ) → k ≤ length h → StandsBy form (take k h) m image → AtLeast form h k m image
@@ -77,60 +77,60 @@ least_all form h k m image le stands = record {
 }
 
 -- each image of a server's disk has what is stored
-pub images_stored : {D H G : Type 0} (state : State) (server : ServerState D H G) (h : History) (k : ℕ) → Rests state server h k
+pub images_stored : {D H G : Type 0} (state : State) (server : ServerState D H G) (h : History) (k : ℕ) → RecoversTo state server h k
     → EachImage state (AtLeast (form_of server.store) h k (now_of server))
-images_stored state server h k rests image is =
-    least_first (form_of server.store) h k (now_of server) image rests.within
-    (record { clock = rests.at; bounded = rests.at_late; stands = stood server.store state rests.at (take k h) rests.stored image is })
+images_stored state server h k recovers image is =
+    least_first (form_of server.store) h k (now_of server) image recovers.within
+    (record { clock = recovers.at; bounded = recovers.at_late; stands = stood server.store state recovers.at (take k h) recovers.stored image is })
 
-pub not_written : {D H G : Type 0} (old new : Trace) (server : ServerState D H G) (h : History) (k : ℕ) → new ≡ old → Rests old.now server h k
+pub not_written : {D H G : Type 0} (old new : Trace) (server : ServerState D H G) (h : History) (k : ℕ) → new ≡ old → RecoversTo old.now server h k
     → EachImageSince old new (AtLeast (form_of server.store) h k (now_of server))
-not_written old new server h k same rests = since_same old new (AtLeast (form_of server.store) h k (now_of server)) same (images_stored old.now server h k rests)
+not_written old new server h k same recovers = since_same old new (AtLeast (form_of server.store) h k (now_of server)) same (images_stored old.now server h k recovers)
 
 -- what an append leaves
-pub written : {D H G : Type 0} (old new : Trace) (server : ServerState D H G) (h : History) (k : ℕ) → (rests : Rests old.now server h k)
-    → InStages old new (StandsForAt (form_of server.store) (take k h) rests.at) (EitherBy (form_of server.store) (take k h) (drop k h) (now_of server))
+pub written : {D H G : Type 0} (old new : Trace) (server : ServerState D H G) (h : History) (k : ℕ) → (recovers : RecoversTo old.now server h k)
+    → InStages old new (StandsForAt (form_of server.store) (take k h) recovers.at) (EitherBy (form_of server.store) (take k h) (drop k h) (now_of server))
     → EachImageSince old new (AtLeast (form_of server.store) h k (now_of server))
-written old new server h k rests stages =
+written old new server h k recovers stages =
     let form = form_of server.store in
     let m = now_of server in
     stages_all old new (AtLeast form h k m) (AtLeast form h k m) (λ image is. is)
-    (stages_weaken old new (StandsForAt form (take k h) rests.at) (EitherBy form (take k h) (drop k h) m) (AtLeast form h k m) (AtLeast form h k m)
-    (λ image stands. least_first form h k m image rests.within (record { clock = rests.at; bounded = rests.at_late; stands = stands }))
-    (λ image either. ⊎_elim (λ (first : StandsBy form (take k h) m image). least_first form h k m image rests.within first)
-    (λ (all : StandsBy form (take k h ++ drop k h) m image). least_all form h k m image rests.within (subst (λ (l : History). StandsBy form l m image) (take-append-drop k h) all)) either)
+    (stages_weaken old new (StandsForAt form (take k h) recovers.at) (EitherBy form (take k h) (drop k h) m) (AtLeast form h k m) (AtLeast form h k m)
+    (λ image stands. least_first form h k m image recovers.within (record { clock = recovers.at; bounded = recovers.at_late; stands = stands }))
+    (λ image either. ⊎_elim (λ (first : StandsBy form (take k h) m image). least_first form h k m image recovers.within first)
+    (λ (all : StandsBy form (take k h ++ drop k h) m image). least_all form h k m image recovers.within (subst (λ (l : History). StandsBy form l m image) (take-append-drop k h) all)) either)
     stages)
 
 -- the same, moment by moment
-pub stages_written : {D H G : Type 0} (old new : Trace) (server : ServerState D H G) (h : History) (k : ℕ) → (rests : Rests old.now server h k)
-    → InStages old new (StandsForAt (form_of server.store) (take k h) rests.at) (EitherBy (form_of server.store) (take k h) (drop k h) (now_of server))
+pub stages_written : {D H G : Type 0} (old new : Trace) (server : ServerState D H G) (h : History) (k : ℕ) → (recovers : RecoversTo old.now server h k)
+    → InStages old new (StandsForAt (form_of server.store) (take k h) recovers.at) (EitherBy (form_of server.store) (take k h) (drop k h) (now_of server))
     → InStages old new (StandsBy (form_of server.store) (take k h) (now_of server)) (EitherBy (form_of server.store) (take k h) (drop k h) (now_of server))
-stages_written old new server h k rests stages =
+stages_written old new server h k recovers stages =
     let form = form_of server.store in
     let m = now_of server in
-    stages_weaken old new (StandsForAt form (take k h) rests.at) (EitherBy form (take k h) (drop k h) m) (StandsBy form (take k h) m) (EitherBy form (take k h) (drop k h) m)
-    (λ image stands. record { clock = rests.at; bounded = rests.at_late; stands = stands }) (λ image either. either) stages
+    stages_weaken old new (StandsForAt form (take k h) recovers.at) (EitherBy form (take k h) (drop k h) m) (StandsBy form (take k h) m) (EitherBy form (take k h) (drop k h) m)
+    (λ image stands. record { clock = recovers.at; bounded = recovers.at_late; stands = stands }) (λ image either. either) stages
 
-pub stages_none : {D H G : Type 0} (old new : Trace) (server : ServerState D H G) (h : History) (k : ℕ) → new ≡ old → Rests old.now server h k
+pub stages_none : {D H G : Type 0} (old new : Trace) (server : ServerState D H G) (h : History) (k : ℕ) → new ≡ old → RecoversTo old.now server h k
     → InStages old new (StandsBy (form_of server.store) (take k h) (now_of server)) (EitherBy (form_of server.store) (take k h) (drop k h) (now_of server))
-stages_none old new server h k same rests =
+stages_none old new server h k same recovers =
     let form = form_of server.store in
     let m = now_of server in
     stages_first old new (StandsBy form (take k h) m) (EitherBy form (take k h) (drop k h) m) (λ image stands. inl stands)
     (since_same old new (StandsBy form (take k h) m) same
-    (λ image is. record { clock = rests.at; bounded = rests.at_late; stands = stood server.store old.now rests.at (take k h) rests.stored image is }))
+    (λ image is. record { clock = recovers.at; bounded = recovers.at_late; stands = stood server.store old.now recovers.at (take k h) recovers.stored image is }))
 
 -- ---- What an append asks
 
-pub may_follow : {D H G : Type 0} (state : State) (server : ServerState D H G) (h : History) (k : ℕ) (rests : Rests state server h k) → server.store.bounds ≡ limits_of server
-    → now_of server < 2 ^ 40 - 3600 → MayFollow server.store.bounds rests.at (take k h) (drop k h) (now_of server)
-may_follow state server h k rests same range =
+pub may_follow : {D H G : Type 0} (state : State) (server : ServerState D H G) (h : History) (k : ℕ) (recovers : RecoversTo state server h k) → server.store.bounds ≡ limits_of server
+    → now_of server < 2 ^ 40 - 3600 → MayFollow server.store.bounds recovers.at (take k h) (drop k h) (now_of server)
+may_follow state server h k recovers same range =
     let whole : take k h ++ drop k h ≡ h = take-append-drop k h in
     record {
-      fitting = subst (IsFitting server.store.bounds) (sym whole) (subst (λ (b : Bounds). IsFitting b h) (sym same) rests.after.fitting);
-      from = rests.from;
-      clock_late = rests.at_late;
-      late = subst (λ (l : History). clock l ≤ now_of server) (sym whole) rests.after.late;
+      fitting = subst (IsFitting server.store.bounds) (sym whole) (subst (λ (b : Bounds). IsFitting b h) (sym same) recovers.after.fitting);
+      from = recovers.from;
+      clock_late = recovers.at_late;
+      late = subst (λ (l : History). clock l ≤ now_of server) (sym whole) recovers.after.late;
       in_range = range;
     }
 
@@ -140,27 +140,27 @@ some_acts n acts is not = omega arith
 pub few_acts : (acts arrivals limit bound : ℕ) → acts ≤ arrivals → arrivals ≤ limit → bound ≡ limit → acts ≤ bound
 few_acts acts arrivals limit bound one two is = omega arith
 
-pub has_size : {D H G : Type 0} (state : State) (server : ServerState D H G) (h : History) (k : ℕ) → Rests state server h k → 1 ≤ server.acts → server.acts ≤ server.store.bounds.acts
+pub has_size : {D H G : Type 0} (state : State) (server : ServerState D H G) (h : History) (k : ℕ) → RecoversTo state server h k → 1 ≤ server.acts → server.acts ≤ server.store.bounds.acts
     → HasSize server.store.version server.store.bounds (drop k h)
-has_size state server h k rests some few = let count = rests.counted in record { some = omega arith; few = omega arith; writes = rests.writes }
+has_size state server h k recovers some few = let count = recovers.counted in record { some = omega arith; few = omega arith; writes = recovers.writes }
 
-pub contents_are : {D H G : Type 0} (state : State) (server : ServerState D H G) (h : History) (k : ℕ) → Rests state server h k
+pub contents_are : {D H G : Type 0} (state : State) (server : ServerState D H G) (h : History) (k : ℕ) → RecoversTo state server h k
     → server.machine.table.contents ≡ tables.table (take k h ++ drop k h) (now_of server)
-contents_are state server h k rests = rests.after.agrees ∙ ap (λ (l : History). tables.table l (now_of server)) (sym (take-append-drop k h))
+contents_are state server h k recovers = recovers.after.agrees ∙ ap (λ (l : History). tables.table l (now_of server)) (sym (take-append-drop k h))
 
--- ---- What a server rests on afterwards
+-- ---- What a server recovers to afterwards
 
 -- all is stored
-pub all_stored : {D H G : Type 0} (state after : State) (old : ServerState D H G) (store : StoreState D) (h : History) (k : ℕ) → Rests state old h k
-    → (d : ℕ) × (d ≤ now_of old) × RestsAt store after d (take k h ++ drop k h) → Rests after (emptied old store) h (length h)
-all_stored state after old store h k rests done =
+pub all_stored : {D H G : Type 0} (state after : State) (old : ServerState D H G) (store : StoreState D) (h : History) (k : ℕ) → RecoversTo state old h k
+    → (d : ℕ) × (d ≤ now_of old) × RecoversToAt store after d (take k h ++ drop k h) → RecoversTo after (emptied old store) h (length h)
+all_stored state after old store h k recovers done =
     let none : drop (length h) h ≡ [] = drop-length h in
     record {
-      after = rests.after;
+      after = recovers.after;
       within = omega arith;
       at = done.0;
       at_late = done.1;
-      stored = subst (λ (l : History). RestsAt store after done.0 l) (take-append-drop k h ∙ sym (take-length h)) done.2;
+      stored = subst (λ (l : History). RecoversToAt store after done.0 l) (take-append-drop k h ∙ sym (take-length h)) done.2;
       staged = ap (λ (l : History). length l ∷ bytes.each bytes.act_entry l) (sym none);
       counted = ap (λ (l : History). length l) (sym none);
       from = subst (AllFrom done.0) (sym none) tt;
@@ -168,8 +168,8 @@ all_stored state after old store h k rests done =
     }
 
 -- nothing was staged
-pub none_staged : {D H G : Type 0} (state : State) (old : ServerState D H G) (h : History) (k : ℕ) → Rests state old h k → old.acts ≡ 0 → Rests state (emptied old old.store) h (length h)
-none_staged state old h k rests none =
-    let is : drop k h ≡ [] = none_left (drop k h) (sym rests.counted ∙ none) in
+pub none_staged : {D H G : Type 0} (state : State) (old : ServerState D H G) (h : History) (k : ℕ) → RecoversTo state old h k → old.acts ≡ 0 → RecoversTo state (emptied old old.store) h (length h)
+none_staged state old h k recovers none =
+    let is : drop k h ≡ [] = none_left (drop k h) (sym recovers.counted ∙ none) in
     let all : take k h ≡ take k h ++ drop k h = sym (append-nil (take k h)) ∙ ap (λ (l : History). take k h ++ l) (sym is) in
-    all_stored state state old old.store h k rests (rests.at, rests.at_late, subst (λ (l : History). RestsAt old.store state rests.at l) all rests.stored)
+    all_stored state state old old.store h k recovers (recovers.at, recovers.at_late, subst (λ (l : History). RecoversToAt old.store state recovers.at l) all recovers.stored)

@@ -17,18 +17,18 @@ use Rattle.turn_store.specs.Refused.{IsPlain, WhyRefused}
 use Rattle.turn_store.specs.Stages.{InStages}
 use Rattle.turn_store.specs.State.{form_of}
 use Rattle.turn_store.specs.Tables.{snapshot_of}
-use Rattle.turn_store.specs.declared.fault.OpenFault.TheVariants.{Device}
-use Rattle.turn_store.specs.declared.fault.StoreFault.{StoreFault}
-use Rattle.turn_store.specs.declared.fault.StoreFault.TheVariants as faults
+use Rattle.turn_store.specs.declared.error.OpenError.TheVariants.{Device}
+use Rattle.turn_store.specs.declared.error.StoreError.{StoreError}
+use Rattle.turn_store.specs.declared.error.StoreError.TheVariants as faults
 use Rattle.turn_engine.specs.Images.{AtLeast}
-use Rattle.turn_engine.specs.Resting.{Opens, Rests, Takes}
+use Rattle.turn_engine.specs.Recovering.{Opens, RecoversTo, Takes}
 use Rattle.turn_engine.specs.State.{ServerState, emptied, has_pairs, limits_of, now_of}
-use Rattle.turn_engine.specs.declared.fault.OpenRefused.{OpenRefused}
-use Rattle.turn_engine.specs.declared.fault.SubmitRefused.{SubmitRefused}
-use Rattle.turn_engine.specs.declared.fault.SubmitRefused.TheVariants.{BatchFull, Memory, Stopped}
+use Rattle.turn_engine.specs.declared.error.ServerOpenError.{ServerOpenError}
+use Rattle.turn_engine.specs.declared.error.SubmitError.{SubmitError}
+use Rattle.turn_engine.specs.declared.error.SubmitError.TheVariants.{BatchFull, Memory, Stopped}
 
 -- `submit` of an arrival at a moment that isn't before the clock
-pub record Submits {D H G : Type 0} (disk : disks.Ghosts D) (handler : handlers.Ghosts H) (ports : generators.Ghosts G) (old new : ServerState D H G) (moment : ℕ) (a : Arrives) (result : Result Unit SubmitRefused) : Type 0 where
+pub record Submits {D H G : Type 0} (disk : disks.Ghosts D) (handler : handlers.Ghosts H) (ports : generators.Ghosts G) (old new : ServerState D H G) (moment : ℕ) (a : Arrives) (result : Result Unit SubmitError) : Type 0 where
   pub in_time : now_of old ≤ moment
   pub few : old.arrivals ≤ (limits_of old).acts
   -- nothing is written, and the setting stays
@@ -50,14 +50,14 @@ pub record Submits {D H G : Type 0} (disk : disks.Ghosts D) (handler : handlers.
   -- what an arrival that is taken moves
   pub clock : OnOk result (now_of new ≡ moment)
   pub arrivals : OnOk result (new.arrivals ≡ old.arrivals + 1)
-  -- for each history on which the server rests: an arrival that is taken is answered after it, and after a refusal the server rests on it still
-  pub takes : (h : History) (k : ℕ) → Rests (disk.trace old.store.disk).now old h k
+  -- for each history on which the server rests: an arrival that is taken is answered after it, and after a refusal the server recovers to it still
+  pub takes : (h : History) (k : ℕ) → RecoversTo (disk.trace old.store.disk).now old h k
       → OnOk result (Takes (setting_of handler.key_of ports.range old.machine) (disk.trace old.store.disk).now old new h k moment
       (has_failed (ports.failures old.machine.ports) (ports.failures new.machine.ports)) a)
-  pub rests : (h : History) (k : ℕ) → Rests (disk.trace old.store.disk).now old h k → OnErr result (Rests (disk.trace old.store.disk).now new h k)
+  pub recovers : (h : History) (k : ℕ) → RecoversTo (disk.trace old.store.disk).now old h k → OnErr result (RecoversTo (disk.trace old.store.disk).now new h k)
 
 -- `commit`, which answers datagrams or a fault
-pub record Commits {D H G : Type 0} (disk : disks.Ghosts D) (old new : ServerState D H G) (result : Result (List Sent) StoreFault) : Type 0 where
+pub record Commits {D H G : Type 0} (disk : disks.Ghosts D) (old new : ServerState D H G) (result : Result (List Sent) StoreError) : Type 0 where
   -- what was staged is handed out, and nothing is staged any longer; a commit that fails changes the store alone
   pub handed : IfOk result (λ outs. outs ≡ old.outs)
   pub ok : OnOk result (new ≡ emptied old new.store)
@@ -78,24 +78,24 @@ pub record Commits {D H G : Type 0} (disk : disks.Ghosts D) (old new : ServerSta
   pub untouched_worn : result ≡ Err faults.Worn → new.store.disk ≡ old.store.disk
   -- for each history on which the server rests: up to some moment of the call a stop leaves what is stored of it, from then on that or
   -- all of it
-  pub stages : disk.is_honest new.store.disk → (h : History) (k : ℕ) → Rests (disk.trace old.store.disk).now old h k
+  pub stages : disk.follows_crash_model new.store.disk → (h : History) (k : ℕ) → RecoversTo (disk.trace old.store.disk).now old h k
       → InStages (disk.trace old.store.disk) (disk.trace new.store.disk) (StandsBy (form_of old.store) (take k h) (now_of old))
       (EitherBy (form_of old.store) (take k h) (drop k h) (now_of old))
   -- so it always leaves what is stored, or more
-  pub stop : disk.is_honest new.store.disk → (h : History) (k : ℕ) → Rests (disk.trace old.store.disk).now old h k
+  pub stop : disk.follows_crash_model new.store.disk → (h : History) (k : ℕ) → RecoversTo (disk.trace old.store.disk).now old h k
       → EachImageSince (disk.trace old.store.disk) (disk.trace new.store.disk) (AtLeast (form_of old.store) h k (now_of old))
   -- at Ok all of it is stored
-  pub rests : disk.is_honest new.store.disk → (h : History) (k : ℕ) → Rests (disk.trace old.store.disk).now old h k
-      → OnOk result (Rests (disk.trace new.store.disk).now new h (length h))
+  pub recovers : disk.follows_crash_model new.store.disk → (h : History) (k : ℕ) → RecoversTo (disk.trace old.store.disk).now old h k
+      → OnOk result (RecoversTo (disk.trace new.store.disk).now new h (length h))
 
 -- the disk after an opening: the server's, or the one that was returned
-abbrev pub disk_after : {D H G : Type 0} → Result (ServerState D H G) (OpenRefused D H G) → D
+abbrev pub disk_after : {D H G : Type 0} → Result (ServerState D H G) (ServerOpenError D H G) → D
 disk_after (Ok server) = server.store.disk
 disk_after (Err refused) = refused.disk
 
 -- `open` or `open_as` of a disk, with a configuration, a handler and a generator, which answers a server, or a fault with the disk, the handler
 -- and the generator
-pub record Opening {D H G : Type 0} (disk : disks.Ghosts D) (old : D) (config : Config) (handler : H) (ports : G) (result : Result (ServerState D H G) (OpenRefused D H G)) : Type 0 where
+pub record Opening {D H G : Type 0} (disk : disks.Ghosts D) (old : D) (config : Config) (handler : H) (ports : G) (result : Result (ServerState D H G) (ServerOpenError D H G)) : Type 0 where
   -- the server is of what it was given, reserves ports exactly where its store is of version 2, and has nothing staged
   pub machine : IfOk result (λ s. s.machine ≡ record { config = config; handler = handler; ports = ports; table = s.machine.table; pairs = s.machine.pairs })
   pub pairs : IfOk result (λ s. s.machine.pairs ≡ has_pairs s.store.version)
@@ -106,14 +106,14 @@ pub record Opening {D H G : Type 0} (disk : disks.Ghosts D) (old : D) (config : 
   -- Device comes with one failed call
   pub uses : Uses disk old (disk_after result) (IsErrAnd result (λ r. r.fault ≡ Device))
   -- what the store holds, and the reason of each refusal: the first that applies
-  pub opened : IfOk result (λ s. disk.is_honest s.store.disk → IsOpened s.store (disk.trace s.store.disk).now (snapshot_of s.machine.table))
-  pub why : IfErr result (λ r. disk.is_honest r.disk → WhyRefused config.limits (disk.trace old).now.bytes r.fault)
-  -- where each image of the disk stands for the first events of a history, at least k of them, the server rests on such a part of it
-  pub rests : IfOk result (λ s. disk.is_honest s.store.disk → (form : Form) (h : History) (k m : ℕ) → form.bounds ≡ config.limits
+  pub opened : IfOk result (λ s. disk.follows_crash_model s.store.disk → IsOpened s.store (disk.trace s.store.disk).now (snapshot_of s.machine.table))
+  pub why : IfErr result (λ r. disk.follows_crash_model r.disk → WhyRefused config.limits (disk.trace old).now.bytes r.fault)
+  -- where each image of the disk stands for the first events of a history, at least k of them, the server recovers to such a part of it
+  pub recovers : IfOk result (λ s. disk.follows_crash_model s.store.disk → (form : Form) (h : History) (k m : ℕ) → form.bounds ≡ config.limits
       → EachImage (disk.trace old).now (AtLeast form h k m) → Opens form h k m (disk.trace old).now.bytes (disk.trace s.store.disk).now s)
   -- a refusal is then of the device or of memory
-  pub sound : IfErr result (λ r. disk.is_honest r.disk → (form : Form) (h : History) (k m : ℕ) → form.bounds ≡ config.limits
+  pub sound : IfErr result (λ r. disk.follows_crash_model r.disk → (form : Form) (h : History) (k m : ℕ) → form.bounds ≡ config.limits
       → EachImage (disk.trace old).now (AtLeast form h k m) → IsPlain r.fault)
   -- and a stop leaves such images
-  pub stop : disk.is_honest (disk_after result) → (form : Form) (h : History) (k m : ℕ) → EachImage (disk.trace old).now (AtLeast form h k m)
+  pub stop : disk.follows_crash_model (disk_after result) → (form : Form) (h : History) (k m : ℕ) → EachImage (disk.trace old).now (AtLeast form h k m)
       → EachImageSince (disk.trace old) (disk.trace (disk_after result)) (AtLeast form h k m)

@@ -1,6 +1,6 @@
 pub mod Calls
 pub mod Images
-pub mod Resting
+pub mod Recovering
 pub mod Runs
 pub mod Staged
 pub mod State

@@ -9,17 +9,17 @@ use Rattle.turn_history.specs.History.{History}
 use Rattle.turn_ports.specs.Ports.{has_failed}
 use Rattle.turn_ports.specs.declared.generator.RelayAddressGenerator as generators
 use Rattle.turn_step.specs.Answer.{AnswersArrival, Setting}
-use Rattle.turn_step.specs.Outcome.{Arrives, Outcome, Sent, added}
+use Rattle.turn_step.specs.Outcome.{Arrives, StepOutcome, Sent, added}
 use Rattle.turn_step.specs.State.{setting_of}
 use Rattle.turn_store.specs.Areas.{Form}
 use Rattle.turn_store.specs.Images.{EachImage, StandsBy}
 use Rattle.turn_store.specs.State.{form_of}
-use Rattle.turn_store.specs.declared.fault.StoreFault.{StoreFault}
+use Rattle.turn_store.specs.declared.error.StoreError.{StoreError}
 use Rattle.turn_engine.specs.Calls.{Submits, Commits}
 use Rattle.turn_engine.specs.Images.{AtLeast}
-use Rattle.turn_engine.specs.Resting.{Rests}
+use Rattle.turn_engine.specs.Recovering.{RecoversTo}
 use Rattle.turn_engine.specs.State.{ServerState, now_of}
-use Rattle.turn_engine.specs.declared.fault.SubmitRefused.{SubmitRefused}
+use Rattle.turn_engine.specs.declared.error.SubmitError.{SubmitError}
 
 -- ---- Answers in a row
 
@@ -33,7 +33,7 @@ pub record Taken : Type 0 where
   pub failed : Bool
   -- whether the server reserved ports then
   pub pairs : Bool
-  pub outcome : Outcome
+  pub outcome : StepOutcome
 
 -- the events that arrivals added to the history, in order
 abbrev pub accepted : List Taken → History
@@ -62,32 +62,32 @@ last_moment t (x ∷ xs) = last_moment x.moment xs
 -- ---- Calls in a row
 
 -- a call of a server, what it answered, and the server after it
-pub data Step (D H G : Type 0) : Type 0 where
-  Submit : (moment : ℕ) (arrival : Arrives) (result : Result Unit SubmitRefused) (after : ServerState D H G) → Step D H G
-  Commit : (result : Result (List Sent) StoreFault) (after : ServerState D H G) → Step D H G
+pub data ServerCall (D H G : Type 0) : Type 0 where
+  Submit : (moment : ℕ) (arrival : Arrives) (result : Result Unit SubmitError) (after : ServerState D H G) → ServerCall D H G
+  Commit : (result : Result (List Sent) StoreError) (after : ServerState D H G) → ServerCall D H G
 
 -- the server after a call
-abbrev pub after_of : {D H G : Type 0} → Step D H G → ServerState D H G
+abbrev pub after_of : {D H G : Type 0} → ServerCall D H G → ServerState D H G
 after_of (Submit moment arrival result after) = after
 after_of (Commit result after) = after
 
 -- the server after calls in a row, or the one before them where there are none
-abbrev pub last_of : {D H G : Type 0} → ServerState D H G → List (Step D H G) → ServerState D H G
+abbrev pub last_of : {D H G : Type 0} → ServerState D H G → List (ServerCall D H G) → ServerState D H G
 last_of server [] = server
 last_of server (x ∷ xs) = last_of (after_of x) xs
 
 -- the datagrams of a commit's result, none of a fault
-abbrev pub datagrams_of : Result (List Sent) StoreFault → List Sent
+abbrev pub datagrams_of : Result (List Sent) StoreError → List Sent
 datagrams_of (Ok outs) = outs
 datagrams_of (Err fault) = []
 
 -- what a call handed out
-abbrev pub handed_by : {D H G : Type 0} → Step D H G → List Sent
+abbrev pub handed_by : {D H G : Type 0} → ServerCall D H G → List Sent
 handed_by (Submit moment arrival result after) = []
 handed_by (Commit result after) = datagrams_of result
 
 -- what the commits among calls handed out, in order
-abbrev pub handed_out : {D H G : Type 0} → List (Step D H G) → List Sent
+abbrev pub handed_out : {D H G : Type 0} → List (ServerCall D H G) → List Sent
 handed_out [] = []
 handed_out (x ∷ xs) = handed_by x ++ handed_out xs
 
@@ -97,24 +97,24 @@ abbrev pub asked : Taken → ℕ × Arrives × Bool × Bool
 asked x = (x.moment, x.arrival, x.failed, x.pairs)
 
 -- what was asked in a call, as `asked` has it; nothing in one that took no arrival
-abbrev pub asked_by : {D H G : Type 0} → generators.Ghosts G → ServerState D H G → Step D H G → List (ℕ × Arrives × Bool × Bool)
+abbrev pub asked_by : {D H G : Type 0} → generators.Ghosts G → ServerState D H G → ServerCall D H G → List (ℕ × Arrives × Bool × Bool)
 asked_by ports old (Submit moment arrival (Ok done) after) =
     (moment, arrival, has_failed (ports.failures old.machine.ports) (ports.failures after.machine.ports), old.machine.pairs) ∷ []
 asked_by ports old (Submit moment arrival (Err why) after) = []
 asked_by ports old (Commit result after) = []
 
 -- what was asked in calls in a row, in order
-abbrev pub all_asked : {D H G : Type 0} → generators.Ghosts G → ServerState D H G → List (Step D H G) → List (ℕ × Arrives × Bool × Bool)
+abbrev pub all_asked : {D H G : Type 0} → generators.Ghosts G → ServerState D H G → List (ServerCall D H G) → List (ℕ × Arrives × Bool × Bool)
 all_asked ports server [] = []
 all_asked ports server (x ∷ xs) = asked_by ports server x ++ all_asked ports (after_of x) xs
 
 -- a call does what its contract says
-abbrev pub IsCall : {D H G : Type 0} → disks.Ghosts D → handlers.Ghosts H → generators.Ghosts G → ServerState D H G → Step D H G → Type 0
+abbrev pub IsCall : {D H G : Type 0} → disks.Ghosts D → handlers.Ghosts H → generators.Ghosts G → ServerState D H G → ServerCall D H G → Type 0
 IsCall disk handler ports old (Submit moment arrival result after) = Submits disk handler ports old after moment arrival result
 IsCall disk handler ports old (Commit result after) = Commits disk old after result
 
 -- calls, each at the server that the one before left
-abbrev pub Serves : {D H G : Type 0} → disks.Ghosts D → handlers.Ghosts H → generators.Ghosts G → ServerState D H G → List (Step D H G) → Type 0
+abbrev pub Serves : {D H G : Type 0} → disks.Ghosts D → handlers.Ghosts H → generators.Ghosts G → ServerState D H G → List (ServerCall D H G) → Type 0
 Serves disk handler ports server [] = Unit {0}
 Serves disk handler ports server (x ∷ xs) = IsCall disk handler ports server x × Serves disk handler ports (after_of x) xs
 
@@ -144,15 +144,15 @@ abbrev pub NeverFails : {G : Type 0} → generators.Ghosts G → Type 0
 NeverFails {G = G} ports = (old new : G) → ports.failures old ≡ ports.failures new
 
 -- A server is at a place of a run that began after the history h at the moment t: what was taken is one run, each image of
--- the disk has at least what was handed out, and a server that isn't stopped rests on all of it, has taken so many arrivals
+-- the disk has at least what was handed out, and a server that isn't stopped recovers to all of it, has taken so many arrivals
 -- since the last commit, and has their datagrams staged. Where the generator never fails, no arrival says that it did.
-pub record IsAt {D H G : Type 0} (disk : disks.Ghosts D) (handler : handlers.Ghosts H) (ports : generators.Ghosts G) (s : Setting) (h : History) (t : ℕ) (server : ServerState D H G) (p : Place) : Type 0 where
+pub record IsAtPlace {D H G : Type 0} (disk : disks.Ghosts D) (handler : handlers.Ghosts H) (ports : generators.Ghosts G) (s : Setting) (h : History) (t : ℕ) (server : ServerState D H G) (p : Place) : Type 0 where
   pub is_run : IsRun s h t (p.handed ++ p.recent)
   pub in_time : last_moment t (p.handed ++ p.recent) ≤ now_of server
-  pub honest : disk.is_honest server.store.disk
+  pub crash_model : disk.follows_crash_model server.store.disk
   pub same_setting : setting_of handler.key_of ports.range server.machine ≡ s
   pub images : EachImage (disk.trace server.store.disk).now (AtLeast (form_of server.store) (history_at h p) (count_at h p) (now_of server))
-  pub rests : server.store.stopped ≡ false → Rests (disk.trace server.store.disk).now server (history_at h p) (count_at h p)
+  pub recovers : server.store.stopped ≡ false → RecoversTo (disk.trace server.store.disk).now server (history_at h p) (count_at h p)
   pub outs : server.store.stopped ≡ false → server.outs ≡ sent_about p.recent
   pub arrivals : server.store.stopped ≡ false → server.arrivals ≡ length p.recent
   pub flags : NeverFails ports → AllByRecursion (λ x. x.failed ≡ false) (p.handed ++ p.recent)
@@ -160,9 +160,9 @@ pub record IsAt {D H G : Type 0} (disk : disks.Ghosts D) (handler : handlers.Gho
 -- Calls led from one place to another. The arrivals of the run are those that the calls took, in order, and the generator
 -- counts as failed at one exactly where its count differs after the call. What the calls handed out is what the arrivals that
 -- were added to the handed ones were answered, in order, each once.
-pub record Leads {D H G : Type 0} (disk : disks.Ghosts D) (handler : handlers.Ghosts H) (ports : generators.Ghosts G) (s : Setting) (h : History) (t : ℕ) (server : ServerState D H G) (p : Place) (steps : List (Step D H G)) : Type 0 where
+pub record Leads {D H G : Type 0} (disk : disks.Ghosts D) (handler : handlers.Ghosts H) (ports : generators.Ghosts G) (s : Setting) (h : History) (t : ℕ) (server : ServerState D H G) (p : Place) (steps : List (ServerCall D H G)) : Type 0 where
   pub end : Place
-  pub is_at : IsAt disk handler ports s h t (last_of server steps) end
+  pub is_at : IsAtPlace disk handler ports s h t (last_of server steps) end
   -- the arrivals that were handed out by these calls
   pub more : List Taken
   pub handed : end.handed ≡ p.handed ++ more
@@ -170,7 +170,7 @@ pub record Leads {D H G : Type 0} (disk : disks.Ghosts D) (handler : handlers.Gh
   pub arrivals : map asked (end.handed ++ end.recent) ≡ map asked (p.handed ++ p.recent) ++ all_asked ports server steps
 
 -- calls that hand nothing out and leave the server as it was
-pub record IsSilent {D H G : Type 0} (server : ServerState D H G) (steps : List (Step D H G)) : Type 0 where
+pub record IsSilent {D H G : Type 0} (server : ServerState D H G) (steps : List (ServerCall D H G)) : Type 0 where
   pub none : handed_out steps ≡ []
   pub same : last_of server steps ≡ server
 

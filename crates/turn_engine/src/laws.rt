@@ -12,11 +12,11 @@ ghost use Rattle.turn_step.specs.State.{HoldsPorts, setting_of};
 ghost use Rattle.turn_store.specs.Areas.{Form};
 ghost use Rattle.turn_store.specs.Images.{EachImage};
 ghost use Rattle.turn_store.specs.State.{form_of};
-ghost use Rattle.turn_store.specs.declared.fault.StoreFault.{StoreFault};
+ghost use Rattle.turn_store.specs.declared.error.StoreError.{StoreError};
 ghost use Rattle.turn_engine.specs.Calls.{Commits};
 ghost use Rattle.turn_engine.specs.Images.{AtLeast};
-ghost use Rattle.turn_engine.specs.Resting.{Opens, Rests};
-ghost use Rattle.turn_engine.specs.Runs.{IsAt, IsCall, IsSilent, Lasts, Leads, Place, Serves, Step, Taken, accepted, after_of, count_at, history_at, last_of, start};
+ghost use Rattle.turn_engine.specs.Recovering.{Opens, RecoversTo};
+ghost use Rattle.turn_engine.specs.Runs.{IsAtPlace, IsCall, IsSilent, Lasts, Leads, Place, Serves, ServerCall, Taken, accepted, after_of, count_at, history_at, last_of, start};
 ghost use Rattle.turn_engine.specs.Stops.{IsLeft};
 ghost use Rattle.turn_engine.specs.State.{ServerState, now_of};
 
@@ -28,53 +28,53 @@ use turn_ports::RelayAddressGenerator;
 /// run were answered, each once, up to the last commit that answered `Ok`. A commit that failed handed nothing of its batch
 /// out, and nothing is handed out later.
 pub fn servers_make_runs<D: Disk, H: AuthHandler, G: RelayAddressGenerator>()
-    // What an opening yields, with nothing staged, is at the start of a run after the part of the history that it rests on.
+    // What an opening yields, with nothing staged, is at the start of a run after the part of the history that it recovers to.
     ensures opened { (form : Form) (h : History) (k m : ℕ) (content : List ℕ) (server : ServerState D H G)
-        → D.is_honest server.store.disk → (o : Opens form h k m content (D.trace server.store.disk).now server) → server.outs ≡ [] → server.arrivals ≡ 0
-        → IsAt D.Disk H.AuthHandler G.RelayAddressGenerator (setting_of H.key_of G.range server.machine) (take o.count h) (now_of server) server start }
+        → D.follows_crash_model server.store.disk → (o : Opens form h k m content (D.trace server.store.disk).now server) → server.outs ≡ [] → server.arrivals ≡ 0
+        → IsAtPlace D.Disk H.AuthHandler G.RelayAddressGenerator (setting_of H.key_of G.range server.machine) (take o.count h) (now_of server) server start }
 
     // So is every server with all of a history stored and nothing staged.
     ensures starts { (server : ServerState D H G) (h : History) (k : ℕ)
-        → D.is_honest server.store.disk → Rests (D.trace server.store.disk).now server h k → k ≡ length h → server.outs ≡ [] → server.arrivals ≡ 0
-        → IsAt D.Disk H.AuthHandler G.RelayAddressGenerator (setting_of H.key_of G.range server.machine) h (now_of server) server start }
+        → D.follows_crash_model server.store.disk → RecoversTo (D.trace server.store.disk).now server h k → k ≡ length h → server.outs ≡ [] → server.arrivals ≡ 0
+        → IsAtPlace D.Disk H.AuthHandler G.RelayAddressGenerator (setting_of H.key_of G.range server.machine) h (now_of server) server start }
 
-    ensures goes_on { (s : Setting) (h : History) (t : ℕ) (server : ServerState D H G) (p : Place) (steps : List (Step D H G))
-        → IsAt D.Disk H.AuthHandler G.RelayAddressGenerator s h t server p → Serves D.Disk H.AuthHandler G.RelayAddressGenerator server steps
-        → D.is_honest (last_of server steps).store.disk → Leads D.Disk H.AuthHandler G.RelayAddressGenerator s h t server p steps }
-    ensures failed { (old new : ServerState D H G) (fault : StoreFault) (steps : List (Step D H G))
+    ensures goes_on { (s : Setting) (h : History) (t : ℕ) (server : ServerState D H G) (p : Place) (steps : List (ServerCall D H G))
+        → IsAtPlace D.Disk H.AuthHandler G.RelayAddressGenerator s h t server p → Serves D.Disk H.AuthHandler G.RelayAddressGenerator server steps
+        → D.follows_crash_model (last_of server steps).store.disk → Leads D.Disk H.AuthHandler G.RelayAddressGenerator s h t server p steps }
+    ensures failed { (old new : ServerState D H G) (fault : StoreError) (steps : List (ServerCall D H G))
         → Commits D.Disk old new (Err fault) → Serves D.Disk H.AuthHandler G.RelayAddressGenerator new steps → IsSilent new steps }
 {}
 
 /// At every moment of every call each image of the disk stands for the first events of the run's history, and for no fewer
 /// than belong to what was handed out.
 pub fn stops_keep_what_was_handed_out<D: Disk, H: AuthHandler, G: RelayAddressGenerator>()
-    ensures calls { (s : Setting) (h : History) (t : ℕ) (server : ServerState D H G) (p : Place) (x : Step D H G)
-        → IsAt D.Disk H.AuthHandler G.RelayAddressGenerator s h t server p → IsCall D.Disk H.AuthHandler G.RelayAddressGenerator server x
-        → D.is_honest (after_of x).store.disk → EachImageSince (D.trace server.store.disk) (D.trace (after_of x).store.disk)
+    ensures calls { (s : Setting) (h : History) (t : ℕ) (server : ServerState D H G) (p : Place) (x : ServerCall D H G)
+        → IsAtPlace D.Disk H.AuthHandler G.RelayAddressGenerator s h t server p → IsCall D.Disk H.AuthHandler G.RelayAddressGenerator server x
+        → D.follows_crash_model (after_of x).store.disk → EachImageSince (D.trace server.store.disk) (D.trace (after_of x).store.disk)
         (AtLeast (form_of server.store) (history_at h p) (count_at h p) (now_of server)) }
 
     // Of each datagram that was handed out, relayed data too: whatever calls follow, each image at each moment of the call
     // after them stands for a history that begins with the one that it was answered from.
     ensures datagrams { (s : Setting) (h : History) (t : ℕ) (server : ServerState D H G) (p : Place) (before : List Taken) (x : Taken) (after : List Taken)
-        (steps : List (Step D H G)) (call : Step D H G)
-        → IsAt D.Disk H.AuthHandler G.RelayAddressGenerator s h t server p → p.handed ≡ before ++ x ∷ after
+        (steps : List (ServerCall D H G)) (call : ServerCall D H G)
+        → IsAtPlace D.Disk H.AuthHandler G.RelayAddressGenerator s h t server p → p.handed ≡ before ++ x ∷ after
         → Serves D.Disk H.AuthHandler G.RelayAddressGenerator server steps → IsCall D.Disk H.AuthHandler G.RelayAddressGenerator (last_of server steps) call
-        → D.is_honest (after_of call).store.disk → Lasts D.Disk s (h ++ accepted before) x (last_of server steps) (after_of call) }
+        → D.follows_crash_model (after_of call).store.disk → Lasts D.Disk s (h ++ accepted before) x (last_of server steps) (after_of call) }
 {}
 
 /// A stop at any moment of a `submit` or a `commit` leaves a disk of which each image stands for the first events of the run's
 /// history, and for no fewer than belong to what was handed out: what `Server::open` asks for.
 pub fn stopped_servers_open_again<D: Disk, H: AuthHandler, G: RelayAddressGenerator>()
-    ensures { (s : Setting) (h : History) (t : ℕ) (server : ServerState D H G) (p : Place) (x : Step D H G) (image : List ℕ) (state : State)
-        → IsAt D.Disk H.AuthHandler G.RelayAddressGenerator s h t server p → IsCall D.Disk H.AuthHandler G.RelayAddressGenerator server x
-        → D.is_honest (after_of x).store.disk → IsLeft (D.trace server.store.disk) (D.trace (after_of x).store.disk) image → state.bytes ≡ image → IsSettled state
+    ensures { (s : Setting) (h : History) (t : ℕ) (server : ServerState D H G) (p : Place) (x : ServerCall D H G) (image : List ℕ) (state : State)
+        → IsAtPlace D.Disk H.AuthHandler G.RelayAddressGenerator s h t server p → IsCall D.Disk H.AuthHandler G.RelayAddressGenerator server x
+        → D.follows_crash_model (after_of x).store.disk → IsLeft (D.trace server.store.disk) (D.trace (after_of x).store.disk) image → state.bytes ≡ image → IsSettled state
         → EachImage state (AtLeast (form_of server.store) (history_at h p) (count_at h p) (now_of server)) }
 {}
 
-/// Over any disk, honest or not, and whatever calls are made: where the generator of a server holds the ports of the table's
+/// Over any disk, whether or not it follows the crash model, and whatever calls are made: where the generator of a server holds the ports of the table's
 /// allocations and reservations and no other, it does so after the calls. Each of these ports is that of one allocation or one
 /// reservation (`Server::table`, clause `apart`).
 pub fn ports_stay_held<D: Disk, H: AuthHandler, G: RelayAddressGenerator>()
-    ensures { (server : ServerState D H G) (steps : List (Step D H G)) → Serves D.Disk H.AuthHandler G.RelayAddressGenerator server steps
+    ensures { (server : ServerState D H G) (steps : List (ServerCall D H G)) → Serves D.Disk H.AuthHandler G.RelayAddressGenerator server steps
         → HoldsPorts G.holds server.machine None → HoldsPorts G.holds (last_of server steps).machine None }
 {}

@@ -3,13 +3,13 @@
 #![tactic(auto)]
 
 mod batch;
-mod fault;
+mod error;
 mod laws;
 mod server;
 
-pub use fault::{OpenRefused, SubmitRefused};
+pub use error::{ServerOpenError, SubmitError};
 pub use laws::{
     ports_stay_held, servers_make_runs, stopped_servers_open_again, stops_keep_what_was_handed_out,
 };
 pub use server::Server;
-pub use turn_store::StoreFault as CommitRefused;
+pub use turn_store::StoreError as CommitError;

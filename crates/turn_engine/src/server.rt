@@ -23,11 +23,11 @@ ghost use Rattle.turn_store.specs.State.{form_of};
 ghost use Rattle.turn_store.specs.Tables.{snapshot_of};
 ghost use Rattle.turn_engine.specs.Calls.{Commits, Opening, Submits, disk_after};
 ghost use Rattle.turn_engine.specs.Images.{AtLeast};
-ghost use Rattle.turn_engine.specs.Resting.{Opens, Rests, Takes};
+ghost use Rattle.turn_engine.specs.Recovering.{Opens, RecoversTo, Takes};
 ghost use Rattle.turn_engine.specs.State.{emptied, has_pairs, limits_of, now_of};
 
 use crate::batch::Batch;
-use crate::fault::{OpenRefused, SubmitRefused};
+use crate::error::{ServerOpenError, SubmitError};
 use std::alloc::{AllocError, AllocFailed, Allocator, Global};
 use std::marker::Model;
 use std::mem;
@@ -36,7 +36,7 @@ use turn_disk::Disk;
 use turn_ports::RelayAddressGenerator;
 use turn_record::Version;
 use turn_step::{Arrival, Machine, Outgoing, Parts, Step};
-use turn_store::{Info, OpenFault, Opened, Refused, Store, StoreFault};
+use turn_store::{Info, OpenError, Opened, Store, StoreError, StoreOpenError};
 use turn_table::Table;
 use turn_types::{Moment, ServerConfig};
 
@@ -136,7 +136,7 @@ impl<D: Disk, H: AuthHandler, G: RelayAddressGenerator, A: Allocator + Copy> Ser
         config: ServerConfig<A>,
         handler: H,
         ports: G,
-    ) -> Result<Server<D, H, G, A>, OpenRefused<D, H, G>>
+    ) -> Result<Server<D, H, G, A>, ServerOpenError<D, H, G>>
         requires bounds { (opened.store.bounds ≡ config.limits) × (opened.table.bounds ≡ config.limits) }
         requires snapshot { IsSnapshot opened.store.version config.limits opened.table.moment opened.table.contents }
         ensures ok { IfOk result (λ s. s ≡ record {
@@ -147,13 +147,13 @@ impl<D: Disk, H: AuthHandler, G: RelayAddressGenerator, A: Allocator + Copy> Ser
           outs = [];
           arrivals = 0;
         }) }
-        ensures err { IfErr result (λ r. r ≡ record { fault = OpenFault.Memory; disk = opened.store.disk; handler = handler; ports = ports }) }
+        ensures err { IfErr result (λ r. r ≡ record { fault = OpenError.Memory; disk = opened.store.disk; handler = handler; ports = ports }) }
     {
         let Opened { store, table } = opened;
         let version = store.info().version;
         let Ok(batch) = Batch::new(alloc, version, config.limits()) else {
-            return Err(OpenRefused {
-                fault: OpenFault::Memory,
+            return Err(ServerOpenError {
+                fault: OpenError::Memory,
                 disk: store.into_disk(),
                 handler,
                 ports,
@@ -168,8 +168,8 @@ impl<D: Disk, H: AuthHandler, G: RelayAddressGenerator, A: Allocator + Copy> Ser
                 outgoing: Vec::new(alloc),
                 arrivals: 0,
             }),
-            Err(AllocFailed { value }) => Err(OpenRefused {
-                fault: OpenFault::Memory,
+            Err(AllocFailed { value }) => Err(ServerOpenError {
+                fault: OpenError::Memory,
                 disk: store.into_disk(),
                 handler: value.handler,
                 ports: value.ports,
@@ -187,19 +187,19 @@ impl<D: Disk, H: AuthHandler, G: RelayAddressGenerator, A: Allocator + Copy> Ser
         handler: H,
         ports: G,
         carry: bool,
-    ) -> Result<Server<D, H, G, A>, OpenRefused<D, H, G>>
+    ) -> Result<Server<D, H, G, A>, ServerOpenError<D, H, G>>
         ensures call { Opening D.Disk disk config.now handler ports result }
 
         // Exactly a store of version 1 is carried over whose areas have room for version 2, and which isn't worn. Where nothing is to be
         // carried over the content stays.
-        ensures carried { IfOk result (λ s. D.is_honest s.store.disk → Carries carry (D.trace disk).now.bytes s.store) }
-        ensures same { carry ≡ false → D.is_honest (disk_after result)
+        ensures carried { IfOk result (λ s. D.follows_crash_model s.store.disk → Carries carry (D.trace disk).now.bytes s.store) }
+        ensures same { carry ≡ false → D.follows_crash_model (disk_after result)
             → (D.trace (disk_after result)).now.bytes ≡ (D.trace disk).now.bytes }
     {
         let limits = config.limits();
         let Ok(config) = config.try_clone(alloc) else {
-            return Err(OpenRefused {
-                fault: OpenFault::Memory,
+            return Err(ServerOpenError {
+                fault: OpenError::Memory,
                 disk,
                 handler,
                 ports,
@@ -207,8 +207,8 @@ impl<D: Disk, H: AuthHandler, G: RelayAddressGenerator, A: Allocator + Copy> Ser
         };
         let opened = match Store::open_as(alloc, disk, limits, carry) {
             Ok(opened) => opened,
-            Err(Refused { fault, disk }) => {
-                return Err(OpenRefused {
+            Err(StoreOpenError { fault, disk }) => {
+                return Err(ServerOpenError {
                     fault,
                     disk,
                     handler,
@@ -226,29 +226,29 @@ impl<D: Disk, H: AuthHandler, G: RelayAddressGenerator, A: Allocator + Copy> Ser
         config: &ServerConfig<A>,
         handler: H,
         ports: G,
-    ) -> Result<Server<D, H, G, A>, OpenRefused<D, H, G>>
+    ) -> Result<Server<D, H, G, A>, ServerOpenError<D, H, G>>
         ensures call { Opening D.Disk disk config.now handler ports result }
-        ensures carried { IfOk result (λ s. D.is_honest s.store.disk → Carries true (D.trace disk).now.bytes s.store) }
+        ensures carried { IfOk result (λ s. D.follows_crash_model s.store.disk → Carries true (D.trace disk).now.bytes s.store) }
     {
         Server::open_as(alloc, disk, config, handler, ports, true)
     }
 
     // Why an arrival is refused before anything is done for it.
-    fn refusal(&self) -> Option<SubmitRefused>
-        ensures stopped { (result ≡ Some SubmitRefused.Stopped) ↔ (self.now.store.stopped ≡ true) }
-        ensures full { (result ≡ Some SubmitRefused.BatchFull)
+    fn refusal(&self) -> Option<SubmitError>
+        ensures stopped { (result ≡ Some SubmitError.Stopped) ↔ (self.now.store.stopped ≡ true) }
+        ensures full { (result ≡ Some SubmitError.BatchFull)
             ↔ ((self.now.store.stopped ≡ false) × (self.now.arrivals ≡ (limits_of self.now).acts)) }
-        ensures memory { result ≢ Some SubmitRefused.Memory }
+        ensures memory { result ≢ Some SubmitError.Memory }
         ensures none { IfNone result (self.now.arrivals < (limits_of self.now).acts) }
         ensures few { self.now.arrivals ≤ (limits_of self.now).acts }
         ensures small { IfNone result (self.now.arrivals + 1 < 2 ^ 16) }
     {
         if self.store.is_stopped() {
-            return Some(SubmitRefused::Stopped);
+            return Some(SubmitError::Stopped);
         }
         let is_full = self.arrivals >= self.machine.config().limits().acts();
         if is_full {
-            return Some(SubmitRefused::BatchFull);
+            return Some(SubmitError::BatchFull);
         }
         None
     }
@@ -265,13 +265,13 @@ impl<D: Disk, H: AuthHandler, G: RelayAddressGenerator, A: Allocator + Copy> Ser
         ensures count { CountsOne (G.failures self.old.machine.ports) (G.failures self.new.machine.ports) }
         ensures held { HoldsPorts G.holds self.old.machine None → HoldsPorts G.holds self.new.machine None }
         ensures arrivals { OnOk result (self.new.arrivals ≡ self.old.arrivals + 1) }
-        ensures ok { (h : History) (k : ℕ) → Rests (D.trace self.old.store.disk).now self.old h k
+        ensures ok { (h : History) (k : ℕ) → RecoversTo (D.trace self.old.store.disk).now self.old h k
             → OnOk result (Takes (setting_of H.key_of G.range self.old.machine) (D.trace self.old.store.disk).now self.old self.new h k moment
             (has_failed (G.failures self.old.machine.ports) (G.failures self.new.machine.ports)) (arrival_of arrival.now)) }
         ensures memory { OnErr result (self.new ≡ record self.old { machine = self.new.machine }) }
         ensures memory_table { OnErr result (IsPurged moment self.old.machine.table self.new.machine.table) }
-        ensures memory_rests { (h : History) (k : ℕ) → Rests (D.trace self.old.store.disk).now self.old h k
-            → OnErr result (Rests (D.trace self.old.store.disk).now self.new h k) }
+        ensures memory_rests { (h : History) (k : ℕ) → RecoversTo (D.trace self.old.store.disk).now self.old h k
+            → OnErr result (RecoversTo (D.trace self.old.store.disk).now self.new h k) }
     {
         // What this ensures proves the moment's range.
         let _ = moment.seconds();
@@ -293,7 +293,7 @@ impl<D: Disk, H: AuthHandler, G: RelayAddressGenerator, A: Allocator + Copy> Ser
     }
 
     /// Takes an arrival at a moment that isn't before the clock.
-    pub fn submit(&mut self, moment: Moment, arrival: &Arrival<'_>) -> Result<(), SubmitRefused>
+    pub fn submit(&mut self, moment: Moment, arrival: &Arrival<'_>) -> Result<(), SubmitError>
         requires { now_of self.old ≤ moment }
         ensures call { Submits D.Disk H.AuthHandler G.RelayAddressGenerator self.old self.new moment (arrival_of arrival.now) result }
     {
@@ -302,36 +302,36 @@ impl<D: Disk, H: AuthHandler, G: RelayAddressGenerator, A: Allocator + Copy> Ser
         }
         match self.take(moment, arrival) {
             Ok(()) => Ok(()),
-            Err(_) => Err(SubmitRefused::Memory),
+            Err(_) => Err(SubmitError::Memory),
         }
     }
 
     // Writes the acts that were accepted since the last commit, if there are any.
-    fn write(&mut self) -> Result<(), StoreFault>
+    fn write(&mut self) -> Result<(), StoreError>
         ensures form { form_of self.new.store ≡ form_of self.old.store }
         ensures rest { self.new ≡ record self.old { store = self.new.store } }
         ensures runs { OnOk result (self.new.store.stopped ≡ false) }
         ensures stops { OnErr result (self.new.store.stopped ≡ true) }
-        ensures stopped { (result ≡ Err StoreFault.Stopped) ↔ (self.old.store.stopped ≡ true) }
+        ensures stopped { (result ≡ Err StoreError.Stopped) ↔ (self.old.store.stopped ≡ true) }
         ensures unchanged { self.old.store.stopped ≡ true → self.new ≡ self.old }
         ensures nothing { self.old.store.stopped ≡ false → self.old.acts ≡ 0 → IsOk result × (self.new.store ≡ self.old.store) }
 
-        ensures uses { Uses D.Disk self.old.store.disk self.new.store.disk (result ≡ Err StoreFault.Device) }
-        ensures worn { (result ≡ Err StoreFault.Worn) ↔ ((self.old.store.stopped ≡ false) × (1 ≤ self.old.acts)
+        ensures uses { Uses D.Disk self.old.store.disk self.new.store.disk (result ≡ Err StoreError.Device) }
+        ensures worn { (result ≡ Err StoreError.Worn) ↔ ((self.old.store.stopped ≡ false) × (1 ≤ self.old.acts)
             × (self.old.store.generation ≡ 2 ^ 64 - 1)
             × (self.old.store.area.size < self.old.store.area.end + 6 + length self.old.payload)) }
-        ensures untouched_worn { result ≡ Err StoreFault.Worn → self.new.store.disk ≡ self.old.store.disk }
+        ensures untouched_worn { result ≡ Err StoreError.Worn → self.new.store.disk ≡ self.old.store.disk }
 
-        ensures stages { D.is_honest self.new.store.disk → (h : History) (k : ℕ) → Rests (D.trace self.old.store.disk).now self.old h k
+        ensures stages { D.follows_crash_model self.new.store.disk → (h : History) (k : ℕ) → RecoversTo (D.trace self.old.store.disk).now self.old h k
             → InStages (D.trace self.old.store.disk) (D.trace self.new.store.disk) (StandsBy (form_of self.old.store) (take k h) (now_of self.old))
             (EitherBy (form_of self.old.store) (take k h) (drop k h) (now_of self.old)) }
-        ensures stop { D.is_honest self.new.store.disk → (h : History) (k : ℕ) → Rests (D.trace self.old.store.disk).now self.old h k
+        ensures stop { D.follows_crash_model self.new.store.disk → (h : History) (k : ℕ) → RecoversTo (D.trace self.old.store.disk).now self.old h k
             → EachImageSince (D.trace self.old.store.disk) (D.trace self.new.store.disk) (AtLeast (form_of self.old.store) h k (now_of self.old)) }
-        ensures done { D.is_honest self.new.store.disk → (h : History) (k : ℕ) → Rests (D.trace self.old.store.disk).now self.old h k
-            → OnOk result (Rests (D.trace self.new.store.disk).now (emptied self.old self.new.store) h (length h)) }
+        ensures done { D.follows_crash_model self.new.store.disk → (h : History) (k : ℕ) → RecoversTo (D.trace self.old.store.disk).now self.old h k
+            → OnOk result (RecoversTo (D.trace self.new.store.disk).now (emptied self.old self.new.store) h (length h)) }
     {
         if self.store.is_stopped() {
-            return Err(StoreFault::Stopped);
+            return Err(StoreError::Stopped);
         }
         if self.batch.acts() == 0 {
             return Ok(());
@@ -356,7 +356,7 @@ impl<D: Disk, H: AuthHandler, G: RelayAddressGenerator, A: Allocator + Copy> Ser
     }
 
     /// Writes the acts that were accepted since the last commit, and returns what is to be sent, in order.
-    pub fn commit(&mut self) -> Result<Vec<Outgoing<A>, A>, StoreFault>
+    pub fn commit(&mut self) -> Result<Vec<Outgoing<A>, A>, StoreError>
         ensures call { Commits D.Disk self.old self.new (result_map_both (λ outs. map sent_of outs.items) (λ fault. fault) result) }
     {
         self.write()?;

@@ -1,10 +1,10 @@
 //! What a scan of a gate returns.
 
 ghost use Rattle.std.specs.Prelude.{◌≡◌};
-ghost use Rattle.turn_journal.specs.declared.found.ScanRefused.TheVariants.{Device};
+ghost use Rattle.turn_journal.specs.declared.found.ScanError.TheVariants.{Device};
 
 use thiserror::Error;
-use turn_disk::DeviceFailed;
+use turn_disk::DeviceError;
 
 /// What a scan finds at a gate.
 #[derive(Clone, Copy, Debug, PartialEq, Eq)]
@@ -17,7 +17,7 @@ pub enum Found {
 
 /// Why a scan is refused.
 #[derive(Clone, Copy, Debug, PartialEq, Eq, Error)]
-pub enum ScanRefused {
+pub enum ScanError {
     /// A device call failed.
     #[error("a device call failed")]
     Device,
@@ -26,10 +26,10 @@ pub enum ScanRefused {
     BadFrame,
 }
 
-impl From<DeviceFailed> for ScanRefused {
+impl From<DeviceError> for ScanError {
     ghost from_gives = { λ _ e. e ≡ Device };
 
-    fn from(_: DeviceFailed) -> Self {
-        ScanRefused::Device
+    fn from(_: DeviceError) -> Self {
+        ScanError::Device
     }
 }

@@ -7,20 +7,20 @@ ghost use Rattle.turn_disk.specs.Disk.{EachImageSince, IsSettled};
 ghost use Rattle.turn_journal.specs.Area.{end_of, limit_of};
 ghost use Rattle.turn_journal.specs.Frames.{gate_after, AddsFrame, HoldsFramesTo, HoldsWithOrWithout, HoldsWith};
 ghost use Rattle.turn_journal.specs.Scan.{IsAdmitted, IsFound, IsBadFrame};
-ghost use Rattle.turn_journal.specs.declared.journal.AppendRefused.TheVariants.{Device};
+ghost use Rattle.turn_journal.specs.declared.journal.AppendError.TheVariants.{Device};
 
 use crate::area::Area;
-use crate::found::{Found, ScanRefused};
+use crate::found::{Found, ScanError};
 use crate::frame::put_frame;
 use crate::gate::{OPEN, open_gate, read_length, write_after};
 use std::alloc::{AllocError, Allocator, Global};
 use std::marker::Model;
 use thiserror::Error;
-use turn_disk::{DeviceFailed, Disk, read_array};
+use turn_disk::{DeviceError, Disk, read_array};
 
 /// Why a frame was not added.
 #[derive(Clone, Copy, Debug, PartialEq, Eq, Error)]
-pub enum AppendRefused {
+pub enum AppendError {
     /// A device call failed. The log has the frame or not: it has to be scanned anew.
     #[error("a device call failed")]
     Device,
@@ -29,11 +29,11 @@ pub enum AppendRefused {
     Full,
 }
 
-impl From<DeviceFailed> for AppendRefused {
+impl From<DeviceError> for AppendError {
     ghost from_gives = { λ _ e. e ≡ Device };
 
-    fn from(_: DeviceFailed) -> Self {
-        AppendRefused::Device
+    fn from(_: DeviceError) -> Self {
+        AppendError::Device
     }
 }
 
@@ -128,40 +128,40 @@ impl<A: Allocator> Journal<A> {
 
     /// Adds a frame, in four device calls: a write of the frame after its closed gate, with a closed gate after it; a
     /// sync; a write that opens the gate; a sync.
-    pub fn append<D: Disk>(&mut self, disk: &mut D, payload: &[u8]) -> Result<(), AppendRefused>
+    pub fn append<D: Disk>(&mut self, disk: &mut D, payload: &[u8]) -> Result<(), AppendError>
         requires place { self.old.start + self.old.size ≤ D.capacity disk.old }
         requires short { length payload.now ≤ self.old.max_payload }
 
-        ensures uses { Uses D.Disk disk.old disk.new (result ≡ Err AppendRefused.Device) }
+        ensures uses { Uses D.Disk disk.old disk.new (result ≡ Err AppendError.Device) }
 
         ensures appended { OnOk result (self.new ≡ record self.old { end = gate_after self.old.end payload.now }) }
-        ensures full { (result ≡ Err AppendRefused.Full) ↔ (self.old.size < self.old.end + 6 + length payload.now) }
-        ensures untouched { result ≡ Err AppendRefused.Full → disk.new ≡ disk.old }
+        ensures full { (result ≡ Err AppendError.Full) ↔ (self.old.size < self.old.end + 6 + length payload.now) }
+        ensures untouched { result ≡ Err AppendError.Full → disk.new ≡ disk.old }
         ensures kept { OnErr result (self.new ≡ self.old) }
 
         // A stop leaves the frames from before alone until the frame is durable after its closed gate; from then on, with the
         // new one or without, and the gate alone is written, at most once.
         ensures stages { let old = (D.trace disk.old).now in
-            D.is_honest disk.new → IsSettled old → (from : ℕ) (payloads : List (List ℕ))
+            D.follows_crash_model disk.new → IsSettled old → (from : ℕ) (payloads : List (List ℕ))
             → HoldsFramesTo from payloads (end_of self.old) (limit_of self.old) old.bytes
             → AddsFrame from payloads payload.now (end_of self.old) (limit_of self.old) (D.trace disk.old) (D.trace disk.new) }
 
         // So a stop at any moment leaves the frames from before, with the new one or without.
         ensures stop { let old = (D.trace disk.old).now in
-            D.is_honest disk.new → IsSettled old → (from : ℕ) (payloads : List (List ℕ))
+            D.follows_crash_model disk.new → IsSettled old → (from : ℕ) (payloads : List (List ℕ))
             → HoldsFramesTo from payloads (end_of self.old) (limit_of self.old) old.bytes
             → EachImageSince (D.trace disk.old) (D.trace disk.new)
             (HoldsWithOrWithout from payloads payload.now (end_of self.old) (6 + length payload.now) (limit_of self.old) old.bytes) }
 
         ensures done { let old = (D.trace disk.old).now in let new = (D.trace disk.new).now in
-            D.is_honest disk.new → IsSettled old → (from : ℕ) (payloads : List (List ℕ))
+            D.follows_crash_model disk.new → IsSettled old → (from : ℕ) (payloads : List (List ℕ))
             → HoldsFramesTo from payloads (end_of self.old) (limit_of self.old) old.bytes
             → OnOk result (IsSettled new
             × HoldsWith from payloads payload.now (end_of self.old) (6 + length payload.now) (limit_of self.old) old.bytes new.bytes) }
     {
         let count = payload.len();
         if !self.room(count) {
-            return Err(AppendRefused::Full);
+            return Err(AppendError::Full);
         }
         put_frame(&mut self.frame, payload);
         let gate = self.area.start + self.area.end;
@@ -172,17 +172,17 @@ impl<A: Allocator> Journal<A> {
     }
 
     /// Reads what is at a gate, in at most two device calls. Gates are counted from the area's first byte.
-    pub fn scan<D: Disk>(&self, disk: &mut D, at: usize) -> Result<Found, ScanRefused>
+    pub fn scan<D: Disk>(&self, disk: &mut D, at: usize) -> Result<Found, ScanError>
         requires place { self.now.start + self.now.size ≤ D.capacity disk.old }
         requires gate { at < self.now.size }
 
-        ensures reads { Reads D.Disk disk.old disk.new (result ≡ Err ScanRefused.Device) }
+        ensures reads { Reads D.Disk disk.old disk.new (result ≡ Err ScanError.Device) }
 
         ensures admitted { IfOk result (λ found. (count : _) → found ≡ Found.Frame count
             → IsAdmitted at self.now.size self.now.max_payload count) }
-        ensures found { D.is_honest disk.new
+        ensures found { D.follows_crash_model disk.new
             → IfOk result (IsFound (self.now.start + at) (limit_of self.now) self.now.max_payload (D.trace disk.old).now.bytes) }
-        ensures bad { D.is_honest disk.new → IfErr result (λ refused. refused ≡ ScanRefused.BadFrame
+        ensures bad { D.follows_crash_model disk.new → IfErr result (λ refused. refused ≡ ScanError.BadFrame
             → IsBadFrame (self.now.start + at) (limit_of self.now) self.now.max_payload (D.trace disk.old).now.bytes) }
     {
         let gate = self.area.start + at;
@@ -192,11 +192,11 @@ impl<A: Allocator> Journal<A> {
         }
         let room = self.area.size - at;
         if room < 6 {
-            return Err(ScanRefused::BadFrame);
+            return Err(ScanError::BadFrame);
         }
         let count = read_length(disk, gate)?;
         if count > self.area.max_payload || count > room - 6 {
-            return Err(ScanRefused::BadFrame);
+            return Err(ScanError::BadFrame);
         }
         Ok(Found::Frame(count))
     }

@@ -9,6 +9,6 @@ mod journal;
 mod laws;
 
 pub use area::Area;
-pub use found::{Found, ScanRefused};
-pub use journal::{AppendRefused, Journal};
+pub use found::{Found, ScanError};
+pub use journal::{AppendError, Journal};
 pub use laws::{an_area_holds_one_log, what_is_found_is_not_bad};

@@ -1,6 +1,6 @@
 -- Disks over files, by what each file held when it was opened.
 use Rattle.std.specs.Prelude.{◌≡◌, ℕ, List, length}
-use Rattle.turn_disk.specs.Calls.{AreHonest, replay}
+use Rattle.turn_disk.specs.Calls.{FollowCrashModel, replay}
 use Rattle.turn_disk.specs.Views.{InFile}
 use Rattle.turn_disk.specs.declared.disk.Disk as disks
 
@@ -9,6 +9,6 @@ abbrev pub file_of : List ℕ → disks.Ghosts InFile
 file_of content = record {
   capacity = λ disk. disk.size;
   failed = λ disk. disk.failures;
-  is_honest = λ disk. (length content ≡ disk.size) × AreHonest content disk.events;
+  follows_crash_model = λ disk. (length content ≡ disk.size) × FollowCrashModel content disk.events;
   trace = λ disk. replay content disk.events;
 }

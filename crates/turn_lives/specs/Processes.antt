@@ -4,7 +4,7 @@ use Rattle.turn_cred.specs.declared.handler.AuthHandler as handlers
 use Rattle.turn_disk.specs.Disk.{IsImage, IsSettled}
 use Rattle.turn_disk.specs.declared.disk.Disk as disks
 use Rattle.turn_engine.specs.Calls.{Commits}
-use Rattle.turn_engine.specs.Runs.{Commit, Step, Submit, Taken}
+use Rattle.turn_engine.specs.Runs.{Commit, ServerCall, Submit, Taken}
 use Rattle.turn_engine.specs.State.{ServerState, now_of}
 use Rattle.turn_engine.specs.Stops.{IsLeft}
 use Rattle.turn_player.specs.Laws.{IsOneRun}
@@ -19,16 +19,16 @@ use Rattle.turn_sockets.specs.declared.moment.Time as times
 use Rattle.turn_step.specs.Answer.{Setting}
 use Rattle.turn_step.specs.Outcome.{Sent}
 use Rattle.turn_store.specs.Areas.{Form}
-use Rattle.turn_store.specs.declared.fault.StoreFault.{StoreFault}
+use Rattle.turn_store.specs.declared.error.StoreError.{StoreError}
 
 -- the inputs of calls
-abbrev pub inputs_of : {D H G : Type 0} → List (Step D H G) → List Input
+abbrev pub inputs_of : {D H G : Type 0} → List (ServerCall D H G) → List Input
 inputs_of [] = []
 inputs_of (Submit moment arrival result after ∷ steps) = lives.Arrive moment arrival ∷ inputs_of steps
 inputs_of (Commit result after ∷ steps) = lives.Commit ∷ inputs_of steps
 
 -- what calls say
-abbrev pub said_of : {D H G : Type 0} → List (Step D H G) → List Said
+abbrev pub said_of : {D H G : Type 0} → List (ServerCall D H G) → List Said
 said_of [] = []
 said_of (Submit moment arrival result after ∷ steps) = said_by_submit result ++ said_of steps
 said_of (Commit result after ∷ steps) = said_by_commit result ++ said_of steps
@@ -36,15 +36,15 @@ said_of (Commit result after ∷ steps) = said_by_commit result ++ said_of steps
 -- A process was stopped with this server: at rest, or inside a commit. Its disk has this content then, and would have become this one.
 pub data IsStopped {D H G : Type 0} (disk : disks.Ghosts D) (server : ServerState D H G) (image : List ℕ) : D → Type 0 where
   at_rest : IsImage (disk.trace server.store.disk).now image → IsStopped disk server image server.store.disk
-  in_commit : {new : ServerState D H G} (result : Result (List Sent) StoreFault) → Commits disk server new result
+  in_commit : {new : ServerState D H G} (result : Result (List Sent) StoreError) → Commits disk server new result
       → IsLeft (disk.trace server.store.disk) (disk.trace new.store.disk) image → IsStopped disk server image new.store.disk
 
--- The next process finds this content with nothing pending, on a disk that is honest only if the one before it was. It may be a disk of
+-- The next process finds this content with nothing pending, on a disk that follows the crash model only if the one before it was. It may be a disk of
 -- another type.
 pub record Follows {D N : Type 0} (disk : disks.Ghosts D) (following : disks.Ghosts N) (last : D) (image : List ℕ) (next : N) : Type 0 where
   pub bytes : (following.trace next).now.bytes ≡ image
   pub settled : IsSettled (following.trace next).now
-  pub honest : following.is_honest next → disk.is_honest last
+  pub crash_model : following.follows_crash_model next → disk.follows_crash_model last
 
 -- One process leads from a disk to a disk. It was started, with users who have the keys of the setting, took turns, and was stopped; or
 -- its start was refused, or stopped at any moment.

@@ -9,7 +9,7 @@ use Rattle.turn_ports.specs.declared.generator.RelayAddressGenerator as generato
 use Rattle.turn_step.specs.Answer.{Setting}
 use Rattle.turn_step.specs.Outcome.{Sent, added}
 use Rattle.turn_store.specs.Areas.{Form}
-use Rattle.turn_player.specs.Laws.{IsOneRun, IsWhole, Lasts}
+use Rattle.turn_player.specs.Laws.{IsOneRun, IsWhole, LastsOnDisk}
 use Rattle.turn_player.specs.Lives.{Input, Lasting, NeverFall, Point, Said, bound_of, count_of, formatted, recent_of, settled_history_of, sure_of, taken_of, unsettled_of}
 use Rattle.turn_player.specs.Worlds.{Calls, Stands, World, disk_of}
 use Rattle.turn_player.proofs.Lists.{taken-append}
@@ -22,9 +22,9 @@ at_most m n = omega arith
 module _ {D H G : Type 0} (disk : disks.Ghosts D) (handler : handlers.Ghosts H) (ports : generators.Ghosts G) (form : Form) (s : Setting) (may_fail : Bool) (same : form.bounds ≡ s.config.limits)
     (never : may_fail ≡ false → NeverFails ports) where
   pub whole : (w v : World D H G) (inputs : List Input) (said : List Said) → Calls disk handler ports s w inputs said v → Stands disk handler ports form s w formatted → NeverFall 0 inputs
-      → disk.is_honest (disk_of v) → IsWhole disk handler ports form s may_fail inputs said v
-  whole w v inputs said calls stands rising honest =
-      let lives = calls_make_lives disk handler ports form s may_fail never same formatted w v inputs said calls stands honest in
+      → disk.follows_crash_model (disk_of v) → IsWhole disk handler ports form s may_fail inputs said v
+  whole w v inputs said calls stands rising crash_model =
+      let lives = calls_make_lives disk handler ports form s may_fail never same formatted w v inputs said calls stands crash_model in
       record {
         end = lives.end;
         life = lives.life;
@@ -34,9 +34,9 @@ module _ {D H G : Type 0} (disk : disks.Ghosts D) (handler : handlers.Ghosts H) 
 
   pub lasts : (p : Point) (w v : World D H G) (inputs : List Input) (said : List Said) (sent : List Sent) (before : List Lasting) (x : Lasting) (after : List Lasting)
       → Calls disk handler ports s w inputs said v → Stands disk handler ports form s w p → IsOneRun s may_fail sent p → sure_of p ≡ before ++ x ∷ after
-      → disk.is_honest (disk_of v) → Lasts disk form s before (taken_of x) (disk_of v)
-  lasts p w v inputs said sent before x after calls stands one place honest =
-      let lives = calls_make_lives disk handler ports form s may_fail never same p w v inputs said calls stands honest in
+      → disk.follows_crash_model (disk_of v) → LastsOnDisk disk form s before (taken_of x) (disk_of v)
+  lasts p w v inputs said sent before x after calls stands one place crash_model =
+      let lives = calls_make_lives disk handler ports form s may_fail never same p w v inputs said calls stands crash_model in
       let q = lives.end in
       let kept = keeps s may_fail p q inputs said lives.life in
       let y = taken_of x in

@@ -6,12 +6,12 @@ use Rattle.turn_cred.specs.declared.handler.AuthHandler as handlers
 use Rattle.turn_disk.specs.Crash.{left_by}
 use Rattle.turn_disk.specs.Disk.{IsImage, State}
 use Rattle.turn_disk.specs.declared.disk.Disk as disks
-use Rattle.turn_disk.specs.declared.outcome.Outcome.{Outcome}
+use Rattle.turn_disk.specs.declared.outcome.CrashOutcome.{CrashOutcome}
 use Rattle.turn_engine.specs.Calls.{Commits, Opening, Submits}
 use Rattle.turn_engine.specs.Runs.{NeverFails}
 use Rattle.turn_engine.specs.State.{ServerState, now_of}
-use Rattle.turn_engine.specs.declared.fault.OpenRefused.{OpenRefused}
-use Rattle.turn_engine.specs.declared.fault.SubmitRefused.{SubmitRefused}
+use Rattle.turn_engine.specs.declared.error.ServerOpenError.{ServerOpenError}
+use Rattle.turn_engine.specs.declared.error.SubmitError.{SubmitError}
 use Rattle.turn_engine.proofs.Lists.{take_of_length-le}
 use Rattle.turn_ports.specs.declared.generator.RelayAddressGenerator as generators
 use Rattle.turn_step.specs.Answer.{Setting}
@@ -25,12 +25,12 @@ use Rattle.turn_player.specs.Plays as plays
 use Rattle.turn_player.specs.Worlds.{Call, Calls, Down, Restarts, Serving, Stands, World, disk_of, handler_of, ports_of, said_by_submit}
 use Rattle.turn_player.specs.Worlds as worlds
 use Rattle.turn_player.proofs.Worlds.{calls_make_lives}
-use Rattle.turn_player.specs.declared.step.Event.{Event}
-use Rattle.turn_player.specs.declared.step.Step.{Step}
-use Rattle.turn_player.specs.declared.step.Step.TheVariants as steps
+use Rattle.turn_player.specs.declared.step.Effect.{Effect}
+use Rattle.turn_player.specs.declared.step.Action.{Action}
+use Rattle.turn_player.specs.declared.step.Action.TheVariants as steps
 
 module _ {D H G : Type 0} (disk : disks.Ghosts D) (handler : handlers.Ghosts H) (ports : generators.Ghosts G) (s : Setting) where
-  pub submitted : (old new : ServerState D H G) (t n : ℕ) (a : Arrives) (result : Result Unit SubmitRefused) → n ≡ max t (now_of old) → Submits disk handler ports old new n a result
+  pub submitted : (old new : ServerState D H G) (t n : ℕ) (a : Arrives) (result : Result Unit SubmitError) → n ≡ max t (now_of old) → Submits disk handler ports old new n a result
       → Call disk handler ports s (Serving old) (Arrive t a) (said_by_submit result) (Serving new)
   submitted old new t n a result is call = worlds.submits result (subst (λ (m : ℕ). Submits disk handler ports old new m a result) is call)
 
@@ -40,7 +40,7 @@ module _ {D H G : Type 0} (disk : disks.Ghosts D) (handler : handlers.Ghosts H) 
       subst (λ (n : ℕ). Call disk handler ports s (Down d h g) Open (Opened n ∷ []) (Serving server)) (sym is)
       (worlds.opens {w = Down d h g} (Ok server) (subst (λ (x : Config). Opening disk d x h g (Ok server)) (sym same) call))
 
-  pub not_opened : (config : Config) (d : D) (h : H) (g : G) (refused : OpenRefused D H G) → s.config ≡ config → Opening disk d config h g (Err refused)
+  pub not_opened : (config : Config) (d : D) (h : H) (g : G) (refused : ServerOpenError D H G) → s.config ≡ config → Opening disk d config h g (Err refused)
       → Call disk handler ports s (Down d h g) Open (NotOpened refused.fault ∷ []) (Down refused.disk refused.handler refused.ports)
   not_opened config d h g refused same call = worlds.opens {w = Down d h g} (Err refused) (subst (λ (x : Config). Opening disk d x h g (Err refused)) (sym same) call)
 
@@ -51,7 +51,7 @@ module _ {D H G : Type 0} (disk : disks.Ghosts D) (handler : handlers.Ghosts H) 
   adds_at w u v input old new is adds = record { said = adds.said; is = adds.is; does = at w u v input adds.said is adds.does }
 
 -- events of one more step
-pub one_more : {A : Type 0} (old new : List (Event A)) (event : Event A) → new ≡ old ++ event ∷ [] → map said_of new ≡ map said_of old ++ said_of event ∷ []
+pub one_more : {A : Type 0} (old new : List (Effect A)) (event : Effect A) → new ≡ old ++ event ∷ [] → map said_of new ≡ map said_of old ++ said_of event ∷ []
 one_more old new event is = ap (map said_of) is ∙ map-append said_of old (event ∷ [])
 
 pub handed : {D H G : Type 0} (disk : disks.Ghosts D) (handler : handlers.Ghosts H) (ports : generators.Ghosts G) {E : Type 0} (r : Result Unit E) (old new : List Said) (outs : List Sent) (server after : ServerState D H G)
@@ -59,7 +59,7 @@ pub handed : {D H G : Type 0} (disk : disks.Ghosts D) (handler : handlers.Ghosts
 handed disk handler ports (Ok u) old new outs server after is call = λ s. record { said = handing_out outs; is = is; does = worlds.commits (Ok outs) call }
 handed disk handler ports (Err e) old new outs server after is call = tt
 
-pub plays_commit : {D H G : Type 0} (disk : disks.Ghosts D) (handler : handlers.Ghosts H) (ports : generators.Ghosts G) {T E : Type 0} (r : Result T E) (world : T → World D H G) (w : World D H G) (step : Step) (config : Config) (old new : List Said)
+pub plays_commit : {D H G : Type 0} (disk : disks.Ghosts D) (handler : handlers.Ghosts H) (ports : generators.Ghosts G) {T E : Type 0} (r : Result T E) (world : T → World D H G) (w : World D H G) (step : Action) (config : Config) (old new : List Said)
     → step ≡ steps.Commit → IfOk r (λ h. (s : Setting) → Adds old new (λ said. Call disk handler ports s w Commit said (world h)))
     → IfOk r (λ h. (s : Setting) → s.config ≡ config → Adds old new (λ said. Plays disk handler ports s w step said (world h)))
 plays_commit disk handler ports (Ok h) world w step config old new is does = λ s same.
@@ -67,12 +67,12 @@ plays_commit disk handler ports (Ok h) world w step config old new is does = λ 
     record {
       said = adds.said;
       is = adds.is;
-      does = subst (λ (x : Step). Plays disk handler ports s w x adds.said (world h)) (sym is) (plays.commits adds.does);
+      does = subst (λ (x : Action). Plays disk handler ports s w x adds.said (world h)) (sym is) (plays.commits adds.does);
     }
 plays_commit disk handler ports (Err e) world w step config old new is does = tt
 
 module _ {D H G : Type 0} (disk : disks.Ghosts D) (handler : handlers.Ghosts H) (ports : generators.Ghosts G) (s : Setting) where
-  pub noted : {A T : Type 0} (world : T → World D H G) (w : World D H G) (step : Step) (old new : List Said) (found result : T × Option (Event A)) → found ≡ result → new ≡ old ++ said_if found.1
+  pub noted : {A T : Type 0} (world : T → World D H G) (w : World D H G) (step : Action) (old new : List Said) (found result : T × Option (Effect A)) → found ≡ result → new ≡ old ++ said_if found.1
       → Plays disk handler ports s w step (said_if result.1) (world result.0) → Adds old new (λ said. Plays disk handler ports s w step said (world found.0))
   noted world w step old new found result same is does = record {
     said = said_if found.1;
@@ -80,8 +80,8 @@ module _ {D H G : Type 0} (disk : disks.Ghosts D) (handler : handlers.Ghosts H) 
     does = subst (λ x. Plays disk handler ports s w step (said_if x.1) (world x.0)) (sym same) does;
   }
 
-  pub step_is : (w v : World D H G) (step other : Step) (said : List Said) → step ≡ other → Plays disk handler ports s w other said v → Plays disk handler ports s w step said v
-  step_is w v step other said is does = subst (λ (x : Step). Plays disk handler ports s w x said v) (sym is) does
+  pub step_is : (w v : World D H G) (step other : Action) (said : List Said) → step ≡ other → Plays disk handler ports s w other said v → Plays disk handler ports s w step said v
+  step_is w v step other said is does = subst (λ (x : Action). Plays disk handler ports s w x said v) (sym is) does
 
   reopened : (w v : World D H G) (d : D) (h : H) (g : G) (said : List Said) → d ≡ disk_of w → h ≡ handler_of w → g ≡ ports_of w → Call disk handler ports s (Down d h g) Open said v
       → Call disk handler ports s w Open said v
@@ -96,12 +96,12 @@ module _ {D H G : Type 0} (disk : disks.Ghosts D) (handler : handlers.Ghosts H) 
   reopens_at w v d h g carry said same_disk same_handler same_ports call carried =
       plays.reopens (reopened w v d h g said same_disk same_handler same_ports call) (subst (λ (x : D). IsCarriedOver disk carry x v) same_disk carried)
 
-  pub crashed : (w v : World D H G) (old d : D) (h : H) (g : G) (outcome : Outcome) (said : List Said) → old ≡ disk_of w → h ≡ handler_of w → g ≡ ports_of w → (disk.is_honest d → disk.is_honest old)
+  pub crashed : (w v : World D H G) (old d : D) (h : H) (g : G) (outcome : CrashOutcome) (said : List Said) → old ≡ disk_of w → h ≡ handler_of w → g ≡ ports_of w → (disk.follows_crash_model d → disk.follows_crash_model old)
       → (disk.trace d).now ≡ record { bytes = left_by outcome (disk.trace old); pending = [] } → IsImage (disk.trace old).now (disk.trace d).now.bytes
       → Call disk handler ports s (Down d h g) Open said v → IsCarriedOver disk true d v → Plays disk handler ports s w (steps.Crash outcome) said v
-  crashed w v old d h g outcome said same_disk same_handler same_ports honest left image call carried =
+  crashed w v old d h g outcome said same_disk same_handler same_ports crash_model left image call carried =
       let crash : Crashes disk outcome w d = record {
-        honest = λ now. subst disk.is_honest same_disk (honest now);
+        crash_model = λ now. subst disk.follows_crash_model same_disk (crash_model now);
         left = left ∙ ap (λ (x : D). record { bytes = left_by outcome (disk.trace x); pending = [] }) same_disk;
         image = subst (λ (x : D). IsImage (disk.trace x).now (left_by outcome (disk.trace x))) same_disk
             (subst (λ (l : List ℕ). IsImage (disk.trace old).now l) (ap (λ (x : State). x.bytes) left) image);
@@ -112,32 +112,32 @@ module _ {D H G : Type 0} (disk : disks.Ghosts D) (handler : handlers.Ghosts H) 
 
   -- ---- Many steps
 
-  pub plays_push : (w u v : World D H G) (xs : List Step) (x : Step) (said one : List Said) → PlaysAll disk handler ports s w xs said u → Plays disk handler ports s u x one v
+  pub plays_push : (w u v : World D H G) (xs : List Action) (x : Action) (said one : List Said) → PlaysAll disk handler ports s w xs said u → Plays disk handler ports s u x one v
       → PlaysAll disk handler ports s w (xs ++ x ∷ []) (said ++ one) v
   plays_push w _ v _ x _ one plays.done last = subst (λ (l : List Said). PlaysAll disk handler ports s w (x ∷ []) l v) (append-nil one) (plays.then v last plays.done)
   plays_push w u v _ x _ one (plays.then {step = y} {steps = ys} {said = a} {later = b} m first rest) last =
       subst (λ (l : List Said). PlaysAll disk handler ports s w (y ∷ (ys ++ x ∷ [])) l v) (sym (append_assoc a b one)) (plays.then m first (plays_push m u v ys x b one rest last))
 
-  pub pushed : (w u v : World D H G) (all : List Step) (i : ℕ) (x : Step) (old mid new : List Said) → i < length all → x ≡ get_or all i x
+  pub pushed : (w u v : World D H G) (all : List Action) (i : ℕ) (x : Action) (old mid new : List Said) → i < length all → x ≡ get_or all i x
       → Adds old mid (λ said. PlaysAll disk handler ports s w (take i all) said u) → Adds mid new (λ said. Plays disk handler ports s u x said v)
       → Adds old new (λ said. PlaysAll disk handler ports s w (take (i + 1) all) said v)
   pushed w u v all i x old mid new below is first last =
-      let longer : take (i + 1) all ≡ take i all ++ x ∷ [] = take_more all i x below ∙ ap (λ (y : Step). take i all ++ y ∷ []) (sym is) in
+      let longer : take (i + 1) all ≡ take i all ++ x ∷ [] = take_more all i x below ∙ ap (λ (y : Action). take i all ++ y ∷ []) (sym is) in
       record {
         said = first.said ++ last.said;
         is = last.is ∙ ap (λ (l : List Said). l ++ last.said) first.is ∙ append_assoc old first.said last.said;
-        does = subst (λ (l : List Step). PlaysAll disk handler ports s w l (first.said ++ last.said) v) (sym longer) (plays_push w u v (take i all) x first.said last.said first.does last.does);
+        does = subst (λ (l : List Action). PlaysAll disk handler ports s w l (first.said ++ last.said) v) (sym longer) (plays_push w u v (take i all) x first.said last.said first.does last.does);
       }
 
-  pub all_played : (w u : World D H G) (all : List Step) (i : ℕ) (old new : List Said) → length all ≤ i → Adds old new (λ said. PlaysAll disk handler ports s w (take i all) said u)
+  pub all_played : (w u : World D H G) (all : List Action) (i : ℕ) (old new : List Said) → length all ≤ i → Adds old new (λ said. PlaysAll disk handler ports s w (take i all) said u)
       → Adds old new (λ said. PlaysAll disk handler ports s w all said u)
   all_played w u all i old new past adds = record {
     said = adds.said;
     is = adds.is;
-    does = subst (λ (l : List Step). PlaysAll disk handler ports s w l adds.said u) (take_of_length-le i all past) adds.does;
+    does = subst (λ (l : List Action). PlaysAll disk handler ports s w l adds.said u) (take_of_length-le i all past) adds.does;
   }
 
-  pub ran : (old new : Option (World D H G)) (w v : World D H G) (all : List Step) (start said : List Said) → old ≡ Some w → new ≡ Some v → start ≡ []
+  pub ran : (old new : Option (World D H G)) (w v : World D H G) (all : List Action) (start said : List Said) → old ≡ Some w → new ≡ Some v → start ≡ []
       → Adds start said (λ l. PlaysAll disk handler ports s w all l v) → Ran disk handler ports s old all said new
   ran old new w v all start said old_is new_is none adds = record {
     before = w;
@@ -149,7 +149,7 @@ module _ {D H G : Type 0} (disk : disks.Ghosts D) (handler : handlers.Ghosts H) 
 
   -- ---- Steps as calls
 
-  before_calls : (w u v : World D H G) (x : Step) (inputs : List Input) (said later : List Said) → Plays disk handler ports s w x said u → Calls disk handler ports s u inputs later v
+  before_calls : (w u v : World D H G) (x : Action) (inputs : List Input) (said later : List Said) → Plays disk handler ports s w x said u → Calls disk handler ports s u inputs later v
       → Calls disk handler ports s w (inputs_of x ++ inputs) (said ++ later) v
   before_calls w u v _ inputs said later (plays.arrives call) rest = worlds.then u call rest
   before_calls w u v _ inputs said later (plays.commits call) rest = worlds.then u call rest
@@ -157,7 +157,7 @@ module _ {D H G : Type 0} (disk : disks.Ghosts D) (handler : handlers.Ghosts H) 
       let again : Restarts disk handler ports w (disk_of w) (left_by outcome (disk.trace (disk_of w))) d (handler_of w) (ports_of w) = record {
         bytes = ap (λ (x : State). x.bytes) crash.left;
         settled = ap (λ (x : State). x.pending) crash.left;
-        honest = crash.honest;
+        crash_model = crash.crash_model;
         keys = refl;
         range = refl;
       } in
@@ -166,13 +166,13 @@ module _ {D H G : Type 0} (disk : disks.Ghosts D) (handler : handlers.Ghosts H) 
   before_calls w _ v _ inputs _ later plays.fails rest = rest
   before_calls w _ v _ inputs _ later plays.stops rest = rest
 
-  pub calls_of : (w v : World D H G) (all : List Step) (said : List Said) → PlaysAll disk handler ports s w all said v → Calls disk handler ports s w (inputs_of_all all) said v
+  pub calls_of : (w v : World D H G) (all : List Action) (said : List Said) → PlaysAll disk handler ports s w all said v → Calls disk handler ports s w (inputs_of_all all) said v
   calls_of w _ _ _ plays.done = worlds.done
   calls_of w v _ _ (plays.then {step = x} {steps = xs} {said = one} {later = more} u first rest) =
       before_calls w u v x (inputs_of_all xs) one more first (calls_of u v xs more rest)
 
   -- a life goes on by the steps of a player
-  pub goes_on : (form : Form) (p : Point) (old new : Option (World D H G)) (all : List Step) (said : List Said) → NeverFails ports → ((x : D) → disk.is_honest x) → form.bounds ≡ s.config.limits
+  pub goes_on : (form : Form) (p : Point) (old new : Option (World D H G)) (all : List Action) (said : List Said) → NeverFails ports → ((x : D) → disk.follows_crash_model x) → form.bounds ≡ s.config.limits
       → Ran disk handler ports s old all said new → GoesOn disk handler ports form s p old (inputs_of_all all) said new
   goes_on form p old new all said never always same ran before is stands =
       let one : before ≡ ran.before = same_world before ran.before (sym is ∙ ran.old_is) in (

@@ -22,7 +22,7 @@ use Rattle.turn_rules.proofs.Acts.{quiet_act}
 use Rattle.turn_rules.proofs.Reached.{IsOfUser, Known, known}
 use Rattle.turn_rules.proofs.Repeats.{later_same, repeat_same}
 use Rattle.turn_step.specs.Answer.{AnswersArrival, AnswersClient, Setting, to_client, to_peer}
-use Rattle.turn_step.specs.Outcome.{Arrives, Change, Outcome, Sent, change_of}
+use Rattle.turn_step.specs.Outcome.{Arrives, Change, StepOutcome, Sent, change_of}
 use Rattle.turn_step.specs.Outcome.Arrives.{FromClient}
 use Rattle.turn_step.proofs.Exclusion.{request_relays_nothing}
 use Rattle.turn_engine.specs.Runs.{IsRun, Taken, accepted}
@@ -48,11 +48,11 @@ act_is f (Some x) act is = ap (option_map (λ (c : Change). c.act)) is
 same_Some : {A : Type 0} (x y : A) → Some x ≡ Some y → x ≡ y
 same_Some x y is = ap (λ o. unwrap_or o x) is
 
-same_outcome : (o k : Outcome) → o.change ≡ k.change → o.sent ≡ k.sent → o ≡ k
+same_outcome : (o k : StepOutcome) → o.change ≡ k.change → o.sent ≡ k.sent → o ≡ k
 same_outcome o k change sent = ap (λ (c : Option Change). record { change = c; sent = o.sent }) change ∙ ap (λ (x : Option Sent). record { change = k.change; sent = x }) sent
 
 -- what is decided about a request is its outcome
-outcome_by : FiveTuple → Decided → Outcome
+outcome_by : FiveTuple → Decided → StepOutcome
 outcome_by f x = record { change = option_map (change_of f) x.act; sent = to_client f x.reply }
 
 module _ (s : Setting) (f : FiveTuple) (d : Datagram) (spells : Spells d.bytes d.content) where
@@ -69,7 +69,7 @@ module _ (s : Setting) (f : FiveTuple) (d : Datagram) (spells : Spells d.bytes d
       let passed = same_Some _ _ (sym (judged_is t protected) ∙ held) in
       judged_is u protected ∙ ap (λ v. Some v) (passed_again (policy_of s.config) s.keys d f.client t u user key passed nonce)
 
-  outcome_is : (z : Setting) (h : History) (t : ℕ) (failed : Bool) (o : Outcome) → is_request d.content.class ≡ true → (a : AnswersClient z h t failed f d.bytes o) → o ≡ outcome_by f a.decided
+  outcome_is : (z : Setting) (h : History) (t : ℕ) (failed : Bool) (o : StepOutcome) → is_request d.content.class ≡ true → (a : AnswersClient z h t failed f d.bytes o) → o ≡ outcome_by f a.decided
   unfolding outcome_by
   outcome_is z h t failed o request a =
       let none : a.relayed ≡ None = by_option a.relayed (λ none. none)
@@ -79,7 +79,7 @@ module _ (s : Setting) (f : FiveTuple) (d : Datagram) (spells : Spells d.bytes d
 
   -- ---- The allocation was made
 
-  module _ (h : History) (t : ℕ) (failed : Bool) (o : Outcome) (a : AnswersClient s h t failed f d.bytes o) (e : Entry) (change : o.change ≡ Some (change_of f (Allocates e.user e.port e.granted e.tx e.token))) where
+  module _ (h : History) (t : ℕ) (failed : Bool) (o : StepOutcome) (a : AnswersClient s h t failed f d.bytes o) (e : Entry) (change : o.change ≡ Some (change_of f (Allocates e.user e.port e.granted e.tx e.token))) where
     first_port : Option ℕ
     first_port = (a.decides.message d.content spells).port
 
@@ -102,7 +102,7 @@ module _ (s : Setting) (f : FiveTuple) (d : Datagram) (spells : Spells d.bytes d
         by_known k (inl quiet) is = absurd (let wrong : ◌≡◌ {A = Option PlainAct} None (Some (Allocates e.user e.port e.granted e.tx e.token)) = sym (quiet_act (user_of (judged t)) d.content k quiet) ∙ is in let no : ⊥ = cc in no)
         by_known k (inr of_user) is = of_user
 
-    again_is : (later : Bool) (g : History) (u : ℕ) (failed_again : Bool) (k : Outcome) → fin.get (table g u).entries f ≡ Some e → NonceHolds (policy_of s.config) d f.client u
+    again_is : (later : Bool) (g : History) (u : ℕ) (failed_again : Bool) (k : StepOutcome) → fin.get (table g u).entries f ≡ Some e → NonceHolds (policy_of s.config) d f.client u
         → AnswersClient (record s { pairs = later }) g u failed_again f d.bytes k → k ≡ record { change = None; sent = o.sent }
     unfolding outcome_by judged
     again_is later g u failed_again k at nonce b =
@@ -114,7 +114,7 @@ module _ (s : Setting) (f : FiveTuple) (d : Datagram) (spells : Spells d.bytes d
         ∙ repeat_same s.pairs later s.config (table h t) (table g u) f d (judged t) t u first_port m.port e first_act at
         ∙ ap (λ (x : Decided). record { reply = x.reply; act = None }) (sym first_is) in
         outcome_is (record s { pairs = later }) g u failed_again k request b ∙ ap (outcome_by f) decided
-        ∙ ap (λ (x : Outcome). record { change = None; sent = x.sent }) (sym (outcome_is s h t failed o request a))
+        ∙ ap (λ (x : StepOutcome). record { change = None; sent = x.sent }) (sym (outcome_is s h t failed o request a))
 
   -- ---- The five-tuple had the allocation already
 
@@ -124,7 +124,7 @@ module _ (s : Setting) (f : FiveTuple) (d : Datagram) (spells : Spells d.bytes d
         let method = (and_parts (is_request d.content.class) (d.content.method == allocate) allocates).1 in
         ap (λ b. b || (d.content.method == refresh || (d.content.method == create_permission || d.content.method == channel_bind))) method
 
-    later_is : (later : Bool) (h g : History) (t u : ℕ) (failed failed_again : Bool) (o k : Outcome) (user : List ℕ) (key : Key) (x e : Entry) → fin.get (table h t).entries f ≡ Some x → fin.get (table g u).entries f ≡ Some e
+    later_is : (later : Bool) (h g : History) (t u : ℕ) (failed failed_again : Bool) (o k : StepOutcome) (user : List ℕ) (key : Key) (x e : Entry) → fin.get (table h t).entries f ≡ Some x → fin.get (table g u).entries f ≡ Some e
         → allocation_of x ≡ allocation_of e → IsSentBy (policy_of s.config) s.keys d f.client t user key → NonceHolds (policy_of s.config) d f.client u
         → AnswersClient s h t failed f d.bytes o → AnswersClient (record s { pairs = later }) g u failed_again f d.bytes k → k ≡ o
     unfolding judged
@@ -158,7 +158,7 @@ answered s q before x f bytes lasts arrival =
 as_allocates : Allocation → PlainAct
 as_allocates a = Allocates a.user a.port a.granted a.tx a.token
 
-pub first_again : (s : Setting) (q : Point) (before : List Lasting) (x : Lasting) (f : FiveTuple) (d : Datagram) (a : Allocation) (t : ℕ) (again : Outcome)
+pub first_again : (s : Setting) (q : Point) (before : List Lasting) (x : Lasting) (f : FiveTuple) (d : Datagram) (a : Allocation) (t : ℕ) (again : StepOutcome)
     → LastsAfter s q before x → Makes (taken_of x) f d a → ComesAgain s (history_of q) t f d a again
     → again ≡ record { change = None; sent = (taken_of x).outcome.sent }
 unfolding as_allocates
@@ -172,7 +172,7 @@ first_again s q before x f d a t again lasts makes comes =
     again_is (record s { pairs = y.pairs }) f d makes.spells h y.moment y.failed y.outcome (answered s q before x f d.bytes lasts makes.arrival) e change
     comes.pairs (history_of q) t comes.failed again entry.1 comes.nonce comes.answers
 
-pub later_again : (s : Setting) (q : Point) (before : List Lasting) (x : Lasting) (f : FiveTuple) (d : Datagram) (a : Allocation) (t : ℕ) (again : Outcome)
+pub later_again : (s : Setting) (q : Point) (before : List Lasting) (x : Lasting) (f : FiveTuple) (d : Datagram) (a : Allocation) (t : ℕ) (again : StepOutcome)
     → LastsAfter s q before x → MadeBefore s (accepted (map taken_of before)) (taken_of x) f d a → ComesAgain s (history_of q) t f d a again
     → again ≡ (taken_of x).outcome
 later_again s q before x f d a t again lasts old comes =

@@ -9,12 +9,12 @@ use Rattle.turn_disk.specs.declared.disk.Disk as disks
 use Rattle.turn_disk.proofs.Since.{since_same, since_weaken}
 use Rattle.turn_engine.specs.Calls.{Commits, Opening, Submits}
 use Rattle.turn_engine.specs.Images.{AtLeast}
-use Rattle.turn_engine.specs.Resting.{Opens, Rests}
+use Rattle.turn_engine.specs.Recovering.{Opens, RecoversTo}
 use Rattle.turn_engine.specs.Runs.{IsAnswered, NeverFails, Taken, accepted, sent_about}
 use Rattle.turn_engine.specs.State.{ServerState, limits_of, now_of}
-use Rattle.turn_engine.specs.declared.fault.OpenRefused.{OpenRefused}
-use Rattle.turn_engine.specs.declared.fault.SubmitRefused.{SubmitRefused}
-use Rattle.turn_engine.specs.declared.fault.SubmitRefused.TheVariants.{BatchFull, Memory, Stopped}
+use Rattle.turn_engine.specs.declared.error.ServerOpenError.{ServerOpenError}
+use Rattle.turn_engine.specs.declared.error.SubmitError.{SubmitError}
+use Rattle.turn_engine.specs.declared.error.SubmitError.TheVariants.{BatchFull, Memory, Stopped}
 use Rattle.turn_engine.proofs.Answered.{accepted-append, sent_about-append}
 use Rattle.turn_engine.proofs.Lists.{length-take-le}
 use Rattle.turn_engine.proofs.Runs.{memory_is_not_stopped, none_failed, not_both, ok_is_no_error, setting_kept}
@@ -29,8 +29,8 @@ use Rattle.turn_step.specs.State.{MachineState, setting_of}
 use Rattle.turn_store.specs.Areas.{Form}
 use Rattle.turn_store.specs.Images.{EachImage, StandsForAt}
 use Rattle.turn_store.specs.State.{form_of}
-use Rattle.turn_store.specs.declared.fault.StoreFault.{StoreFault}
-use Rattle.turn_store.specs.declared.fault.StoreFault.TheVariants as faults
+use Rattle.turn_store.specs.declared.error.StoreError.{StoreError}
+use Rattle.turn_store.specs.declared.error.StoreError.TheVariants as faults
 use Rattle.turn_player.specs.Lives.{Arrive, Closed, Commit, Failed, Goes, Halted, HandedOut, Input, Lasting, Open, Opened, Point, Refused, Running, Said, Shut, Stop, arrivals, bound_of, count_of, found, handing_out, history_of, settled_history_of, sure_of, taken_of, unsettled_of}
 use Rattle.turn_player.specs.Lives as lives
 use Rattle.turn_player.specs.Worlds.{Call, Calls, Down, IsDown, IsHalted, Leaves, Lives, Restarts, Runs, Serving, Stands, World, disk_of, handler_of, ports_of, said_by_commit, said_by_open, said_by_submit, world_after}
@@ -54,11 +54,11 @@ not_full a b le not = omega (arith, le, not)
 
 module _ {D H G : Type 0} (disk : disks.Ghosts D) (handler : handlers.Ghosts H) (ports : generators.Ghosts G) (form : Form) (s : Setting) where
   later : (d : D) (sure : List Lasting) (recent : List Taken) (m n : ℕ) → m ≤ n → Leaves disk form d sure recent m → Leaves disk form d sure recent n
-  later d sure recent m n le l = record { honest = l.honest; images = λ image is. weaken_by form _ _ m n image le (l.images image is) }
+  later d sure recent m n le l = record { crash_model = l.crash_model; images = λ image is. weaken_by form _ _ m n image le (l.images image is) }
 
   -- what lasts is stored while a server runs, and nothing else
-  resting : (server : ServerState D H G) (sure : List Lasting) (recent : List Taken) (pairs : Bool) (c m : ℕ) → Runs disk handler ports form s server sure recent pairs c m → Leaves disk form server.store.disk sure [] m
-  resting server sure recent pairs c m runs =
+  recovering : (server : ServerState D H G) (sure : List Lasting) (recent : List Taken) (pairs : Bool) (c m : ℕ) → Runs disk handler ports form s server sure recent pairs c m → Leaves disk form server.store.disk sure [] m
+  recovering server sure recent pairs c m runs =
       let mine = map taken_of sure in
       let k = length (accepted mine) in
       let whole : accepted (mine ++ recent) ≡ accepted mine ++ accepted recent = accepted-append mine recent in
@@ -68,25 +68,25 @@ module _ {D H G : Type 0} (disk : disks.Ghosts D) (handler : handlers.Ghosts H) 
       let long : length (accepted (mine ++ [])) ≡ k = ap (λ (l : History). length l) plain in
       let now = runs.clock in
       let bounded = runs.bounded in
-      let late = runs.rests.at_late in
+      let late = runs.recovers.at_late in
       record {
-        honest = runs.honest;
+        crash_model = runs.crash_model;
         images = λ image is. record {
           count = k;
           no_less = omega arith;
           no_more = omega arith;
           stands = record {
-            clock = runs.rests.at;
+            clock = runs.recovers.at;
             bounded = omega arith;
-            stands = subst (λ (l : History). StandsForAt form l runs.rests.at image) first
-                (subst (λ (f : Form). StandsForAt f (take k (accepted (mine ++ recent))) runs.rests.at image) runs.same_form
-                (stood server.store (disk.trace server.store.disk).now runs.rests.at (take k (accepted (mine ++ recent))) runs.rests.stored image is));
+            stands = subst (λ (l : History). StandsForAt form l runs.recovers.at image) first
+                (subst (λ (f : Form). StandsForAt f (take k (accepted (mine ++ recent))) runs.recovers.at image) runs.same_form
+                (stood server.store (disk.trace server.store.disk).now runs.recovers.at (take k (accepted (mine ++ recent))) runs.recovers.stored image is));
           };
         };
       }
 
   pub leaves : (w : World D H G) (p : Point) → Stands disk handler ports form s w p → Leaves disk form (disk_of w) (sure_of p) (unsettled_of p) (bound_of p)
-  leaves (Serving server) (Running sure recent pairs c m) stands = resting server sure recent pairs c m stands
+  leaves (Serving server) (Running sure recent pairs c m) stands = recovering server sure recent pairs c m stands
   leaves (Serving server) (Halted sure recent m) stands = stands.leaves
   leaves (Serving server) (Shut sure recent m) stands = absurd stands
   leaves (Down d h g) (Running sure recent pairs c m) stands = absurd stands
@@ -117,10 +117,10 @@ module _ {D H G : Type 0} (disk : disks.Ghosts D) (handler : handlers.Ghosts H) 
   -- ---- Stops inside calls
 
   -- what a stop in a commit leaves
-  commit_leaves : (old new : ServerState D H G) (sure : List Lasting) (recent : List Taken) (pairs : Bool) (c m : ℕ) (result : Result (List Sent) StoreFault) → Runs disk handler ports form s old sure recent pairs c m
-      → Commits disk old new result → disk.is_honest new.store.disk
+  commit_leaves : (old new : ServerState D H G) (sure : List Lasting) (recent : List Taken) (pairs : Bool) (c m : ℕ) (result : Result (List Sent) StoreError) → Runs disk handler ports form s old sure recent pairs c m
+      → Commits disk old new result → disk.follows_crash_model new.store.disk
       → EachImageSince (disk.trace old.store.disk) (disk.trace new.store.disk) (AtLeast form (accepted (arrivals sure recent)) (length (accepted (map taken_of sure))) m)
-  commit_leaves old new sure recent pairs c m result runs call honest =
+  commit_leaves old new sure recent pairs c m result runs call crash_model =
       let h = accepted (arrivals sure recent) in
       let k = length (accepted (map taken_of sure)) in
       let now = runs.clock in
@@ -128,44 +128,44 @@ module _ {D H G : Type 0} (disk : disks.Ghosts D) (handler : handlers.Ghosts H) 
       let bound : now_of old ≤ m = omega (arith, now, bounded) in
       since_weaken (disk.trace old.store.disk) (disk.trace new.store.disk) (AtLeast (form_of old.store) h k (now_of old)) (AtLeast form h k m)
       (λ image at. weaken_by form h k (now_of old) m image bound (subst (λ (f : Form). AtLeast f h k (now_of old) image) runs.same_form at))
-      (call.stop honest h k runs.rests)
+      (call.stop crash_model h k runs.recovers)
 
   -- what each image has at each moment of a commit
-  pub commit_since : (p : Point) (old new : ServerState D H G) (result : Result (List Sent) StoreFault) → Stands disk handler ports form s (Serving old) p → Commits disk old new result
-      → disk.is_honest new.store.disk → EachImageSince (disk.trace old.store.disk) (disk.trace new.store.disk) (AtLeast form (history_of p) (count_of p) (bound_of p))
-  commit_since (Running sure recent pairs c m) old new result stands call honest = commit_leaves old new sure recent pairs c m result stands call honest
-  commit_since (Halted sure recent m) old new result stands call honest =
+  pub commit_since : (p : Point) (old new : ServerState D H G) (result : Result (List Sent) StoreError) → Stands disk handler ports form s (Serving old) p → Commits disk old new result
+      → disk.follows_crash_model new.store.disk → EachImageSince (disk.trace old.store.disk) (disk.trace new.store.disk) (AtLeast form (history_of p) (count_of p) (bound_of p))
+  commit_since (Running sure recent pairs c m) old new result stands call crash_model = commit_leaves old new sure recent pairs c m result stands call crash_model
+  commit_since (Halted sure recent m) old new result stands call crash_model =
       since_same _ _ _ (ap (λ (v : ServerState D H G). disk.trace v.store.disk) (call.unchanged stands.stopped)) stands.leaves.images
-  commit_since (Shut sure recent m) old new result stands call honest = absurd stands
+  commit_since (Shut sure recent m) old new result stands call crash_model = absurd stands
 
   -- and of an opening
-  pub open_since : (p : Point) (w : World D H G) (result : Result (ServerState D H G) (OpenRefused D H G)) → Stands disk handler ports form s w p
-      → Opening disk (disk_of w) s.config (handler_of w) (ports_of w) result → disk.is_honest (disk_of (world_after result))
+  pub open_since : (p : Point) (w : World D H G) (result : Result (ServerState D H G) (ServerOpenError D H G)) → Stands disk handler ports form s w p
+      → Opening disk (disk_of w) s.config (handler_of w) (ports_of w) result → disk.follows_crash_model (disk_of (world_after result))
       → EachImageSince (disk.trace (disk_of w)) (disk.trace (disk_of (world_after result))) (AtLeast form (settled_history_of p) (count_of p) (bound_of p))
-  open_since p w (Ok server) stands call honest = let l = leaves w p stands in call.stop honest form (settled_history_of p) (count_of p) (bound_of p) l.images
-  open_since p w (Err refused) stands call honest = let l = leaves w p stands in call.stop honest form (settled_history_of p) (count_of p) (bound_of p) l.images
+  open_since p w (Ok server) stands call crash_model = let l = leaves w p stands in call.stop crash_model form (settled_history_of p) (count_of p) (bound_of p) l.images
+  open_since p w (Err refused) stands call crash_model = let l = leaves w p stands in call.stop crash_model form (settled_history_of p) (count_of p) (bound_of p) l.images
 
-  -- ---- Honesty
+  -- ---- The crash model
 
-  -- a disk that is honest after calls and stops was so before them
-  opening_earlier : (w : World D H G) (result : Result (ServerState D H G) (OpenRefused D H G)) → Opening disk (disk_of w) s.config (handler_of w) (ports_of w) result
-      → disk.is_honest (disk_of (world_after result)) → disk.is_honest (disk_of w)
-  opening_earlier w (Ok server) call honest = call.uses.honest honest
-  opening_earlier w (Err refused) call honest = call.uses.honest honest
+  -- a disk that follows the crash model after calls and stops was so before them
+  opening_earlier : (w : World D H G) (result : Result (ServerState D H G) (ServerOpenError D H G)) → Opening disk (disk_of w) s.config (handler_of w) (ports_of w) result
+      → disk.follows_crash_model (disk_of (world_after result)) → disk.follows_crash_model (disk_of w)
+  opening_earlier w (Ok server) call crash_model = call.uses.crash_model crash_model
+  opening_earlier w (Err refused) call crash_model = call.uses.crash_model crash_model
 
-  call_earlier : (w v : World D H G) (input : Input) (said : List Said) → Call disk handler ports s w input said v → disk.is_honest (disk_of v) → disk.is_honest (disk_of w)
-  call_earlier _ _ _ _ (worlds.submits result call) honest = subst (λ z. disk.is_honest z.disk) call.store honest
-  call_earlier _ _ _ _ worlds.no_submit honest = honest
-  call_earlier _ _ _ _ (worlds.commits result call) honest = call.uses.honest honest
-  call_earlier _ _ _ _ worlds.no_commit honest = honest
-  call_earlier w _ _ _ (worlds.opens result call) honest = opening_earlier w result call honest
-  call_earlier _ _ _ _ (worlds.stops image of is) honest = is.honest honest
-  call_earlier _ _ _ _ (worlds.commit_stops result call image of is) honest = call.uses.honest (is.honest honest)
-  call_earlier w _ _ _ (worlds.open_stops result call image of is) honest = opening_earlier w result call (is.honest honest)
+  call_earlier : (w v : World D H G) (input : Input) (said : List Said) → Call disk handler ports s w input said v → disk.follows_crash_model (disk_of v) → disk.follows_crash_model (disk_of w)
+  call_earlier _ _ _ _ (worlds.submits result call) crash_model = subst (λ z. disk.follows_crash_model z.disk) call.store crash_model
+  call_earlier _ _ _ _ worlds.no_submit crash_model = crash_model
+  call_earlier _ _ _ _ (worlds.commits result call) crash_model = call.uses.crash_model crash_model
+  call_earlier _ _ _ _ worlds.no_commit crash_model = crash_model
+  call_earlier w _ _ _ (worlds.opens result call) crash_model = opening_earlier w result call crash_model
+  call_earlier _ _ _ _ (worlds.stops image of is) crash_model = is.crash_model crash_model
+  call_earlier _ _ _ _ (worlds.commit_stops result call image of is) crash_model = call.uses.crash_model (is.crash_model crash_model)
+  call_earlier w _ _ _ (worlds.open_stops result call image of is) crash_model = opening_earlier w result call (is.crash_model crash_model)
 
-  earlier : (w v : World D H G) (inputs : List Input) (said : List Said) → Calls disk handler ports s w inputs said v → disk.is_honest (disk_of v) → disk.is_honest (disk_of w)
-  earlier w _ _ _ worlds.done honest = honest
-  earlier w v _ _ (worlds.then {input = input} {inputs = inputs} {said = said} {later = more} u call rest) honest = call_earlier w u input said call (earlier u v inputs more rest honest)
+  earlier : (w v : World D H G) (inputs : List Input) (said : List Said) → Calls disk handler ports s w inputs said v → disk.follows_crash_model (disk_of v) → disk.follows_crash_model (disk_of w)
+  earlier w _ _ _ worlds.done crash_model = crash_model
+  earlier w v _ _ (worlds.then {input = input} {inputs = inputs} {said = said} {later = more} u call rest) crash_model = call_earlier w u input said call (earlier u v inputs more rest crash_model)
 
   -- ---- Arrivals
 
@@ -187,7 +187,7 @@ module _ {D H G : Type 0} (disk : disks.Ghosts D) (handler : handlers.Ghosts H) 
         let k = length (accepted mine) in
         let at : max t (now_of old) ≡ max t c = ap (λ (n : ℕ). max t n) runs.clock in
         let failed = has_failed (ports.failures old.machine.ports) (ports.failures new.machine.ports) in
-        let takes = call.takes h k runs.rests in
+        let takes = call.takes h k runs.recovers in
         let x : Taken = record { moment = max t c; arrival = a; failed = failed; pairs = pairs; outcome = takes.outcome } in
         let answers : IsAnswered s h x =
         subst (λ (n : ℕ). AnswersArrival (record s { pairs = pairs }) h n failed a takes.outcome) at (subst (λ (z : Setting). AnswersArrival z h (max t (now_of old)) failed a takes.outcome) runs.same_setting takes.answers) in
@@ -197,18 +197,18 @@ module _ {D H G : Type 0} (disk : disks.Ghosts D) (handler : handlers.Ghosts H) 
         ∙ ap (λ (n : ℕ). h ++ added n change) (sym at) in
         let limit : (limits_of old).acts ≡ s.config.limits.acts = ap (λ (z : Setting). z.config.limits.acts) runs.same_setting in
         let counted = runs.counted in
-        let few = not_full old.arrivals (limits_of old).acts call.few (λ all. absurd (ok_is_no_error u BatchFull (call.full.1 (runs.rests.stored.runs, all)))) in
+        let few = not_full old.arrivals (limits_of old).acts call.few (λ all. absurd (ok_is_no_error u BatchFull (call.full.1 (runs.recovers.stored.runs, all)))) in
         let room : length recent < s.config.limits.acts = omega (arith, limit, counted, few) in
         let bounded = runs.bounded in
-        let rests = subst (λ z. Rests (disk.trace z.disk).now new (h ++ added (max t (now_of old)) change) k) (sym call.store) takes.rests in
+        let recovers = subst (λ z. RecoversTo (disk.trace z.disk).now new (h ++ added (max t (now_of old)) change) k) (sym call.store) takes.recovers in
         record {
           end = Running sure (recent ++ x ∷ []) pairs (max t c) (max t m);
           goes = lives.takes failed takes.outcome answers (flag may_fail old.machine.ports new.machine.ports never) room;
           stands = record {
-            honest = subst (λ z. disk.is_honest z.disk) (sym call.store) runs.honest;
+            crash_model = subst (λ z. disk.follows_crash_model z.disk) (sym call.store) runs.crash_model;
             same_setting = setting_kept handler.key_of ports.range old.machine new.machine call.setting ∙ runs.same_setting;
             same_form = ap form_of call.store ∙ runs.same_form;
-            rests = subst (λ (l : History). Rests (disk.trace new.store.disk).now new l k) (sym history) rests;
+            recovers = subst (λ (l : History). RecoversTo (disk.trace new.store.disk).now new l k) (sym history) recovers;
             outs = takes.outs ∙ ap (λ (l : List Sent). l ++ option_to_list takes.outcome.sent) runs.outs
                 ∙ ap (λ (l : List Sent). sent_about recent ++ l) (sym (append-nil (option_to_list takes.outcome.sent))) ∙ sym (sent_about-append recent (x ∷ []));
             counted = call.arrivals ∙ ap (λ (n : ℕ). n + 1) counted ∙ sym (length-append recent (x ∷ []));
@@ -225,17 +225,17 @@ module _ {D H G : Type 0} (disk : disks.Ghosts D) (handler : handlers.Ghosts H) 
         let k = length (accepted mine) in
         let limit : (limits_of old).acts ≡ s.config.limits.acts = ap (λ (z : Setting). z.config.limits.acts) runs.same_setting in
         let counted = runs.counted in
-        let few = not_full old.arrivals (limits_of old).acts call.few (λ all. memory_is_not_full (Err Memory) refl (call.full.1 (runs.rests.stored.runs, all))) in
+        let few = not_full old.arrivals (limits_of old).acts call.few (λ all. memory_is_not_full (Err Memory) refl (call.full.1 (runs.recovers.stored.runs, all))) in
         let room : length recent < s.config.limits.acts = omega (arith, limit, counted, few) in
         let bounded = runs.bounded in
         record {
           end = Running sure recent pairs (max t c) (max t m);
           goes = lives.no_memory room;
           stands = record {
-            honest = subst (λ z. disk.is_honest z.disk) (sym call.store) runs.honest;
+            crash_model = subst (λ z. disk.follows_crash_model z.disk) (sym call.store) runs.crash_model;
             same_setting = setting_kept handler.key_of ports.range old.machine new.machine call.setting ∙ runs.same_setting;
             same_form = ap form_of call.store ∙ runs.same_form;
-            rests = subst (λ z. Rests (disk.trace z.disk).now new h k) (sym call.store) (call.rests h k runs.rests);
+            recovers = subst (λ z. RecoversTo (disk.trace z.disk).now new h k) (sym call.store) (call.recovers h k runs.recovers);
             outs = ap (λ (v : ServerState D H G). v.outs) (call.memory refl) ∙ runs.outs;
             counted = ap (λ (v : ServerState D H G). v.arrivals) (call.memory refl) ∙ counted;
             clock = call.memory_clock refl ∙ ap (λ (n : ℕ). max t n) runs.clock;
@@ -243,7 +243,7 @@ module _ {D H G : Type 0} (disk : disks.Ghosts D) (handler : handlers.Ghosts H) 
           };
         }
       where
-        memory_is_not_full : (result : Result Unit SubmitRefused) → result ≡ Err Memory → result ≡ Err BatchFull → ⊥
+        memory_is_not_full : (result : Result Unit SubmitError) → result ≡ Err Memory → result ≡ Err BatchFull → ⊥
         memory_is_not_full result memory is_full = cc
 
     full : (old new : ServerState D H G) (sure : List Lasting) (recent : List Taken) (pairs : Bool) (c m t : ℕ) (a : Arrives) → Submits disk handler ports old new (max t (now_of old)) a (Err BatchFull)
@@ -252,10 +252,10 @@ module _ {D H G : Type 0} (disk : disks.Ghosts D) (handler : handlers.Ghosts H) 
         let limit : (limits_of old).acts ≡ s.config.limits.acts = ap (λ (z : Setting). z.config.limits.acts) runs.same_setting in
         let bounded = runs.bounded in
         let later_bound : Runs disk handler ports form s old sure recent pairs c (max t m) = record {
-          honest = runs.honest;
+          crash_model = runs.crash_model;
           same_setting = runs.same_setting;
           same_form = runs.same_form;
-          rests = runs.rests;
+          recovers = runs.recovers;
           outs = runs.outs;
           counted = runs.counted;
           clock = runs.clock;
@@ -275,12 +275,12 @@ module _ {D H G : Type 0} (disk : disks.Ghosts D) (handler : handlers.Ghosts H) 
       leaves = later old.store.disk sure recent m n le stands.leaves;
     })
 
-    submitted : (p : Point) (old new : ServerState D H G) (t : ℕ) (a : Arrives) (result : Result Unit SubmitRefused) → Submits disk handler ports old new (max t (now_of old)) a result
+    submitted : (p : Point) (old new : ServerState D H G) (t : ℕ) (a : Arrives) (result : Result Unit SubmitError) → Submits disk handler ports old new (max t (now_of old)) a result
         → Stands disk handler ports form s (Serving old) p → Next may_fail p (Arrive t a) (said_by_submit result) (Serving new)
     submitted (Running sure recent pairs c m) old new t a (Ok u) call stands = took old new sure recent pairs c m t a u call stands
     submitted (Running sure recent pairs c m) old new t a (Err Memory) call stands = no_memory old new sure recent pairs c m t a call stands
     submitted (Running sure recent pairs c m) old new t a (Err BatchFull) call stands = full old new sure recent pairs c m t a call stands
-    submitted (Running sure recent pairs c m) old new t a (Err Stopped) call stands = absurd (not_both old.store.stopped (call.stopped.0 refl) stands.rests.stored.runs)
+    submitted (Running sure recent pairs c m) old new t a (Err Stopped) call stands = absurd (not_both old.store.stopped (call.stopped.0 refl) stands.recovers.stored.runs)
     submitted (Halted sure recent m) old new t a (Ok u) call stands = absurd (ok_is_no_error u Stopped (call.stopped.1 stands.stopped))
     submitted (Halted sure recent m) old new t a (Err Memory) call stands = absurd (memory_is_not_stopped (Err Memory) refl (call.stopped.1 stands.stopped))
     submitted (Halted sure recent m) old new t a (Err BatchFull) call stands = absurd (not_both old.store.stopped stands.stopped (call.full.0 refl).0)
@@ -294,25 +294,25 @@ module _ {D H G : Type 0} (disk : disks.Ghosts D) (handler : handlers.Ghosts H) 
     -- ---- Commits
 
     committed_ok : (old new : ServerState D H G) (sure : List Lasting) (recent : List Taken) (pairs : Bool) (c m : ℕ) (outs : List Sent) → Runs disk handler ports form s old sure recent pairs c m → Commits disk old new (Ok outs)
-        → disk.is_honest new.store.disk → Next may_fail (Running sure recent pairs c m) Commit (handing_out outs) (Serving new)
-    committed_ok old new sure recent pairs c m outs runs call honest =
+        → disk.follows_crash_model new.store.disk → Next may_fail (Running sure recent pairs c m) Commit (handing_out outs) (Serving new)
+    committed_ok old new sure recent pairs c m outs runs call crash_model =
         let mine = map taken_of sure in
         let h = accepted (mine ++ recent) in
         let all : map taken_of (sure ++ map HandedOut recent) ≡ mine ++ recent = map-append taken_of sure (map HandedOut recent) ∙ ap (λ (l : List Taken). mine ++ l) (taken-handed recent) in
         let history : accepted (map taken_of (sure ++ map HandedOut recent) ++ []) ≡ h = ap accepted (append-nil (map taken_of (sure ++ map HandedOut recent)) ∙ all) in
         let count : length (accepted (map taken_of (sure ++ map HandedOut recent))) ≡ length h = ap (λ (l : List Taken). length (accepted l)) all in
         let state = (disk.trace new.store.disk).now in
-        let rests : Rests state new h (length h) = call.rests honest h (length (accepted mine)) runs.rests in
+        let recovers : RecoversTo state new h (length h) = call.recovers crash_model h (length (accepted mine)) runs.recovers in
         let sent : sent_about recent ≡ outs = sym (call.handed ∙ runs.outs) in
         record {
           end = Running (sure ++ map HandedOut recent) [] pairs c m;
           goes = subst (λ (l : List Sent). Goes s may_fail (Running sure recent pairs c m) Commit (handing_out l) (Running (sure ++ map HandedOut recent) [] pairs c m)) sent lives.hands_out;
           stands = record {
-            honest = honest;
+            crash_model = crash_model;
             same_setting = ap (λ (v : ServerState D H G). setting_of handler.key_of ports.range v.machine) call.ok ∙ runs.same_setting;
             same_form = call.form ∙ runs.same_form;
-            rests = subst (λ (l : History). Rests state new l (length (accepted (map taken_of (sure ++ map HandedOut recent))))) (sym history)
-                (subst (λ (n : ℕ). Rests state new h n) (sym count) rests);
+            recovers = subst (λ (l : History). RecoversTo state new l (length (accepted (map taken_of (sure ++ map HandedOut recent))))) (sym history)
+                (subst (λ (n : ℕ). RecoversTo state new h n) (sym count) recovers);
             outs = ap (λ (v : ServerState D H G). v.outs) call.ok;
             counted = ap (λ (v : ServerState D H G). v.arrivals) call.ok;
             clock = ap (λ (v : ServerState D H G). now_of v) call.ok ∙ runs.clock;
@@ -321,13 +321,13 @@ module _ {D H G : Type 0} (disk : disks.Ghosts D) (handler : handlers.Ghosts H) 
         }
 
     -- a commit that failed had acts
-    has_acts : (old new : ServerState D H G) (sure : List Lasting) (recent : List Taken) (pairs : Bool) (c m : ℕ) (why : StoreFault) → Runs disk handler ports form s old sure recent pairs c m → Commits disk old new (Err why)
+    has_acts : (old new : ServerState D H G) (sure : List Lasting) (recent : List Taken) (pairs : Bool) (c m : ℕ) (why : StoreError) → Runs disk handler ports form s old sure recent pairs c m → Commits disk old new (Err why)
         → 1 ≤ length (accepted recent)
     has_acts old new sure recent pairs c m why runs call =
         let mine = map taken_of sure in
         let h = accepted (mine ++ recent) in
-        let some : 1 ≤ old.acts = one_or_more old.acts (λ none. let wrong = call.nothing runs.rests.stored.runs none in cc) in
-        let counted = runs.rests.counted in
+        let some : 1 ≤ old.acts = one_or_more old.acts (λ none. let wrong = call.nothing runs.recovers.stored.runs none in cc) in
+        let counted = runs.recovers.counted in
         let cut = length-drop (length (accepted mine)) h in
         let whole : length h ≡ length (accepted mine) + length (accepted recent) = ap (λ (l : History). length l) (accepted-append mine recent) ∙ length-append (accepted mine) (accepted recent) in
         omega (arith, some, counted, cut, whole)
@@ -336,33 +336,33 @@ module _ {D H G : Type 0} (disk : disks.Ghosts D) (handler : handlers.Ghosts H) 
         one_or_more zero not = absurd (not refl)
         one_or_more (suc n) not = omega arith
 
-    committed_err : (old new : ServerState D H G) (sure : List Lasting) (recent : List Taken) (pairs : Bool) (c m : ℕ) (why : StoreFault) → (why ≡ faults.Device) ⊎ (why ≡ faults.Worn)
-        → Runs disk handler ports form s old sure recent pairs c m → Commits disk old new (Err why) → disk.is_honest new.store.disk → Next may_fail (Running sure recent pairs c m) Commit (Failed why ∷ []) (Serving new)
-    committed_err old new sure recent pairs c m why is runs call honest = record {
+    committed_err : (old new : ServerState D H G) (sure : List Lasting) (recent : List Taken) (pairs : Bool) (c m : ℕ) (why : StoreError) → (why ≡ faults.Device) ⊎ (why ≡ faults.Worn)
+        → Runs disk handler ports form s old sure recent pairs c m → Commits disk old new (Err why) → disk.follows_crash_model new.store.disk → Next may_fail (Running sure recent pairs c m) Commit (Failed why ∷ []) (Serving new)
+    committed_err old new sure recent pairs c m why is runs call crash_model = record {
       end = Halted sure recent m;
       goes = lives.fails why is (has_acts old new sure recent pairs c m why runs call);
       stands = record {
         stopped = call.stops;
         same_setting = own_pairs new.machine pairs (ap (λ (v : ServerState D H G). setting_of handler.key_of ports.range v.machine) call.err ∙ runs.same_setting);
-        leaves = record { honest = honest; images = (commit_leaves old new sure recent pairs c m (Err why) runs call honest).after };
+        leaves = record { crash_model = crash_model; images = (commit_leaves old new sure recent pairs c m (Err why) runs call crash_model).after };
       };
     }
 
-    committed : (p : Point) (old new : ServerState D H G) (result : Result (List Sent) StoreFault) → Commits disk old new result → Stands disk handler ports form s (Serving old) p
-        → disk.is_honest new.store.disk → Next may_fail p Commit (said_by_commit result) (Serving new)
-    committed (Running sure recent pairs c m) old new (Ok outs) call stands honest = committed_ok old new sure recent pairs c m outs stands call honest
-    committed (Running sure recent pairs c m) old new (Err faults.Device) call stands honest = committed_err old new sure recent pairs c m faults.Device (inl refl) stands call honest
-    committed (Running sure recent pairs c m) old new (Err faults.Worn) call stands honest = committed_err old new sure recent pairs c m faults.Worn (inr refl) stands call honest
-    committed (Running sure recent pairs c m) old new (Err faults.Stopped) call stands honest = absurd (not_both old.store.stopped (call.stopped.0 refl) stands.rests.stored.runs)
-    committed (Halted sure recent m) old new (Ok outs) call stands honest = absurd (ok_is_no_error outs faults.Stopped (call.stopped.1 stands.stopped))
-    committed (Halted sure recent m) old new (Err faults.Device) call stands honest = let wrong = call.stopped.1 stands.stopped in cc
-    committed (Halted sure recent m) old new (Err faults.Worn) call stands honest = let wrong = call.stopped.1 stands.stopped in cc
-    committed (Halted sure recent m) old new (Err faults.Stopped) call stands honest = record {
+    committed : (p : Point) (old new : ServerState D H G) (result : Result (List Sent) StoreError) → Commits disk old new result → Stands disk handler ports form s (Serving old) p
+        → disk.follows_crash_model new.store.disk → Next may_fail p Commit (said_by_commit result) (Serving new)
+    committed (Running sure recent pairs c m) old new (Ok outs) call stands crash_model = committed_ok old new sure recent pairs c m outs stands call crash_model
+    committed (Running sure recent pairs c m) old new (Err faults.Device) call stands crash_model = committed_err old new sure recent pairs c m faults.Device (inl refl) stands call crash_model
+    committed (Running sure recent pairs c m) old new (Err faults.Worn) call stands crash_model = committed_err old new sure recent pairs c m faults.Worn (inr refl) stands call crash_model
+    committed (Running sure recent pairs c m) old new (Err faults.Stopped) call stands crash_model = absurd (not_both old.store.stopped (call.stopped.0 refl) stands.recovers.stored.runs)
+    committed (Halted sure recent m) old new (Ok outs) call stands crash_model = absurd (ok_is_no_error outs faults.Stopped (call.stopped.1 stands.stopped))
+    committed (Halted sure recent m) old new (Err faults.Device) call stands crash_model = let wrong = call.stopped.1 stands.stopped in cc
+    committed (Halted sure recent m) old new (Err faults.Worn) call stands crash_model = let wrong = call.stopped.1 stands.stopped in cc
+    committed (Halted sure recent m) old new (Err faults.Stopped) call stands crash_model = record {
       end = Halted sure recent m;
       goes = lives.stays_halted;
       stands = halted_same old new sure recent m m (omega arith) (call.unchanged stands.stopped) stands;
     }
-    committed (Shut sure recent m) old new result call stands honest = absurd stands
+    committed (Shut sure recent m) old new result call stands crash_model = absurd stands
 
     -- ---- Openings
 
@@ -376,8 +376,8 @@ module _ {D H G : Type 0} (disk : disks.Ghosts D) (handler : handlers.Ghosts H) 
 
     yielded : (w : World D H G) (p : Point) (server : ServerState D H G) → Stands disk handler ports form s w p → Opening disk (disk_of w) s.config (handler_of w) (ports_of w) (Ok server)
         → Opens form (settled_history_of p) (count_of p) (bound_of p) (disk.trace (disk_of w)).now.bytes (disk.trace server.store.disk).now server
-        → disk.is_honest server.store.disk → Next may_fail p Open (Opened (now_of server) ∷ []) (Serving server)
-    yielded w p server stands call opens honest =
+        → disk.follows_crash_model server.store.disk → Next may_fail p Open (Opened (now_of server) ∷ []) (Serving server)
+    yielded w p server stands call opens crash_model =
         let sure = sure_of p in
         let recent = unsettled_of p in
         let mine = map taken_of sure in
@@ -398,13 +398,13 @@ module _ {D H G : Type 0} (disk : disks.Ghosts D) (handler : handlers.Ghosts H) 
         let state = (disk.trace server.store.disk).now in
         record {
           end = Running (sure ++ found recent n) [] server.machine.pairs (now_of server) (bound_of p);
-          goes = lives.opens n server.machine.pairs (now_of server) few opens.bounded (subst (λ (l : History). clock l ≤ now_of server) (sym acts) opens.rests.after.late);
+          goes = lives.opens n server.machine.pairs (now_of server) few opens.bounded (subst (λ (l : History). clock l ≤ now_of server) (sym acts) opens.recovers.after.late);
           stands = record {
-            honest = honest;
+            crash_model = crash_model;
             same_setting = opened_setting w p server.machine stands call.machine;
             same_form = opens.same_form;
-            rests = subst (λ (l : History). Rests state server l (length (accepted (map taken_of (sure ++ found recent n))))) (sym all)
-                (subst (λ (i : ℕ). Rests state server (take opens.count (accepted (mine ++ recent))) i) (sym count) opens.rests);
+            recovers = subst (λ (l : History). RecoversTo state server l (length (accepted (map taken_of (sure ++ found recent n))))) (sym all)
+                (subst (λ (i : ℕ). RecoversTo state server (take opens.count (accepted (mine ++ recent))) i) (sym count) opens.recovers);
             outs = ap (λ (v : ServerState D H G). v.outs) call.nothing;
             counted = ap (λ (v : ServerState D H G). v.arrivals) call.nothing;
             clock = refl;
@@ -412,20 +412,20 @@ module _ {D H G : Type 0} (disk : disks.Ghosts D) (handler : handlers.Ghosts H) 
           };
         }
 
-    opened : form.bounds ≡ s.config.limits → (p : Point) (w : World D H G) (result : Result (ServerState D H G) (OpenRefused D H G)) → Opening disk (disk_of w) s.config (handler_of w) (ports_of w) result
-        → Stands disk handler ports form s w p → disk.is_honest (disk_of (world_after result)) → Next may_fail p Open (said_by_open result) (world_after result)
-    opened same p w (Ok server) call stands honest =
+    opened : form.bounds ≡ s.config.limits → (p : Point) (w : World D H G) (result : Result (ServerState D H G) (ServerOpenError D H G)) → Opening disk (disk_of w) s.config (handler_of w) (ports_of w) result
+        → Stands disk handler ports form s w p → disk.follows_crash_model (disk_of (world_after result)) → Next may_fail p Open (said_by_open result) (world_after result)
+    opened same p w (Ok server) call stands crash_model =
         let l = leaves w p stands in
-        yielded w p server stands call (call.rests honest form (settled_history_of p) (count_of p) (bound_of p) same l.images) honest
-    opened same p w (Err refused) call stands honest =
+        yielded w p server stands call (call.recovers crash_model form (settled_history_of p) (count_of p) (bound_of p) same l.images) crash_model
+    opened same p w (Err refused) call stands crash_model =
         let l = leaves w p stands in
         record {
           end = Shut (sure_of p) (unsettled_of p) (bound_of p);
-          goes = lives.not_opened refused.fault (call.sound honest form (settled_history_of p) (count_of p) (bound_of p) same l.images);
+          goes = lives.not_opened refused.fault (call.sound crash_model form (settled_history_of p) (count_of p) (bound_of p) same l.images);
           stands = record {
             keys = ap handler.key_of call.returned.0 ∙ keys_at w p stands;
             range = ap ports.range call.returned.1 ∙ range_at w p stands;
-            leaves = record { honest = honest; images = (call.stop honest form (settled_history_of p) (count_of p) (bound_of p) l.images).after };
+            leaves = record { crash_model = crash_model; images = (call.stop crash_model form (settled_history_of p) (count_of p) (bound_of p) l.images).after };
           };
         }
 
@@ -433,30 +433,30 @@ module _ {D H G : Type 0} (disk : disks.Ghosts D) (handler : handlers.Ghosts H) 
 
     restarted : (w : World D H G) (p : Point) (last : D) (image : List ℕ) (d : D) (h : H) (g : G) (sure : List Lasting) (recent : List Taken) (m : ℕ) → Stands disk handler ports form s w p
         → Restarts disk handler ports w last image d h g → AtLeast form (accepted (arrivals sure recent)) (length (accepted (map taken_of sure))) m image
-        → disk.is_honest d → IsDown disk handler ports form s d h g sure recent m
-    restarted w p last image d h g sure recent m stands is at honest = record {
+        → disk.follows_crash_model d → IsDown disk handler ports form s d h g sure recent m
+    restarted w p last image d h g sure recent m stands is at crash_model = record {
       keys = is.keys ∙ keys_at w p stands;
       range = is.range ∙ range_at w p stands;
-      leaves = record { honest = honest; images = left_alone (disk.trace d).now _ image is.bytes is.settled at };
+      leaves = record { crash_model = crash_model; images = left_alone (disk.trace d).now _ image is.bytes is.settled at };
     }
 
     left : (w : World D H G) (p : Point) (last : D) (image : List ℕ) (d : D) (h : H) (g : G) → Stands disk handler ports form s w p → Restarts disk handler ports w last image d h g
-        → AtLeast form (settled_history_of p) (count_of p) (bound_of p) image → disk.is_honest d → Next may_fail p Stop [] (Down d h g)
-    left w p last image d h g stands is at honest = record {
+        → AtLeast form (settled_history_of p) (count_of p) (bound_of p) image → disk.follows_crash_model d → Next may_fail p Stop [] (Down d h g)
+    left w p last image d h g stands is at crash_model = record {
       end = Shut (sure_of p) (unsettled_of p) (bound_of p);
       goes = lives.stops;
-      stands = restarted w p last image d h g (sure_of p) (unsettled_of p) (bound_of p) stands is at honest;
+      stands = restarted w p last image d h g (sure_of p) (unsettled_of p) (bound_of p) stands is at crash_model;
     }
 
     commit_left : (p : Point) (old new : ServerState D H G) (image : List ℕ) (d : D) (h : H) (g : G) → Stands disk handler ports form s (Serving old) p
-        → Restarts disk handler ports (Serving old) new.store.disk image d h g → AtLeast form (history_of p) (count_of p) (bound_of p) image → disk.is_honest d → Next may_fail p Stop [] (Down d h g)
-    commit_left (Running sure recent pairs c m) old new image d h g stands is at honest = record {
+        → Restarts disk handler ports (Serving old) new.store.disk image d h g → AtLeast form (history_of p) (count_of p) (bound_of p) image → disk.follows_crash_model d → Next may_fail p Stop [] (Down d h g)
+    commit_left (Running sure recent pairs c m) old new image d h g stands is at crash_model = record {
       end = Shut sure recent m;
       goes = lives.commit_stops;
-      stands = restarted (Serving old) (Running sure recent pairs c m) new.store.disk image d h g sure recent m stands is at honest;
+      stands = restarted (Serving old) (Running sure recent pairs c m) new.store.disk image d h g sure recent m stands is at crash_model;
     }
-    commit_left (Halted sure recent m) old new image d h g stands is at honest = left (Serving old) (Halted sure recent m) new.store.disk image d h g stands is at honest
-    commit_left (Shut sure recent m) old new image d h g stands is at honest = absurd stands
+    commit_left (Halted sure recent m) old new image d h g stands is at crash_model = left (Serving old) (Halted sure recent m) new.store.disk image d h g stands is at crash_model
+    commit_left (Shut sure recent m) old new image d h g stands is at crash_model = absurd stands
 
     -- ---- One call, and many
 
@@ -475,34 +475,34 @@ module _ {D H G : Type 0} (disk : disks.Ghosts D) (handler : handlers.Ghosts H) 
     down_commits (Shut sure recent m) d h g stands = record { end = Shut sure recent m; goes = lives.stays_shut; stands = stands }
 
     next : form.bounds ≡ s.config.limits → (p : Point) (w v : World D H G) (input : Input) (said : List Said) → Call disk handler ports s w input said v → Stands disk handler ports form s w p
-        → disk.is_honest (disk_of v) → Next may_fail p input said v
-    next same p _ _ _ _ (worlds.submits {old = old} {new = new} {t = t} {a = a} result call) stands honest = submitted p old new t a result call stands
-    next same p _ _ _ _ (worlds.no_submit {d = d} {h = h} {g = g} {t = t} {a = a}) stands honest = down_arrives p d h g t a stands
-    next same p _ _ _ _ (worlds.commits {old = old} {new = new} result call) stands honest = committed p old new result call stands honest
-    next same p _ _ _ _ (worlds.no_commit {d = d} {h = h} {g = g}) stands honest = down_commits p d h g stands
-    next same p w _ _ _ (worlds.opens result call) stands honest = opened same p w result call stands honest
-    next same p w _ _ _ (worlds.stops {d = d} {h = h} {g = g} image of is) stands honest = left w p (disk_of w) image d h g stands is ((leaves w p stands).images image of) honest
-    next same p _ _ _ _ (worlds.commit_stops {old = old} {new = new} {d = d} {h = h} {g = g} result call image of is) stands honest =
-        commit_left p old new image d h g stands is (left_has (disk.trace old.store.disk) (disk.trace new.store.disk) _ image (commit_since p old new result stands call (is.honest honest)) of) honest
-    next same p w _ _ _ (worlds.open_stops {d = d} {h = h} {g = g} result call image of is) stands honest =
+        → disk.follows_crash_model (disk_of v) → Next may_fail p input said v
+    next same p _ _ _ _ (worlds.submits {old = old} {new = new} {t = t} {a = a} result call) stands crash_model = submitted p old new t a result call stands
+    next same p _ _ _ _ (worlds.no_submit {d = d} {h = h} {g = g} {t = t} {a = a}) stands crash_model = down_arrives p d h g t a stands
+    next same p _ _ _ _ (worlds.commits {old = old} {new = new} result call) stands crash_model = committed p old new result call stands crash_model
+    next same p _ _ _ _ (worlds.no_commit {d = d} {h = h} {g = g}) stands crash_model = down_commits p d h g stands
+    next same p w _ _ _ (worlds.opens result call) stands crash_model = opened same p w result call stands crash_model
+    next same p w _ _ _ (worlds.stops {d = d} {h = h} {g = g} image of is) stands crash_model = left w p (disk_of w) image d h g stands is ((leaves w p stands).images image of) crash_model
+    next same p _ _ _ _ (worlds.commit_stops {old = old} {new = new} {d = d} {h = h} {g = g} result call image of is) stands crash_model =
+        commit_left p old new image d h g stands is (left_has (disk.trace old.store.disk) (disk.trace new.store.disk) _ image (commit_since p old new result stands call (is.crash_model crash_model)) of) crash_model
+    next same p w _ _ _ (worlds.open_stops {d = d} {h = h} {g = g} result call image of is) stands crash_model =
         left w p (disk_of (world_after result)) image d h g stands is
-        (left_has (disk.trace (disk_of w)) (disk.trace (disk_of (world_after result))) _ image (open_since p w result stands call (is.honest honest)) of) honest
+        (left_has (disk.trace (disk_of w)) (disk.trace (disk_of (world_after result))) _ image (open_since p w result stands call (is.crash_model crash_model)) of) crash_model
 
     pub calls_make_lives : form.bounds ≡ s.config.limits → (p : Point) (w v : World D H G) (inputs : List Input) (said : List Said) → Calls disk handler ports s w inputs said v
-        → Stands disk handler ports form s w p → disk.is_honest (disk_of v) → Lives disk handler ports form s may_fail p inputs said v
-    calls_make_lives same p w _ _ _ worlds.done stands honest = record { end = p; life = lives.ends; stands = stands }
-    calls_make_lives same p w v _ _ (worlds.then {input = input} {inputs = inputs} {said = said} {later = more} u call rest) stands honest =
-        let one = next same p w u input said call stands (earlier u v inputs more rest honest) in
-        let last = calls_make_lives same one.end u v inputs more rest one.stands honest in
+        → Stands disk handler ports form s w p → disk.follows_crash_model (disk_of v) → Lives disk handler ports form s may_fail p inputs said v
+    calls_make_lives same p w _ _ _ worlds.done stands crash_model = record { end = p; life = lives.ends; stands = stands }
+    calls_make_lives same p w v _ _ (worlds.then {input = input} {inputs = inputs} {said = said} {later = more} u call rest) stands crash_model =
+        let one = next same p w u input said call stands (earlier u v inputs more rest crash_model) in
+        let last = calls_make_lives same one.end u v inputs more rest one.stands crash_model in
         record { end = last.end; life = lives.goes_on one.end one.goes last.life; stands = last.stands }
 
-pub formatted_stands : {D H G : Type 0} (disk : disks.Ghosts D) (handler : handlers.Ghosts H) (ports : generators.Ghosts G) (form : Form) (s : Setting) (d : D) (h : H) (g : G) → disk.is_honest d
+pub formatted_stands : {D H G : Type 0} (disk : disks.Ghosts D) (handler : handlers.Ghosts H) (ports : generators.Ghosts G) (form : Form) (s : Setting) (d : D) (h : H) (g : G) → disk.follows_crash_model d
     → EachImage (disk.trace d).now (StandsForAt form [] 0) → handler.key_of h ≡ s.keys → ports.range g ≡ s.range → Stands disk handler ports form s (Down d h g) lives.formatted
-formatted_stands disk handler ports form s d h g honest images keys range = record {
+formatted_stands disk handler ports form s d h g crash_model images keys range = record {
   keys = keys;
   range = range;
   leaves = record {
-    honest = honest;
+    crash_model = crash_model;
     images = λ image is. record {
       count = 0;
       no_less = omega arith;

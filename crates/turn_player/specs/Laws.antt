@@ -48,7 +48,7 @@ pub record IsWhole {D H G : Type 0} (disk : disks.Ghosts D) (handler : handlers.
 
 -- An arrival was answered from the history of the arrivals before it, and each image of a disk stands for a history that begins
 -- with that and what the arrival added.
-pub record Lasts {D : Type 0} (disk : disks.Ghosts D) (form : Form) (s : Setting) (before : List Lasting) (x : Taken) (d : D) : Type 0 where
+pub record LastsOnDisk {D : Type 0} (disk : disks.Ghosts D) (form : Form) (s : Setting) (before : List Lasting) (x : Taken) (d : D) : Type 0 where
   pub answered : IsAnswered s (accepted (map taken_of before)) x
   -- a moment that the clock of no image is after
   pub bound : ℕ

@@ -2,15 +2,15 @@
 use Rattle.std.specs.Prelude.{◌≡◌, ◌≤◌, ◌<◌, ◌⊎◌, ◌++◌, ℕ, Bool, List, [], ◌∷◌, true, zero, suc, is_some, if◌then◌else◌, length, map, max}
 use Rattle.std.specs.Option.{option_to_list}
 use Rattle.turn_engine.specs.Runs.{Taken, accepted, sent_about}
-use Rattle.turn_engine.specs.declared.fault.SubmitRefused.{SubmitRefused}
-use Rattle.turn_engine.specs.declared.fault.SubmitRefused.TheVariants as refusals
+use Rattle.turn_engine.specs.declared.error.SubmitError.{SubmitError}
+use Rattle.turn_engine.specs.declared.error.SubmitError.TheVariants as refusals
 use Rattle.turn_history.specs.History.{History, clock}
 use Rattle.turn_step.specs.Answer.{AnswersArrival, Setting}
-use Rattle.turn_step.specs.Outcome.{Arrives, Outcome, Sent}
+use Rattle.turn_step.specs.Outcome.{Arrives, StepOutcome, Sent}
 use Rattle.turn_store.specs.Refused.{IsPlain}
-use Rattle.turn_store.specs.declared.fault.OpenFault.{OpenFault}
-use Rattle.turn_store.specs.declared.fault.StoreFault.{StoreFault}
-use Rattle.turn_store.specs.declared.fault.StoreFault.TheVariants as faults
+use Rattle.turn_store.specs.declared.error.OpenError.{OpenError}
+use Rattle.turn_store.specs.declared.error.StoreError.{StoreError}
+use Rattle.turn_store.specs.declared.error.StoreError.TheVariants as faults
 
 -- ---- Arrivals that last
 
@@ -52,14 +52,14 @@ pub data Input : Type 0 where
 -- what comes of an input: a refusal, a datagram, how many datagrams a commit handed out, a failed commit, an opening with its
 -- clock or its fault, or that no store is open
 pub data Said : Type 0 where
-  Refused : SubmitRefused → Said
+  Refused : SubmitError → Said
   Sends : Sent → Said
   -- how many datagrams were handed out
   Committed : (count : ℕ) → Said
-  Failed : StoreFault → Said
+  Failed : StoreError → Said
   -- the clock, in seconds
   Opened : (clock : ℕ) → Said
-  NotOpened : OpenFault → Said
+  NotOpened : OpenError → Said
   -- no store is open
   Closed : Said
 
@@ -136,7 +136,7 @@ formatted = Shut [] [] 0
 -- Where the generator of ports can't fail, no answer says that it did.
 pub data Goes (s : Setting) (may_fail : Bool) : Point → Input → List Said → Point → Type 0 where
   -- an arrival is taken: its outcome is any answer after the history
-  takes : {sure : List Lasting} {recent : List Taken} {pairs : Bool} {c m t : ℕ} {a : Arrives} (failed : Bool) (o : Outcome)
+  takes : {sure : List Lasting} {recent : List Taken} {pairs : Bool} {c m t : ℕ} {a : Arrives} (failed : Bool) (o : StepOutcome)
       → AnswersArrival (record s { pairs = pairs }) (accepted (arrivals sure recent)) (max t c) failed a o → (failed ≡ true → may_fail ≡ true)
       → length recent < s.config.limits.acts
       → Goes s may_fail (Running sure recent pairs c m) (Arrive t a) []
@@ -157,7 +157,7 @@ pub data Goes (s : Setting) (may_fail : Bool) : Point → Input → List Said �
   hands_out : {sure : List Lasting} {recent : List Taken} {pairs : Bool} {c m : ℕ}
       → Goes s may_fail (Running sure recent pairs c m) Commit (handing_out (sent_about recent)) (Running (sure ++ map HandedOut recent) [] pairs c m)
   -- a batch without acts can't fail
-  fails : {sure : List Lasting} {recent : List Taken} {pairs : Bool} {c m : ℕ} (why : StoreFault) → (why ≡ faults.Device) ⊎ (why ≡ faults.Worn) → 1 ≤ length (accepted recent)
+  fails : {sure : List Lasting} {recent : List Taken} {pairs : Bool} {c m : ℕ} (why : StoreError) → (why ≡ faults.Device) ⊎ (why ≡ faults.Worn) → 1 ≤ length (accepted recent)
       → Goes s may_fail (Running sure recent pairs c m) Commit (Failed why ∷ []) (Halted sure recent m)
   stays_halted : {sure : List Lasting} {recent : List Taken} {m : ℕ} → Goes s may_fail (Halted sure recent m) Commit (Failed faults.Stopped ∷ []) (Halted sure recent m)
   stays_shut : {sure : List Lasting} {recent : List Taken} {m : ℕ} → Goes s may_fail (Shut sure recent m) Commit (Closed ∷ []) (Shut sure recent m)
@@ -170,7 +170,7 @@ pub data Goes (s : Setting) (may_fail : Bool) : Point → Input → List Said �
       → clock (accepted (map taken_of (sure_of p ++ found (unsettled_of p) n))) ≤ c
       → Goes s may_fail p Open (Opened c ∷ []) (Running (sure_of p ++ found (unsettled_of p) n) [] pairs c (bound_of p))
   -- an opening may fail, by the device or for memory alone
-  not_opened : {p : Point} (fault : OpenFault) → IsPlain fault → Goes s may_fail p Open (NotOpened fault ∷ []) (shut p)
+  not_opened : {p : Point} (fault : OpenError) → IsPlain fault → Goes s may_fail p Open (NotOpened fault ∷ []) (shut p)
 
 -- inputs, one after another, lead from a point to a point
 pub data Life (s : Setting) (may_fail : Bool) : Point → List Input → List Said → Point → Type 0 where

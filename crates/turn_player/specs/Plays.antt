@@ -7,24 +7,24 @@ use Rattle.turn_disk.specs.Crash.{left_by}
 use Rattle.turn_disk.specs.Disk.{IsImage}
 use Rattle.turn_disk.specs.Views.{InMemory}
 use Rattle.turn_disk.specs.declared.disk.Disk as disks
-use Rattle.turn_disk.specs.declared.outcome.Outcome.{Outcome}
+use Rattle.turn_disk.specs.declared.outcome.CrashOutcome.{CrashOutcome}
 use Rattle.turn_ports.specs.declared.generator.RelayAddressGenerator as generators
 use Rattle.turn_step.specs.Answer.{Setting}
 use Rattle.turn_step.specs.Views.{arrival_of, sent_of}
 use Rattle.turn_store.specs.Areas.{Form}
 use Rattle.turn_store.specs.Carrying.{Carries}
-use Rattle.turn_store.specs.declared.fault.StoreFault.TheVariants as faults
+use Rattle.turn_store.specs.declared.error.StoreError.TheVariants as faults
 use Rattle.turn_types.specs.Config.{Config}
 use Rattle.turn_player.specs.Lives.{Closed, Committed, Failed, Input, NotOpened, Opened, Point, Refused, Said, Sends}
 use Rattle.turn_player.specs.Lives as lives
 use Rattle.turn_player.specs.Worlds.{Call, Down, Lives, Serving, Stands, World, disk_of, handler_of, ports_of}
-use Rattle.turn_player.specs.declared.step.Event.{Event}
-use Rattle.turn_player.specs.declared.step.Event.TheVariants as events
-use Rattle.turn_player.specs.declared.step.Step.{Step}
-use Rattle.turn_player.specs.declared.step.Step.TheVariants.{Arrive, Commit, Crash, Reopen, Fail, Stop}
+use Rattle.turn_player.specs.declared.step.Effect.{Effect}
+use Rattle.turn_player.specs.declared.step.Effect.TheVariants as events
+use Rattle.turn_player.specs.declared.step.Action.{Action}
+use Rattle.turn_player.specs.declared.step.Action.TheVariants.{Arrive, Commit, Crash, Reopen, Fail, Stop}
 
 -- what an event of a player says
-abbrev pub said_of : {A : Type 0} → Event A → Said
+abbrev pub said_of : {A : Type 0} → Effect A → Said
 said_of (events.Refused why) = Refused why
 said_of (events.Sent out) = Sends (sent_of out)
 said_of (events.Committed count) = Committed count
@@ -34,11 +34,11 @@ said_of (events.NotOpened fault) = NotOpened fault
 said_of events.Closed = Closed
 
 -- what an event of a player says, if there is one
-abbrev pub said_if : {A : Type 0} → Option (Event A) → List Said
+abbrev pub said_if : {A : Type 0} → Option (Effect A) → List Said
 said_if event = option_to_list (option_map said_of event)
 
 -- the inputs of a step: a crash is a stop at rest and an opening
-abbrev pub inputs_of : Step → List Input
+abbrev pub inputs_of : Action → List Input
 inputs_of (Arrive moment arrival) = lives.Arrive moment (arrival_of arrival) ∷ []
 inputs_of Commit = lives.Commit ∷ []
 inputs_of (Crash outcome) = lives.Stop ∷ lives.Open ∷ []
@@ -47,27 +47,27 @@ inputs_of (Fail call) = []
 inputs_of (Stop call) = []
 
 -- the inputs of steps, in order
-abbrev pub inputs_of_all : List Step → List Input
+abbrev pub inputs_of_all : List Action → List Input
 inputs_of_all [] = []
 inputs_of_all (step ∷ steps) = inputs_of step ++ inputs_of_all steps
 
 -- the disk is what the outcome leaves of the one before
-pub record Crashes {D H G : Type 0} (disk : disks.Ghosts D) (outcome : Outcome) (old : World D H G) (d : D) : Type 0 where
-  pub honest : disk.is_honest d → disk.is_honest (disk_of old)
+pub record Crashes {D H G : Type 0} (disk : disks.Ghosts D) (outcome : CrashOutcome) (old : World D H G) (d : D) : Type 0 where
+  pub crash_model : disk.follows_crash_model d → disk.follows_crash_model (disk_of old)
   pub left : (disk.trace d).now ≡ record { bytes = left_by outcome (disk.trace (disk_of old)); pending = [] }
   pub image : IsImage (disk.trace (disk_of old)).now (left_by outcome (disk.trace (disk_of old)))
 
 -- a disk was opened: exactly where it is asked for and can be done, the store that was opened was carried over to version 2
 abbrev pub IsCarriedOver : {D H G : Type 0} → disks.Ghosts D → Bool → D → World D H G → Type 0
-IsCarriedOver disk carry d (Serving server) = disk.is_honest server.store.disk → Carries carry (disk.trace d).now.bytes server.store
+IsCarriedOver disk carry d (Serving server) = disk.follows_crash_model server.store.disk → Carries carry (disk.trace d).now.bytes server.store
 IsCarriedOver disk carry d (Down e h g) = Unit {0}
 
 -- one step of a player leads from a world to a world, and something is said
-pub data Plays {D H G : Type 0} (disk : disks.Ghosts D) (handler : handlers.Ghosts H) (ports : generators.Ghosts G) (s : Setting) : World D H G → Step → List Said → World D H G → Type 0 where
+pub data Plays {D H G : Type 0} (disk : disks.Ghosts D) (handler : handlers.Ghosts H) (ports : generators.Ghosts G) (s : Setting) : World D H G → Action → List Said → World D H G → Type 0 where
   arrives : {w v : World D H G} {moment : _} {arrival : _} {said : List Said} → Call disk handler ports s w (lives.Arrive moment (arrival_of arrival)) said v
       → Plays disk handler ports s w (Arrive moment arrival) said v
   commits : {w v : World D H G} {said : List Said} → Call disk handler ports s w lives.Commit said v → Plays disk handler ports s w Commit said v
-  crashes : {w v : World D H G} {outcome : Outcome} {said : List Said} (d : D) → Crashes disk outcome w d
+  crashes : {w v : World D H G} {outcome : CrashOutcome} {said : List Said} (d : D) → Crashes disk outcome w d
       → Call disk handler ports s (Down d (handler_of w) (ports_of w)) lives.Open said v → IsCarriedOver disk true d v
       → Plays disk handler ports s w (Crash outcome) said v
   reopens : {w v : World D H G} {carry : Bool} {said : List Said} → Call disk handler ports s w lives.Open said v → IsCarriedOver disk carry (disk_of w) v
@@ -76,9 +76,9 @@ pub data Plays {D H G : Type 0} (disk : disks.Ghosts D) (handler : handlers.Ghos
   stops : {w : World D H G} {call : _} → Plays disk handler ports s w (Stop call) [] w
 
 -- steps of a player, one after another, lead from a world to a world
-pub data PlaysAll {D H G : Type 0} (disk : disks.Ghosts D) (handler : handlers.Ghosts H) (ports : generators.Ghosts G) (s : Setting) : World D H G → List Step → List Said → World D H G → Type 0 where
+pub data PlaysAll {D H G : Type 0} (disk : disks.Ghosts D) (handler : handlers.Ghosts H) (ports : generators.Ghosts G) (s : Setting) : World D H G → List Action → List Said → World D H G → Type 0 where
   done : {w : World D H G} → PlaysAll disk handler ports s w [] [] w
-  then : {w v : World D H G} {step : Step} {steps : List Step} {said later : List Said} (next : World D H G)
+  then : {w v : World D H G} {step : Action} {steps : List Action} {said later : List Said} (next : World D H G)
       → Plays disk handler ports s w step said next → PlaysAll disk handler ports s next steps later v → PlaysAll disk handler ports s w (step ∷ steps) (said ++ later) v
 
 -- what contracts see of a player: nothing of the world where a step met no memory
@@ -88,7 +88,7 @@ pub record PlayerState : Type 0 where
   pub world : Option (World InMemory Sources (ℕ × ℕ))
 
 -- a player made just these steps, and said this
-pub record Ran {D H G : Type 0} (disk : disks.Ghosts D) (handler : handlers.Ghosts H) (ports : generators.Ghosts G) (s : Setting) (old : Option (World D H G)) (steps : List Step) (said : List Said) (new : Option (World D H G)) : Type 0 where
+pub record Ran {D H G : Type 0} (disk : disks.Ghosts D) (handler : handlers.Ghosts H) (ports : generators.Ghosts G) (s : Setting) (old : Option (World D H G)) (steps : List Action) (said : List Said) (new : Option (World D H G)) : Type 0 where
   pub before : World D H G
   pub after : World D H G
   pub old_is : old ≡ Some before

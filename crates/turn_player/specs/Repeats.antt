@@ -8,7 +8,7 @@ use Rattle.turn_cred.specs.Passed.{IsSentBy, NonceHolds}
 use Rattle.turn_cred.specs.declared.key.Key.{Key}
 use Rattle.turn_rules.specs.Answer.{is_allocate}
 use Rattle.turn_step.specs.Answer.{AnswersArrival, Setting}
-use Rattle.turn_step.specs.Outcome.{Outcome, change_of}
+use Rattle.turn_step.specs.Outcome.{StepOutcome, change_of}
 use Rattle.turn_step.specs.Outcome.Arrives.{FromClient}
 use Rattle.turn_engine.specs.Runs.{Taken}
 use Rattle.turn_player.specs.Lives.{Input, Lasting, Life, NeverFall, Point, Said, formatted, sure_of}
@@ -47,7 +47,7 @@ pub record MadeBefore (s : Setting) (h : History) (x : Taken) (f : FiveTuple) (d
 
 -- The message comes again at the moment t after the history h, and is answered so, by a server that reserves ports or doesn't. Its
 -- nonce holds, and the five-tuple has this allocation.
-pub record ComesAgain (s : Setting) (h : History) (t : ℕ) (f : FiveTuple) (d : Datagram) (a : Allocation) (o : Outcome) : Type 0 where
+pub record ComesAgain (s : Setting) (h : History) (t : ℕ) (f : FiveTuple) (d : Datagram) (a : Allocation) (o : StepOutcome) : Type 0 where
   pub failed : Bool
   pub pairs : Bool
   pub answers : AnswersArrival (record s { pairs = pairs }) h t failed (FromClient f d.bytes) o

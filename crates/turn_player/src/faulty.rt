@@ -5,7 +5,7 @@ ghost use Rattle.turn_disk.specs.Crash.{left_by};
 ghost use Rattle.turn_disk.specs.Disk.{IsImage};
 
 use std::alloc::Allocator;
-use turn_disk::{Disk, MemoryDisk, Outcome};
+use turn_disk::{CrashOutcome, Disk, MemoryDisk};
 
 /// A disk whose calls can be made to fail, and which can be crashed.
 pub trait Faulty: Disk {
@@ -20,8 +20,8 @@ pub trait Faulty: Disk {
 
     /// The disk becomes the image that the outcome names, nothing is pending, and failures that are still to come are
     /// cancelled.
-    fn crash(&mut self, outcome: Outcome)
-        ensures honest { Self.is_honest self.new → Self.is_honest self.old }
+    fn crash(&mut self, outcome: CrashOutcome)
+        ensures crash_model { Self.follows_crash_model self.new → Self.follows_crash_model self.old }
         ensures left { (Self.trace self.new).now ≡ record { bytes = left_by outcome (Self.trace self.old); pending = [] } }
         ensures image { IsImage (Self.trace self.old).now (Self.trace self.new).now.bytes };
 }
@@ -35,7 +35,7 @@ impl<A: Allocator> Faulty for MemoryDisk<A> {
         MemoryDisk::stop_at(self, call);
     }
 
-    fn crash(&mut self, outcome: Outcome) {
+    fn crash(&mut self, outcome: CrashOutcome) {
         MemoryDisk::crash(self, outcome);
     }
 }

@@ -10,13 +10,13 @@ ghost use Rattle.turn_engine.specs.Calls.{Commits, Opening};
 ghost use Rattle.turn_engine.specs.Images.{AtLeast};
 ghost use Rattle.turn_engine.specs.Runs.{NeverFails, accepted};
 ghost use Rattle.turn_engine.specs.State.{ServerState};
-ghost use Rattle.turn_engine.specs.declared.fault.OpenRefused.{OpenRefused};
+ghost use Rattle.turn_engine.specs.declared.error.ServerOpenError.{ServerOpenError};
 ghost use Rattle.turn_step.specs.Answer.{Setting};
-ghost use Rattle.turn_step.specs.Outcome.{Outcome, Sent};
+ghost use Rattle.turn_step.specs.Outcome.{StepOutcome, Sent};
 ghost use Rattle.turn_store.specs.Areas.{Form};
 ghost use Rattle.turn_store.specs.Images.{EachImage, StandsForAt};
-ghost use Rattle.turn_store.specs.declared.fault.StoreFault.{StoreFault};
-ghost use Rattle.turn_player.specs.Laws.{IsOneRun, IsWhole, Keeps, Lasts};
+ghost use Rattle.turn_store.specs.declared.error.StoreError.{StoreError};
+ghost use Rattle.turn_player.specs.Laws.{IsOneRun, IsWhole, Keeps, LastsOnDisk};
 ghost use Rattle.turn_player.specs.Lives.{Input, Lasting, Life, NeverFall, Point, Said, bound_of, count_of, formatted, history_of, sent_in, settled_history_of, sure_of, taken_of};
 ghost use Rattle.turn_player.specs.Repeats.{ComesAgain, LastsAfter, MadeBefore, Makes};
 ghost use Rattle.turn_player.specs.Worlds.{Calls, Down, Lives, Serving, Stands, World, disk_of, handler_of, ports_of, world_after};
@@ -42,11 +42,11 @@ pub fn every_life_is_one_run()
 /// An Allocate whose success was handed out, or whose act an opening found, gets the same bytes again, and nothing is done,
 /// however many stops and openings there were since, as long as its nonce holds and the allocation lives.
 pub fn repeats_get_the_same()
-    ensures first { (s : Setting) (q : Point) (before : List Lasting) (x : Lasting) (f : FiveTuple) (d : Datagram) (a : Allocation) (t : ℕ) (again : Outcome)
+    ensures first { (s : Setting) (q : Point) (before : List Lasting) (x : Lasting) (f : FiveTuple) (d : Datagram) (a : Allocation) (t : ℕ) (again : StepOutcome)
         → LastsAfter s q before x → Makes (taken_of x) f d a → ComesAgain s (history_of q) t f d a again
         → again ≡ record { change = None; sent = (taken_of x).outcome.sent } }
     // The same where the five-tuple had the allocation already.
-    ensures later { (s : Setting) (q : Point) (before : List Lasting) (x : Lasting) (f : FiveTuple) (d : Datagram) (a : Allocation) (t : ℕ) (again : Outcome)
+    ensures later { (s : Setting) (q : Point) (before : List Lasting) (x : Lasting) (f : FiveTuple) (d : Datagram) (a : Allocation) (t : ℕ) (again : StepOutcome)
         → LastsAfter s q before x → MadeBefore s (accepted (map taken_of before)) (taken_of x) f d a → ComesAgain s (history_of q) t f d a again
         → again ≡ (taken_of x).outcome }
 {}
@@ -54,26 +54,26 @@ pub fn repeats_get_the_same()
 /// Arrivals, commits, stops at any moment of any call, and openings, in any order, from a formatted disk on, make a life.
 pub fn calls_make_lives<D: Disk, H: AuthHandler, G: RelayAddressGenerator>()
     ensures formatted { (form : Form) (s : Setting) (d : D) (h : H) (g : G)
-        → D.is_honest d → EachImage (D.trace d).now (StandsForAt form [] 0) → H.key_of h ≡ s.keys → G.range g ≡ s.range
+        → D.follows_crash_model d → EachImage (D.trace d).now (StandsForAt form [] 0) → H.key_of h ≡ s.keys → G.range g ≡ s.range
         → Stands D.Disk H.AuthHandler G.RelayAddressGenerator form s (Down d h g) formatted }
     ensures goes_on { (form : Form) (s : Setting) (may_fail : Bool) (p : Point) (w v : World D H G) (inputs : List Input) (said : List Said)
         → form.bounds ≡ s.config.limits → (may_fail ≡ false → NeverFails G.RelayAddressGenerator)
         → Calls D.Disk H.AuthHandler G.RelayAddressGenerator s w inputs said v → Stands D.Disk H.AuthHandler G.RelayAddressGenerator form s w p
-        → D.is_honest (disk_of v) → Lives D.Disk H.AuthHandler G.RelayAddressGenerator form s may_fail p inputs said v }
+        → D.follows_crash_model (disk_of v) → Lives D.Disk H.AuthHandler G.RelayAddressGenerator form s may_fail p inputs said v }
 
     // At each moment of a commit or an opening each image stands for the first events of the history, and for no fewer than last.
-    ensures commits { (form : Form) (s : Setting) (p : Point) (old new : ServerState D H G) (result : Result (List Sent) StoreFault)
+    ensures commits { (form : Form) (s : Setting) (p : Point) (old new : ServerState D H G) (result : Result (List Sent) StoreError)
         → Stands D.Disk H.AuthHandler G.RelayAddressGenerator form s (Serving old) p → Commits D.Disk old new result
-        → D.is_honest new.store.disk → EachImageSince (D.trace old.store.disk) (D.trace new.store.disk) (AtLeast form (history_of p) (count_of p) (bound_of p)) }
-    ensures openings { (form : Form) (s : Setting) (p : Point) (w : World D H G) (result : Result (ServerState D H G) (OpenRefused D H G))
+        → D.follows_crash_model new.store.disk → EachImageSince (D.trace old.store.disk) (D.trace new.store.disk) (AtLeast form (history_of p) (count_of p) (bound_of p)) }
+    ensures openings { (form : Form) (s : Setting) (p : Point) (w : World D H G) (result : Result (ServerState D H G) (ServerOpenError D H G))
         → Stands D.Disk H.AuthHandler G.RelayAddressGenerator form s w p → Opening D.Disk (disk_of w) s.config (handler_of w) (ports_of w) result
-        → D.is_honest (disk_of (world_after result)) → EachImageSince (D.trace (disk_of w)) (D.trace (disk_of (world_after result))) (AtLeast form (settled_history_of p) (count_of p) (bound_of p)) }
+        → D.follows_crash_model (disk_of (world_after result)) → EachImageSince (D.trace (disk_of w)) (D.trace (disk_of (world_after result))) (AtLeast form (settled_history_of p) (count_of p) (bound_of p)) }
 
     // From a formatted disk on, by moments that never fall, all of it is one run.
     ensures whole { (form : Form) (s : Setting) (may_fail : Bool) (w v : World D H G) (inputs : List Input) (said : List Said)
         → form.bounds ≡ s.config.limits → (may_fail ≡ false → NeverFails G.RelayAddressGenerator)
         → Calls D.Disk H.AuthHandler G.RelayAddressGenerator s w inputs said v → Stands D.Disk H.AuthHandler G.RelayAddressGenerator form s w formatted
-        → NeverFall 0 inputs → D.is_honest (disk_of v) → IsWhole D.Disk H.AuthHandler G.RelayAddressGenerator form s may_fail inputs said v }
+        → NeverFall 0 inputs → D.follows_crash_model (disk_of v) → IsWhole D.Disk H.AuthHandler G.RelayAddressGenerator form s may_fail inputs said v }
 
     // Of each datagram that was handed out, relayed data too: whatever calls and stops follow, each image of the disk stands for
     // a history that begins with the one that it was answered from.
@@ -81,5 +81,5 @@ pub fn calls_make_lives<D: Disk, H: AuthHandler, G: RelayAddressGenerator>()
         (sent : List Sent) (before : List Lasting) (x : Lasting) (after : List Lasting)
         → form.bounds ≡ s.config.limits → (may_fail ≡ false → NeverFails G.RelayAddressGenerator)
         → Calls D.Disk H.AuthHandler G.RelayAddressGenerator s w inputs said v → Stands D.Disk H.AuthHandler G.RelayAddressGenerator form s w p
-        → IsOneRun s may_fail sent p → sure_of p ≡ before ++ x ∷ after → D.is_honest (disk_of v) → Lasts D.Disk form s before (taken_of x) (disk_of v) }
+        → IsOneRun s may_fail sent p → sure_of p ≡ before ++ x ∷ after → D.follows_crash_model (disk_of v) → LastsOnDisk D.Disk form s before (taken_of x) (disk_of v) }
 {}

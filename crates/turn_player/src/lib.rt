@@ -10,4 +10,4 @@ mod step;
 pub use faulty::Faulty;
 pub use laws::{calls_make_lives, every_life_is_one_run, repeats_get_the_same};
 pub use player::{MemoryServer, Player};
-pub use step::{Event, Step};
+pub use step::{Action, Effect};

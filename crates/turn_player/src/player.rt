@@ -12,12 +12,12 @@ ghost use Rattle.turn_player.specs.Plays.{GoesOn, IsCarriedOver, Plays, PlaysAll
 ghost use Rattle.turn_player.specs.Worlds.{Call, Down, Serving, World, disk_of, handler_of, ports_of};
 
 use crate::faulty::Faulty;
-use crate::step::{Event, Step};
+use crate::step::{Action, Effect};
 use std::alloc::{AllocError, Allocator, Global};
 use std::marker::Model;
 use turn_cred::{AuthHandler, Credentials};
 use turn_disk::{Disk, MemoryDisk};
-use turn_engine::{CommitRefused, OpenRefused, Server};
+use turn_engine::{CommitError, Server, ServerOpenError};
 use turn_ports::{PortRange, RelayAddressGenerator};
 use turn_step::{Arrival, Outgoing};
 use turn_types::{Moment, ServerConfig};
@@ -85,36 +85,36 @@ fn submit_at<D: Disk, H: AuthHandler, G: RelayAddressGenerator, A: Allocator + C
     server: &mut Server<D, H, G, A>,
     moment: Moment,
     arrival: &Arrival<'_>,
-) -> Option<Event<A>>
+) -> Option<Effect<A>>
     ensures { (s : Setting) → Call D.Disk H.AuthHandler G.RelayAddressGenerator s (Serving server.old)
         (lives.Arrive moment (arrival_of arrival.now)) (said_if result) (Serving server.new) }
 {
     let at = later_of(moment, server.clock());
     match server.submit(at, arrival) {
         Ok(()) => None,
-        Err(why) => Some(Event::Refused(why)),
+        Err(why) => Some(Effect::Refused(why)),
     }
 }
 
 // Adds what a commit hands out.
 fn hand_out<A: Allocator + Copy>(
-    events: &mut Vec<Event<A>, A>,
+    events: &mut Vec<Effect<A>, A>,
     outgoing: Vec<Outgoing<A>, A>,
 ) -> Result<(), AllocError>
     ensures { OnOk result (map said_of events.new.items ≡ map said_of events.old.items ++ handing_out (map sent_of outgoing.items)) }
 {
     let count = outgoing.len();
     for datagram in outgoing {
-        events.push(Event::Sent(datagram))?;
+        events.push(Effect::Sent(datagram))?;
     }
-    events.push(Event::Committed(count))?;
+    events.push(Effect::Committed(count))?;
     Ok(())
 }
 
 // Commits, and adds what comes of it.
 fn commit_to<D: Disk, H: AuthHandler, G: RelayAddressGenerator, A: Allocator + Copy>(
     server: &mut Server<D, H, G, A>,
-    events: &mut Vec<Event<A>, A>,
+    events: &mut Vec<Effect<A>, A>,
 ) -> Result<(), AllocError>
     ensures { OnOk result ((s : Setting) → Adds (map said_of events.old.items) (map said_of events.new.items)
         (λ said. Call D.Disk H.AuthHandler G.RelayAddressGenerator s (Serving server.old) lives.Commit said (Serving server.new))) }
@@ -122,7 +122,7 @@ fn commit_to<D: Disk, H: AuthHandler, G: RelayAddressGenerator, A: Allocator + C
     match server.commit() {
         Ok(outgoing) => hand_out(events, outgoing),
         Err(why) => {
-            events.push(Event::Failed(why))?;
+            events.push(Effect::Failed(why))?;
             Ok(())
         }
     }
@@ -130,8 +130,8 @@ fn commit_to<D: Disk, H: AuthHandler, G: RelayAddressGenerator, A: Allocator + C
 
 // Adds an event, if there is one.
 fn note<A: Allocator>(
-    events: &mut Vec<Event<A>, A>,
-    event: Option<Event<A>>,
+    events: &mut Vec<Effect<A>, A>,
+    event: Option<Effect<A>>,
 ) -> Result<(), AllocError>
     ensures { OnOk result (map said_of events.new.items ≡ map said_of events.old.items ++ said_if event) }
 {
@@ -173,7 +173,7 @@ impl<
         }
     }
 
-    fn arrive(self, moment: Moment, arrival: &Arrival<'_>) -> (Held<D, H, G, A>, Option<Event<A>>)
+    fn arrive(self, moment: Moment, arrival: &Arrival<'_>) -> (Held<D, H, G, A>, Option<Effect<A>>)
         ensures { (s : Setting) → Call D.Disk H.AuthHandler G.RelayAddressGenerator s
             (world_of self) (lives.Arrive moment (arrival_of arrival.now)) (said_if result.1) (world_of result.0) }
     {
@@ -182,11 +182,11 @@ impl<
                 let event = submit_at(&mut server, moment, arrival);
                 (Held::Serving(server), event)
             }
-            Held::Down(closed) => (Held::Down(closed), Some(Event::Closed)),
+            Held::Down(closed) => (Held::Down(closed), Some(Effect::Closed)),
         }
     }
 
-    fn commit(self, events: &mut Vec<Event<A>, A>) -> Result<Held<D, H, G, A>, AllocError>
+    fn commit(self, events: &mut Vec<Effect<A>, A>) -> Result<Held<D, H, G, A>, AllocError>
         ensures { IfOk result (λ held. (s : Setting) → Adds (map said_of events.old.items) (map said_of events.new.items)
             (λ said. Call D.Disk H.AuthHandler G.RelayAddressGenerator s
             (world_of self) lives.Commit said (world_of held))) }
@@ -197,7 +197,7 @@ impl<
                 Ok(Held::Serving(server))
             }
             Held::Down(closed) => {
-                events.push(Event::Closed)?;
+                events.push(Effect::Closed)?;
                 Ok(Held::Down(closed))
             }
         }
@@ -211,7 +211,7 @@ impl<D: Disk, H: AuthHandler, G: RelayAddressGenerator> Closed<D, H, G> {
         alloc: A,
         config: &ServerConfig<A>,
         carry: bool,
-    ) -> (Held<D, H, G, A>, Event<A>)
+    ) -> (Held<D, H, G, A>, Effect<A>)
         ensures call { (s : Setting) → s.config ≡ config.now
             → Call D.Disk H.AuthHandler G.RelayAddressGenerator s
             (Down self.disk self.handler self.ports) lives.Open (said_of result.1 ∷ []) (world_of result.0) }
@@ -225,10 +225,10 @@ impl<D: Disk, H: AuthHandler, G: RelayAddressGenerator> Closed<D, H, G> {
         match Server::open_as(alloc, disk, config, handler, ports, carry) {
             Ok(server) => {
                 let clock = server.clock();
-                (Held::Serving(server), Event::Opened(clock))
+                (Held::Serving(server), Effect::Opened(clock))
             }
             Err(
-                OpenRefused {
+                ServerOpenError {
                     fault,
                     disk,
                     handler,
@@ -240,7 +240,7 @@ impl<D: Disk, H: AuthHandler, G: RelayAddressGenerator> Closed<D, H, G> {
                     handler,
                     ports,
                 };
-                (Held::Down(closed), Event::NotOpened(fault))
+                (Held::Down(closed), Effect::NotOpened(fault))
             }
         }
     }
@@ -269,31 +269,31 @@ fn play<
     alloc: A,
     config: &ServerConfig<A>,
     held: Held<D, H, G, A>,
-    step: &Step<'_>,
-    events: &mut Vec<Event<A>, A>,
+    step: &Action<'_>,
+    events: &mut Vec<Effect<A>, A>,
 ) -> Result<Held<D, H, G, A>, AllocError>
     ensures { IfOk result (λ after. (s : Setting) → s.config ≡ config.now → Adds (map said_of events.old.items) (map said_of events.new.items)
         (λ said. Plays D.Disk H.AuthHandler G.RelayAddressGenerator s
         (world_of held) step.now said (world_of after))) }
 {
     let (held, event) = match step {
-        Step::Arrive(moment, arrival) => held.arrive(*moment, arrival),
-        Step::Commit => return held.commit(events),
-        Step::Crash(outcome) => {
+        Action::Arrive(moment, arrival) => held.arrive(*moment, arrival),
+        Action::Commit => return held.commit(events),
+        Action::Crash(outcome) => {
             let mut closed = held.close();
             closed.disk.crash(*outcome);
             let (held, event) = closed.open(alloc, config, true);
             (held, Some(event))
         }
-        Step::Reopen { carry } => {
+        Action::Reopen { carry } => {
             let (held, event) = held.close().open(alloc, config, *carry);
             (held, Some(event))
         }
-        Step::Fail(call) => {
+        Action::Fail(call) => {
             fail_call(held.disk(), *call);
             (held, None)
         }
-        Step::Stop(call) => {
+        Action::Stop(call) => {
             stop_at(held.disk(), *call);
             (held, None)
         }
@@ -312,8 +312,8 @@ fn play_all<
     alloc: A,
     config: &ServerConfig<A>,
     held: Held<D, H, G, A>,
-    steps: &[Step<'_>],
-    events: &mut Vec<Event<A>, A>,
+    steps: &[Action<'_>],
+    events: &mut Vec<Effect<A>, A>,
 ) -> Result<Held<D, H, G, A>, AllocError>
     ensures { IfOk result (λ after. (s : Setting) → s.config ≡ config.now → Adds (map said_of events.old.items) (map said_of events.new.items)
         (λ said. PlaysAll D.Disk H.AuthHandler G.RelayAddressGenerator s
@@ -351,7 +351,7 @@ impl<A: Allocator + Copy> Player<A> {
 
     /// Makes the steps in order and returns what comes of them, in order. Where an allocation for the list of events fails, this
     /// call and all later ones return the error.
-    pub fn run(&mut self, steps: &[Step<'_>]) -> Result<Vec<Event<A>, A>, AllocError>
+    pub fn run(&mut self, steps: &[Action<'_>]) -> Result<Vec<Effect<A>, A>, AllocError>
         ensures config { self.new.config ≡ self.old.config }
         ensures spent { OnErr result (self.new.world ≡ None) }
         ensures for_good { self.old.world ≡ None → IsErr result }
@@ -376,7 +376,7 @@ impl<A: Allocator + Copy> Player<A> {
     }
 
     /// The server, or why there is none: `Closed`, or `Failed(Stopped)` after a commit that failed.
-    pub fn server(&self) -> Result<&MemoryServer<A>, Event<A>>
+    pub fn server(&self) -> Result<&MemoryServer<A>, Effect<A>>
         ensures found { IfOk result (λ server. (self.now.world ≡ Some (Serving server.now)) × (server.now.store.stopped ≡ false)) }
         ensures runs { (server : ServerState _ _ _) → self.now.world ≡ Some (Serving server) → server.store.stopped ≡ false → IsOk result }
         ensures none { IfErr result (λ event. said_of event ≡ why_none self.now.world) }
@@ -384,12 +384,12 @@ impl<A: Allocator + Copy> Player<A> {
         match &self.held {
             Some(Held::Serving(server)) => {
                 if server.is_stopped() {
-                    Err(Event::Failed(CommitRefused::Stopped))
+                    Err(Effect::Failed(CommitError::Stopped))
                 } else {
                     Ok(server)
                 }
             }
-            _ => Err(Event::Closed),
+            _ => Err(Effect::Closed),
         }
     }
 }

@@ -1,22 +1,22 @@
 //! What a player is asked, and what comes of it.
 
 use std::alloc::{Allocator, Global};
-use turn_disk::Outcome;
-use turn_engine::{CommitRefused, SubmitRefused};
+use turn_disk::CrashOutcome;
+use turn_engine::{CommitError, SubmitError};
 use turn_step::{Arrival, Outgoing};
-use turn_store::OpenFault;
+use turn_store::OpenError;
 use turn_types::Moment;
 
 /// One step.
 #[derive(Clone, Copy, Debug)]
-pub enum Step<'a> {
+pub enum Action<'a> {
     /// An arrival at a moment, or at the server's clock where that is later.
     Arrive(Moment, Arrival<'a>),
     /// A commit of what was taken since the last one.
     Commit,
     /// The disk becomes the image that the outcome names, failures that are still to come are cancelled, and the store is
     /// opened, and carried over to version 2 if it can be.
-    Crash(Outcome),
+    Crash(CrashOutcome),
     /// The store is opened again, and where `carry` is set carried over to version 2 if it can be. What was staged is lost.
     Reopen { carry: bool },
     /// The device call of this number from here on fails, where 1 is the next one; 0 is none. It takes the place of an
@@ -29,19 +29,19 @@ pub enum Step<'a> {
 
 /// What comes of a step. `Fail` and `Stop` give none, nor does an arrival that is taken.
 #[derive(Drop)]
-pub enum Event<A: Allocator = Global> {
+pub enum Effect<A: Allocator = Global> {
     /// An arrival was not taken.
-    Refused(SubmitRefused),
+    Refused(SubmitError),
     /// A commit handed this out.
     Sent(Outgoing<A>),
     /// A commit handed out so many datagrams: those before it.
     Committed(usize),
     /// A commit failed, and handed nothing out.
-    Failed(CommitRefused),
+    Failed(CommitError),
     /// A store was opened; the clock is the latest moment that it holds.
     Opened(Moment),
     /// A store was not opened. No store is open.
-    NotOpened(OpenFault),
+    NotOpened(OpenError),
     /// An arrival or a commit while no store is open.
     Closed,
 }

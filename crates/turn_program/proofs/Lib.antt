@@ -1,2 +1,2 @@
 pub mod NoUsers
-pub mod StoreFaults
+pub mod StoreErrors

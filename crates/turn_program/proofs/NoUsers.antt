@@ -24,7 +24,7 @@ use Rattle.turn_rules.specs.Answer.{decision, is_protected, judgement, outcome_o
 use Rattle.std.specs.Option.{option_or, option_map_or}
 use Rattle.turn_step.specs.Answer.{AnswersClient, to_client, to_peer}
 use Rattle.turn_step.specs.State.{Answered, IsAfter, MachineState}
-use Rattle.turn_step.specs.Outcome.{Arrives, Outcome, Sent}
+use Rattle.turn_step.specs.Outcome.{Arrives, StepOutcome, Sent}
 use Rattle.turn_step.specs.Outcome.Sent.{ToClient}
 use Rattle.turn_program.specs.Profile.{answer, no_keys, profile, reply_in}
 
@@ -126,7 +126,7 @@ replied : (f : FiveTuple) (reply : Option (List ℕ)) → reply_in (option_map (
 replied f None = refl
 replied f (Some bytes) = refl
 
-replied_to : (pairs : Bool) (s : Config) (range : ℕ × ℕ) (t : ℕ) (failed : Bool) (f : FiveTuple) (bytes : List ℕ) (m : Content) (o : Outcome) →
+replied_to : (pairs : Bool) (s : Config) (range : ℕ × ℕ) (t : ℕ) (failed : Bool) (f : FiveTuple) (bytes : List ℕ) (m : Content) (o : StepOutcome) →
     AnswersClient (record { config = s; keys = no_keys; range = range; pairs = pairs }) [] t failed f bytes o → Spells bytes m → s ≡ profile →
     reply_in o.sent ≡ answer f t (record { bytes = bytes; content = m })
 unfolding answer
@@ -139,7 +139,7 @@ replied_to pairs s range t failed f bytes m o a spelled same =
     let by_profile = decided ∙ ap (λ s. decision false s no_contents f t d (judgement s no_keys f.client t d) None) same in
     ap reply_in (a.sent ∙ ap (λ r. option_or (to_peer r) (to_client f a.decided.reply)) none) ∙ replied f a.decided.reply ∙ ap (λ x. x.reply) by_profile
 
-replied_nothing : (pairs : Bool) (s : Config) (range : ℕ × ℕ) (t : ℕ) (failed : Bool) (f : FiveTuple) (bytes : List ℕ) (o : Outcome) →
+replied_nothing : (pairs : Bool) (s : Config) (range : ℕ × ℕ) (t : ℕ) (failed : Bool) (f : FiveTuple) (bytes : List ℕ) (o : StepOutcome) →
     AnswersClient (record { config = s; keys = no_keys; range = range; pairs = pairs }) [] t failed f bytes o → ((m : Content) → ¬ (Spells bytes m)) → reply_in o.sent ≡ None
 replied_nothing pairs s range t failed f bytes o a no_message =
     let none = relays_nothing f bytes a.relayed no_message (subst (λ c. SendsToPeer c f bytes a.relayed) (empty_table t) a.sends) in

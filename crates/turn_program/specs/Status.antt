@@ -1,10 +1,10 @@
 -- The exit status of the program.
 use Rattle.std.specs.Prelude.{ℕ, ◌≡◌, ◌⊎◌}
-use Rattle.turn_program.specs.declared.fault.Fault.{Fault}
-use Rattle.turn_program.specs.declared.fault.Fault.TheVariants.{Usage, BadDatagram, BadLine, NotAStore, Damaged, LimitsDiffer, AreaTooSmall, Worn, StoreInUse, Device, Socket, Differs, Memory}
+use Rattle.turn_program.specs.declared.error.ProgramError.{ProgramError}
+use Rattle.turn_program.specs.declared.error.ProgramError.TheVariants.{Usage, BadDatagram, BadLine, NotAStore, Damaged, LimitsDiffer, AreaTooSmall, Worn, StoreInUse, Device, Socket, Differs, Memory}
 
 -- 1: what was asked; 2: the store; 3: a store in use, the device or a socket; 4: a scenario that differs; 5: memory
-abbrev pub status_of : Fault → ℕ
+abbrev pub status_of : ProgramError → ℕ
 status_of Usage = 1
 status_of BadDatagram = 1
 status_of (BadLine number) = 1
@@ -21,4 +21,4 @@ status_of Memory = 5
 
 -- 0 where the command is done, else that of the fault that ended it
 abbrev pub IsStatus : ℕ → Type 0
-IsStatus status = (status ≡ 0) ⊎ ((fault : Fault) × (status ≡ status_of fault))
+IsStatus status = (status ≡ 0) ⊎ ((fault : ProgramError) × (status ≡ status_of fault))

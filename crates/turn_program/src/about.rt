@@ -100,7 +100,7 @@ pub fn tell_store<R: Files + AllocGlobal, C: Clock, L: Write + Drop>(
 
 /// Where a server's sockets are bound.
 #[derive(Clone, Copy)]
-pub struct Addresses<'a> {
+pub struct ShownAddresses<'a> {
     /// The addresses that clients send to.
     pub listen: &'a [Endpoint],
     /// The IPv4 address on which relay sockets are bound.
@@ -130,12 +130,12 @@ pub fn tell_sockets<R: Net + AllocGlobal, C: Clock, L: Write + Drop>(
     rt: &R,
     clock: &C,
     log: &Log<L>,
-    addresses: &Addresses<'_>,
+    addresses: &ShownAddresses<'_>,
 ) {
     if !log.is_kept() {
         return;
     }
-    let Addresses {
+    let ShownAddresses {
         listen,
         relay,
         ports,

@@ -1,6 +1,6 @@
 //! `turn answer`.
 
-use crate::fault::Fault;
+use crate::error::ProgramError;
 use crate::print::print_line;
 use crate::reply::reply_to;
 use std::alloc::Global;
@@ -20,7 +20,7 @@ pub fn run_answer<W: Write>(
     at: Moment,
     datagram: &[u8],
     out: &mut W,
-) -> Result<(), Fault> {
+) -> Result<(), ProgramError> {
     let five_tuple = FiveTuple {
         client: from,
         server: SERVER,

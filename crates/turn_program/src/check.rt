@@ -1,11 +1,11 @@
 //! `turn check`.
 
 ghost use Rattle.std.specs.Prelude.{◌≡◌, IfErr, OnOk, Some};
-ghost use Rattle.turn_program.specs.Checks.{IsStoreFault};
+ghost use Rattle.turn_program.specs.Checks.{IsStoreError};
 ghost use Rattle.turn_reading.specs.Readings.{IsRead};
 ghost use Rattle.turn_store.specs.Replay.{Snapshot};
 
-use crate::fault::Fault;
+use crate::error::ProgramError;
 use crate::prepare::prepare;
 use crate::print::print_line;
 use std::alloc::Global;
@@ -17,12 +17,15 @@ use turn_reading::read_store;
 use turn_types::{Endpoint, Limits};
 
 /// Opens a store's file to be read alone, whoever has its lock. It has to be one that may be written to, as a start opens it.
-fn open_beside<R: Files<File = File>>(files: &R, store: &str) -> Result<FileDisk<File>, Fault> {
+fn open_beside<R: Files<File = File>>(
+    files: &R,
+    store: &str,
+) -> Result<FileDisk<File>, ProgramError> {
     let mut options = OpenOptions::new();
     options.read(true).write(true);
     match open_regular(files, store, &options) {
         Ok(file) => drop(file),
-        Err(_) => return Err(Fault::Device),
+        Err(_) => return Err(ProgramError::Device),
     }
     Ok(FileDisk::open_to_read(files, store)?)
 }
@@ -33,13 +36,13 @@ pub fn check_store<D: Disk + Drop, C: Clock>(
     clock: &C,
     disk: D,
     limits: Limits,
-) -> (D, Result<(), Fault>)
-    ensures honest { D.is_honest result.0 → D.is_honest disk }
-    ensures same { D.is_honest result.0 → (D.trace result.0).now.bytes ≡ (D.trace disk).now.bytes }
+) -> (D, Result<(), ProgramError>)
+    ensures crash_model { D.follows_crash_model result.0 → D.follows_crash_model disk }
+    ensures same { D.follows_crash_model result.0 → (D.trace result.0).now.bytes ≡ (D.trace disk).now.bytes }
 
-    // Of an honest disk, to which nobody else writes: the store holds a table, or the fault is that of an opening.
-    ensures read { D.is_honest result.0 → OnOk result.1 ((t : Snapshot) × IsRead D (Some limits) (D.trace disk).now.bytes t) }
-    ensures why { D.is_honest result.0 → IfErr result.1 (IsStoreFault limits (D.trace disk).now.bytes) }
+    // Of a disk that follows the crash model, to which nobody else writes: the store holds a table, or the fault is that of an opening.
+    ensures read { D.follows_crash_model result.0 → OnOk result.1 ((t : Snapshot) × IsRead D (Some limits) (D.trace disk).now.bytes t) }
+    ensures why { D.follows_crash_model result.0 → IfErr result.1 (IsStoreError limits (D.trace disk).now.bytes) }
 {
     let (disk, read) = read_store(alloc, clock, disk, Some(limits));
     match read {
@@ -47,7 +50,7 @@ pub fn check_store<D: Disk + Drop, C: Clock>(
             drop(reading);
             (disk, Ok(()))
         }
-        Err(fault) => (disk, Err(Fault::from(fault))),
+        Err(fault) => (disk, Err(ProgramError::from(fault))),
     }
 }
 
@@ -60,7 +63,7 @@ pub fn run_check<R: Files<File = File> + AllocGlobal, C: Clock, W: Write>(
     store: Option<&str>,
     listen: &[Endpoint],
     out: &mut W,
-) -> Result<(), Fault> {
+) -> Result<(), ProgramError> {
     prepare(rt, config, listen, |limits| match store {
         Some(store) => check_store(rt.alloc(), clock, open_beside(rt, store)?, limits).1,
         None => Ok(()),

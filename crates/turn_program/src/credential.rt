@@ -1,6 +1,6 @@
 //! `turn credential`.
 
-use crate::fault::Fault;
+use crate::error::ProgramError;
 use crate::files::read_whole;
 use crate::print::print_lines;
 use std::alloc::{AllocError, Global};
@@ -64,14 +64,14 @@ pub fn run_credential<R: Files + AllocGlobal, W: Write>(
     name: Option<&str>,
     expiry: Moment,
     out: &mut W,
-) -> Result<(), Fault> {
+) -> Result<(), ProgramError> {
     let alloc = rt.alloc();
     let text = read_whole(rt, alloc, config)?;
     let configured = read_config(alloc, &text)?;
     let username = username_of(alloc, name, expiry)?;
     let password = configured
         .shared_password(username.as_bytes())
-        .ok_or(Fault::Usage)?;
+        .ok_or(ProgramError::Usage)?;
     let password = text_of(alloc, &password)?;
     let lines = lines_of(alloc, configured.listen, &username, &password)?;
     print_lines(alloc, &lines, out)

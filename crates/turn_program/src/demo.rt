@@ -1,14 +1,14 @@
 //! `turn demo`.
 
-use crate::fault::Fault;
+use crate::error::ProgramError;
 use crate::print::print_line;
 use std::alloc::Global;
 use std::fs::File;
 use std::io::Write;
 use std::net::Net;
 use std::rt::{Clock, Files};
-use turn_client::{Allocated, ClientFault, Conversation, Loopback, limits};
-use turn_disk::{Disk, MemoryDisk, Outcome};
+use turn_client::{Allocated, ClientError, Conversation, Loopback, limits};
+use turn_disk::{CrashOutcome, Disk, MemoryDisk};
 use turn_ports::PortRange;
 use turn_serving::Commits;
 use turn_store::{format, least_area};
@@ -19,15 +19,15 @@ const FIRST_PORT: u16 = 61_000;
 const LAST_PORT: u16 = 61_999;
 
 /// A disk in memory with a store that holds nothing.
-fn make_disk(alloc: Global) -> Result<MemoryDisk, Fault> {
+fn make_disk(alloc: Global) -> Result<MemoryDisk, ProgramError> {
     let area = least_area(limits());
     let mut disk = MemoryDisk::new(alloc, Vec::from_elem(alloc, 0u8, 64 + 2 * area)?);
     format(&mut disk, limits(), area)?;
     Ok(disk)
 }
 
-fn make_loopback<R: Net + Drop>(alloc: Global, net: &R) -> Result<Loopback<'_, R>, Fault> {
-    let ports = PortRange::new(FIRST_PORT, LAST_PORT).ok_or(Fault::Socket)?;
+fn make_loopback<R: Net + Drop>(alloc: Global, net: &R) -> Result<Loopback<'_, R>, ProgramError> {
+    let ports = PortRange::new(FIRST_PORT, LAST_PORT).ok_or(ProgramError::Socket)?;
     Ok(Loopback::new(alloc, net, ports, 1, Commits::EachTurn)?)
 }
 
@@ -48,7 +48,7 @@ fn line_of<D: Disk + Drop, R: Net + Drop, C: Clock>(
     clock: &C,
     allocated: &Allocated,
     step: Step,
-) -> Result<String, ClientFault> {
+) -> Result<String, ClientError> {
     match step {
         Step::Permit => {
             talk.permit(clock)?;
@@ -83,7 +83,7 @@ fn take_steps<D: Disk + Drop, R: Net + Drop, C: Clock, W: Write>(
     allocated: &Allocated,
     steps: &[Step],
     out: &mut W,
-) -> Result<(), Fault> {
+) -> Result<(), ProgramError> {
     for step in steps {
         print_line(&line_of(alloc, talk, clock, allocated, *step)?, out)?;
     }
@@ -96,7 +96,7 @@ fn allocate<D: Disk + Drop, R: Net + Drop, C: Clock, W: Write>(
     talk: &mut Conversation<'_, D, R>,
     clock: &C,
     out: &mut W,
-) -> Result<Allocated, Fault> {
+) -> Result<Allocated, ProgramError> {
     let code = talk.challenge(clock)?;
     print_line(&format!(in alloc; "challenge {code}")?, out)?;
     let allocated = talk.allocate(clock)?;
@@ -108,9 +108,9 @@ fn allocate<D: Disk + Drop, R: Net + Drop, C: Clock, W: Write>(
 fn restart<'a, R: Net + Drop, C: Clock>(
     talk: Conversation<'a, MemoryDisk, R>,
     clock: &C,
-) -> Result<Conversation<'a, MemoryDisk, R>, ClientFault> {
+) -> Result<Conversation<'a, MemoryDisk, R>, ClientError> {
     let (mut disk, loopback) = talk.end();
-    disk.crash(Outcome::Lost);
+    disk.crash(CrashOutcome::Lost);
     loopback.serve(clock, disk)
 }
 
@@ -120,7 +120,7 @@ fn say_first<D: Disk + Drop, R: Net + Drop, C: Clock, W: Write>(
     talk: &mut Conversation<'_, D, R>,
     clock: &C,
     out: &mut W,
-) -> Result<Allocated, Fault> {
+) -> Result<Allocated, ProgramError> {
     let allocated = allocate(alloc, talk, clock, out)?;
     let steps = [Step::Permit, Step::Send, Step::Receive];
     take_steps(alloc, talk, clock, &allocated, &steps, out)?;
@@ -132,9 +132,9 @@ fn say_last<D: Disk + Drop, R: Net + Drop, C: Clock, W: Write>(
     alloc: Global,
     talk: &mut Conversation<'_, D, R>,
     clock: &C,
-    first: Result<Allocated, Fault>,
+    first: Result<Allocated, ProgramError>,
     out: &mut W,
-) -> Result<(), Fault> {
+) -> Result<(), ProgramError> {
     let allocated = first?;
     print_line("restart", out)?;
     let steps = [Step::Repeat, Step::Delete];
@@ -146,7 +146,7 @@ pub fn run_demo<R: Files<File = File> + Net + Drop + AllocGlobal, C: Clock, W: W
     rt: &R,
     clock: &C,
     out: &mut W,
-) -> Result<(), Fault> {
+) -> Result<(), ProgramError> {
     let alloc = rt.alloc();
     let disk = make_disk(alloc)?;
     let mut talk = make_loopback(alloc, rt)?.serve(clock, disk)?;

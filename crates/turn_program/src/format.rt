@@ -2,13 +2,13 @@
 
 ghost use Rattle.std.specs.Prelude.{◌≡◌, [], ◌+◌, ◌*◌, ◌<◌, ◌≤◌, Err, IfErr, OnErr, OnOk, length};
 ghost use Rattle.turn_disk.specs.Counts.{CountOutcome, Rises};
-ghost use Rattle.turn_program.specs.declared.fault.Fault.TheVariants as faults;
+ghost use Rattle.turn_program.specs.declared.error.ProgramError.TheVariants as faults;
 ghost use Rattle.turn_record.specs.declared.version.Version.TheVariants.{V2};
 ghost use Rattle.turn_store.specs.Format.{IsFormatted};
 ghost use Rattle.turn_store.specs.Images.{EachImage, StandsForAt};
 ghost use Rattle.turn_store.specs.Superblock.{least_area};
 
-use crate::fault::Fault;
+use crate::error::ProgramError;
 use crate::files::read_whole;
 use crate::print::print_line;
 use std::alloc::Global;
@@ -16,7 +16,7 @@ use std::fs::File;
 use std::io::Write;
 use std::rt::Files;
 use turn_config::read_config;
-use turn_disk::{DeviceFailed, Disk, FileDisk};
+use turn_disk::{DeviceError, Disk, FileDisk};
 use turn_store::{format, least_area};
 use turn_types::Limits;
 
@@ -24,10 +24,10 @@ use turn_types::Limits;
 const PIECE: usize = 65_536;
 
 /// Writes this piece again and again, over all bytes of a disk.
-fn write_over<D: Disk>(disk: &mut D, piece: &[u8]) -> Result<(), DeviceFailed>
+fn write_over<D: Disk>(disk: &mut D, piece: &[u8]) -> Result<(), DeviceError>
     requires { 0 < length piece.now }
     ensures size { D.capacity disk.new ≡ D.capacity disk.old }
-    ensures honest { D.is_honest disk.new → D.is_honest disk.old }
+    ensures crash_model { D.follows_crash_model disk.new → D.follows_crash_model disk.old }
     ensures count { CountOutcome (D.failed disk.old) (D.failed disk.new) result }
 {
     let size = disk.size();
@@ -41,9 +41,9 @@ fn write_over<D: Disk>(disk: &mut D, piece: &[u8]) -> Result<(), DeviceFailed>
 }
 
 /// Writes zeros over all bytes of a disk.
-fn write_zeros<D: Disk>(alloc: Global, disk: &mut D) -> Result<(), Fault>
+fn write_zeros<D: Disk>(alloc: Global, disk: &mut D) -> Result<(), ProgramError>
     ensures size { D.capacity disk.new ≡ D.capacity disk.old }
-    ensures honest { D.is_honest disk.new → D.is_honest disk.old }
+    ensures crash_model { D.follows_crash_model disk.new → D.follows_crash_model disk.old }
     ensures count { OnOk result (D.failed disk.new ≡ D.failed disk.old) }
     ensures device { result ≡ Err faults.Device → Rises (D.failed disk.old) (D.failed disk.new) }
 {
@@ -59,16 +59,16 @@ pub fn format_disk<D: Disk>(
     disk: &mut D,
     limits: Limits,
     area: usize,
-) -> Result<(), Fault>
+) -> Result<(), ProgramError>
     requires { 64 + 2 * area ≡ D.capacity disk.old }
     ensures size { D.capacity disk.new ≡ D.capacity disk.old }
-    ensures honest { D.is_honest disk.new → D.is_honest disk.old }
+    ensures crash_model { D.follows_crash_model disk.new → D.follows_crash_model disk.old }
     ensures count { OnOk result (D.failed disk.new ≡ D.failed disk.old) }
 
-    // The first area counts, of version 2 and with generation 1, and each image stands for the empty history.
-    ensures formatted { D.is_honest disk.new
+    // The first area is active, of version 2 and with generation 1, and each image stands for the empty history.
+    ensures formatted { D.follows_crash_model disk.new
         → OnOk result (IsFormatted V2 (record { bounds = limits; area = area }) (D.trace disk.new).now) }
-    ensures done { D.is_honest disk.new
+    ensures done { D.follows_crash_model disk.new
         → OnOk result (EachImage (D.trace disk.new).now (StandsForAt (record { bounds = limits; area = area }) [] 0)) }
 {
     write_zeros(alloc, disk)?;
@@ -77,20 +77,20 @@ pub fn format_disk<D: Disk>(
 }
 
 /// The limits of a configuration.
-fn limits_in(alloc: Global, text: &[u8]) -> Result<Limits, Fault> {
+fn limits_in(alloc: Global, text: &[u8]) -> Result<Limits, ProgramError> {
     let configured = read_config(alloc, text)?;
     Ok(configured.config.limits())
 }
 
 /// Refuses an area that is below the min size under the limits.
-fn judge_area(limits: Limits, area: usize) -> Result<(), Fault>
+fn judge_area(limits: Limits, area: usize) -> Result<(), ProgramError>
     ensures ok { OnOk result (least_area V2 limits ≤ area) }
     ensures refused { OnErr result (area < least_area V2 limits) }
     ensures fault { IfErr result (λ fault. fault ≡ faults.AreaTooSmall (least_area V2 limits)) }
 {
     let needed = least_area(limits);
     if area < needed {
-        return Err(Fault::AreaTooSmall(needed));
+        return Err(ProgramError::AreaTooSmall(needed));
     }
     Ok(())
 }
@@ -103,7 +103,7 @@ pub fn run_format<R: Files<File = File> + AllocGlobal, W: Write>(
     store: &str,
     area: u32,
     out: &mut W,
-) -> Result<(), Fault> {
+) -> Result<(), ProgramError> {
     let text = read_whole(rt, rt.alloc(), config)?;
     let limits = limits_in(rt.alloc(), &text)?;
     let area = area as usize;

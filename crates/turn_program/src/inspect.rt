@@ -1,17 +1,17 @@
 //! `turn inspect`.
 
-use crate::fault::Fault;
+use crate::error::ProgramError;
 use crate::print::print_lines;
 use std::alloc::{AllocError, Global};
 use std::fs::File;
 use std::io::Write;
 use std::rt::{Clock, Files};
+use turn_cli::shown_at;
 use turn_disk::FileDisk;
 use turn_reading::{Reading, read_store};
 use turn_scenario::put_table;
 use turn_store::Info;
 use turn_types::Moment;
-use turn_words::shown_at;
 
 /// The line of a store, and the lines of its table.
 fn lines_of(
@@ -39,7 +39,7 @@ pub fn run_inspect<R: Files<File = File> + AllocGlobal, C: Clock, W: Write>(
     store: &str,
     at: Option<Moment>,
     out: &mut W,
-) -> Result<(), Fault> {
+) -> Result<(), ProgramError> {
     let disk = FileDisk::open_to_read(rt, store)?;
     let (_, read) = read_store(rt.alloc(), clock, disk, None);
     print_lines(rt.alloc(), &lines_of(rt.alloc(), &read?, at)?, out)

@@ -6,7 +6,7 @@ mod answer;
 mod check;
 mod credential;
 mod demo;
-mod fault;
+mod error;
 mod files;
 mod format;
 mod inspect;
@@ -21,7 +21,7 @@ mod started;
 mod streams;
 mod version;
 
-pub use fault::Fault;
+pub use error::ProgramError;
 pub use files::{read_scenario, read_whole};
 pub use format::format_disk;
 pub use program::{report, run_words};

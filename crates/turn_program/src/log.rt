@@ -5,7 +5,7 @@ use std::cell::RefCell;
 use std::io::Write;
 use turn_config::ShownEndpoint;
 use turn_log::{Challenged, LineLimit, Response, ShownName, response_of};
-use turn_player::Event;
+use turn_player::Effect;
 use turn_scenario::event_text;
 use turn_serving::Watch;
 use turn_step::Outgoing;
@@ -29,7 +29,7 @@ fn user_of<A: Allocator + Copy>(table: &Table<A>, five_tuple: FiveTuple) -> Show
 /// What a response says, as `turn replay` reports it, but for a token.
 fn response_text(alloc: Global, five_tuple: FiveTuple, bytes: &[u8]) -> Result<String, AllocError> {
     let bytes = Vec::from_slice(alloc, bytes)?;
-    let event: Event<Global> = Event::Sent(Outgoing::ToClient { five_tuple, bytes });
+    let event: Effect<Global> = Effect::Sent(Outgoing::ToClient { five_tuple, bytes });
     let text = event_text(alloc, &event)?;
     match text.split_once(TOKEN) {
         Some((front, _)) => format!(in alloc; "{front}{TOKEN}-"),

@@ -7,7 +7,7 @@ use crate::answer::run_answer;
 use crate::check::run_check;
 use crate::credential::run_credential;
 use crate::demo::run_demo;
-use crate::fault::Fault;
+use crate::error::ProgramError;
 use crate::format::run_format;
 use crate::inspect::run_inspect;
 use crate::replay::run_replay;
@@ -19,8 +19,8 @@ use std::io::Write;
 use std::net::Net;
 use std::random::RandomSource;
 use std::rt::{Clock, Files};
+use turn_cli::{Command, command_of};
 use turn_disk::Unknown;
-use turn_words::{Command, command_of};
 
 fn run_command<
     R: Files<File = File> + Net + RandomSource + Drop + AllocGlobal,
@@ -34,7 +34,7 @@ fn run_command<
     command: &Command,
     out: &mut W,
     log: L,
-) -> Result<(), Fault> {
+) -> Result<(), ProgramError> {
     match command {
         Command::Answer { from, at, datagram } => {
             run_answer(rt.alloc(), *from, *at, datagram, out)
@@ -88,13 +88,20 @@ fn try_words<
     S: AsStr,
     W: Write,
     L: Write + Drop,
->(rt: &R, clock: &C, release: Release<'_>, words: &[S], out: &mut W, log: L) -> Result<(), Fault> {
+>(
+    rt: &R,
+    clock: &C,
+    release: Release<'_>,
+    words: &[S],
+    out: &mut W,
+    log: L,
+) -> Result<(), ProgramError> {
     let command = command_of(rt.alloc(), words)?;
     run_command(rt, clock, release, &command, out, log)
 }
 
 /// Prints the line of a fault, and gives its exit status. A standard error that takes nothing changes no status.
-pub fn report<E: Write>(fault: Fault, err: &mut E) -> u8
+pub fn report<E: Write>(fault: ProgramError, err: &mut E) -> u8
     ensures { result ≡ status_of fault }
 {
     let _ = writeln!(err, "{fault}");

@@ -1,6 +1,6 @@
 //! `turn replay`.
 
-use crate::fault::Fault;
+use crate::error::ProgramError;
 use crate::files::read_scenario;
 use crate::print::print_lines;
 use std::io::Write;
@@ -12,7 +12,7 @@ pub fn run_replay<R: Files + AllocGlobal, W: Write>(
     rt: &R,
     file: &str,
     out: &mut W,
-) -> Result<(), Fault> {
+) -> Result<(), ProgramError> {
     let scenario = read_scenario(rt, rt.alloc(), file)?;
     let report = replay(rt.alloc(), &scenario)?;
     print_lines(rt.alloc(), &report.lines, out)

@@ -3,8 +3,8 @@
 ghost use Rattle.std.specs.Prelude.{◌≡◌, IfErr};
 ghost use Rattle.turn_program.specs.Serving.{commits_of};
 
-use crate::about::{Addresses, second_now, tell_config, tell_sockets, tell_store};
-use crate::fault::Fault;
+use crate::about::{ShownAddresses, second_now, tell_config, tell_sockets, tell_store};
+use crate::error::ProgramError;
 use crate::log::Log;
 use crate::prepare::{Prepared, prepare};
 use crate::print::print_line;
@@ -19,9 +19,9 @@ use std::thread;
 use std::time::Duration;
 use turn_config::ShownEndpoint;
 use turn_cred::Credentials;
-use turn_disk::{FileDisk, FileRefused, Start};
+use turn_disk::{FileDisk, FileError, Start};
 use turn_ports::RelayAddressGenerator;
-use turn_serving::{Commits, Setup, SocketServing, StartFault, StartRefused, TurnFault};
+use turn_serving::{Commits, Setup, SetupError, SocketServing, StartError, TurnError};
 use turn_types::Endpoint;
 
 /// What the words of `turn serve` say.
@@ -56,11 +56,11 @@ fn commits_of(turns: Option<u64>) -> Commits
 }
 
 /// Random bytes of the system.
-fn random_bytes<R: RandomSource>(rt: &R) -> Result<[u8; 32], Fault>
-    ensures { IfErr result (λ fault. fault ≡ Fault.Device) }
+fn random_bytes<R: RandomSource>(rt: &R) -> Result<[u8; 32], ProgramError>
+    ensures { IfErr result (λ fault. fault ≡ ProgramError.Device) }
 {
     let mut bytes = [0u8; 32];
-    rt.fill_bytes(&mut bytes).map_err(|_| Fault::Device)?;
+    rt.fill_bytes(&mut bytes).map_err(|_| ProgramError::Device)?;
     Ok(bytes)
 }
 
@@ -88,12 +88,12 @@ fn open_disk<R: Files<File = File>, C: Clock>(
     rt: &R,
     clock: &C,
     store: &str,
-) -> Result<FileDisk<File>, Fault> {
+) -> Result<FileDisk<File>, ProgramError> {
     for _ in 0..AGAIN {
         match FileDisk::open(rt, store) {
             Ok(disk) => return Ok(disk),
-            Err(FileRefused::InUse) => thread::sleep(clock, Duration::from_millis(PAUSE)),
-            Err(refused) => return Err(Fault::from(refused)),
+            Err(FileError::InUse) => thread::sleep(clock, Duration::from_millis(PAUSE)),
+            Err(refused) => return Err(ProgramError::from(refused)),
         }
     }
     Ok(FileDisk::open(rt, store)?)
@@ -105,10 +105,10 @@ fn tell_prepared<R: Files<File = File> + AllocGlobal, C: Clock, L: Write + Drop>
     clock: &C,
     service: Service<'_>,
     log: &Log<L>,
-    fault: Fault,
+    fault: ProgramError,
 ) {
     match fault {
-        Fault::Usage => log.say(second_now(clock), LISTENS_TWICE),
+        ProgramError::Usage => log.say(second_now(clock), LISTENS_TWICE),
         _ => tell_config(rt, clock, log, service.config),
     }
 }
@@ -119,7 +119,7 @@ fn take_files<R: Files<File = File> + AllocGlobal, C: Clock, L: Write + Drop>(
     clock: &C,
     service: Service<'_>,
     log: &Log<L>,
-) -> Result<Prepared<FileDisk<File>>, Fault> {
+) -> Result<Prepared<FileDisk<File>>, ProgramError> {
     let taken = prepare(rt, service.config, service.listen, |_| {
         Ok(open_disk(rt, clock, service.store))
     });
@@ -157,15 +157,15 @@ fn tell_start<R: Files<File = File> + Net + AllocGlobal, C: Clock, L: Write + Dr
     clock: &C,
     log: &Log<L>,
     store: &str,
-    addresses: &Addresses<'_>,
-    fault: StartFault,
+    addresses: &ShownAddresses<'_>,
+    fault: StartError,
 ) {
     match fault {
-        StartFault::Store(_) | StartFault::Reopen(_) | StartFault::Changed => {
+        StartError::Store(_) | StartError::Reopen(_) | StartError::Changed => {
             tell_store(rt, clock, log, store)
         }
-        StartFault::Socket => tell_sockets(rt, clock, log, addresses),
-        StartFault::Memory => {}
+        StartError::Socket => tell_sockets(rt, clock, log, addresses),
+        StartError::Memory => {}
     }
 }
 
@@ -188,7 +188,7 @@ fn start<
     clock: &C,
     service: Service<'_>,
     log: &'l Log<L>,
-) -> Result<FileServing<'a, 'l, S, R, L>, Fault> {
+) -> Result<FileServing<'a, 'l, S, R, L>, ProgramError> {
     let Prepared {
         config,
         credentials,
@@ -207,14 +207,14 @@ fn start<
     };
     match setup.start(rt.alloc(), rt, clock, disk.holding::<S>(), credentials, log) {
         Ok(serving) => Ok(serving),
-        Err(StartRefused { fault, disk: _ }) => {
-            let addresses = Addresses {
+        Err(SetupError { fault, disk: _ }) => {
+            let addresses = ShownAddresses {
                 listen: listen.as_slice(),
                 relay: service.relay_bind.unwrap_or(config.relay()),
                 ports,
             };
             tell_start(rt, clock, log, service.store, &addresses, fault);
-            Err(Fault::from(fault))
+            Err(ProgramError::from(fault))
         }
     }
 }
@@ -226,15 +226,15 @@ fn take_turns<S: Start, R: Files + Net + Drop + AllocGlobal, C: Clock, L: Write 
     clock: &C,
     service: Service<'_>,
     log: &Log<L>,
-) -> Result<(), Fault> {
+) -> Result<(), ProgramError> {
     // 2^64 turns of which each takes a microsecond are 580,000 years.
     match serving.turns(&clock, service.turns.unwrap_or(u64::MAX)) {
         Ok(()) => Ok(()),
         Err(fault) => {
-            if let TurnFault::Commit(_) = fault {
+            if let TurnError::Commit(_) = fault {
                 tell_store(rt, clock, log, service.store);
             }
-            Err(Fault::from(fault))
+            Err(ProgramError::from(fault))
         }
     }
 }
@@ -244,7 +244,7 @@ fn print_addresses<W: Write>(
     alloc: Global,
     addresses: &[Endpoint],
     out: &mut W,
-) -> Result<(), Fault> {
+) -> Result<(), ProgramError> {
     for address in addresses {
         let shown = ShownEndpoint(*address);
         print_line(&format!(in alloc; "listening {shown}")?, out)?;
@@ -260,7 +260,7 @@ fn tell<S: Start, R: Files + Net + Drop + AllocGlobal, C: Clock, W: Write, L: Wr
     service: Service<'_>,
     log: &Log<L>,
     out: &mut W,
-) -> Result<(), Fault> {
+) -> Result<(), ProgramError> {
     print_addresses(rt.alloc(), serving.locals().as_slice(), out)?;
     take_turns(rt, serving, clock, service, log)?;
     match service.turns {
@@ -277,7 +277,7 @@ pub fn run_serve<
     C: Clock,
     W: Write,
     L: Write + Drop,
->(rt: &R, clock: &C, service: Service<'_>, out: &mut W, lines: L) -> Result<(), Fault> {
+>(rt: &R, clock: &C, service: Service<'_>, out: &mut W, lines: L) -> Result<(), ProgramError> {
     let log = Log::new(rt.alloc(), lines, service.log);
     let began = clock.monotonic().ok();
     let mut serving = start::<S, R, C, L>(rt, clock, service, &log)?;

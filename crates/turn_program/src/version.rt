@@ -1,6 +1,6 @@
 //! `turn version`.
 
-use crate::fault::Fault;
+use crate::error::ProgramError;
 use crate::print::print_lines;
 use std::alloc::{AllocError, Global};
 use std::io::Write;
@@ -34,6 +34,6 @@ pub fn run_version<W: Write>(
     alloc: Global,
     release: Release<'_>,
     out: &mut W,
-) -> Result<(), Fault> {
+) -> Result<(), ProgramError> {
     print_lines(alloc, &lines_of(alloc, release)?, out)
 }

@@ -3,19 +3,19 @@ use Rattle.std.proofs.Common.{◌≡◌, ◌⊎◌, ◌∙◌, ℕ, List, Option
 use Rattle.turn_history.specs.History.{History}
 use Rattle.std.specs.Prelude.{IfErr, IfOk, IfSome, MatchResult, unwrap_or}
 use Rattle.turn_reading.specs.Readings.{IsRead, IsUnder, IsUnread, WhyUnread, of_limits, of_open}
-use Rattle.turn_reading.specs.declared.fault.ReadingFault.{ReadingFault}
-use Rattle.turn_reading.specs.declared.fault.ReadingFault.TheVariants.{Changing}
-use Rattle.turn_store.proofs.Honest.{has_superblock}
+use Rattle.turn_reading.specs.declared.error.ReadingError.{ReadingError}
+use Rattle.turn_reading.specs.declared.error.ReadingError.TheVariants.{Changing}
+use Rattle.turn_store.proofs.NeverRefused.{has_superblock}
 use Rattle.turn_store.proofs.Superblocks.{superblock_once}
 use Rattle.turn_store.specs.Areas.{Form}
 use Rattle.turn_store.specs.Images.{StandsForAt}
 use Rattle.turn_store.specs.Refused.{IsPlain, WhyRefused}
 use Rattle.turn_store.specs.Replay.{Snapshot}
 use Rattle.turn_store.specs.Superblock.{HasSuperblock}
-use Rattle.turn_store.specs.declared.fault.OpenFault.{OpenFault}
-use Rattle.turn_store.specs.declared.fault.OpenFault.TheVariants as open_faults
-use Rattle.turn_store.specs.declared.superblock.LimitsRefused.{LimitsRefused}
-use Rattle.turn_store.specs.declared.superblock.LimitsRefused.TheVariants as limits_faults
+use Rattle.turn_store.specs.declared.error.OpenError.{OpenError}
+use Rattle.turn_store.specs.declared.error.OpenError.TheVariants as open_faults
+use Rattle.turn_store.specs.declared.superblock.LimitsError.{LimitsError}
+use Rattle.turn_store.specs.declared.superblock.LimitsError.TheVariants as limits_faults
 use Rattle.turn_types.specs.declared.limits.Bounds.{Bounds}
 
 -- ---- Any content
@@ -32,13 +32,13 @@ read_under limits under new content t given same read = record {
 }
 
 -- it has no limits
-pub why_limits : (limits : Option Bounds) (content : List ℕ) (refused : LimitsRefused)
+pub why_limits : (limits : Option Bounds) (content : List ℕ) (refused : LimitsError)
     → (refused ≡ limits_faults.NotAStore → (area : ℕ) (b : Bounds) → HasSuperblock area b content → ⊥) → WhyUnread limits content (of_limits refused)
 why_limits limits content limits_faults.Device none = tt
 why_limits limits content limits_faults.NotAStore none = none refl
 
 -- it was refused under such limits
-pub why_open : (limits : Option Bounds) (under : Bounds) (content : List ℕ) (fault : OpenFault)
+pub why_open : (limits : Option Bounds) (under : Bounds) (content : List ℕ) (fault : OpenError)
     → IsUnder limits under → WhyRefused under content fault → WhyUnread limits content (of_open limits fault)
 why_open limits under content open_faults.Device given why = tt
 why_open limits under content open_faults.Memory given why = tt
@@ -58,13 +58,13 @@ err_steady P fault (Ok r) has changing = tt
 err_steady P fault (Err f) has changing = subst P (sym changing) has
 
 -- of one try more
-pub why_joined : (limits : Option Bounds) (content : List ℕ) (fault result : ReadingFault) → (result ≡ fault) ⊎ (result ≡ Changing)
+pub why_joined : (limits : Option Bounds) (content : List ℕ) (fault result : ReadingError) → (result ≡ fault) ⊎ (result ≡ Changing)
     → WhyUnread limits content fault → WhyUnread limits content result
 why_joined limits content fault result (inl same) why = subst (WhyUnread limits content) (sym same) why
 why_joined limits content fault result (inr changing) why = subst (WhyUnread limits content) (sym changing) tt
 
 -- of all tries
-pub why_last : (limits : Option Bounds) (content : List ℕ) (last : Option ReadingFault) → IfSome last (WhyUnread limits content)
+pub why_last : (limits : Option Bounds) (content : List ℕ) (last : Option ReadingError) → IfSome last (WhyUnread limits content)
     → WhyUnread limits content (unwrap_or last Changing)
 why_last limits content None why = tt
 why_last limits content (Some fault) why = why
@@ -72,7 +72,7 @@ why_last limits content (Some fault) why = why
 -- ---- Content that stands for a history
 
 -- it has limits
-pub unread_limits : (form : Form) (h : History) (clock : ℕ) (content : List ℕ) → StandsForAt form h clock content → (refused : LimitsRefused)
+pub unread_limits : (form : Form) (h : History) (clock : ℕ) (content : List ℕ) → StandsForAt form h clock content → (refused : LimitsError)
     → (refused ≡ limits_faults.NotAStore → (area : ℕ) (b : Bounds) → HasSuperblock area b content → ⊥) → IsUnread (of_limits refused)
 unread_limits form h clock content stands limits_faults.Device none = tt
 unread_limits form h clock content stands limits_faults.NotAStore none = absurd (none refl form.area form.bounds (has_superblock form h clock content stands))
@@ -91,7 +91,7 @@ form_is_under None form h clock content under given own is stands = own_limits f
 form_is_under (Some limits) form h clock content under given own is stands = is ∙ sym given
 
 -- and it is refused for the device or for memory alone
-pub unread_open : (limits : Option Bounds) (fault : OpenFault) → IsPlain fault → IsUnread (of_open limits fault)
+pub unread_open : (limits : Option Bounds) (fault : OpenError) → IsPlain fault → IsUnread (of_open limits fault)
 unread_open limits open_faults.Device plain = tt
 unread_open limits open_faults.Memory plain = tt
 unread_open limits open_faults.NotAStore plain = absurd plain
@@ -99,17 +99,17 @@ unread_open limits open_faults.LimitsDiffer plain = absurd plain
 unread_open limits (open_faults.Damaged place) plain = absurd plain
 
 -- The second of three readings, or a change. P is what is told of a reading.
-pub told_steady : {R : Type 0} (P : R → Type 0) (reading : R) (outcome : Result R ReadingFault) → P reading
+pub told_steady : {R : Type 0} (P : R → Type 0) (reading : R) (outcome : Result R ReadingError) → P reading
     → IfOk outcome (λ r. r ≡ reading) → IfErr outcome (λ fault. fault ≡ Changing) → MatchResult outcome P IsUnread
 told_steady P reading (Ok r) told second changing = subst P (sym second) told
 told_steady P reading (Err fault) told second changing = subst IsUnread (sym changing) tt
 
 -- of one try more
-pub unread_joined : (fault result : ReadingFault) → (result ≡ fault) ⊎ (result ≡ Changing) → IsUnread fault → IsUnread result
+pub unread_joined : (fault result : ReadingError) → (result ≡ fault) ⊎ (result ≡ Changing) → IsUnread fault → IsUnread result
 unread_joined fault result (inl same) unread = subst IsUnread (sym same) unread
 unread_joined fault result (inr changing) unread = subst IsUnread (sym changing) tt
 
 -- of all tries
-pub unread_last : (last : Option ReadingFault) → IfSome last IsUnread → IsUnread (unwrap_or last Changing)
+pub unread_last : (last : Option ReadingError) → IfSome last IsUnread → IsUnread (unwrap_or last Changing)
 unread_last None unread = tt
 unread_last (Some fault) unread = unread

@@ -3,8 +3,8 @@ use Rattle.std.specs.Prelude.{◌≡◌, ℕ, List, Option, None, Some, Result, 
 use Rattle.turn_disk.specs.Disk.{State}
 use Rattle.turn_history.specs.History.{History}
 use Rattle.turn_history.specs.Table.{table}
-use Rattle.turn_reading.specs.declared.fault.ReadingFault.{ReadingFault}
-use Rattle.turn_reading.specs.declared.fault.ReadingFault.TheVariants.{Device, Memory, NotAStore, LimitsDiffer, Damaged, Changing}
+use Rattle.turn_reading.specs.declared.error.ReadingError.{ReadingError}
+use Rattle.turn_reading.specs.declared.error.ReadingError.TheVariants.{Device, Memory, NotAStore, LimitsDiffer, Damaged, Changing}
 use Rattle.turn_store.specs.Areas.{Form}
 use Rattle.turn_store.specs.Images.{StandsForAt}
 use Rattle.turn_store.specs.Opened.{IsOpened}
@@ -13,21 +13,21 @@ use Rattle.turn_store.specs.Replay.{Snapshot}
 use Rattle.turn_store.specs.State.{StoreState}
 use Rattle.turn_store.specs.Superblock.{HasSuperblock}
 use Rattle.turn_store.specs.Tables.{snapshot_of}
-use Rattle.turn_store.specs.declared.fault.OpenFault.{OpenFault}
-use Rattle.turn_store.specs.declared.fault.OpenFault.TheVariants as open_faults
-use Rattle.turn_store.specs.declared.superblock.LimitsRefused.{LimitsRefused}
-use Rattle.turn_store.specs.declared.superblock.LimitsRefused.TheVariants as limits_faults
+use Rattle.turn_store.specs.declared.error.OpenError.{OpenError}
+use Rattle.turn_store.specs.declared.error.OpenError.TheVariants as open_faults
+use Rattle.turn_store.specs.declared.superblock.LimitsError.{LimitsError}
+use Rattle.turn_store.specs.declared.superblock.LimitsError.TheVariants as limits_faults
 use Rattle.turn_table.specs.State as tables
 use Rattle.turn_types.specs.declared.limits.Bounds.{Bounds}
 
 -- the fault of limits that weren't read
-abbrev pub of_limits : LimitsRefused → ReadingFault
+abbrev pub of_limits : LimitsError → ReadingError
 of_limits limits_faults.Device = Device
 of_limits limits_faults.NotAStore = NotAStore
 
 -- the fault of an opening under given limits, or under the store's own: without given ones, others at a second look are a
 -- change
-abbrev pub of_open : Option Bounds → OpenFault → ReadingFault
+abbrev pub of_open : Option Bounds → OpenError → ReadingError
 of_open limits open_faults.Device = Device
 of_open limits open_faults.Memory = Memory
 of_open limits open_faults.NotAStore = NotAStore
@@ -36,7 +36,7 @@ of_open (Some limits) open_faults.LimitsDiffer = LimitsDiffer
 of_open limits (open_faults.Damaged place) = Damaged place
 
 -- a fault that may come of a store that was written to while it was read
-abbrev pub MayPass : ReadingFault → Type 0
+abbrev pub MayPass : ReadingError → Type 0
 MayPass Device = ⊥
 MayPass Memory = ⊥
 MayPass NotAStore = Unit {0}
@@ -61,7 +61,7 @@ pub record IsRead (D : Type 0) (limits : Option Bounds) (content : List ℕ) (t 
 
 -- Why content was not read: the first reason that applies, under given limits or its own. A failed device call, a failed
 -- allocation and a change say nothing of it.
-abbrev pub WhyUnread : Option Bounds → List ℕ → ReadingFault → Type 0
+abbrev pub WhyUnread : Option Bounds → List ℕ → ReadingError → Type 0
 WhyUnread limits content Device = Unit {0}
 WhyUnread limits content Memory = Unit {0}
 WhyUnread limits content Changing = Unit {0}
@@ -73,7 +73,7 @@ WhyUnread limits content (Damaged place) = (b : Bounds) × IsUnder limits b × W
 -- ---- Content that stands for a history
 
 -- a fault that says nothing of what the store holds
-abbrev pub IsUnread : ReadingFault → Type 0
+abbrev pub IsUnread : ReadingError → Type 0
 IsUnread Device = Unit {0}
 IsUnread Memory = Unit {0}
 IsUnread NotAStore = ⊥
@@ -83,6 +83,6 @@ IsUnread Changing = Unit {0}
 
 -- Of content that stands for a history at a clock, and has the given limits, the history's table at that clock is told, or
 -- nothing of what is held.
-abbrev pub Tells : {Reading : Type 0} → Option Bounds → (Reading → tables.State) → List ℕ → Result Reading ReadingFault → Type 0
+abbrev pub Tells : {Reading : Type 0} → Option Bounds → (Reading → tables.State) → List ℕ → Result Reading ReadingError → Type 0
 Tells limits table_of content outcome = (form : Form) (h : History) (clock : ℕ) → IsUnder limits form.bounds → StandsForAt form h clock content
     → MatchResult outcome (λ reading. snapshot_of (table_of reading) ≡ record { moment = clock; contents = table h clock }) IsUnread

@@ -1,8 +1,8 @@
 //! A store is read, to which a server may write meanwhile.
 #![tactic(auto)]
 
-mod fault;
+mod error;
 mod reading;
 
-pub use fault::ReadingFault;
+pub use error::ReadingError;
 pub use reading::{Reading, read_store};

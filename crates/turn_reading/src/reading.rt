@@ -11,13 +11,15 @@ ghost use Rattle.turn_store.specs.Superblock.{HasSuperblock};
 ghost use Rattle.turn_store.specs.Tables.{snapshot_of};
 ghost use Rattle.turn_types.specs.declared.limits.Bounds.{Bounds};
 
-use crate::fault::{ReadingFault, fault_of};
+use crate::error::{ReadingError, fault_of};
 use std::alloc::{Allocator, Global};
 use std::rt::Clock;
 use std::thread;
 use std::time::Duration;
 use turn_disk::Disk;
-use turn_store::{Info, LimitsRefused, OpenFault, Opened, Refused, Store, limits as own_limits};
+use turn_store::{
+    Info, LimitsError, OpenError, Opened, Store, StoreOpenError, limits as own_limits,
+};
 use turn_table::Table;
 use turn_types::Limits;
 
@@ -42,17 +44,17 @@ fn read_once<D: Disk, A: Allocator + Copy>(
     alloc: A,
     disk: D,
     limits: Limits,
-) -> (D, Result<Reading<A>, OpenFault>)
-    ensures honest { D.is_honest result.0 → D.is_honest disk }
-    ensures same { D.is_honest result.0 → (D.trace result.0).now.bytes ≡ (D.trace disk).now.bytes }
+) -> (D, Result<Reading<A>, OpenError>)
+    ensures crash_model { D.follows_crash_model result.0 → D.follows_crash_model disk }
+    ensures same { D.follows_crash_model result.0 → (D.trace result.0).now.bytes ≡ (D.trace disk).now.bytes }
 
     // What was read, and the reason of each refusal: the first that applies.
-    ensures read { D.is_honest result.0
+    ensures read { D.follows_crash_model result.0
         → IfOk result.1 (λ r. IsRead D (Some limits) (D.trace disk).now.bytes (snapshot_of r.table)) }
-    ensures why { D.is_honest result.0 → IfErr result.1 (WhyRefused limits (D.trace disk).now.bytes) }
+    ensures why { D.follows_crash_model result.0 → IfErr result.1 (WhyRefused limits (D.trace disk).now.bytes) }
 
     // If the content stands for a history, the table is the history's, and a refusal is of the device or of memory.
-    ensures tells { D.is_honest result.0 → (form : Form) (h : History) (clock : ℕ) → form.bounds ≡ limits
+    ensures tells { D.follows_crash_model result.0 → (form : Form) (h : History) (clock : ℕ) → form.bounds ≡ limits
         → StandsForAt form h clock (D.trace disk).now.bytes
         → MatchResult result.1 (λ r. snapshot_of r.table ≡ record { moment = clock; contents = table h clock }) IsPlain }
 {
@@ -63,20 +65,20 @@ fn read_once<D: Disk, A: Allocator + Copy>(
             (store.into_disk(), Ok(Reading { info, table }))
         }
         Err(refused) => {
-            let Refused { fault, disk } = refused;
+            let StoreOpenError { fault, disk } = refused;
             (disk, Err(fault))
         }
     }
 }
 
 /// The limits under which a disk is read: the given ones, or those in its superblock.
-fn limits_for<D: Disk>(disk: &mut D, limits: &Option<Limits>) -> Result<Limits, LimitsRefused>
-    ensures honest { D.is_honest disk.new → D.is_honest disk.old }
-    ensures same { D.is_honest disk.new → D.trace disk.new ≡ D.trace disk.old }
+fn limits_for<D: Disk>(disk: &mut D, limits: &Option<Limits>) -> Result<Limits, LimitsError>
+    ensures crash_model { D.follows_crash_model disk.new → D.follows_crash_model disk.old }
+    ensures same { D.follows_crash_model disk.new → D.trace disk.new ≡ D.trace disk.old }
     ensures given { IfOk result (λ found. IsUnder limits.now found) }
-    ensures own { D.is_honest disk.new → limits.now ≡ None
+    ensures own { D.follows_crash_model disk.new → limits.now ≡ None
         → IfOk result (λ found. (area : ℕ) × HasSuperblock area found (D.trace disk.old).now.bytes) }
-    ensures none { D.is_honest disk.new → IfErr result (λ refused. refused ≡ LimitsRefused.NotAStore
+    ensures none { D.follows_crash_model disk.new → IfErr result (λ refused. refused ≡ LimitsError.NotAStore
         → (area : ℕ) (b : Bounds) → HasSuperblock area b (D.trace disk.old).now.bytes → ⊥) }
 {
     match limits {
@@ -90,17 +92,17 @@ fn try_once<D: Disk, A: Allocator + Copy>(
     alloc: A,
     disk: D,
     limits: &Option<Limits>,
-) -> (D, Result<Reading<A>, ReadingFault>)
-    ensures honest { D.is_honest result.0 → D.is_honest disk }
-    ensures same { D.is_honest result.0 → (D.trace result.0).now.bytes ≡ (D.trace disk).now.bytes }
-    ensures read { D.is_honest result.0 → IfOk result.1 (λ r. IsRead D limits.now (D.trace disk).now.bytes (snapshot_of r.table)) }
-    ensures why { D.is_honest result.0 → IfErr result.1 (WhyUnread limits.now (D.trace disk).now.bytes) }
-    ensures tells { D.is_honest result.0 → Tells limits.now (λ r. r.table) (D.trace disk).now.bytes result.1 }
+) -> (D, Result<Reading<A>, ReadingError>)
+    ensures crash_model { D.follows_crash_model result.0 → D.follows_crash_model disk }
+    ensures same { D.follows_crash_model result.0 → (D.trace result.0).now.bytes ≡ (D.trace disk).now.bytes }
+    ensures read { D.follows_crash_model result.0 → IfOk result.1 (λ r. IsRead D limits.now (D.trace disk).now.bytes (snapshot_of r.table)) }
+    ensures why { D.follows_crash_model result.0 → IfErr result.1 (WhyUnread limits.now (D.trace disk).now.bytes) }
+    ensures tells { D.follows_crash_model result.0 → Tells limits.now (λ r. r.table) (D.trace disk).now.bytes result.1 }
 {
     let mut disk = disk;
     let under = match limits_for(&mut disk, limits) {
         Ok(under) => under,
-        Err(refused) => return (disk, Err(ReadingFault::from(refused))),
+        Err(refused) => return (disk, Err(ReadingError::from(refused))),
     };
     let (disk, outcome) = read_once(alloc, disk, under);
     match outcome {
@@ -114,17 +116,17 @@ fn steady<A: Allocator>(
     before: Info,
     reading: Reading<A>,
     after: Info,
-) -> Result<Reading<A>, ReadingFault>
+) -> Result<Reading<A>, ReadingError>
     ensures steady { IsOk result
         ↔ ((before.generation ≡ reading.info.generation) × (reading.info.generation ≡ after.generation)) }
     ensures second { IfOk result (λ r. r ≡ reading) }
-    ensures changing { IfErr result (λ fault. fault ≡ ReadingFault.Changing) }
+    ensures changing { IfErr result (λ fault. fault ≡ ReadingError.Changing) }
 {
     let generation = reading.info.generation;
     if before.generation == generation && generation == after.generation {
         Ok(reading)
     } else {
-        Err(ReadingFault::Changing)
+        Err(ReadingError::Changing)
     }
 }
 
@@ -137,12 +139,12 @@ fn read_steadily<D: Disk, A: Allocator + Copy>(
     alloc: A,
     disk: D,
     limits: &Option<Limits>,
-) -> (D, Result<Reading<A>, ReadingFault>)
-    ensures honest { D.is_honest result.0 → D.is_honest disk }
-    ensures same { D.is_honest result.0 → (D.trace result.0).now.bytes ≡ (D.trace disk).now.bytes }
-    ensures read { D.is_honest result.0 → IfOk result.1 (λ r. IsRead D limits.now (D.trace disk).now.bytes (snapshot_of r.table)) }
-    ensures why { D.is_honest result.0 → IfErr result.1 (WhyUnread limits.now (D.trace disk).now.bytes) }
-    ensures tells { D.is_honest result.0 → Tells limits.now (λ r. r.table) (D.trace disk).now.bytes result.1 }
+) -> (D, Result<Reading<A>, ReadingError>)
+    ensures crash_model { D.follows_crash_model result.0 → D.follows_crash_model disk }
+    ensures same { D.follows_crash_model result.0 → (D.trace result.0).now.bytes ≡ (D.trace disk).now.bytes }
+    ensures read { D.follows_crash_model result.0 → IfOk result.1 (λ r. IsRead D limits.now (D.trace disk).now.bytes (snapshot_of r.table)) }
+    ensures why { D.follows_crash_model result.0 → IfErr result.1 (WhyUnread limits.now (D.trace disk).now.bytes) }
+    ensures tells { D.follows_crash_model result.0 → Tells limits.now (λ r. r.table) (D.trace disk).now.bytes result.1 }
 {
     let (disk, first) = try_once(alloc, disk, limits);
     let before = match first {
@@ -162,25 +164,25 @@ fn read_steadily<D: Disk, A: Allocator + Copy>(
 }
 
 /// Whether a fault may come of a store that was written to while it was read.
-fn may_pass(fault: ReadingFault) -> bool
+fn may_pass(fault: ReadingError) -> bool
     ensures { IsTrue result ↔ MayPass fault }
 {
     match fault {
-        ReadingFault::NotAStore | ReadingFault::LimitsDiffer => true,
-        ReadingFault::Damaged(_) | ReadingFault::Changing => true,
-        ReadingFault::Device | ReadingFault::Memory => false,
+        ReadingError::NotAStore | ReadingError::LimitsDiffer => true,
+        ReadingError::Damaged(_) | ReadingError::Changing => true,
+        ReadingError::Device | ReadingError::Memory => false,
     }
 }
 
 /// The fault of all tries so far, if there was any before this one: the same, or that the store changes.
-fn joined(before: Option<ReadingFault>, fault: ReadingFault) -> ReadingFault
+fn joined(before: Option<ReadingError>, fault: ReadingError) -> ReadingError
     ensures first { before ≡ None → result ≡ fault }
     ensures same { before ≡ Some fault → result ≡ fault }
-    ensures other { IfSome before (λ other. other ≢ fault → result ≡ ReadingFault.Changing) }
-    ensures either { (result ≡ fault) ⊎ (result ≡ ReadingFault.Changing) }
+    ensures other { IfSome before (λ other. other ≢ fault → result ≡ ReadingError.Changing) }
+    ensures either { (result ≡ fault) ⊎ (result ≡ ReadingError.Changing) }
 {
     match before {
-        Some(other) if other != fault => ReadingFault::Changing,
+        Some(other) if other != fault => ReadingError::Changing,
         _ => fault,
     }
 }
@@ -191,12 +193,12 @@ fn read_often<D: Disk + Drop, A: Allocator + Copy, C: Clock>(
     clock: &C,
     disk: D,
     limits: &Option<Limits>,
-) -> (D, Result<Reading<A>, ReadingFault>)
-    ensures honest { D.is_honest result.0 → D.is_honest disk }
-    ensures same { D.is_honest result.0 → (D.trace result.0).now.bytes ≡ (D.trace disk).now.bytes }
-    ensures read { D.is_honest result.0 → IfOk result.1 (λ r. IsRead D limits.now (D.trace disk).now.bytes (snapshot_of r.table)) }
-    ensures why { D.is_honest result.0 → IfErr result.1 (WhyUnread limits.now (D.trace disk).now.bytes) }
-    ensures tells { D.is_honest result.0 → Tells limits.now (λ r. r.table) (D.trace disk).now.bytes result.1 }
+) -> (D, Result<Reading<A>, ReadingError>)
+    ensures crash_model { D.follows_crash_model result.0 → D.follows_crash_model disk }
+    ensures same { D.follows_crash_model result.0 → (D.trace result.0).now.bytes ≡ (D.trace disk).now.bytes }
+    ensures read { D.follows_crash_model result.0 → IfOk result.1 (λ r. IsRead D limits.now (D.trace disk).now.bytes (snapshot_of r.table)) }
+    ensures why { D.follows_crash_model result.0 → IfErr result.1 (WhyUnread limits.now (D.trace disk).now.bytes) }
+    ensures tells { D.follows_crash_model result.0 → Tells limits.now (λ r. r.table) (D.trace disk).now.bytes result.1 }
 {
     let mut disk = disk;
     let mut last = None;
@@ -210,7 +212,7 @@ fn read_often<D: Disk + Drop, A: Allocator + Copy, C: Clock>(
         }
         thread::sleep(clock, Duration::from_millis(PAUSE));
     }
-    (disk, Err(last.unwrap_or(ReadingFault::Changing)))
+    (disk, Err(last.unwrap_or(ReadingError::Changing)))
 }
 
 /// Reads the store of a disk, whether or not a server writes to it meanwhile: under these limits, as a start opens it, or else with
@@ -224,14 +226,14 @@ pub fn read_store<D: Disk + Drop, A: Allocator + Copy, C: Clock>(
     clock: &C,
     disk: D,
     limits: Option<Limits>,
-) -> (D, Result<Reading<A>, ReadingFault>)
-    ensures honest { D.is_honest result.0 → D.is_honest disk }
-    ensures same { D.is_honest result.0 → (D.trace result.0).now.bytes ≡ (D.trace disk).now.bytes }
+) -> (D, Result<Reading<A>, ReadingError>)
+    ensures crash_model { D.follows_crash_model result.0 → D.follows_crash_model disk }
+    ensures same { D.follows_crash_model result.0 → (D.trace result.0).now.bytes ≡ (D.trace disk).now.bytes }
 
-    // Of an honest disk, to which nobody else writes: what was read, and the reason of each refusal, the first that applies.
-    ensures read { D.is_honest result.0 → IfOk result.1 (λ r. IsRead D limits (D.trace disk).now.bytes (snapshot_of r.table)) }
-    ensures why { D.is_honest result.0 → IfErr result.1 (WhyUnread limits (D.trace disk).now.bytes) }
-    ensures tells { D.is_honest result.0 → Tells limits (λ r. r.table) (D.trace disk).now.bytes result.1 }
+    // Of a disk that follows the crash model, to which nobody else writes: what was read, and the reason of each refusal, the first that applies.
+    ensures read { D.follows_crash_model result.0 → IfOk result.1 (λ r. IsRead D limits (D.trace disk).now.bytes (snapshot_of r.table)) }
+    ensures why { D.follows_crash_model result.0 → IfErr result.1 (WhyUnread limits (D.trace disk).now.bytes) }
+    ensures tells { D.follows_crash_model result.0 → Tells limits (λ r. r.table) (D.trace disk).now.bytes result.1 }
 {
     read_often(alloc, clock, disk, &limits)
 }

@@ -9,7 +9,7 @@ use Rattle.turn_history.specs.History.{PlainAct, Allocates, Renews, Permits, Bin
 use Rattle.turn_record.specs.Bytes.{joined, endpoint, five_tuple, name, tag, allocation, addresses, body, act_entry, payload}
 use Rattle.turn_record.specs.Reading.{◌>>=◌, last_passes, Binding, byte_at, number_at, bytes_at, moment_at, endpoint_at, tuple_at, name_len_at, name_at, granted_at, renewed_at, tx_at, begins_with, token_bytes_at, token_at, channel_number_at, count_at, port_at, allocation_at, allocated_at, is_even, pair_at, allocated_even_at, address_at, addresses_at, binding_at, bound_at, renews_at, permits_at, body_at, max_tag, tag_at, moment_after, event_at, events_at}
 use Rattle.turn_record.specs.Records.{Writes}
-use Rattle.turn_record.specs.declared.fault.Malformed.TheVariants.{BadTag, BadValue, OutOfOrder}
+use Rattle.turn_record.specs.declared.error.DecodeError.TheVariants.{BadTag, BadValue, OutOfOrder}
 use Rattle.turn_record.specs.declared.version.Version.{Version}
 use Rattle.turn_record.specs.declared.version.Version.TheVariants.{V1, V2}
 use Rattle.turn_types.specs.Limits.{AreInRange}

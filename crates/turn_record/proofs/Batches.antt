@@ -9,8 +9,8 @@ use Rattle.turn_history.specs.Laws.{AllFrom, NeverFall}
 use Rattle.turn_record.specs.Bytes.{act_entry, payload}
 use Rattle.turn_record.specs.Reading.{Gives, last_passes, passes, event_at, events_at, act_in, payload_in}
 use Rattle.turn_record.specs.Records.{IsBatch, SpellsAct, SpellsPayload, Writes}
-use Rattle.turn_record.specs.declared.fault.Malformed.{Malformed}
-use Rattle.turn_record.specs.declared.fault.ReadError.{ReadError}
+use Rattle.turn_record.specs.declared.error.DecodeError.{DecodeError}
+use Rattle.turn_record.specs.declared.error.ReadError.{ReadError}
 use Rattle.turn_record.specs.declared.version.Version.{Version}
 use Rattle.turn_record.specs.declared.version.Version.TheVariants.{V2}
 use Rattle.turn_types.specs.Limits.{AreInRange}
@@ -86,7 +86,7 @@ reads_payload : (v : Version) (b : Bounds) → AreInRange b → Reads (events_at
 reads_payload v b range = in_words (events_at v b) payload payload (FitsPayload v b) (IsBatch v b) (reads_events v b range) (λ es. refl) (batch_of v b) (of_batch v b)
 
 -- from what reading gives to what a function returned
-pub found : {X Y : Type 0} (view : X → Y) (r : Result X ReadError) (read : Result Y Malformed) (P : Y → Type 0) → ((y : Y) → read ≡ Ok y → P y) → Gives view r read → IfOk r (λ x. P (view x))
+pub found : {X Y : Type 0} (view : X → Y) (r : Result X ReadError) (read : Result Y DecodeError) (P : Y → Type 0) → ((y : Y) → read ≡ Ok y → P y) → Gives view r read → IfOk r (λ x. P (view x))
 found view (Ok x) read P h given = h (view x) given
 found view (Err e) read P h given = tt
 

@@ -22,9 +22,9 @@ use Rattle.turn_record.specs.Places.{IsCut, IsWaitingAt, Place, is_short}
 use Rattle.turn_record.specs.Reading.{◌>>=◌, Field, judged, byte_at, number_at, bytes_at, many, moment_at, endpoint_at, tuple_at, name_len_at, name_at, port_at, granted_at, tx_at, begins_with, is_even, token_bytes_at, token_at, allocation_at, channel_number_at, count_at, last_passes}
 use Rattle.turn_record.specs.Records.{entry_size, max_entry}
 use Rattle.turn_record.specs.Snapshots.{expiry_at, address_after, permission_at, permission_list_at, permissions_at, number_after, other_peer_at, channel_at, channel_list_at, channels_at, tuple_after, is_free_after, mark_byte_at, some_token_at, token_if_at, mark_at, entry_at, total_at, odd_port_at, reserved_port_after, reservation_at, head_at}
-use Rattle.turn_record.specs.declared.fault.Malformed.{Malformed}
-use Rattle.turn_record.specs.declared.fault.ReadError.{ReadError}
-use Rattle.turn_record.specs.declared.fault.Malformed.TheVariants.{Short, BadTag, BadValue, OutOfOrder, TrailingBytes}
+use Rattle.turn_record.specs.declared.error.DecodeError.{DecodeError}
+use Rattle.turn_record.specs.declared.error.ReadError.{ReadError}
+use Rattle.turn_record.specs.declared.error.DecodeError.TheVariants.{Short, BadTag, BadValue, OutOfOrder, TrailingBytes}
 use Rattle.turn_record.proofs.Acts.{and_is}
 use Rattle.turn_record.proofs.Readers.{bind_ok, judged_ok, ok_is}
 use Rattle.turn_types.specs.FiveTuple.{tuple_cmp}
@@ -80,7 +80,7 @@ at_most_byte = record { short = byte_short; takes = byte_takes }
 
 -- ---- Readers put together
 
-judged_short : {A : Type 0} (b : Bool) (d : Malformed) (x : A) → is_short d ≡ false → judged b d x ≡ Err Short → ⊥
+judged_short : {A : Type 0} (b : Bool) (d : DecodeError) (x : A) → is_short d ≡ false → judged b d x ≡ Err Short → ⊥
 judged_short true d x h e = cc
 judged_short false Short x h e = cc
 judged_short false BadTag x h e = cc
@@ -88,10 +88,10 @@ judged_short false BadValue x h e = cc
 judged_short false OutOfOrder x h e = cc
 judged_short false TrailingBytes x h e = cc
 
-abbrev failed_by : {A : Type 0} → Malformed → Result A Malformed
+abbrev failed_by : {A : Type 0} → DecodeError → Result A DecodeError
 failed_by e = Err e
 
-same_fault : {B : Type 0} (e f : Malformed) → failed_by {A = B} e ≡ failed_by f → e ≡ f
+same_fault : {B : Type 0} (e f : DecodeError) → failed_by {A = B} e ≡ failed_by f → e ≡ f
 same_fault e f is = cc
 
 bind_short : {A B : Type 0} (r : Field A) (k : A × List ℕ → Field B) {C : Type 0} → (r >>= k) ≡ Err Short → (r ≡ Err Short → C) → ((x : A) (rest : List ℕ) → r ≡ Ok (x, rest) → k (x, rest) ≡ Err Short → C) → C
@@ -117,7 +117,7 @@ end y = record {
 }
 
 -- a field that is judged
-at_most_judged : {A : Type 0} (r : List ℕ → Field A) (good : A → Bool) (d : Malformed) (P : A → Type 0) (n : ℕ) → is_short d ≡ false → IsAtMost r P n → IsAtMost (λ bytes. r bytes >>= λ x. judged (good x.0) d x) (λ x. good x ≡ true) n
+at_most_judged : {A : Type 0} (r : List ℕ → Field A) (good : A → Bool) (d : DecodeError) (P : A → Type 0) (n : ℕ) → is_short d ≡ false → IsAtMost r P n → IsAtMost (λ bytes. r bytes >>= λ x. judged (good x.0) d x) (λ x. good x ≡ true) n
 at_most_judged {A} r good d P n long first = record {
   short = λ bytes e. bind_short (r bytes) (λ (x : A × List ℕ). judged (good x.0) d x) e (λ s. first.short bytes s) (λ x rest ok s. absurd (judged_short (good x) d (x, rest) long s));
   takes = λ bytes y rest e.

@@ -7,7 +7,7 @@ use Rattle.turn_history.specs.declared.event.Event.{Event}
 use Rattle.turn_history.specs.Act.{event_of}
 use Rattle.turn_record.specs.Reading.{moment_at, moment_after}
 use Rattle.turn_record.specs.Views.{events_of}
-use Rattle.turn_record.specs.declared.fault.Malformed.TheVariants.{OutOfOrder}
+use Rattle.turn_record.specs.declared.error.DecodeError.TheVariants.{OutOfOrder}
 
 slice_get-map : {A B : Type 0} (f : A → B) (xs : List A) (i : ℕ) → slice_get (map f xs) i ≡ option_map f (slice_get xs i)
 slice_get-map f [] i = refl

@@ -3,8 +3,8 @@ use Rattle.std.proofs.Common.{◌≡◌, ℕ, zero, suc, ◌+◌, ◌≤◌, Boo
 use Rattle.std.specs.Int.{Width, w16, w32, w64, byte_len, from_be_bytes}
 use Rattle.std.proofs.lemmas.Bool.{ltb-false, le-ltb}
 use Rattle.std.proofs.lemmas.List.{take-append-le, drop-append-le, length-append}
-use Rattle.turn_record.specs.declared.fault.Malformed.{Malformed}
-use Rattle.turn_record.specs.declared.fault.Malformed.TheVariants.{Short, BadTag, BadValue, OutOfOrder, TrailingBytes}
+use Rattle.turn_record.specs.declared.error.DecodeError.{DecodeError}
+use Rattle.turn_record.specs.declared.error.DecodeError.TheVariants.{Short, BadTag, BadValue, OutOfOrder, TrailingBytes}
 use Rattle.turn_history.specs.Table.{Entry}
 use Rattle.turn_history.specs.declared.channel.Channel.{Channel}
 use Rattle.turn_history.specs.declared.reservation.Reservation.{Reservation}
@@ -15,7 +15,7 @@ use Rattle.turn_types.specs.declared.limits.Bounds.{Bounds}
 use Rattle.turn_record.specs.declared.version.Version.{Version}
 use Rattle.turn_record.specs.declared.version.Version.TheVariants.{V1, V2}
 
-abbrev pub Stays : {A : Type 0} → Malformed → Result A Malformed → Type 0
+abbrev pub Stays : {A : Type 0} → DecodeError → Result A DecodeError → Type 0
 Stays Short after = Unit {0}
 Stays BadTag after = after ≡ Err BadTag
 Stays BadValue after = after ≡ Err BadValue
@@ -74,7 +74,7 @@ bind r k first next = record { grows = λ bytes more. bind_grows (r bytes) (r (b
 pub end : {A : Type 0} (y : A) → Lasts (λ bytes. Ok (y, bytes))
 end y = record { grows = λ bytes more. refl }
 
-judged_grows : {A : Type 0} (b : Bool) (d : Malformed) (x : A) (bytes more : List ℕ) → Grows (judged b d (x, bytes)) more (judged b d (x, bytes ++ more))
+judged_grows : {A : Type 0} (b : Bool) (d : DecodeError) (x : A) (bytes more : List ℕ) → Grows (judged b d (x, bytes)) more (judged b d (x, bytes ++ more))
 judged_grows true d x bytes more = refl
 judged_grows false Short x bytes more = tt
 judged_grows false BadTag x bytes more = refl
@@ -83,7 +83,7 @@ judged_grows false OutOfOrder x bytes more = refl
 judged_grows false TrailingBytes x bytes more = refl
 
 -- a field that is judged
-pub lasts_judged : {A : Type 0} (r : List ℕ → Field A) (good : A → Bool) (d : Malformed) → Lasts r → Lasts (λ bytes. r bytes >>= λ x. judged (good x.0) d x)
+pub lasts_judged : {A : Type 0} (r : List ℕ → Field A) (good : A → Bool) (d : DecodeError) → Lasts r → Lasts (λ bytes. r bytes >>= λ x. judged (good x.0) d x)
 lasts_judged r good d first = bind r (λ x. judged (good x.0) d x) first (λ a. record { grows = λ bytes more. judged_grows (good a) d a bytes more })
 
 -- elements one after the other

@@ -1,7 +1,7 @@
 -- Reading elements one after the other, as a loop does.
 use Rattle.std.proofs.Common.{◌≡◌, ℕ, suc, ◌-◌, ◌+◌, ◌≤◌, ◌<◌, List, [], ◌∷◌, ◌++◌, Ok, Err, refl, sym, ◌∙◌, arith}
-use Rattle.turn_record.specs.declared.fault.ReadError.{ReadError}
-use Rattle.turn_record.specs.declared.fault.ReadError.TheVariants as errors
+use Rattle.turn_record.specs.declared.error.ReadError.{ReadError}
+use Rattle.turn_record.specs.declared.error.ReadError.TheVariants as errors
 use Rattle.turn_record.specs.Reading.{Field, Fails, many}
 
 pub goes_on : {A : Type 0} (item : List A → List ℕ → Field A) (count i : ℕ) (before : List A) (bytes : List ℕ) (x : A) (after : List ℕ) (total : Field (List A)) → i < count → item before bytes ≡ Ok (x, after)

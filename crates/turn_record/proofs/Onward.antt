@@ -2,10 +2,10 @@
 use Rattle.std.proofs.Common.{◌≡◌, ◌⊎◌, ℕ, zero, suc, ◌+◌, ◌-◌, ◌<◌, ◌≤◌, Bool, true, false, eqb, List, [], ◌∷◌, ◌++◌, append_assoc, length, Option, Some, None, Result, Ok, Err, refl, sym, ap, subst, ◌∙◌, arith, inl, inr}
 use Rattle.std.proofs.lemmas.Bool.{eqb-false, eqb-true, leb-true, ne_eqb}
 use Rattle.std.proofs.lemmas.List.{append-nil, length-append, nil_from_length}
-use Rattle.turn_record.specs.declared.fault.Malformed.{Malformed}
-use Rattle.turn_record.specs.declared.fault.Malformed.TheVariants.{Short, BadTag, BadValue, OutOfOrder, TrailingBytes}
-use Rattle.turn_record.specs.declared.fault.ReadError.{ReadError}
-use Rattle.turn_record.specs.declared.fault.ReadError.TheVariants as errors
+use Rattle.turn_record.specs.declared.error.DecodeError.{DecodeError}
+use Rattle.turn_record.specs.declared.error.DecodeError.TheVariants.{Short, BadTag, BadValue, OutOfOrder, TrailingBytes}
+use Rattle.turn_record.specs.declared.error.ReadError.{ReadError}
+use Rattle.turn_record.specs.declared.error.ReadError.TheVariants as errors
 use Rattle.std.specs.Prelude.{IfOk, IfSome, if◌then◌else◌}
 use Rattle.std.specs.Ordering.{is_lt}
 use Rattle.std.specs.declared.cmp.Ordering.{Ordering}
@@ -36,17 +36,17 @@ use Rattle.turn_record.proofs.Lasting.{Stays, Grows, Lasts}
 pub next_ok : {A : Type 0} (read : List ℕ → Field A) → Lasts read → (bytes : List ℕ) (x : A) (rest : List ℕ) → read bytes ≡ Ok (x, rest) → (more : List ℕ) → read (bytes ++ more) ≡ Ok (x, rest ++ more)
 next_ok {A} read lasts bytes x rest e more = subst (λ (r : Field A). Grows r more (read (bytes ++ more))) e (lasts.grows bytes more)
 
-stays_err : {A : Type 0} (f : Malformed) (s : Result A Malformed) → is_short f ≡ false → Stays f s → s ≡ Err f
+stays_err : {A : Type 0} (f : DecodeError) (s : Result A DecodeError) → is_short f ≡ false → Stays f s → s ≡ Err f
 stays_err Short s e h = absurd cc
 stays_err BadTag s e h = h
 stays_err BadValue s e h = h
 stays_err OutOfOrder s e h = h
 stays_err TrailingBytes s e h = h
 
-pub next_err : {A : Type 0} (read : List ℕ → Field A) → Lasts read → (bytes : List ℕ) (f : Malformed) → read bytes ≡ Err f → is_short f ≡ false → (more : List ℕ) → read (bytes ++ more) ≡ Err f
+pub next_err : {A : Type 0} (read : List ℕ → Field A) → Lasts read → (bytes : List ℕ) (f : DecodeError) → read bytes ≡ Err f → is_short f ≡ false → (more : List ℕ) → read (bytes ++ more) ≡ Err f
 next_err {A} read lasts bytes f e s more = stays_err f (read (bytes ++ more)) s (subst (λ (r : Field A). Grows r more (read (bytes ++ more))) e (lasts.grows bytes more))
 
-pub next_none : {A : Type 0} (read : List ℕ → Field A) (bytes : List ℕ) (f : Malformed) → read bytes ≡ Err f → is_short f ≡ true → read bytes ≡ Err Short
+pub next_none : {A : Type 0} (read : List ℕ → Field A) (bytes : List ℕ) (f : DecodeError) → read bytes ≡ Err f → is_short f ≡ true → read bytes ≡ Err Short
 next_none read bytes Short e s = e
 next_none read bytes BadTag e s = absurd cc
 next_none read bytes BadValue e s = absurd cc
@@ -83,7 +83,7 @@ many_more item (suc n) before bytes x after lt h =
     let k : suc n - 1 ≡ n = omega arith in
     rw k one
 
-pub many_err : {A : Type 0} (item : List A → List ℕ → Field A) (left : ℕ) (before : List A) (bytes : List ℕ) (f : Malformed) → 0 < left → item before bytes ≡ Err f → many item left before bytes ≡ Err f
+pub many_err : {A : Type 0} (item : List A → List ℕ → Field A) (left : ℕ) (before : List A) (bytes : List ℕ) (f : DecodeError) → 0 < left → item before bytes ≡ Err f → many item left before bytes ≡ Err f
 unfolding many
 many_err item zero before bytes f lt h = absurd (omega arith)
 many_err item (suc n) before bytes f lt h = rw h refl
@@ -111,7 +111,7 @@ pub fails_whole : {A : Type 0} (e : ReadError) (read : Field A) → Fails e read
 fails_whole errors.Memory read h = tt
 fails_whole (errors.Malformed f) read h = rw h refl
 
-pub fails_same : {Y : Type 0} (e : ReadError) (r s : Result Y Malformed) → r ≡ s → Fails e s → Fails e r
+pub fails_same : {Y : Type 0} (e : ReadError) (r s : Result Y DecodeError) → r ≡ s → Fails e s → Fails e r
 fails_same errors.Memory r s is h = tt
 fails_same (errors.Malformed f) r s is h = is ∙ h
 

@@ -4,8 +4,8 @@ use Rattle.std.specs.Int.{Width, w16, w32, w64, byte_len, from_be_bytes, to_be_b
 use Rattle.std.proofs.lemmas.Bool.{cases_lt, ltb-false, le-ltb, eqb-true}
 use Rattle.std.proofs.lemmas.List.{take_at, drop_at, take-append-drop, length-append, length-take, get_or-drop, get_or-take, get_or_past, append-nil, nil_from_length}
 use Rattle.std.proofs.lemmas.Nat.{be_bytes_2, be_bytes_4, be_bytes_8, from_be_bytes-to_be_bytes_2, from_be_bytes-to_be_bytes_4, from_be_bytes-to_be_bytes_8}
-use Rattle.turn_record.specs.declared.fault.Malformed.{Malformed}
-use Rattle.turn_record.specs.declared.fault.Malformed.TheVariants.{Short, TrailingBytes}
+use Rattle.turn_record.specs.declared.error.DecodeError.{DecodeError}
+use Rattle.turn_record.specs.declared.error.DecodeError.TheVariants.{Short, TrailingBytes}
 use Rattle.turn_record.specs.Bytes.{each}
 use Rattle.turn_record.specs.Reading.{◌>>=◌, Field, judged, byte_at, number_at, bytes_at, many, whole}
 
@@ -28,19 +28,19 @@ IsBytes-take n bytes h i =
     ]
 
 -- the value of a step that did not fail
-pub bind_ok : {A B : Type 0} (r : Result A Malformed) (f : A → Result B Malformed) (y : B) → (r >>= f) ≡ Ok y → (x : A) × (r ≡ Ok x) × (f x ≡ Ok y)
+pub bind_ok : {A B : Type 0} (r : Result A DecodeError) (f : A → Result B DecodeError) (y : B) → (r >>= f) ≡ Ok y → (x : A) × (r ≡ Ok x) × (f x ≡ Ok y)
 bind_ok (Ok x) f y e = (x, refl, e)
 bind_ok (Err d) f y e = absurd cc
 
-guard_ok : {A : Type 0} (b : Bool) (d : Malformed) (x y : A) → cond b (Err d) (Ok x) ≡ Ok y → (b ≡ false) × (x ≡ y)
+guard_ok : {A : Type 0} (b : Bool) (d : DecodeError) (x y : A) → cond b (Err d) (Ok x) ≡ Ok y → (b ≡ false) × (x ≡ y)
 guard_ok true d x y e = absurd cc
 guard_ok false d x y e = (refl, cc)
 
-pub judged_ok : {A : Type 0} (b : Bool) (d : Malformed) (x y : A) → judged b d x ≡ Ok y → (b ≡ true) × (x ≡ y)
+pub judged_ok : {A : Type 0} (b : Bool) (d : DecodeError) (x y : A) → judged b d x ≡ Ok y → (b ≡ true) × (x ≡ y)
 judged_ok true d x y e = (refl, cc)
 judged_ok false d x y e = absurd cc
 
-abbrev done : {A : Type 0} → A → Result A Malformed
+abbrev done : {A : Type 0} → A → Result A DecodeError
 done x = Ok x
 
 pub ok_is : {A : Type 0} (x y : A) → done x ≡ done y → x ≡ y
@@ -147,7 +147,7 @@ reads_bytes n = record {
 -- ---- Readers put together
 
 -- a field that is judged
-pub reads_judged : {A : Type 0} (r : List ℕ → Field A) (s : A → List ℕ) (f : A → Type 0) (good : A → Bool) (d : Malformed) → Reads r s f → Reads (λ bytes. r bytes >>= λ x. judged (good x.0) d x) s (λ x. f x × (good x ≡ true))
+pub reads_judged : {A : Type 0} (r : List ℕ → Field A) (s : A → List ℕ) (f : A → Type 0) (good : A → Bool) (d : DecodeError) → Reads r s f → Reads (λ bytes. r bytes >>= λ x. judged (good x.0) d x) s (λ x. f x × (good x ≡ true))
 reads_judged {A} r s f good d reads = record {
   takes = λ bytes x rest fits e.
       let a = bind_ok (r bytes) (λ (y : A × List ℕ). judged (good y.0) d y) (x, rest) e in
@@ -273,7 +273,7 @@ reads_counted {A} c sc fc item s P count reads = record {
 
 -- ---- The whole of the bytes
 
-guard_ended : {A : Type 0} (b : Bool) (d : Malformed) (x y : A) → cond b (Ok x) (Err d) ≡ Ok y → (b ≡ true) × (x ≡ y)
+guard_ended : {A : Type 0} (b : Bool) (d : DecodeError) (x y : A) → cond b (Ok x) (Err d) ≡ Ok y → (b ≡ true) × (x ≡ y)
 guard_ended true d x y e = (refl, cc)
 guard_ended false d x y e = absurd cc
 

@@ -14,7 +14,7 @@ use Rattle.turn_history.specs.declared.reservation.Reservation.{Reservation}
 use Rattle.turn_record.specs.Bytes.{each, reservation, reserved}
 use Rattle.turn_record.specs.Reading.{◌>>=◌, last_passes, number_at, many, is_even, token_at}
 use Rattle.turn_record.specs.Snapshots.{expiry_at, is_free_after, total_at, odd_port_at, reserved_port_after, reservation_at, reserving_at, reserved_at}
-use Rattle.turn_record.specs.declared.fault.Malformed.TheVariants.{BadValue, OutOfOrder}
+use Rattle.turn_record.specs.declared.error.DecodeError.TheVariants.{BadValue, OutOfOrder}
 use Rattle.turn_record.specs.declared.version.Version.{Version}
 use Rattle.turn_record.specs.declared.version.Version.TheVariants.{V1, V2}
 use Rattle.turn_record.proofs.Acts.{and_is, and_from, not_is, not_from, reads_token}

@@ -21,7 +21,7 @@ use Rattle.turn_history.proofs.Tests.{peer_is, is_peer-same}
 use Rattle.turn_record.specs.Bytes.{each, endpoint, five_tuple, allocation, mark, permission, permissions, channel, channels, entry}
 use Rattle.turn_record.specs.Reading.{◌>>=◌, last_passes, passes, byte_at, number_at, is_even, token_at, endpoint_at, tuple_at, channel_number_at, count_at, allocation_at}
 use Rattle.turn_record.specs.Snapshots.{expiry_at, address_after, permission_at, permission_list_at, permissions_at, number_after, other_peer_at, channel_at, channel_list_at, channels_at, tuple_after, is_free_after, mark_byte_at, token_if_at, mark_at, entry_with, entry_at, total_at}
-use Rattle.turn_record.specs.declared.fault.Malformed.TheVariants.{BadValue, OutOfOrder}
+use Rattle.turn_record.specs.declared.error.DecodeError.TheVariants.{BadValue, OutOfOrder}
 use Rattle.turn_record.proofs.Acts.{FitsAllocation, allocation_fits, fits_allocation, plain, token_if, next_small, even_is, any_or, and_is, and_from, or_is, not_is, not_from, lt_from, reads_token, reads_endpoint, reads_tuple, reads_channel_number, reads_count, reads_allocation}
 use Rattle.turn_record.proofs.Apart.{each_more, each_both, each_alone, alone_each, Apart, AreOne, apart_new, new_apart}
 use Rattle.turn_record.proofs.Readers.{EachAfter, IsBytes, Reads, reads32, reads64, one, reads_byte, reads_judged, chain, made, in_words, reads_as, reads_counted}

@@ -1,6 +1,6 @@
 -- A snapshot that comes in pieces: what a reader was fed, and what it is to give.
 use Rattle.std.specs.Prelude.{◌≡◌, ℕ, List, ◌++◌, Option, Some, None, IfSome}
-use Rattle.turn_record.specs.declared.fault.ReadError.{ReadError}
+use Rattle.turn_record.specs.declared.error.ReadError.{ReadError}
 use Rattle.turn_record.specs.declared.pieces.SnapshotReader.{SnapshotReader}
 use Rattle.turn_record.specs.declared.version.Version.{Version}
 use Rattle.turn_record.specs.Places.{Place, IsWaiting, gives}

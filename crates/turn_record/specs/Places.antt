@@ -4,10 +4,10 @@ use Rattle.std.proofs.Common.{inl, inr}
 use Rattle.std.specs.Coded.{Coded, code_by, coded⊎, coded_ℕ}
 use Rattle.std.specs.FinMap as fin
 use Rattle.turn_history.specs.Table.{Contents}
-use Rattle.turn_record.specs.declared.fault.Malformed.{Malformed}
-use Rattle.turn_record.specs.declared.fault.Malformed.TheVariants.{Short, BadTag, BadValue, OutOfOrder, TrailingBytes}
-use Rattle.turn_record.specs.declared.fault.ReadError.{ReadError}
-use Rattle.turn_record.specs.declared.fault.ReadError.TheVariants as errors
+use Rattle.turn_record.specs.declared.error.DecodeError.{DecodeError}
+use Rattle.turn_record.specs.declared.error.DecodeError.TheVariants.{Short, BadTag, BadValue, OutOfOrder, TrailingBytes}
+use Rattle.turn_record.specs.declared.error.ReadError.{ReadError}
+use Rattle.turn_record.specs.declared.error.ReadError.TheVariants as errors
 use Rattle.turn_record.specs.declared.restored.Remaining.{Remaining}
 use Rattle.turn_record.specs.declared.restored.Remaining.TheVariants.{Entries, Reserved}
 use Rattle.turn_record.specs.declared.version.Version.{Version}
@@ -50,12 +50,12 @@ abbrev pub more_at : Version → Place → List ℕ → Field (ℕ × Contents)
 more_at v p bytes = remaining_at v p.0 p.1 bytes
 
 -- what bytes give that follow those that led to a place; with none, not even the first twelve bytes were whole
-unfoldable pub gives : Version → Bounds → Option Place → List ℕ → Result (ℕ × Contents) Malformed
+unfoldable pub gives : Version → Bounds → Option Place → List ℕ → Result (ℕ × Contents) DecodeError
 gives v b None bytes = snapshot_in v b bytes
 gives v b (Some p) bytes = whole (more_at v p bytes)
 
 -- What a step returned: the same is given from there on, or what was given is this refusal.
-abbrev pub Steps : {X Y : Type 0} → (X → Result Y Malformed) → Result X ReadError → Result Y Malformed → Type 0
+abbrev pub Steps : {X Y : Type 0} → (X → Result Y DecodeError) → Result X ReadError → Result Y DecodeError → Type 0
 Steps onward (Ok x) before = before ≡ onward x
 Steps onward (Err e) before = Fails e before
 
@@ -66,7 +66,7 @@ Next value rest (Ok None) read bytes = read bytes ≡ Err Short
 Next value rest (Err e) read bytes = (more : List ℕ) → Fails e (read (bytes ++ more))
 
 -- the bytes ended inside a field
-abbrev pub is_short : Malformed → Bool
+abbrev pub is_short : DecodeError → Bool
 is_short Short = true
 is_short BadTag = false
 is_short BadValue = false

@@ -5,10 +5,10 @@ use Rattle.std.specs.List.{list_any}
 use Rattle.std.specs.Int.{Width, w16, w32, w64, byte_len, from_be_bytes}
 use Rattle.turn_history.specs.Fitting.{is_channel_number}
 use Rattle.turn_history.specs.History.{PlainAct, Allocates, Renews, Permits, Binds, Allocation, Event}
-use Rattle.turn_record.specs.declared.fault.Malformed.{Malformed}
-use Rattle.turn_record.specs.declared.fault.Malformed.TheVariants.{Short, BadTag, BadValue, OutOfOrder, TrailingBytes}
-use Rattle.turn_record.specs.declared.fault.ReadError.{ReadError}
-use Rattle.turn_record.specs.declared.fault.ReadError.TheVariants as errors
+use Rattle.turn_record.specs.declared.error.DecodeError.{DecodeError}
+use Rattle.turn_record.specs.declared.error.DecodeError.TheVariants.{Short, BadTag, BadValue, OutOfOrder, TrailingBytes}
+use Rattle.turn_record.specs.declared.error.ReadError.{ReadError}
+use Rattle.turn_record.specs.declared.error.ReadError.TheVariants as errors
 use Rattle.turn_record.specs.declared.version.Version.{Version}
 use Rattle.turn_record.specs.declared.version.Version.TheVariants.{V1, V2}
 use Rattle.turn_types.specs.declared.address.Endpoint.{Endpoint}
@@ -19,23 +19,23 @@ use Rattle.turn_types.specs.declared.message.TxId.{TxId}
 
 infixl 10 ◌>>=◌
 -- a reading, and then another one by what it gave; the first fault counts
-abbrev pub ◌>>=◌ : {A B : Type 0} → Result A Malformed → (A → Result B Malformed) → Result B Malformed
+abbrev pub ◌>>=◌ : {A B : Type 0} → Result A DecodeError → (A → Result B DecodeError) → Result B DecodeError
 (Ok x) >>= f = f x
 (Err e) >>= f = Err e
 
 -- a refusal is the fault that reading gives, or it is out of memory
-abbrev pub Fails : {Y : Type 0} → ReadError → Result Y Malformed → Type 0
+abbrev pub Fails : {Y : Type 0} → ReadError → Result Y DecodeError → Type 0
 Fails errors.Memory read = Unit {0}
 Fails (errors.Malformed f) read = read ≡ Err f
 
 -- what a function returned, seen by view, is what reading gives, unless it is out of memory
-abbrev pub Gives : {X Y : Type 0} → (X → Y) → Result X ReadError → Result Y Malformed → Type 0
+abbrev pub Gives : {X Y : Type 0} → (X → Y) → Result X ReadError → Result Y DecodeError → Type 0
 Gives view (Ok x) read = read ≡ Ok (view x)
 Gives view (Err e) read = Fails e read
 
 -- what reading a field gives: a value and the bytes after it, or a fault
 abbrev pub Field : Type 0 → Type 0
-Field A = Result (A × List ℕ) Malformed
+Field A = Result (A × List ℕ) DecodeError
 
 -- the element passes, where there is one
 abbrev pub passes : {A : Type 0} → (A → Bool) → Option A → Bool
@@ -47,7 +47,7 @@ abbrev pub last_passes : {A : Type 0} → (A → Bool) → List A → Bool
 last_passes test xs = passes test (slice_get xs (length xs - 1))
 
 -- the field, where it is good, else this fault
-abbrev pub judged : {A : Type 0} → Bool → Malformed → A → Result A Malformed
+abbrev pub judged : {A : Type 0} → Bool → DecodeError → A → Result A DecodeError
 judged good fault x = if good then Ok x else Err fault
 
 -- one byte
@@ -274,13 +274,13 @@ events_at v b bytes = do
   many (event_at v b) n.0 [] n.1
 
 -- all of the bytes: after the last field there is none
-abbrev pub whole : {A : Type 0} → Field A → Result A Malformed
+abbrev pub whole : {A : Type 0} → Field A → Result A DecodeError
 whole read = read >>= λ x. if length x.1 == 0 then Ok x.0 else Err TrailingBytes
 
 -- the event that a byte list encodes, all of it, or the first fault
-unfoldable pub act_in : Version → Bounds → List ℕ → Result Event Malformed
+unfoldable pub act_in : Version → Bounds → List ℕ → Result Event DecodeError
 act_in v b bytes = whole (event_at v b [] bytes)
 
 -- the events that a byte list encodes, all of it, or the first fault
-unfoldable pub payload_in : Version → Bounds → List ℕ → Result (List Event) Malformed
+unfoldable pub payload_in : Version → Bounds → List ℕ → Result (List Event) DecodeError
 payload_in v b bytes = whole (events_at v b bytes)

@@ -10,8 +10,8 @@ use Rattle.turn_history.specs.History.{Allocation}
 use Rattle.turn_history.specs.Table.{Entry, Contents}
 use Rattle.turn_history.specs.declared.channel.Channel.{Channel}
 use Rattle.turn_history.specs.declared.reservation.Reservation.{Reservation}
-use Rattle.turn_record.specs.declared.fault.Malformed.{Malformed}
-use Rattle.turn_record.specs.declared.fault.Malformed.TheVariants.{BadValue, OutOfOrder}
+use Rattle.turn_record.specs.declared.error.DecodeError.{DecodeError}
+use Rattle.turn_record.specs.declared.error.DecodeError.TheVariants.{BadValue, OutOfOrder}
 use Rattle.turn_record.specs.Reading.{◌>>=◌, Field, last_passes, judged, byte_at, number_at, many, moment_at, endpoint_at, tuple_at, allocation_at, is_even, token_at, channel_number_at, count_at, whole}
 use Rattle.turn_record.specs.declared.version.Version.{Version}
 use Rattle.turn_record.specs.declared.version.Version.TheVariants.{V1, V2}
@@ -208,5 +208,5 @@ snapshot_at v b bytes = do
   table_at v b h.0.moment h.0.count [] h.1
 
 -- the moment and the table that a byte list encodes, all of it, or the first fault
-unfoldable pub snapshot_in : Version → Bounds → List ℕ → Result (ℕ × Contents) Malformed
+unfoldable pub snapshot_in : Version → Bounds → List ℕ → Result (ℕ × Contents) DecodeError
 snapshot_in v b bytes = whole (snapshot_at v b bytes)

@@ -11,7 +11,7 @@ ghost use Rattle.turn_record.specs.Snapshots.{address_after, channel_at, channel
 ghost use Rattle.turn_table.specs.Table.{IsAbove};
 ghost use Rattle.turn_types.specs.FiveTuple.{tuple_cmp};
 
-use crate::fault::{Malformed, ReadError};
+use crate::error::{DecodeError, ReadError};
 use crate::field::{
     byte_of, channel_number_of, count_of, endpoint_of, granted_of, name_of, token_of, tuple_of,
     tx_of, u16_of, u32_of, u64_of,
@@ -30,7 +30,7 @@ pub(crate) fn expiry_of(moment: Moment, most: u64, bytes: &[u8]) -> Result<(u64,
     let (expiry, rest) = u64_of(bytes)?;
     let now = moment.seconds();
     if expiry <= now || now + most < expiry {
-        return Err(ReadError::Malformed(Malformed::BadValue));
+        return Err(ReadError::Malformed(DecodeError::BadValue));
     }
     Ok((expiry, rest))
 }
@@ -44,7 +44,7 @@ fn address_after<'a>(before: &[(u32, u64)], bytes: &'a [u8]) -> Result<(u32, &'a
     let (address, rest) = u32_of(bytes)?;
     if let Some(last) = before.last() {
         if address <= last.0 {
-            return Err(ReadError::Malformed(Malformed::OutOfOrder));
+            return Err(ReadError::Malformed(DecodeError::OutOfOrder));
         }
     }
     Ok((address, rest))
@@ -119,7 +119,7 @@ fn number_after<'a>(
     let (number, rest) = channel_number_of(bytes)?;
     if let Some(last) = before.last() {
         if number <= last.0 {
-            return Err(ReadError::Malformed(Malformed::OutOfOrder));
+            return Err(ReadError::Malformed(DecodeError::OutOfOrder));
         }
     }
     Ok((number, rest))
@@ -142,7 +142,7 @@ fn other_peer_of<'a>(
 {
     let (peer, rest) = endpoint_of(bytes)?;
     if has_peer(before, peer) {
-        return Err(ReadError::Malformed(Malformed::BadValue));
+        return Err(ReadError::Malformed(DecodeError::BadValue));
     }
     Ok((peer, rest))
 }
@@ -228,7 +228,7 @@ fn tuple_after<'a, A: Allocator + Copy>(
     above_the_last();
     let (tuple, rest) = tuple_of(bytes)?;
     if !is_above_last(table, tuple) {
-        return Err(ReadError::Malformed(Malformed::OutOfOrder));
+        return Err(ReadError::Malformed(DecodeError::OutOfOrder));
     }
     Ok((tuple, rest))
 }
@@ -243,7 +243,7 @@ fn free_port_of<'a, A: Allocator + Copy>(
 {
     let (port, rest) = u16_of(bytes)?;
     if table.has_port(port) {
-        return Err(ReadError::Malformed(Malformed::BadValue));
+        return Err(ReadError::Malformed(DecodeError::BadValue));
     }
     Ok((port, rest))
 }
@@ -289,7 +289,7 @@ fn mark_byte_of(port: u16, bytes: &[u8]) -> Result<(u8, &[u8]), ReadError>
 {
     let (mark, rest) = byte_of(bytes)?;
     if mark != 0 && (mark != 1 || port % 2 != 0) {
-        return Err(ReadError::Malformed(Malformed::BadValue));
+        return Err(ReadError::Malformed(DecodeError::BadValue));
     }
     Ok((mark, rest))
 }

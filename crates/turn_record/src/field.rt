@@ -4,7 +4,7 @@ ghost use Rattle.std.specs.Prelude.{◌≡◌};
 ghost use Rattle.std.specs.Int.{w16, w32, w64};
 ghost use Rattle.turn_record.specs.Reading.{Gives, byte_at, bytes_at, channel_number_at, count_at, endpoint_at, granted_at, moment_at, name_at, name_len_at, number_at, renewed_at, token_at, token_bytes_at, tuple_at, tx_at, begins_with};
 
-use crate::fault::{Malformed, ReadError};
+use crate::error::{DecodeError, ReadError};
 use std::alloc::Allocator;
 use turn_history::{UserName, is_channel_number};
 use turn_types::{Bounds, Endpoint, FiveTuple, Moment, Token, TxId};
@@ -13,7 +13,7 @@ pub(crate) fn byte_of(bytes: &[u8]) -> Result<(u8, &[u8]), ReadError>
     ensures { Gives (λ x. (x.0, x.1.now)) result (byte_at bytes.now) }
 {
     match bytes {
-        [] => Err(ReadError::Malformed(Malformed::Short)),
+        [] => Err(ReadError::Malformed(DecodeError::Short)),
         [b, rest @ ..] => Ok((*b, rest)),
     }
 }
@@ -22,7 +22,7 @@ pub(crate) fn u16_of(bytes: &[u8]) -> Result<(u16, &[u8]), ReadError>
     ensures { Gives (λ x. (x.0, x.1.now)) result (number_at w16 bytes.now) }
 {
     if bytes.len() < 2 {
-        return Err(ReadError::Malformed(Malformed::Short));
+        return Err(ReadError::Malformed(DecodeError::Short));
     }
     let (front, rest) = bytes.split_at(2);
     Ok((u16::from_be_bytes([front[0], front[1]]), rest))
@@ -32,7 +32,7 @@ pub(crate) fn u32_of(bytes: &[u8]) -> Result<(u32, &[u8]), ReadError>
     ensures { Gives (λ x. (x.0, x.1.now)) result (number_at w32 bytes.now) }
 {
     if bytes.len() < 4 {
-        return Err(ReadError::Malformed(Malformed::Short));
+        return Err(ReadError::Malformed(DecodeError::Short));
     }
     let (front, rest) = bytes.split_at(4);
     Ok((
@@ -45,7 +45,7 @@ pub(crate) fn u64_of(bytes: &[u8]) -> Result<(u64, &[u8]), ReadError>
     ensures { Gives (λ x. (x.0, x.1.now)) result (number_at w64 bytes.now) }
 {
     if bytes.len() < 8 {
-        return Err(ReadError::Malformed(Malformed::Short));
+        return Err(ReadError::Malformed(DecodeError::Short));
     }
     let (front, rest) = bytes.split_at(8);
     let number = u64::from_be_bytes([
@@ -58,7 +58,7 @@ fn bytes_of(n: usize, bytes: &[u8]) -> Result<(&[u8], &[u8]), ReadError>
     ensures { Gives (λ x. (x.0.now, x.1.now)) result (bytes_at n bytes.now) }
 {
     if bytes.len() < n {
-        return Err(ReadError::Malformed(Malformed::Short));
+        return Err(ReadError::Malformed(DecodeError::Short));
     }
     Ok(bytes.split_at(n))
 }
@@ -70,7 +70,7 @@ pub(crate) fn moment_of(bytes: &[u8]) -> Result<(Moment, &[u8]), ReadError>
     let (seconds, rest) = u64_of(bytes)?;
     match Moment::new(seconds) {
         Some(moment) => Ok((moment, rest)),
-        None => Err(ReadError::Malformed(Malformed::BadValue)),
+        None => Err(ReadError::Malformed(DecodeError::BadValue)),
     }
 }
 
@@ -98,7 +98,7 @@ fn name_len_of(bounds: Bounds, bytes: &[u8]) -> Result<(u16, &[u8]), ReadError>
 {
     let (n, rest) = u16_of(bytes)?;
     if n == 0 || bounds.name_bytes < n {
-        return Err(ReadError::Malformed(Malformed::BadValue));
+        return Err(ReadError::Malformed(DecodeError::BadValue));
     }
     Ok((n, rest))
 }
@@ -123,7 +123,7 @@ pub(crate) fn granted_of(bytes: &[u8]) -> Result<(u32, &[u8]), ReadError>
 {
     let (granted, rest) = u32_of(bytes)?;
     if granted < 600 || 3600 < granted {
-        return Err(ReadError::Malformed(Malformed::BadValue));
+        return Err(ReadError::Malformed(DecodeError::BadValue));
     }
     Ok((granted, rest))
 }
@@ -134,7 +134,7 @@ pub(crate) fn renewed_of(bytes: &[u8]) -> Result<(u32, &[u8]), ReadError>
 {
     let (granted, rest) = u32_of(bytes)?;
     if granted != 0 && (granted < 600 || 3600 < granted) {
-        return Err(ReadError::Malformed(Malformed::BadValue));
+        return Err(ReadError::Malformed(DecodeError::BadValue));
     }
     Ok((granted, rest))
 }
@@ -172,7 +172,7 @@ pub(crate) fn token_of(port: u16, bytes: &[u8]) -> Result<(Token, &[u8]), ReadEr
 {
     let (token, rest) = token_bytes_of(bytes)?;
     if !begins_with(port, token) {
-        return Err(ReadError::Malformed(Malformed::BadValue));
+        return Err(ReadError::Malformed(DecodeError::BadValue));
     }
     Ok((token, rest))
 }
@@ -183,7 +183,7 @@ pub(crate) fn channel_number_of(bytes: &[u8]) -> Result<(u16, &[u8]), ReadError>
 {
     let (number, rest) = u16_of(bytes)?;
     if !is_channel_number(number) {
-        return Err(ReadError::Malformed(Malformed::BadValue));
+        return Err(ReadError::Malformed(DecodeError::BadValue));
     }
     Ok((number, rest))
 }
@@ -194,7 +194,7 @@ pub(crate) fn count_of(low: u8, high: u16, bytes: &[u8]) -> Result<(u8, &[u8]), 
 {
     let (count, rest) = byte_of(bytes)?;
     if count < low || high < u16::from(count) {
-        return Err(ReadError::Malformed(Malformed::BadValue));
+        return Err(ReadError::Malformed(DecodeError::BadValue));
     }
     Ok((count, rest))
 }

@@ -3,7 +3,7 @@
 
 mod entries;
 mod entry_bytes;
-mod fault;
+mod error;
 mod field;
 mod laws;
 mod pieces;
@@ -15,7 +15,7 @@ mod unwritten;
 mod version;
 mod write;
 
-pub use fault::{Malformed, ReadError};
+pub use error::{DecodeError, ReadError};
 pub use laws::{
     snapshots_carry_over, snapshots_go_on, spellings_are_one, spellings_are_short,
     tables_have_snapshots,

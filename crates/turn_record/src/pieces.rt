@@ -7,11 +7,11 @@ ghost use Rattle.turn_record.specs.Reading.{Gives};
 ghost use Rattle.turn_record.specs.Records.{SpellsSnapshot, max_entry};
 ghost use Rattle.turn_record.specs.declared.pieces.SnapshotReader.{SnapshotReader};
 ghost use Rattle.turn_record.specs.Snapshots.{snapshot_in};
-ghost use Rattle.turn_record.specs.declared.fault.ReadError.{ReadError};
+ghost use Rattle.turn_record.specs.declared.error.ReadError.{ReadError};
 ghost use Rattle.turn_record.specs.declared.version.Version.{Version};
 ghost use Rattle.turn_types.specs.declared.limits.Bounds.{Bounds};
 
-use crate::fault::ReadError;
+use crate::error::ReadError;
 use crate::restored::{Restored, advance, conclude, step};
 use crate::version::Version;
 use std::alloc::{Allocator, Global};

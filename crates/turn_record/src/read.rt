@@ -7,7 +7,7 @@ ghost use Rattle.turn_record.specs.Reading.{Gives, act_in, address_at, addresses
 ghost use Rattle.turn_record.specs.Records.{SpellsAct, SpellsPayload};
 ghost use Rattle.turn_record.specs.Views.{events_of};
 
-use crate::fault::{Malformed, ReadError};
+use crate::error::{DecodeError, ReadError};
 use crate::field::{
     byte_of, channel_number_of, count_of, endpoint_of, granted_of, moment_of, name_of, renewed_of,
     token_of, tuple_of, tx_of, u16_of, u32_of,
@@ -47,7 +47,7 @@ fn even_port_of(bytes: &[u8]) -> Result<(u16, &[u8]), ReadError>
 {
     let (port, rest) = u16_of(bytes)?;
     if port % 2 != 0 {
-        return Err(ReadError::Malformed(Malformed::BadValue));
+        return Err(ReadError::Malformed(DecodeError::BadValue));
     }
     Ok((port, rest))
 }
@@ -83,7 +83,7 @@ fn address_of<'a>(before: &[u32], bytes: &'a [u8]) -> Result<(u32, &'a [u8]), Re
 {
     let (address, rest) = u32_of(bytes)?;
     if before.contains(&address) {
-        return Err(ReadError::Malformed(Malformed::BadValue));
+        return Err(ReadError::Malformed(DecodeError::BadValue));
     }
     Ok((address, rest))
 }
@@ -169,7 +169,7 @@ fn tag_of(version: Version, bytes: &[u8]) -> Result<(u8, &[u8]), ReadError>
 {
     let (tag, rest) = byte_of(bytes)?;
     if tag == 0 || max_tag(version) < tag {
-        return Err(ReadError::Malformed(Malformed::BadTag));
+        return Err(ReadError::Malformed(DecodeError::BadTag));
     }
     Ok((tag, rest))
 }
@@ -187,7 +187,7 @@ fn moment_after<'a, A: Allocator + Copy>(
     };
     if let Some(last) = before.last() {
         if moment < last.moment {
-            return Err(ReadError::Malformed(Malformed::OutOfOrder));
+            return Err(ReadError::Malformed(DecodeError::OutOfOrder));
         }
     }
     Ok((moment, rest))
@@ -244,7 +244,7 @@ fn whole_act<A: Allocator + Copy>(
     let before = Vec::new(alloc);
     let (event, rest) = event_after(alloc, version, bounds, &before, bytes)?;
     if !rest.is_empty() {
-        return Err(ReadError::Malformed(Malformed::TrailingBytes));
+        return Err(ReadError::Malformed(DecodeError::TrailingBytes));
     }
     Ok(event)
 }
@@ -261,7 +261,7 @@ fn whole_payload<A: Allocator + Copy>(
     let (count, rest) = count_of(1, bounds.acts, bytes)?;
     let (events, rest) = events_of(alloc, version, bounds, count, rest)?;
     if !rest.is_empty() {
-        return Err(ReadError::Malformed(Malformed::TrailingBytes));
+        return Err(ReadError::Malformed(DecodeError::TrailingBytes));
     }
     Ok(events)
 }

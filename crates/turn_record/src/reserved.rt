@@ -8,7 +8,7 @@ ghost use Rattle.turn_record.specs.Snapshots.{odd_port_at, reservation_at, reser
 ghost use Rattle.turn_table.specs.Table.{IsAboveReserved};
 
 use crate::entries::expiry_of;
-use crate::fault::{Malformed, ReadError};
+use crate::error::{DecodeError, ReadError};
 use crate::field::{token_of, u16_of};
 use std::alloc::Allocator;
 use turn_history::Reservation;
@@ -25,7 +25,7 @@ fn odd_port_of<'a, A: Allocator + Copy>(
 {
     let (port, rest) = u16_of(bytes)?;
     if port % 2 == 0 || table.has_port(port) {
-        return Err(ReadError::Malformed(Malformed::BadValue));
+        return Err(ReadError::Malformed(DecodeError::BadValue));
     }
     Ok((port, rest))
 }
@@ -51,7 +51,7 @@ fn reserved_port_after<'a, A: Allocator + Copy>(
 {
     let (port, rest) = odd_port_of(table, bytes)?;
     if !is_above_last(table, port) {
-        return Err(ReadError::Malformed(Malformed::OutOfOrder));
+        return Err(ReadError::Malformed(DecodeError::OutOfOrder));
     }
     Ok((port, rest))
 }

@@ -11,7 +11,7 @@ ghost use Rattle.turn_table.specs.Table.{IsAbove, IsAboveReserved};
 ghost use Rattle.turn_types.specs.declared.limits.Bounds.{Bounds};
 
 use crate::entries::entry_after;
-use crate::fault::{Malformed, ReadError};
+use crate::error::{DecodeError, ReadError};
 use crate::field::{moment_of, u32_of};
 use crate::reserved::reservation_after;
 use crate::version::Version;
@@ -55,7 +55,7 @@ fn total_of(limits: Limits, bytes: &[u8]) -> Result<(u32, &[u8]), ReadError>
 {
     let (count, rest) = u32_of(bytes)?;
     if limits.allocations() < count {
-        return Err(ReadError::Malformed(Malformed::BadValue));
+        return Err(ReadError::Malformed(DecodeError::BadValue));
     }
     Ok((count, rest))
 }
@@ -72,15 +72,15 @@ fn head_of(limits: Limits, bytes: &[u8]) -> Result<(Moment, u32, &[u8]), ReadErr
     Ok((moment, count, rest))
 }
 
-fn is_short(fault: Malformed) -> bool
+fn is_short(fault: DecodeError) -> bool
     ensures { result ≡ is_short fault }
 {
     match fault {
-        Malformed::Short => true,
-        Malformed::BadTag => false,
-        Malformed::BadValue => false,
-        Malformed::OutOfOrder => false,
-        Malformed::TrailingBytes => false,
+        DecodeError::Short => true,
+        DecodeError::BadTag => false,
+        DecodeError::BadValue => false,
+        DecodeError::OutOfOrder => false,
+        DecodeError::TrailingBytes => false,
     }
 }
 
@@ -288,7 +288,7 @@ fn go_on<'a, A: Allocator + Copy>(
     let rest = restore_items(alloc, version, &mut restored, bytes)?;
     if is_done(version, restored.remaining) {
         if !rest.is_empty() {
-            return Err(ReadError::Malformed(Malformed::TrailingBytes));
+            return Err(ReadError::Malformed(DecodeError::TrailingBytes));
         }
     }
     Ok((restored, rest))
@@ -349,10 +349,10 @@ pub(crate) fn conclude<A: Allocator + Copy>(
     ensures bounds { (b : Bounds) → IfSome restored (λ p. p.0.bounds ≡ b) → IfOk result (λ t. t.bounds ≡ b) }
 {
     match restored {
-        None => Err(ReadError::Malformed(Malformed::Short)),
+        None => Err(ReadError::Malformed(DecodeError::Short)),
         Some(restored) => {
             if !is_done(version, restored.remaining) {
-                return Err(ReadError::Malformed(Malformed::Short));
+                return Err(ReadError::Malformed(DecodeError::Short));
             }
             Ok(restored.table)
         }

@@ -15,7 +15,7 @@ use Rattle.turn_history.proofs.Ranges.{entry_in_range}
 use Rattle.turn_codec.specs.Channel.{IsChannel}
 use Rattle.turn_table.specs.Table.{IsChannelTo}
 use Rattle.turn_relay.specs.FromClient.{is_permitted}
-use Rattle.turn_relay.specs.FromPeer.{ClientData, IsAt, IsChannelFor, SendsToClient, relayed, size_for_client}
+use Rattle.turn_relay.specs.FromPeer.{ClientData, HasRelayedPort, IsChannelFor, SendsToClient, relayed, size_for_client}
 use Rattle.turn_relay.specs.Udp.{max_payload}
 
 pub channel_for : (e : Entry) (peer : Endpoint) (channel : Option ℕ) → MatchOption channel ((n : ℕ) → ¬ IsChannelTo e n peer) (λ n. IsChannelTo e n peer) → IsChannelFor e peer channel
@@ -40,7 +40,7 @@ numbered b h t f e number peer fits now is bound = by_value (fin.get e.channels 
     by_value (Some c) at some = let range = (entry_in_range b h t f e fits now is).1.channels number c at in (range.0.0, omega (arith, range.0.1))
 
 -- two entries of a table that have one port are one
-one_holder : (c : Contents) (port : ℕ) (f g : FiveTuple) (e x : Entry) → PortsApart c → IsAt c port f e → IsAt c port g x → (f ≡ g) × (e ≡ x)
+one_holder : (c : Contents) (port : ℕ) (f g : FiveTuple) (e x : Entry) → PortsApart c → HasRelayedPort c port f e → HasRelayedPort c port g x → (f ≡ g) × (e ≡ x)
 one_holder c port f g e x apart here there =
     let same : f ≡ g = apart f g e x here.0 there.0 (here.1 ∙ sym there.1) in
     (same, same_Some e x (sym here.0 ∙ ap (fin.get c.entries) same ∙ there.0))

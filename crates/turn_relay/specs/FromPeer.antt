@@ -62,8 +62,8 @@ size_for_client None n = 20 + 12 + (4 + n + padding_size n)
 -- ---- What a peer's datagram becomes
 
 -- a live allocation has the relayed port
-abbrev pub IsAt : Contents → ℕ → FiveTuple → Entry → Type 0
-IsAt c port f e = (fin.get c.entries f ≡ Some e) × (e.port ≡ port)
+abbrev pub HasRelayedPort : Contents → ℕ → FiveTuple → Entry → Type 0
+HasRelayedPort c port f e = (fin.get c.entries f ≡ Some e) × (e.port ≡ port)
 
 -- the channel of an allocation that is bound to a peer's address and port, where there is one
 abbrev pub IsChannelFor : Entry → Endpoint → Option ℕ → Type 0
@@ -84,7 +84,7 @@ pub data SendsToClient (c : Contents) (port : ℕ) (peer : Endpoint) (payload : 
   -- no allocation has the relayed port
   NoAllocation : PortIsFree c port → o ≡ None → SendsToClient c port peer payload o
   -- the peer's address has no permission
-  NoPermission : (f : FiveTuple) (e : Entry) → IsAt c port f e → is_permitted e peer ≡ false → o ≡ None → SendsToClient c port peer payload o
+  NoPermission : (f : FiveTuple) (e : Entry) → HasRelayedPort c port f e → is_permitted e peer ≡ false → o ≡ None → SendsToClient c port peer payload o
   -- the client gets the data
-  Relayed : (f : FiveTuple) (e : Entry) (channel : Option ℕ) → IsAt c port f e → is_permitted e peer ≡ true → IsChannelFor e peer channel
+  Relayed : (f : FiveTuple) (e : Entry) (channel : Option ℕ) → HasRelayedPort c port f e → is_permitted e peer ≡ true → IsChannelFor e peer channel
       → o ≡ relayed f channel peer payload → SendsToClient c port peer payload o

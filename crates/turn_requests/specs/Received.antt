@@ -10,8 +10,8 @@ use Rattle.turn_types.specs.declared.message.Token.{Token}
 use Rattle.turn_codec.specs.Address.{address_of}
 use Rattle.turn_codec.specs.AttributeTypes.{error_code, lifetime, payload, reservation_token, xor_peer_address, xor_relayed_address}
 use Rattle.turn_codec.specs.Grammar.{Content, value_of}
-use Rattle.turn_requests.specs.declared.received.Received.{Received}
-use Rattle.turn_requests.specs.declared.received.Received.TheVariants.{Allocated, Refreshed, Success, Error, Data}
+use Rattle.turn_requests.specs.declared.received.ServerMessage.{ServerMessage}
+use Rattle.turn_requests.specs.declared.received.ServerMessage.TheVariants.{Allocated, Refreshed, Success, Error, Data}
 
 -- an address with a port, where it is one of IPv4
 abbrev pub ipv4_with : Addr → ℕ → Option Endpoint
@@ -54,7 +54,7 @@ unfoldable pub code_in : Content → Option ℕ
 code_in m = code_of (value_of error_code m.attributes)
 
 -- what a message says, by its class and its method
-abbrev pub Says : Content → Received → Type 0
+abbrev pub Says : Content → ServerMessage → Type 0
 Says m (Allocated port life token) = (m.class ≡ classes.Success) × (m.method ≡ 0x003)
     × (option_map (λ e. e.port) (address_in xor_relayed_address m) ≡ Some port) × (lifetime_in m ≡ Some life)
     × (token ≡ token_in m)

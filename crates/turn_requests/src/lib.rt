@@ -5,5 +5,5 @@
 mod received;
 mod request;
 
-pub use received::{Received, read_message};
+pub use received::{ServerMessage, read_message};
 pub use request::{Attribute, Request, build_request, build_send, channel_data};

@@ -2,7 +2,7 @@
 
 ghost use Rattle.std.specs.Prelude.{◌≡◌, IfSome, IfNone, option_map};
 ghost use Rattle.turn_requests.specs.Received.{Says, address_in, code_in, lifetime_in, token_in};
-ghost use Rattle.turn_requests.specs.declared.received.Received.{Received};
+ghost use Rattle.turn_requests.specs.declared.received.ServerMessage.{ServerMessage};
 ghost use Rattle.turn_types.specs.declared.message.Class.TheVariants as classes;
 
 use turn_codec::{AttributeType, Message, read_xor_address};
@@ -10,7 +10,7 @@ use turn_types::{Addr, Class, Endpoint, Method, Token};
 
 /// What a message to a client says.
 #[derive(Clone, Copy, Debug)]
-pub enum Received<'a> {
+pub enum ServerMessage<'a> {
     /// An Allocate success.
     Allocated {
         /// The relayed port.
@@ -79,35 +79,35 @@ fn code(message: &Message<'_>) -> Option<u16>
     }
 }
 
-fn success<'a>(message: &Message<'a>) -> Option<Received<'a>>
+fn success<'a>(message: &Message<'a>) -> Option<ServerMessage<'a>>
     requires { message.now.content.class ≡ classes.Success }
     ensures found { IfSome result (λ received. Says message.now.content received) }
-    ensures none { IfNone result ((received : Received) → ¬ (Says message.now.content received)) }
+    ensures none { IfNone result ((received : ServerMessage) → ¬ (Says message.now.content received)) }
 {
     let method = message.method();
     if method == Method::ALLOCATE {
         let relayed = address(message, AttributeType::XOR_RELAYED_ADDRESS)?;
-        return Some(Received::Allocated {
+        return Some(ServerMessage::Allocated {
             port: relayed.port,
             lifetime: lifetime(message)?,
             token: token(message),
         });
     }
     if method == Method::REFRESH {
-        return Some(Received::Refreshed(lifetime(message)?));
+        return Some(ServerMessage::Refreshed(lifetime(message)?));
     }
-    Some(Received::Success)
+    Some(ServerMessage::Success)
 }
 
 /// What a message says. `None` for a request, and for a message without the attributes that its class and method need.
-pub fn read_message<'a>(message: &Message<'a>) -> Option<Received<'a>>
+pub fn read_message<'a>(message: &Message<'a>) -> Option<ServerMessage<'a>>
     ensures found { IfSome result (λ received. Says message.now.content received) }
-    ensures none { IfNone result ((received : Received) → ¬ (Says message.now.content received)) }
+    ensures none { IfNone result ((received : ServerMessage) → ¬ (Says message.now.content received)) }
 {
     match message.class() {
         Class::Success => success(message),
-        Class::Error => Some(Received::Error(code(message)?)),
-        Class::Indication => Some(Received::Data(
+        Class::Error => Some(ServerMessage::Error(code(message)?)),
+        Class::Indication => Some(ServerMessage::Data(
             address(message, AttributeType::XOR_PEER_ADDRESS)?,
             message.find(AttributeType::DATA)?,
         )),

@@ -27,7 +27,7 @@ use turn_types::{Class, ErrorCode, FiveTuple, Method, Moment, ServerConfig};
 
 /// A message from a client.
 #[derive(Drop)]
-pub struct Request<'a> {
+pub struct ClientMessage<'a> {
     /// The message, which was read.
     pub message: Message<'a>,
     /// Where it came from and to.
@@ -65,7 +65,7 @@ fn is_dropped(message: &Message<'_>) -> bool
 fn passed_outcome<C: Allocator, T: Allocator + Copy>(
     config: &ServerConfig<C>,
     table: &Table<T>,
-    request: &Request<'_>,
+    request: &ClientMessage<'_>,
     user: &[u8],
     moment: Moment,
     port: Option<u16>,
@@ -82,7 +82,7 @@ fn passed_outcome<C: Allocator, T: Allocator + Copy>(
 /// Whether a new allocation is asked for with a key that has expired.
 fn is_expired<T: Allocator + Copy>(
     table: &Table<T>,
-    request: &Request<'_>,
+    request: &ClientMessage<'_>,
     moment: Moment,
     key: &Key,
 ) -> bool
@@ -99,7 +99,7 @@ fn is_expired<T: Allocator + Copy>(
 fn outcome_of<C: Allocator, T: Allocator + Copy>(
     config: &ServerConfig<C>,
     table: &Table<T>,
-    request: &Request<'_>,
+    request: &ClientMessage<'_>,
     moment: Moment,
     port: Option<u16>,
     pairs: bool,
@@ -134,7 +134,7 @@ fn outcome_of<C: Allocator, T: Allocator + Copy>(
 }
 
 /// The user whose credentials hold, or no bytes.
-fn user_of<'a>(request: &Request<'a>) -> &'a [u8]
+fn user_of<'a>(request: &ClientMessage<'a>) -> &'a [u8]
     ensures { result.now ≡ user_of (verdict_in request.now) }
 {
     match request.verdict {
@@ -144,7 +144,7 @@ fn user_of<'a>(request: &Request<'a>) -> &'a [u8]
 }
 
 /// The key that the response is signed under, if it is: that of the user whose credentials hold.
-fn key_of(request: &Request<'_>) -> Option<[u8; 16]>
+fn key_of(request: &ClientMessage<'_>) -> Option<[u8; 16]>
     ensures { result ≡ key_of request.now.message.content (verdict_in request.now) }
 {
     if !is_protected(request.message.method()) {
@@ -163,7 +163,7 @@ fn key_of(request: &Request<'_>) -> Option<[u8; 16]>
 pub fn needs_port<C: Allocator, T: Allocator + Copy>(
     table: &Table<T>,
     config: &ServerConfig<C>,
-    request: &Request<'_>,
+    request: &ClientMessage<'_>,
     moment: Moment,
     pairs: bool,
 ) -> Option<Need>
@@ -192,7 +192,7 @@ pub fn decide<A: Allocator + Copy, C: Allocator, T: Allocator + Copy>(
     alloc: A,
     table: &Table<T>,
     config: &ServerConfig<C>,
-    request: &Request<'_>,
+    request: &ClientMessage<'_>,
     moment: Moment,
     port: Option<u16>,
     pairs: bool,

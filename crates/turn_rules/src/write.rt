@@ -9,7 +9,7 @@ ghost use Rattle.turn_history.specs.History.{Allocates};
 ghost use Rattle.turn_rules.specs.Outcome.{act_by, allocated, challenge, lifetime_attribute, response_of, unknown_attribute};
 ghost use Rattle.turn_rules.specs.Response.{attribute, attribute_of, error_attribute, response};
 
-use crate::decision::Request;
+use crate::decision::ClientMessage;
 use crate::outcome::Outcome;
 use crate::response::{OwnAttribute, respond};
 use crate::unknown::unknown_value;
@@ -88,7 +88,7 @@ fn challenge_attributes<'a>(
 fn write_challenge<A: Allocator + Copy, C: Allocator>(
     alloc: A,
     config: &ServerConfig<C>,
-    request: &Request<'_>,
+    request: &ClientMessage<'_>,
     moment: Moment,
     code: ErrorCode,
 ) -> Result<Vec<u8, A>, AllocError>
@@ -103,7 +103,7 @@ fn write_challenge<A: Allocator + Copy, C: Allocator>(
 
 fn write_mapped<A: Allocator + Copy>(
     alloc: A,
-    request: &Request<'_>,
+    request: &ClientMessage<'_>,
     key: Key,
 ) -> Result<Vec<u8, A>, AllocError>
     ensures { IfOk result (λ v. v.items ≡ canonical (response request.now.message.content Class.Success key
@@ -176,7 +176,7 @@ fn reserved_attributes<'a>(
 fn write_allocated<A: Allocator + Copy, C: Allocator>(
     alloc: A,
     config: &ServerConfig<C>,
-    request: &Request<'_>,
+    request: &ClientMessage<'_>,
     key: Key,
     port: u16,
     granted: u32,
@@ -234,7 +234,7 @@ fn write_success<A: Allocator + Copy>(
 pub(crate) fn write<A: Allocator + Copy, C: Allocator>(
     alloc: A,
     config: &ServerConfig<C>,
-    request: &Request<'_>,
+    request: &ClientMessage<'_>,
     moment: Moment,
     outcome: &Outcome,
     key: Key,

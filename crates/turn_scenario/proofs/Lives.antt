@@ -58,8 +58,8 @@ lives_on disk handler ports old new inputs said same runs l =
 -- a player over a formatted disk stands at the start of a life
 pub starts : (disk : disks.Ghosts InMemory) (handler : handlers.Ghosts Sources) (ports : generators.Ghosts (ℕ × ℕ)) (form : Form) (p : PlayerState)
     (config : Config) (d : InMemory) (h : Sources) (g : ℕ × ℕ) → p ≡ record { config = config; world = Some (Down d h g) } → form.bounds ≡ config.limits
-    → disk.is_honest d → EachImage (disk.trace d).now (StandsForAt form [] 0) → Lived disk handler ports p
-starts disk handler ports form p config d h g is bounds honest images =
+    → disk.follows_crash_model d → EachImage (disk.trace d).now (StandsForAt form [] 0) → Lived disk handler ports p
+starts disk handler ports form p config d h g is bounds crash_model images =
     let setting : Setting = record { config = config; keys = handler.key_of h; range = ports.range g; pairs = false } in
     record {
       form = form;
@@ -72,7 +72,7 @@ starts disk handler ports form p config d h g is bounds honest images =
       life = ends;
       world = Down d h g;
       is = ap (λ (q : PlayerState). q.world) is;
-      stands = formatted_stands disk handler ports form setting d h g honest images refl refl;
+      stands = formatted_stands disk handler ports form setting d h g crash_model images refl refl;
     }
 
 pub refused : (version : Version) (area : ℕ) (p q : PlayerState) (config : Config) (d : InMemory) (h : Sources) (g : ℕ × ℕ) → p ≡ record { config = config; world = Some (Down d h g) }

@@ -2,16 +2,16 @@
 use Rattle.std.proofs.Common.{◌≡◌, ◌<◌, ℕ, Result, Ok, Err, IfErr, IsErr, refl, inl, inr}
 use Rattle.std.specs.Prelude.{◌⊎◌, ◌↔◌}
 use Rattle.turn_disk.specs.Counts.{Rises}
-use Rattle.turn_store.specs.declared.formatting.FormatRefused.{FormatRefused}
-use Rattle.turn_store.specs.declared.formatting.FormatRefused.TheVariants.{AreaTooSmall, Device}
+use Rattle.turn_store.specs.declared.formatting.FormatError.{FormatError}
+use Rattle.turn_store.specs.declared.formatting.FormatError.TheVariants.{AreaTooSmall, Device}
 
-pub why_refused : (r : Result (Unit {0}) FormatRefused) (area least old new : ℕ) → (r ≡ Err Device → Rises old new)
+pub why_refused : (r : Result (Unit {0}) FormatError) (area least old new : ℕ) → (r ≡ Err Device → Rises old new)
     → ((needed : ℕ) → (r ≡ Err (AreaTooSmall needed)) ↔ ((area < least) × (needed ≡ least)))
     → IsErr r → (area < least) ⊎ Rises old new
 why_refused (Ok x) area least old new device small e = absurd cc
 why_refused (Err Device) area least old new device small e = inr (device refl)
 why_refused (Err (AreaTooSmall n)) area least old new device small e = inl ((small n).0 refl).0
 
-pub by_outcome : (r : Result (Unit {0}) FormatRefused) (P Q : Type 0) → (r ≡ Ok tt → P) → (IsErr r → Q) → P ⊎ Q
+pub by_outcome : (r : Result (Unit {0}) FormatError) (P Q : Type 0) → (r ≡ Ok tt → P) → (IsErr r → Q) → P ⊎ Q
 by_outcome (Ok x) P Q f g = inl (f refl)
 by_outcome (Err e) P Q f g = inr (g refl)

@@ -3,7 +3,7 @@
 use std::alloc::{AllocError, Allocator};
 use turn_codec::{ChannelData, Message};
 use turn_config::ShownEndpoint;
-use turn_requests::{Received, read_message};
+use turn_requests::{ServerMessage, read_message};
 use turn_types::{Method, Token};
 
 /// The word of a method to which a server responds.
@@ -34,12 +34,12 @@ fn reserved_text<A: Allocator + Copy>(
 fn message_text<A: Allocator + Copy>(
     alloc: A,
     message: &Message<'_>,
-    received: Received<'_>,
+    received: ServerMessage<'_>,
 ) -> Result<String<A>, AllocError> {
     let method = method_word(message.method());
     let tx = hex::encode(alloc, &message.tx().0)?;
     match received {
-        Received::Allocated {
+        ServerMessage::Allocated {
             port,
             lifetime,
             token,
@@ -47,10 +47,10 @@ fn message_text<A: Allocator + Copy>(
             let reserved = reserved_text(alloc, token)?;
             format!(in alloc; "success {method} {tx} port={port} life={lifetime}{reserved}")
         }
-        Received::Refreshed(life) => format!(in alloc; "success {method} {tx} life={life}"),
-        Received::Success => format!(in alloc; "success {method} {tx}"),
-        Received::Error(code) => format!(in alloc; "error {method} {tx} {code}"),
-        Received::Data(peer, payload) => {
+        ServerMessage::Refreshed(life) => format!(in alloc; "success {method} {tx} life={life}"),
+        ServerMessage::Success => format!(in alloc; "success {method} {tx}"),
+        ServerMessage::Error(code) => format!(in alloc; "error {method} {tx} {code}"),
+        ServerMessage::Data(peer, payload) => {
             let (peer, payload) = (ShownEndpoint(peer), hex_text(alloc, payload)?);
             format!(in alloc; "data {peer} {payload}")
         }
@@ -70,7 +70,7 @@ pub(crate) fn hex_text<A: Allocator>(alloc: A, bytes: &[u8]) -> Result<String<A>
 pub(crate) fn token_in(bytes: &[u8]) -> Option<Token> {
     let message = Message::parse(bytes).ok()?;
     match read_message(&message)? {
-        Received::Allocated { token, .. } => token,
+        ServerMessage::Allocated { token, .. } => token,
         _ => None,
     }
 }

@@ -3,35 +3,35 @@
 use crate::datagrams::{hex_text, received_text, token_in};
 use std::alloc::{AllocError, Allocator};
 use turn_config::ShownEndpoint;
-use turn_engine::{CommitRefused, SubmitRefused};
-use turn_player::Event;
+use turn_engine::{CommitError, SubmitError};
+use turn_player::Effect;
 use turn_step::Outgoing;
-use turn_store::OpenFault;
+use turn_store::OpenError;
 use turn_types::Token;
 
-fn refused_text(why: SubmitRefused) -> &'static str {
+fn refused_text(why: SubmitError) -> &'static str {
     match why {
-        SubmitRefused::Memory => "memory",
-        SubmitRefused::BatchFull => "batch full",
-        SubmitRefused::Stopped => "stopped",
+        SubmitError::Memory => "memory",
+        SubmitError::BatchFull => "batch full",
+        SubmitError::Stopped => "stopped",
     }
 }
 
-fn failed_text(why: CommitRefused) -> &'static str {
+fn failed_text(why: CommitError) -> &'static str {
     match why {
-        CommitRefused::Device => "device",
-        CommitRefused::Worn => "worn",
-        CommitRefused::Stopped => "stopped",
+        CommitError::Device => "device",
+        CommitError::Worn => "worn",
+        CommitError::Stopped => "stopped",
     }
 }
 
-fn not_opened_text<A: Allocator>(alloc: A, fault: OpenFault) -> Result<String<A>, AllocError> {
+fn not_opened_text<A: Allocator>(alloc: A, fault: OpenError) -> Result<String<A>, AllocError> {
     match fault {
-        OpenFault::Device => String::from_str(alloc, "device"),
-        OpenFault::Memory => String::from_str(alloc, "memory"),
-        OpenFault::NotAStore => String::from_str(alloc, "not a store"),
-        OpenFault::LimitsDiffer => String::from_str(alloc, "limits differ"),
-        OpenFault::Damaged(place) => format!(in alloc; "damaged {place}"),
+        OpenError::Device => String::from_str(alloc, "device"),
+        OpenError::Memory => String::from_str(alloc, "memory"),
+        OpenError::NotAStore => String::from_str(alloc, "not a store"),
+        OpenError::LimitsDiffer => String::from_str(alloc, "limits differ"),
+        OpenError::Damaged(place) => format!(in alloc; "damaged {place}"),
     }
 }
 
@@ -54,9 +54,9 @@ fn sent_text<A: Allocator + Copy>(
 }
 
 /// The token that the line of an event has, if it has one.
-pub(crate) fn event_token<A: Allocator>(event: &Event<A>) -> Option<Token> {
+pub(crate) fn event_token<A: Allocator>(event: &Effect<A>) -> Option<Token> {
     match event {
-        Event::Sent(Outgoing::ToClient { bytes, .. }) => token_in(bytes),
+        Effect::Sent(Outgoing::ToClient { bytes, .. }) => token_in(bytes),
         _ => None,
     }
 }
@@ -64,18 +64,18 @@ pub(crate) fn event_token<A: Allocator>(event: &Event<A>) -> Option<Token> {
 /// The line that a report has of an event.
 pub fn event_text<A: Allocator + Copy>(
     alloc: A,
-    event: &Event<A>,
+    event: &Effect<A>,
 ) -> Result<String<A>, AllocError> {
     match event {
-        Event::Refused(why) => String::from_str(alloc, refused_text(*why)),
-        Event::Sent(outgoing) => sent_text(alloc, outgoing),
-        Event::Committed(count) => format!(in alloc; "committed {count}"),
-        Event::Failed(why) => String::from_str(alloc, failed_text(*why)),
-        Event::Opened(clock) => {
+        Effect::Refused(why) => String::from_str(alloc, refused_text(*why)),
+        Effect::Sent(outgoing) => sent_text(alloc, outgoing),
+        Effect::Committed(count) => format!(in alloc; "committed {count}"),
+        Effect::Failed(why) => String::from_str(alloc, failed_text(*why)),
+        Effect::Opened(clock) => {
             let second = clock.seconds();
             format!(in alloc; "opened clock {second}")
         }
-        Event::NotOpened(fault) => not_opened_text(alloc, *fault),
-        Event::Closed => String::from_str(alloc, "closed"),
+        Effect::NotOpened(fault) => not_opened_text(alloc, *fault),
+        Effect::Closed => String::from_str(alloc, "closed"),
     }
 }

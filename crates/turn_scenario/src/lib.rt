@@ -4,16 +4,16 @@
 
 mod attributes;
 mod datagrams;
+mod error;
 mod events;
-mod fault;
 mod line;
 mod report;
 mod running;
 mod scenario;
 mod table_lines;
 
+pub use error::ScenarioError;
 pub use events::event_text;
-pub use fault::ScenarioFault;
 pub use report::Report;
 pub use scenario::replay;
 pub use table_lines::put_table;

@@ -1,7 +1,7 @@
 //! The lines after `format` or `format1`.
 
 use turn_config::values::{endpoint, moment, ordinal, port, split_once};
-use turn_disk::Outcome;
+use turn_disk::CrashOutcome;
 use turn_types::{Endpoint, Method, Moment, TxId};
 
 /// What an `ask` line says.
@@ -36,17 +36,17 @@ pub(crate) enum Line<'a> {
     Commit,
     Fail(u64),
     Stop(u64),
-    Crash(Outcome),
+    Crash(CrashOutcome),
     Reopen,
     Table,
     Expect(&'a [u8]),
 }
 
-fn outcome(text: &[u8]) -> Option<Outcome> {
+fn outcome(text: &[u8]) -> Option<CrashOutcome> {
     match text {
-        b"lost" => return Some(Outcome::Lost),
-        b"kept" => return Some(Outcome::Kept),
-        b"half" => return Some(Outcome::Half),
+        b"lost" => return Some(CrashOutcome::Lost),
+        b"kept" => return Some(CrashOutcome::Kept),
+        b"half" => return Some(CrashOutcome::Half),
         _ => {}
     }
     let (b"fill", digits) = split_once(text, b' ')? else {
@@ -54,7 +54,7 @@ fn outcome(text: &[u8]) -> Option<Outcome> {
     };
     let mut byte = [0u8];
     hex::decode_to_slice(digits, &mut byte).ok()?;
-    Some(Outcome::Fill(byte[0]))
+    Some(CrashOutcome::Fill(byte[0]))
 }
 
 fn method(word: &[u8]) -> Option<Method> {

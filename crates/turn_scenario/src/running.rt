@@ -7,8 +7,8 @@ ghost use Rattle.turn_store.specs.Images.{EachImage, StandsForAt};
 ghost use Rattle.turn_scenario.specs.Lived.{IsRefused, Lived, LivesOn};
 
 use crate::attributes::attributes;
+use crate::error::LineError;
 use crate::events::{event_text, event_token};
-use crate::fault::LineFault;
 use crate::line::{Ask, Line, PeerLine, read_line};
 use crate::report::{Lines, Report};
 use crate::table_lines::put_table;
@@ -18,12 +18,12 @@ use turn_config::{Configured, values};
 use turn_cred::{AuthHandler, Credentials, Nonces, SharedSecret};
 use turn_disk::{Disk, MemoryDisk};
 use turn_mac::generate_auth_key;
-use turn_player::{Event, Player, Step};
+use turn_player::{Action, Effect, Player};
 use turn_ports::{PortRange, RelayAddressGenerator};
 use turn_record::Version;
 use turn_requests::{Request, build_request, build_send};
 use turn_step::Arrival;
-use turn_store::{FormatRefused, format, format_version1};
+use turn_store::{FormatError, format, format_version1};
 use turn_types::{Endpoint, FiveTuple, Limits, Moment, Token, TxId};
 
 /// The client's side: what its requests are made of.
@@ -56,9 +56,9 @@ fn format_as<D: Disk>(
     limits: Limits,
     version: Version,
     area: usize,
-) -> Result<(), FormatRefused>
+) -> Result<(), FormatError>
     requires { 64 + 2 * area ≡ D.capacity disk.old }
-    ensures done { D.is_honest disk.new
+    ensures done { D.follows_crash_model disk.new
         → OnOk result (EachImage (D.trace disk.new).now (StandsForAt (record { bounds = limits; area = area }) [] 0)) }
     ensures refused { IsErr result → (area < least_area version limits) ⊎ Rises (D.failed disk.old) (D.failed disk.new) }
 {
@@ -74,7 +74,7 @@ fn format_disk<A: Allocator + Copy>(
     limits: Limits,
     version: Version,
     area: u32,
-) -> Result<(MemoryDisk<A>, Result<(), FormatRefused>), AllocError>
+) -> Result<(MemoryDisk<A>, Result<(), FormatError>), AllocError>
     ensures done { IfOk result (λ made. made.1 ≡ Ok tt
         → EachImage made.0.trace.now (StandsForAt (record { bounds = limits; area = area }) [] 0)) }
     ensures refused { IfOk result (λ made. IsErr made.1 → (area < least_area version limits) ⊎ Rises 0 made.0.failures) }
@@ -91,8 +91,8 @@ fn put_events<A: Allocator + Copy>(
     alloc: A,
     lines: &mut Lines<A>,
     token: &mut Option<Token>,
-    events: Vec<Event<A>, A>,
-) -> Result<(), LineFault> {
+    events: Vec<Effect<A>, A>,
+) -> Result<(), LineError> {
     for event in events {
         lines.push(event_text(alloc, &event)?)?;
         if let Some(reported) = event_token(&event) {
@@ -103,32 +103,32 @@ fn put_events<A: Allocator + Copy>(
 }
 
 /// The bytes of a word: `-` for none, or pairs of hex digits.
-fn bytes_of<A: Allocator>(alloc: A, word: &[u8]) -> Result<Vec<u8, A>, LineFault> {
+fn bytes_of<A: Allocator>(alloc: A, word: &[u8]) -> Result<Vec<u8, A>, LineError> {
     match word {
-        [] => Err(LineFault::Bad),
+        [] => Err(LineError::Bad),
         b"-" => Ok(Vec::new(alloc)),
-        _ => values::bytes(alloc, word)?.ok_or(LineFault::Bad),
+        _ => values::bytes(alloc, word)?.ok_or(LineError::Bad),
     }
 }
 
 impl<'a, A: Allocator + Copy> Client<'a, A> {
     /// The key of a name: that of its `user` line, or else the one under the secret, whatever the name's form.
-    fn key(&self, user: &[u8]) -> Result<[u8; 16], LineFault> {
+    fn key(&self, user: &[u8]) -> Result<[u8; 16], LineError> {
         if let Some(password) = self.passwords.get(user) {
             return Ok(generate_auth_key(user, self.realm, password));
         }
         let Some(secret) = &self.auth_secret else {
-            return Err(LineFault::Bad);
+            return Err(LineError::Bad);
         };
         let password = secret.password(user);
         Ok(generate_auth_key(user, self.realm, &password))
     }
 
     /// The datagram of an `ask` line at a moment.
-    fn request(&self, alloc: A, ask: &Ask<'_>, moment: Moment) -> Result<Vec<u8, A>, LineFault> {
+    fn request(&self, alloc: A, ask: &Ask<'_>, moment: Moment) -> Result<Vec<u8, A>, LineError> {
         let key = self.key(ask.user)?;
         let attributes = match ask.attributes {
-            Some(words) => attributes(alloc, words, self.token)?.ok_or(LineFault::Bad)?,
+            Some(words) => attributes(alloc, words, self.token)?.ok_or(LineError::Bad)?,
             None => Vec::new(alloc),
         };
         let request = Request {
@@ -150,7 +150,7 @@ impl<'a, A: Allocator + Copy> Running<'a, A> {
         configured: Configured<'a, A>,
         version: Version,
         area: u32,
-    ) -> Result<Running<'a, A>, LineFault>
+    ) -> Result<Running<'a, A>, LineError>
         ensures { IfOk result (λ running. Lived ⟦<MemoryDisk<A> as Disk>⟧ ⟦<Credentials<A> as AuthHandler>⟧ ⟦<PortRange as RelayAddressGenerator>⟧ running.player
             ⊎ IsRefused version area running.player) }
     {
@@ -184,15 +184,15 @@ impl<'a, A: Allocator + Copy> Running<'a, A> {
         Ok(running)
     }
 
-    fn open(&mut self, formatted: Result<(), FormatRefused>) -> Result<(), LineFault>
+    fn open(&mut self, formatted: Result<(), FormatError>) -> Result<(), LineError>
         ensures lives { OnOk result (formatted ≡ Ok tt → LivesOn ⟦<MemoryDisk<A> as Disk>⟧ ⟦<Credentials<A> as AuthHandler>⟧ ⟦<PortRange as RelayAddressGenerator>⟧
             self.old.player self.new.player) }
         ensures same { OnOk result (IsErr formatted → self.new.player ≡ self.old.player) }
     {
         match formatted {
-            Ok(()) => self.play(&[Step::Reopen { carry: false }]),
-            Err(FormatRefused::Device) => self.say("device"),
-            Err(FormatRefused::AreaTooSmall(needed)) => {
+            Ok(()) => self.play(&[Action::Reopen { carry: false }]),
+            Err(FormatError::Device) => self.say("device"),
+            Err(FormatError::AreaTooSmall(needed)) => {
                 let line = format!(in self.alloc; "area too small {needed}")?;
                 self.lines.push(line)?;
                 Ok(())
@@ -200,7 +200,7 @@ impl<'a, A: Allocator + Copy> Running<'a, A> {
         }
     }
 
-    fn say(&mut self, text: &str) -> Result<(), LineFault>
+    fn say(&mut self, text: &str) -> Result<(), LineError>
         ensures { OnOk result (self.new.player ≡ self.old.player) }
     {
         self.lines.push(String::from_str(self.alloc, text)?)?;
@@ -208,7 +208,7 @@ impl<'a, A: Allocator + Copy> Running<'a, A> {
     }
 
     /// Makes steps, and reports what comes of them.
-    fn play(&mut self, steps: &[Step<'_>]) -> Result<(), LineFault>
+    fn play(&mut self, steps: &[Action<'_>]) -> Result<(), LineError>
         ensures lives { OnOk result (LivesOn ⟦<MemoryDisk<A> as Disk>⟧ ⟦<Credentials<A> as AuthHandler>⟧ ⟦<PortRange as RelayAddressGenerator>⟧
             self.old.player self.new.player) }
     {
@@ -217,7 +217,7 @@ impl<'a, A: Allocator + Copy> Running<'a, A> {
         Ok(())
     }
 
-    fn submit(&mut self, client: Endpoint, bytes: &[u8]) -> Result<(), LineFault>
+    fn submit(&mut self, client: Endpoint, bytes: &[u8]) -> Result<(), LineError>
         ensures lives { OnOk result (LivesOn ⟦<MemoryDisk<A> as Disk>⟧ ⟦<Credentials<A> as AuthHandler>⟧ ⟦<PortRange as RelayAddressGenerator>⟧
             self.old.player self.new.player) }
     {
@@ -226,10 +226,10 @@ impl<'a, A: Allocator + Copy> Running<'a, A> {
             server: self.server,
         };
         let arrival = Arrival::Client { five_tuple, bytes };
-        self.play(&[Step::Arrive(self.moment, arrival)])
+        self.play(&[Action::Arrive(self.moment, arrival)])
     }
 
-    fn ask(&mut self, ask: &Ask<'_>) -> Result<(), LineFault>
+    fn ask(&mut self, ask: &Ask<'_>) -> Result<(), LineError>
         ensures lives { OnOk result (LivesOn ⟦<MemoryDisk<A> as Disk>⟧ ⟦<Credentials<A> as AuthHandler>⟧ ⟦<PortRange as RelayAddressGenerator>⟧
             self.old.player self.new.player) }
     {
@@ -237,7 +237,7 @@ impl<'a, A: Allocator + Copy> Running<'a, A> {
         self.submit(ask.client, &bytes)
     }
 
-    fn send(&mut self, client: Endpoint, peer: Endpoint, word: &[u8]) -> Result<(), LineFault>
+    fn send(&mut self, client: Endpoint, peer: Endpoint, word: &[u8]) -> Result<(), LineError>
         ensures lives { OnOk result (LivesOn ⟦<MemoryDisk<A> as Disk>⟧ ⟦<Credentials<A> as AuthHandler>⟧ ⟦<PortRange as RelayAddressGenerator>⟧
             self.old.player self.new.player) }
     {
@@ -246,7 +246,7 @@ impl<'a, A: Allocator + Copy> Running<'a, A> {
         self.submit(client, &bytes)
     }
 
-    fn submit_from_peer(&mut self, port: u16, from: Endpoint, bytes: &[u8]) -> Result<(), LineFault>
+    fn submit_from_peer(&mut self, port: u16, from: Endpoint, bytes: &[u8]) -> Result<(), LineError>
         ensures lives { OnOk result (LivesOn ⟦<MemoryDisk<A> as Disk>⟧ ⟦<Credentials<A> as AuthHandler>⟧ ⟦<PortRange as RelayAddressGenerator>⟧
             self.old.player self.new.player) }
     {
@@ -257,10 +257,10 @@ impl<'a, A: Allocator + Copy> Running<'a, A> {
             bytes,
             id,
         };
-        self.play(&[Step::Arrive(self.moment, arrival)])
+        self.play(&[Action::Arrive(self.moment, arrival)])
     }
 
-    fn peer(&mut self, line: &PeerLine<'_>) -> Result<(), LineFault>
+    fn peer(&mut self, line: &PeerLine<'_>) -> Result<(), LineError>
         ensures lives { OnOk result (LivesOn ⟦<MemoryDisk<A> as Disk>⟧ ⟦<Credentials<A> as AuthHandler>⟧ ⟦<PortRange as RelayAddressGenerator>⟧
             self.old.player self.new.player) }
     {
@@ -269,21 +269,21 @@ impl<'a, A: Allocator + Copy> Running<'a, A> {
     }
 
     // The moment of the lines never goes back.
-    fn go_to(&mut self, moment: Moment) -> Result<(), LineFault>
+    fn go_to(&mut self, moment: Moment) -> Result<(), LineError>
         ensures ok { OnOk result ((self.old.moment ≤ moment) × (self.new.moment ≡ moment)) }
         ensures refused { OnErr result ((moment < self.old.moment) × (self.new.moment ≡ self.old.moment)) }
         ensures lives { OnOk result (LivesOn ⟦<MemoryDisk<A> as Disk>⟧ ⟦<Credentials<A> as AuthHandler>⟧ ⟦<PortRange as RelayAddressGenerator>⟧
             self.old.player self.new.player) }
     {
         if moment < self.moment {
-            return Err(LineFault::Bad);
+            return Err(LineError::Bad);
         }
         self.moment = moment;
         Ok(())
     }
 
     /// Reports the table at the moment, or at the server's clock where that is later.
-    fn table(&mut self) -> Result<(), LineFault>
+    fn table(&mut self) -> Result<(), LineError>
         ensures lives { OnOk result (LivesOn ⟦<MemoryDisk<A> as Disk>⟧ ⟦<Credentials<A> as AuthHandler>⟧ ⟦<PortRange as RelayAddressGenerator>⟧
             self.old.player self.new.player) }
     {
@@ -302,18 +302,18 @@ impl<'a, A: Allocator + Copy> Running<'a, A> {
         Ok(())
     }
 
-    fn expect(&mut self, text: &[u8]) -> Result<(), LineFault>
+    fn expect(&mut self, text: &[u8]) -> Result<(), LineError>
         ensures lives { OnOk result (LivesOn ⟦<MemoryDisk<A> as Disk>⟧ ⟦<Credentials<A> as AuthHandler>⟧ ⟦<PortRange as RelayAddressGenerator>⟧
             self.old.player self.new.player) }
     {
         if self.lines.compare(text) {
             Ok(())
         } else {
-            Err(LineFault::Differs)
+            Err(LineError::Differs)
         }
     }
 
-    fn do_line(&mut self, line: &Line<'_>) -> Result<(), LineFault>
+    fn do_line(&mut self, line: &Line<'_>) -> Result<(), LineError>
         ensures lives { OnOk result (LivesOn ⟦<MemoryDisk<A> as Disk>⟧ ⟦<Credentials<A> as AuthHandler>⟧ ⟦<PortRange as RelayAddressGenerator>⟧
             self.old.player self.new.player) }
     {
@@ -330,24 +330,24 @@ impl<'a, A: Allocator + Copy> Running<'a, A> {
             Line::Ask(ask) => self.ask(ask),
             Line::Send(client, peer, word) => self.send(*client, *peer, word),
             Line::Peer(line) => self.peer(line),
-            Line::Commit => self.play(&[Step::Commit]),
-            Line::Fail(call) => self.play(&[Step::Fail(*call)]),
-            Line::Stop(call) => self.play(&[Step::Stop(*call)]),
-            Line::Crash(outcome) => self.play(&[Step::Crash(*outcome)]),
-            Line::Reopen => self.play(&[Step::Reopen { carry: true }]),
+            Line::Commit => self.play(&[Action::Commit]),
+            Line::Fail(call) => self.play(&[Action::Fail(*call)]),
+            Line::Stop(call) => self.play(&[Action::Stop(*call)]),
+            Line::Crash(outcome) => self.play(&[Action::Crash(*outcome)]),
+            Line::Reopen => self.play(&[Action::Reopen { carry: true }]),
             Line::Table => self.table(),
             Line::Expect(text) => self.expect(text),
         }
     }
 
     /// Does what a line that is not skipped says.
-    pub(crate) fn take(&mut self, text: &[u8]) -> Result<(), LineFault>
+    pub(crate) fn take(&mut self, text: &[u8]) -> Result<(), LineError>
         ensures lives { OnOk result (LivesOn ⟦<MemoryDisk<A> as Disk>⟧ ⟦<Credentials<A> as AuthHandler>⟧ ⟦<PortRange as RelayAddressGenerator>⟧
             self.old.player self.new.player) }
     {
         match read_line(text) {
             Some(line) => self.do_line(&line),
-            None => Err(LineFault::Bad),
+            None => Err(LineError::Bad),
         }
     }
 

@@ -1,6 +1,6 @@
 //! A whole scenario.
 
-use crate::fault::{LineFault, ScenarioFault};
+use crate::error::{LineError, ScenarioError};
 use crate::report::{Lines, Report};
 use crate::running::Running;
 use std::alloc::{Allocator, Global};
@@ -39,9 +39,9 @@ fn start<'a, A: Allocator + Copy>(
     lines: ConfigLines<'a, A>,
     version: Version,
     size: &[u8],
-) -> Result<Stage<'a, A>, LineFault> {
-    let area = number_32(size).ok_or(LineFault::Bad)?;
-    let configured = lines.finish()?.ok_or(LineFault::Bad)?;
+) -> Result<Stage<'a, A>, LineError> {
+    let area = number_32(size).ok_or(LineError::Bad)?;
+    let configured = lines.finish()?.ok_or(LineError::Bad)?;
     Ok(Stage::Running(Running::start(alloc, configured, version, area)?))
 }
 
@@ -49,7 +49,7 @@ fn configure<'a, A: Allocator + Copy>(
     alloc: A,
     lines: &mut ConfigLines<'a, A>,
     line: &'a [u8],
-) -> Result<Option<Stage<'a, A>>, LineFault> {
+) -> Result<Option<Stage<'a, A>>, LineError> {
     if let Some((version, size)) = format_line(line) {
         let lines = mem::replace(lines, ConfigLines::new(alloc));
         return Ok(Some(start(alloc, lines, version, size)?));
@@ -57,12 +57,12 @@ fn configure<'a, A: Allocator + Copy>(
     if lines.take(line)? {
         Ok(None)
     } else {
-        Err(LineFault::Bad)
+        Err(LineError::Bad)
     }
 }
 
 impl<'a, A: Allocator + Copy> Scenario<'a, A> {
-    fn take(&mut self, line: &'a [u8]) -> Result<(), LineFault> {
+    fn take(&mut self, line: &'a [u8]) -> Result<(), LineError> {
         let next = match &mut self.stage {
             Stage::Running(running) => return running.take(line),
             Stage::Configuring(lines) => configure(self.alloc, lines, line)?,
@@ -85,7 +85,7 @@ impl<'a, A: Allocator + Copy> Scenario<'a, A> {
 
 /// Runs a scenario over a disk in memory and returns its report. Lines are judged and done one after the other, so those
 /// after a fault are not read.
-pub fn replay<A: Allocator + Copy>(alloc: A, text: &[u8]) -> Result<Report<A>, ScenarioFault> {
+pub fn replay<A: Allocator + Copy>(alloc: A, text: &[u8]) -> Result<Report<A>, ScenarioError> {
     let mut scenario = Scenario {
         alloc,
         stage: Stage::Configuring(ConfigLines::new(alloc)),

@@ -2,7 +2,7 @@
 #![tactic(auto)]
 
 ghost use Rattle.std.specs.Prelude.{◌≡◌, ◌⊎◌, IfErr};
-ghost use Rattle.turn_program.specs.declared.fault.Fault.TheVariants as faults;
+ghost use Rattle.turn_program.specs.declared.error.ProgramError.TheVariants as faults;
 
 mod sources;
 
@@ -10,7 +10,7 @@ use sources::{SOURCES, TOOLCHAIN};
 use std::io::ErrorKind;
 use std::process::ExitCode;
 use std::{env, io};
-use turn_program::{Fault, LogStream, Release, fill_streams, report, run_words};
+use turn_program::{LogStream, ProgramError, Release, fill_streams, report, run_words};
 
 /// What `turn version` says.
 const RELEASE: Release<'static> = Release {
@@ -20,13 +20,13 @@ const RELEASE: Release<'static> = Release {
 };
 
 /// The words of the command line, the program's name first. A word that isn't UTF-8 is a usage fault.
-fn words_of(rt: &HostRuntime) -> Result<Vec<String>, Fault>
+fn words_of(rt: &HostRuntime) -> Result<Vec<String>, ProgramError>
     ensures { IfErr result (λ fault. (fault ≡ faults.Usage) ⊎ (fault ≡ faults.Memory)) }
 {
     match env::args(rt) {
         Ok(words) => Ok(words.collect(rt.alloc())?),
-        Err(error) if error.kind() == ErrorKind::OutOfMemory => Err(Fault::Memory),
-        Err(_) => Err(Fault::Usage),
+        Err(error) if error.kind() == ErrorKind::OutOfMemory => Err(ProgramError::Memory),
+        Err(_) => Err(ProgramError::Usage),
     }
 }
 

@@ -5,10 +5,10 @@ use Rattle.turn_disk.specs.declared.disk.Disk as disks
 use Rattle.turn_disk.proofs.Since.{since_join}
 use Rattle.turn_engine.specs.Calls.{Opening}
 use Rattle.turn_engine.specs.Images.{AtLeast}
-use Rattle.turn_engine.specs.Resting.{Opens}
-use Rattle.turn_engine.specs.Runs.{IsAt, start}
+use Rattle.turn_engine.specs.Recovering.{Opens}
+use Rattle.turn_engine.specs.Runs.{IsAtPlace, start}
 use Rattle.turn_engine.specs.State.{ServerState, now_of}
-use Rattle.turn_engine.specs.declared.fault.OpenRefused.{OpenRefused}
+use Rattle.turn_engine.specs.declared.error.ServerOpenError.{ServerOpenError}
 use Rattle.turn_engine.proofs.Runs.{opened}
 use Rattle.turn_history.specs.History.{History}
 use Rattle.turn_ports.specs.declared.generator.RelayAddressGenerator as generators
@@ -29,26 +29,26 @@ use Rattle.turn_serving.specs.Starts.{BeginsRun, IsKept, IsOfVersion, KeepsImage
 
 pub opened_images : {D H G : Type 0} (disk : disks.Ghosts D) {old : D} {config : Config} {users : H} {ports : G} {server : ServerState D H G} → Opening disk old config users ports (Ok server)
     → KeepsImages disk old server.store.disk
-opened_images disk call = record { honest = call.uses.honest; stop = call.stop }
+opened_images disk call = record { crash_model = call.uses.crash_model; stop = call.stop }
 
-pub refused_images : {D H G : Type 0} (disk : disks.Ghosts D) {old : D} {config : Config} {users : H} {ports : G} {refused : OpenRefused D H G} → Opening disk old config users ports (Err refused)
+pub refused_images : {D H G : Type 0} (disk : disks.Ghosts D) {old : D} {config : Config} {users : H} {ports : G} {refused : ServerOpenError D H G} → Opening disk old config users ports (Err refused)
     → KeepsImages disk old refused.disk
-refused_images disk call = record { honest = call.uses.honest; stop = call.stop }
+refused_images disk call = record { crash_model = call.uses.crash_model; stop = call.stop }
 
-pub kept : {D : Type 0} (disk : disks.Ghosts D) {old new : D} → KeepsImages disk old new → (disk.is_honest new → (disk.trace new).now.bytes ≡ (disk.trace old).now.bytes) → IsKept disk old new
+pub kept : {D : Type 0} (disk : disks.Ghosts D) {old new : D} → KeepsImages disk old new → (disk.follows_crash_model new → (disk.trace new).now.bytes ≡ (disk.trace old).now.bytes) → IsKept disk old new
 kept disk images content = record { images = images; content = content }
 
 pub joined : {D : Type 0} (disk : disks.Ghosts D) {old middle new : D} → KeepsImages disk old middle → KeepsImages disk middle new → KeepsImages disk old new
 joined disk first second = record {
-  honest = λ honest. first.honest (second.honest honest);
-  stop = λ honest form h k m images.
-      let one = first.stop (second.honest honest) form h k m images in
-      since_join _ _ _ _ one (second.stop honest form h k m one.after);
+  crash_model = λ crash_model. first.crash_model (second.crash_model crash_model);
+  stop = λ crash_model form h k m images.
+      let one = first.stop (second.crash_model crash_model) form h k m images in
+      since_join _ _ _ _ one (second.stop crash_model form h k m one.after);
 }
 
 pub both_kept : {D : Type 0} (disk : disks.Ghosts D) {old middle new : D} → IsKept disk old middle → IsKept disk middle new → IsKept disk old new
 both_kept disk first second =
-    kept disk (joined disk first.images second.images) (λ honest. second.content honest ∙ first.content (second.images.honest honest))
+    kept disk (joined disk first.images second.images) (λ crash_model. second.content crash_model ∙ first.content (second.images.crash_model crash_model))
 
 -- ---- The version that counts
 
@@ -103,22 +103,22 @@ not_first V2 content is never = refl
 -- ---- A start
 
 pub started : {D H G : Type 0} (disk : disks.Ghosts D) (handler : handlers.Ghosts H) (generator : generators.Ghosts G) (old middle : D) (config : Config) (users again : H) (ports : G) (range : ℕ × ℕ) (server : ServerState D H G)
-    → IsKept disk old middle → again ≡ users → generator.range ports ≡ range → Opening disk middle config again ports (Ok server) → (v : Version) → (disk.is_honest middle → IsOfVersion v (disk.trace old).now.bytes)
-    → (carry : Bool) → carry ≡ is_first v → (disk.is_honest server.store.disk → Carries carry (disk.trace middle).now.bytes server.store) → Started disk handler generator old config users range server
+    → IsKept disk old middle → again ≡ users → generator.range ports ≡ range → Opening disk middle config again ports (Ok server) → (v : Version) → (disk.follows_crash_model middle → IsOfVersion v (disk.trace old).now.bytes)
+    → (carry : Bool) → carry ≡ is_first v → (disk.follows_crash_model server.store.disk → Carries carry (disk.trace middle).now.bytes server.store) → Started disk handler generator old config users range server
 started disk handler generator old middle config users again ports range server same same_users in_range call v version carry asked carried =
     record {
       setting = ap (setting_of handler.key_of generator.range) call.machine ∙ ap (λ u. record { config = config; keys = handler.key_of u; range = generator.range ports; pairs = server.machine.pairs }) same_users
           ∙ ap (λ (r : ℕ × ℕ). record { config = config; keys = handler.key_of users; range = r; pairs = server.machine.pairs }) in_range;
       pairs = call.pairs;
-      carried = λ honest. carries_all v (disk.trace old).now.bytes server.store (version (call.uses.honest honest))
+      carried = λ crash_model. carries_all v (disk.trace old).now.bytes server.store (version (call.uses.crash_model crash_model))
           (subst (λ (b : Bool). Carries b (disk.trace old).now.bytes server.store) asked
-          (subst (λ (content : List ℕ). Carries carry content server.store) (same.content (call.uses.honest honest)) (carried honest)));
+          (subst (λ (content : List ℕ). Carries carry content server.store) (same.content (call.uses.crash_model crash_model)) (carried crash_model)));
       nothing = call.nothing;
       runs = call.runs;
-      honest = (joined disk same.images (opened_images disk call)).honest;
-      rests = λ honest form h k m bounds images.
-          subst (λ (content : List ℕ). Opens form h k m content (disk.trace server.store.disk).now server) (same.content (call.uses.honest honest))
-          (call.rests honest form h k m bounds (same.images.stop (call.uses.honest honest) form h k m images).after);
+      crash_model = (joined disk same.images (opened_images disk call)).crash_model;
+      recovers = λ crash_model form h k m bounds images.
+          subst (λ (content : List ℕ). Opens form h k m content (disk.trace server.store.disk).now server) (same.content (call.uses.crash_model crash_model))
+          (call.recovers crash_model form h k m bounds (same.images.stop (call.uses.crash_model crash_model) form h k m images).after);
       reopened = record {
         middle = middle;
         generator = ports;
@@ -133,14 +133,14 @@ pub started_as : {D H G : Type 0} {disk : disks.Ghosts D} {handler : handlers.Gh
 started_as {disk = disk} {handler = handler} {generator = generator} {old = old} {config = config} {users = users} {range = range} same is = subst (λ s. Started disk handler generator old config users range s) (sym same) is
 
 pub begins : {D H G : Type 0} (disk : disks.Ghosts D) (handler : handlers.Ghosts H) (ports : generators.Ghosts G) (old : D) (config : Config) (users : H) (range : ℕ × ℕ) (server : ServerState D H G) (form : Form) (h : History) (k m : ℕ)
-    → Started disk handler ports old config users range server → disk.is_honest server.store.disk → form.bounds ≡ config.limits → EachImage (disk.trace old).now (AtLeast form h k m)
+    → Started disk handler ports old config users range server → disk.follows_crash_model server.store.disk → form.bounds ≡ config.limits → EachImage (disk.trace old).now (AtLeast form h k m)
     → BeginsRun disk handler ports (record { config = config; keys = handler.key_of users; range = range; pairs = server.machine.pairs }) h k server
-begins disk handler ports old config users range server form h k m begun honest bounds images =
-    let o = begun.rests honest form h k m bounds images in
+begins disk handler ports old config users range server form h k m begun crash_model bounds images =
+    let o = begun.recovers crash_model form h k m bounds images in
     record {
       count = o.count;
       no_less = o.no_less;
       no_more = o.no_more;
-      is_at = subst (λ (s : Setting). IsAt disk handler ports s (take o.count h) (now_of server) server start) begun.setting
-          (opened disk handler ports form h k m (disk.trace old).now.bytes server honest o (ap (λ s. s.outs) begun.nothing) (ap (λ s. s.arrivals) begun.nothing));
+      is_at = subst (λ (s : Setting). IsAtPlace disk handler ports s (take o.count h) (now_of server) server start) begun.setting
+          (opened disk handler ports form h k m (disk.trace old).now.bytes server crash_model o (ap (λ s. s.outs) begun.nothing) (ap (λ s. s.arrivals) begun.nothing));
     }

@@ -8,11 +8,11 @@ use Rattle.turn_engine.proofs.Answered.{accepted-append, begins}
 use Rattle.turn_engine.proofs.Runs.{earlier, goes_on, stops}
 use Rattle.turn_engine.specs.Calls.{Commits, Submits}
 use Rattle.turn_engine.specs.Images.{AtLeast}
-use Rattle.turn_engine.specs.Runs.{BeginsWith, Commit, IsAt, IsCall, Place, Serves, Step, Submit, Taken, accepted, after_of, count_at, history_at, last_of}
+use Rattle.turn_engine.specs.Runs.{BeginsWith, Commit, IsAtPlace, IsCall, Place, Serves, ServerCall, Submit, Taken, accepted, after_of, count_at, history_at, last_of}
 use Rattle.turn_engine.specs.State.{ServerState, now_of}
 use Rattle.turn_engine.proofs.Held.{stay_held}
-use Rattle.turn_engine.specs.declared.fault.SubmitRefused.{SubmitRefused}
-use Rattle.turn_engine.specs.declared.fault.SubmitRefused.TheVariants.{BatchFull, Memory, Stopped}
+use Rattle.turn_engine.specs.declared.error.SubmitError.{SubmitError}
+use Rattle.turn_engine.specs.declared.error.SubmitError.TheVariants.{BatchFull, Memory, Stopped}
 use Rattle.turn_ports.specs.declared.generator.RelayAddressGenerator as generators
 use Rattle.turn_history.specs.History.{History}
 use Rattle.turn_sockets.specs.Moments.{IsMoment}
@@ -22,17 +22,17 @@ use Rattle.turn_step.specs.State.{HoldsPorts}
 use Rattle.turn_store.specs.Areas.{Form}
 use Rattle.turn_store.specs.Images.{StandsForAt}
 use Rattle.turn_store.specs.State.{form_of}
-use Rattle.turn_store.specs.declared.fault.StoreFault.{StoreFault}
+use Rattle.turn_store.specs.declared.error.StoreError.{StoreError}
 use Rattle.turn_serving.specs.Turns.{AreAt, At, Never, Served}
 
 module _ {D H G : Type 0} (disk : disks.Ghosts D) (handler : handlers.Ghosts H) (ports : generators.Ghosts G) where
-  serves-append : (server : ServerState D H G) (first second : List (Step D H G)) → Serves disk handler ports server first → Serves disk handler ports (last_of server first) second
+  serves-append : (server : ServerState D H G) (first second : List (ServerCall D H G)) → Serves disk handler ports server first → Serves disk handler ports (last_of server first) second
       → Serves disk handler ports server (first ++ second)
   serves-append server [] second before after = after
   serves-append server (x ∷ xs) second before after = (before.0, serves-append (after_of x) xs second before.1 after)
 
   -- the clock never goes back
-  call_in_time : (old : ServerState D H G) (x : Step D H G) → IsCall disk handler ports old x → now_of old ≤ now_of (after_of x)
+  call_in_time : (old : ServerState D H G) (x : ServerCall D H G) → IsCall disk handler ports old x → now_of old ≤ now_of (after_of x)
   call_in_time old (Submit moment a (Ok done) new) call = subst (λ n. now_of old ≤ n) (sym call.clock) call.in_time
   call_in_time old (Submit moment a (Err Stopped) new) call = let same = ap now_of (call.unchanged refl) in omega arith
   call_in_time old (Submit moment a (Err BatchFull) new) call = let same = ap now_of (call.unchanged_full refl) in omega arith
@@ -40,23 +40,23 @@ module _ {D H G : Type 0} (disk : disks.Ghosts D) (handler : handlers.Ghosts H) 
   call_in_time old (Commit (Ok outs) new) call = let same = ap now_of call.ok in omega arith
   call_in_time old (Commit (Err fault) new) call = let same = ap now_of call.err in omega arith
 
-  calls_in_time : (old : ServerState D H G) (steps : List (Step D H G)) → Serves disk handler ports old steps → now_of old ≤ now_of (last_of old steps)
+  calls_in_time : (old : ServerState D H G) (steps : List (ServerCall D H G)) → Serves disk handler ports old steps → now_of old ≤ now_of (last_of old steps)
   calls_in_time old [] serves = omega arith
   calls_in_time old (x ∷ xs) serves =
       let first = call_in_time old x serves.0 in
       let rest = calls_in_time (after_of x) xs serves.1 in
       omega arith
 
-last_of-append : {D H G : Type 0} (server : ServerState D H G) (first second : List (Step D H G)) → last_of server (first ++ second) ≡ last_of (last_of server first) second
+last_of-append : {D H G : Type 0} (server : ServerState D H G) (first second : List (ServerCall D H G)) → last_of server (first ++ second) ≡ last_of (last_of server first) second
 last_of-append server [] second = refl
 last_of-append server (x ∷ xs) second = last_of-append (after_of x) xs second
 
-are_at-append : {D H G : Type 0} (IsOne : ℕ → ℕ → Type 0) (server : ServerState D H G) (first second : List (Step D H G)) → AreAt IsOne server first → AreAt IsOne (last_of server first) second → AreAt IsOne server (first ++ second)
+are_at-append : {D H G : Type 0} (IsOne : ℕ → ℕ → Type 0) (server : ServerState D H G) (first second : List (ServerCall D H G)) → AreAt IsOne server first → AreAt IsOne (last_of server first) second → AreAt IsOne server (first ++ second)
 are_at-append IsOne server [] second before after = after
 are_at-append IsOne server (Submit moment a result new ∷ xs) second before after = (before.0, are_at-append IsOne new xs second before.1 after)
 are_at-append IsOne server (Commit result new ∷ xs) second before after = are_at-append IsOne new xs second before after
 
-never_at : {D H G : Type 0} (IsOne : ℕ → ℕ → Type 0) (server : ServerState D H G) (steps : List (Step D H G)) → AreAt Never server steps → AreAt IsOne server steps
+never_at : {D H G : Type 0} (IsOne : ℕ → ℕ → Type 0) (server : ServerState D H G) (steps : List (ServerCall D H G)) → AreAt Never server steps → AreAt IsOne server steps
 never_at IsOne server [] at = tt
 never_at IsOne server (Submit moment a result new ∷ xs) at = absurd at.0
 never_at IsOne server (Commit result new ∷ xs) at = never_at IsOne new xs at
@@ -74,7 +74,7 @@ still told clock moment is = record {
 
 module _ {D H G : Type 0} (disk : disks.Ghosts D) (handler : handlers.Ghosts H) (ports : generators.Ghosts G) (told : ℕ → Type 0) (moment : ℕ) where
   -- whatever a call at the moment came to, it is still that moment
-  call_still : (old : ServerState D H G) (x : Step D H G) → IsCall disk handler ports old x → AreAt (At moment) old (x ∷ []) → IsMoment told (now_of old) moment → IsMoment told (now_of (after_of x)) moment
+  call_still : (old : ServerState D H G) (x : ServerCall D H G) → IsCall disk handler ports old x → AreAt (At moment) old (x ∷ []) → IsMoment told (now_of old) moment → IsMoment told (now_of (after_of x)) moment
   call_still old (Submit m a (Ok done) new) call at is = subst (λ (n : ℕ). IsMoment told n moment) (sym (call.clock ∙ at.0)) (still told (now_of old) moment is)
   call_still old (Submit m a (Err Stopped) new) call at is = subst (λ (n : ℕ). IsMoment told n moment) (sym (ap now_of (call.unchanged refl))) is
   call_still old (Submit m a (Err BatchFull) new) call at is = subst (λ (n : ℕ). IsMoment told n moment) (sym (ap now_of (call.unchanged_full refl))) is
@@ -82,7 +82,7 @@ module _ {D H G : Type 0} (disk : disks.Ghosts D) (handler : handlers.Ghosts H) 
   call_still old (Commit (Ok outs) new) call at is = subst (λ (n : ℕ). IsMoment told n moment) (sym (ap now_of call.ok)) is
   call_still old (Commit (Err fault) new) call at is = subst (λ (n : ℕ). IsMoment told n moment) (sym (ap now_of call.err)) is
 
-  all_told : (old : ServerState D H G) (steps : List (Step D H G)) → Serves disk handler ports old steps → AreAt (At moment) old steps → IsMoment told (now_of old) moment → AreAt (IsMoment told) old steps
+  all_told : (old : ServerState D H G) (steps : List (ServerCall D H G)) → Serves disk handler ports old steps → AreAt (At moment) old steps → IsMoment told (now_of old) moment → AreAt (IsMoment told) old steps
   all_told old [] serves at is = tt
   all_told old (Submit m a result new ∷ xs) serves at is = (
     subst (IsMoment told (now_of old)) (sym at.0) is,
@@ -94,7 +94,7 @@ module _ {D H G : Type 0} {disk : disks.Ghosts D} {handler : handlers.Ghosts H} 
   pub no_call : {IsOne : ℕ → ℕ → Type 0} (server : ServerState D H G) → Served disk handler ports IsOne server server
   no_call server = record { steps = []; serves = tt; moments = tt; last = refl }
 
-  pub submitted : {old new : ServerState D H G} {moment : ℕ} {a : Arrives} {result : Result Unit SubmitRefused} → Submits disk handler ports old new moment a result
+  pub submitted : {old new : ServerState D H G} {moment : ℕ} {a : Arrives} {result : Result Unit SubmitError} → Submits disk handler ports old new moment a result
       → Served disk handler ports (At moment) old new
   submitted {new = new} {moment = moment} {a = a} {result = result} call = record { steps = Submit moment a result new ∷ []; serves = (call, tt); moments = (refl, tt); last = refl }
 
@@ -133,7 +133,7 @@ module _ {D H G : Type 0} {disk : disks.Ghosts D} {handler : handlers.Ghosts H} 
   pub in_time : {IsOne : ℕ → ℕ → Type 0} {old new : ServerState D H G} → Served disk handler ports IsOne old new → now_of old ≤ now_of new
   in_time {old = old} served = subst (λ s. now_of old ≤ now_of s) served.last (calls_in_time disk handler ports old served.steps served.serves)
 
-pub committed : {D H G : Type 0} {disk : disks.Ghosts D} {handler : handlers.Ghosts H} (ports : generators.Ghosts G) {IsOne : ℕ → ℕ → Type 0} {old new : ServerState D H G} {result : Result (List Sent) StoreFault} → Commits disk old new result
+pub committed : {D H G : Type 0} {disk : disks.Ghosts D} {handler : handlers.Ghosts H} (ports : generators.Ghosts G) {IsOne : ℕ → ℕ → Type 0} {old new : ServerState D H G} {result : Result (List Sent) StoreError} → Commits disk old new result
     → Served disk handler ports IsOne old new
 committed ports {new = new} {result = result} call = record { steps = Commit result new ∷ []; serves = (call, tt); moments = tt; last = refl }
 
@@ -161,17 +161,17 @@ module _ {D H G : Type 0} (disk : disks.Ghosts D) (handler : handlers.Ghosts H) 
       begins_less (form_of server.store) (h ++ accepted p.handed) (h ++ accepted p.handed) [] m n image (sym (append-nil (h ++ accepted p.handed))) less
       (begins (form_of server.store) (history_at h p) (h ++ accepted p.handed) (accepted p.recent) (count_at h p) m image (handed_first h p) enough at)
 
-  same_form : (old : ServerState D H G) (x : Step D H G) → IsCall disk handler ports old x → form_of (after_of x).store ≡ form_of old.store
+  same_form : (old : ServerState D H G) (x : ServerCall D H G) → IsCall disk handler ports old x → form_of (after_of x).store ≡ form_of old.store
   same_form old (Submit moment a result new) call = ap form_of call.store
   same_form old (Commit result new) call = call.form
 
-  calls_keep : (server : ServerState D H G) (p : Place) (steps : List (Step D H G)) → IsAt disk handler ports s h t server p → Serves disk handler ports server steps
-      → disk.is_honest (last_of server steps).store.disk
+  calls_keep : (server : ServerState D H G) (p : Place) (steps : List (ServerCall D H G)) → IsAtPlace disk handler ports s h t server p → Serves disk handler ports server steps
+      → disk.follows_crash_model (last_of server steps).store.disk
       → EachImageSince (disk.trace server.store.disk) (disk.trace (last_of server steps).store.disk) (BeginsWith (form_of server.store) (h ++ accepted p.handed) (now_of (last_of server steps)))
-  calls_keep server p [] is serves honest = since_same _ _ _ refl (λ image left. let same : now_of server ≤ now_of server = omega arith in handed_stays server p (now_of server) (now_of server) image same (is.images image left))
-  calls_keep server p (x ∷ xs) is serves honest =
+  calls_keep server p [] is serves crash_model = since_same _ _ _ refl (λ image left. let same : now_of server ≤ now_of server = omega arith in handed_stays server p (now_of server) (now_of server) image same (is.images image left))
+  calls_keep server p (x ∷ xs) is serves crash_model =
       let last = last_of (after_of x) xs in
-      let now = earlier disk handler ports (after_of x) xs serves.1 honest in
+      let now = earlier disk handler ports (after_of x) xs serves.1 crash_model in
       let to = goes_on disk handler ports s h t server p (x ∷ []) is (serves.0, tt) now in
       let first = call_in_time disk handler ports server x serves.0 in
       let later = calls_in_time disk handler ports (after_of x) xs serves.1 in
@@ -184,11 +184,11 @@ module _ {D H G : Type 0} (disk : disks.Ghosts D) (handler : handlers.Ghosts H) 
       (λ image begun. let same : now_of last ≤ now_of last = omega arith in
       begins_less (form_of server.store) (h ++ accepted to.end.handed) (h ++ accepted p.handed) (accepted to.more) (now_of last) (now_of last) image longer same
       (subst (λ (f : Form). BeginsWith f (h ++ accepted to.end.handed) (now_of last) image) (same_form server x serves.0) begun))
-      (calls_keep (after_of x) to.end xs to.is_at serves.1 honest))
+      (calls_keep (after_of x) to.end xs to.is_at serves.1 crash_model))
 
   -- whatever calls are made, what was handed out stays at every moment
-  pub keeps : {IsOne : ℕ → ℕ → Type 0} {old new : ServerState D H G} → Served disk handler ports IsOne old new → (p : Place) → IsAt disk handler ports s h t old p → disk.is_honest new.store.disk
+  pub keeps : {IsOne : ℕ → ℕ → Type 0} {old new : ServerState D H G} → Served disk handler ports IsOne old new → (p : Place) → IsAtPlace disk handler ports s h t old p → disk.follows_crash_model new.store.disk
       → EachImageSince (disk.trace old.store.disk) (disk.trace new.store.disk) (BeginsWith (form_of old.store) (h ++ accepted p.handed) (now_of new))
-  keeps {old = old} served p is honest =
+  keeps {old = old} served p is crash_model =
       subst (λ (last : ServerState D H G). EachImageSince (disk.trace old.store.disk) (disk.trace last.store.disk) (BeginsWith (form_of old.store) (h ++ accepted p.handed) (now_of last))) served.last
-      (calls_keep old p served.steps is served.serves (subst (λ (last : ServerState D H G). disk.is_honest last.store.disk) (sym served.last) honest))
+      (calls_keep old p served.steps is served.serves (subst (λ (last : ServerState D H G). disk.follows_crash_model last.store.disk) (sym served.last) crash_model))

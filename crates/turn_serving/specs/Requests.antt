@@ -2,7 +2,7 @@
 use Rattle.std.specs.Prelude.{◌≡◌, ℕ, ◌==◌, ◌&&◌, ◌||◌, Bool, false, List, [], ◌∷◌, None}
 use Rattle.turn_history.specs.History.{History}
 use Rattle.turn_step.specs.Answer.{AnswersArrival, Setting}
-use Rattle.turn_step.specs.Outcome.{Arrives, Outcome}
+use Rattle.turn_step.specs.Outcome.{Arrives, StepOutcome}
 use Rattle.turn_step.specs.Outcome.Arrives.{FromClient, FromPeer}
 
 -- a request of a method that asks for credentials: Allocate, Refresh, CreatePermission, ChannelBind (RFC 8489, section 5; RFC
@@ -19,5 +19,5 @@ may_change_by (FromPeer port from bytes id) = false
 
 -- at any moment after any history, whatever is answered to another datagram of a client, or to a peer's, it changes nothing
 abbrev pub OthersChangeNothing : Type 0
-OthersChangeNothing = (s : Setting) (h : History) (t : ℕ) (failed : Bool) (a : Arrives) (o : Outcome)
+OthersChangeNothing = (s : Setting) (h : History) (t : ℕ) (failed : Bool) (a : Arrives) (o : StepOutcome)
     → may_change_by a ≡ false → AnswersArrival s h t failed a o → o.change ≡ None

@@ -7,8 +7,8 @@ use Rattle.turn_disk.specs.Disk.{EachImageSince}
 use Rattle.turn_disk.specs.declared.disk.Disk as disks
 use Rattle.turn_engine.specs.Calls.{Opening}
 use Rattle.turn_engine.specs.Images.{AtLeast}
-use Rattle.turn_engine.specs.Resting.{Opens}
-use Rattle.turn_engine.specs.Runs.{IsAt, start}
+use Rattle.turn_engine.specs.Recovering.{Opens}
+use Rattle.turn_engine.specs.Runs.{IsAtPlace, start}
 use Rattle.turn_engine.specs.State.{ServerState, emptied, has_pairs, now_of}
 use Rattle.turn_history.specs.History.{History}
 use Rattle.turn_history.specs.Table.{Contents}
@@ -18,24 +18,24 @@ use Rattle.turn_record.specs.declared.version.Version.TheVariants.{V1, V2}
 use Rattle.turn_step.specs.Answer.{Setting}
 use Rattle.turn_step.specs.State.{setting_of}
 use Rattle.turn_store.specs.Areas.{Form}
-use Rattle.turn_store.specs.Carrying.{Carries, CountsAs}
+use Rattle.turn_store.specs.Carrying.{Carries, IsActiveAs}
 use Rattle.turn_store.specs.Images.{EachImage}
 use Rattle.turn_types.specs.Config.{Config}
 use Rattle.turn_types.specs.declared.limits.Bounds.{Bounds}
-use Rattle.turn_serving.specs.declared.fault.StartFault.{StartFault}
-use Rattle.turn_serving.specs.declared.fault.StartFault.TheVariants as faults
+use Rattle.turn_serving.specs.declared.error.StartError.{StartError}
+use Rattle.turn_serving.specs.declared.error.StartError.TheVariants as faults
 
 -- Calls led from one state of a disk to another: where each image at first stood for the first events of a history, at least k of
 -- them, each image at each moment since does.
 pub record KeepsImages {D : Type 0} (disk : disks.Ghosts D) (old new : D) : Type 0 where
-  pub honest : disk.is_honest new → disk.is_honest old
-  pub stop : disk.is_honest new → (form : Form) (h : History) (k m : ℕ) → EachImage (disk.trace old).now (AtLeast form h k m)
+  pub crash_model : disk.follows_crash_model new → disk.follows_crash_model old
+  pub stop : disk.follows_crash_model new → (form : Form) (h : History) (k m : ℕ) → EachImage (disk.trace old).now (AtLeast form h k m)
       → EachImageSince (disk.trace old) (disk.trace new) (AtLeast form h k m)
 
 -- such calls led from one state of a disk to another, and the content is the same
 pub record IsKept {D : Type 0} (disk : disks.Ghosts D) (old new : D) : Type 0 where
   pub images : KeepsImages disk old new
-  pub content : disk.is_honest new → (disk.trace new).now.bytes ≡ (disk.trace old).now.bytes
+  pub content : disk.follows_crash_model new → (disk.trace new).now.bytes ≡ (disk.trace old).now.bytes
 
 -- what counts in a content is of this version
 pub record IsOfVersion (v : Version) (content : List ℕ) : Type 0 where
@@ -43,7 +43,7 @@ pub record IsOfVersion (v : Version) (content : List ℕ) : Type 0 where
   pub bounds : Bounds
   pub generation : ℕ
   pub frames : ℕ
-  pub counts : CountsAs size bounds v generation frames content
+  pub counts : IsActiveAs size bounds v generation frames content
 
 -- a version is version 1
 abbrev pub is_first : Version → Bool
@@ -51,7 +51,7 @@ is_first V1 = true
 is_first V2 = false
 
 -- a start with this fault didn't open its store a second time
-abbrev pub IsBeforeReopening : StartFault → Type 0
+abbrev pub IsBeforeReopening : StartError → Type 0
 IsBeforeReopening (faults.Store fault) = Unit {0}
 IsBeforeReopening faults.Socket = Unit {0}
 IsBeforeReopening faults.Memory = Unit {0}
@@ -68,15 +68,15 @@ pub record Reopened {D H G : Type 0} (disk : disks.Ghosts D) (ports : generators
 
 -- A server was started over a disk: it has this configuration, these keys and this range, and reserves ports where its store's version
 -- holds them; the store was carried over to version 2 where it could be, and else is what it was; nothing is staged; and where each
--- image of the disk stands for the first events of a history, at least k of them, it rests on such a part of it.
+-- image of the disk stands for the first events of a history, at least k of them, it recovers to such a part of it.
 pub record Started {D H G : Type 0} (disk : disks.Ghosts D) (handler : handlers.Ghosts H) (ports : generators.Ghosts G) (old : D) (config : Config) (users : H) (range : ℕ × ℕ) (server : ServerState D H G) : Type 0 where
   pub setting : setting_of handler.key_of ports.range server.machine ≡ record { config = config; keys = handler.key_of users; range = range; pairs = server.machine.pairs }
   pub pairs : server.machine.pairs ≡ has_pairs server.store.version
-  pub carried : disk.is_honest server.store.disk → Carries true (disk.trace old).now.bytes server.store
+  pub carried : disk.follows_crash_model server.store.disk → Carries true (disk.trace old).now.bytes server.store
   pub nothing : server ≡ emptied server server.store
   pub runs : server.store.stopped ≡ false
-  pub honest : disk.is_honest server.store.disk → disk.is_honest old
-  pub rests : disk.is_honest server.store.disk → (form : Form) (h : History) (k m : ℕ) → form.bounds ≡ config.limits → EachImage (disk.trace old).now (AtLeast form h k m)
+  pub crash_model : disk.follows_crash_model server.store.disk → disk.follows_crash_model old
+  pub recovers : disk.follows_crash_model server.store.disk → (form : Form) (h : History) (k m : ℕ) → form.bounds ≡ config.limits → EachImage (disk.trace old).now (AtLeast form h k m)
       → Opens form h k m (disk.trace old).now.bytes (disk.trace server.store.disk).now server
   pub reopened : Reopened disk ports old config users range server
 
@@ -89,4 +89,4 @@ pub record BeginsRun {D H G : Type 0} (disk : disks.Ghosts D) (handler : handler
   pub count : ℕ
   pub no_less : k ≤ count
   pub no_more : count ≤ length h
-  pub is_at : IsAt disk handler ports s (take count h) (now_of server) server start
+  pub is_at : IsAtPlace disk handler ports s (take count h) (now_of server) server start

@@ -2,12 +2,12 @@
 use Rattle.std.specs.Prelude.{◌≡◌, ℕ, List, [], ◌∷◌}
 use Rattle.turn_cred.specs.declared.handler.AuthHandler as handlers
 use Rattle.turn_disk.specs.declared.disk.Disk as disks
-use Rattle.turn_engine.specs.Runs.{Commit, Serves, Step, Submit, last_of}
+use Rattle.turn_engine.specs.Runs.{Commit, Serves, ServerCall, Submit, last_of}
 use Rattle.turn_engine.specs.State.{ServerState, now_of}
 use Rattle.turn_ports.specs.declared.generator.RelayAddressGenerator as generators
 
 -- each arrival is submitted at a moment that is one by the clock before it
-abbrev pub AreAt : {D H G : Type 0} → (ℕ → ℕ → Type 0) → ServerState D H G → List (Step D H G) → Type 0
+abbrev pub AreAt : {D H G : Type 0} → (ℕ → ℕ → Type 0) → ServerState D H G → List (ServerCall D H G) → Type 0
 AreAt IsOne server [] = Unit {0}
 AreAt IsOne server (Submit moment arrival result after ∷ steps) = IsOne (now_of server) moment × AreAt IsOne after steps
 AreAt IsOne server (Commit result after ∷ steps) = AreAt IsOne after steps
@@ -23,7 +23,7 @@ Never clock moment = ⊥
 -- calls of a server in a row, each of which does what its contract says, led from one state of it to another, and each arrival was
 -- submitted at such a moment
 pub record Served {D H G : Type 0} (disk : disks.Ghosts D) (handler : handlers.Ghosts H) (ports : generators.Ghosts G) (IsOne : ℕ → ℕ → Type 0) (old new : ServerState D H G) : Type 0 where
-  pub steps : List (Step D H G)
+  pub steps : List (ServerCall D H G)
   pub serves : Serves disk handler ports old steps
   pub moments : AreAt IsOne old steps
   pub last : last_of old steps ≡ new

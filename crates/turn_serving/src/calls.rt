@@ -4,7 +4,7 @@ ghost use Rattle.std.specs.Prelude.{◌≡◌, ◌≤◌, OnOk, false};
 ghost use Rattle.turn_engine.specs.State.{emptied, now_of};
 ghost use Rattle.turn_serving.specs.Turns.{At, Never, Served};
 
-use crate::fault::TurnFault;
+use crate::error::TurnError;
 use crate::kept::Kept;
 use crate::listening::Listening;
 use crate::relay_sockets::RelaySockets;
@@ -13,7 +13,7 @@ use crate::watch::Watch;
 use std::alloc::Allocator;
 use turn_cred::AuthHandler;
 use turn_disk::Disk;
-use turn_engine::{Server, SubmitRefused};
+use turn_engine::{Server, SubmitError};
 use turn_ports::RelayAddressGenerator;
 use turn_step::Arrival;
 use turn_types::Moment;
@@ -22,7 +22,7 @@ use turn_types::Moment;
 pub(crate) fn flush<D: Disk, H: AuthHandler, G: RelaySockets, A: Allocator + Copy, W: Watch + Drop>(
     listening: &Listening<W, A>,
     server: &mut Server<D, H, G, A>,
-) -> Result<(), TurnFault>
+) -> Result<(), TurnError>
     ensures served { Served D.Disk H.AuthHandler G.RelayAddressGenerator Never server.old server.new }
     ensures done { OnOk result (server.new ≡ emptied server.old server.new.store) }
     ensures runs { OnOk result (server.new.store.stopped ≡ false) }
@@ -45,12 +45,12 @@ pub(crate) fn submit<
     server: &mut Server<D, H, G, A>,
     moment: Moment,
     arrival: &Arrival<'_>,
-) -> Result<(), TurnFault>
+) -> Result<(), TurnError>
     requires { now_of server.old ≤ moment }
     ensures served { Served D.Disk H.AuthHandler G.RelayAddressGenerator (At moment) server.old server.new }
     ensures clock { now_of server.new ≤ moment }
 {
-    if server.submit(moment, arrival) == Err(SubmitRefused::BatchFull) {
+    if server.submit(moment, arrival) == Err(SubmitError::BatchFull) {
         flush(listening, server)?;
         let _ = server.submit(moment, arrival);
     }
@@ -69,7 +69,7 @@ pub(crate) fn submit_kept<
     server: &mut Server<D, H, G, A>,
     moment: Moment,
     kept: &Kept<A>,
-) -> Result<(), TurnFault>
+) -> Result<(), TurnError>
     requires { now_of server.old ≤ moment }
     ensures served { Served D.Disk H.AuthHandler G.RelayAddressGenerator (At moment) server.old server.new }
     ensures clock { now_of server.new ≤ moment }

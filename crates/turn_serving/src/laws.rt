@@ -2,7 +2,7 @@
 
 ghost use Rattle.std.specs.Prelude.{◌≡◌, ℕ, None};
 ghost use Rattle.turn_engine.specs.Images.{AtLeast};
-ghost use Rattle.turn_engine.specs.Runs.{IsAt, Leads, Place};
+ghost use Rattle.turn_engine.specs.Runs.{IsAtPlace, Leads, Place};
 ghost use Rattle.turn_engine.specs.State.{ServerState};
 ghost use Rattle.turn_history.specs.History.{History};
 ghost use Rattle.turn_sockets.specs.Moments.{IsMoment};
@@ -20,16 +20,16 @@ use turn_disk::Disk;
 use turn_ports::RelayAddressGenerator;
 use turn_sockets::Time;
 
-/// A start over an honest disk is at the start of a run after the first events of a history, if each image of the disk stands
+/// A start over a disk that follows the crash model is at the start of a run after the first events of a history, if each image of the disk stands
 /// for such. Each turn leads on: what turns hand out is in order what the arrivals of the run were answered.
 pub fn turns_make_runs<D: Disk, H: AuthHandler, G: RelayAddressGenerator, T: Time>()
     ensures starts { (old : D) (config : Config) (users : H) (range : ℕ × ℕ) (server : ServerState D H G) (form : Form) (h : History) (k m : ℕ)
         → Started D.Disk H.AuthHandler G.RelayAddressGenerator old config users range server
-        → D.is_honest server.store.disk → form.bounds ≡ config.limits → EachImage (D.trace old).now (AtLeast form h k m)
+        → D.follows_crash_model server.store.disk → form.bounds ≡ config.limits → EachImage (D.trace old).now (AtLeast form h k m)
         → BeginsRun D.Disk H.AuthHandler G.RelayAddressGenerator (record { config = config; keys = H.key_of users; range = range; pairs = server.machine.pairs }) h k server }
     ensures goes_on { (s : Setting) (h : History) (t : ℕ) (system : T) (old new : ServerState D H G) (p : Place)
-        → IsAt D.Disk H.AuthHandler G.RelayAddressGenerator s h t old p → (turn : Served D.Disk H.AuthHandler G.RelayAddressGenerator (IsMoment (T.told system)) old new)
-        → D.is_honest new.store.disk → Leads D.Disk H.AuthHandler G.RelayAddressGenerator s h t old p turn.steps }
+        → IsAtPlace D.Disk H.AuthHandler G.RelayAddressGenerator s h t old p → (turn : Served D.Disk H.AuthHandler G.RelayAddressGenerator (IsMoment (T.told system)) old new)
+        → D.follows_crash_model new.store.disk → Leads D.Disk H.AuthHandler G.RelayAddressGenerator s h t old p turn.steps }
 {}
 
 /// A start leaves relay ports that are held exactly once (`Setup::start`, clause `held`), and so does each turn, over any disk: between

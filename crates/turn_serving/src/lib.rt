@@ -3,7 +3,7 @@
 #![tactic(auto)]
 
 mod calls;
-mod fault;
+mod error;
 mod kept;
 mod laws;
 mod listening;
@@ -14,7 +14,7 @@ mod start;
 mod turn;
 mod watch;
 
-pub use fault::{StartFault, StartRefused, TurnFault};
+pub use error::{SetupError, StartError, TurnError};
 pub use kept::may_change;
 pub use laws::{others_change_nothing, turns_keep_ports, turns_make_runs};
 pub use relay_sockets::RelaySockets;

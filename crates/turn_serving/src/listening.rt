@@ -3,7 +3,7 @@
 ghost use Rattle.std.specs.Prelude.{◌≡◌, ◌≢◌, ◌↔◌, All, Contains, IfNone, IfOk, IfSome, None, map};
 ghost use Rattle.turn_sockets.specs.Own.{IsRelay};
 
-use crate::fault::{StartFault, TurnFault};
+use crate::error::{StartError, TurnError};
 use crate::watch::Watch;
 use mio::net::UdpSocket;
 use mio::{Events, Interest, Poll, Token};
@@ -56,16 +56,16 @@ pub(crate) fn pause<C: Clock>(system: &C) {
 }
 
 /// Binds a socket. While the address is in use it tries again, up to two seconds.
-fn bind<R: Net, C: Clock>(net: &R, system: &C, at: Endpoint) -> Result<UdpSocket, StartFault> {
+fn bind<R: Net, C: Clock>(net: &R, system: &C, at: Endpoint) -> Result<UdpSocket, StartError> {
     for _ in 0..ATTEMPTS {
         match UdpSocket::bind(net, address_of(at)) {
             Ok(socket) => return Ok(socket),
             Err(error) if error.kind() == ErrorKind::AddrInUse => {}
-            Err(_) => return Err(StartFault::Socket),
+            Err(_) => return Err(StartError::Socket),
         }
         pause(system);
     }
-    Err(StartFault::Socket)
+    Err(StartError::Socket)
 }
 
 /// Binds a socket that clients send to, whose datagrams a wait reports by this token. Port 0 is any free one.
@@ -75,7 +75,7 @@ fn open_one<R: Net, C: Clock>(
     poll: &Poll,
     at: Endpoint,
     token: usize,
-) -> Result<ClientSocket, StartFault> {
+) -> Result<ClientSocket, StartError> {
     let mut socket = bind(net, system, at)?;
     let registered = poll
         .registry()
@@ -88,7 +88,7 @@ fn open_one<R: Net, C: Clock>(
     let _ = set_receive_buffer(&socket, RECEIVE_BUFFER);
     match (registered, local) {
         (Ok(()), Some(at)) => Ok(ClientSocket { socket, at }),
-        _ => Err(StartFault::Socket),
+        _ => Err(StartError::Socket),
     }
 }
 
@@ -99,7 +99,7 @@ fn open_all<R: Net, C: Clock, A: Allocator + Copy>(
     system: &C,
     poll: &Poll,
     listening: &mut ListeningAddresses,
-) -> Result<Vec<ClientSocket, A>, StartFault>
+) -> Result<Vec<ClientSocket, A>, StartError>
     ensures { IfOk result (λ sockets. map (λ s. s.at) sockets.items ≡ listening.new) }
 {
     let count = listening.as_slice().len();
@@ -109,7 +109,7 @@ fn open_all<R: Net, C: Clock, A: Allocator + Copy>(
         let socket = open_one(net, system, poll, at, LISTENING + place)?;
         listening.set(place, socket.at);
         if sockets.push(socket).is_err() {
-            return Err(StartFault::Memory);
+            return Err(StartError::Memory);
         }
     }
     Ok(sockets)
@@ -124,7 +124,7 @@ impl<W: Watch + Drop, A: Allocator + Copy> Listening<W, A> {
         poll: &Poll,
         mut own: OwnAddresses,
         watch: W,
-    ) -> Result<Listening<W, A>, StartFault>
+    ) -> Result<Listening<W, A>, StartError>
         // The server's own addresses are those of all sockets.
         ensures { IfOk result (λ l. map (λ s. s.at) l.sockets.items ≡ l.own.listening) }
     {
@@ -190,28 +190,28 @@ impl<A: Allocator + Copy> Waiting<A> {
 
 impl<A: Allocator> Waiting<A> {
     /// Waits for so long until a socket gets a datagram, and lists those that got one.
-    pub(crate) fn wait(&mut self, timeout: Duration) -> Result<(), TurnFault> {
+    pub(crate) fn wait(&mut self, timeout: Duration) -> Result<(), TurnError> {
         if self.poll.poll(&mut self.events, Some(timeout)).is_err() {
-            return Err(TurnFault::Socket);
+            return Err(TurnError::Socket);
         }
         self.ready.add_all(&self.events)?;
         Ok(())
     }
 
     /// Plans in which order the listed sockets are served.
-    pub(crate) fn plan(&mut self) -> Result<(), TurnFault> {
+    pub(crate) fn plan(&mut self) -> Result<(), TurnError> {
         self.order.plan(&self.ready)?;
         Ok(())
     }
 
     // Lists the sockets that got a datagram.
-    fn look(&mut self) -> Result<(), TurnFault> {
+    fn look(&mut self) -> Result<(), TurnError> {
         self.turns = 0;
         self.wait(Duration::ZERO)
     }
 
     /// Lists the sockets that got a datagram, if that is asked for.
-    pub(crate) fn look_if(&mut self, asked: bool) -> Result<(), TurnFault> {
+    pub(crate) fn look_if(&mut self, asked: bool) -> Result<(), TurnError> {
         if asked {
             self.look()?;
         }
@@ -219,7 +219,7 @@ impl<A: Allocator> Waiting<A> {
     }
 
     /// Looks now and then, while some sockets have datagrams, for others that got one.
-    pub(crate) fn look_sometimes(&mut self) -> Result<(), TurnFault> {
+    pub(crate) fn look_sometimes(&mut self) -> Result<(), TurnError> {
         self.turns = self.turns.wrapping_add(1);
         if self.turns >= LOOK_EVERY {
             self.look()?;

@@ -2,7 +2,7 @@
 
 ghost use Rattle.std.specs.Prelude.{◌≡◌, ◌≤◌, ◌++◌, ℕ, IfOk, OnOk, false};
 ghost use Rattle.turn_disk.specs.Disk.{EachImageSince};
-ghost use Rattle.turn_engine.specs.Runs.{BeginsWith, IsAt, Place, accepted};
+ghost use Rattle.turn_engine.specs.Runs.{BeginsWith, IsAtPlace, Place, accepted};
 ghost use Rattle.turn_engine.specs.State.{emptied, now_of};
 ghost use Rattle.turn_history.specs.History.{History};
 ghost use Rattle.turn_sockets.specs.Moments.{IsMoment};
@@ -11,7 +11,7 @@ ghost use Rattle.turn_store.specs.State.{form_of};
 ghost use Rattle.turn_serving.specs.Turns.{Served};
 
 use crate::calls::{flush, submit_kept};
-use crate::fault::TurnFault;
+use crate::error::TurnError;
 use crate::kept::Kept;
 use crate::listening::{Listening, WAIT_MILLIS, Waiting};
 use crate::relay_sockets::RelaySockets;
@@ -186,15 +186,15 @@ impl<
     }
 
     // At which moment something is submitted now.
-    fn moment<T: Time>(&self, system: &T) -> Result<Moment, TurnFault>
+    fn moment<T: Time>(&self, system: &T) -> Result<Moment, TurnError>
         ensures is_one { IfOk result (λ moment. IsMoment (T.told system.now) (now_of self.now) moment) }
         ensures late { IfOk result (λ moment. now_of self.now ≤ moment) }
     {
-        moment_now(system, self.server.clock()).ok_or(TurnFault::Clock)
+        moment_now(system, self.server.clock()).ok_or(TurnError::Clock)
     }
 
     // Takes up to `burst` datagrams of each socket that may have some.
-    fn take_all<T: Time>(&mut self, system: &T) -> Result<Taken, TurnFault>
+    fn take_all<T: Time>(&mut self, system: &T) -> Result<Taken, TurnError>
         ensures { Served D.Disk H.AuthHandler G.RelayAddressGenerator (IsMoment (T.told system.now)) self.old self.new }
     {
         let moment = self.moment(system)?;
@@ -230,7 +230,7 @@ impl<
     }
 
     // Takes what there is. If there is nothing it waits first.
-    fn take<T: Time>(&mut self, system: &T) -> Result<Taken, TurnFault>
+    fn take<T: Time>(&mut self, system: &T) -> Result<Taken, TurnError>
         ensures { Served D.Disk H.AuthHandler G.RelayAddressGenerator (IsMoment (T.told system.now)) self.old self.new }
     {
         let taken = self.take_all(system)?;
@@ -244,7 +244,7 @@ impl<
     }
 
     // If `share` is set, takes what came by now: it would wait for the commit that follows anyway. No request of it is kept.
-    fn take_late<T: Time>(&mut self, system: &T, share: bool) -> Result<(), TurnFault>
+    fn take_late<T: Time>(&mut self, system: &T, share: bool) -> Result<(), TurnError>
         ensures { Served D.Disk H.AuthHandler G.RelayAddressGenerator (IsMoment (T.told system.now)) self.old self.new }
     {
         if !share {
@@ -258,7 +258,7 @@ impl<
     }
 
     // Submits the requests that waited. To submit several takes a while, so what came meanwhile is taken too.
-    fn submit_waiting<T: Time>(&mut self, system: &T) -> Result<(), TurnFault>
+    fn submit_waiting<T: Time>(&mut self, system: &T) -> Result<(), TurnError>
         ensures { Served D.Disk H.AuthHandler G.RelayAddressGenerator (IsMoment (T.told system.now)) self.old self.new }
     {
         let moment = self.moment(system)?;
@@ -269,7 +269,7 @@ impl<
     }
 
     // Submits the requests that waited, and commits them. Notes how long the commit took.
-    fn commit_kept<T: Time>(&mut self, system: &T) -> Result<(), TurnFault>
+    fn commit_kept<T: Time>(&mut self, system: &T) -> Result<(), TurnError>
         ensures served { Served D.Disk H.AuthHandler G.RelayAddressGenerator (IsMoment (T.told system.now)) self.old self.new }
         ensures done { OnOk result (self.new ≡ emptied self.new self.new.store) }
         ensures runs { OnOk result (self.new.store.stopped ≡ false) }
@@ -284,7 +284,7 @@ impl<
     }
 
     // Commits the requests that waited, if they are due.
-    fn commit_due<T: Time>(&mut self, system: &T) -> Result<bool, TurnFault>
+    fn commit_due<T: Time>(&mut self, system: &T) -> Result<bool, TurnError>
         ensures served { Served D.Disk H.AuthHandler G.RelayAddressGenerator (IsMoment (T.told system.now)) self.old self.new }
         ensures done { self.old ≡ emptied self.old self.old.store → OnOk result (self.new ≡ emptied self.new self.new.store) }
         ensures runs { self.old.store.stopped ≡ false → OnOk result (self.new.store.stopped ≡ false) }
@@ -301,7 +301,7 @@ impl<
     /// later. Under `Commits::Paced` requests are kept, and committed at the end of the turn in which they are due.
     ///
     /// Nothing is sent that was not committed. After a commit that failed each later turn fails.
-    pub fn turn<T: Time>(&mut self, system: &T) -> Result<(), TurnFault>
+    pub fn turn<T: Time>(&mut self, system: &T) -> Result<(), TurnError>
         // Calls of `submit` and `commit`, each within its contract, the last of which leaves nothing staged. Each arrival is
         // submitted at the later of the clock and a second that the system told.
         ensures served { Served D.Disk H.AuthHandler G.RelayAddressGenerator (IsMoment (T.told system.now)) self.old self.new }
@@ -310,8 +310,8 @@ impl<
         ensures runs { OnOk result (self.new.store.stopped ≡ false) }
         // Whatever run the server is in, at every moment of the turn each image stands for a history that begins with what was
         // handed out before.
-        ensures stop { (s : Setting) (h : History) (t : ℕ) (p : Place) → IsAt D.Disk H.AuthHandler G.RelayAddressGenerator s h t self.old p
-            → D.is_honest self.new.store.disk → EachImageSince (D.trace self.old.store.disk) (D.trace self.new.store.disk)
+        ensures stop { (s : Setting) (h : History) (t : ℕ) (p : Place) → IsAtPlace D.Disk H.AuthHandler G.RelayAddressGenerator s h t self.old p
+            → D.follows_crash_model self.new.store.disk → EachImageSince (D.trace self.old.store.disk) (D.trace self.new.store.disk)
             (BeginsWith (form_of self.old.store) (h ++ accepted p.handed) (now_of self.new)) }
     {
         let taken = self.take(system)?;
@@ -323,7 +323,7 @@ impl<
     }
 
     /// So many turns, one after the other, or up to the first that fails.
-    pub fn turns<T: Time>(&mut self, system: &T, count: u64) -> Result<(), TurnFault>
+    pub fn turns<T: Time>(&mut self, system: &T, count: u64) -> Result<(), TurnError>
         ensures served { Served D.Disk H.AuthHandler G.RelayAddressGenerator (IsMoment (T.told system.now)) self.old self.new }
         ensures clock { now_of self.old ≤ now_of self.new }
         // No turn leaves the server as it was; one turn or more that ended well are what one is.
@@ -332,8 +332,8 @@ impl<
         ensures runs { 1 ≤ count → OnOk result (self.new.store.stopped ≡ false) }
         // Whatever run the server is in, at every moment of the turns each image stands for a history that begins with what was
         // handed out before.
-        ensures stop { (s : Setting) (h : History) (t : ℕ) (p : Place) → IsAt D.Disk H.AuthHandler G.RelayAddressGenerator s h t self.old p
-            → D.is_honest self.new.store.disk → EachImageSince (D.trace self.old.store.disk) (D.trace self.new.store.disk)
+        ensures stop { (s : Setting) (h : History) (t : ℕ) (p : Place) → IsAtPlace D.Disk H.AuthHandler G.RelayAddressGenerator s h t self.old p
+            → D.follows_crash_model self.new.store.disk → EachImageSince (D.trace self.old.store.disk) (D.trace self.new.store.disk)
             (BeginsWith (form_of self.old.store) (h ++ accepted p.handed) (now_of self.new)) }
     {
         for turned in 0..count {

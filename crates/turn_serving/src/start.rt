@@ -13,7 +13,7 @@ ghost use Rattle.turn_store.specs.Carrying.{Carries};
 ghost use Rattle.turn_store.specs.Images.{EachImage};
 ghost use Rattle.turn_serving.specs.Starts.{IsBeforeReopening, IsKept, IsOfVersion, KeepsImages, Started, have_ports, is_first};
 
-use crate::fault::{StartFault, StartRefused};
+use crate::error::{SetupError, StartError};
 use crate::listening::{ATTEMPTS, Listening, Waiting, pause};
 use crate::relay_sockets::RelaySockets;
 use crate::serving::{Commits, Serving, SocketServing};
@@ -30,7 +30,7 @@ use turn_history::Reservation;
 use turn_ports::{PortRange, RelayAddressGenerator};
 use turn_record::Version;
 use turn_sockets::{Bound, Buffer, DataIds, ListeningAddresses, OwnAddresses, SocketPorts};
-use turn_store::Refused;
+use turn_store::StoreOpenError;
 use turn_table::Table;
 use turn_types::ServerConfig;
 
@@ -74,9 +74,9 @@ fn open<
     handler: H,
     ports: G,
     carry: bool,
-) -> Result<Server<D, H, G, A>, Refused<D>>
+) -> Result<Server<D, H, G, A>, StoreOpenError<D>>
     ensures opens { IfOk result (λ server. Opening D.Disk disk config.now handler ports (Ok server)) }
-    ensures carried { IfOk result (λ server. D.is_honest server.store.disk
+    ensures carried { IfOk result (λ server. D.follows_crash_model server.store.disk
         → Carries carry (D.trace disk).now.bytes server.store) }
     ensures kept { carry ≡ false → IfOk result (λ server. IsKept D.Disk disk server.store.disk) }
     ensures kept_err { carry ≡ false → IfErr result (λ r. IsKept D.Disk disk r.disk) }
@@ -84,7 +84,7 @@ fn open<
 {
     match Server::open_as(alloc, disk, config, handler, ports, carry) {
         Ok(server) => Ok(server),
-        Err(refused) => Err(Refused {
+        Err(refused) => Err(StoreOpenError {
             fault: refused.fault,
             disk: refused.disk,
         }),
@@ -127,17 +127,17 @@ fn look_into<D: Disk + Drop, H: AuthHandler + Drop, A: Allocator + Copy>(
     config: &ServerConfig<A>,
     handler: H,
     ports: PortRange,
-) -> Result<(D, H, Vec<u16, A>, Version), StartRefused<D>>
+) -> Result<(D, H, Vec<u16, A>, Version), SetupError<D>>
     ensures kept { IfOk result (λ looked. IsKept D.Disk disk looked.0) }
     ensures handler { IfOk result (λ looked. looked.1 ≡ handler) }
-    ensures version { IfOk result (λ looked. D.is_honest looked.0 → IsOfVersion looked.3 (D.trace disk).now.bytes) }
+    ensures version { IfOk result (λ looked. D.follows_crash_model looked.0 → IsOfVersion looked.3 (D.trace disk).now.bytes) }
     ensures kept_err { IfErr result (λ r. IsKept D.Disk disk r.disk) }
 {
     let server = match open(alloc, disk, config, handler, ports, false) {
         Ok(server) => server,
-        Err(Refused { fault, disk }) => {
-            return Err(StartRefused {
-                fault: StartFault::Store(fault),
+        Err(StoreOpenError { fault, disk }) => {
+            return Err(SetupError {
+                fault: StartError::Store(fault),
                 disk,
             });
         }
@@ -147,8 +147,8 @@ fn look_into<D: Disk + Drop, H: AuthHandler + Drop, A: Allocator + Copy>(
     let (disk, handler, _) = server.close();
     match ports {
         Ok(ports) => Ok((disk, handler, ports, version)),
-        Err(_) => Err(StartRefused {
-            fault: StartFault::Memory,
+        Err(_) => Err(SetupError {
+            fault: StartError::Memory,
             disk,
         }),
     }
@@ -159,7 +159,7 @@ fn bind<R: Net, A: Allocator + Copy, C: Clock>(
     sockets: &mut SocketPorts<'_, R, A>,
     system: &C,
     port: u16,
-) -> Result<(), StartFault>
+) -> Result<(), StartError>
     ensures first { sockets.new.first ≡ sockets.old.first }
     ensures last { sockets.new.last ≡ sockets.old.last }
 {
@@ -170,10 +170,10 @@ fn bind<R: Net, A: Allocator + Copy, C: Clock>(
         match sockets.bind(port)? {
             Bound::Done => return Ok(()),
             Bound::Unavailable => pause(system),
-            Bound::Exhausted => return Err(StartFault::Socket),
+            Bound::Exhausted => return Err(StartError::Socket),
         }
     }
-    Err(StartFault::Socket)
+    Err(StartError::Socket)
 }
 
 /// Binds each of these ports.
@@ -181,7 +181,7 @@ fn bind_all<R: Net, A: Allocator + Copy, C: Clock>(
     sockets: &mut SocketPorts<'_, R, A>,
     system: &C,
     ports: &[u16],
-) -> Result<(), StartFault>
+) -> Result<(), StartError>
     ensures first { sockets.new.first ≡ sockets.old.first }
     ensures last { sockets.new.last ≡ sockets.old.last }
 {
@@ -253,16 +253,16 @@ impl<'c, A: Allocator + Copy> Setup<'c, A> {
         system: &C,
         poll: &Poll,
         ports: &[u16],
-    ) -> Result<SocketPorts<'a, R, A>, StartFault>
+    ) -> Result<SocketPorts<'a, R, A>, StartError>
         ensures { IfOk result (λ sockets. ⟦<SocketPorts<'a, R, A> as RelayAddressGenerator>⟧.range sockets ≡ self.now.ports) }
     {
         let Ok(registry) = poll.registry().try_clone() else {
-            return Err(StartFault::Socket);
+            return Err(StartError::Socket);
         };
         let ip = self.bound();
         let mut sockets = SocketPorts::new(alloc, net, registry, ip, self.ports, self.seed);
         if !sockets.has_address() {
-            return Err(StartFault::Socket);
+            return Err(StartError::Socket);
         }
         bind_all(&mut sockets, system, ports)?;
         Ok(sockets)
@@ -276,11 +276,11 @@ impl<'c, A: Allocator + Copy> Setup<'c, A> {
         system: &C,
         ports: &[u16],
         watch: W,
-    ) -> Result<Beside<'a, R, W, A>, StartFault>
+    ) -> Result<Beside<'a, R, W, A>, StartError>
         ensures { IfOk result (λ beside. ⟦<SocketPorts<'a, R, A> as RelayAddressGenerator>⟧.range beside.sockets ≡ self.now.ports) }
     {
         let Ok(poll) = Poll::new(net) else {
-            return Err(StartFault::Socket);
+            return Err(StartError::Socket);
         };
         let sockets = self.bind_ports(alloc, net, system, &poll, ports)?;
         let listening = Listening::open(alloc, net, system, &poll, self.own(), watch)?;
@@ -318,7 +318,7 @@ impl<'c, A: Allocator + Copy> Setup<'c, A> {
         disk: D,
         handler: H,
         watch: W,
-    ) -> Result<SocketServing<'a, D, H, R, A, W>, StartRefused<D>>
+    ) -> Result<SocketServing<'a, D, H, R, A, W>, SetupError<D>>
         ensures started { IfOk result (λ serving. Started D.Disk H.AuthHandler ⟦<SocketPorts<'a, R, A> as RelayAddressGenerator>⟧
             disk self.now.config.now handler self.now.ports serving) }
         // The relay port of each allocation has a socket, and each reserved port.
@@ -328,23 +328,23 @@ impl<'c, A: Allocator + Copy> Setup<'c, A> {
         ensures held { IfOk result (λ serving. HoldsPorts ⟦<SocketPorts<'a, R, A> as RelayAddressGenerator>⟧.holds serving.machine None) }
 
         // A store that isn't of version 1 keeps its content, and each one does at a refusal before the second opening.
-        ensures same { IfOk result (λ serving. D.is_honest serving.store.disk
+        ensures same { IfOk result (λ serving. D.follows_crash_model serving.store.disk
             → (IsOfVersion Version.V1 (D.trace disk).now.bytes → ⊥)
             → (D.trace serving.store.disk).now.bytes ≡ (D.trace disk).now.bytes) }
-        ensures same_err { IfErr result (λ r. D.is_honest r.disk → (IsOfVersion Version.V1 (D.trace disk).now.bytes → ⊥)
+        ensures same_err { IfErr result (λ r. D.follows_crash_model r.disk → (IsOfVersion Version.V1 (D.trace disk).now.bytes → ⊥)
             → (D.trace r.disk).now.bytes ≡ (D.trace disk).now.bytes) }
-        ensures before_err { IfErr result (λ r. D.is_honest r.disk → IsBeforeReopening r.fault
+        ensures before_err { IfErr result (λ r. D.follows_crash_model r.disk → IsBeforeReopening r.fault
             → (D.trace r.disk).now.bytes ≡ (D.trace disk).now.bytes) }
 
         // Where each image of the disk stands for the first events of a history, at least k of them, a stop at any moment of the
         // start leaves such images, and so does a refusal.
-        ensures stop { IfOk result (λ serving. D.is_honest serving.store.disk → (form : Form) (h : History) (k m : ℕ)
+        ensures stop { IfOk result (λ serving. D.follows_crash_model serving.store.disk → (form : Form) (h : History) (k m : ℕ)
             → EachImage (D.trace disk).now (AtLeast form h k m)
             → EachImageSince (D.trace disk) (D.trace serving.store.disk) (AtLeast form h k m)) }
-        ensures stop_err { IfErr result (λ r. D.is_honest r.disk → (form : Form) (h : History) (k m : ℕ)
+        ensures stop_err { IfErr result (λ r. D.follows_crash_model r.disk → (form : Form) (h : History) (k m : ℕ)
             → EachImage (D.trace disk).now (AtLeast form h k m)
             → EachImageSince (D.trace disk) (D.trace r.disk) (AtLeast form h k m)) }
-        ensures honest_err { IfErr result (λ r. D.is_honest r.disk → D.is_honest disk) }
+        ensures crash_model_err { IfErr result (λ r. D.follows_crash_model r.disk → D.follows_crash_model disk) }
     {
         let (disk, handler, ports, version) = match look_into(
             alloc,
@@ -358,7 +358,7 @@ impl<'c, A: Allocator + Copy> Setup<'c, A> {
         };
         let beside = match self.bind_beside(alloc, net, system, &ports, watch) {
             Ok(beside) => beside,
-            Err(fault) => return Err(StartRefused { fault, disk }),
+            Err(fault) => return Err(SetupError { fault, disk }),
         };
         let Beside {
             sockets,
@@ -370,9 +370,9 @@ impl<'c, A: Allocator + Copy> Setup<'c, A> {
         let carry = is_first(version);
         let server = match open(alloc, disk, self.config, handler, sockets, carry) {
             Ok(server) => server,
-            Err(Refused { fault, disk }) => {
-                return Err(StartRefused {
-                    fault: StartFault::Reopen(fault),
+            Err(StoreOpenError { fault, disk }) => {
+                return Err(SetupError {
+                    fault: StartError::Reopen(fault),
                     disk,
                 });
             }
@@ -380,8 +380,8 @@ impl<'c, A: Allocator + Copy> Setup<'c, A> {
         // A disk that failed between the two openings may have said something else.
         if !holds_ports(&server) {
             let (disk, _, _) = server.close();
-            return Err(StartRefused {
-                fault: StartFault::Changed,
+            return Err(SetupError {
+                fault: StartError::Changed,
                 disk,
             });
         }

@@ -6,7 +6,7 @@ ghost use Rattle.turn_engine.specs.State.{now_of};
 ghost use Rattle.turn_serving.specs.Turns.{At, Served};
 
 use crate::calls::{flush, submit};
-use crate::fault::TurnFault;
+use crate::error::TurnError;
 use crate::kept::{Kept, may_change};
 use crate::listening::{ClientSocket, Listening};
 use crate::relay_sockets::RelaySockets;
@@ -92,7 +92,7 @@ impl<'l, W: Watch + Drop, A: Allocator + Copy> Turn<'l, W, A> {
         client: &ClientSocket,
         bytes: &[u8],
         from: Endpoint,
-    ) -> Result<Took, TurnFault>
+    ) -> Result<Took, TurnError>
         requires { now_of server.old ≤ self.now.moment }
         ensures served { Served D.Disk H.AuthHandler G.RelayAddressGenerator (At self.now.moment) server.old server.new }
         ensures clock { now_of server.new ≤ self.now.moment }
@@ -120,7 +120,7 @@ impl<'l, W: Watch + Drop, A: Allocator + Copy> Turn<'l, W, A> {
         buffer: &mut Buffer<A>,
         kept: &mut Kept<A>,
         place: usize,
-    ) -> Result<Took, TurnFault>
+    ) -> Result<Took, TurnError>
         requires { now_of server.old ≤ self.now.moment }
         ensures served { Served D.Disk H.AuthHandler G.RelayAddressGenerator (At self.now.moment) server.old server.new }
         ensures clock { now_of server.new ≤ self.now.moment }
@@ -147,7 +147,7 @@ impl<'l, W: Watch + Drop, A: Allocator + Copy> Turn<'l, W, A> {
         buffer: &mut Buffer<A>,
         ids: &mut DataIds,
         port: u16,
-    ) -> Result<Took, TurnFault>
+    ) -> Result<Took, TurnError>
         requires { now_of server.old ≤ self.now.moment }
         ensures served { Served D.Disk H.AuthHandler G.RelayAddressGenerator (At self.now.moment) server.old server.new }
         ensures clock { now_of server.new ≤ self.now.moment }
@@ -176,7 +176,7 @@ impl<'l, W: Watch + Drop, A: Allocator + Copy> Turn<'l, W, A> {
         server: &mut Server<D, H, G, A>,
         work: &mut Work<A>,
         token: usize,
-    ) -> Result<Took, TurnFault>
+    ) -> Result<Took, TurnError>
         requires { now_of server.old ≤ self.now.moment }
         ensures served { Served D.Disk H.AuthHandler G.RelayAddressGenerator (At self.now.moment) server.old server.new }
         ensures clock { now_of server.new ≤ self.now.moment }
@@ -197,7 +197,7 @@ impl<'l, W: Watch + Drop, A: Allocator + Copy> Turn<'l, W, A> {
         work: &mut Work<A>,
         token: usize,
         taken: &mut Taken,
-    ) -> Result<bool, TurnFault>
+    ) -> Result<bool, TurnError>
         requires { now_of server.old ≤ self.now.moment }
         ensures served { Served D.Disk H.AuthHandler G.RelayAddressGenerator (At self.now.moment) server.old server.new }
         ensures clock { now_of server.new ≤ self.now.moment }
@@ -220,7 +220,7 @@ impl<'l, W: Watch + Drop, A: Allocator + Copy> Turn<'l, W, A> {
         ready: &mut Ready<A>,
         token: usize,
         taken: &mut Taken,
-    ) -> Result<(), TurnFault>
+    ) -> Result<(), TurnError>
         requires { now_of server.old ≤ self.now.moment }
         ensures served { Served D.Disk H.AuthHandler G.RelayAddressGenerator (At self.now.moment) server.old server.new }
         ensures clock { now_of server.new ≤ self.now.moment }
@@ -238,7 +238,7 @@ impl<'l, W: Watch + Drop, A: Allocator + Copy> Turn<'l, W, A> {
         work: &mut Work<A>,
         order: &Order<A>,
         ready: &mut Ready<A>,
-    ) -> Result<Taken, TurnFault>
+    ) -> Result<Taken, TurnError>
         requires { now_of server.old ≤ self.now.moment }
         ensures served { Served D.Disk H.AuthHandler G.RelayAddressGenerator (At self.now.moment) server.old server.new }
         ensures clock { now_of server.new ≤ self.now.moment }

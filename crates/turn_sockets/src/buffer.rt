@@ -1,35 +1,105 @@
-//! The size of a socket's receive buffer, the one setting that neither the standard library nor `mio` has.
+//! Datagrams as they are received, and the ids of Data indications.
 
-use libc::net as c;
+ghost use Rattle.std.specs.Prelude.{◌≡◌, ◌+◌, ◌%◌, ◌^◌, ◌++◌, ◌↔◌};
+ghost use Rattle.std.specs.Int.{to_be_bytes, w32, w64};
+ghost use Rattle.std.specs.IoError.{error_kind};
+ghost use Rattle.std.specs.declared.io.ErrorKind.TheVariants.{WouldBlock};
+ghost use Rattle.turn_sockets.specs.declared.buffer.Received.TheVariants as received;
+
+use crate::address::endpoint_of;
 use mio::net::UdpSocket;
-use std::os::fd::AsRawFd;
+use std::alloc::{AllocError, Allocator, Global};
+use std::io::{self, Error, ErrorKind};
+use std::net::SocketAddr;
+use turn_types::{Endpoint, Moment, TxId};
 
-/// How many bytes of datagrams a socket is asked to keep until they are read.
-pub const RECEIVE_BUFFER: u32 = 8 << 20;
+/// How many bytes a datagram over UDP may have, with some to spare: what doesn't fit into a buffer is lost.
+const MAX_DATAGRAM: usize = 65_536;
 
-/// Asks for a receive buffer of so many bytes. The system may give less: on Linux at most `net.core.rmem_max`, doubled.
-/// False if it refuses.
-pub fn set_receive_buffer(socket: &UdpSocket, bytes: u32) -> bool {
-    let [a, b, c3, d] = bytes.to_ne_bytes();
-    let value = [a, b, c3, d, 0, 0, 0, 0, 0, 0, 0, 0, 0, 0, 0, 0];
-    unsafe { c::setsockopt(socket.as_raw_fd(), c::SOL_SOCKET, c::SO_RCVBUF, &value, 4) == 0 }
+/// The transaction ids of the Data indications that clients get: each is a moment and a count that wraps.
+#[derive(Clone, Copy, Debug)]
+pub struct DataIds {
+    count: u32,
 }
 
-/// The size of the receive buffer as the system counts it, or 0 if it doesn't say.
-pub fn receive_buffer(socket: &UdpSocket) -> u32 {
-    let mut value = [0u8; 16];
-    let mut size = 4u32;
-    let done = unsafe {
-        c::getsockopt(
-            socket.as_raw_fd(),
-            c::SOL_SOCKET,
-            c::SO_RCVBUF,
-            &mut value,
-            &mut size,
-        )
-    };
-    if done != 0 {
-        return 0;
+impl DataIds {
+    /// The ids from count 0 on.
+    pub fn new() -> DataIds
+        ensures { result.count ≡ 0 }
+    {
+        DataIds { count: 0 }
     }
-    u32::from_ne_bytes([value[0], value[1], value[2], value[3]])
+
+    /// The id of the next indication: the moment in 8 bytes, and the count in 4, in network byte order.
+    pub fn next(&mut self, moment: Moment) -> TxId
+        ensures bytes { result.0 ≡ to_be_bytes w64 moment ++ to_be_bytes w32 self.old.count }
+        ensures count { self.new.count ≡ (self.old.count + 1) % 2 ^ 32 }
+    {
+        let [a, b, c, d, e, f, g, h] = moment.seconds().to_be_bytes();
+        let [i, j, k, l] = self.count.to_be_bytes();
+        self.count = self.count.wrapping_add(1);
+        TxId([a, b, c, d, e, f, g, h, i, j, k, l])
+    }
+}
+
+/// A socket that datagrams are received from.
+pub trait DatagramSocket {
+    /// Receives a datagram into a buffer: its size, and who sent it. A datagram that doesn't fit loses its end. An error whose kind
+    /// is `WouldBlock` says that none waits.
+    fn receive(&self, buffer: &mut [u8]) -> io::Result<(usize, SocketAddr)>;
+}
+
+impl DatagramSocket for UdpSocket {
+    fn receive(&self, buffer: &mut [u8]) -> io::Result<(usize, SocketAddr)> {
+        self.recv_from(buffer)
+    }
+}
+
+/// What was received of a socket.
+#[derive(Clone, Copy, Debug)]
+pub enum Received<'b> {
+    /// A datagram, and who sent it.
+    Datagram { bytes: &'b [u8], from: Endpoint },
+    /// Nothing, though more may wait: the system failed, or the sender has no IPv4 address.
+    Failed,
+    /// None waits. The socket is reported again once something arrives.
+    Nothing,
+}
+
+/// What an error of a receive says. One that reports something else than that none waits, as an ICMP message or a lack of memory,
+/// says nothing of what waits.
+fn failure_of<'b>(error: &Error) -> Received<'b>
+    ensures { (result ≡ received.Nothing) ↔ (error_kind error.now ≡ WouldBlock) }
+{
+    match error.kind() {
+        ErrorKind::WouldBlock => Received::Nothing,
+        _ => Received::Failed,
+    }
+}
+
+/// The room for one datagram.
+#[derive(Drop)]
+pub struct Buffer<A: Allocator = Global> {
+    bytes: Vec<u8, A>,
+}
+
+impl<A: Allocator> Buffer<A> {
+    /// Room for 65,536 bytes, which is more than a datagram has.
+    pub fn new(alloc: A) -> Result<Buffer<A>, AllocError> {
+        Ok(Buffer {
+            bytes: Vec::from_elem(alloc, 0u8, MAX_DATAGRAM)?,
+        })
+    }
+
+    /// Receives a datagram of a socket.
+    pub fn receive<S: DatagramSocket>(&mut self, socket: &S) -> Received<'_> {
+        let (size, from) = match socket.receive(self.bytes.as_mut_slice()) {
+            Ok(found) => found,
+            Err(error) => return failure_of(&error),
+        };
+        match (self.bytes.as_slice().get(..size), endpoint_of(from)) {
+            (Some(bytes), Some(from)) => Received::Datagram { bytes, from },
+            _ => Received::Failed,
+        }
+    }
 }

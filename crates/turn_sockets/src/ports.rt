@@ -10,8 +10,8 @@ ghost use Rattle.turn_sockets.specs.declared.ports.Bound.TheVariants as binds;
 ghost use Rattle.turn_sockets.specs.declared.ports.Wanted.TheVariants as wants;
 
 use crate::address::address_of;
-use crate::buffer::{RECEIVE_BUFFER, set_receive_buffer};
 use crate::search::PortBinder;
+use crate::socket_option::{RECEIVE_BUFFER, set_receive_buffer};
 use mio::net::UdpSocket;
 use mio::{Interest, Registry, Token};
 use rand_chacha::ChaCha20Rng;

@@ -16,9 +16,9 @@ use Rattle.turn_rules.proofs.Alone.{allocates_same, answers_same, entry_same, ot
 use Rattle.turn_rules.specs.Answer.{Answers, judgement}
 use Rattle.turn_step.specs.Answer.{AnswersClient, AnswersPeer, Setting}
 use Rattle.turn_step.specs.Laws.{SameForAllocates, SpellsNoAllocate}
-use Rattle.turn_step.specs.Outcome.{Outcome}
+use Rattle.turn_step.specs.Outcome.{StepOutcome}
 
-module _ (s : Setting) (h g : History) (t : ℕ) (failed : Bool) (f : FiveTuple) (bytes : List ℕ) (o : Outcome) (events : events_of f h ≡ events_of f g) where
+module _ (s : Setting) (h g : History) (t : ℕ) (failed : Bool) (f : FiveTuple) (bytes : List ℕ) (o : StepOutcome) (events : events_of f h ≡ events_of f g) where
   -- the answers go on where those to a message do
   client_goes_on :
       ((m : Content) (d : _) → Spells bytes m → Answers s.pairs s.config s.keys s.range h t failed f (record { bytes = bytes; content = m }) d → Answers s.pairs s.config s.keys s.range g t failed f (record { bytes = bytes; content = m }) d)
@@ -46,7 +46,7 @@ pub allocates_too : (s : Setting) (h g : History) (t : ℕ) (f : FiveTuple) (byt
 allocates_too s h g t f bytes others = λ m spelt. others_too s.range _ (table h t) (table g t) (others m spelt)
 
 pub peer_same :
-    (b : Bounds) (h g : History) (t : ℕ) (f : FiveTuple) (e : Entry) (peer : Endpoint) (bytes id : List ℕ) (o : Outcome)
+    (b : Bounds) (h g : History) (t : ℕ) (f : FiveTuple) (e : Entry) (peer : Endpoint) (bytes id : List ℕ) (o : StepOutcome)
     → IsFitting b h → IsFitting b g → clock h ≤ t → clock g ≤ t → fin.get (table h t).entries f ≡ Some e → fin.get (table g t).entries f ≡ Some e
     → AnswersPeer h t e.port peer bytes id o → AnswersPeer g t e.port peer bytes id o
 peer_same b h g t f e peer bytes id o fits-h fits-g now-h now-g here there answer = record {

@@ -11,13 +11,13 @@ use Rattle.turn_cred.specs.Credential.{Verdict}
 use Rattle.turn_relay.specs.FromClient.{PeerData, SendsToPeer}
 use Rattle.turn_rules.specs.Answer.{Answers, Decided, MayAnswer, is_request, judgement}
 use Rattle.turn_step.specs.Answer.{AnswersClient, IsDecided, Setting, to_client, to_peer, undecided}
-use Rattle.turn_step.specs.Outcome.{Outcome, decided_for}
+use Rattle.turn_step.specs.Outcome.{StepOutcome, decided_for}
 use Rattle.turn_relay.proofs.Datagrams.{of_message}
 use Rattle.turn_step.proofs.Dropped.{nothing_decided, request_sends_nothing}
 
 module _ (s : Setting) (h : History) (t : ℕ) (failed : Bool) (f : FiveTuple) where
   -- the credentials as they were judged
-  pub decided_as_judged : (d : Datagram) (v : Option Verdict) (o : Outcome) → v ≡ judgement s.config s.keys f.client t d
+  pub decided_as_judged : (d : Datagram) (v : Option Verdict) (o : StepOutcome) → v ≡ judgement s.config s.keys f.client t d
       → ((x : Decided) × MayAnswer s.pairs s.config s.range h t failed f d v x × (o ≡ decided_for f x)) → IsDecided s h t failed f d o
   decided_as_judged d v o judged found = record {
     decided = found.0;
@@ -27,7 +27,7 @@ module _ (s : Setting) (h : History) (t : ℕ) (failed : Bool) (f : FiveTuple) w
 
   module _ (bytes : List ℕ) where
     -- the bytes are no request, and send data or nothing
-    pub of_sent : (p : Option PeerData) (o : Outcome) → ((m : Content) → Spells bytes m → is_request m.class ≡ false) → SendsToPeer (table h t) f bytes p
+    pub of_sent : (p : Option PeerData) (o : StepOutcome) → ((m : Content) → Spells bytes m → is_request m.class ≡ false) → SendsToPeer (table h t) f bytes p
         → o ≡ record { change = None; sent = to_peer p } → AnswersClient s h t failed f bytes o
     of_sent p o other sends is = record {
       decided = undecided;
@@ -38,21 +38,21 @@ module _ (s : Setting) (h : History) (t : ℕ) (failed : Bool) (f : FiveTuple) w
       };
       sends = sends;
       one = inl refl;
-      sent = ap (λ (x : Outcome). x.sent) is ∙ no_reply p;
-      change = ap (λ (x : Outcome). x.change) is;
+      sent = ap (λ (x : StepOutcome). x.sent) is ∙ no_reply p;
+      change = ap (λ (x : StepOutcome). x.change) is;
     }
       where
         no_reply : (p : Option PeerData) → to_peer p ≡ option_or (to_peer p) (to_client f None)
         no_reply (Some p) = refl
         no_reply None = refl
 
-    pub of_data : {E : Type 0} (p : Option PeerData) (r : Result Outcome E) → ((m : Content) → Spells bytes m → is_request m.class ≡ false) → SendsToPeer (table h t) f bytes p
+    pub of_data : {E : Type 0} (p : Option PeerData) (r : Result StepOutcome E) → ((m : Content) → Spells bytes m → is_request m.class ≡ false) → SendsToPeer (table h t) f bytes p
         → IfOk r (λ o. o ≡ record { change = None; sent = to_peer p }) → IfOk r (AnswersClient s h t failed f bytes)
     of_data p (Ok o) other sends is = of_sent p o other sends is
     of_data p (Err e) other sends is = tt
 
     -- the bytes are a request
-    of_request : (d : Datagram) (o : Outcome) → Spells bytes d.content → ((m : Content) → Spells bytes m → d ≡ record { bytes = bytes; content = m })
+    of_request : (d : Datagram) (o : StepOutcome) → Spells bytes d.content → ((m : Content) → Spells bytes m → d ≡ record { bytes = bytes; content = m })
         → is_request d.content.class ≡ true → IsDecided s h t failed f d o → AnswersClient s h t failed f bytes o
     of_request d o found only asks x = record {
       decided = x.decided;
@@ -63,11 +63,11 @@ module _ (s : Setting) (h : History) (t : ℕ) (failed : Bool) (f : FiveTuple) w
       };
       sends = of_message (table h t) f bytes d.content None found (sym (request_sends_nothing (fin.get (table h t).entries f) (record { bytes = bytes; content = d.content }) asks));
       one = inr refl;
-      sent = ap (λ (y : Outcome). y.sent) x.is;
-      change = ap (λ (y : Outcome). y.change) x.is;
+      sent = ap (λ (y : StepOutcome). y.sent) x.is;
+      change = ap (λ (y : StepOutcome). y.change) x.is;
     }
 
-    pub of_requested : {E : Type 0} (d : Datagram) (r : Result Outcome E) → Spells bytes d.content → ((m : Content) → Spells bytes m → d ≡ record { bytes = bytes; content = m })
+    pub of_requested : {E : Type 0} (d : Datagram) (r : Result StepOutcome E) → Spells bytes d.content → ((m : Content) → Spells bytes m → d ≡ record { bytes = bytes; content = m })
         → is_request d.content.class ≡ true → IfOk r (IsDecided s h t failed f d) → IfOk r (AnswersClient s h t failed f bytes)
     of_requested d (Ok o) found only asks x = of_request d o found only asks x
     of_requested d (Err e) found only asks x = tt

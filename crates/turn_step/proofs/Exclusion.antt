@@ -11,7 +11,7 @@ use Rattle.turn_rules.specs.Answer.{Answers, Decided, decision, is_dropped, is_r
 use Rattle.turn_relay.specs.FromClient.{PeerData}
 use Rattle.turn_step.specs.Answer.{AnswersClient, Setting, to_client, to_peer, undecided}
 use Rattle.turn_step.specs.Laws.{HasNoReply}
-use Rattle.turn_step.specs.Outcome.{Outcome, change_of, nothing}
+use Rattle.turn_step.specs.Outcome.{StepOutcome, change_of, nothing}
 use Rattle.turn_step.specs.Outcome.Sent.{ToClient, ToPeer}
 use Rattle.turn_step.proofs.Dropped.{request_sends_nothing}
 
@@ -32,7 +32,7 @@ no_reply : (relayed : Option PeerData) (f : FiveTuple) (bytes : List ℕ) → op
 no_reply None f bytes is = cc
 no_reply (Some p) f bytes is = cc
 
-module _ (s : Setting) (h : History) (t : ℕ) (failed : Bool) (f : FiveTuple) (bytes : List ℕ) (o : Outcome) where
+module _ (s : Setting) (h : History) (t : ℕ) (failed : Bool) (f : FiveTuple) (bytes : List ℕ) (o : StepOutcome) where
   pub request_relays_nothing : (m : Content) → Spells bytes m → is_request m.class ≡ true → AnswersClient s h t failed f bytes o
       → (port : ℕ) (peer : Endpoint) (payload : List ℕ) → o.sent ≡ Some (ToPeer port peer payload) → ⊥
   request_relays_nothing m spells request a port peer payload is =

@@ -37,7 +37,7 @@ use Rattle.turn_rules.specs.Taking.{is_picked, picks, takes}
 use Rattle.turn_rules.specs.declared.need.Need.{Need}
 use Rattle.turn_rules.specs.declared.need.Need.TheVariants.{Any, Even, Pair}
 use Rattle.turn_step.specs.Holding.{ArePicked}
-use Rattle.turn_step.specs.Outcome.{Change, Outcome, Sent, change_of}
+use Rattle.turn_step.specs.Outcome.{Change, StepOutcome, Sent, change_of}
 use Rattle.turn_step.specs.State.{HasPortsApart, HoldsPorts, IsPurged, MachineState, MayBeNext}
 
 -- ---- Tests
@@ -446,10 +446,10 @@ apart_later t old new le later apart = elim (eq-or-lt_of_le le) [
 ]
 
 -- the change of a step that was taken apart
-pub change_by : {A : Type 0} (o : Outcome) (sent : Option Sent) (act : Option (Box (FiveTuple × Act A) A)) (b : Box (FiveTuple × Act A) A) (p : FiveTuple × Act A) (a : Act A)
+pub change_by : {A : Type 0} (o : StepOutcome) (sent : Option Sent) (act : Option (Box (FiveTuple × Act A) A)) (b : Box (FiveTuple × Act A) A) (p : FiveTuple × Act A) (a : Act A)
     → o ≡ record { change = option_map (λ x. change_of x.value.0 (act_of x.value.1)) act; sent = sent } → act ≡ Some b → p ≡ b.value → p.1 ≡ a → o.change ≡ Some (change_of p.0 (act_of a))
 change_by o sent act b p a parts some is variant =
-    ap (λ (x : Outcome). x.change) parts ∙ ap (option_map (λ x. change_of x.value.0 (act_of x.value.1))) some ∙ ap (λ q. Some (change_of q.0 (act_of q.1))) (sym is)
+    ap (λ (x : StepOutcome). x.change) parts ∙ ap (option_map (λ x. change_of x.value.0 (act_of x.value.1))) some ∙ ap (λ q. Some (change_of q.0 (act_of q.1))) (sym is)
     ∙ ap (λ x. Some (change_of p.0 (act_of x))) variant
 
 module _ {H G : Type 0} (m n : MachineState H G) (o : Option Change) (c : Change) (same : n ≡ m) (is : o ≡ Some c) where
@@ -467,7 +467,7 @@ held_later holds m n new later same apart advances held =
     advances (subst (λ x. PortsApart x.table.contents) (sym same) apart.ports) (subst (λ x. ReservedApart x.table.contents) (sym same) apart.reserved)
     (subst (λ x. HoldsPorts holds x None) (sym same) held)
 
-pub nothing_taken : {E : Type 0} (P : Option Change → Type 0) (r : Result Outcome E) → IfOk r (λ o. o.change ≡ None) → P None → IfOk r (λ o. P o.change)
+pub nothing_taken : {E : Type 0} (P : Option Change → Type 0) (r : Result StepOutcome E) → IfOk r (λ o. o.change ≡ None) → P None → IfOk r (λ o. P o.change)
 nothing_taken P (Ok o) none p = subst P (sym none) p
 nothing_taken P (Err e) none p = tt
 

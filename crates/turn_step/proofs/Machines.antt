@@ -15,7 +15,7 @@ use Rattle.turn_table.specs.State.{State}
 use Rattle.turn_table.specs.Table.{Agrees, room_for}
 use Rattle.turn_types.specs.declared.address.FiveTuple.{FiveTuple}
 use Rattle.turn_step.specs.Answer.{AnswersArrival, Setting}
-use Rattle.turn_step.specs.Outcome.{Arrives, Change, Outcome, added, change_of, event_at}
+use Rattle.turn_step.specs.Outcome.{Arrives, Change, StepOutcome, added, change_of, event_at}
 use Rattle.turn_step.specs.State.{IsAfter, IsPurged, IsReady, IsSameTable, MachineState, MayBeNext, setting_of}
 
 -- ---- A later moment
@@ -55,7 +55,7 @@ follows_next s b h t c bounds moment late agrees next =
     }) late)
 
 -- the change of an outcome that a machine is ready for follows the history
-pub follows_outcome : {H G E : Type 0} (m : MachineState H G) (b : Bounds) (h : History) (t : ℕ) (r : Result Outcome E) → m.table.bounds ≡ b → m.table.moment ≡ t
+pub follows_outcome : {H G E : Type 0} (m : MachineState H G) (b : Bounds) (h : History) (t : ℕ) (r : Result StepOutcome E) → m.table.bounds ≡ b → m.table.moment ≡ t
     → IsAfter m h → IfOk r (IsReady m) → IfOk r (λ o. IfSome o.change (λ c. Follows b h (event_at t c)))
 follows_outcome m b h t (Err e) bounds moment after ready = tt
 follows_outcome m b h t (Ok o) bounds moment after ready = by_change o.change ready.next
@@ -87,7 +87,7 @@ pub setting_is : {H G : Type 0} (keys : H → Keys) (range : G → ℕ × ℕ) (
 setting_is keys range m config handler ports pairs same_config same_handler same_range same_pairs =
     λ j. record { config = same_config j; keys = keys (same_handler j); range = same_range j; pairs = same_pairs j }
 
-pub answers_along : {E : Type 0} (s z : Setting) (h : History) (t x y n : ℕ) (a b : Arrives) (r : Result Outcome E) → s ≡ z → x ≡ y → a ≡ b
+pub answers_along : {E : Type 0} (s z : Setting) (h : History) (t x y n : ℕ) (a b : Arrives) (r : Result StepOutcome E) → s ≡ z → x ≡ y → a ≡ b
     → IfOk r (AnswersArrival s h t (has_failed x n) a) → IfOk r (AnswersArrival z h t (has_failed y n) b)
 answers_along s z h t x y n a b r same_s same_x same_a answers =
     subst (λ w. IfOk r (AnswersArrival w h t (has_failed y n) b)) same_s

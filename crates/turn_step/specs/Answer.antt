@@ -11,7 +11,7 @@ use Rattle.turn_cred.specs.Credential.{Keys}
 use Rattle.turn_rules.specs.Answer.{Answers, Decided}
 use Rattle.turn_relay.specs.FromClient.{PeerData, SendsToPeer}
 use Rattle.turn_relay.specs.FromPeer.{ClientData, IsForClient, SendsToClient, client_datagram}
-use Rattle.turn_step.specs.Outcome.{Arrives, Outcome, Sent, change_of, decided_for}
+use Rattle.turn_step.specs.Outcome.{Arrives, StepOutcome, Sent, change_of, decided_for}
 use Rattle.turn_step.specs.Outcome.Arrives.{FromClient, FromPeer}
 use Rattle.turn_step.specs.Outcome.Sent.{ToClient, ToPeer}
 
@@ -44,13 +44,13 @@ pub record Decides (s : Setting) (h : History) (t : ℕ) (failed : Bool) (f : Fi
   pub no_message : ((m : Content) → ¬ Spells bytes m) → d ≡ undecided
 
 -- an outcome is what is decided about a message
-pub record IsDecided (s : Setting) (h : History) (t : ℕ) (failed : Bool) (f : FiveTuple) (d : Datagram) (o : Outcome) : Type 0 where
+pub record IsDecided (s : Setting) (h : History) (t : ℕ) (failed : Bool) (f : FiveTuple) (d : Datagram) (o : StepOutcome) : Type 0 where
   pub decided : Decided
   pub answers : Answers s.pairs s.config s.keys s.range h t failed f d decided
   pub is : o ≡ decided_for f decided
 
 -- a client's bytes are decided about as a message, or send data to a peer as a message or as channel data, or neither
-pub record AnswersClient (s : Setting) (h : History) (t : ℕ) (failed : Bool) (f : FiveTuple) (bytes : List ℕ) (o : Outcome) : Type 0 where
+pub record AnswersClient (s : Setting) (h : History) (t : ℕ) (failed : Bool) (f : FiveTuple) (bytes : List ℕ) (o : StepOutcome) : Type 0 where
   pub decided : Decided
   pub relayed : Option PeerData
   pub decides : Decides s h t failed f bytes decided
@@ -73,7 +73,7 @@ IsWrittenIfAny id None sent = sent ≡ None
 IsWrittenIfAny id (Some d) sent = IsWritten id d sent
 
 -- a peer's bytes at a relayed port send data to a client, or nothing
-pub record AnswersPeer (h : History) (t port : ℕ) (from : Endpoint) (bytes id : List ℕ) (o : Outcome) : Type 0 where
+pub record AnswersPeer (h : History) (t port : ℕ) (from : Endpoint) (bytes id : List ℕ) (o : StepOutcome) : Type 0 where
   pub relayed : Option ClientData
   pub sends : SendsToClient (table h t) port from bytes relayed
   pub written : IsWrittenIfAny id relayed o.sent
@@ -83,6 +83,6 @@ pub record AnswersPeer (h : History) (t port : ℕ) (from : Endpoint) (bytes id 
 
 -- what may be sent and done about an arrival at the moment t after a history; failed: whether the generator of ports
 -- failed
-abbrev pub AnswersArrival : Setting → History → ℕ → Bool → Arrives → Outcome → Type 0
+abbrev pub AnswersArrival : Setting → History → ℕ → Bool → Arrives → StepOutcome → Type 0
 AnswersArrival s h t failed (FromClient f bytes) o = AnswersClient s h t failed f bytes o
 AnswersArrival s h t failed (FromPeer port from bytes id) o = AnswersPeer h t port from bytes id o

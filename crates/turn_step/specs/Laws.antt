@@ -6,11 +6,11 @@ use Rattle.turn_history.specs.Table.{Contents}
 use Rattle.turn_rules.specs.Answer.{is_allocate, judgement, user_of}
 use Rattle.turn_rules.specs.Laws.{SameForOthers}
 use Rattle.turn_step.specs.Answer.{Setting}
-use Rattle.turn_step.specs.Outcome.{Outcome}
+use Rattle.turn_step.specs.Outcome.{StepOutcome}
 use Rattle.turn_step.specs.Outcome.Sent.{ToClient}
 
 -- nothing is done, and nothing is sent to a client
-pub record HasNoReply (o : Outcome) : Type 0 where
+pub record HasNoReply (o : StepOutcome) : Type 0 where
   pub change : o.change ≡ None
   pub sent : (f : FiveTuple) (bytes : List ℕ) → o.sent ≢ Some (ToClient f bytes)
 

@@ -26,16 +26,16 @@ abbrev pub change_of : FiveTuple → PlainAct → Change
 change_of f a = record { tuple = f; act = a }
 
 -- what is done about an arrival: a change of an allocation, if any, and a datagram, if any
-pub record Outcome : Type 0 where
+pub record StepOutcome : Type 0 where
   pub change : Option Change
   pub sent : Option Sent
 
 -- nothing is done, and nothing is sent
-abbrev pub nothing : Outcome
+abbrev pub nothing : StepOutcome
 nothing = record { change = None; sent = None }
 
 -- a reply and an act, as they were decided for a five-tuple
-abbrev pub decided_for : FiveTuple → Decided → Outcome
+abbrev pub decided_for : FiveTuple → Decided → StepOutcome
 decided_for f d = record { change = option_map (change_of f) d.act; sent = option_map (Sent.ToClient f) d.reply }
 
 -- the change as an event of a history

@@ -11,7 +11,7 @@ use Rattle.turn_table.specs.State.{State}
 use Rattle.turn_table.specs.Table.{Agrees, room_for}
 use Rattle.turn_step.specs.Answer.{AnswersArrival, Setting}
 use Rattle.turn_step.specs.Holding.{ports_with}
-use Rattle.turn_step.specs.Outcome.{Arrives, Change, Outcome, Sent, added, event_at}
+use Rattle.turn_step.specs.Outcome.{Arrives, Change, StepOutcome, Sent, added, event_at}
 
 -- what contracts see of a machine: the configuration, the handler of users' keys, the generator of ports, the table, and
 -- whether ports may be reserved
@@ -85,7 +85,7 @@ pub record MayBeNext (s : State) (c : Change) : Type 0 where
   pub in_range : IsInRange s.bounds (event_at s.moment c)
 
 -- a machine is ready for a step: its change may be the next, and reserves no port where none may be reserved
-pub record IsReady {H G : Type 0} (m : MachineState H G) (o : Outcome) : Type 0 where
+pub record IsReady {H G : Type 0} (m : MachineState H G) (o : StepOutcome) : Type 0 where
   pub next : IfSome o.change (MayBeNext m.table)
   pub no_pairs : m.pairs ≡ false → IfSome o.change (λ c. ReservesNone c.act)
 
@@ -99,7 +99,7 @@ changed s (Some c) = record s { contents = applied s.moment c.tuple c.act s.cont
 -- an arrival at the moment t was answered: an outcome whose datagram was sent is an answer after the history, and the
 -- machine is after the history with its change
 pub record Answered {H G : Type 0} (s : Setting) (new : MachineState H G) (h : History) (t : ℕ) (failed : Bool) (a : Arrives) (sent : Option Sent) : Type 0 where
-  pub outcome : Outcome
+  pub outcome : StepOutcome
   pub answers : AnswersArrival s h t failed a outcome
   pub sent_is : outcome.sent ≡ sent
   pub after : IsAfter new (h ++ added t outcome.change)

@@ -11,7 +11,7 @@ ghost use Rattle.turn_history.specs.Table.{Entry, table};
 ghost use Rattle.turn_rules.specs.Answer.{is_request};
 ghost use Rattle.turn_step.specs.Answer.{AnswersArrival, AnswersClient, Setting};
 ghost use Rattle.turn_step.specs.Laws.{HasNoReply, SpellsNoAllocate, SameForAllocates};
-ghost use Rattle.turn_step.specs.Outcome.{Outcome, nothing};
+ghost use Rattle.turn_step.specs.Outcome.{StepOutcome, nothing};
 ghost use Rattle.turn_step.specs.Outcome.Arrives.{FromClient, FromPeer};
 ghost use Rattle.turn_step.specs.Outcome.Sent.{ToPeer};
 ghost use Rattle.turn_step.specs.State.{HasPortsApart};
@@ -25,14 +25,14 @@ ghost use Rattle.turn_types.specs.declared.limits.Bounds.{Bounds};
 /// and a datagram that is no message, get no reply and do no act; and a datagram that is neither a message nor channel
 /// data gets nothing at all.
 pub fn replies_answer_requests()
-    ensures requests { (s : Setting) (h : History) (t : ℕ) (failed : Bool) (f : FiveTuple) (bytes : List ℕ) (o : Outcome) (m : Content) →
+    ensures requests { (s : Setting) (h : History) (t : ℕ) (failed : Bool) (f : FiveTuple) (bytes : List ℕ) (o : StepOutcome) (m : Content) →
         Spells bytes m → is_request m.class ≡ true → AnswersClient s h t failed f bytes o →
         (port : ℕ) (peer : Endpoint) (payload : List ℕ) → o.sent ≢ Some (ToPeer port peer payload) }
-    ensures others { (s : Setting) (h : History) (t : ℕ) (failed : Bool) (f : FiveTuple) (bytes : List ℕ) (o : Outcome) (m : Content) →
+    ensures others { (s : Setting) (h : History) (t : ℕ) (failed : Bool) (f : FiveTuple) (bytes : List ℕ) (o : StepOutcome) (m : Content) →
         Spells bytes m → is_request m.class ≡ false → AnswersClient s h t failed f bytes o → HasNoReply o }
-    ensures no_message { (s : Setting) (h : History) (t : ℕ) (failed : Bool) (f : FiveTuple) (bytes : List ℕ) (o : Outcome) →
+    ensures no_message { (s : Setting) (h : History) (t : ℕ) (failed : Bool) (f : FiveTuple) (bytes : List ℕ) (o : StepOutcome) →
         ((m : Content) → ¬ Spells bytes m) → AnswersClient s h t failed f bytes o → HasNoReply o }
-    ensures unreadable { (s : Setting) (h : History) (t : ℕ) (failed : Bool) (f : FiveTuple) (bytes : List ℕ) (o : Outcome) →
+    ensures unreadable { (s : Setting) (h : History) (t : ℕ) (failed : Bool) (f : FiveTuple) (bytes : List ℕ) (o : StepOutcome) →
         ((m : Content) → ¬ Spells bytes m) → ((number : ℕ) (payload : List ℕ) → ¬ SpellsChannelData bytes number payload) →
         AnswersClient s h t failed f bytes o → o ≡ nothing }
 {}
@@ -41,13 +41,13 @@ pub fn replies_answer_requests()
 /// histories that have the same events of it. For an Allocate, these are to have as many allocations of the user and of all,
 /// and the same taken ports too. So is what a peer's datagram at the relayed port of a live allocation sends.
 pub fn clients_stand_alone()
-    ensures client { (s : Setting) (h g : History) (t : ℕ) (failed : Bool) (f : FiveTuple) (bytes : List ℕ) (o : Outcome) →
+    ensures client { (s : Setting) (h g : History) (t : ℕ) (failed : Bool) (f : FiveTuple) (bytes : List ℕ) (o : StepOutcome) →
         events_of f h ≡ events_of f g → SpellsNoAllocate bytes →
         (AnswersArrival s h t failed (FromClient f bytes) o ↔ AnswersArrival s g t failed (FromClient f bytes) o) }
-    ensures allocate { (s : Setting) (h g : History) (t : ℕ) (failed : Bool) (f : FiveTuple) (bytes : List ℕ) (o : Outcome) →
+    ensures allocate { (s : Setting) (h g : History) (t : ℕ) (failed : Bool) (f : FiveTuple) (bytes : List ℕ) (o : StepOutcome) →
         events_of f h ≡ events_of f g → SameForAllocates s f t bytes (table h t) (table g t) →
         (AnswersArrival s h t failed (FromClient f bytes) o ↔ AnswersArrival s g t failed (FromClient f bytes) o) }
-    ensures peer { (s : Setting) (b : Bounds) (h g : History) (t : ℕ) (failed : Bool) (f : FiveTuple) (e : Entry) (from : Endpoint) (bytes id : List ℕ) (o : Outcome) →
+    ensures peer { (s : Setting) (b : Bounds) (h g : History) (t : ℕ) (failed : Bool) (f : FiveTuple) (e : Entry) (from : Endpoint) (bytes id : List ℕ) (o : StepOutcome) →
         IsFitting b h → IsFitting b g → clock h ≤ t → clock g ≤ t → events_of f h ≡ events_of f g → fin.get (table h t).entries f ≡ Some e →
         (AnswersArrival s h t failed (FromPeer e.port from bytes id) o ↔ AnswersArrival s g t failed (FromPeer e.port from bytes id) o) }
 {}

@@ -25,7 +25,7 @@ use turn_cred::{AuthHandler, Checker};
 use turn_history::Act;
 use turn_ports::RelayAddressGenerator;
 use turn_relay::{from_channel_data, from_message};
-use turn_rules::{Need, Request, needs_port};
+use turn_rules::{ClientMessage, Need, needs_port};
 use turn_table::Table;
 use turn_types::{FiveTuple, Moment, ServerConfig};
 
@@ -197,7 +197,7 @@ impl<H: AuthHandler, G: RelayAddressGenerator, A: Allocator + Copy> Machine<H, G
         ensures held_err { HoldsPorts G.holds self.old None → OnErr result (HoldsPorts G.holds self.new None) }
     {
         let verdict = judge(&mut self.checker, &message, five_tuple.client, moment);
-        let request = Request {
+        let request = ClientMessage {
             message,
             five_tuple,
             verdict,

@@ -25,7 +25,7 @@ use std::alloc::{AllocError, Allocator};
 use turn_codec::Message;
 use turn_cred::{AuthHandler, Checker, Verdict};
 use turn_ports::RelayAddressGenerator;
-use turn_rules::{Decision, Need, Request, decide, is_protected};
+use turn_rules::{ClientMessage, Decision, Need, decide, is_protected};
 use turn_table::Table;
 use turn_types::{Endpoint, FiveTuple, Moment, ServerConfig};
 
@@ -85,7 +85,7 @@ pub(crate) fn settle<A: Allocator + Copy>(
     alloc: A,
     table: &mut Table<A>,
     config: &ServerConfig<A>,
-    request: &Request<'_>,
+    request: &ClientMessage<'_>,
     moment: Moment,
     port: Option<u16>,
     pairs: bool,

@@ -22,10 +22,10 @@ pub struct Step<A: Allocator = Global> {
 impl<A: Allocator> Model for Step<A> {
     ghost use Rattle.std.specs.Prelude.{option_map};
     ghost use Rattle.turn_history.specs.Act.{act_of};
-    ghost use Rattle.turn_step.specs.Outcome.{Outcome, change_of};
+    ghost use Rattle.turn_step.specs.Outcome.{StepOutcome, change_of};
     ghost use Rattle.turn_step.specs.Views.{sent_of};
 
-    ghost Value = { Outcome };
+    ghost Value = { StepOutcome };
 
     ghost view = { λ s. record {
       change = option_map (λ b. change_of b.value.0 (act_of b.value.1)) s.act;

@@ -10,52 +10,52 @@ use Rattle.turn_store.specs.Areas.{Form, Holds}
 use Rattle.turn_store.specs.Images.{EitherBy, StandsBy, StandsForAt}
 use Rattle.turn_store.specs.Spells.{HasSize, Spells}
 use Rattle.turn_store.specs.Stages.{InStagesAt}
-use Rattle.turn_store.specs.State.{MayFollow, RestsAt, Shows, StoreState, form_of}
+use Rattle.turn_store.specs.State.{MayFollow, RecoversToAt, Shows, StoreState, form_of}
 use Rattle.turn_disk.proofs.Since.{since_same}
-use Rattle.turn_store.proofs.Rows.{rests_image}
+use Rattle.turn_store.proofs.Rows.{recovers_image}
 use Rattle.turn_store.proofs.Spelling.{frames_go_on, snapshots_go_on}
 use Rattle.turn_store.proofs.Staged.{stages_first_at, stages_weaken_at}
 
-module _ {D : Type 0} (old : StoreState D) (before : State) (c : ℕ) (h : History) (es : List Event) (m : ℕ) (rests : RestsAt old before c h) (follows : MayFollow old.bounds c h es m) where
+module _ {D : Type 0} (old : StoreState D) (before : State) (c : ℕ) (h : History) (es : List Event) (m : ℕ) (recovers : RecoversToAt old before c h) (follows : MayFollow old.bounds c h es m) where
   abbrev form : Form
   form = form_of old
 
   abbrev v : Version
   v = old.version
 
-  stood : (image : List ℕ) → Holds v form rests.snapshot rests.payloads image → StandsForAt form h c image
-  stood image holds = record { version = v; snapshot = rests.snapshot; payloads = rests.payloads; holds = holds; spells = rests.spells }
+  stood : (image : List ℕ) → Holds v form recovers.snapshot recovers.payloads image → StandsForAt form h c image
+  stood image holds = record { version = v; snapshot = recovers.snapshot; payloads = recovers.payloads; holds = holds; spells = recovers.spells }
 
-  stood_by : (image : List ℕ) → Holds v form rests.snapshot rests.payloads image → StandsBy form h m image
+  stood_by : (image : List ℕ) → Holds v form recovers.snapshot recovers.payloads image → StandsBy form h m image
   stood_by image holds = record { clock = c; bounded = follows.clock_late; stands = stood image holds }
 
   module _ (size : HasSize old.version old.bounds es) (payload : List ℕ) (is : payload ≡ bytes.payload es) where
-    more : (d : ℕ) × (d ≤ m) × Spells v old.bounds (h ++ es) d rests.snapshot (rests.payloads ++ payload ∷ [])
+    more : (d : ℕ) × (d ≤ m) × Spells v old.bounds (h ++ es) d recovers.snapshot (recovers.payloads ++ payload ∷ [])
     more =
-        subst (λ (p : List ℕ). (d : ℕ) × (d ≤ m) × Spells v old.bounds (h ++ es) d rests.snapshot (rests.payloads ++ p ∷ [])) (sym is)
-        (frames_go_on v old.bounds h c rests.snapshot rests.payloads es m rests.spells follows.fitting follows.from size follows.clock_late follows.late)
+        subst (λ (p : List ℕ). (d : ℕ) × (d ≤ m) × Spells v old.bounds (h ++ es) d recovers.snapshot (recovers.payloads ++ p ∷ [])) (sym is)
+        (frames_go_on v old.bounds h c recovers.snapshot recovers.payloads es m recovers.spells follows.fitting follows.from size follows.clock_late follows.late)
 
-    framed_by : (image : List ℕ) → Holds v form rests.snapshot (rests.payloads ++ payload ∷ []) image → StandsBy form (h ++ es) m image
-    framed_by image holds = record { clock = more.0; bounded = more.1; stands = record { version = v; snapshot = rests.snapshot; payloads = rests.payloads ++ payload ∷ []; holds = holds; spells = more.2 } }
+    framed_by : (image : List ℕ) → Holds v form recovers.snapshot (recovers.payloads ++ payload ∷ []) image → StandsBy form (h ++ es) m image
+    framed_by image holds = record { clock = more.0; bounded = more.1; stands = record { version = v; snapshot = recovers.snapshot; payloads = recovers.payloads ++ payload ∷ []; holds = holds; spells = more.2 } }
 
-    pub frame_stages : (gate : ℕ) (since now : Trace) → InStagesAt gate since now (Holds v form rests.snapshot rests.payloads) (λ image. Holds v form rests.snapshot rests.payloads image ⊎ Holds v form rests.snapshot (rests.payloads ++ payload ∷ []) image)
+    pub frame_stages : (gate : ℕ) (since now : Trace) → InStagesAt gate since now (Holds v form recovers.snapshot recovers.payloads) (λ image. Holds v form recovers.snapshot recovers.payloads image ⊎ Holds v form recovers.snapshot (recovers.payloads ++ payload ∷ []) image)
         → InStagesAt gate since now (StandsForAt form h c) (EitherBy form h es m)
     frame_stages gate since now stages =
-        stages_weaken_at gate since now (Holds v form rests.snapshot rests.payloads) (λ (image : List ℕ). Holds v form rests.snapshot rests.payloads image ⊎ Holds v form rests.snapshot (rests.payloads ++ payload ∷ []) image)
+        stages_weaken_at gate since now (Holds v form recovers.snapshot recovers.payloads) (λ (image : List ℕ). Holds v form recovers.snapshot recovers.payloads image ⊎ Holds v form recovers.snapshot (recovers.payloads ++ payload ∷ []) image)
         (StandsForAt form h c) (EitherBy form h es m) stood
         (λ image either. ⊎_elim (λ holds. inl (stood_by image holds)) (λ holds. inr (framed_by image holds)) either) stages
 
-    pub frame_done : (new : StoreState D) (after : State) → new.version ≡ old.version → new.bounds ≡ old.bounds → new.stopped ≡ false → Shows new after rests.snapshot (rests.payloads ++ payload ∷ [])
-        → (d : ℕ) × (d ≤ m) × RestsAt new after d (h ++ es)
+    pub frame_done : (new : StoreState D) (after : State) → new.version ≡ old.version → new.bounds ≡ old.bounds → new.stopped ≡ false → Shows new after recovers.snapshot (recovers.payloads ++ payload ∷ [])
+        → (d : ℕ) × (d ≤ m) × RecoversToAt new after d (h ++ es)
     frame_done new after version same runs shows = (
       more.0,
       more.1,
       record {
-        snapshot = rests.snapshot;
-        payloads = rests.payloads ++ payload ∷ [];
+        snapshot = recovers.snapshot;
+        payloads = recovers.payloads ++ payload ∷ [];
         shows = shows;
-        spells = subst (λ b. Spells new.version b (h ++ es) more.0 rests.snapshot (rests.payloads ++ payload ∷ [])) (sym same)
-            (subst (λ (w : Version). Spells w old.bounds (h ++ es) more.0 rests.snapshot (rests.payloads ++ payload ∷ [])) (sym version) more.2);
+        spells = subst (λ b. Spells new.version b (h ++ es) more.0 recovers.snapshot (recovers.payloads ++ payload ∷ [])) (sym same)
+            (subst (λ (w : Version). Spells w old.bounds (h ++ es) more.0 recovers.snapshot (recovers.payloads ++ payload ∷ [])) (sym version) more.2);
         runs = runs;
       },
     )
@@ -71,14 +71,14 @@ module _ {D : Type 0} (old : StoreState D) (before : State) (c : ℕ) (h : Histo
     next_by : (image : List ℕ) → Holds w form next [] image → StandsBy form (h ++ es) m image
     next_by image holds = record { clock = m; bounded = omega arith; stands = record { version = w; snapshot = next; payloads = []; holds = holds; spells = spelled } }
 
-    pub snapshot_stages : (gate : ℕ) (since now : Trace) → InStagesAt gate since now (Holds v form rests.snapshot rests.payloads) (λ image. Holds v form rests.snapshot rests.payloads image ⊎ Holds w form next [] image)
+    pub snapshot_stages : (gate : ℕ) (since now : Trace) → InStagesAt gate since now (Holds v form recovers.snapshot recovers.payloads) (λ image. Holds v form recovers.snapshot recovers.payloads image ⊎ Holds w form next [] image)
         → InStagesAt gate since now (StandsForAt form h c) (EitherBy form h es m)
     snapshot_stages gate since now stages =
-        stages_weaken_at gate since now (Holds v form rests.snapshot rests.payloads) (λ (image : List ℕ). Holds v form rests.snapshot rests.payloads image ⊎ Holds w form next [] image)
+        stages_weaken_at gate since now (Holds v form recovers.snapshot recovers.payloads) (λ (image : List ℕ). Holds v form recovers.snapshot recovers.payloads image ⊎ Holds w form next [] image)
         (StandsForAt form h c) (EitherBy form h es m) stood
         (λ image either. ⊎_elim (λ holds. inl (stood_by image holds)) (λ holds. inr (next_by image holds)) either) stages
 
-    pub snapshot_done : (new : StoreState D) (after : State) → new.version ≡ w → new.bounds ≡ old.bounds → new.stopped ≡ false → Shows new after next [] → RestsAt new after m (h ++ es)
+    pub snapshot_done : (new : StoreState D) (after : State) → new.version ≡ w → new.bounds ≡ old.bounds → new.stopped ≡ false → Shows new after next [] → RecoversToAt new after m (h ++ es)
     snapshot_done new after version same runs shows = record {
       snapshot = next;
       payloads = [];
@@ -87,14 +87,14 @@ module _ {D : Type 0} (old : StoreState D) (before : State) (c : ℕ) (h : Histo
       runs = runs;
     }
 
-module _ {D : Type 0} (old : StoreState D) (since : Trace) (c : ℕ) (h : History) (es : List Event) (m : ℕ) (rests : RestsAt old since.now c h) (follows : MayFollow old.bounds c h es m) where
+module _ {D : Type 0} (old : StoreState D) (since : Trace) (c : ℕ) (h : History) (es : List Event) (m : ℕ) (recovers : RecoversToAt old since.now c h) (follows : MayFollow old.bounds c h es m) where
   -- no call
   pub rest_stages : (gate : ℕ) → InStagesAt gate since since (StandsForAt (form_of old) h c) (EitherBy (form_of old) h es m)
   rest_stages gate =
-      let shows = rests.shows.rests in
+      let shows = recovers.shows.recovers in
       stages_first_at gate since since (StandsForAt (form_of old) h c) (EitherBy (form_of old) h es m) (λ image stands. inl (record { clock = c; bounded = follows.clock_late; stands = stands }))
       (since_same since since (StandsForAt (form_of old) h c) refl
-      (λ image is. stood old since.now c h es m rests follows image (rests_image old.version (form_of old) old.area.start old.other old.generation old.area.end old.other_is_below rests.snapshot rests.payloads since.now shows image is)))
+      (λ image is. stood old since.now c h es m recovers follows image (recovers_image old.version (form_of old) old.area.start old.other old.generation old.area.end old.other_is_below recovers.snapshot recovers.payloads since.now shows image is)))
 
 -- without a batch
 pub alone_stages : (gate : ℕ) (form : Form) (c : ℕ) (h : History) (m : ℕ) (since now : Trace) → InStagesAt gate since now (StandsForAt form h c) (EitherBy form h [] m) → InStagesAt gate since now (StandsForAt form h c) (StandsBy form h m)

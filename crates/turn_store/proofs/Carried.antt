@@ -11,22 +11,22 @@ use Rattle.turn_record.specs.Bytes as bytes
 use Rattle.turn_record.specs.Records.{IsSnapshot, SpellsSnapshot}
 use Rattle.turn_record.specs.declared.version.Version.{Version}
 use Rattle.turn_record.specs.declared.version.Version.TheVariants.{V2}
-use Rattle.turn_store.specs.Areas.{Form, Holds, RestsOn}
-use Rattle.turn_store.specs.Carrying.{Carries, CountsAs, IsCarried}
+use Rattle.turn_store.specs.Areas.{Form, Holds, RecoversToParts}
+use Rattle.turn_store.specs.Carrying.{Carries, IsActiveAs, IsCarried}
 use Rattle.turn_store.specs.Images.{StandsBy, StandsForAt}
 use Rattle.turn_store.specs.Opened.{IsOpened, OpensTo}
 use Rattle.turn_store.specs.Opening.{disk_of}
 use Rattle.turn_store.specs.Refused.{IsPlain, WhyRefused}
 use Rattle.turn_store.specs.Replay.{Snapshot}
 use Rattle.turn_store.specs.Stages.{InStagesAt}
-use Rattle.turn_store.specs.State.{MayFollow, RestsAt, Shows, StoreState, carried, carried_area, form_of}
+use Rattle.turn_store.specs.State.{MayFollow, RecoversToAt, Shows, StoreState, carried, carried_area, form_of}
 use Rattle.turn_store.specs.declared.store.Opened.{Opened}
-use Rattle.turn_store.specs.declared.store.Refused.{Refused}
-use Rattle.turn_store.specs.declared.fault.OpenFault.{OpenFault}
-use Rattle.turn_store.specs.declared.fault.OpenFault.TheVariants.{Device, Memory, NotAStore, LimitsDiffer, Damaged}
+use Rattle.turn_store.specs.declared.store.StoreOpenError.{StoreOpenError}
+use Rattle.turn_store.specs.declared.error.OpenError.{OpenError}
+use Rattle.turn_store.specs.declared.error.OpenError.TheVariants.{Device, Memory, NotAStore, LimitsDiffer, Damaged}
 use Rattle.turn_types.specs.declared.limits.Bounds.{Bounds}
 use Rattle.turn_store.proofs.Appends.{alone_stages, rest_stages, snapshot_done, snapshot_stages}
-use Rattle.turn_store.proofs.Honest.{has_superblock}
+use Rattle.turn_store.proofs.NeverRefused.{has_superblock}
 use Rattle.turn_store.proofs.Spelling.{clock_late}
 use Rattle.turn_store.proofs.Staged.{stages_all_at}
 use Rattle.turn_store.proofs.Superblocks.{superblock_once}
@@ -40,8 +40,8 @@ module _ {D : Type 0} (form : Form) (h : History) (c : ℕ) (store : StoreState 
 
   pub nothing_follows : t.moment < 2 ^ 40 - 3600 → MayFollow store.bounds c h [] t.moment
   nothing_follows small =
-      let s = o.rests.spells in
-      let late = clock_late store.version store.bounds h c o.rests.snapshot o.rests.payloads s in
+      let s = o.recovers.spells in
+      let late = clock_late store.version store.bounds h c o.recovers.snapshot o.recovers.payloads s in
       let now = now_is in
       record {
         fitting = subst (IsFitting store.bounds) (sym (append-nil h)) s.fitting;
@@ -67,30 +67,30 @@ module _ {D : Type 0} (old : StoreState D) (t : Snapshot) where
   over disk = carried old (carried_area old (length next)) disk
 
   pub carry_shown : (before : State) (s : List ℕ) (ps : List (List ℕ)) → Shows old before s ps → (after : State) (disk : D) (area : Area) (start size : ℕ) → start ≡ old.area.start → size ≡ length next → area ≡ carried_area old size
-      → RestsOn V2 (form_of old) old.other old.area.start (old.generation + 1) (14 + size) true next [] after
+      → RecoversToParts V2 (form_of old) old.other old.area.start (old.generation + 1) (14 + size) true next [] after
       → Shows (record old { disk = disk; version = V2; area = area; other = start; generation = old.generation + 1; frames = 0; other_is_below = true; stopped = false }) after next []
   carry_shown before s ps shows after disk area start size start_is size_is area_is done =
       subst (λ (n : ℕ). Shows (record old { disk = disk; version = V2; area = area; other = n; generation = old.generation + 1; frames = 0; other_is_below = true; stopped = false }) after next []) (sym start_is)
       (subst (λ (a : Area). Shows (record old { disk = disk; version = V2; area = a; other = old.area.start; generation = old.generation + 1; frames = 0; other_is_below = true; stopped = false }) after next []) (sym area_is)
-      (record { rests = done; frames = refl }))
+      (record { recovers = done; frames = refl }))
 
   module _ (before : State) (form : Form) (h : History) (c : ℕ) (o : OpensTo form h c old before t) (small : t.moment < 2 ^ 40 - 3600) where
     pub over_rests : (disk : D) (after : State) → Shows (over disk) after next [] → OpensTo form h c (over disk) after t
     over_rests disk after shows = record {
       same_form = o.same_form;
-      rests = subst (λ (m : ℕ). RestsAt (over disk) after m h) (now_is form h c old before t o)
-          (subst (λ (l : History). RestsAt (over disk) after t.moment l) (append-nil h)
-          (snapshot_done old before c h [] t.moment o.rests (nothing_follows form h c old before t o small) V2 t.contents (contents_are form h c old before t o) tt (over disk) after refl refl o.rests.runs shows));
+      recovers = subst (λ (m : ℕ). RecoversToAt (over disk) after m h) (now_is form h c old before t o)
+          (subst (λ (l : History). RecoversToAt (over disk) after t.moment l) (append-nil h)
+          (snapshot_done old before c h [] t.moment o.recovers (nothing_follows form h c old before t o small) V2 t.contents (contents_are form h c old before t o) tt (over disk) after refl refl o.recovers.runs shows));
       table_is = o.table_is;
     }
 
     pub over_since : (gate : ℕ) (since now : Trace)
-        → InStagesAt gate since now (Holds old.version (form_of old) o.rests.snapshot o.rests.payloads) (λ image. Holds old.version (form_of old) o.rests.snapshot o.rests.payloads image ⊎ Holds V2 (form_of old) next [] image)
+        → InStagesAt gate since now (Holds old.version (form_of old) o.recovers.snapshot o.recovers.payloads) (λ image. Holds old.version (form_of old) o.recovers.snapshot o.recovers.payloads image ⊎ Holds V2 (form_of old) next [] image)
         → EachImageSince since now (StandsBy form h c)
     over_since gate since now stages =
         stands_throughout form h c old before t o gate since now
         (alone_stages gate (form_of old) c h t.moment since now
-        (snapshot_stages old before c h [] t.moment o.rests (nothing_follows form h c old before t o small) V2 t.contents (contents_are form h c old before t o) tt gate since now stages))
+        (snapshot_stages old before c h [] t.moment o.recovers (nothing_follows form h c old before t o small) V2 t.contents (contents_are form h c old before t o) tt gate since now stages))
 
 -- a store of version 2 that shows this snapshot alone was opened to its table
 pub opened_anew : {D : Type 0} (new : StoreState D) (after : State) (t : Snapshot) → new.version ≡ V2 → IsSnapshot V2 new.bounds t.moment t.contents
@@ -108,7 +108,7 @@ opened_anew new after t version can shows = record {
 pub stays_since : {D : Type 0} (form : Form) (h : History) (c : ℕ) (old : StoreState D) (since : Trace) (t : Snapshot) → OpensTo form h c old since.now t → t.moment < 2 ^ 40 - 3600 → EachImageSince since since (StandsBy form h c)
 stays_since form h c old since t o small =
     stands_throughout form h c old since.now t o 0 since since
-    (alone_stages 0 (form_of old) c h t.moment since since (rest_stages old since c h [] t.moment o.rests (nothing_follows form h c old since.now t o small) 0))
+    (alone_stages 0 (form_of old) c h t.moment since since (rest_stages old since c h [] t.moment o.recovers (nothing_follows form h c old since.now t o small) 0))
 
 -- an image that a stop might have left before, or one that stands for the history
 abbrev pub IsOldOrStands : State → Form → History → ℕ → List ℕ → Type 0
@@ -123,24 +123,24 @@ carried_since form h c old mid new kept carried =
     (since_weaken mid new (StandsBy form h c) (IsOldOrStands old.now form h c) (λ image stands. inr stands) carried)
 
 -- what counts in the content of a store that was opened
-pub counts_as : {D : Type 0} (store : StoreState D) (state : State) (t : Snapshot) (content : List ℕ) → IsOpened store state t → state.bytes ≡ content
-    → CountsAs store.area.size store.bounds store.version store.generation store.frames content
-counts_as store state t content is same =
-    let rests = is.shows.rests in
-    let whole = rests.holds.whole in
-    let fits = rests.holds.is_form.addressable in
-    subst (CountsAs store.area.size store.bounds store.version store.generation store.frames) same (record {
-      room = rests.holds.is_form.room;
+pub is_active_as : {D : Type 0} (store : StoreState D) (state : State) (t : Snapshot) (content : List ℕ) → IsOpened store state t → state.bytes ≡ content
+    → IsActiveAs store.area.size store.bounds store.version store.generation store.frames content
+is_active_as store state t content is same =
+    let recovers = is.shows.recovers in
+    let whole = recovers.holds.whole in
+    let fits = recovers.holds.is_form.addressable in
+    subst (IsActiveAs store.area.size store.bounds store.version store.generation store.frames) same (record {
+      room = recovers.holds.is_form.room;
       addressable = fits;
       whole = whole;
-      superblock = record { long = omega arith; addressable = omega arith; in_range = rests.holds.is_form.in_range; stands = rests.holds.front };
+      superblock = record { long = omega arith; addressable = omega arith; in_range = recovers.holds.is_form.in_range; stands = recovers.holds.front };
       start = store.area.start;
       other = store.other;
-      places = rests.holds.places;
+      places = recovers.holds.places;
       snapshot = is.snapshot;
       payloads = is.payloads;
-      area = rests.holds.area;
-      yields = rests.yields;
+      area = recovers.holds.area;
+      yields = recovers.yields;
       count = is.shows.frames;
     })
 
@@ -148,10 +148,10 @@ counts_as store state t content is same =
 pub same_bounds : {D : Type 0} (store : StoreState D) (state : State) (t : Snapshot) (form : Form) (h : History) (clock : ℕ) (limits : Bounds) (content : List ℕ) → IsOpened store state t → state.bytes ≡ content
     → store.bounds ≡ limits → StandsForAt form h clock content → form.bounds ≡ limits
 same_bounds store state t form h clock limits content is same bounds stands =
-    let read = counts_as store state t content is same in
+    let read = is_active_as store state t content is same in
     sym (superblock_once store.area.size form.area store.bounds form.bounds content read.superblock (has_superblock form h clock content stands)).1 ∙ bounds
 
-pub kept_carries : {D : Type 0} (carry : Bool) (content : List ℕ) (store : StoreState D) → CountsAs store.area.size store.bounds store.version store.generation store.frames content
+pub kept_carries : {D : Type 0} (carry : Bool) (content : List ℕ) (store : StoreState D) → IsActiveAs store.area.size store.bounds store.version store.generation store.frames content
     → (IsCarried carry store.area.size store.bounds store.version store.generation → ⊥) → Carries carry content store
 kept_carries carry content store counts never = record {
   version = store.version;
@@ -162,7 +162,7 @@ kept_carries carry content store counts never = record {
   kept = λ none. (refl, refl, refl);
 }
 
-pub over_carries : {D : Type 0} (carry : Bool) (content : List ℕ) (old : StoreState D) (t : Snapshot) → CountsAs old.area.size old.bounds old.version old.generation old.frames content
+pub over_carries : {D : Type 0} (carry : Bool) (content : List ℕ) (old : StoreState D) (t : Snapshot) → IsActiveAs old.area.size old.bounds old.version old.generation old.frames content
     → IsCarried carry old.area.size old.bounds old.version old.generation → (disk : D) → Carries carry content (over old t disk)
 over_carries carry content old t counts is disk = record {
   version = old.version;
@@ -182,11 +182,11 @@ on_err P Q (Ok x) f h = h
 on_err P Q (Err e) f h = f e h
 
 -- what holds of the disk after an opening holds of the store's, and of the one that was returned
-pub at_ok : {D A : Type 0} (P : D → Type 0) (r : Result (Opened D A) (Refused D)) → P (disk_of r) → IfOk r (λ o. P o.store.disk)
+pub at_ok : {D A : Type 0} (P : D → Type 0) (r : Result (Opened D A) (StoreOpenError D)) → P (disk_of r) → IfOk r (λ o. P o.store.disk)
 at_ok P (Ok opened) h = h
 at_ok P (Err refused) h = tt
 
-pub at_err : {D A : Type 0} (P : D → Type 0) (r : Result (Opened D A) (Refused D)) → P (disk_of r) → IfErr r (λ e. P e.disk)
+pub at_err : {D A : Type 0} (P : D → Type 0) (r : Result (Opened D A) (StoreOpenError D)) → P (disk_of r) → IfErr r (λ e. P e.disk)
 at_err P (Ok opened) h = tt
 at_err P (Err refused) h = h
 
@@ -203,7 +203,7 @@ all_ok P Q R (Ok x) one two three = (one, two, three)
 all_ok P Q R (Err e) one two three = one
 
 -- a refusal of the device or of memory has no other reason
-pub plain_why : (b : Bounds) (content : List ℕ) (fault : OpenFault) → IsPlain fault → WhyRefused b content fault
+pub plain_why : (b : Bounds) (content : List ℕ) (fault : OpenError) → IsPlain fault → WhyRefused b content fault
 plain_why b content Device plain = tt
 plain_why b content Memory plain = tt
 plain_why b content NotAStore plain = absurd plain

@@ -12,8 +12,8 @@ use Rattle.turn_store.specs.Opened.{AreaIsRead, IsChosen, LogIsRead}
 use Rattle.turn_store.specs.Refused.{AreaIsBad, FaultWith, IsGoodSnapshot, StoreIsBad, WhyRefused}
 use Rattle.turn_store.specs.Replay.{Snapshot}
 use Rattle.turn_store.specs.Superblock.{HasSuperblock, least_area}
-use Rattle.turn_store.specs.declared.fault.OpenFault.{OpenFault}
-use Rattle.turn_store.specs.declared.fault.OpenFault.TheVariants.{Device, Memory, NotAStore, LimitsDiffer, Damaged}
+use Rattle.turn_store.specs.declared.error.OpenError.{OpenError}
+use Rattle.turn_store.specs.declared.error.OpenError.TheVariants.{Device, Memory, NotAStore, LimitsDiffer, Damaged}
 use Rattle.turn_store.specs.declared.heads.Head.{Head}
 use Rattle.turn_store.specs.declared.heads.Placed.{Placed}
 use Rattle.turn_store.proofs.Numbers.{stands_join, stands_one, number_once_8}
@@ -128,7 +128,7 @@ module _ (size : ℕ) (first second area other : Placed) (c : List ℕ) (read : 
   }
 
 -- a store whose size is right is refused for what is wrong with its areas
-pub why_of_bad : (b : Bounds) (area : ℕ) (c : List ℕ) → HasSuperblock area b c → least_area V1 b ≤ area → length c ≡ 64 + 2 * area → (fault : OpenFault) → FaultWith (StoreIsBad b area c) fault → WhyRefused b c fault
+pub why_of_bad : (b : Bounds) (area : ℕ) (c : List ℕ) → HasSuperblock area b c → least_area V1 b ≤ area → length c ≡ 64 + 2 * area → (fault : OpenError) → FaultWith (StoreIsBad b area c) fault → WhyRefused b c fault
 why_of_bad b area c has room whole Device why = tt
 why_of_bad b area c has room whole Memory why = tt
 why_of_bad b area c has room whole NotAStore why = absurd why

@@ -6,7 +6,7 @@ use Rattle.std.proofs.Math.Seq.{take-append-add}
 use Rattle.turn_disk.proofs.Standing.{stands_read}
 use Rattle.turn_record.specs.Records.{IsSnapshot}
 use Rattle.turn_record.specs.Snapshots.{snapshot_in}
-use Rattle.turn_record.specs.declared.fault.Malformed.{Malformed}
+use Rattle.turn_record.specs.declared.error.DecodeError.{DecodeError}
 use Rattle.turn_record.proofs.Snapshots.{snapshot_found, snapshot_again}
 use Rattle.turn_record.specs.declared.version.Version.{Version}
 use Rattle.turn_store.specs.Bytes.{AreBytes}
@@ -45,7 +45,7 @@ good_snapshot v b range at count c s le bytes is = record {
   spells = snapshot_found v b range (take count (drop at c)) bytes (s.moment, s.contents) is;
 }
 
-pub bad_snapshot : (v : Version) (b : Bounds) → AreInRange b → (at count : ℕ) (c : List ℕ) (f : Malformed) → at + count ≤ length c → snapshot_in v b (take count (drop at c)) ≡ Err f → IsBadSnapshot v b at count c
+pub bad_snapshot : (v : Version) (b : Bounds) → AreInRange b → (at count : ℕ) (c : List ℕ) (f : DecodeError) → at + count ≤ length c → snapshot_in v b (take count (drop at c)) ≡ Err f → IsBadSnapshot v b at count c
 bad_snapshot v b range at count c f le is = record {
   bytes = take count (drop at c);
   has = has_bytes at count c le;

@@ -3,7 +3,7 @@ pub mod Carried
 pub mod Choices
 pub mod Fed
 pub mod Formats
-pub mod Honest
+pub mod NeverRefused
 pub mod Kept
 pub mod Logs
 pub mod Numbers

@@ -12,12 +12,12 @@ use Rattle.turn_record.specs.Records.{SpellsPayload, max_payload}
 use Rattle.turn_record.specs.declared.version.Version.{Version}
 use Rattle.turn_store.specs.Refused.{BreaksAt, FaultWith}
 use Rattle.turn_store.specs.Replay.{Snapshot, GoOn, GoesOn, Replays, HasFrames, ReplaysTo}
-use Rattle.turn_store.specs.declared.fault.OpenFault.{OpenFault}
-use Rattle.turn_store.specs.declared.fault.OpenFault.TheVariants.{Device, Memory, NotAStore, LimitsDiffer, Damaged}
+use Rattle.turn_store.specs.declared.error.OpenError.{OpenError}
+use Rattle.turn_store.specs.declared.error.OpenError.TheVariants.{Device, Memory, NotAStore, LimitsDiffer, Damaged}
 use Rattle.turn_store.proofs.Numbers.{stands_join}
 use Rattle.turn_types.specs.declared.limits.Bounds.{Bounds}
 
-pub faults_weaken : (P Q : ℕ → Type 0) → ((place : ℕ) → P place → Q place) → (fault : OpenFault) → FaultWith P fault → FaultWith Q fault
+pub faults_weaken : (P Q : ℕ → Type 0) → ((place : ℕ) → P place → Q place) → (fault : OpenError) → FaultWith P fault → FaultWith Q fault
 faults_weaken P Q to Device why = tt
 faults_weaken P Q to Memory why = tt
 faults_weaken P Q to NotAStore why = absurd why

@@ -14,7 +14,7 @@ use Rattle.turn_store.specs.Images.{StandsForAt}
 use Rattle.turn_store.specs.Replay.{Snapshot}
 use Rattle.turn_store.specs.Spells.{Spells, all_of}
 use Rattle.turn_store.proofs.Fronts.{front_is, spelled_once}
-use Rattle.turn_store.proofs.Honest.{has_superblock}
+use Rattle.turn_store.proofs.NeverRefused.{has_superblock}
 use Rattle.turn_store.proofs.Opens.{form_is}
 use Rattle.turn_store.proofs.Replayed.{at}
 use Rattle.turn_store.proofs.Sound.{HoldsHere, holds_once}

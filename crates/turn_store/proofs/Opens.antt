@@ -10,7 +10,7 @@ use Rattle.turn_store.specs.Replay.{Snapshot}
 use Rattle.turn_store.specs.Spells.{Spells}
 use Rattle.turn_store.specs.State.{StoreState}
 use Rattle.turn_store.specs.Superblock.{HasSuperblock, least_area}
-use Rattle.turn_store.proofs.Honest.{has_superblock, replayed}
+use Rattle.turn_store.proofs.NeverRefused.{has_superblock, replayed}
 use Rattle.turn_store.proofs.Sound.{HoldsHere, holds_once}
 use Rattle.turn_store.proofs.Superblocks.{superblock_once}
 use Rattle.turn_types.specs.declared.limits.Bounds.{Bounds}
@@ -23,7 +23,7 @@ opened store state t settled has room whole addressable chosen = record {
   first = chosen.first;
   payloads = chosen.payloads;
   shows = record {
-    rests = record {
+    recovers = record {
       holds = record {
         settled = settled;
         is_form = record { in_range = has.in_range; room = room; addressable = addressable };
@@ -52,13 +52,13 @@ form_is b d m n one two = ap (λ (x : Bounds). form_by x m) one ∙ ap (λ (k : 
 pub opens_to : {D : Type 0} (form : Form) (h : History) (clock : ℕ) (store : StoreState D) (state : State) (t : Snapshot) → IsOpened store state t → store.bounds ≡ form.bounds → store.stopped ≡ false
     → StandsForAt form h clock state.bytes → OpensTo form h clock store state t
 opens_to form h clock store state t is same runs stands =
-    let rests = is.shows.rests in
-    let range = rests.holds.is_form.in_range in
-    let whole = rests.holds.whole in
-    let fits = rests.holds.is_form.addressable in
-    let mine : HasSuperblock store.area.size store.bounds state.bytes = record { long = omega arith; addressable = omega arith; in_range = range; stands = rests.holds.front } in
+    let recovers = is.shows.recovers in
+    let range = recovers.holds.is_form.in_range in
+    let whole = recovers.holds.whole in
+    let fits = recovers.holds.is_form.addressable in
+    let mine : HasSuperblock store.area.size store.bounds state.bytes = record { long = omega arith; addressable = omega arith; in_range = range; stands = recovers.holds.front } in
     let size : store.area.size ≡ form.area = (superblock_once store.area.size form.area store.bounds form.bounds state.bytes mine (has_superblock form h clock state.bytes stands)).0 in
-    let here : HoldsHere store.version store.area.size store.area.start store.other store.generation is.snapshot is.payloads state.bytes = record { places = rests.holds.places; area = rests.holds.area; yields = rests.yields } in
+    let here : HoldsHere store.version store.area.size store.area.start store.other store.generation is.snapshot is.payloads state.bytes = record { places = recovers.holds.places; area = recovers.holds.area; yields = recovers.yields } in
     let its = stands.holds in
     let there : HoldsHere stands.version form.area its.start its.other its.generation stands.snapshot stands.payloads state.bytes = record { places = its.places; area = its.area; yields = its.yields } in
     let once = holds_once store.version stands.version store.area.size store.area.start store.other store.generation its.start its.other its.generation is.snapshot stands.snapshot is.payloads stands.payloads state.bytes here
@@ -69,6 +69,6 @@ opens_to form h clock store state t is same runs stands =
     let spells = subst (λ (ps : List (List ℕ)). Spells store.version store.bounds h clock is.snapshot ps) (sym once.2) snapshot_there in
     record {
       same_form = form_is store.bounds form.bounds store.area.size form.area same size;
-      rests = record { snapshot = is.snapshot; payloads = is.payloads; shows = is.shows; spells = spells; runs = runs };
+      recovers = record { snapshot = is.snapshot; payloads = is.payloads; shows = is.shows; spells = spells; runs = runs };
       table_is = replayed store.version store.bounds range h clock is.snapshot is.payloads spells is.first t is.spells is.replays;
     }

@@ -7,7 +7,7 @@ use Rattle.turn_disk.specs.Disk.{IsImage, ChangesOnly, StandsAt, State, WritesTh
 use Rattle.turn_journal.specs.Frames.{open_gate, IsOpen, IsClosed, last_gate, HoldsFrames, HoldsFramesTo, HoldsWithout, HoldsWithOrWithout, HoldsWith}
 use Rattle.turn_journal.proofs.Growing.{stands_keeps, stands_front, frames_keep, last_gate_above, last_is_closed}
 use Rattle.turn_record.specs.declared.version.Version.{Version}
-use Rattle.turn_store.specs.Areas.{Form, IsForm, version_byte, area_front, AreaHolds, IsBelow, Yields, AreAreas, Holds, HoldsAt, RestsOn}
+use Rattle.turn_store.specs.Areas.{Form, IsForm, version_byte, area_front, AreaHolds, IsBelow, Yields, AreAreas, Holds, HoldsAt, RecoversToParts}
 use Rattle.turn_store.specs.Superblock.{superblock, least_area}
 use Rattle.turn_store.proofs.Numbers.{stands_back, one_stands}
 use Rattle.turn_store.proofs.Superblocks.{length-superblock}
@@ -175,11 +175,11 @@ module _ (v : Version) (form : Form) (start other generation : ℕ) (snapshot : 
           yields = yields_keeps other generation state.bytes image yields (λ i l h. other_same i l (omega arith));
         }
 
-  module _ (end : ℕ) (is_below : Bool) (rests : RestsOn v form start other generation end is_below snapshot payloads state) where
+  module _ (end : ℕ) (is_below : Bool) (recovers : RecoversToParts v form start other generation end is_below snapshot payloads state) where
     -- frame, before its gate is written: the frames from before
     pub row_staged : (count : ℕ) (image : List ℕ) → end + 1 + count ≤ size → HoldsWithout (start + 14 + length snapshot) payloads (start + end) count (start + size) state.bytes image
         → Holds v form snapshot payloads image
-    row_staged count image fits is = holds_with end (start + end + 1) count image rests.ends (omega arith) (omega arith) is.others payloads is.frames rests.yields
+    row_staged count image fits is = holds_with end (start + end + 1) count image recovers.ends (omega arith) (omega arith) is.others payloads is.frames recovers.yields
 
     -- frame: the frames from before, with the new one or without
     pub row_frame : (payload image : List ℕ) → end + (6 + length payload) ≤ size
@@ -187,33 +187,33 @@ module _ (v : Version) (form : Form) (start other generation : ℕ) (snapshot : 
         → Holds v form snapshot payloads image ⊎ Holds v form snapshot (payloads ++ payload ∷ []) image
     row_frame payload image fits is =
         ⊎_elim
-        (λ frames. inl (holds_with end (start + end) (6 + length payload) image rests.ends (omega arith) (omega arith) is.others payloads frames rests.yields))
-        (λ frames. inr (holds_with end (start + end) (6 + length payload) image rests.ends (omega arith) (omega arith) is.others (payloads ++ payload ∷ []) frames rests.yields))
+        (λ frames. inl (holds_with end (start + end) (6 + length payload) image recovers.ends (omega arith) (omega arith) is.others payloads frames recovers.yields))
+        (λ frames. inr (holds_with end (start + end) (6 + length payload) image recovers.ends (omega arith) (omega arith) is.others (payloads ++ payload ∷ []) frames recovers.yields))
         is.frames
 
     -- and once the frame's gate is open
     pub after_frame : (payload : List ℕ) (new : State) → end + (6 + length payload) ≤ size
         → IsSettled new → HoldsWith (start + 14 + length snapshot) payloads payload (start + end) (6 + length payload) (start + size) state.bytes new.bytes
-        → RestsOn v form start other generation (end + 5 + length payload) is_below snapshot (payloads ++ payload ∷ []) new
+        → RecoversToParts v form start other generation (end + 5 + length payload) is_below snapshot (payloads ++ payload ∷ []) new
     after_frame payload new fits settled is =
         let enough = long_enough in
         let more = payloads ++ payload ∷ [] in
-        let same = other_same end (start + end) (6 + length payload) new.bytes rests.ends (omega arith) (omega arith) is.others more is.frames.frames in
+        let same = other_same end (start + end) (6 + length payload) new.bytes recovers.ends (omega arith) (omega arith) is.others more is.frames.frames in
         record {
           holds = record {
             settled = settled;
             is_form = holds.is_form;
-            front = front_with end (start + end) (6 + length payload) new.bytes rests.ends (omega arith) (omega arith) is.others more is.frames.frames;
+            front = front_with end (start + end) (6 + length payload) new.bytes recovers.ends (omega arith) (omega arith) is.others more is.frames.frames;
             whole = is.others.size ∙ holds.whole;
             places = holds.places;
-            area = area_with end (start + end) (6 + length payload) new.bytes rests.ends (omega arith) (omega arith) is.others more is.frames.frames;
+            area = area_with end (start + end) (6 + length payload) new.bytes recovers.ends (omega arith) (omega arith) is.others more is.frames.frames;
           };
           ends = is.frames.ends ∙ omega arith;
           below = (
-            (λ b. below_keeps other generation state.bytes new.bytes (rests.below.0 b) (λ i l h. same i (omega arith) (omega arith))),
-            (λ b. rests.below.1 (below_keeps other generation new.bytes state.bytes b (λ i l h. sym (same i (omega arith) (omega arith))))),
+            (λ b. below_keeps other generation state.bytes new.bytes (recovers.below.0 b) (λ i l h. same i (omega arith) (omega arith))),
+            (λ b. recovers.below.1 (below_keeps other generation new.bytes state.bytes b (λ i l h. sym (same i (omega arith) (omega arith))))),
           );
-          yields = yields_keeps other generation state.bytes new.bytes rests.yields (λ i l h. same i l (omega arith));
+          yields = yields_keeps other generation state.bytes new.bytes recovers.yields (λ i l h. same i l (omega arith));
         }
 
   -- switch: the other area has a snapshot of the next generation after its closed gate
@@ -282,7 +282,7 @@ module _ (v : Version) (form : Form) (start other generation : ℕ) (snapshot : 
 
   -- and once the gate is open
   pub after_switch : (w : Version) → least_area w form.bounds ≤ size → (next : List ℕ) → generation + 1 < 2 ^ 64 → length next < 2 ^ 32 → 14 + length next < size → (new : State) → WritesThrough other (165 ∷ []) state new → StandsAt (other + 1) (area_front w (generation + 1) next ++ 0 ∷ []) state.bytes
-      → RestsOn w form other start (generation + 1) (14 + length next) true next [] new
+      → RecoversToParts w form other start (generation + 1) (14 + length next) true next [] new
   after_switch w next_room next next_fits next_short room new wrote filled =
       let is_open : IsOpen other new.bytes = one_stands other 165 new.bytes wrote.written in
       let below = old_below w next_room next next_fits next_short room new.bytes wrote.content filled in
@@ -314,17 +314,17 @@ module _ (v : Version) (form : Form) (start other generation : ℕ) (snapshot : 
       (holds_on (other + 1) (length front) new wrote.content (omega arith) (omega arith) wrote.settled, (λ is_open. closed (sym (wrote.content.before other (omega arith)) ∙ is_open)), wrote.written)
 
 -- where the generation isn't below, the gate is closed
-pub closed_there : (v : Version) (form : Form) (start other generation end : ℕ) (is_below : Bool) (snapshot : List ℕ) (payloads : List (List ℕ)) (state : State) → RestsOn v form start other generation end is_below snapshot payloads state
+pub closed_there : (v : Version) (form : Form) (start other generation end : ℕ) (is_below : Bool) (snapshot : List ℕ) (payloads : List (List ℕ)) (state : State) → RecoversToParts v form start other generation end is_below snapshot payloads state
     → is_below ≡ false → IsClosed other state.bytes
-closed_there v form start other generation end is_below snapshot payloads state rests is_false =
-    ⊎_elim (λ closed. closed) (λ below. let yes = rests.below.1 below in absurd (cc)) rests.yields
+closed_there v form start other generation end is_below snapshot payloads state recovers is_false =
+    ⊎_elim (λ closed. closed) (λ below. let yes = recovers.below.1 below in absurd (cc)) recovers.yields
 
 -- what each image of a store at rest holds
-pub rests_image : (v : Version) (form : Form) (start other generation end : ℕ) (is_below : Bool) (snapshot : List ℕ) (payloads : List (List ℕ)) (state : State) → RestsOn v form start other generation end is_below snapshot payloads state
+pub recovers_image : (v : Version) (form : Form) (start other generation end : ℕ) (is_below : Bool) (snapshot : List ℕ) (payloads : List (List ℕ)) (state : State) → RecoversToParts v form start other generation end is_below snapshot payloads state
     → (image : List ℕ) → IsImage state image → Holds v form snapshot payloads image
-rests_image v form start other generation end is_below snapshot payloads state rests image left =
-    row_none v form start other generation snapshot payloads state rests.holds image (image_settled state rests.holds.settled image left) rests.yields
+recovers_image v form start other generation end is_below snapshot payloads state recovers image left =
+    row_none v form start other generation snapshot payloads state recovers.holds image (image_settled state recovers.holds.settled image left) recovers.yields
 
-pub rests_frames : (v : Version) (form : Form) (start other generation end : ℕ) (is_below : Bool) (snapshot : List ℕ) (payloads : List (List ℕ)) (state : State) → RestsOn v form start other generation end is_below snapshot payloads state
+pub recovers_frames : (v : Version) (form : Form) (start other generation end : ℕ) (is_below : Bool) (snapshot : List ℕ) (payloads : List (List ℕ)) (state : State) → RecoversToParts v form start other generation end is_below snapshot payloads state
     → HoldsFramesTo (start + 14 + length snapshot) payloads (start + end) (start + form.area) state.bytes
-rests_frames v form start other generation end is_below snapshot payloads state rests = record { frames = rests.holds.area.frames; ends = rests.ends }
+recovers_frames v form start other generation end is_below snapshot payloads state recovers = record { frames = recovers.holds.area.frames; ends = recovers.ends }

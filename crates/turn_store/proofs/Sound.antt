@@ -8,7 +8,7 @@ use Rattle.turn_journal.proofs.Once.{frames_once, list_once}
 use Rattle.turn_record.specs.declared.version.Version.{Version}
 use Rattle.turn_record.specs.declared.version.Version.TheVariants.{V1, V2}
 use Rattle.turn_store.specs.Areas.{version_byte, area_front, AreAreas, AreaHolds, Yields}
-use Rattle.turn_store.specs.Head.{IsHead, Beats, NoneCounts}
+use Rattle.turn_store.specs.Head.{IsHead, Beats, NoneIsActive}
 use Rattle.turn_store.specs.declared.heads.Head.{Head}
 use Rattle.turn_store.proofs.Numbers.{stands_back, one_stands, number_once_4, number_once_8}
 use Rattle.turn_store.proofs.Rows.{front_generation}
@@ -83,7 +83,7 @@ holds_once v w size a b g x y h s t ps qs c first second =
 
 -- ---- Heads
 
--- this head is that of the area that counts, and the rival that of the other one
+-- this head is that of the active area, and the rival that of the other one
 pub record Counts (v : Version) (head rival : Head) (generation count : ℕ) : Type 0 where
   pub is_open : head.is_open ≡ true
   pub version : head.version ≡ version_byte v
@@ -114,12 +114,12 @@ counts_is v start other size generation snapshot payloads head rival c holds yie
   yields = rival_yields other generation rival c holds.in_range rival_is yields;
 }
 
-pub none_no : (v : Version) (head rival : Head) (generation count : ℕ) → Counts v head rival generation count → NoneCounts head rival → ⊥
+pub none_no : (v : Version) (head rival : Head) (generation count : ℕ) → Counts v head rival generation count → NoneIsActive head rival → ⊥
 none_no v head rival generation count counts (inl closed) = not_both head.is_open counts.is_open closed.0
 none_no v head rival generation count counts (inr both) =
     ⊎_elim (λ (no : rival.is_open ≡ false). not_both rival.is_open both.1 no) (λ (less : rival.generation < generation). absurd (omega (arith, less, counts.number, both.2))) counts.yields
 
-pub none_turned : (head rival : Head) → NoneCounts rival head → NoneCounts head rival
+pub none_turned : (head rival : Head) → NoneIsActive rival head → NoneIsActive head rival
 none_turned head rival (inl closed) = inl (closed.1, closed.0)
 none_turned head rival (inr both) = inr (both.1, both.0, sym both.2)
 

@@ -7,7 +7,7 @@ use Rattle.turn_journal.specs.Area.{end_of, limit_of}
 use Rattle.turn_journal.specs.Frames.{gate_after, AddsFrame, HoldsWith}
 use Rattle.turn_journal.specs.declared.area.Area.{Area}
 use Rattle.turn_record.specs.declared.version.Version.{Version}
-use Rattle.turn_store.specs.Areas.{Form, version_byte, area_front, Holds, RestsOn}
+use Rattle.turn_store.specs.Areas.{Form, version_byte, area_front, Holds, RecoversToParts}
 use Rattle.turn_store.specs.Stages.{InStagesAt}
 use Rattle.turn_store.specs.State.{Shows, StoreState, form_of}
 use Rattle.turn_store.proofs.Rows.{length-area_front, row_staged, row_frame, after_frame}
@@ -33,32 +33,32 @@ module _ {D : Type 0} (store : StoreState D) (old : Trace) (s : List ℕ) (ps : 
   pub frame_stages : (new : Trace) → AddsFrame from ps payload (end_of store.area) (limit_of store.area) old new
       → InStagesAt (end_of store.area) old new (Holds v form s ps) (λ image. Holds v form s ps image ⊎ Holds v form s new_payloads image)
   frame_stages new adds =
-      let rests = shows.rests in
+      let recovers = shows.recovers in
       let mid = adds.mid in
       stages_join (end_of store.area) old mid new (Holds v form s ps) (λ (image : List ℕ). Holds v form s ps image ⊎ Holds v form s new_payloads image)
-      (since_weaken old mid _ (Holds v form s ps) (λ image is. row_staged v form store.area.start store.other store.generation s ps old.now rests.holds store.area.end store.other_is_below rests (5 + length payload) image (omega arith) is) adds.first)
+      (since_weaken old mid _ (Holds v form s ps) (λ image is. row_staged v form store.area.start store.other store.generation s ps old.now recovers.holds store.area.end store.other_is_below recovers (5 + length payload) image (omega arith) is) adds.first)
       (⊎_elim (λ same. inl same) (λ waits. inr waits.0) adds.there)
       (since_weaken mid new _ (λ (image : List ℕ). Holds v form s ps image ⊎ Holds v form s new_payloads image)
-      (λ image is. row_frame v form store.area.start store.other store.generation s ps old.now rests.holds store.area.end store.other_is_below rests payload image (omega arith) is) adds.second)
+      (λ image is. row_frame v form store.area.start store.other store.generation s ps old.now recovers.holds store.area.end store.other_is_below recovers payload image (omega arith) is) adds.second)
       adds.once
 
   pub frame_shown : (new : State) (disk : D) (area : Area) (frames : ℕ) → area ≡ record store.area { end = gate_after store.area.end payload } → frames ≡ store.frames + 1
       → IsSettled new × HoldsWith from ps payload (end_of store.area) (6 + length payload) (limit_of store.area) old.now.bytes new.bytes
       → Shows (running store disk area frames) new s new_payloads
   frame_shown new disk area frames area_is frames_are done =
-      let rests = shows.rests in
+      let recovers = shows.recovers in
       let count = shows.frames in
       let more : frames ≡ length new_payloads = omega (arith, frames_are, count, length-append ps (payload ∷ [])) in
-      let next = after_frame v form store.area.start store.other store.generation s ps old.now rests.holds store.area.end store.other_is_below rests payload new (omega arith) done.0 done.1 in
-      subst (λ (a : Area). Shows (running store disk a frames) new s new_payloads) (sym area_is) (record { rests = next; frames = more })
+      let next = after_frame v form store.area.start store.other store.generation s ps old.now recovers.holds store.area.end store.other_is_below recovers payload new (omega arith) done.0 done.1 in
+      subst (λ (a : Area). Shows (running store disk a frames) new s new_payloads) (sym area_is) (record { recovers = next; frames = more })
 
 module _ {D : Type 0} (store : StoreState D) (old : Trace) (s : List ℕ) (ps : List (List ℕ)) (shows : Shows store old.now s ps) where
   pub swap_shown : (new : State) (disk : D) (area : Area) (start size : ℕ) (next : List ℕ) → start ≡ store.area.start → size ≡ length next → area ≡ record store.area { start = store.other; end = 14 + size }
-      → RestsOn store.version (form_of store) store.other store.area.start (store.generation + 1) (14 + size) true next [] new
+      → RecoversToParts store.version (form_of store) store.other store.area.start (store.generation + 1) (14 + size) true next [] new
       → Shows (record store { disk = disk; area = area; other = start; generation = store.generation + 1; frames = 0; other_is_below = true; stopped = false }) new next []
   swap_shown new disk area start size next start_is size_is area_is done =
       let there : area ≡ record store.area { start = store.other; end = 14 + length next } = area_is ∙ ap (λ (n : ℕ). record store.area { start = store.other; end = 14 + n }) size_is in
-      let before = subst (λ (a : Area). Shows (record store { disk = disk; area = a; other = store.area.start; generation = store.generation + 1; frames = 0; other_is_below = true; stopped = false }) new next []) (sym there) (record { rests = subst (λ (n : ℕ). RestsOn store.version (form_of store) store.other store.area.start (store.generation + 1) (14 + n) true next [] new) size_is done; frames = refl }) in
+      let before = subst (λ (a : Area). Shows (record store { disk = disk; area = a; other = store.area.start; generation = store.generation + 1; frames = 0; other_is_below = true; stopped = false }) new next []) (sym there) (record { recovers = subst (λ (n : ℕ). RecoversToParts store.version (form_of store) store.other store.area.start (store.generation + 1) (14 + n) true next [] new) size_is done; frames = refl }) in
       subst (λ (n : ℕ). Shows (record store { disk = disk; area = area; other = n; generation = store.generation + 1; frames = 0; other_is_below = true; stopped = false }) new next []) (sym start_is) before
 
 -- the bytes after an area's gate, in their parts

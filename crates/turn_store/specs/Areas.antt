@@ -83,7 +83,7 @@ pub record HoldsAt (v : Version) (form : Form) (start other generation : ℕ) (s
 
 -- The area counts too, its log ends at this gate, counted from the area's first byte, and is_below says whether the other
 -- area's generation is below.
-pub record RestsOn
+pub record RecoversToParts
     (v : Version) (form : Form) (start other generation end : ℕ) (is_below : Bool) (snapshot : List ℕ) (payloads : List (List ℕ)) (state : State) : Type 0 where
   pub holds : HoldsAt v form start other generation snapshot payloads state
   pub ends : last_gate (start + 14 + length snapshot) payloads ≡ start + end

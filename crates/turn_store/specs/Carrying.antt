@@ -8,7 +8,7 @@ use Rattle.turn_store.specs.Superblock.{HasSuperblock, least_area}
 use Rattle.turn_types.specs.declared.limits.Bounds.{Bounds}
 
 -- an area of a store with areas of this size counts, and is of this version and generation, with so many frames
-pub record CountsAs (size : ℕ) (b : Bounds) (v : Version) (generation frames : ℕ) (content : List ℕ) : Type 0 where
+pub record IsActiveAs (size : ℕ) (b : Bounds) (v : Version) (generation frames : ℕ) (content : List ℕ) : Type 0 where
   pub superblock : HasSuperblock size b content
   pub room : least_area v b ≤ size
   pub addressable : 64 + 2 * size < 2 ^ 64
@@ -36,7 +36,7 @@ pub record Carries {D : Type 0} (carry : Bool) (content : List ℕ) (store : Sto
   pub version : Version
   pub generation : ℕ
   pub frames : ℕ
-  pub counts : CountsAs store.area.size store.bounds version generation frames content
+  pub counts : IsActiveAs store.area.size store.bounds version generation frames content
   pub over : IsCarried carry store.area.size store.bounds version generation
       → (store.version ≡ V2) × (store.generation ≡ generation + 1) × (store.frames ≡ 0)
   pub kept : (IsCarried carry store.area.size store.bounds version generation → ⊥)

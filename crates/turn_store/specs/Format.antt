@@ -19,12 +19,12 @@ pub record IsLaid (v : Version) (size : ℕ) (state : State) : Type 0 where
   pub closed : IsClosed (64 + size) state.bytes
   pub stands : StandsAt 64 (0 ∷ (area_front v 1 (fresh v) ++ 0 ∷ [])) state.bytes
 
--- The first area counts, in this version, with generation 1, the fresh snapshot and no frame, and the gate of the second one is closed.
+-- The first area is active, in this version, with generation 1, the fresh snapshot and no frame, and the gate of the second one is closed.
 pub record IsFormatted (v : Version) (form : Form) (state : State) : Type 0 where
   pub holds : HoldsAt v form 64 (64 + form.area) 1 (fresh v) [] state
   pub closed : IsClosed (64 + form.area) state.bytes
 
--- no area counts, in any form and version: no opening over an honest disk succeeds
+-- no area counts, in any form and version: no opening over a disk that follows the crash model succeeds
 abbrev pub HoldsNothing : List ℕ → Type 0
 HoldsNothing image =
     (v : Version) (form : Form) (snapshot : List ℕ) (payloads : List (List ℕ)) → Holds v form snapshot payloads image → ⊥

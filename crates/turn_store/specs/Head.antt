@@ -20,7 +20,7 @@ pub record Beats (first second : Head) : Type 0 where
   pub yields : (second.is_open ≡ false) ⊎ (second.generation < first.generation)
 
 -- no open area, or two of one generation
-abbrev pub NoneCounts : Head → Head → Type 0
-NoneCounts first second =
+abbrev pub NoneIsActive : Head → Head → Type 0
+NoneIsActive first second =
     ((first.is_open ≡ false) × (second.is_open ≡ false))
     ⊎ ((first.is_open ≡ true) × (second.is_open ≡ true) × (first.generation ≡ second.generation))

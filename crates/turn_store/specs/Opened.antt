@@ -9,7 +9,7 @@ use Rattle.turn_history.specs.Table.{table}
 use Rattle.turn_store.specs.Areas.{Form, AreaHolds, AreAreas, IsBelow, Yields}
 use Rattle.turn_store.specs.Head.{IsHead}
 use Rattle.turn_store.specs.Replay.{Snapshot, Replays}
-use Rattle.turn_store.specs.State.{StoreState, RestsAt, Shows, form_of}
+use Rattle.turn_store.specs.State.{StoreState, RecoversToAt, Shows, form_of}
 use Rattle.turn_store.specs.declared.heads.Head.{Head}
 use Rattle.turn_types.specs.declared.limits.Bounds.{Bounds}
 
@@ -31,7 +31,7 @@ pub record AreaIsRead (v : Version) (b : Bounds) (start size : ℕ) (head : Head
   pub replays : Replays v b first payloads t
   pub count : frames ≡ length payloads
 
--- the area that counts was read, and the other one yields
+-- the active area was read, and the other one yields
 pub record IsChosen (v : Version) (b : Bounds) (size start other generation end frames : ℕ) (is_below : Bool) (t : Snapshot) (content : List ℕ) : Type 0 where
   pub snapshot : List ℕ
   pub first : Snapshot
@@ -55,8 +55,8 @@ pub record IsOpened {D : Type 0} (store : StoreState D) (state : State) (t : Sna
   pub spells : SpellsSnapshot store.version store.bounds first.moment first.contents snapshot
   pub replays : Replays store.version store.bounds first payloads t
 
--- The store was opened to a history at a clock: it rests on it, and the table that was returned is the history's.
+-- The store was opened to a history at a clock: it recovers to it, and the table that was returned is the history's.
 pub record OpensTo {D : Type 0} (form : Form) (h : History) (clock : ℕ) (store : StoreState D) (state : State) (t : Snapshot) : Type 0 where
   pub same_form : form_of store ≡ form
-  pub rests : RestsAt store state clock h
+  pub recovers : RecoversToAt store state clock h
   pub table_is : t ≡ record { moment = clock; contents = table h clock }

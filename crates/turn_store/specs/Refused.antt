@@ -9,16 +9,16 @@ use Rattle.turn_record.specs.Records.{SpellsPayload, SpellsSnapshot, max_payload
 use Rattle.turn_record.specs.declared.version.Version.{Version}
 use Rattle.turn_record.specs.declared.version.Version.TheVariants.{V1}
 use Rattle.turn_store.specs.Areas.{version_byte}
-use Rattle.turn_store.specs.Head.{IsHead, Beats, NoneCounts}
+use Rattle.turn_store.specs.Head.{IsHead, Beats, NoneIsActive}
 use Rattle.turn_store.specs.Replay.{Snapshot, GoOn, GoesOn, ReplaysTo}
 use Rattle.turn_store.specs.Superblock.{HasSuperblock, least_area}
-use Rattle.turn_store.specs.declared.fault.OpenFault.{OpenFault}
-use Rattle.turn_store.specs.declared.fault.OpenFault.TheVariants.{Device, Memory, NotAStore, LimitsDiffer, Damaged}
+use Rattle.turn_store.specs.declared.error.OpenError.{OpenError}
+use Rattle.turn_store.specs.declared.error.OpenError.TheVariants.{Device, Memory, NotAStore, LimitsDiffer, Damaged}
 use Rattle.turn_store.specs.declared.heads.Head.{Head}
 use Rattle.turn_types.specs.declared.limits.Bounds.{Bounds}
 
 -- a failed device call, or a failed allocation, or damage at a place of which this holds
-abbrev pub FaultWith : (ℕ → Type 0) → OpenFault → Type 0
+abbrev pub FaultWith : (ℕ → Type 0) → OpenError → Type 0
 FaultWith P Device = Unit {0}
 FaultWith P Memory = Unit {0}
 FaultWith P NotAStore = ⊥
@@ -26,7 +26,7 @@ FaultWith P LimitsDiffer = ⊥
 FaultWith P (Damaged place) = P place
 
 -- a failed device call, or a failed allocation
-abbrev pub IsPlain : OpenFault → Type 0
+abbrev pub IsPlain : OpenError → Type 0
 IsPlain fault = FaultWith (λ place. ⊥) fault
 
 -- ---- An area
@@ -100,12 +100,12 @@ pub record StoreIsBad (b : Bounds) (size : ℕ) (content : List ℕ) (place : �
   pub second : Head
   pub is_first : IsHead 64 first content
   pub is_second : IsHead (64 + size) second content
-  pub why : ((place ≡ 64) × NoneCounts first second)
+  pub why : ((place ≡ 64) × NoneIsActive first second)
       ⊎ ((Beats first second × AreaIsBad b 64 size first content place)
       ⊎ (Beats second first × AreaIsBad b (64 + size) size second content place))
 
 -- The reason of each refusal under these limits: the first that applies.
-abbrev pub WhyRefused : Bounds → List ℕ → OpenFault → Type 0
+abbrev pub WhyRefused : Bounds → List ℕ → OpenError → Type 0
 WhyRefused b content Device = Unit {0}
 WhyRefused b content Memory = Unit {0}
 WhyRefused b content NotAStore = (area : ℕ) (its : Bounds) → HasSuperblock area its content → ⊥

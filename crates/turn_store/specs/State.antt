@@ -5,7 +5,7 @@ use Rattle.turn_history.specs.Fitting.{IsFitting}
 use Rattle.turn_history.specs.History.{Event, History, clock}
 use Rattle.turn_history.specs.Laws.{AllFrom}
 use Rattle.turn_journal.specs.declared.area.Area.{Area}
-use Rattle.turn_store.specs.Areas.{Form, RestsOn}
+use Rattle.turn_store.specs.Areas.{Form, RecoversToParts}
 use Rattle.turn_record.specs.Records.{max_payload}
 use Rattle.turn_record.specs.declared.version.Version.{Version}
 use Rattle.turn_record.specs.declared.version.Version.TheVariants.{V2}
@@ -13,17 +13,17 @@ use Rattle.turn_store.specs.Spells.{Spells}
 use Rattle.turn_store.specs.Superblock.{least_area}
 use Rattle.turn_types.specs.declared.limits.Bounds.{Bounds}
 
--- the disk, the limits, the version and the place of the area that counts, where the other one begins, the generation, how many
+-- the disk, the limits, the version and the place of the active area, where the other one begins, the generation, how many
 -- frames the area has, whether the other area's generation is below, and whether the store is stopped
 pub record StoreState (D : Type 0) : Type 0 where
   pub disk : D
   pub bounds : Bounds
   pub version : Version
-  -- where the area that counts begins, its size, and where its log ends
+  -- where the active area begins, its size, and where its log ends
   pub area : Area
   -- where the other area begins, in bytes from the disk's first
   pub other : ℕ
-  -- that of the area that counts
+  -- that of the active area
   pub generation : ℕ
   -- how many frames that has
   pub frames : ℕ
@@ -36,14 +36,14 @@ pub record StoreState (D : Type 0) : Type 0 where
 abbrev pub form_of : {D : Type 0} → StoreState D → Form
 form_of s = record { bounds = s.bounds; area = s.area.size }
 
--- what a store knows of its disk in this state: nothing is pending, and the area that counts holds this snapshot and these
+-- what a store knows of its disk in this state: nothing is pending, and the active area holds this snapshot and these
 -- payloads
 pub record Shows {D : Type 0} (store : StoreState D) (state : State) (snapshot : List ℕ) (payloads : List (List ℕ)) : Type 0 where
-  pub rests : RestsOn store.version (form_of store) store.area.start store.other store.generation store.area.end store.other_is_below snapshot payloads state
+  pub recovers : RecoversToParts store.version (form_of store) store.area.start store.other store.generation store.area.end store.other_is_below snapshot payloads state
   pub frames : store.frames ≡ length payloads
 
--- A store that isn't stopped rests on a history at a clock: what its disk holds spells it.
-pub record RestsAt {D : Type 0} (store : StoreState D) (state : State) (c : ℕ) (h : History) : Type 0 where
+-- A store that isn't stopped recovers to a history at a clock: what its disk holds spells it.
+pub record RecoversToAt {D : Type 0} (store : StoreState D) (state : State) (c : ℕ) (h : History) : Type 0 where
   pub snapshot : List ℕ
   pub payloads : List (List ℕ)
   pub shows : Shows store state snapshot payloads
@@ -78,7 +78,7 @@ framed s count disk = record s {
   frames = s.frames + 1;
 }
 
--- the store after a snapshot of so many bytes in the other area, which counts now, over this disk
+-- the store after a snapshot of so many bytes in the other area, which is active now, over this disk
 abbrev pub swapped : {D : Type 0} → StoreState D → ℕ → D → StoreState D
 swapped s count disk = record s {
   disk = disk;

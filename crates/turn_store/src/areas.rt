@@ -5,28 +5,28 @@ ghost use Rattle.turn_disk.specs.Device.{Uses};
 ghost use Rattle.turn_disk.specs.Disk.{EachImageSince, StandsAt, WritesOnce};
 ghost use Rattle.turn_journal.specs.Frames.{IsClosed};
 ghost use Rattle.turn_record.specs.declared.version.Version.{Version};
-ghost use Rattle.turn_store.specs.Areas.{Form, area_front, Holds, HoldsAt, RestsOn};
+ghost use Rattle.turn_store.specs.Areas.{Form, area_front, Holds, HoldsAt, RecoversToParts};
 ghost use Rattle.turn_store.specs.Stages.{InStagesAt};
 ghost use Rattle.turn_store.specs.Superblock.{least_area};
 
 use crate::gate::{CLOSED, OPEN};
-use turn_disk::{DeviceFailed, Disk, Producer, write_produced, write_through};
+use turn_disk::{DeviceError, Disk, Producer, write_produced, write_through};
 
 // Closes the other area's gate, unless it is closed already: where the generation after it isn't below, a torn write of the
 // gate could open the wrong area.
-fn close<D: Disk>(disk: &mut D, gate: usize, is_below: bool) -> Result<(), DeviceFailed>
+fn close<D: Disk>(disk: &mut D, gate: usize, is_below: bool) -> Result<(), DeviceError>
     requires { gate < D.capacity disk.old }
     ensures uses { Uses D.Disk disk.old disk.new (IsErr result) }
 
     // A stop at any moment leaves what was there.
     ensures stop { let old = D.trace disk.old in
-        D.is_honest disk.new → (v : Version) (form : Form) (start generation end : ℕ) (snapshot : List ℕ) (payloads : List (List ℕ))
-        → RestsOn v form start gate generation end is_below snapshot payloads old.now
+        D.follows_crash_model disk.new → (v : Version) (form : Form) (start generation end : ℕ) (snapshot : List ℕ) (payloads : List (List ℕ))
+        → RecoversToParts v form start gate generation end is_below snapshot payloads old.now
         → EachImageSince old (D.trace disk.new) (Holds v form snapshot payloads) }
 
     ensures done { let new = (D.trace disk.new).now in
-        D.is_honest disk.new → (v : Version) (form : Form) (start generation end : ℕ) (snapshot : List ℕ) (payloads : List (List ℕ))
-        → RestsOn v form start gate generation end is_below snapshot payloads (D.trace disk.old).now
+        D.follows_crash_model disk.new → (v : Version) (form : Form) (start generation end : ℕ) (snapshot : List ℕ) (payloads : List (List ℕ))
+        → RecoversToParts v form start gate generation end is_below snapshot payloads (D.trace disk.old).now
         → OnOk result (HoldsAt v form start gate generation snapshot payloads new × IsClosed gate new.bytes) }
 {
     if is_below {
@@ -36,20 +36,20 @@ fn close<D: Disk>(disk: &mut D, gate: usize, is_below: bool) -> Result<(), Devic
 }
 
 // Writes what follows the other area's closed gate.
-fn fill<D: Disk, P: Producer>(disk: &mut D, gate: usize, front: &mut P) -> Result<(), DeviceFailed>
+fn fill<D: Disk, P: Producer>(disk: &mut D, gate: usize, front: &mut P) -> Result<(), DeviceError>
     requires place { gate + 1 + length (P.rest front.old) ≤ D.capacity disk.old }
     requires addressable { gate + 1 + length (P.rest front.old) < 2 ^ 64 }
     ensures uses { Uses D.Disk disk.old disk.new (IsErr result) }
 
     // A stop at any moment leaves what was there, whatever is written.
     ensures stop { let old = D.trace disk.old in
-        D.is_honest disk.new → (v : Version) (form : Form) (start generation : ℕ) (snapshot : List ℕ) (payloads : List (List ℕ))
+        D.follows_crash_model disk.new → (v : Version) (form : Form) (start generation : ℕ) (snapshot : List ℕ) (payloads : List (List ℕ))
         → length (P.rest front.old) < form.area
         → HoldsAt v form start gate generation snapshot payloads old.now → IsClosed gate old.now.bytes
         → EachImageSince old (D.trace disk.new) (Holds v form snapshot payloads) }
 
     ensures done { let old = (D.trace disk.old).now in let new = (D.trace disk.new).now in
-        D.is_honest disk.new → (v : Version) (form : Form) (start generation : ℕ) (snapshot : List ℕ) (payloads : List (List ℕ))
+        D.follows_crash_model disk.new → (v : Version) (form : Form) (start generation : ℕ) (snapshot : List ℕ) (payloads : List (List ℕ))
         → length (P.rest front.old) < form.area
         → HoldsAt v form start gate generation snapshot payloads old → IsClosed gate old.bytes
         → OnOk result (HoldsAt v form start gate generation snapshot payloads new × IsClosed gate new.bytes
@@ -59,28 +59,28 @@ fn fill<D: Disk, P: Producer>(disk: &mut D, gate: usize, front: &mut P) -> Resul
     Ok(())
 }
 
-// Opens the other area's gate: from then on it counts.
-fn switch<D: Disk>(disk: &mut D, gate: usize) -> Result<(), DeviceFailed>
+// Opens the other area's gate: from then on it is active.
+fn switch<D: Disk>(disk: &mut D, gate: usize) -> Result<(), DeviceError>
     requires { gate < D.capacity disk.old }
     ensures uses { Uses D.Disk disk.old disk.new (IsErr result) }
 
     // A stop at any moment leaves what was there, or the new snapshot alone.
     ensures stop { let old = D.trace disk.old in
-        D.is_honest disk.new → (v w : Version) (form : Form) (start generation : ℕ) (snapshot next : List ℕ) (payloads : List (List ℕ))
+        D.follows_crash_model disk.new → (v w : Version) (form : Form) (start generation : ℕ) (snapshot next : List ℕ) (payloads : List (List ℕ))
         → generation + 1 < 2 ^ 64 → length next < 2 ^ 32 → least_area w form.bounds ≤ form.area → 14 + length next < form.area
         → HoldsAt v form start gate generation snapshot payloads old.now
         → StandsAt (gate + 1) (area_front w (generation + 1) next ++ 0 ∷ []) old.now.bytes
         → EachImageSince old (D.trace disk.new) (λ image. Holds v form snapshot payloads image ⊎ Holds w form next [] image) }
 
     ensures done { let old = (D.trace disk.old).now in
-        D.is_honest disk.new → (v w : Version) (form : Form) (start generation : ℕ) (snapshot next : List ℕ) (payloads : List (List ℕ))
+        D.follows_crash_model disk.new → (v w : Version) (form : Form) (start generation : ℕ) (snapshot next : List ℕ) (payloads : List (List ℕ))
         → generation + 1 < 2 ^ 64 → length next < 2 ^ 32 → least_area w form.bounds ≤ form.area → 14 + length next < form.area
         → HoldsAt v form start gate generation snapshot payloads old
         → StandsAt (gate + 1) (area_front w (generation + 1) next ++ 0 ∷ []) old.bytes
-        → OnOk result (RestsOn w form gate start (generation + 1) (14 + length next) true next [] (D.trace disk.new).now) }
+        → OnOk result (RecoversToParts w form gate start (generation + 1) (14 + length next) true next [] (D.trace disk.new).now) }
 
     // The gate is written at most once, and nothing else is.
-    ensures once { D.is_honest disk.new → WritesOnce gate 1 (D.trace disk.old) (D.trace disk.new) }
+    ensures once { D.follows_crash_model disk.new → WritesOnce gate 1 (D.trace disk.old) (D.trace disk.new) }
 {
     write_through(disk, gate, &[OPEN])?;
     Ok(())
@@ -92,7 +92,7 @@ pub fn replace<D: Disk, P: Producer>(
     gate: usize,
     is_below: bool,
     front: &mut P,
-) -> Result<(), DeviceFailed>
+) -> Result<(), DeviceError>
     requires place { gate + 1 + length (P.rest front.old) ≤ D.capacity disk.old }
     requires addressable { gate + 1 + length (P.rest front.old) < 2 ^ 64 }
     ensures uses { Uses D.Disk disk.old disk.new (IsErr result) }
@@ -100,19 +100,19 @@ pub fn replace<D: Disk, P: Producer>(
     // Up to some moment a stop leaves what was there; from then on what was there, or the new snapshot alone, and this gate alone
     // is written, at most once.
     ensures stages { let old = D.trace disk.old in
-        D.is_honest disk.new → (v w : Version) (form : Form) (start generation end : ℕ) (snapshot next : List ℕ) (payloads : List (List ℕ))
+        D.follows_crash_model disk.new → (v w : Version) (form : Form) (start generation end : ℕ) (snapshot next : List ℕ) (payloads : List (List ℕ))
         → generation + 1 < 2 ^ 64 → length next < 2 ^ 32 → least_area w form.bounds ≤ form.area → 14 + length next < form.area
         → P.rest front.old ≡ area_front w (generation + 1) next ++ 0 ∷ []
-        → RestsOn v form start gate generation end is_below snapshot payloads old.now
+        → RecoversToParts v form start gate generation end is_below snapshot payloads old.now
         → InStagesAt gate old (D.trace disk.new) (Holds v form snapshot payloads)
         (λ image. Holds v form snapshot payloads image ⊎ Holds w form next [] image) }
 
     ensures done { let old = (D.trace disk.old).now in
-        D.is_honest disk.new → (v w : Version) (form : Form) (start generation end : ℕ) (snapshot next : List ℕ) (payloads : List (List ℕ))
+        D.follows_crash_model disk.new → (v w : Version) (form : Form) (start generation end : ℕ) (snapshot next : List ℕ) (payloads : List (List ℕ))
         → generation + 1 < 2 ^ 64 → length next < 2 ^ 32 → least_area w form.bounds ≤ form.area → 14 + length next < form.area
         → P.rest front.old ≡ area_front w (generation + 1) next ++ 0 ∷ []
-        → RestsOn v form start gate generation end is_below snapshot payloads old
-        → OnOk result (RestsOn w form gate start (generation + 1) (14 + length next) true next [] (D.trace disk.new).now) }
+        → RecoversToParts v form start gate generation end is_below snapshot payloads old
+        → OnOk result (RecoversToParts w form gate start (generation + 1) (14 + length next) true next [] (D.trace disk.new).now) }
 {
     close(disk, gate, is_below)?;
     fill(disk, gate, front)?;

@@ -10,12 +10,12 @@ ghost use Rattle.turn_store.specs.Areas.{area_front};
 ghost use Rattle.turn_store.specs.Format.{FormatsInOrder, HoldsNothingOrStands, IsFormatted, IsLaid, fresh};
 ghost use Rattle.turn_store.specs.Images.{EachImage, StandsForAt};
 ghost use Rattle.turn_store.specs.Superblock.{least_area};
-ghost use Rattle.turn_store.specs.declared.formatting.FormatRefused.TheVariants.{Device};
+ghost use Rattle.turn_store.specs.declared.formatting.FormatError.TheVariants.{Device};
 
 use crate::gate::{CLOSED, OPEN};
 use crate::superblock::{least_area_of, superblock_bytes};
 use thiserror::Error;
-use turn_disk::{DeviceFailed, Disk, write_through};
+use turn_disk::{DeviceError, Disk, write_through};
 use turn_record::Version;
 use turn_types::Limits;
 
@@ -32,7 +32,7 @@ const FRESH_AREA_2: [u8; 31] = [
 
 /// Why a disk was not formatted.
 #[derive(Clone, Copy, Debug, PartialEq, Eq, Error)]
-pub enum FormatRefused {
+pub enum FormatError {
     /// A device call failed. What the disk holds is not known.
     #[error("a device call failed")]
     Device,
@@ -41,21 +41,21 @@ pub enum FormatRefused {
     AreaTooSmall(usize),
 }
 
-impl From<DeviceFailed> for FormatRefused {
+impl From<DeviceError> for FormatError {
     ghost from_gives = { λ _ e. e ≡ Device };
 
-    fn from(_: DeviceFailed) -> Self {
-        FormatRefused::Device
+    fn from(_: DeviceError) -> Self {
+        FormatError::Device
     }
 }
 
 // Writes the first area with a closed gate: two device calls.
-fn lay_first<D: Disk>(disk: &mut D, version: Version) -> Result<(), DeviceFailed>
+fn lay_first<D: Disk>(disk: &mut D, version: Version) -> Result<(), DeviceError>
     requires { 64 + 31 ≤ D.capacity disk.old }
     ensures uses { Uses D.Disk disk.old disk.new (IsErr result) }
-    ensures done { D.is_honest disk.new → OnOk result
+    ensures done { D.follows_crash_model disk.new → OnOk result
         (WritesThrough 64 (0 ∷ (area_front version 1 (fresh version) ++ 0 ∷ [])) (D.trace disk.old).now (D.trace disk.new).now) }
-    ensures once { D.is_honest disk.new
+    ensures once { D.follows_crash_model disk.new
         → ThroughOutcome 64 (0 ∷ (area_front version 1 (fresh version) ++ 0 ∷ [])) (D.trace disk.old) (D.trace disk.new) result }
 {
     match version {
@@ -65,17 +65,17 @@ fn lay_first<D: Disk>(disk: &mut D, version: Version) -> Result<(), DeviceFailed
 }
 
 // Closes the second area and lays out the first one, closed too: three device calls.
-fn lay_areas<D: Disk>(disk: &mut D, version: Version, area: usize) -> Result<(), DeviceFailed>
+fn lay_areas<D: Disk>(disk: &mut D, version: Version, area: usize) -> Result<(), DeviceError>
     requires place { 64 + 2 * area ≡ D.capacity disk.old }
     requires room { 31 < area }
     ensures uses { Uses D.Disk disk.old disk.new (IsErr result) }
     ensures addressable { 64 + 2 * area < 2 ^ 64 }
 
     // A stop at any moment changes nothing before the areas.
-    ensures stop { D.is_honest disk.new → IsSettled (D.trace disk.old).now
+    ensures stop { D.follows_crash_model disk.new → IsSettled (D.trace disk.old).now
         → EachImageSince (D.trace disk.old) (D.trace disk.new) (ChangesOnly 64 (2 * area) (D.trace disk.old).now.bytes) }
 
-    ensures done { D.is_honest disk.new → OnOk result (IsLaid version area (D.trace disk.new).now) }
+    ensures done { D.follows_crash_model disk.new → OnOk result (IsLaid version area (D.trace disk.new).now) }
 {
     let second = disk.size() - area;
     disk.write_at(second, &[CLOSED])?;
@@ -84,16 +84,16 @@ fn lay_areas<D: Disk>(disk: &mut D, version: Version, area: usize) -> Result<(),
 }
 
 // Writes the superblock, and then opens the first area: four device calls.
-fn open_first<D: Disk>(disk: &mut D, limits: Limits, area: usize) -> Result<(), DeviceFailed>
+fn open_first<D: Disk>(disk: &mut D, limits: Limits, area: usize) -> Result<(), DeviceError>
     requires place { 64 + 2 * area ≡ D.capacity disk.old }
     requires room { 31 < area }
     requires addressable { 64 + 2 * area < 2 ^ 64 }
     ensures uses { Uses D.Disk disk.old disk.new (IsErr result) }
-    ensures done { D.is_honest disk.new → (v : Version) → least_area v limits ≤ area → IsLaid v area (D.trace disk.old).now
+    ensures done { D.follows_crash_model disk.new → (v : Version) → least_area v limits ≤ area → IsLaid v area (D.trace disk.old).now
         → OnOk result (IsFormatted v (record { bounds = limits; area = area }) (D.trace disk.new).now) }
 
     // A stop at any moment leaves what holds nothing, or the empty store.
-    ensures stop { D.is_honest disk.new → (v : Version) → least_area v limits ≤ area → IsLaid v area (D.trace disk.old).now
+    ensures stop { D.follows_crash_model disk.new → (v : Version) → least_area v limits ≤ area → IsLaid v area (D.trace disk.old).now
         → EachImageSince (D.trace disk.old) (D.trace disk.new) (HoldsNothingOrStands (record { bounds = limits; area = area })) }
 {
     let superblock = superblock_bytes(area, limits);
@@ -108,22 +108,22 @@ fn format_as<D: Disk>(
     version: Version,
     limits: Limits,
     area: usize,
-) -> Result<(), FormatRefused>
+) -> Result<(), FormatError>
     requires { 64 + 2 * area ≡ D.capacity disk.old }
-    ensures uses { Uses D.Disk disk.old disk.new (result ≡ Err FormatRefused.Device) }
-    ensures too_small { (needed : _) → (result ≡ Err (FormatRefused.AreaTooSmall needed))
+    ensures uses { Uses D.Disk disk.old disk.new (result ≡ Err FormatError.Device) }
+    ensures too_small { (needed : _) → (result ≡ Err (FormatError.AreaTooSmall needed))
         ↔ ((area < least_area version limits) × (needed ≡ least_area version limits)) }
     ensures untouched { area < least_area version limits → disk.new ≡ disk.old }
-    ensures formatted { D.is_honest disk.new
+    ensures formatted { D.follows_crash_model disk.new
         → OnOk result (IsFormatted version (record { bounds = limits; area = area }) (D.trace disk.new).now) }
-    ensures done { D.is_honest disk.new
+    ensures done { D.follows_crash_model disk.new
         → OnOk result (EachImage (D.trace disk.new).now (StandsForAt (record { bounds = limits; area = area }) [] 0)) }
-    ensures order { D.is_honest disk.new
+    ensures order { D.follows_crash_model disk.new
         → FormatsInOrder (record { bounds = limits; area = area }) (D.trace disk.old) (D.trace disk.new) }
 {
     let needed = least_area_of(version, limits);
     if area < needed {
-        return Err(FormatRefused::AreaTooSmall(needed));
+        return Err(FormatError::AreaTooSmall(needed));
     }
     write_through(disk, 0, &[0; 64])?;
     lay_areas(disk, version, area)?;
@@ -132,23 +132,23 @@ fn format_as<D: Disk>(
 }
 
 /// Makes a disk a store of these limits, of version 2, which holds nothing. It takes no memory.
-pub fn format<D: Disk>(disk: &mut D, limits: Limits, area: usize) -> Result<(), FormatRefused>
+pub fn format<D: Disk>(disk: &mut D, limits: Limits, area: usize) -> Result<(), FormatError>
     requires { 64 + 2 * area ≡ D.capacity disk.old }
-    ensures uses { Uses D.Disk disk.old disk.new (result ≡ Err FormatRefused.Device) }
+    ensures uses { Uses D.Disk disk.old disk.new (result ≡ Err FormatError.Device) }
 
     // An area below the min size is refused, and nothing is written.
-    ensures too_small { (needed : _) → (result ≡ Err (FormatRefused.AreaTooSmall needed))
+    ensures too_small { (needed : _) → (result ≡ Err (FormatError.AreaTooSmall needed))
         ↔ ((area < least_area V2 limits) × (needed ≡ least_area V2 limits)) }
     ensures untouched { area < least_area V2 limits → disk.new ≡ disk.old }
 
-    // The first area counts, with generation 1, and each image stands for the empty history.
-    ensures formatted { D.is_honest disk.new
+    // The first area is active, with generation 1, and each image stands for the empty history.
+    ensures formatted { D.follows_crash_model disk.new
         → OnOk result (IsFormatted V2 (record { bounds = limits; area = area }) (D.trace disk.new).now) }
-    ensures done { D.is_honest disk.new
+    ensures done { D.follows_crash_model disk.new
         → OnOk result (EachImage (D.trace disk.new).now (StandsForAt (record { bounds = limits; area = area }) [] 0)) }
 
     // From the first sync on, a stop leaves an image that holds nothing, or one that stands for the empty history.
-    ensures order { D.is_honest disk.new
+    ensures order { D.follows_crash_model disk.new
         → FormatsInOrder (record { bounds = limits; area = area }) (D.trace disk.old) (D.trace disk.new) }
 {
     format_as(disk, Version::V2, limits, area)
@@ -160,23 +160,23 @@ pub fn format_version1<D: Disk>(
     disk: &mut D,
     limits: Limits,
     area: usize,
-) -> Result<(), FormatRefused>
+) -> Result<(), FormatError>
     requires { 64 + 2 * area ≡ D.capacity disk.old }
-    ensures uses { Uses D.Disk disk.old disk.new (result ≡ Err FormatRefused.Device) }
+    ensures uses { Uses D.Disk disk.old disk.new (result ≡ Err FormatError.Device) }
 
     // An area below the min size is refused, and nothing is written.
-    ensures too_small { (needed : _) → (result ≡ Err (FormatRefused.AreaTooSmall needed))
+    ensures too_small { (needed : _) → (result ≡ Err (FormatError.AreaTooSmall needed))
         ↔ ((area < least_area V1 limits) × (needed ≡ least_area V1 limits)) }
     ensures untouched { area < least_area V1 limits → disk.new ≡ disk.old }
 
-    // The first area counts, with generation 1, and each image stands for the empty history.
-    ensures formatted { D.is_honest disk.new
+    // The first area is active, with generation 1, and each image stands for the empty history.
+    ensures formatted { D.follows_crash_model disk.new
         → OnOk result (IsFormatted V1 (record { bounds = limits; area = area }) (D.trace disk.new).now) }
-    ensures done { D.is_honest disk.new
+    ensures done { D.follows_crash_model disk.new
         → OnOk result (EachImage (D.trace disk.new).now (StandsForAt (record { bounds = limits; area = area }) [] 0)) }
 
     // From the first sync on, a stop leaves an image that holds nothing, or one that stands for the empty history.
-    ensures order { D.is_honest disk.new
+    ensures order { D.follows_crash_model disk.new
         → FormatsInOrder (record { bounds = limits; area = area }) (D.trace disk.old) (D.trace disk.new) }
 {
     format_as(disk, Version::V1, limits, area)

@@ -4,10 +4,10 @@ ghost use Rattle.std.specs.Prelude.{◌≡◌, ◌⊎◌, ◌+◌, ◌≤◌, �
 ghost use Rattle.std.specs.Int.{to_be_bytes, w32, w64};
 ghost use Rattle.turn_disk.specs.Device.{Reads};
 ghost use Rattle.turn_disk.specs.Disk.{StandsAt};
-ghost use Rattle.turn_store.specs.Head.{IsHead, Beats, NoneCounts};
+ghost use Rattle.turn_store.specs.Head.{IsHead, Beats, NoneIsActive};
 
 use crate::gate::OPEN;
-use turn_disk::{DeviceFailed, Disk, read_array};
+use turn_disk::{DeviceError, Disk, read_array};
 
 /// What an area begins with: its gate, the version, the generation and the length of the snapshot.
 #[derive(Clone, Copy, Debug, PartialEq, Eq)]
@@ -23,20 +23,20 @@ pub struct Head {
 }
 
 // Reads one byte.
-fn read_byte<D: Disk>(disk: &mut D, at: usize) -> Result<u8, DeviceFailed>
+fn read_byte<D: Disk>(disk: &mut D, at: usize) -> Result<u8, DeviceError>
     requires { at + 1 ≤ D.capacity disk.old }
     ensures reads { Reads D.Disk disk.old disk.new (IsErr result) }
-    ensures value { D.is_honest disk.new → IfOk result (λ b. slice_index (D.trace disk.old).now.bytes at ≡ b) }
+    ensures value { D.follows_crash_model disk.new → IfOk result (λ b. slice_index (D.trace disk.old).now.bytes at ≡ b) }
 {
     let bytes: [u8; 1] = read_array(disk, at)?;
     Ok(bytes[0])
 }
 
 // Reads a number of four bytes.
-fn read_u32<D: Disk>(disk: &mut D, at: usize) -> Result<u32, DeviceFailed>
+fn read_u32<D: Disk>(disk: &mut D, at: usize) -> Result<u32, DeviceError>
     requires { at + 4 ≤ D.capacity disk.old }
     ensures reads { Reads D.Disk disk.old disk.new (IsErr result) }
-    ensures value { D.is_honest disk.new
+    ensures value { D.follows_crash_model disk.new
         → IfOk result (λ n. StandsAt at (to_be_bytes w32 n) (D.trace disk.old).now.bytes) }
 {
     let bytes = read_array(disk, at)?;
@@ -44,10 +44,10 @@ fn read_u32<D: Disk>(disk: &mut D, at: usize) -> Result<u32, DeviceFailed>
 }
 
 // Reads a number of eight bytes.
-fn read_u64<D: Disk>(disk: &mut D, at: usize) -> Result<u64, DeviceFailed>
+fn read_u64<D: Disk>(disk: &mut D, at: usize) -> Result<u64, DeviceError>
     requires { at + 8 ≤ D.capacity disk.old }
     ensures reads { Reads D.Disk disk.old disk.new (IsErr result) }
-    ensures value { D.is_honest disk.new
+    ensures value { D.follows_crash_model disk.new
         → IfOk result (λ n. StandsAt at (to_be_bytes w64 n) (D.trace disk.old).now.bytes) }
 {
     let bytes = read_array(disk, at)?;
@@ -55,13 +55,13 @@ fn read_u64<D: Disk>(disk: &mut D, at: usize) -> Result<u64, DeviceFailed>
 }
 
 /// Reads the head of an area, in four device calls.
-pub fn read_head<D: Disk>(disk: &mut D, at: usize) -> Result<Head, DeviceFailed>
+pub fn read_head<D: Disk>(disk: &mut D, at: usize) -> Result<Head, DeviceError>
     requires place { at + 14 ≤ D.capacity disk.old }
     requires addressable { at + 14 < 2 ^ 64 }
     ensures reads { Reads D.Disk disk.old disk.new (IsErr result) }
     ensures generation { IfOk result (λ head. head.generation < 2 ^ 64) }
     ensures snapshot { IfOk result (λ head. head.snapshot < 2 ^ 32) }
-    ensures head { D.is_honest disk.new → IfOk result (λ head. IsHead at head (D.trace disk.old).now.bytes) }
+    ensures head { D.follows_crash_model disk.new → IfOk result (λ head. IsHead at head (D.trace disk.old).now.bytes) }
 {
     let gate = read_byte(disk, at)?;
     let version = read_byte(disk, at + 1)?;
@@ -84,11 +84,11 @@ pub struct Placed {
     pub head: Head,
 }
 
-/// The area that counts, and the other one: it is open, and the other is closed or of a generation below.
+/// The active area, and the other one: it is open, and the other is closed or of a generation below.
 pub fn counting(first: Placed, second: Placed) -> Option<(Placed, Placed)>
     ensures counts { IfSome result (λ r. Beats r.0.head r.1.head) }
     ensures both { IfSome result (λ r. ((r.0 ≡ first) × (r.1 ≡ second)) ⊎ ((r.0 ≡ second) × (r.1 ≡ first))) }
-    ensures none { IsNone result → NoneCounts first.head second.head }
+    ensures none { IsNone result → NoneIsActive first.head second.head }
 {
     match (first.head.is_open, second.head.is_open) {
         (true, false) => Some((first, second)),

@@ -7,7 +7,7 @@ ghost use Rattle.turn_store.specs.Carrying.{Carries};
 ghost use Rattle.turn_store.specs.Format.{HoldsNothing};
 ghost use Rattle.turn_store.specs.Images.{EachImage, StandsForAt};
 ghost use Rattle.turn_store.specs.Laws.{AnImageHasOneTable};
-ghost use Rattle.turn_store.specs.State.{RestsAt, StoreState, form_of};
+ghost use Rattle.turn_store.specs.State.{RecoversToAt, StoreState, form_of};
 
 use turn_disk::Disk;
 
@@ -16,10 +16,10 @@ pub fn an_image_has_one_table()
     ensures { AnImageHasOneTable }
 {}
 
-/// Each image of the disk of a store that rests on a history stands for it.
+/// Each image of the disk of a store that recovers to a history stands for it.
 pub fn a_store_at_rest_stands<D: Disk>()
     ensures { (store : StoreState D) (state : State) (c : ℕ) (h : History)
-        → RestsAt store state c h → EachImage state (StandsForAt (form_of store) h c) }
+        → RecoversToAt store state c h → EachImage state (StandsForAt (form_of store) h c) }
 {}
 
 /// No opening of what holds nothing succeeds: what `Store::open` says of a store that it opened can't be said.

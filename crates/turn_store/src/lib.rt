@@ -1,9 +1,9 @@
-//! A store: two areas of a disk, one of which counts. It holds a snapshot of a table, and after it a log of what was
+//! A store: two areas of a disk, one of which is active. It holds a snapshot of a table, and after it a log of what was
 //! accepted since.
 #![tactic(auto)]
 
 mod areas;
-mod fault;
+mod error;
 mod formatting;
 mod front;
 mod gate;
@@ -16,8 +16,8 @@ mod snapshots;
 mod store;
 mod superblock;
 
-pub use fault::{OpenFault, StoreFault};
-pub use formatting::{FormatRefused, format, format_version1};
+pub use error::{OpenError, StoreError};
+pub use formatting::{FormatError, format, format_version1};
 pub use laws::{a_store_at_rest_stands, an_image_has_one_table, what_holds_nothing_is_not_opened};
-pub use store::{Info, Opened, Refused, Store};
-pub use superblock::{LimitsRefused, least_area, limits};
+pub use store::{Info, Opened, Store, StoreOpenError};
+pub use superblock::{LimitsError, least_area, limits};

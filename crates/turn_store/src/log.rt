@@ -9,11 +9,11 @@ ghost use Rattle.turn_store.specs.Opened.{LogIsRead};
 ghost use Rattle.turn_store.specs.Refused.{BreaksAt, FaultWith};
 ghost use Rattle.turn_store.specs.Tables.{snapshot_of};
 
-use crate::fault::OpenFault;
-use crate::replay::{FrameFault, replay_frame};
+use crate::error::OpenError;
+use crate::replay::{FrameError, replay_frame};
 use std::alloc::Allocator;
 use turn_disk::Disk;
-use turn_journal::{Found, Journal, ScanRefused};
+use turn_journal::{Found, Journal, ScanError};
 use turn_record::Version;
 use turn_table::Table;
 use turn_types::Limits;
@@ -23,34 +23,34 @@ fn found_at<D: Disk, A: Allocator>(
     journal: &Journal<A>,
     disk: &mut D,
     at: usize,
-) -> Result<Found, OpenFault>
+) -> Result<Found, OpenError>
     requires place { journal.now.start + journal.now.size ≤ D.capacity disk.old }
     requires gate { at < journal.now.size }
-    ensures reads { Reads D.Disk disk.old disk.new (result ≡ Err OpenFault.Device) }
+    ensures reads { Reads D.Disk disk.old disk.new (result ≡ Err OpenError.Device) }
     ensures admitted { IfOk result (λ found. (n : _) → found ≡ Found.Frame n
         → IsAdmitted at journal.now.size journal.now.max_payload n) }
-    ensures found { D.is_honest disk.new → IfOk result
+    ensures found { D.follows_crash_model disk.new → IfOk result
         (IsFound (journal.now.start + at) (limit_of journal.now) journal.now.max_payload (D.trace disk.old).now.bytes) }
-    ensures faults { D.is_honest disk.new → IfErr result (FaultWith (λ place. (place ≡ journal.now.start + at)
+    ensures faults { D.follows_crash_model disk.new → IfErr result (FaultWith (λ place. (place ≡ journal.now.start + at)
         × IsBadFrame place (limit_of journal.now) journal.now.max_payload (D.trace disk.old).now.bytes)) }
 {
     let gate = journal.start() + at;
     match journal.scan(disk, at) {
         Ok(found) => Ok(found),
-        Err(ScanRefused::Device) => Err(OpenFault::Device),
-        Err(ScanRefused::BadFrame) => Err(OpenFault::Damaged(gate)),
+        Err(ScanError::Device) => Err(OpenError::Device),
+        Err(ScanError::BadFrame) => Err(OpenError::Damaged(gate)),
     }
 }
 
 // The fault of a frame at this gate.
-fn fault_at(gate: usize, fault: FrameFault) -> OpenFault
-    ensures device { (result ≡ OpenFault.Device) ↔ (fault ≡ FrameFault.Device) }
-    ensures damaged { FaultWith (λ place. (place ≡ gate) × (fault ≡ FrameFault.Bad)) result }
+fn fault_at(gate: usize, fault: FrameError) -> OpenError
+    ensures device { (result ≡ OpenError.Device) ↔ (fault ≡ FrameError.Device) }
+    ensures damaged { FaultWith (λ place. (place ≡ gate) × (fault ≡ FrameError.Bad)) result }
 {
     match fault {
-        FrameFault::Device => OpenFault::Device,
-        FrameFault::Memory => OpenFault::Memory,
-        FrameFault::Bad => OpenFault::Damaged(gate),
+        FrameError::Device => OpenError::Device,
+        FrameError::Memory => OpenError::Memory,
+        FrameError::Bad => OpenError::Damaged(gate),
     }
 }
 
@@ -64,23 +64,23 @@ pub fn replay_log<D: Disk, A: Allocator + Copy>(
     journal: &Journal<A>,
     payload: &mut [u8],
     table: &mut Table<A>,
-) -> Result<(usize, usize), OpenFault>
+) -> Result<(usize, usize), OpenError>
     requires place { journal.now.start + journal.now.size ≤ D.capacity disk.old }
     requires payload { journal.now.max_payload ≡ max_payload version limits }
     requires buffer { length payload.old ≡ max_payload version limits }
     requires bounds { table.old.bounds ≡ limits }
-    ensures reads { Reads D.Disk disk.old disk.new (result ≡ Err OpenFault.Device) }
+    ensures reads { Reads D.Disk disk.old disk.new (result ≡ Err OpenError.Device) }
     ensures bounds { table.new.bounds ≡ table.old.bounds }
     ensures snapshot { IsSnapshot version limits table.old.moment table.old.contents
         → OnOk result (IsSnapshot version limits table.new.moment table.new.contents) }
     ensures within { IfOk result (λ r. r.0 < journal.now.size) }
     ensures few { IfOk result (λ r. r.1 ≤ r.0) }
-    ensures log { D.is_honest disk.new → IfOk result (λ r.
+    ensures log { D.follows_crash_model disk.new → IfOk result (λ r.
         LogIsRead version limits (end_of journal.now) (snapshot_of table.old) (journal.now.start + r.0) (limit_of journal.now) r.1
         (snapshot_of table.new) (D.trace disk.old).now.bytes) }
 
     // The fault is at the first gate whose frame is bad.
-    ensures faults { D.is_honest disk.new → IfErr result (FaultWith
+    ensures faults { D.follows_crash_model disk.new → IfErr result (FaultWith
         (BreaksAt version limits (end_of journal.now) (limit_of journal.now) (snapshot_of table.old) (D.trace disk.old).now.bytes)) }
 {
     let start = journal.start();

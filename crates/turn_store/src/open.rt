@@ -1,4 +1,4 @@
-//! What a store holds is read: its superblock, the area that counts, the snapshot and the log.
+//! What a store holds is read: its superblock, the active area, the snapshot and the log.
 
 ghost use Rattle.std.specs.Prelude.{◌≡◌, ◌≢◌, ◌+◌, ◌*◌, ◌≤◌, ◌<◌, ◌^◌, ◌↔◌, ℕ, IfOk, IfErr, IfSome, IsNone, IsTrue, OnOk, Err};
 ghost use Rattle.turn_disk.specs.Device.{Reads, Uses};
@@ -14,12 +14,12 @@ ghost use Rattle.turn_store.specs.Refused.{AreaIsBad, FaultWith, IsHeadOf, IsPla
 ghost use Rattle.turn_store.specs.Superblock.{HasSuperblock, least_area};
 ghost use Rattle.turn_store.specs.Tables.{snapshot_of};
 
-use crate::fault::OpenFault;
+use crate::error::OpenError;
 use crate::front::version_of;
 use crate::heads::{Head, Placed, counting, read_head};
 use crate::log::replay_log;
 use crate::snapshots::read_snapshot;
-use crate::superblock::{LimitsRefused, least_area, least_area_of, read_superblock};
+use crate::superblock::{LimitsError, least_area, least_area_of, read_superblock};
 use std::alloc::{Allocator, Global};
 use turn_disk::Disk;
 use turn_journal::{Area, Journal};
@@ -66,24 +66,24 @@ fn load_area<D: Disk, A: Allocator + Copy>(
     size: usize,
     start: usize,
     head: Head,
-) -> Result<Loaded<A>, OpenFault>
+) -> Result<Loaded<A>, OpenError>
     requires place { start + size ≤ D.capacity disk.old }
     requires addressable { start + size < 2 ^ 64 }
     requires generation { head.generation < 2 ^ 64 }
     requires snapshot { head.snapshot < 2 ^ 32 }
-    ensures reads { Reads D.Disk disk.old disk.new (result ≡ Err OpenFault.Device) }
+    ensures reads { Reads D.Disk disk.old disk.new (result ≡ Err OpenError.Device) }
     ensures area { IfOk result (λ l. (l.journal.start ≡ start) × (l.journal.size ≡ size) × (l.journal.max_payload ≡ max_payload l.version limits)) }
     ensures room { IfOk result (λ l. least_area l.version limits ≤ size) }
     ensures bounds { IfOk result (λ l. l.table.bounds ≡ limits) }
     ensures snapshot { IfOk result (λ l. IsSnapshot l.version limits l.table.moment l.table.contents) }
     ensures few { IfOk result (λ l. l.frames ≤ l.journal.end) }
-    ensures read { D.is_honest disk.new → IfOk result (λ l.
+    ensures read { D.follows_crash_model disk.new → IfOk result (λ l.
         AreaIsRead l.version limits start size head l.journal.end l.frames (snapshot_of l.table) (D.trace disk.old).now.bytes) }
-    ensures faults { D.is_honest disk.new
+    ensures faults { D.follows_crash_model disk.new
         → IfErr result (FaultWith (AreaIsBad limits start size head (D.trace disk.old).now.bytes)) }
 {
     let Some(version) = version_in(limits, size, head) else {
-        return Err(OpenFault::Damaged(start));
+        return Err(OpenError::Damaged(start));
     };
     let count = head.snapshot as usize;
     let mut table = match read_snapshot(alloc, disk, version, limits, start + 14, count) {
@@ -120,40 +120,40 @@ fn load_area<D: Disk, A: Allocator + Copy>(
     }
 }
 
-/// The area that counts, as it was read, and what is known of the other one.
+/// The active area, as it was read, and what is known of the other one.
 #[derive(Drop)]
 pub struct Chosen<A: Allocator = Global> {
-    /// The area that counts.
+    /// The active area.
     pub loaded: Loaded<A>,
     /// Where the other area begins, in bytes from the disk's first one.
     pub other: usize,
-    /// The generation of the area that counts.
+    /// The generation of the active area.
     pub generation: u64,
     /// Whether the generation of the other area is below.
     pub other_is_below: bool,
 }
 
-// Reads the area that counts.
+// Reads the active area.
 fn choose<D: Disk, A: Allocator + Copy>(
     alloc: A,
     disk: &mut D,
     limits: Limits,
     size: usize,
-) -> Result<Chosen<A>, OpenFault>
+) -> Result<Chosen<A>, OpenError>
     requires place { 64 + 2 * size ≡ D.capacity disk.old }
     requires addressable { 64 + 2 * size < 2 ^ 64 }
     requires room { 20 ≤ size }
-    ensures reads { Reads D.Disk disk.old disk.new (result ≡ Err OpenFault.Device) }
+    ensures reads { Reads D.Disk disk.old disk.new (result ≡ Err OpenError.Device) }
     ensures area { IfOk result (λ r. (r.loaded.journal.size ≡ size) × (r.loaded.journal.max_payload ≡ max_payload r.loaded.version limits)) }
     ensures room { IfOk result (λ r. least_area r.loaded.version limits ≤ size) }
     ensures places { IfOk result (λ r. (r.loaded.journal.start ≤ 64 + size) × (r.other ≤ 64 + size)) }
     ensures bounds { IfOk result (λ r. r.loaded.table.bounds ≡ limits) }
     ensures snapshot { IfOk result (λ r. IsSnapshot r.loaded.version limits r.loaded.table.moment r.loaded.table.contents) }
     ensures few { IfOk result (λ r. r.loaded.frames ≤ r.loaded.journal.end) }
-    ensures chosen { D.is_honest disk.new → IfOk result (λ r.
+    ensures chosen { D.follows_crash_model disk.new → IfOk result (λ r.
         IsChosen r.loaded.version limits size r.loaded.journal.start r.other r.generation r.loaded.journal.end r.loaded.frames r.other_is_below
         (snapshot_of r.loaded.table) (D.trace disk.old).now.bytes) }
-    ensures faults { D.is_honest disk.new
+    ensures faults { D.follows_crash_model disk.new
         → IfErr result (FaultWith (StoreIsBad limits size (D.trace disk.old).now.bytes)) }
 {
     let second_start = 64 + size;
@@ -168,7 +168,7 @@ fn choose<D: Disk, A: Allocator + Copy>(
         head: second_head,
     };
     let Some((area, other)) = counting(first, second) else {
-        return Err(OpenFault::Damaged(64));
+        return Err(OpenError::Damaged(64));
     };
     match load_area(alloc, disk, limits, size, area.start, area.head) {
         Ok(loaded) => Ok(Chosen {
@@ -196,31 +196,31 @@ fn are_same(first: Limits, second: Limits) -> bool
 }
 
 // The size of an area, by the superblock, which has to have these limits.
-fn read_area_size<D: Disk>(disk: &mut D, limits: Limits) -> Result<usize, OpenFault>
-    ensures reads { Reads D.Disk disk.old disk.new (result ≡ Err OpenFault.Device) }
+fn read_area_size<D: Disk>(disk: &mut D, limits: Limits) -> Result<usize, OpenError>
+    ensures reads { Reads D.Disk disk.old disk.new (result ≡ Err OpenError.Device) }
     ensures place { IfOk result (λ area. 64 + 2 * area ≡ D.capacity disk.old) }
     ensures addressable { D.capacity disk.old < 2 ^ 64 }
     ensures room { IfOk result (λ area. least_area V1 limits ≤ area) }
     ensures small { OnOk result ((v : Version) → least_area v limits < 2 ^ 32) }
-    ensures superblock { D.is_honest disk.new → IfOk result (λ area. HasSuperblock area limits (D.trace disk.old).now.bytes) }
-    ensures why { D.is_honest disk.new → IfErr result (WhyRefused limits (D.trace disk.old).now.bytes) }
+    ensures superblock { D.follows_crash_model disk.new → IfOk result (λ area. HasSuperblock area limits (D.trace disk.old).now.bytes) }
+    ensures why { D.follows_crash_model disk.new → IfErr result (WhyRefused limits (D.trace disk.old).now.bytes) }
 {
     let needed = least_area_of(Version::V1, limits);
     let _max = least_area(limits);
     let size = disk.size();
     let found = match read_superblock(disk) {
         Ok(found) => found,
-        Err(LimitsRefused::Device) => return Err(OpenFault::Device),
-        Err(LimitsRefused::NotAStore) => return Err(OpenFault::NotAStore),
+        Err(LimitsError::Device) => return Err(OpenError::Device),
+        Err(LimitsError::NotAStore) => return Err(OpenError::NotAStore),
     };
     if !are_same(found.limits, limits) {
-        return Err(OpenFault::LimitsDiffer);
+        return Err(OpenError::LimitsDiffer);
     }
     if found.area < needed {
-        return Err(OpenFault::Damaged(8));
+        return Err(OpenError::Damaged(8));
     }
     if !is_whole(size, found.area) {
-        return Err(OpenFault::Damaged(8));
+        return Err(OpenError::Damaged(8));
     }
     Ok(found.area)
 }
@@ -230,14 +230,14 @@ pub fn load<D: Disk, A: Allocator + Copy>(
     alloc: A,
     disk: &mut D,
     limits: Limits,
-) -> Result<Chosen<A>, OpenFault>
-    ensures uses { Uses D.Disk disk.old disk.new (result ≡ Err OpenFault.Device) }
-    ensures same { D.is_honest disk.new → (D.trace disk.new).now.bytes ≡ (D.trace disk.old).now.bytes }
-    ensures stop { D.is_honest disk.new
+) -> Result<Chosen<A>, OpenError>
+    ensures uses { Uses D.Disk disk.old disk.new (result ≡ Err OpenError.Device) }
+    ensures same { D.follows_crash_model disk.new → (D.trace disk.new).now.bytes ≡ (D.trace disk.old).now.bytes }
+    ensures stop { D.follows_crash_model disk.new
         → EachImageSince (D.trace disk.old) (D.trace disk.new) (IsImage (D.trace disk.old).now) }
-    ensures settled { D.is_honest disk.new → OnOk result (IsSettled (D.trace disk.new).now) }
-    ensures settled_err { D.is_honest disk.new
-        → IfErr result (λ fault. fault ≢ OpenFault.Device → IsSettled (D.trace disk.new).now) }
+    ensures settled { D.follows_crash_model disk.new → OnOk result (IsSettled (D.trace disk.new).now) }
+    ensures settled_err { D.follows_crash_model disk.new
+        → IfErr result (λ fault. fault ≢ OpenError.Device → IsSettled (D.trace disk.new).now) }
     ensures place { IfOk result (λ r. 64 + 2 * r.loaded.journal.size ≡ D.capacity disk.new) }
     ensures addressable { OnOk result (D.capacity disk.new < 2 ^ 64) }
     ensures area { IfOk result (λ r. (least_area r.loaded.version limits ≤ r.loaded.journal.size) × (r.loaded.journal.max_payload ≡ max_payload r.loaded.version limits)) }
@@ -246,13 +246,13 @@ pub fn load<D: Disk, A: Allocator + Copy>(
     ensures bounds { IfOk result (λ r. r.loaded.table.bounds ≡ limits) }
     ensures snapshot { IfOk result (λ r. IsSnapshot r.loaded.version limits r.loaded.table.moment r.loaded.table.contents) }
     ensures few { IfOk result (λ r. r.loaded.frames ≤ r.loaded.journal.end) }
-    ensures superblock { D.is_honest disk.new
+    ensures superblock { D.follows_crash_model disk.new
         → IfOk result (λ r. HasSuperblock r.loaded.journal.size limits (D.trace disk.old).now.bytes) }
-    ensures chosen { D.is_honest disk.new → IfOk result (λ r.
+    ensures chosen { D.follows_crash_model disk.new → IfOk result (λ r.
         IsChosen r.loaded.version limits r.loaded.journal.size r.loaded.journal.start r.other r.generation r.loaded.journal.end r.loaded.frames r.other_is_below
         (snapshot_of r.loaded.table) (D.trace disk.old).now.bytes) }
-    ensures why { D.is_honest disk.new → IfErr result (WhyRefused limits (D.trace disk.old).now.bytes) }
-    ensures sound { D.is_honest disk.new → (form : Form) (h : History) (clock : ℕ) → form.bounds ≡ limits
+    ensures why { D.follows_crash_model disk.new → IfErr result (WhyRefused limits (D.trace disk.old).now.bytes) }
+    ensures sound { D.follows_crash_model disk.new → (form : Form) (h : History) (clock : ℕ) → form.bounds ≡ limits
         → StandsForAt form h clock (D.trace disk.old).now.bytes → IfErr result IsPlain }
 {
     disk.sync()?;

@@ -11,10 +11,10 @@ ghost use Rattle.turn_record.specs.Views.{events_of};
 ghost use Rattle.turn_store.specs.Refused.{ReadsBad, ReadsOn};
 ghost use Rattle.turn_store.specs.Replay.{IsNext, GoOn, GoesOn, after, after_all};
 ghost use Rattle.turn_store.specs.Tables.{snapshot_of};
-ghost use Rattle.turn_store.specs.declared.replay.FrameFault.TheVariants.{Device, Memory};
+ghost use Rattle.turn_store.specs.declared.replay.FrameError.TheVariants.{Device, Memory};
 
 use std::alloc::{AllocError, Allocator};
-use turn_disk::{DeviceFailed, Disk, read_pieces};
+use turn_disk::{DeviceError, Disk, read_pieces};
 use turn_history::Event;
 use turn_record::{ReadError, Version, read_payload};
 use turn_table::Table;
@@ -22,7 +22,7 @@ use turn_types::{Limits, Moment};
 
 /// Why a frame was not applied.
 #[derive(Clone, Copy, Debug, PartialEq, Eq)]
-pub enum FrameFault {
+pub enum FrameError {
     /// A device call failed.
     Device,
     /// An allocation failed.
@@ -31,19 +31,19 @@ pub enum FrameFault {
     Bad,
 }
 
-impl From<DeviceFailed> for FrameFault {
+impl From<DeviceError> for FrameError {
     ghost from_gives = { λ _ e. e ≡ Device };
 
-    fn from(_: DeviceFailed) -> Self {
-        FrameFault::Device
+    fn from(_: DeviceError) -> Self {
+        FrameError::Device
     }
 }
 
-impl From<AllocError> for FrameFault {
+impl From<AllocError> for FrameError {
     ghost from_gives = { λ _ e. e ≡ Memory };
 
     fn from(_: AllocError) -> Self {
-        FrameFault::Memory
+        FrameError::Memory
     }
 }
 
@@ -56,20 +56,20 @@ fn advance<A: Allocator + Copy>(table: &mut Table<A>, moment: Moment)
 }
 
 // Applies an event that may be the next.
-fn apply_next<A: Allocator + Copy>(table: &mut Table<A>, event: Event<A>) -> Result<(), FrameFault>
+fn apply_next<A: Allocator + Copy>(table: &mut Table<A>, event: Event<A>) -> Result<(), FrameError>
     ensures bounds { table.new.bounds ≡ table.old.bounds }
-    ensures no_device { IfErr result (λ fault. fault ≢ FrameFault.Device) }
+    ensures no_device { IfErr result (λ fault. fault ≢ FrameError.Device) }
     ensures ok { OnOk result (IsNext table.old.bounds (snapshot_of table.old) (event_of event)) }
     ensures after { OnOk result (snapshot_of table.new ≡ after (snapshot_of table.old) (event_of event)) }
-    ensures bad { IfErr result (λ fault. fault ≡ FrameFault.Bad
+    ensures bad { IfErr result (λ fault. fault ≡ FrameError.Bad
         → IsNext table.old.bounds (snapshot_of table.old) (event_of event) → ⊥) }
 {
     if event.moment < table.moment() {
-        return Err(FrameFault::Bad);
+        return Err(FrameError::Bad);
     }
     advance(table, event.moment);
     if !table.fits(event.tuple, &event.act) {
-        return Err(FrameFault::Bad);
+        return Err(FrameError::Bad);
     }
     table.reserve_for(event.tuple, &event.act)?;
     let _ = table.apply(event.moment, event.tuple, event.act);
@@ -80,12 +80,12 @@ fn apply_next<A: Allocator + Copy>(table: &mut Table<A>, event: Event<A>) -> Res
 fn apply_all<A: Allocator + Copy>(
     table: &mut Table<A>,
     events: Vec<Event<A>, A>,
-) -> Result<(), FrameFault>
+) -> Result<(), FrameError>
     ensures bounds { table.new.bounds ≡ table.old.bounds }
-    ensures no_device { IfErr result (λ fault. fault ≢ FrameFault.Device) }
+    ensures no_device { IfErr result (λ fault. fault ≢ FrameError.Device) }
     ensures ok { OnOk result (GoOn table.old.bounds (snapshot_of table.old) (events_of events.items)) }
     ensures after { OnOk result (snapshot_of table.new ≡ after_all (snapshot_of table.old) (events_of events.items)) }
-    ensures bad { IfErr result (λ fault. fault ≡ FrameFault.Bad
+    ensures bad { IfErr result (λ fault. fault ≡ FrameError.Bad
         → GoOn table.old.bounds (snapshot_of table.old) (events_of events.items) → ⊥) }
 {
     let mut events = events;
@@ -104,17 +104,17 @@ fn read_events<A: Allocator + Copy>(
     version: Version,
     limits: Limits,
     payload: &[u8],
-) -> Result<Vec<Event<A>, A>, FrameFault>
-    ensures no_device { IfErr result (λ fault. fault ≢ FrameFault.Device) }
+) -> Result<Vec<Event<A>, A>, FrameError>
+    ensures no_device { IfErr result (λ fault. fault ≢ FrameError.Device) }
     ensures spelled { IfOk result (λ v. SpellsPayload version limits (events_of v.items) payload.now) }
     ensures once { IfOk result (λ v. (es : List histories.Event) → SpellsPayload version limits es payload.now → es ≡ events_of v.items) }
-    ensures bad { IfErr result (λ fault. fault ≡ FrameFault.Bad
+    ensures bad { IfErr result (λ fault. fault ≡ FrameError.Bad
         → (es : List histories.Event) → SpellsPayload version limits es payload.now → ⊥) }
 {
     match read_payload(alloc, version, limits, payload) {
         Ok(events) => Ok(events),
-        Err(ReadError::Memory) => Err(FrameFault::Memory),
-        Err(ReadError::Malformed(_)) => Err(FrameFault::Bad),
+        Err(ReadError::Memory) => Err(FrameError::Memory),
+        Err(ReadError::Malformed(_)) => Err(FrameError::Bad),
     }
 }
 
@@ -125,12 +125,12 @@ fn apply_payload<A: Allocator + Copy>(
     limits: Limits,
     table: &mut Table<A>,
     payload: &[u8],
-) -> Result<(), FrameFault>
+) -> Result<(), FrameError>
     requires { table.old.bounds ≡ limits }
     ensures bounds { table.new.bounds ≡ table.old.bounds }
-    ensures no_device { IfErr result (λ fault. fault ≢ FrameFault.Device) }
+    ensures no_device { IfErr result (λ fault. fault ≢ FrameError.Device) }
     ensures goes { OnOk result (GoesOn version limits (snapshot_of table.old) payload.now (snapshot_of table.new)) }
-    ensures bad { IfErr result (λ fault. fault ≡ FrameFault.Bad
+    ensures bad { IfErr result (λ fault. fault ≡ FrameError.Bad
         → (es : List histories.Event) → SpellsPayload version limits es payload.now → GoOn limits (snapshot_of table.old) es → ⊥) }
 {
     let events = match read_events(alloc, version, limits, payload) {
@@ -152,18 +152,18 @@ fn replay_payload<D: Disk, A: Allocator + Copy>(
     table: &mut Table<A>,
     version: Version,
     limits: Limits,
-) -> Result<(), FrameFault>
+) -> Result<(), FrameError>
     requires bounds { table.old.bounds ≡ limits }
     requires place { at + length buffer.old ≤ D.capacity disk.old }
     requires addressable { at + length buffer.old < 2 ^ 64 }
-    ensures reads { Reads D.Disk disk.old disk.new (result ≡ Err FrameFault.Device) }
+    ensures reads { Reads D.Disk disk.old disk.new (result ≡ Err FrameError.Device) }
     ensures len { length buffer.new ≡ length buffer.old }
     ensures bounds { table.new.bounds ≡ table.old.bounds }
-    ensures stands { D.is_honest disk.new → IfErr result (λ fault. fault ≢ FrameFault.Device
+    ensures stands { D.follows_crash_model disk.new → IfErr result (λ fault. fault ≢ FrameError.Device
         → StandsAt at buffer.new (D.trace disk.old).now.bytes) }
-    ensures stands_ok { D.is_honest disk.new → OnOk result (StandsAt at buffer.new (D.trace disk.old).now.bytes) }
+    ensures stands_ok { D.follows_crash_model disk.new → OnOk result (StandsAt at buffer.new (D.trace disk.old).now.bytes) }
     ensures goes { OnOk result (GoesOn version limits (snapshot_of table.old) buffer.new (snapshot_of table.new)) }
-    ensures bad { IfErr result (λ fault. fault ≡ FrameFault.Bad
+    ensures bad { IfErr result (λ fault. fault ≡ FrameError.Bad
         → (es : List histories.Event) → SpellsPayload version limits es buffer.new → GoOn limits (snapshot_of table.old) es → ⊥) }
 {
     read_pieces(disk, at, buffer)?;
@@ -183,19 +183,19 @@ pub fn replay_frame<D: Disk, A: Allocator + Copy>(
     table: &mut Table<A>,
     version: Version,
     limits: Limits,
-) -> Result<(), FrameFault>
+) -> Result<(), FrameError>
     requires bounds { table.old.bounds ≡ limits }
     requires room { count ≤ length buffer.old }
     requires place { at + count ≤ D.capacity disk.old }
     requires addressable { at + count < 2 ^ 64 }
-    ensures reads { Reads D.Disk disk.old disk.new (result ≡ Err FrameFault.Device) }
+    ensures reads { Reads D.Disk disk.old disk.new (result ≡ Err FrameError.Device) }
     ensures len { length buffer.new ≡ length buffer.old }
     ensures bounds { table.new.bounds ≡ table.old.bounds }
     ensures snapshot { IsSnapshot version limits table.old.moment table.old.contents
         → OnOk result (IsSnapshot version limits table.new.moment table.new.contents) }
-    ensures goes { D.is_honest disk.new → OnOk result
+    ensures goes { D.follows_crash_model disk.new → OnOk result
         (ReadsOn version limits (snapshot_of table.old) at count (snapshot_of table.new) (D.trace disk.old).now.bytes) }
-    ensures bad { D.is_honest disk.new → IfErr result (λ fault. fault ≡ FrameFault.Bad
+    ensures bad { D.follows_crash_model disk.new → IfErr result (λ fault. fault ≡ FrameError.Bad
         → ReadsBad version limits (snapshot_of table.old) at count (D.trace disk.old).now.bytes) }
 {
     match replay_payload(

@@ -10,9 +10,9 @@ ghost use Rattle.turn_store.specs.Bytes.{AreBytes};
 ghost use Rattle.turn_store.specs.Tables.{snapshot_of};
 ghost use Rattle.turn_types.specs.declared.limits.Bounds.{Bounds};
 
-use crate::fault::OpenFault;
+use crate::error::OpenError;
 use std::alloc::Allocator;
-use turn_disk::{DeviceFailed, Disk, PIECE};
+use turn_disk::{DeviceError, Disk, PIECE};
 use turn_record::{ReadError, SnapshotReader, Version};
 use turn_table::Table;
 use turn_types::Limits;
@@ -23,12 +23,12 @@ fn read_front<D: Disk>(
     at: usize,
     piece: &mut [u8; PIECE],
     size: usize,
-) -> Result<(), DeviceFailed>
+) -> Result<(), DeviceError>
     requires fits { size ≤ 4096 }
     requires place { at + size ≤ D.capacity disk.old }
     ensures reads { Reads D.Disk disk.old disk.new (IsErr result) }
     ensures len { length piece.new ≡ 4096 }
-    ensures value { D.is_honest disk.new
+    ensures value { D.follows_crash_model disk.new
         → OnOk result (take size piece.new ≡ take size (drop at (D.trace disk.old).now.bytes)) }
 {
     disk.read_at(at, &mut piece[..size])?;
@@ -49,14 +49,14 @@ fn feed_piece<D: Disk, A: Allocator + Copy>(
     at: usize,
     size: usize,
     reader: &mut SnapshotReader<A>,
-) -> Result<(), DeviceFailed>
+) -> Result<(), DeviceError>
     requires fits { size ≤ 4096 }
     requires place { at + size ≤ D.capacity disk.old }
     ensures reads { Reads D.Disk disk.old disk.new (IsErr result) }
-    ensures bytes { D.is_honest disk.new → OnOk result (AreBytes (take size (drop at (D.trace disk.old).now.bytes))) }
+    ensures bytes { D.follows_crash_model disk.new → OnOk result (AreBytes (take size (drop at (D.trace disk.old).now.bytes))) }
     ensures fed_some { OnOk result ((v : Version) (b : Bounds) (fed : List ℕ) → AreBytes fed
         → WasFed v b reader.old fed → (more : List ℕ) × AreBytes more × WasFed v b reader.new more) }
-    ensures fed { D.is_honest disk.new → OnOk result ((v : Version) (b : Bounds) (fed : List ℕ)
+    ensures fed { D.follows_crash_model disk.new → OnOk result ((v : Version) (b : Bounds) (fed : List ℕ)
         → WasFed v b reader.old fed → WasFed v b reader.new (fed ++ take size (drop at (D.trace disk.old).now.bytes))) }
 {
     let mut piece = [0u8; PIECE];
@@ -73,15 +73,15 @@ pub fn read_snapshot<D: Disk, A: Allocator + Copy>(
     limits: Limits,
     at: usize,
     count: usize,
-) -> Result<Table<A>, OpenFault>
+) -> Result<Table<A>, OpenError>
     requires place { at + count ≤ D.capacity disk.old }
     requires addressable { at + count < 2 ^ 64 }
-    ensures reads { Reads D.Disk disk.old disk.new (result ≡ Err OpenFault.Device) }
+    ensures reads { Reads D.Disk disk.old disk.new (result ≡ Err OpenError.Device) }
     ensures bounds { IfOk result (λ table. table.bounds ≡ limits) }
     ensures snapshot { IfOk result (λ table. IsSnapshot version limits table.moment table.contents) }
-    ensures read { D.is_honest disk.new → IfOk result (λ table.
+    ensures read { D.follows_crash_model disk.new → IfOk result (λ table.
         IsGoodSnapshot version limits at count (snapshot_of table) (D.trace disk.old).now.bytes) }
-    ensures faults { D.is_honest disk.new → IfErr result (FaultWith (λ place. (place ≡ at)
+    ensures faults { D.follows_crash_model disk.new → IfErr result (FaultWith (λ place. (place ≡ at)
         × IsBadSnapshot version limits at count (D.trace disk.old).now.bytes)) }
 {
     let _bounds = limits.bounds();
@@ -94,7 +94,7 @@ pub fn read_snapshot<D: Disk, A: Allocator + Copy>(
     }
     match reader.finish() {
         Ok(table) => Ok(table),
-        Err(ReadError::Memory) => Err(OpenFault::Memory),
-        Err(ReadError::Malformed(_)) => Err(OpenFault::Damaged(at)),
+        Err(ReadError::Memory) => Err(OpenError::Memory),
+        Err(ReadError::Malformed(_)) => Err(OpenError::Damaged(at)),
     }
 }

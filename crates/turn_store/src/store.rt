@@ -1,4 +1,4 @@
-//! A store: the area that counts, and the other one.
+//! A store: the active area, and the other one.
 
 ghost use Rattle.std.specs.Prelude.{◌≡◌, ◌≢◌, ◌⊎◌, [], ◌∷◌, ◌++◌, ◌+◌, ◌-◌, ◌≤◌, ◌<◌, ◌^◌, ◌↔◌, ℕ, List, true, false, Some, Ok, Err, length, IsTrue, IfOk, IfErr, MatchBool, OnOk, OnErr, IsErr, IsErrAnd};
 ghost use Rattle.turn_disk.specs.Device.{Uses};
@@ -10,7 +10,7 @@ ghost use Rattle.turn_record.specs.declared.version.Version.{Version};
 ghost use Rattle.turn_record.specs.declared.version.Version.TheVariants.{V2};
 ghost use Rattle.turn_disk.specs.Disk.{EachImageSince, IsImage, IsSettled};
 ghost use Rattle.turn_journal.specs.Area.{end_of};
-ghost use Rattle.turn_store.specs.Areas.{Form, Holds, RestsOn};
+ghost use Rattle.turn_store.specs.Areas.{Form, Holds, RecoversToParts};
 ghost use Rattle.turn_store.specs.Carrying.{Carries, IsCarried};
 ghost use Rattle.turn_store.specs.Images.{EitherBy, StandsBy, StandsForAt};
 ghost use Rattle.turn_store.specs.Opened.{OpensTo};
@@ -18,20 +18,20 @@ ghost use Rattle.turn_store.specs.Opening.{Opening, disk_of};
 ghost use Rattle.turn_store.specs.Refused.{IsPlain, WhyRefused};
 ghost use Rattle.turn_store.specs.Spells.{HasSize};
 ghost use Rattle.turn_store.specs.Stages.{InStages, InStagesAt};
-ghost use Rattle.turn_store.specs.State.{MayFollow, RestsAt, Shows, carried, carried_area, form_of, framed, swapped};
+ghost use Rattle.turn_store.specs.State.{MayFollow, RecoversToAt, Shows, carried, carried_area, form_of, framed, swapped};
 ghost use Rattle.turn_store.specs.Superblock.{least_area};
 ghost use Rattle.turn_store.specs.Tables.{snapshot_of};
 
 use crate::areas::replace;
-use crate::fault::{OpenFault, StoreFault};
+use crate::error::{OpenError, StoreError};
 use crate::front::area_head;
 use crate::gate::CLOSED;
 use crate::open::{Chosen, Loaded, load};
 use crate::superblock::least_area;
 use std::alloc::{AllocError, Allocator, Global};
 use std::marker::Model;
-use turn_disk::{Bytes, Chain, DeviceFailed, Disk};
-use turn_journal::{AppendRefused, Area, Journal};
+use turn_disk::{Bytes, Chain, DeviceError, Disk};
+use turn_journal::{AppendError, Area, Journal};
 use turn_record::{SnapshotWriter, Version, max_payload, snapshot_size};
 use turn_table::Table;
 use turn_types::Limits;
@@ -51,7 +51,7 @@ fn write_snapshot<D: Disk, A: Allocator + Copy>(
     is_below: bool,
     next: Next,
     table: &Table<A>,
-) -> Result<(), DeviceFailed>
+) -> Result<(), DeviceError>
     requires snapshot { IsSnapshot next.version table.now.bounds table.now.moment table.now.contents }
     requires value { next.size ≡ length (bytes.snapshot next.version table.now.moment table.now.contents) }
     requires small { next.size < 2 ^ 32 }
@@ -62,18 +62,18 @@ fn write_snapshot<D: Disk, A: Allocator + Copy>(
     // Up to some moment a stop leaves what was there; from then on that, or the new snapshot alone, and this
     // gate alone is written, at most once.
     ensures stages { let old = D.trace disk.old in
-        D.is_honest disk.new → (v : Version) (form : Form) (start generation end : ℕ) (s : List ℕ) (ps : List (List ℕ))
+        D.follows_crash_model disk.new → (v : Version) (form : Form) (start generation end : ℕ) (s : List ℕ) (ps : List (List ℕ))
         → next.generation ≡ generation + 1 → next.generation < 2 ^ 64
         → least_area next.version form.bounds ≤ form.area → 14 + next.size < form.area
-        → RestsOn v form start gate generation end is_below s ps old.now
+        → RecoversToParts v form start gate generation end is_below s ps old.now
         → InStagesAt gate old (D.trace disk.new) (Holds v form s ps) (λ image. Holds v form s ps image
         ⊎ Holds next.version form (bytes.snapshot next.version table.now.moment table.now.contents) [] image) }
     ensures done { let old = (D.trace disk.old).now in
-        D.is_honest disk.new → (v : Version) (form : Form) (start generation end : ℕ) (s : List ℕ) (ps : List (List ℕ))
+        D.follows_crash_model disk.new → (v : Version) (form : Form) (start generation end : ℕ) (s : List ℕ) (ps : List (List ℕ))
         → next.generation ≡ generation + 1 → next.generation < 2 ^ 64
         → least_area next.version form.bounds ≤ form.area → 14 + next.size < form.area
-        → RestsOn v form start gate generation end is_below s ps old
-        → OnOk result (RestsOn next.version form gate start next.generation (14 + next.size) true
+        → RecoversToParts v form start gate generation end is_below s ps old
+        → OnOk result (RecoversToParts next.version form gate start next.generation (14 + next.size) true
         (bytes.snapshot next.version table.now.moment table.now.contents) [] (D.trace disk.new).now) }
 {
     let head = area_head(next.version, next.generation, next.size as u32);
@@ -91,13 +91,13 @@ fn write_snapshot<D: Disk, A: Allocator + Copy>(
 pub struct Store<D: Disk, A: Allocator = Global> {
     disk: D,
     limits: Limits,
-    // Of the area that counts.
+    // Of the active area.
     version: Version,
     journal: Journal<A>,
     // Where the other area begins.
     other: usize,
     generation: u64,
-    // How many frames the area that counts has.
+    // How many frames the active area has.
     frames: usize,
     // Whether the generation of the other area is below.
     other_is_below: bool,
@@ -141,7 +141,7 @@ impl<D: Disk, A: Allocator> Model for Store<D, A> {
     ghost invariant = { λ s. IsSound (D.capacity s.disk) s.version s.limits s.journal s.other s.frames };
 }
 
-/// The version and the generation of the area that counts, and how many frames it has.
+/// The version and the generation of the active area, and how many frames it has.
 #[derive(Clone, Copy, Debug, PartialEq, Eq)]
 pub struct Info {
     /// The version of the records.
@@ -153,7 +153,7 @@ pub struct Info {
 }
 
 impl<D: Disk, A: Allocator + Copy> Store<D, A> {
-    /// The version and the generation of the area that counts, and how many frames it has.
+    /// The version and the generation of the active area, and how many frames it has.
     pub fn info(&self) -> Info
         ensures version { result.version ≡ self.now.version }
         ensures generation { result.generation ≡ self.now.generation }
@@ -199,23 +199,23 @@ impl<D: Disk, A: Allocator + Copy> Store<D, A> {
     }
 
     // Why a call is refused before it reaches the disk, if it is.
-    fn refusal(&self, compacts: bool) -> Option<StoreFault>
-        ensures stopped { (result ≡ Some StoreFault.Stopped) ↔ (self.now.stopped ≡ true) }
-        ensures worn { (result ≡ Some StoreFault.Worn)
+    fn refusal(&self, compacts: bool) -> Option<StoreError>
+        ensures stopped { (result ≡ Some StoreError.Stopped) ↔ (self.now.stopped ≡ true) }
+        ensures worn { (result ≡ Some StoreError.Worn)
             ↔ ((self.now.stopped ≡ false) × (compacts ≡ true) × (self.now.generation ≡ 2 ^ 64 - 1)) }
-        ensures device { result ≢ Some StoreFault.Device }
+        ensures device { result ≢ Some StoreError.Device }
     {
         if self.stopped {
-            return Some(StoreFault::Stopped);
+            return Some(StoreError::Stopped);
         }
         if compacts && self.generation == u64::MAX {
-            return Some(StoreFault::Worn);
+            return Some(StoreError::Worn);
         }
         None
     }
 
     // Adds a frame, for which there is room.
-    fn add_frame(&mut self, payload: &[u8]) -> Result<(), DeviceFailed>
+    fn add_frame(&mut self, payload: &[u8]) -> Result<(), DeviceError>
         requires runs { self.old.stopped ≡ false }
         requires short { length payload.now ≤ max_payload self.old.version self.old.bounds }
         requires room { self.old.area.end + 6 + length payload.now ≤ self.old.area.size }
@@ -226,14 +226,14 @@ impl<D: Disk, A: Allocator + Copy> Store<D, A> {
 
         // Up to some moment a stop leaves what was there; from then on that, or with the frame, and the gate at
         // the log's end alone is written, at most once.
-        ensures stages { D.is_honest self.new.disk → (s : List ℕ) (ps : List (List ℕ))
+        ensures stages { D.follows_crash_model self.new.disk → (s : List ℕ) (ps : List (List ℕ))
             → Shows self.old (D.trace self.old.disk).now s ps
             → InStagesAt (end_of self.old.area) (D.trace self.old.disk) (D.trace self.new.disk)
             (Holds self.old.version (form_of self.old) s ps)
             (λ image. Holds self.old.version (form_of self.old) s ps image
             ⊎ Holds self.old.version (form_of self.old) s (ps ++ payload.now ∷ []) image) }
 
-        ensures shown { D.is_honest self.new.disk → (s : List ℕ) (ps : List (List ℕ))
+        ensures shown { D.follows_crash_model self.new.disk → (s : List ℕ) (ps : List (List ℕ))
             → Shows self.old (D.trace self.old.disk).now s ps
             → OnOk result (Shows self.new (D.trace self.new.disk).now s (ps ++ payload.now ∷ [])) }
     {
@@ -244,7 +244,7 @@ impl<D: Disk, A: Allocator + Copy> Store<D, A> {
                 self.stopped = false;
                 Ok(())
             }
-            Err(_) => Err(DeviceFailed),
+            Err(_) => Err(DeviceError),
         }
     }
 
@@ -263,8 +263,8 @@ impl<D: Disk, A: Allocator + Copy> Store<D, A> {
         snapshot_size(version, table)
     }
 
-    // Writes a snapshot of the table into the other area, which then counts.
-    fn replace_snapshot(&mut self, table: &Table<A>) -> Result<(), DeviceFailed>
+    // Writes a snapshot of the table into the other area, which then is active.
+    fn replace_snapshot(&mut self, table: &Table<A>) -> Result<(), DeviceError>
         requires runs { self.old.stopped ≡ false }
         requires generation { self.old.generation < 2 ^ 64 - 1 }
         requires limits { table.now.bounds ≡ self.old.bounds }
@@ -277,14 +277,14 @@ impl<D: Disk, A: Allocator + Copy> Store<D, A> {
 
         // Up to some moment a stop leaves what was there; from then on that, or the new snapshot alone, and the
         // gate of the other area alone is written, at most once.
-        ensures stages { D.is_honest self.new.disk → (s : List ℕ) (ps : List (List ℕ))
+        ensures stages { D.follows_crash_model self.new.disk → (s : List ℕ) (ps : List (List ℕ))
             → Shows self.old (D.trace self.old.disk).now s ps
             → InStagesAt self.old.other (D.trace self.old.disk) (D.trace self.new.disk)
             (Holds self.old.version (form_of self.old) s ps)
             (λ image. Holds self.old.version (form_of self.old) s ps image
             ⊎ Holds self.old.version (form_of self.old) (bytes.snapshot self.old.version table.now.moment table.now.contents) [] image) }
 
-        ensures shown { D.is_honest self.new.disk → (s : List ℕ) (ps : List (List ℕ))
+        ensures shown { D.follows_crash_model self.new.disk → (s : List ℕ) (ps : List (List ℕ))
             → Shows self.old (D.trace self.old.disk).now s ps
             → OnOk result (Shows self.new (D.trace self.new.disk).now
             (bytes.snapshot self.old.version table.now.moment table.now.contents) []) }
@@ -311,7 +311,7 @@ impl<D: Disk, A: Allocator + Copy> Store<D, A> {
 
     /// Adds a batch of events: a frame with their payload if one fits after the last one, and else a snapshot of the
     /// table, which has the batch, in the other area. Returns whether it was a snapshot. It takes no memory.
-    pub fn append(&mut self, payload: &[u8], table: &Table<A>) -> Result<bool, StoreFault>
+    pub fn append(&mut self, payload: &[u8], table: &Table<A>) -> Result<bool, StoreError>
         requires short { length payload.now ≤ max_payload self.old.version self.old.bounds }
         requires limits { table.now.bounds ≡ self.old.bounds }
         requires snapshot { IsSnapshot self.old.version table.now.bounds table.now.moment table.now.contents }
@@ -323,31 +323,31 @@ impl<D: Disk, A: Allocator + Copy> Store<D, A> {
             ↔ (self.old.area.size < self.old.area.end + 6 + length payload.now)) }
 
         // Device comes with one failed call. Worn and Stopped come without a device call.
-        ensures uses { Uses D.Disk self.old.disk self.new.disk (result ≡ Err StoreFault.Device) }
-        ensures worn { (result ≡ Err StoreFault.Worn) ↔ ((self.old.stopped ≡ false) × (self.old.generation ≡ 2 ^ 64 - 1)
+        ensures uses { Uses D.Disk self.old.disk self.new.disk (result ≡ Err StoreError.Device) }
+        ensures worn { (result ≡ Err StoreError.Worn) ↔ ((self.old.stopped ≡ false) × (self.old.generation ≡ 2 ^ 64 - 1)
             × (self.old.area.size < self.old.area.end + 6 + length payload.now)) }
-        ensures untouched_worn { result ≡ Err StoreFault.Worn → self.new.disk ≡ self.old.disk }
-        ensures stopped { (result ≡ Err StoreFault.Stopped) ↔ (self.old.stopped ≡ true) }
+        ensures untouched_worn { result ≡ Err StoreError.Worn → self.new.disk ≡ self.old.disk }
+        ensures stopped { (result ≡ Err StoreError.Stopped) ↔ (self.old.stopped ≡ true) }
         ensures untouched { self.old.stopped ≡ true → self.new ≡ self.old }
         ensures stops { OnErr result (self.new ≡ record self.old { disk = self.new.disk; stopped = true }) }
 
         // Up to some moment a stop leaves the history from before at its clock; from then on the history from before, or with
         // the batch, at a moment that is at most the table's, and one gate alone is written, at most once.
-        ensures stages { D.is_honest self.new.disk → (c : ℕ) (h : History) (es : List Event)
-            → RestsAt self.old (D.trace self.old.disk).now c h → MayFollow self.old.bounds c h es table.now.moment
+        ensures stages { D.follows_crash_model self.new.disk → (c : ℕ) (h : History) (es : List Event)
+            → RecoversToAt self.old (D.trace self.old.disk).now c h → MayFollow self.old.bounds c h es table.now.moment
             → HasSize self.old.version self.old.bounds es → payload.now ≡ bytes.payload es
             → table.now.contents ≡ tables.table (h ++ es) table.now.moment
             → InStages (D.trace self.old.disk) (D.trace self.new.disk)
             (StandsForAt (form_of self.old) h c) (EitherBy (form_of self.old) h es table.now.moment) }
-        ensures done { D.is_honest self.new.disk → (c : ℕ) (h : History) (es : List Event)
-            → RestsAt self.old (D.trace self.old.disk).now c h → MayFollow self.old.bounds c h es table.now.moment
+        ensures done { D.follows_crash_model self.new.disk → (c : ℕ) (h : History) (es : List Event)
+            → RecoversToAt self.old (D.trace self.old.disk).now c h → MayFollow self.old.bounds c h es table.now.moment
             → HasSize self.old.version self.old.bounds es → payload.now ≡ bytes.payload es
             → table.now.contents ≡ tables.table (h ++ es) table.now.moment
             → OnOk result ((d : ℕ) × (d ≤ table.now.moment)
-            × RestsAt self.new (D.trace self.new.disk).now d (h ++ es)) }
+            × RecoversToAt self.new (D.trace self.new.disk).now d (h ++ es)) }
 
-        // What the area that counts holds after Ok: one frame more, or the new snapshot alone.
-        ensures shown { D.is_honest self.new.disk → (s : List ℕ) (ps : List (List ℕ))
+        // What the active area holds after Ok: one frame more, or the new snapshot alone.
+        ensures shown { D.follows_crash_model self.new.disk → (s : List ℕ) (ps : List (List ℕ))
             → Shows self.old (D.trace self.old.disk).now s ps → IfOk result (λ did. MatchBool did
             (Shows self.new (D.trace self.new.disk).now (bytes.snapshot self.old.version table.now.moment table.now.contents) [])
             (Shows self.new (D.trace self.new.disk).now s (ps ++ payload.now ∷ []))) }
@@ -365,8 +365,8 @@ impl<D: Disk, A: Allocator + Copy> Store<D, A> {
         Ok(compacts)
     }
 
-    /// Writes a snapshot of the table into the other area, which then counts. It takes no memory.
-    pub fn compact(&mut self, table: &Table<A>) -> Result<(), StoreFault>
+    /// Writes a snapshot of the table into the other area, which then is active. It takes no memory.
+    pub fn compact(&mut self, table: &Table<A>) -> Result<(), StoreError>
         requires limits { table.now.bounds ≡ self.old.bounds }
         requires snapshot { IsSnapshot self.old.version table.now.bounds table.now.moment table.now.contents }
 
@@ -374,28 +374,28 @@ impl<D: Disk, A: Allocator + Copy> Store<D, A> {
             ≡ swapped self.old (length (bytes.snapshot self.old.version table.now.moment table.now.contents)) self.new.disk) }
 
         // Device comes with one failed call. Worn and Stopped come without a device call.
-        ensures uses { Uses D.Disk self.old.disk self.new.disk (result ≡ Err StoreFault.Device) }
-        ensures worn { (result ≡ Err StoreFault.Worn)
+        ensures uses { Uses D.Disk self.old.disk self.new.disk (result ≡ Err StoreError.Device) }
+        ensures worn { (result ≡ Err StoreError.Worn)
             ↔ ((self.old.stopped ≡ false) × (self.old.generation ≡ 2 ^ 64 - 1)) }
-        ensures untouched_worn { result ≡ Err StoreFault.Worn → self.new.disk ≡ self.old.disk }
-        ensures stopped { (result ≡ Err StoreFault.Stopped) ↔ (self.old.stopped ≡ true) }
+        ensures untouched_worn { result ≡ Err StoreError.Worn → self.new.disk ≡ self.old.disk }
+        ensures stopped { (result ≡ Err StoreError.Stopped) ↔ (self.old.stopped ≡ true) }
         ensures untouched { self.old.stopped ≡ true → self.new ≡ self.old }
         ensures stops { OnErr result (self.new ≡ record self.old { disk = self.new.disk; stopped = true }) }
 
         // Up to some moment a stop leaves the history at its clock; from then on at a moment that is at most the table's,
         // and the gate of the other area alone is written, at most once.
-        ensures stages { D.is_honest self.new.disk → (c : ℕ) (h : History)
-            → RestsAt self.old (D.trace self.old.disk).now c h → MayFollow self.old.bounds c h [] table.now.moment
+        ensures stages { D.follows_crash_model self.new.disk → (c : ℕ) (h : History)
+            → RecoversToAt self.old (D.trace self.old.disk).now c h → MayFollow self.old.bounds c h [] table.now.moment
             → table.now.contents ≡ tables.table h table.now.moment
             → InStagesAt self.old.other (D.trace self.old.disk) (D.trace self.new.disk)
             (StandsForAt (form_of self.old) h c) (StandsBy (form_of self.old) h table.now.moment) }
-        ensures done { D.is_honest self.new.disk → (c : ℕ) (h : History)
-            → RestsAt self.old (D.trace self.old.disk).now c h → MayFollow self.old.bounds c h [] table.now.moment
+        ensures done { D.follows_crash_model self.new.disk → (c : ℕ) (h : History)
+            → RecoversToAt self.old (D.trace self.old.disk).now c h → MayFollow self.old.bounds c h [] table.now.moment
             → table.now.contents ≡ tables.table h table.now.moment
-            → OnOk result (RestsAt self.new (D.trace self.new.disk).now table.now.moment h) }
+            → OnOk result (RecoversToAt self.new (D.trace self.new.disk).now table.now.moment h) }
 
-        // What the area that counts holds after Ok: the new snapshot alone.
-        ensures shown { D.is_honest self.new.disk → (s : List ℕ) (ps : List (List ℕ))
+        // What the active area holds after Ok: the new snapshot alone.
+        ensures shown { D.follows_crash_model self.new.disk → (s : List ℕ) (ps : List (List ℕ))
             → Shows self.old (D.trace self.old.disk).now s ps → OnOk result
             (Shows self.new (D.trace self.new.disk).now (bytes.snapshot self.old.version table.now.moment table.now.contents) []) }
     {
@@ -419,9 +419,9 @@ pub struct Opened<D: Disk, A: Allocator = Global> {
 
 /// A disk that was not opened, and why.
 #[derive(Drop)]
-pub struct Refused<D: Disk> {
+pub struct StoreOpenError<D: Disk> {
     /// Why it was not opened.
-    pub fault: OpenFault,
+    pub fault: OpenError,
     /// The disk, after the device calls that were made.
     pub disk: D,
 }
@@ -451,13 +451,13 @@ impl<D: Disk, A: Allocator + Copy> Store<D, A> {
         Journal::new(alloc, area)
     }
 
-    // Writes a snapshot of the table, as version 2, into the other area, which then counts, with this journal.
+    // Writes a snapshot of the table, as version 2, into the other area, which then is active, with this journal.
     fn carry(
         &mut self,
         journal: Journal<A>,
         table: &Table<A>,
         size: usize,
-    ) -> Result<(), DeviceFailed>
+    ) -> Result<(), DeviceError>
         requires runs { self.old.stopped ≡ false }
         requires generation { self.old.generation < 2 ^ 64 - 1 }
         requires area { least_area V2 self.old.bounds ≤ self.old.area.size }
@@ -474,14 +474,14 @@ impl<D: Disk, A: Allocator + Copy> Store<D, A> {
 
         // Up to some moment a stop leaves what was there; from then on that, or the new snapshot alone, and the
         // gate of the other area alone is written, at most once.
-        ensures stages { D.is_honest self.new.disk → (s : List ℕ) (ps : List (List ℕ))
+        ensures stages { D.follows_crash_model self.new.disk → (s : List ℕ) (ps : List (List ℕ))
             → Shows self.old (D.trace self.old.disk).now s ps
             → InStagesAt self.old.other (D.trace self.old.disk) (D.trace self.new.disk)
             (Holds self.old.version (form_of self.old) s ps)
             (λ image. Holds self.old.version (form_of self.old) s ps image
             ⊎ Holds V2 (form_of self.old) (bytes.snapshot V2 table.now.moment table.now.contents) [] image) }
 
-        ensures shown { D.is_honest self.new.disk → (s : List ℕ) (ps : List (List ℕ))
+        ensures shown { D.follows_crash_model self.new.disk → (s : List ℕ) (ps : List (List ℕ))
             → Shows self.old (D.trace self.old.disk).now s ps
             → OnOk result (Shows self.new (D.trace self.new.disk).now
             (bytes.snapshot V2 table.now.moment table.now.contents) []) }
@@ -505,48 +505,48 @@ impl<D: Disk, A: Allocator + Copy> Store<D, A> {
     }
 }
 
-// Writes the table of an opened store as a snapshot of version 2 into the other area, which then counts. What takes memory comes
+// Writes the table of an opened store as a snapshot of version 2 into the other area, which then is active. What takes memory comes
 // before the first write.
 fn carry_over<D: Disk, A: Allocator + Copy>(
     alloc: A,
     opened: Opened<D, A>,
-) -> Result<Opened<D, A>, Refused<D>>
+) -> Result<Opened<D, A>, StoreOpenError<D>>
     requires limits { opened.table.bounds ≡ opened.store.bounds }
     requires snapshot { IsSnapshot V2 opened.table.bounds opened.table.moment opened.table.contents }
     requires runs { opened.store.stopped ≡ false }
     requires generation { opened.store.generation < 2 ^ 64 - 1 }
     requires area { least_area V2 opened.store.bounds ≤ opened.store.area.size }
 
-    ensures uses { Uses D.Disk opened.store.disk (disk_of result) (IsErrAnd result (λ r. r.fault ≡ OpenFault.Device)) }
+    ensures uses { Uses D.Disk opened.store.disk (disk_of result) (IsErrAnd result (λ r. r.fault ≡ OpenError.Device)) }
     ensures plain { IfErr result (λ r. IsPlain r.fault) }
-    ensures untouched { IfErr result (λ r. r.fault ≢ OpenFault.Device → r.disk ≡ opened.store.disk) }
+    ensures untouched { IfErr result (λ r. r.fault ≢ OpenError.Device → r.disk ≡ opened.store.disk) }
     ensures table { IfOk result (λ o. o.table ≡ opened.table) }
     ensures store { IfOk result (λ o. o.store ≡ carried opened.store
         (carried_area opened.store (length (bytes.snapshot V2 opened.table.moment opened.table.contents))) o.store.disk) }
-    ensures shown { IfOk result (λ o. D.is_honest o.store.disk → (s : List ℕ) (ps : List (List ℕ))
+    ensures shown { IfOk result (λ o. D.follows_crash_model o.store.disk → (s : List ℕ) (ps : List (List ℕ))
         → Shows opened.store (D.trace opened.store.disk).now s ps
         → Shows o.store (D.trace o.store.disk).now (bytes.snapshot V2 opened.table.moment opened.table.contents) []) }
 
     // A stop at any moment leaves the history that was opened.
-    ensures stop { D.is_honest (disk_of result) → (form : Form) (h : History) (clock : ℕ)
+    ensures stop { D.follows_crash_model (disk_of result) → (form : Form) (h : History) (clock : ℕ)
         → OpensTo form h clock opened.store (D.trace opened.store.disk).now (snapshot_of opened.table)
         → EachImageSince (D.trace opened.store.disk) (D.trace (disk_of result)) (StandsBy form h clock) }
-    ensures rests { IfOk result (λ o. D.is_honest o.store.disk → (form : Form) (h : History) (clock : ℕ)
+    ensures recovers { IfOk result (λ o. D.follows_crash_model o.store.disk → (form : Form) (h : History) (clock : ℕ)
         → OpensTo form h clock opened.store (D.trace opened.store.disk).now (snapshot_of opened.table)
         → OpensTo form h clock o.store (D.trace o.store.disk).now (snapshot_of o.table)) }
 {
     let Opened { mut store, table } = opened;
     let size = store.next_size(Version::V2, &table);
     let Ok(journal) = store.next_journal(alloc, size) else {
-        return Err(Refused {
-            fault: OpenFault::Memory,
+        return Err(StoreOpenError {
+            fault: OpenError::Memory,
             disk: store.into_disk(),
         });
     };
     match store.carry(journal, &table, size) {
         Ok(()) => Ok(Opened { store, table }),
-        Err(_) => Err(Refused {
-            fault: OpenFault::Device,
+        Err(_) => Err(StoreOpenError {
+            fault: OpenError::Device,
             disk: store.into_disk(),
         }),
     }
@@ -554,7 +554,7 @@ fn carry_over<D: Disk, A: Allocator + Copy>(
 
 impl<D: Disk, A: Allocator + Copy> Store<D, A> {
     // Opens the store of a disk, whose content stays.
-    fn open_unchanged(alloc: A, disk: D, limits: Limits) -> Result<Opened<D, A>, Refused<D>>
+    fn open_unchanged(alloc: A, disk: D, limits: Limits) -> Result<Opened<D, A>, StoreOpenError<D>>
         ensures { Opening D.Disk disk limits false result }
     {
         let mut disk = disk;
@@ -585,7 +585,7 @@ impl<D: Disk, A: Allocator + Copy> Store<D, A> {
                 };
                 Ok(Opened { store, table })
             }
-            Err(fault) => Err(Refused { fault, disk }),
+            Err(fault) => Err(StoreOpenError { fault, disk }),
         }
     }
 
@@ -597,7 +597,7 @@ impl<D: Disk, A: Allocator + Copy> Store<D, A> {
         disk: D,
         limits: Limits,
         carry: bool,
-    ) -> Result<Opened<D, A>, Refused<D>>
+    ) -> Result<Opened<D, A>, StoreOpenError<D>>
         ensures { Opening D.Disk disk limits carry result }
     {
         let opened = match Store::open_unchanged(alloc, disk, limits) {
@@ -612,7 +612,7 @@ impl<D: Disk, A: Allocator + Copy> Store<D, A> {
 
     /// Opens the store of a disk, which was formatted with these limits, and carries it over to version 2 if it can be, as
     /// `open_as` does.
-    pub fn open(alloc: A, disk: D, limits: Limits) -> Result<Opened<D, A>, Refused<D>>
+    pub fn open(alloc: A, disk: D, limits: Limits) -> Result<Opened<D, A>, StoreOpenError<D>>
         ensures { Opening D.Disk disk limits true result }
     {
         Store::open_as(alloc, disk, limits, true)

@@ -4,18 +4,18 @@ ghost use Rattle.std.specs.Prelude.{◌≡◌, ◌≢◌, ◌+◌, ◌<◌, ◌^
 ghost use Rattle.turn_disk.specs.Device.{Reads};
 ghost use Rattle.turn_record.specs.declared.version.Version.TheVariants.{V2};
 ghost use Rattle.turn_store.specs.Superblock.{HasSuperblock, least_area, superblock};
-ghost use Rattle.turn_store.specs.declared.superblock.LimitsRefused.TheVariants.{Device};
+ghost use Rattle.turn_store.specs.declared.superblock.LimitsError.TheVariants.{Device};
 ghost use Rattle.turn_types.specs.Limits.{AreInRange};
 ghost use Rattle.turn_types.specs.declared.limits.Bounds.{Bounds};
 
 use thiserror::Error;
-use turn_disk::{DeviceFailed, Disk, read_array};
+use turn_disk::{DeviceError, Disk, read_array};
 use turn_record::{Version, max_payload, max_snapshot};
 use turn_types::{Bounds, Limits};
 
 /// Why the limits of a store are not known.
 #[derive(Clone, Copy, Debug, PartialEq, Eq, Error)]
-pub enum LimitsRefused {
+pub enum LimitsError {
     /// A device call failed.
     #[error("a device call failed")]
     Device,
@@ -24,11 +24,11 @@ pub enum LimitsRefused {
     NotAStore,
 }
 
-impl From<DeviceFailed> for LimitsRefused {
+impl From<DeviceError> for LimitsError {
     ghost from_gives = { λ _ e. e ≡ Device };
 
-    fn from(_: DeviceFailed) -> Self {
-        LimitsRefused::Device
+    fn from(_: DeviceError) -> Self {
+        LimitsError::Device
     }
 }
 
@@ -113,31 +113,31 @@ fn superblock_in(bytes: &[u8; 64]) -> Option<Superblock>
 }
 
 /// Reads the superblock, in at most one device call.
-pub fn read_superblock<D: Disk>(disk: &mut D) -> Result<Superblock, LimitsRefused>
-    ensures reads { Reads D.Disk disk.old disk.new (result ≡ Err LimitsRefused.Device) }
-    ensures found { D.is_honest disk.new
+pub fn read_superblock<D: Disk>(disk: &mut D) -> Result<Superblock, LimitsError>
+    ensures reads { Reads D.Disk disk.old disk.new (result ≡ Err LimitsError.Device) }
+    ensures found { D.follows_crash_model disk.new
         → IfOk result (λ s. HasSuperblock s.area s.limits (D.trace disk.old).now.bytes) }
-    ensures none { D.is_honest disk.new → IfErr result (λ refused. refused ≡ LimitsRefused.NotAStore
+    ensures none { D.follows_crash_model disk.new → IfErr result (λ refused. refused ≡ LimitsError.NotAStore
         → (area : ℕ) (b : Bounds) → HasSuperblock area b (D.trace disk.old).now.bytes → ⊥) }
 {
     if disk.size() < 64 {
-        return Err(LimitsRefused::NotAStore);
+        return Err(LimitsError::NotAStore);
     }
     let bytes = read_array(disk, 0)?;
     match superblock_in(&bytes) {
         Some(found) => Ok(found),
-        None => Err(LimitsRefused::NotAStore),
+        None => Err(LimitsError::NotAStore),
     }
 }
 
 /// The limits that the store of a disk was formatted with.
-pub fn limits<D: Disk>(disk: &mut D) -> Result<Limits, LimitsRefused>
-    ensures reads { Reads D.Disk disk.old disk.new (result ≡ Err LimitsRefused.Device) }
+pub fn limits<D: Disk>(disk: &mut D) -> Result<Limits, LimitsError>
+    ensures reads { Reads D.Disk disk.old disk.new (result ≡ Err LimitsError.Device) }
 
     // The limits are those of the superblock, and a disk without one is refused.
-    ensures found { D.is_honest disk.new
+    ensures found { D.follows_crash_model disk.new
         → IfOk result (λ limits. (area : ℕ) × HasSuperblock area limits (D.trace disk.old).now.bytes) }
-    ensures none { D.is_honest disk.new → IfErr result (λ refused. refused ≡ LimitsRefused.NotAStore
+    ensures none { D.follows_crash_model disk.new → IfErr result (λ refused. refused ≡ LimitsError.NotAStore
         → (area : ℕ) (b : Bounds) → HasSuperblock area b (D.trace disk.old).now.bytes → ⊥) }
 {
     match read_superblock(disk) {

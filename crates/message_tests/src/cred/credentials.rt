@@ -1,5 +1,5 @@
 use Part::*;
-use refusing::Refusing;
+use failing_alloc::FailingAlloc;
 use std::alloc::{Allocator, Global};
 use std::test::Fail;
 use turn_codec::{AttributeType, Builder, Message};
@@ -377,7 +377,11 @@ fn a_nonce_that_is_issued_holds(rt: HostRuntime) -> Result<(), Fail> {
 }
 
 /// Makes a checker, and returns its handler, and whether it was refused: a refusal returns the handler too.
-fn handler_of(refusing: &Refusing<Global>, config: &ServerConfig, handler: Users) -> (Users, bool) {
+fn handler_of(
+    refusing: &FailingAlloc<Global>,
+    config: &ServerConfig,
+    handler: Users,
+) -> (Users, bool) {
     match Checker::new(refusing, config, handler) {
         Ok(checker) => (checker.into_handler(), false),
         Err(refused) => (refused.value, true),
@@ -387,7 +391,7 @@ fn handler_of(refusing: &Refusing<Global>, config: &ServerConfig, handler: Users
 /// Makes a checker where the growth after so many is refused, says whether one was, and makes another with its handler.
 fn is_refused(alloc: Global, served: u64) -> Result<bool, Fail> {
     let config = config(alloc)?;
-    let refusing = Refusing::new(alloc, served);
+    let refusing = FailingAlloc::new(alloc, served);
     let (handler, is_refused) = handler_of(&refusing, &config, users(alloc)?);
     if is_refused != refusing.has_refused() {
         return Err(Fail::new("a refusal"));

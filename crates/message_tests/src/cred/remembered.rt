@@ -5,7 +5,7 @@ ghost use Rattle.turn_cred.specs.Shared.{lasting};
 
 use crate::cred::credentials::Part::{Nonce1000, Numbered, Realm, Signed};
 use crate::cred::credentials::{CLIENT, at, code_of, config, request};
-use refusing::Refusing;
+use failing_alloc::FailingAlloc;
 use std::alloc::{Allocator, Global};
 use std::cell::Cell;
 use std::test::Fail;
@@ -133,9 +133,9 @@ fn the_last_256_known_users_are_remembered(rt: HostRuntime) -> Result<(), Fail> 
 /// Whether a checker without memory for any user has the verdict of one that remembers, and asks its handler.
 fn are_alike(
     alloc: Global,
-    refusing: &Refusing<Global>,
+    refusing: &FailingAlloc<Global>,
     remembering: &mut Checker<Counting>,
-    forgetting: &mut Checker<Counting, &Refusing<Global>>,
+    forgetting: &mut Checker<Counting, &FailingAlloc<Global>>,
     user: u16,
     signer: u16,
 ) -> Result<bool, Fail> {
@@ -148,9 +148,9 @@ fn are_alike(
 /// Checks requests of users in turn, twice, under their own key and under one that isn't.
 fn stay_alike(
     alloc: Global,
-    refusing: &Refusing<Global>,
+    refusing: &FailingAlloc<Global>,
     remembering: &mut Checker<Counting>,
-    forgetting: &mut Checker<Counting, &Refusing<Global>>,
+    forgetting: &mut Checker<Counting, &FailingAlloc<Global>>,
 ) -> Result<(), Fail> {
     for number in 0..1240u16 {
         let (user, signer) = (number / 2 % 310, number / 2 % 310 + number % 2);
@@ -163,7 +163,7 @@ fn stay_alike(
 
 /// How often the handler of a checker is asked that has no memory for any user.
 fn asked_without_memory(alloc: Global, remembering: &mut Checker<Counting>) -> Result<u64, Fail> {
-    let refusing = Refusing::new(alloc, u64::MAX);
+    let refusing = FailingAlloc::new(alloc, u64::MAX);
     let mut forgetting = checker(alloc, &refusing)?;
     stay_alike(alloc, &refusing, remembering, &mut forgetting)?;
     Ok(forgetting.into_handler().asked.get())
@@ -179,7 +179,7 @@ fn what_is_remembered_changes_no_verdict(rt: HostRuntime) -> Result<(), Fail> {
 /// Asks for some users where the growth after so many is refused, and says whether one was. Who is remembered takes no
 /// memory.
 fn is_refused(alloc: Global, served: u64) -> Result<bool, Fail> {
-    let refusing = Refusing::new(alloc, u64::MAX);
+    let refusing = FailingAlloc::new(alloc, u64::MAX);
     let mut checker = checker(alloc, &refusing)?;
     refusing.arm(served);
     ask(alloc, &mut checker, 0, 4)?;

@@ -1,6 +1,6 @@
 //! Time-limited names, their passwords and their keys.
 
-use refusing::Refusing;
+use failing_alloc::FailingAlloc;
 use std::alloc::{Allocator, Global};
 use std::test::Fail;
 use turn_cred::{AuthHandler, Credentials, SharedSecret, Users};
@@ -221,7 +221,7 @@ fn user_goes_before_the_secret(rt: HostRuntime) -> Result<(), Fail> {
 
 #[test]
 fn secret_is_copied_where_there_is_memory(rt: HostRuntime) {
-    let refusing = Refusing::new(rt.alloc(), 0);
+    let refusing = FailingAlloc::new(rt.alloc(), 0);
     assert!(rt; SharedSecret::new(&refusing, WEB_SERVICE).is_err() && refusing.has_refused());
     refusing.arm(1);
     assert!(rt; SharedSecret::new(&refusing, WEB_SERVICE).is_ok());

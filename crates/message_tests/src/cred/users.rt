@@ -1,4 +1,4 @@
-use refusing::Refusing;
+use failing_alloc::FailingAlloc;
 use std::alloc::{Allocator, Global};
 use std::test::Fail;
 use turn_cred::{AuthHandler, Users};
@@ -44,7 +44,11 @@ fn the_last_key_of_a_name_counts(rt: HostRuntime) -> Result<(), Fail> {
 }
 
 /// Whether a key is added to a name that has one only where the number is odd. A refusal leaves the users as they were.
-fn is_added(users: &mut Users<&Refusing<Global>>, refusing: &Refusing<Global>, number: u8) -> bool {
+fn is_added(
+    users: &mut Users<&FailingAlloc<Global>>,
+    refusing: &FailingAlloc<Global>,
+    number: u8,
+) -> bool {
     let (name, key) = ([b'a', number / 2], [number; 16]);
     let before = key_in(users, &name, b"");
     if before.is_some() != (number % 2 == 1) {
@@ -61,7 +65,7 @@ fn is_added(users: &mut Users<&Refusing<Global>>, refusing: &Refusing<Global>, n
 
 /// Makes forty additions where the growth after so many is refused, and says whether one was.
 fn is_refused(alloc: Global, served: u64) -> Result<bool, Fail> {
-    let refusing = Refusing::new(alloc, served);
+    let refusing = FailingAlloc::new(alloc, served);
     let mut users = Users::new(&refusing);
     for number in 0..40u8 {
         if !is_added(&mut users, &refusing, number) {

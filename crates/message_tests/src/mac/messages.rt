@@ -1,6 +1,6 @@
 ghost use Rattle.std.specs.Prelude.{◌≡◌, [], IfOk};
 
-use refusing::Refusing;
+use failing_alloc::FailingAlloc;
 use std::alloc::{AllocError, Allocator, Global};
 use std::test::Fail;
 use turn_codec::{AttributeType, Builder, Message, PushError};
@@ -299,7 +299,7 @@ fn what_makes_a_message_too_long_is_refused(rt: HostRuntime) -> Result<(), Fail>
 
 /// Adds both where the growth after so many is refused, and says whether one was. A refusal leaves the message as it was.
 fn is_refused(alloc: Global, served: u64) -> Result<bool, Fail> {
-    let refusing = Refusing::new(alloc, u64::MAX);
+    let refusing = FailingAlloc::new(alloc, u64::MAX);
     let mut builder = binding(&refusing)?;
     refusing.arm(served);
     if append_integrity(&mut builder, &KEY) == Err(PushError::Memory) {

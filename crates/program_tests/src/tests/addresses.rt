@@ -11,8 +11,8 @@ use super::{RELEASE, USAGE, expect};
 use std::fs;
 use std::net::UdpSocket;
 use std::test::Fail;
-use turn_client::{Allocated, ClientFault, Loopback, limits};
-use turn_disk::{MemoryDisk, Outcome};
+use turn_client::{Allocated, ClientError, Loopback, limits};
+use turn_disk::{CrashOutcome, MemoryDisk};
 use turn_ports::PortRange;
 use turn_program::run_words;
 use turn_serving::Commits;
@@ -48,13 +48,13 @@ fn restart<'a>(
     listen: ListeningAddresses,
 ) -> Result<Talk<'a>, Fail> {
     let (mut disk, mut loopback) = talk.end();
-    disk.crash(Outcome::Lost);
+    disk.crash(CrashOutcome::Lost);
     loopback.set_listen(listen);
     Ok(loopback.serve(rt, disk)?)
 }
 
 /// An allocation by an address of the server, with a permission for the peer.
-fn call(rt: &HostRuntime, talk: &mut Talk<'_>, server: Endpoint) -> Result<Allocated, ClientFault> {
+fn call(rt: &HostRuntime, talk: &mut Talk<'_>, server: Endpoint) -> Result<Allocated, ClientError> {
     talk.client().set_server(server);
     talk.challenge(rt)?;
     let allocated = talk.allocate(rt)?;
@@ -111,7 +111,7 @@ fn is_first_alone(
     calls: &(Allocated, Allocated),
 ) -> bool {
     let first = servers.first();
-    let is_lost = talk.receive(rt, calls.1.port, b"lost") == Err(ClientFault::Silent);
+    let is_lost = talk.receive(rt, calls.1.port, b"lost") == Err(ClientError::Silent);
     is_lost && goes(rt, talk, first, calls.0.port)
 }
 

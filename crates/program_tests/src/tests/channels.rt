@@ -2,7 +2,7 @@
 
 use super::sockets::HOME;
 use std::test::Fail;
-use turn_client::{Client, ClientFault, Credentials};
+use turn_client::{Client, ClientCredentials, ClientError};
 use turn_types::Endpoint;
 
 const ANY: Endpoint = Endpoint { ip: HOME, port: 0 };
@@ -10,7 +10,7 @@ const ANY: Endpoint = Endpoint { ip: HOME, port: 0 };
 /// Nothing is received here.
 const SERVER: Endpoint = Endpoint { ip: HOME, port: 9 };
 
-const ALICE: Credentials<'static> = Credentials {
+const ALICE: ClientCredentials<'static> = ClientCredentials {
     user: b"alice",
     realm: b"example.org",
     password: b"wonder",
@@ -28,7 +28,7 @@ const SENT: [(u16, usize, bool); 5] = [
 fn is_too_long(rt: &HostRuntime, number: u16, size: usize) -> Result<bool, Fail> {
     let client = Client::open(rt.alloc(), rt, ANY, SERVER, ALICE)?;
     let data = Vec::from_elem(rt.alloc(), 0u8, size)?;
-    Ok(client.send_over_channel(number, &data) == Err(ClientFault::TooLong))
+    Ok(client.send_over_channel(number, &data) == Err(ClientError::TooLong))
 }
 
 #[test]

@@ -2,7 +2,7 @@
 
 use std::fs::{self, File};
 use std::test::Fail;
-use turn_client::{Allocated, ClientFault, Conversation, Loopback, limits};
+use turn_client::{Allocated, ClientError, Conversation, Loopback, limits};
 use turn_disk::FileDisk;
 use turn_ports::PortRange;
 use turn_program::format_disk;
@@ -41,7 +41,7 @@ const STEPS: [Step; 12] = [
     Step::Refresh(0, 0),
 ];
 
-pub fn are_got(got: Result<Vec<u8>, ClientFault>, bytes: &[u8]) -> bool {
+pub fn are_got(got: Result<Vec<u8>, ClientError>, bytes: &[u8]) -> bool {
     match got {
         Ok(got) => got.as_slice() == bytes,
         Err(_) => false,
@@ -180,7 +180,7 @@ fn is_answered(
     talk: &mut Talk<'_>,
     sent: u8,
     taken: u8,
-) -> Result<bool, ClientFault> {
+) -> Result<bool, ClientError> {
     for _ in 0..sent {
         let request = talk.client().plain_request(Method::BINDING)?;
         talk.client().send(&request)?;

@@ -1,12 +1,12 @@
 //! A device without room for a whole store.
 
-use files_for_tests::{FileCalls, TestFile};
 use std::alloc::Global;
 use std::cell::Cell;
 use std::io::{self, Error, ErrorKind};
 use std::test::Fail;
+use test_files::{FileCalls, TestFile};
 use turn_disk::FileDisk;
-use turn_program::{Fault, format_disk};
+use turn_program::{ProgramError, format_disk};
 use turn_types::{Bounds, Limits};
 
 /// A file with room for so many bytes, which notes whether a byte other than 0 was written.
@@ -56,7 +56,7 @@ fn play(alloc: Global, room: u64, is_formatted: bool) -> Result<(), Fail> {
     let expected = if is_formatted {
         Ok(())
     } else {
-        Err(Fault::Device)
+        Err(ProgramError::Device)
     };
     let got = format_disk(alloc, &mut disk, limits, 100_000);
     if got != expected || is_marked.get() != is_formatted {

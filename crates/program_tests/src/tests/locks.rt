@@ -9,7 +9,7 @@ use std::io::{self, Write};
 use std::rt::Clock;
 use std::test::Fail;
 use std::time::Duration;
-use turn_disk::{FileDisk, FileRefused};
+use turn_disk::{FileDisk, FileError};
 
 const CONFIG: &str = "realm example.org
 secret 0000000000000000000000000000000000000000000000000000000000000000
@@ -158,7 +158,7 @@ struct Prober<'a> {
 impl Write for Prober<'_> {
     fn write(&mut self, buf: &[u8]) -> io::Result<usize> {
         self.writes = self.writes.wrapping_add(1);
-        if let Err(FileRefused::InUse) = FileDisk::open(self.rt, STORE) {
+        if let Err(FileError::InUse) = FileDisk::open(self.rt, STORE) {
             self.refused = self.refused.wrapping_add(1);
         }
         Ok(buf.len())

@@ -1,7 +1,7 @@
 //! Each growth refused in turn.
 
 use super::{BINDING, FROM, SUCCESS};
-use refusing::Refusing;
+use failing_alloc::FailingAlloc;
 use std::alloc::Global;
 use std::test::Fail;
 use turn_config::values::{bytes, endpoint};
@@ -10,7 +10,7 @@ use turn_types::{FiveTuple, Moment};
 
 /// Reads hex with one growth refused after so many, and again. Returns whether none was refused.
 fn bytes_succeed(alloc: Global, served: u64) -> Result<bool, Fail> {
-    let refusing = Refusing::new(alloc, served);
+    let refusing = FailingAlloc::new(alloc, served);
     let Ok(found) = bytes(&refusing, b"00fF7a") else {
         let again = bytes(&refusing, b"00fF7a")?;
         return if refusing.has_refused() && again.is_some() {
@@ -40,7 +40,7 @@ fn reply_succeeds(alloc: Global, served: u64) -> Result<bool, Fail> {
     let five_tuple = FiveTuple { client, server };
     let moment = Moment::new(0).ok_or("a moment")?;
     let datagram = bytes(alloc, BINDING.as_bytes())?.ok_or("a datagram")?;
-    let refusing = Refusing::new(alloc, served);
+    let refusing = FailingAlloc::new(alloc, served);
     let Ok(found) = reply_to(&refusing, five_tuple, moment, &datagram) else {
         let again = reply_to(&refusing, five_tuple, moment, &datagram)?;
         return if refusing.has_refused() && again.is_some() {

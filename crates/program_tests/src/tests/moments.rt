@@ -6,8 +6,8 @@ use std::io::{self, ErrorKind};
 use std::rt::Clock;
 use std::test::Fail;
 use std::time::Duration;
-use turn_client::ClientFault;
-use turn_serving::TurnFault;
+use turn_client::ClientError;
+use turn_serving::TurnError;
 use turn_sockets::moment_now;
 use turn_types::Moment;
 
@@ -88,13 +88,13 @@ fn is_indicated(
             bytes.get(..2) == Some(b"\x00\x17".as_slice())
                 && bytes.get(8..20) == Some(id.as_slice()),
         ),
-        (Err(ClientFault::Silent), None) => Ok(true),
+        (Err(ClientError::Silent), None) => Ok(true),
         _ => Ok(false),
     }
 }
 
 /// An allocation with a permission for its peer from second 1,000 on. Returns the relayed port.
-fn allocate(talk: &mut Talk<'_>) -> Result<u16, ClientFault> {
+fn allocate(talk: &mut Talk<'_>) -> Result<u16, ClientError> {
     let system = Still(Some(1_000));
     talk.challenge(&system)?;
     let port = talk.allocate(&system)?.port;
@@ -111,7 +111,7 @@ fn relay(rt: &HostRuntime, talk: &mut Talk<'_>) -> Result<bool, Fail> {
     }
     talk.permit(&Still(Some(1_200)))?;
     let is_later = is_indicated(rt, talk, port, 1_200, Some(LATER))?;
-    Ok(is_later && talk.turn(&Still(None)) == Err(ClientFault::Turn(TurnFault::Clock)))
+    Ok(is_later && talk.turn(&Still(None)) == Err(ClientError::Turn(TurnError::Clock)))
 }
 
 #[test]

@@ -7,10 +7,10 @@ use super::sockets::HOME;
 use super::started::start;
 use std::alloc::Global;
 use std::test::Fail;
-use turn_client::{Client, ClientFault, Credentials, TimedSocket};
+use turn_client::{Client, ClientCredentials, ClientError, TimedSocket};
 use turn_config::read_config;
 use turn_disk::MemoryDisk;
-use turn_requests::{Attribute, Received, read_message};
+use turn_requests::{Attribute, ServerMessage, read_message};
 use turn_serving::{Commits, Silent, SocketServing};
 use turn_types::{Endpoint, Method};
 
@@ -68,7 +68,7 @@ const PEER: Endpoint = Endpoint {
 /// Any free port.
 const ANY: Endpoint = Endpoint { ip: HOME, port: 0 };
 
-const ALICE: Credentials<'static> = Credentials {
+const ALICE: ClientCredentials<'static> = ClientCredentials {
     user: b"alice",
     realm: b"example.org",
     password: b"wonder",
@@ -110,7 +110,7 @@ fn ask(
     client: &mut Client<'_>,
     method: Method,
     attributes: &[Attribute],
-) -> Result<Option<(u32, bool)>, ClientFault> {
+) -> Result<Option<(u32, bool)>, ClientError> {
     let request = client.plain_request(method)?;
     client.send(&request)?;
     serving.turn(&&LATER)?;
@@ -119,9 +119,9 @@ fn ask(
     client.send(&request)?;
     serving.turn(&&LATER)?;
     match read_message(&client.receive_message()?) {
-        Some(Received::Refreshed(lifetime)) => Ok(Some((lifetime, false))),
+        Some(ServerMessage::Refreshed(lifetime)) => Ok(Some((lifetime, false))),
         Some(
-            Received::Allocated {
+            ServerMessage::Allocated {
                 lifetime,
                 token,
                 ..

@@ -3,7 +3,7 @@
 use super::sockets::HOME;
 use super::turns::{PORTS, Talk, begin};
 use std::test::Fail;
-use turn_client::{ClientFault, TimedSocket};
+use turn_client::{ClientError, TimedSocket};
 use turn_types::{Endpoint, Method};
 
 /// A range of relay ports, and one of them.
@@ -24,7 +24,7 @@ pub fn is_lost(
     rt: &HostRuntime,
     talk: &mut Talk<'_>,
     server: Endpoint,
-) -> Result<bool, ClientFault> {
+) -> Result<bool, ClientError> {
     talk.challenge(rt)?;
     talk.allocate(rt)?;
     talk.permit(rt)?;
@@ -32,7 +32,7 @@ pub fn is_lost(
     for _ in 0..3u8 {
         talk.turn(rt)?;
     }
-    Ok(talk.client().receive() == Err(ClientFault::Silent))
+    Ok(talk.client().receive() == Err(ClientError::Silent))
 }
 
 #[test]
@@ -54,7 +54,7 @@ fn is_answered(
     talk: &mut Talk<'_>,
     at: Endpoint,
     server: Endpoint,
-) -> Result<bool, ClientFault> {
+) -> Result<bool, ClientError> {
     let mut socket = TimedSocket::open(rt.alloc(), rt, at)?;
     socket.send(server, BINDING)?;
     talk.turn(rt)?;

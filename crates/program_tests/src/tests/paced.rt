@@ -7,7 +7,7 @@ use std::io;
 use std::rt::Clock;
 use std::test::Fail;
 use std::time::Duration;
-use turn_client::ClientFault;
+use turn_client::ClientError;
 use turn_serving::Commits;
 use turn_types::Method;
 
@@ -150,7 +150,7 @@ fn is_row(
 }
 
 /// An allocation with a permission, each of its requests answered in its turn.
-fn allocate(talk: &mut Talk<'_>, clock: &Ticking) -> Result<u16, ClientFault> {
+fn allocate(talk: &mut Talk<'_>, clock: &Ticking) -> Result<u16, ClientError> {
     talk.challenge(clock)?;
     let port = talk.allocate(clock)?.port;
     talk.permit(clock)?;

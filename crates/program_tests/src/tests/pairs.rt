@@ -5,7 +5,7 @@ use super::conversations::{Talk, begin, reopen};
 use std::fs;
 use std::net::UdpSocket;
 use std::test::Fail;
-use turn_requests::{Attribute, Received, read_message};
+use turn_requests::{Attribute, ServerMessage, read_message};
 use turn_types::{Method, Token};
 
 /// An Allocate with an attribute: the relayed port, and the token if there is one.
@@ -18,7 +18,7 @@ fn allocate(
     talk.client().send(&request)?;
     talk.turn(rt)?;
     match read_message(&talk.client().receive_message()?) {
-        Some(Received::Allocated { port, token, .. }) => Ok((port, token)),
+        Some(ServerMessage::Allocated { port, token, .. }) => Ok((port, token)),
         _ => Err(Fail::new("no allocation")),
     }
 }

@@ -6,7 +6,7 @@ use super::turns::{PORTS, Talk, begin};
 use std::io::Write;
 use std::test::Fail;
 use std::{fs, io};
-use turn_client::{ClientFault, TimedSocket};
+use turn_client::{ClientError, TimedSocket};
 use turn_program::run_words;
 use turn_types::{Endpoint, Method};
 
@@ -28,7 +28,7 @@ fn begin_relaying(rt: &HostRuntime, burst: u8) -> Result<(Talk<'_>, u16), Fail> 
     }
 }
 
-fn prepare(rt: &HostRuntime, talk: &mut Talk<'_>) -> Result<u16, ClientFault> {
+fn prepare(rt: &HostRuntime, talk: &mut Talk<'_>) -> Result<u16, ClientError> {
     talk.challenge(rt)?;
     let port = talk.allocate(rt)?.port;
     talk.permit(rt)?;
@@ -69,7 +69,7 @@ fn receive_all(talk: &mut Talk<'_>) -> Received {
 }
 
 /// The client sends so many Binding requests.
-fn ask(talk: &mut Talk<'_>, count: u8) -> Result<(), ClientFault> {
+fn ask(talk: &mut Talk<'_>, count: u8) -> Result<(), ClientError> {
     for _ in 0..count {
         let request = talk.client().plain_request(Method::BINDING)?;
         talk.client().send(&request)?;
@@ -87,7 +87,7 @@ pub fn tell(rt: &HostRuntime, ip: u32, port: u16, size: usize, count: u8) -> Res
     Ok(())
 }
 
-fn turns(rt: &HostRuntime, talk: &mut Talk<'_>, count: u8) -> Result<(), ClientFault> {
+fn turns(rt: &HostRuntime, talk: &mut Talk<'_>, count: u8) -> Result<(), ClientError> {
     for _ in 0..count {
         talk.turn(rt)?;
     }

@@ -5,7 +5,7 @@ use std::rt::Clock;
 use turn_config::Configured;
 use turn_cred::Credentials;
 use turn_disk::Disk;
-use turn_serving::{Commits, Setup, SocketServing, StartFault, Watch};
+use turn_serving::{Commits, Setup, SocketServing, StartError, Watch};
 use turn_sockets::ListeningAddresses;
 
 /// Starts a server as a configuration says. A turn takes one datagram of a socket.
@@ -16,7 +16,7 @@ pub fn start<'a, D: Disk + Drop, C: Clock, W: Watch + Drop>(
     system: &C,
     disk: D,
     watch: W,
-) -> Result<SocketServing<'a, D, Credentials, HostRuntime, Global, W>, StartFault> {
+) -> Result<SocketServing<'a, D, Credentials, HostRuntime, Global, W>, StartError> {
     let Configured {
         config,
         credentials,

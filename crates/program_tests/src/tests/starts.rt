@@ -3,17 +3,17 @@
 use super::formats::{formatted, fresh, put};
 use super::inspections::{FRAME, PAIR};
 use super::started::start;
-use files_for_tests::{Changing, TestFile};
 use std::alloc::Global;
 use std::cell::Cell;
 use std::fs;
 use std::test::Fail;
+use test_files::{Changing, TestFile};
 use turn_config::read_config;
 use turn_config::values::{number_32, split_once};
 use turn_cred::AuthHandler;
 use turn_disk::{Disk, FileDisk};
 use turn_engine::Server;
-use turn_serving::{Commits, RelaySockets, Silent, StartFault};
+use turn_serving::{Commits, RelaySockets, Silent, StartError};
 use turn_sockets::receive_buffer;
 
 const CONFIG: &[u8] = b"realm example.org
@@ -52,7 +52,7 @@ fn pair(alloc: Global) -> Result<Vec<u8>, Fail> {
 /// What a start comes to.
 #[derive(Clone, Copy, PartialEq, Eq)]
 struct Came {
-    fault: Option<StartFault>,
+    fault: Option<StartError>,
     /// The receive buffer of the socket of port 63,019, if there is one.
     buffer: Option<u32>,
 }
@@ -120,7 +120,7 @@ fn a_start_needs_a_socket_for_each_port_of_its_second_opening(rt: HostRuntime) -
     let buffer = Some(given_buffer(&rt)?);
     assert!(rt; outcome(&rt, &allocated, &allocated)? == started(buffer));
     let refused = Came {
-        fault: Some(StartFault::Changed),
+        fault: Some(StartError::Changed),
         ..started(None)
     };
     assert!(rt; outcome(&rt, &empty, &allocated)? == refused);
@@ -134,7 +134,7 @@ fn a_start_needs_a_socket_for_each_reserved_port(rt: HostRuntime) -> Result<(), 
     let (even, pair) = (even(rt.alloc())?, pair(rt.alloc())?);
     assert!(rt; outcome(&rt, &pair, &pair)? == started(Some(given_buffer(&rt)?)));
     let refused = Came {
-        fault: Some(StartFault::Changed),
+        fault: Some(StartError::Changed),
         ..started(None)
     };
     assert!(rt; outcome(&rt, &even, &pair)? == refused);

@@ -1,12 +1,12 @@
 //! Turns of a server over a disk in memory: a commit that fails, and datagrams that are none of a client's.
 
 use std::test::Fail;
-use turn_client::{ClientFault, Conversation, Loopback, limits};
+use turn_client::{ClientError, Conversation, Loopback, limits};
 use turn_disk::MemoryDisk;
-use turn_engine::CommitRefused;
+use turn_engine::CommitError;
 use turn_ports::PortRange;
-use turn_serving::{Commits, StartFault, TurnFault};
-use turn_store::{OpenFault, format, least_area};
+use turn_serving::{Commits, StartError, TurnError};
+use turn_store::{OpenError, format, least_area};
 use turn_types::Method;
 
 pub type Talk<'a> = Conversation<'a, MemoryDisk, HostRuntime>;
@@ -21,7 +21,7 @@ pub fn begin(
     call: u64,
     (first, last): (u16, u16),
     burst: u8,
-) -> Result<Result<Talk<'_>, ClientFault>, Fail> {
+) -> Result<Result<Talk<'_>, ClientError>, Fail> {
     begin_so(rt, call, (first, last), burst, Commits::EachTurn)
 }
 
@@ -32,7 +32,7 @@ pub fn begin_so(
     (first, last): (u16, u16),
     burst: u8,
     commits: Commits,
-) -> Result<Result<Talk<'_>, ClientFault>, Fail> {
+) -> Result<Result<Talk<'_>, ClientError>, Fail> {
     let area = least_area(limits());
     let mut disk = MemoryDisk::new(rt.alloc(), Vec::from_elem(rt.alloc(), 0u8, 64 + 2 * area)?);
     if format(&mut disk, limits(), area).is_err() {
@@ -76,11 +76,11 @@ fn place_of(rt: &HostRuntime, talk: &mut Talk<'_>) -> Result<Place, Fail> {
     talk.challenge(rt)?;
     match talk.allocate(rt) {
         Ok(_) => return Ok(Place::Later),
-        Err(ClientFault::Turn(TurnFault::Commit(CommitRefused::Device))) => {}
+        Err(ClientError::Turn(TurnError::Commit(CommitError::Device))) => {}
         Err(_) => return Err(Fail::new("another fault")),
     }
-    let is_silent = matches!(talk.client().receive(), Err(ClientFault::Silent));
-    let stopped = ClientFault::Turn(TurnFault::Commit(CommitRefused::Stopped));
+    let is_silent = matches!(talk.client().receive(), Err(ClientError::Silent));
+    let stopped = ClientError::Turn(TurnError::Commit(CommitError::Stopped));
     if is_silent && talk.turn(rt) == Err(stopped) {
         Ok(Place::Commit)
     } else {
@@ -95,8 +95,8 @@ fn expect_place(rt: &HostRuntime, call: u64, place: Place) -> Result<(), Fail> {
             talk.end();
             found?
         }
-        Err(ClientFault::Start(StartFault::Store(OpenFault::Device))) => Place::Start,
-        Err(ClientFault::Start(StartFault::Reopen(OpenFault::Device))) => Place::Reopening,
+        Err(ClientError::Start(StartError::Store(OpenError::Device))) => Place::Start,
+        Err(ClientError::Start(StartError::Reopen(OpenError::Device))) => Place::Reopening,
         Err(_) => return Err(Fail::new("another fault")),
     };
     if found == place {
@@ -119,7 +119,7 @@ fn a_turn_whose_commit_fails_answers_nothing(rt: HostRuntime) -> Result<(), Fail
 const REFRESHES: [(u8, u64, bool); 3] = [(1, 33, true), (2, 32, true), (2, 33, false)];
 
 /// Whether a turn fails of two after two Refreshes.
-fn fails(rt: &HostRuntime, talk: &mut Talk<'_>) -> Result<bool, ClientFault> {
+fn fails(rt: &HostRuntime, talk: &mut Talk<'_>) -> Result<bool, ClientError> {
     talk.challenge(rt)?;
     talk.allocate(rt)?;
     for _ in 0..2u8 {
@@ -150,7 +150,7 @@ fn requests_of_one_turn_share_a_commit(rt: HostRuntime) -> Result<(), Fail> {
 
 /// Whether the answers to two requests of one turn come in the order of the requests, and nothing else comes. The first answer is an
 /// error of 401, and the second one a Binding success.
-fn are_in_order(rt: &HostRuntime, talk: &mut Talk<'_>) -> Result<bool, ClientFault> {
+fn are_in_order(rt: &HostRuntime, talk: &mut Talk<'_>) -> Result<bool, ClientError> {
     let first = talk.client().plain_request(Method::ALLOCATE)?;
     let second = talk.client().plain_request(Method::BINDING)?;
     talk.client().send(&first)?;
@@ -158,7 +158,7 @@ fn are_in_order(rt: &HostRuntime, talk: &mut Talk<'_>) -> Result<bool, ClientFau
     talk.turn(rt)?;
     let is_first = talk.client().receive()?.get(8..20) == first.get(8..20);
     let is_second = talk.client().receive()?.get(8..20) == second.get(8..20);
-    let is_all = matches!(talk.client().receive(), Err(ClientFault::Silent));
+    let is_all = matches!(talk.client().receive(), Err(ClientError::Silent));
     Ok(is_first && is_second && is_all)
 }
 
@@ -193,7 +193,7 @@ const STRANGE: [&[u8]; 8] = [
 const MAX_DATAGRAM: usize = 65_507;
 
 /// Sends a datagram, and a Binding request. Returns whether the request alone is answered.
-fn is_dropped(rt: &HostRuntime, talk: &mut Talk<'_>, bytes: &[u8]) -> Result<bool, ClientFault> {
+fn is_dropped(rt: &HostRuntime, talk: &mut Talk<'_>, bytes: &[u8]) -> Result<bool, ClientError> {
     talk.client().send(bytes)?;
     talk.turn(rt)?;
     let request = talk.client().plain_request(Method::BINDING)?;
@@ -204,7 +204,7 @@ fn is_dropped(rt: &HostRuntime, talk: &mut Talk<'_>, bytes: &[u8]) -> Result<boo
     Ok(answer.get(..2) == Some(b"\x01\x01".as_slice()) && answer.get(8..20) == request.get(8..20))
 }
 
-fn are_dropped(rt: &HostRuntime, talk: &mut Talk<'_>, longest: &[u8]) -> Result<bool, ClientFault> {
+fn are_dropped(rt: &HostRuntime, talk: &mut Talk<'_>, longest: &[u8]) -> Result<bool, ClientError> {
     for bytes in &STRANGE {
         if !is_dropped(rt, talk, bytes)? {
             return Ok(false);

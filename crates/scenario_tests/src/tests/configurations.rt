@@ -1,9 +1,9 @@
 //! Whole configurations.
 
-use refusing::Refusing;
+use failing_alloc::FailingAlloc;
 use std::alloc::{Allocator, Global};
 use std::process::Abort;
-use turn_config::{ConfigFault, Configured, read_config};
+use turn_config::{ConfigTextError, Configured, read_config};
 use turn_cred::AuthHandler;
 use turn_ports::RelayAddressGenerator;
 use turn_types::{Limits, Moment};
@@ -32,7 +32,7 @@ const BAD: [(&[u8], u64); 12] = [
 #[test]
 fn the_first_bad_line_or_the_one_after_the_last_is_named(rt: HostRuntime) {
     for (place, (text, line)) in BAD.iter().enumerate() {
-        if read_config(rt.alloc(), text).err() != Some(ConfigFault::BadLine(*line)) {
+        if read_config(rt.alloc(), text).err() != Some(ConfigTextError::BadLine(*line)) {
             panic!(rt; "row {place}");
         }
     }
@@ -89,16 +89,16 @@ fn has_users<A: Allocator + Copy>(found: &Configured<'_, A>) -> bool {
 }
 
 /// Whether the configuration is read whole, or an allocation is refused and the fault says it.
-fn is_right(refusing: &Refusing<Global>) -> bool {
+fn is_right(refusing: &FailingAlloc<Global>) -> bool {
     match read_config(refusing, WHOLE) {
         Ok(found) => !refusing.has_refused() && is_whole(&found) && has_users(&found),
-        Err(fault) => refusing.has_refused() && fault == ConfigFault::Memory,
+        Err(fault) => refusing.has_refused() && fault == ConfigTextError::Memory,
     }
 }
 
 /// Reads the configuration with one allocation refused after so many. Returns whether one was refused.
 fn is_refused(rt: &impl Abort, alloc: Global, served: u64) -> bool {
-    let refusing = Refusing::new(alloc, served);
+    let refusing = FailingAlloc::new(alloc, served);
     if !is_right(&refusing) {
         panic!(rt; "{served} served");
     }
@@ -184,7 +184,7 @@ fn a_name_that_is_given_again_after_thousands_is_a_bad_line(rt: HostRuntime) {
         for part in [b"\nuser ".as_slice(), name, b" other"] {
             text.extend_from_slice(part).expect(&rt, "memory");
         }
-        assert!(rt; read_config(rt.alloc(), &text).err() == Some(ConfigFault::BadLine(4010)));
+        assert!(rt; read_config(rt.alloc(), &text).err() == Some(ConfigTextError::BadLine(4010)));
     }
 }
 

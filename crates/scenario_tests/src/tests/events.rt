@@ -2,26 +2,26 @@
 
 use std::alloc::Global;
 use std::process::Abort;
-use turn_engine::CommitRefused;
-use turn_player::Event;
+use turn_engine::CommitError;
+use turn_player::Effect;
 use turn_scenario::event_text;
-use turn_store::OpenFault;
+use turn_store::OpenError;
 
-const NOT_OPENED: [(OpenFault, &str); 5] = [
-    (OpenFault::Device, "device"),
-    (OpenFault::Memory, "memory"),
-    (OpenFault::NotAStore, "not a store"),
-    (OpenFault::LimitsDiffer, "limits differ"),
-    (OpenFault::Damaged(302), "damaged 302"),
+const NOT_OPENED: [(OpenError, &str); 5] = [
+    (OpenError::Device, "device"),
+    (OpenError::Memory, "memory"),
+    (OpenError::NotAStore, "not a store"),
+    (OpenError::LimitsDiffer, "limits differ"),
+    (OpenError::Damaged(302), "damaged 302"),
 ];
 
-const FAILED: [(CommitRefused, &str); 3] = [
-    (CommitRefused::Device, "device"),
-    (CommitRefused::Worn, "worn"),
-    (CommitRefused::Stopped, "stopped"),
+const FAILED: [(CommitError, &str); 3] = [
+    (CommitError::Device, "device"),
+    (CommitError::Worn, "worn"),
+    (CommitError::Stopped, "stopped"),
 ];
 
-fn expect_text(rt: &impl Abort, alloc: Global, event: Event, text: &str) {
+fn expect_text(rt: &impl Abort, alloc: Global, event: Effect, text: &str) {
     let found = event_text(alloc, &event).expect(rt, "memory");
     if found.as_str() != text {
         panic!(rt; "{text}");
@@ -30,13 +30,13 @@ fn expect_text(rt: &impl Abort, alloc: Global, event: Event, text: &str) {
 
 fn expect_not_opened(rt: &impl Abort, alloc: Global) {
     for (fault, text) in &NOT_OPENED {
-        expect_text(rt, alloc, Event::NotOpened(*fault), text);
+        expect_text(rt, alloc, Effect::NotOpened(*fault), text);
     }
 }
 
 fn expect_failed(rt: &impl Abort, alloc: Global) {
     for (fault, text) in &FAILED {
-        expect_text(rt, alloc, Event::Failed(*fault), text);
+        expect_text(rt, alloc, Effect::Failed(*fault), text);
     }
 }
 

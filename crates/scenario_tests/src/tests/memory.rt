@@ -1,10 +1,10 @@
 //! Each growth refused in turn.
 
 use super::{SETTINGS, joined};
-use refusing::Refusing;
+use failing_alloc::FailingAlloc;
 use std::alloc::{Allocator, Global};
 use std::process::Abort;
-use turn_scenario::{Report, ScenarioFault, replay};
+use turn_scenario::{Report, ScenarioError, replay};
 
 const LINES: &str = "format1 238
 ask 192.0.2.1:5 alice 000000000000000000000001 allocate life=600
@@ -87,14 +87,14 @@ fn is_right<A: Allocator>(
 
 /// Whether a scenario is replayed as `is_right` says, or its fault says that a growth was refused.
 fn goes_right(
-    refusing: &Refusing<Global>,
+    refusing: &FailingAlloc<Global>,
     scenario: &[u8],
     whole: &Report,
     told: &mut Told,
 ) -> bool {
     match replay(refusing, scenario) {
         Ok(report) => is_right(&report, whole, refusing.has_refused(), told),
-        Err(fault) => fault == ScenarioFault::Memory && refusing.has_refused(),
+        Err(fault) => fault == ScenarioError::Memory && refusing.has_refused(),
     }
 }
 
@@ -108,7 +108,7 @@ fn replay_succeeds(
     served: u64,
     told: &mut Told,
 ) -> bool {
-    let refusing = Refusing::new(alloc, served);
+    let refusing = FailingAlloc::new(alloc, served);
     if !goes_right(&refusing, scenario, whole, told) {
         panic!(rt; "{served} served");
     }

@@ -1,16 +1,16 @@
 //! Each growth of a player's steps refused in turn.
 
 use super::SETTINGS;
-use refusing::Refusing;
+use failing_alloc::FailingAlloc;
 use std::alloc::Global;
 use std::process::Abort;
 use turn_config::{Configured, read_config};
-use turn_disk::{Disk, MemoryDisk, Outcome};
-use turn_engine::{CommitRefused, SubmitRefused};
-use turn_player::{Event, Player, Step};
+use turn_disk::{CrashOutcome, Disk, MemoryDisk};
+use turn_engine::{CommitError, SubmitError};
+use turn_player::{Action, Effect, Player};
 use turn_scenario::event_text;
 use turn_step::Arrival;
-use turn_store::{OpenFault, format_version1};
+use turn_store::{OpenError, format_version1};
 use turn_types::{Endpoint, FiveTuple, Limits, Moment};
 
 const BINDING: &[u8] =
@@ -30,18 +30,18 @@ const ARRIVAL: Arrival<'static> = Arrival::Client {
 };
 
 /// Whether an event tells that an allocation failed: of an arrival, of an opening, or of the disk's record.
-fn tells(event: &Event<&Refusing<Global>>) -> bool {
+fn tells(event: &Effect<&FailingAlloc<Global>>) -> bool {
     match event {
-        Event::Refused(fault) => *fault == SubmitRefused::Memory,
-        Event::Failed(fault) => *fault == CommitRefused::Device,
-        Event::NotOpened(fault) => matches!(fault, OpenFault::Memory | OpenFault::Device),
+        Effect::Refused(fault) => *fault == SubmitError::Memory,
+        Effect::Failed(fault) => *fault == CommitError::Device,
+        Effect::NotOpened(fault) => matches!(fault, OpenError::Memory | OpenError::Device),
         _ => false,
     }
 }
 
-type Refused<'a> = Player<&'a Refusing<Global>>;
+type Refused<'a> = Player<&'a FailingAlloc<Global>>;
 
-fn format_disk(rt: &impl Abort, disk: &mut MemoryDisk<&Refusing<Global>>, limits: Limits) {
+fn format_disk(rt: &impl Abort, disk: &mut MemoryDisk<&FailingAlloc<Global>>, limits: Limits) {
     assert!(rt; disk.size() == 540);
     assert!(rt; format_version1(disk, limits, 238).is_ok());
 }
@@ -49,9 +49,9 @@ fn format_disk(rt: &impl Abort, disk: &mut MemoryDisk<&Refusing<Global>>, limits
 /// A disk with an empty store.
 fn disk<'a>(
     rt: &impl Abort,
-    refusing: &'a Refusing<Global>,
+    refusing: &'a FailingAlloc<Global>,
     limits: Limits,
-) -> MemoryDisk<&'a Refusing<Global>> {
+) -> MemoryDisk<&'a FailingAlloc<Global>> {
     let content = Vec::from_elem(refusing, 0u8, 540).expect(rt, "memory");
     let mut disk = MemoryDisk::new(refusing, content);
     format_disk(rt, &mut disk, limits);
@@ -59,7 +59,7 @@ fn disk<'a>(
 }
 
 /// A player over an empty store.
-fn player<'a>(rt: &impl Abort, refusing: &'a Refusing<Global>) -> Refused<'a> {
+fn player<'a>(rt: &impl Abort, refusing: &'a FailingAlloc<Global>) -> Refused<'a> {
     let configured = read_config(refusing, SETTINGS.as_bytes()).expect(rt, "a configuration");
     let Configured {
         config,
@@ -74,8 +74,8 @@ fn player<'a>(rt: &impl Abort, refusing: &'a Refusing<Global>) -> Refused<'a> {
 /// Whether no later call succeeds, and there is no server.
 fn is_spent(player: &mut Refused<'_>) -> bool {
     player.run(&[]).is_err()
-        && player.run(&[Step::Reopen { carry: true }]).is_err()
-        && matches!(player.server(), Err(Event::Closed))
+        && player.run(&[Action::Reopen { carry: true }]).is_err()
+        && matches!(player.server(), Err(Effect::Closed))
 }
 
 /// The lines of the events of the steps.
@@ -90,8 +90,8 @@ const TEXTS: [&str; 6] = [
 
 fn has_text<'a>(
     rt: &impl Abort,
-    refusing: &'a Refusing<Global>,
-    event: &Event<&'a Refusing<Global>>,
+    refusing: &'a FailingAlloc<Global>,
+    event: &Effect<&'a FailingAlloc<Global>>,
     text: &str,
 ) -> bool {
     let found = event_text(refusing, event).expect(rt, "memory");
@@ -101,8 +101,8 @@ fn has_text<'a>(
 /// Whether events are those of the steps, up to the first one that tells of an allocation failure.
 fn are_right<'a>(
     rt: &impl Abort,
-    refusing: &'a Refusing<Global>,
-    events: &[Event<&'a Refusing<Global>>],
+    refusing: &'a FailingAlloc<Global>,
+    events: &[Effect<&'a FailingAlloc<Global>>],
 ) -> bool {
     for (event, text) in events.iter().zip(&TEXTS) {
         if tells(event) {
@@ -141,17 +141,17 @@ impl Ran {
 fn run<'a>(
     rt: &impl Abort,
     player: &mut Refused<'a>,
-) -> Option<Vec<Event<&'a Refusing<Global>>, &'a Refusing<Global>>> {
+) -> Option<Vec<Effect<&'a FailingAlloc<Global>>, &'a FailingAlloc<Global>>> {
     let moment = Moment::new(5).expect(rt, "a moment");
     let run = player.run(&[
-        Step::Reopen { carry: true },
-        Step::Arrive(moment, ARRIVAL),
-        Step::Commit,
-        Step::Crash(Outcome::Kept),
-        Step::Commit,
-        Step::Fail(0),
-        Step::Stop(0),
-        Step::Reopen { carry: true },
+        Action::Reopen { carry: true },
+        Action::Arrive(moment, ARRIVAL),
+        Action::Commit,
+        Action::Crash(CrashOutcome::Kept),
+        Action::Commit,
+        Action::Fail(0),
+        Action::Stop(0),
+        Action::Reopen { carry: true },
     ]);
     match run {
         Ok(events) => Some(events),
@@ -163,7 +163,7 @@ fn run<'a>(
 /// server.
 fn run_refused<'a>(
     rt: &impl Abort,
-    refusing: &'a Refusing<Global>,
+    refusing: &'a FailingAlloc<Global>,
     player: &mut Refused<'a>,
     served: u64,
 ) -> Ran {
@@ -182,14 +182,14 @@ fn run_refused<'a>(
 }
 
 /// The same of a new player.
-fn run_new(rt: &impl Abort, refusing: &Refusing<Global>, served: u64) -> Ran {
+fn run_new(rt: &impl Abort, refusing: &FailingAlloc<Global>, served: u64) -> Ran {
     let mut player = player(rt, refusing);
     run_refused(rt, refusing, &mut player, served)
 }
 
 /// How many growths of the list of events are refused, one after the other among all growths.
 fn spent_runs(rt: &impl Abort, alloc: Global) -> u32 {
-    let refusing = Refusing::new(alloc, u64::MAX);
+    let refusing = FailingAlloc::new(alloc, u64::MAX);
     let mut spent = 0u32;
     for served in 0..200u64 {
         match run_new(rt, &refusing, served) {

@@ -49,7 +49,7 @@ const OUTCOMES: [Left; 5] = [
 /// A store as far as the calls of a commit depend on it, and the moment of the last Refresh that it holds.
 #[derive(Clone, Copy)]
 struct Model {
-    /// Where the next frame's gate is in the area that counts.
+    /// Where the next frame's gate is in the active area.
     end: u32,
     /// Whether the other area's gate is open or its generation is below.
     closes: bool,

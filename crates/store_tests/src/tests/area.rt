@@ -3,7 +3,7 @@
 use std::alloc::{AllocError, Allocator, Global};
 use std::process::Abort;
 use turn_disk::{Disk, MemoryDisk};
-use turn_journal::{AppendRefused, Area, Found, Journal, ScanRefused};
+use turn_journal::{AppendError, Area, Found, Journal, ScanError};
 
 /// The length of the longest payload.
 pub const MAX_PAYLOAD: usize = 8;
@@ -36,7 +36,7 @@ pub fn append<D: Disk, A: Allocator>(
     journal: &mut Journal<A>,
     disk: &mut D,
     payload: &[u8],
-) -> Result<(), AppendRefused> {
+) -> Result<(), AppendError> {
     assert!(rt; journal.start() + journal.size() <= disk.size());
     assert!(rt; payload.len() <= journal.max_payload());
     journal.append(disk, payload)
@@ -47,7 +47,7 @@ pub fn scan<D: Disk, A: Allocator>(
     journal: &Journal<A>,
     disk: &mut D,
     at: usize,
-) -> Result<Found, ScanRefused> {
+) -> Result<Found, ScanError> {
     assert!(rt; journal.start() + journal.size() <= disk.size());
     assert!(rt; at < journal.size());
     journal.scan(disk, at)

@@ -4,8 +4,8 @@ use super::limits::small_limits;
 use super::stores::{SnapshotTable, TestStore};
 use std::alloc::{Allocator, Global};
 use std::process::Abort;
-use turn_disk::{Disk, MemoryDisk, Outcome};
-use turn_store::{OpenFault, Opened, Refused, Store, StoreFault};
+use turn_disk::{CrashOutcome, Disk, MemoryDisk};
+use turn_store::{OpenError, Opened, Store, StoreError, StoreOpenError};
 use turn_table::{Entry, Table};
 use turn_types::{Endpoint, FiveTuple, TxId};
 
@@ -68,7 +68,7 @@ pub fn append_with<A: Allocator + Copy>(
     store: &mut TestStore<A>,
     second: u8,
     table: &SnapshotTable<A>,
-) -> Result<bool, StoreFault> {
+) -> Result<bool, StoreError> {
     if second == 0 {
         return store.append(rt, &ALLOCATION, table);
     }
@@ -81,7 +81,7 @@ pub fn append_at<A: Allocator + Copy>(
     alloc: A,
     store: &mut TestStore<A>,
     second: u8,
-) -> Result<bool, StoreFault> {
+) -> Result<bool, StoreError> {
     append_with(rt, store, second, &table_at(rt, alloc, second))
 }
 
@@ -132,13 +132,13 @@ pub fn try_open<A: Allocator + Copy>(
     rt: &impl Abort,
     alloc: A,
     disk: MemoryDisk<A>,
-) -> (Result<u64, OpenFault>, MemoryDisk<A>) {
+) -> (Result<u64, OpenError>, MemoryDisk<A>) {
     match Store::open(alloc, disk, small_limits(rt)) {
         Ok(Opened { store, table }) => {
             let expiry = expiry_of(&table).expect(rt, "another table");
             (Ok(expiry), store.into_disk())
         }
-        Err(Refused { fault, disk }) => (Err(fault), disk),
+        Err(StoreOpenError { fault, disk }) => (Err(fault), disk),
     }
 }
 
@@ -147,20 +147,20 @@ pub fn expiry_in<A: Allocator + Copy>(
     rt: &impl Abort,
     alloc: A,
     disk: MemoryDisk<A>,
-) -> Result<u64, OpenFault> {
+) -> Result<u64, OpenError> {
     let content = Vec::from_slice(alloc, disk.content()).expect(rt, "memory");
     let (outcome, disk) = try_open(rt, alloc, disk);
     assert!(rt; disk.content() == content.as_slice());
     outcome
 }
 
-pub const OUTCOMES: [Outcome; 6] = [
-    Outcome::Lost,
-    Outcome::Kept,
-    Outcome::Half,
-    Outcome::Fill(0x11),
-    Outcome::Fill(0xA5),
-    Outcome::Fill(0x00),
+pub const OUTCOMES: [CrashOutcome; 6] = [
+    CrashOutcome::Lost,
+    CrashOutcome::Kept,
+    CrashOutcome::Half,
+    CrashOutcome::Fill(0x11),
+    CrashOutcome::Fill(0xA5),
+    CrashOutcome::Fill(0x00),
 ];
 
 /// A device call, counted from 1, and when the allocation expires after each outcome of a crash, or 0.
@@ -174,14 +174,14 @@ pub fn stop_batch(
     store: TestStore,
     second: u8,
     call: u64,
-    outcome: Outcome,
-) -> (bool, Result<u64, OpenFault>) {
+    outcome: CrashOutcome,
+) -> (bool, Result<u64, OpenError>) {
     let mut store = store;
     let failures = store.disk().failures();
     assert!(rt; call > 0);
     store.disk().stop_at(call);
     let appended = append_at(rt, alloc, &mut store, second);
-    assert!(rt; appended.is_ok() || appended == Err(StoreFault::Device));
+    assert!(rt; appended.is_ok() || appended == Err(StoreError::Device));
     let mut disk = store.into_disk();
     assert!(rt; (disk.failures() == failures) == appended.is_ok());
     disk.crash(outcome);

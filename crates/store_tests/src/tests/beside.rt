@@ -1,13 +1,13 @@
 //! Readings of a store to which a server writes between any two device calls.
 
 use super::recorded::{Record, Shape, put_at, record_calls};
-use files_for_tests::{FileCalls, TestFile, copy_at};
 use std::alloc::Global;
 use std::cell::{Cell, RefCell};
 use std::io::{self, Error, ErrorKind};
 use std::process::Abort;
 use std::rt::Clock;
 use std::time::Duration;
+use test_files::{FileCalls, TestFile, copy_at};
 use turn_disk::{FileDisk, PIECE};
 use turn_reading::{Reading, read_store};
 use turn_table::Table;

@@ -1,24 +1,24 @@
 use super::disks::{disk_of, write};
 use std::alloc::Global;
 use std::process::Abort;
-use turn_disk::{Disk, MemoryDisk, Outcome};
+use turn_disk::{CrashOutcome, Disk, MemoryDisk};
 
 // Three writes that overlap, the newest within the other two. The images were worked out by hand.
 const OVERLAPPING: [(usize, &[u8]); 3] = [(1, b"abcde"), (3, b"VWXYZ"), (2, b"mno")];
 
-const OVERLAPPING_IMAGES: [(Outcome, &[u8; 10]); 4] = [
-    (Outcome::Lost, b"0123456789"),
-    (Outcome::Kept, b"0amnoXYZ89"),
-    (Outcome::Half, b"0amVW56789"),
-    (Outcome::Fill(b'*'), b"0*******89"),
+const OVERLAPPING_IMAGES: [(CrashOutcome, &[u8; 10]); 4] = [
+    (CrashOutcome::Lost, b"0123456789"),
+    (CrashOutcome::Kept, b"0amnoXYZ89"),
+    (CrashOutcome::Half, b"0amVW56789"),
+    (CrashOutcome::Fill(b'*'), b"0*******89"),
 ];
 
 // One write with a sync, and one without.
-const SYNCED_IMAGES: [(Outcome, &[u8; 10]); 4] = [
-    (Outcome::Lost, b"0abcde6789"),
-    (Outcome::Kept, b"0abcde67xy"),
-    (Outcome::Half, b"0abcde67x9"),
-    (Outcome::Fill(b'*'), b"0abcde67**"),
+const SYNCED_IMAGES: [(CrashOutcome, &[u8; 10]); 4] = [
+    (CrashOutcome::Lost, b"0abcde6789"),
+    (CrashOutcome::Kept, b"0abcde67xy"),
+    (CrashOutcome::Half, b"0abcde67x9"),
+    (CrashOutcome::Fill(b'*'), b"0abcde67**"),
 ];
 
 fn overlapping(rt: &impl Abort, alloc: Global) -> MemoryDisk {
@@ -44,7 +44,7 @@ fn a_crash_leaves_a_part_of_each_pending_write(rt: HostRuntime) {
         let mut disk = overlapping(&rt, rt.alloc());
         disk.crash(*outcome);
         assert!(rt; disk.content() == image.as_slice());
-        disk.crash(Outcome::Lost);
+        disk.crash(CrashOutcome::Lost);
         assert!(rt; disk.content() == image.as_slice());
     }
 }

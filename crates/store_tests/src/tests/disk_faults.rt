@@ -1,7 +1,7 @@
 use super::disks::{disk_of, read, write};
 use std::alloc::Global;
 use std::process::Abort;
-use turn_disk::{Disk, MemoryDisk, Outcome};
+use turn_disk::{CrashOutcome, Disk, MemoryDisk};
 
 // The arguments of two calls of `fail_call` and of two of `stop_at`, where 0 stands for no call, and which of five device
 // calls then fail.
@@ -78,7 +78,7 @@ fn play(rt: &impl Abort, alloc: Global, row: &Row) {
     assert!(rt; disk.failures() == count);
     disk.fail_call(1);
     disk.stop_at(2);
-    disk.crash(Outcome::Kept);
+    disk.crash(CrashOutcome::Kept);
     assert!(rt; make_five_calls(&mut disk) == [false; 5]);
     assert!(rt; disk.failures() == count);
 }
@@ -90,7 +90,7 @@ fn fail_call_and_stop_at_fail_the_named_calls(rt: HostRuntime) {
     }
 }
 
-fn fail_a_write(rt: &impl Abort, alloc: Global, outcome: Outcome, image: &[u8; 4]) {
+fn fail_a_write(rt: &impl Abort, alloc: Global, outcome: CrashOutcome, image: &[u8; 4]) {
     let mut disk = disk_of(rt, alloc, b"0123");
     disk.stop_at(1);
     assert!(rt; !write(rt, &mut disk, 1, b"ab"));
@@ -105,6 +105,6 @@ fn fail_a_write(rt: &impl Abort, alloc: Global, outcome: Outcome, image: &[u8; 4
 
 #[test]
 fn a_failed_write_leaves_its_bytes_pending(rt: HostRuntime) {
-    fail_a_write(&rt, rt.alloc(), Outcome::Lost, b"0123");
-    fail_a_write(&rt, rt.alloc(), Outcome::Kept, b"0ab3");
+    fail_a_write(&rt, rt.alloc(), CrashOutcome::Lost, b"0123");
+    fail_a_write(&rt, rt.alloc(), CrashOutcome::Kept, b"0ab3");
 }

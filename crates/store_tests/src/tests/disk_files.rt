@@ -1,13 +1,13 @@
 ghost use Rattle.std.specs.Prelude.{◌≤◌, IfOk};
 
 use super::disks::{read, write};
-use files_for_tests::{FileCalls, TestFile};
 use std::cell::Cell;
 use std::fs::{File, Files};
 use std::io::{Error, ErrorKind};
 use std::process::Abort;
 use std::{fs, io};
-use turn_disk::{Disk, FileDisk, FileRefused};
+use test_files::{FileCalls, TestFile};
+use turn_disk::{Disk, FileDisk, FileError};
 
 fn write_a_file<R: Abort + Files<File = File>>(rt: &R, path: &str) {
     let mut disk = FileDisk::create(rt, path, 64).expect(rt, "made");
@@ -83,7 +83,7 @@ fn a_disk_has_the_size_of_its_file(rt: HostRuntime) -> io::Result<()> {
 }
 
 // What comes of opening a path in each way: to make it anew, to write, and to read.
-fn refusals<R: Files<File = File>>(rt: &R, path: &str) -> [Option<FileRefused>; 3] {
+fn refusals<R: Files<File = File>>(rt: &R, path: &str) -> [Option<FileError>; 3] {
     [
         FileDisk::create(rt, path, 64).err(),
         FileDisk::open(rt, path).err(),
@@ -94,7 +94,7 @@ fn refusals<R: Files<File = File>>(rt: &R, path: &str) -> [Option<FileRefused>; 
 #[test]
 fn what_is_no_regular_file_is_refused(rt: HostRuntime) {
     for path in [".", "/dev/null", "/dev/zero", "turn_disk.absent/store", ""] {
-        assert!(rt; refusals(&rt, path) == [Some(FileRefused::Device); 3]);
+        assert!(rt; refusals(&rt, path) == [Some(FileError::Device); 3]);
     }
     assert!(rt; FileDisk::open(&rt, "turn_disk.absent").is_err());
     assert!(rt; FileDisk::open_to_read(&rt, "turn_disk.absent").is_err());
@@ -102,7 +102,7 @@ fn what_is_no_regular_file_is_refused(rt: HostRuntime) {
 
 // While a disk is open to be written, its file can be opened to be read alone, and stays as it is.
 fn open_beside<R: Abort + Files<File = File>>(rt: &R, path: &str, disk: FileDisk) {
-    let in_use = Some(FileRefused::InUse);
+    let in_use = Some(FileError::InUse);
     assert!(rt; refusals(rt, path) == [in_use, in_use, None]);
     read_a_file(rt, FileDisk::open_to_read(rt, path).expect(rt, "opened"));
     drop(disk);
@@ -115,7 +115,7 @@ fn a_file_is_opened_once_to_be_written(rt: HostRuntime) -> io::Result<()> {
     write_a_file(&rt, path);
     open_beside(&rt, path, FileDisk::open(&rt, path).expect(&rt, "opened"));
     let made = FileDisk::create(&rt, path, 64).expect(&rt, "made");
-    let in_use = Some(FileRefused::InUse);
+    let in_use = Some(FileError::InUse);
     assert!(rt; refusals(&rt, path) == [in_use, in_use, None]);
     drop(made);
     fs::remove_file(&rt, path)

@@ -1,8 +1,8 @@
 use super::disks::{disk_of, write};
-use refusing::Refusing;
+use failing_alloc::FailingAlloc;
 use std::alloc::Allocator;
 use std::process::Abort;
-use turn_disk::{Disk, MemoryDisk, Outcome};
+use turn_disk::{CrashOutcome, Disk, MemoryDisk};
 
 // The contents after each of four calls, the second of which is a sync.
 const CONTENTS: [&[u8; 8]; 4] = [b"abcd4567", b"abcd4567", b"ababcd67", b"abaabcd7"];
@@ -19,7 +19,7 @@ fn make_call<A: Allocator>(rt: &impl Abort, disk: &mut MemoryDisk<A>, call: usiz
 fn make_calls<A: Allocator, B: Allocator>(
     rt: &impl Abort,
     disk: &mut MemoryDisk<A>,
-    refusing: &Refusing<B>,
+    refusing: &FailingAlloc<B>,
 ) {
     let mut before = b"01234567";
     for (call, after) in CONTENTS.iter().enumerate() {
@@ -33,19 +33,19 @@ fn make_calls<A: Allocator, B: Allocator>(
     }
 }
 
-fn refuse<B: Allocator>(rt: &impl Abort, refusing: &Refusing<B>, served: u64) {
+fn refuse<B: Allocator>(rt: &impl Abort, refusing: &FailingAlloc<B>, served: u64) {
     refusing.arm(u64::MAX);
     let mut disk = disk_of(rt, refusing, b"01234567");
     refusing.arm(served);
     make_calls(rt, &mut disk, refusing);
     assert!(rt; (disk.failures() == 1) == refusing.has_refused());
-    disk.crash(Outcome::Lost);
+    disk.crash(CrashOutcome::Lost);
     assert!(rt; disk.content() == b"abcd4567".as_slice());
 }
 
 #[test]
 fn a_call_without_memory_for_its_record_changes_nothing(rt: HostRuntime) {
-    let refusing = Refusing::new(rt.alloc(), u64::MAX);
+    let refusing = FailingAlloc::new(rt.alloc(), u64::MAX);
     for served in 0..16u64 {
         refuse(&rt, &refusing, served);
     }
@@ -54,7 +54,7 @@ fn a_call_without_memory_for_its_record_changes_nothing(rt: HostRuntime) {
 // A sync and three writes of four bytes.
 #[test]
 fn calls_in_room_that_was_reserved_take_no_memory(rt: HostRuntime) {
-    let refusing = Refusing::new(rt.alloc(), u64::MAX);
+    let refusing = FailingAlloc::new(rt.alloc(), u64::MAX);
     let mut disk = disk_of(&rt, &refusing, b"01234567");
     assert!(rt; disk.reserve(4, 12).is_ok());
     refusing.arm(0);

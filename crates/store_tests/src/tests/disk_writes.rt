@@ -2,7 +2,7 @@ use super::disks::disk_of;
 use std::alloc::Global;
 use std::process::Abort;
 use turn_disk::{
-    Bytes, Chain, DeviceFailed, Disk, MemoryDisk, PIECE, read_array, write_produced, write_through,
+    Bytes, Chain, DeviceError, Disk, MemoryDisk, PIECE, read_array, write_produced, write_through,
 };
 
 // The sizes of two parts, and how many device calls it takes to write both.
@@ -19,7 +19,7 @@ fn write_both(
     disk: &mut MemoryDisk,
     first: &[u8],
     second: &[u8],
-) -> Result<(), DeviceFailed> {
+) -> Result<(), DeviceError> {
     assert!(rt; first.len() <= PIECE && second.len() <= 2 * PIECE && disk.size() == 4 * PIECE);
     let mut both = Chain {
         first: Bytes::new(first),
@@ -66,12 +66,12 @@ fn write_produced_writes_full_pieces_and_syncs_once(rt: HostRuntime) {
 }
 
 // A write with its sync.
-fn write_abcd(rt: &impl Abort, disk: &mut MemoryDisk) -> Result<(), DeviceFailed> {
+fn write_abcd(rt: &impl Abort, disk: &mut MemoryDisk) -> Result<(), DeviceError> {
     assert!(rt; disk.size() >= 7);
     write_through(disk, 3, b"abcd")
 }
 
-fn read_four(rt: &impl Abort, disk: &mut MemoryDisk) -> Result<[u8; 4], DeviceFailed> {
+fn read_four(rt: &impl Abort, disk: &mut MemoryDisk) -> Result<[u8; 4], DeviceError> {
     assert!(rt; disk.size() >= 6);
     read_array(disk, 2)
 }
@@ -82,7 +82,7 @@ fn write_and_read(rt: &impl Abort, alloc: Global, fail: u64) {
     disk.fail_call(fail);
     assert!(rt; write_abcd(rt, &mut disk).is_err() == (fail <= 2));
     match fail {
-        3 => assert!(rt; read_four(rt, &mut disk) == Err(DeviceFailed)),
+        3 => assert!(rt; read_four(rt, &mut disk) == Err(DeviceError)),
         4 => assert!(rt; read_four(rt, &mut disk) == Ok(*b"\0abc")),
         _ => {}
     }

@@ -6,7 +6,7 @@ use std::fs::{File, Files};
 use std::process::Abort;
 use std::{fs, io};
 use turn_disk::{Disk, FileDisk, MemoryDisk};
-use turn_journal::{AppendRefused, Area, Journal};
+use turn_journal::{AppendError, Area, Journal};
 
 #[test]
 fn frames_are_gate_length_and_payload(rt: HostRuntime) {
@@ -30,7 +30,7 @@ fn with_one_frame(rt: &impl Abort, alloc: Global, size: usize) -> (MemoryDisk, J
 // A refused append makes no device call, so the next call is the first.
 fn append_when_full(rt: &impl Abort, disk: &mut MemoryDisk, journal: &mut Journal) {
     disk.fail_call(1);
-    assert!(rt; append(rt, journal, disk, b"12345678") == Err(AppendRefused::Full));
+    assert!(rt; append(rt, journal, disk, b"12345678") == Err(AppendError::Full));
     assert!(rt; disk.failures() == 0);
     assert!(rt; disk.sync().is_err());
 }
@@ -51,7 +51,7 @@ fn a_frame_that_just_fits_is_added(rt: HostRuntime) {
 fn a_frame_that_does_not_fit_is_full_without_a_device_call(rt: HostRuntime) {
     let (mut disk, mut journal) = with_one_frame(&rt, rt.alloc(), 16);
     assert!(rt; !journal.room(4));
-    assert!(rt; append(&rt, &mut journal, &mut disk, b"wxyz") == Err(AppendRefused::Full));
+    assert!(rt; append(&rt, &mut journal, &mut disk, b"wxyz") == Err(AppendError::Full));
     let bytes = b"\0\0\0\xa5\0\0\0\x02ab\0\0\0\0\0\0\0\0\0\0\0\0\0\0\0";
     assert!(rt; disk.content() == bytes.as_slice());
     assert!(rt; journal.end() == 7);

@@ -4,16 +4,16 @@ use super::batches::store_after;
 use super::limits::{SMALL, limits_of, small_limits};
 use super::recorded::put_at;
 use super::stores::small_store;
-use files_for_tests::{Changing, TestFile};
-use refusing::Refusing;
+use failing_alloc::FailingAlloc;
 use std::alloc::Global;
 use std::cell::Cell;
 use std::io::{self, Error, ErrorKind};
 use std::process::Abort;
 use std::rt::Clock;
 use std::time::Duration;
+use test_files::{Changing, TestFile};
 use turn_disk::FileDisk;
-use turn_reading::{ReadingFault, read_store};
+use turn_reading::{ReadingError, read_store};
 use turn_types::{Bounds, Limits};
 
 /// Counts the pauses of 10 ms, which take none.
@@ -55,25 +55,25 @@ const NO_STORE: Edit = (0, b"\x53");
 
 /// A reading begins with the limits, if none are given, and then syncs. What a file holds up to its first sync, what it holds from its second one on, how many bytes it has, the generation that is
 /// read or the fault, and how many pauses there are.
-type Case = (Edit, Edit, usize, Result<u64, ReadingFault>, u32);
+type Case = (Edit, Edit, usize, Result<u64, ReadingError>, u32);
 
 const CASES: [Case; 8] = [
     (SAME, SAME, 540, Ok(1), 0),
     // The first of three readings is of another generation than the other two.
     (SAME, SECOND_GENERATION, 540, Ok(2), 1),
     (CLOSED, SAME, 540, Ok(1), 1),
-    (CLOSED, CLOSED, 540, Err(ReadingFault::Damaged(64)), 10),
+    (CLOSED, CLOSED, 540, Err(ReadingError::Damaged(64)), 10),
     (
         BAD_FRAME,
         BAD_FRAME,
         540,
-        Err(ReadingFault::Damaged(90)),
+        Err(ReadingError::Damaged(90)),
         10,
     ),
-    (CLOSED, BAD_FRAME, 540, Err(ReadingFault::Changing), 10),
-    (NO_STORE, NO_STORE, 540, Err(ReadingFault::NotAStore), 10),
+    (CLOSED, BAD_FRAME, 540, Err(ReadingError::Changing), 10),
+    (NO_STORE, NO_STORE, 540, Err(ReadingError::NotAStore), 10),
     // A device that fails is not tried again.
-    (SAME, SAME, 100, Err(ReadingFault::Device), 0),
+    (SAME, SAME, 100, Err(ReadingError::Device), 0),
 ];
 
 /// The small store with an edit, as far as so many bytes.
@@ -124,18 +124,18 @@ const OTHER: Edit = (26, b"\x00\x09");
 
 const UNDER_ITS_LIMITS: [Case; 5] = [
     (SAME, SAME, 540, Ok(1), 0),
-    (OTHER, OTHER, 540, Err(ReadingFault::LimitsDiffer), 10),
+    (OTHER, OTHER, 540, Err(ReadingError::LimitsDiffer), 10),
     (OTHER, SAME, 540, Ok(1), 1),
-    (CLOSED, OTHER, 540, Err(ReadingFault::Changing), 10),
-    (CLOSED, CLOSED, 540, Err(ReadingFault::Damaged(64)), 10),
+    (CLOSED, OTHER, 540, Err(ReadingError::Changing), 10),
+    (CLOSED, CLOSED, 540, Err(ReadingError::Damaged(64)), 10),
 ];
 
 /// Limits come after the letters of a store, and before its size and its areas.
 const UNDER_OTHER_LIMITS: [Case; 4] = [
-    (SAME, SAME, 540, Err(ReadingFault::LimitsDiffer), 10),
-    (CLOSED, CLOSED, 540, Err(ReadingFault::LimitsDiffer), 10),
-    (NO_STORE, NO_STORE, 540, Err(ReadingFault::NotAStore), 10),
-    (OTHER, OTHER, 540, Err(ReadingFault::Damaged(8)), 10),
+    (SAME, SAME, 540, Err(ReadingError::LimitsDiffer), 10),
+    (CLOSED, CLOSED, 540, Err(ReadingError::LimitsDiffer), 10),
+    (NO_STORE, NO_STORE, 540, Err(ReadingError::NotAStore), 10),
+    (OTHER, OTHER, 540, Err(ReadingError::Damaged(8)), 10),
 ];
 
 #[test]
@@ -161,11 +161,11 @@ fn refuse_growth(rt: &impl Abort, alloc: Global, content: &[u8], served: u64) ->
         syncs: &syncs,
     };
     let clock = make_counter();
-    let refusing = Refusing::new(alloc, served);
+    let refusing = FailingAlloc::new(alloc, served);
     let (_, read) = read_store(&refusing, &clock, FileDisk::new(TestFile(file), 540), None);
     let got = read.map(|reading| reading.table.len());
     let expected = if refusing.has_refused() {
-        Err(ReadingFault::Memory)
+        Err(ReadingError::Memory)
     } else {
         Ok(1)
     };

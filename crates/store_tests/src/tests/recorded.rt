@@ -5,12 +5,12 @@ ghost use Rattle.turn_record.specs.declared.version.Version.TheVariants.{V1};
 
 use super::limits::limits_of;
 use super::stores::format_disk;
-use files_for_tests::{FileCalls, TestFile, copy_at};
 use std::alloc::Global;
 use std::cell::RefCell;
 use std::io::{self, Error, ErrorKind};
 use std::marker::Model;
 use std::process::Abort;
+use test_files::{FileCalls, TestFile, copy_at};
 use turn_disk::FileDisk;
 use turn_record::{Version, max_payload, read_snapshot};
 use turn_store::{Opened, Store, least_area};

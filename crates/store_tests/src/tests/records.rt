@@ -3,12 +3,12 @@
 use super::batches::ALICE;
 use super::bytes::replaced;
 use super::limits::{SMALL, limits_of};
-use refusing::Refusing;
+use failing_alloc::FailingAlloc;
 use std::alloc::{Allocator, Global};
 use std::process::Abort;
 use turn_history::{Act, Addresses, Event, UserName};
 use turn_record::{
-    Malformed, ReadError, Version, read_act, read_payload, write_act, write_payload,
+    DecodeError, ReadError, Version, read_act, read_payload, write_act, write_payload,
 };
 use turn_types::{Bounds, Limits, Moment, TxId};
 
@@ -49,7 +49,7 @@ fn limits(rt: &impl Abort, permissions: u16, acts: u16) -> Limits {
 }
 
 /// The fault that an outcome is, if it is one.
-fn fault_of<T: Drop>(outcome: Result<T, ReadError>) -> Option<Malformed> {
+fn fault_of<T: Drop>(outcome: Result<T, ReadError>) -> Option<DecodeError> {
     match outcome {
         Err(ReadError::Malformed(fault)) => Some(fault),
         _ => None,
@@ -69,30 +69,30 @@ fn changed(rt: &impl Abort, alloc: Global, bytes: &[u8], place: usize, part: &[u
 }
 
 /// What a payload's bytes are refused for where these are written over from a place on, under the limits 2, 1, 1, 1, 8.
-const PAYLOAD_CHANGES: [(usize, &[u8], Option<Malformed>); 14] = [
-    (0, b"\x00", Some(Malformed::BadValue)),
-    (0, b"\x02", Some(Malformed::BadValue)),
-    (1, b"\x00", Some(Malformed::BadTag)),
-    (1, b"\x05", Some(Malformed::BadTag)),
+const PAYLOAD_CHANGES: [(usize, &[u8], Option<DecodeError>); 14] = [
+    (0, b"\x00", Some(DecodeError::BadValue)),
+    (0, b"\x02", Some(DecodeError::BadValue)),
+    (1, b"\x00", Some(DecodeError::BadTag)),
+    (1, b"\x05", Some(DecodeError::BadTag)),
     // 2^40 - 3601 and 2^40 - 3600 seconds.
     (2, b"\x00\x00\x00\xff\xff\xff\xf1\xef", None),
     (
         2,
         b"\x00\x00\x00\xff\xff\xff\xf1\xf0",
-        Some(Malformed::BadValue),
+        Some(DecodeError::BadValue),
     ),
-    (22, b"\x00\x00", Some(Malformed::BadValue)),
-    (22, b"\x00\x09", Some(Malformed::BadValue)),
-    (31, b"\x00\x00\x02\x57", Some(Malformed::BadValue)),
+    (22, b"\x00\x00", Some(DecodeError::BadValue)),
+    (22, b"\x00\x09", Some(DecodeError::BadValue)),
+    (31, b"\x00\x00\x02\x57", Some(DecodeError::BadValue)),
     (31, b"\x00\x00\x0e\x10", None),
-    (31, b"\x00\x00\x0e\x11", Some(Malformed::BadValue)),
+    (31, b"\x00\x00\x0e\x11", Some(DecodeError::BadValue)),
     // The count is judged before the tag, the tag before the moment, the name before what is granted.
-    (0, b"\x00\x05", Some(Malformed::BadValue)),
-    (1, b"\x05\x01", Some(Malformed::BadTag)),
+    (0, b"\x00\x05", Some(DecodeError::BadValue)),
+    (1, b"\x05\x01", Some(DecodeError::BadTag)),
     (
         22,
         b"\x00\x00\x00\x00\x00\x00\x00\x00\x00\x00\x00\x00\x00",
-        Some(Malformed::BadValue),
+        Some(DecodeError::BadValue),
     ),
 ];
 
@@ -106,24 +106,29 @@ fn the_first_fault_of_a_payload(rt: HostRuntime) {
 }
 
 /// The act entry, the place, the bytes written over, and the fault, under 2 permissions.
-const ACT_CHANGES: [(&[u8], usize, &[u8], Option<Malformed>); 16] = [
+const ACT_CHANGES: [(&[u8], usize, &[u8], Option<DecodeError>); 16] = [
     (&RENEW, 21, b"\x00\x00\x00\x00", None),
-    (&RENEW, 21, b"\x00\x00\x00\x01", Some(Malformed::BadValue)),
-    (&RENEW, 21, b"\x00\x00\x02\x57", Some(Malformed::BadValue)),
+    (&RENEW, 21, b"\x00\x00\x00\x01", Some(DecodeError::BadValue)),
+    (&RENEW, 21, b"\x00\x00\x02\x57", Some(DecodeError::BadValue)),
     (&RENEW, 21, b"\x00\x00\x02\x58", None),
     (&RENEW, 21, b"\x00\x00\x0e\x10", None),
-    (&RENEW, 21, b"\x00\x00\x0e\x11", Some(Malformed::BadValue)),
+    (&RENEW, 21, b"\x00\x00\x0e\x11", Some(DecodeError::BadValue)),
     (&PERMIT, 21, b"\x02", None),
-    (&PERMIT, 21, b"\x00", Some(Malformed::BadValue)),
-    (&PERMIT, 21, b"\x03", Some(Malformed::BadValue)),
-    (&PERMIT, 21, b"\x01", Some(Malformed::TrailingBytes)),
+    (&PERMIT, 21, b"\x00", Some(DecodeError::BadValue)),
+    (&PERMIT, 21, b"\x03", Some(DecodeError::BadValue)),
+    (&PERMIT, 21, b"\x01", Some(DecodeError::TrailingBytes)),
     // An address that is named twice.
-    (&PERMIT, 26, b"\xcb\x00\x71\x05", Some(Malformed::BadValue)),
-    (&BIND, 21, b"\x3f\xff", Some(Malformed::BadValue)),
+    (
+        &PERMIT,
+        26,
+        b"\xcb\x00\x71\x05",
+        Some(DecodeError::BadValue),
+    ),
+    (&BIND, 21, b"\x3f\xff", Some(DecodeError::BadValue)),
     (&BIND, 21, b"\x40\x00", None),
     (&BIND, 21, b"\x4f\xff", None),
-    (&BIND, 21, b"\x50\x00", Some(Malformed::BadValue)),
-    (&BIND, 0, b"\x02", Some(Malformed::BadValue)),
+    (&BIND, 21, b"\x50\x00", Some(DecodeError::BadValue)),
+    (&BIND, 0, b"\x02", Some(DecodeError::BadValue)),
 ];
 
 #[test]
@@ -136,10 +141,10 @@ fn the_first_fault_of_an_act(rt: HostRuntime) {
 }
 
 /// The moment of the second act of the batch, whose first is of 1000.
-const LATER: [(&[u8], Option<Malformed>); 3] = [
+const LATER: [(&[u8], Option<DecodeError>); 3] = [
     (
         b"\x00\x00\x00\x00\x00\x00\x03\xe7",
-        Some(Malformed::OutOfOrder),
+        Some(DecodeError::OutOfOrder),
     ),
     (b"\x00\x00\x00\x00\x00\x00\x03\xe8", None),
     (b"\x00\x00\x00\x00\x00\x00\x03\xe9", None),
@@ -159,11 +164,11 @@ fn every_prefix_is_short_and_a_byte_more_is_trailing(rt: HostRuntime) {
     let limits = limits(&rt, 1, 2);
     for size in 0..BATCH.len() {
         let fault = fault_of(read_payload(rt.alloc(), Version::V1, limits, &BATCH[..size]));
-        assert!(rt; fault == Some(Malformed::Short));
+        assert!(rt; fault == Some(DecodeError::Short));
     }
     let longer = replaced(&rt, rt.alloc(), &BATCH, 91, 91, b"\0");
     let fault = fault_of(read_payload(rt.alloc(), Version::V1, limits, &longer));
-    assert!(rt; fault == Some(Malformed::TrailingBytes));
+    assert!(rt; fault == Some(DecodeError::TrailingBytes));
 }
 
 /// Reads a payload and writes it again.
@@ -251,7 +256,7 @@ fn an_act_has_the_values_that_the_bytes_spell(rt: HostRuntime) {
 
 /// Whether some growth was refused, which is then what is answered, and the next reading succeeds; else this one does.
 fn is_refused(rt: &impl Abort, alloc: Global, served: u64) -> bool {
-    let refusing = Refusing::new(alloc, served);
+    let refusing = FailingAlloc::new(alloc, served);
     let limits = limits(rt, 1, 2);
     let outcome = again(&refusing, limits, &BATCH);
     let is_refused = refusing.has_refused();

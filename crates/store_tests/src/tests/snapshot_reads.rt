@@ -2,12 +2,12 @@
 
 use super::bytes::replaced;
 use super::limits::{SMALL, limits_of};
-use refusing::Refusing;
+use failing_alloc::FailingAlloc;
 use std::alloc::{Allocator, Global};
 use std::process::Abort;
 use turn_history::Channel;
-use turn_record::Malformed::{BadValue, OutOfOrder, Short, TrailingBytes};
-use turn_record::{Malformed, ReadError, SnapshotReader, Version, read_snapshot};
+use turn_record::DecodeError::{BadValue, OutOfOrder, Short, TrailingBytes};
+use turn_record::{DecodeError, ReadError, SnapshotReader, Version, read_snapshot};
 use turn_table::{Entry, Table};
 use turn_types::{Bounds, Endpoint, FiveTuple, Limits, TxId};
 
@@ -178,7 +178,7 @@ enum Answer<'a> {
 }
 
 /// A place, the place up to which the bytes are replaced, what replaces them, and the fault of the bytes then.
-type Fault = (usize, usize, &'static [u8], Malformed);
+type Fault = (usize, usize, &'static [u8], DecodeError);
 
 /// The faults of `SNAPSHOT`, under limits of 2, 1, 1, 1 and 8.
 const FAULTS: [Fault; 62] = [
@@ -630,7 +630,7 @@ fn every_prefix_of_a_snapshot_is_short(rt: HostRuntime) {
 /// one was.
 fn is_refused<A: Allocator + Copy>(
     rt: &impl Abort,
-    refusing: &Refusing<Global>,
+    refusing: &FailingAlloc<Global>,
     outcome: &Result<Table<A>, ReadError>,
 ) -> bool {
     let is_refused = refusing.has_refused();
@@ -644,7 +644,7 @@ fn is_refused<A: Allocator + Copy>(
 }
 
 fn refuse_whole(rt: &impl Abort, alloc: Global, limits: Limits, served: u64) -> bool {
-    let refusing = Refusing::new(alloc, served);
+    let refusing = FailingAlloc::new(alloc, served);
     let outcome = read_snapshot(&refusing, Version::V1, limits, &SNAPSHOT);
     is_refused(rt, &refusing, &outcome)
 }
@@ -661,7 +661,7 @@ fn each_growth_of_a_snapshot_is_refused_in_turn(rt: HostRuntime) {
 }
 
 fn refuse_piece(rt: &impl Abort, alloc: Global, limits: Limits, size: usize, served: u64) -> bool {
-    let refusing = Refusing::new(alloc, served);
+    let refusing = FailingAlloc::new(alloc, served);
     let outcome = read_cut(rt, &refusing, limits, &SNAPSHOT, 0, size);
     is_refused(rt, &refusing, &outcome)
 }

@@ -7,7 +7,7 @@ ghost use Rattle.turn_history.specs.Fitting.{Fits, IsInRange};
 ghost use Rattle.turn_record.specs.Records.{IsSnapshot, Writes};
 ghost use Rattle.turn_record.specs.declared.version.Version.TheVariants.{V1};
 
-use refusing::Refusing;
+use failing_alloc::FailingAlloc;
 use std::alloc::{Allocator, Global};
 use std::test::Fail;
 use turn_disk::Producer;
@@ -156,7 +156,7 @@ fn the_pieces_of_a_snapshot_are_the_snapshot(rt: HostRuntime) -> Result<(), Fail
 /// Appends the snapshot to a byte, over an allocator that refuses its second request, and then again.
 fn refused(alloc: Global) -> Result<(), Fail> {
     let table = played(alloc, &ACTS)?;
-    let refusing = Refusing::new(alloc, 1);
+    let refusing = FailingAlloc::new(alloc, 1);
     let mut out = Vec::from_slice(&refusing, b"!")?;
     if write_snapshot(&mut out, Version::V1, &table).is_ok() || out.as_slice() != b"!".as_slice() {
         return Err(Fail::new("a growth that was refused"));

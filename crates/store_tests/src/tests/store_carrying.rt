@@ -6,12 +6,12 @@ use super::bytes::{front, has_at};
 use super::disks::{disk_of, write};
 use super::limits::small_limits;
 use super::stores::TestStore;
-use refusing::Refusing;
+use failing_alloc::FailingAlloc;
 use std::alloc::{Allocator, Global};
 use std::process::Abort;
-use turn_disk::{Disk, MemoryDisk, Outcome};
+use turn_disk::{CrashOutcome, Disk, MemoryDisk};
 use turn_record::Version;
-use turn_store::{Info, OpenFault};
+use turn_store::{Info, OpenError};
 
 /// The min size of an area of version 2 under the limits 2, 1, 1, 1, 8. The second area is at 64 + 304.
 pub const AREA: usize = 304;
@@ -99,13 +99,13 @@ fn stop_carrying(
     alloc: Global,
     content: &[u8],
     call: u64,
-    outcome: Outcome,
+    outcome: CrashOutcome,
 ) -> bool {
     let disk = disk_of(rt, alloc, content);
     assert!(rt; call > 0);
     disk.stop_at(call);
     let (opened, disk) = try_open(rt, alloc, disk);
-    assert!(rt; opened == Ok(1600) || opened == Err(OpenFault::Device));
+    assert!(rt; opened == Ok(1600) || opened == Err(OpenError::Device));
     let mut disk = disk;
     disk.crash(outcome);
     let (again, disk) = try_open(rt, alloc, disk);
@@ -139,7 +139,7 @@ fn fail_carrying(rt: &impl Abort, alloc: Global, content: &[u8], call: u64) -> b
         assert!(rt; opened == Ok(1600));
         return false;
     }
-    assert!(rt; opened == Err(OpenFault::Device));
+    assert!(rt; opened == Err(OpenError::Device));
     assert!(rt; disk.failures() == 1);
     let (again, disk) = try_open(rt, alloc, disk);
     assert!(rt; again == Ok(1600));
@@ -162,7 +162,7 @@ fn each_device_call_of_carrying_over_fails_in_turn(rt: HostRuntime) {
 // Carries a store over with an allocator that refuses one request: nothing is written then. Returns whether one was refused.
 fn refuse_carrying<A: Allocator + Copy>(
     rt: &impl Abort,
-    refusing: &Refusing<Global>,
+    refusing: &FailingAlloc<Global>,
     alloc: A,
     content: &[u8],
     served: u64,
@@ -175,7 +175,7 @@ fn refuse_carrying<A: Allocator + Copy>(
     refusing.arm(u64::MAX);
     assert!(rt; disk.failures() == 0);
     if is_refused {
-        assert!(rt; opened == Err(OpenFault::Memory));
+        assert!(rt; opened == Err(OpenError::Memory));
         assert!(rt; disk.content() == content);
     } else {
         assert!(rt; opened == Ok(1600));
@@ -187,7 +187,7 @@ fn refuse_carrying<A: Allocator + Copy>(
 #[test]
 fn each_growth_of_carrying_over_is_refused_before_the_first_write(rt: HostRuntime) {
     let disk = old_disk(&rt, rt.alloc(), AREA);
-    let refusing = Refusing::new(rt.alloc(), u64::MAX);
+    let refusing = FailingAlloc::new(rt.alloc(), u64::MAX);
     for served in 0..100u64 {
         if !refuse_carrying(&rt, &refusing, &refusing, disk.content(), served) {
             assert!(rt; served > 3);

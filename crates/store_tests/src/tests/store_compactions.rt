@@ -1,4 +1,4 @@
-//! Tests of batches for which the area that counts has no room: the bytes, and each stop where the other area is closed.
+//! Tests of batches for which the active area has no room: the bytes, and each stop where the other area is closed.
 
 use super::batches::{OUTCOMES, Stops, append_at, expiry_in, stop_batch, store_after};
 use super::bytes::has_at;
@@ -7,9 +7,9 @@ use super::limits::small_limits;
 use super::stores::TestStore;
 use std::alloc::Global;
 use std::process::Abort;
-use turn_disk::{Disk, Outcome};
+use turn_disk::{CrashOutcome, Disk};
 use turn_record::Version;
-use turn_store::{Info, StoreFault};
+use turn_store::{Info, StoreError};
 
 /// The frame of the Refresh at 1005, and the closed gate after it.
 const LAST_FRAME: [u8; 32] = *b"\xa5\x00\x00\x00\x1a\x01\x02\x00\x00\x00\x00\x00\x00\x03\xed\
@@ -96,9 +96,9 @@ fn a_snapshot_may_replace_an_area_of_old_frames(rt: HostRuntime) {
 fn with_later_generation(rt: &impl Abort, alloc: Global) -> TestStore {
     let mut store = store_after(rt, alloc, 6);
     store.disk().stop_at(5);
-    assert!(rt; append_at(rt, alloc, &mut store, 6) == Err(StoreFault::Device));
+    assert!(rt; append_at(rt, alloc, &mut store, 6) == Err(StoreError::Device));
     let mut disk = store.into_disk();
-    disk.crash(Outcome::Lost);
+    disk.crash(CrashOutcome::Lost);
     assert!(rt;
         has_at(
             disk.content(),

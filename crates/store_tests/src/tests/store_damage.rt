@@ -8,12 +8,12 @@ use super::stores::TestStore;
 use std::alloc::Global;
 use std::process::Abort;
 use turn_disk::{Disk, MemoryDisk};
-use turn_store::OpenFault::{Damaged, LimitsDiffer, NotAStore};
-use turn_store::{OpenFault, StoreFault};
+use turn_store::OpenError::{Damaged, LimitsDiffer, NotAStore};
+use turn_store::{OpenError, StoreError};
 
 /// Bytes that are written over in a store with alice's allocation, and when it then expires, or 0; or the refusal. The
 /// first area is at 64, its snapshot at 78, the frame at 90, the last gate at 142; the second area at 302.
-const CHANGES: [(usize, &[u8], Result<u64, OpenFault>); 25] = [
+const CHANGES: [(usize, &[u8], Result<u64, OpenError>); 25] = [
     (0, b"\x52", Ok(1600)),
     (0, b"\x00", Err(NotAStore)),
     (63, b"\x01", Err(NotAStore)),
@@ -76,7 +76,7 @@ fn open_changed(
     content: &[u8],
     place: usize,
     bytes: &[u8],
-) -> Result<u64, OpenFault> {
+) -> Result<u64, OpenError> {
     let mut disk = disk_of(rt, alloc, content);
     assert!(rt; write(rt, &mut disk, place, bytes));
     expiry_in(rt, alloc, disk)
@@ -92,7 +92,7 @@ fn the_first_fault_of_a_store_is_the_refusal(rt: HostRuntime) {
 }
 
 /// How many bytes of a store with alice's allocation are left, and the refusal.
-const CUTS: [(usize, OpenFault); 4] = [
+const CUTS: [(usize, OpenError); 4] = [
     (0, NotAStore),
     (63, NotAStore),
     (64, Damaged(8)),
@@ -152,8 +152,8 @@ fn is_untouched(rt: &impl Abort, alloc: Global, store: TestStore) {
 fn a_batch_without_room_after_the_last_generation_is_refused(rt: HostRuntime) {
     let mut store = worn_store(&rt, rt.alloc(), 6);
     store.disk().fail_call(1);
-    assert!(rt; append_at(&rt, rt.alloc(), &mut store, 6) == Err(StoreFault::Worn));
-    assert!(rt; append_at(&rt, rt.alloc(), &mut store, 6) == Err(StoreFault::Stopped));
+    assert!(rt; append_at(&rt, rt.alloc(), &mut store, 6) == Err(StoreError::Worn));
+    assert!(rt; append_at(&rt, rt.alloc(), &mut store, 6) == Err(StoreError::Stopped));
     is_untouched(&rt, rt.alloc(), store);
 }
 
@@ -162,7 +162,7 @@ fn a_compaction_after_the_last_generation_is_refused(rt: HostRuntime) {
     let mut store = worn_store(&rt, rt.alloc(), 6);
     let table = table_at(&rt, rt.alloc(), 5);
     store.disk().fail_call(1);
-    assert!(rt; store.compact(&rt, &table) == Err(StoreFault::Worn));
-    assert!(rt; append_with(&rt, &mut store, 5, &table) == Err(StoreFault::Stopped));
+    assert!(rt; store.compact(&rt, &table) == Err(StoreError::Worn));
+    assert!(rt; append_with(&rt, &mut store, 5, &table) == Err(StoreError::Stopped));
     is_untouched(&rt, rt.alloc(), store);
 }

@@ -4,11 +4,11 @@ use super::bytes::{front, has_at, is_zero_from};
 use super::disks::{disk_of, write};
 use super::limits::{limits_of, small_limits};
 use super::stores::{format_disk, small_store, zeros};
-use refusing::Refusing;
+use failing_alloc::FailingAlloc;
 use std::alloc::Global;
 use std::process::Abort;
-use turn_disk::{Disk, Outcome};
-use turn_store::{FormatRefused, LimitsRefused, least_area, limits};
+use turn_disk::{CrashOutcome, Disk};
+use turn_store::{FormatError, LimitsError, least_area, limits};
 use turn_types::Bounds;
 
 /// The limits, and the longest snapshot of version 2, the longest payload and 20 bytes for what is between and around them.
@@ -56,7 +56,7 @@ fn a_fresh_store_has_an_empty_snapshot_in_its_first_area(rt: HostRuntime) {
 fn an_area_below_the_least_one_is_refused_and_nothing_is_written(rt: HostRuntime) {
     let mut disk = zeros(&rt, rt.alloc(), 237);
     let outcome = format_disk(&rt, &mut disk, small_limits(&rt), 237);
-    assert!(rt; outcome == Err(FormatRefused::AreaTooSmall(238)));
+    assert!(rt; outcome == Err(FormatError::AreaTooSmall(238)));
     assert!(rt; is_zero_from(disk.content(), 0));
 }
 
@@ -66,14 +66,14 @@ fn stop_format(rt: &impl Abort, alloc: Global, call: u64) {
     assert!(rt; call > 0);
     disk.stop_at(call);
     let outcome = format_disk(rt, &mut disk, small_limits(rt), 238);
-    disk.crash(Outcome::Lost);
+    disk.crash(CrashOutcome::Lost);
     assert!(rt; outcome.is_ok() == (call == 10));
     assert!(rt; has_at(disk.content(), 64, &[0xA5]) == (call == 10));
     assert!(rt; disk.failures() == u64::from(call < 10));
 }
 
 fn format_without_memory(rt: &impl Abort, alloc: Global) {
-    let refusing = Refusing::new(alloc, u64::MAX);
+    let refusing = FailingAlloc::new(alloc, u64::MAX);
     let mut disk = zeros(rt, &refusing, 238);
     assert!(rt; disk.reserve(9, 157).is_ok());
     refusing.arm(0);
@@ -91,12 +91,12 @@ fn formatting_makes_nine_device_calls_and_takes_no_memory(rt: HostRuntime) {
 }
 
 /// Bytes of a fresh store that are written over, and what its limits then are.
-const CHANGES: [(usize, u8, Result<u16, LimitsRefused>); 7] = [
+const CHANGES: [(usize, u8, Result<u16, LimitsError>); 7] = [
     (0, 0x52, Ok(8)),
-    (0, 0, Err(LimitsRefused::NotAStore)),
-    (63, 1, Err(LimitsRefused::NotAStore)),
+    (0, 0, Err(LimitsError::NotAStore)),
+    (63, 1, Err(LimitsError::NotAStore)),
     (27, 9, Ok(9)),
-    (27, 0, Err(LimitsRefused::NotAStore)),
+    (27, 0, Err(LimitsError::NotAStore)),
     (15, 0xEF, Ok(8)),
     (64, 0, Ok(8)),
 ];
@@ -108,7 +108,7 @@ fn limits_changed(
     content: &[u8],
     place: usize,
     byte: u8,
-) -> Result<u16, LimitsRefused> {
+) -> Result<u16, LimitsError> {
     let mut disk = disk_of(rt, alloc, content);
     assert!(rt; write(rt, &mut disk, place, &[byte]));
     Ok(limits(&mut disk)?.name_bytes())
@@ -122,8 +122,8 @@ fn the_limits_are_those_of_the_superblock(rt: HostRuntime) {
         assert!(rt; changed == *name_bytes);
     }
     let mut short = disk_of(&rt, rt.alloc(), front(store.content(), 63));
-    assert!(rt; limits(&mut short) == Err(LimitsRefused::NotAStore));
+    assert!(rt; limits(&mut short) == Err(LimitsError::NotAStore));
     let mut failing = disk_of(&rt, rt.alloc(), store.content());
     failing.fail_call(1);
-    assert!(rt; limits(&mut failing) == Err(LimitsRefused::Device));
+    assert!(rt; limits(&mut failing) == Err(LimitsError::Device));
 }

@@ -9,7 +9,7 @@ use std::alloc::Global;
 use std::process::Abort;
 use turn_disk::{Disk, MemoryDisk};
 use turn_record::Version;
-use turn_store::OpenFault;
+use turn_store::OpenError;
 
 /// What an image is opened as.
 #[derive(Clone, Copy)]
@@ -43,11 +43,11 @@ const STOPS: [(u64, [Image; 6]); 10] = [
 ];
 
 /// The old store's allocation expires then.
-fn opens_as(image: Image, expiry: u64) -> Result<u64, OpenFault> {
+fn opens_as(image: Image, expiry: u64) -> Result<u64, OpenError> {
     match image {
         Old => Ok(expiry),
-        NoStore => Err(OpenFault::NotAStore),
-        Closed => Err(OpenFault::Damaged(64)),
+        NoStore => Err(OpenError::NotAStore),
+        Closed => Err(OpenError::Damaged(64)),
         Empty => Ok(0),
     }
 }

@@ -6,9 +6,9 @@ use super::store_format::SUPERBLOCK;
 use super::stores::TestStore;
 use std::alloc::Global;
 use std::process::Abort;
-use turn_disk::{Disk, Outcome};
+use turn_disk::{CrashOutcome, Disk};
 use turn_record::Version;
-use turn_store::{Info, OpenFault, StoreFault};
+use turn_store::{Info, OpenError, StoreError};
 
 #[test]
 fn a_fresh_store_opens_to_an_empty_table_at_0(rt: HostRuntime) {
@@ -55,7 +55,7 @@ fn fail_frame(rt: &impl Abort, alloc: Global, call: u64) -> TestStore {
     let mut store = store_after(rt, alloc, 0);
     assert!(rt; call > 0);
     store.disk().fail_call(call);
-    assert!(rt; append_at(rt, alloc, &mut store, 0) == Err(StoreFault::Device));
+    assert!(rt; append_at(rt, alloc, &mut store, 0) == Err(StoreError::Device));
     assert!(rt; store.disk().failures() == 1);
     store
 }
@@ -64,13 +64,13 @@ fn fail_frame(rt: &impl Abort, alloc: Global, call: u64) -> TestStore {
 fn call_stopped(rt: &impl Abort, alloc: Global, store: &mut TestStore) {
     let table = table_at(rt, alloc, 0);
     store.disk().fail_call(1);
-    assert!(rt; append_with(rt, store, 0, &table) == Err(StoreFault::Stopped));
-    assert!(rt; store.compact(rt, &table) == Err(StoreFault::Stopped));
+    assert!(rt; append_with(rt, store, 0, &table) == Err(StoreError::Stopped));
+    assert!(rt; store.compact(rt, &table) == Err(StoreError::Stopped));
     assert!(rt; store.info() == FRESH);
     assert!(rt; store.disk().failures() == 1);
 }
 
-fn reopen_stopped(rt: &impl Abort, alloc: Global, outcome: Outcome) -> Result<u64, OpenFault> {
+fn reopen_stopped(rt: &impl Abort, alloc: Global, outcome: CrashOutcome) -> Result<u64, OpenError> {
     let mut store = fail_frame(rt, alloc, 4);
     call_stopped(rt, alloc, &mut store);
     let mut disk = store.into_disk();
@@ -81,5 +81,5 @@ fn reopen_stopped(rt: &impl Abort, alloc: Global, outcome: Outcome) -> Result<u6
 
 #[test]
 fn a_stopped_store_makes_no_device_call(rt: HostRuntime) {
-    assert!(rt; reopen_stopped(&rt, rt.alloc(), Outcome::Kept) == Ok(1600));
+    assert!(rt; reopen_stopped(&rt, rt.alloc(), CrashOutcome::Kept) == Ok(1600));
 }

@@ -2,11 +2,11 @@
 
 use super::batches::{expiry_in, store_after, try_open};
 use super::disks::disk_of;
-use refusing::Refusing;
+use failing_alloc::FailingAlloc;
 use std::alloc::{Allocator, Global};
 use std::process::Abort;
 use turn_disk::{Disk, MemoryDisk};
-use turn_store::OpenFault;
+use turn_store::OpenError;
 
 // Opens a disk of this content, at which this device call fails, and then opens it again. Returns whether it was refused.
 fn refuse_call(rt: &impl Abort, alloc: Global, content: &[u8], call: u64) -> bool {
@@ -18,7 +18,7 @@ fn refuse_call(rt: &impl Abort, alloc: Global, content: &[u8], call: u64) -> boo
         assert!(rt; outcome == Ok(1607));
         return false;
     }
-    assert!(rt; outcome == Err(OpenFault::Device));
+    assert!(rt; outcome == Err(OpenError::Device));
     assert!(rt; disk.failures() == 1);
     assert!(rt; expiry_in(rt, alloc, disk) == Ok(1607));
     true
@@ -40,7 +40,7 @@ fn each_device_call_of_an_opening_fails_in_turn(rt: HostRuntime) {
 // Opens a disk over an allocator that refuses one request, and then again. Returns whether one was refused.
 fn refuse_growth<A: Allocator + Copy>(
     rt: &impl Abort,
-    refusing: &Refusing<Global>,
+    refusing: &FailingAlloc<Global>,
     alloc: A,
     disk: MemoryDisk<A>,
     served: u64,
@@ -52,7 +52,7 @@ fn refuse_growth<A: Allocator + Copy>(
     let is_refused = refusing.has_refused();
     refusing.arm(u64::MAX);
     let expected = if is_refused {
-        Err(OpenFault::Memory)
+        Err(OpenError::Memory)
     } else {
         Ok(1607)
     };
@@ -65,7 +65,7 @@ fn refuse_growth<A: Allocator + Copy>(
 #[test]
 fn each_growth_of_an_opening_is_refused_in_turn(rt: HostRuntime) {
     let store = store_after(&rt, rt.alloc(), 8);
-    let refusing = Refusing::new(rt.alloc(), u64::MAX);
+    let refusing = FailingAlloc::new(rt.alloc(), u64::MAX);
     for served in 0..100u64 {
         let disk = disk_of(&rt, &refusing, store.disk().content());
         if !refuse_growth(&rt, &refusing, &refusing, disk, served) {

@@ -9,7 +9,7 @@ use std::process::Abort;
 use turn_disk::{Disk, MemoryDisk};
 use turn_record::Version;
 use turn_record::Version::{V1, V2};
-use turn_store::{FormatRefused, Store, StoreFault};
+use turn_store::{FormatError, Store, StoreError};
 use turn_types::Limits;
 
 /// Of a version the min size of an area under the limits 128, 1, 1, 1, 8; how many allocations there are, how many bytes their
@@ -70,7 +70,7 @@ fn compact_stopped(rt: &impl Abort, alloc: Global, size: &Size, calls: u64) -> (
     assert!(rt; calls < 10);
     store.disk().stop_at(calls + 1);
     let outcome = store.compact(rt, &table);
-    assert!(rt; outcome == Ok(()) || outcome == Err(StoreFault::Device));
+    assert!(rt; outcome == Ok(()) || outcome == Err(StoreError::Device));
     (store.into_disk(), outcome.is_ok())
 }
 
@@ -79,7 +79,7 @@ fn is_least(rt: &impl Abort, alloc: Global, version: Version, area: usize) -> bo
     assert!(rt; 0 < area);
     let mut disk = zeros(rt, alloc, area - 1);
     let outcome = format_as(rt, &mut disk, version, limits(rt), area - 1);
-    outcome == Err(FormatRefused::AreaTooSmall(area))
+    outcome == Err(FormatError::AreaTooSmall(area))
 }
 
 fn compacts(rt: &impl Abort, alloc: Global, size: &Size) {

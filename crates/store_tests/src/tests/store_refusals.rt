@@ -5,11 +5,11 @@ use super::bytes::has_at;
 use super::disks::disk_of;
 use super::limits::small_limits;
 use super::stores::TestStore;
-use refusing::Refusing;
+use failing_alloc::FailingAlloc;
 use std::alloc::{Allocator, Global};
 use std::process::Abort;
 use turn_disk::Disk;
-use turn_store::StoreFault;
+use turn_store::StoreError;
 
 // A store with the first `count` batches, whose disk has room to record so many writes and syncs of so many bytes, and the
 // sync of the opening.
@@ -30,12 +30,12 @@ fn reserved<A: Allocator + Copy>(
 // What the batch of a second, and then a compaction, answer where one request for memory is refused; and whether it was.
 fn refuse<A: Allocator + Copy>(
     rt: &impl Abort,
-    refusing: &Refusing<Global>,
+    refusing: &FailingAlloc<Global>,
     alloc: A,
     store: &mut TestStore<A>,
     second: u8,
     served: u64,
-) -> (Result<bool, StoreFault>, Result<(), StoreFault>, bool) {
+) -> (Result<bool, StoreError>, Result<(), StoreError>, bool) {
     let table = table_at(rt, alloc, second);
     refusing.arm(served);
     let appended = append_with(rt, store, second, &table);
@@ -48,7 +48,7 @@ fn refuse<A: Allocator + Copy>(
 // Two writes and two syncs of a frame, and three writes and three syncs of a compaction.
 #[test]
 fn a_frame_and_a_compaction_take_no_memory(rt: HostRuntime) {
-    let refusing = Refusing::new(rt.alloc(), u64::MAX);
+    let refusing = FailingAlloc::new(rt.alloc(), u64::MAX);
     let mut store = reserved(&rt, &refusing, 0, 4 + 6, 52 + 1 + 1 + 73 + 1);
     let outcomes = refuse(&rt, &refusing, &refusing, &mut store, 0, 0);
     assert!(rt; outcomes == (Ok(false), Ok(()), false));
@@ -56,7 +56,7 @@ fn a_frame_and_a_compaction_take_no_memory(rt: HostRuntime) {
 
 #[test]
 fn a_batch_without_room_takes_no_memory(rt: HostRuntime) {
-    let refusing = Refusing::new(rt.alloc(), u64::MAX);
+    let refusing = FailingAlloc::new(rt.alloc(), u64::MAX);
     let mut store = reserved(&rt, &refusing, 6, 6 + 6, 2 * (1 + 73 + 1));
     let outcomes = refuse(&rt, &refusing, &refusing, &mut store, 6, 0);
     assert!(rt; outcomes == (Ok(true), Ok(()), false));
@@ -66,21 +66,21 @@ fn a_batch_without_room_takes_no_memory(rt: HostRuntime) {
 fn answers(
     is_refused: bool,
     is_appended: bool,
-) -> (Result<bool, StoreFault>, Result<(), StoreFault>) {
+) -> (Result<bool, StoreError>, Result<(), StoreError>) {
     if !is_refused {
         return (Ok(false), Ok(()));
     }
     if is_appended {
-        return (Ok(false), Err(StoreFault::Device));
+        return (Ok(false), Err(StoreError::Device));
     }
-    (Err(StoreFault::Device), Err(StoreFault::Stopped))
+    (Err(StoreError::Device), Err(StoreError::Stopped))
 }
 
 // Appends the allocation, and then compacts, over a disk whose record has no room. The allocation is there if the gate of
 // its frame is open, at 90. The first growth is of the record of the frame, which is then not written. Returns whether a
 // growth was refused.
 fn refuse_record(rt: &impl Abort, alloc: Global, served: u64) -> bool {
-    let refusing = Refusing::new(alloc, u64::MAX);
+    let refusing = FailingAlloc::new(alloc, u64::MAX);
     let mut store = reserved(rt, &refusing, 0, 0, 0);
     let (appended, compacted, is_refused) = refuse(rt, &refusing, &refusing, &mut store, 0, served);
     assert!(rt; (appended, compacted) == answers(is_refused, appended.is_ok()));

@@ -10,8 +10,8 @@ use std::alloc::Global;
 use std::process::Abort;
 use turn_disk::{Disk, MemoryDisk};
 use turn_record::Version;
-use turn_store::OpenFault::Damaged;
-use turn_store::{FormatRefused, Info, OpenFault, Store};
+use turn_store::OpenError::Damaged;
+use turn_store::{FormatError, Info, OpenError, Store};
 
 /// An open gate, version 2, generation 1, a snapshot of 16 bytes (moment 0, no entry, no reserved port), a closed gate.
 const FIRST_AREA: [u8; 31] = *b"\xa5\x02\0\0\0\0\0\0\0\x01\0\0\0\x10\
@@ -37,7 +37,7 @@ fn a_fresh_store_of_version_2_has_no_reserved_port(rt: HostRuntime) {
 fn an_area_below_the_least_one_of_version_2_is_refused(rt: HostRuntime) {
     let mut disk = zeros(&rt, rt.alloc(), AREA - 1);
     let outcome = format_as(&rt, &mut disk, Version::V2, small_limits(&rt), AREA - 1);
-    assert!(rt; outcome == Err(FormatRefused::AreaTooSmall(AREA)));
+    assert!(rt; outcome == Err(FormatError::AreaTooSmall(AREA)));
     assert!(rt; is_zero_from(disk.content(), 0));
 }
 
@@ -95,7 +95,7 @@ fn a_reservation_is_kept_by_a_frame_and_by_a_snapshot(rt: HostRuntime) {
 }
 
 /// Bytes that are written over in a fresh store of version 2, and the refusal. The max length of a snapshot is 226.
-const CHANGES: [(usize, &[u8], Result<(), OpenFault>); 10] = [
+const CHANGES: [(usize, &[u8], Result<(), OpenError>); 10] = [
     (65, b"\x02", Ok(())),
     (65, b"\x00", Err(Damaged(64))),
     (65, b"\x03", Err(Damaged(64))),
@@ -117,7 +117,7 @@ fn open_changed(
     content: &[u8],
     place: usize,
     bytes: &[u8],
-) -> Result<(), OpenFault> {
+) -> Result<(), OpenError> {
     let mut disk = disk_of(rt, alloc, content);
     assert!(rt; write(rt, &mut disk, place, bytes));
     match Store::open(alloc, disk, small_limits(rt)) {

@@ -9,7 +9,7 @@ use std::marker::Model;
 use std::process::Abort;
 use turn_disk::{Disk, MemoryDisk};
 use turn_record::{Version, max_payload, read_snapshot};
-use turn_store::{FormatRefused, Info, Store, StoreFault, format, format_version1};
+use turn_store::{FormatError, Info, Store, StoreError, format, format_version1};
 use turn_table::Table;
 use turn_types::Limits;
 
@@ -27,7 +27,7 @@ pub fn format_as<D: Disk>(
     version: Version,
     limits: Limits,
     area: usize,
-) -> Result<(), FormatRefused> {
+) -> Result<(), FormatError> {
     let size = disk.size();
     assert!(rt; size >= 64 && size % 2 == 0 && (size - 64) / 2 == area);
     match version {
@@ -42,7 +42,7 @@ pub fn format_disk<D: Disk>(
     disk: &mut D,
     limits: Limits,
     area: usize,
-) -> Result<(), FormatRefused> {
+) -> Result<(), FormatError> {
     format_as(rt, disk, Version::V1, limits, area)
 }
 
@@ -184,14 +184,14 @@ impl<A: Allocator + Copy> TestStore<A> {
         rt: &impl Abort,
         payload: &[u8],
         table: &SnapshotTable<A>,
-    ) -> Result<bool, StoreFault> {
+    ) -> Result<bool, StoreError> {
         assert!(rt; payload.len() <= max_payload(self.version, self.limits));
         assert!(rt; are_versions_same(table.version, self.version));
         assert!(rt; are_same(table.table.limits(), self.limits));
         self.store.append(payload, &table.table)
     }
 
-    pub fn compact(&mut self, rt: &impl Abort, table: &SnapshotTable<A>) -> Result<(), StoreFault> {
+    pub fn compact(&mut self, rt: &impl Abort, table: &SnapshotTable<A>) -> Result<(), StoreError> {
         assert!(rt; are_versions_same(table.version, self.version));
         assert!(rt; are_same(table.table.limits(), self.limits));
         self.store.compact(&table.table)

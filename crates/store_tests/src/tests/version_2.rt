@@ -11,7 +11,7 @@ use super::batches::ALICE;
 use super::bytes::replaced;
 use super::entries;
 use super::limits::{SMALL, limits_of};
-use refusing::Refusing;
+use failing_alloc::FailingAlloc;
 use std::alloc::{Allocator, Global};
 use std::process::Abort;
 use std::test::Fail;
@@ -522,7 +522,7 @@ fn an_entry_without_a_token_has_a_byte_more(rt: HostRuntime) {
 
 /// Whether some growth was refused, which is then what is answered; else the bytes are read and written again.
 fn is_refused(rt: &impl Abort, alloc: Global, kind: Kind, bytes: &[u8], served: u64) -> bool {
-    let refusing = Refusing::new(alloc, served);
+    let refusing = FailingAlloc::new(alloc, served);
     let outcome = again(kind, &refusing, Version::V2, limits(rt), bytes);
     let is_refused = refusing.has_refused();
     let is_right = match outcome {
@@ -552,7 +552,7 @@ fn each_growth_of_version_2_is_refused_in_turn(rt: HostRuntime) {
 
 /// The same of a reader that gets the bytes of `BOTH` one by one.
 fn is_refused_one_by_one(rt: &impl Abort, alloc: Global, served: u64) -> bool {
-    let refusing = Refusing::new(alloc, served);
+    let refusing = FailingAlloc::new(alloc, served);
     let outcome = fed(&refusing, limits(rt), &BOTH);
     let is_refused = refusing.has_refused();
     let is_right = match outcome {

@@ -5,14 +5,14 @@ use super::bytes::replaced;
 use super::version_2::{BOTH, Kind, MAX_PAYLOAD, MAX_SNAPSHOT, PAIR, SNAPSHOT, again, limits};
 use std::alloc::Global;
 use std::process::Abort;
-use turn_record::Malformed::{BadTag, BadValue, OutOfOrder, Short, TrailingBytes};
+use turn_record::DecodeError::{BadTag, BadValue, OutOfOrder, Short, TrailingBytes};
 use turn_record::Version::{V1, V2};
-use turn_record::{Malformed, ReadError, SnapshotReader, Version};
+use turn_record::{DecodeError, ReadError, SnapshotReader, Version};
 use turn_types::Limits;
 
 /// A place, the place up to which the bytes are replaced, what replaces them, how many bytes end with the field that has the fault, and
 /// the fault.
-type Fault = (usize, usize, &'static [u8], usize, Malformed);
+type Fault = (usize, usize, &'static [u8], usize, DecodeError);
 
 /// The faults of `PAIR`.
 const ACT_FAULTS: [Fault; 20] = [
@@ -175,7 +175,7 @@ const RECORDS: [(Kind, Version, &[u8], &[Fault]); 7] = [
 
 /// What the first bytes are refused for, if they are: they are short until all of the field with the fault is there. Without the byte that
 /// is too much they are good.
-fn expected(size: usize, end: usize, fault: Malformed) -> Option<Malformed> {
+fn expected(size: usize, end: usize, fault: DecodeError) -> Option<DecodeError> {
     if end <= size {
         return Some(fault);
     }
@@ -191,7 +191,7 @@ fn fault_of(
     version: Version,
     limits: Limits,
     bytes: &[u8],
-) -> Option<Malformed> {
+) -> Option<DecodeError> {
     match again(kind, alloc, version, limits, bytes) {
         Err(ReadError::Malformed(fault)) => Some(fault),
         _ => None,
@@ -206,7 +206,7 @@ fn is_refused_for(
     limits: Limits,
     bytes: &[u8],
     end: usize,
-    fault: Malformed,
+    fault: DecodeError,
 ) -> bool {
     for size in 0..=bytes.len() {
         let found = fault_of(kind, alloc, version, limits, &bytes[..size]);

@@ -11,8 +11,8 @@ pieces-init g c = record {
   rest = refl;
   size = refl;
   count = refl;
-  honest = λ h. h;
-  so_far = λ honest settled. none_so_far c.args.at _ _ settled;
+  crash_model = λ h. h;
+  so_far = λ crash_model settled. none_so_far c.args.at _ _ settled;
 }
 
 pub pieces-preserved : goal.pieces-preserved
@@ -25,32 +25,32 @@ pieces-preserved g c =
       rest = given.remaining;
       size = c.write_within.ensures.uses.size ∙ inv.size;
       count = c.in_ok-write_within.ensures.uses.count (λ e. cc) ∙ inv.count;
-      honest = λ h. inv.honest (c.write_within.ensures.uses.honest h);
-      so_far = λ honest settled.
-          more_so_far c.args.at _ _ c.pieces.done (c.pieces.done + c.fill_piece-count.result) _ _ _ (omega arith) given.within (next_is _ _ _ _ _ given) (inv.so_far (c.write_within.ensures.uses.honest honest) settled) (c.in_ok-write_within.ensures.outcome honest);
+      crash_model = λ h. inv.crash_model (c.write_within.ensures.uses.crash_model h);
+      so_far = λ crash_model settled.
+          more_so_far c.args.at _ _ c.pieces.done (c.pieces.done + c.fill_piece-count.result) _ _ _ (omega arith) given.within (next_is _ _ _ _ _ given) (inv.so_far (c.write_within.ensures.uses.crash_model crash_model) settled) (c.in_ok-write_within.ensures.outcome crash_model);
     }
 
 pub returns-in_err-write_within-clause-stop : goal.returns-in_err-write_within-clause-stop
-returns-in_err-write_within-clause-stop g c = λ honest settled.
+returns-in_err-write_within-clause-stop g c = λ crash_model settled.
     let inv = c.pieces.invariant in
     let given = next_given _ c.pieces.done c.fill_piece-count.result c.fill_piece-count.new.piece _ _ inv.within inv.rest (omega (arith, c.fill_piece-count.ensures.small, c.fill_piece-count.ensures.len)) c.fill_piece-count.ensures.gives (λ none. c.fill_piece-count.ensures.ends (omega (arith, none))) in
-    stopped_so_far c.args.at _ _ c.pieces.done (c.pieces.done + c.fill_piece-count.result) _ _ _ (omega arith) given.within (next_is _ _ _ _ _ given) (inv.so_far (c.write_within.ensures.uses.honest honest) settled) (c.in_err-write_within.ensures.outcome honest)
+    stopped_so_far c.args.at _ _ c.pieces.done (c.pieces.done + c.fill_piece-count.result) _ _ _ (omega arith) given.within (next_is _ _ _ _ _ given) (inv.so_far (c.write_within.ensures.uses.crash_model crash_model) settled) (c.in_err-write_within.ensures.outcome crash_model)
 
 pub returns-in_err-sync-clause-stop : goal.returns-in_err-sync-clause-stop
-returns-in_err-sync-clause-stop g c = λ honest settled.
+returns-in_err-sync-clause-stop g c = λ crash_model settled.
     let inv = c.pieces.invariant in
-    synced_so_far c.args.at _ c.pieces.done _ _ _ (inv.so_far (c.sync.ensures.honest honest) settled) (outcome_sync _ _ _ (c.sync.ensures.outcome honest))
+    synced_so_far c.args.at _ c.pieces.done _ _ _ (inv.so_far (c.sync.ensures.crash_model crash_model) settled) (outcome_sync _ _ _ (c.sync.ensures.outcome crash_model))
 
 pub returns-then-count-eq0-clause-stop : goal.returns-then-count-eq0-clause-stop
-returns-then-count-eq0-clause-stop g c = λ honest settled.
+returns-then-count-eq0-clause-stop g c = λ crash_model settled.
     let inv = c.pieces.invariant in
-    synced_so_far c.args.at _ c.pieces.done _ _ _ (inv.so_far (c.sync.ensures.honest honest) settled) (outcome_sync _ _ _ (c.sync.ensures.outcome honest))
+    synced_so_far c.args.at _ c.pieces.done _ _ _ (inv.so_far (c.sync.ensures.crash_model crash_model) settled) (outcome_sync _ _ _ (c.sync.ensures.outcome crash_model))
 
 pub returns-then-count-eq0-clause-done : goal.returns-then-count-eq0-clause-done
-returns-then-count-eq0-clause-done g c = λ honest settled.
+returns-then-count-eq0-clause-done g c = λ crash_model settled.
     let inv = c.pieces.invariant in
     let given = next_given _ c.pieces.done c.fill_piece-count.result c.fill_piece-count.new.piece _ _ inv.within inv.rest (omega (arith, c.fill_piece-count.ensures.small, c.fill_piece-count.ensures.len)) c.fill_piece-count.ensures.gives (λ none. c.fill_piece-count.ensures.ends (omega (arith, none))) in
-    whole_so_far c.args.at _ c.pieces.done _ _ _ (given.ends c.if-count-eq0.true) (inv.so_far (c.sync.ensures.honest honest) settled) (c.in_ok-sync.ensures.outcome honest)
+    whole_so_far c.args.at _ c.pieces.done _ _ _ (given.ends c.if-count-eq0.true) (inv.so_far (c.sync.ensures.crash_model crash_model) settled) (c.in_ok-sync.ensures.outcome crash_model)
 
 pub write_within-requires : goal.write_within-requires
 write_within-requires g c =

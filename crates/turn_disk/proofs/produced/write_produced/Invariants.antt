@@ -10,8 +10,8 @@ invariant-pieces g l = record {
   rest : g.P.Producer.rest l.producer ≡ drop l.done (g.P.Producer.rest l.initial.producer);
   size : g.D.Disk.capacity l.disk ≡ g.D.Disk.capacity l.initial.disk;
   count : g.D.Disk.failed l.disk ≡ g.D.Disk.failed l.initial.disk;
-  honest : g.D.Disk.is_honest l.disk → g.D.Disk.is_honest l.initial.disk;
-  so_far : g.D.Disk.is_honest l.disk → IsSettled (g.D.Disk.trace l.initial.disk).now → SoFar l.at (g.P.Producer.rest l.initial.producer) l.done (g.D.Disk.trace l.initial.disk) (g.D.Disk.trace l.disk);
+  crash_model : g.D.Disk.follows_crash_model l.disk → g.D.Disk.follows_crash_model l.initial.disk;
+  so_far : g.D.Disk.follows_crash_model l.disk → IsSettled (g.D.Disk.trace l.initial.disk).now → SoFar l.at (g.P.Producer.rest l.initial.producer) l.done (g.D.Disk.trace l.initial.disk) (g.D.Disk.trace l.disk);
 }
 
 abbrev pub decreases-pieces : goal.decreases-pieces

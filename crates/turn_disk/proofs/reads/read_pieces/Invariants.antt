@@ -8,9 +8,9 @@ invariant-loop-done g l = record {
   len : length l.buffer ≡ length l.initial.buffer;
   size : g.D.Disk.capacity l.disk ≡ g.D.Disk.capacity l.initial.disk;
   count : g.D.Disk.failed l.disk ≡ g.D.Disk.failed l.initial.disk;
-  honest : g.D.Disk.is_honest l.disk → g.D.Disk.is_honest l.initial.disk;
-  same : g.D.Disk.is_honest l.disk → g.D.Disk.trace l.disk ≡ g.D.Disk.trace l.initial.disk;
-  read : g.D.Disk.is_honest l.disk → StandsAt l.at (take l.done l.buffer) (g.D.Disk.trace l.initial.disk).now.bytes;
+  crash_model : g.D.Disk.follows_crash_model l.disk → g.D.Disk.follows_crash_model l.initial.disk;
+  same : g.D.Disk.follows_crash_model l.disk → g.D.Disk.trace l.disk ≡ g.D.Disk.trace l.initial.disk;
+  read : g.D.Disk.follows_crash_model l.disk → StandsAt l.at (take l.done l.buffer) (g.D.Disk.trace l.initial.disk).now.bytes;
 }
 
 abbrev pub decreases-loop-done : goal.decreases-loop-done

@@ -6,7 +6,7 @@ invariant-loop-done g l = record {
   within : l.done ≤ l.size;
   size : g.D.Disk.capacity l.disk ≡ g.D.Disk.capacity l.initial.disk;
   count : g.D.Disk.failed l.disk ≡ g.D.Disk.failed l.initial.disk;
-  honest : g.D.Disk.is_honest l.disk → g.D.Disk.is_honest l.initial.disk;
+  crash_model : g.D.Disk.follows_crash_model l.disk → g.D.Disk.follows_crash_model l.initial.disk;
 }
 
 abbrev pub decreases-loop-done : goal.decreases-loop-done

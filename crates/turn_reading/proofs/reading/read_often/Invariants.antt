@@ -8,9 +8,9 @@ use Rattle.turn_store.specs.Images.{StandsForAt}
 
 abbrev pub invariant-loop : goal.invariant-loop
 invariant-loop g l = record {
-  honest : g.D.Disk.is_honest l.disk → g.D.Disk.is_honest l.initial.disk;
-  same : g.D.Disk.is_honest l.disk → (g.D.Disk.trace l.disk).now.bytes ≡ (g.D.Disk.trace l.initial.disk).now.bytes;
-  why : g.D.Disk.is_honest l.disk → IfSome l.last (WhyUnread l.limits (g.D.Disk.trace l.initial.disk).now.bytes);
-  unread : g.D.Disk.is_honest l.disk → (form : Form) (h : History) (clock : ℕ) → IsUnder l.limits form.bounds
+  crash_model : g.D.Disk.follows_crash_model l.disk → g.D.Disk.follows_crash_model l.initial.disk;
+  same : g.D.Disk.follows_crash_model l.disk → (g.D.Disk.trace l.disk).now.bytes ≡ (g.D.Disk.trace l.initial.disk).now.bytes;
+  why : g.D.Disk.follows_crash_model l.disk → IfSome l.last (WhyUnread l.limits (g.D.Disk.trace l.initial.disk).now.bytes);
+  unread : g.D.Disk.follows_crash_model l.disk → (form : Form) (h : History) (clock : ℕ) → IsUnder l.limits form.bounds
       → StandsForAt form h clock (g.D.Disk.trace l.initial.disk).now.bytes → IfSome l.last IsUnread;
 }

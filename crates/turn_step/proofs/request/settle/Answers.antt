@@ -11,7 +11,7 @@ use Rattle.turn_rules.specs.Taking.{takes_if_any}
 use Rattle.turn_rules.proofs.Taking.{decision_takes}
 use Rattle.turn_table.specs.Table.{room_for}
 use Rattle.turn_step.specs.Holding.{ports_with, takes_in}
-use Rattle.turn_step.specs.Outcome.{Outcome, change_of, decided_for}
+use Rattle.turn_step.specs.Outcome.{StepOutcome, change_of, decided_for}
 use Rattle.turn_step.specs.State.{MayBeNext}
 use Rattle.turn_step.specs.Views.{sent_of}
 use Rattle.turn_step.proofs.Machines.{may_be_next}
@@ -65,7 +65,7 @@ pub returns-clause-takes : goal.returns-clause-takes
 returns-clause-takes g c only = λ q.
     let r = c.args.request.now in
     let t = c.args.table.now.contents in
-    ap (λ (o : Outcome). ports_with t o.change q) (step_is g c)
+    ap (λ (o : StepOutcome). ports_with t o.change q) (step_is g c)
     ∙ ap (λ b. b || is_taken t q) (change_takes r.five_tuple (decided_of c.in_ok-decision.decision).act q)
     ∙ ap (λ (d : Decided). takes_if_any d.act q || is_taken t q) c.in_ok-decision.ensures.value
     ∙ decision_takes c.args.pairs c.args.config.now t r.five_tuple c.args.moment r.message (verdict_in r) c.args.port only q

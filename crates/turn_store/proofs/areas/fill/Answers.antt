@@ -5,13 +5,13 @@ use Rattle.turn_store.specs.Areas.{Holds}
 use Rattle.turn_store.proofs.areas.fill.Goals as goal
 
 pub returns-in_err-write_produced-clause-stop : goal.returns-in_err-write_produced-clause-stop
-returns-in_err-write_produced-clause-stop g c = λ honest v form start generation snapshot payloads fits holds closed.
-    since_weaken _ _ _ (Holds v form snapshot payloads) (λ image changes. row_fill v form start c.args.gate generation snapshot payloads _ holds (length (g.P.Producer.rest c.args.front.now)) image changes (omega arith) closed) (c.write_produced.ensures.stop honest holds.settled)
+returns-in_err-write_produced-clause-stop g c = λ crash_model v form start generation snapshot payloads fits holds closed.
+    since_weaken _ _ _ (Holds v form snapshot payloads) (λ image changes. row_fill v form start c.args.gate generation snapshot payloads _ holds (length (g.P.Producer.rest c.args.front.now)) image changes (omega arith) closed) (c.write_produced.ensures.stop crash_model holds.settled)
 
 pub returns-clause-stop : goal.returns-clause-stop
-returns-clause-stop g c = λ honest v form start generation snapshot payloads fits holds closed.
-    since_weaken _ _ _ (Holds v form snapshot payloads) (λ image changes. row_fill v form start c.args.gate generation snapshot payloads _ holds (length (g.P.Producer.rest c.args.front.now)) image changes (omega arith) closed) (c.write_produced.ensures.stop honest holds.settled)
+returns-clause-stop g c = λ crash_model v form start generation snapshot payloads fits holds closed.
+    since_weaken _ _ _ (Holds v form snapshot payloads) (λ image changes. row_fill v form start c.args.gate generation snapshot payloads _ holds (length (g.P.Producer.rest c.args.front.now)) image changes (omega arith) closed) (c.write_produced.ensures.stop crash_model holds.settled)
 
 pub returns-clause-done : goal.returns-clause-done
-returns-clause-done g c = λ honest v form start generation snapshot payloads fits holds closed.
-    filled_after v form start c.args.gate generation snapshot payloads _ holds (g.P.Producer.rest c.args.front.now) _ fits closed (c.in_ok-write_produced.ensures.done honest holds.settled)
+returns-clause-done g c = λ crash_model v form start generation snapshot payloads fits holds closed.
+    filled_after v form start c.args.gate generation snapshot payloads _ holds (g.P.Producer.rest c.args.front.now) _ fits closed (c.in_ok-write_produced.ensures.done crash_model holds.settled)

@@ -5,19 +5,19 @@ use Rattle.turn_store.specs.Areas.{Holds}
 use Rattle.turn_store.proofs.areas.switch.Goals as goal
 
 pub returns-in_err-write_through-clause-stop : goal.returns-in_err-write_through-clause-stop
-returns-in_err-write_through-clause-stop g c = λ honest v w form start generation snapshot next payloads fits short fitting room holds filled.
-    since_weaken _ _ _ (λ image. Holds v form snapshot payloads image ⊎ Holds w form next [] image) (λ image changes. row_switch v form start c.args.gate generation snapshot payloads _ holds w fitting next fits short room image changes filled) (c.write_through.ensures.stop honest holds.settled)
+returns-in_err-write_through-clause-stop g c = λ crash_model v w form start generation snapshot next payloads fits short fitting room holds filled.
+    since_weaken _ _ _ (λ image. Holds v form snapshot payloads image ⊎ Holds w form next [] image) (λ image changes. row_switch v form start c.args.gate generation snapshot payloads _ holds w fitting next fits short room image changes filled) (c.write_through.ensures.stop crash_model holds.settled)
 
 pub returns-clause-stop : goal.returns-clause-stop
-returns-clause-stop g c = λ honest v w form start generation snapshot next payloads fits short fitting room holds filled.
-    since_weaken _ _ _ (λ image. Holds v form snapshot payloads image ⊎ Holds w form next [] image) (λ image changes. row_switch v form start c.args.gate generation snapshot payloads _ holds w fitting next fits short room image changes filled) (c.write_through.ensures.stop honest holds.settled)
+returns-clause-stop g c = λ crash_model v w form start generation snapshot next payloads fits short fitting room holds filled.
+    since_weaken _ _ _ (λ image. Holds v form snapshot payloads image ⊎ Holds w form next [] image) (λ image changes. row_switch v form start c.args.gate generation snapshot payloads _ holds w fitting next fits short room image changes filled) (c.write_through.ensures.stop crash_model holds.settled)
 
 pub returns-clause-done : goal.returns-clause-done
-returns-clause-done g c = λ honest v w form start generation snapshot next payloads fits short fitting room holds filled.
-    after_switch v form start c.args.gate generation snapshot payloads _ holds w fitting next fits short room _ (c.in_ok-write_through.ensures.done honest) filled
+returns-clause-done g c = λ crash_model v w form start generation snapshot next payloads fits short fitting room holds filled.
+    after_switch v form start c.args.gate generation snapshot payloads _ holds w fitting next fits short room _ (c.in_ok-write_through.ensures.done crash_model) filled
 
 pub returns-in_err-write_through-clause-once : goal.returns-in_err-write_through-clause-once
-returns-in_err-write_through-clause-once g c = λ honest. through_once c.args.gate (165 ∷ []) _ _ c.write_through.result (c.write_through.ensures.once honest)
+returns-in_err-write_through-clause-once g c = λ crash_model. through_once c.args.gate (165 ∷ []) _ _ c.write_through.result (c.write_through.ensures.once crash_model)
 
 pub returns-clause-once : goal.returns-clause-once
-returns-clause-once g c = λ honest. through_once c.args.gate (165 ∷ []) _ _ c.write_through.result (c.write_through.ensures.once honest)
+returns-clause-once g c = λ crash_model. through_once c.args.gate (165 ∷ []) _ _ c.write_through.result (c.write_through.ensures.once crash_model)

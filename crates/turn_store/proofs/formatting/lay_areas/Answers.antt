@@ -8,45 +8,45 @@ use Rattle.turn_store.proofs.Ordered.{length-laid}
 use Rattle.turn_store.proofs.formatting.lay_areas.Goals as goal
 
 pub returns-clause-done : goal.returns-clause-done
-returns-clause-done g c = λ honest.
-    let before = c.lay_first.ensures.uses.honest honest in
+returns-clause-done g c = λ crash_model.
+    let before = c.lay_first.ensures.uses.crash_model crash_model in
     let writes = c.in_ok-write_at.ensures.outcome before in
     let second : c.size.result - c.args.area ≡ 64 + c.args.area = omega (arith, c.size.ensures, c.requires.place) in
     let old = g.D.Disk.trace c.args.disk.now in
     let mid = g.D.Disk.trace c.write_at.new.self in
-    laid_state c.args.version c.args.area old.now mid.now _ c.requires.room (g.met.D.Disk.sized c.args.disk.now (c.write_at.ensures.honest before) ∙ sym c.requires.place)
+    laid_state c.args.version c.args.area old.now mid.now _ c.requires.room (g.met.D.Disk.sized c.args.disk.now (c.write_at.ensures.crash_model before) ∙ sym c.requires.place)
     (subst (λ (at : ℕ). ChangesOnly at 1 old.now.bytes mid.now.bytes) second writes.range.content)
     (subst (λ (at : ℕ). StandsAt at (0 ∷ []) mid.now.bytes) second writes.written)
-    (c.in_ok-lay_first.ensures.done honest)
+    (c.in_ok-lay_first.ensures.done crash_model)
 
 pub returns-in_err-write_at-clause-stop : goal.returns-in_err-write_at-clause-stop
-returns-in_err-write_at-clause-stop g c = λ honest settled.
+returns-in_err-write_at-clause-stop g c = λ crash_model settled.
     let old = g.D.Disk.trace c.args.disk.now in
     let mid = g.D.Disk.trace c.write_at.new.self in
     let base = old.now.bytes in
     let but = settled_but 64 (2 * c.args.area) old.now settled in
     let second : c.size.result - c.args.area ≡ 64 + c.args.area = omega (arith, c.size.ensures, c.requires.place) in
-    let wrote = since_within 64 (2 * c.args.area) base old mid but (c.size.result - c.args.area) 1 (omega (arith, second)) (omega (arith, second, c.requires.room)) (outcome_range (c.size.result - c.args.area) (0 ∷ []) old mid c.write_at.result (c.write_at.ensures.outcome honest)) in
+    let wrote = since_within 64 (2 * c.args.area) base old mid but (c.size.result - c.args.area) 1 (omega (arith, second)) (omega (arith, second, c.requires.room)) (outcome_range (c.size.result - c.args.area) (0 ∷ []) old mid c.write_at.result (c.write_at.ensures.outcome crash_model)) in
     wrote.0
 
 pub returns-in_err-lay_first-clause-stop : goal.returns-in_err-lay_first-clause-stop
-returns-in_err-lay_first-clause-stop g c = λ honest settled.
+returns-in_err-lay_first-clause-stop g c = λ crash_model settled.
     let old = g.D.Disk.trace c.args.disk.now in
     let mid = g.D.Disk.trace c.write_at.new.self in
     let base = old.now.bytes in
     let but = settled_but 64 (2 * c.args.area) old.now settled in
     let second : c.size.result - c.args.area ≡ 64 + c.args.area = omega (arith, c.size.ensures, c.requires.place) in
-    let wrote = since_within 64 (2 * c.args.area) base old mid but (c.size.result - c.args.area) 1 (omega (arith, second)) (omega (arith, second, c.requires.room)) (outcome_range (c.size.result - c.args.area) (0 ∷ []) old mid c.write_at.result (c.write_at.ensures.outcome (c.lay_first.ensures.uses.honest honest))) in
+    let wrote = since_within 64 (2 * c.args.area) base old mid but (c.size.result - c.args.area) 1 (omega (arith, second)) (omega (arith, second, c.requires.room)) (outcome_range (c.size.result - c.args.area) (0 ∷ []) old mid c.write_at.result (c.write_at.ensures.outcome (c.lay_first.ensures.uses.crash_model crash_model))) in
     since_join old mid _ (ChangesOnly 64 (2 * c.args.area) base) wrote.0
-    (since_through_but 64 (2 * c.args.area) base mid _ wrote.1 64 (0 ∷ (area_front c.args.version 1 (fresh c.args.version) ++ 0 ∷ [])) (omega arith) (omega (arith, length-laid c.args.version, c.requires.room)) c.lay_first.result (c.lay_first.ensures.once honest))
+    (since_through_but 64 (2 * c.args.area) base mid _ wrote.1 64 (0 ∷ (area_front c.args.version 1 (fresh c.args.version) ++ 0 ∷ [])) (omega arith) (omega (arith, length-laid c.args.version, c.requires.room)) c.lay_first.result (c.lay_first.ensures.once crash_model))
 
 pub returns-clause-stop : goal.returns-clause-stop
-returns-clause-stop g c = λ honest settled.
+returns-clause-stop g c = λ crash_model settled.
     let old = g.D.Disk.trace c.args.disk.now in
     let mid = g.D.Disk.trace c.write_at.new.self in
     let base = old.now.bytes in
     let but = settled_but 64 (2 * c.args.area) old.now settled in
     let second : c.size.result - c.args.area ≡ 64 + c.args.area = omega (arith, c.size.ensures, c.requires.place) in
-    let wrote = since_within 64 (2 * c.args.area) base old mid but (c.size.result - c.args.area) 1 (omega (arith, second)) (omega (arith, second, c.requires.room)) (outcome_range (c.size.result - c.args.area) (0 ∷ []) old mid c.write_at.result (c.write_at.ensures.outcome (c.lay_first.ensures.uses.honest honest))) in
+    let wrote = since_within 64 (2 * c.args.area) base old mid but (c.size.result - c.args.area) 1 (omega (arith, second)) (omega (arith, second, c.requires.room)) (outcome_range (c.size.result - c.args.area) (0 ∷ []) old mid c.write_at.result (c.write_at.ensures.outcome (c.lay_first.ensures.uses.crash_model crash_model))) in
     since_join old mid _ (ChangesOnly 64 (2 * c.args.area) base) wrote.0
-    (since_through_but 64 (2 * c.args.area) base mid _ wrote.1 64 (0 ∷ (area_front c.args.version 1 (fresh c.args.version) ++ 0 ∷ [])) (omega arith) (omega (arith, length-laid c.args.version, c.requires.room)) c.lay_first.result (c.lay_first.ensures.once honest))
+    (since_through_but 64 (2 * c.args.area) base mid _ wrote.1 64 (0 ∷ (area_front c.args.version 1 (fresh c.args.version) ++ 0 ∷ [])) (omega arith) (omega (arith, length-laid c.args.version, c.requires.room)) c.lay_first.result (c.lay_first.ensures.once crash_model))

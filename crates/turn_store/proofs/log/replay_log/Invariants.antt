@@ -10,12 +10,12 @@ invariant-frames g l = record {
   few : l.frames ≤ l.end;
   size : g.D.Disk.capacity l.disk ≡ g.D.Disk.capacity l.initial.disk;
   count : g.D.Disk.failed l.disk ≡ g.D.Disk.failed l.initial.disk;
-  honest : g.D.Disk.is_honest l.disk → g.D.Disk.is_honest l.initial.disk;
-  same : g.D.Disk.is_honest l.disk → g.D.Disk.trace l.disk ≡ g.D.Disk.trace l.initial.disk;
+  crash_model : g.D.Disk.follows_crash_model l.disk → g.D.Disk.follows_crash_model l.initial.disk;
+  same : g.D.Disk.follows_crash_model l.disk → g.D.Disk.trace l.disk ≡ g.D.Disk.trace l.initial.disk;
   buffer : length l.payload ≡ length l.initial.payload;
   bounds : l.table.bounds ≡ l.initial.table.bounds;
   snapshot : IsSnapshot l.version l.limits l.initial.table.moment l.initial.table.contents → IsSnapshot l.version l.limits l.table.moment l.table.contents;
-  so_far : g.D.Disk.is_honest l.disk → SoFar l.version l.limits (l.journal.start + l.journal.end) (snapshot_of l.initial.table) (l.journal.start + l.end) l.frames (snapshot_of l.table) (g.D.Disk.trace l.initial.disk).now.bytes;
+  so_far : g.D.Disk.follows_crash_model l.disk → SoFar l.version l.limits (l.journal.start + l.journal.end) (snapshot_of l.initial.table) (l.journal.start + l.end) l.frames (snapshot_of l.table) (g.D.Disk.trace l.initial.disk).now.bytes;
 }
 
 abbrev pub decreases-frames : goal.decreases-frames

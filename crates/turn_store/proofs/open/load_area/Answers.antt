@@ -10,19 +10,19 @@ use Rattle.turn_store.proofs.Choices.{area_is_read}
 use Rattle.turn_store.proofs.open.load_area.Goals as goal
 
 pub returns-in_default-clause-faults : goal.returns-in_default-clause-faults
-returns-in_default-clause-faults g c = λ honest. inl (refl, c.in_default.ensures.none refl)
+returns-in_default-clause-faults g c = λ crash_model. inl (refl, c.in_default.ensures.none refl)
 
 pub new-requires-clause-short : goal.new-requires-clause-short
 new-requires-clause-short g c = omega (arith, c.max_payload.ensures, c.in-Some.ensures.small)
 
 pub returns-in-Err-clause-faults : goal.returns-in-Err-clause-faults
-returns-in-Err-clause-faults g c = λ honest.
-    faults_weaken _ _ (λ place is. inr (c.in-Some.version, c.in-Some.ensures.some, inl is)) c.in-Err.fault (c.in-Err.ensures.faults honest)
+returns-in-Err-clause-faults g c = λ crash_model.
+    faults_weaken _ _ (λ place is. inr (c.in-Some.version, c.in-Some.ensures.some, inl is)) c.in-Err.fault (c.in-Err.ensures.faults crash_model)
 
 pub returns-in-Err-replay_log-clause-faults : goal.returns-in-Err-replay_log-clause-faults
-returns-in-Err-replay_log-clause-faults g c = λ honest.
+returns-in-Err-replay_log-clause-faults g c = λ crash_model.
     let first = snapshot_of c.in-Ok.table in
-    let here = c.replay_log.ensures.reads.honest honest in
+    let here = c.replay_log.ensures.reads.crash_model crash_model in
     let good = c.in-Ok.ensures.read here in
     let content = (g.D.Disk.trace c.args.disk.now).now.bytes in
     let place : c.args.start + (14 + c.args.head.snapshot) ≡ c.args.start + 14 + c.args.head.snapshot = omega arith in
@@ -31,17 +31,17 @@ returns-in-Err-replay_log-clause-faults g c = λ honest.
     let there = subst (λ (a : Area). BreaksAt c.in-Some.version c.args.limits (end_of a) (limit_of a) first (g.D.Disk.trace c.read_snapshot.new.disk).now.bytes at) c.in_ok-journal.ensures is in
     let at_first = subst (λ (t : Trace). BreaksAt c.in-Some.version c.args.limits (c.args.start + (14 + c.args.head.snapshot)) (c.args.start + c.args.size) first t.now.bytes at) (c.read_snapshot.ensures.reads.same here) there in
     inr (c.in-Some.version, c.in-Some.ensures.some, inr (first, good, subst (λ (n : ℕ). BreaksAt c.in-Some.version c.args.limits n (c.args.start + c.args.size) first content at) place at_first)))
-    c.in-Err-replay_log.fault (c.in-Err-replay_log.ensures.faults honest)
+    c.in-Err-replay_log.fault (c.in-Err-replay_log.ensures.faults crash_model)
 
 pub returns-in-Ok-replay_log-clause-read : goal.returns-in-Ok-replay_log-clause-read
-returns-in-Ok-replay_log-clause-read g c = λ honest.
+returns-in-Ok-replay_log-clause-read g c = λ crash_model.
     let v = c.in-Some.version in
-    let here = c.replay_log.ensures.reads.honest honest in
+    let here = c.replay_log.ensures.reads.crash_model crash_model in
     let first = snapshot_of c.in-Ok.table in
     let end = c.in-Ok-replay_log.end in
     let frames = c.in-Ok-replay_log.frames in
     let t = snapshot_of c.replay_log.new.table in
-    let log = subst (λ (a : Area). LogIsRead v c.args.limits (end_of a) first (a.start + end) (limit_of a) frames t (g.D.Disk.trace c.read_snapshot.new.disk).now.bytes) c.in_ok-journal.ensures (c.in-Ok-replay_log.ensures.log honest) in
+    let log = subst (λ (a : Area). LogIsRead v c.args.limits (end_of a) first (a.start + end) (limit_of a) frames t (g.D.Disk.trace c.read_snapshot.new.disk).now.bytes) c.in_ok-journal.ensures (c.in-Ok-replay_log.ensures.log crash_model) in
     let log_first = subst (λ (x : Trace). LogIsRead v c.args.limits (c.args.start + (14 + c.args.head.snapshot)) first (c.args.start + end) (c.args.start + c.args.size) frames t x.now.bytes) (c.read_snapshot.ensures.reads.same here) log in
     let read = area_is_read v c.args.limits c.args.start c.args.size c.args.head first t end frames (g.D.Disk.trace c.args.disk.now).now.bytes c.requires.generation c.requires.snapshot c.in-Some.ensures.some.version (c.in-Ok.ensures.read here) log_first in
     subst (λ (n : ℕ). AreaIsRead v c.args.limits c.args.start c.args.size c.args.head n frames t (g.D.Disk.trace c.args.disk.now).now.bytes) (sym (ap (λ (a : Area). a.end) c.move_to.ensures)) read

@@ -8,11 +8,11 @@ invariant-loop-done g l = record {
   within : l.done ≤ l.count;
   size : g.D.Disk.capacity l.disk ≡ g.D.Disk.capacity l.initial.disk;
   count : g.D.Disk.failed l.disk ≡ g.D.Disk.failed l.initial.disk;
-  honest : g.D.Disk.is_honest l.disk → g.D.Disk.is_honest l.initial.disk;
-  same : g.D.Disk.is_honest l.disk → g.D.Disk.trace l.disk ≡ g.D.Disk.trace l.initial.disk;
+  crash_model : g.D.Disk.follows_crash_model l.disk → g.D.Disk.follows_crash_model l.initial.disk;
+  same : g.D.Disk.follows_crash_model l.disk → g.D.Disk.trace l.disk ≡ g.D.Disk.trace l.initial.disk;
   some : (fed : List ℕ) × AreBytes fed × WasFed l.fn.version l.fn.limits l.reader fed;
-  bytes : g.D.Disk.is_honest l.disk → AreBytes (take l.done (drop l.at (g.D.Disk.trace l.initial.disk).now.bytes));
-  fed : g.D.Disk.is_honest l.disk → WasFed l.fn.version l.fn.limits l.reader (take l.done (drop l.at (g.D.Disk.trace l.initial.disk).now.bytes));
+  bytes : g.D.Disk.follows_crash_model l.disk → AreBytes (take l.done (drop l.at (g.D.Disk.trace l.initial.disk).now.bytes));
+  fed : g.D.Disk.follows_crash_model l.disk → WasFed l.fn.version l.fn.limits l.reader (take l.done (drop l.at (g.D.Disk.trace l.initial.disk).now.bytes));
 }
 
 abbrev pub decreases-loop-done : goal.decreases-loop-done

@@ -24,6 +24,6 @@ returns g c =
         untouched_worn = λ e. cc;
         stages = c.in_ok-write.ensures.stages;
         stop = c.in_ok-write.ensures.stop;
-        rests = c.in_ok-write.ensures.done;
+        recovers = c.in_ok-write.ensures.done;
       });
     }

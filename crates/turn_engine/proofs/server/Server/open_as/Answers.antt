@@ -20,15 +20,15 @@ returns-in-Err-clause-call g c = record {
   returned = (refl, refl);
   uses = c.in-Err.ensures.uses;
   opened = tt;
-  why = λ honest.
-      subst (λ (b : Bounds). WhyRefused b (g.D.Disk.trace c.args.disk).now.bytes c.in-Err.field-0.fault) c.limits-limits.ensures.value (c.in-Err.ensures.why honest);
-  rests = tt;
-  sound = λ honest form h k m bounds images.
+  why = λ crash_model.
+      subst (λ (b : Bounds). WhyRefused b (g.D.Disk.trace c.args.disk).now.bytes c.in-Err.field-0.fault) c.limits-limits.ensures.value (c.in-Err.ensures.why crash_model);
+  recovers = tt;
+  sound = λ crash_model form h k m bounds images.
       let at = images _ (image_self (g.D.Disk.trace c.args.disk).now) in
-      c.in-Err.ensures.sound honest form (take at.count h) at.stands.clock (bounds ∙ sym c.limits-limits.ensures.value) at.stands.stands;
-  stop = λ honest form h k m images.
+      c.in-Err.ensures.sound crash_model form (take at.count h) at.stands.clock (bounds ∙ sym c.limits-limits.ensures.value) at.stands.stands;
+  stop = λ crash_model form h k m images.
       let at = images _ (image_self (g.D.Disk.trace c.args.disk).now) in
-      since_opened _ _ form h k m _ images at (c.in-Err.ensures.stop honest form (take at.count h) at.stands.clock at.stands.stands);
+      since_opened _ _ form h k m _ images at (c.in-Err.ensures.stop crash_model form (take at.count h) at.stands.clock at.stands.stands);
 }
 
 pub returns-clause-call : goal.returns-clause-call
@@ -43,21 +43,21 @@ returns-clause-call g c =
       returned = of_refused _ _ c.over.result c.over.ensures.err (refl, refl);
       uses = uses_over g.D.Disk c.args.disk _ _ c.over.result c.over.ensures.ok c.over.ensures.err refl (λ e. cc) c.in-Ok-open_as.ensures.uses;
       opened = of_made _ _ c.over.result c.over.ensures.ok c.in-Ok-open_as.ensures.opened;
-      why = of_refused _ _ c.over.result c.over.ensures.err (λ honest. tt);
-      rests = of_made _ _ c.over.result c.over.ensures.ok (λ honest form h k m bounds images.
+      why = of_refused _ _ c.over.result c.over.ensures.err (λ crash_model. tt);
+      recovers = of_made _ _ c.over.result c.over.ensures.ok (λ crash_model form h k m bounds images.
           let at = images _ (image_self (g.D.Disk.trace c.args.disk).now) in
-          opens form h k m _ _ _ at (c.in-Ok-open_as.ensures.rests honest form (take at.count h) at.stands.clock (bounds ∙ sym c.limits-limits.ensures.value) at.stands.stands)
+          opens form h k m _ _ _ at (c.in-Ok-open_as.ensures.recovers crash_model form (take at.count h) at.stands.clock (bounds ∙ sym c.limits-limits.ensures.value) at.stands.stands)
           (bounds ∙ sym (ap (λ (x : Config). x.limits) c.in-Ok.ensures)) refl refl);
-      sound = of_refused _ _ c.over.result c.over.ensures.err (λ honest form h k m bounds images. tt);
+      sound = of_refused _ _ c.over.result c.over.ensures.err (λ crash_model form h k m bounds images. tt);
       stop = after_over
-          (λ d. g.D.Disk.is_honest d → (form : Form) (h : History) (k m : ℕ) → EachImage (g.D.Disk.trace c.args.disk).now (AtLeast form h k m)
-          → EachImageSince (g.D.Disk.trace c.args.disk) (g.D.Disk.trace d) (AtLeast form h k m)) _ _ c.over.result c.over.ensures.ok c.over.ensures.err refl (λ honest form h k m images.
+          (λ d. g.D.Disk.follows_crash_model d → (form : Form) (h : History) (k m : ℕ) → EachImage (g.D.Disk.trace c.args.disk).now (AtLeast form h k m)
+          → EachImageSince (g.D.Disk.trace c.args.disk) (g.D.Disk.trace d) (AtLeast form h k m)) _ _ c.over.result c.over.ensures.ok c.over.ensures.err refl (λ crash_model form h k m images.
           let at = images _ (image_self (g.D.Disk.trace c.args.disk).now) in
-          since_opened _ _ form h k m _ images at (c.in-Ok-open_as.ensures.stop honest form (take at.count h) at.stands.clock at.stands.stands));
+          since_opened _ _ form h k m _ images at (c.in-Ok-open_as.ensures.stop crash_model form (take at.count h) at.stands.clock at.stands.stands));
     }
 
 pub returns-clause-carried : goal.returns-clause-carried
 returns-clause-carried g c = of_made _ _ c.over.result c.over.ensures.ok c.in-Ok-open_as.ensures.carried
 
 pub returns-clause-same : goal.returns-clause-same
-returns-clause-same g c = λ kept. after_over (λ d. g.D.Disk.is_honest d → (g.D.Disk.trace d).now.bytes ≡ (g.D.Disk.trace c.args.disk).now.bytes) _ _ c.over.result c.over.ensures.ok c.over.ensures.err refl (c.in-Ok-open_as.ensures.same kept)
+returns-clause-same g c = λ kept. after_over (λ d. g.D.Disk.follows_crash_model d → (g.D.Disk.trace d).now.bytes ≡ (g.D.Disk.trace c.args.disk).now.bytes) _ _ c.over.result c.over.ensures.ok c.over.ensures.err refl (c.in-Ok-open_as.ensures.same kept)

@@ -11,7 +11,7 @@ use Rattle.turn_types.specs.Config.{Config}
 use Rattle.turn_table.specs.State.{State}
 use Rattle.turn_engine.proofs.Held.{apart_in}
 use Rattle.turn_engine.proofs.Lists.{room_for_one, when_ok}
-use Rattle.turn_engine.proofs.Taken.{after_same, counts_same, keeps_both, moment_changed, rests_later, rests_taken, sound_changed, sound_later, written_by}
+use Rattle.turn_engine.proofs.Taken.{after_same, counts_same, keeps_both, moment_changed, recovers_later, recovers_taken, sound_changed, sound_later, written_by}
 use Rattle.turn_types.specs.declared.limits.Bounds.{Bounds}
 use Rattle.turn_engine.specs.State.{ServerState, limits_of, now_of}
 use Rattle.turn_engine.proofs.server.Server.take.Goals as goal
@@ -48,10 +48,10 @@ pub returns-in-Err-clause-memory_table : goal.returns-in-Err-clause-memory_table
 returns-in-Err-clause-memory_table g c = subst (λ s. IsPurged c.args.moment s.machine.table c.prepare.new.self.table) c.self.view_is c.prepare.ensures.table
 
 pub returns-in-Err-clause-memory_rests : goal.returns-in-Err-clause-memory_rests
-returns-in-Err-clause-memory_rests g c = λ h k rests.
+returns-in-Err-clause-memory_rests g c = λ h k recovers.
     let moment = c.prepare.ensures.table.moment in
-    rests_later _ c.args.self.now _ h k rests (ap (λ s. s.store) c.self.view_is) (ap (λ s. s.payload) c.self.view_is) (ap (λ s. s.acts) c.self.view_is)
-    (omega (arith, c.requires.clock, moment)) (c.prepare.ensures.after h (subst (λ m. IsAfter m h) (sym (ap (λ s. s.machine) c.self.view_is)) rests.after))
+    recovers_later _ c.args.self.now _ h k recovers (ap (λ s. s.store) c.self.view_is) (ap (λ s. s.payload) c.self.view_is) (ap (λ s. s.acts) c.self.view_is)
+    (omega (arith, c.requires.clock, moment)) (c.prepare.ensures.after h (subst (λ m. IsAfter m h) (sym (ap (λ s. s.machine) c.self.view_is)) recovers.after))
 
 pub invariant_of-self-then-is_err : goal.invariant_of-self-then-is_err
 invariant_of-self-then-is_err g c =
@@ -99,11 +99,11 @@ returns-then-is_err-clause-memory_table g c =
     rw c.abandon.ensures.table (subst (λ s. IsPurged c.args.moment s.machine.table c.prepare.new.self.table) c.self.view_is c.prepare.ensures.table)
 
 pub returns-then-is_err-clause-memory_rests : goal.returns-then-is_err-clause-memory_rests
-returns-then-is_err-clause-memory_rests g c = λ h k rests.
+returns-then-is_err-clause-memory_rests g c = λ h k recovers.
     let moment = c.prepare.ensures.table.moment in
     let same = ap (λ (s : State). s.moment) c.abandon.ensures.table in
-    let after = c.prepare.ensures.after h (subst (λ m. IsAfter m h) (sym (ap (λ s. s.machine) c.self.view_is)) rests.after) in
-    rests_later _ c.args.self.now _ h k rests (ap (λ s. s.store) c.self.view_is) (ap (λ s. s.payload) c.self.view_is) (ap (λ s. s.acts) c.self.view_is)
+    let after = c.prepare.ensures.after h (subst (λ m. IsAfter m h) (sym (ap (λ s. s.machine) c.self.view_is)) recovers.after) in
+    recovers_later _ c.args.self.now _ h k recovers (ap (λ s. s.store) c.self.view_is) (ap (λ s. s.payload) c.self.view_is) (ap (λ s. s.acts) c.self.view_is)
     (omega (arith, c.requires.clock, moment, same)) (after_same c.prepare.new.self c.abandon.new.self h c.abandon.ensures.setting.config c.abandon.ensures.table after)
 
 pub stage_datagram-requires : goal.stage_datagram-requires
@@ -155,11 +155,11 @@ pub returns-clause-arrivals : goal.returns-clause-arrivals
 returns-clause-arrivals g c = ap (λ s. s.arrivals + 1) c.self.view_is
 
 pub returns-clause-ok : goal.returns-clause-ok
-returns-clause-ok g c = λ h k rests.
+returns-clause-ok g c = λ h k recovers.
     let t = c.args.moment in
     let change = c.in-Ok.step.change in
     let failures = g.G.RelayAddressGenerator.failures in
-    let after_old : IsAfter c.self.inside.machine h = subst (λ m. IsAfter m h) (sym (ap (λ s. s.machine) c.self.view_is)) rests.after in
+    let after_old : IsAfter c.self.inside.machine h = subst (λ m. IsAfter m h) (sym (ap (λ s. s.machine) c.self.view_is)) recovers.after in
     let moment : c.prepare.new.self.table.moment ≡ t = c.prepare.ensures.table.moment in
     let answers = subst (λ s. AnswersArrival (setting_of g.H.AuthHandler.key_of g.G.RelayAddressGenerator.range s.machine) h t
     (has_failed (failures s.machine.ports) (failures c.prepare.new.self.ports)) (arrival_of c.args.arrival.now) c.in-Ok.step) c.self.view_is (c.in-Ok.ensures.answers h after_old) in
@@ -172,7 +172,7 @@ returns-clause-ok g c = λ h k rests.
           (has_failed (failures c.args.self.now.machine.ports) n) (arrival_of c.args.arrival.now) c.in-Ok.step) (sym c.apply-datagram.ensures.count) answers;
       outs = c.stage_datagram.ensures ∙ ap (λ l. map sent_of l ++ option_to_list (option_map sent_of c.apply-datagram.result)) c.reserve.ensures.items
           ∙ ap (λ o. map sent_of c.self.inside.outgoing.items ++ option_to_list o) c.apply-datagram.ensures.sent ∙ ap (λ s. s.outs ++ option_to_list c.in-Ok.step.sent) c.self.view_is;
-      rests = rests_taken _ c.args.self.now _ h k t change rests (ap (λ s. s.store) c.self.view_is) (λ es is. c.stage_act.ensures.payload es (ap (λ s. s.payload) c.self.view_is ∙ is))
+      recovers = recovers_taken _ c.args.self.now _ h k t change recovers (ap (λ s. s.store) c.self.view_is) (λ es is. c.stage_act.ensures.payload es (ap (λ s. s.payload) c.self.view_is ∙ is))
           (c.stage_act.ensures.acts ∙ ap (λ s. s.acts + length (added t change)) c.self.view_is) c.requires.clock
           (ap (λ (s : State). s.moment) c.apply-datagram.ensures.table ∙ moment_changed c.prepare.new.self.table change ∙ moment) writes after;
     }

@@ -8,7 +8,7 @@ use Rattle.turn_store.specs.Stages.{InStages}
 use Rattle.turn_store.specs.State.{form_of}
 use Rattle.turn_types.specs.declared.limits.Bounds.{Bounds}
 use Rattle.turn_engine.specs.Images.{AtLeast}
-use Rattle.turn_engine.specs.Resting.{Rests}
+use Rattle.turn_engine.specs.Recovering.{RecoversTo}
 use Rattle.turn_engine.specs.State.{ServerState, emptied, has_pairs, now_of}
 use Rattle.turn_engine.proofs.Written.{all_stored, contents_are, few_acts, form_kept, has_size, may_follow, none_staged, not_written, some_acts, stages_none, stages_written, version_kept, written}
 use Rattle.turn_engine.proofs.server.Server.write.Goals as goal
@@ -30,10 +30,10 @@ pub returns-then-is_stopped-clause-worn : goal.returns-then-is_stopped-clause-wo
 returns-then-is_stopped-clause-worn g c = (λ e. cc, λ facts. let runs = facts.0 in let is = returns-then-is_stopped-clause-stops g c in cc)
 
 pub returns-then-is_stopped-clause-stages : goal.returns-then-is_stopped-clause-stages
-returns-then-is_stopped-clause-stages g c = λ honest h k rests. stages_none _ _ c.args.self.now h k refl rests
+returns-then-is_stopped-clause-stages g c = λ crash_model h k recovers. stages_none _ _ c.args.self.now h k refl recovers
 
 pub returns-then-is_stopped-clause-stop : goal.returns-then-is_stopped-clause-stop
-returns-then-is_stopped-clause-stop g c = λ honest h k rests. not_written _ _ c.args.self.now h k refl rests
+returns-then-is_stopped-clause-stop g c = λ crash_model h k recovers. not_written _ _ c.args.self.now h k refl recovers
 
 pub returns-then-acts-eq0-clause-nothing : goal.returns-then-acts-eq0-clause-nothing
 returns-then-acts-eq0-clause-nothing g c = λ _ _. (refl, refl)
@@ -53,14 +53,14 @@ returns-then-acts-eq0-clause-worn g c =
     (λ e. cc, λ facts. let some = facts.1 in absurd (omega (arith, some, none)))
 
 pub returns-then-acts-eq0-clause-stages : goal.returns-then-acts-eq0-clause-stages
-returns-then-acts-eq0-clause-stages g c = λ honest h k rests. stages_none _ _ c.args.self.now h k refl rests
+returns-then-acts-eq0-clause-stages g c = λ crash_model h k recovers. stages_none _ _ c.args.self.now h k refl recovers
 
 pub returns-then-acts-eq0-clause-stop : goal.returns-then-acts-eq0-clause-stop
-returns-then-acts-eq0-clause-stop g c = λ honest h k rests. not_written _ _ c.args.self.now h k refl rests
+returns-then-acts-eq0-clause-stop g c = λ crash_model h k recovers. not_written _ _ c.args.self.now h k refl recovers
 
 pub returns-then-acts-eq0-clause-done : goal.returns-then-acts-eq0-clause-done
-returns-then-acts-eq0-clause-done g c = λ honest h k rests.
-    none_staged _ c.args.self.now h k rests (sym (ap (λ s. s.acts) c.self.view_is) ∙ sym c.acts.ensures.value ∙ c.if-acts-eq0.true)
+returns-then-acts-eq0-clause-done g c = λ crash_model h k recovers.
+    none_staged _ c.args.self.now h k recovers (sym (ap (λ s. s.acts) c.self.view_is) ∙ sym c.acts.ensures.value ∙ c.if-acts-eq0.true)
 
 pub invariant_of-self : goal.invariant_of-self
 invariant_of-self g c =
@@ -102,32 +102,32 @@ pub returns-clause-untouched_worn : goal.returns-clause-untouched_worn
 returns-clause-untouched_worn g c = search rules
 
 pub returns-clause-stages : goal.returns-clause-stages
-returns-clause-stages g c = λ honest h k old.
+returns-clause-stages g c = λ crash_model h k old.
     let trace = g.D.Disk.trace in
-    let rests = subst (λ s. Rests (trace s.store.disk).now s h k) (sym c.self.view_is) old in
+    let recovers = subst (λ s. RecoversTo (trace s.store.disk).now s h k) (sym c.self.view_is) old in
     let stages = rw (c.table.ensures.value, c.payload.ensures.value) at c.append.ensures.stages in
     subst (λ s. InStages (trace s.store.disk) (trace c.append.new.self.disk) (StandsBy (form_of s.store) (take k h) (now_of s)) (EitherBy (form_of s.store) (take k h) (drop k h) (now_of s))) c.self.view_is
-    (stages_written _ _ _ h k rests (stages honest rests.at (take k h) (drop k h) rests.stored (may_follow _ _ h k rests c.self.invariant.store_is c.self.invariant.snapshot.moment)
-    (has_size _ _ h k rests (some_acts c.acts.result _ c.acts.ensures.value c.if-acts-eq0.false) (few_acts _ _ _ _ c.self.invariant.few c.self.invariant.capped (ap (λ (b : Bounds). b.acts) c.self.invariant.store_is))) rests.staged (contents_are _ _ h k rests)))
+    (stages_written _ _ _ h k recovers (stages crash_model recovers.at (take k h) (drop k h) recovers.stored (may_follow _ _ h k recovers c.self.invariant.store_is c.self.invariant.snapshot.moment)
+    (has_size _ _ h k recovers (some_acts c.acts.result _ c.acts.ensures.value c.if-acts-eq0.false) (few_acts _ _ _ _ c.self.invariant.few c.self.invariant.capped (ap (λ (b : Bounds). b.acts) c.self.invariant.store_is))) recovers.staged (contents_are _ _ h k recovers)))
 
 pub returns-clause-stop : goal.returns-clause-stop
-returns-clause-stop g c = λ honest h k old.
+returns-clause-stop g c = λ crash_model h k old.
     let trace = g.D.Disk.trace in
-    let rests = subst (λ s. Rests (trace s.store.disk).now s h k) (sym c.self.view_is) old in
+    let recovers = subst (λ s. RecoversTo (trace s.store.disk).now s h k) (sym c.self.view_is) old in
     let stages = rw (c.table.ensures.value, c.payload.ensures.value) at c.append.ensures.stages in
     subst (λ s. EachImageSince (trace s.store.disk) (trace c.append.new.self.disk) (AtLeast (form_of s.store) h k (now_of s))) c.self.view_is
-    (written _ _ _ h k rests (stages honest rests.at (take k h) (drop k h) rests.stored (may_follow _ _ h k rests c.self.invariant.store_is c.self.invariant.snapshot.moment)
-    (has_size _ _ h k rests (some_acts c.acts.result _ c.acts.ensures.value c.if-acts-eq0.false) (few_acts _ _ _ _ c.self.invariant.few c.self.invariant.capped (ap (λ (b : Bounds). b.acts) c.self.invariant.store_is))) rests.staged (contents_are _ _ h k rests)))
+    (written _ _ _ h k recovers (stages crash_model recovers.at (take k h) (drop k h) recovers.stored (may_follow _ _ h k recovers c.self.invariant.store_is c.self.invariant.snapshot.moment)
+    (has_size _ _ h k recovers (some_acts c.acts.result _ c.acts.ensures.value c.if-acts-eq0.false) (few_acts _ _ _ _ c.self.invariant.few c.self.invariant.capped (ap (λ (b : Bounds). b.acts) c.self.invariant.store_is))) recovers.staged (contents_are _ _ h k recovers)))
 
 pub returns-clause-done : goal.returns-clause-done
-returns-clause-done g c = λ honest h k old.
+returns-clause-done g c = λ crash_model h k old.
     let trace = g.D.Disk.trace in
-    let rests = subst (λ s. Rests (trace s.store.disk).now s h k) (sym c.self.view_is) old in
+    let recovers = subst (λ s. RecoversTo (trace s.store.disk).now s h k) (sym c.self.view_is) old in
     elim c.match-append.branch [
       | in-Ok w ↦
           let done = rw (c.table.ensures.value, c.payload.ensures.value) at w.in-Ok.ensures.done in
-          rw w.result-is (subst (λ s. Rests (trace c.append.new.self.disk).now (emptied s c.append.new.self) h (length h)) c.self.view_is
-          (all_stored _ _ _ c.append.new.self h k rests (done honest rests.at (take k h) (drop k h) rests.stored
-          (may_follow _ _ h k rests c.self.invariant.store_is c.self.invariant.snapshot.moment) (has_size _ _ h k rests (some_acts c.acts.result _ c.acts.ensures.value c.if-acts-eq0.false) (few_acts _ _ _ _ c.self.invariant.few c.self.invariant.capped (ap (λ (b : Bounds). b.acts) c.self.invariant.store_is))) rests.staged (contents_are _ _ h k rests))))
+          rw w.result-is (subst (λ s. RecoversTo (trace c.append.new.self.disk).now (emptied s c.append.new.self) h (length h)) c.self.view_is
+          (all_stored _ _ _ c.append.new.self h k recovers (done crash_model recovers.at (take k h) (drop k h) recovers.stored
+          (may_follow _ _ h k recovers c.self.invariant.store_is c.self.invariant.snapshot.moment) (has_size _ _ h k recovers (some_acts c.acts.result _ c.acts.ensures.value c.if-acts-eq0.false) (few_acts _ _ _ _ c.self.invariant.few c.self.invariant.capped (ap (λ (b : Bounds). b.acts) c.self.invariant.store_is))) recovers.staged (contents_are _ _ h k recovers))))
       | in-Err w ↦ rw w.result-is tt
     ]

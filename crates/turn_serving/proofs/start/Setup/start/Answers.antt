@@ -8,18 +8,18 @@ pub returns-in-Err-open-clause-stop_err : goal.returns-in-Err-open-clause-stop_e
 returns-in-Err-open-clause-stop_err g c = (joined g.D.Disk c.in-Ok.ensures.kept.images c.in-Err-open.ensures.images_err).stop
 
 pub returns-in-Err-open-clause-same_err : goal.returns-in-Err-open-clause-same_err
-returns-in-Err-open-clause-same_err g c honest later =
-    let unasked = c.is_first-carry.ensures ∙ not_first _ _ (c.in-Ok.ensures.version (c.in-Err-open.ensures.images_err.honest honest)) later in
-    (both_kept g.D.Disk c.in-Ok.ensures.kept (c.in-Err-open.ensures.kept_err unasked)).content honest
+returns-in-Err-open-clause-same_err g c crash_model later =
+    let unasked = c.is_first-carry.ensures ∙ not_first _ _ (c.in-Ok.ensures.version (c.in-Err-open.ensures.images_err.crash_model crash_model)) later in
+    (both_kept g.D.Disk c.in-Ok.ensures.kept (c.in-Err-open.ensures.kept_err unasked)).content crash_model
 
-pub returns-then-not-holds_ports-clause-honest_err : goal.returns-then-not-holds_ports-clause-honest_err
-returns-then-not-holds_ports-clause-honest_err g c honest =
-    c.in-Ok.ensures.kept.images.honest (c.in-Ok-open.ensures.opens.uses.honest (subst (λ d. g.D.Disk.is_honest d) c.close-disk.ensures.disk honest))
+pub returns-then-not-holds_ports-clause-crash_model_err : goal.returns-then-not-holds_ports-clause-crash_model_err
+returns-then-not-holds_ports-clause-crash_model_err g c crash_model =
+    c.in-Ok.ensures.kept.images.crash_model (c.in-Ok-open.ensures.opens.uses.crash_model (subst (λ d. g.D.Disk.follows_crash_model d) c.close-disk.ensures.disk crash_model))
 
 pub returns-then-not-holds_ports-clause-same_err : goal.returns-then-not-holds_ports-clause-same_err
-returns-then-not-holds_ports-clause-same_err g c honest later =
-    let now = subst (λ d. g.D.Disk.is_honest d) c.close-disk.ensures.disk honest in
-    let unasked = c.is_first-carry.ensures ∙ not_first _ _ (c.in-Ok.ensures.version (c.in-Ok-open.ensures.opens.uses.honest now)) later in
+returns-then-not-holds_ports-clause-same_err g c crash_model later =
+    let now = subst (λ d. g.D.Disk.follows_crash_model d) c.close-disk.ensures.disk crash_model in
+    let unasked = c.is_first-carry.ensures ∙ not_first _ _ (c.in-Ok.ensures.version (c.in-Ok-open.ensures.opens.uses.crash_model now)) later in
     ap (λ d. (g.D.Disk.trace d).now.bytes) c.close-disk.ensures.disk ∙ (both_kept g.D.Disk c.in-Ok.ensures.kept (c.in-Ok-open.ensures.kept unasked)).content now
 
 pub returns-then-not-holds_ports-clause-stop_err : goal.returns-then-not-holds_ports-clause-stop_err
@@ -39,9 +39,9 @@ pub returns-clause-held : goal.returns-clause-held
 returns-clause-held g c = rw c.new.ensures (c.holds_ports.ensures.0 search)
 
 pub returns-clause-same : goal.returns-clause-same
-returns-clause-same g c honest later =
-    let now = subst (λ s. g.D.Disk.is_honest s.store.disk) c.new.ensures honest in
-    let unasked = c.is_first-carry.ensures ∙ not_first _ _ (c.in-Ok.ensures.version (c.in-Ok-open.ensures.opens.uses.honest now)) later in
+returns-clause-same g c crash_model later =
+    let now = subst (λ s. g.D.Disk.follows_crash_model s.store.disk) c.new.ensures crash_model in
+    let unasked = c.is_first-carry.ensures ∙ not_first _ _ (c.in-Ok.ensures.version (c.in-Ok-open.ensures.opens.uses.crash_model now)) later in
     ap (λ s. (g.D.Disk.trace s.store.disk).now.bytes) c.new.ensures ∙ (both_kept g.D.Disk c.in-Ok.ensures.kept (c.in-Ok-open.ensures.kept unasked)).content now
 
 pub returns-clause-stop : goal.returns-clause-stop

@@ -4,7 +4,7 @@ use Rattle.turn_history.specs.Fitting.{Follows, is_taken}
 use Rattle.turn_history.specs.Laws.{PortsApart, ReservedApart}
 use Rattle.turn_table.specs.State.{State}
 use Rattle.turn_table.specs.Table.{Agrees}
-use Rattle.turn_step.specs.Outcome.{Change, Outcome, change_of, event_at}
+use Rattle.turn_step.specs.Outcome.{Change, StepOutcome, change_of, event_at}
 use Rattle.turn_step.proofs.Holding.{applied_holds, change_by, held_change, next_change}
 use Rattle.turn_step.proofs.Machines.{after_change}
 use Rattle.turn_step.proofs.machine.Machine.apply.Goals as goal
@@ -14,7 +14,7 @@ returns-in-Some-clause-after g c h after =
     let change : Change = change_of c.in-Some.change.value.0 (act_of c.in-Some.change.value.1) in
     let new = c.apply-freed.new.self in
     after_change c.args.self.now _ h c.args.step.change change
-    (ap (λ (o : Outcome). o.change) c.into_parts-act.ensures ∙ ap (option_map (λ b. change_of b.value.0 (act_of b.value.1))) c.in-Some.is)
+    (ap (λ (o : StepOutcome). o.change) c.into_parts-act.ensures ∙ ap (option_map (λ b. change_of b.value.0 (act_of b.value.1))) c.in-Some.is)
     (sym (ap (λ m. m.table.bounds) c.self.view_is) ∙ c.self.invariant.1 ∙ ap (λ m. m.config.limits) c.self.view_is)
     c.requires.next
     (ap (λ m. m.config) c.self.view_is)

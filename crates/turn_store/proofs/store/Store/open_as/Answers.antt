@@ -9,7 +9,7 @@ use Rattle.turn_record.proofs.Kept.{snapshot-carried}
 use Rattle.turn_store.specs.Carrying.{Carries}
 use Rattle.turn_store.specs.Opened.{IsOpened}
 use Rattle.turn_store.specs.Tables.{snapshot_of}
-use Rattle.turn_store.proofs.Carried.{all_ok, and_err, and_ok, at_err, at_ok, carried_since, counts_as, kept_carries, on_err, on_ok, opened_anew, over_carries, plain_why, same_bounds}
+use Rattle.turn_store.proofs.Carried.{all_ok, and_err, and_ok, at_err, at_ok, carried_since, is_active_as, kept_carries, on_err, on_ok, opened_anew, over_carries, plain_why, same_bounds}
 use Rattle.turn_store.proofs.Sound.{not_both}
 use Rattle.turn_store.proofs.store.Store.open_as.Goals as goal
 
@@ -26,7 +26,7 @@ returns-in-Err g c = let is = c.in-Err.ensures in record {
   opened = tt;
   why = is.why;
   carried = tt;
-  rests = tt;
+  recovers = tt;
   sound = is.sound;
 }
 
@@ -44,8 +44,8 @@ returns-then-not-is_carried g c =
       settled = tt;
       opened = is.opened;
       why = tt;
-      carried = λ honest. kept_carries c.args.carry _ _ (counts_as _ _ _ _ (is.opened honest) (is.same refl honest)) (λ over. not_both c.is_carried.result (c.is_carried.ensures.1 over) c.if-not-is_carried.true);
-      rests = is.rests;
+      carried = λ crash_model. kept_carries c.args.carry _ _ (is_active_as _ _ _ _ (is.opened crash_model) (is.same refl crash_model)) (λ over. not_both c.is_carried.result (c.is_carried.ensures.1 over) c.if-not-is_carried.true);
+      recovers = is.recovers;
       sound = tt;
     }
 
@@ -78,32 +78,32 @@ returns g c =
       runs = on_ok _ _ c.carry_over.result (λ o is. ap (λ st. st.stopped) is ∙ c.in-Ok.ensures.runs) c.carry_over.ensures.store;
       snapshot = on_ok _ _ c.carry_over.result (λ o both. subst (λ (v : Version). IsSnapshot v c.args.limits o.table.moment o.table.contents) (sym (ap (λ st. st.version) both.0)) (subst (λ table. IsSnapshot V2 c.args.limits table.moment table.contents) (sym both.1) can))
           (and_ok _ _ c.carry_over.result c.carry_over.ensures.store c.carry_over.ensures.table);
-      stop = λ honest form h clock stands.
-          let before = c.carry_over.ensures.uses.honest honest in
+      stop = λ crash_model form h clock stands.
+          let before = c.carry_over.ensures.uses.crash_model crash_model in
           let same = same_bounds c.in-Ok.opened.store _ _ form h clock c.args.limits _ (c.in-Ok.ensures.opened before) (c.in-Ok.ensures.same refl before) c.in-Ok.ensures.bounds.0 stands in
-          carried_since form h clock _ _ _ (c.in-Ok.ensures.stop_kept refl before) (c.carry_over.ensures.stop honest form h clock (c.in-Ok.ensures.rests before form h clock same stands));
+          carried_since form h clock _ _ _ (c.in-Ok.ensures.stop_kept refl before) (c.carry_over.ensures.stop crash_model form h clock (c.in-Ok.ensures.recovers before form h clock same stands));
       same = λ no. absurd (not_both c.args.carry is.asked no);
       stop_kept = λ no. absurd (not_both c.args.carry is.asked no);
       settled = on_err _ _ c.carry_over.result
-          (λ r both honest other. subst (λ d. IsSettled (g.D.Disk.trace d).now) (sym (both.1 other)) (c.in-Ok.ensures.opened (both.0 honest)).shows.rests.holds.settled)
-          (and_err _ _ c.carry_over.result (at_err (λ d. g.D.Disk.is_honest d → g.D.Disk.is_honest c.in-Ok.opened.store.disk) c.carry_over.result c.carry_over.ensures.uses.honest) c.carry_over.ensures.untouched);
+          (λ r both crash_model other. subst (λ d. IsSettled (g.D.Disk.trace d).now) (sym (both.1 other)) (c.in-Ok.ensures.opened (both.0 crash_model)).shows.recovers.holds.settled)
+          (and_err _ _ c.carry_over.result (at_err (λ d. g.D.Disk.follows_crash_model d → g.D.Disk.follows_crash_model c.in-Ok.opened.store.disk) c.carry_over.result c.carry_over.ensures.uses.crash_model) c.carry_over.ensures.untouched);
       opened = on_ok _ _ c.carry_over.result
-          (λ o all honest.
+          (λ o all crash_model.
           let bounds = ap (λ st. st.bounds) all.0 ∙ c.in-Ok.ensures.bounds.0 in
-          let before = c.in-Ok.ensures.opened (all.2.0 honest) in
+          let before = c.in-Ok.ensures.opened (all.2.0 crash_model) in
           subst (λ table. IsOpened o.store (g.D.Disk.trace o.store.disk).now (snapshot_of table)) (sym all.1)
-          (opened_anew o.store _ (snapshot_of t) (ap (λ st. st.version) all.0) (subst (λ (b : Bounds). IsSnapshot V2 b t.moment t.contents) (sym bounds) can) (all.2.1 honest before.snapshot before.payloads before.shows)))
-          (all_ok _ _ _ c.carry_over.result c.carry_over.ensures.store c.carry_over.ensures.table (and_ok _ _ c.carry_over.result (at_ok (λ d. g.D.Disk.is_honest d → g.D.Disk.is_honest c.in-Ok.opened.store.disk) c.carry_over.result c.carry_over.ensures.uses.honest) c.carry_over.ensures.shown));
-      why = on_err _ _ c.carry_over.result (λ r plain honest. plain_why c.args.limits _ r.fault plain) c.carry_over.ensures.plain;
+          (opened_anew o.store _ (snapshot_of t) (ap (λ st. st.version) all.0) (subst (λ (b : Bounds). IsSnapshot V2 b t.moment t.contents) (sym bounds) can) (all.2.1 crash_model before.snapshot before.payloads before.shows)))
+          (all_ok _ _ _ c.carry_over.result c.carry_over.ensures.store c.carry_over.ensures.table (and_ok _ _ c.carry_over.result (at_ok (λ d. g.D.Disk.follows_crash_model d → g.D.Disk.follows_crash_model c.in-Ok.opened.store.disk) c.carry_over.result c.carry_over.ensures.uses.crash_model) c.carry_over.ensures.shown));
+      why = on_err _ _ c.carry_over.result (λ r plain crash_model. plain_why c.args.limits _ r.fault plain) c.carry_over.ensures.plain;
       carried = let old = c.in-Ok.opened.store in
           let content = (g.D.Disk.trace c.args.disk).now.bytes in
           on_ok _ _ c.carry_over.result
-          (λ o both honest.
-          let before = both.0 honest in
+          (λ o both crash_model.
+          let before = both.0 crash_model in
           subst (λ st. Carries c.args.carry content st) (sym both.1)
-          (over_carries c.args.carry content old (snapshot_of t) (counts_as old _ (snapshot_of t) content (c.in-Ok.ensures.opened before) (c.in-Ok.ensures.same refl before)) is o.store.disk))
-          (and_ok _ _ c.carry_over.result (at_ok (λ d. g.D.Disk.is_honest d → g.D.Disk.is_honest c.in-Ok.opened.store.disk) c.carry_over.result c.carry_over.ensures.uses.honest) c.carry_over.ensures.store);
-      rests = on_ok _ _ c.carry_over.result (λ o both honest form h clock same stands. both.1 honest form h clock (c.in-Ok.ensures.rests (both.0 honest) form h clock same stands))
-          (and_ok _ _ c.carry_over.result (at_ok (λ d. g.D.Disk.is_honest d → g.D.Disk.is_honest c.in-Ok.opened.store.disk) c.carry_over.result c.carry_over.ensures.uses.honest) c.carry_over.ensures.rests);
-      sound = on_err _ _ c.carry_over.result (λ r plain honest form h clock same stands. plain) c.carry_over.ensures.plain;
+          (over_carries c.args.carry content old (snapshot_of t) (is_active_as old _ (snapshot_of t) content (c.in-Ok.ensures.opened before) (c.in-Ok.ensures.same refl before)) is o.store.disk))
+          (and_ok _ _ c.carry_over.result (at_ok (λ d. g.D.Disk.follows_crash_model d → g.D.Disk.follows_crash_model c.in-Ok.opened.store.disk) c.carry_over.result c.carry_over.ensures.uses.crash_model) c.carry_over.ensures.store);
+      recovers = on_ok _ _ c.carry_over.result (λ o both crash_model form h clock same stands. both.1 crash_model form h clock (c.in-Ok.ensures.recovers (both.0 crash_model) form h clock same stands))
+          (and_ok _ _ c.carry_over.result (at_ok (λ d. g.D.Disk.follows_crash_model d → g.D.Disk.follows_crash_model c.in-Ok.opened.store.disk) c.carry_over.result c.carry_over.ensures.uses.crash_model) c.carry_over.ensures.recovers);
+      sound = on_err _ _ c.carry_over.result (λ r plain crash_model form h clock same stands. plain) c.carry_over.ensures.plain;
     }

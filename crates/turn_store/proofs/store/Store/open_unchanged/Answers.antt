@@ -4,7 +4,7 @@ use Rattle.turn_store.specs.Images.{StandsForAt}
 use Rattle.turn_store.specs.Opened.{IsChosen}
 use Rattle.turn_store.specs.Superblock.{HasSuperblock}
 use Rattle.turn_store.specs.Tables.{snapshot_of}
-use Rattle.turn_store.proofs.Carried.{counts_as, kept_carries, kept_since}
+use Rattle.turn_store.proofs.Carried.{is_active_as, kept_carries, kept_since}
 use Rattle.turn_store.proofs.Opens.{opened, opens_to}
 use Rattle.turn_store.proofs.store.Store.open_unchanged.Goals as goal
 
@@ -12,27 +12,27 @@ pub returns-in-Ok : goal.returns-in-Ok
 returns-in-Ok g c =
     let r = c.in-Ok.chosen in
     let is = c.in-Ok.ensures in
-    let opened_now = λ (honest : g.D.Disk.is_honest c.load.new.disk).
+    let opened_now = λ (crash_model : g.D.Disk.follows_crash_model c.load.new.disk).
     let state = (g.D.Disk.trace c.load.new.disk).now in
-    let same = is.same honest in
-    let has = subst (λ (l : List ℕ). HasSuperblock r.loaded.journal.size c.args.limits l) (sym same) (is.superblock honest) in
+    let same = is.same crash_model in
+    let has = subst (λ (l : List ℕ). HasSuperblock r.loaded.journal.size c.args.limits l) (sym same) (is.superblock crash_model) in
     let chosen = subst (λ (l : List ℕ). IsChosen r.loaded.version c.args.limits r.loaded.journal.size r.loaded.journal.start r.other r.generation r.loaded.journal.end r.loaded.frames r.other_is_below (snapshot_of r.loaded.table) l)
-    (sym same) (is.chosen honest) in
-    opened _ state (snapshot_of r.loaded.table) (is.settled honest) has is.area.0 (g.met.D.Disk.sized c.load.new.disk honest ∙ sym is.place) (rw is.place is.addressable) chosen in
+    (sym same) (is.chosen crash_model) in
+    opened _ state (snapshot_of r.loaded.table) (is.settled crash_model) has is.area.0 (g.met.D.Disk.sized c.load.new.disk crash_model ∙ sym is.place) (rw is.place is.addressable) chosen in
     record {
       uses = uses_as (λ never. absurd never) (λ e. cc) is.uses;
       bounds = (refl, is.bounds);
       runs = refl;
       snapshot = is.snapshot;
-      stop = λ honest form h clock stands. kept_since form h clock _ _ (is.stop honest);
-      same = λ no honest. is.same honest;
-      stop_kept = λ no honest. is.stop honest;
+      stop = λ crash_model form h clock stands. kept_since form h clock _ _ (is.stop crash_model);
+      same = λ no crash_model. is.same crash_model;
+      stop_kept = λ no crash_model. is.stop crash_model;
       settled = tt;
       opened = opened_now;
       why = tt;
-      carried = λ honest. kept_carries false _ _ (counts_as _ _ _ _ (opened_now honest) (is.same honest)) (λ over. let asked = over.asked in cc);
-      rests = λ honest form h clock same stands.
-          opens_to form h clock _ _ (snapshot_of r.loaded.table) (opened_now honest) (sym same) refl (subst (λ (l : List ℕ). StandsForAt form h clock l) (sym (is.same honest)) stands);
+      carried = λ crash_model. kept_carries false _ _ (is_active_as _ _ _ _ (opened_now crash_model) (is.same crash_model)) (λ over. let asked = over.asked in cc);
+      recovers = λ crash_model form h clock same stands.
+          opens_to form h clock _ _ (snapshot_of r.loaded.table) (opened_now crash_model) (sym same) refl (subst (λ (l : List ℕ). StandsForAt form h clock l) (sym (is.same crash_model)) stands);
       sound = tt;
     }
 
@@ -44,13 +44,13 @@ returns-in-Err g c =
       bounds = tt;
       runs = tt;
       snapshot = tt;
-      stop = λ honest form h clock stands. kept_since form h clock _ _ (is.stop honest);
-      same = λ no honest. is.same honest;
-      stop_kept = λ no honest. is.stop honest;
+      stop = λ crash_model form h clock stands. kept_since form h clock _ _ (is.stop crash_model);
+      same = λ no crash_model. is.same crash_model;
+      stop_kept = λ no crash_model. is.stop crash_model;
       settled = is.settled_err;
       opened = tt;
       why = is.why;
       carried = tt;
-      rests = tt;
+      recovers = tt;
       sound = is.sound;
     }

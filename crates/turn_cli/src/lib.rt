@@ -1,0 +1,8 @@
+//! The words of the program `turn`: a command line as a command with its values.
+#![tactic(auto)]
+
+mod command;
+mod error;
+
+pub use command::{Command, command_of, shown_at};
+pub use error::CliError;

@@ -1,8 +1,0 @@
-//! The words of the program `turn`: a command line as a command with its values.
-#![tactic(auto)]
-
-mod command;
-mod fault;
-
-pub use command::{Command, command_of, shown_at};
-pub use fault::WordFault;
