@@ -119,7 +119,7 @@ fn fill<T: Takes>(
     };
     let is_taken = server.take(moment, &arrival);
     let table = server.live();
-    let is_bound = table.channel_to(five_tuple(CLIENT), PEER) == Some(CHANNEL);
+    let is_bound = table.peer_of(five_tuple(CLIENT), CHANNEL) == Some(PEER);
     if is_taken && is_bound && table.len() == usize::from(allocations) {
         Ok(())
     } else {

@@ -132,7 +132,7 @@ fn replay<A: Allocator + Copy>(
         Act::AllocEven { .. } => {}
         Act::Renew { granted } => entry.expiry = moment + *granted as u64,
         Act::Permit { addresses } => permit(&mut entry, addresses.as_slice(), moment + 300)?,
-        Act::Bind { number, peer } => bind(&mut entry, *number, *peer, moment)?,
+        Act::Bind { number, peer } => bind(&mut entry, number.get(), *peer, moment)?,
     }
     Ok(Some(entry))
 }

@@ -10,6 +10,7 @@ use test_requests::{
 };
 use turn_codec::Message;
 use turn_cred::Credentials;
+use turn_history::ChannelNumber;
 use turn_mac::integrity_holds;
 use turn_ports::RelayAddressGenerator;
 use turn_step::{Arrival, Machine, Outgoing};
@@ -294,10 +295,11 @@ impl<A: Allocator + Copy> Player<A> {
     /// The port to which 0x4000 is bound at 203.0.113.5, 0 for none.
     fn bound(&self, rt: &impl Abort) -> u16 {
         let tuple = five_tuple(FIRST);
-        match self.table().peer_of(tuple, 0x4000) {
+        let lowest = ChannelNumber::MIN;
+        match self.table().peer_of(tuple, lowest.get()) {
             Some(peer) => {
                 assert!(rt; peer.ip == PEER_IP);
-                assert!(rt; self.table().channel_to(tuple, peer) == Some(0x4000));
+                assert!(rt; self.table().channel_to(tuple, peer) == Some(lowest));
                 peer.port
             }
             None => 0,

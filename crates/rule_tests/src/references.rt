@@ -7,7 +7,7 @@ use reference_table::{Entry, reserved_at, table_at};
 use std::alloc::{Allocator, Global};
 use std::collections::BTreeMap;
 use std::process::Abort;
-use turn_history::{Event, Reservation};
+use turn_history::{ChannelNumber, Event, Reservation};
 use turn_ports::PortSet;
 use turn_table::Table;
 use turn_types::{Bounds, Endpoint, FiveTuple, Limits, Moment};
@@ -154,7 +154,7 @@ fn has_same_channels<A: Allocator + Copy>(
             return false;
         }
         if let Some(channel) = channel {
-            if entry.channel_to(channel.peer) != Some(number) {
+            if entry.channel_to(channel.peer).map(ChannelNumber::get) != Some(number) {
                 return false;
             }
         }
@@ -325,7 +325,7 @@ fn binds_same<A: Allocator + Copy>(
     for place in 0..4u16 {
         let (number, peer) = (0x4000 + place, peer(1 + place));
         if table.peer_of(tuple, number) != peer_of(expected, number)
-            || table.channel_to(tuple, peer) != number_to(expected, peer)
+            || table.channel_to(tuple, peer).map(ChannelNumber::get) != number_to(expected, peer)
         {
             return false;
         }

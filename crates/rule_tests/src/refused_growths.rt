@@ -14,7 +14,7 @@ use test_requests::{
 use turn_codec::{AttributeType, Builder, Message};
 use turn_mac::{append_fingerprint, append_integrity};
 use turn_relay::{ToClient, from_client, from_peer};
-use turn_rules::{ClientMessage, Decision, decide};
+use turn_rules::{ClientMessage, Decision, assess, decide};
 use turn_table::Table;
 use turn_types::{Class, Method, ServerConfig};
 
@@ -42,14 +42,15 @@ fn decided(
     port: Option<u16>,
 ) -> Option<(bool, bool)> {
     let moment = table.moment();
-    match decide(refusing, table, config, request, moment, port, true) {
+    let assess = || assess(table, config, request, moment, true);
+    match decide(refusing, table, config, request, moment, assess(), port) {
         Ok(decided) => {
             assert!(rt; refusing.left() == 0);
             Some(found(rt, &decided))
         }
         Err(_) => {
             assert!(rt; refusing.has_refused());
-            let again = decide(refusing, table, config, request, moment, port, true);
+            let again = decide(refusing, table, config, request, moment, assess(), port);
             assert!(rt; again.expect(rt, "memory").reply.is_some());
             None
         }
@@ -163,9 +164,7 @@ fn written<'a>(
     out: &ToClient<'_>,
 ) -> Option<Vec<u8, &'a FailingAlloc<Global>>> {
     match out.channel {
-        Some(number) => {
-            assert!(rt; 0x4000 <= number && number < 0x8000 && out.bytes.len() <= 65503);
-        }
+        Some(_) => assert!(rt; out.bytes.len() <= 65503),
         None => assert!(rt; out.bytes.len() <= 65468),
     }
     match out.write(refusing, ID) {

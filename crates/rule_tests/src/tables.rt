@@ -7,7 +7,7 @@ use crate::setup::moment_at;
 use failing_alloc::FailingAlloc;
 use std::alloc::{Allocator, Global};
 use std::process::Abort;
-use turn_history::{Act, Addresses, Channel, Reservation, UserName};
+use turn_history::{Act, Addresses, Channel, ChannelNumber, Reservation, UserName};
 use turn_ports::PortSet;
 use turn_table::{Entry, EntryParts, Table, above_the_last, above_the_last_reserved};
 use turn_types::{Endpoint, FiveTuple, Limits, Token, TxId};
@@ -74,7 +74,7 @@ pub fn act_of<A: Allocator + Copy>(rt: &impl Abort, alloc: A, step: Step) -> Act
             addresses: Addresses::from(Vec::from_slice(alloc, addresses).expect(rt, "memory")),
         },
         Step::Bind(number, port) => Act::Bind {
-            number,
+            number: ChannelNumber::new(number).expect(rt, "a channel number"),
             peer: peer(port),
         },
     }
@@ -112,8 +112,8 @@ pub fn apply<A: Allocator + Copy>(
 
 const PERMISSIONS: [(u32, u64); 2] = [(1, 1300), (PEER_IP, 1200)];
 
-const CHANNELS: [(u16, Channel); 1] = [(
-    0x4000,
+const CHANNELS: [(ChannelNumber, Channel); 1] = [(
+    ChannelNumber::MIN,
     Channel {
         peer: Endpoint {
             ip: PEER_IP,

@@ -1,7 +1,7 @@
 //! The rules of a server, without a store: what an arrival sends, and what it does to the table.
 
 pub use turn_cred::{AuthHandler, Credentials, Key, Nonces, SharedSecret, Users};
-pub use turn_history::Act;
+pub use turn_history::{Act, Addresses, Channel, ChannelNumber, Reservation, UserName};
 pub use turn_mac::generate_auth_key;
 pub use turn_ports::{PortRange, PortSet, RelayAddressGenerator};
 pub use turn_step::{Arrival, Machine, Outgoing, Parts, Step};

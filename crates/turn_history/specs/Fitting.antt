@@ -6,7 +6,7 @@ use Rattle.std.specs.Int.{to_be_bytes, w16}
 use Rattle.turn_history.specs.History.{PlainAct, Allocates, Renews, Permits, Binds, Event, History, clock}
 use Rattle.turn_types.specs.declared.limits.Bounds.{Bounds}
 use Rattle.turn_history.specs.Table.{Entry, Contents, install, table}
-use Rattle.turn_types.specs.Config.{is_between}
+pub use Rattle.turn_history.specs.ChannelNumber.{IsChannelNumber, is_channel_number}
 pub use Rattle.turn_types.specs.FiveTuple.{IsEndpoint, IsTuple}
 use Rattle.turn_types.specs.declared.address.Endpoint.{Endpoint}
 use Rattle.turn_types.specs.declared.address.FiveTuple.{FiveTuple}
@@ -19,14 +19,6 @@ use Rattle.turn_types.specs.declared.message.Token.{Token}
 -- seconds that an Alloc may grant (RFC 8656, section 7.2: at least the default of 600, and at most 3600)
 abbrev pub IsLifetime : ℕ → Type 0
 IsLifetime granted = (600 ≤ granted) × (granted ≤ 3600)
-
--- a channel number: 0x4000 to 0x4FFF (RFC 8656, section 12)
-abbrev pub IsChannelNumber : ℕ → Type 0
-IsChannelNumber n = (0x4000 ≤ n) × (n ≤ 0x4FFF)
-
--- the same as a test
-abbrev pub is_channel_number : ℕ → Bool
-is_channel_number n = is_between 0x4000 0x4FFF n
 
 -- a token has eight bytes, and begins with the two of its port
 pub record IsTokenOf (port : ℕ) (token : Token) : Type 0 where

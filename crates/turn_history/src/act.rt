@@ -2,6 +2,7 @@
 
 ghost use Rattle.std.specs.Prelude.{◌≡◌};
 
+use crate::channel::ChannelNumber;
 use std::alloc::{Allocator, Global};
 use std::marker::Model;
 use turn_types::{Endpoint, Token, TxId};
@@ -122,8 +123,8 @@ pub enum Act<A: Allocator = Global> {
     },
     /// A channel to a peer for 600 seconds, and a permission for its address for 300 seconds.
     Bind {
-        /// The channel's number, from 0x4000 to 0x4FFF.
-        number: u16,
+        /// The channel's number.
+        number: ChannelNumber,
         /// The peer's address and port.
         peer: Endpoint,
     },

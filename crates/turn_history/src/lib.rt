@@ -9,7 +9,7 @@ mod laws;
 mod reservation;
 
 pub use act::{Act, Addresses, UserName};
-pub use channel::{Channel, is_channel_number};
+pub use channel::{Channel, ChannelNumber};
 pub use event::Event;
 pub use laws::{
     acts_change_tables, entries_stand_alone, fitting_histories_grow, histories_join,

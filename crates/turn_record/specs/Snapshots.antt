@@ -27,6 +27,12 @@ expiry_at t most bytes = do
   x ← number_at w64 bytes
   judged (nat_lt t x.0 && nat_le x.0 (t + most)) BadValue x
 
+-- a count up to a limit, and as many items
+abbrev pub list_at : {A : Type 0} → (List A → List ℕ → Field A) → ℕ → List ℕ → Field (List A)
+list_at item limit bytes = do
+  n ← count_at 0 limit bytes
+  many item n.0 [] n.1
+
 -- ---- Permissions
 
 -- an address above the one before
@@ -44,9 +50,7 @@ permission_at t before bytes = do
 
 -- a count, and as many permissions
 unfoldable pub permission_list_at : Bounds → ℕ → List ℕ → Field (List (ℕ × ℕ))
-permission_list_at b t bytes = do
-  n ← count_at 0 b.permissions bytes
-  many (permission_at t) n.0 [] n.1
+permission_list_at b t bytes = list_at (permission_at t) b.permissions bytes
 
 -- the permissions of an entry, as a map
 abbrev pub permissions_at : Bounds → ℕ → List ℕ → Field (FinMap nat_cmp ℕ)
@@ -78,9 +82,7 @@ channel_at t before bytes = do
 
 -- a count, and as many channels
 unfoldable pub channel_list_at : Bounds → ℕ → List ℕ → Field (List (ℕ × Channel))
-channel_list_at b t bytes = do
-  n ← count_at 0 b.channels bytes
-  many (channel_at t) n.0 [] n.1
+channel_list_at b t bytes = list_at (channel_at t) b.channels bytes
 
 -- the channels of an entry, as a map
 abbrev pub channels_at : Bounds → ℕ → List ℕ → Field (FinMap nat_cmp Channel)

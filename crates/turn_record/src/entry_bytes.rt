@@ -10,7 +10,7 @@ ghost use Rattle.turn_types.specs.Limits.{max_bounds};
 use crate::version::Version;
 use std::alloc::Allocator;
 use std::marker::Model;
-use turn_history::{Channel, Reservation};
+use turn_history::{Channel, ChannelNumber, Reservation};
 use turn_table::Entry;
 use turn_types::{Endpoint, FiveTuple, Token};
 
@@ -153,16 +153,16 @@ impl EntryBytes {
         self.put_each_permission(permissions);
     }
 
-    fn put_channel(&mut self, number: u16, bound: Channel)
+    fn put_channel(&mut self, number: ChannelNumber, bound: Channel)
         requires room { length self.old + 16 ≤ 1455 }
         ensures { self.new ≡ self.old ++ channel (number, bound) }
     {
-        self.put(&number.to_be_bytes());
+        self.put(&number.get().to_be_bytes());
         self.put_endpoint(bound.peer);
         self.put(&bound.expiry.to_be_bytes());
     }
 
-    fn put_each_channel(&mut self, channels: &[(u16, Channel)])
+    fn put_each_channel(&mut self, channels: &[(ChannelNumber, Channel)])
         requires room { length self.old + 16 * length channels.now ≤ 1455 }
         ensures { self.new ≡ self.old ++ each channel channels.now }
     {
@@ -172,7 +172,7 @@ impl EntryBytes {
     }
 
     /// A count, and the channels in their order.
-    fn put_channels(&mut self, channels: &[(u16, Channel)])
+    fn put_channels(&mut self, channels: &[(ChannelNumber, Channel)])
         requires few { length channels.now ≤ 32 }
         requires room { length self.old + (1 + 16 * length channels.now) ≤ 1455 }
         ensures { self.new ≡ self.old ++ ((length channels.now ∷ []) ++ each channel channels.now) }

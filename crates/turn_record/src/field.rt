@@ -2,11 +2,13 @@
 
 ghost use Rattle.std.specs.Prelude.{◌≡◌};
 ghost use Rattle.std.specs.Int.{w16, w32, w64};
-ghost use Rattle.turn_record.specs.Reading.{Gives, byte_at, bytes_at, channel_number_at, count_at, endpoint_at, granted_at, moment_at, name_at, name_len_at, number_at, renewed_at, token_at, token_bytes_at, tuple_at, tx_at, begins_with};
+ghost use Rattle.turn_history.specs.ChannelNumber.{is_channel_number};
+ghost use Rattle.turn_record.specs.declared.error.DecodeError.TheVariants.{BadValue};
+ghost use Rattle.turn_record.specs.Reading.{Gives, byte_at, bytes_at, count_at, endpoint_at, granted_at, judged, moment_at, name_at, name_len_at, number_at, renewed_at, token_at, token_bytes_at, tuple_at, tx_at, begins_with};
 
 use crate::error::{DecodeError, ReadError};
 use std::alloc::Allocator;
-use turn_history::{UserName, is_channel_number};
+use turn_history::{ChannelNumber, UserName};
 use turn_types::{Bounds, Endpoint, FiveTuple, Moment, Token, TxId};
 
 pub(crate) fn byte_of(bytes: &[u8]) -> Result<(u8, &[u8]), ReadError>
@@ -177,15 +179,14 @@ pub(crate) fn token_of(port: u16, bytes: &[u8]) -> Result<(Token, &[u8]), ReadEr
     Ok((token, rest))
 }
 
-#[tactic(auto, unfolding(crate::specs::Reading::channel_number_at))]
-pub(crate) fn channel_number_of(bytes: &[u8]) -> Result<(u16, &[u8]), ReadError>
-    ensures { Gives (λ x. (x.0, x.1.now)) result (channel_number_at bytes.now) }
+/// The channel number of a number that was read.
+pub(crate) fn channel_number(number: u16) -> Result<ChannelNumber, ReadError>
+    ensures { Gives (λ n. n) result (judged (is_channel_number number) BadValue number) }
 {
-    let (number, rest) = u16_of(bytes)?;
-    if !is_channel_number(number) {
-        return Err(ReadError::Malformed(DecodeError::BadValue));
+    match ChannelNumber::new(number) {
+        Some(number) => Ok(number),
+        None => Err(ReadError::Malformed(DecodeError::BadValue)),
     }
-    Ok((number, rest))
 }
 
 #[tactic(auto, unfolding(crate::specs::Reading::count_at))]

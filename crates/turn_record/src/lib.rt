@@ -6,6 +6,7 @@ mod entry_bytes;
 mod error;
 mod field;
 mod laws;
+mod lists;
 mod pieces;
 mod read;
 mod reserved;

@@ -9,7 +9,7 @@ ghost use Rattle.turn_record.specs.Views.{events_of};
 
 use crate::error::{DecodeError, ReadError};
 use crate::field::{
-    byte_of, channel_number_of, count_of, endpoint_of, granted_of, moment_of, name_of, renewed_of,
+    byte_of, channel_number, count_of, endpoint_of, granted_of, moment_of, name_of, renewed_of,
     token_of, tuple_of, tx_of, u16_of, u32_of,
 };
 use crate::version::Version;
@@ -118,11 +118,12 @@ fn permitted_of<'a, A: Allocator + Copy>(
     Ok((Addresses::from(addresses), rest))
 }
 
-#[tactic(auto, unfolding(crate::specs::Reading::binding_at))]
+#[tactic(auto, unfolding(crate::specs::Reading::binding_at, crate::specs::Reading::channel_number_at))]
 fn bind_of<'a, A: Allocator + Copy>(bytes: &'a [u8]) -> Result<(Act<A>, &'a [u8]), ReadError>
     ensures { Gives (λ x. (act_of x.0, x.1.now)) result (bound_at bytes.now) }
 {
-    let (number, rest) = channel_number_of(bytes)?;
+    let (number, rest) = u16_of(bytes)?;
+    let number = channel_number(number)?;
     let (peer, rest) = endpoint_of(rest)?;
     Ok((Act::Bind { number, peer }, rest))
 }

@@ -7,9 +7,9 @@ ghost use Rattle.turn_record.specs.Reading.{Gives, last_passes};
 ghost use Rattle.turn_record.specs.Snapshots.{odd_port_at, reservation_at, reserved_port_after};
 ghost use Rattle.turn_table.specs.Table.{IsAboveReserved};
 
-use crate::entries::expiry_of;
 use crate::error::{DecodeError, ReadError};
 use crate::field::{token_of, u16_of};
+use crate::lists::expiry_of;
 use std::alloc::Allocator;
 use turn_history::Reservation;
 use turn_table::Table;

@@ -108,7 +108,7 @@ fn put_body<A: Allocator, B: Allocator>(out: &mut Vec<u8, A>, act: &Act<B>)
         Act::Renew { granted } => put(out, &granted.to_be_bytes()),
         Act::Permit { addresses } => put_addresses(out, addresses.as_slice()),
         Act::Bind { number, peer } => {
-            put(out, &number.to_be_bytes());
+            put(out, &number.get().to_be_bytes());
             put_endpoint(out, *peer);
         }
     }

@@ -1,18 +1,13 @@
 -- Whose a relayed port is, and which channel is bound to a peer.
-use Rattle.std.proofs.Common.{◌≡◌, ℕ, ◌≤◌, List, Bool, length, Option, Some, None, true, false, refl, sym, ap, subst, ◌∙◌, arith}
+use Rattle.std.proofs.Common.{◌≡◌, ℕ, List, Bool, length, Option, Some, None, true, false, refl, sym, ap, subst, ◌∙◌}
 use Rattle.std.specs.Prelude.{nat_le, MatchOption, IsSomeAnd}
 use Rattle.std.proofs.lemmas.Option.{same_Some}
 use Rattle.std.specs.FinMap as fin
 use Rattle.turn_types.specs.declared.address.Endpoint.{Endpoint}
 use Rattle.turn_types.specs.declared.address.FiveTuple.{FiveTuple}
 use Rattle.turn_history.specs.declared.channel.Channel.{Channel}
-use Rattle.turn_history.specs.Fitting.{IsFitting}
-use Rattle.turn_history.specs.History.{History, clock}
 use Rattle.turn_history.specs.Laws.{PortsApart, PeersApart}
-use Rattle.turn_types.specs.declared.limits.Bounds.{Bounds}
-use Rattle.turn_history.specs.Table.{Contents, Entry, table}
-use Rattle.turn_history.proofs.Ranges.{entry_in_range}
-use Rattle.turn_codec.specs.Channel.{IsChannel}
+use Rattle.turn_history.specs.Table.{Contents, Entry}
 use Rattle.turn_table.specs.Table.{IsChannelTo}
 use Rattle.turn_relay.specs.FromClient.{is_permitted}
 use Rattle.turn_relay.specs.FromPeer.{ClientData, HasRelayedPort, IsChannelFor, SendsToClient, relayed, size_for_client}
@@ -29,15 +24,6 @@ module _ (f : FiveTuple) (channel : Option ℕ) (peer : Endpoint) (payload : Lis
 
   pub not_too_long : b ≡ true → Some (record { five_tuple = f; channel = channel; peer = peer; payload = payload }) ≡ relayed f channel peer payload
   not_too_long on = let e : nat_le (size_for_client channel (length payload)) max_payload ≡ true = sym is ∙ on in rw e refl
-
--- the number of a channel of a fitting history
-pub numbered : (b : Bounds) (h : History) (t : ℕ) (f : FiveTuple) (e : Entry) (number : ℕ) (peer : Endpoint)
-    → IsFitting b h → clock h ≤ t → fin.get (table h t).entries f ≡ Some e → IsChannelTo e number peer → IsChannel number
-numbered b h t f e number peer fits now is bound = by_value (fin.get e.channels number) refl bound
-  where
-    by_value : (o : Option Channel) → fin.get e.channels number ≡ o → IsSomeAnd o (λ c. c.peer ≡ peer) → IsChannel number
-    by_value None at some = absurd some
-    by_value (Some c) at some = let range = (entry_in_range b h t f e fits now is).1.channels number c at in (range.0.0, omega (arith, range.0.1))
 
 -- two entries of a table that have one port are one
 one_holder : (c : Contents) (port : ℕ) (f g : FiveTuple) (e x : Entry) → PortsApart c → HasRelayedPort c port f e → HasRelayedPort c port g x → (f ≡ g) × (e ≡ x)

@@ -1,21 +1,18 @@
 //! What a peer's datagram sends.
 
 ghost use Rattle.std.specs.Prelude.{◌≡◌, ◌≤◌, nat_le, length, None, option_map, IfOk, IfSome};
-ghost use Rattle.std.specs.Option.{ForSome};
-ghost use Rattle.turn_codec.specs.Channel.{IsChannel};
 ghost use Rattle.turn_codec.specs.Grammar.{Spells, canonical};
 ghost use Rattle.turn_relay.specs.FromPeer.{IsForClient, SendsToClient, client_datagram, data_indication, size_for_client};
 ghost use Rattle.turn_relay.specs.Udp.{max_payload};
 ghost use Rattle.turn_relay.specs.Views.{client_data};
 ghost use Rattle.turn_table.specs.Table.{Agrees};
-ghost use Rattle.turn_history.specs.Fitting.{IsFitting};
-ghost use Rattle.turn_history.specs.History.{History, clock};
-ghost use Rattle.turn_types.specs.declared.limits.Bounds.{Bounds};
+ghost use Rattle.turn_history.specs.History.{History};
 ghost use Rattle.turn_history.specs.Table as tables;
 
 use crate::MAX_PAYLOAD;
 use std::alloc::{AllocError, Allocator};
 use turn_codec::{AttributeType, Builder, ChannelData, xor_address};
+use turn_history::ChannelNumber;
 use turn_table::Table;
 use turn_types::{Class, Endpoint, FiveTuple, Method, Moment, TxId};
 
@@ -31,7 +28,7 @@ pub struct ToClient<'a> {
     /// Of the allocation whose relayed port the datagram came to.
     pub five_tuple: FiveTuple,
     /// The number of the channel that is bound to the peer, if one is.
-    pub channel: Option<u16>,
+    pub channel: Option<ChannelNumber>,
     /// Who sent it.
     pub peer: Endpoint,
     /// The peer's whole payload.
@@ -69,7 +66,6 @@ impl<'a> ToClient<'a> {
     /// transaction id (section 11.3), in one allocation.
     #[tactic(auto, unfolding(crate::specs::FromPeer::client_datagram))]
     pub fn write<A: Allocator + Copy>(&self, alloc: A, tx: TxId) -> Result<Vec<u8, A>, AllocError>
-        requires number { ForSome self.now.channel IsChannel }
         requires size { size_for_client self.now.channel (length self.now.bytes.now) ≤ max_payload }
         ensures bytes { IfOk result (λ v. v.items ≡ client_datagram (client_data self.now) tx.0) }
         ensures spells { IfOk result (λ v. IsForClient v.items tx.0 (client_data self.now)) }
@@ -78,7 +74,7 @@ impl<'a> ToClient<'a> {
         match self.channel {
             Some(number) => {
                 let data = ChannelData {
-                    number,
+                    number: number.get(),
                     payload: self.bytes,
                 };
                 data.write(alloc)
@@ -89,8 +85,8 @@ impl<'a> ToClient<'a> {
 }
 
 /// Whether the client's datagram is one that UDP carries.
-fn fits_client(channel: Option<u16>, size: usize) -> bool
-    ensures { result ≡ nat_le (size_for_client channel size) max_payload }
+fn fits_client(channel: &Option<ChannelNumber>, size: usize) -> bool
+    ensures { result ≡ nat_le (size_for_client channel.now size) max_payload }
 {
     match channel {
         Some(_) => size <= MAX_OVER_A_CHANNEL,
@@ -115,8 +111,6 @@ pub fn from_peer<'a, A: Allocator + Copy>(
         SendsToClient (tables.table h moment) port from datagram.now (option_map client_data result) }
     // What is returned can be written.
     ensures size { IfSome result (λ x. size_for_client x.channel (length x.bytes.now) ≤ max_payload) }
-    ensures number { (b : Bounds) (h : History) → IsFitting b h → clock h ≤ moment → Agrees table.now h →
-        IfSome result (λ x. ForSome x.channel IsChannel) }
 {
     let (five_tuple, entry) = table.by_port(port)?;
     let is_permitted = entry.is_permitted(from.ip);
@@ -124,7 +118,7 @@ pub fn from_peer<'a, A: Allocator + Copy>(
         return None;
     }
     let channel = entry.channel_to(from);
-    if !fits_client(channel, datagram.len()) {
+    if !fits_client(&channel, datagram.len()) {
         return None;
     }
     Some(ToClient {

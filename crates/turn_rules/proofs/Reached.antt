@@ -18,7 +18,8 @@ use Rattle.turn_types.specs.declared.address.PeerAddress.{PeerAddress}
 use Rattle.turn_types.specs.declared.message.Token.{Token}
 use Rattle.std.proofs.lemmas.Bool.{and_parts, or_parts}
 use Rattle.turn_history.proofs.Tests.{channel_fits}
-use Rattle.turn_history.specs.Fitting.{FitsChannel, IsChannelNumber, is_channel_number}
+use Rattle.turn_history.specs.ChannelNumber.{IsChannelNumber, in_range, is_channel_number}
+use Rattle.turn_history.specs.Fitting.{FitsChannel}
 use Rattle.turn_history.specs.Table.{Contents, Entry, install}
 use Rattle.turn_codec.specs.AttributeTypes.{channel_number, even_port, requested_address_family, reservation_token, xor_peer_address}
 use Rattle.turn_codec.specs.Grammar.{Content, Datagram}
@@ -31,7 +32,7 @@ use Rattle.turn_rules.specs.declared.outcome.Outcome.TheVariants.{Drop, Refuse, 
 use Rattle.turn_rules.specs.Allocate.{allocate_outcome, asks_for_next_port, before_port, capacity_outcome, capacity_rows, named_port, own_outcome, own_rows, port_for, token_of, with_port}
 use Rattle.turn_rules.specs.Answer.{by_verdict, is_dropped, is_expired, is_protected, outcome_of, passed_outcome}
 use Rattle.turn_rules.specs.Binding.{binding_outcome}
-use Rattle.turn_rules.specs.Channel.{bind_outcome, bind_rows, channel_outcome, in_range, named_number, named_peer, number_at, to_address, to_peer}
+use Rattle.turn_rules.specs.Channel.{bind_outcome, bind_rows, channel_outcome, named_number, named_peer, number_at, to_address, to_peer}
 use Rattle.turn_rules.specs.Fields.{first_byte, four_bytes, granted, lifetime_of}
 use Rattle.turn_rules.specs.Owner.{entry_outcome, owner_outcome, owner_rows}
 use Rattle.turn_rules.specs.Peers.{is_ipv6, named_peers}

@@ -31,10 +31,7 @@ fn write_error<A: Allocator + Copy>(
     ensures { IfOk result (λ v. v.items ≡ canonical (response message.now.content Class.Error key (error_attribute code ∷ []))) }
 {
     let error = error_value(code);
-    let own = [OwnAttribute {
-        kind: AttributeType::ERROR_CODE,
-        value: error.as_slice(),
-    }];
+    let own = [OwnAttribute::new(AttributeType::ERROR_CODE, error.as_slice())];
     respond(alloc, message, Class::Error, key, &own)
 }
 
@@ -49,14 +46,8 @@ fn write_unknown<A: Allocator + Copy>(
     let error = error_value(ErrorCode::UnknownAttribute);
     let types = unknown_value(message);
     let own = [
-        OwnAttribute {
-            kind: AttributeType::ERROR_CODE,
-            value: error.as_slice(),
-        },
-        OwnAttribute {
-            kind: AttributeType::UNKNOWN_ATTRIBUTES,
-            value: types.as_slice(),
-        },
+        OwnAttribute::new(AttributeType::ERROR_CODE, error.as_slice()),
+        OwnAttribute::new(AttributeType::UNKNOWN_ATTRIBUTES, types.as_slice()),
     ];
     respond(alloc, message, Class::Error, key, &own)
 }
@@ -70,18 +61,9 @@ fn challenge_attributes<'a>(
     ensures { map attribute_of result ≡ attribute types.error_code error.now ∷ attribute types.realm realm.now ∷ attribute types.nonce nonce.now ∷ [] }
 {
     [
-        OwnAttribute {
-            kind: AttributeType::ERROR_CODE,
-            value: error,
-        },
-        OwnAttribute {
-            kind: AttributeType::REALM,
-            value: realm,
-        },
-        OwnAttribute {
-            kind: AttributeType::NONCE,
-            value: nonce,
-        },
+        OwnAttribute::new(AttributeType::ERROR_CODE, error),
+        OwnAttribute::new(AttributeType::REALM, realm),
+        OwnAttribute::new(AttributeType::NONCE, nonce),
     ]
 }
 
@@ -110,10 +92,7 @@ fn write_mapped<A: Allocator + Copy>(
         (attribute types.xor_mapped_address (xor_value request.now.five_tuple.client) ∷ []))) }
 {
     let mapped = xor_address(request.five_tuple.client);
-    let own = [OwnAttribute {
-        kind: AttributeType::XOR_MAPPED_ADDRESS,
-        value: &mapped,
-    }];
+    let own = [OwnAttribute::new(AttributeType::XOR_MAPPED_ADDRESS, &mapped)];
     respond(alloc, &request.message, Class::Success, key, &own)
 }
 
@@ -127,18 +106,9 @@ fn allocated_attributes<'a>(
         ≡ attribute types.xor_relayed_address relayed.now ∷ attribute types.lifetime lifetime.now ∷ attribute types.xor_mapped_address mapped.now ∷ [] }
 {
     [
-        OwnAttribute {
-            kind: AttributeType::XOR_RELAYED_ADDRESS,
-            value: relayed,
-        },
-        OwnAttribute {
-            kind: AttributeType::LIFETIME,
-            value: lifetime,
-        },
-        OwnAttribute {
-            kind: AttributeType::XOR_MAPPED_ADDRESS,
-            value: mapped,
-        },
+        OwnAttribute::new(AttributeType::XOR_RELAYED_ADDRESS, relayed),
+        OwnAttribute::new(AttributeType::LIFETIME, lifetime),
+        OwnAttribute::new(AttributeType::XOR_MAPPED_ADDRESS, mapped),
     ]
 }
 
@@ -154,22 +124,10 @@ fn reserved_attributes<'a>(
         attribute types.reservation_token token.now ∷ [] }
 {
     [
-        OwnAttribute {
-            kind: AttributeType::XOR_RELAYED_ADDRESS,
-            value: relayed,
-        },
-        OwnAttribute {
-            kind: AttributeType::LIFETIME,
-            value: lifetime,
-        },
-        OwnAttribute {
-            kind: AttributeType::XOR_MAPPED_ADDRESS,
-            value: mapped,
-        },
-        OwnAttribute {
-            kind: AttributeType::RESERVATION_TOKEN,
-            value: token,
-        },
+        OwnAttribute::new(AttributeType::XOR_RELAYED_ADDRESS, relayed),
+        OwnAttribute::new(AttributeType::LIFETIME, lifetime),
+        OwnAttribute::new(AttributeType::XOR_MAPPED_ADDRESS, mapped),
+        OwnAttribute::new(AttributeType::RESERVATION_TOKEN, token),
     ]
 }
 
@@ -213,10 +171,7 @@ fn write_lifetime<A: Allocator + Copy>(
     ensures { IfOk result (λ v. v.items ≡ canonical (response message.now.content Class.Success key (lifetime_attribute granted ∷ []))) }
 {
     let lifetime = granted.to_be_bytes();
-    let own = [OwnAttribute {
-        kind: AttributeType::LIFETIME,
-        value: &lifetime,
-    }];
+    let own = [OwnAttribute::new(AttributeType::LIFETIME, &lifetime)];
     respond(alloc, message, Class::Success, key, &own)
 }
 

@@ -2,7 +2,7 @@
 
 use std::alloc::{AllocError, Allocator};
 use turn_config::{ShownEndpoint, ShownIp};
-use turn_history::{Channel, Reservation};
+use turn_history::{Channel, ChannelNumber, Reservation};
 use turn_table::{Entry, Table};
 use turn_types::{FiveTuple, Moment};
 
@@ -23,14 +23,14 @@ fn put_permissions<A: Allocator + Copy>(
 
 fn put_channels<A: Allocator + Copy>(
     alloc: A,
-    channels: &[(u16, Channel)],
+    channels: &[(ChannelNumber, Channel)],
     second: u64,
     lines: &mut Vec<String<A>, A>,
 ) -> Result<(), AllocError> {
     for (number, channel) in channels {
         let expiry = channel.expiry;
         if second < expiry {
-            let peer = ShownEndpoint(channel.peer);
+            let (number, peer) = (number.get(), ShownEndpoint(channel.peer));
             lines.push(format!(in alloc; " channel {number:04x} {peer} {expiry}")?)?;
         }
     }

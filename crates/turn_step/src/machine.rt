@@ -25,7 +25,7 @@ use turn_cred::{AuthHandler, Checker};
 use turn_history::Act;
 use turn_ports::RelayAddressGenerator;
 use turn_relay::{from_channel_data, from_message};
-use turn_rules::{ClientMessage, Need, needs_port};
+use turn_rules::{ClientMessage, Need, assess};
 use turn_table::Table;
 use turn_types::{FiveTuple, Moment, ServerConfig};
 
@@ -202,7 +202,8 @@ impl<H: AuthHandler, G: RelayAddressGenerator, A: Allocator + Copy> Machine<H, G
             five_tuple,
             verdict,
         };
-        let need = needs_port(&self.table, &self.config, &request, moment, self.pairs);
+        let assessment = assess(&self.table, &self.config, &request, moment, self.pairs);
+        let need = assessment.needs_port();
         let port = pick(&mut self.ports, &self.table, need)?;
         let settled = settle(
             self.alloc,
@@ -210,8 +211,8 @@ impl<H: AuthHandler, G: RelayAddressGenerator, A: Allocator + Copy> Machine<H, G
             &self.config,
             &request,
             moment,
+            assessment,
             port,
-            self.pairs,
         );
         let Ok(step) = settled else {
             release_for(&mut self.ports, need, port);

@@ -1,8 +1,6 @@
 //! Peers' datagrams.
 
-ghost use Rattle.std.specs.Prelude.{◌≡◌, ◌≤◌, ◌↔◌, IsTrue, IfOk, None};
-ghost use Rattle.std.specs.Option.{ForSome};
-ghost use Rattle.turn_codec.specs.Channel.{IsChannel};
+ghost use Rattle.std.specs.Prelude.{◌≡◌, ◌≤◌, IfOk, None};
 ghost use Rattle.turn_history.specs.Fitting.{IsFitting};
 ghost use Rattle.turn_history.specs.History.{History, clock};
 ghost use Rattle.turn_types.specs.declared.limits.Bounds.{Bounds};
@@ -12,21 +10,9 @@ ghost use Rattle.turn_table.specs.Table.{Agrees};
 use crate::arrival::Outgoing;
 use crate::step::Step;
 use std::alloc::{AllocError, Allocator};
-use turn_codec::is_channel_data_number;
-use turn_relay::{ToClient, from_peer};
+use turn_relay::from_peer;
 use turn_table::Table;
 use turn_types::{Endpoint, Moment, TxId};
-
-/// Whether the channel, if there is one, has a number that ChannelData may have (RFC 8656, section 12). Those of a
-/// table that agrees with a history have.
-fn has_channel_number(relayed: &ToClient<'_>) -> bool
-    ensures { IsTrue result ↔ ForSome relayed.now.channel IsChannel }
-{
-    match relayed.channel {
-        Some(number) => is_channel_data_number(number),
-        None => true,
-    }
-}
 
 /// The step of a peer's datagram at a relayed port.
 pub(crate) fn peer_step<A: Allocator + Copy>(
@@ -46,9 +32,6 @@ pub(crate) fn peer_step<A: Allocator + Copy>(
     let Some(data) = from_peer(table, port, from, bytes, moment) else {
         return Ok(Step::new(None, None));
     };
-    if !has_channel_number(&data) {
-        return Ok(Step::new(None, None));
-    }
     let outgoing = Outgoing::ToClient {
         five_tuple: data.five_tuple,
         bytes: data.write(alloc, id)?,

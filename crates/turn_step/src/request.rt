@@ -8,7 +8,8 @@ ghost use Rattle.turn_history.specs.History.{History};
 ghost use Rattle.turn_cred.specs.Credential.{policy_of};
 ghost use Rattle.turn_cred.specs.Found.{verdict_of};
 ghost use Rattle.turn_ports.specs.Ports.{Failed, has_failed};
-ghost use Rattle.turn_rules.specs.Answer.{Decided, MayAnswer, judgement, port_needed};
+ghost use Rattle.turn_rules.specs.Answer.{Decided, MayAnswer, judgement};
+ghost use Rattle.turn_rules.specs.Assessed.{IsAssessed, needed_by};
 ghost use Rattle.turn_rules.specs.Decided.{verdict_in};
 ghost use Rattle.turn_rules.specs.Laws.{IsMadeOfBytes, IsPicked, NamesInRange};
 ghost use Rattle.turn_rules.specs.Need.{MayHavePicked};
@@ -25,7 +26,7 @@ use std::alloc::{AllocError, Allocator};
 use turn_codec::Message;
 use turn_cred::{AuthHandler, Checker, Verdict};
 use turn_ports::RelayAddressGenerator;
-use turn_rules::{ClientMessage, Decision, Need, decide, is_protected};
+use turn_rules::{Assessment, ClientMessage, Decision, Need, decide, is_protected};
 use turn_table::Table;
 use turn_types::{Endpoint, FiveTuple, Moment, ServerConfig};
 
@@ -87,27 +88,25 @@ pub(crate) fn settle<A: Allocator + Copy>(
     config: &ServerConfig<A>,
     request: &ClientMessage<'_>,
     moment: Moment,
+    assessment: Assessment,
     port: Option<u16>,
-    pairs: bool,
 ) -> Result<Step<A>, AllocError>
     requires { table.old.moment ≡ moment }
-    ensures answers { (h : History) (range : ℕ × ℕ) (failed : Bool) → Agrees table.old h →
-        MayHavePicked range failed table.old.contents
-        (port_needed pairs config.now table.old.contents request.now.five_tuple moment request.now.message (verdict_in request.now)) port →
+    ensures answers { (pairs : Bool) (h : History) (range : ℕ × ℕ) (failed : Bool) → IsAssessed pairs config.now table.old.contents request.now moment assessment →
+        Agrees table.old h → MayHavePicked range failed table.old.contents (needed_by assessment) port →
         IfOk result (λ s. (d : Decided) × MayAnswer pairs config.now range h moment failed request.now.five_tuple request.now.message (verdict_in request.now) d
         × (s ≡ decided_for request.now.five_tuple d)) }
-    ensures ready { table.old.bounds ≡ config.now.limits → IsMadeOfBytes request.now.message.content → NamesInRange config.now.limits (verdict_in request.now) →
-        IsPicked table.old.contents (port_needed pairs config.now table.old.contents request.now.five_tuple moment request.now.message (verdict_in request.now)) port →
-        IfOk result (λ s. IfSome s.change (MayBeNext table.new)) }
-    ensures no_pairs { pairs ≡ false → IfOk result (λ s. IfSome s.change (λ c. ReservesNone c.act)) }
+    ensures ready { (pairs : Bool) → IsAssessed pairs config.now table.old.contents request.now moment assessment →
+        table.old.bounds ≡ config.now.limits → IsMadeOfBytes request.now.message.content → NamesInRange config.now.limits (verdict_in request.now) →
+        IsPicked table.old.contents (needed_by assessment) port → IfOk result (λ s. IfSome s.change (MayBeNext table.new)) }
+    ensures no_pairs { IsAssessed false config.now table.old.contents request.now moment assessment → IfOk result (λ s. IfSome s.change (λ c. ReservesNone c.act)) }
     ensures table { table.new ≡ record table.old { room = table.new.room } }
     // The act takes the ports that were picked, and no other but such as are taken already.
-    ensures takes { (port_needed pairs config.now table.old.contents request.now.five_tuple moment request.now.message (verdict_in request.now) ≡ None → port ≡ None) →
-        IfOk result (λ s. (q : ℕ) → ports_with table.old.contents s.change q
-        ≡ is_picked (port_needed pairs config.now table.old.contents request.now.five_tuple moment request.now.message (verdict_in request.now)) port q || is_taken table.old.contents q) }
+    ensures takes { (pairs : Bool) → IsAssessed pairs config.now table.old.contents request.now moment assessment → (needed_by assessment ≡ None → port ≡ None) →
+        IfOk result (λ s. (q : ℕ) → ports_with table.old.contents s.change q ≡ is_picked (needed_by assessment) port q || is_taken table.old.contents q) }
 {
     let _ = moment.seconds();
-    let decision = decide(alloc, table, config, request, moment, port, pairs)?;
+    let decision = decide(alloc, table, config, request, moment, assessment, port)?;
     let Decision { reply, act } = decision;
     let act = match act {
         Some(act) => {

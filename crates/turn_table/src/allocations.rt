@@ -22,6 +22,7 @@ use crate::user_order::UserOrder;
 use indexmap::IndexMap;
 use std::alloc::{AllocError, Allocator, Global};
 use std::marker::Model;
+use turn_history::ChannelNumber;
 use turn_types::{Endpoint, FiveTuple};
 
 /// A map of entries, with its five-tuples in order, each with its port, its ports in order, each with its five-tuple,
@@ -209,7 +210,13 @@ impl<A: Allocator + Copy> Allocations<A> {
     }
 
     /// Binds a channel of an entry, and installs the permission of its peer.
-    pub(crate) fn bind(&mut self, tuple: FiveTuple, number: u16, peer: Endpoint, moment: u64)
+    pub(crate) fn bind(
+        &mut self,
+        tuple: FiveTuple,
+        number: ChannelNumber,
+        peer: Endpoint,
+        moment: u64,
+    )
         requires moment { moment < 2 ^ 40 }
         requires room { IsSomeAnd (fin.get self.old.held tuple) (λ h. (1 ≤ h.permission_room) × (1 ≤ h.channel_room)) }
         ensures { Changes tuple (binding moment number peer) self.old.held self.new.held }

@@ -12,7 +12,7 @@ use crate::entry::Entry;
 use indexmap::IndexMap;
 use std::alloc::{AllocError, Allocator};
 use std::hash::{BuildHasherDefault, FoldHasher};
-use turn_history::{Act, Channel};
+use turn_history::{Act, Channel, ChannelNumber};
 use turn_types::{Endpoint, FiveTuple};
 
 /// Entries by their five-tuples.
@@ -106,7 +106,7 @@ pub(crate) fn permit<A: Allocator + Copy>(entry: &mut Entry<A>, addresses: &[u32
 /// Binds a channel, and installs the permission of its peer.
 pub(crate) fn bind<A: Allocator + Copy>(
     entry: &mut Entry<A>,
-    number: u16,
+    number: ChannelNumber,
     peer: Endpoint,
     moment: u64,
 )

@@ -13,7 +13,7 @@ use crate::search::number_to;
 use crate::sorted_map::SortedMap;
 use std::alloc::{Allocator, Global};
 use std::marker::Model;
-use turn_history::{Channel, UserName};
+use turn_history::{Channel, ChannelNumber, UserName};
 use turn_types::{Endpoint, Limits, Moment, Token, TxId};
 
 /// The user, relayed port, lifetime in seconds and transaction id that the Allocate request gave, the token with which it
@@ -27,7 +27,7 @@ pub struct Entry<A: Allocator = Global> {
     pub(crate) token: Option<Token>,
     pub(crate) expiry: u64,
     pub(crate) permissions: SortedMap<u32, u64, A>,
-    pub(crate) channels: SortedMap<u16, Channel, A>,
+    pub(crate) channels: SortedMap<ChannelNumber, Channel, A>,
 }
 
 /// The values of an entry: the fields that the Allocate request gave, the expiry time in seconds (exclusive), and the
@@ -49,7 +49,7 @@ pub struct EntryParts<A: Allocator = Global> {
     /// IPv4 addresses of peers, ascending, each with its expiry time in seconds (exclusive).
     pub permissions: Vec<(u32, u64), A>,
     /// Numbers of channels, ascending, each with its peer and its expiry time.
-    pub channels: Vec<(u16, Channel), A>,
+    pub channels: Vec<(ChannelNumber, Channel), A>,
 }
 
 impl<A: Allocator> Model for Entry<A> {
@@ -192,7 +192,7 @@ impl<A: Allocator + Copy> Entry<A> {
     }
 
     /// The channels, ascending by number.
-    pub fn channels(&self) -> &[(u16, Channel)]
+    pub fn channels(&self) -> &[(ChannelNumber, Channel)]
         ensures { result.now ≡ fin.entries self.now.entry.channels }
     {
         self.channels.items()
@@ -205,15 +205,22 @@ impl<A: Allocator + Copy> Entry<A> {
         self.permissions.get(ip).is_some()
     }
 
-    /// The channel of a number.
+    /// The channel of a number, which may be any that ChannelData has.
     pub fn channel(&self, number: u16) -> Option<Channel>
         ensures { result ≡ fin.get self.now.entry.channels number }
     {
-        self.channels.get(number)
+        self.channels.get_number(number)
+    }
+
+    /// Whether a channel has the number.
+    pub(crate) fn has_channel(&self, number: ChannelNumber) -> bool
+        ensures { result ≡ is_some (fin.get self.now.entry.channels number) }
+    {
+        self.channels.get(number).is_some()
     }
 
     /// A number of a channel to a peer.
-    pub fn channel_to(&self, peer: Endpoint) -> Option<u16>
+    pub fn channel_to(&self, peer: Endpoint) -> Option<ChannelNumber>
         ensures { MatchOption result ((n : ℕ) → ¬ IsChannelTo self.now.entry n peer) (λ n. IsChannelTo self.now.entry n peer) }
     {
         let channels = self.channels.items();
@@ -240,7 +247,7 @@ impl<A: Allocator + Copy> Entry<A> {
     }
 
     /// Whether it may have a channel of this number to this peer too, under the limits.
-    pub fn fits_channel(&self, limits: Limits, number: u16, peer: Endpoint) -> bool
+    pub fn fits_channel(&self, limits: Limits, number: ChannelNumber, peer: Endpoint) -> bool
         ensures fits { IsTrue result ↔ FitsChannel limits number peer self.now.entry }
         ensures value { result ≡ not (is_bound_elsewhere number peer self.now.entry || exceeds limits number peer self.now.entry) }
     {
@@ -248,7 +255,7 @@ impl<A: Allocator + Copy> Entry<A> {
     }
 
     /// Whether the channel number is bound to another peer, or the peer to another number.
-    pub fn is_bound_elsewhere(&self, number: u16, peer: Endpoint) -> bool
+    pub fn is_bound_elsewhere(&self, number: ChannelNumber, peer: Endpoint) -> bool
         ensures { result ≡ is_bound_elsewhere number peer self.now.entry }
     {
         is_bound_elsewhere(self, number, peer)

@@ -3,14 +3,14 @@
 ghost use Rattle.std.specs.Prelude.{◌≡◌, ◌+◌, ◌≤◌, ◌↔◌, IsTrue, not, ◌||◌, is_some, nat_eq};
 ghost use Rattle.std.specs.FinMap as fin;
 ghost use Rattle.std.specs.List.{list_all, list_any};
-ghost use Rattle.turn_history.specs.Fitting.{FitsChannel, exceeds, goes_with, is_bound_elsewhere};
+ghost use Rattle.turn_history.specs.Fitting.{FitsChannel, IsChannelNumber, exceeds, goes_with, is_bound_elsewhere};
 ghost use Rattle.turn_history.specs.Table.{install};
 ghost use Rattle.turn_history.specs.declared.channel.Channel.{Channel};
 
 use crate::entry::Entry;
 use crate::search::is_peer;
 use std::alloc::Allocator;
-use turn_history::Channel;
+use turn_history::{Channel, ChannelNumber};
 use turn_types::{Endpoint, Limits};
 
 fn is_among(addresses: &[u32], address: u32) -> bool
@@ -56,11 +56,11 @@ pub(crate) fn fits_permissions<A: Allocator + Copy>(
 }
 
 /// Whether an entry may have a channel of this number too.
-fn fits_number<A: Allocator + Copy>(entry: &Entry<A>, number: u16, limit: u16) -> bool
+fn fits_number<A: Allocator + Copy>(entry: &Entry<A>, number: ChannelNumber, limit: u16) -> bool
     ensures { (c : Channel) → IsTrue result ↔ (fin.len (fin.insert entry.now.entry.channels number c) ≤ limit) }
 {
     let len = entry.channels.len();
-    if entry.channel(number).is_some() {
+    if entry.has_channel(number) {
         len <= usize::from(limit)
     } else {
         len < usize::from(limit)
@@ -68,7 +68,7 @@ fn fits_number<A: Allocator + Copy>(entry: &Entry<A>, number: u16, limit: u16) -
 }
 
 /// Whether a channel number and a peer are bound to each other wherever one of them is bound.
-fn go_together(channels: &[(u16, Channel)], number: u16, peer: Endpoint) -> bool
+fn go_together(channels: &[(ChannelNumber, Channel)], number: ChannelNumber, peer: Endpoint) -> bool
     ensures { result ≡ list_all (goes_with number peer) channels.now }
 {
     channels.iter().all(|slot| {
@@ -84,10 +84,12 @@ fn go_together(channels: &[(u16, Channel)], number: u16, peer: Endpoint) -> bool
 pub(crate) fn fits_channel<A: Allocator + Copy>(
     entry: &Entry<A>,
     limits: Limits,
-    number: u16,
+    number: ChannelNumber,
     peer: Endpoint,
 ) -> bool
     ensures fits { IsTrue result ↔ FitsChannel limits number peer entry.now.entry }
+    // What the number's type says of it.
+    ensures range { IsChannelNumber number }
     ensures value { result ≡ not (is_bound_elsewhere number peer entry.now.entry || exceeds limits number peer entry.now.entry) }
 {
     if !fits_permissions(entry, &[peer.ip], limits.permissions()) {
@@ -102,7 +104,7 @@ pub(crate) fn fits_channel<A: Allocator + Copy>(
 /// Whether the channel number or the peer is bound, but not to each other.
 pub(crate) fn is_bound_elsewhere<A: Allocator + Copy>(
     entry: &Entry<A>,
-    number: u16,
+    number: ChannelNumber,
     peer: Endpoint,
 ) -> bool
     ensures { result ≡ is_bound_elsewhere number peer entry.now.entry }

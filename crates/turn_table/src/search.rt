@@ -13,7 +13,7 @@ ghost use Rattle.turn_table.specs.Sorted.{scan};
 use crate::entry::Entry;
 use crate::sorted_map::Key;
 use std::alloc::Allocator;
-use turn_history::{Channel, Reservation};
+use turn_history::{Channel, ChannelNumber, Reservation};
 use turn_types::{Endpoint, Token};
 
 /// The place of a key among keys that rise, or the place where it would be inserted.
@@ -23,6 +23,15 @@ pub(crate) fn place_of<K: Key, V>(items: &[(K, V)], key: &K) -> Result<usize, us
     ensures found { MatchResult result (λ i. i < length items.now) (λ i. i ≤ length items.now) }
 {
     items.binary_search_by(|slot| slot.0.cmp(key))
+}
+
+/// The same among channel numbers, of a number that may be none.
+pub(crate) fn place_of_number<V>(items: &[(ChannelNumber, V)], number: u16) -> Result<usize, usize>
+    requires { fin.is_sorted nat_cmp items.now ≡ true }
+    ensures value { result ≡ scan nat_cmp number items.now }
+    ensures found { MatchResult result (λ i. i < length items.now) (λ i. i ≤ length items.now) }
+{
+    items.binary_search_by(|slot| slot.0.get().cmp(&number))
 }
 
 /// Those of ports that rise that aren't below a first one.
@@ -140,7 +149,7 @@ pub(crate) fn earliest_of<A: Allocator + Copy>(entries: &[Entry<A>]) -> u64
 }
 
 /// The first channel to a peer.
-pub(crate) fn number_to(channels: &[(u16, Channel)], peer: Endpoint) -> Option<usize>
+pub(crate) fn number_to(channels: &[(ChannelNumber, Channel)], peer: Endpoint) -> Option<usize>
     ensures value { result ≡ position_from (λ s. is_peer peer s.1) 0 channels.now }
     ensures found { IfSome result (λ i. i < length channels.now) }
 {

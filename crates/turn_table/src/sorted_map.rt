@@ -10,10 +10,10 @@ ghost use Rattle.turn_history.proofs.Maps.{tuple_exact};
 ghost use Rattle.turn_ports.specs.Ports.{IsLowestFree};
 ghost use Rattle.turn_table.specs.Kept.{map_in, still};
 
-use crate::search::{lowest_free, place_of, ports_from};
+use crate::search::{lowest_free, place_of, place_of_number, ports_from};
 use std::alloc::{AllocError, Allocator, Global};
 use std::marker::Model;
-use turn_history::{Channel, Reservation};
+use turn_history::{Channel, ChannelNumber, Reservation};
 use turn_types::FiveTuple;
 
 /// A key: keys that compare alike are one.
@@ -22,6 +22,10 @@ pub(crate) trait Key: Ord + Copy {
 }
 
 impl Key for u16 {
+    ghost exact = { exact_unsigned };
+}
+
+impl Key for ChannelNumber {
     ghost exact = { exact_unsigned };
 }
 
@@ -190,6 +194,18 @@ impl<K: Key, V: Expires, A: Allocator + Copy> SortedMap<K, V, A> {
         ensures { (k : K) (v : V) → fin.get (map_in K.cmp self.now) k ≡ Some v → result ≤ V.expiry v }
     {
         earliest(&self.items)
+    }
+}
+
+impl<V: Copy, A: Allocator + Copy> SortedMap<ChannelNumber, V, A> {
+    /// The value of a number, which may be no channel number.
+    pub(crate) fn get_number(&self, number: u16) -> Option<V>
+        ensures { result ≡ fin.get (map_in nat_cmp self.now) number }
+    {
+        match place_of_number(&self.items, number) {
+            Ok(i) => Some(self.items[i].1),
+            Err(_) => None,
+        }
     }
 }
 

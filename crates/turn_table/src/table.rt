@@ -28,7 +28,7 @@ use crate::search::{expired_port_of, named_port_of};
 use crate::sorted_map::SortedMap;
 use std::alloc::{AllocError, Allocator, Global};
 use std::marker::Model;
-use turn_history::{Act, Reservation, is_channel_number};
+use turn_history::{Act, ChannelNumber, Reservation};
 use turn_ports::PortSet;
 use turn_types::{Endpoint, FiveTuple, Limits, Moment, Token};
 
@@ -262,7 +262,7 @@ impl<A: Allocator + Copy> Table<A> {
         }
     }
 
-    /// The peer of a channel (RFC 8656, section 12).
+    /// The peer of the channel of a number, which may be any that ChannelData has (RFC 8656, section 12).
     pub fn peer_of(&self, tuple: FiveTuple, number: u16) -> Option<Endpoint>
         ensures { result ≡ option_and_then (λ e. option_map (λ c. c.peer) (fin.get e.channels number)) (fin.get self.now.contents.entries tuple) }
     {
@@ -276,7 +276,7 @@ impl<A: Allocator + Copy> Table<A> {
     }
 
     /// A channel number that is bound to a peer.
-    pub fn channel_to(&self, tuple: FiveTuple, peer: Endpoint) -> Option<u16>
+    pub fn channel_to(&self, tuple: FiveTuple, peer: Endpoint) -> Option<ChannelNumber>
         ensures { MatchOption result ((n : ℕ) → ¬ HasChannel self.now.contents tuple n peer) (λ n. HasChannel self.now.contents tuple n peer) }
     {
         match self.get(tuple) {
@@ -320,9 +320,7 @@ impl<A: Allocator + Copy> Table<A> {
                 None => false,
             },
             Act::Bind { number, peer } => match self.get(tuple) {
-                Some(entry) => {
-                    is_channel_number(*number) && fits_channel(entry, self.limits, *number, *peer)
-                }
+                Some(entry) => fits_channel(entry, self.limits, *number, *peer),
                 None => false,
             },
         }
@@ -462,7 +460,7 @@ impl<A: Allocator + Copy> Table<A> {
     }
 
     /// Binds a channel of an entry.
-    fn bind(&mut self, tuple: FiveTuple, number: u16, peer: Endpoint, moment: Moment)
+    fn bind(&mut self, tuple: FiveTuple, number: ChannelNumber, peer: Endpoint, moment: Moment)
         requires there { IsSome (fin.get self.old.contents.entries tuple) }
         requires room { self.old.room ≡ Some (room_for tuple (Binds number peer)) }
         ensures { IsSomeAnd (fin.get self.old.contents.entries tuple) (λ e. self.new ≡ with_entry self.old tuple (binding moment number peer e)) }

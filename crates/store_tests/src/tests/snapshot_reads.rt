@@ -474,13 +474,21 @@ fn limits(rt: &impl Abort, each: u16) -> Limits {
     limits_of(rt, bounds)
 }
 
+fn has_channels<A: Allocator + Copy>(entry: &Entry<A>, channels: &[(u16, Channel)]) -> bool {
+    entry
+        .channels()
+        .iter()
+        .map(|(number, channel)| (number.get(), *channel))
+        .eq(channels.iter().copied())
+}
+
 fn holds<A: Allocator + Copy>(entry: &Entry<A>, listed: &Listed<'_>) -> bool {
     let numbers = (entry.port(), entry.granted(), entry.expiry());
     entry.user() == listed.user
         && numbers == (listed.port, listed.granted, listed.expiry)
         && entry.tx() == listed.tx
         && entry.permissions() == listed.permissions
-        && entry.channels() == listed.channels
+        && has_channels(entry, listed.channels)
 }
 
 fn lists<A: Allocator + Copy>(table: &Table<A>, listed: &[Listed<'_>]) -> bool {

@@ -1,8 +1,7 @@
-use Rattle.std.proofs.Common.{Some, None, refl, ap, subst, sym, ◌∙◌}
-use Rattle.std.specs.FinMap as fin
+use Rattle.std.proofs.Common.{Some, None, refl, ap, subst, ◌∙◌}
 use Rattle.turn_history.specs.Table as tables
-use Rattle.turn_relay.specs.FromPeer.{IsChannelFor, SendsToClient}
-use Rattle.turn_relay.proofs.Holders.{channel_for, not_too_long, numbered, too_long}
+use Rattle.turn_relay.specs.FromPeer.{SendsToClient}
+use Rattle.turn_relay.proofs.Holders.{channel_for, not_too_long, too_long}
 use Rattle.turn_relay.proofs.peer.from_peer.Goals as goal
 
 pub returns-then-not-is_permitted-clause-sends : goal.returns-then-not-is_permitted-clause-sends
@@ -36,9 +35,3 @@ returns-clause-history g c h agrees =
     subst (λ x. SendsToClient x c.args.port c.args.from c.args.datagram.now
     (Some (record { five_tuple = c.in_ok-five_tuple.five_tuple; channel = c.channel_to-channel.result; peer = c.args.from; payload = c.args.datagram.now }))) (agrees ∙ ap (tables.table h) c.requires.purged)
     (returns-clause-sends g c)
-
-pub returns-clause-number : goal.returns-clause-number
-returns-clause-number g c b h fits now agrees x is =
-    numbered b h c.args.moment c.in_ok-five_tuple.five_tuple c.in_ok-five_tuple.entry.now.entry x c.args.from fits now
-    (ap (λ t. fin.get t.entries c.in_ok-five_tuple.five_tuple) (sym (agrees ∙ ap (tables.table h) c.requires.purged)) ∙ c.in_ok-five_tuple.ensures.0)
-    (subst (λ o. IsChannelFor c.in_ok-five_tuple.entry.now.entry c.args.from o) is (channel_for c.in_ok-five_tuple.entry.now.entry c.args.from c.channel_to-channel.result c.channel_to-channel.ensures))

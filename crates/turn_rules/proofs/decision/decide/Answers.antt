@@ -1,4 +1,4 @@
-use Rattle.std.proofs.Common.{◌≡◌, ℕ, List, IfSome, sym, subst, ◌∙◌, ap, Option}
+use Rattle.std.proofs.Common.{◌≡◌, ℕ, List, IfSome, false, sym, subst, ◌∙◌, ap, Option}
 use Rattle.turn_codec.specs.Grammar.{Content}
 use Rattle.turn_history.specs.Fitting.{Fits, IsActInRange}
 use Rattle.turn_history.specs.History.{PlainAct}
@@ -6,6 +6,7 @@ use Rattle.turn_history.specs.Laws.{ReservesNone}
 use Rattle.turn_rules.specs.declared.outcome.Outcome.{Outcome}
 use Rattle.turn_rules.specs.Answer.{outcome_of, user_of, decision}
 use Rattle.turn_rules.specs.Decided.{verdict_in}
+use Rattle.turn_rules.specs.Laws.{IsPicked}
 use Rattle.turn_rules.specs.Outcome.{act_by}
 use Rattle.turn_rules.proofs.Acts.{decided_fits, none_reserved}
 use Rattle.turn_rules.proofs.InRange.{decided_in_range}
@@ -18,38 +19,37 @@ of_act P m user other o p act holds is same_user same_outcome =
 
 pub returns-clause-fits : goal.returns-clause-fits
 unfolding decision
-returns-clause-fits g c = λ same picked.
+returns-clause-fits g c = λ pairs assessed same picked.
     let table = c.args.table.now in
     let s = c.args.config.now in
     let request = c.args.request.now in
     let v = verdict_in request in
-    of_act (Fits table.bounds table.contents request.five_tuple) request.message.content c.user_of.result.now (user_of v) c.outcome_of-outcome.result
-    (outcome_of c.args.pairs s table.contents request.five_tuple c.args.moment request.message v c.args.port) _
-    (subst (λ b. IfSome (act_by (user_of v) request.message.content (outcome_of c.args.pairs s table.contents request.five_tuple c.args.moment request.message v c.args.port)) (Fits b table.contents request.five_tuple)) (sym same)
-    (decided_fits c.args.pairs s table.contents request.five_tuple c.args.moment request.message v c.args.port c.reserved_ports_are_apart.ensures.apart picked))
-    c.in_ok-make_act.ensures c.user_of.ensures c.outcome_of-outcome.ensures
+    of_act (Fits table.bounds table.contents request.five_tuple) request.message.content c.user_of.result.now (user_of v) c.outcome-outcome.result
+    (outcome_of pairs s table.contents request.five_tuple c.args.moment request.message v c.args.port) _
+    (subst (λ b. IfSome (act_by (user_of v) request.message.content (outcome_of pairs s table.contents request.five_tuple c.args.moment request.message v c.args.port)) (Fits b table.contents request.five_tuple)) (sym same)
+    (decided_fits pairs s table.contents request.five_tuple c.args.moment request.message v c.args.port c.reserved_ports_are_apart.ensures.apart (subst (λ n. IsPicked table.contents n c.args.port) assessed.need picked)))
+    c.in_ok-make_act.ensures c.user_of.ensures (c.outcome-outcome.ensures ∙ assessed.outcome c.args.port)
 
 pub returns-clause-in_range : goal.returns-clause-in_range
 unfolding decision
-returns-clause-in_range g c = λ bytes names picked.
+returns-clause-in_range g c = λ pairs assessed bytes names picked.
     let table = c.args.table.now in
     let s = c.args.config.now in
     let request = c.args.request.now in
     let v = verdict_in request in
-    of_act (IsActInRange s.limits) request.message.content c.user_of.result.now (user_of v) c.outcome_of-outcome.result
-    (outcome_of c.args.pairs s table.contents request.five_tuple c.args.moment request.message v c.args.port) _
-    (decided_in_range c.args.pairs s table.contents request.five_tuple c.args.moment request.message v c.args.port bytes c.reserved_ports_are_apart.ensures.ports picked names)
-    c.in_ok-make_act.ensures c.user_of.ensures c.outcome_of-outcome.ensures
+    of_act (IsActInRange s.limits) request.message.content c.user_of.result.now (user_of v) c.outcome-outcome.result
+    (outcome_of pairs s table.contents request.five_tuple c.args.moment request.message v c.args.port) _
+    (decided_in_range pairs s table.contents request.five_tuple c.args.moment request.message v c.args.port bytes c.reserved_ports_are_apart.ensures.ports (subst (λ n. IsPicked table.contents n c.args.port) assessed.need picked) names)
+    c.in_ok-make_act.ensures c.user_of.ensures (c.outcome-outcome.ensures ∙ assessed.outcome c.args.port)
 
 pub returns-clause-no_pairs : goal.returns-clause-no_pairs
 unfolding decision
-returns-clause-no_pairs g c = λ without.
+returns-clause-no_pairs g c = λ assessed.
     let table = c.args.table.now in
     let s = c.args.config.now in
     let request = c.args.request.now in
     let v = verdict_in request in
-    of_act ReservesNone request.message.content c.user_of.result.now (user_of v) c.outcome_of-outcome.result
-    (outcome_of c.args.pairs s table.contents request.five_tuple c.args.moment request.message v c.args.port) _
-    (subst (λ b. IfSome (act_by (user_of v) request.message.content (outcome_of b s table.contents request.five_tuple c.args.moment request.message v c.args.port)) ReservesNone) (sym without)
-    (none_reserved s table.contents request.five_tuple c.args.moment request.message v c.args.port))
-    c.in_ok-make_act.ensures c.user_of.ensures c.outcome_of-outcome.ensures
+    of_act ReservesNone request.message.content c.user_of.result.now (user_of v) c.outcome-outcome.result
+    (outcome_of false s table.contents request.five_tuple c.args.moment request.message v c.args.port) _
+    (none_reserved s table.contents request.five_tuple c.args.moment request.message v c.args.port)
+    c.in_ok-make_act.ensures c.user_of.ensures (c.outcome-outcome.ensures ∙ assessed.outcome c.args.port)

@@ -7,7 +7,7 @@ use Rattle.turn_history.specs.Laws.{ReservesNone}
 use Rattle.turn_history.specs.History.{PlainAct}
 use Rattle.turn_rules.specs.Answer.{Decided}
 use Rattle.turn_rules.specs.Decided.{decided_of, verdict_in}
-use Rattle.turn_rules.specs.Taking.{takes_if_any}
+use Rattle.turn_rules.specs.Taking.{is_picked, takes_if_any}
 use Rattle.turn_rules.proofs.Taking.{decision_takes}
 use Rattle.turn_table.specs.Table.{room_for}
 use Rattle.turn_step.specs.Holding.{ports_with, takes_in}
@@ -34,13 +34,13 @@ step_is g c =
     ∙ ap (λ x. record { change = option_map (change_of f) (option_map act_of d.act); sent = x }) c.reply_to.ensures.sent
 
 pub returns-clause-answers : goal.returns-clause-answers
-returns-clause-answers g c = λ h range failed agrees picked. (decided_of c.in_ok-decision.decision, c.in_ok-decision.ensures.answers h range failed agrees picked, step_is g c)
+returns-clause-answers g c = λ pairs h range failed assessed agrees picked. (decided_of c.in_ok-decision.decision, c.in_ok-decision.ensures.answers pairs h range failed assessed agrees picked, step_is g c)
 
 pub returns-clause-ready : goal.returns-clause-ready
-returns-clause-ready g c = λ bounds bytes names picked.
+returns-clause-ready g c = λ pairs assessed bounds bytes names picked.
     let d = c.in_ok-decision.decision in
-    let act_in_range = c.in_ok-decision.ensures.in_range bytes names picked in
-    let fits = c.in_ok-decision.ensures.fits bounds picked in
+    let act_in_range = c.in_ok-decision.ensures.in_range pairs assessed bytes names picked in
+    let fits = c.in_ok-decision.ensures.fits pairs assessed bounds picked in
     let made : (a : PlainAct) → option_map act_of d.act ≡ Some a → (c.match-act.table ≡ record c.args.table.now { room = Some (room_for c.args.request.now.five_tuple a) }) × IsTuple c.args.request.now.five_tuple = elim c.match-act.branch [
       | in-Some+in_ok-reserve_for-in-Some+in_ok-new-in-Some w ↦ λ a is.
           let same : Some (act_of w.in-Some.act) ≡ Some a = ap (option_map act_of) (sym w.in-Some.is) ∙ is in
@@ -62,13 +62,14 @@ returns-clause-no_pairs g c = λ without.
     changes_none f (Some a) none = none
 
 pub returns-clause-takes : goal.returns-clause-takes
-returns-clause-takes g c only = λ q.
+returns-clause-takes g c pairs assessed only = λ q.
     let r = c.args.request.now in
     let t = c.args.table.now.contents in
     ap (λ (o : StepOutcome). ports_with t o.change q) (step_is g c)
     ∙ ap (λ b. b || is_taken t q) (change_takes r.five_tuple (decided_of c.in_ok-decision.decision).act q)
-    ∙ ap (λ (d : Decided). takes_if_any d.act q || is_taken t q) c.in_ok-decision.ensures.value
-    ∙ decision_takes c.args.pairs c.args.config.now t r.five_tuple c.args.moment r.message (verdict_in r) c.args.port only q
+    ∙ ap (λ (d : Decided). takes_if_any d.act q || is_taken t q) (c.in_ok-decision.ensures.value pairs assessed)
+    ∙ decision_takes pairs c.args.config.now t r.five_tuple c.args.moment r.message (verdict_in r) c.args.port (λ none. only (assessed.need ∙ none)) q
+    ∙ ap (λ n. is_picked n c.args.port q || is_taken t q) (sym assessed.need)
   where
     change_takes : (f : FiveTuple) (act : Option PlainAct) (q : ℕ) → takes_in (option_map (change_of f) act) q ≡ takes_if_any act q
     change_takes f None q = refl

@@ -8,6 +8,7 @@ use Rattle.turn_step.specs.Answer.{IsDecided, Setting}
 use Rattle.turn_step.specs.Holding.{ports_with}
 use Rattle.turn_step.specs.State.{setting_of}
 use Rattle.turn_table.specs.State.{State}
+use Rattle.turn_rules.specs.Assessed.{IsAssessed}
 use Rattle.turn_rules.specs.Laws.{NamesInRange}
 use Rattle.turn_rules.specs.Need.{MayHavePicked}
 use Rattle.turn_step.proofs.Names.{judged_in_range}
@@ -31,21 +32,21 @@ returns-clause-answers g c h d agrees is =
     (subst (λ m. IsDecided (setting_of g.H.AuthHandler.key_of g.G.RelayAddressGenerator.range m) h c.args.moment (has_failed (failures m.ports) (failures c.pick.new.ports)) c.args.five_tuple c.args.message c.in-Ok.step) c.self.view_is
     (decided_as_judged s h c.args.moment failed c.args.five_tuple c.args.message (option_map verdict_of c.judge-verdict.result) c.in-Ok.step
     (c.judge-verdict.ensures.value c.self.inside.config c.self.invariant.0)
-    (c.in-Ok.ensures.answers h (g.G.RelayAddressGenerator.range c.self.inside.ports) failed here (subst (λ n. MayHavePicked (g.G.RelayAddressGenerator.range c.self.inside.ports)
+    (c.in-Ok.ensures.answers c.self.inside.pairs h (g.G.RelayAddressGenerator.range c.self.inside.ports) failed c.assess-assessment.ensures.assessed here (subst (λ n. MayHavePicked (g.G.RelayAddressGenerator.range c.self.inside.ports)
     (has_failed (g.G.RelayAddressGenerator.failures c.self.inside.ports) (g.G.RelayAddressGenerator.failures c.pick.new.ports)) c.self.inside.table.contents n c.in_ok-port.port)
-    c.needs_port-need.ensures.value c.in_ok-port.ensures.picked))))
+    c.needs_port-need.ensures c.in_ok-port.ensures.picked))))
 
 pub returns-clause-ready : goal.returns-clause-ready
 returns-clause-ready g c =
     let s = c.self.inside.config in
     let judged = c.judge-verdict.ensures.value s c.self.invariant.0 in
     record {
-      next = c.in-Ok.ensures.ready c.self.invariant.1 c.requires.bytes
+      next = c.in-Ok.ensures.ready c.self.inside.pairs c.assess-assessment.ensures.assessed c.self.invariant.1 c.requires.bytes
           (subst (NamesInRange s.limits) (sym judged) (judged_in_range s (g.H.AuthHandler.key_of c.self.inside.checker.handler) c.args.five_tuple.client c.args.moment c.args.message c.requires.bytes))
           (is_picked c.self.inside.table.contents _ _ _ c.in_ok-port.port (subst (λ n. MayHavePicked (g.G.RelayAddressGenerator.range c.self.inside.ports)
           (has_failed (g.G.RelayAddressGenerator.failures c.self.inside.ports) (g.G.RelayAddressGenerator.failures c.pick.new.ports)) c.self.inside.table.contents n c.in_ok-port.port)
-          c.needs_port-need.ensures.value c.in_ok-port.ensures.picked));
-      no_pairs = c.in-Ok.ensures.no_pairs;
+          c.needs_port-need.ensures c.in_ok-port.ensures.picked));
+      no_pairs = λ without. c.in-Ok.ensures.no_pairs (subst (λ b. IsAssessed b s c.self.inside.table.contents (record { message = c.args.message; five_tuple = c.args.five_tuple; verdict = c.judge-verdict.result }) c.args.moment c.assess-assessment.result) without c.assess-assessment.ensures.assessed);
     }
 
 -- ---- The ports that are held
@@ -55,9 +56,9 @@ returns-clause-held g c held =
     let holds = g.G.RelayAddressGenerator.holds in
     let t = c.self.inside.table.contents in
     let picked = c.in_ok-port.ensures.held (is_taken t) (subst (λ m. holds m.ports (is_taken m.table.contents)) (sym c.self.view_is) held) in
-    let takes = c.in-Ok.ensures.takes (λ none. c.in_ok-port.ensures.only (c.needs_port-need.ensures.value ∙ none)) in
+    let takes = c.in-Ok.ensures.takes c.self.inside.pairs c.assess-assessment.ensures.assessed (λ none. c.in_ok-port.ensures.only (c.needs_port-need.ensures ∙ none)) in
     subst (λ (s : State). holds c.pick.new.ports (ports_with s.contents c.in-Ok.step.change)) (sym c.settle-settled.ensures.table)
-    (subst (holds c.pick.new.ports) (λ j q. (ap (λ n. is_picked_for n c.in_ok-port.port q || is_taken t q) c.needs_port-need.ensures.value ∙ sym (takes q)) j) picked)
+    (subst (holds c.pick.new.ports) (λ j q. (ap (λ n. is_picked_for n c.in_ok-port.port q || is_taken t q) c.needs_port-need.ensures ∙ sym (takes q)) j) picked)
 
 pub returns-in_default-clause-held_err : goal.returns-in_default-clause-held_err
 returns-in_default-clause-held_err g c held =

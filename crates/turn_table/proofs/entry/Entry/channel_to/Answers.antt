@@ -1,7 +1,6 @@
-use Rattle.std.proofs.Common.{◌≡◌, ℕ, get_or, ap, sym, subst, ◌∙◌}
+use Rattle.std.proofs.Common.{◌≡◌, get_or, ap, sym, subst, ◌∙◌}
 use Rattle.std.specs.Prelude.{IsSomeAnd}
 use Rattle.std.specs.List.{position_from}
-use Rattle.turn_history.specs.declared.channel.Channel.{Channel}
 use Rattle.turn_history.specs.Fitting.{is_peer}
 use Rattle.std.specs.Ordering.{nat_cmp}
 use Rattle.turn_table.specs.Kept.{map_in}
@@ -9,15 +8,10 @@ use Rattle.turn_table.specs.Table.{IsChannelTo}
 use Rattle.turn_table.proofs.ChannelPeers.{channel_in, no_channel}
 use Rattle.turn_table.proofs.entry.Entry.channel_to.Goals as goal
 
--- what stands at a place, or else this
-default : ℕ × Channel
-default = (0, record { peer = record { ip = 0; port = 0 }; expiry = 0 })
-
 pub returns-in-Some : goal.returns-in-Some
-unfolding default
 returns-in-Some g c =
-    let at = channel_in c.args.peer (map_in nat_cmp c.self.inside.channels) c.items-channels.result.now c.items-channels.ensures c.in-Some.i default c.in-Some.ensures.value in
-    subst (λ h. IsChannelTo h.entry (get_or c.items-channels.result.now c.in-Some.i default).0 c.args.peer) c.self.view_is (subst (λ o. IsSomeAnd o (λ x. x.peer ≡ c.args.peer)) (sym at.0) at.1)
+    let at = channel_in c.args.peer (map_in nat_cmp c.self.inside.channels) c.items-channels.result.now c.items-channels.ensures c.in-Some.i c.index-channels-i.result c.in-Some.ensures.value in
+    subst (λ h. IsChannelTo h.entry (get_or c.items-channels.result.now c.in-Some.i c.index-channels-i.result).0 c.args.peer) c.self.view_is (subst (λ o. IsSomeAnd o (λ x. x.peer ≡ c.args.peer)) (sym at.0) at.1)
 
 pub returns-in-None : goal.returns-in-None
 returns-in-None g c n some =

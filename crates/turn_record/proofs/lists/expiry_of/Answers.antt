@@ -1,6 +1,6 @@
 use Rattle.std.proofs.Common.{rules}
 use Rattle.turn_record.specs.Snapshots.{expiry_at}
-use Rattle.turn_record.proofs.entries.expiry_of.Goals as goal
+use Rattle.turn_record.proofs.lists.expiry_of.Goals as goal
 
 pub returns : goal.returns
 unfolding expiry_at

@@ -1,0 +1,181 @@
+//! What a client's message comes to before a port is picked.
+
+ghost use Rattle.std.specs.Prelude.{◌≡◌, ◌==◌, ℕ, Option, if◌then◌else◌, is_none};
+ghost use Rattle.turn_history.specs.History.{History};
+ghost use Rattle.turn_history.specs.Table as tables;
+ghost use Rattle.turn_types.specs.Methods.{allocate};
+ghost use Rattle.turn_rules.specs.Allocate.{before_port, needed_for};
+ghost use Rattle.turn_rules.specs.Answer.{is_dropped, is_expired, is_protected, outcome_of, passed_outcome, port_needed};
+ghost use Rattle.turn_rules.specs.Assessed.{IsAssessed, needed_at, needed_by, outcome_at};
+ghost use Rattle.turn_rules.specs.Decided.{verdict_in};
+ghost use Rattle.turn_table.specs.Table.{Agrees};
+
+use crate::allocate::{allocate_stage, with_port};
+use crate::binding::binding_outcome;
+use crate::decision::ClientMessage;
+use crate::need::Need;
+use crate::outcome::Outcome;
+use crate::owner::owner_outcome;
+use std::alloc::Allocator;
+use turn_codec::Message;
+use turn_cred::{Key, Verdict};
+use turn_mac::has_wrong_fingerprint;
+use turn_table::Table;
+use turn_types::{Class, ErrorCode, Method, Moment, ServerConfig};
+
+/// How far a message is judged.
+#[derive(Drop)]
+pub(crate) enum Stage {
+    /// Its outcome is known, whatever is picked.
+    Settled(Outcome),
+    /// It is an Allocate that gets a port, if there is one.
+    NeedsPort(Need),
+}
+
+/// What a message comes to, as far as that is known before a port is picked for it.
+#[derive(Drop)]
+pub struct Assessment {
+    pub(crate) stage: Stage,
+}
+
+impl Assessment {
+    /// What the message needs of the generator of ports, if it needs anything. It doesn't if it is dropped, if it is another
+    /// request than Allocate, if it is answered whatever the port, or if its RESERVATION-TOKEN names a port.
+    pub fn needs_port(&self) -> Option<Need>
+        ensures { result ≡ needed_by self.now }
+    {
+        match self.stage {
+            Stage::Settled(_) => None,
+            Stage::NeedsPort(need) => Some(need),
+        }
+    }
+
+    /// The outcome, with the port that was picked, if one was.
+    pub(crate) fn outcome<C: Allocator>(
+        self,
+        config: &ServerConfig<C>,
+        request: &ClientMessage<'_>,
+        moment: Moment,
+        port: Option<u16>,
+    ) -> Outcome
+        ensures { result ≡ outcome_at config.now request.now.five_tuple moment request.now.message.content self.stage port }
+    {
+        match self.stage {
+            Stage::Settled(outcome) => outcome,
+            Stage::NeedsPort(_) => with_port(config, request, moment, port),
+        }
+    }
+}
+
+/// Whether a method asks for credentials: those of Allocate, Refresh, CreatePermission and ChannelBind do.
+pub fn is_protected(method: Method) -> bool
+    ensures { result ≡ is_protected method }
+{
+    method == Method::ALLOCATE
+        || method == Method::REFRESH
+        || method == Method::CREATE_PERMISSION
+        || method == Method::CHANNEL_BIND
+}
+
+/// Whether a message is dropped, whatever it asks for.
+fn is_dropped(message: &Message<'_>) -> bool
+    ensures { result ≡ is_dropped message.now }
+{
+    message.class() != Class::Request || has_wrong_fingerprint(message)
+}
+
+/// The stage of a message of a user whose credentials hold.
+fn passed_stage<C: Allocator, T: Allocator + Copy>(
+    config: &ServerConfig<C>,
+    table: &Table<T>,
+    request: &ClientMessage<'_>,
+    user: &[u8],
+    moment: Moment,
+    pairs: bool,
+) -> Stage
+    ensures need { needed_at result ≡ (if request.now.message.content.method == allocate
+        then (if is_none (before_port pairs config.now table.now.contents request.now.five_tuple user.now request.now.message.content)
+        then needed_for table.now.contents request.now.message.content else None) else None) }
+    ensures outcome { (port : Option ℕ) → outcome_at config.now request.now.five_tuple moment request.now.message.content result port
+        ≡ passed_outcome pairs config.now table.now.contents request.now.five_tuple moment user.now request.now.message.content port }
+{
+    if request.message.method() == Method::ALLOCATE {
+        return allocate_stage(config, table, request, user, moment, pairs);
+    }
+    Stage::Settled(owner_outcome(config, table, request.five_tuple, user, &request.message))
+}
+
+/// Whether a new allocation is asked for with a key that has expired.
+fn is_expired<T: Allocator + Copy>(
+    table: &Table<T>,
+    request: &ClientMessage<'_>,
+    moment: Moment,
+    key: &Key,
+) -> bool
+    ensures { result ≡ is_expired table.now.contents request.now.five_tuple moment request.now.message.content key.now }
+{
+    key.has_expired(moment)
+        && request.message.method() == Method::ALLOCATE
+        && !request.message.has_unknown()
+        && table.get(request.five_tuple).is_none()
+}
+
+/// The stage of a message.
+#[tactic(auto, unfolding(crate::specs::Answer::outcome_of, crate::specs::Answer::port_needed))]
+fn stage_of<C: Allocator, T: Allocator + Copy>(
+    config: &ServerConfig<C>,
+    table: &Table<T>,
+    request: &ClientMessage<'_>,
+    moment: Moment,
+    pairs: bool,
+) -> Stage
+    ensures need { needed_at result ≡ port_needed pairs config.now table.now.contents request.now.five_tuple moment request.now.message (verdict_in request.now) }
+    ensures outcome { (port : Option ℕ) → outcome_at config.now request.now.five_tuple moment request.now.message.content result port
+        ≡ outcome_of pairs config.now table.now.contents request.now.five_tuple moment request.now.message (verdict_in request.now) port }
+{
+    // RFC 8489, section 6.3: a wrong FINGERPRINT, or a class or a method that isn't expected: silently discarded.
+    if is_dropped(&request.message) {
+        return Stage::Settled(Outcome::Drop);
+    }
+    let method = request.message.method();
+    if method == Method::BINDING {
+        return Stage::Settled(binding_outcome(&request.message));
+    }
+    if !is_protected(method) {
+        return Stage::Settled(Outcome::Drop);
+    }
+    match request.verdict {
+        None => Stage::Settled(Outcome::Drop),
+        // RFC 8489, section 9.2.4: no or wrong credentials 401, malformed ones 400, a nonce that doesn't hold 438.
+        Some(Verdict::Challenge401) => {
+            Stage::Settled(Outcome::Challenge(ErrorCode::Unauthenticated))
+        }
+        Some(Verdict::Bad400) => Stage::Settled(Outcome::Refuse(ErrorCode::BadRequest)),
+        Some(Verdict::Stale438) => Stage::Settled(Outcome::Challenge(ErrorCode::StaleNonce)),
+        Some(Verdict::Passed { user, key }) => {
+            // An expired key makes no new allocation: 401, as an unknown user gets.
+            if is_expired(table, request, moment, &key) {
+                return Stage::Settled(Outcome::Challenge(ErrorCode::Unauthenticated));
+            }
+            passed_stage(config, table, request, user, moment, pairs)
+        }
+    }
+}
+
+/// Judges a client's message at a moment, up to the port that is picked for it. `pairs` says whether ports may be reserved:
+/// then EVEN-PORT with the R bit needs a pair. It takes no memory.
+pub fn assess<C: Allocator, T: Allocator + Copy>(
+    table: &Table<T>,
+    config: &ServerConfig<C>,
+    request: &ClientMessage<'_>,
+    moment: Moment,
+    pairs: bool,
+) -> Assessment
+    requires purged { table.now.moment ≡ moment }
+    ensures assessed { IsAssessed pairs config.now table.now.contents request.now moment result }
+    ensures history { (h : History) → Agrees table.now h → IsAssessed pairs config.now (tables.table h moment) request.now moment result }
+{
+    Assessment {
+        stage: stage_of(config, table, request, moment, pairs),
+    }
+}
