@@ -5,7 +5,7 @@ use std::io;
 use std::marker::Model;
 use turn_disk::FileDisk;
 use turn_record::{Version, max_payload, read_snapshot};
-use turn_store::{Opened, Store, format, format_version1};
+use turn_store::{Opened, Store, WrittenAs, format, format_version1};
 use turn_table::Table;
 use turn_types::Limits;
 
@@ -91,8 +91,8 @@ impl Stored {
             return false;
         }
         match self.store.append(payload, &self.table) {
-            Ok(true) => false,
-            Ok(false) => true,
+            Ok(WrittenAs::Frame) => true,
+            Ok(WrittenAs::Snapshot) => false,
             Err(_) => false,
         }
     }

@@ -6,6 +6,6 @@ pub use turn_disk::{
 pub use turn_engine::{CommitError, Server, ServerOpenError, SubmitError};
 pub use turn_record::Version;
 pub use turn_store::{
-    FormatError, Info, LimitsError, OpenError, Opened, Store, StoreError, StoreOpenError, format,
-    least_area, limits,
+    FormatError, Info, LimitsError, OpenError, Opened, Store, StoreError, StoreOpenError,
+    WrittenAs, format, least_area, limits,
 };

@@ -1,5 +1,5 @@
 -- The ports that are held, call after call.
-use Rattle.std.proofs.Common.{◌≡◌, List, [], ◌∷◌, Result, Ok, Err, None, sym, ap, subst}
+use Rattle.std.proofs.Common.{List, [], ◌∷◌, Ok, Err, None, sym, ap, subst}
 use Rattle.turn_cred.specs.declared.handler.AuthHandler as handlers
 use Rattle.turn_disk.specs.declared.disk.Disk as disks
 use Rattle.turn_ports.specs.declared.generator.RelayAddressGenerator as generators
@@ -8,7 +8,6 @@ use Rattle.turn_record.specs.declared.version.Version.{Version}
 use Rattle.turn_step.specs.State.{HasPortsApart, HoldsPorts, MachineState}
 use Rattle.turn_table.specs.State.{State}
 use Rattle.turn_types.specs.declared.limits.Bounds.{Bounds}
-use Rattle.turn_engine.specs.Calls.{Commits}
 use Rattle.turn_engine.specs.Runs.{Commit, IsCall, Serves, ServerCall, Submit, after_of, last_of}
 use Rattle.turn_engine.specs.State.{ServerState}
 

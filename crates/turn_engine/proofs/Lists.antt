@@ -1,7 +1,7 @@
 -- Histories, cut and made longer.
 use Rattle.std.proofs.Common.{◌≡◌, ◌≤◌, ◌<◌, ◌+◌, ◌-◌, ℕ, List, [], ◌∷◌, ◌++◌, length, take, Option, Some, None, Result, Ok, Err, false, refl, sym, ap, ◌∙◌, arith, append-nil, rules}
 use Rattle.std.specs.List.{AllByRecursion}
-use Rattle.std.specs.Prelude.{OnOk, is_err}
+use Rattle.std.specs.Prelude.{OnErr, OnOk, is_err}
 use Rattle.std.proofs.lemmas.List.{take-append-drop}
 use Rattle.std.proofs.Math.ListN.{drop_of_length-le}
 use Rattle.turn_history.specs.Laws.{AllFrom}
@@ -32,6 +32,11 @@ none_left (x ∷ xs) e = absurd (omega (arith, e))
 pub when_ok : {T E : Type 0} (r : Result T E) (P : Type 0) → OnOk r P → is_err r ≡ false → P
 when_ok (Ok x) P p e = p
 when_ok (Err x) P p e = cc
+
+-- what holds in any case
+pub on_err : {T E P : Type 0} (r : Result T E) → P → OnErr r P
+on_err (Ok x) p = tt
+on_err (Err e) p = p
 
 -- a batch that isn't full has room for one more, where there is room for as many as it may still take
 pub room_for_one : (len left capacity acts arrivals old limit : ℕ) → len + left ≤ capacity → old < limit → left ≡ acts - arrivals → arrivals ≡ old → acts ≡ limit → len + 1 ≤ capacity

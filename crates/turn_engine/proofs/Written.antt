@@ -1,10 +1,11 @@
 -- What a commit makes of what a server recovers to, and of its disk.
-use Rattle.std.proofs.Common.{inl, ◌≡◌, ◌≢◌, ◌≤◌, ◌<◌, ◌-◌, ◌^◌, ⊎_elim, ℕ, Bool, true, false, List, [], ◌∷◌, ◌++◌, length, take, drop, Result, Ok, Err, refl, sym, ap, ◌∙◌, subst, arith, append-nil}
+use Rattle.std.proofs.Common.{inl, ◌≡◌, ◌≢◌, ◌≤◌, ◌<◌, ◌-◌, ◌^◌, ⊎_elim, ℕ, true, false, List, [], ◌∷◌, ◌++◌, length, take, drop, Result, Ok, Err, refl, sym, ap, ◌∙◌, subst, arith, append-nil}
 use Rattle.std.proofs.lemmas.List.{take-append-drop}
 use Rattle.std.proofs.Math.Seq.{take-length, drop-length}
 use Rattle.std.specs.Prelude.{OnErr}
 use Rattle.std.specs.List.{AllByRecursion}
 use Rattle.turn_disk.specs.Disk.{State, Trace, IsImage, EachImageSince}
+use Rattle.turn_disk.specs.declared.disk.Disk as disks
 use Rattle.turn_disk.proofs.Since.{image_settled, since_same}
 use Rattle.turn_history.specs.Fitting.{IsFitting}
 use Rattle.turn_history.specs.History.{Event, History, clock}
@@ -18,26 +19,51 @@ use Rattle.turn_store.specs.Spells.{HasSize}
 use Rattle.turn_store.specs.Stages.{InStages}
 use Rattle.turn_store.specs.State.{MayFollow, RecoversToAt, StoreState, form_of, framed, swapped}
 use Rattle.turn_store.specs.declared.error.StoreError.{StoreError}
+use Rattle.turn_store.specs.declared.store.WrittenAs.{WrittenAs}
+use Rattle.turn_store.specs.declared.store.WrittenAs.TheVariants.{Frame, Snapshot}
 use Rattle.turn_store.proofs.Staged.{stages_all, stages_first, stages_weaken}
 use Rattle.turn_types.specs.declared.limits.Bounds.{Bounds}
+use Rattle.turn_step.specs.Outcome.{Sent}
+use Rattle.turn_engine.specs.Calls.{Commits}
 use Rattle.turn_engine.specs.Images.{AtLeast}
 use Rattle.turn_engine.specs.Recovering.{RecoversTo}
 use Rattle.turn_engine.specs.State.{ServerState, emptied, limits_of, now_of}
 use Rattle.turn_engine.proofs.Lists.{none_left}
 
 -- the form of a store is kept, whatever an append answers
-pub form_kept : {D : Type 0} (old new : StoreState D) (count size : ℕ) (result : Result Bool StoreError) → (result ≡ Ok false → new ≡ framed old count new.disk)
-    → (result ≡ Ok true → new ≡ swapped old size new.disk) → OnErr result (new ≡ record old { disk = new.disk; stopped = true }) → form_of new ≡ form_of old
-form_kept old new count size (Ok false) one two err = ap form_of (one refl)
-form_kept old new count size (Ok true) one two err = ap form_of (two refl)
+pub form_kept : {D : Type 0} (old new : StoreState D) (count size : ℕ) (result : Result WrittenAs StoreError) → (result ≡ Ok Frame → new ≡ framed old count new.disk)
+    → (result ≡ Ok Snapshot → new ≡ swapped old size new.disk) → OnErr result (new ≡ record old { disk = new.disk; stopped = true }) → form_of new ≡ form_of old
+form_kept old new count size (Ok Frame) one two err = ap form_of (one refl)
+form_kept old new count size (Ok Snapshot) one two err = ap form_of (two refl)
 form_kept old new count size (Err e) one two err = ap form_of err
 
 -- and its version
-pub version_kept : {D : Type 0} (old new : StoreState D) (count size : ℕ) (result : Result Bool StoreError) → (result ≡ Ok false → new ≡ framed old count new.disk)
-    → (result ≡ Ok true → new ≡ swapped old size new.disk) → OnErr result (new ≡ record old { disk = new.disk; stopped = true }) → new.version ≡ old.version
-version_kept old new count size (Ok false) one two err = ap (λ s. s.version) (one refl)
-version_kept old new count size (Ok true) one two err = ap (λ s. s.version) (two refl)
+pub version_kept : {D : Type 0} (old new : StoreState D) (count size : ℕ) (result : Result WrittenAs StoreError) → (result ≡ Ok Frame → new ≡ framed old count new.disk)
+    → (result ≡ Ok Snapshot → new ≡ swapped old size new.disk) → OnErr result (new ≡ record old { disk = new.disk; stopped = true }) → new.version ≡ old.version
+version_kept old new count size (Ok Frame) one two err = ap (λ s. s.version) (one refl)
+version_kept old new count size (Ok Snapshot) one two err = ap (λ s. s.version) (two refl)
 version_kept old new count size (Err e) one two err = ap (λ s. s.version) err
+
+-- a result that is Ok, and one that is a fault
+abbrev done_in : (T : Type 0) → T → Result T StoreError
+done_in T x = Ok x
+
+abbrev fault_in : (T : Type 0) → StoreError → Result T StoreError
+fault_in T e = Err e
+
+-- no result is both
+pub done_never : {T : Type 0} {x : T} {e : StoreError} → done_in T x ≡ fault_in T e → ⊥
+done_never is = cc
+
+-- faults are the same in results of any type
+pub fault_as : {S T : Type 0} {d e : StoreError} → fault_in S d ≡ fault_in S e → fault_in T d ≡ fault_in T e
+fault_as is = cc
+
+-- and then the store goes on
+pub runs_on : {D : Type 0} (old new : StoreState D) (count size : ℕ) (form : WrittenAs) → (done_in WrittenAs form ≡ done_in WrittenAs Frame → new ≡ framed old count new.disk)
+    → (done_in WrittenAs form ≡ done_in WrittenAs Snapshot → new ≡ swapped old size new.disk) → old.stopped ≡ false → new.stopped ≡ false
+runs_on old new count size Frame one two runs = ap (λ s. s.stopped) (one refl) ∙ runs
+runs_on old new count size Snapshot one two runs = ap (λ s. s.stopped) (two refl) ∙ runs
 
 -- ---- Images
 
@@ -137,6 +163,9 @@ may_follow state server h k recovers same range =
 pub some_acts : (n acts : ℕ) → n ≡ acts → n ≢ 0 → 1 ≤ acts
 some_acts n acts is not = omega arith
 
+pub not_none : (acts : ℕ) → 1 ≤ acts → acts ≡ 0 → ⊥
+not_none acts some none = omega arith
+
 pub few_acts : (acts arrivals limit bound : ℕ) → acts ≤ arrivals → arrivals ≤ limit → bound ≡ limit → acts ≤ bound
 few_acts acts arrivals limit bound one two is = omega arith
 
@@ -173,3 +202,41 @@ none_staged state old h k recovers none =
     let is : drop k h ≡ [] = none_left (drop k h) (sym recovers.counted ∙ none) in
     let all : take k h ≡ take k h ++ drop k h = sym (append-nil (take k h)) ∙ ap (λ (l : History). take k h ++ l) (sym is) in
     all_stored state state old old.store h k recovers (recovers.at, recovers.at_late, subst (λ (l : History). RecoversToAt old.store state recovers.at l) all recovers.stored)
+
+-- ---- What an append of a server's batch says of each history that the server recovers to
+
+module _ {D H G : Type 0} (disk : disks.Ghosts D) (server : ServerState D H G) (store : StoreState D) (same : server.store.bounds ≡ limits_of server) (range : now_of server < 2 ^ 40 - 3600)
+    (some : 1 ≤ server.acts) (few : server.acts ≤ server.store.bounds.acts) where
+  -- for each history of a store, and events that may follow it and are the batch
+  abbrev Appends : (ℕ → History → List Event → Type 0) → Type 0
+  Appends P = (c : ℕ) (h : History) (es : List Event) → RecoversToAt server.store (disk.trace server.store.disk).now c h → MayFollow server.store.bounds c h es (now_of server)
+      → HasSize server.store.version server.store.bounds es → server.payload ≡ bytes.payload es → server.machine.table.contents ≡ tables.table (h ++ es) (now_of server) → P c h es
+
+  of_batch : (P : ℕ → History → List Event → Type 0) → Appends P → (h : History) (k : ℕ) → (recovers : RecoversTo (disk.trace server.store.disk).now server h k) → P recovers.at (take k h) (drop k h)
+  of_batch P all h k recovers =
+      all recovers.at (take k h) (drop k h) recovers.stored (may_follow _ server h k recovers same range) (has_size _ server h k recovers some few) recovers.staged (contents_are _ server h k recovers)
+
+  abbrev Stages : ℕ → History → List Event → Type 0
+  Stages c h es = InStages (disk.trace server.store.disk) (disk.trace store.disk) (StandsForAt (form_of server.store) h c) (EitherBy (form_of server.store) h es (now_of server))
+
+  pub batch_stages : Appends Stages → (h : History) (k : ℕ) → RecoversTo (disk.trace server.store.disk).now server h k
+      → InStages (disk.trace server.store.disk) (disk.trace store.disk) (StandsBy (form_of server.store) (take k h) (now_of server)) (EitherBy (form_of server.store) (take k h) (drop k h) (now_of server))
+  batch_stages all h k recovers = stages_written (disk.trace server.store.disk) (disk.trace store.disk) server h k recovers (of_batch Stages all h k recovers)
+
+  pub batch_stop : Appends Stages → (h : History) (k : ℕ) → RecoversTo (disk.trace server.store.disk).now server h k
+      → EachImageSince (disk.trace server.store.disk) (disk.trace store.disk) (AtLeast (form_of server.store) h k (now_of server))
+  batch_stop all h k recovers = written (disk.trace server.store.disk) (disk.trace store.disk) server h k recovers (of_batch Stages all h k recovers)
+
+  pub batch_stored : Appends (λ c h es. (d : ℕ) × (d ≤ now_of server) × RecoversToAt store (disk.trace store.disk).now d (h ++ es)) → (h : History) (k : ℕ) → RecoversTo (disk.trace server.store.disk).now server h k
+      → RecoversTo (disk.trace store.disk).now (emptied server store) h (length h)
+  batch_stored all h k recovers =
+      all_stored _ _ server store h k recovers (of_batch (λ c h es. (d : ℕ) × (d ≤ now_of server) × RecoversToAt store (disk.trace store.disk).now d (h ++ es)) all h k recovers)
+
+-- ---- A commit of a server that is another by an equation
+
+pub done_at : {D H G : Type 0} {disk : disks.Ghosts D} {store : StoreState D} {old same : ServerState D H G} → old ≡ same → Commits disk old (emptied old store) (Ok old.outs) → Commits disk same (emptied same store) (Ok same.outs)
+done_at {disk = disk} {store = store} is call = subst (λ s. Commits disk s (emptied s store) (Ok s.outs)) is call
+
+pub failed_at : {D H G : Type 0} {disk : disks.Ghosts D} {store : StoreState D} {old same : ServerState D H G} {result : Result (List Sent) StoreError} → old ≡ same → Commits disk old (record old { store = store }) result
+    → Commits disk same (record same { store = store }) result
+failed_at {disk = disk} {store = store} {result = result} is call = subst (λ (s : ServerState _ _ _). Commits disk s (record s { store = store }) result) is call

@@ -1,5 +1,5 @@
 -- What the calls of a server do, as records over what contracts see.
-use Rattle.std.specs.Prelude.{◌≡◌, ◌≤◌, ◌<◌, ◌↔◌, ◌+◌, ◌-◌, ◌^◌, ℕ, List, Result, Ok, Err, None, IsOk, IfOk, IfErr, IsErrAnd, OnOk, OnErr, true, false, length, take, drop}
+use Rattle.std.specs.Prelude.{◌≡◌, ◌≤◌, ◌↔◌, ◌+◌, ◌-◌, ◌^◌, ℕ, List, Result, Ok, Err, None, IsOk, IfOk, IfErr, IsErrAnd, OnOk, OnErr, true, false, length, take, drop}
 use Rattle.turn_cred.specs.declared.handler.AuthHandler as handlers
 use Rattle.turn_disk.specs.Device.{Uses}
 use Rattle.turn_disk.specs.Disk.{EachImageSince}
@@ -15,7 +15,7 @@ use Rattle.turn_store.specs.Images.{EachImage, EitherBy, StandsBy}
 use Rattle.turn_store.specs.Opened.{IsOpened}
 use Rattle.turn_store.specs.Refused.{IsPlain, WhyRefused}
 use Rattle.turn_store.specs.Stages.{InStages}
-use Rattle.turn_store.specs.State.{form_of}
+use Rattle.turn_store.specs.State.{CompactsFor, StoreState, form_of}
 use Rattle.turn_store.specs.Tables.{snapshot_of}
 use Rattle.turn_store.specs.declared.error.OpenError.TheVariants.{Device}
 use Rattle.turn_store.specs.declared.error.StoreError.{StoreError}
@@ -74,7 +74,7 @@ pub record Commits {D H G : Type 0} (disk : disks.Ghosts D) (old new : ServerSta
   pub form : form_of new.store ≡ form_of old.store
   -- Worn comes without a device call, at the last generation
   pub worn : (result ≡ Err faults.Worn) ↔ ((old.store.stopped ≡ false) × (1 ≤ old.acts) × (old.store.generation ≡ 2 ^ 64 - 1)
-      × (old.store.area.size < old.store.area.end + 6 + length old.payload))
+      × CompactsFor old.store (length old.payload))
   pub untouched_worn : result ≡ Err faults.Worn → new.store.disk ≡ old.store.disk
   -- for each history on which the server rests: up to some moment of the call a stop leaves what is stored of it, from then on that or
   -- all of it
@@ -87,6 +87,11 @@ pub record Commits {D H G : Type 0} (disk : disks.Ghosts D) (old new : ServerSta
   -- at Ok all of it is stored
   pub recovers : disk.follows_crash_model new.store.disk → (h : History) (k : ℕ) → RecoversTo (disk.trace old.store.disk).now old h k
       → OnOk result (RecoversTo (disk.trace new.store.disk).now new h (length h))
+
+-- the server after a commit over this store: with nothing staged if it succeeded, else as it was
+abbrev pub committed : {D H G T : Type 0} → ServerState D H G → StoreState D → Result T StoreError → ServerState D H G
+committed s store (Ok done) = emptied s store
+committed s store (Err fault) = record s { store = store }
 
 -- the disk after an opening: the server's, or the one that was returned
 abbrev pub disk_after : {D H G : Type 0} → Result (ServerState D H G) (ServerOpenError D H G) → D

@@ -21,7 +21,7 @@ ghost use Rattle.turn_store.specs.Refused.{IsPlain, WhyRefused};
 ghost use Rattle.turn_store.specs.Stages.{InStages};
 ghost use Rattle.turn_store.specs.State.{form_of};
 ghost use Rattle.turn_store.specs.Tables.{snapshot_of};
-ghost use Rattle.turn_engine.specs.Calls.{Commits, Opening, Submits, disk_after};
+ghost use Rattle.turn_engine.specs.Calls.{Commits, Opening, Submits, committed, disk_after};
 ghost use Rattle.turn_engine.specs.Images.{AtLeast};
 ghost use Rattle.turn_engine.specs.Recovering.{Opens, RecoversTo, Takes};
 ghost use Rattle.turn_engine.specs.State.{emptied, has_pairs, limits_of, now_of};
@@ -277,10 +277,7 @@ impl<D: Disk, H: AuthHandler, G: RelayAddressGenerator, A: Allocator + Copy> Ser
         let _ = moment.seconds();
         // Room for the whole batch, so that its list is one allocation.
         let left = self.machine.config().limits().acts() - self.arrivals;
-        let step = match self.machine.prepare(moment, arrival) {
-            Ok(step) => step,
-            Err(error) => return Err(error),
-        };
+        let step = self.machine.prepare(moment, arrival)?;
         if self.outgoing.reserve(usize::from(left)).is_err() {
             self.machine.abandon(step);
             return Err(AllocError);
@@ -300,35 +297,15 @@ impl<D: Disk, H: AuthHandler, G: RelayAddressGenerator, A: Allocator + Copy> Ser
         if let Some(refused) = self.refusal() {
             return Err(refused);
         }
-        match self.take(moment, arrival) {
-            Ok(()) => Ok(()),
-            Err(_) => Err(SubmitError::Memory),
-        }
+        self.take(moment, arrival)?;
+        Ok(())
     }
 
-    // Writes the acts that were accepted since the last commit, if there are any.
+    // Writes the acts that were accepted since the last commit, if there are any. With what is staged handed out after Ok, it is a commit.
     fn write(&mut self) -> Result<(), StoreError>
-        ensures form { form_of self.new.store ≡ form_of self.old.store }
         ensures rest { self.new ≡ record self.old { store = self.new.store } }
-        ensures runs { OnOk result (self.new.store.stopped ≡ false) }
-        ensures stops { OnErr result (self.new.store.stopped ≡ true) }
-        ensures stopped { (result ≡ Err StoreError.Stopped) ↔ (self.old.store.stopped ≡ true) }
-        ensures unchanged { self.old.store.stopped ≡ true → self.new ≡ self.old }
-        ensures nothing { self.old.store.stopped ≡ false → self.old.acts ≡ 0 → IsOk result × (self.new.store ≡ self.old.store) }
-
-        ensures uses { Uses D.Disk self.old.store.disk self.new.store.disk (result ≡ Err StoreError.Device) }
-        ensures worn { (result ≡ Err StoreError.Worn) ↔ ((self.old.store.stopped ≡ false) × (1 ≤ self.old.acts)
-            × (self.old.store.generation ≡ 2 ^ 64 - 1)
-            × (self.old.store.area.size < self.old.store.area.end + 6 + length self.old.payload)) }
-        ensures untouched_worn { result ≡ Err StoreError.Worn → self.new.store.disk ≡ self.old.store.disk }
-
-        ensures stages { D.follows_crash_model self.new.store.disk → (h : History) (k : ℕ) → RecoversTo (D.trace self.old.store.disk).now self.old h k
-            → InStages (D.trace self.old.store.disk) (D.trace self.new.store.disk) (StandsBy (form_of self.old.store) (take k h) (now_of self.old))
-            (EitherBy (form_of self.old.store) (take k h) (drop k h) (now_of self.old)) }
-        ensures stop { D.follows_crash_model self.new.store.disk → (h : History) (k : ℕ) → RecoversTo (D.trace self.old.store.disk).now self.old h k
-            → EachImageSince (D.trace self.old.store.disk) (D.trace self.new.store.disk) (AtLeast (form_of self.old.store) h k (now_of self.old)) }
-        ensures done { D.follows_crash_model self.new.store.disk → (h : History) (k : ℕ) → RecoversTo (D.trace self.old.store.disk).now self.old h k
-            → OnOk result (RecoversTo (D.trace self.new.store.disk).now (emptied self.old self.new.store) h (length h)) }
+        ensures call { Commits D.Disk self.old (committed self.old self.new.store result)
+            (result_map_both (λ _. self.old.outs) (λ fault. fault) result) }
     {
         if self.store.is_stopped() {
             return Err(StoreError::Stopped);

@@ -2,10 +2,7 @@
 use Rattle.std.specs.Prelude.{◌≡◌, ◌≢◌, ◌⊎◌, ◌∷◌, ◌++◌, ◌<◌, ◌+◌, ◌^◌, [], List, ℕ, length, slice_index}
 use Rattle.std.specs.Int.{to_be_bytes, w32}
 use Rattle.turn_disk.specs.Disk.{ChangesOnly, EachImageSince, IsSettled, StandsAt, Trace, WritesOnce}
-
--- the byte of an open gate; every other byte is that of a closed one
-abbrev pub open_gate : ℕ
-open_gate = 0xA5
+use Rattle.turn_journal.specs.Layout.{frame_head, frame_room, gate_size, open_gate}
 
 -- there is an open gate at this position
 abbrev pub IsOpen : ℕ → List ℕ → Type 0
@@ -23,11 +20,11 @@ framed payload = to_be_bytes w32 (length payload) ++ payload
 pub record IsFrame (gate : ℕ) (payload content : List ℕ) : Type 0 where
   pub is_open : IsOpen gate content
   pub short : length payload < 2 ^ 32
-  pub stands : StandsAt (gate + 1) (framed payload) content
+  pub stands : StandsAt (gate + gate_size) (framed payload) content
 
 -- the gate after a frame with this payload
 abbrev pub gate_after : ℕ → List ℕ → ℕ
-gate_after gate payload = gate + 5 + length payload
+gate_after gate payload = gate + frame_head + length payload
 
 -- From this gate on there are frames with these payloads, each at the gate after the one before, and then a
 -- closed gate before the limit. Whatever follows that one doesn't count.
@@ -50,13 +47,13 @@ pub record HoldsFramesTo (from : ℕ) (payloads : List (List ℕ)) (gate limit :
 -- is closed, and before the limit.
 pub record IsWaiting (gate : ℕ) (payload : List ℕ) (limit : ℕ) (content : List ℕ) : Type 0 where
   pub short : length payload < 2 ^ 32
-  pub stands : StandsAt (gate + 1) (framed payload) content
+  pub stands : StandsAt (gate + gate_size) (framed payload) content
   pub fits : gate_after gate payload < limit
   pub closed : IsClosed (gate_after gate payload) content
 
 -- the frames from before, and nothing has changed but so many bytes after the gate
 pub record HoldsWithout (from : ℕ) (payloads : List (List ℕ)) (gate count limit : ℕ) (old image : List ℕ) : Type 0 where
-  pub others : ChangesOnly (gate + 1) count old image
+  pub others : ChangesOnly (gate + gate_size) count old image
   pub frames : HoldsFrames from payloads limit image
 
 -- the frames from before, with the new one or without it, and nothing has changed but so many bytes from the
@@ -79,7 +76,7 @@ pub record HoldsWith
 pub record AddsFrame (from : ℕ) (payloads : List (List ℕ)) (payload : List ℕ) (gate limit : ℕ) (old new : Trace) : Type 0 where
   -- the moment between the two stages
   pub mid : Trace
-  pub first : EachImageSince old mid (HoldsWithout from payloads gate (5 + length payload) limit old.now.bytes)
+  pub first : EachImageSince old mid (HoldsWithout from payloads gate (frame_head + length payload) limit old.now.bytes)
   pub there : (new ≡ mid) ⊎ (IsSettled mid.now × IsWaiting gate payload limit mid.now.bytes)
-  pub second : EachImageSince mid new (HoldsWithOrWithout from payloads payload gate (6 + length payload) limit old.now.bytes)
-  pub once : WritesOnce gate 1 mid new
+  pub second : EachImageSince mid new (HoldsWithOrWithout from payloads payload gate (frame_room + length payload) limit old.now.bytes)
+  pub once : WritesOnce gate gate_size mid new

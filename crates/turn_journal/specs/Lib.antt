@@ -1,4 +1,5 @@
 pub mod Area
 pub mod Frames
 pub mod Laws
+pub mod Layout
 pub mod Scan

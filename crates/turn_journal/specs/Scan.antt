@@ -3,16 +3,17 @@ use Rattle.std.specs.Prelude.{◌^◌, ◌⊎◌, ◌<◌, ◌≤◌, ◌+◌, L
 use Rattle.std.specs.Int.{to_be_bytes, w32}
 use Rattle.turn_disk.specs.Disk.{StandsAt}
 use Rattle.turn_journal.specs.Frames.{IsOpen, IsClosed}
+use Rattle.turn_journal.specs.Layout.{frame_room, gate_size}
 use Rattle.turn_journal.specs.declared.found.Found.{Found}
 use Rattle.turn_journal.specs.declared.found.Found.TheVariants.{End, Frame}
 
 -- this length follows the gate
 abbrev pub HasLength : ℕ → ℕ → List ℕ → Type 0
-HasLength gate count content = (count < 2 ^ 32) × StandsAt (gate + 1) (to_be_bytes w32 count) content
+HasLength gate count content = (count < 2 ^ 32) × StandsAt (gate + gate_size) (to_be_bytes w32 count) content
 
 -- a payload of this length is no longer than the longest, and its frame fits before the limit, with the gate after it
 abbrev pub IsAdmitted : ℕ → ℕ → ℕ → ℕ → Type 0
-IsAdmitted gate limit max_payload count = (count ≤ max_payload) × (gate + 6 + count ≤ limit)
+IsAdmitted gate limit max_payload count = (count ≤ max_payload) × (gate + frame_room + count ≤ limit)
 
 -- a closed gate, or an open one and the length of a frame's payload after it
 abbrev pub IsFound : ℕ → ℕ → ℕ → List ℕ → Found → Type 0
@@ -25,4 +26,4 @@ IsFound gate limit max_payload content (Frame count) =
 abbrev pub IsBadFrame : ℕ → ℕ → ℕ → List ℕ → Type 0
 IsBadFrame gate limit max_payload content =
     IsOpen gate content
-    × ((limit < gate + 6) ⊎ ((count : ℕ) × HasLength gate count content × ((max_payload < count) ⊎ (limit < gate + 6 + count))))
+    × ((limit < gate + frame_room) ⊎ ((count : ℕ) × HasLength gate count content × ((max_payload < count) ⊎ (limit < gate + frame_room + count))))

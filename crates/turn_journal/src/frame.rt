@@ -2,21 +2,22 @@
 
 ghost use Rattle.std.specs.Prelude.{◌≡◌, ◌∷◌, ◌++◌, [], ◌+◌, ◌<◌, ◌≤◌, ◌^◌, length, take};
 ghost use Rattle.turn_journal.specs.Frames.{framed};
+ghost use Rattle.turn_journal.specs.Layout.{closed_gate, frame_head};
 
-use crate::gate::CLOSED;
+use crate::layout::{CLOSED, LENGTH_SIZE};
 use std::alloc::Allocator;
 
 /// Puts the payload's length, the payload and a closed gate at the front of the buffer.
 pub fn put_frame<A: Allocator>(buffer: &mut Vec<u8, A>, payload: &[u8])
-    requires room { length payload.now + 5 ≤ length buffer.old.items }
+    requires room { length payload.now + frame_head ≤ length buffer.old.items }
     requires short { length payload.now < 2 ^ 32 }
     ensures len { length buffer.new.items ≡ length buffer.old.items }
-    ensures frame { take (length payload.now + 5) buffer.new.items ≡ framed payload.now ++ 0 ∷ [] }
+    ensures frame { take (length payload.now + frame_head) buffer.new.items ≡ framed payload.now ++ closed_gate ∷ [] }
 {
     let count = payload.len();
     put(buffer, 0, &(count as u32).to_be_bytes());
-    put(buffer, 4, payload);
-    put(buffer, 4 + count, &[CLOSED]);
+    put(buffer, LENGTH_SIZE, payload);
+    put(buffer, LENGTH_SIZE + count, &[CLOSED]);
 }
 
 fn put<A: Allocator>(buffer: &mut Vec<u8, A>, at: usize, bytes: &[u8])

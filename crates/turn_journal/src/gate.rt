@@ -4,20 +4,16 @@ ghost use Rattle.std.specs.Prelude.{◌≡◌, ◌+◌, ◌<◌, ◌≤◌, ◌^
 ghost use Rattle.turn_disk.specs.Device.{Reads, Uses};
 ghost use Rattle.turn_disk.specs.Disk.{EachImageSince, IsSettled, WritesOnce, WritesThrough};
 ghost use Rattle.turn_journal.specs.Frames.{HoldsFramesTo, IsWaiting, HoldsWithout, HoldsWithOrWithout, HoldsWith};
+ghost use Rattle.turn_journal.specs.Layout.{frame_head, gate_size};
 ghost use Rattle.turn_journal.specs.Scan.{HasLength};
 
+use crate::layout::{GATE_SIZE, OPEN};
 use turn_disk::{DeviceError, Disk, read_array, write_through};
-
-/// The byte of an open gate; every other byte is that of a closed one.
-pub const OPEN: u8 = 0xA5;
-
-/// The byte that is written for a closed gate.
-pub const CLOSED: u8 = 0;
 
 /// Writes after a closed gate, and syncs.
 pub fn write_after<D: Disk>(disk: &mut D, gate: usize, bytes: &[u8]) -> Result<(), DeviceError>
-    requires place { gate + 1 + length bytes.now ≤ D.capacity disk.old }
-    requires addressable { gate + 1 < 2 ^ 64 }
+    requires place { gate + gate_size + length bytes.now ≤ D.capacity disk.old }
+    requires addressable { gate + gate_size < 2 ^ 64 }
     ensures uses { Uses D.Disk disk.old disk.new (IsErr result) }
 
     // A stop at any moment leaves the frames up to the gate.
@@ -28,14 +24,14 @@ pub fn write_after<D: Disk>(disk: &mut D, gate: usize, bytes: &[u8]) -> Result<(
         (HoldsWithout from payloads gate (length bytes.now) limit old.bytes) }
 
     ensures done { D.follows_crash_model disk.new
-        → OnOk result (WritesThrough (gate + 1) bytes.now (D.trace disk.old).now (D.trace disk.new).now) }
+        → OnOk result (WritesThrough (gate + gate_size) bytes.now (D.trace disk.old).now (D.trace disk.new).now) }
 {
-    write_through(disk, gate + 1, bytes)
+    write_through(disk, gate + GATE_SIZE, bytes)
 }
 
 /// Opens the gate after which a frame waits, and syncs.
 pub fn open_gate<D: Disk>(disk: &mut D, gate: usize) -> Result<(), DeviceError>
-    requires { gate + 1 ≤ D.capacity disk.old }
+    requires { gate + gate_size ≤ D.capacity disk.old }
     ensures uses { Uses D.Disk disk.old disk.new (IsErr result) }
 
     // A stop at any moment leaves the frames up to the gate, with the one that waits or without.
@@ -43,15 +39,15 @@ pub fn open_gate<D: Disk>(disk: &mut D, gate: usize) -> Result<(), DeviceError>
         D.follows_crash_model disk.new → IsSettled old → (from : ℕ) (payloads : List (List ℕ)) (payload : List ℕ) (limit : ℕ)
         → HoldsFramesTo from payloads gate limit old.bytes → IsWaiting gate payload limit old.bytes
         → EachImageSince (D.trace disk.old) (D.trace disk.new)
-        (HoldsWithOrWithout from payloads payload gate 1 limit old.bytes) }
+        (HoldsWithOrWithout from payloads payload gate gate_size limit old.bytes) }
 
     ensures done { let old = (D.trace disk.old).now in let new = (D.trace disk.new).now in
         D.follows_crash_model disk.new → (from : ℕ) (payloads : List (List ℕ)) (payload : List ℕ) (limit : ℕ)
         → HoldsFramesTo from payloads gate limit old.bytes → IsWaiting gate payload limit old.bytes
-        → OnOk result (IsSettled new × HoldsWith from payloads payload gate 1 limit old.bytes new.bytes) }
+        → OnOk result (IsSettled new × HoldsWith from payloads payload gate gate_size limit old.bytes new.bytes) }
 
     // The gate is written at most once, and nothing else is.
-    ensures once { D.follows_crash_model disk.new → WritesOnce gate 1 (D.trace disk.old) (D.trace disk.new) }
+    ensures once { D.follows_crash_model disk.new → WritesOnce gate gate_size (D.trace disk.old) (D.trace disk.new) }
 {
     write_through(disk, gate, &[OPEN])?;
     Ok(())
@@ -59,11 +55,11 @@ pub fn open_gate<D: Disk>(disk: &mut D, gate: usize) -> Result<(), DeviceError>
 
 /// Reads the length after a gate.
 pub fn read_length<D: Disk>(disk: &mut D, gate: usize) -> Result<usize, DeviceError>
-    requires place { gate + 5 ≤ D.capacity disk.old }
-    requires addressable { gate + 1 < 2 ^ 64 }
+    requires place { gate + frame_head ≤ D.capacity disk.old }
+    requires addressable { gate + gate_size < 2 ^ 64 }
     ensures reads { Reads D.Disk disk.old disk.new (IsErr result) }
     ensures length { D.follows_crash_model disk.new → IfOk result (λ count. HasLength gate count (D.trace disk.old).now.bytes) }
 {
-    let bytes = read_array(disk, gate + 1)?;
+    let bytes = read_array(disk, gate + GATE_SIZE)?;
     Ok(u32::from_be_bytes(bytes) as usize)
 }

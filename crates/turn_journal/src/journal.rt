@@ -4,15 +4,17 @@
 ghost use Rattle.std.specs.Prelude.{◌≡◌, ◌+◌, ◌<◌, ◌≤◌, ◌^◌, ◌↔◌, ℕ, List, length, OnOk, OnErr, IfOk, IfErr, IsTrue};
 ghost use Rattle.turn_disk.specs.Device.{Reads, Uses};
 ghost use Rattle.turn_disk.specs.Disk.{EachImageSince, IsSettled};
-ghost use Rattle.turn_journal.specs.Area.{end_of, limit_of};
+ghost use Rattle.turn_journal.specs.Area.{IsFullFor, end_of, limit_of};
 ghost use Rattle.turn_journal.specs.Frames.{gate_after, AddsFrame, HoldsFramesTo, HoldsWithOrWithout, HoldsWith};
+ghost use Rattle.turn_journal.specs.Layout.{frame_room};
 ghost use Rattle.turn_journal.specs.Scan.{IsAdmitted, IsFound, IsBadFrame};
 ghost use Rattle.turn_journal.specs.declared.journal.AppendError.TheVariants.{Device};
 
 use crate::area::Area;
 use crate::found::{Found, ScanError};
 use crate::frame::put_frame;
-use crate::gate::{OPEN, open_gate, read_length, write_after};
+use crate::gate::{open_gate, read_length, write_after};
+use crate::layout::{FRAME_HEAD, FRAME_ROOM, OPEN};
 use std::alloc::{AllocError, Allocator, Global};
 use std::marker::Model;
 use thiserror::Error;
@@ -53,6 +55,7 @@ impl<A: Allocator> Drop for Journal<A> {
 
 impl<A: Allocator> Model for Journal<A> {
     ghost use Rattle.std.specs.Prelude.{◌≡◌, ◌+◌, ◌<◌, ◌^◌, length};
+    ghost use Rattle.turn_journal.specs.Layout.{frame_head};
     ghost use Rattle.turn_journal.specs.declared.area.Area.{Area};
 
     ghost Value = { Area };
@@ -60,7 +63,7 @@ impl<A: Allocator> Model for Journal<A> {
     ghost view = { λ j. j.area };
 
     ghost invariant = { λ j. (j.area.end < j.area.size) × (j.area.start + j.area.size < 2 ^ 64)
-        × (j.area.max_payload < 2 ^ 32) × (length j.frame.items ≡ j.area.max_payload + 5) };
+        × (j.area.max_payload < 2 ^ 32) × (length j.frame.items ≡ j.area.max_payload + frame_head) };
 }
 
 impl<A: Allocator + Copy> Journal<A> {
@@ -71,7 +74,7 @@ impl<A: Allocator + Copy> Journal<A> {
         requires short { area.max_payload < 2 ^ 32 }
         ensures { IfOk result (λ journal. journal ≡ area) }
     {
-        let frame = Vec::from_elem(alloc, 0, area.max_payload + 5)?;
+        let frame = Vec::from_elem(alloc, 0, area.max_payload + FRAME_HEAD)?;
         Ok(Journal { area, frame })
     }
 }
@@ -120,10 +123,10 @@ impl<A: Allocator> Journal<A> {
 
     /// Whether there is room for one more frame, with a payload of `count` bytes.
     pub fn room(&self, count: usize) -> bool
-        ensures { IsTrue result ↔ (self.now.end + 6 + count ≤ self.now.size) }
+        ensures { IsTrue result ↔ (self.now.end + frame_room + count ≤ self.now.size) }
     {
         let room = self.area.size - self.area.end;
-        room >= 6 && count <= room - 6
+        room >= FRAME_ROOM && count <= room - FRAME_ROOM
     }
 
     /// Adds a frame, in four device calls: a write of the frame after its closed gate, with a closed gate after it; a
@@ -135,7 +138,7 @@ impl<A: Allocator> Journal<A> {
         ensures uses { Uses D.Disk disk.old disk.new (result ≡ Err AppendError.Device) }
 
         ensures appended { OnOk result (self.new ≡ record self.old { end = gate_after self.old.end payload.now }) }
-        ensures full { (result ≡ Err AppendError.Full) ↔ (self.old.size < self.old.end + 6 + length payload.now) }
+        ensures full { (result ≡ Err AppendError.Full) ↔ IsFullFor self.old (length payload.now) }
         ensures untouched { result ≡ Err AppendError.Full → disk.new ≡ disk.old }
         ensures kept { OnErr result (self.new ≡ self.old) }
 
@@ -151,13 +154,13 @@ impl<A: Allocator> Journal<A> {
             D.follows_crash_model disk.new → IsSettled old → (from : ℕ) (payloads : List (List ℕ))
             → HoldsFramesTo from payloads (end_of self.old) (limit_of self.old) old.bytes
             → EachImageSince (D.trace disk.old) (D.trace disk.new)
-            (HoldsWithOrWithout from payloads payload.now (end_of self.old) (6 + length payload.now) (limit_of self.old) old.bytes) }
+            (HoldsWithOrWithout from payloads payload.now (end_of self.old) (frame_room + length payload.now) (limit_of self.old) old.bytes) }
 
         ensures done { let old = (D.trace disk.old).now in let new = (D.trace disk.new).now in
             D.follows_crash_model disk.new → IsSettled old → (from : ℕ) (payloads : List (List ℕ))
             → HoldsFramesTo from payloads (end_of self.old) (limit_of self.old) old.bytes
             → OnOk result (IsSettled new
-            × HoldsWith from payloads payload.now (end_of self.old) (6 + length payload.now) (limit_of self.old) old.bytes new.bytes) }
+            × HoldsWith from payloads payload.now (end_of self.old) (frame_room + length payload.now) (limit_of self.old) old.bytes new.bytes) }
     {
         let count = payload.len();
         if !self.room(count) {
@@ -165,9 +168,9 @@ impl<A: Allocator> Journal<A> {
         }
         put_frame(&mut self.frame, payload);
         let gate = self.area.start + self.area.end;
-        write_after(disk, gate, &self.frame[..count + 5])?;
+        write_after(disk, gate, &self.frame[..count + FRAME_HEAD])?;
         open_gate(disk, gate)?;
-        self.area.end += count + 5;
+        self.area.end += count + FRAME_HEAD;
         Ok(())
     }
 
@@ -191,11 +194,11 @@ impl<A: Allocator> Journal<A> {
             return Ok(Found::End);
         }
         let room = self.area.size - at;
-        if room < 6 {
+        if room < FRAME_ROOM {
             return Err(ScanError::BadFrame);
         }
         let count = read_length(disk, gate)?;
-        if count > self.area.max_payload || count > room - 6 {
+        if count > self.area.max_payload || count > room - FRAME_ROOM {
             return Err(ScanError::BadFrame);
         }
         Ok(Found::Frame(count))

@@ -1,8 +1,10 @@
 -- What is read of content, and what is told if it stands for a history.
 use Rattle.std.proofs.Common.{◌≡◌, ◌⊎◌, ◌∙◌, ℕ, List, Option, None, Some, Result, Ok, Err, refl, subst, sym, inl, inr}
+use Rattle.turn_disk.specs.declared.disk.Disk as disks
 use Rattle.turn_history.specs.History.{History}
 use Rattle.std.specs.Prelude.{IfErr, IfOk, IfSome, MatchResult, unwrap_or}
-use Rattle.turn_reading.specs.Readings.{IsRead, IsUnder, IsUnread, WhyUnread, of_limits, of_open}
+use Rattle.turn_reading.specs.Readings.{IsRead, IsUnder, IsUnread, ReadsStore, Tells, WhyUnread, of_limits, of_open}
+use Rattle.turn_reading.specs.declared.reading.Reading.{Reading}
 use Rattle.turn_reading.specs.declared.error.ReadingError.{ReadingError}
 use Rattle.turn_reading.specs.declared.error.ReadingError.TheVariants.{Changing}
 use Rattle.turn_store.proofs.NeverRefused.{has_superblock}
@@ -12,6 +14,7 @@ use Rattle.turn_store.specs.Images.{StandsForAt}
 use Rattle.turn_store.specs.Refused.{IsPlain, WhyRefused}
 use Rattle.turn_store.specs.Replay.{Snapshot}
 use Rattle.turn_store.specs.Superblock.{HasSuperblock}
+use Rattle.turn_store.specs.Tables.{snapshot_of}
 use Rattle.turn_store.specs.declared.error.OpenError.{OpenError}
 use Rattle.turn_store.specs.declared.error.OpenError.TheVariants as open_faults
 use Rattle.turn_store.specs.declared.superblock.LimitsError.{LimitsError}
@@ -113,3 +116,39 @@ unread_joined fault result (inr changing) unread = subst IsUnread (sym changing)
 pub unread_last : (last : Option ReadingError) → IfSome last IsUnread → IsUnread (unwrap_or last Changing)
 unread_last None unread = tt
 unread_last (Some fault) unread = unread
+
+-- ---- Calls, one after another
+
+module _ {D A : Type 0} {disk : disks.Ghosts D} {limits : Option Bounds} {old mid new : D} where
+  -- a call that left the content, and then one that reads
+  pub reads_after : (disk.follows_crash_model mid → disk.follows_crash_model old) → (disk.follows_crash_model mid → (disk.trace mid).now.bytes ≡ (disk.trace old).now.bytes) → {outcome : Result (Reading A) ReadingError}
+      → ReadsStore disk limits mid new outcome → ReadsStore disk limits old new outcome
+  reads_after earlier left {outcome} reads = record {
+    crash_model = λ now. earlier (reads.crash_model now);
+    same = λ now. reads.same now ∙ left (reads.crash_model now);
+    read = λ now. subst (λ (content : List ℕ). IfOk outcome (λ r. IsRead D limits content (snapshot_of r.table))) (left (reads.crash_model now)) (reads.read now);
+    why = λ now. subst (λ (content : List ℕ). IfErr outcome (WhyUnread limits content)) (left (reads.crash_model now)) (reads.why now);
+    tells = λ now. subst (λ (content : List ℕ). Tells limits (λ r. r.table) content outcome) (left (reads.crash_model now)) (reads.tells now);
+  }
+
+  -- one that reads, and then a call that left the content
+  pub reads_before : (disk.follows_crash_model new → disk.follows_crash_model mid) → (disk.follows_crash_model new → (disk.trace new).now.bytes ≡ (disk.trace mid).now.bytes) → {outcome : Result (Reading A) ReadingError}
+      → ReadsStore disk limits old mid outcome → ReadsStore disk limits old new outcome
+  reads_before later left reads = record {
+    crash_model = λ now. reads.crash_model (later now);
+    same = λ now. left now ∙ reads.same (later now);
+    read = λ now. reads.read (later now);
+    why = λ now. reads.why (later now);
+    tells = λ now. reads.tells (later now);
+  }
+
+-- the second of three readings, or a change
+pub reads_steadily : {D A : Type 0} {disk : disks.Ghosts D} {limits : Option Bounds} {old new : D} (reading : Reading A) (outcome : Result (Reading A) ReadingError)
+    → ReadsStore disk limits old new (Ok reading) → IfOk outcome (λ r. r ≡ reading) → IfErr outcome (λ fault. fault ≡ Changing) → ReadsStore disk limits old new outcome
+reads_steadily {disk = disk} {limits = limits} {old = old} reading outcome reads second changing = record {
+  crash_model = reads.crash_model;
+  same = reads.same;
+  read = λ now. ok_steady _ reading outcome (reads.read now) second;
+  why = λ now. err_steady (WhyUnread limits (disk.trace old).now.bytes) Changing outcome tt changing;
+  tells = λ now form h clock is stands. told_steady _ reading outcome (reads.tells now form h clock is stands) second changing;
+}

@@ -1,10 +1,12 @@
 -- What a reading of a store tells.
-use Rattle.std.specs.Prelude.{◌≡◌, ℕ, List, Option, None, Some, Result, MatchResult}
+use Rattle.std.specs.Prelude.{◌≡◌, ℕ, List, Option, None, Some, Result, IfErr, IfOk, MatchResult}
 use Rattle.turn_disk.specs.Disk.{State}
+use Rattle.turn_disk.specs.declared.disk.Disk as disks
 use Rattle.turn_history.specs.History.{History}
 use Rattle.turn_history.specs.Table.{table}
 use Rattle.turn_reading.specs.declared.error.ReadingError.{ReadingError}
 use Rattle.turn_reading.specs.declared.error.ReadingError.TheVariants.{Device, Memory, NotAStore, LimitsDiffer, Damaged, Changing}
+use Rattle.turn_reading.specs.declared.reading.Reading.{Reading}
 use Rattle.turn_store.specs.Areas.{Form}
 use Rattle.turn_store.specs.Images.{StandsForAt}
 use Rattle.turn_store.specs.Opened.{IsOpened}
@@ -86,3 +88,17 @@ IsUnread Changing = Unit {0}
 abbrev pub Tells : {Reading : Type 0} → Option Bounds → (Reading → tables.State) → List ℕ → Result Reading ReadingError → Type 0
 Tells limits table_of content outcome = (form : Form) (h : History) (clock : ℕ) → IsUnder limits form.bounds → StandsForAt form h clock content
     → MatchResult outcome (λ reading. snapshot_of (table_of reading) ≡ record { moment = clock; contents = table h clock }) IsUnread
+
+-- ---- Calls
+
+-- a call that reads a disk to which nobody else writes, under given limits or under its own, and returns it with an outcome
+pub record ReadsStore {D A : Type 0} (disk : disks.Ghosts D) (limits : Option Bounds) (old new : D) (outcome : Result (Reading A) ReadingError) : Type 0 where
+  -- a disk that follows the crash model followed the crash model before
+  pub crash_model : disk.follows_crash_model new → disk.follows_crash_model old
+  -- the content stays
+  pub same : disk.follows_crash_model new → (disk.trace new).now.bytes ≡ (disk.trace old).now.bytes
+  -- what was read, and the reason of each refusal: the first that applies
+  pub read : disk.follows_crash_model new → IfOk outcome (λ r. IsRead D limits (disk.trace old).now.bytes (snapshot_of r.table))
+  pub why : disk.follows_crash_model new → IfErr outcome (WhyUnread limits (disk.trace old).now.bytes)
+  -- if the content stands for a history, what is told of it
+  pub tells : disk.follows_crash_model new → Tells limits (λ r. r.table) (disk.trace old).now.bytes outcome

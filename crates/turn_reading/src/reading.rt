@@ -3,7 +3,7 @@
 ghost use Rattle.std.specs.Prelude.{◌≡◌, ◌≢◌, ◌↔◌, ◌⊎◌, ℕ, IfErr, IfOk, IfSome, IsOk, IsTrue, MatchResult, None, Some};
 ghost use Rattle.turn_history.specs.History.{History};
 ghost use Rattle.turn_history.specs.Table.{table};
-ghost use Rattle.turn_reading.specs.Readings.{IsRead, IsUnder, MayPass, Tells, WhyUnread};
+ghost use Rattle.turn_reading.specs.Readings.{IsRead, IsUnder, MayPass, ReadsStore};
 ghost use Rattle.turn_store.specs.Areas.{Form};
 ghost use Rattle.turn_store.specs.Images.{StandsForAt};
 ghost use Rattle.turn_store.specs.Refused.{IsPlain, WhyRefused};
@@ -93,11 +93,7 @@ fn try_once<D: Disk, A: Allocator + Copy>(
     disk: D,
     limits: &Option<Limits>,
 ) -> (D, Result<Reading<A>, ReadingError>)
-    ensures crash_model { D.follows_crash_model result.0 → D.follows_crash_model disk }
-    ensures same { D.follows_crash_model result.0 → (D.trace result.0).now.bytes ≡ (D.trace disk).now.bytes }
-    ensures read { D.follows_crash_model result.0 → IfOk result.1 (λ r. IsRead D limits.now (D.trace disk).now.bytes (snapshot_of r.table)) }
-    ensures why { D.follows_crash_model result.0 → IfErr result.1 (WhyUnread limits.now (D.trace disk).now.bytes) }
-    ensures tells { D.follows_crash_model result.0 → Tells limits.now (λ r. r.table) (D.trace disk).now.bytes result.1 }
+    ensures { ReadsStore D.Disk limits.now disk result.0 result.1 }
 {
     let mut disk = disk;
     let under = match limits_for(&mut disk, limits) {
@@ -140,11 +136,7 @@ fn read_steadily<D: Disk, A: Allocator + Copy>(
     disk: D,
     limits: &Option<Limits>,
 ) -> (D, Result<Reading<A>, ReadingError>)
-    ensures crash_model { D.follows_crash_model result.0 → D.follows_crash_model disk }
-    ensures same { D.follows_crash_model result.0 → (D.trace result.0).now.bytes ≡ (D.trace disk).now.bytes }
-    ensures read { D.follows_crash_model result.0 → IfOk result.1 (λ r. IsRead D limits.now (D.trace disk).now.bytes (snapshot_of r.table)) }
-    ensures why { D.follows_crash_model result.0 → IfErr result.1 (WhyUnread limits.now (D.trace disk).now.bytes) }
-    ensures tells { D.follows_crash_model result.0 → Tells limits.now (λ r. r.table) (D.trace disk).now.bytes result.1 }
+    ensures { ReadsStore D.Disk limits.now disk result.0 result.1 }
 {
     let (disk, first) = try_once(alloc, disk, limits);
     let before = match first {
@@ -194,11 +186,7 @@ fn read_often<D: Disk + Drop, A: Allocator + Copy, C: Clock>(
     disk: D,
     limits: &Option<Limits>,
 ) -> (D, Result<Reading<A>, ReadingError>)
-    ensures crash_model { D.follows_crash_model result.0 → D.follows_crash_model disk }
-    ensures same { D.follows_crash_model result.0 → (D.trace result.0).now.bytes ≡ (D.trace disk).now.bytes }
-    ensures read { D.follows_crash_model result.0 → IfOk result.1 (λ r. IsRead D limits.now (D.trace disk).now.bytes (snapshot_of r.table)) }
-    ensures why { D.follows_crash_model result.0 → IfErr result.1 (WhyUnread limits.now (D.trace disk).now.bytes) }
-    ensures tells { D.follows_crash_model result.0 → Tells limits.now (λ r. r.table) (D.trace disk).now.bytes result.1 }
+    ensures { ReadsStore D.Disk limits.now disk result.0 result.1 }
 {
     let mut disk = disk;
     let mut last = None;
@@ -227,13 +215,7 @@ pub fn read_store<D: Disk + Drop, A: Allocator + Copy, C: Clock>(
     disk: D,
     limits: Option<Limits>,
 ) -> (D, Result<Reading<A>, ReadingError>)
-    ensures crash_model { D.follows_crash_model result.0 → D.follows_crash_model disk }
-    ensures same { D.follows_crash_model result.0 → (D.trace result.0).now.bytes ≡ (D.trace disk).now.bytes }
-
-    // Of a disk that follows the crash model, to which nobody else writes: what was read, and the reason of each refusal, the first that applies.
-    ensures read { D.follows_crash_model result.0 → IfOk result.1 (λ r. IsRead D limits (D.trace disk).now.bytes (snapshot_of r.table)) }
-    ensures why { D.follows_crash_model result.0 → IfErr result.1 (WhyUnread limits (D.trace disk).now.bytes) }
-    ensures tells { D.follows_crash_model result.0 → Tells limits (λ r. r.table) (D.trace disk).now.bytes result.1 }
+    ensures { ReadsStore D.Disk limits disk result.0 result.1 }
 {
     read_often(alloc, clock, disk, &limits)
 }

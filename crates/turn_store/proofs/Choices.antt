@@ -1,8 +1,8 @@
--- An area that was read, and which one counts.
+-- An area that was read, and which one is active.
 use Rattle.std.proofs.Common.{◌≡◌, ◌⊎◌, inl, inr, ⊎_elim, ◌^◌, ℕ, ◌+◌, ◌*◌, ◌<◌, ◌≤◌, Bool, true, false, nat_lt, List, [], ◌∷◌, ◌++◌, length, slice_index, sym, ◌∙◌, ap, subst, arith}
 use Rattle.std.proofs.lemmas.Bool.Decides.{nat_tests}
 use Rattle.std.specs.Int.{to_be_bytes, w32, w64}
-use Rattle.turn_disk.specs.Disk.{StandsAt}
+use Rattle.turn_disk.specs.Disk.{StandsAt, Trace}
 use Rattle.turn_journal.specs.Frames.{HoldsFrames, last_gate}
 use Rattle.turn_record.specs.declared.version.Version.{Version}
 use Rattle.turn_record.specs.declared.version.Version.TheVariants.{V1}
@@ -91,6 +91,17 @@ pub record AreRead (size : ℕ) (first second area other : Placed) (c : List ℕ
   pub first_head : IsHead 64 first.head c
   pub second_head : IsHead (64 + size) second.head c
   pub both : ((area ≡ first) × (other ≡ second)) ⊎ ((area ≡ second) × (other ≡ first))
+
+-- the second one after the first, and the disk was the same
+pub read_both : (size : ℕ) (first second area other : Placed) (old mid : Trace) → mid ≡ old → first.start ≡ 64 → second.start ≡ 64 + size → IsHead 64 first.head old.now.bytes → IsHead (64 + size) second.head mid.now.bytes
+    → ((area ≡ first) × (other ≡ second)) ⊎ ((area ≡ second) × (other ≡ first)) → AreRead size first second area other old.now.bytes
+read_both size first second area other old mid same one two first_head second_head both = record {
+  first_start = one;
+  second_start = two;
+  first_head = first_head;
+  second_head = subst (λ (t : Trace). IsHead (64 + size) second.head t.now.bytes) same second_head;
+  both = both;
+}
 
 module _ (size : ℕ) (first second area other : Placed) (c : List ℕ) (read : AreRead size first second area other c) where
   abbrev Found : Placed → Placed → Type 0

@@ -6,7 +6,8 @@ use Rattle.turn_disk.proofs.Since.{image_settled}
 use Rattle.std.specs.FinMap as fin
 use Rattle.std.specs.FinMap.{len-empty, len-entries}
 use Rattle.turn_history.specs.Table.{Entry, table, no_contents, map_of, reservations}
-use Rattle.turn_journal.specs.Frames.{open_gate, IsClosed}
+use Rattle.turn_journal.specs.Frames.{IsClosed}
+use Rattle.turn_journal.specs.Layout.{open_gate}
 use Rattle.turn_journal.proofs.Growing.{stands_front}
 use Rattle.std.specs.Int.{to_be_bytes, w32}
 use Rattle.std.specs.Ordering.{nat_cmp}

@@ -10,6 +10,7 @@ pub mod Numbers
 pub mod OneTable
 pub mod Opens
 pub mod Ordered
+pub mod Replacing
 pub mod Replayed
 pub mod Rows
 pub mod Sizes

@@ -1,5 +1,7 @@
 -- What stands for a history is not refused, and its table is read.
 use Rattle.std.proofs.Common.{◌≡◌, ◌≢◌, ◌⊎◌, inl, inr, ⊎_elim, ℕ, ◌*◌, ◌+◌, ◌<◌, ◌≤◌, ◌++◌, List, length, map, max, sym, ◌∙◌, ap, subst, arith}
+use Rattle.std.specs.Prelude.{Result, IfErr}
+use Rattle.std.proofs.lemmas.Result.{IfErr-weaker}
 use Rattle.turn_history.specs.History.{History, clock}
 use Rattle.turn_history.specs.Table.{table}
 use Rattle.turn_journal.specs.Frames.{HoldsFrames}
@@ -106,3 +108,8 @@ module _ (form : Form) (h : History) (clock_is : ℕ) (c : List ℕ) (stands : S
       store_no stands.version form.bounds holds.is_form.in_range h clock_is stands.snapshot stands.payloads stands.spells form.area holds.start holds.other holds.generation c place holds.places holds.is_form.room holds.area holds.yields
       (subst (λ (n : ℕ). StoreIsBad form.bounds n c place) same bad.2))
       why.2
+
+-- so is every call whose refusals have their reasons
+pub plain_of : {T : Type 0} (result : Result T OpenError) (form : Form) (h : History) (clock : ℕ) (c : List ℕ) (b : Bounds) → form.bounds ≡ b → StandsForAt form h clock c → IfErr result (WhyRefused b c) → IfErr result IsPlain
+plain_of result form h clock c b same stands =
+    IfErr-weaker result (WhyRefused b c) IsPlain (λ fault why. why_plain form h clock c stands fault (subst (λ (b : Bounds). WhyRefused b c fault) (sym same) why))

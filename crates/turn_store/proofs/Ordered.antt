@@ -1,12 +1,20 @@
 -- What a stop leaves of a disk that is being formatted.
 use Rattle.std.proofs.Common.{length-append, ◌≡◌, inl, inr, ℕ, ◌*◌, ◌+◌, ◌<◌, ◌≤◌, List, [], ◌∷◌, ◌++◌, length, slice_index, refl, sym, ◌∙◌, ap, subst, arith}
 use Rattle.std.proofs.lemmas.Bool.{cases_eq}
-use Rattle.turn_disk.specs.Disk.{State, Trace, ChangesOnly, EachImageSince, Overwrites, Syncs, Writes, WritesThrough}
-use Rattle.turn_journal.specs.Frames.{open_gate, IsClosed}
+use Rattle.std.specs.Prelude.{Err, Result}
+use Rattle.turn_disk.specs.Device.{Uses}
+use Rattle.turn_disk.specs.declared.disk.Disk as disks
+use Rattle.turn_disk.proofs.Device.{uses_as}
+use Rattle.turn_disk.specs.Disk.{State, Trace, ChangesOnly, EachImageSince, IsSettled, IsSettledBut, Overwrites, Syncs, ThroughOutcome, WriteOutcome, Writes, WritesThrough}
+use Rattle.turn_disk.proofs.Since.{outcome_range, settled_but, since_join, since_through_but, since_weaken, since_within}
+use Rattle.turn_journal.specs.Frames.{IsClosed}
+use Rattle.turn_journal.specs.Layout.{open_gate}
 use Rattle.turn_record.specs.declared.version.Version.{Version}
 use Rattle.turn_store.specs.Areas.{Form, IsForm, AreAreas, area_front}
 use Rattle.turn_store.specs.Format.{FormatsInOrder, HoldsNothing, HoldsNothingOrStands, IsLaid, fresh}
-use Rattle.turn_store.specs.Superblock.{superblock}
+use Rattle.turn_store.specs.Formatting.{Formats}
+use Rattle.turn_store.specs.Superblock.{least_area, superblock}
+use Rattle.turn_store.specs.declared.formatting.FormatError.TheVariants.{Device}
 use Rattle.turn_store.proofs.Formats.{closed_at, formatted, length-fresh, stands_for_nothing}
 use Rattle.turn_store.proofs.Numbers.{stands_one}
 use Rattle.turn_store.proofs.Rows.{length-area_front}
@@ -65,6 +73,51 @@ module _ (v : Version) (form : Form) (laid : State) (room : 31 < form.area) (is_
         (λ opened. is_laid.closed (sym (changes.after (64 + form.area) (omega (arith, room)) ∙ names.content.after (64 + form.area) (omega (arith, room, long))) ∙ opened)))
   ]
 
+  -- the superblock was written, or a part of it
+  pub named_since : (old named : Trace) (bytes : List ℕ) → bytes ≡ superblock form.area form.bounds → EachImageSince old named (ChangesOnly 0 (length bytes) laid.bytes) → EachImageSince old named (HoldsNothingOrStands form)
+  named_since old named bytes is since =
+      let short : length bytes ≤ 64 = omega (arith, ap length is, length-superblock form.area form.bounds) in
+      since_weaken old named (ChangesOnly 0 (length bytes) laid.bytes) (HoldsNothingOrStands form) (λ image changes. inl (named_nothing (length bytes) short image changes)) since
+
+  -- and then the first gate was opened, or not
+  pub opened_since : (old named new : Trace) (bytes : List ℕ) → bytes ≡ superblock form.area form.bounds → IsForm v form → EachImageSince old named (ChangesOnly 0 (length bytes) laid.bytes)
+      → WritesThrough 0 bytes laid named.now → EachImageSince named new (ChangesOnly 64 1 named.now.bytes) → EachImageSince old new (HoldsNothingOrStands form)
+  opened_since old named new bytes is is_form since wrote opens =
+      let names = subst (λ (l : List ℕ). WritesThrough 0 l laid named.now) is wrote in
+      since_join old named new (HoldsNothingOrStands form) (named_since old named bytes is since)
+      (since_weaken named new (ChangesOnly 64 1 named.now.bytes) (HoldsNothingOrStands form) (opened_or_nothing named.now is_form names) opens)
+
+-- Since the superblock holds zeros, the areas alone were written.
+pub wiped_since : (form : Form) (count : ℕ) (wiped laid : Trace) → slice_index wiped.now.bytes 0 ≡ 0 → EachImageSince wiped laid (ChangesOnly 64 count wiped.now.bytes) → EachImageSince wiped laid (HoldsNothingOrStands form)
+wiped_since form count wiped laid zero = since_weaken wiped laid (ChangesOnly 64 count wiped.now.bytes) (HoldsNothingOrStands form) (λ image changes. inl (wiped_nothing count wiped.now.bytes image zero changes))
+
+-- The second area's gate is written: a stop changes nothing before the areas.
+module _ {E : Type 0} (area : ℕ) (room : 31 < area) (old mid : Trace) (settled : IsSettled old.now) (at : ℕ) (second : at ≡ 64 + area) (result : Result Unit E) (closes : WriteOutcome at (0 ∷ []) old mid result) where
+  closed_second : EachImageSince old mid (ChangesOnly 64 (2 * area) old.now.bytes) × IsSettledBut 64 (2 * area) old.now.bytes mid.now
+  closed_second =
+      since_within 64 (2 * area) old.now.bytes old mid (settled_but 64 (2 * area) old.now settled) at 1 (omega (arith, second)) (omega (arith, second, room)) (outcome_range at (0 ∷ []) old mid result closes)
+
+  pub second_since : EachImageSince old mid (ChangesOnly 64 (2 * area) old.now.bytes)
+  second_since = closed_second.0
+
+  -- and then the first area
+  pub areas_since : (v : Version) (new : Trace) (last : Result Unit E) → ThroughOutcome 64 (0 ∷ (area_front v 1 (fresh v) ++ 0 ∷ [])) mid new last → EachImageSince old new (ChangesOnly 64 (2 * area) old.now.bytes)
+  areas_since v new last lays =
+      since_join old mid new (ChangesOnly 64 (2 * area) old.now.bytes) closed_second.0
+      (since_through_but 64 (2 * area) old.now.bytes mid new closed_second.1 64 (0 ∷ (area_front v 1 (fresh v) ++ 0 ∷ [])) (omega arith) (omega (arith, length-laid v, room)) last lays)
+
 -- the first sync was made
 pub in_order : (form : Form) (old wiped new : Trace) {zeros : List ℕ} → length zeros ≡ 64 → (written : Trace) × Writes 0 zeros old written × Syncs written wiped → EachImageSince wiped new (HoldsNothingOrStands form) → FormatsInOrder form old new
 in_order form old wiped new long through since = inr (inr (through.0, wiped, subst (λ (n : ℕ). Overwrites 0 n old through.0) long through.1.range, through.2, since))
+
+-- A formatting whose areas are large enough, and in which a device call failed.
+pub format_failed : {D : Type 0} {disk : disks.Ghosts D} {P : Type 0} (v : Version) (form : Form) (old new : D) → least_area v form.bounds ≤ form.area → Uses disk old new P → P
+    → (disk.follows_crash_model new → FormatsInOrder form (disk.trace old) (disk.trace new)) → Formats disk v form old new (Err Device)
+format_failed v form old new room uses failed order = record {
+  uses = uses_as (λ _. failed) (λ _. refl) uses;
+  too_small = λ needed. (λ e. cc, λ both. let small = both.0 in absurd (omega arith));
+  untouched = λ small. absurd (omega arith);
+  formatted = λ crash_model. tt;
+  done = λ crash_model. tt;
+  order = order;
+}

@@ -1,18 +1,19 @@
 -- Which stores are carried over to version 2.
-use Rattle.std.specs.Prelude.{◌≡◌, ◌≤◌, ◌<◌, ◌^◌, ◌-◌, ◌+◌, ◌*◌, ℕ, Bool, true, List, length}
+use Rattle.std.specs.Prelude.{◌≡◌, ◌≤◌, ◌<◌, ◌^◌, ◌-◌, ◌+◌, ℕ, Bool, true, List, length}
 use Rattle.turn_record.specs.declared.version.Version.{Version}
 use Rattle.turn_record.specs.declared.version.Version.TheVariants.{V1, V2}
 use Rattle.turn_store.specs.Areas.{AreaHolds, AreAreas, Yields}
+use Rattle.turn_store.specs.Layout.{store_size}
 use Rattle.turn_store.specs.State.{StoreState}
 use Rattle.turn_store.specs.Superblock.{HasSuperblock, least_area}
 use Rattle.turn_types.specs.declared.limits.Bounds.{Bounds}
 
--- an area of a store with areas of this size counts, and is of this version and generation, with so many frames
+-- an area of a store with areas of this size is active, and of this version and generation, with so many frames
 pub record IsActiveAs (size : ℕ) (b : Bounds) (v : Version) (generation frames : ℕ) (content : List ℕ) : Type 0 where
   pub superblock : HasSuperblock size b content
   pub room : least_area v b ≤ size
-  pub addressable : 64 + 2 * size < 2 ^ 64
-  pub whole : length content ≡ 64 + 2 * size
+  pub addressable : store_size size < 2 ^ 64
+  pub whole : length content ≡ store_size size
   pub start : ℕ
   pub other : ℕ
   pub places : AreAreas size start other
@@ -31,7 +32,7 @@ pub record IsCarried (carry : Bool) (size : ℕ) (b : Bounds) (v : Version) (gen
   pub next : generation < 2 ^ 64 - 1
 
 -- The store that was opened over this content: where it was carried over it is of version 2 and of the next generation, without a
--- frame; else it is what counts in the content.
+-- frame; else it is as the active area of the content says.
 pub record Carries {D : Type 0} (carry : Bool) (content : List ℕ) (store : StoreState D) : Type 0 where
   pub version : Version
   pub generation : ℕ

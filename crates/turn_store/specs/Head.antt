@@ -1,16 +1,17 @@
--- The first 14 bytes of an area: its gate, its version, its generation and the length of its snapshot.
+-- The first bytes of an area: its gate, its version, its generation and the length of its snapshot.
 use Rattle.std.specs.Prelude.{◌^◌, ◌<◌, ◌≡◌, ◌⊎◌, ◌+◌, ◌↔◌, ℕ, List, slice_index, IsTrue, true, false}
 use Rattle.std.specs.Int.{to_be_bytes, w32, w64}
 use Rattle.turn_disk.specs.Disk.{StandsAt}
 use Rattle.turn_journal.specs.Frames.{IsOpen}
+use Rattle.turn_store.specs.Layout.{generation_at, length_at, version_at}
 use Rattle.turn_store.specs.declared.heads.Head.{Head}
 
 -- an area begins with this gate, version, generation and length of a snapshot
 pub record IsHead (at : ℕ) (head : Head) (content : List ℕ) : Type 0 where
   pub gate : IsTrue head.is_open ↔ IsOpen at content
-  pub version : slice_index content (at + 1) ≡ head.version
-  pub generation : StandsAt (at + 2) (to_be_bytes w64 head.generation) content
-  pub snapshot : StandsAt (at + 10) (to_be_bytes w32 head.snapshot) content
+  pub version : slice_index content (at + version_at) ≡ head.version
+  pub generation : StandsAt (at + generation_at) (to_be_bytes w64 head.generation) content
+  pub snapshot : StandsAt (at + length_at) (to_be_bytes w32 head.snapshot) content
   pub in_range : head.generation < 2 ^ 64
   pub short : head.snapshot < 2 ^ 32
 

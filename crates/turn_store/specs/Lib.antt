@@ -2,9 +2,11 @@ pub mod Areas
 pub mod Bytes
 pub mod Carrying
 pub mod Format
+pub mod Formatting
 pub mod Head
 pub mod Images
 pub mod Laws
+pub mod Layout
 pub mod Opened
 pub mod Opening
 pub mod Refused

@@ -8,6 +8,7 @@ use Rattle.turn_history.specs.History.{History}
 use Rattle.turn_history.specs.Table.{table}
 use Rattle.turn_store.specs.Areas.{Form, AreaHolds, AreAreas, IsBelow, Yields}
 use Rattle.turn_store.specs.Head.{IsHead}
+use Rattle.turn_store.specs.Layout.{head_size}
 use Rattle.turn_store.specs.Replay.{Snapshot, Replays}
 use Rattle.turn_store.specs.State.{StoreState, RecoversToAt, Shows, form_of}
 use Rattle.turn_store.specs.declared.heads.Head.{Head}
@@ -27,7 +28,7 @@ pub record AreaIsRead (v : Version) (b : Bounds) (start size : ℕ) (head : Head
   pub payloads : List (List ℕ)
   pub holds : head.is_open ≡ true → IsHead start head content → AreaHolds v start size head.generation snapshot payloads content
   pub spells : SpellsSnapshot v b first.moment first.contents snapshot
-  pub ends : last_gate (start + 14 + length snapshot) payloads ≡ start + end
+  pub ends : last_gate (start + head_size + length snapshot) payloads ≡ start + end
   pub replays : Replays v b first payloads t
   pub count : frames ≡ length payloads
 
@@ -38,7 +39,7 @@ pub record IsChosen (v : Version) (b : Bounds) (size start other generation end 
   pub payloads : List (List ℕ)
   pub places : AreAreas size start other
   pub area : AreaHolds v start size generation snapshot payloads content
-  pub ends : last_gate (start + 14 + length snapshot) payloads ≡ start + end
+  pub ends : last_gate (start + head_size + length snapshot) payloads ≡ start + end
   pub below : (is_below ≡ true) ↔ IsBelow other generation content
   pub yields : Yields other generation content
   pub spells : SpellsSnapshot v b first.moment first.contents snapshot

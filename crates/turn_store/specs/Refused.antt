@@ -1,5 +1,5 @@
 -- Why a store is refused, and where.
-use Rattle.std.specs.Prelude.{◌≡◌, ◌≢◌, ◌⊎◌, ◌<◌, ◌≤◌, ◌+◌, ◌*◌, List, ℕ, length}
+use Rattle.std.specs.Prelude.{◌≡◌, ◌≢◌, ◌⊎◌, ◌<◌, ◌≤◌, ◌+◌, List, ℕ, length}
 use Rattle.turn_disk.specs.Disk.{StandsAt}
 use Rattle.turn_history.specs.History.{Event}
 use Rattle.turn_history.specs.Table.{Contents}
@@ -10,6 +10,7 @@ use Rattle.turn_record.specs.declared.version.Version.{Version}
 use Rattle.turn_record.specs.declared.version.Version.TheVariants.{V1}
 use Rattle.turn_store.specs.Areas.{version_byte}
 use Rattle.turn_store.specs.Head.{IsHead, Beats, NoneIsActive}
+use Rattle.turn_store.specs.Layout.{area_size_at, first_area, head_size, second_area, store_size}
 use Rattle.turn_store.specs.Replay.{Snapshot, GoOn, GoesOn, ReplaysTo}
 use Rattle.turn_store.specs.Superblock.{HasSuperblock, least_area}
 use Rattle.turn_store.specs.declared.error.OpenError.{OpenError}
@@ -82,27 +83,27 @@ pub record IsBadSnapshot (v : Version) (b : Bounds) (at count : ℕ) (content : 
 -- a bad frame after a good snapshot
 abbrev pub IsBadLog : Version → Bounds → ℕ → ℕ → Head → List ℕ → ℕ → Type 0
 IsBadLog v b start size head content place =
-    (s : Snapshot) × IsGoodSnapshot v b (start + 14) head.snapshot s content
-    × BreaksAt v b (start + 14 + head.snapshot) (start + size) s content place
+    (s : Snapshot) × IsGoodSnapshot v b (start + head_size) head.snapshot s content
+    × BreaksAt v b (start + head_size + head.snapshot) (start + size) s content place
 
 -- what is wrong with an area, with the place: the first that applies
 abbrev pub AreaIsBad : Bounds → ℕ → ℕ → Head → List ℕ → ℕ → Type 0
 AreaIsBad b start size head content place =
     ((place ≡ start) × ((v : Version) → IsHeadOf v b size head → ⊥))
     ⊎ ((v : Version) × IsHeadOf v b size head
-    × (((place ≡ start + 14) × IsBadSnapshot v b (start + 14) head.snapshot content) ⊎ IsBadLog v b start size head content place))
+    × (((place ≡ start + head_size) × IsBadSnapshot v b (start + head_size) head.snapshot content) ⊎ IsBadLog v b start size head content place))
 
 -- ---- A store
 
--- no area counts, or the one that does is bad
+-- no area is active, or the active one is bad
 pub record StoreIsBad (b : Bounds) (size : ℕ) (content : List ℕ) (place : ℕ) : Type 0 where
   pub first : Head
   pub second : Head
-  pub is_first : IsHead 64 first content
-  pub is_second : IsHead (64 + size) second content
-  pub why : ((place ≡ 64) × NoneIsActive first second)
-      ⊎ ((Beats first second × AreaIsBad b 64 size first content place)
-      ⊎ (Beats second first × AreaIsBad b (64 + size) size second content place))
+  pub is_first : IsHead first_area first content
+  pub is_second : IsHead (second_area size) second content
+  pub why : ((place ≡ first_area) × NoneIsActive first second)
+      ⊎ ((Beats first second × AreaIsBad b first_area size first content place)
+      ⊎ (Beats second first × AreaIsBad b (second_area size) size second content place))
 
 -- The reason of each refusal under these limits: the first that applies.
 abbrev pub WhyRefused : Bounds → List ℕ → OpenError → Type 0
@@ -111,5 +112,5 @@ WhyRefused b content Memory = Unit {0}
 WhyRefused b content NotAStore = (area : ℕ) (its : Bounds) → HasSuperblock area its content → ⊥
 WhyRefused b content LimitsDiffer = (area : ℕ) × (its : Bounds) × HasSuperblock area its content × (its ≢ b)
 WhyRefused b content (Damaged place) = (area : ℕ) × HasSuperblock area b content
-    × (((place ≡ 8) × ((area < least_area V1 b) ⊎ (length content ≢ 64 + 2 * area)))
-    ⊎ ((least_area V1 b ≤ area) × (length content ≡ 64 + 2 * area) × StoreIsBad b area content place))
+    × (((place ≡ area_size_at) × ((area < least_area V1 b) ⊎ (length content ≢ store_size area)))
+    ⊎ ((least_area V1 b ≤ area) × (length content ≡ store_size area) × StoreIsBad b area content place))

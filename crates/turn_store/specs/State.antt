@@ -1,14 +1,17 @@
 -- What contracts see of a store.
-use Rattle.std.specs.Prelude.{◌≡◌, ◌≤◌, ◌<◌, ◌^◌, ◌-◌, ◌+◌, ◌*◌, ◌++◌, ℕ, Bool, List, true, false, length}
+use Rattle.std.specs.Prelude.{◌≡◌, ◌≤◌, ◌<◌, ◌^◌, ◌-◌, ◌+◌, ◌++◌, ℕ, Bool, List, true, false, length}
 use Rattle.turn_disk.specs.Disk.{State}
 use Rattle.turn_history.specs.Fitting.{IsFitting}
 use Rattle.turn_history.specs.History.{Event, History, clock}
 use Rattle.turn_history.specs.Laws.{AllFrom}
+use Rattle.turn_journal.specs.Area.{IsFullFor}
+use Rattle.turn_journal.specs.Layout.{frame_head}
 use Rattle.turn_journal.specs.declared.area.Area.{Area}
 use Rattle.turn_store.specs.Areas.{Form, RecoversToParts}
 use Rattle.turn_record.specs.Records.{max_payload}
 use Rattle.turn_record.specs.declared.version.Version.{Version}
 use Rattle.turn_record.specs.declared.version.Version.TheVariants.{V2}
+use Rattle.turn_store.specs.Layout.{head_size, second_area, store_size}
 use Rattle.turn_store.specs.Spells.{Spells}
 use Rattle.turn_store.specs.Superblock.{least_area}
 use Rattle.turn_types.specs.declared.limits.Bounds.{Bounds}
@@ -61,20 +64,24 @@ pub record MayFollow (b : Bounds) (c : ℕ) (h : History) (es : List Event) (mom
 
 -- what a store keeps in any state: its areas fill the disk, and each batch fits
 pub record IsSound (capacity : ℕ) (v : Version) (b : Bounds) (area : Area) (other frames : ℕ) : Type 0 where
-  pub whole : 64 + 2 * area.size ≡ capacity
+  pub whole : store_size area.size ≡ capacity
   pub addressable : capacity < 2 ^ 64
   pub room : least_area v b ≤ area.size
   pub small : (w : Version) → least_area w b < 2 ^ 32
   pub payload : area.max_payload ≡ max_payload v b
-  pub start_within : area.start ≤ 64 + area.size
-  pub other_within : other ≤ 64 + area.size
+  pub start_within : area.start ≤ second_area area.size
+  pub other_within : other ≤ second_area area.size
   pub frames_within : frames ≤ area.end
+
+-- a batch with a payload of so many bytes is written as a snapshot: no frame with it fits after the last one
+abbrev pub CompactsFor : {D : Type 0} → StoreState D → ℕ → Type 0
+CompactsFor s count = IsFullFor s.area count
 
 -- the store after a frame with a payload of so many bytes more, over this disk
 abbrev pub framed : {D : Type 0} → StoreState D → ℕ → D → StoreState D
 framed s count disk = record s {
   disk = disk;
-  area = record s.area { end = s.area.end + 5 + count };
+  area = record s.area { end = s.area.end + frame_head + count };
   frames = s.frames + 1;
 }
 
@@ -82,7 +89,7 @@ framed s count disk = record s {
 abbrev pub swapped : {D : Type 0} → StoreState D → ℕ → D → StoreState D
 swapped s count disk = record s {
   disk = disk;
-  area = record s.area { start = s.other; end = 14 + count };
+  area = record s.area { start = s.other; end = head_size + count };
   other = s.area.start;
   generation = s.generation + 1;
   frames = 0;
@@ -91,9 +98,9 @@ swapped s count disk = record s {
 
 -- the other area, as that of version 2 with a snapshot of so many bytes
 abbrev pub carried_area : {D : Type 0} → StoreState D → ℕ → Area
-carried_area s count = record { start = s.other; size = s.area.size; max_payload = max_payload V2 s.bounds; end = 14 + count }
+carried_area s count = record { start = s.other; size = s.area.size; max_payload = max_payload V2 s.bounds; end = head_size + count }
 
--- the store as version 2, where this other area counts now, over this disk
+-- the store as version 2, where this other area is active now, over this disk
 abbrev pub carried : {D : Type 0} → StoreState D → Area → D → StoreState D
 carried s area disk = record s {
   disk = disk;

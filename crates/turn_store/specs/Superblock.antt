@@ -1,9 +1,11 @@
--- The first 64 bytes of a store.
+-- The first bytes of a store.
 use Rattle.std.specs.Prelude.{◌∷◌, ◌++◌, ◌≤◌, ◌<◌, ◌^◌, ◌+◌, [], List, ℕ, length}
 use Rattle.std.specs.Int.{to_be_bytes, w16, w32, w64}
 use Rattle.turn_disk.specs.Disk.{StandsAt}
+use Rattle.turn_journal.specs.Layout.{frame_room}
 use Rattle.turn_record.specs.Records.{max_snapshot, max_payload}
 use Rattle.turn_record.specs.declared.version.Version.{Version}
+use Rattle.turn_store.specs.Layout.{head_size, superblock_size}
 use Rattle.turn_types.specs.Limits.{AreInRange}
 use Rattle.turn_types.specs.declared.limits.Bounds.{Bounds}
 
@@ -23,12 +25,12 @@ superblock area b =
 
 -- the content begins with the superblock of an area of this size and of these limits
 pub record HasSuperblock (area : ℕ) (b : Bounds) (content : List ℕ) : Type 0 where
-  pub long : 64 ≤ length content
+  pub long : superblock_size ≤ length content
   pub addressable : area < 2 ^ 64
   pub in_range : AreInRange b
   pub stands : StandsAt 0 (superblock area b) content
 
--- the min size of an area of a version, in bytes: 14 before the snapshot, the longest snapshot, a frame of 5 and the longest
--- payload, and the gate after it
+-- the min size of an area of a version, in bytes: what is before the snapshot, a frame and the gate after it, for the longest snapshot
+-- and the longest payload
 abbrev pub least_area : Version → Bounds → ℕ
-least_area v b = 20 + max_snapshot v b + max_payload v b
+least_area v b = head_size + frame_room + max_snapshot v b + max_payload v b

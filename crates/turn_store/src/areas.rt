@@ -1,16 +1,19 @@
-//! The three steps that put a snapshot into the area that doesn't count, and let that one count.
+//! The three steps that put a snapshot into the other area, which then is active.
 
 ghost use Rattle.std.specs.Prelude.{◌≡◌, ◌⊎◌, [], ◌∷◌, ◌++◌, ◌+◌, ◌≤◌, ◌<◌, ◌^◌, ℕ, List, true, length, OnOk, IsErr};
 ghost use Rattle.turn_disk.specs.Device.{Uses};
 ghost use Rattle.turn_disk.specs.Disk.{EachImageSince, StandsAt, WritesOnce};
 ghost use Rattle.turn_journal.specs.Frames.{IsClosed};
+ghost use Rattle.turn_journal.specs.Layout.{closed_gate, gate_size};
 ghost use Rattle.turn_record.specs.declared.version.Version.{Version};
 ghost use Rattle.turn_store.specs.Areas.{Form, area_front, Holds, HoldsAt, RecoversToParts};
+ghost use Rattle.turn_store.specs.Layout.{head_size, version_at};
 ghost use Rattle.turn_store.specs.Stages.{InStagesAt};
 ghost use Rattle.turn_store.specs.Superblock.{least_area};
 
-use crate::gate::{CLOSED, OPEN};
+use crate::layout::VERSION_AT;
 use turn_disk::{DeviceError, Disk, Producer, write_produced, write_through};
+use turn_journal::{CLOSED, OPEN};
 
 // Closes the other area's gate, unless it is closed already: where the generation after it isn't below, a torn write of the
 // gate could open the wrong area.
@@ -37,8 +40,8 @@ fn close<D: Disk>(disk: &mut D, gate: usize, is_below: bool) -> Result<(), Devic
 
 // Writes what follows the other area's closed gate.
 fn fill<D: Disk, P: Producer>(disk: &mut D, gate: usize, front: &mut P) -> Result<(), DeviceError>
-    requires place { gate + 1 + length (P.rest front.old) ≤ D.capacity disk.old }
-    requires addressable { gate + 1 + length (P.rest front.old) < 2 ^ 64 }
+    requires place { gate + version_at + length (P.rest front.old) ≤ D.capacity disk.old }
+    requires addressable { gate + version_at + length (P.rest front.old) < 2 ^ 64 }
     ensures uses { Uses D.Disk disk.old disk.new (IsErr result) }
 
     // A stop at any moment leaves what was there, whatever is written.
@@ -53,9 +56,9 @@ fn fill<D: Disk, P: Producer>(disk: &mut D, gate: usize, front: &mut P) -> Resul
         → length (P.rest front.old) < form.area
         → HoldsAt v form start gate generation snapshot payloads old → IsClosed gate old.bytes
         → OnOk result (HoldsAt v form start gate generation snapshot payloads new × IsClosed gate new.bytes
-        × StandsAt (gate + 1) (P.rest front.old) new.bytes) }
+        × StandsAt (gate + version_at) (P.rest front.old) new.bytes) }
 {
-    write_produced(disk, gate + 1, front)?;
+    write_produced(disk, gate + VERSION_AT, front)?;
     Ok(())
 }
 
@@ -67,52 +70,52 @@ fn switch<D: Disk>(disk: &mut D, gate: usize) -> Result<(), DeviceError>
     // A stop at any moment leaves what was there, or the new snapshot alone.
     ensures stop { let old = D.trace disk.old in
         D.follows_crash_model disk.new → (v w : Version) (form : Form) (start generation : ℕ) (snapshot next : List ℕ) (payloads : List (List ℕ))
-        → generation + 1 < 2 ^ 64 → length next < 2 ^ 32 → least_area w form.bounds ≤ form.area → 14 + length next < form.area
+        → generation + 1 < 2 ^ 64 → length next < 2 ^ 32 → least_area w form.bounds ≤ form.area → head_size + length next < form.area
         → HoldsAt v form start gate generation snapshot payloads old.now
-        → StandsAt (gate + 1) (area_front w (generation + 1) next ++ 0 ∷ []) old.now.bytes
+        → StandsAt (gate + version_at) (area_front w (generation + 1) next ++ closed_gate ∷ []) old.now.bytes
         → EachImageSince old (D.trace disk.new) (λ image. Holds v form snapshot payloads image ⊎ Holds w form next [] image) }
 
     ensures done { let old = (D.trace disk.old).now in
         D.follows_crash_model disk.new → (v w : Version) (form : Form) (start generation : ℕ) (snapshot next : List ℕ) (payloads : List (List ℕ))
-        → generation + 1 < 2 ^ 64 → length next < 2 ^ 32 → least_area w form.bounds ≤ form.area → 14 + length next < form.area
+        → generation + 1 < 2 ^ 64 → length next < 2 ^ 32 → least_area w form.bounds ≤ form.area → head_size + length next < form.area
         → HoldsAt v form start gate generation snapshot payloads old
-        → StandsAt (gate + 1) (area_front w (generation + 1) next ++ 0 ∷ []) old.bytes
-        → OnOk result (RecoversToParts w form gate start (generation + 1) (14 + length next) true next [] (D.trace disk.new).now) }
+        → StandsAt (gate + version_at) (area_front w (generation + 1) next ++ closed_gate ∷ []) old.bytes
+        → OnOk result (RecoversToParts w form gate start (generation + 1) (head_size + length next) true next [] (D.trace disk.new).now) }
 
     // The gate is written at most once, and nothing else is.
-    ensures once { D.follows_crash_model disk.new → WritesOnce gate 1 (D.trace disk.old) (D.trace disk.new) }
+    ensures once { D.follows_crash_model disk.new → WritesOnce gate gate_size (D.trace disk.old) (D.trace disk.new) }
 {
     write_through(disk, gate, &[OPEN])?;
     Ok(())
 }
 
-/// Puts a snapshot of the next generation, in either version, into the area that doesn't count, and lets it count.
+/// Puts a snapshot of the next generation, in either version, into the other area, which then is active.
 pub fn replace<D: Disk, P: Producer>(
     disk: &mut D,
     gate: usize,
     is_below: bool,
     front: &mut P,
 ) -> Result<(), DeviceError>
-    requires place { gate + 1 + length (P.rest front.old) ≤ D.capacity disk.old }
-    requires addressable { gate + 1 + length (P.rest front.old) < 2 ^ 64 }
+    requires place { gate + version_at + length (P.rest front.old) ≤ D.capacity disk.old }
+    requires addressable { gate + version_at + length (P.rest front.old) < 2 ^ 64 }
     ensures uses { Uses D.Disk disk.old disk.new (IsErr result) }
 
     // Up to some moment a stop leaves what was there; from then on what was there, or the new snapshot alone, and this gate alone
     // is written, at most once.
     ensures stages { let old = D.trace disk.old in
         D.follows_crash_model disk.new → (v w : Version) (form : Form) (start generation end : ℕ) (snapshot next : List ℕ) (payloads : List (List ℕ))
-        → generation + 1 < 2 ^ 64 → length next < 2 ^ 32 → least_area w form.bounds ≤ form.area → 14 + length next < form.area
-        → P.rest front.old ≡ area_front w (generation + 1) next ++ 0 ∷ []
+        → generation + 1 < 2 ^ 64 → length next < 2 ^ 32 → least_area w form.bounds ≤ form.area → head_size + length next < form.area
+        → P.rest front.old ≡ area_front w (generation + 1) next ++ closed_gate ∷ []
         → RecoversToParts v form start gate generation end is_below snapshot payloads old.now
         → InStagesAt gate old (D.trace disk.new) (Holds v form snapshot payloads)
         (λ image. Holds v form snapshot payloads image ⊎ Holds w form next [] image) }
 
     ensures done { let old = (D.trace disk.old).now in
         D.follows_crash_model disk.new → (v w : Version) (form : Form) (start generation end : ℕ) (snapshot next : List ℕ) (payloads : List (List ℕ))
-        → generation + 1 < 2 ^ 64 → length next < 2 ^ 32 → least_area w form.bounds ≤ form.area → 14 + length next < form.area
-        → P.rest front.old ≡ area_front w (generation + 1) next ++ 0 ∷ []
+        → generation + 1 < 2 ^ 64 → length next < 2 ^ 32 → least_area w form.bounds ≤ form.area → head_size + length next < form.area
+        → P.rest front.old ≡ area_front w (generation + 1) next ++ closed_gate ∷ []
         → RecoversToParts v form start gate generation end is_below snapshot payloads old
-        → OnOk result (RecoversToParts w form gate start (generation + 1) (14 + length next) true next [] (D.trace disk.new).now) }
+        → OnOk result (RecoversToParts w form gate start (generation + 1) (head_size + length next) true next [] (D.trace disk.new).now) }
 {
     close(disk, gate, is_below)?;
     fill(disk, gate, front)?;

@@ -1,31 +1,32 @@
 //! A store is made of a disk: zeros over the superblock, the areas, the superblock, the first area's gate. So from the first sync
 //! until the last write no image is a store.
 
-ghost use Rattle.std.specs.Prelude.{◌≡◌, [], ◌∷◌, ◌++◌, ◌+◌, ◌*◌, ◌≤◌, ◌<◌, ◌^◌, ◌↔◌, IfErr, OnOk, IsErr, Err};
+ghost use Rattle.std.specs.Prelude.{◌≡◌, ◌+◌, ◌*◌, ◌≤◌, ◌<◌, ◌^◌, OnOk, IsErr};
 ghost use Rattle.turn_disk.specs.Device.{Uses};
 ghost use Rattle.turn_disk.specs.Disk.{ChangesOnly, EachImageSince, IsSettled, ThroughOutcome, WritesThrough};
 ghost use Rattle.turn_record.specs.declared.version.Version.{Version};
 ghost use Rattle.turn_record.specs.declared.version.Version.TheVariants.{V1, V2};
-ghost use Rattle.turn_store.specs.Areas.{area_front};
-ghost use Rattle.turn_store.specs.Format.{FormatsInOrder, HoldsNothingOrStands, IsFormatted, IsLaid, fresh};
-ghost use Rattle.turn_store.specs.Images.{EachImage, StandsForAt};
+ghost use Rattle.turn_store.specs.Format.{HoldsNothingOrStands, IsFormatted, IsLaid, fresh_area};
+ghost use Rattle.turn_store.specs.Formatting.{Formats};
+ghost use Rattle.turn_store.specs.Layout.{first_area, fresh_size, store_size, superblock_size};
 ghost use Rattle.turn_store.specs.Superblock.{least_area};
 ghost use Rattle.turn_store.specs.declared.formatting.FormatError.TheVariants.{Device};
 
-use crate::gate::{CLOSED, OPEN};
+use crate::layout::{FIRST_AREA, FRESH_SIZE_1, FRESH_SIZE_2, SUPERBLOCK_SIZE};
 use crate::superblock::{least_area_of, superblock_bytes};
 use thiserror::Error;
 use turn_disk::{DeviceError, Disk, write_through};
+use turn_journal::{CLOSED, OPEN};
 use turn_record::Version;
 use turn_types::Limits;
 
 /// A closed gate, version 1, generation 1, a snapshot of 12 bytes (moment 0, no entry), a closed gate.
-const FRESH_AREA_1: [u8; 27] = [
+const FRESH_AREA_1: [u8; FRESH_SIZE_1] = [
     CLOSED, 1, 0, 0, 0, 0, 0, 0, 0, 1, 0, 0, 0, 12, 0, 0, 0, 0, 0, 0, 0, 0, 0, 0, 0, 0, CLOSED,
 ];
 
 /// The same of version 2: its snapshot has 16 bytes (moment 0, no entry, no reserved port).
-const FRESH_AREA_2: [u8; 31] = [
+const FRESH_AREA_2: [u8; FRESH_SIZE_2] = [
     CLOSED, 2, 0, 0, 0, 0, 0, 0, 0, 1, 0, 0, 0, 16, 0, 0, 0, 0, 0, 0, 0, 0, 0, 0, 0, 0, 0, 0, 0, 0,
     CLOSED,
 ];
@@ -51,29 +52,29 @@ impl From<DeviceError> for FormatError {
 
 // Writes the first area with a closed gate: two device calls.
 fn lay_first<D: Disk>(disk: &mut D, version: Version) -> Result<(), DeviceError>
-    requires { 64 + 31 ≤ D.capacity disk.old }
+    requires { first_area + fresh_size ≤ D.capacity disk.old }
     ensures uses { Uses D.Disk disk.old disk.new (IsErr result) }
     ensures done { D.follows_crash_model disk.new → OnOk result
-        (WritesThrough 64 (0 ∷ (area_front version 1 (fresh version) ++ 0 ∷ [])) (D.trace disk.old).now (D.trace disk.new).now) }
+        (WritesThrough first_area (fresh_area version) (D.trace disk.old).now (D.trace disk.new).now) }
     ensures once { D.follows_crash_model disk.new
-        → ThroughOutcome 64 (0 ∷ (area_front version 1 (fresh version) ++ 0 ∷ [])) (D.trace disk.old) (D.trace disk.new) result }
+        → ThroughOutcome first_area (fresh_area version) (D.trace disk.old) (D.trace disk.new) result }
 {
     match version {
-        Version::V1 => write_through(disk, 64, &FRESH_AREA_1),
-        Version::V2 => write_through(disk, 64, &FRESH_AREA_2),
+        Version::V1 => write_through(disk, FIRST_AREA, &FRESH_AREA_1),
+        Version::V2 => write_through(disk, FIRST_AREA, &FRESH_AREA_2),
     }
 }
 
 // Closes the second area and lays out the first one, closed too: three device calls.
 fn lay_areas<D: Disk>(disk: &mut D, version: Version, area: usize) -> Result<(), DeviceError>
-    requires place { 64 + 2 * area ≡ D.capacity disk.old }
-    requires room { 31 < area }
+    requires place { store_size area ≡ D.capacity disk.old }
+    requires room { fresh_size < area }
     ensures uses { Uses D.Disk disk.old disk.new (IsErr result) }
-    ensures addressable { 64 + 2 * area < 2 ^ 64 }
+    ensures addressable { store_size area < 2 ^ 64 }
 
     // A stop at any moment changes nothing before the areas.
     ensures stop { D.follows_crash_model disk.new → IsSettled (D.trace disk.old).now
-        → EachImageSince (D.trace disk.old) (D.trace disk.new) (ChangesOnly 64 (2 * area) (D.trace disk.old).now.bytes) }
+        → EachImageSince (D.trace disk.old) (D.trace disk.new) (ChangesOnly superblock_size (2 * area) (D.trace disk.old).now.bytes) }
 
     ensures done { D.follows_crash_model disk.new → OnOk result (IsLaid version area (D.trace disk.new).now) }
 {
@@ -85,9 +86,9 @@ fn lay_areas<D: Disk>(disk: &mut D, version: Version, area: usize) -> Result<(),
 
 // Writes the superblock, and then opens the first area: four device calls.
 fn open_first<D: Disk>(disk: &mut D, limits: Limits, area: usize) -> Result<(), DeviceError>
-    requires place { 64 + 2 * area ≡ D.capacity disk.old }
-    requires room { 31 < area }
-    requires addressable { 64 + 2 * area < 2 ^ 64 }
+    requires place { store_size area ≡ D.capacity disk.old }
+    requires room { fresh_size < area }
+    requires addressable { store_size area < 2 ^ 64 }
     ensures uses { Uses D.Disk disk.old disk.new (IsErr result) }
     ensures done { D.follows_crash_model disk.new → (v : Version) → least_area v limits ≤ area → IsLaid v area (D.trace disk.old).now
         → OnOk result (IsFormatted v (record { bounds = limits; area = area }) (D.trace disk.new).now) }
@@ -98,7 +99,7 @@ fn open_first<D: Disk>(disk: &mut D, limits: Limits, area: usize) -> Result<(), 
 {
     let superblock = superblock_bytes(area, limits);
     write_through(disk, 0, &superblock)?;
-    write_through(disk, 64, &[OPEN])?;
+    write_through(disk, FIRST_AREA, &[OPEN])?;
     Ok(())
 }
 
@@ -109,23 +110,14 @@ fn format_as<D: Disk>(
     limits: Limits,
     area: usize,
 ) -> Result<(), FormatError>
-    requires { 64 + 2 * area ≡ D.capacity disk.old }
-    ensures uses { Uses D.Disk disk.old disk.new (result ≡ Err FormatError.Device) }
-    ensures too_small { (needed : _) → (result ≡ Err (FormatError.AreaTooSmall needed))
-        ↔ ((area < least_area version limits) × (needed ≡ least_area version limits)) }
-    ensures untouched { area < least_area version limits → disk.new ≡ disk.old }
-    ensures formatted { D.follows_crash_model disk.new
-        → OnOk result (IsFormatted version (record { bounds = limits; area = area }) (D.trace disk.new).now) }
-    ensures done { D.follows_crash_model disk.new
-        → OnOk result (EachImage (D.trace disk.new).now (StandsForAt (record { bounds = limits; area = area }) [] 0)) }
-    ensures order { D.follows_crash_model disk.new
-        → FormatsInOrder (record { bounds = limits; area = area }) (D.trace disk.old) (D.trace disk.new) }
+    requires { store_size area ≡ D.capacity disk.old }
+    ensures { Formats D.Disk version (record { bounds = limits; area = area }) disk.old disk.new result }
 {
     let needed = least_area_of(version, limits);
     if area < needed {
         return Err(FormatError::AreaTooSmall(needed));
     }
-    write_through(disk, 0, &[0; 64])?;
+    write_through(disk, 0, &[0; SUPERBLOCK_SIZE])?;
     lay_areas(disk, version, area)?;
     open_first(disk, limits, area)?;
     Ok(())
@@ -133,23 +125,8 @@ fn format_as<D: Disk>(
 
 /// Makes a disk a store of these limits, of version 2, which holds nothing. It takes no memory.
 pub fn format<D: Disk>(disk: &mut D, limits: Limits, area: usize) -> Result<(), FormatError>
-    requires { 64 + 2 * area ≡ D.capacity disk.old }
-    ensures uses { Uses D.Disk disk.old disk.new (result ≡ Err FormatError.Device) }
-
-    // An area below the min size is refused, and nothing is written.
-    ensures too_small { (needed : _) → (result ≡ Err (FormatError.AreaTooSmall needed))
-        ↔ ((area < least_area V2 limits) × (needed ≡ least_area V2 limits)) }
-    ensures untouched { area < least_area V2 limits → disk.new ≡ disk.old }
-
-    // The first area is active, with generation 1, and each image stands for the empty history.
-    ensures formatted { D.follows_crash_model disk.new
-        → OnOk result (IsFormatted V2 (record { bounds = limits; area = area }) (D.trace disk.new).now) }
-    ensures done { D.follows_crash_model disk.new
-        → OnOk result (EachImage (D.trace disk.new).now (StandsForAt (record { bounds = limits; area = area }) [] 0)) }
-
-    // From the first sync on, a stop leaves an image that holds nothing, or one that stands for the empty history.
-    ensures order { D.follows_crash_model disk.new
-        → FormatsInOrder (record { bounds = limits; area = area }) (D.trace disk.old) (D.trace disk.new) }
+    requires { store_size area ≡ D.capacity disk.old }
+    ensures { Formats D.Disk V2 (record { bounds = limits; area = area }) disk.old disk.new result }
 {
     format_as(disk, Version::V2, limits, area)
 }
@@ -161,23 +138,8 @@ pub fn format_version1<D: Disk>(
     limits: Limits,
     area: usize,
 ) -> Result<(), FormatError>
-    requires { 64 + 2 * area ≡ D.capacity disk.old }
-    ensures uses { Uses D.Disk disk.old disk.new (result ≡ Err FormatError.Device) }
-
-    // An area below the min size is refused, and nothing is written.
-    ensures too_small { (needed : _) → (result ≡ Err (FormatError.AreaTooSmall needed))
-        ↔ ((area < least_area V1 limits) × (needed ≡ least_area V1 limits)) }
-    ensures untouched { area < least_area V1 limits → disk.new ≡ disk.old }
-
-    // The first area is active, with generation 1, and each image stands for the empty history.
-    ensures formatted { D.follows_crash_model disk.new
-        → OnOk result (IsFormatted V1 (record { bounds = limits; area = area }) (D.trace disk.new).now) }
-    ensures done { D.follows_crash_model disk.new
-        → OnOk result (EachImage (D.trace disk.new).now (StandsForAt (record { bounds = limits; area = area }) [] 0)) }
-
-    // From the first sync on, a stop leaves an image that holds nothing, or one that stands for the empty history.
-    ensures order { D.follows_crash_model disk.new
-        → FormatsInOrder (record { bounds = limits; area = area }) (D.trace disk.old) (D.trace disk.new) }
+    requires { store_size area ≡ D.capacity disk.old }
+    ensures { Formats D.Disk V1 (record { bounds = limits; area = area }) disk.old disk.new result }
 {
     format_as(disk, Version::V1, limits, area)
 }

@@ -5,6 +5,7 @@ ghost use Rattle.std.specs.Int.{to_be_bytes, w32, w64};
 ghost use Rattle.turn_record.specs.declared.version.Version.{Version};
 ghost use Rattle.turn_store.specs.Areas.{version_byte};
 
+use crate::layout::FRONT_SIZE;
 use turn_record::Version;
 
 /// The byte of a version.
@@ -30,7 +31,7 @@ pub fn version_of(byte: u8) -> Option<Version>
 }
 
 /// The version, the generation and the snapshot's length.
-pub fn area_head(version: Version, generation: u64, size: u32) -> [u8; 13]
+pub fn area_head(version: Version, generation: u64, size: u32) -> [u8; FRONT_SIZE]
     ensures { result ≡ version_byte version ∷ (to_be_bytes w64 generation ++ to_be_bytes w32 size) }
 {
     let v = version_byte(version);

@@ -1,13 +1,15 @@
-//! The first 14 bytes of an area.
+//! The first bytes of an area.
 
 ghost use Rattle.std.specs.Prelude.{◌≡◌, ◌⊎◌, ◌+◌, ◌≤◌, ◌<◌, ◌^◌, IfOk, IfSome, IsNone, slice_index, IsErr};
 ghost use Rattle.std.specs.Int.{to_be_bytes, w32, w64};
 ghost use Rattle.turn_disk.specs.Device.{Reads};
 ghost use Rattle.turn_disk.specs.Disk.{StandsAt};
 ghost use Rattle.turn_store.specs.Head.{IsHead, Beats, NoneIsActive};
+ghost use Rattle.turn_store.specs.Layout.{head_size};
 
-use crate::gate::OPEN;
+use crate::layout::{GENERATION_AT, LENGTH_AT, VERSION_AT};
 use turn_disk::{DeviceError, Disk, read_array};
+use turn_journal::OPEN;
 
 /// What an area begins with: its gate, the version, the generation and the length of the snapshot.
 #[derive(Clone, Copy, Debug, PartialEq, Eq)]
@@ -56,17 +58,17 @@ fn read_u64<D: Disk>(disk: &mut D, at: usize) -> Result<u64, DeviceError>
 
 /// Reads the head of an area, in four device calls.
 pub fn read_head<D: Disk>(disk: &mut D, at: usize) -> Result<Head, DeviceError>
-    requires place { at + 14 ≤ D.capacity disk.old }
-    requires addressable { at + 14 < 2 ^ 64 }
+    requires place { at + head_size ≤ D.capacity disk.old }
+    requires addressable { at + head_size < 2 ^ 64 }
     ensures reads { Reads D.Disk disk.old disk.new (IsErr result) }
     ensures generation { IfOk result (λ head. head.generation < 2 ^ 64) }
     ensures snapshot { IfOk result (λ head. head.snapshot < 2 ^ 32) }
     ensures head { D.follows_crash_model disk.new → IfOk result (λ head. IsHead at head (D.trace disk.old).now.bytes) }
 {
     let gate = read_byte(disk, at)?;
-    let version = read_byte(disk, at + 1)?;
-    let generation = read_u64(disk, at + 2)?;
-    let snapshot = read_u32(disk, at + 10)?;
+    let version = read_byte(disk, at + VERSION_AT)?;
+    let generation = read_u64(disk, at + GENERATION_AT)?;
+    let snapshot = read_u32(disk, at + LENGTH_AT)?;
     Ok(Head {
         is_open: gate == OPEN,
         version,

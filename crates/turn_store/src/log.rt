@@ -13,7 +13,7 @@ use crate::error::OpenError;
 use crate::replay::{FrameError, replay_frame};
 use std::alloc::Allocator;
 use turn_disk::Disk;
-use turn_journal::{Found, Journal, ScanError};
+use turn_journal::{FRAME_HEAD, Found, Journal, ScanError};
 use turn_record::Version;
 use turn_table::Table;
 use turn_types::Limits;
@@ -87,17 +87,13 @@ pub fn replay_log<D: Disk, A: Allocator + Copy>(
     let mut end = journal.end();
     let mut frames = 0;
     'frames: loop {
-        let found = match found_at(journal, disk, end) {
-            Ok(found) => found,
-            Err(fault) => return Err(fault),
-        };
-        match found {
+        match found_at(journal, disk, end)? {
             Found::End => return Ok((end, frames)),
             Found::Frame(count) => {
-                let at = start + end + 5;
+                let at = start + end + FRAME_HEAD;
                 match replay_frame(alloc, disk, at, count, payload, table, version, limits) {
                     Ok(()) => {
-                        end += 5 + count;
+                        end += FRAME_HEAD + count;
                         frames += 1;
                     }
                     Err(fault) => return Err(fault_at(start + end, fault)),

@@ -9,6 +9,7 @@ ghost use Rattle.turn_record.specs.declared.version.Version.TheVariants.{V1};
 ghost use Rattle.turn_history.specs.History.{History};
 ghost use Rattle.turn_store.specs.Areas.{Form};
 ghost use Rattle.turn_store.specs.Images.{StandsForAt};
+ghost use Rattle.turn_store.specs.Layout.{head_size, second_area, store_size};
 ghost use Rattle.turn_store.specs.Opened.{AreaIsRead, IsChosen};
 ghost use Rattle.turn_store.specs.Refused.{AreaIsBad, FaultWith, IsHeadOf, IsPlain, StoreIsBad, WhyRefused};
 ghost use Rattle.turn_store.specs.Superblock.{HasSuperblock, least_area};
@@ -17,6 +18,7 @@ ghost use Rattle.turn_store.specs.Tables.{snapshot_of};
 use crate::error::OpenError;
 use crate::front::version_of;
 use crate::heads::{Head, Placed, counting, read_head};
+use crate::layout::{AREA_SIZE_AT, FIRST_AREA, HEAD_SIZE, SUPERBLOCK_SIZE};
 use crate::log::replay_log;
 use crate::snapshots::read_snapshot;
 use crate::superblock::{LimitsError, least_area, least_area_of, read_superblock};
@@ -86,19 +88,16 @@ fn load_area<D: Disk, A: Allocator + Copy>(
         return Err(OpenError::Damaged(start));
     };
     let count = head.snapshot as usize;
-    let mut table = match read_snapshot(alloc, disk, version, limits, start + 14, count) {
-        Ok(table) => table,
-        Err(fault) => return Err(fault),
-    };
+    let mut table = read_snapshot(alloc, disk, version, limits, start + HEAD_SIZE, count)?;
     let area = Area {
         start,
         size,
         max_payload: max_payload(version, limits),
-        end: 14 + count,
+        end: HEAD_SIZE + count,
     };
     let mut journal = Journal::new(alloc, area)?;
     let mut payload = Vec::from_elem(alloc, 0, max_payload(version, limits))?;
-    match replay_log(
+    let (end, frames) = replay_log(
         alloc,
         disk,
         version,
@@ -106,18 +105,14 @@ fn load_area<D: Disk, A: Allocator + Copy>(
         &journal,
         &mut payload,
         &mut table,
-    ) {
-        Ok((end, frames)) => {
-            journal.move_to(start, end);
-            Ok(Loaded {
-                version,
-                journal,
-                table,
-                frames,
-            })
-        }
-        Err(fault) => Err(fault),
-    }
+    )?;
+    journal.move_to(start, end);
+    Ok(Loaded {
+        version,
+        journal,
+        table,
+        frames,
+    })
 }
 
 /// The active area, as it was read, and what is known of the other one.
@@ -140,13 +135,13 @@ fn choose<D: Disk, A: Allocator + Copy>(
     limits: Limits,
     size: usize,
 ) -> Result<Chosen<A>, OpenError>
-    requires place { 64 + 2 * size ≡ D.capacity disk.old }
-    requires addressable { 64 + 2 * size < 2 ^ 64 }
-    requires room { 20 ≤ size }
+    requires place { store_size size ≡ D.capacity disk.old }
+    requires addressable { store_size size < 2 ^ 64 }
+    requires room { head_size ≤ size }
     ensures reads { Reads D.Disk disk.old disk.new (result ≡ Err OpenError.Device) }
     ensures area { IfOk result (λ r. (r.loaded.journal.size ≡ size) × (r.loaded.journal.max_payload ≡ max_payload r.loaded.version limits)) }
     ensures room { IfOk result (λ r. least_area r.loaded.version limits ≤ size) }
-    ensures places { IfOk result (λ r. (r.loaded.journal.start ≤ 64 + size) × (r.other ≤ 64 + size)) }
+    ensures places { IfOk result (λ r. (r.loaded.journal.start ≤ second_area size) × (r.other ≤ second_area size)) }
     ensures bounds { IfOk result (λ r. r.loaded.table.bounds ≡ limits) }
     ensures snapshot { IfOk result (λ r. IsSnapshot r.loaded.version limits r.loaded.table.moment r.loaded.table.contents) }
     ensures few { IfOk result (λ r. r.loaded.frames ≤ r.loaded.journal.end) }
@@ -156,11 +151,11 @@ fn choose<D: Disk, A: Allocator + Copy>(
     ensures faults { D.follows_crash_model disk.new
         → IfErr result (FaultWith (StoreIsBad limits size (D.trace disk.old).now.bytes)) }
 {
-    let second_start = 64 + size;
-    let first_head = read_head(disk, 64)?;
+    let second_start = FIRST_AREA + size;
+    let first_head = read_head(disk, FIRST_AREA)?;
     let second_head = read_head(disk, second_start)?;
     let first = Placed {
-        start: 64,
+        start: FIRST_AREA,
         head: first_head,
     };
     let second = Placed {
@@ -168,24 +163,22 @@ fn choose<D: Disk, A: Allocator + Copy>(
         head: second_head,
     };
     let Some((area, other)) = counting(first, second) else {
-        return Err(OpenError::Damaged(64));
+        return Err(OpenError::Damaged(FIRST_AREA));
     };
-    match load_area(alloc, disk, limits, size, area.start, area.head) {
-        Ok(loaded) => Ok(Chosen {
-            loaded,
-            other: other.start,
-            generation: area.head.generation,
-            other_is_below: other.head.generation < area.head.generation,
-        }),
-        Err(fault) => Err(fault),
-    }
+    let loaded = load_area(alloc, disk, limits, size, area.start, area.head)?;
+    Ok(Chosen {
+        loaded,
+        other: other.start,
+        generation: area.head.generation,
+        other_is_below: other.head.generation < area.head.generation,
+    })
 }
 
 // Whether a disk of this size has two such areas and nothing more.
 fn is_whole(size: usize, area: usize) -> bool
-    ensures { IsTrue result ↔ (size ≡ 64 + 2 * area) }
+    ensures { IsTrue result ↔ (size ≡ store_size area) }
 {
-    size >= 64 && size % 2 == 0 && (size - 64) / 2 == area
+    size >= SUPERBLOCK_SIZE && size % 2 == 0 && (size - SUPERBLOCK_SIZE) / 2 == area
 }
 
 // Whether these are the same limits.
@@ -198,7 +191,7 @@ fn are_same(first: Limits, second: Limits) -> bool
 // The size of an area, by the superblock, which has to have these limits.
 fn read_area_size<D: Disk>(disk: &mut D, limits: Limits) -> Result<usize, OpenError>
     ensures reads { Reads D.Disk disk.old disk.new (result ≡ Err OpenError.Device) }
-    ensures place { IfOk result (λ area. 64 + 2 * area ≡ D.capacity disk.old) }
+    ensures place { IfOk result (λ area. store_size area ≡ D.capacity disk.old) }
     ensures addressable { D.capacity disk.old < 2 ^ 64 }
     ensures room { IfOk result (λ area. least_area V1 limits ≤ area) }
     ensures small { OnOk result ((v : Version) → least_area v limits < 2 ^ 32) }
@@ -217,10 +210,10 @@ fn read_area_size<D: Disk>(disk: &mut D, limits: Limits) -> Result<usize, OpenEr
         return Err(OpenError::LimitsDiffer);
     }
     if found.area < needed {
-        return Err(OpenError::Damaged(8));
+        return Err(OpenError::Damaged(AREA_SIZE_AT));
     }
     if !is_whole(size, found.area) {
-        return Err(OpenError::Damaged(8));
+        return Err(OpenError::Damaged(AREA_SIZE_AT));
     }
     Ok(found.area)
 }
@@ -238,11 +231,11 @@ pub fn load<D: Disk, A: Allocator + Copy>(
     ensures settled { D.follows_crash_model disk.new → OnOk result (IsSettled (D.trace disk.new).now) }
     ensures settled_err { D.follows_crash_model disk.new
         → IfErr result (λ fault. fault ≢ OpenError.Device → IsSettled (D.trace disk.new).now) }
-    ensures place { IfOk result (λ r. 64 + 2 * r.loaded.journal.size ≡ D.capacity disk.new) }
+    ensures place { IfOk result (λ r. store_size r.loaded.journal.size ≡ D.capacity disk.new) }
     ensures addressable { OnOk result (D.capacity disk.new < 2 ^ 64) }
     ensures area { IfOk result (λ r. (least_area r.loaded.version limits ≤ r.loaded.journal.size) × (r.loaded.journal.max_payload ≡ max_payload r.loaded.version limits)) }
     ensures small { OnOk result ((v : Version) → least_area v limits < 2 ^ 32) }
-    ensures places { IfOk result (λ r. (r.loaded.journal.start ≤ 64 + r.loaded.journal.size) × (r.other ≤ 64 + r.loaded.journal.size)) }
+    ensures places { IfOk result (λ r. (r.loaded.journal.start ≤ second_area r.loaded.journal.size) × (r.other ≤ second_area r.loaded.journal.size)) }
     ensures bounds { IfOk result (λ r. r.loaded.table.bounds ≡ limits) }
     ensures snapshot { IfOk result (λ r. IsSnapshot r.loaded.version limits r.loaded.table.moment r.loaded.table.contents) }
     ensures few { IfOk result (λ r. r.loaded.frames ≤ r.loaded.journal.end) }
@@ -256,12 +249,7 @@ pub fn load<D: Disk, A: Allocator + Copy>(
         → StandsForAt form h clock (D.trace disk.old).now.bytes → IfErr result IsPlain }
 {
     disk.sync()?;
-    let size = match read_area_size(disk, limits) {
-        Ok(size) => size,
-        Err(fault) => return Err(fault),
-    };
-    match choose(alloc, disk, limits, size) {
-        Ok(chosen) => Ok(chosen),
-        Err(fault) => Err(fault),
-    }
+    let size = read_area_size(disk, limits)?;
+    let chosen = choose(alloc, disk, limits, size)?;
+    Ok(chosen)
 }

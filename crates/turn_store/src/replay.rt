@@ -91,9 +91,7 @@ fn apply_all<A: Allocator + Copy>(
     let mut events = events;
     while !events.is_empty() {
         let event = events.remove(0);
-        if let Err(fault) = apply_next(table, event) {
-            return Err(fault);
-        }
+        apply_next(table, event)?;
     }
     Ok(())
 }
@@ -133,14 +131,9 @@ fn apply_payload<A: Allocator + Copy>(
     ensures bad { IfErr result (λ fault. fault ≡ FrameError.Bad
         → (es : List histories.Event) → SpellsPayload version limits es payload.now → GoOn limits (snapshot_of table.old) es → ⊥) }
 {
-    let events = match read_events(alloc, version, limits, payload) {
-        Ok(events) => events,
-        Err(fault) => return Err(fault),
-    };
-    match apply_all(table, events) {
-        Ok(()) => Ok(()),
-        Err(fault) => Err(fault),
-    }
+    let events = read_events(alloc, version, limits, payload)?;
+    apply_all(table, events)?;
+    Ok(())
 }
 
 // Reads a payload of the buffer's length, and applies its events.
@@ -167,10 +160,8 @@ fn replay_payload<D: Disk, A: Allocator + Copy>(
         → (es : List histories.Event) → SpellsPayload version limits es buffer.new → GoOn limits (snapshot_of table.old) es → ⊥) }
 {
     read_pieces(disk, at, buffer)?;
-    match apply_payload(alloc, version, limits, table, buffer) {
-        Ok(()) => Ok(()),
-        Err(fault) => Err(fault),
-    }
+    apply_payload(alloc, version, limits, table, buffer)?;
+    Ok(())
 }
 
 /// Reads a payload of so many bytes to the front of the buffer, and applies its events.
@@ -198,16 +189,7 @@ pub fn replay_frame<D: Disk, A: Allocator + Copy>(
     ensures bad { D.follows_crash_model disk.new → IfErr result (λ fault. fault ≡ FrameError.Bad
         → ReadsBad version limits (snapshot_of table.old) at count (D.trace disk.old).now.bytes) }
 {
-    match replay_payload(
-        alloc,
-        disk,
-        at,
-        &mut buffer[..count],
-        table,
-        version,
-        limits,
-    ) {
-        Ok(()) => Ok(()),
-        Err(fault) => Err(fault),
-    }
+    let payload = &mut buffer[..count];
+    replay_payload(alloc, disk, at, payload, table, version, limits)?;
+    Ok(())
 }

@@ -1,6 +1,6 @@
 //! A store: the active area, and the other one.
 
-ghost use Rattle.std.specs.Prelude.{◌≡◌, ◌≢◌, ◌⊎◌, [], ◌∷◌, ◌++◌, ◌+◌, ◌-◌, ◌≤◌, ◌<◌, ◌^◌, ◌↔◌, ℕ, List, true, false, Some, Ok, Err, length, IsTrue, IfOk, IfErr, MatchBool, OnOk, OnErr, IsErr, IsErrAnd};
+ghost use Rattle.std.specs.Prelude.{◌≡◌, ◌≢◌, ◌⊎◌, [], ◌∷◌, ◌++◌, ◌+◌, ◌-◌, ◌≤◌, ◌<◌, ◌^◌, ◌↔◌, ℕ, List, true, false, Some, Ok, Err, length, IsTrue, IfOk, IfErr, OnOk, OnErr, IsErr, IsErrAnd};
 ghost use Rattle.turn_disk.specs.Device.{Uses};
 ghost use Rattle.turn_history.specs.History.{Event, History};
 ghost use Rattle.turn_history.specs.Table as tables;
@@ -10,28 +10,30 @@ ghost use Rattle.turn_record.specs.declared.version.Version.{Version};
 ghost use Rattle.turn_record.specs.declared.version.Version.TheVariants.{V2};
 ghost use Rattle.turn_disk.specs.Disk.{EachImageSince, IsImage, IsSettled};
 ghost use Rattle.turn_journal.specs.Area.{end_of};
+ghost use Rattle.turn_journal.specs.Layout.{frame_room, gate_size};
 ghost use Rattle.turn_store.specs.Areas.{Form, Holds, RecoversToParts};
 ghost use Rattle.turn_store.specs.Carrying.{Carries, IsCarried};
 ghost use Rattle.turn_store.specs.Images.{EitherBy, StandsBy, StandsForAt};
+ghost use Rattle.turn_store.specs.Layout.{head_size};
 ghost use Rattle.turn_store.specs.Opened.{OpensTo};
 ghost use Rattle.turn_store.specs.Opening.{Opening, disk_of};
 ghost use Rattle.turn_store.specs.Refused.{IsPlain, WhyRefused};
 ghost use Rattle.turn_store.specs.Spells.{HasSize};
 ghost use Rattle.turn_store.specs.Stages.{InStages, InStagesAt};
-ghost use Rattle.turn_store.specs.State.{MayFollow, RecoversToAt, Shows, carried, carried_area, form_of, framed, swapped};
+ghost use Rattle.turn_store.specs.State.{CompactsFor, MayFollow, RecoversToAt, Shows, carried, carried_area, form_of, framed, swapped};
 ghost use Rattle.turn_store.specs.Superblock.{least_area};
 ghost use Rattle.turn_store.specs.Tables.{snapshot_of};
 
 use crate::areas::replace;
 use crate::error::{OpenError, StoreError};
 use crate::front::area_head;
-use crate::gate::CLOSED;
+use crate::layout::HEAD_SIZE;
 use crate::open::{Chosen, Loaded, load};
 use crate::superblock::least_area;
 use std::alloc::{AllocError, Allocator, Global};
 use std::marker::Model;
 use turn_disk::{Bytes, Chain, DeviceError, Disk};
-use turn_journal::{AppendError, Area, Journal};
+use turn_journal::{AppendError, Area, CLOSED, Journal};
 use turn_record::{SnapshotWriter, Version, max_payload, snapshot_size};
 use turn_table::Table;
 use turn_types::Limits;
@@ -44,7 +46,7 @@ struct Next {
     size: usize,
 }
 
-// Writes the snapshot of a table into the area with this gate, which doesn't count, and lets it count.
+// Writes the snapshot of a table into the other area, which has this gate and then is active.
 fn write_snapshot<D: Disk, A: Allocator + Copy>(
     disk: &mut D,
     gate: usize,
@@ -55,7 +57,7 @@ fn write_snapshot<D: Disk, A: Allocator + Copy>(
     requires snapshot { IsSnapshot next.version table.now.bounds table.now.moment table.now.contents }
     requires value { next.size ≡ length (bytes.snapshot next.version table.now.moment table.now.contents) }
     requires small { next.size < 2 ^ 32 }
-    requires place { gate + 15 + next.size ≤ D.capacity disk.old }
+    requires place { gate + (head_size + gate_size) + next.size ≤ D.capacity disk.old }
     requires addressable { D.capacity disk.old < 2 ^ 64 }
     ensures uses { Uses D.Disk disk.old disk.new (IsErr result) }
 
@@ -64,16 +66,16 @@ fn write_snapshot<D: Disk, A: Allocator + Copy>(
     ensures stages { let old = D.trace disk.old in
         D.follows_crash_model disk.new → (v : Version) (form : Form) (start generation end : ℕ) (s : List ℕ) (ps : List (List ℕ))
         → next.generation ≡ generation + 1 → next.generation < 2 ^ 64
-        → least_area next.version form.bounds ≤ form.area → 14 + next.size < form.area
+        → least_area next.version form.bounds ≤ form.area → head_size + next.size < form.area
         → RecoversToParts v form start gate generation end is_below s ps old.now
         → InStagesAt gate old (D.trace disk.new) (Holds v form s ps) (λ image. Holds v form s ps image
         ⊎ Holds next.version form (bytes.snapshot next.version table.now.moment table.now.contents) [] image) }
     ensures done { let old = (D.trace disk.old).now in
         D.follows_crash_model disk.new → (v : Version) (form : Form) (start generation end : ℕ) (s : List ℕ) (ps : List (List ℕ))
         → next.generation ≡ generation + 1 → next.generation < 2 ^ 64
-        → least_area next.version form.bounds ≤ form.area → 14 + next.size < form.area
+        → least_area next.version form.bounds ≤ form.area → head_size + next.size < form.area
         → RecoversToParts v form start gate generation end is_below s ps old
-        → OnOk result (RecoversToParts next.version form gate start next.generation (14 + next.size) true
+        → OnOk result (RecoversToParts next.version form gate start next.generation (head_size + next.size) true
         (bytes.snapshot next.version table.now.moment table.now.contents) [] (D.trace disk.new).now) }
 {
     let head = area_head(next.version, next.generation, next.size as u32);
@@ -107,17 +109,7 @@ pub struct Store<D: Disk, A: Allocator = Global> {
 // By hand: a derived drop is one step for each field in the proof of each caller.
 impl<D: Disk + Drop, A: Allocator> Drop for Store<D, A> {
     fn drop(self) {
-        let Store {
-            disk: _,
-            limits: _,
-            version: _,
-            journal: _,
-            other: _,
-            generation: _,
-            frames: _,
-            other_is_below: _,
-            stopped: _,
-        } = self;
+        let _ = self.into_disk();
     }
 }
 
@@ -141,6 +133,26 @@ impl<D: Disk, A: Allocator> Model for Store<D, A> {
     ghost invariant = { λ s. IsSound (D.capacity s.disk) s.version s.limits s.journal s.other s.frames };
 }
 
+impl<D: Disk, A: Allocator> Store<D, A> {
+    /// The disk, as it is.
+    pub fn into_disk(self) -> D
+        ensures { result ≡ self.disk }
+    {
+        let Store {
+            disk,
+            limits: _,
+            version: _,
+            journal: _,
+            other: _,
+            generation: _,
+            frames: _,
+            other_is_below: _,
+            stopped: _,
+        } = self;
+        disk
+    }
+}
+
 /// The version and the generation of the active area, and how many frames it has.
 #[derive(Clone, Copy, Debug, PartialEq, Eq)]
 pub struct Info {
@@ -150,6 +162,15 @@ pub struct Info {
     pub generation: u64,
     /// How many batches there are after the snapshot.
     pub frames: usize,
+}
+
+/// How a batch is written.
+#[derive(Clone, Copy, Debug, PartialEq, Eq)]
+pub enum WrittenAs {
+    /// As a frame after the last one.
+    Frame,
+    /// With the table before it, as a snapshot in the other area, which then is active.
+    Snapshot,
 }
 
 impl<D: Disk, A: Allocator + Copy> Store<D, A> {
@@ -180,35 +201,28 @@ impl<D: Disk, A: Allocator + Copy> Store<D, A> {
         &self.disk
     }
 
-    /// The disk, as it is.
-    pub fn into_disk(self) -> D
-        ensures { result ≡ self.disk }
+    // How a batch with a payload of so many bytes is written: as a frame, if one fits after the last one.
+    fn written_as(&self, count: usize) -> WrittenAs
+        ensures { (result ≡ WrittenAs.Snapshot) ↔ CompactsFor self.now count }
     {
-        let Store {
-            disk,
-            limits: _,
-            version: _,
-            journal: _,
-            other: _,
-            generation: _,
-            frames: _,
-            other_is_below: _,
-            stopped: _,
-        } = self;
-        disk
+        if self.journal.room(count) {
+            WrittenAs::Frame
+        } else {
+            WrittenAs::Snapshot
+        }
     }
 
-    // Why a call is refused before it reaches the disk, if it is.
-    fn refusal(&self, compacts: bool) -> Option<StoreError>
+    // Why a call that writes so is refused before it reaches the disk, if it is.
+    fn refusal(&self, written: WrittenAs) -> Option<StoreError>
         ensures stopped { (result ≡ Some StoreError.Stopped) ↔ (self.now.stopped ≡ true) }
         ensures worn { (result ≡ Some StoreError.Worn)
-            ↔ ((self.now.stopped ≡ false) × (compacts ≡ true) × (self.now.generation ≡ 2 ^ 64 - 1)) }
+            ↔ ((self.now.stopped ≡ false) × (written ≡ WrittenAs.Snapshot) × (self.now.generation ≡ 2 ^ 64 - 1)) }
         ensures device { result ≢ Some StoreError.Device }
     {
         if self.stopped {
             return Some(StoreError::Stopped);
         }
-        if compacts && self.generation == u64::MAX {
+        if written == WrittenAs::Snapshot && self.generation == u64::MAX {
             return Some(StoreError::Worn);
         }
         None
@@ -218,7 +232,7 @@ impl<D: Disk, A: Allocator + Copy> Store<D, A> {
     fn add_frame(&mut self, payload: &[u8]) -> Result<(), DeviceError>
         requires runs { self.old.stopped ≡ false }
         requires short { length payload.now ≤ max_payload self.old.version self.old.bounds }
-        requires room { self.old.area.end + 6 + length payload.now ≤ self.old.area.size }
+        requires room { self.old.area.end + frame_room + length payload.now ≤ self.old.area.size }
 
         ensures uses { Uses D.Disk self.old.disk self.new.disk (IsErr result) }
         ensures ok { OnOk result (self.new ≡ framed self.old (length payload.now) self.new.disk) }
@@ -255,8 +269,8 @@ impl<D: Disk, A: Allocator + Copy> Store<D, A> {
         requires snapshot { IsSnapshot version table.now.bounds table.now.moment table.now.contents }
         ensures value { result ≡ length (bytes.snapshot version table.now.moment table.now.contents) }
         ensures small { result < 2 ^ 32 }
-        ensures room { 14 + result < self.now.area.size }
-        ensures within { self.now.other + 15 + result ≤ D.capacity self.now.disk }
+        ensures room { head_size + result < self.now.area.size }
+        ensures within { self.now.other + (head_size + gate_size) + result ≤ D.capacity self.now.disk }
         ensures addressable { D.capacity self.now.disk < 2 ^ 64 }
     {
         let _area = self.journal.size();
@@ -300,7 +314,7 @@ impl<D: Disk, A: Allocator + Copy> Store<D, A> {
         };
         write_snapshot(&mut self.disk, self.other, self.other_is_below, next, table)?;
         let start = self.journal.start();
-        self.journal.move_to(self.other, 14 + size);
+        self.journal.move_to(self.other, HEAD_SIZE + size);
         self.other = start;
         self.generation = generation;
         self.frames = 0;
@@ -310,22 +324,22 @@ impl<D: Disk, A: Allocator + Copy> Store<D, A> {
     }
 
     /// Adds a batch of events: a frame with their payload if one fits after the last one, and else a snapshot of the
-    /// table, which has the batch, in the other area. Returns whether it was a snapshot. It takes no memory.
-    pub fn append(&mut self, payload: &[u8], table: &Table<A>) -> Result<bool, StoreError>
+    /// table, which has the batch, in the other area. Returns which it was. It takes no memory.
+    pub fn append(&mut self, payload: &[u8], table: &Table<A>) -> Result<WrittenAs, StoreError>
         requires short { length payload.now ≤ max_payload self.old.version self.old.bounds }
         requires limits { table.now.bounds ≡ self.old.bounds }
         requires snapshot { IsSnapshot self.old.version table.now.bounds table.now.moment table.now.contents }
 
-        ensures framed { result ≡ Ok false → self.new ≡ framed self.old (length payload.now) self.new.disk }
-        ensures compacted { result ≡ Ok true → self.new
+        ensures framed { result ≡ Ok WrittenAs.Frame → self.new ≡ framed self.old (length payload.now) self.new.disk }
+        ensures compacted { result ≡ Ok WrittenAs.Snapshot → self.new
             ≡ swapped self.old (length (bytes.snapshot self.old.version table.now.moment table.now.contents)) self.new.disk }
-        ensures compacts { IfOk result (λ did. IsTrue did
-            ↔ (self.old.area.size < self.old.area.end + 6 + length payload.now)) }
+        ensures compacts { IfOk result (λ written. (written ≡ WrittenAs.Snapshot)
+            ↔ CompactsFor self.old (length payload.now)) }
 
         // Device comes with one failed call. Worn and Stopped come without a device call.
         ensures uses { Uses D.Disk self.old.disk self.new.disk (result ≡ Err StoreError.Device) }
         ensures worn { (result ≡ Err StoreError.Worn) ↔ ((self.old.stopped ≡ false) × (self.old.generation ≡ 2 ^ 64 - 1)
-            × (self.old.area.size < self.old.area.end + 6 + length payload.now)) }
+            × CompactsFor self.old (length payload.now)) }
         ensures untouched_worn { result ≡ Err StoreError.Worn → self.new.disk ≡ self.old.disk }
         ensures stopped { (result ≡ Err StoreError.Stopped) ↔ (self.old.stopped ≡ true) }
         ensures untouched { self.old.stopped ≡ true → self.new ≡ self.old }
@@ -347,22 +361,23 @@ impl<D: Disk, A: Allocator + Copy> Store<D, A> {
             × RecoversToAt self.new (D.trace self.new.disk).now d (h ++ es)) }
 
         // What the active area holds after Ok: one frame more, or the new snapshot alone.
-        ensures shown { D.follows_crash_model self.new.disk → (s : List ℕ) (ps : List (List ℕ))
-            → Shows self.old (D.trace self.old.disk).now s ps → IfOk result (λ did. MatchBool did
-            (Shows self.new (D.trace self.new.disk).now (bytes.snapshot self.old.version table.now.moment table.now.contents) [])
-            (Shows self.new (D.trace self.new.disk).now s (ps ++ payload.now ∷ []))) }
+        ensures shown_frame { D.follows_crash_model self.new.disk → (s : List ℕ) (ps : List (List ℕ))
+            → Shows self.old (D.trace self.old.disk).now s ps → result ≡ Ok WrittenAs.Frame
+            → Shows self.new (D.trace self.new.disk).now s (ps ++ payload.now ∷ []) }
+        ensures shown_snapshot { D.follows_crash_model self.new.disk → (s : List ℕ) (ps : List (List ℕ))
+            → Shows self.old (D.trace self.old.disk).now s ps → result ≡ Ok WrittenAs.Snapshot
+            → Shows self.new (D.trace self.new.disk).now (bytes.snapshot self.old.version table.now.moment table.now.contents) [] }
     {
-        let compacts = !self.journal.room(payload.len());
-        if let Some(fault) = self.refusal(compacts) {
+        let written = self.written_as(payload.len());
+        if let Some(fault) = self.refusal(written) {
             self.stopped = true;
             return Err(fault);
         }
-        if compacts {
-            self.replace_snapshot(table)?;
-        } else {
-            self.add_frame(payload)?;
+        match written {
+            WrittenAs::Frame => self.add_frame(payload)?,
+            WrittenAs::Snapshot => self.replace_snapshot(table)?,
         }
-        Ok(compacts)
+        Ok(written)
     }
 
     /// Writes a snapshot of the table into the other area, which then is active. It takes no memory.
@@ -399,7 +414,7 @@ impl<D: Disk, A: Allocator + Copy> Store<D, A> {
             → Shows self.old (D.trace self.old.disk).now s ps → OnOk result
             (Shows self.new (D.trace self.new.disk).now (bytes.snapshot self.old.version table.now.moment table.now.contents) []) }
     {
-        if let Some(fault) = self.refusal(true) {
+        if let Some(fault) = self.refusal(WrittenAs::Snapshot) {
             self.stopped = true;
             return Err(fault);
         }
@@ -439,14 +454,14 @@ impl<D: Disk, A: Allocator + Copy> Store<D, A> {
 
     // The journal of the other area, of version 2, after a snapshot of so many bytes.
     fn next_journal(&self, alloc: A, size: usize) -> Result<Journal<A>, AllocError>
-        requires room { 14 + size < self.now.area.size }
+        requires room { head_size + size < self.now.area.size }
         ensures { IfOk result (λ journal. journal ≡ carried_area self.now size) }
     {
         let area = Area {
             start: self.other,
             size: self.journal.size(),
             max_payload: max_payload(Version::V2, self.limits),
-            end: 14 + size,
+            end: HEAD_SIZE + size,
         };
         Journal::new(alloc, area)
     }
@@ -464,8 +479,8 @@ impl<D: Disk, A: Allocator + Copy> Store<D, A> {
         requires snapshot { IsSnapshot V2 table.now.bounds table.now.moment table.now.contents }
         requires value { size ≡ length (bytes.snapshot V2 table.now.moment table.now.contents) }
         requires small { size < 2 ^ 32 }
-        requires room { 14 + size < self.old.area.size }
-        requires within { self.old.other + 15 + size ≤ D.capacity self.old.disk }
+        requires room { head_size + size < self.old.area.size }
+        requires within { self.old.other + (head_size + gate_size) + size ≤ D.capacity self.old.disk }
         requires journal { journal ≡ carried_area self.old size }
 
         ensures uses { Uses D.Disk self.old.disk self.new.disk (IsErr result) }
@@ -591,7 +606,7 @@ impl<D: Disk, A: Allocator + Copy> Store<D, A> {
 
     /// Opens the store of a disk, which was formatted with these limits. It syncs, and reads in device calls of at most 4,096
     /// bytes. Where `carry` is set and the store is of version 1, its table is written as version 2 into the other area, which then
-    /// counts, if the areas are large enough and the store isn't worn. A refusal returns the disk, which can be opened again.
+    /// is active, if the areas are large enough and the store isn't worn. A refusal returns the disk, which can be opened again.
     pub fn open_as(
         alloc: A,
         disk: D,
@@ -600,10 +615,7 @@ impl<D: Disk, A: Allocator + Copy> Store<D, A> {
     ) -> Result<Opened<D, A>, StoreOpenError<D>>
         ensures { Opening D.Disk disk limits carry result }
     {
-        let opened = match Store::open_unchanged(alloc, disk, limits) {
-            Ok(opened) => opened,
-            Err(refused) => return Err(refused),
-        };
+        let opened = Store::open_unchanged(alloc, disk, limits)?;
         if !opened.store.is_carried(carry) {
             return Ok(opened);
         }

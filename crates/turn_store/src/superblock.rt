@@ -1,15 +1,18 @@
-//! The first 64 bytes of a store: the size of an area, and the limits.
+//! The first bytes of a store: the size of an area, and the limits.
 
 ghost use Rattle.std.specs.Prelude.{◌≡◌, ◌≢◌, ◌+◌, ◌<◌, ◌^◌, ℕ, IfSome, IsNone, IfOk, IfErr, OnOk, length, Err};
 ghost use Rattle.turn_disk.specs.Device.{Reads};
 ghost use Rattle.turn_record.specs.declared.version.Version.TheVariants.{V2};
+ghost use Rattle.turn_store.specs.Layout.{superblock_size};
 ghost use Rattle.turn_store.specs.Superblock.{HasSuperblock, least_area, superblock};
 ghost use Rattle.turn_store.specs.declared.superblock.LimitsError.TheVariants.{Device};
 ghost use Rattle.turn_types.specs.Limits.{AreInRange};
 ghost use Rattle.turn_types.specs.declared.limits.Bounds.{Bounds};
 
+use crate::layout::{HEAD_SIZE, SUPERBLOCK_SIZE};
 use thiserror::Error;
 use turn_disk::{DeviceError, Disk, read_array};
+use turn_journal::FRAME_ROOM;
 use turn_record::{Version, max_payload, max_snapshot};
 use turn_types::{Bounds, Limits};
 
@@ -46,7 +49,7 @@ pub fn least_area_of(version: Version, limits: Limits) -> usize
     ensures value { result ≡ least_area version limits }
     ensures small { result < 2 ^ 32 }
 {
-    20 + max_snapshot(version, limits) + max_payload(version, limits)
+    HEAD_SIZE + FRAME_ROOM + max_snapshot(version, limits) + max_payload(version, limits)
 }
 
 /// The min size of an area under the limits, in which each batch fits: that of version 2.
@@ -58,7 +61,7 @@ pub fn least_area(limits: Limits) -> usize
 }
 
 /// The bytes of a superblock.
-pub fn superblock_bytes(area: usize, limits: Limits) -> [u8; 64]
+pub fn superblock_bytes(area: usize, limits: Limits) -> [u8; SUPERBLOCK_SIZE]
     ensures bytes { result ≡ superblock area limits }
     ensures range { AreInRange limits }
 {
@@ -78,7 +81,7 @@ pub fn superblock_bytes(area: usize, limits: Limits) -> [u8; 64]
 }
 
 // What the fields read.
-fn fields(bytes: &[u8; 64]) -> (usize, Bounds)
+fn fields(bytes: &[u8; SUPERBLOCK_SIZE]) -> (usize, Bounds)
     ensures { (area : ℕ) (b : Bounds) → area < 2 ^ 64 → AreInRange b → bytes.now ≡ superblock area b
         → (result.0 ≡ area) × (result.1 ≡ b) }
 {
@@ -96,8 +99,8 @@ fn fields(bytes: &[u8; 64]) -> (usize, Bounds)
 }
 
 // The superblock that these bytes are.
-fn superblock_in(bytes: &[u8; 64]) -> Option<Superblock>
-    ensures long { length bytes.now ≡ 64 }
+fn superblock_in(bytes: &[u8; SUPERBLOCK_SIZE]) -> Option<Superblock>
+    ensures long { length bytes.now ≡ superblock_size }
     ensures some { IfSome result (λ s. bytes.now ≡ superblock s.area s.limits) }
     ensures range { IfSome result (λ s. (s.area < 2 ^ 64) × AreInRange s.limits) }
     ensures none { IsNone result → (area : ℕ) (b : Bounds) → area < 2 ^ 64 → AreInRange b → bytes.now ≢ superblock area b }
@@ -120,7 +123,7 @@ pub fn read_superblock<D: Disk>(disk: &mut D) -> Result<Superblock, LimitsError>
     ensures none { D.follows_crash_model disk.new → IfErr result (λ refused. refused ≡ LimitsError.NotAStore
         → (area : ℕ) (b : Bounds) → HasSuperblock area b (D.trace disk.old).now.bytes → ⊥) }
 {
-    if disk.size() < 64 {
+    if disk.size() < SUPERBLOCK_SIZE {
         return Err(LimitsError::NotAStore);
     }
     let bytes = read_array(disk, 0)?;
@@ -140,8 +143,6 @@ pub fn limits<D: Disk>(disk: &mut D) -> Result<Limits, LimitsError>
     ensures none { D.follows_crash_model disk.new → IfErr result (λ refused. refused ≡ LimitsError.NotAStore
         → (area : ℕ) (b : Bounds) → HasSuperblock area b (D.trace disk.old).now.bytes → ⊥) }
 {
-    match read_superblock(disk) {
-        Ok(found) => Ok(found.limits),
-        Err(refused) => Err(refused),
-    }
+    let found = read_superblock(disk)?;
+    Ok(found.limits)
 }

@@ -5,7 +5,7 @@ use super::stores::{SnapshotTable, TestStore};
 use std::alloc::{Allocator, Global};
 use std::process::Abort;
 use turn_disk::{CrashOutcome, Disk, MemoryDisk};
-use turn_store::{OpenError, Opened, Store, StoreError, StoreOpenError};
+use turn_store::{OpenError, Opened, Store, StoreError, StoreOpenError, WrittenAs};
 use turn_table::{Entry, Table};
 use turn_types::{Endpoint, FiveTuple, TxId};
 
@@ -68,7 +68,7 @@ pub fn append_with<A: Allocator + Copy>(
     store: &mut TestStore<A>,
     second: u8,
     table: &SnapshotTable<A>,
-) -> Result<bool, StoreError> {
+) -> Result<WrittenAs, StoreError> {
     if second == 0 {
         return store.append(rt, &ALLOCATION, table);
     }
@@ -81,7 +81,7 @@ pub fn append_at<A: Allocator + Copy>(
     alloc: A,
     store: &mut TestStore<A>,
     second: u8,
-) -> Result<bool, StoreError> {
+) -> Result<WrittenAs, StoreError> {
     append_with(rt, store, second, &table_at(rt, alloc, second))
 }
 

@@ -13,7 +13,7 @@ use std::process::Abort;
 use test_files::{FileCalls, TestFile, copy_at};
 use turn_disk::FileDisk;
 use turn_record::{Version, max_payload, read_snapshot};
-use turn_store::{Opened, Store, least_area};
+use turn_store::{Opened, Store, WrittenAs, least_area};
 use turn_types::{Bounds, Limits};
 
 /// The last version of a table. The first one is 0, and each batch makes the next.
@@ -231,7 +231,7 @@ impl<'a> Stored<'a> {
         assert!(rt; payload.len() <= max_payload(Version::V1, self.limits));
         let bytes = self.shape.snapshot(rt, alloc, version);
         match read_snapshot(alloc, Version::V1, self.limits, &bytes) {
-            Ok(table) => assert!(rt; self.store.append(&payload, &table) == Ok(false)),
+            Ok(table) => assert!(rt; self.store.append(&payload, &table) == Ok(WrittenAs::Frame)),
             Err(_) => panic!(rt; "a snapshot"),
         }
     }

@@ -9,7 +9,7 @@ use std::alloc::Global;
 use std::process::Abort;
 use turn_disk::{CrashOutcome, Disk};
 use turn_record::Version;
-use turn_store::{Info, StoreError};
+use turn_store::{Info, StoreError, WrittenAs};
 
 /// The frame of the Refresh at 1005, and the closed gate after it.
 const LAST_FRAME: [u8; 32] = *b"\xa5\x00\x00\x00\x1a\x01\x02\x00\x00\x00\x00\x00\x00\x03\xed\
@@ -50,10 +50,10 @@ const COMPACTED: Info = Info {
 #[test]
 fn a_batch_without_room_is_a_snapshot_in_the_other_area(rt: HostRuntime) {
     let mut store = store_after(&rt, rt.alloc(), 6);
-    assert!(rt; append_at(&rt, rt.alloc(), &mut store, 6) == Ok(true));
+    assert!(rt; append_at(&rt, rt.alloc(), &mut store, 6) == Ok(WrittenAs::Snapshot));
     assert!(rt; store.info() == COMPACTED);
     assert!(rt; has_at(store.disk().content(), 302, &SECOND_AREA));
-    assert!(rt; append_at(&rt, rt.alloc(), &mut store, 7) == Ok(false));
+    assert!(rt; append_at(&rt, rt.alloc(), &mut store, 7) == Ok(WrittenAs::Frame));
     let content = store.disk().content();
     assert!(rt; has_at(content, 64, b"\xa5\x01\x00\x00\x00\x00\x00\x00\x00\x01"));
     assert!(rt; has_at(content, 375, &NEXT_FRAME));
@@ -84,7 +84,7 @@ const COMPACTED_AGAIN: Info = Info {
 fn a_snapshot_may_replace_an_area_of_old_frames(rt: HostRuntime) {
     let mut store = store_after(&rt, rt.alloc(), 12);
     assert!(rt; store.info() == FILLED_AGAIN);
-    assert!(rt; append_at(&rt, rt.alloc(), &mut store, 12) == Ok(true));
+    assert!(rt; append_at(&rt, rt.alloc(), &mut store, 12) == Ok(WrittenAs::Snapshot));
     assert!(rt; store.info() == COMPACTED_AGAIN);
     let content = store.disk().content();
     assert!(rt; has_at(content, 64, &THIRD_AREA));
@@ -146,7 +146,7 @@ fn a_closed_gate_is_not_written_unless_the_generation_is_below(rt: HostRuntime) 
 fn a_snapshot_after_a_stop_is_of_the_same_generation(rt: HostRuntime) {
     let mut store = with_later_generation(&rt, rt.alloc());
     assert!(rt; store.info() == FILLED);
-    assert!(rt; append_at(&rt, rt.alloc(), &mut store, 10) == Ok(true));
+    assert!(rt; append_at(&rt, rt.alloc(), &mut store, 10) == Ok(WrittenAs::Snapshot));
     assert!(rt; store.info() == COMPACTED);
     assert!(rt; expiry_in(&rt, rt.alloc(), store.into_disk()) == Ok(1610));
 }

@@ -9,7 +9,7 @@ use std::alloc::Global;
 use std::process::Abort;
 use turn_disk::{Disk, MemoryDisk};
 use turn_store::OpenError::{Damaged, LimitsDiffer, NotAStore};
-use turn_store::{OpenError, StoreError};
+use turn_store::{OpenError, StoreError, WrittenAs};
 
 /// Bytes that are written over in a store with alice's allocation, and when it then expires, or 0; or the refusal. The
 /// first area is at 64, its snapshot at 78, the frame at 90, the last gate at 142; the second area at 302.
@@ -136,7 +136,7 @@ fn the_last_generation_opens_and_takes_frames(rt: HostRuntime) {
     let disk = worn_disk(&rt, rt.alloc(), 6);
     assert!(rt; expiry_in(&rt, rt.alloc(), disk) == Ok(1605));
     let mut store = worn_store(&rt, rt.alloc(), 5);
-    assert!(rt; append_at(&rt, rt.alloc(), &mut store, 5) == Ok(false));
+    assert!(rt; append_at(&rt, rt.alloc(), &mut store, 5) == Ok(WrittenAs::Frame));
     assert!(rt; expiry_in(&rt, rt.alloc(), store.into_disk()) == Ok(1605));
 }
 

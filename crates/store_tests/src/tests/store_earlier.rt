@@ -8,7 +8,7 @@ use std::process::Abort;
 use turn_disk::{Disk, MemoryDisk};
 use turn_history::Channel;
 use turn_record::Version;
-use turn_store::{Info, Opened, Store};
+use turn_store::{Info, Opened, Store, WrittenAs};
 use turn_table::{Entry, Table};
 use turn_types::{Endpoint, FiveTuple, Limits, TxId};
 
@@ -227,6 +227,6 @@ fn a_store_of_an_earlier_program_goes_on(rt: HostRuntime) {
     let mut store = TestStore::open_as(&rt, rt.alloc(), disk, Limits::MAX, true);
     assert!(rt; has_at(store.disk().content(), 64 + AREA, &HEAD));
     let table = carried_table(&rt, rt.alloc(), store.disk().content());
-    assert!(rt; store.append(&rt, &REFRESH, &table) == Ok(false));
+    assert!(rt; store.append(&rt, &REFRESH, &table) == Ok(WrittenAs::Frame));
     assert!(rt; expiry_in(&rt, rt.alloc(), store.into_disk()) == 1795752324);
 }

@@ -8,7 +8,7 @@ use std::alloc::Global;
 use std::process::Abort;
 use turn_disk::{CrashOutcome, Disk};
 use turn_record::Version;
-use turn_store::{Info, OpenError, StoreError};
+use turn_store::{Info, OpenError, StoreError, WrittenAs};
 
 #[test]
 fn a_fresh_store_opens_to_an_empty_table_at_0(rt: HostRuntime) {
@@ -40,7 +40,7 @@ const ONE_FRAME: Info = Info {
 #[test]
 fn a_batch_is_a_frame_after_the_last_one(rt: HostRuntime) {
     let mut store = store_after(&rt, rt.alloc(), 0);
-    assert!(rt; append_at(&rt, rt.alloc(), &mut store, 0) == Ok(false));
+    assert!(rt; append_at(&rt, rt.alloc(), &mut store, 0) == Ok(WrittenAs::Frame));
     assert!(rt; store.info() == ONE_FRAME);
     let content = store.disk().content();
     assert!(rt; content.len() == 540);

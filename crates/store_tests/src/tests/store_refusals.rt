@@ -9,7 +9,7 @@ use failing_alloc::FailingAlloc;
 use std::alloc::{Allocator, Global};
 use std::process::Abort;
 use turn_disk::Disk;
-use turn_store::StoreError;
+use turn_store::{StoreError, WrittenAs};
 
 // A store with the first `count` batches, whose disk has room to record so many writes and syncs of so many bytes, and the
 // sync of the opening.
@@ -35,7 +35,7 @@ fn refuse<A: Allocator + Copy>(
     store: &mut TestStore<A>,
     second: u8,
     served: u64,
-) -> (Result<bool, StoreError>, Result<(), StoreError>, bool) {
+) -> (Result<WrittenAs, StoreError>, Result<(), StoreError>, bool) {
     let table = table_at(rt, alloc, second);
     refusing.arm(served);
     let appended = append_with(rt, store, second, &table);
@@ -51,7 +51,7 @@ fn a_frame_and_a_compaction_take_no_memory(rt: HostRuntime) {
     let refusing = FailingAlloc::new(rt.alloc(), u64::MAX);
     let mut store = reserved(&rt, &refusing, 0, 4 + 6, 52 + 1 + 1 + 73 + 1);
     let outcomes = refuse(&rt, &refusing, &refusing, &mut store, 0, 0);
-    assert!(rt; outcomes == (Ok(false), Ok(()), false));
+    assert!(rt; outcomes == (Ok(WrittenAs::Frame), Ok(()), false));
 }
 
 #[test]
@@ -59,19 +59,19 @@ fn a_batch_without_room_takes_no_memory(rt: HostRuntime) {
     let refusing = FailingAlloc::new(rt.alloc(), u64::MAX);
     let mut store = reserved(&rt, &refusing, 6, 6 + 6, 2 * (1 + 73 + 1));
     let outcomes = refuse(&rt, &refusing, &refusing, &mut store, 6, 0);
-    assert!(rt; outcomes == (Ok(true), Ok(()), false));
+    assert!(rt; outcomes == (Ok(WrittenAs::Snapshot), Ok(()), false));
 }
 
 // What the batch and the compaction answer where a growth was refused in one of them, or in neither.
 fn answers(
     is_refused: bool,
     is_appended: bool,
-) -> (Result<bool, StoreError>, Result<(), StoreError>) {
+) -> (Result<WrittenAs, StoreError>, Result<(), StoreError>) {
     if !is_refused {
-        return (Ok(false), Ok(()));
+        return (Ok(WrittenAs::Frame), Ok(()));
     }
     if is_appended {
-        return (Ok(false), Err(StoreError::Device));
+        return (Ok(WrittenAs::Frame), Err(StoreError::Device));
     }
     (Err(StoreError::Device), Err(StoreError::Stopped))
 }

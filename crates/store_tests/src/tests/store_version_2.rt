@@ -11,7 +11,7 @@ use std::process::Abort;
 use turn_disk::{Disk, MemoryDisk};
 use turn_record::Version;
 use turn_store::OpenError::Damaged;
-use turn_store::{FormatError, Info, OpenError, Store};
+use turn_store::{FormatError, Info, OpenError, Store, WrittenAs};
 
 /// An open gate, version 2, generation 1, a snapshot of 16 bytes (moment 0, no entry, no reserved port), a closed gate.
 const FIRST_AREA: [u8; 31] = *b"\xa5\x02\0\0\0\0\0\0\0\x01\0\0\0\x10\
@@ -74,7 +74,7 @@ fn a_reservation_is_kept_by_a_frame_and_by_a_snapshot(rt: HostRuntime) {
     let disk = fresh(&rt, rt.alloc());
     let mut store = TestStore::open(&rt, rt.alloc(), disk, limits);
     let table = SnapshotTable::read_as(&rt, rt.alloc(), Version::V2, limits, &SNAPSHOT);
-    assert!(rt; store.append(&rt, &BATCH, &table) == Ok(false));
+    assert!(rt; store.append(&rt, &BATCH, &table) == Ok(WrittenAs::Frame));
     assert!(rt; store.info() == ONE_FRAME);
     assert!(rt; has_at(store.disk().content(), 94, b"\xa5\0\0\0\x37"));
     assert!(rt; has_at(store.disk().content(), 99, &BATCH));

@@ -9,7 +9,7 @@ use std::marker::Model;
 use std::process::Abort;
 use turn_disk::{Disk, MemoryDisk};
 use turn_record::{Version, max_payload, read_snapshot};
-use turn_store::{FormatError, Info, Store, StoreError, format, format_version1};
+use turn_store::{FormatError, Info, Store, StoreError, WrittenAs, format, format_version1};
 use turn_table::Table;
 use turn_types::Limits;
 
@@ -184,7 +184,7 @@ impl<A: Allocator + Copy> TestStore<A> {
         rt: &impl Abort,
         payload: &[u8],
         table: &SnapshotTable<A>,
-    ) -> Result<bool, StoreError> {
+    ) -> Result<WrittenAs, StoreError> {
         assert!(rt; payload.len() <= max_payload(self.version, self.limits));
         assert!(rt; are_versions_same(table.version, self.version));
         assert!(rt; are_same(table.table.limits(), self.limits));

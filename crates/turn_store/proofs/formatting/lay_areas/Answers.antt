@@ -1,10 +1,7 @@
-use Rattle.std.proofs.Common.{◌≡◌, ◌+◌, ◌*◌, ◌-◌, ◌∷◌, ◌++◌, [], ℕ, ◌∙◌, sym, subst, arith}
+use Rattle.std.proofs.Common.{◌≡◌, ◌+◌, ◌-◌, ◌∷◌, [], ℕ, ◌∙◌, sym, subst, arith}
 use Rattle.turn_disk.specs.Disk.{ChangesOnly, StandsAt}
-use Rattle.turn_disk.proofs.Since.{outcome_range, settled_but, since_join, since_through_but, since_within}
-use Rattle.turn_store.specs.Areas.{area_front}
-use Rattle.turn_store.specs.Format.{fresh}
 use Rattle.turn_store.proofs.Formats.{laid_state}
-use Rattle.turn_store.proofs.Ordered.{length-laid}
+use Rattle.turn_store.proofs.Ordered.{areas_since, second_since}
 use Rattle.turn_store.proofs.formatting.lay_areas.Goals as goal
 
 pub returns-clause-done : goal.returns-clause-done
@@ -21,32 +18,14 @@ returns-clause-done g c = λ crash_model.
 
 pub returns-in_err-write_at-clause-stop : goal.returns-in_err-write_at-clause-stop
 returns-in_err-write_at-clause-stop g c = λ crash_model settled.
-    let old = g.D.Disk.trace c.args.disk.now in
-    let mid = g.D.Disk.trace c.write_at.new.self in
-    let base = old.now.bytes in
-    let but = settled_but 64 (2 * c.args.area) old.now settled in
-    let second : c.size.result - c.args.area ≡ 64 + c.args.area = omega (arith, c.size.ensures, c.requires.place) in
-    let wrote = since_within 64 (2 * c.args.area) base old mid but (c.size.result - c.args.area) 1 (omega (arith, second)) (omega (arith, second, c.requires.room)) (outcome_range (c.size.result - c.args.area) (0 ∷ []) old mid c.write_at.result (c.write_at.ensures.outcome crash_model)) in
-    wrote.0
+    second_since c.args.area c.requires.room _ _ settled _ (omega (arith, c.size.ensures, c.requires.place)) c.write_at.result (c.write_at.ensures.outcome crash_model)
 
 pub returns-in_err-lay_first-clause-stop : goal.returns-in_err-lay_first-clause-stop
 returns-in_err-lay_first-clause-stop g c = λ crash_model settled.
-    let old = g.D.Disk.trace c.args.disk.now in
-    let mid = g.D.Disk.trace c.write_at.new.self in
-    let base = old.now.bytes in
-    let but = settled_but 64 (2 * c.args.area) old.now settled in
-    let second : c.size.result - c.args.area ≡ 64 + c.args.area = omega (arith, c.size.ensures, c.requires.place) in
-    let wrote = since_within 64 (2 * c.args.area) base old mid but (c.size.result - c.args.area) 1 (omega (arith, second)) (omega (arith, second, c.requires.room)) (outcome_range (c.size.result - c.args.area) (0 ∷ []) old mid c.write_at.result (c.write_at.ensures.outcome (c.lay_first.ensures.uses.crash_model crash_model))) in
-    since_join old mid _ (ChangesOnly 64 (2 * c.args.area) base) wrote.0
-    (since_through_but 64 (2 * c.args.area) base mid _ wrote.1 64 (0 ∷ (area_front c.args.version 1 (fresh c.args.version) ++ 0 ∷ [])) (omega arith) (omega (arith, length-laid c.args.version, c.requires.room)) c.lay_first.result (c.lay_first.ensures.once crash_model))
+    areas_since c.args.area c.requires.room _ _ settled _ (omega (arith, c.size.ensures, c.requires.place)) c.write_at.result (c.write_at.ensures.outcome (c.lay_first.ensures.uses.crash_model crash_model))
+    c.args.version _ c.lay_first.result (c.lay_first.ensures.once crash_model)
 
 pub returns-clause-stop : goal.returns-clause-stop
 returns-clause-stop g c = λ crash_model settled.
-    let old = g.D.Disk.trace c.args.disk.now in
-    let mid = g.D.Disk.trace c.write_at.new.self in
-    let base = old.now.bytes in
-    let but = settled_but 64 (2 * c.args.area) old.now settled in
-    let second : c.size.result - c.args.area ≡ 64 + c.args.area = omega (arith, c.size.ensures, c.requires.place) in
-    let wrote = since_within 64 (2 * c.args.area) base old mid but (c.size.result - c.args.area) 1 (omega (arith, second)) (omega (arith, second, c.requires.room)) (outcome_range (c.size.result - c.args.area) (0 ∷ []) old mid c.write_at.result (c.write_at.ensures.outcome (c.lay_first.ensures.uses.crash_model crash_model))) in
-    since_join old mid _ (ChangesOnly 64 (2 * c.args.area) base) wrote.0
-    (since_through_but 64 (2 * c.args.area) base mid _ wrote.1 64 (0 ∷ (area_front c.args.version 1 (fresh c.args.version) ++ 0 ∷ [])) (omega arith) (omega (arith, length-laid c.args.version, c.requires.room)) c.lay_first.result (c.lay_first.ensures.once crash_model))
+    areas_since c.args.area c.requires.room _ _ settled _ (omega (arith, c.size.ensures, c.requires.place)) c.write_at.result (c.write_at.ensures.outcome (c.lay_first.ensures.uses.crash_model crash_model))
+    c.args.version _ c.lay_first.result (c.lay_first.ensures.once crash_model)

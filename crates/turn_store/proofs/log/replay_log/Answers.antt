@@ -1,4 +1,5 @@
 use Rattle.std.proofs.Common.{◌≡◌, ◌+◌, ℕ, ap, refl, sym, ◌∙◌, subst, arith, length}
+use Rattle.std.proofs.lemmas.Result.{err_from_is_err_and}
 use Rattle.turn_disk.specs.Disk.{Trace, StandsAt}
 use Rattle.turn_journal.specs.Area.{end_of, limit_of}
 use Rattle.turn_journal.specs.Frames.{IsClosed, IsFrame, IsOpen}
@@ -26,15 +27,16 @@ frames-init g c = record {
       subst (λ (e : ℕ). SoFar c.args.version c.args.limits (j.start + j.end) s (j.start + e) 0 s content) (sym c.end-end.ensures.end) (none_yet c.args.version c.args.limits (j.start + j.end) s content);
 }
 
-pub returns-in-Err-clause-faults : goal.returns-in-Err-clause-faults
-returns-in-Err-clause-faults g c = λ h.
+pub returns-in_err-found_at-clause-faults : goal.returns-in_err-found_at-clause-faults
+returns-in_err-found_at-clause-faults g c = λ h.
+    let p = err_from_is_err_and c.from_residual.result c.from_residual.ensures.1 in
     let inv = c.frames.invariant in
     let before = c.found_at.ensures.reads.crash_model h in
     let j = c.args.journal.now in
     let gate = j.start + c.frames.end in
     let content = (g.D.Disk.trace c.args.disk.now).now.bytes in
-    let why = subst (λ (t : Trace). FaultWith (λ place. (place ≡ gate) × IsBadFrame place (limit_of j) j.max_payload t.now.bytes) c.in-Err.fault) (inv.same before) (c.in-Err.ensures.faults h) in
-    faults_weaken _ _ (broken_frame c.args.version c.args.limits (end_of j) (limit_of j) (snapshot_of c.args.table.now) gate c.frames.frames j.max_payload (snapshot_of c.frames.table) content (inv.so_far before) c.requires.payload) c.in-Err.fault why
+    let why = subst (λ (t : Trace). FaultWith (λ place. (place ≡ gate) × IsBadFrame place (limit_of j) j.max_payload t.now.bytes) c.in_err-found_at.field-0.0) (inv.same before) (c.in_err-found_at.ensures.faults h) in
+    rw (p.1, p.2) (faults_weaken _ _ (broken_frame c.args.version c.args.limits (end_of j) (limit_of j) (snapshot_of c.args.table.now) gate c.frames.frames j.max_payload (snapshot_of c.frames.table) content (inv.so_far before) c.requires.payload) c.in_err-found_at.field-0.0 why)
 
 pub returns-in-End-clause-log : goal.returns-in-End-clause-log
 returns-in-End-clause-log g c = λ h.
@@ -43,19 +45,19 @@ returns-in-End-clause-log g c = λ h.
     let j = c.args.journal.now in
     let gate = j.start + c.frames.end in
     let content = (g.D.Disk.trace c.args.disk.now).now.bytes in
-    let found = subst (λ f. IsFound gate (limit_of j) j.max_payload (g.D.Disk.trace c.frames.disk).now.bytes f) c.in-End.is (c.in-Ok.ensures.found h) in
+    let found = subst (λ f. IsFound gate (limit_of j) j.max_payload (g.D.Disk.trace c.frames.disk).now.bytes f) c.in-End.is (c.in_ok-found_at.ensures.found h) in
     let closed : IsClosed gate content = subst (λ (t : Trace). IsClosed gate t.now.bytes) (inv.same before) found in
     all_read c.args.version c.args.limits (end_of j) (snapshot_of c.args.table.now) gate (limit_of j) c.frames.frames (snapshot_of c.frames.table) content (inv.so_far before) closed (omega (arith, inv.within))
 
-pub returns-in-Err-replay_frame-clause-faults : goal.returns-in-Err-replay_frame-clause-faults
-returns-in-Err-replay_frame-clause-faults g c = λ h.
+pub returns-in-Err-clause-faults : goal.returns-in-Err-clause-faults
+returns-in-Err-clause-faults g c = λ h.
     let inv = c.frames.invariant in
     let j = c.args.journal.now in
     let gate = j.start + c.frames.end in
     let content = (g.D.Disk.trace c.args.disk.now).now.bytes in
     let still = c.replay_frame.ensures.reads.crash_model h in
     let here = c.found_at.ensures.reads.crash_model still in
-    let found = subst (λ f. IsFound gate (limit_of j) j.max_payload (g.D.Disk.trace c.frames.disk).now.bytes f) c.in-Frame.is (c.in-Ok.ensures.found still) in
+    let found = subst (λ f. IsFound gate (limit_of j) j.max_payload (g.D.Disk.trace c.frames.disk).now.bytes f) c.in-Frame.is (c.in_ok-found_at.ensures.found still) in
     let there = subst (λ (t : Trace). IsOpen gate t.now.bytes × HasLength gate c.in-Frame.count t.now.bytes) (inv.same here) (found.0, found.1) in
     let start_is = c.start-start.ensures.start in
     let place : c.start-start.result + c.frames.end + 5 ≡ gate + 5 = ap (λ (n : ℕ). n + c.frames.end + 5) start_is in
@@ -63,7 +65,7 @@ returns-in-Err-replay_frame-clause-faults g c = λ h.
     (λ place_ is.
     let read : ReadsBad c.args.version c.args.limits (snapshot_of c.frames.table) (c.start-start.result + c.frames.end + 5) c.in-Frame.count content =
     subst (λ (t : Trace). ReadsBad c.args.version c.args.limits (snapshot_of c.frames.table) (c.start-start.result + c.frames.end + 5) c.in-Frame.count t.now.bytes) (c.found_at.ensures.reads.same still ∙ inv.same here)
-    (c.in-Err-replay_frame.ensures.bad h is.1) in
+    (c.in-Err.ensures.bad h is.1) in
     let frame : IsFrame gate read.bytes content = frame_is gate c.in-Frame.count read.bytes content read.has.long there.0 there.1 (subst (λ (n : ℕ). StandsAt n read.bytes content) place read.has.stands) in
     broken_payload c.args.version c.args.limits (end_of j) (limit_of j) (snapshot_of c.args.table.now) gate c.frames.frames (snapshot_of c.frames.table) read.bytes content (inv.so_far here) frame
     read.none place_ (is.0 ∙ ap (λ (n : ℕ). n + c.frames.end) start_is))
@@ -75,29 +77,29 @@ frames-preserved g c =
     let j = c.args.journal.now in
     let gate = j.start + c.frames.end in
     let content = (g.D.Disk.trace c.args.disk.now).now.bytes in
-    let admitted = c.in-Ok.ensures.admitted c.in-Frame.count c.in-Frame.is in
+    let admitted = c.in_ok-found_at.ensures.admitted c.in-Frame.count c.in-Frame.is in
     let start_is = c.start-start.ensures.start in
     record {
       within = omega (arith, admitted.1);
       few = omega (arith, inv.few);
       size = c.replay_frame.ensures.reads.size ∙ (c.found_at.ensures.reads.size ∙ inv.size);
-      count = c.in-Ok-replay_frame.ensures.reads.count (λ e. cc) ∙ (c.in-Ok.ensures.reads.count (λ e. cc) ∙ inv.count);
+      count = c.in-Ok.ensures.reads.count (λ e. cc) ∙ (c.in_ok-found_at.ensures.reads.count (λ e. cc) ∙ inv.count);
       crash_model = λ h. inv.crash_model (c.found_at.ensures.reads.crash_model (c.replay_frame.ensures.reads.crash_model h));
       same = λ h.
           let still = c.replay_frame.ensures.reads.crash_model h in
           c.replay_frame.ensures.reads.same h ∙ (c.found_at.ensures.reads.same still ∙ inv.same (c.found_at.ensures.reads.crash_model still));
       buffer = c.replay_frame.ensures.len ∙ inv.buffer;
       bounds = c.replay_frame.ensures.bounds ∙ inv.bounds;
-      snapshot = λ is. c.in-Ok-replay_frame.ensures.snapshot (inv.snapshot is);
+      snapshot = λ is. c.in-Ok.ensures.snapshot (inv.snapshot is);
       so_far = λ h.
           let still = c.replay_frame.ensures.reads.crash_model h in
           let here = c.found_at.ensures.reads.crash_model still in
-          let found = subst (λ f. IsFound gate (limit_of j) j.max_payload (g.D.Disk.trace c.frames.disk).now.bytes f) c.in-Frame.is (c.in-Ok.ensures.found still) in
+          let found = subst (λ f. IsFound gate (limit_of j) j.max_payload (g.D.Disk.trace c.frames.disk).now.bytes f) c.in-Frame.is (c.in_ok-found_at.ensures.found still) in
           let there = subst (λ (t : Trace). IsOpen gate t.now.bytes × HasLength gate c.in-Frame.count t.now.bytes) (inv.same here) (found.0, found.1) in
           let place : c.start-start.result + c.frames.end + 5 ≡ gate + 5 = ap (λ (n : ℕ). n + c.frames.end + 5) start_is in
           let read : ReadsOn c.args.version c.args.limits (snapshot_of c.frames.table) (c.start-start.result + c.frames.end + 5) c.in-Frame.count (snapshot_of c.replay_frame.new.table) content =
           subst (λ (t : Trace). ReadsOn c.args.version c.args.limits (snapshot_of c.frames.table) (c.start-start.result + c.frames.end + 5) c.in-Frame.count (snapshot_of c.replay_frame.new.table) t.now.bytes) (c.found_at.ensures.reads.same still ∙ inv.same here)
-          (c.in-Ok-replay_frame.ensures.goes h) in
+          (c.in-Ok.ensures.goes h) in
           let frame : IsFrame gate read.bytes content = frame_is gate c.in-Frame.count read.bytes content read.has.long there.0 there.1 (subst (λ (n : ℕ). StandsAt n read.bytes content) place read.has.stands) in
           let more = one_more c.args.version c.args.limits (end_of j) (snapshot_of c.args.table.now) gate c.frames.frames (snapshot_of c.frames.table) (snapshot_of c.replay_frame.new.table) read.bytes content (inv.so_far here) frame read.goes in
           let next : gate + 5 + length read.bytes ≡ j.start + (c.frames.end + (5 + c.in-Frame.count)) = omega (arith, read.has.long) in

@@ -1,4 +1,6 @@
 use Rattle.std.proofs.Common.{◌≡◌, ◌+◌, ℕ, inl, inr, refl, ap, sym, subst, arith}
+use Rattle.std.proofs.lemmas.Result.{err_from_is_err_and}
+use Rattle.turn_disk.proofs.Device.{reads_as, reads_then}
 use Rattle.turn_disk.specs.Disk.{Trace}
 use Rattle.turn_journal.specs.Area.{end_of, limit_of}
 use Rattle.turn_journal.specs.declared.area.Area.{Area}
@@ -15,33 +17,46 @@ returns-in_default-clause-faults g c = λ crash_model. inl (refl, c.in_default.e
 pub new-requires-clause-short : goal.new-requires-clause-short
 new-requires-clause-short g c = omega (arith, c.max_payload.ensures, c.in-Some.ensures.small)
 
-pub returns-in-Err-clause-faults : goal.returns-in-Err-clause-faults
-returns-in-Err-clause-faults g c = λ crash_model.
-    faults_weaken _ _ (λ place is. inr (c.in-Some.version, c.in-Some.ensures.some, inl is)) c.in-Err.fault (c.in-Err.ensures.faults crash_model)
+pub returns-in_err-table-clause-faults : goal.returns-in_err-table-clause-faults
+returns-in_err-table-clause-faults g c = λ crash_model.
+    let p = err_from_is_err_and c.from_residual.result c.from_residual.ensures.1 in
+    rw (p.1, p.2) (faults_weaken _ _ (λ place is. inr (c.in-Some.version, c.in-Some.ensures.some, inl is)) c.in_err-table.field-0.0 (c.in_err-table.ensures.faults crash_model))
 
-pub returns-in-Err-replay_log-clause-faults : goal.returns-in-Err-replay_log-clause-faults
-returns-in-Err-replay_log-clause-faults g c = λ crash_model.
-    let first = snapshot_of c.in-Ok.table in
+pub returns-in_err-end-clause-faults : goal.returns-in_err-end-clause-faults
+returns-in_err-end-clause-faults g c = λ crash_model.
+    let p = err_from_is_err_and c.from_residual-in_err-end.result c.from_residual-in_err-end.ensures.1 in
+    let first = snapshot_of c.in_ok-table.table in
     let here = c.replay_log.ensures.reads.crash_model crash_model in
-    let good = c.in-Ok.ensures.read here in
+    let good = c.in_ok-table.ensures.read here in
     let content = (g.D.Disk.trace c.args.disk.now).now.bytes in
     let place : c.args.start + (14 + c.args.head.snapshot) ≡ c.args.start + 14 + c.args.head.snapshot = omega arith in
-    faults_weaken _ _
+    rw (p.1, p.2) (faults_weaken _ _
     (λ at is.
     let there = subst (λ (a : Area). BreaksAt c.in-Some.version c.args.limits (end_of a) (limit_of a) first (g.D.Disk.trace c.read_snapshot.new.disk).now.bytes at) c.in_ok-journal.ensures is in
     let at_first = subst (λ (t : Trace). BreaksAt c.in-Some.version c.args.limits (c.args.start + (14 + c.args.head.snapshot)) (c.args.start + c.args.size) first t.now.bytes at) (c.read_snapshot.ensures.reads.same here) there in
     inr (c.in-Some.version, c.in-Some.ensures.some, inr (first, good, subst (λ (n : ℕ). BreaksAt c.in-Some.version c.args.limits n (c.args.start + c.args.size) first content at) place at_first)))
-    c.in-Err-replay_log.fault (c.in-Err-replay_log.ensures.faults crash_model)
+    c.in_err-end.field-0.0 (c.in_err-end.ensures.faults crash_model))
 
-pub returns-in-Ok-replay_log-clause-read : goal.returns-in-Ok-replay_log-clause-read
-returns-in-Ok-replay_log-clause-read g c = λ crash_model.
+pub returns-clause-read : goal.returns-clause-read
+returns-clause-read g c = λ crash_model.
     let v = c.in-Some.version in
     let here = c.replay_log.ensures.reads.crash_model crash_model in
-    let first = snapshot_of c.in-Ok.table in
-    let end = c.in-Ok-replay_log.end in
-    let frames = c.in-Ok-replay_log.frames in
+    let first = snapshot_of c.in_ok-table.table in
+    let end = c.in_ok-end.end in
+    let frames = c.in_ok-end.frames in
     let t = snapshot_of c.replay_log.new.table in
-    let log = subst (λ (a : Area). LogIsRead v c.args.limits (end_of a) first (a.start + end) (limit_of a) frames t (g.D.Disk.trace c.read_snapshot.new.disk).now.bytes) c.in_ok-journal.ensures (c.in-Ok-replay_log.ensures.log crash_model) in
+    let log = subst (λ (a : Area). LogIsRead v c.args.limits (end_of a) first (a.start + end) (limit_of a) frames t (g.D.Disk.trace c.read_snapshot.new.disk).now.bytes) c.in_ok-journal.ensures (c.in_ok-end.ensures.log crash_model) in
     let log_first = subst (λ (x : Trace). LogIsRead v c.args.limits (c.args.start + (14 + c.args.head.snapshot)) first (c.args.start + end) (c.args.start + c.args.size) frames t x.now.bytes) (c.read_snapshot.ensures.reads.same here) log in
-    let read = area_is_read v c.args.limits c.args.start c.args.size c.args.head first t end frames (g.D.Disk.trace c.args.disk.now).now.bytes c.requires.generation c.requires.snapshot c.in-Some.ensures.some.version (c.in-Ok.ensures.read here) log_first in
+    let read = area_is_read v c.args.limits c.args.start c.args.size c.args.head first t end frames (g.D.Disk.trace c.args.disk.now).now.bytes c.requires.generation c.requires.snapshot c.in-Some.ensures.some.version (c.in_ok-table.ensures.read here) log_first in
     subst (λ (n : ℕ). AreaIsRead v c.args.limits c.args.start c.args.size c.args.head n frames t (g.D.Disk.trace c.args.disk.now).now.bytes) (sym (ap (λ (a : Area). a.end) c.move_to.ensures)) read
+
+pub returns-in_err-end-clause-reads : goal.returns-in_err-end-clause-reads
+returns-in_err-end-clause-reads g c =
+    let p = err_from_is_err_and c.from_residual-in_err-end.result c.from_residual-in_err-end.ensures.1 in
+    rw (p.1, p.2) (reads_as (λ e. cc) (λ e. cc) (reads_then c.in_ok-table.ensures.reads (λ e. cc) c.in_err-end.ensures.reads))
+
+pub returns-clause-reads : goal.returns-clause-reads
+returns-clause-reads g c = reads_as (λ e. cc) (λ e. cc) (reads_then c.in_ok-table.ensures.reads (λ e. cc) c.in_ok-end.ensures.reads)
+
+pub returns-clause-snapshot : goal.returns-clause-snapshot
+returns-clause-snapshot g c = c.in_ok-end.ensures.snapshot c.in_ok-table.ensures.snapshot

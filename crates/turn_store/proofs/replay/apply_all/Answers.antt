@@ -1,4 +1,5 @@
 use Rattle.std.proofs.Common.{◌≡◌, ◌<◌, ◌↔◌, List, [], ◌∷◌, ◌∙◌, length, refl, sym, subst, ap, arith, rules, slice_index_or}
+use Rattle.std.proofs.lemmas.Result.{err_from_is_err_and}
 use Rattle.std.specs.List.{remove}
 use Rattle.turn_history.specs.Act.{event_of}
 use Rattle.turn_history.specs.History.{Event}
@@ -23,7 +24,7 @@ loop-events-preserved g c =
     let start = c.args.table.now.bounds in
     let e = event_of c.remove-event.result in
     let left = events_of c.remove-event.new.self.items in
-    let next = c.in_default.ensures in
+    let next = c.in_ok-apply_next.ensures in
     let split : events_of c.loop-events.events.items ≡ e ∷ left = ap events_of (first_and_rest c.loop-events.events.items c.remove-event.new.self.items c.remove-event.result (search rules) c.remove-event.ensures.value c.remove-event.ensures.items) in
     let more = one_on start (snapshot_of c.loop-events.table) (snapshot_of c.apply_next.new.table) e left (events_of c.loop-events.events.items) split (subst (λ (b : Bounds). IsNext b (snapshot_of c.loop-events.table) e) inv.bounds next.ok) next.after in
     record {
@@ -31,3 +32,12 @@ loop-events-preserved g c =
       goes = ((λ goes. more.0.0 (inv.goes.0 goes)), (λ goes. inv.goes.1 (more.0.1 goes)));
       ends = inv.ends ∙ more.1;
     }
+
+pub returns-in_err-apply_next-clause-bad : goal.returns-in_err-apply_next-clause-bad
+returns-in_err-apply_next-clause-bad g c =
+    let p = err_from_is_err_and c.from_residual.result c.from_residual.ensures.1 in
+    let inv = c.loop-events.invariant in
+    let split = ap events_of (first_and_rest c.loop-events.events.items c.remove-event.new.self.items c.remove-event.result (search rules) c.remove-event.ensures.value c.remove-event.ensures.items) in
+    rw (p.1, p.2) (λ bad goes.
+    let next = subst (GoOn c.args.table.now.bounds (snapshot_of c.loop-events.table)) split (inv.goes.0 goes) in
+    c.in_err-apply_next.ensures.bad bad (subst (λ (b : Bounds). IsNext b (snapshot_of c.loop-events.table) (event_of c.remove-event.result)) (sym inv.bounds) next.0))

@@ -1,12 +1,15 @@
 use Rattle.std.proofs.Common.{List, sym, subst}
+use Rattle.std.proofs.lemmas.Result.{err_from_is_err_and}
 use Rattle.turn_history.specs.History as histories
 use Rattle.turn_store.specs.Replay.{GoOn}
 use Rattle.turn_store.specs.Tables.{snapshot_of}
 use Rattle.turn_types.specs.declared.limits.Bounds.{Bounds}
 use Rattle.turn_store.proofs.replay.apply_payload.Goals as goal
 
-pub returns-in-Err-apply_all-clause-bad : goal.returns-in-Err-apply_all-clause-bad
-returns-in-Err-apply_all-clause-bad g c = λ is es spells goes.
+pub returns-in_err-apply_all-clause-bad : goal.returns-in_err-apply_all-clause-bad
+returns-in_err-apply_all-clause-bad g c =
+    let p = err_from_is_err_and c.from_residual-in_err-apply_all.result c.from_residual-in_err-apply_all.ensures.1 in
+    rw (p.1, p.2) (λ is es spells goes.
     let s = snapshot_of c.args.table.now in
     let there = subst (λ (b : Bounds). GoOn b s es) (sym c.requires) goes in
-    c.in-Err-apply_all.ensures.bad is (subst (λ (l : List histories.Event). GoOn c.args.table.now.bounds s l) (c.in-Ok.ensures.once es spells) there)
+    c.in_err-apply_all.ensures.bad is (subst (λ (l : List histories.Event). GoOn c.args.table.now.bounds s l) (c.in_ok-events.ensures.once es spells) there))

@@ -7,7 +7,7 @@ pub returns-in-Some-clause-found : goal.returns-in-Some-clause-found
 returns-in-Some-clause-found g c = λ crash_model.
     let content = (g.D.Disk.trace c.args.disk.now).now.bytes in
     record {
-      long = omega (arith, g.met.D.Disk.sized c.args.disk.now (c.read_array.ensures.reads.crash_model crash_model), c.if-size-lt64.false, c.size.ensures);
+      long = omega (arith, g.met.D.Disk.sized c.args.disk.now (c.read_array.ensures.reads.crash_model crash_model), c.if-size-lt-SUPERBLOCK_SIZE.false, c.size.ensures);
       addressable = c.in-Some.ensures.range.0;
       in_range = c.in-Some.ensures.range.1;
       stands = subst (λ (l : List ℕ). StandsAt 0 l content) c.in-Some.ensures.some (c.in_ok-bytes.ensures.bytes crash_model);

@@ -10,7 +10,7 @@ use Rattle.turn_step.specs.Views.{arrival_of, sent_of}
 use Rattle.turn_types.specs.Config.{Config}
 use Rattle.turn_table.specs.State.{State}
 use Rattle.turn_engine.proofs.Held.{apart_in}
-use Rattle.turn_engine.proofs.Lists.{room_for_one, when_ok}
+use Rattle.turn_engine.proofs.Lists.{on_err, room_for_one, when_ok}
 use Rattle.turn_engine.proofs.Taken.{after_same, counts_same, keeps_both, moment_changed, recovers_later, recovers_taken, sound_changed, sound_later, written_by}
 use Rattle.turn_types.specs.declared.limits.Bounds.{Bounds}
 use Rattle.turn_engine.specs.State.{ServerState, limits_of, now_of}
@@ -22,36 +22,36 @@ invariant_of-self g c =
     sound_later _ _ _ _ _ _ _ _ c.args.moment _ _ c.self.inside.machine.table c.prepare.new.self.table c.seconds.ensures.range le c.prepare.ensures.table
     (ap (λ (x : Config). x.limits) c.prepare.ensures.setting.config) c.prepare.ensures.setting.pairs c.self.invariant
 
-pub returns-in-Err-clause-store : goal.returns-in-Err-clause-store
-returns-in-Err-clause-store g c = ap (λ s. s.store) c.self.view_is
+pub returns-in_err-step-clause-store : goal.returns-in_err-step-clause-store
+returns-in_err-step-clause-store g c = ap (λ s. s.store) c.self.view_is
 
-pub returns-in-Err-clause-clock : goal.returns-in-Err-clause-clock
-returns-in-Err-clause-clock g c = c.prepare.ensures.table.moment
+pub returns-in_err-step-clause-clock : goal.returns-in_err-step-clause-clock
+returns-in_err-step-clause-clock g c = c.prepare.ensures.table.moment
 
-pub returns-in-Err-clause-setting : goal.returns-in-Err-clause-setting
-returns-in-Err-clause-setting g c = subst (λ s. KeepsSetting g.G.RelayAddressGenerator.range s.machine c.prepare.new.self) c.self.view_is c.prepare.ensures.setting
+pub returns-in_err-step-clause-setting : goal.returns-in_err-step-clause-setting
+returns-in_err-step-clause-setting g c = subst (λ s. KeepsSetting g.G.RelayAddressGenerator.range s.machine c.prepare.new.self) c.self.view_is c.prepare.ensures.setting
 
-pub returns-in-Err-clause-count : goal.returns-in-Err-clause-count
-returns-in-Err-clause-count g c =
+pub returns-in_err-step-clause-count : goal.returns-in_err-step-clause-count
+returns-in_err-step-clause-count g c =
     let failures = g.G.RelayAddressGenerator.failures in
     subst (λ s. CountsOne (failures s.machine.ports) (failures c.prepare.new.self.ports)) c.self.view_is c.prepare.ensures.count
 
-pub returns-in-Err-clause-held : goal.returns-in-Err-clause-held
-returns-in-Err-clause-held g c held =
-    c.in-Err.ensures.held_err (apart_in _ _ c.self.inside.machine.table c.self.invariant.snapshot)
+pub returns-in_err-step-clause-held : goal.returns-in_err-step-clause-held
+returns-in_err-step-clause-held g c held =
+    c.in_err-step.ensures.held_err (apart_in _ _ c.self.inside.machine.table c.self.invariant.snapshot)
     (subst (λ v. HoldsPorts g.G.RelayAddressGenerator.holds v.machine None) (sym c.self.view_is) held)
 
-pub returns-in-Err-clause-memory : goal.returns-in-Err-clause-memory
-returns-in-Err-clause-memory g c = ap (λ (s : ServerState _ _ _). record s { machine = c.prepare.new.self }) c.self.view_is
+pub returns-in_err-step-clause-memory : goal.returns-in_err-step-clause-memory
+returns-in_err-step-clause-memory g c = on_err _ (ap (λ (s : ServerState _ _ _). record s { machine = c.prepare.new.self }) c.self.view_is)
 
-pub returns-in-Err-clause-memory_table : goal.returns-in-Err-clause-memory_table
-returns-in-Err-clause-memory_table g c = subst (λ s. IsPurged c.args.moment s.machine.table c.prepare.new.self.table) c.self.view_is c.prepare.ensures.table
+pub returns-in_err-step-clause-memory_table : goal.returns-in_err-step-clause-memory_table
+returns-in_err-step-clause-memory_table g c = on_err _ (subst (λ s. IsPurged c.args.moment s.machine.table c.prepare.new.self.table) c.self.view_is c.prepare.ensures.table)
 
-pub returns-in-Err-clause-memory_rests : goal.returns-in-Err-clause-memory_rests
-returns-in-Err-clause-memory_rests g c = λ h k recovers.
+pub returns-in_err-step-clause-memory_rests : goal.returns-in_err-step-clause-memory_rests
+returns-in_err-step-clause-memory_rests g c = λ h k recovers.
     let moment = c.prepare.ensures.table.moment in
-    recovers_later _ c.args.self.now _ h k recovers (ap (λ s. s.store) c.self.view_is) (ap (λ s. s.payload) c.self.view_is) (ap (λ s. s.acts) c.self.view_is)
-    (omega (arith, c.requires.clock, moment)) (c.prepare.ensures.after h (subst (λ m. IsAfter m h) (sym (ap (λ s. s.machine) c.self.view_is)) recovers.after))
+    on_err _ (recovers_later _ c.args.self.now _ h k recovers (ap (λ s. s.store) c.self.view_is) (ap (λ s. s.payload) c.self.view_is) (ap (λ s. s.acts) c.self.view_is)
+    (omega (arith, c.requires.clock, moment)) (c.prepare.ensures.after h (subst (λ m. IsAfter m h) (sym (ap (λ s. s.machine) c.self.view_is)) recovers.after)))
 
 pub invariant_of-self-then-is_err : goal.invariant_of-self-then-is_err
 invariant_of-self-then-is_err g c =
@@ -78,8 +78,8 @@ returns-then-is_err-clause-count g c =
 pub returns-then-is_err-clause-held : goal.returns-then-is_err-clause-held
 returns-then-is_err-clause-held g c held =
     let apart = apart_in _ _ c.self.inside.machine.table c.self.invariant.snapshot in
-    c.abandon.ensures.held (c.prepare.ensures.apart apart) c.in-Ok.ensures.ready
-    (c.in-Ok.ensures.held apart (subst (λ v. HoldsPorts g.G.RelayAddressGenerator.holds v.machine None) (sym c.self.view_is) held))
+    c.abandon.ensures.held (c.prepare.ensures.apart apart) c.in_ok-step.ensures.ready
+    (c.in_ok-step.ensures.held apart (subst (λ v. HoldsPorts g.G.RelayAddressGenerator.holds v.machine None) (sym c.self.view_is) held))
 
 pub returns-then-is_err-clause-memory : goal.returns-then-is_err-clause-memory
 returns-then-is_err-clause-memory g c =
@@ -124,8 +124,8 @@ invariant_of-self-2 g c =
     let same = ap (λ (x : Config). x.limits.acts) c.prepare.ensures.setting.config in
     let later = sound_later _ _ _ _ _ _ _ _ c.args.moment _ _ c.self.inside.machine.table c.prepare.new.self.table c.seconds.ensures.range le c.prepare.ensures.table
     (ap (λ (x : Config). x.limits) c.prepare.ensures.setting.config) c.prepare.ensures.setting.pairs c.self.invariant in
-    sound_changed _ _ _ _ _ _ _ _ _ _ _ c.args.moment _ _ c.prepare.new.self.table c.apply-datagram.new.self.table c.in-Ok.step.change c.apply-datagram.ensures.table c.in-Ok.ensures.ready.next
-    (written_by c.self.inside.store.version _ c.in-Ok.step.change (c.prepare.ensures.setting.pairs ∙ c.self.invariant.pairs_is) c.in-Ok.ensures.ready.no_pairs)
+    sound_changed _ _ _ _ _ _ _ _ _ _ _ c.args.moment _ _ c.prepare.new.self.table c.apply-datagram.new.self.table c.in_ok-step.step.change c.apply-datagram.ensures.table c.in_ok-step.ensures.ready.next
+    (written_by c.self.inside.store.version _ c.in_ok-step.step.change (c.prepare.ensures.setting.pairs ∙ c.self.invariant.pairs_is) c.in_ok-step.ensures.ready.no_pairs)
     (ap (λ (x : Config). x.limits) c.apply-datagram.ensures.setting.config) c.apply-datagram.ensures.setting.pairs c.stage_act.ensures.bounds c.stage_act.ensures.version c.stage_act.ensures.acts (omega (arith, room, same)) later
 
 pub returns-clause-store : goal.returns-clause-store
@@ -133,7 +133,7 @@ returns-clause-store g c = ap (λ s. s.store) c.self.view_is
 
 pub returns-clause-clock : goal.returns-clause-clock
 returns-clause-clock g c =
-    ap (λ (s : State). s.moment) c.apply-datagram.ensures.table ∙ moment_changed c.prepare.new.self.table c.in-Ok.step.change ∙ c.prepare.ensures.table.moment
+    ap (λ (s : State). s.moment) c.apply-datagram.ensures.table ∙ moment_changed c.prepare.new.self.table c.in_ok-step.step.change ∙ c.prepare.ensures.table.moment
 
 pub returns-clause-setting : goal.returns-clause-setting
 returns-clause-setting g c =
@@ -149,7 +149,7 @@ pub returns-clause-held : goal.returns-clause-held
 returns-clause-held g c held =
     let apart = apart_in _ _ c.self.inside.machine.table c.self.invariant.snapshot in
     c.apply-datagram.ensures.held (c.prepare.ensures.apart apart)
-    (c.in-Ok.ensures.held apart (subst (λ v. HoldsPorts g.G.RelayAddressGenerator.holds v.machine None) (sym c.self.view_is) held))
+    (c.in_ok-step.ensures.held apart (subst (λ v. HoldsPorts g.G.RelayAddressGenerator.holds v.machine None) (sym c.self.view_is) held))
 
 pub returns-clause-arrivals : goal.returns-clause-arrivals
 returns-clause-arrivals g c = ap (λ s. s.arrivals + 1) c.self.view_is
@@ -157,21 +157,21 @@ returns-clause-arrivals g c = ap (λ s. s.arrivals + 1) c.self.view_is
 pub returns-clause-ok : goal.returns-clause-ok
 returns-clause-ok g c = λ h k recovers.
     let t = c.args.moment in
-    let change = c.in-Ok.step.change in
+    let change = c.in_ok-step.step.change in
     let failures = g.G.RelayAddressGenerator.failures in
     let after_old : IsAfter c.self.inside.machine h = subst (λ m. IsAfter m h) (sym (ap (λ s. s.machine) c.self.view_is)) recovers.after in
     let moment : c.prepare.new.self.table.moment ≡ t = c.prepare.ensures.table.moment in
     let answers = subst (λ s. AnswersArrival (setting_of g.H.AuthHandler.key_of g.G.RelayAddressGenerator.range s.machine) h t
-    (has_failed (failures s.machine.ports) (failures c.prepare.new.self.ports)) (arrival_of c.args.arrival.now) c.in-Ok.step) c.self.view_is (c.in-Ok.ensures.answers h after_old) in
+    (has_failed (failures s.machine.ports) (failures c.prepare.new.self.ports)) (arrival_of c.args.arrival.now) c.in_ok-step.step) c.self.view_is (c.in_ok-step.ensures.answers h after_old) in
     let after = subst (λ (u : ℕ). IsAfter c.apply-datagram.new.self (h ++ added u change)) moment (c.apply-datagram.ensures.after h (c.prepare.ensures.after h after_old)) in
-    let here = written_by c.self.inside.store.version _ change (c.prepare.ensures.setting.pairs ∙ c.self.invariant.pairs_is) c.in-Ok.ensures.ready.no_pairs in
+    let here = written_by c.self.inside.store.version _ change (c.prepare.ensures.setting.pairs ∙ c.self.invariant.pairs_is) c.in_ok-step.ensures.ready.no_pairs in
     let writes = subst (λ s. IfSome change (λ x. Writes s.store.version x.act)) c.self.view_is here in
     record {
-      outcome = c.in-Ok.step;
+      outcome = c.in_ok-step.step;
       answers = subst (λ (n : ℕ). AnswersArrival (setting_of g.H.AuthHandler.key_of g.G.RelayAddressGenerator.range c.args.self.now.machine) h t
-          (has_failed (failures c.args.self.now.machine.ports) n) (arrival_of c.args.arrival.now) c.in-Ok.step) (sym c.apply-datagram.ensures.count) answers;
+          (has_failed (failures c.args.self.now.machine.ports) n) (arrival_of c.args.arrival.now) c.in_ok-step.step) (sym c.apply-datagram.ensures.count) answers;
       outs = c.stage_datagram.ensures ∙ ap (λ l. map sent_of l ++ option_to_list (option_map sent_of c.apply-datagram.result)) c.reserve.ensures.items
-          ∙ ap (λ o. map sent_of c.self.inside.outgoing.items ++ option_to_list o) c.apply-datagram.ensures.sent ∙ ap (λ s. s.outs ++ option_to_list c.in-Ok.step.sent) c.self.view_is;
+          ∙ ap (λ o. map sent_of c.self.inside.outgoing.items ++ option_to_list o) c.apply-datagram.ensures.sent ∙ ap (λ s. s.outs ++ option_to_list c.in_ok-step.step.sent) c.self.view_is;
       recovers = recovers_taken _ c.args.self.now _ h k t change recovers (ap (λ s. s.store) c.self.view_is) (λ es is. c.stage_act.ensures.payload es (ap (λ s. s.payload) c.self.view_is ∙ is))
           (c.stage_act.ensures.acts ∙ ap (λ s. s.acts + length (added t change)) c.self.view_is) c.requires.clock
           (ap (λ (s : State). s.moment) c.apply-datagram.ensures.table ∙ moment_changed c.prepare.new.self.table change ∙ moment) writes after;

@@ -1,66 +1,57 @@
-use Rattle.std.proofs.Common.{rules, arith, length, take, drop, sym, ap, ◌∙◌, subst, refl}
-use Rattle.turn_disk.specs.Disk.{EachImageSince}
+use Rattle.std.proofs.Common.{rules, arith, sym, ap, ◌∙◌, subst, refl}
+use Rattle.turn_disk.proofs.Device.{uses_as}
 use Rattle.turn_record.specs.Records.{IsSnapshot}
 use Rattle.turn_record.specs.declared.version.Version.{Version}
 use Rattle.turn_store.specs.Areas.{Form}
-use Rattle.turn_store.specs.Images.{EitherBy, StandsBy}
-use Rattle.turn_store.specs.Stages.{InStages}
-use Rattle.turn_store.specs.State.{form_of}
+use Rattle.turn_store.proofs.Sound.{not_both}
 use Rattle.turn_types.specs.declared.limits.Bounds.{Bounds}
-use Rattle.turn_engine.specs.Images.{AtLeast}
-use Rattle.turn_engine.specs.Recovering.{RecoversTo}
-use Rattle.turn_engine.specs.State.{ServerState, emptied, has_pairs, now_of}
-use Rattle.turn_engine.proofs.Written.{all_stored, contents_are, few_acts, form_kept, has_size, may_follow, none_staged, not_written, some_acts, stages_none, stages_written, version_kept, written}
+use Rattle.turn_engine.specs.State.{ServerState, has_pairs}
+use Rattle.turn_engine.proofs.Written.{batch_stages, batch_stop, batch_stored, done_at, done_never, failed_at, fault_as, few_acts, form_kept, none_staged, not_none, not_written, runs_on, some_acts, stages_none, version_kept}
 use Rattle.turn_engine.proofs.server.Server.write.Goals as goal
 use Rattle.turn_engine.proofs.server.Server.write.Goals.{in-Ok, in-Err}
 
-pub returns-then-is_stopped-clause-runs : goal.returns-then-is_stopped-clause-runs
-returns-then-is_stopped-clause-runs g c = tt
+pub returns-then-is_stopped-clause-call : goal.returns-then-is_stopped-clause-call
+returns-then-is_stopped-clause-call g c =
+    let is = ap (λ s. s.store.stopped) (sym c.self.view_is) ∙ sym c.is_stopped.ensures ∙ c.if-is_stopped.true in
+    record {
+      handed = tt;
+      ok = tt;
+      err = refl;
+      runs = tt;
+      stops = is;
+      stopped = (λ _. is, λ _. refl);
+      unchanged = λ _. refl;
+      nothing = λ runs _. cc;
+      uses = search rules;
+      form = refl;
+      worn = (λ e. cc, λ facts. let runs = facts.0 in cc);
+      untouched_worn = λ _. refl;
+      stages = λ crash_model h k recovers. stages_none _ _ c.args.self.now h k refl recovers;
+      stop = λ crash_model h k recovers. not_written _ _ c.args.self.now h k refl recovers;
+      recovers = λ crash_model h k recovers. tt;
+    }
 
-pub returns-then-is_stopped-clause-stops : goal.returns-then-is_stopped-clause-stops
-returns-then-is_stopped-clause-stops g c = ap (λ s. s.store.stopped) (sym c.self.view_is) ∙ sym c.is_stopped.ensures ∙ c.if-is_stopped.true
-
-pub returns-then-is_stopped-clause-stopped : goal.returns-then-is_stopped-clause-stopped
-returns-then-is_stopped-clause-stopped g c = (λ _. returns-then-is_stopped-clause-stops g c, λ _. refl)
-
-pub returns-then-is_stopped-clause-nothing : goal.returns-then-is_stopped-clause-nothing
-returns-then-is_stopped-clause-nothing g c = λ runs _. let is = returns-then-is_stopped-clause-stops g c in cc
-
-pub returns-then-is_stopped-clause-worn : goal.returns-then-is_stopped-clause-worn
-returns-then-is_stopped-clause-worn g c = (λ e. cc, λ facts. let runs = facts.0 in let is = returns-then-is_stopped-clause-stops g c in cc)
-
-pub returns-then-is_stopped-clause-stages : goal.returns-then-is_stopped-clause-stages
-returns-then-is_stopped-clause-stages g c = λ crash_model h k recovers. stages_none _ _ c.args.self.now h k refl recovers
-
-pub returns-then-is_stopped-clause-stop : goal.returns-then-is_stopped-clause-stop
-returns-then-is_stopped-clause-stop g c = λ crash_model h k recovers. not_written _ _ c.args.self.now h k refl recovers
-
-pub returns-then-acts-eq0-clause-nothing : goal.returns-then-acts-eq0-clause-nothing
-returns-then-acts-eq0-clause-nothing g c = λ _ _. (refl, refl)
-
-pub returns-then-acts-eq0-clause-stops : goal.returns-then-acts-eq0-clause-stops
-returns-then-acts-eq0-clause-stops g c = tt
-
-pub returns-then-acts-eq0-clause-runs : goal.returns-then-acts-eq0-clause-runs
-returns-then-acts-eq0-clause-runs g c = ap (λ s. s.store.stopped) (sym c.self.view_is) ∙ sym c.is_stopped.ensures ∙ c.if-is_stopped.false
-
-pub returns-then-acts-eq0-clause-stopped : goal.returns-then-acts-eq0-clause-stopped
-returns-then-acts-eq0-clause-stopped g c = let runs = returns-then-acts-eq0-clause-runs g c in (λ e. cc, λ is. cc)
-
-pub returns-then-acts-eq0-clause-worn : goal.returns-then-acts-eq0-clause-worn
-returns-then-acts-eq0-clause-worn g c =
+pub returns-then-acts-eq0-clause-call : goal.returns-then-acts-eq0-clause-call
+returns-then-acts-eq0-clause-call g c =
+    let runs = ap (λ s. s.store.stopped) (sym c.self.view_is) ∙ sym c.is_stopped.ensures ∙ c.if-is_stopped.false in
     let none = ap (λ s. s.acts) (sym c.self.view_is) ∙ sym c.acts.ensures.value ∙ c.if-acts-eq0.true in
-    (λ e. cc, λ facts. let some = facts.1 in absurd (omega (arith, some, none)))
-
-pub returns-then-acts-eq0-clause-stages : goal.returns-then-acts-eq0-clause-stages
-returns-then-acts-eq0-clause-stages g c = λ crash_model h k recovers. stages_none _ _ c.args.self.now h k refl recovers
-
-pub returns-then-acts-eq0-clause-stop : goal.returns-then-acts-eq0-clause-stop
-returns-then-acts-eq0-clause-stop g c = λ crash_model h k recovers. not_written _ _ c.args.self.now h k refl recovers
-
-pub returns-then-acts-eq0-clause-done : goal.returns-then-acts-eq0-clause-done
-returns-then-acts-eq0-clause-done g c = λ crash_model h k recovers.
-    none_staged _ c.args.self.now h k recovers (sym (ap (λ s. s.acts) c.self.view_is) ∙ sym c.acts.ensures.value ∙ c.if-acts-eq0.true)
+    record {
+      handed = refl;
+      ok = refl;
+      err = tt;
+      runs = runs;
+      stops = tt;
+      stopped = (λ e. cc, λ is. cc);
+      unchanged = λ is. cc;
+      nothing = λ _ _. (refl, refl);
+      uses = search rules;
+      form = refl;
+      worn = (λ e. cc, λ facts. let some = facts.1 in absurd (omega (arith, some, none)));
+      untouched_worn = λ e. refl;
+      stages = λ crash_model h k recovers. stages_none _ _ c.args.self.now h k refl recovers;
+      stop = λ crash_model h k recovers. not_written _ _ c.args.self.now h k refl recovers;
+      recovers = λ crash_model h k recovers. none_staged _ c.args.self.now h k recovers none;
+    }
 
 pub invariant_of-self : goal.invariant_of-self
 invariant_of-self g c =
@@ -79,55 +70,56 @@ invariant_of-self g c =
       snapshot = subst (λ (v : Version). IsSnapshot v c.self.inside.machine.config.limits table.moment table.contents) (sym same) s.snapshot;
     }
 
-pub returns-clause-form : goal.returns-clause-form
-returns-clause-form g c =
-    form_kept c.self.inside.store c.append.new.self _ _ c.append.result c.append.ensures.framed c.append.ensures.compacted c.append.ensures.stops ∙ ap (λ s. form_of s.store) c.self.view_is
-
 pub returns-clause-rest : goal.returns-clause-rest
 returns-clause-rest g c = ap (λ (s : ServerState _ _ _). record s { store = c.append.new.self }) c.self.view_is
 
-pub returns-clause-runs : goal.returns-clause-runs
-returns-clause-runs g c = search rules
-
-pub returns-clause-stopped : goal.returns-clause-stopped
-returns-clause-stopped g c = search rules
-
-pub returns-clause-nothing : goal.returns-clause-nothing
-returns-clause-nothing g c = λ runs none. absurd (omega (arith, none, some_acts c.acts.result _ (c.acts.ensures.value ∙ ap (λ s. s.acts) c.self.view_is) c.if-acts-eq0.false))
-
-pub returns-clause-worn : goal.returns-clause-worn
-returns-clause-worn g c = search rules
-
-pub returns-clause-untouched_worn : goal.returns-clause-untouched_worn
-returns-clause-untouched_worn g c = search rules
-
-pub returns-clause-stages : goal.returns-clause-stages
-returns-clause-stages g c = λ crash_model h k old.
-    let trace = g.D.Disk.trace in
-    let recovers = subst (λ s. RecoversTo (trace s.store.disk).now s h k) (sym c.self.view_is) old in
+pub returns-clause-call : goal.returns-clause-call
+returns-clause-call g c =
+    let runs = sym c.is_stopped.ensures ∙ c.if-is_stopped.false in
+    let some = some_acts c.acts.result _ c.acts.ensures.value c.if-acts-eq0.false in
+    let few = few_acts _ _ _ _ c.self.invariant.few c.self.invariant.capped (ap (λ (b : Bounds). b.acts) c.self.invariant.store_is) in
+    let same = c.self.invariant.store_is in
+    let range = c.self.invariant.snapshot.moment in
+    let kept = form_kept c.self.inside.store c.append.new.self _ _ c.append.result c.append.ensures.framed c.append.ensures.compacted c.append.ensures.stops in
     let stages = rw (c.table.ensures.value, c.payload.ensures.value) at c.append.ensures.stages in
-    subst (λ s. InStages (trace s.store.disk) (trace c.append.new.self.disk) (StandsBy (form_of s.store) (take k h) (now_of s)) (EitherBy (form_of s.store) (take k h) (drop k h) (now_of s))) c.self.view_is
-    (stages_written _ _ _ h k recovers (stages crash_model recovers.at (take k h) (drop k h) recovers.stored (may_follow _ _ h k recovers c.self.invariant.store_is c.self.invariant.snapshot.moment)
-    (has_size _ _ h k recovers (some_acts c.acts.result _ c.acts.ensures.value c.if-acts-eq0.false) (few_acts _ _ _ _ c.self.invariant.few c.self.invariant.capped (ap (λ (b : Bounds). b.acts) c.self.invariant.store_is))) recovers.staged (contents_are _ _ h k recovers)))
-
-pub returns-clause-stop : goal.returns-clause-stop
-returns-clause-stop g c = λ crash_model h k old.
-    let trace = g.D.Disk.trace in
-    let recovers = subst (λ s. RecoversTo (trace s.store.disk).now s h k) (sym c.self.view_is) old in
-    let stages = rw (c.table.ensures.value, c.payload.ensures.value) at c.append.ensures.stages in
-    subst (λ s. EachImageSince (trace s.store.disk) (trace c.append.new.self.disk) (AtLeast (form_of s.store) h k (now_of s))) c.self.view_is
-    (written _ _ _ h k recovers (stages crash_model recovers.at (take k h) (drop k h) recovers.stored (may_follow _ _ h k recovers c.self.invariant.store_is c.self.invariant.snapshot.moment)
-    (has_size _ _ h k recovers (some_acts c.acts.result _ c.acts.ensures.value c.if-acts-eq0.false) (few_acts _ _ _ _ c.self.invariant.few c.self.invariant.capped (ap (λ (b : Bounds). b.acts) c.self.invariant.store_is))) recovers.staged (contents_are _ _ h k recovers)))
-
-pub returns-clause-done : goal.returns-clause-done
-returns-clause-done g c = λ crash_model h k old.
-    let trace = g.D.Disk.trace in
-    let recovers = subst (λ s. RecoversTo (trace s.store.disk).now s h k) (sym c.self.view_is) old in
     elim c.match-append.branch [
       | in-Ok w ↦
+          let worn = rw c.payload.ensures.value at w.in-Ok.ensures.worn in
           let done = rw (c.table.ensures.value, c.payload.ensures.value) at w.in-Ok.ensures.done in
-          rw w.result-is (subst (λ s. RecoversTo (trace c.append.new.self.disk).now (emptied s c.append.new.self) h (length h)) c.self.view_is
-          (all_stored _ _ _ c.append.new.self h k recovers (done crash_model recovers.at (take k h) (drop k h) recovers.stored
-          (may_follow _ _ h k recovers c.self.invariant.store_is c.self.invariant.snapshot.moment) (has_size _ _ h k recovers (some_acts c.acts.result _ c.acts.ensures.value c.if-acts-eq0.false) (few_acts _ _ _ _ c.self.invariant.few c.self.invariant.capped (ap (λ (b : Bounds). b.acts) c.self.invariant.store_is))) recovers.staged (contents_are _ _ h k recovers))))
-      | in-Err w ↦ rw w.result-is tt
+          rw w.result-is (done_at c.self.view_is (record {
+            handed = refl;
+            ok = refl;
+            err = tt;
+            runs = runs_on c.self.inside.store c.append.new.self _ _ _ w.in-Ok.ensures.framed w.in-Ok.ensures.compacted runs;
+            stops = tt;
+            stopped = (λ e. absurd (done_never e), λ is. absurd (not_both _ is runs));
+            unchanged = λ is. absurd (not_both _ is runs);
+            nothing = λ _ none. absurd (not_none _ some none);
+            uses = uses_as (λ e. absurd (done_never e)) (λ e. absurd (done_never e)) w.in-Ok.ensures.uses;
+            form = kept;
+            worn = (λ e. absurd (done_never e), λ facts. absurd (done_never (worn.1 (facts.0, facts.2, facts.3))));
+            untouched_worn = λ e. absurd (done_never e);
+            stages = λ crash_model. batch_stages g.D.Disk _ c.append.new.self same range some few (stages crash_model);
+            stop = λ crash_model. batch_stop g.D.Disk _ c.append.new.self same range some few (stages crash_model);
+            recovers = λ crash_model. batch_stored g.D.Disk _ c.append.new.self same range some few (done crash_model);
+          }))
+      | in-Err w ↦
+          let worn = rw c.payload.ensures.value at w.in-Err.ensures.worn in
+          rw w.result-is (failed_at c.self.view_is (record {
+            handed = tt;
+            ok = tt;
+            err = refl;
+            runs = tt;
+            stops = ap (λ s. s.stopped) w.in-Err.ensures.stops;
+            stopped = (λ e. w.in-Err.ensures.stopped.0 (fault_as e), λ is. absurd (not_both _ is runs));
+            unchanged = λ is. absurd (not_both _ is runs);
+            nothing = λ _ none. absurd (not_none _ some none);
+            uses = uses_as fault_as fault_as w.in-Err.ensures.uses;
+            form = kept;
+            worn = (λ e. let is = worn.0 (fault_as e) in (is.0, some, is.1, is.2), λ facts. fault_as (worn.1 (facts.0, facts.2, facts.3)));
+            untouched_worn = λ e. w.in-Err.ensures.untouched_worn (fault_as e);
+            stages = λ crash_model. batch_stages g.D.Disk _ c.append.new.self same range some few (stages crash_model);
+            stop = λ crash_model. batch_stop g.D.Disk _ c.append.new.self same range some few (stages crash_model);
+            recovers = λ crash_model h k recovers. tt;
+          }))
     ]
