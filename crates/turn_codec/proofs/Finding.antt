@@ -28,6 +28,16 @@ before_here kind a others e = rw (← e, eqb-same a.kind) refl
 before_other : (kind : ℕ) (a : Attribute) (others : List Attribute) → a.kind ≢ kind → before kind (a ∷ others) ≡ a ∷ before kind others
 before_other kind a others h = rw (eqb-other a.kind kind h) refl
 
+-- where there is no attribute of a type, there is none after one of another type is added
+pub none_added : (kind other : ℕ) (value : List ℕ) (attributes : List Attribute) → other ≢ kind → from kind attributes ≡ []
+    → from kind (attributes ++ record { kind = other; value = value } ∷ []) ≡ []
+none_added kind other value [] h none = from_other kind (record { kind = other; value = value }) [] h
+none_added kind other value (a ∷ others) h none =
+    elim (cases_eq a.kind kind) [
+      | inl e ↦ absurd (let k : a ∷ others ≡ [] = sym (from_here kind a others e) ∙ none in cc)
+      | inr ne ↦ from_other kind a (others ++ record { kind = other; value = value } ∷ []) ne ∙ none_added kind other value others h (sym (from_other kind a others ne) ∙ none)
+    ]
+
 pub first_size : (bytes : List ℕ) (a : Attribute) (rest : List ℕ) → first_attribute bytes ≡ Some (a, rest) → length bytes ≡ length rest + size_of a
 unfolding first_attribute
 first_size [] a rest e = absurd cc

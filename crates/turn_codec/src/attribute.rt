@@ -13,17 +13,15 @@ use std::marker::Model;
 fn split_attribute(bytes: &[u8]) -> Option<(u16, &[u8], &[u8])>
     ensures { option_map (λ x. (record { kind = x.0; value = x.1.now }, x.2.now)) result ≡ first_attribute bytes.now }
 {
-    match bytes {
-        [k, l, m, n, rest @ ..] => {
-            let size = u16::from_be_bytes([*m, *n]) as usize;
-            let padded = size.next_multiple_of(4);
-            if rest.len() < padded {
-                return None;
-            }
-            Some((u16::from_be_bytes([*k, *l]), &rest[..size], &rest[padded..]))
-        }
-        _ => None,
+    let [k, l, m, n, rest @ ..] = bytes else {
+        return None;
+    };
+    let size = u16::from_be_bytes([*m, *n]) as usize;
+    let padded = size.next_multiple_of(4);
+    if rest.len() < padded {
+        return None;
     }
+    Some((u16::from_be_bytes([*k, *l]), &rest[..size], &rest[padded..]))
 }
 
 /// Whether all of the bytes are attributes.
@@ -92,10 +90,8 @@ impl<'a> Attributes<'a> {
     pub fn value_of(&self, kind: AttributeType) -> Option<&'a [u8]>
         ensures { option_copied result ≡ value_of kind self.now }
     {
-        match find_attribute(self.rest, kind) {
-            Some((_, value, _)) => Some(value),
-            None => None,
-        }
+        let (_, value, _) = find_attribute(self.rest, kind)?;
+        Some(value)
     }
 }
 

@@ -33,20 +33,18 @@ impl<'a> ChannelData<'a> {
         ensures only { (number : ℕ) (payload : List ℕ) → SpellsChannelData bytes.now number payload →
             IsSomeAnd result (λ d. (d.number ≡ number) × (d.payload.now ≡ payload)) }
     {
-        match bytes {
-            [k, l, m, n, rest @ ..] => {
-                let number = u16::from_be_bytes([*k, *l]);
-                let size = u16::from_be_bytes([*m, *n]) as usize;
-                if !is_channel_data_number(number) || rest.len() < size {
-                    return None;
-                }
-                Some(ChannelData {
-                    number,
-                    payload: &rest[..size],
-                })
-            }
-            _ => None,
+        let [k, l, m, n, rest @ ..] = bytes else {
+            return None;
+        };
+        let number = u16::from_be_bytes([*k, *l]);
+        let size = u16::from_be_bytes([*m, *n]) as usize;
+        if !is_channel_data_number(number) || rest.len() < size {
+            return None;
         }
+        Some(ChannelData {
+            number,
+            payload: &rest[..size],
+        })
     }
 
     /// The datagram, with no byte after the payload.

@@ -162,14 +162,12 @@ impl<'a> Message<'a> {
             IsFirstOf kind self.now found.front.now found.value.now found.is_last) }
     {
         let bytes = self.bytes;
-        match find_attribute(&bytes[20..], kind) {
-            Some((offset, value, is_last)) => Some(Located {
-                front: &bytes[..20 + offset],
-                value,
-                is_last,
-            }),
-            None => None,
-        }
+        let (offset, value, is_last) = find_attribute(&bytes[20..], kind)?;
+        Some(Located {
+            front: &bytes[..20 + offset],
+            value,
+            is_last,
+        })
     }
 
     /// Where the first MESSAGE-INTEGRITY is.

@@ -62,10 +62,7 @@ fn token(message: &Message<'_>) -> Option<Token>
     ensures { result ≡ token_in message.now.content }
 {
     let token = message.find(AttributeType::RESERVATION_TOKEN)?;
-    match token.try_into() {
-        Ok(token) => Some(Token(token)),
-        Err(_) => None,
-    }
+    Some(Token(token.try_into().ok()?))
 }
 
 /// The code of ERROR-CODE.

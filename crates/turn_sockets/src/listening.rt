@@ -4,6 +4,7 @@ ghost use Rattle.std.specs.Prelude.{◌≡◌, ◌≢◌, ◌<◌, ◌≤◌, �
 ghost use Rattle.std.specs.List.{list_any};
 ghost use Rattle.turn_sockets.specs.Own.{AreListened};
 
+use arrayvec::ArrayVec;
 use std::marker::Model;
 use turn_types::Endpoint;
 
@@ -13,19 +14,18 @@ pub const MAX_LISTENING: usize = 9;
 /// The addresses that clients send to: one to nine, in the order in which they were given.
 #[derive(Debug, Drop)]
 pub struct ListeningAddresses {
-    addresses: [Endpoint; MAX_LISTENING],
-    count: usize,
+    addresses: ArrayVec<Endpoint, MAX_LISTENING>,
 }
 
 impl Model for ListeningAddresses {
-    ghost use Rattle.std.specs.Prelude.{◌≤◌, List, take};
+    ghost use Rattle.std.specs.Prelude.{◌≤◌, List, length};
     ghost use Rattle.turn_types.specs.declared.address.Endpoint.{Endpoint};
 
     ghost Value = { List Endpoint };
 
-    ghost view = { λ a. take a.count a.addresses };
+    ghost view = { λ a. a.addresses.items };
 
-    ghost invariant = { λ a. (1 ≤ a.count) × (a.count ≤ 9) };
+    ghost invariant = { λ a. 1 ≤ length a.addresses.items };
 }
 
 /// Whether an address is one of these.
@@ -42,10 +42,9 @@ impl ListeningAddresses {
     pub fn one(address: Endpoint) -> ListeningAddresses
         ensures { result ≡ address ∷ [] }
     {
-        ListeningAddresses {
-            addresses: [address; MAX_LISTENING],
-            count: 1,
-        }
+        let mut addresses = ArrayVec::new();
+        addresses.push(address);
+        ListeningAddresses { addresses }
     }
 
     // Adds an address. False if it is there already, or there are nine.
@@ -53,14 +52,13 @@ impl ListeningAddresses {
         ensures added { result ≡ true → (self.new ≡ self.old ++ address ∷ []) × (length self.old < 9) × ¬ Contains self.old address }
         ensures refused { result ≡ false → Contains self.old address ⊎ (length self.old ≡ 9) }
     {
-        if self.count == MAX_LISTENING {
+        if self.addresses.is_full() {
             return false;
         }
         if is_among(self.as_slice(), address) {
             return false;
         }
-        self.addresses[self.count] = address;
-        self.count += 1;
+        self.addresses.push(address);
         true
     }
 
@@ -81,10 +79,10 @@ impl ListeningAddresses {
     pub fn copied(&self) -> ListeningAddresses
         ensures { result ≡ self.now }
     {
-        ListeningAddresses {
-            addresses: self.addresses,
-            count: self.count,
-        }
+        let mut addresses = ArrayVec::new();
+        // There is room for all.
+        let _ = addresses.try_extend_from_slice(self.as_slice());
+        ListeningAddresses { addresses }
     }
 
     /// The addresses, at least one and at most nine.
@@ -93,14 +91,14 @@ impl ListeningAddresses {
         ensures some { 1 ≤ length result.now }
         ensures few { length result.now ≤ 9 }
     {
-        &self.addresses[..self.count]
+        self.addresses.as_slice()
     }
 
     /// The first address.
     pub fn first(&self) -> Endpoint
         ensures { result ≡ slice_index_or self.now 0 result }
     {
-        self.addresses[0]
+        self.as_slice()[0]
     }
 
     /// Puts an address in the place of another one, as where the system was to choose its port.
@@ -108,7 +106,7 @@ impl ListeningAddresses {
         requires { place < length self.old }
         ensures { self.new ≡ slice_set self.old place address }
     {
-        let listed = &mut self.addresses[..self.count];
+        let listed = self.addresses.as_mut_slice();
         listed[place] = address;
     }
 }

@@ -18,8 +18,8 @@ pub struct PeerAddress {
     pub port: u16,
 }
 
-/// An IPv4 address and a port.
-#[derive(Clone, Copy, Debug, PartialEq, Eq, PartialOrd, Ord, Hash)]
+/// An IPv4 address and a port. The default is port 0 of 0.0.0.0.
+#[derive(Clone, Copy, Debug, Default, PartialEq, Eq, PartialOrd, Ord, Hash)]
 pub struct Endpoint {
     /// The IPv4 address: its highest byte is the address's first.
     pub ip: u32,
