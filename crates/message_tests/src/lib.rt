@@ -2,14 +2,4 @@
 #![tactic(auto)]
 
 #[cfg(test)]
-mod codec;
-#[cfg(test)]
-mod cred;
-#[cfg(test)]
-mod mac;
-#[cfg(test)]
-mod ports;
-#[cfg(test)]
-mod requests;
-#[cfg(test)]
-mod types;
+mod tests;

@@ -3,34 +3,4 @@
 #![tactic(auto)]
 
 #[cfg(test)]
-mod allocate;
-#[cfg(test)]
-mod binding;
-#[cfg(test)]
-mod clients_data;
-#[cfg(test)]
-mod credentials;
-#[cfg(test)]
-mod full_tables;
-#[cfg(test)]
-mod judged;
-#[cfg(test)]
-mod peers_data;
-#[cfg(test)]
-mod player;
-#[cfg(test)]
-mod references;
-#[cfg(test)]
-mod refused_growths;
-#[cfg(test)]
-mod released_ports;
-#[cfg(test)]
-mod reservations;
-#[cfg(test)]
-mod row;
-#[cfg(test)]
-mod setup;
-#[cfg(test)]
-mod tables;
-#[cfg(test)]
-mod time_limited;
+mod tests;

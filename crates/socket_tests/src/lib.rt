@@ -3,12 +3,4 @@
 #![tactic(auto)]
 
 #[cfg(test)]
-mod listening;
-#[cfg(test)]
-mod order;
-#[cfg(test)]
-mod pace;
-#[cfg(test)]
-mod ports;
-#[cfg(test)]
-mod received;
+mod tests;

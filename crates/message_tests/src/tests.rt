@@ -1,0 +1,6 @@
+mod codec;
+mod cred;
+mod mac;
+mod ports;
+mod requests;
+mod types;

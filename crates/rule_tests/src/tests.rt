@@ -1,0 +1,16 @@
+mod allocate;
+mod binding;
+mod clients_data;
+mod credentials;
+mod full_tables;
+mod judged;
+mod peers_data;
+mod player;
+mod references;
+mod refused_growths;
+mod released_ports;
+mod reservations;
+mod row;
+mod setup;
+mod tables;
+mod time_limited;

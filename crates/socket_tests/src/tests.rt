@@ -1,0 +1,5 @@
+mod listening;
+mod order;
+mod pace;
+mod ports;
+mod received;
