@@ -10,6 +10,7 @@ mod disk_reads;
 mod disk_writes;
 mod disks;
 mod entries;
+mod infos;
 mod journal_area;
 mod journal_memory;
 mod journal_scan;

@@ -1,5 +1,6 @@
 //! Batches of one act under the limits of a small store: alice's allocation at 1000, and the Refreshes after it.
 
+use super::disks::disk_of;
 use super::limits::small_limits;
 use super::stores::{SnapshotTable, TestStore};
 use std::alloc::{Allocator, Global};
@@ -24,17 +25,23 @@ const SNAPSHOT: [u8; 59] = *b"\x00\x00\x00\x00\x00\x00\x00\x00\x00\x00\x00\x01\
     \x00\x05alice\xc3\x50\x00\x00\x02\x58\x01\x02\x03\x04\x05\x06\x07\x08\x09\x0a\x0b\x0c\
     \x00\x00\x00\x00\x00\x00\x00\x00\x00\x00";
 
-/// From 192.0.2.1:32853 to 192.0.2.100:3478.
+/// 192.0.2.100:3478.
+pub const SERVER: Endpoint = Endpoint {
+    ip: 0xC000_0264,
+    port: 3478,
+};
+
+/// From 192.0.2.1:32853 to the server.
 pub const ALICE: FiveTuple = FiveTuple {
     client: Endpoint {
         ip: 0xC000_0201,
         port: 32853,
     },
-    server: Endpoint {
-        ip: 0xC000_0264,
-        port: 3478,
-    },
+    server: SERVER,
 };
+
+/// The transaction id of her Allocate.
+pub const ALICES_ID: TxId = TxId([1, 2, 3, 4, 5, 6, 7, 8, 9, 10, 11, 12]);
 
 /// The payload of a Refresh so many seconds after 1000.
 fn refresh_at(second: u8) -> [u8; 26] {
@@ -108,7 +115,7 @@ pub fn store_after<A: Allocator + Copy>(rt: &impl Abort, alloc: A, count: u8) ->
 fn is_alice<A: Allocator + Copy>(entry: &Entry<A>) -> bool {
     entry.user() == b"alice".as_slice()
         && (entry.port(), entry.granted()) == (50000, 600)
-        && entry.tx() == TxId([1, 2, 3, 4, 5, 6, 7, 8, 9, 10, 11, 12])
+        && entry.tx() == ALICES_ID
         && entry.permissions().is_empty()
         && entry.channels().is_empty()
 }
@@ -140,6 +147,28 @@ pub fn try_open<A: Allocator + Copy>(
         }
         Err(StoreOpenError { fault, disk }) => (Err(fault), disk),
     }
+}
+
+/// Opens a disk of this content, at which a device call fails. Returns the disk if it is refused then; else the allocation
+/// expires at this time.
+pub fn open_failing(
+    rt: &impl Abort,
+    alloc: Global,
+    content: &[u8],
+    call: u64,
+    expiry: u64,
+) -> Option<MemoryDisk> {
+    let disk = disk_of(rt, alloc, content);
+    assert!(rt; call > 0);
+    disk.fail_call(call);
+    let (opened, disk) = try_open(rt, alloc, disk);
+    if disk.failures() == 0 {
+        assert!(rt; opened == Ok(expiry));
+        return None;
+    }
+    assert!(rt; opened == Err(OpenError::Device));
+    assert!(rt; disk.failures() == 1);
+    Some(disk)
 }
 
 /// What opening the store of a disk gives, which leaves the content as it is.

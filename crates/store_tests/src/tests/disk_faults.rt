@@ -3,59 +3,27 @@ use std::alloc::Global;
 use std::process::Abort;
 use turn_disk::{CrashOutcome, Disk, MemoryDisk};
 
-// The arguments of two calls of `fail_call` and of two of `stop_at`, where 0 stands for no call, and which of five device
-// calls then fail.
-struct Row {
-    fail_calls: [u64; 2],
-    stops: [u64; 2],
-    failing: [bool; 5],
-}
+/// The arguments of two calls of `fail_call` and of two of `stop_at`, where 0 stands for no call, and which of five device
+/// calls then fail.
+type Row = ([u64; 2], [u64; 2], [bool; 5]);
 
 const ROWS: [Row; 7] = [
-    Row {
-        fail_calls: [2, 0],
-        stops: [0, 0],
-        failing: [false, true, false, false, false],
-    },
-    Row {
-        fail_calls: [2, 4],
-        stops: [0, 0],
-        failing: [false, false, false, true, false],
-    },
-    Row {
-        fail_calls: [4, 2],
-        stops: [0, 0],
-        failing: [false, true, false, false, false],
-    },
-    Row {
-        fail_calls: [0, 0],
-        stops: [4, 2],
-        failing: [false, true, true, true, true],
-    },
-    Row {
-        fail_calls: [0, 0],
-        stops: [2, 4],
-        failing: [false, true, true, true, true],
-    },
-    Row {
-        fail_calls: [1, 0],
-        stops: [3, 0],
-        failing: [true, false, true, true, true],
-    },
-    Row {
-        fail_calls: [4, 0],
-        stops: [4, 0],
-        failing: [false, false, false, true, true],
-    },
+    ([2, 0], [0, 0], [false, true, false, false, false]),
+    ([2, 4], [0, 0], [false, false, false, true, false]),
+    ([4, 2], [0, 0], [false, true, false, false, false]),
+    ([0, 0], [4, 2], [false, true, true, true, true]),
+    ([0, 0], [2, 4], [false, true, true, true, true]),
+    ([1, 0], [3, 0], [true, false, true, true, true]),
+    ([4, 0], [4, 0], [false, false, false, true, true]),
 ];
 
-fn arm(disk: &MemoryDisk, row: &Row) {
-    for call in &row.fail_calls {
+fn arm(disk: &MemoryDisk, fail_calls: &[u64; 2], stops: &[u64; 2]) {
+    for call in fail_calls {
         if *call > 0 {
             disk.fail_call(*call);
         }
     }
-    for call in &row.stops {
+    for call in stops {
         if *call > 0 {
             disk.stop_at(*call);
         }
@@ -71,10 +39,11 @@ fn make_five_calls(disk: &mut MemoryDisk) -> [bool; 5] {
 }
 
 fn play(rt: &impl Abort, alloc: Global, row: &Row) {
+    let (fail_calls, stops, failing) = row;
     let mut disk = MemoryDisk::new(alloc, Vec::new(alloc));
-    arm(&disk, row);
-    assert!(rt; make_five_calls(&mut disk) == row.failing);
-    let count = row.failing.iter().filter(|fails| **fails).count() as u64;
+    arm(&disk, fail_calls, stops);
+    assert!(rt; make_five_calls(&mut disk) == *failing);
+    let count = failing.iter().filter(|fails| **fails).count() as u64;
     assert!(rt; disk.failures() == count);
     disk.fail_call(1);
     disk.stop_at(2);

@@ -10,6 +10,19 @@ pub fn disk_of<A: Allocator + Copy>(rt: &impl Abort, alloc: A, content: &[u8]) -
     MemoryDisk::new(alloc, content)
 }
 
+/// A disk with this content, over which these bytes are written at a place.
+pub fn changed_disk<A: Allocator + Copy>(
+    rt: &impl Abort,
+    alloc: A,
+    content: &[u8],
+    at: usize,
+    bytes: &[u8],
+) -> MemoryDisk<A> {
+    let mut disk = disk_of(rt, alloc, content);
+    assert!(rt; write(rt, &mut disk, at, bytes));
+    disk
+}
+
 /// Whether the write succeeds.
 pub fn write<D: Disk>(rt: &impl Abort, disk: &mut D, at: usize, bytes: &[u8]) -> bool {
     assert!(rt; at <= disk.size() && bytes.len() <= disk.size() - at);

@@ -1,16 +1,16 @@
 //! Tests of `turn_record`: act entries and payloads. The bytes are written out by hand from the format.
 
-use super::batches::ALICE;
+use super::batches::{ALICE, ALICES_ID};
 use super::bytes::replaced;
 use super::limits::{SMALL, limits_of};
+use super::version_2::{Kind, again, is_written_again};
 use failing_alloc::FailingAlloc;
 use std::alloc::{Allocator, Global};
 use std::process::Abort;
 use turn_history::{Act, Addresses, Event, UserName};
-use turn_record::{
-    DecodeError, ReadError, Version, read_act, read_payload, write_act, write_payload,
-};
-use turn_types::{Bounds, Limits, Moment, TxId};
+use turn_record::Version::V1;
+use turn_record::{DecodeError, ReadError, read_act, read_payload, write_payload};
+use turn_types::{Bounds, Limits, Moment};
 
 /// The payload of alice's allocation at 1000: from 192.0.2.1:32853 to 192.0.2.100:3478, port 50000, 600 seconds.
 const PAYLOAD: [u8; 47] =
@@ -101,7 +101,7 @@ fn the_first_fault_of_a_payload(rt: HostRuntime) {
     let limits = limits(&rt, 1, 1);
     for (place, part, fault) in &PAYLOAD_CHANGES {
         let bytes = changed(&rt, rt.alloc(), &PAYLOAD, *place, part);
-        assert!(rt; fault_of(read_payload(rt.alloc(), Version::V1, limits, &bytes)) == *fault);
+        assert!(rt; fault_of(read_payload(rt.alloc(), V1, limits, &bytes)) == *fault);
     }
 }
 
@@ -136,7 +136,7 @@ fn the_first_fault_of_an_act(rt: HostRuntime) {
     let limits = limits(&rt, 2, 1);
     for (bytes, place, part, fault) in &ACT_CHANGES {
         let bytes = changed(&rt, rt.alloc(), bytes, *place, part);
-        assert!(rt; fault_of(read_act(rt.alloc(), Version::V1, limits, &bytes)) == *fault);
+        assert!(rt; fault_of(read_act(rt.alloc(), V1, limits, &bytes)) == *fault);
     }
 }
 
@@ -155,7 +155,7 @@ fn moments_never_fall(rt: HostRuntime) {
     let limits = limits(&rt, 1, 2);
     for (moment, fault) in &LATER {
         let bytes = changed(&rt, rt.alloc(), &BATCH, 48, moment);
-        assert!(rt; fault_of(read_payload(rt.alloc(), Version::V1, limits, &bytes)) == *fault);
+        assert!(rt; fault_of(read_payload(rt.alloc(), V1, limits, &bytes)) == *fault);
     }
 }
 
@@ -163,88 +163,45 @@ fn moments_never_fall(rt: HostRuntime) {
 fn every_prefix_is_short_and_a_byte_more_is_trailing(rt: HostRuntime) {
     let limits = limits(&rt, 1, 2);
     for size in 0..BATCH.len() {
-        let fault = fault_of(read_payload(rt.alloc(), Version::V1, limits, &BATCH[..size]));
+        let fault = fault_of(read_payload(rt.alloc(), V1, limits, &BATCH[..size]));
         assert!(rt; fault == Some(DecodeError::Short));
     }
     let longer = replaced(&rt, rt.alloc(), &BATCH, 91, 91, b"\0");
-    let fault = fault_of(read_payload(rt.alloc(), Version::V1, limits, &longer));
+    let fault = fault_of(read_payload(rt.alloc(), V1, limits, &longer));
     assert!(rt; fault == Some(DecodeError::TrailingBytes));
-}
-
-/// Reads a payload and writes it again.
-fn again<A: Allocator + Copy>(
-    alloc: A,
-    limits: Limits,
-    bytes: &[u8],
-) -> Result<Vec<u8, A>, ReadError> {
-    let events = read_payload(alloc, Version::V1, limits, bytes)?;
-    let mut out = Vec::new(alloc);
-    write_payload(&mut out, Version::V1, limits, &events)?;
-    Ok(out)
-}
-
-fn is_read_and_written<A: Allocator + Copy>(alloc: A, limits: Limits, bytes: &[u8]) -> bool {
-    match again(alloc, limits, bytes) {
-        Ok(written) => written.as_slice() == bytes,
-        Err(_) => false,
-    }
 }
 
 #[test]
 fn payloads_are_read_and_written_again(rt: HostRuntime) {
     let limits = limits(&rt, 1, 2);
-    assert!(rt; is_read_and_written(rt.alloc(), limits, &PAYLOAD));
-    assert!(rt; is_read_and_written(rt.alloc(), limits, &BATCH));
-}
-
-fn act_again(alloc: Global, limits: Limits, bytes: &[u8]) -> Result<Vec<u8>, ReadError> {
-    let event = read_act(alloc, Version::V1, limits, bytes)?;
-    let mut out = Vec::new(alloc);
-    write_act(
-        &mut out,
-        Version::V1,
-        limits,
-        event.moment,
-        event.tuple,
-        &event.act,
-    )?;
-    Ok(out)
-}
-
-fn act_is_read_and_written(rt: &impl Abort, alloc: Global, bytes: &[u8]) {
-    match act_again(alloc, limits(rt, 2, 1), bytes) {
-        Ok(written) => assert!(rt; written.as_slice() == bytes),
-        Err(_) => panic!(rt; "an act"),
-    }
+    assert!(rt; is_written_again(Kind::Payload, rt.alloc(), V1, limits, &PAYLOAD));
+    assert!(rt; is_written_again(Kind::Payload, rt.alloc(), V1, limits, &BATCH));
 }
 
 #[test]
 fn acts_are_read_and_written_again(rt: HostRuntime) {
-    act_is_read_and_written(&rt, rt.alloc(), &PAYLOAD[1..]);
-    act_is_read_and_written(&rt, rt.alloc(), &RENEW);
-    act_is_read_and_written(&rt, rt.alloc(), &PERMIT);
-    act_is_read_and_written(&rt, rt.alloc(), &BIND);
+    let limits = limits(&rt, 2, 1);
+    let acts: [&[u8]; 4] = [&PAYLOAD[1..], &RENEW, &PERMIT, &BIND];
+    for act in &acts {
+        assert!(rt; is_written_again(Kind::Act, rt.alloc(), V1, limits, act));
+    }
 }
 
 fn is_alices_allocation(act: &Act) -> bool {
     match act {
         Act::Alloc {
             user,
-            port,
-            granted,
+            port: 50000,
+            granted: 600,
             tx,
-        } => {
-            user.as_slice() == b"alice".as_slice()
-                && (*port, *granted) == (50000, 600)
-                && *tx == TxId([1, 2, 3, 4, 5, 6, 7, 8, 9, 10, 11, 12])
-        }
+        } => user.as_slice() == b"alice".as_slice() && *tx == ALICES_ID,
         _ => false,
     }
 }
 
 #[test]
 fn an_act_has_the_values_that_the_bytes_spell(rt: HostRuntime) {
-    match read_act(rt.alloc(), Version::V1, limits(&rt, 1, 1), &PAYLOAD[1..]) {
+    match read_act(rt.alloc(), V1, limits(&rt, 1, 1), &PAYLOAD[1..]) {
         Ok(event) => {
             assert!(rt; event.moment.seconds() == 1000);
             assert!(rt; event.tuple == ALICE);
@@ -258,13 +215,14 @@ fn an_act_has_the_values_that_the_bytes_spell(rt: HostRuntime) {
 fn is_refused(rt: &impl Abort, alloc: Global, served: u64) -> bool {
     let refusing = FailingAlloc::new(alloc, served);
     let limits = limits(rt, 1, 2);
-    let outcome = again(&refusing, limits, &BATCH);
+    let outcome = again(Kind::Payload, &refusing, V1, limits, &BATCH);
     let is_refused = refusing.has_refused();
     match outcome {
         Ok(_) => assert!(rt; !is_refused),
         Err(error) => assert!(rt; is_refused && error == ReadError::Memory),
     }
-    assert!(rt; is_read_and_written(&refusing, limits, &BATCH) || !is_refused);
+    let is_written = is_written_again(Kind::Payload, &refusing, V1, limits, &BATCH);
+    assert!(rt; is_written || !is_refused);
     is_refused
 }
 

@@ -1,5 +1,6 @@
 //! Tests of `turn_record`: snapshots, read whole and in pieces. The bytes are written out by hand from the format.
 
+use super::batches::{self, ALICES_ID, SERVER};
 use super::bytes::replaced;
 use super::limits::{SMALL, limits_of};
 use failing_alloc::FailingAlloc;
@@ -48,16 +49,16 @@ struct Listed<'a> {
     channels: &'a [(u16, Channel)],
 }
 
-/// 192.0.2.100:3478.
-const SERVER: Endpoint = Endpoint {
-    ip: 0xC000_0264,
-    port: 3478,
-};
-
 /// 203.0.113.5:7000.
 const PEER: Endpoint = Endpoint {
     ip: 0xCB00_7105,
     port: 7000,
+};
+
+/// 203.0.113.6:7000.
+const OTHER_PEER: Endpoint = Endpoint {
+    ip: 0xCB00_7106,
+    ..PEER
 };
 
 /// To `PEER`, until 600 seconds after 1000.
@@ -68,28 +69,16 @@ const CHANNEL: Channel = Channel {
 
 /// To 203.0.113.5:7001, until one second after 1000.
 const OTHER_CHANNEL: Channel = Channel {
-    peer: Endpoint {
-        ip: 0xCB00_7105,
-        port: 7001,
-    },
+    peer: Endpoint { port: 7001, ..PEER },
     expiry: 1001,
 };
 
-/// 192.0.2.1:32853.
-const ALICE_CLIENT: Endpoint = Endpoint {
-    ip: 0xC000_0201,
-    port: 32853,
-};
-
 const ALICE: Listed<'_> = Listed {
-    tuple: FiveTuple {
-        client: ALICE_CLIENT,
-        server: SERVER,
-    },
+    tuple: batches::ALICE,
     user: b"alice",
     port: 50000,
     granted: 600,
-    tx: TxId([1, 2, 3, 4, 5, 6, 7, 8, 9, 10, 11, 12]),
+    tx: ALICES_ID,
     expiry: 1600,
     permissions: &[(0xCB00_7105, 1300)],
     channels: &[(0x4000, CHANNEL)],
@@ -102,7 +91,7 @@ const BOB: Listed<'_> = Listed {
             ip: 0xC000_0202,
             port: 40000,
         },
-        server: SERVER,
+        ..batches::ALICE
     },
     user: b"bob",
     port: 50001,
@@ -121,11 +110,11 @@ const BOTH: [Listed<'_>; 2] = [ALICE, BOB];
 /// With the first client, and another port of the server.
 const OTHER_BOB: Listed<'_> = Listed {
     tuple: FiveTuple {
-        client: ALICE_CLIENT,
         server: Endpoint {
-            ip: 0xC000_0264,
             port: 3479,
+            ..SERVER
         },
+        ..batches::ALICE
     },
     ..BOB
 };
@@ -144,11 +133,8 @@ const OTHER_ALICE: Listed<'_> = Listed {
         (
             0x4FFF,
             Channel {
-                peer: Endpoint {
-                    ip: 0xCB00_7106,
-                    port: 7000,
-                },
-                expiry: 1001,
+                peer: OTHER_PEER,
+                ..OTHER_CHANNEL
             },
         ),
     ],
@@ -180,6 +166,24 @@ enum Answer<'a> {
 /// A place, the place up to which the bytes are replaced, what replaces them, and the fault of the bytes then.
 type Fault = (usize, usize, &'static [u8], DecodeError);
 
+/// The first five-tuple of `SNAPSHOT`.
+const FIRST_TUPLE: &[u8] = b"\xc0\0\x02\x01\x80\x55\xc0\0\x02\x64\x0d\x96";
+
+/// The same, and an empty name.
+const FIRST_TUPLE_WITHOUT_A_NAME: &[u8] = b"\xc0\0\x02\x01\x80\x55\xc0\0\x02\x64\x0d\x96\0\0";
+
+/// Five-tuples that are lower than the first one, each from another field on.
+const LOWER_CLIENT_ADDRESS: &[u8] = b"\xc0\0\x02\0\xff\xff\xff\xff\xff\xff\xff\xff";
+
+const LOWER_CLIENT_PORT: &[u8] = b"\xc0\0\x02\x01\x80\x54\xff\xff\xff\xff\xff\xff";
+
+const LOWER_SERVER_ADDRESS: &[u8] = b"\xc0\0\x02\x01\x80\x55\xc0\0\x02\x63\xff\xff";
+
+const LOWER_SERVER_PORT: &[u8] = b"\xc0\0\x02\x01\x80\x55\xc0\0\x02\x64\x0d\x95";
+
+/// A five-tuple that is next to the second one of `SNAPSHOT`.
+const NEXT_TUPLE: &[u8] = b"\xc0\0\x02\x02\x9c\x40\xc0\0\x02\x64\x0d\x97";
+
 /// The faults of `SNAPSHOT`, under limits of 2, 1, 1, 1 and 8.
 const FAULTS: [Fault; 62] = [
     // The moment: seven bytes, 2^40 - 3600, 2^63.
@@ -192,36 +196,11 @@ const FAULTS: [Fault; 62] = [
     (8, 12, b"\0\0\0\x01", TrailingBytes),
     (8, 12, b"\0\0\0\0", TrailingBytes),
     // The second five-tuple: the first one again, then one that falls in the client's address or port or the server's.
-    (
-        87,
-        99,
-        b"\xc0\0\x02\x01\x80\x55\xc0\0\x02\x64\x0d\x96",
-        OutOfOrder,
-    ),
-    (
-        87,
-        99,
-        b"\xc0\0\x02\0\xff\xff\xff\xff\xff\xff\xff\xff",
-        OutOfOrder,
-    ),
-    (
-        87,
-        99,
-        b"\xc0\0\x02\x01\x80\x54\xff\xff\xff\xff\xff\xff",
-        OutOfOrder,
-    ),
-    (
-        87,
-        99,
-        b"\xc0\0\x02\x01\x80\x55\xc0\0\x02\x63\xff\xff",
-        OutOfOrder,
-    ),
-    (
-        87,
-        99,
-        b"\xc0\0\x02\x01\x80\x55\xc0\0\x02\x64\x0d\x95",
-        OutOfOrder,
-    ),
+    (87, 99, FIRST_TUPLE, OutOfOrder),
+    (87, 99, LOWER_CLIENT_ADDRESS, OutOfOrder),
+    (87, 99, LOWER_CLIENT_PORT, OutOfOrder),
+    (87, 99, LOWER_SERVER_ADDRESS, OutOfOrder),
+    (87, 99, LOWER_SERVER_PORT, OutOfOrder),
     // The name.
     (24, 26, b"\0\0", BadValue),
     (24, 31, b"\0\x09aliceabcd", BadValue),
@@ -270,12 +249,7 @@ const FAULTS: [Fault; 62] = [
     (79, 87, b"\x01\0\0\0\0\0\x06\x40", BadValue),
     // Bytes after the last field.
     (132, 132, b"\0", TrailingBytes),
-    (
-        132,
-        132,
-        b"\xc0\0\x02\x02\x9c\x40\xc0\0\x02\x64\x0d\x97",
-        TrailingBytes,
-    ),
+    (132, 132, NEXT_TUPLE, TrailingBytes),
     (8, 132, b"\0\0\0\0\0", TrailingBytes),
     // Of two faults the first one: a field out of its range, and then the end.
     (0, 132, b"\0\0\0\xff\xff\xff\xf1\xf0", BadValue),
@@ -286,18 +260,8 @@ const FAULTS: [Fault; 62] = [
     (122, 132, b"\0\0\0\0\0\0\x03\xe8", BadValue),
     (130, 132, b"\x02", BadValue),
     // A five-tuple that doesn't rise, and then the end or an empty name.
-    (
-        87,
-        132,
-        b"\xc0\0\x02\x01\x80\x55\xc0\0\x02\x64\x0d\x96",
-        OutOfOrder,
-    ),
-    (
-        87,
-        101,
-        b"\xc0\0\x02\x01\x80\x55\xc0\0\x02\x64\x0d\x96\0\0",
-        OutOfOrder,
-    ),
+    (87, 132, FIRST_TUPLE, OutOfOrder),
+    (87, 101, FIRST_TUPLE_WITHOUT_A_NAME, OutOfOrder),
     // How many channels, and then bytes after the last field.
     (131, 132, b"\x02\0", BadValue),
 ];

@@ -1,16 +1,16 @@
 //! Tests of openings that carry a store of version 1 over to version 2: the bytes, which stores are carried over, and each device
 //! call and each allocation of it that fails.
 
-use super::batches::{OUTCOMES, append_first, try_open};
+use super::batches::{OUTCOMES, append_first, open_failing, try_open};
 use super::bytes::{front, has_at};
 use super::disks::{disk_of, write};
+use super::infos::{CARRIED, ONE_FRAME};
 use super::limits::small_limits;
 use super::stores::TestStore;
 use failing_alloc::FailingAlloc;
 use std::alloc::{Allocator, Global};
 use std::process::Abort;
 use turn_disk::{CrashOutcome, Disk, MemoryDisk};
-use turn_record::Version;
 use turn_store::{Info, OpenError};
 
 /// The min size of an area of version 2 under the limits 2, 1, 1, 1, 8. The second area is at 64 + 304.
@@ -33,18 +33,6 @@ const SECOND_AREA: [u8; 79] = *b"\xa5\x02\0\0\0\0\0\0\0\x02\0\0\0\x40\
     \xc3\x50\0\0\x02\x58\x01\x02\x03\x04\x05\x06\x07\x08\x09\x0a\x0b\x0c\0\
     \0\0\0\0\0\0\x06\x40\0\0\
     \0\0\0\0\0";
-
-const CARRIED: Info = Info {
-    version: Version::V2,
-    generation: 2,
-    frames: 0,
-};
-
-const KEPT: Info = Info {
-    version: Version::V1,
-    generation: 1,
-    frames: 1,
-};
 
 #[test]
 fn a_store_of_version_1_is_carried_over_to_the_other_area(rt: HostRuntime) {
@@ -70,19 +58,18 @@ fn stays(rt: &impl Abort, alloc: Global, disk: MemoryDisk, carry: bool) -> Info 
 #[test]
 fn a_store_is_not_carried_over_unasked(rt: HostRuntime) {
     let disk = old_disk(&rt, rt.alloc(), AREA);
-    assert!(rt; stays(&rt, rt.alloc(), disk, false) == KEPT);
+    assert!(rt; stays(&rt, rt.alloc(), disk, false) == ONE_FRAME);
 }
 
 #[test]
 fn a_store_with_smaller_areas_is_not_carried_over(rt: HostRuntime) {
     let disk = old_disk(&rt, rt.alloc(), AREA - 1);
-    assert!(rt; stays(&rt, rt.alloc(), disk, true) == KEPT);
+    assert!(rt; stays(&rt, rt.alloc(), disk, true) == ONE_FRAME);
 }
 
 const WORN: Info = Info {
-    version: Version::V1,
     generation: u64::MAX,
-    frames: 1,
+    ..ONE_FRAME
 };
 
 #[test]
@@ -129,32 +116,21 @@ fn a_stop_in_carrying_over_loses_nothing(rt: HostRuntime) {
     }
 }
 
-// Opens a disk of this content, at which this device call fails, and then opens it again. Returns whether it was refused.
-fn fail_carrying(rt: &impl Abort, alloc: Global, content: &[u8], call: u64) -> bool {
-    let disk = disk_of(rt, alloc, content);
-    assert!(rt; call > 0);
-    disk.fail_call(call);
+// Opens the store of a disk, which is carried over.
+fn is_carried(rt: &impl Abort, alloc: Global, disk: MemoryDisk) -> bool {
     let (opened, disk) = try_open(rt, alloc, disk);
-    if disk.failures() == 0 {
-        assert!(rt; opened == Ok(1600));
-        return false;
-    }
-    assert!(rt; opened == Err(OpenError::Device));
-    assert!(rt; disk.failures() == 1);
-    let (again, disk) = try_open(rt, alloc, disk);
-    assert!(rt; again == Ok(1600));
-    assert!(rt; has_at(disk.content(), 368, &SECOND_AREA));
-    true
+    opened == Ok(1600) && has_at(disk.content(), 368, &SECOND_AREA)
 }
 
 #[test]
 fn each_device_call_of_carrying_over_fails_in_turn(rt: HostRuntime) {
     let disk = old_disk(&rt, rt.alloc(), AREA);
     for call in 1..100u64 {
-        if !fail_carrying(&rt, rt.alloc(), disk.content(), call) {
+        let Some(failed) = open_failing(&rt, rt.alloc(), disk.content(), call, 1600) else {
             assert!(rt; call > 12);
             return;
-        }
+        };
+        assert!(rt; is_carried(&rt, rt.alloc(), failed));
     }
     panic!(rt; "some device call always fails");
 }

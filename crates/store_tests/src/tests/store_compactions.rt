@@ -3,12 +3,12 @@
 use super::batches::{OUTCOMES, Stops, append_at, expiry_in, stop_batch, store_after};
 use super::bytes::has_at;
 use super::disks::write;
+use super::infos::{COMPACTED, FRESH};
 use super::limits::small_limits;
 use super::stores::TestStore;
 use std::alloc::Global;
 use std::process::Abort;
 use turn_disk::{CrashOutcome, Disk};
-use turn_record::Version;
 use turn_store::{Info, StoreError, WrittenAs};
 
 /// The frame of the Refresh at 1005, and the closed gate after it.
@@ -16,11 +16,7 @@ const LAST_FRAME: [u8; 32] = *b"\xa5\x00\x00\x00\x1a\x01\x02\x00\x00\x00\x00\x00
     \xc0\x00\x02\x01\x80\x55\xc0\x00\x02\x64\x0d\x96\x00\x00\x02\x58\x00";
 
 /// The first area, filled by the allocation and the Refreshes up to 1005.
-const FILLED: Info = Info {
-    version: Version::V1,
-    generation: 1,
-    frames: 6,
-};
+const FILLED: Info = Info { frames: 6, ..FRESH };
 
 #[test]
 fn five_refreshes_fill_the_area_of_an_allocation(rt: HostRuntime) {
@@ -40,12 +36,6 @@ const SECOND_AREA: [u8; 74] = *b"\xa5\x01\x00\x00\x00\x00\x00\x00\x00\x02\x00\x0
 /// The frame of the Refresh at 1007, and the closed gate after it.
 const NEXT_FRAME: [u8; 32] = *b"\xa5\x00\x00\x00\x1a\x01\x02\x00\x00\x00\x00\x00\x00\x03\xef\
     \xc0\x00\x02\x01\x80\x55\xc0\x00\x02\x64\x0d\x96\x00\x00\x02\x58\x00";
-
-const COMPACTED: Info = Info {
-    version: Version::V1,
-    generation: 2,
-    frames: 0,
-};
 
 #[test]
 fn a_batch_without_room_is_a_snapshot_in_the_other_area(rt: HostRuntime) {
@@ -69,15 +59,13 @@ const THIRD_AREA: [u8; 74] = *b"\xa5\x01\x00\x00\x00\x00\x00\x00\x00\x03\x00\x00
 
 /// The second area, filled by the Refreshes from 1007 to 1011.
 const FILLED_AGAIN: Info = Info {
-    version: Version::V1,
-    generation: 2,
     frames: 5,
+    ..COMPACTED
 };
 
 const COMPACTED_AGAIN: Info = Info {
-    version: Version::V1,
     generation: 3,
-    frames: 0,
+    ..FRESH
 };
 
 #[test]
@@ -99,13 +87,7 @@ fn with_later_generation(rt: &impl Abort, alloc: Global) -> TestStore {
     assert!(rt; append_at(rt, alloc, &mut store, 6) == Err(StoreError::Device));
     let mut disk = store.into_disk();
     disk.crash(CrashOutcome::Lost);
-    assert!(rt;
-        has_at(
-            disk.content(),
-            302,
-            b"\x00\x01\x00\x00\x00\x00\x00\x00\x00\x02"
-        )
-    );
+    assert!(rt; has_at(disk.content(), 302, b"\0\x01\0\0\0\0\0\0\0\x02"));
     TestStore::open(rt, alloc, disk, small_limits(rt))
 }
 

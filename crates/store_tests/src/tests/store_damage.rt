@@ -2,7 +2,7 @@
 
 use super::batches::{append_at, append_with, expiry_in, store_after, table_at};
 use super::bytes::front;
-use super::disks::{disk_of, write};
+use super::disks::{changed_disk, disk_of, write};
 use super::limits::small_limits;
 use super::stores::TestStore;
 use std::alloc::Global;
@@ -70,24 +70,13 @@ const CHANGES: [(usize, &[u8], Result<u64, OpenError>); 25] = [
     ),
 ];
 
-fn open_changed(
-    rt: &impl Abort,
-    alloc: Global,
-    content: &[u8],
-    place: usize,
-    bytes: &[u8],
-) -> Result<u64, OpenError> {
-    let mut disk = disk_of(rt, alloc, content);
-    assert!(rt; write(rt, &mut disk, place, bytes));
-    expiry_in(rt, alloc, disk)
-}
-
 #[test]
 fn the_first_fault_of_a_store_is_the_refusal(rt: HostRuntime) {
     let store = store_after(&rt, rt.alloc(), 1);
     let content = store.disk().content();
     for (place, bytes, expected) in &CHANGES {
-        assert!(rt; open_changed(&rt, rt.alloc(), content, *place, bytes) == *expected);
+        let disk = changed_disk(&rt, rt.alloc(), content, *place, bytes);
+        assert!(rt; expiry_in(&rt, rt.alloc(), disk) == *expected);
     }
 }
 
@@ -112,8 +101,8 @@ fn a_shorter_disk_is_refused(rt: HostRuntime) {
 #[test]
 fn an_open_gate_without_room_is_refused(rt: HostRuntime) {
     let store = store_after(&rt, rt.alloc(), 6);
-    let content = store.disk().content();
-    assert!(rt; open_changed(&rt, rt.alloc(), content, 297, b"\xa5") == Err(Damaged(297)));
+    let disk = changed_disk(&rt, rt.alloc(), store.disk().content(), 297, b"\xa5");
+    assert!(rt; expiry_in(&rt, rt.alloc(), disk) == Err(Damaged(297)));
 }
 
 // A disk with the first `count` batches, whose generation is 2^64 - 1.

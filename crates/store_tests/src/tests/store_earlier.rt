@@ -2,6 +2,7 @@
 //! `store_earlier.txt` beside this file says how it was made.
 
 use super::bytes::has_at;
+use super::infos::{CARRIED, FRESH};
 use super::stores::{SnapshotTable, TestStore};
 use std::alloc::Global;
 use std::process::Abort;
@@ -103,15 +104,8 @@ const LIVES: [Live; 3] = [
 const MOMENT: u64 = 1795748724;
 
 const KEPT: Info = Info {
-    version: Version::V1,
-    generation: 1,
     frames: 12,
-};
-
-const CARRIED: Info = Info {
-    version: Version::V2,
-    generation: 2,
-    frames: 0,
+    ..FRESH
 };
 
 fn tuple_of(live: &Live) -> FiveTuple {

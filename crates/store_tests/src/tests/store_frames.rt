@@ -2,13 +2,13 @@
 
 use super::batches::{append_at, append_with, expiry_in, store_after, table_at};
 use super::bytes::{has_at, is_zero_from};
+use super::infos::{FRESH, ONE_FRAME};
 use super::store_format::SUPERBLOCK;
 use super::stores::TestStore;
 use std::alloc::Global;
 use std::process::Abort;
 use turn_disk::{CrashOutcome, Disk};
-use turn_record::Version;
-use turn_store::{Info, OpenError, StoreError, WrittenAs};
+use turn_store::{OpenError, StoreError, WrittenAs};
 
 #[test]
 fn a_fresh_store_opens_to_an_empty_table_at_0(rt: HostRuntime) {
@@ -17,12 +17,6 @@ fn a_fresh_store_opens_to_an_empty_table_at_0(rt: HostRuntime) {
     assert!(rt; expiry_in(&rt, rt.alloc(), store.into_disk()) == Ok(0));
 }
 
-const FRESH: Info = Info {
-    version: Version::V1,
-    generation: 1,
-    frames: 0,
-};
-
 /// The first area after alice's allocation: an open gate, version 1, generation 1, a snapshot of 12 bytes (moment 0, no
 /// entry), an open gate, 47 bytes of payload, a closed gate.
 const FIRST_AREA: [u8; 79] = *b"\xa5\x01\x00\x00\x00\x00\x00\x00\x00\x01\x00\x00\x00\x0c\
@@ -30,12 +24,6 @@ const FIRST_AREA: [u8; 79] = *b"\xa5\x01\x00\x00\x00\x00\x00\x00\x00\x01\x00\x00
     \xa5\x00\x00\x00\x2f\x01\x01\x00\x00\x00\x00\x00\x00\x03\xe8\
     \xc0\x00\x02\x01\x80\x55\xc0\x00\x02\x64\x0d\x96\
     \x00\x05alice\xc3\x50\x00\x00\x02\x58\x01\x02\x03\x04\x05\x06\x07\x08\x09\x0a\x0b\x0c\x00";
-
-const ONE_FRAME: Info = Info {
-    version: Version::V1,
-    generation: 1,
-    frames: 1,
-};
 
 #[test]
 fn a_batch_is_a_frame_after_the_last_one(rt: HostRuntime) {

@@ -1,6 +1,6 @@
 //! Tests of openings: each device call that fails, and each allocation that is refused.
 
-use super::batches::{expiry_in, store_after, try_open};
+use super::batches::{expiry_in, open_failing, store_after, try_open};
 use super::disks::disk_of;
 use failing_alloc::FailingAlloc;
 use std::alloc::{Allocator, Global};
@@ -8,31 +8,17 @@ use std::process::Abort;
 use turn_disk::{Disk, MemoryDisk};
 use turn_store::OpenError;
 
-// Opens a disk of this content, at which this device call fails, and then opens it again. Returns whether it was refused.
-fn refuse_call(rt: &impl Abort, alloc: Global, content: &[u8], call: u64) -> bool {
-    let disk = disk_of(rt, alloc, content);
-    assert!(rt; call > 0);
-    disk.fail_call(call);
-    let (outcome, disk) = try_open(rt, alloc, disk);
-    if disk.failures() == 0 {
-        assert!(rt; outcome == Ok(1607));
-        return false;
-    }
-    assert!(rt; outcome == Err(OpenError::Device));
-    assert!(rt; disk.failures() == 1);
-    assert!(rt; expiry_in(rt, alloc, disk) == Ok(1607));
-    true
-}
-
 // The store has a snapshot of 1006 and a frame.
 #[test]
 fn each_device_call_of_an_opening_fails_in_turn(rt: HostRuntime) {
     let store = store_after(&rt, rt.alloc(), 8);
     for call in 1..100u64 {
-        if !refuse_call(&rt, rt.alloc(), store.disk().content(), call) {
+        let content = store.disk().content();
+        let Some(failed) = open_failing(&rt, rt.alloc(), content, call, 1607) else {
             assert!(rt; call > 5);
             return;
-        }
+        };
+        assert!(rt; expiry_in(&rt, rt.alloc(), failed) == Ok(1607));
     }
     panic!(rt; "some device call always fails");
 }

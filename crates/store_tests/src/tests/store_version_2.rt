@@ -1,7 +1,8 @@
 //! Tests of stores of version 2: the bytes of a fresh one, with a reservation, and what its openings are refused for.
 
 use super::bytes::{has_at, is_zero_from};
-use super::disks::{disk_of, write};
+use super::disks::{changed_disk, disk_of, write};
+use super::infos;
 use super::limits::small_limits;
 use super::store_carrying::AREA;
 use super::stores::{SnapshotTable, TestStore, format_as, zeros};
@@ -43,14 +44,12 @@ fn an_area_below_the_least_one_of_version_2_is_refused(rt: HostRuntime) {
 
 const ONE_FRAME: Info = Info {
     version: Version::V2,
-    generation: 1,
-    frames: 1,
+    ..infos::ONE_FRAME
 };
 
 const COMPACTED: Info = Info {
     version: Version::V2,
-    generation: 2,
-    frames: 0,
+    ..infos::COMPACTED
 };
 
 /// The payload of alice's allocation at 1000 with a token for 50001.
@@ -82,15 +81,10 @@ fn a_reservation_is_kept_by_a_frame_and_by_a_snapshot(rt: HostRuntime) {
     assert!(rt; reserved_in(&rt, rt.alloc(), copy) == 1);
     assert!(rt; store.compact(&rt, &table) == Ok(()));
     assert!(rt; store.info() == COMPACTED);
-    assert!(rt;
-        has_at(
-            store.disk().content(),
-            368,
-            b"\xa5\x02\0\0\0\0\0\0\0\x02\0\0\0\x5a"
-        )
-    );
-    assert!(rt; has_at(store.disk().content(), 382, &SNAPSHOT));
-    assert!(rt; has_at(store.disk().content(), 472, b"\0"));
+    let content = store.disk().content();
+    assert!(rt; has_at(content, 368, b"\xa5\x02\0\0\0\0\0\0\0\x02\0\0\0\x5a"));
+    assert!(rt; has_at(content, 382, &SNAPSHOT));
+    assert!(rt; has_at(content, 472, b"\0"));
     assert!(rt; reserved_in(&rt, rt.alloc(), store.into_disk()) == 1);
 }
 
@@ -111,15 +105,7 @@ const CHANGES: [(usize, &[u8], Result<(), OpenError>); 10] = [
     (368, b"\xa5\x03\0\0\0\0\0\0\0\x02", Err(Damaged(368))),
 ];
 
-fn open_changed(
-    rt: &impl Abort,
-    alloc: Global,
-    content: &[u8],
-    place: usize,
-    bytes: &[u8],
-) -> Result<(), OpenError> {
-    let mut disk = disk_of(rt, alloc, content);
-    assert!(rt; write(rt, &mut disk, place, bytes));
+fn opened(rt: &impl Abort, alloc: Global, disk: MemoryDisk) -> Result<(), OpenError> {
     match Store::open(alloc, disk, small_limits(rt)) {
         Ok(_) => Ok(()),
         Err(refused) => Err(refused.fault),
@@ -130,7 +116,8 @@ fn open_changed(
 fn the_first_fault_of_a_store_of_version_2_is_the_refusal(rt: HostRuntime) {
     let disk = fresh(&rt, rt.alloc());
     for (place, bytes, expected) in &CHANGES {
-        assert!(rt; open_changed(&rt, rt.alloc(), disk.content(), *place, bytes) == *expected);
+        let changed = changed_disk(&rt, rt.alloc(), disk.content(), *place, bytes);
+        assert!(rt; opened(&rt, rt.alloc(), changed) == *expected);
     }
 }
 
@@ -140,6 +127,6 @@ fn version_2_in_an_area_below_its_least_is_damaged(rt: HostRuntime) {
     let mut disk = zeros(&rt, rt.alloc(), AREA - 1);
     let limits = small_limits(&rt);
     assert!(rt; format_as(&rt, &mut disk, Version::V1, limits, AREA - 1) == Ok(()));
-    let changed = open_changed(&rt, rt.alloc(), disk.content(), 65, &[2]);
-    assert!(rt; changed == Err(Damaged(64)));
+    assert!(rt; write(&rt, &mut disk, 65, &[2]));
+    assert!(rt; opened(&rt, rt.alloc(), disk) == Err(Damaged(64)));
 }

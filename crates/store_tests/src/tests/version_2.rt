@@ -7,7 +7,7 @@ ghost use Rattle.turn_history.specs.Fitting.{Fits, IsInRange};
 ghost use Rattle.turn_record.specs.Records.{IsSnapshot};
 ghost use Rattle.turn_record.specs.declared.version.Version.TheVariants.{V2};
 
-use super::batches::ALICE;
+use super::batches::{ALICE, ALICES_ID};
 use super::bytes::replaced;
 use super::entries;
 use super::limits::{SMALL, limits_of};
@@ -178,8 +178,15 @@ pub fn again<A: Allocator + Copy>(
     }
 }
 
-fn is_written_again(alloc: Global, limits: Limits, kind: Kind, bytes: &[u8]) -> bool {
-    match again(kind, alloc, Version::V2, limits, bytes) {
+/// Whether bytes are read and written again as they are.
+pub fn is_written_again<A: Allocator + Copy>(
+    kind: Kind,
+    alloc: A,
+    version: Version,
+    limits: Limits,
+    bytes: &[u8],
+) -> bool {
+    match again(kind, alloc, version, limits, bytes) {
         Ok(written) => written.as_slice() == bytes,
         Err(_) => false,
     }
@@ -197,7 +204,7 @@ const RECORDS: [(Kind, &[u8]); 5] = [
 fn what_is_read_is_written_again(rt: HostRuntime) {
     let limits = limits(&rt);
     for (kind, bytes) in &RECORDS {
-        assert!(rt; is_written_again(rt.alloc(), limits, *kind, bytes));
+        assert!(rt; is_written_again(*kind, rt.alloc(), Version::V2, limits, bytes));
     }
 }
 
@@ -211,16 +218,11 @@ fn is_alices_pair(act: &Act) -> bool {
     match act {
         Act::AllocEven {
             user,
-            port,
-            granted,
+            port: 50000,
+            granted: 600,
             tx,
             token,
-        } => {
-            user.as_slice() == b"alice".as_slice()
-                && (*port, *granted) == (50000, 600)
-                && *tx == TxId([1, 2, 3, 4, 5, 6, 7, 8, 9, 10, 11, 12])
-                && *token == ALICES
-        }
+        } => user.as_slice() == b"alice".as_slice() && (*tx, *token) == (ALICES_ID, ALICES),
         _ => false,
     }
 }
@@ -512,9 +514,8 @@ fn an_entry_without_a_token_has_a_byte_more(rt: HostRuntime) {
     let limits = entries::limits(&rt);
     for (count, size) in [(84, 4048), (85, 4096)] {
         let bytes = entries::snapshot(&rt, rt.alloc(), Version::V2, count);
-        assert!(rt;
-            bytes.len() == size && is_written_again(rt.alloc(), limits, Kind::Snapshot, &bytes)
-        );
+        assert!(rt; bytes.len() == size);
+        assert!(rt; is_written_again(Kind::Snapshot, rt.alloc(), Version::V2, limits, &bytes));
     }
 }
 
