@@ -7,6 +7,7 @@ use turn_cred::{AuthHandler, Checker, Nonces, Users, Verdict};
 use turn_mac::append_integrity;
 use turn_types::{Bounds, Class, Endpoint, Limits, Method, Moment, ServerConfig, Settings, TxId};
 
+/// 192.0.2.1:32853.
 pub const CLIENT: Endpoint = Endpoint {
     ip: 0xC000_0201,
     port: 32853,
@@ -20,10 +21,10 @@ const BOB: [u8; 16] = *b"\xb7\x06\x15\xa7\x4a\x52\x4b\xec\xc6\x96\x0f\x54\x06\x3
 const WRONG: [u8; 16] = *b"\xb1\xeb\xf1\x11\x86\xb7\xef\xf2\xa2\x4c\xe5\xbd\x6f\xef\x6c\x3d";
 
 /// The nonces of the seconds 1000 and 4600 for the client, under a secret of zeros.
-const OF_1000: &[u8; 80] = b"00000000000003e867b461aa60944ff2d53aa237\
+pub const OF_1000: &[u8; 80] = b"00000000000003e867b461aa60944ff2d53aa237\
     b6407c1ab6779c548e297976b3bed07840569489";
 
-const OF_4600: &[u8; 80] = b"00000000000011f8ae82317d7fa01e5b4dea76ec\
+pub const OF_4600: &[u8; 80] = b"00000000000011f8ae82317d7fa01e5b4dea76ec\
     0af7675c3d730e4c24cd95884b20b252480d4278";
 
 /// The realm is `example.org`, the secret is zeros, and a user's name has at most eight bytes.
@@ -101,6 +102,9 @@ pub enum Part {
     /// MESSAGE-INTEGRITY under a key.
     Signed([u8; 16]),
 }
+
+/// MESSAGE-INTEGRITY under Alice's key.
+const SIGNED: Part = Signed(ALICE);
 
 /// Adds MESSAGE-INTEGRITY to a message that has none.
 fn sign<A: Allocator + Copy>(builder: &mut Builder<A>, key: &[u8; 16]) -> Result<(), Fail> {
@@ -198,25 +202,21 @@ const ORDERS: [Row; 18] = [
     (1000, 401, &[]),
     (1000, 401, &[Alice, Realm, Nonce1000]),
     (1000, 401, &[Alice, Realm, Nonce1000, Sha256]),
-    (1000, 400, &[Signed(ALICE)]),
-    (1000, 400, &[Realm, Nonce1000, Signed(ALICE)]),
-    (1000, 400, &[Alice, Nonce1000, Signed(ALICE)]),
-    (1000, 400, &[Alice, Realm, Signed(ALICE)]),
+    (1000, 400, &[SIGNED]),
+    (1000, 400, &[Realm, Nonce1000, SIGNED]),
+    (1000, 400, &[Alice, Nonce1000, SIGNED]),
+    (1000, 400, &[Alice, Realm, SIGNED]),
     (1000, 400, &[Carol, Realm, Signed(WRONG)]),
-    (1000, 400, &[Signed(ALICE), Alice, Realm, Nonce1000]),
-    (1000, 400, &[Alice, Realm, Signed(ALICE), Nonce1000]),
+    (1000, 400, &[SIGNED, Alice, Realm, Nonce1000]),
+    (1000, 400, &[Alice, Realm, SIGNED, Nonce1000]),
     (1000, 401, &[Alice, Realm, Nonce1000, Signed(WRONG)]),
     (4600, 401, &[Alice, Realm, Nonce1000, Signed(BOB)]),
-    (999, 438, &[Alice, Realm, Nonce1000, Signed(ALICE)]),
-    (1000, PASSED, &[Alice, Realm, Nonce1000, Signed(ALICE)]),
-    (4599, PASSED, &[Alice, Realm, Nonce1000, Signed(ALICE)]),
-    (4600, 438, &[Alice, Realm, Nonce1000, Signed(ALICE)]),
-    (1000, 438, &[Alice, Realm, NoNonce, Signed(ALICE)]),
-    (
-        1000,
-        PASSED,
-        &[Sha256, Nonce1000, Alice, Realm, Signed(ALICE)],
-    ),
+    (999, 438, &[Alice, Realm, Nonce1000, SIGNED]),
+    (1000, PASSED, &[Alice, Realm, Nonce1000, SIGNED]),
+    (4599, PASSED, &[Alice, Realm, Nonce1000, SIGNED]),
+    (4600, 438, &[Alice, Realm, Nonce1000, SIGNED]),
+    (1000, 438, &[Alice, Realm, NoNonce, SIGNED]),
+    (1000, PASSED, &[Sha256, Nonce1000, Alice, Realm, SIGNED]),
 ];
 
 #[test]
@@ -226,17 +226,17 @@ fn the_first_condition_that_applies_counts(rt: HostRuntime) -> Result<(), Fail> 
 
 /// Who is known, in which realm.
 const NAMES: [Row; 11] = [
-    (1000, PASSED, &[Alice, Realm, Nonce1000, Signed(ALICE)]),
-    (1000, PASSED, &[EightBytes, Realm, Nonce1000, Signed(ALICE)]),
-    (1000, 401, &[NineBytes, Realm, Nonce1000, Signed(ALICE)]),
-    (1000, 401, &[NoName, Realm, Nonce1000, Signed(ALICE)]),
-    (1000, 401, &[Bob, Realm, Nonce1000, Signed(ALICE)]),
-    (1000, 401, &[Carol, Realm, Nonce1000, Signed(ALICE)]),
-    (1000, 401, &[Alice, CapitalRealm, Nonce1000, Signed(ALICE)]),
-    (1000, 401, &[Alice, ShorterRealm, Nonce1000, Signed(ALICE)]),
-    (1000, 401, &[Alice, NoRealm, Nonce1000, Signed(ALICE)]),
-    (1000, 401, &[Carol, Realm, NoNonce, Signed(ALICE)]),
-    (1000, 438, &[Alice, Realm, Nonce4600, Signed(ALICE)]),
+    (1000, PASSED, &[Alice, Realm, Nonce1000, SIGNED]),
+    (1000, PASSED, &[EightBytes, Realm, Nonce1000, SIGNED]),
+    (1000, 401, &[NineBytes, Realm, Nonce1000, SIGNED]),
+    (1000, 401, &[NoName, Realm, Nonce1000, SIGNED]),
+    (1000, 401, &[Bob, Realm, Nonce1000, SIGNED]),
+    (1000, 401, &[Carol, Realm, Nonce1000, SIGNED]),
+    (1000, 401, &[Alice, CapitalRealm, Nonce1000, SIGNED]),
+    (1000, 401, &[Alice, ShorterRealm, Nonce1000, SIGNED]),
+    (1000, 401, &[Alice, NoRealm, Nonce1000, SIGNED]),
+    (1000, 401, &[Carol, Realm, NoNonce, SIGNED]),
+    (1000, 438, &[Alice, Realm, Nonce4600, SIGNED]),
 ];
 
 #[test]
@@ -249,30 +249,14 @@ const AFTER: [Part; 4] = [Zeros, Carol, NoRealm, NoNonce];
 
 /// Of several attributes of a type the first counts.
 const REPEATED: [Row; 8] = [
-    (1000, PASSED, &[Alice, Bob, Realm, Nonce1000, Signed(ALICE)]),
+    (1000, PASSED, &[Alice, Bob, Realm, Nonce1000, SIGNED]),
     (1000, 401, &[Alice, Bob, Realm, Nonce1000, Signed(BOB)]),
-    (1000, 401, &[Bob, Alice, Realm, Nonce1000, Signed(ALICE)]),
+    (1000, 401, &[Bob, Alice, Realm, Nonce1000, SIGNED]),
     (1000, PASSED, &[Bob, Alice, Realm, Nonce1000, Signed(BOB)]),
-    (
-        1000,
-        PASSED,
-        &[Alice, Realm, NoRealm, Nonce1000, Signed(ALICE)],
-    ),
-    (
-        1000,
-        401,
-        &[Alice, NoRealm, Realm, Nonce1000, Signed(ALICE)],
-    ),
-    (
-        1000,
-        PASSED,
-        &[Alice, Realm, Nonce1000, Nonce4600, Signed(ALICE)],
-    ),
-    (
-        1000,
-        438,
-        &[Alice, Realm, Nonce4600, Nonce1000, Signed(ALICE)],
-    ),
+    (1000, PASSED, &[Alice, Realm, NoRealm, Nonce1000, SIGNED]),
+    (1000, 401, &[Alice, NoRealm, Realm, Nonce1000, SIGNED]),
+    (1000, PASSED, &[Alice, Realm, Nonce1000, Nonce4600, SIGNED]),
+    (1000, 438, &[Alice, Realm, Nonce4600, Nonce1000, SIGNED]),
 ];
 
 #[test]
@@ -280,7 +264,7 @@ fn the_first_of_a_type_counts(rt: HostRuntime) -> Result<(), Fail> {
     play(rt.alloc(), &REPEATED, &AFTER)
 }
 
-const ALICES: &[Part] = &[Alice, Realm, Nonce1000, Signed(ALICE)];
+const ALICES: &[Part] = &[Alice, Realm, Nonce1000, SIGNED];
 
 #[test]
 fn a_verdict_names_the_user_and_the_key(rt: HostRuntime) -> Result<(), Fail> {

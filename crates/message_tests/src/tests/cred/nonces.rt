@@ -1,12 +1,7 @@
+use super::credentials::{CLIENT, OF_1000, OF_4600, at};
 use std::test::Fail;
 use turn_cred::Nonces;
-use turn_types::{Endpoint, Moment};
-
-/// 192.0.2.1:32853.
-const CLIENT: Endpoint = Endpoint {
-    ip: 0xC000_0201,
-    port: 32853,
-};
+use turn_types::Endpoint;
 
 const FAR: Endpoint = Endpoint {
     ip: 0xFF01_0203,
@@ -20,26 +15,10 @@ const COUNTED: [u8; 32] = [
     26, 27, 28, 29, 30, 31,
 ];
 
-fn at(second: u64) -> Result<Moment, Fail> {
-    Ok(Moment::new(second).ok_or("a moment")?)
-}
-
 /// A secret, a second, a client, and the nonce (made with the module hmac of Python).
 const TEXTS: [(&[u8; 32], u64, Endpoint, &[u8]); 4] = [
-    (
-        &[0; 32],
-        1000,
-        CLIENT,
-        b"00000000000003e867b461aa60944ff2d53aa237\
-        b6407c1ab6779c548e297976b3bed07840569489",
-    ),
-    (
-        &[0; 32],
-        4600,
-        CLIENT,
-        b"00000000000011f8ae82317d7fa01e5b4dea76ec\
-        0af7675c3d730e4c24cd95884b20b252480d4278",
-    ),
+    (&[0; 32], 1000, CLIENT, OF_1000),
+    (&[0; 32], 4600, CLIENT, OF_4600),
     (
         &COUNTED,
         1_099_511_624_175,
@@ -59,12 +38,8 @@ const TEXTS: [(&[u8; 32], u64, Endpoint, &[u8]); 4] = [
 #[test]
 fn a_nonce_is_the_second_and_a_digest(rt: HostRuntime) -> Result<(), Fail> {
     for (secret, second, client, text) in &TEXTS {
-        assert!(rt;
-            Nonces::new(**secret)
-                .issue(*client, at(*second)?)
-                .as_slice()
-                == *text
-        );
+        let nonce = Nonces::new(**secret).issue(*client, at(*second)?);
+        assert!(rt; nonce.as_slice() == *text);
     }
     Ok(())
 }
