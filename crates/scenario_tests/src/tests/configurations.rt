@@ -50,9 +50,7 @@ auth-secret a-secret-of-the-web-service
 realm realm";
 
 /// The key of user `user`, realm `realm` and password `pass`, by RFC 8489, section 9.2.2, and MD5 of another program.
-const KEY: [u8; 16] = [
-    0x84, 0x93, 0xfb, 0xc5, 0x3b, 0xa5, 0x82, 0xfb, 0x4c, 0x04, 0x4c, 0x45, 0x6b, 0xdc, 0x40, 0xeb,
-];
+const KEY: [u8; 16] = *b"\x84\x93\xfb\xc5\x3b\xa5\x82\xfb\x4c\x04\x4c\x45\x6b\xdc\x40\xeb";
 
 const SECRET: [u8; 32] = [
     0, 1, 2, 3, 4, 5, 6, 7, 8, 9, 10, 11, 12, 13, 14, 15, 16, 17, 18, 19, 20, 21, 22, 23, 24, 25,
@@ -124,30 +122,21 @@ fn a_configuration_is_read_whole_or_is_out_of_memory(rt: HostRuntime) {
 const ADDED: u32 = 4000;
 
 /// The first of them, one in the middle and the last: name, password, and key, made as the one above.
-const SAMPLES: [(&[u8], &[u8], [u8; 16]); 3] = [
+const SAMPLES: [(&[u8], &[u8], &[u8; 16]); 3] = [
     (
         b"name0",
         b"word0",
-        [
-            0x55, 0xea, 0xef, 0xac, 0xbb, 0x13, 0xba, 0x1b, 0x8a, 0x38, 0xa6, 0x3f, 0x51, 0x53,
-            0x94, 0xa3,
-        ],
+        b"\x55\xea\xef\xac\xbb\x13\xba\x1b\x8a\x38\xa6\x3f\x51\x53\x94\xa3",
     ),
     (
         b"name2000",
         b"word2000",
-        [
-            0xa5, 0x6d, 0xbe, 0x19, 0x33, 0xbb, 0xe7, 0x5b, 0x62, 0x25, 0xc4, 0xb4, 0x71, 0x76,
-            0x81, 0x03,
-        ],
+        b"\xa5\x6d\xbe\x19\x33\xbb\xe7\x5b\x62\x25\xc4\xb4\x71\x76\x81\x03",
     ),
     (
         b"name3999",
         b"word3999",
-        [
-            0xf1, 0x18, 0x75, 0x2b, 0x27, 0x44, 0xcd, 0x69, 0x75, 0x19, 0x5c, 0xb4, 0x0f, 0x3c,
-            0x34, 0x54,
-        ],
+        b"\xf1\x18\x75\x2b\x27\x44\xcd\x69\x75\x19\x5c\xb4\x0f\x3c\x34\x54",
     ),
 ];
 
@@ -171,7 +160,7 @@ fn thousands_of_users_have_their_passwords_and_keys(rt: HostRuntime) {
     let found = read_config(rt.alloc(), &text).expect(&rt, "a configuration");
     assert!(rt; is_whole(&found) && found.passwords.len() == 4001);
     for (name, password, key) in &SAMPLES {
-        assert!(rt; has_user(&found, name, password, *key));
+        assert!(rt; has_user(&found, name, password, **key));
     }
 }
 
@@ -198,30 +187,21 @@ relay 198.51.100.1 50000 50009
 limits 2 1 1 1 17";
 
 /// Names, their passwords by HMAC-SHA1 and base64 of another program, and their keys by its MD5.
-const NAMES: [(&[u8], &[u8; 28], [u8; 16]); 3] = [
+const NAMES: [(&[u8], &[u8; 28], &[u8; 16]); 3] = [
     (
         b"1700000000",
         b"n9SFVLmM2wl9yZ/3vY8Ypca+c/g=",
-        [
-            0xc7, 0x2d, 0x32, 0xba, 0xc3, 0xd0, 0x6e, 0x8f, 0xce, 0x73, 0x8f, 0xea, 0xf7, 0xb0,
-            0x5b, 0x16,
-        ],
+        b"\xc7\x2d\x32\xba\xc3\xd0\x6e\x8f\xce\x73\x8f\xea\xf7\xb0\x5b\x16",
     ),
     (
         b"1700000000:alice",
         b"XNHRyJ8VZgb4sHKUpvXOrNI2d4E=",
-        [
-            0xf9, 0xb5, 0xe2, 0xd7, 0xb9, 0x72, 0xdf, 0x0f, 0xab, 0x41, 0x2b, 0x5e, 0x8c, 0xf5,
-            0xd5, 0x8f,
-        ],
+        b"\xf9\xb5\xe2\xd7\xb9\x72\xdf\x0f\xab\x41\x2b\x5e\x8c\xf5\xd5\x8f",
     ),
     (
         b"1700000000:a:b",
         b"avRPnW/zCmuye6irztIqQStfxFg=",
-        [
-            0xaa, 0x05, 0x0a, 0x5c, 0x79, 0x84, 0x4e, 0x88, 0xd2, 0x48, 0x69, 0x21, 0x8a, 0x6d,
-            0x74, 0x4a,
-        ],
+        b"\xaa\x05\x0a\x5c\x79\x84\x4e\x88\xd2\x48\x69\x21\x8a\x6d\x74\x4a",
     ),
 ];
 
@@ -240,7 +220,7 @@ fn is_shared(found: &Configured<'_>, name: &[u8], password: &[u8; 28], key: [u8;
 fn names_under_the_secret_have_its_passwords_and_keys(rt: HostRuntime) {
     let found = read_config(rt.alloc(), SHARED).expect(&rt, "a configuration");
     for (name, password, key) in &NAMES {
-        assert!(rt; is_shared(&found, name, password, *key));
+        assert!(rt; is_shared(&found, name, password, **key));
     }
 }
 
