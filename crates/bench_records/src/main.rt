@@ -19,35 +19,39 @@ use turn_record::Version;
 /// Rounds of which the best counts.
 const ROUNDS: usize = 5;
 
-/// Prints the nanoseconds of an entry, and the megabytes of a second, of a call on a snapshot of so many bytes.
-fn measure<M: Measured>(
-    rt: &HostRuntime,
-    name: &str,
-    call: &mut M,
+/// How often each call is made in a round, and the bytes of the snapshot.
+#[derive(Clone, Copy)]
+struct Round {
     count: usize,
     size: usize,
-) -> io::Result<()> {
-    let timing = best_of(rt, call, count, ROUNDS)?;
-    let entries = (count.max(1) as u128).saturating_mul(u128::from(ENTRIES));
-    let each = timing.micros.saturating_mul(1000) / entries.max(1);
-    let rate = (count as u128).saturating_mul(size as u128) / timing.micros.max(1);
-    println!(rt;
-        "{name}: {each} ns an entry, {rate} MB/s ({} of {count} done)",
-        timing.done
-    )
+}
+
+impl Round {
+    /// Prints the nanoseconds of an entry, and the megabytes of a second, of a call.
+    fn measure<M: Measured>(self, rt: &HostRuntime, name: &str, call: &mut M) -> io::Result<()> {
+        let Round { count, size } = self;
+        let timing = best_of(rt, call, count, ROUNDS)?;
+        let entries = (count.max(1) as u128).saturating_mul(u128::from(ENTRIES));
+        let each = timing.micros.saturating_mul(1000) / entries.max(1);
+        let rate = (count as u128).saturating_mul(size as u128) / timing.micros.max(1);
+        println!(rt;
+            "{name}: {each} ns an entry, {rate} MB/s ({} of {count} done)",
+            timing.done
+        )
+    }
 }
 
 fn measure_all(rt: &HostRuntime, kept: &Kept, bytes: &[u8], count: usize) -> io::Result<()> {
     let alloc = rt.alloc();
     let size = bytes.len();
-    let mut whole = ReadWhole { alloc, bytes };
-    measure(rt, "read_snapshot", &mut whole, count, size)?;
+    let round = Round { count, size };
+    round.measure(rt, "read_snapshot", &mut ReadWhole { alloc, bytes })?;
     let mut pieces = ReadPieces { alloc, bytes };
-    measure(rt, "SnapshotReader, in pieces", &mut pieces, count, size)?;
+    round.measure(rt, "SnapshotReader, in pieces", &mut pieces)?;
     let mut pieces = WritePieces::new(kept, size);
-    measure(rt, "SnapshotWriter, in pieces", &mut pieces, count, size)?;
+    round.measure(rt, "SnapshotWriter, in pieces", &mut pieces)?;
     let mut whole = WriteWhole::new(alloc, kept, size)?;
-    measure(rt, "write_snapshot", &mut whole, count, size)
+    round.measure(rt, "write_snapshot", &mut whole)
 }
 
 fn main(rt: HostRuntime) -> io::Result<()> {
