@@ -1,9 +1,10 @@
 //! The calls that are measured.
 
-use crate::datagrams::{CLIENT, ID, PEER, five_tuple};
+use crate::datagrams::{CLIENT, ID, PEER};
 use crate::servers::{Engine, PORT, Rules, apply};
 use bench_time::Measured;
 use std::alloc::{AllocError, Global};
+use test_requests::five_tuple;
 use turn_codec::is_channel_data_number;
 use turn_history::{Act, Addresses};
 use turn_relay::{from_client, from_peer};
@@ -197,7 +198,7 @@ impl Relayed<'_> {
         let table = self.server.table();
         match from_peer(table, PORT, PEER, self.bytes, table.moment()) {
             Some(data) => match data.channel {
-                Some(number) if is_channel_data_number(number) => {
+                Some(number) if is_channel_data_number(number.get()) => {
                     data.write(self.alloc, ID).is_ok()
                 }
                 _ => false,

@@ -1,35 +1,23 @@
 //! What arrives: the datagrams of the clients, and their addresses.
 
 use std::alloc::{AllocError, Global};
+use test_requests::{ALICE, FIRST, PEER_ENDPOINT, REALM};
 use turn_codec::ChannelData;
 use turn_cred::Nonces;
-use turn_mac::generate_auth_key;
 use turn_requests::{Attribute, Request, build_request};
-use turn_types::{Endpoint, FiveTuple, Method, Moment, TxId};
+use turn_types::{Endpoint, Method, Moment, TxId};
 
 /// The client whose datagrams are measured.
-pub const CLIENT: Endpoint = Endpoint {
-    ip: 0xC000_0201,
-    port: 32853,
-};
+pub const CLIENT: Endpoint = FIRST;
 
 /// The peer that the client has a channel to.
-pub const PEER: Endpoint = Endpoint {
-    ip: 0xCB00_7105,
-    port: 7000,
-};
+pub const PEER: Endpoint = PEER_ENDPOINT;
 
 /// The number of that channel.
 pub const CHANNEL: u16 = 0x4000;
 
 /// The transaction id of all requests.
 pub const ID: TxId = TxId([7; 12]);
-
-/// The realm of the server.
-pub const REALM: &[u8] = b"example.org";
-
-/// The name of the only user.
-pub const NAME: &[u8] = b"alice";
 
 /// What nonces are made with.
 pub const SECRET: [u8; 32] = [0; 32];
@@ -40,20 +28,6 @@ pub fn client_at(place: u16) -> Endpoint {
         ip: CLIENT.ip ^ u32::from(place),
         port: CLIENT.port,
     }
-}
-
-/// The five-tuple of a client.
-pub fn five_tuple(client: Endpoint) -> FiveTuple {
-    let server = Endpoint {
-        ip: 0xC000_0264,
-        port: 3478,
-    };
-    FiveTuple { client, server }
-}
-
-/// Alice's key.
-pub fn key() -> [u8; 16] {
-    generate_auth_key(NAME, REALM, b"wonder")
 }
 
 /// A request of alice at a client, with a nonce of a moment.
@@ -69,10 +43,10 @@ fn request(
         method,
         tx: ID,
         attributes,
-        user: NAME,
+        user: ALICE.name(),
         realm: REALM,
     };
-    build_request(alloc, &request, &key(), &nonce).map_err(|_| AllocError)
+    build_request(alloc, &request, &ALICE.key(), &nonce).map_err(|_| AllocError)
 }
 
 /// An Allocate of alice or, by the method, a Refresh, for so many seconds: 164 bytes before its MESSAGE-INTEGRITY.

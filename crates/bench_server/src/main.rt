@@ -9,10 +9,11 @@ mod servers;
 
 use bench_time::{Measured, best_of, number};
 use calls::{BATCH, Committed, Prepared, Purged, Relayed, Released, Stepped, Walked};
-use datagrams::{CLIENT, ID, PEER, channel_data, client_at, five_tuple, key, lifetime, pair};
+use datagrams::{CLIENT, ID, PEER, channel_data, client_at, lifetime, pair};
 use reading::Reading;
 use servers::{Engine, PORT, Rules, make_engine, make_pairs, make_rules, make_table};
 use std::{env, io};
+use test_requests::{ALICE, five_tuple};
 use turn_step::Arrival;
 use turn_types::{Method, Moment};
 
@@ -199,7 +200,7 @@ fn measure_payload(rt: &HostRuntime, servers: &mut Compared<'_>, payload: &[u8])
 fn measure_reading(rt: &HostRuntime, moment: Moment, count: usize) -> io::Result<()> {
     let allocate = lifetime(rt.alloc(), Method::ALLOCATE, CLIENT, moment, HOUR)?;
     let refresh = lifetime(rt.alloc(), Method::REFRESH, CLIENT, moment, HOUR)?;
-    let key = key();
+    let key = ALICE.key();
     for (name, mut call) in [
         ("parse of an Allocate", Reading::Parse(&allocate)),
         (

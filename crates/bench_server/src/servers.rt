@@ -1,10 +1,8 @@
 //! The servers whose calls are measured.
 
-use crate::datagrams::{
-    CHANNEL, CLIENT, ID, NAME, PEER, REALM, SECRET, bind, client_at, five_tuple, key, lifetime,
-    pair,
-};
+use crate::datagrams::{CHANNEL, CLIENT, ID, PEER, SECRET, bind, client_at, lifetime, pair};
 use std::alloc::{AllocError, Global};
+use test_requests::{ALICE, REALM, five_tuple};
 use turn_cred::Users;
 use turn_disk::{Disk, MemoryDisk};
 use turn_engine::Server;
@@ -47,7 +45,7 @@ fn config(alloc: Global) -> Result<ServerConfig, AllocError> {
 /// One user.
 fn users(alloc: Global) -> Result<Users, AllocError> {
     let mut users = Users::new(alloc);
-    users.add(NAME, key())?;
+    users.add(ALICE.name(), ALICE.key())?;
     Ok(users)
 }
 
@@ -196,7 +194,7 @@ pub fn make_table(alloc: Global, moment: Moment, allocations: u16) -> Result<Tab
     for place in 0..allocations.min(1024) {
         let five_tuple = five_tuple(client_at(place));
         let act = Act::Alloc {
-            user: UserName::from(Vec::from_slice(alloc, NAME)?),
+            user: UserName::from(Vec::from_slice(alloc, ALICE.name())?),
             port: PORT + place,
             granted: u32::MAX,
             tx: ID,
