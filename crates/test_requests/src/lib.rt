@@ -13,5 +13,5 @@ pub use requests::{
     ALICE, BOB, BOBS_ID, FIRST, FLAG, GUEST, HOUR, ID, Kind, LOWEST, OTHER, PEER, PEER_ENDPOINT,
     PEER_IP, REALM, SECOND, THIRD, UDP, User, ZERO, at, code_of, five_tuple, nonce_of, signed,
 };
-pub use setup::{config, credentials};
+pub use setup::{HIGHEST, config, credentials};
 pub use turn_requests::Attribute;

@@ -6,6 +6,15 @@ use std::test::Fail;
 use turn_cred::{Credentials, SharedSecret, Users};
 use turn_types::{Bounds, IpRange, Limits, ServerConfig, Settings};
 
+/// The bounds of `Limits::MAX`.
+pub const HIGHEST: Bounds = Bounds {
+    allocations: 1024,
+    permissions: 32,
+    channels: 32,
+    acts: 64,
+    name_bytes: 508,
+};
+
 /// A configuration with a quota and these limits. It relays for 198.51.100.1, and denies the peer 203.0.113.9.
 pub fn config<A: Allocator + Copy>(
     alloc: A,

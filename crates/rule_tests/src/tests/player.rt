@@ -173,7 +173,7 @@ impl<A: Allocator + Copy> Player<A> {
     }
 
     /// A request of a user with the nonce of a second.
-    fn request(
+    pub fn request(
         &self,
         rt: &impl Abort,
         user: User,
@@ -246,31 +246,28 @@ impl<A: Allocator + Copy> Player<A> {
         assert!(rt; self.submit(rt, THIRD, second, &[]).is_none());
     }
 
-    /// The reply to a request of a user with the nonce of its second.
-    pub fn ask(
+    /// The reply to a request of a client at a second.
+    pub fn answer(
         &mut self,
         rt: &impl Abort,
-        user: User,
         client: Endpoint,
         second: u64,
-        kind: Kind,
-        attributes: &[Attribute],
+        request: &[u8],
     ) -> Vec<u8, A> {
-        let bytes = self.request(rt, user, client, second, kind, attributes);
-        self.reply(rt, client, second, &bytes).expect(rt, "a reply")
+        self.reply(rt, client, second, request)
+            .expect(rt, "a reply")
     }
 
-    /// The error code of such a reply, which is signed under the user's key, 0 for a success.
+    /// The error code of the reply to a request of a user, which is signed under the user's key, 0 for a success.
     fn code(
         &mut self,
         rt: &impl Abort,
         user: User,
         client: Endpoint,
         second: u64,
-        kind: Kind,
-        attributes: &[Attribute],
+        request: &[u8],
     ) -> u16 {
-        let reply = self.ask(rt, user, client, second, kind, attributes);
+        let reply = self.answer(rt, client, second, request);
         let message = Message::parse(&reply).expect(rt, "a message");
         assert!(rt; message.tx() == user.id() && integrity_holds(&message, &user.key()));
         value_of(rt, code_of(&message))
@@ -321,8 +318,9 @@ impl<A: Allocator + Copy> Player<A> {
     /// Whether a row that sends something goes as the test says.
     pub fn goes(&mut self, rt: &impl Abort, row: &Row) -> bool {
         match row {
-            Row::Ask(second, user, client, kind, attributes, code) => {
-                self.code(rt, *user, *client, *second, *kind, attributes) == *code
+            Row::Ask(second, user, client, _, _, code) => {
+                let request = self.datagram(rt, row);
+                self.code(rt, *user, *client, *second, &request) == *code
             }
             Row::Send(second, bytes, payload) => is_same(&self.sent(rt, *second, bytes), *payload),
             Row::Receive(second, from, bytes, datagram) => {
@@ -400,4 +398,22 @@ fn count_of(ports: &[u16], port: u16) -> usize {
 /// Plays rows at a new server.
 pub fn play(rt: &impl Abort, alloc: Global, setup: &Setup, rows: &[Row]) {
     Player::new(rt, alloc, alloc, setup).play(rt, rows);
+}
+
+/// What is done before, what is prepared and abandoned, and what is found then.
+pub type Abandoned = (&'static [Row], Row, &'static [Row]);
+
+fn abandon_one(rt: &impl Abort, alloc: Global, setup: &Setup, case: &Abandoned) {
+    let (before, row, after) = case;
+    let mut player = Player::new(rt, alloc, alloc, setup);
+    player.play(rt, before);
+    player.abandon(rt, row);
+    player.play(rt, after);
+}
+
+/// Plays rows before a row that is abandoned and after it, each time at a new server.
+pub fn play_abandoned(rt: &impl Abort, alloc: Global, setup: &Setup, cases: &[Abandoned]) {
+    for case in cases {
+        abandon_one(rt, alloc, setup, case);
+    }
 }

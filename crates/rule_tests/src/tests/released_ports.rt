@@ -1,6 +1,6 @@
 //! Which ports are released. No contract says what a generator is asked.
 
-use super::player::{Player, play};
+use super::player::{Abandoned, Player, play, play_abandoned};
 use super::row::{ALLOCATED, BOUND, PERMITTED, Row};
 use super::setup::{SETUP, Setup};
 use std::process::Abort;
@@ -115,7 +115,7 @@ fn one_more_beside_two_at_the_end_of_the_range_has_a_port_that_is_free(rt: HostR
 }
 
 /// What is done before, what is prepared and abandoned, and what is found then.
-const ABANDONED: [(&[Row], Row, &[Row]); 5] = [
+const ABANDONED: [Abandoned; 5] = [
     (
         &[ALLOCATED],
         BOBS,
@@ -154,17 +154,7 @@ const ABANDONED: [(&[Row], Row, &[Row]); 5] = [
     ),
 ];
 
-/// Plays rows, abandons one, and plays others.
-fn play_abandoned(rt: &impl Abort, player: &mut Player, before: &[Row], row: &Row, after: &[Row]) {
-    player.play(rt, before);
-    player.abandon(rt, row);
-    player.play(rt, after);
-}
-
 #[test]
 fn abandoned_step_releases_its_port_and_changes_nothing(rt: HostRuntime) {
-    for (before, row, after) in &ABANDONED {
-        let mut player = Player::new(&rt, rt.alloc(), rt.alloc(), &SETUP);
-        play_abandoned(&rt, &mut player, before, row, after);
-    }
+    play_abandoned(&rt, rt.alloc(), &SETUP, &ABANDONED);
 }

@@ -1,13 +1,13 @@
 //! Pairs of ports, tokens, and reserved ports (RFC 8656, sections 7.2, 18.7 and 18.10).
 
-use super::player::{Player, play};
+use super::player::{Abandoned, Player, play, play_abandoned};
 use super::row::{EVEN, PAIR, PAIRED, Row, TOKEN};
 use super::setup::{RESERVING, SETUP, Setup, value_of};
 use std::alloc::Global;
 use std::process::Abort;
 use test_requests::{
-    ALICE, Attribute, BOB, FIRST, FLAG, HOUR, ID, Kind, LOWEST, OTHER, PEER, PEER_IP, REALM,
-    SECOND, THIRD, UDP, User, ZERO, code_of, nonce_of,
+    ALICE, Attribute, BOB, FIRST, FLAG, HIGHEST, HOUR, ID, Kind, LOWEST, OTHER, PEER, PEER_IP,
+    REALM, SECOND, THIRD, UDP, User, ZERO, code_of, nonce_of,
 };
 use turn_codec::{AttributeType, Builder, Message};
 use turn_mac::hmac_sha1;
@@ -46,7 +46,8 @@ const REPLIES: [(User, Endpoint, u64, &[Attribute], &[u8]); 3] = [
 
 fn play_replies(rt: &impl Abort, player: &mut Player) {
     for (user, client, second, attributes, reply) in &REPLIES {
-        let found = player.ask(rt, *user, *client, *second, ALLOCATE, attributes);
+        let request = player.request(rt, *user, *client, *second, ALLOCATE, attributes);
+        let found = player.answer(rt, *client, *second, &request);
         assert!(rt; found.as_slice() == *reply);
     }
 }
@@ -188,10 +189,7 @@ const TWO: Setup = Setup {
     quota: 4,
     bounds: Bounds {
         allocations: 2,
-        permissions: 32,
-        channels: 32,
-        acts: 64,
-        name_bytes: 508,
+        ..HIGHEST
     },
     ..RESERVING
 };
@@ -212,8 +210,7 @@ fn as_many_ports_are_reserved_as_there_may_be_allocations(rt: HostRuntime) {
     play(&rt, rt.alloc(), &TWO, &TWO_RESERVED);
 }
 
-/// What is done before, what is prepared and abandoned, and what is found then.
-const ABANDONED: [(&[Row], Row, &[Row]); 2] = [
+const ABANDONED: [Abandoned; 2] = [
     (
         &[],
         PAIRED,
@@ -238,18 +235,9 @@ const ABANDONED: [(&[Row], Row, &[Row]); 2] = [
     ),
 ];
 
-fn play_abandoned(rt: &impl Abort, player: &mut Player, before: &[Row], row: &Row, after: &[Row]) {
-    player.play(rt, before);
-    player.abandon(rt, row);
-    player.play(rt, after);
-}
-
 #[test]
 fn an_abandoned_pair_is_released_and_a_reserved_port_is_not(rt: HostRuntime) {
-    for (before, row, after) in &ABANDONED {
-        let mut player = Player::new(&rt, rt.alloc(), rt.alloc(), &RESERVING);
-        play_abandoned(&rt, &mut player, before, row, after);
-    }
+    play_abandoned(&rt, rt.alloc(), &RESERVING, &ABANDONED);
 }
 
 /// A server that reserves no ports.
@@ -461,8 +449,7 @@ const ONE: Setup = Setup {
         allocations: 2,
         permissions: 1,
         channels: 1,
-        acts: 64,
-        name_bytes: 508,
+        ..HIGHEST
     },
     ports: (50000, 50000),
     ..SETUP

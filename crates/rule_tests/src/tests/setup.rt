@@ -3,7 +3,7 @@
 use std::alloc::Allocator;
 use std::process::Abort;
 use std::test::Fail;
-use test_requests::{Ports, config};
+use test_requests::{HIGHEST, Ports, config};
 use turn_ports::PortRange;
 use turn_types::{Bounds, Limits, Moment, ServerConfig};
 
@@ -23,13 +23,7 @@ pub struct Setup {
 /// A quota of 2, the highest limits, the ports 50000 to 50009, and no port may be reserved.
 pub const SETUP: Setup = Setup {
     quota: 2,
-    bounds: Bounds {
-        allocations: 1024,
-        permissions: 32,
-        channels: 32,
-        acts: 64,
-        name_bytes: 508,
-    },
+    bounds: HIGHEST,
     ports: (50000, 50009),
     fails: false,
     pairs: false,

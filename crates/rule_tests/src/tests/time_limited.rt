@@ -192,7 +192,8 @@ const UNTOUCHED: [Row; 5] = [
 
 /// Whether the guest gets a 401 without integrity for an Allocate.
 fn is_refused(rt: &impl Abort, player: &mut Player, attributes: &[Attribute]) -> bool {
-    let reply = player.ask(rt, GUEST, SECOND, 1010, Kind::Allocate, attributes);
+    let request = player.request(rt, GUEST, SECOND, 1010, Kind::Allocate, attributes);
+    let reply = player.answer(rt, SECOND, 1010, &request);
     let message = Message::parse(&reply).expect(rt, "a message");
     value_of(rt, code_of(&message)) == 401 && message.before_integrity().is_none()
 }
