@@ -6,23 +6,17 @@ use super::setup::{LARGE, Setup, made};
 use std::alloc::Global;
 use std::process::Abort;
 use test_requests::{
-    ALICE, Attribute, BOB, FIRST, HOUR, ID, Kind, LOWEST, PEER, PEER_ENDPOINT, Ports, SECOND, UDP,
-    ZERO, credentials, nonce_of, of_client, signed,
+    ALICE, Attribute, BOB, FIRST, HIGHEST, HOUR, ID, Kind, LOWEST, PEER, PEER_ENDPOINT, Ports,
+    SECOND, UDP, ZERO, credentials, nonce_of, of_client, signed,
 };
 use turn_cred::Credentials;
 use turn_step::{Arrival, Machine, Outgoing};
 use turn_table::Table;
-use turn_types::{Bounds, Endpoint};
+use turn_types::Endpoint;
 
 /// The max limits.
-const HIGHEST: Setup = Setup {
-    bounds: Bounds {
-        allocations: 1024,
-        permissions: 32,
-        channels: 32,
-        acts: 64,
-        name_bytes: 508,
-    },
+const WIDEST: Setup = Setup {
+    bounds: HIGHEST,
     area: 2_000_000,
     ..LARGE
 };
@@ -341,7 +335,7 @@ fn take_run_of(rt: &impl Abort, alloc: Global, setup: &Setup) {
 }
 
 /// Under the max limits, and in areas so small that commits compact.
-const SETUPS: [Setup; 2] = [HIGHEST, LARGE];
+const SETUPS: [Setup; 2] = [WIDEST, LARGE];
 
 #[test]
 fn server_answers_as_the_rules_without_a_store(rt: HostRuntime) {
