@@ -38,14 +38,18 @@ fn synced(rt: &impl Abort, alloc: Global) -> MemoryDisk {
     disk
 }
 
+/// Lets a disk crash, after which it has this content.
+fn crash_to(rt: &impl Abort, disk: &mut MemoryDisk, outcome: CrashOutcome, image: &[u8]) {
+    disk.crash(outcome);
+    assert!(rt; disk.content() == image);
+}
+
 #[test]
 fn a_crash_leaves_a_part_of_each_pending_write(rt: HostRuntime) {
     for (outcome, image) in &OVERLAPPING_IMAGES {
         let mut disk = overlapping(&rt, rt.alloc());
-        disk.crash(*outcome);
-        assert!(rt; disk.content() == image.as_slice());
-        disk.crash(CrashOutcome::Lost);
-        assert!(rt; disk.content() == image.as_slice());
+        crash_to(&rt, &mut disk, *outcome, image.as_slice());
+        crash_to(&rt, &mut disk, CrashOutcome::Lost, image.as_slice());
     }
 }
 
@@ -53,7 +57,6 @@ fn a_crash_leaves_a_part_of_each_pending_write(rt: HostRuntime) {
 fn a_crash_keeps_what_was_synced(rt: HostRuntime) {
     for (outcome, image) in &SYNCED_IMAGES {
         let mut disk = synced(&rt, rt.alloc());
-        disk.crash(*outcome);
-        assert!(rt; disk.content() == image.as_slice());
+        crash_to(&rt, &mut disk, *outcome, image.as_slice());
     }
 }

@@ -1,17 +1,13 @@
 //! Snapshots of many allocations under the limits 128, 1, 1, 1, 8.
 
-use super::limits::{SMALL, limits_of};
+use super::limits::limits_for;
 use std::alloc::Global;
 use std::process::Abort;
 use turn_record::Version;
-use turn_types::{Bounds, Limits};
+use turn_types::Limits;
 
 pub fn limits(rt: &impl Abort) -> Limits {
-    let bounds = Bounds {
-        allocations: 128,
-        ..SMALL
-    };
-    limits_of(rt, bounds)
+    limits_for(rt, 128, 1)
 }
 
 fn add(rt: &impl Abort, bytes: &mut Vec<u8>, part: &[u8]) {

@@ -36,26 +36,34 @@ fn append_when_full(rt: &impl Abort, disk: &mut MemoryDisk, journal: &mut Journa
 }
 
 // The last gate is the last byte of the area, which six bytes follow.
+/// A frame of four bytes after the first one in an area of so many: what comes of it, the content then, and where the
+/// journal ends.
+fn append_four(
+    rt: &impl Abort,
+    alloc: Global,
+    size: usize,
+    outcome: Result<(), AppendError>,
+    content: &[u8],
+    end: usize,
+) {
+    let (mut disk, mut journal) = with_one_frame(rt, alloc, size);
+    assert!(rt; journal.room(4) == outcome.is_ok());
+    assert!(rt; append(rt, &mut journal, &mut disk, b"wxyz") == outcome);
+    assert!(rt; disk.content() == content);
+    assert!(rt; journal.end() == end);
+    append_when_full(rt, &mut disk, &mut journal);
+}
+
 #[test]
 fn a_frame_that_just_fits_is_added(rt: HostRuntime) {
-    let (mut disk, mut journal) = with_one_frame(&rt, rt.alloc(), 17);
-    assert!(rt; journal.room(4));
-    assert!(rt; append(&rt, &mut journal, &mut disk, b"wxyz") == Ok(()));
-    let bytes = b"\0\0\0\xa5\0\0\0\x02ab\xa5\0\0\0\x04wxyz\0\0\0\0\0\0\0";
-    assert!(rt; disk.content() == bytes.as_slice());
-    assert!(rt; journal.end() == 16);
-    append_when_full(&rt, &mut disk, &mut journal);
+    let content = b"\0\0\0\xa5\0\0\0\x02ab\xa5\0\0\0\x04wxyz\0\0\0\0\0\0\0";
+    append_four(&rt, rt.alloc(), 17, Ok(()), content, 16);
 }
 
 #[test]
 fn a_frame_that_does_not_fit_is_full_without_a_device_call(rt: HostRuntime) {
-    let (mut disk, mut journal) = with_one_frame(&rt, rt.alloc(), 16);
-    assert!(rt; !journal.room(4));
-    assert!(rt; append(&rt, &mut journal, &mut disk, b"wxyz") == Err(AppendError::Full));
-    let bytes = b"\0\0\0\xa5\0\0\0\x02ab\0\0\0\0\0\0\0\0\0\0\0\0\0\0\0";
-    assert!(rt; disk.content() == bytes.as_slice());
-    assert!(rt; journal.end() == 7);
-    append_when_full(&rt, &mut disk, &mut journal);
+    let content = b"\0\0\0\xa5\0\0\0\x02ab\0\0\0\0\0\0\0\0\0\0\0\0\0\0\0";
+    append_four(&rt, rt.alloc(), 16, Err(AppendError::Full), content, 7);
 }
 
 #[test]

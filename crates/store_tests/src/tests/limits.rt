@@ -16,6 +16,16 @@ pub fn limits_of(rt: &impl Abort, bounds: Bounds) -> Limits {
     Limits::new(bounds).expect(rt, "limits")
 }
 
+/// The limits with so many allocations and acts, and else those of `SMALL`.
+pub fn limits_for(rt: &impl Abort, allocations: u32, acts: u16) -> Limits {
+    let bounds = Bounds {
+        allocations,
+        acts,
+        ..SMALL
+    };
+    limits_of(rt, bounds)
+}
+
 pub fn small_limits(rt: &impl Abort) -> Limits {
     limits_of(rt, SMALL)
 }

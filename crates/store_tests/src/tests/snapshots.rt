@@ -7,6 +7,7 @@ ghost use Rattle.turn_history.specs.Fitting.{Fits, IsInRange};
 ghost use Rattle.turn_record.specs.Records.{IsSnapshot, Writes};
 ghost use Rattle.turn_record.specs.declared.version.Version.TheVariants.{V1};
 
+use super::limits::small_limits;
 use failing_alloc::FailingAlloc;
 use std::alloc::{Allocator, Global};
 use std::test::Fail;
@@ -17,7 +18,7 @@ use turn_record::{
     write_snapshot,
 };
 use turn_table::Table;
-use turn_types::{Bounds, Limits, Moment};
+use turn_types::{Limits, Moment};
 
 /// Act entries at 1000. Alice, from 192.0.2.2:40000, gets port 50001 for 3600 seconds, and bob, from 192.0.2.1:32853, port
 /// 50000 for 600 seconds, which a Refresh makes 1200. Alice has permissions for 203.0.113.6 and 203.0.113.5, and the
@@ -177,14 +178,7 @@ fn a_refused_growth_leaves_the_buffer(rt: HostRuntime) -> Result<(), Fail> {
 
 #[test]
 fn the_longest_snapshot_by_the_limits(rt: HostRuntime) -> Result<(), Fail> {
-    let bounds = Bounds {
-        allocations: 2,
-        permissions: 1,
-        channels: 1,
-        acts: 1,
-        name_bytes: 8,
-    };
-    assert!(rt; max_snapshot(Version::V1, Limits::new(bounds).ok_or("limits")?) == 168);
+    assert!(rt; max_snapshot(Version::V1, small_limits(&rt)) == 168);
     assert!(rt; max_snapshot(Version::V1, Limits::MAX) == 1_480_716);
     Ok(())
 }

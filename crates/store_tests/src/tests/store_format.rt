@@ -2,35 +2,29 @@
 
 use super::bytes::{front, has_at, is_zero_from};
 use super::disks::{disk_of, write};
-use super::limits::{limits_of, small_limits};
+use super::limits::{limits_for, small_limits};
 use super::stores::{format_disk, small_store, zeros};
 use failing_alloc::FailingAlloc;
 use std::alloc::Global;
 use std::process::Abort;
 use turn_disk::{CrashOutcome, Disk};
 use turn_store::{FormatError, LimitsError, least_area, limits};
-use turn_types::Bounds;
+use turn_types::Limits;
 
-/// The limits, and the longest snapshot of version 2, the longest payload and 20 bytes for what is between and around them.
-const LEAST_AREAS: [(u32, u16, u16, u16, u16, usize); 4] = [
-    (2, 1, 1, 1, 8, 226 + 58 + 20),
-    (2, 1, 1, 2, 8, 226 + 115 + 20),
-    (128, 1, 1, 1, 8, 13_456 + 58 + 20),
-    (1024, 32, 32, 64, 508, 1_508_368 + 35_649 + 20),
+/// How many allocations and acts there may be, where there may be a permission, a channel and eight bytes of a name, and the
+/// longest snapshot of version 2, the longest payload and 20 bytes for what is between and around them.
+const LEAST_AREAS: [(u32, u16, usize); 3] = [
+    (2, 1, 226 + 58 + 20),
+    (2, 2, 226 + 115 + 20),
+    (128, 1, 13_456 + 58 + 20),
 ];
 
 #[test]
 fn the_least_area_has_room_for_the_longest_of_all(rt: HostRuntime) {
-    for (allocations, permissions, channels, acts, name_bytes, area) in &LEAST_AREAS {
-        let bounds = Bounds {
-            allocations: *allocations,
-            permissions: *permissions,
-            channels: *channels,
-            acts: *acts,
-            name_bytes: *name_bytes,
-        };
-        assert!(rt; least_area(limits_of(&rt, bounds)) == *area);
+    for (allocations, acts, area) in &LEAST_AREAS {
+        assert!(rt; least_area(limits_for(&rt, *allocations, *acts)) == *area);
     }
+    assert!(rt; least_area(Limits::MAX) == 1_508_368 + 35_649 + 20);
 }
 
 /// A superblock of areas of 238 bytes: 2 allocations, 1 permission, 1 channel, 1 act, names of 8 bytes.

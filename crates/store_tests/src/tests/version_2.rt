@@ -10,7 +10,7 @@ ghost use Rattle.turn_record.specs.declared.version.Version.TheVariants.{V2};
 use super::batches::{ALICE, ALICES_ID};
 use super::bytes::replaced;
 use super::entries;
-use super::limits::{SMALL, limits_of};
+use super::limits::limits_for;
 use failing_alloc::FailingAlloc;
 use std::alloc::{Allocator, Global};
 use std::process::Abort;
@@ -23,7 +23,7 @@ use turn_record::{
     write_snapshot,
 };
 use turn_table::Table;
-use turn_types::{Bounds, Limits, Token, TxId};
+use turn_types::{Limits, Token};
 
 /// Alice's allocation at 1000 from 192.0.2.1:32853 to 192.0.2.100:3478, with port 50000 for 600 seconds and a token for 50001.
 /// Places: the tag 0, the moment 1, the five-tuple 9, the name 21, the port 28, granted 30, the transaction id 34, the token 46.
@@ -107,7 +107,7 @@ pub const MAX_SNAPSHOT: [u8; 226] = *b"\0\0\0\0\0\0\x03\xe8\0\0\0\x02\
 
 /// The limits 2, 1, 1, 2, 8.
 pub fn limits(rt: &impl Abort) -> Limits {
-    limits_of(rt, Bounds { acts: 2, ..SMALL })
+    limits_for(rt, 2, 2)
 }
 
 // ---- Read, and written again
@@ -499,12 +499,8 @@ fn max_sizes(limits: Limits) -> (usize, usize) {
 #[test]
 fn the_longest_records_by_the_limits(rt: HostRuntime) {
     for (allocations, acts, snapshot, payload) in &SIZES {
-        let bounds = Bounds {
-            allocations: *allocations,
-            acts: *acts,
-            ..SMALL
-        };
-        assert!(rt; max_sizes(limits_of(&rt, bounds)) == (*snapshot, *payload));
+        let limits = limits_for(&rt, *allocations, *acts);
+        assert!(rt; max_sizes(limits) == (*snapshot, *payload));
     }
     assert!(rt; max_sizes(Limits::MAX) == (1_508_368, 35_649));
 }
