@@ -141,20 +141,23 @@ pub fn make_engine(
     Ok(server)
 }
 
-/// The same without a store.
-pub fn make_rules(alloc: Global, moment: Moment, allocations: u16) -> Result<Rules, AllocError> {
+/// The rules of a server without allocations, which gives out pairs or none.
+fn empty_rules(alloc: Global, moment: Moment, pairs: bool) -> Result<Rules, AllocError> {
     let config = config(alloc)?;
     let table = Table::new(alloc, config.limits(), moment);
-    let mut server = Machine::new(alloc, config, users(alloc)?, ports()?, table, false)?;
+    Ok(Machine::new(alloc, config, users(alloc)?, ports()?, table, pairs)?)
+}
+
+/// The same without a store.
+pub fn make_rules(alloc: Global, moment: Moment, allocations: u16) -> Result<Rules, AllocError> {
+    let mut server = empty_rules(alloc, moment, false)?;
     fill(alloc, &mut server, moment, allocations)?;
     Ok(server)
 }
 
 /// The rules of a server that gives out pairs, with so many allocations, the first half of which reserve a port each.
 pub fn make_pairs(alloc: Global, moment: Moment, allocations: u16) -> Result<Rules, AllocError> {
-    let config = config(alloc)?;
-    let table = Table::new(alloc, config.limits(), moment);
-    let mut server = Machine::new(alloc, config, users(alloc)?, ports()?, table, true)?;
+    let mut server = empty_rules(alloc, moment, true)?;
     for place in 0..allocations {
         let client = client_at(place);
         let bytes = if place < allocations / 2 {
