@@ -4,7 +4,7 @@ ghost use Rattle.std.specs.Prelude.{◌≡◌};
 ghost use Rattle.turn_scenario.specs.Faults.{fault_of};
 ghost use Rattle.turn_scenario.specs.declared.error.LineError.TheVariants.{Memory};
 
-use std::alloc::{AllocError, AllocFailed};
+use std::alloc::AllocError;
 use thiserror::Error;
 use turn_codec::PushError;
 
@@ -45,14 +45,6 @@ impl From<AllocError> for LineError {
     ghost from_gives = { λ _ f. f ≡ Memory };
 
     fn from(_error: AllocError) -> LineError {
-        LineError::Memory
-    }
-}
-
-impl<T: Drop> From<AllocFailed<T>> for LineError {
-    ghost from_gives = { λ _ f. f ≡ Memory };
-
-    fn from(_error: AllocFailed<T>) -> LineError {
         LineError::Memory
     }
 }
