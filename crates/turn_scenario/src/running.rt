@@ -117,9 +117,7 @@ impl<'a, A: Allocator + Copy> Client<'a, A> {
         if let Some(password) = self.passwords.get(user) {
             return Ok(generate_auth_key(user, self.realm, password));
         }
-        let Some(secret) = &self.auth_secret else {
-            return Err(LineError::Bad);
-        };
+        let secret = self.auth_secret.as_ref().ok_or(LineError::Bad)?;
         let password = secret.password(user);
         Ok(generate_auth_key(user, self.realm, &password))
     }
@@ -345,10 +343,8 @@ impl<'a, A: Allocator + Copy> Running<'a, A> {
         ensures lives { OnOk result (LivesOn ⟦<MemoryDisk<A> as Disk>⟧ ⟦<Credentials<A> as AuthHandler>⟧ ⟦<PortRange as RelayAddressGenerator>⟧
             self.old.player self.new.player) }
     {
-        match read_line(text) {
-            Some(line) => self.do_line(&line),
-            None => Err(LineError::Bad),
-        }
+        let line = read_line(text).ok_or(LineError::Bad)?;
+        self.do_line(&line)
     }
 
     pub(crate) fn into_report(self) -> Report<A> {
