@@ -48,16 +48,22 @@ pub fn limits() -> Limits
     Limits::new(bounds).unwrap_or(Limits::MAX)
 }
 
-/// What is there also while no server runs: its configuration, a client, and a peer.
+/// What each start of the server is given.
 #[derive(Drop)]
-pub struct Loopback<'a, R: Net, A: Allocator + Copy = Global> {
+struct Plan<'a, R: Net, A: Allocator + Copy> {
     alloc: A,
     net: &'a R,
     config: ServerConfig<A>,
-    users: Users<A>,
     ports: PortRange,
     burst: u8,
     commits: Commits,
+}
+
+/// What is there also while no server runs: its configuration, a client, and a peer.
+#[derive(Drop)]
+pub struct Loopback<'a, R: Net, A: Allocator + Copy = Global> {
+    plan: Plan<'a, R, A>,
+    users: Users<A>,
     // Where the server listens; port 0 before it ran.
     listen: ListeningAddresses,
     client: Client<'static, A>,
@@ -75,12 +81,7 @@ impl<'a, R: Net, A: Allocator + Copy> Model for Loopback<'a, R, A> {
 /// what comes of it.
 #[derive(Drop)]
 pub struct Conversation<'a, D: Disk + Drop, R: Net, A: Allocator + Copy = Global> {
-    alloc: A,
-    net: &'a R,
-    config: ServerConfig<A>,
-    ports: PortRange,
-    burst: u8,
-    commits: Commits,
+    plan: Plan<'a, R, A>,
     serving: SocketServing<'a, D, Users<A>, R, A>,
     client: Client<'static, A>,
     peer: TimedSocket<A>,
@@ -154,14 +155,17 @@ impl<'a, R: Net + Drop, A: Allocator + Copy> Loopback<'a, R, A> {
     ) -> Result<Loopback<'a, R, A>, ClientError> {
         let client = Client::open(alloc, net, ANY_PORT, ANY_PORT, CREDENTIALS)?;
         let peer = TimedSocket::open(alloc, net, ANY_PORT)?;
-        Ok(Loopback {
+        let plan = Plan {
             alloc,
             net,
             config: make_config(alloc)?,
-            users: make_users(alloc)?,
             ports,
             burst,
             commits,
+        };
+        Ok(Loopback {
+            plan,
+            users: make_users(alloc)?,
             listen: ListeningAddresses::one(ANY_PORT),
             client,
             peer,
@@ -180,35 +184,25 @@ impl<'a, R: Net + Drop, A: Allocator + Copy> Loopback<'a, R, A> {
         disk: D,
     ) -> Result<Conversation<'a, D, R, A>, ClientError> {
         let Loopback {
-            alloc,
-            net,
-            config,
+            plan,
             users,
-            ports,
-            burst,
-            commits,
             listen,
             mut client,
             peer,
         } = self;
         let setup = Setup {
-            config: &config,
+            config: &plan.config,
             listen: &listen,
-            ports,
+            ports: plan.ports,
             relay_bind: None,
-            burst,
-            commits,
+            burst: plan.burst,
+            commits: plan.commits,
             seed: seed_of(client.local()),
         };
-        let serving = setup.start(alloc, net, system, disk, users, Silent)?;
+        let serving = setup.start(plan.alloc, plan.net, system, disk, users, Silent)?;
         client.set_server(serving.local());
         Ok(Conversation {
-            alloc,
-            net,
-            config,
-            ports,
-            burst,
-            commits,
+            plan,
             serving,
             client,
             peer,
@@ -220,12 +214,7 @@ impl<'a, D: Disk + Drop, R: Net + Drop, A: Allocator + Copy> Conversation<'a, D,
     /// Ends the server, and returns its disk.
     pub fn end(self) -> (D, Loopback<'a, R, A>) {
         let Conversation {
-            alloc,
-            net,
-            config,
-            ports,
-            burst,
-            commits,
+            plan,
             serving,
             client,
             peer,
@@ -233,13 +222,8 @@ impl<'a, D: Disk + Drop, R: Net + Drop, A: Allocator + Copy> Conversation<'a, D,
         let listen = serving.locals().copied();
         let (disk, users) = serving.close();
         let loopback = Loopback {
-            alloc,
-            net,
-            config,
+            plan,
             users,
-            ports,
-            burst,
-            commits,
             listen,
             client,
             peer,
@@ -290,7 +274,7 @@ impl<'a, D: Disk + Drop, R: Net + Drop, A: Allocator + Copy> Conversation<'a, D,
 
     /// An Allocate with the nonce of the last challenge. `Unexpected` where anything but a success comes.
     pub fn allocate<C: Clock>(&mut self, clock: &C) -> Result<Allocated<A>, ClientError> {
-        let alloc = self.alloc;
+        let alloc = self.plan.alloc;
         let request = self.client.request(Method::ALLOCATE, &[])?;
         let message = self.exchange(clock, &request)?;
         let Some(ServerMessage::Allocated { port, lifetime, .. }) = read_message(&message) else {
@@ -357,7 +341,7 @@ impl<'a, D: Disk + Drop, R: Net + Drop, A: Allocator + Copy> Conversation<'a, D,
     // What the peer gets from a relayed port.
     fn at_peer<C: Clock>(&mut self, clock: &C, port: u16) -> Result<Vec<u8, A>, ClientError> {
         self.turn(clock)?;
-        let alloc = self.alloc;
+        let alloc = self.plan.alloc;
         let (bytes, from) = self.peer.receive()?;
         if from.ip != LOOPBACK || from.port != port {
             return Err(ClientError::Unexpected);
@@ -409,7 +393,7 @@ impl<'a, D: Disk + Drop, R: Net + Drop, A: Allocator + Copy> Conversation<'a, D,
         payload: &[u8],
     ) -> Result<Vec<u8, A>, ClientError> {
         self.send_back(clock, port, payload)?;
-        let (alloc, peer) = (self.alloc, self.peer());
+        let (alloc, peer) = (self.plan.alloc, self.peer());
         let message = self.client.receive_message()?;
         match read_message(&message) {
             Some(ServerMessage::Data(from, bytes)) if from == peer => Ok(Vec::from_slice(
@@ -428,7 +412,7 @@ impl<'a, D: Disk + Drop, R: Net + Drop, A: Allocator + Copy> Conversation<'a, D,
         payload: &[u8],
     ) -> Result<Vec<u8, A>, ClientError> {
         self.send_back(clock, port, payload)?;
-        let alloc = self.alloc;
+        let alloc = self.plan.alloc;
         let data = ChannelData::parse(self.client.receive()?).ok_or(ClientError::Unexpected)?;
         if data.number != number {
             return Err(ClientError::Unexpected);
