@@ -61,10 +61,10 @@ impl<A: Allocator> TimedSocket<A> {
     pub fn send(&self, to: Endpoint, bytes: &[u8]) -> Result<(), ClientError>
         ensures { IfErr result (λ fault. fault ≡ ClientError.Socket) }
     {
-        match self.socket.send_to(bytes, address_of(to)) {
-            Ok(_) => Ok(()),
-            Err(_) => Err(ClientError::Socket),
-        }
+        self.socket
+            .send_to(bytes, address_of(to))
+            .map_err(|_| ClientError::Socket)?;
+        Ok(())
     }
 
     /// The next datagram, and who sent it.
