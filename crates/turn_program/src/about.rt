@@ -52,50 +52,34 @@ fn tell<C: Clock, L: Write + Drop, T: Display>(
     }
 }
 
-/// Says that a configuration's file is at fault, and why it can't be read if it can't.
-pub fn tell_config<R: Files + AllocGlobal, C: Clock, L: Write + Drop>(
-    rt: &R,
-    clock: &C,
-    log: &Log<L>,
-    path: &str,
-) {
-    if !log.is_kept() {
-        return;
-    }
-    let mut options = OpenOptions::new();
-    options.read(true);
-    let reason = open_regular(rt, path, &options).err();
-    tell(
-        rt.alloc(),
-        clock,
-        log,
-        "config",
-        &ShownName(path.as_bytes()),
-        reason,
-    );
+/// A file that a server is started with.
+#[derive(Clone, Copy)]
+pub enum StartFile<'a> {
+    /// A configuration, by its path.
+    Config(&'a str),
+    /// A store, by its path.
+    Store(&'a str),
 }
 
-/// Says that a store's file is at fault, and why it can't be opened if it can't.
-pub fn tell_store<R: Files + AllocGlobal, C: Clock, L: Write + Drop>(
+/// Says that a file is at fault, and why it can't be opened as a start opens it, if it can't.
+pub fn tell_file<R: Files + AllocGlobal, C: Clock, L: Write + Drop>(
     rt: &R,
     clock: &C,
     log: &Log<L>,
-    path: &str,
+    file: StartFile<'_>,
 ) {
     if !log.is_kept() {
         return;
     }
+    let (what, path, is_written) = match file {
+        StartFile::Config(path) => ("config", path, false),
+        StartFile::Store(path) => ("store", path, true),
+    };
     let mut options = OpenOptions::new();
-    options.read(true).write(true);
+    options.read(true).write(is_written);
     let reason = open_regular(rt, path, &options).err();
-    tell(
-        rt.alloc(),
-        clock,
-        log,
-        "store",
-        &ShownName(path.as_bytes()),
-        reason,
-    );
+    let name = ShownName(path.as_bytes());
+    tell(rt.alloc(), clock, log, what, &name, reason);
 }
 
 /// Where a server's sockets are bound.

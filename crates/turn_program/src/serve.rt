@@ -3,7 +3,7 @@
 ghost use Rattle.std.specs.Prelude.{◌≡◌, IfErr};
 ghost use Rattle.turn_program.specs.Serving.{commits_of};
 
-use crate::about::{ShownAddresses, second_now, tell_config, tell_sockets, tell_store};
+use crate::about::{ShownAddresses, StartFile, second_now, tell_file, tell_sockets};
 use crate::error::ProgramError;
 use crate::log::Log;
 use crate::prepare::{Prepared, prepare};
@@ -109,7 +109,7 @@ fn tell_prepared<R: Files<File = File> + AllocGlobal, C: Clock, L: Write + Drop>
 ) {
     match fault {
         ProgramError::Usage => log.say(second_now(clock), LISTENS_TWICE),
-        _ => tell_config(rt, clock, log, service.config),
+        _ => tell_file(rt, clock, log, StartFile::Config(service.config)),
     }
 }
 
@@ -145,7 +145,7 @@ fn take_files<R: Files<File = File> + AllocGlobal, C: Clock, L: Write + Drop>(
             store,
         }),
         Err(fault) => {
-            tell_store(rt, clock, log, service.store);
+            tell_file(rt, clock, log, StartFile::Store(service.store));
             Err(fault)
         }
     }
@@ -162,7 +162,7 @@ fn tell_start<R: Files<File = File> + Net + AllocGlobal, C: Clock, L: Write + Dr
 ) {
     match fault {
         StartError::Store(_) | StartError::Reopen(_) | StartError::Changed => {
-            tell_store(rt, clock, log, store)
+            tell_file(rt, clock, log, StartFile::Store(store))
         }
         StartError::Socket => tell_sockets(rt, clock, log, addresses),
         StartError::Memory => {}
@@ -232,7 +232,7 @@ fn take_turns<S: Start, R: Files + Net + Drop + AllocGlobal, C: Clock, L: Write 
         Ok(()) => Ok(()),
         Err(fault) => {
             if let TurnError::Commit(_) = fault {
-                tell_store(rt, clock, log, service.store);
+                tell_file(rt, clock, log, StartFile::Store(service.store));
             }
             Err(ProgramError::from(fault))
         }
