@@ -21,7 +21,7 @@ use turn_config::ShownEndpoint;
 use turn_cred::Credentials;
 use turn_disk::{FileDisk, FileError, Start};
 use turn_ports::RelayAddressGenerator;
-use turn_serving::{Commits, Setup, SetupError, SocketServing, StartError, TurnError};
+use turn_serving::{Commits, Setup, SocketServing, StartError, TurnError};
 use turn_types::Endpoint;
 
 /// What the words of `turn serve` say.
@@ -123,32 +123,26 @@ fn take_files<R: Files<File = File> + AllocGlobal, C: Clock, L: Write + Drop>(
     let taken = prepare(rt, service.config, service.listen, |_| {
         Ok(open_disk(rt, clock, service.store))
     });
+    if let Err(fault) = &taken {
+        tell_prepared(rt, clock, service, log, *fault);
+    }
     let Prepared {
         config,
         credentials,
         listen,
         ports,
         store,
-    } = match taken {
-        Ok(prepared) => prepared,
-        Err(fault) => {
-            tell_prepared(rt, clock, service, log, fault);
-            return Err(fault);
-        }
-    };
-    match store {
-        Ok(store) => Ok(Prepared {
-            config,
-            credentials,
-            listen,
-            ports,
-            store,
-        }),
-        Err(fault) => {
-            tell_file(rt, clock, log, StartFile::Store(service.store));
-            Err(fault)
-        }
+    } = taken?;
+    if store.is_err() {
+        tell_file(rt, clock, log, StartFile::Store(service.store));
     }
+    Ok(Prepared {
+        config,
+        credentials,
+        listen,
+        ports,
+        store: store?,
+    })
 }
 
 /// Says what the fault of a start is about.
@@ -205,18 +199,16 @@ fn start<
         commits: commits_of(service.turns),
         seed: random_bytes(rt)?,
     };
-    match setup.start(rt.alloc(), rt, clock, disk.holding::<S>(), credentials, log) {
-        Ok(serving) => Ok(serving),
-        Err(SetupError { fault, disk: _ }) => {
-            let addresses = ShownAddresses {
-                listen: listen.as_slice(),
-                relay: service.relay_bind.unwrap_or(config.relay()),
-                ports,
-            };
-            tell_start(rt, clock, log, service.store, &addresses, fault);
-            Err(ProgramError::from(fault))
-        }
+    let started = setup.start(rt.alloc(), rt, clock, disk.holding::<S>(), credentials, log);
+    if let Err(refused) = &started {
+        let addresses = ShownAddresses {
+            listen: listen.as_slice(),
+            relay: service.relay_bind.unwrap_or(config.relay()),
+            ports,
+        };
+        tell_start(rt, clock, log, service.store, &addresses, refused.fault);
     }
+    started.map_err(|refused| ProgramError::from(refused.fault))
 }
 
 /// Takes turns. At a fault of the store the log says which file it is.
@@ -228,15 +220,11 @@ fn take_turns<S: Start, R: Files + Net + Drop + AllocGlobal, C: Clock, L: Write 
     log: &Log<L>,
 ) -> Result<(), ProgramError> {
     // 2^64 turns of which each takes a microsecond are 580,000 years.
-    match serving.turns(&clock, service.turns.unwrap_or(u64::MAX)) {
-        Ok(()) => Ok(()),
-        Err(fault) => {
-            if let TurnError::Commit(_) = fault {
-                tell_file(rt, clock, log, StartFile::Store(service.store));
-            }
-            Err(ProgramError::from(fault))
-        }
+    let taken = serving.turns(&clock, service.turns.unwrap_or(u64::MAX));
+    if let Err(TurnError::Commit(_)) = &taken {
+        tell_file(rt, clock, log, StartFile::Store(service.store));
     }
+    Ok(taken?)
 }
 
 /// Prints a line for each address that clients send to.
