@@ -63,29 +63,29 @@ impl<L: Write + Drop> Lines<L> {
         self.out.write_all(line.as_bytes()).is_ok() && self.out.flush().is_ok()
     }
 
-    // Writes a line for which the second has room. If that can't be done it counts as left out.
-    fn put(&mut self, second: u64, user: ShownName<'_>, text: Result<String, AllocError>) {
+    // Writes a line, in place of which so many count as left out if that can't be done.
+    fn put(
+        &mut self,
+        second: u64,
+        user: ShownName<'_>,
+        text: Result<String, AllocError>,
+        count: u64,
+    ) {
         let done = match text {
             Ok(text) => self.write(second, user, text.as_str()),
             Err(_) => false,
         };
         if !done {
-            self.limit.leave_out(1);
+            self.limit.leave_out(count);
         }
     }
 
     // Begins a second, and says how many lines were left out in the one before.
     fn begin(&mut self, second: u64) {
         let left_out = self.limit.begin(second);
-        if left_out == 0 {
-            return;
-        }
-        let done = match format!(in self.alloc; "left out {left_out}") {
-            Ok(text) => self.write(second, NOBODY, text.as_str()),
-            Err(_) => false,
-        };
-        if !done {
-            self.limit.leave_out(left_out);
+        if left_out > 0 {
+            let text = format!(in self.alloc; "left out {left_out}");
+            self.put(second, NOBODY, text, left_out);
         }
     }
 
@@ -100,7 +100,7 @@ impl<L: Write + Drop> Lines<L> {
     ) {
         if self.challenged.is_logged(five_tuple.client, response) && self.limit.take() {
             let text = response_text(self.alloc, five_tuple, bytes);
-            self.put(second, user_of(table, five_tuple), text);
+            self.put(second, user_of(table, five_tuple), text, 1);
         }
     }
 
@@ -137,7 +137,7 @@ impl<L: Write + Drop> Lines<L> {
             let expiry = entry.expiry();
             if after < expiry && expiry <= second && self.limit.take() {
                 let text = expired_text(self.alloc, five_tuple, entry.port());
-                self.put(second, ShownName(entry.user()), text);
+                self.put(second, ShownName(entry.user()), text, 1);
             }
         }
     }
