@@ -1,7 +1,7 @@
 //! What a server logs.
 
 use std::alloc::{AllocError, Allocator, Global};
-use std::cell::RefCell;
+use std::cell::{RefCell, RefMut};
 use std::io::Write;
 use turn_config::ShownEndpoint;
 use turn_log::{Challenged, LineLimit, Response, ShownName, response_of};
@@ -183,22 +183,23 @@ impl<L: Write + Drop> Log<L> {
         self.lines.is_some()
     }
 
+    // The lines, if a log is kept.
+    fn lines(&self) -> Option<RefMut<'_, Lines<L>>> {
+        self.lines.as_ref()?.try_borrow_mut().ok()
+    }
+
     /// Says something of the server itself.
     pub fn say(&self, second: u64, text: &str) {
-        if let Some(lines) = &self.lines {
-            if let Ok(mut lines) = lines.try_borrow_mut() {
-                let _ = lines.write(second, NOBODY, text);
-            }
+        if let Some(mut lines) = self.lines() {
+            let _ = lines.write(second, NOBODY, text);
         }
     }
 }
 
 impl<'l, L: Write + Drop> Watch for &'l Log<L> {
     fn taking<A: Allocator + Copy>(&self, moment: Moment, table: &Table<A>) {
-        if let Some(lines) = &self.lines {
-            if let Ok(mut lines) = lines.try_borrow_mut() {
-                lines.look(moment, table);
-            }
+        if let Some(mut lines) = self.lines() {
+            lines.look(moment, table);
         }
     }
 
@@ -208,10 +209,8 @@ impl<'l, L: Write + Drop> Watch for &'l Log<L> {
         table: &Table<A>,
         outgoing: &[Outgoing<A>],
     ) {
-        if let Some(lines) = &self.lines {
-            if let Ok(mut lines) = lines.try_borrow_mut() {
-                lines.see(moment, table, outgoing);
-            }
+        if let Some(mut lines) = self.lines() {
+            lines.see(moment, table, outgoing);
         }
     }
 }
