@@ -16,13 +16,8 @@ use turn_types::{Endpoint, Moment};
 
 /// The system's second, or 0 if it tells none.
 pub fn second_now<C: Clock>(clock: &C) -> u64 {
-    let Some(first) = Moment::new(0) else {
-        return 0;
-    };
-    match moment_now(&clock, first) {
-        Some(moment) => moment.seconds(),
-        None => 0,
-    }
+    let first = Moment::new(0).unwrap();
+    moment_now(&clock, first).map_or(0, |moment| moment.seconds())
 }
 
 /// What is at fault, and why if the system said so.
