@@ -256,9 +256,7 @@ impl<'c, A: Allocator + Copy> Setup<'c, A> {
     ) -> Result<SocketPorts<'a, R, A>, StartError>
         ensures { IfOk result (λ sockets. ⟦<SocketPorts<'a, R, A> as RelayAddressGenerator>⟧.range sockets ≡ self.now.ports) }
     {
-        let Ok(registry) = poll.registry().try_clone() else {
-            return Err(StartError::Socket);
-        };
+        let registry = poll.registry().try_clone().map_err(|_| StartError::Socket)?;
         let ip = self.bound();
         let mut sockets = SocketPorts::new(alloc, net, registry, ip, self.ports, self.seed);
         if !sockets.has_address() {
@@ -279,9 +277,7 @@ impl<'c, A: Allocator + Copy> Setup<'c, A> {
     ) -> Result<Beside<'a, R, W, A>, StartError>
         ensures { IfOk result (λ beside. ⟦<SocketPorts<'a, R, A> as RelayAddressGenerator>⟧.range beside.sockets ≡ self.now.ports) }
     {
-        let Ok(poll) = Poll::new(net) else {
-            return Err(StartError::Socket);
-        };
+        let poll = Poll::new(net).map_err(|_| StartError::Socket)?;
         let sockets = self.bind_ports(alloc, net, system, &poll, ports)?;
         let listening = Listening::open(alloc, net, system, &poll, self.own(), watch)?;
         let waiting = Waiting::new(alloc, poll)?;
