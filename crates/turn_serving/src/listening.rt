@@ -77,19 +77,14 @@ fn open_one<R: Net, C: Clock>(
     token: usize,
 ) -> Result<ClientSocket, StartError> {
     let mut socket = bind(net, system, at)?;
-    let registered = poll
-        .registry()
-        .register(&mut socket, Token(token), Interest::READABLE);
-    let local = match socket.local_addr() {
-        Ok(address) => endpoint_of(address),
-        Err(_) => None,
-    };
+    poll.registry()
+        .register(&mut socket, Token(token), Interest::READABLE)
+        .map_err(|_| StartError::Socket)?;
     // A smaller buffer is no fault.
     let _ = set_receive_buffer(&socket, RECEIVE_BUFFER);
-    match (registered, local) {
-        (Ok(()), Some(at)) => Ok(ClientSocket { socket, at }),
-        _ => Err(StartError::Socket),
-    }
+    let local = socket.local_addr().map_err(|_| StartError::Socket)?;
+    let at = endpoint_of(local).ok_or(StartError::Socket)?;
+    Ok(ClientSocket { socket, at })
 }
 
 /// Binds a socket at each of these addresses, in whose place it puts the one that was bound.
