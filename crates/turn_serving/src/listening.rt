@@ -103,9 +103,7 @@ fn open_all<R: Net, C: Clock, A: Allocator + Copy>(
         let at = listening.as_slice()[place];
         let socket = open_one(net, system, poll, at, LISTENING + place)?;
         listening.set(place, socket.at);
-        if sockets.push(socket).is_err() {
-            return Err(StartError::Memory);
-        }
+        sockets.push(socket).map_err(|_| StartError::Memory)?;
     }
     Ok(sockets)
 }
