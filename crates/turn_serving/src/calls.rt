@@ -5,7 +5,6 @@ ghost use Rattle.turn_engine.specs.State.{emptied, now_of};
 ghost use Rattle.turn_serving.specs.Turns.{At, Never, Served};
 
 use crate::error::TurnError;
-use crate::kept::Kept;
 use crate::listening::Listening;
 use crate::relay_sockets::RelaySockets;
 use crate::sending::send_all;
@@ -53,33 +52,6 @@ pub(crate) fn submit<
     if server.submit(moment, arrival) == Err(SubmitError::BatchFull) {
         flush(listening, server)?;
         let _ = server.submit(moment, arrival);
-    }
-    Ok(())
-}
-
-/// Submits requests that waited, in their order.
-pub(crate) fn submit_kept<
-    D: Disk,
-    H: AuthHandler,
-    G: RelaySockets,
-    A: Allocator + Copy,
-    W: Watch + Drop,
->(
-    listening: &Listening<W, A>,
-    server: &mut Server<D, H, G, A>,
-    moment: Moment,
-    kept: &Kept<A>,
-) -> Result<(), TurnError>
-    requires { now_of server.old ≤ moment }
-    ensures served { Served D.Disk H.AuthHandler G.RelayAddressGenerator (At moment) server.old server.new }
-    ensures clock { now_of server.new ≤ moment }
-{
-    for request in kept.requests() {
-        let arrival = Arrival::Client {
-            five_tuple: request.five_tuple,
-            bytes: request.bytes.as_slice(),
-        };
-        submit(listening, server, moment, &arrival)?;
     }
     Ok(())
 }

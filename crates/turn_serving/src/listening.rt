@@ -17,8 +17,7 @@ use turn_sockets::{
     LISTENING, ListeningAddresses, Order, OwnAddresses, RECEIVE_BUFFER, Ready, address_of,
     endpoint_of, set_receive_buffer,
 };
-use turn_table::Table;
-use turn_types::{Endpoint, FiveTuple, Moment};
+use turn_types::{Endpoint, FiveTuple};
 
 /// How many sockets one wait reports; the next one reports more.
 const EVENTS: usize = 1_025;
@@ -127,11 +126,6 @@ impl<W: Watch + Drop, A: Allocator + Copy> Listening<W, A> {
             own,
             watch,
         })
-    }
-
-    /// Lets the watch see the table before anything is submitted at a moment.
-    pub(crate) fn tell(&self, moment: Moment, table: &Table<A>) {
-        self.watch.taking(moment, table);
     }
 
     /// The five-tuple of a datagram that a socket received. `None` if it comes from a relay port of this server: it is lost.

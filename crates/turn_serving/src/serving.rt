@@ -10,7 +10,7 @@ ghost use Rattle.turn_step.specs.Answer.{Setting};
 ghost use Rattle.turn_store.specs.State.{form_of};
 ghost use Rattle.turn_serving.specs.Turns.{Served};
 
-use crate::calls::{flush, submit_kept};
+use crate::calls::flush;
 use crate::error::TurnError;
 use crate::kept::Kept;
 use crate::listening::{Listening, WAIT_MILLIS, Waiting};
@@ -198,12 +198,7 @@ impl<
         ensures { Served D.Disk H.AuthHandler G.RelayAddressGenerator (IsMoment (T.told system.now)) self.old self.new }
     {
         let moment = self.moment(system)?;
-        let turn = Turn {
-            listening: &self.listening,
-            moment,
-            burst: self.burst,
-        };
-        turn.tell(self.server.table());
+        let turn = Turn::begin(&self.listening, moment, self.burst, self.server.table());
         self.waiting.plan()?;
         turn.take_all(
             &mut self.server,
@@ -262,8 +257,8 @@ impl<
         ensures { Served D.Disk H.AuthHandler G.RelayAddressGenerator (IsMoment (T.told system.now)) self.old self.new }
     {
         let moment = self.moment(system)?;
-        self.listening.tell(moment, self.server.table());
-        submit_kept(&self.listening, &mut self.server, moment, &self.work.kept)?;
+        let turn = Turn::begin(&self.listening, moment, self.burst, self.server.table());
+        turn.submit_kept(&mut self.server, &self.work.kept)?;
         let share = self.work.kept.clear();
         self.take_late(system, share)
     }

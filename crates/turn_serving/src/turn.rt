@@ -1,6 +1,6 @@
 //! What a turn does with one socket.
 
-ghost use Rattle.std.specs.Prelude.{◌≤◌, false, true};
+ghost use Rattle.std.specs.Prelude.{◌≡◌, ◌≤◌, false, true};
 ghost use Rattle.std.specs.BTreeMap.{get};
 ghost use Rattle.turn_engine.specs.State.{now_of};
 ghost use Rattle.turn_serving.specs.Turns.{At, Served};
@@ -73,15 +73,47 @@ impl Taken {
 /// What a turn does with each socket.
 #[derive(Clone, Copy)]
 pub(crate) struct Turn<'l, W: Watch + Drop, A: Allocator = Global> {
-    pub(crate) listening: &'l Listening<W, A>,
-    pub(crate) moment: Moment,
-    pub(crate) burst: u8,
+    listening: &'l Listening<W, A>,
+    moment: Moment,
+    burst: u8,
 }
 
 impl<'l, W: Watch + Drop, A: Allocator + Copy> Turn<'l, W, A> {
-    // Lets the watch see the table before anything is taken.
-    pub(crate) fn tell(&self, table: &Table<A>) {
-        self.listening.tell(self.moment, table);
+    /// Begins at a moment. The watch sees the table before anything is taken.
+    pub(crate) fn begin(
+        listening: &'l Listening<W, A>,
+        moment: Moment,
+        burst: u8,
+        table: &Table<A>,
+    ) -> Turn<'l, W, A>
+        ensures { result.moment ≡ moment }
+    {
+        listening.watch.taking(moment, table);
+        Turn {
+            listening,
+            moment,
+            burst,
+        }
+    }
+
+    /// Submits requests that waited, in their order.
+    pub(crate) fn submit_kept<D: Disk, H: AuthHandler, G: RelaySockets>(
+        &self,
+        server: &mut Server<D, H, G, A>,
+        kept: &Kept<A>,
+    ) -> Result<(), TurnError>
+        requires { now_of server.old ≤ self.now.moment }
+        ensures served { Served D.Disk H.AuthHandler G.RelayAddressGenerator (At self.now.moment) server.old server.new }
+        ensures clock { now_of server.new ≤ self.now.moment }
+    {
+        for request in kept.requests() {
+            let arrival = Arrival::Client {
+                five_tuple: request.five_tuple,
+                bytes: request.bytes.as_slice(),
+            };
+            submit(self.listening, server, self.moment, &arrival)?;
+        }
+        Ok(())
     }
 
     // Submits a client's datagram, or keeps it if it is a request and there is a place. One of the server itself is lost.

@@ -1,5 +1,5 @@
 use Rattle.turn_serving.proofs.Turns.{no_call, then}
-use Rattle.turn_serving.proofs.calls.submit_kept.Goals as goal
+use Rattle.turn_serving.proofs.turn.Turn.submit_kept.Goals as goal
 
 pub loop-request-init : goal.loop-request-init
 loop-request-init g c = (no_call _, c.requires)
