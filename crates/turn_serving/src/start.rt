@@ -61,36 +61,6 @@ struct Beside<'a, R: Net, W: Watch + Drop, A: Allocator + Copy> {
     work: Work<A>,
 }
 
-/// Opens the store of a disk, and carries it over to version 2 if that is asked for and it can be. A refusal returns the disk.
-fn open<
-    D: Disk + Drop,
-    H: AuthHandler + Drop,
-    G: RelayAddressGenerator + Drop,
-    A: Allocator + Copy,
->(
-    alloc: A,
-    disk: D,
-    config: &ServerConfig<A>,
-    handler: H,
-    ports: G,
-    carry: bool,
-) -> Result<Server<D, H, G, A>, StoreOpenError<D>>
-    ensures opens { IfOk result (λ server. Opening D.Disk disk config.now handler ports (Ok server)) }
-    ensures carried { IfOk result (λ server. D.follows_crash_model server.store.disk
-        → Carries carry (D.trace disk).now.bytes server.store) }
-    ensures kept { carry ≡ false → IfOk result (λ server. IsKept D.Disk disk server.store.disk) }
-    ensures kept_err { carry ≡ false → IfErr result (λ r. IsKept D.Disk disk r.disk) }
-    ensures images_err { IfErr result (λ r. KeepsImages D.Disk disk r.disk) }
-{
-    match Server::open_as(alloc, disk, config, handler, ports, carry) {
-        Ok(server) => Ok(server),
-        Err(refused) => Err(StoreOpenError {
-            fault: refused.fault,
-            disk: refused.disk,
-        }),
-    }
-}
-
 /// Whether a store of this version may have to be carried over.
 fn is_first(version: Version) -> bool
     ensures { result ≡ is_first version }
@@ -117,41 +87,6 @@ fn ports_of<A: Allocator + Copy>(alloc: A, table: &Table<A>) -> Result<Vec<u16, 
     }
     put_reserved(&mut ports, table)?;
     Ok(ports)
-}
-
-/// Opens the store of a disk, which keeps its version, and closes it. Returns the ports of its allocations too, and those that are
-/// reserved; and its version.
-fn look_into<D: Disk + Drop, H: AuthHandler + Drop, A: Allocator + Copy>(
-    alloc: A,
-    disk: D,
-    config: &ServerConfig<A>,
-    handler: H,
-    ports: PortRange,
-) -> Result<(D, H, Vec<u16, A>, Version), SetupError<D>>
-    ensures kept { IfOk result (λ looked. IsKept D.Disk disk looked.0) }
-    ensures handler { IfOk result (λ looked. looked.1 ≡ handler) }
-    ensures version { IfOk result (λ looked. D.follows_crash_model looked.0 → IsOfVersion looked.3 (D.trace disk).now.bytes) }
-    ensures kept_err { IfErr result (λ r. IsKept D.Disk disk r.disk) }
-{
-    let server = match open(alloc, disk, config, handler, ports, false) {
-        Ok(server) => server,
-        Err(StoreOpenError { fault, disk }) => {
-            return Err(SetupError {
-                fault: StartError::Store(fault),
-                disk,
-            });
-        }
-    };
-    let version = server.info().version;
-    let ports = ports_of(alloc, server.table());
-    let (disk, handler, _) = server.close();
-    match ports {
-        Ok(ports) => Ok((disk, handler, ports, version)),
-        Err(_) => Err(SetupError {
-            fault: StartError::Memory,
-            disk,
-        }),
-    }
 }
 
 /// Binds a port, if it has no socket yet. While it is in use it tries again, up to two seconds.
@@ -242,6 +177,65 @@ impl<'c, A: Allocator + Copy> Setup<'c, A> {
             relay: self.config.relay(),
             bound: self.bound(),
             ports: self.ports,
+        }
+    }
+
+    /// Opens the store of a disk, and carries it over to version 2 if that is asked for and it can be. A refusal returns the disk.
+    fn open<D: Disk + Drop, H: AuthHandler + Drop, G: RelayAddressGenerator + Drop>(
+        &self,
+        alloc: A,
+        disk: D,
+        handler: H,
+        ports: G,
+        carry: bool,
+    ) -> Result<Server<D, H, G, A>, StoreOpenError<D>>
+        ensures opens { IfOk result (λ server. Opening D.Disk disk self.now.config.now handler ports (Ok server)) }
+        ensures carried { IfOk result (λ server. D.follows_crash_model server.store.disk
+            → Carries carry (D.trace disk).now.bytes server.store) }
+        ensures kept { carry ≡ false → IfOk result (λ server. IsKept D.Disk disk server.store.disk) }
+        ensures kept_err { carry ≡ false → IfErr result (λ r. IsKept D.Disk disk r.disk) }
+        ensures images_err { IfErr result (λ r. KeepsImages D.Disk disk r.disk) }
+    {
+        match Server::open_as(alloc, disk, self.config, handler, ports, carry) {
+            Ok(server) => Ok(server),
+            Err(refused) => Err(StoreOpenError {
+                fault: refused.fault,
+                disk: refused.disk,
+            }),
+        }
+    }
+
+    /// Opens the store of a disk, which keeps its version, and closes it. Returns the ports of its allocations too, and those that are
+    /// reserved; and its version.
+    fn look_into<D: Disk + Drop, H: AuthHandler + Drop>(
+        &self,
+        alloc: A,
+        disk: D,
+        handler: H,
+    ) -> Result<(D, H, Vec<u16, A>, Version), SetupError<D>>
+        ensures kept { IfOk result (λ looked. IsKept D.Disk disk looked.0) }
+        ensures handler { IfOk result (λ looked. looked.1 ≡ handler) }
+        ensures version { IfOk result (λ looked. D.follows_crash_model looked.0 → IsOfVersion looked.3 (D.trace disk).now.bytes) }
+        ensures kept_err { IfErr result (λ r. IsKept D.Disk disk r.disk) }
+    {
+        let server = match self.open(alloc, disk, handler, self.ports, false) {
+            Ok(server) => server,
+            Err(StoreOpenError { fault, disk }) => {
+                return Err(SetupError {
+                    fault: StartError::Store(fault),
+                    disk,
+                });
+            }
+        };
+        let version = server.info().version;
+        let ports = ports_of(alloc, server.table());
+        let (disk, handler, _) = server.close();
+        match ports {
+            Ok(ports) => Ok((disk, handler, ports, version)),
+            Err(_) => Err(SetupError {
+                fault: StartError::Memory,
+                disk,
+            }),
         }
     }
 
@@ -342,13 +336,7 @@ impl<'c, A: Allocator + Copy> Setup<'c, A> {
             → EachImageSince (D.trace disk) (D.trace r.disk) (AtLeast form h k m)) }
         ensures crash_model_err { IfErr result (λ r. D.follows_crash_model r.disk → D.follows_crash_model disk) }
     {
-        let (disk, handler, ports, version) = match look_into(
-            alloc,
-            disk,
-            self.config,
-            handler,
-            self.ports,
-        ) {
+        let (disk, handler, ports, version) = match self.look_into(alloc, disk, handler) {
             Ok(looked) => looked,
             Err(refused) => return Err(refused),
         };
@@ -364,7 +352,7 @@ impl<'c, A: Allocator + Copy> Setup<'c, A> {
         } = beside;
         // This opening may write, so it comes behind all else that may be refused.
         let carry = is_first(version);
-        let server = match open(alloc, disk, self.config, handler, sockets, carry) {
+        let server = match self.open(alloc, disk, handler, sockets, carry) {
             Ok(server) => server,
             Err(StoreOpenError { fault, disk }) => {
                 return Err(SetupError {

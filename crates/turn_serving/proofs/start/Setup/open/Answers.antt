@@ -1,5 +1,5 @@
 use Rattle.turn_serving.proofs.Starts.{kept, opened_images, refused_images}
-use Rattle.turn_serving.proofs.start.open.Goals as goal
+use Rattle.turn_serving.proofs.start.Setup.open.Goals as goal
 
 pub returns-in-Ok-clause-kept : goal.returns-in-Ok-clause-kept
 returns-in-Ok-clause-kept g c unasked = kept g.D.Disk (opened_images g.D.Disk c.in-Ok.ensures.call) (c.in-Ok.ensures.same unasked)

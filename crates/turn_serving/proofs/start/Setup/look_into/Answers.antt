@@ -1,7 +1,7 @@
 use Rattle.std.proofs.Common.{subst, sym}
 use Rattle.turn_serving.proofs.Starts.{version_read}
 use Rattle.turn_serving.specs.Starts.{IsOfVersion}
-use Rattle.turn_serving.proofs.start.look_into.Goals as goal
+use Rattle.turn_serving.proofs.start.Setup.look_into.Goals as goal
 
 pub returns-in-Ok-ports-clause-version : goal.returns-in-Ok-ports-clause-version
 returns-in-Ok-ports-clause-version g c crash_model =
