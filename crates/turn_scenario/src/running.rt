@@ -343,8 +343,10 @@ impl<'a, A: Allocator + Copy> Running<'a, A> {
         ensures lives { OnOk result (LivesOn ⟦<MemoryDisk<A> as Disk>⟧ ⟦<Credentials<A> as AuthHandler>⟧ ⟦<PortRange as RelayAddressGenerator>⟧
             self.old.player self.new.player) }
     {
-        let line = read_line(text).ok_or(LineError::Bad)?;
-        self.do_line(&line)
+        match read_line(text) {
+            Some(line) => self.do_line(&line),
+            None => Err(LineError::Bad),
+        }
     }
 
     pub(crate) fn into_report(self) -> Report<A> {
