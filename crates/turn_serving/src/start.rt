@@ -336,7 +336,10 @@ impl<'c, A: Allocator + Copy> Setup<'c, A> {
             → EachImageSince (D.trace disk) (D.trace r.disk) (AtLeast form h k m)) }
         ensures crash_model_err { IfErr result (λ r. D.follows_crash_model r.disk → D.follows_crash_model disk) }
     {
-        let (disk, handler, ports, version) = self.look_into(alloc, disk, handler)?;
+        let (disk, handler, ports, version) = match self.look_into(alloc, disk, handler) {
+            Ok(looked) => looked,
+            Err(refused) => return Err(refused),
+        };
         let beside = match self.bind_beside(alloc, net, system, &ports, watch) {
             Ok(beside) => beside,
             Err(fault) => return Err(SetupError { fault, disk }),

@@ -5,31 +5,31 @@ use Rattle.turn_serving.proofs.Starts.{both_kept, joined, not_first, opened_imag
 use Rattle.turn_serving.proofs.start.Setup.start.Goals as goal
 
 pub returns-in-Err-open-clause-stop_err : goal.returns-in-Err-open-clause-stop_err
-returns-in-Err-open-clause-stop_err g c = (joined g.D.Disk c.in_ok-disk.ensures.kept.images c.in-Err-open.ensures.images_err).stop
+returns-in-Err-open-clause-stop_err g c = (joined g.D.Disk c.in-Ok.ensures.kept.images c.in-Err-open.ensures.images_err).stop
 
 pub returns-in-Err-open-clause-same_err : goal.returns-in-Err-open-clause-same_err
 returns-in-Err-open-clause-same_err g c crash_model later =
-    let unasked = c.is_first-carry.ensures ∙ not_first _ _ (c.in_ok-disk.ensures.version (c.in-Err-open.ensures.images_err.crash_model crash_model)) later in
-    (both_kept g.D.Disk c.in_ok-disk.ensures.kept (c.in-Err-open.ensures.kept_err unasked)).content crash_model
+    let unasked = c.is_first-carry.ensures ∙ not_first _ _ (c.in-Ok.ensures.version (c.in-Err-open.ensures.images_err.crash_model crash_model)) later in
+    (both_kept g.D.Disk c.in-Ok.ensures.kept (c.in-Err-open.ensures.kept_err unasked)).content crash_model
 
 pub returns-then-not-holds_ports-clause-crash_model_err : goal.returns-then-not-holds_ports-clause-crash_model_err
 returns-then-not-holds_ports-clause-crash_model_err g c crash_model =
-    c.in_ok-disk.ensures.kept.images.crash_model (c.in-Ok-open.ensures.opens.uses.crash_model (subst (λ d. g.D.Disk.follows_crash_model d) c.close-disk.ensures.disk crash_model))
+    c.in-Ok.ensures.kept.images.crash_model (c.in-Ok-open.ensures.opens.uses.crash_model (subst (λ d. g.D.Disk.follows_crash_model d) c.close-disk.ensures.disk crash_model))
 
 pub returns-then-not-holds_ports-clause-same_err : goal.returns-then-not-holds_ports-clause-same_err
 returns-then-not-holds_ports-clause-same_err g c crash_model later =
     let now = subst (λ d. g.D.Disk.follows_crash_model d) c.close-disk.ensures.disk crash_model in
-    let unasked = c.is_first-carry.ensures ∙ not_first _ _ (c.in_ok-disk.ensures.version (c.in-Ok-open.ensures.opens.uses.crash_model now)) later in
-    ap (λ d. (g.D.Disk.trace d).now.bytes) c.close-disk.ensures.disk ∙ (both_kept g.D.Disk c.in_ok-disk.ensures.kept (c.in-Ok-open.ensures.kept unasked)).content now
+    let unasked = c.is_first-carry.ensures ∙ not_first _ _ (c.in-Ok.ensures.version (c.in-Ok-open.ensures.opens.uses.crash_model now)) later in
+    ap (λ d. (g.D.Disk.trace d).now.bytes) c.close-disk.ensures.disk ∙ (both_kept g.D.Disk c.in-Ok.ensures.kept (c.in-Ok-open.ensures.kept unasked)).content now
 
 pub returns-then-not-holds_ports-clause-stop_err : goal.returns-then-not-holds_ports-clause-stop_err
 returns-then-not-holds_ports-clause-stop_err g c =
-    (subst (λ d. KeepsImages g.D.Disk c.args.disk d) (sym c.close-disk.ensures.disk) (joined g.D.Disk c.in_ok-disk.ensures.kept.images (opened_images g.D.Disk c.in-Ok-open.ensures.opens))).stop
+    (subst (λ d. KeepsImages g.D.Disk c.args.disk d) (sym c.close-disk.ensures.disk) (joined g.D.Disk c.in-Ok.ensures.kept.images (opened_images g.D.Disk c.in-Ok-open.ensures.opens))).stop
 
 pub returns-clause-started : goal.returns-clause-started
 returns-clause-started g c =
     started_as c.new.ensures
-    (started g.D.Disk g.H.AuthHandler _ _ _ _ _ _ _ _ _ c.in_ok-disk.ensures.kept c.in_ok-disk.ensures.handler c.in-Ok.ensures c.in-Ok-open.ensures.opens _ c.in_ok-disk.ensures.version _ c.is_first-carry.ensures
+    (started g.D.Disk g.H.AuthHandler _ _ _ _ _ _ _ _ _ c.in-Ok.ensures.kept c.in-Ok.ensures.handler c.in-Ok-bind_beside.ensures c.in-Ok-open.ensures.opens _ c.in-Ok.ensures.version _ c.is_first-carry.ensures
     c.in-Ok-open.ensures.carried)
 
 pub returns-clause-sockets : goal.returns-clause-sockets
@@ -41,9 +41,9 @@ returns-clause-held g c = rw c.new.ensures (c.holds_ports.ensures.0 search)
 pub returns-clause-same : goal.returns-clause-same
 returns-clause-same g c crash_model later =
     let now = subst (λ s. g.D.Disk.follows_crash_model s.store.disk) c.new.ensures crash_model in
-    let unasked = c.is_first-carry.ensures ∙ not_first _ _ (c.in_ok-disk.ensures.version (c.in-Ok-open.ensures.opens.uses.crash_model now)) later in
-    ap (λ s. (g.D.Disk.trace s.store.disk).now.bytes) c.new.ensures ∙ (both_kept g.D.Disk c.in_ok-disk.ensures.kept (c.in-Ok-open.ensures.kept unasked)).content now
+    let unasked = c.is_first-carry.ensures ∙ not_first _ _ (c.in-Ok.ensures.version (c.in-Ok-open.ensures.opens.uses.crash_model now)) later in
+    ap (λ s. (g.D.Disk.trace s.store.disk).now.bytes) c.new.ensures ∙ (both_kept g.D.Disk c.in-Ok.ensures.kept (c.in-Ok-open.ensures.kept unasked)).content now
 
 pub returns-clause-stop : goal.returns-clause-stop
 returns-clause-stop g c =
-    (subst (λ s. KeepsImages g.D.Disk c.args.disk s.store.disk) (sym c.new.ensures) (joined g.D.Disk c.in_ok-disk.ensures.kept.images (opened_images g.D.Disk c.in-Ok-open.ensures.opens))).stop
+    (subst (λ s. KeepsImages g.D.Disk c.args.disk s.store.disk) (sym c.new.ensures) (joined g.D.Disk c.in-Ok.ensures.kept.images (opened_images g.D.Disk c.in-Ok-open.ensures.opens))).stop
