@@ -183,7 +183,9 @@ fn write_at_once(
 ) {
     let moment = table.moment();
     refusing.arm(0);
-    let out = from_peer(table, 50000, PEER_ENDPOINT, b"hello", moment).expect(rt, "a datagram");
+    let Some(out) = from_peer(table, 50000, PEER_ENDPOINT, b"hello", moment) else {
+        panic!(rt; "no datagram");
+    };
     let sent = from_client(table, five_tuple(FIRST), SEND, moment).expect(rt, "a payload");
     assert!(rt; refusing.left() == 0 && sent.bytes == b"hello".as_slice());
     assert!(rt; written(rt, refusing, &out).is_none() && refusing.has_refused());
