@@ -16,8 +16,13 @@ use turn_types::{Endpoint, Moment};
 
 /// The system's second, or 0 if it tells none.
 pub fn second_now<C: Clock>(clock: &C) -> u64 {
-    let first = Moment::new(0).unwrap();
-    moment_now(&clock, first).map_or(0, |moment| moment.seconds())
+    let Some(first) = Moment::new(0) else {
+        return 0;
+    };
+    match moment_now(&clock, first) {
+        Some(moment) => moment.seconds(),
+        None => 0,
+    }
 }
 
 /// What is at fault, and why if the system said so.
@@ -47,34 +52,50 @@ fn tell<C: Clock, L: Write + Drop, T: Display>(
     }
 }
 
-/// A file that a server is started with.
-#[derive(Clone, Copy)]
-pub enum StartFile<'a> {
-    /// A configuration, by its path.
-    Config(&'a str),
-    /// A store, by its path.
-    Store(&'a str),
-}
-
-/// Says that a file is at fault, and why it can't be opened as a start opens it, if it can't.
-pub fn tell_file<R: Files + AllocGlobal, C: Clock, L: Write + Drop>(
+/// Says that a configuration's file is at fault, and why it can't be read if it can't.
+pub fn tell_config<R: Files + AllocGlobal, C: Clock, L: Write + Drop>(
     rt: &R,
     clock: &C,
     log: &Log<L>,
-    file: StartFile<'_>,
+    path: &str,
 ) {
     if !log.is_kept() {
         return;
     }
-    let (what, path, is_written) = match file {
-        StartFile::Config(path) => ("config", path, false),
-        StartFile::Store(path) => ("store", path, true),
-    };
     let mut options = OpenOptions::new();
-    options.read(true).write(is_written);
+    options.read(true);
     let reason = open_regular(rt, path, &options).err();
-    let name = ShownName(path.as_bytes());
-    tell(rt.alloc(), clock, log, what, &name, reason);
+    tell(
+        rt.alloc(),
+        clock,
+        log,
+        "config",
+        &ShownName(path.as_bytes()),
+        reason,
+    );
+}
+
+/// Says that a store's file is at fault, and why it can't be opened if it can't.
+pub fn tell_store<R: Files + AllocGlobal, C: Clock, L: Write + Drop>(
+    rt: &R,
+    clock: &C,
+    log: &Log<L>,
+    path: &str,
+) {
+    if !log.is_kept() {
+        return;
+    }
+    let mut options = OpenOptions::new();
+    options.read(true).write(true);
+    let reason = open_regular(rt, path, &options).err();
+    tell(
+        rt.alloc(),
+        clock,
+        log,
+        "store",
+        &ShownName(path.as_bytes()),
+        reason,
+    );
 }
 
 /// Where a server's sockets are bound.

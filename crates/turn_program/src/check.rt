@@ -23,7 +23,10 @@ fn open_beside<R: Files<File = File>>(
 ) -> Result<FileDisk<File>, ProgramError> {
     let mut options = OpenOptions::new();
     options.read(true).write(true);
-    open_regular(files, store, &options).map_err(|_| ProgramError::Device)?;
+    match open_regular(files, store, &options) {
+        Ok(file) => drop(file),
+        Err(_) => return Err(ProgramError::Device),
+    }
     Ok(FileDisk::open_to_read(files, store)?)
 }
 

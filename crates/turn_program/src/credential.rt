@@ -13,8 +13,8 @@ use turn_types::{Endpoint, Moment};
 fn username_of(alloc: Global, name: Option<&str>, expiry: Moment) -> Result<String, AllocError> {
     let seconds = expiry.seconds();
     match name {
-        Some(name) => format!(in alloc; "{seconds}:{name}"),
-        None => format!(in alloc; "{seconds}"),
+        Some(name) => Ok(format!(in alloc; "{seconds}:{name}")?),
+        None => Ok(format!(in alloc; "{seconds}")?),
     }
 }
 

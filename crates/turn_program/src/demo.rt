@@ -90,6 +90,20 @@ fn take_steps<D: Disk + Drop, R: Net + Drop, C: Clock, W: Write>(
     Ok(())
 }
 
+/// An Allocate without credentials, and one with them.
+fn allocate<D: Disk + Drop, R: Net + Drop, C: Clock, W: Write>(
+    alloc: Global,
+    talk: &mut Conversation<'_, D, R>,
+    clock: &C,
+    out: &mut W,
+) -> Result<Allocated, ProgramError> {
+    let code = talk.challenge(clock)?;
+    print_line(&format!(in alloc; "challenge {code}")?, out)?;
+    let allocated = talk.allocate(clock)?;
+    print_line(&format!(in alloc; "allocate {}", allocated.lifetime)?, out)?;
+    Ok(allocated)
+}
+
 /// The server crashes: what was not synced is lost.
 fn restart<'a, R: Net + Drop, C: Clock>(
     talk: Conversation<'a, MemoryDisk, R>,
@@ -100,17 +114,14 @@ fn restart<'a, R: Net + Drop, C: Clock>(
     loopback.serve(clock, disk)
 }
 
-/// What is said before the crash, of an Allocate without credentials first, and of one with them.
+/// What is said before the crash.
 fn say_first<D: Disk + Drop, R: Net + Drop, C: Clock, W: Write>(
     alloc: Global,
     talk: &mut Conversation<'_, D, R>,
     clock: &C,
     out: &mut W,
 ) -> Result<Allocated, ProgramError> {
-    let code = talk.challenge(clock)?;
-    print_line(&format!(in alloc; "challenge {code}")?, out)?;
-    let allocated = talk.allocate(clock)?;
-    print_line(&format!(in alloc; "allocate {}", allocated.lifetime)?, out)?;
+    let allocated = allocate(alloc, talk, clock, out)?;
     let steps = [Step::Permit, Step::Send, Step::Receive];
     take_steps(alloc, talk, clock, &allocated, &steps, out)?;
     Ok(allocated)

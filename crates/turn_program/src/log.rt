@@ -1,7 +1,7 @@
 //! What a server logs.
 
 use std::alloc::{AllocError, Allocator, Global};
-use std::cell::{RefCell, RefMut};
+use std::cell::RefCell;
 use std::io::Write;
 use turn_config::ShownEndpoint;
 use turn_log::{Challenged, LineLimit, Response, ShownName, response_of};
@@ -63,29 +63,29 @@ impl<L: Write + Drop> Lines<L> {
         self.out.write_all(line.as_bytes()).is_ok() && self.out.flush().is_ok()
     }
 
-    // Writes a line, in place of which so many count as left out if that can't be done.
-    fn put(
-        &mut self,
-        second: u64,
-        user: ShownName<'_>,
-        text: Result<String, AllocError>,
-        count: u64,
-    ) {
+    // Writes a line for which the second has room. If that can't be done it counts as left out.
+    fn put(&mut self, second: u64, user: ShownName<'_>, text: Result<String, AllocError>) {
         let done = match text {
             Ok(text) => self.write(second, user, text.as_str()),
             Err(_) => false,
         };
         if !done {
-            self.limit.leave_out(count);
+            self.limit.leave_out(1);
         }
     }
 
     // Begins a second, and says how many lines were left out in the one before.
     fn begin(&mut self, second: u64) {
         let left_out = self.limit.begin(second);
-        if left_out > 0 {
-            let text = format!(in self.alloc; "left out {left_out}");
-            self.put(second, NOBODY, text, left_out);
+        if left_out == 0 {
+            return;
+        }
+        let done = match format!(in self.alloc; "left out {left_out}") {
+            Ok(text) => self.write(second, NOBODY, text.as_str()),
+            Err(_) => false,
+        };
+        if !done {
+            self.limit.leave_out(left_out);
         }
     }
 
@@ -100,7 +100,7 @@ impl<L: Write + Drop> Lines<L> {
     ) {
         if self.challenged.is_logged(five_tuple.client, response) && self.limit.take() {
             let text = response_text(self.alloc, five_tuple, bytes);
-            self.put(second, user_of(table, five_tuple), text, 1);
+            self.put(second, user_of(table, five_tuple), text);
         }
     }
 
@@ -137,7 +137,7 @@ impl<L: Write + Drop> Lines<L> {
             let expiry = entry.expiry();
             if after < expiry && expiry <= second && self.limit.take() {
                 let text = expired_text(self.alloc, five_tuple, entry.port());
-                self.put(second, ShownName(entry.user()), text, 1);
+                self.put(second, ShownName(entry.user()), text);
             }
         }
     }
@@ -183,23 +183,22 @@ impl<L: Write + Drop> Log<L> {
         self.lines.is_some()
     }
 
-    // The lines, if a log is kept.
-    fn lines(&self) -> Option<RefMut<'_, Lines<L>>> {
-        self.lines.as_ref()?.try_borrow_mut().ok()
-    }
-
     /// Says something of the server itself.
     pub fn say(&self, second: u64, text: &str) {
-        if let Some(mut lines) = self.lines() {
-            let _ = lines.write(second, NOBODY, text);
+        if let Some(lines) = &self.lines {
+            if let Ok(mut lines) = lines.try_borrow_mut() {
+                let _ = lines.write(second, NOBODY, text);
+            }
         }
     }
 }
 
 impl<'l, L: Write + Drop> Watch for &'l Log<L> {
     fn taking<A: Allocator + Copy>(&self, moment: Moment, table: &Table<A>) {
-        if let Some(mut lines) = self.lines() {
-            lines.look(moment, table);
+        if let Some(lines) = &self.lines {
+            if let Ok(mut lines) = lines.try_borrow_mut() {
+                lines.look(moment, table);
+            }
         }
     }
 
@@ -209,8 +208,10 @@ impl<'l, L: Write + Drop> Watch for &'l Log<L> {
         table: &Table<A>,
         outgoing: &[Outgoing<A>],
     ) {
-        if let Some(mut lines) = self.lines() {
-            lines.see(moment, table, outgoing);
+        if let Some(lines) = &self.lines {
+            if let Ok(mut lines) = lines.try_borrow_mut() {
+                lines.see(moment, table, outgoing);
+            }
         }
     }
 }

@@ -3,7 +3,7 @@
 ghost use Rattle.std.specs.Prelude.{◌≡◌, IfErr};
 ghost use Rattle.turn_program.specs.Serving.{commits_of};
 
-use crate::about::{ShownAddresses, StartFile, second_now, tell_file, tell_sockets};
+use crate::about::{ShownAddresses, second_now, tell_config, tell_sockets, tell_store};
 use crate::error::ProgramError;
 use crate::log::Log;
 use crate::prepare::{Prepared, prepare};
@@ -21,7 +21,7 @@ use turn_config::ShownEndpoint;
 use turn_cred::Credentials;
 use turn_disk::{FileDisk, FileError, Start};
 use turn_ports::RelayAddressGenerator;
-use turn_serving::{Commits, Setup, SocketServing, StartError, TurnError};
+use turn_serving::{Commits, Setup, SetupError, SocketServing, StartError, TurnError};
 use turn_types::Endpoint;
 
 /// What the words of `turn serve` say.
@@ -109,7 +109,7 @@ fn tell_prepared<R: Files<File = File> + AllocGlobal, C: Clock, L: Write + Drop>
 ) {
     match fault {
         ProgramError::Usage => log.say(second_now(clock), LISTENS_TWICE),
-        _ => tell_file(rt, clock, log, StartFile::Config(service.config)),
+        _ => tell_config(rt, clock, log, service.config),
     }
 }
 
@@ -123,26 +123,32 @@ fn take_files<R: Files<File = File> + AllocGlobal, C: Clock, L: Write + Drop>(
     let taken = prepare(rt, service.config, service.listen, |_| {
         Ok(open_disk(rt, clock, service.store))
     });
-    if let Err(fault) = &taken {
-        tell_prepared(rt, clock, service, log, *fault);
-    }
     let Prepared {
         config,
         credentials,
         listen,
         ports,
         store,
-    } = taken?;
-    if store.is_err() {
-        tell_file(rt, clock, log, StartFile::Store(service.store));
+    } = match taken {
+        Ok(prepared) => prepared,
+        Err(fault) => {
+            tell_prepared(rt, clock, service, log, fault);
+            return Err(fault);
+        }
+    };
+    match store {
+        Ok(store) => Ok(Prepared {
+            config,
+            credentials,
+            listen,
+            ports,
+            store,
+        }),
+        Err(fault) => {
+            tell_store(rt, clock, log, service.store);
+            Err(fault)
+        }
     }
-    Ok(Prepared {
-        config,
-        credentials,
-        listen,
-        ports,
-        store: store?,
-    })
 }
 
 /// Says what the fault of a start is about.
@@ -156,7 +162,7 @@ fn tell_start<R: Files<File = File> + Net + AllocGlobal, C: Clock, L: Write + Dr
 ) {
     match fault {
         StartError::Store(_) | StartError::Reopen(_) | StartError::Changed => {
-            tell_file(rt, clock, log, StartFile::Store(store))
+            tell_store(rt, clock, log, store)
         }
         StartError::Socket => tell_sockets(rt, clock, log, addresses),
         StartError::Memory => {}
@@ -199,16 +205,18 @@ fn start<
         commits: commits_of(service.turns),
         seed: random_bytes(rt)?,
     };
-    let started = setup.start(rt.alloc(), rt, clock, disk.holding::<S>(), credentials, log);
-    if let Err(refused) = &started {
-        let addresses = ShownAddresses {
-            listen: listen.as_slice(),
-            relay: service.relay_bind.unwrap_or(config.relay()),
-            ports,
-        };
-        tell_start(rt, clock, log, service.store, &addresses, refused.fault);
+    match setup.start(rt.alloc(), rt, clock, disk.holding::<S>(), credentials, log) {
+        Ok(serving) => Ok(serving),
+        Err(SetupError { fault, disk: _ }) => {
+            let addresses = ShownAddresses {
+                listen: listen.as_slice(),
+                relay: service.relay_bind.unwrap_or(config.relay()),
+                ports,
+            };
+            tell_start(rt, clock, log, service.store, &addresses, fault);
+            Err(ProgramError::from(fault))
+        }
     }
-    started.map_err(|refused| ProgramError::from(refused.fault))
 }
 
 /// Takes turns. At a fault of the store the log says which file it is.
@@ -220,11 +228,15 @@ fn take_turns<S: Start, R: Files + Net + Drop + AllocGlobal, C: Clock, L: Write 
     log: &Log<L>,
 ) -> Result<(), ProgramError> {
     // 2^64 turns of which each takes a microsecond are 580,000 years.
-    let taken = serving.turns(&clock, service.turns.unwrap_or(u64::MAX));
-    if let Err(TurnError::Commit(_)) = &taken {
-        tell_file(rt, clock, log, StartFile::Store(service.store));
+    match serving.turns(&clock, service.turns.unwrap_or(u64::MAX)) {
+        Ok(()) => Ok(()),
+        Err(fault) => {
+            if let TurnError::Commit(_) = fault {
+                tell_store(rt, clock, log, service.store);
+            }
+            Err(ProgramError::from(fault))
+        }
     }
-    Ok(taken?)
 }
 
 /// Prints a line for each address that clients send to.

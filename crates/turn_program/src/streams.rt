@@ -31,8 +31,10 @@ const STANDARD_ERROR_PATH: &str = "/proc/self/fd/2";
 
 /// What kind of file standard error is, if the system tells.
 fn standard_error_type<R: Files<File = File>>(files: &R) -> Option<FileType> {
-    let there = fs::metadata(files, STANDARD_ERROR_PATH).ok()?;
-    Some(there.file_type())
+    match fs::metadata(files, STANDARD_ERROR_PATH) {
+        Ok(there) => Some(there.file_type()),
+        Err(_) => None,
+    }
 }
 
 /// Opens standard error anew, to be read and written.
