@@ -31,7 +31,6 @@ mod watches;
 mod words;
 mod writers;
 
-use std::fs;
 use std::io::{self, Write};
 use std::rt::Clock;
 use std::test::Fail;
@@ -43,17 +42,6 @@ const BINDING: &str = "000100002112a4420102030405060708090a0b0c";
 
 const SUCCESS: &str = "0101000c2112a4420102030405060708090a0b0c002000080001a147e112a643\n";
 
-/// The first lines of a configuration: a realm, and a secret of zeros.
-const REALM: &str = "realm example.org
-secret 0000000000000000000000000000000000000000000000000000000000000000
-";
-
-/// The last line of a configuration with the limits of a small store.
-const LIMITS: &str = "limits 2 1 1 1 8";
-
-/// Lines of a configuration after its realm and its secret.
-type Lines = &'static [&'static str];
-
 /// What a program of these tests says it is made from.
 pub const RELEASE: Release<'static> = Release {
     version: "1.2.3",
@@ -62,17 +50,6 @@ pub const RELEASE: Release<'static> = Release {
 };
 
 const USAGE: &str = "turn: usage\n";
-
-/// Writes a configuration with these lines after its realm and its secret.
-fn write_config(rt: &HostRuntime, path: &str, lines: &[&str]) -> Result<(), Fail> {
-    let mut text = String::from_str(rt.alloc(), REALM)?;
-    for line in lines {
-        text.push_str(line)?;
-        text.push_str("\n")?;
-    }
-    fs::write(rt, path, text.as_str())?;
-    Ok(())
-}
 
 /// The status of the program by a clock on the words after its name, without a log.
 fn run_by<C: Clock, W: Write, E: Write>(
@@ -108,45 +85,16 @@ fn expect(rt: &HostRuntime, words: &[&str], status: u8, out: &str, err: &str) ->
     expect_by(rt, rt, words, status, out, err)
 }
 
-/// A status, what is printed, and what is said.
-type Outcome<'a> = (u8, &'a str, &'a str);
-
-/// The outcome of words that are refused.
-const USAGE_FAULT: Outcome<'_> = (1, "", USAGE);
-
 /// Each row of words has the same outcome.
-fn expect_each(rt: &HostRuntime, rows: &[&[&str]], outcome: Outcome<'_>) -> Result<(), Fail> {
-    let (status, out, err) = outcome;
+fn expect_each(
+    rt: &HostRuntime,
+    rows: &[&[&str]],
+    status: u8,
+    out: &str,
+    err: &str,
+) -> Result<(), Fail> {
     for words in rows {
         expect(rt, words, status, out, err)?;
-    }
-    Ok(())
-}
-
-/// A text between words.
-fn between<'a>(
-    rt: &HostRuntime,
-    before: &[&'a str],
-    text: &'a str,
-    after: &[&'a str],
-) -> Result<Vec<&'a str>, Fail> {
-    let mut words = Vec::from_slice(rt.alloc(), before)?;
-    words.push(text)?;
-    words.extend_from_slice(after)?;
-    Ok(words)
-}
-
-/// Each text between these words has the same outcome.
-fn expect_between(
-    rt: &HostRuntime,
-    before: &[&str],
-    texts: &[&str],
-    after: &[&str],
-    outcome: Outcome<'_>,
-) -> Result<(), Fail> {
-    for text in texts {
-        let words = between(rt, before, text, after)?;
-        expect_each(rt, &[words.as_slice()], outcome)?;
     }
     Ok(())
 }

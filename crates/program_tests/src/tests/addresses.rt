@@ -5,9 +5,9 @@ use super::formats::{fresh, put};
 use super::inspections::FRAME;
 use super::logs::At;
 use super::own::is_lost;
-use super::sockets::{HOME, at_home};
+use super::sockets::HOME;
 use super::turns::{PORTS, Talk};
-use super::{LIMITS, Lines, RELEASE, USAGE, expect, write_config};
+use super::{RELEASE, USAGE, expect};
 use std::fs;
 use std::net::UdpSocket;
 use std::test::Fail;
@@ -163,7 +163,11 @@ fn a_stored_five_tuple_ends_at_the_address_that_the_client_sent_to(
 #[test]
 fn what_a_relay_port_sends_to_the_second_address_is_lost(rt: HostRuntime) -> Result<(), Fail> {
     let mut talk = begin_at(&rt, two((HOME, 63_101), (HOME, 63_102))?)?;
-    let lost = is_lost(&rt, &mut talk, at_home(63_102));
+    let second = Endpoint {
+        ip: HOME,
+        port: 63_102,
+    };
+    let lost = is_lost(&rt, &mut talk, second);
     talk.end();
     assert!(rt; lost?);
     Ok(())
@@ -173,11 +177,12 @@ const CONFIG: &str = "turn_addresses.conf";
 
 const STORE: &str = "turn_addresses.store";
 
-const LINES: Lines = &[
-    "listen 127.0.0.1:63101",
-    "relay 127.0.0.1 63122 63129",
-    LIMITS,
-];
+const LINES: &str = "realm example.org
+secret 0000000000000000000000000000000000000000000000000000000000000000
+listen 127.0.0.1:63101
+relay 127.0.0.1 63122 63129
+limits 2 1 1 1 8
+";
 
 const EIGHT: [&str; 16] = [
     "--listen",
@@ -252,7 +257,7 @@ fn expect_start(rt: &HostRuntime, case: &Case) -> Result<(), Fail> {
     let mut content = fresh(rt.alloc())?;
     put(&mut content, 90, FRAME);
     put(&mut content, 90 + 34, b"\xF6\x9A");
-    write_config(rt, CONFIG, LINES)?;
+    fs::write(rt, CONFIG, LINES)?;
     fs::write(rt, STORE, content.as_slice())?;
     let mut words = vec![in rt.alloc();
         "serve", "--config", CONFIG, "--store", STORE, "--turns", "0",

@@ -1,8 +1,8 @@
 //! A store of version 1 whose areas have room for version 2: a start that has all its sockets carries it over, and nothing else does.
 
+use super::expect;
 use super::formats::{fresh_in, put};
 use super::inspections::FRAME;
-use super::{LIMITS, Lines, expect, write_config};
 use std::fs;
 use std::net::UdpSocket;
 use std::test::Fail;
@@ -21,17 +21,28 @@ const SERVE: [&str; 7] = [
 
 const SERVED: &str = "listening 127.0.0.1:63071\nserved 0 turns\n";
 
-const LISTEN: &str = "listen 127.0.0.1:63071";
-
-const RELAY: &str = "relay 127.0.0.1 63072 63079";
-
-const LINES: Lines = &[LISTEN, RELAY, LIMITS];
+const LINES: &str = "realm example.org
+secret 0000000000000000000000000000000000000000000000000000000000000000
+listen 127.0.0.1:63071
+relay 127.0.0.1 63072 63079
+limits 2 1 1 1 8
+";
 
 /// Lines with a relay address that is none of this machine's.
-const OTHER_RELAY: Lines = &[LISTEN, "relay 192.0.2.1 63072 63079", LIMITS];
+const OTHER_RELAY: &str = "realm example.org
+secret 0000000000000000000000000000000000000000000000000000000000000000
+listen 127.0.0.1:63071
+relay 192.0.2.1 63072 63079
+limits 2 1 1 1 8
+";
 
 /// Lines with a listening address that is none of this machine's.
-const OTHER_LISTENING: Lines = &["listen 192.0.2.1:63071", RELAY, LIMITS];
+const OTHER_LISTENING: &str = "realm example.org
+secret 0000000000000000000000000000000000000000000000000000000000000000
+listen 192.0.2.1:63071
+relay 127.0.0.1 63072 63079
+limits 2 1 1 1 8
+";
 
 /// The second area of version 2: an open gate, the version, generation 2, the size of the snapshot; in that the moment 1000, one entry
 /// without a token, and no reserved port; a closed gate.
@@ -53,7 +64,7 @@ live 1
 
 /// The lines of a configuration, an address that is held meanwhile, words, the status, the output and the fault.
 type Case = (
-    Lines,
+    &'static str,
     Option<&'static str>,
     &'static [&'static str],
     u8,
@@ -86,11 +97,11 @@ const KEPT: [Case; 6] = [
 ];
 
 /// Writes a configuration, and a store with alice's allocation at relayed port 63,079 in areas of this size.
-fn write(rt: &HostRuntime, lines: &[&str], area: u16) -> Result<Vec<u8>, Fail> {
+fn write(rt: &HostRuntime, lines: &str, area: u16) -> Result<Vec<u8>, Fail> {
     let mut content = fresh_in(rt.alloc(), area)?;
     put(&mut content, 90, FRAME);
     put(&mut content, 90 + 34, b"\xF6\x67");
-    write_config(rt, CONFIG, lines)?;
+    fs::write(rt, CONFIG, lines)?;
     fs::write(rt, STORE, &content)?;
     Ok(content)
 }

@@ -1,8 +1,8 @@
 //! `turn check`: the faults of a start, and what a check leaves to it.
 
+use super::expect;
 use super::formats::{fresh, put};
 use super::inspections::FRAME;
-use super::{LIMITS, Lines, expect, write_config};
 use std::fs;
 use std::net::UdpSocket;
 use std::test::Fail;
@@ -20,31 +20,47 @@ const SERVE: [&str; 7] = [
     "serve", "--config", CONFIG, "--store", STORE, "--turns", "0",
 ];
 
-const LISTEN: &str = "listen 127.0.0.1:63061";
-
-const RELAY: &str = "relay 127.0.0.1 63062 63069";
-
-const LINES: Lines = &[LISTEN, RELAY, LIMITS];
+const LINES: &str = "realm example.org
+secret 0000000000000000000000000000000000000000000000000000000000000000
+listen 127.0.0.1:63061
+relay 127.0.0.1 63062 63069
+limits 2 1 1 1 8
+";
 
 /// Lines of which the fourth is bad.
-const BAD_LINES: Lines = &[LISTEN, "relay 127.0.0.1 63069 63062", LIMITS];
+const BAD_LINES: &str = "realm example.org
+secret 0000000000000000000000000000000000000000000000000000000000000000
+listen 127.0.0.1:63061
+relay 127.0.0.1 63069 63062
+limits 2 1 1 1 8
+";
 
 /// Lines without a relay line.
-const FEW_LINES: Lines = &[LISTEN, LIMITS];
+const FEW_LINES: &str = "realm example.org
+secret 0000000000000000000000000000000000000000000000000000000000000000
+listen 127.0.0.1:63061
+limits 2 1 1 1 8
+";
 
 /// Lines with other limits.
-const OTHER_LIMITS: Lines = &[LISTEN, RELAY, "limits 2 1 1 1 9"];
+const OTHER_LIMITS: &str = "realm example.org
+secret 0000000000000000000000000000000000000000000000000000000000000000
+listen 127.0.0.1:63061
+relay 127.0.0.1 63062 63069
+limits 2 1 1 1 9
+";
 
 /// Lines with addresses that are none of this machine's.
-const OTHER_ADDRESSES: Lines = &[
-    "listen 192.0.2.1:63061",
-    "relay 192.0.2.1 63062 63069",
-    LIMITS,
-];
+const OTHER_ADDRESSES: &str = "realm example.org
+secret 0000000000000000000000000000000000000000000000000000000000000000
+listen 192.0.2.1:63061
+relay 192.0.2.1 63062 63069
+limits 2 1 1 1 8
+";
 
 /// The lines of a configuration, bytes that are written over in a fresh store from a position on, the store's size, and the
 /// fault of a start with its status.
-type Case = (Lines, usize, &'static [u8], usize, u8, &'static str);
+type Case = (&'static str, usize, &'static [u8], usize, u8, &'static str);
 
 const FAULTS: [Case; 13] = [
     (BAD_LINES, 0, b"", 540, 1, "turn: line 4: bad line\n"),
@@ -74,7 +90,7 @@ const FAULTS: [Case; 13] = [
 
 fn write(
     rt: &HostRuntime,
-    lines: &[&str],
+    lines: &str,
     place: usize,
     bytes: &[u8],
     size: usize,
@@ -82,7 +98,7 @@ fn write(
     let mut content = fresh(rt.alloc())?;
     put(&mut content, place, bytes);
     content.truncate(size);
-    write_config(rt, CONFIG, lines)?;
+    fs::write(rt, CONFIG, lines)?;
     fs::write(rt, STORE, &content)?;
     Ok(())
 }
@@ -101,7 +117,7 @@ fn expect_fault(rt: &HostRuntime, case: &Case) -> Result<(), Fail> {
 }
 
 /// A start with these lines ends in a fault of a socket. A check finds none, with the store and without it.
-fn expect_socket(rt: &HostRuntime, lines: &[&str]) -> Result<(), Fail> {
+fn expect_socket(rt: &HostRuntime, lines: &str) -> Result<(), Fail> {
     write(rt, lines, 90, FRAME, 540)?;
     expect(rt, &SERVE, 3, "", "turn: socket\n")?;
     expect(rt, &CHECK, 0, "ok\n", "")?;
@@ -138,7 +154,7 @@ fn expect_files(rt: &HostRuntime) -> Result<(), Fail> {
     expect(rt, &CHECK_ALONE, 0, "ok\n", "")?;
     let folder = ["check", "--config", CONFIG, "--store", "."];
     expect(rt, &folder, 3, "", "turn: device\n")?;
-    write_config(rt, CONFIG, BAD_LINES)?;
+    fs::write(rt, CONFIG, BAD_LINES)?;
     expect(rt, &CHECK, 1, "", "turn: line 4: bad line\n")?;
     expect(rt, &CHECK_ALONE, 1, "", "turn: line 4: bad line\n")?;
     fs::remove_file(rt, CONFIG)?;

@@ -1,8 +1,8 @@
 //! `turn serve` without `--turns`, up to a fault.
 
+use super::RELEASE;
 use super::formats::fresh;
-use super::sockets::{Caller, at_home, count_answers};
-use super::{LIMITS, RELEASE, write_config};
+use super::sockets::{Caller, HOME, count_answers};
 use std::cell::Cell;
 use std::fs;
 use std::io::{self, ErrorKind};
@@ -11,12 +11,14 @@ use std::test::Fail;
 use std::time::Duration;
 use turn_client::TimedSocket;
 use turn_program::run_words;
+use turn_types::Endpoint;
 
-const LINES: [&str; 3] = [
-    "listen 127.0.0.1:63160",
-    "relay 127.0.0.1 63161 63169",
-    LIMITS,
-];
+const CONFIG: &str = "realm example.org
+secret 0000000000000000000000000000000000000000000000000000000000000000
+listen 127.0.0.1:63160
+relay 127.0.0.1 63161 63169
+limits 2 1 1 1 8
+";
 
 const WORDS: [&str; 6] = [
     "turn",
@@ -67,9 +69,9 @@ fn serve(rt: &HostRuntime, client: &TimedSocket) -> (u8, Vec<u8>, Vec<u8>) {
 /// A turn takes one datagram of a socket, so three answers are those of three turns.
 #[test]
 fn serve_without_turns_takes_turns_up_to_a_fault(rt: HostRuntime) -> Result<(), Fail> {
-    write_config(&rt, "turn_endless.conf", &LINES)?;
+    fs::write(&rt, "turn_endless.conf", CONFIG)?;
     fs::write(&rt, "turn_endless.store", fresh(rt.alloc())?)?;
-    let mut client = TimedSocket::open(rt.alloc(), &rt, at_home(0))?;
+    let mut client = TimedSocket::open(rt.alloc(), &rt, Endpoint { ip: HOME, port: 0 })?;
     let (status, printed, said) = serve(&rt, &client);
     fs::remove_file(&rt, "turn_endless.conf")?;
     fs::remove_file(&rt, "turn_endless.store")?;

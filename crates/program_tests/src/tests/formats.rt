@@ -1,6 +1,6 @@
 //! `turn format`, over files of the folder that it runs in.
 
-use super::{USAGE, expect, expect_between};
+use super::{USAGE, expect};
 use std::alloc::{AllocError, Global};
 use std::fs;
 use std::test::Fail;
@@ -195,9 +195,19 @@ const UNREADABLE: [&str; 4] = [
 
 #[test]
 fn a_configuration_that_can_not_be_read_is_a_device_fault(rt: HostRuntime) -> Result<(), Fail> {
-    let after = ["--store", "turn_unreadable.store", "--area", "0"];
-    let outcome = (3, "", "turn: device\n");
-    expect_between(&rt, &["format", "--config"], &UNREADABLE, &after, outcome)
+    for config in &UNREADABLE {
+        let words: [&str; 7] = [
+            "format",
+            "--config",
+            config,
+            "--store",
+            "turn_unreadable.store",
+            "--area",
+            "0",
+        ];
+        expect(&rt, &words, 3, "", "turn: device\n")?;
+    }
+    Ok(())
 }
 
 /// A file that can't be made, an area, and the status and the fault: the area is judged first.

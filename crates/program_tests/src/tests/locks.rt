@@ -2,7 +2,7 @@
 
 use super::formats::{fresh, put};
 use super::inspections::FRAME;
-use super::{LIMITS, expect_by, run_by, write_config};
+use super::{expect_by, run_by};
 use std::cell::Cell;
 use std::fs::{self, File};
 use std::io::{self, Write};
@@ -11,9 +11,12 @@ use std::test::Fail;
 use std::time::Duration;
 use turn_disk::{FileDisk, FileError};
 
-const LINES: [&str; 3] = ["listen 127.0.0.1:0", "relay 127.0.0.1 63041 63049", LIMITS];
-
-const CONFIG: &str = "turn_lock.conf";
+const CONFIG: &str = "realm example.org
+secret 0000000000000000000000000000000000000000000000000000000000000000
+listen 127.0.0.1:0
+relay 127.0.0.1 63041 63049
+limits 2 1 1 1 8
+";
 
 const STORE: &str = "turn_lock.store";
 
@@ -55,11 +58,23 @@ fn make_store(rt: &HostRuntime) -> Result<Vec<u8>, Fail> {
 }
 
 const SERVE: [&str; 7] = [
-    "serve", "--config", CONFIG, "--store", STORE, "--turns", "0",
+    "serve",
+    "--config",
+    "turn_lock.conf",
+    "--store",
+    STORE,
+    "--turns",
+    "0",
 ];
 
 const FORMAT: [&str; 7] = [
-    "format", "--config", CONFIG, "--store", STORE, "--area", "304",
+    "format",
+    "--config",
+    "turn_lock.conf",
+    "--store",
+    STORE,
+    "--area",
+    "304",
 ];
 
 /// Words while a store is in use, the status, the output, the fault, and how many pauses there are.
@@ -78,7 +93,13 @@ const IN_USE: [Case; 5] = [
     ),
     (
         &[
-            "format", "--config", CONFIG, "--store", STORE, "--area", "303",
+            "format",
+            "--config",
+            "turn_lock.conf",
+            "--store",
+            STORE,
+            "--area",
+            "303",
         ],
         2,
         "",
@@ -165,7 +186,7 @@ fn has_lock(rt: &HostRuntime, words: &[&str]) -> Result<bool, Fail> {
 /// One test, since all have the same file.
 #[test]
 fn a_store_in_use_is_refused_and_stays_as_it_is(rt: HostRuntime) -> Result<(), Fail> {
-    write_config(&rt, CONFIG, &LINES)?;
+    fs::write(&rt, "turn_lock.conf", CONFIG)?;
     for case in &IN_USE {
         expect_in_use(&rt, case)?;
     }
@@ -173,7 +194,7 @@ fn a_store_in_use_is_refused_and_stays_as_it_is(rt: HostRuntime) -> Result<(), F
     assert!(rt; starts_after(&rt, 40)?);
     assert!(rt; has_lock(&rt, &SERVE)?);
     assert!(rt; has_lock(&rt, &FORMAT)?);
-    fs::remove_file(&rt, CONFIG)?;
+    fs::remove_file(&rt, "turn_lock.conf")?;
     fs::remove_file(&rt, STORE)?;
     Ok(())
 }

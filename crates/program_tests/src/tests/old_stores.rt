@@ -3,7 +3,7 @@
 
 use super::formats::put;
 use super::moments::Still;
-use super::sockets::at_home;
+use super::sockets::HOME;
 use super::started::start;
 use std::alloc::Global;
 use std::test::Fail;
@@ -12,7 +12,7 @@ use turn_config::read_config;
 use turn_disk::MemoryDisk;
 use turn_requests::{Attribute, ServerMessage, read_message};
 use turn_serving::{Commits, Silent, SocketServing};
-use turn_types::Method;
+use turn_types::{Endpoint, Method};
 
 /// What the server was started with.
 const CONFIG: &[u8] = b"realm example.org
@@ -44,14 +44,29 @@ const FIRST_AREA: &[u8] = b"\xA5\x01\x00\x00\x00\x00\x00\x00\x00\x01\x00\x00\x00
 /// A hundred seconds after the last request: 1,795,748,234.
 const LATER: Still = Still(Some(1_795_748_334));
 
-/// The ports of this machine that the server, alice, her relayed address and a peer have.
-const SERVER: u16 = 63_081;
+const SERVER: Endpoint = Endpoint {
+    ip: HOME,
+    port: 63_081,
+};
 
-const CLIENT: u16 = 63_091;
+/// Where alice sends from, and her relayed address.
+const CLIENT: Endpoint = Endpoint {
+    ip: HOME,
+    port: 63_091,
+};
 
-const RELAYED: u16 = 63_082;
+const RELAYED: Endpoint = Endpoint {
+    ip: HOME,
+    port: 63_082,
+};
 
-const PEER: u16 = 63_092;
+const PEER: Endpoint = Endpoint {
+    ip: HOME,
+    port: 63_092,
+};
+
+/// Any free port.
+const ANY: Endpoint = Endpoint { ip: HOME, port: 0 };
 
 const ALICE: ClientCredentials<'static> = ClientCredentials {
     user: b"alice",
@@ -80,11 +95,11 @@ fn relays(
     serving: &mut Serving<'_>,
     client: &mut Client<'_>,
 ) -> Result<bool, Fail> {
-    let mut peer = TimedSocket::open(rt.alloc(), rt, at_home(PEER))?;
+    let mut peer = TimedSocket::open(rt.alloc(), rt, PEER)?;
     client.send_over_channel(0x4000, b"on")?;
     serving.turn(&&LATER)?;
-    let is_sent = peer.receive()? == (b"on".as_slice(), at_home(RELAYED));
-    peer.send(at_home(RELAYED), b"back")?;
+    let is_sent = peer.receive()? == (b"on".as_slice(), RELAYED);
+    peer.send(RELAYED, b"back")?;
     serving.turn(&&LATER)?;
     Ok(is_sent && client.receive()? == b"\x40\x00\x00\x04back".as_slice())
 }
@@ -118,11 +133,11 @@ fn ask(
 
 /// The allocation is renewed, and another client gets a pair of ports.
 fn goes_on(rt: &HostRuntime, serving: &mut Serving<'_>) -> Result<bool, Fail> {
-    let mut client = Client::open(rt.alloc(), rt, at_home(CLIENT), at_home(SERVER), ALICE)?;
+    let mut client = Client::open(rt.alloc(), rt, CLIENT, SERVER, ALICE)?;
     let is_relayed = relays(rt, serving, &mut client)?;
     let lifetime = [Attribute::Lifetime(900)];
     let renewed = ask(serving, &mut client, Method::REFRESH, &lifetime)?;
-    let mut other = Client::open(rt.alloc(), rt, at_home(0), at_home(SERVER), ALICE)?;
+    let mut other = Client::open(rt.alloc(), rt, ANY, SERVER, ALICE)?;
     let pair = [Attribute::EvenPort { reserves: true }];
     let allocated = ask(serving, &mut other, Method::ALLOCATE, &pair)?;
     Ok(is_relayed && renewed == Some((900, false)) && allocated == Some((600, true)))

@@ -190,7 +190,7 @@ const UNREADABLE: [&[&str]; 4] = [
 
 #[test]
 fn a_file_that_can_not_be_read_is_a_device_fault(rt: HostRuntime) -> Result<(), Fail> {
-    expect_each(&rt, &UNREADABLE, (3, "", "turn: device\n"))
+    expect_each(&rt, &UNREADABLE, 3, "", "turn: device\n")
 }
 
 #[test]

@@ -13,11 +13,6 @@ use turn_types::{Endpoint, Method};
 /// 127.0.0.1 and 127.0.0.2, which are both this machine's.
 pub const HOME: u32 = 0x7F00_0001;
 
-/// A port of that address; 0 stands for any free one.
-pub fn at_home(port: u16) -> Endpoint {
-    Endpoint { ip: HOME, port }
-}
-
 const ELSEWHERE: u32 = 0x7F00_0002;
 
 /// A client with an allocation and a permission for its peer's address, over a server whose turns take so many datagrams of a
@@ -87,7 +82,7 @@ pub fn tell(rt: &HostRuntime, ip: u32, port: u16, size: usize, count: u8) -> Res
     let peer = TimedSocket::open(rt.alloc(), rt, Endpoint { ip, port: 0 })?;
     let payload = Vec::from_elem(rt.alloc(), b'x', size)?;
     for _ in 0..count {
-        peer.send(at_home(port), &payload)?;
+        peer.send(Endpoint { ip: HOME, port }, &payload)?;
     }
     Ok(())
 }

@@ -1,6 +1,6 @@
 //! Every form of the words of `format`, `inspect`, `check`, `serve` and `demo`.
 
-use super::{USAGE_FAULT, expect_between, expect_each};
+use super::{USAGE, expect_each};
 use std::test::Fail;
 
 /// Words that make a command over files that are absent.
@@ -56,7 +56,7 @@ const TAKEN: [&[&str]; 15] = [
 
 #[test]
 fn good_words_come_to_the_files(rt: HostRuntime) -> Result<(), Fail> {
-    expect_each(&rt, &TAKEN, (3, "", "turn: device\n"))
+    expect_each(&rt, &TAKEN, 3, "", "turn: device\n")
 }
 
 const MISSING_OR_TWICE: [&[&str]; 29] = [
@@ -120,7 +120,7 @@ const MISSING_OR_TWICE: [&[&str]; 29] = [
 
 #[test]
 fn a_missing_or_repeated_option_is_a_usage_fault(rt: HostRuntime) -> Result<(), Fail> {
-    expect_each(&rt, &MISSING_OR_TWICE, USAGE_FAULT)
+    expect_each(&rt, &MISSING_OR_TWICE, 1, "", USAGE)
 }
 
 const UNKNOWN: [&[&str]; 20] = [
@@ -160,7 +160,7 @@ const UNKNOWN: [&[&str]; 20] = [
 
 #[test]
 fn an_unknown_option_of_a_store_command_is_a_usage_fault(rt: HostRuntime) -> Result<(), Fail> {
-    expect_each(&rt, &UNKNOWN, USAGE_FAULT)
+    expect_each(&rt, &UNKNOWN, 1, "", USAGE)
 }
 
 const NO_AREAS: [&str; 8] = [
@@ -176,16 +176,24 @@ const NO_AREAS: [&str; 8] = [
 
 #[test]
 fn an_area_is_a_number_below_2_to_the_32nd(rt: HostRuntime) -> Result<(), Fail> {
-    let words = ["format", "--config", "no/c", "--store", "no/s", "--area"];
-    expect_between(&rt, &words, &NO_AREAS, &[], USAGE_FAULT)
+    for area in &NO_AREAS {
+        let words: [&str; 7] = [
+            "format", "--config", "no/c", "--store", "no/s", "--area", area,
+        ];
+        expect_each(&rt, &[&words], 1, "", USAGE)?;
+    }
+    Ok(())
 }
 
 const NO_MOMENTS: [&str; 4] = ["1099511624176", "", "now", "-1"];
 
 #[test]
 fn a_moment_to_inspect_at_is_below_2_to_the_40th_less_3600(rt: HostRuntime) -> Result<(), Fail> {
-    let words = ["inspect", "--store", "no/s", "--at"];
-    expect_between(&rt, &words, &NO_MOMENTS, &[], USAGE_FAULT)
+    for at in &NO_MOMENTS {
+        let words: [&str; 5] = ["inspect", "--store", "no/s", "--at", at];
+        expect_each(&rt, &[&words], 1, "", USAGE)?;
+    }
+    Ok(())
 }
 
 /// Options of `serve` with values that are malformed or out of range.
@@ -212,7 +220,7 @@ const NO_SERVICE: [(&str, &str); 16] = [
 fn a_value_of_serve_out_of_range_is_a_usage_fault(rt: HostRuntime) -> Result<(), Fail> {
     for (name, text) in &NO_SERVICE {
         let words: [&str; 7] = ["serve", "--config", "no/c", "--store", "no/s", name, text];
-        expect_each(&rt, &[&words], USAGE_FAULT)?;
+        expect_each(&rt, &[&words], 1, "", USAGE)?;
     }
     Ok(())
 }

@@ -1,6 +1,6 @@
 //! Every form of a value.
 
-use super::{BINDING, FROM, Outcome, SUCCESS, USAGE_FAULT, expect, expect_between};
+use super::{BINDING, FROM, SUCCESS, USAGE, expect};
 use std::test::Fail;
 use turn_config::values::{endpoint, ip, moment, number};
 
@@ -110,8 +110,10 @@ const NO_ENDPOINTS: [&str; 34] = [
 
 #[test]
 fn a_malformed_endpoint_is_a_usage_fault(rt: HostRuntime) -> Result<(), Fail> {
-    let before = ["answer", "--from"];
-    expect_between(&rt, &before, &NO_ENDPOINTS, &[BINDING], USAGE_FAULT)
+    for from in &NO_ENDPOINTS {
+        expect(&rt, &["answer", "--from", from, BINDING], 1, "", USAGE)?;
+    }
+    Ok(())
 }
 
 const MOMENTS: [&str; 4] = [
@@ -138,19 +140,28 @@ const NO_MOMENTS: [&str; 13] = [
 ];
 
 /// Each text as the value of `--at`, with a Binding request.
-fn expect_at(rt: &HostRuntime, texts: &[&str], outcome: Outcome<'_>) -> Result<(), Fail> {
-    let before = ["answer", "--from", FROM, "--at"];
-    expect_between(rt, &before, texts, &[BINDING], outcome)
+fn expect_at(
+    rt: &HostRuntime,
+    texts: &[&str],
+    status: u8,
+    out: &str,
+    err: &str,
+) -> Result<(), Fail> {
+    for at in texts {
+        let words = ["answer", "--from", FROM, "--at", at, BINDING];
+        expect(rt, &words, status, out, err)?;
+    }
+    Ok(())
 }
 
 #[test]
 fn moments_up_to_the_greatest_are_taken(rt: HostRuntime) -> Result<(), Fail> {
-    expect_at(&rt, &MOMENTS, (0, SUCCESS, ""))
+    expect_at(&rt, &MOMENTS, 0, SUCCESS, "")
 }
 
 #[test]
 fn a_malformed_moment_is_a_usage_fault(rt: HostRuntime) -> Result<(), Fail> {
-    expect_at(&rt, &NO_MOMENTS, USAGE_FAULT)
+    expect_at(&rt, &NO_MOMENTS, 1, "", USAGE)
 }
 
 const HEX: [&str; 2] = [
@@ -174,16 +185,25 @@ const NO_HEX: [&str; 12] = [
 ];
 
 /// Each text as the datagram.
-fn expect_hex(rt: &HostRuntime, texts: &[&str], outcome: Outcome<'_>) -> Result<(), Fail> {
-    expect_between(rt, &["answer", "--from", FROM], texts, &[], outcome)
+fn expect_hex(
+    rt: &HostRuntime,
+    texts: &[&str],
+    status: u8,
+    out: &str,
+    err: &str,
+) -> Result<(), Fail> {
+    for hex in texts {
+        expect(rt, &["answer", "--from", FROM, hex], status, out, err)?;
+    }
+    Ok(())
 }
 
 #[test]
 fn hex_digits_have_either_case(rt: HostRuntime) -> Result<(), Fail> {
-    expect_hex(&rt, &HEX, (0, SUCCESS, ""))
+    expect_hex(&rt, &HEX, 0, SUCCESS, "")
 }
 
 #[test]
 fn other_text_than_pairs_of_hex_digits_is_a_bad_datagram(rt: HostRuntime) -> Result<(), Fail> {
-    expect_hex(&rt, &NO_HEX, (1, "", "turn: bad datagram\n"))
+    expect_hex(&rt, &NO_HEX, 1, "", "turn: bad datagram\n")
 }

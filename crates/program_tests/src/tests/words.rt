@@ -1,6 +1,6 @@
 //! Every form of a command line.
 
-use super::{BINDING, FROM, SUCCESS, USAGE_FAULT, expect, expect_each};
+use super::{BINDING, FROM, SUCCESS, USAGE, expect, expect_each};
 use std::test::Fail;
 
 const TAKEN: [&[&str]; 7] = [
@@ -22,7 +22,7 @@ fn version_has_a_line_for_each_part(rt: HostRuntime) -> Result<(), Fail> {
 
 #[test]
 fn options_come_in_any_order(rt: HostRuntime) -> Result<(), Fail> {
-    expect_each(&rt, &TAKEN, (0, SUCCESS, ""))
+    expect_each(&rt, &TAKEN, 0, SUCCESS, "")
 }
 
 const HELP: [&[&str]; 18] = [
@@ -48,7 +48,7 @@ const HELP: [&[&str]; 18] = [
 
 #[test]
 fn help_and_version_are_usage_faults(rt: HostRuntime) -> Result<(), Fail> {
-    expect_each(&rt, &HELP, USAGE_FAULT)
+    expect_each(&rt, &HELP, 1, "", USAGE)
 }
 
 const NO_COMMAND: [&[&str]; 10] = [
@@ -66,7 +66,7 @@ const NO_COMMAND: [&[&str]; 10] = [
 
 #[test]
 fn words_without_the_command_are_a_usage_fault(rt: HostRuntime) -> Result<(), Fail> {
-    expect_each(&rt, &NO_COMMAND, USAGE_FAULT)
+    expect_each(&rt, &NO_COMMAND, 1, "", USAGE)
 }
 
 const MISSING_OR_TWICE: [&[&str]; 19] = [
@@ -93,7 +93,7 @@ const MISSING_OR_TWICE: [&[&str]; 19] = [
 
 #[test]
 fn a_missing_or_repeated_word_is_a_usage_fault(rt: HostRuntime) -> Result<(), Fail> {
-    expect_each(&rt, &MISSING_OR_TWICE, USAGE_FAULT)
+    expect_each(&rt, &MISSING_OR_TWICE, 1, "", USAGE)
 }
 
 const UNKNOWN: [&[&str]; 10] = [
@@ -111,7 +111,7 @@ const UNKNOWN: [&[&str]; 10] = [
 
 #[test]
 fn an_unknown_option_is_a_usage_fault(rt: HostRuntime) -> Result<(), Fail> {
-    expect_each(&rt, &UNKNOWN, USAGE_FAULT)
+    expect_each(&rt, &UNKNOWN, 1, "", USAGE)
 }
 
 const FIRST_FAULT: [&[&str]; 4] = [
@@ -123,5 +123,5 @@ const FIRST_FAULT: [&[&str]; 4] = [
 
 #[test]
 fn a_malformed_option_comes_before_a_bad_datagram(rt: HostRuntime) -> Result<(), Fail> {
-    expect_each(&rt, &FIRST_FAULT, USAGE_FAULT)
+    expect_each(&rt, &FIRST_FAULT, 1, "", USAGE)
 }
