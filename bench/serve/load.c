@@ -4,12 +4,14 @@
 //        flood to-client SECONDS PID CPU CPU
 //        flood .. CPU CPU WINDOW RATE          at most WINDOW of them in flight, and RATE a second (0: no such bound)
 //        spray SECONDS CPU                     datagrams from the peer to the relayed ports, which nobody counts
+//        spray SECONDS CPU RATE BURST          RATE of them a second, BURST to a port before the next one
 //        ping RATE SECONDS CPU CPU             round trips over the first client's channel and an echo at the peer
 //        ask COUNT                             requests, COUNT of them in flight
+//        repeat RATE SECONDS CPU               requests in turn, RATE a second (0: as fast as they go); no answer is waited for
 //
 // PID is the server, the two CPUs are those on which datagrams are sent and received (-1: those of the process). Standard input
 // has lines `peer FD`, `client FD CHANNEL PORT` (a socket connected to the server, its channel to the peer, its relayed port on
-// 127.0.0.1) and, for `ask`, `request FD HEX`. The load begins when it is closed.
+// 127.0.0.1) and, for `ask` and `repeat`, `request FD HEX`. The load begins when it is closed.
 #define _GNU_SOURCE
 #include <arpa/inet.h>
 #include <errno.h>
@@ -42,6 +44,7 @@ static int client_count, request_count, peer;
 static atomic_long sent_count, received_count;
 static atomic_int is_sent, is_over; // nothing more is sent; nothing more is received
 static long window, rate, begun;    // of a flood with bounds
+static int burst = 1;               // how many datagrams the peer sends to a port before the next one
 static int mark;                    // the payload's first bytes in a flood, by which those of an earlier one aren't counted
 
 static void fail(const char *what) {
@@ -153,8 +156,8 @@ static void *send_from_peer(void *cpu) {
     struct sockaddr_in to[BATCH];
     for (int at = 0; !is_sent;) {
         wait_for_room(BATCH);
-        for (int i = 0; i < BATCH; i++, at = (at + 1) % client_count) {
-            to[i] = (struct sockaddr_in){.sin_family = AF_INET, .sin_port = htons(clients[at].port)};
+        for (int i = 0; i < BATCH; i++, at = (at + 1) % (client_count * burst)) {
+            to[i] = (struct sockaddr_in){.sin_family = AF_INET, .sin_port = htons(clients[at / burst].port)};
             to[i].sin_addr.s_addr = htonl(INADDR_LOOPBACK);
             batch[i].msg_hdr = (struct msghdr){.msg_name = &to[i], .msg_namelen = sizeof to[i], .msg_iov = &part, .msg_iovlen = 1};
         }
@@ -238,6 +241,7 @@ static void flood(int to_peer, double seconds, const char *pid, int send_cpu, in
 
 static void spray(double seconds, int cpu) {
     pthread_t sending;
+    begun = nanos();
     pthread_create(&sending, NULL, send_from_peer, &cpu);
     usleep((useconds_t)(seconds * 1e6));
     is_sent = 1;
@@ -283,23 +287,25 @@ static void *send_pings(void *word) {
         pings->sent[i] = nanos();
         send(clients[0].socket, bytes, sizeof bytes, 0);
     }
+    is_sent = 1;
     return NULL;
 }
 
-// Prints: round trips, lost ones, p50 and p99 in nanoseconds.
+// Prints: round trips, lost ones, p50, p90 and p99 in nanoseconds. One is lost if it isn't back a second after the last was sent.
 static void ping(double rate, double seconds, int send_cpu, int echo_cpu) {
     pthread_t echoing, sending;
     int count = (int)(rate * seconds), done = 0, socket = clients[0].socket;
     struct pings pings = {rate, count, send_cpu, calloc(count, sizeof(long))};
     long *times = calloc(count, sizeof *times);
-    struct timeval wait = {.tv_sec = 1};
+    struct timeval wait = {.tv_usec = 100000};
     if (!times || !pings.sent || setsockopt(socket, SOL_SOCKET, SO_RCVTIMEO, &wait, sizeof wait)) fail("a ping");
     pthread_create(&echoing, NULL, echo, &echo_cpu);
     pthread_create(&sending, NULL, send_pings, &pings);
     run_on(send_cpu);
     unsigned char bytes[ROOM];
-    // Up to the last one, or a second without any.
-    while (done < count && recv(socket, bytes, sizeof bytes, 0) >= 4 + PAYLOAD) {
+    for (long last = 0; done < count && (!last || nanos() - last < 1000000000);) {
+        last = atomic_load(&is_sent) ? last ? last : nanos() : 0;
+        if (recv(socket, bytes, sizeof bytes, 0) < 4 + PAYLOAD) continue;
         int i;
         memcpy(&i, bytes + 4, sizeof i);
         if (i >= 0 && i < count && pings.sent[i]) times[done++] = nanos() - pings.sent[i];
@@ -308,7 +314,8 @@ static void ping(double rate, double seconds, int send_cpu, int echo_cpu) {
     is_over = 1;
     pthread_join(echoing, NULL);
     qsort(times, done, sizeof *times, by_size);
-    printf("%d %d %ld %ld\n", done, count - done, done ? times[done / 2] : 0, done ? times[done * 99L / 100] : 0);
+    long half = done ? times[done / 2] : 0, most = done ? times[done * 9L / 10] : 0, nearly_all = done ? times[done * 99L / 100] : 0;
+    printf("%d %d %ld %ld %ld\n", done, count - done, half, most, nearly_all);
 }
 
 static void send_request(struct request *one) {
@@ -349,6 +356,41 @@ static void ask(int in_flight) {
     printf("%d %d %ld %ld\n", successes, others, end - start, request_count ? times[request_count / 2] : 0);
 }
 
+// Takes the answers to the requests, and counts them.
+static void *receive_answers(void *none) {
+    (void)none;
+    int waiting = epoll_create1(0);
+    for (int i = 0; i < request_count; i++) {
+        struct epoll_event event = {.events = EPOLLIN, .data.fd = requests[i].socket};
+        if (epoll_ctl(waiting, EPOLL_CTL_ADD, requests[i].socket, &event) && errno != EEXIST) fail("epoll");
+    }
+    struct epoll_event events[64];
+    unsigned char bytes[ROOM];
+    while (!is_over) {
+        int count = epoll_wait(waiting, events, 64, 50);
+        for (int i = 0; i < count; i++) {
+            while (recv(events[i].data.fd, bytes, sizeof bytes, MSG_DONTWAIT) >= 0) received_count++;
+        }
+    }
+    return NULL;
+}
+
+// Prints: requests sent, and answers.
+static void repeat(double seconds, int cpu) {
+    pthread_t receiving;
+    pthread_create(&receiving, NULL, receive_answers, NULL);
+    run_on(cpu);
+    begun = nanos();
+    for (int at = 0; nanos() - begun < seconds * 1e9; at = (at + 1) % request_count) {
+        wait_for_room(1);
+        struct request *one = &requests[at];
+        if (send(one->socket, one->bytes, one->size, 0) == one->size) sent_count++;
+    }
+    is_over = 1;
+    pthread_join(receiving, NULL);
+    printf("%ld %ld\n", sent_count, received_count);
+}
+
 int main(int count, char **words) {
     read_setup();
     if ((count == 7 || count == 9) && !strcmp(words[1], "flood") && client_count) {
@@ -357,10 +399,17 @@ int main(int count, char **words) {
             rate = atol(words[8]);
         }
         flood(!strcmp(words[2], "to-peer"), atof(words[3]), words[4], atoi(words[5]), atoi(words[6]));
-    } else if (count == 4 && !strcmp(words[1], "spray") && client_count) {
+    } else if ((count == 4 || count == 6) && !strcmp(words[1], "spray") && client_count) {
+        if (count == 6) {
+            rate = atol(words[4]);
+            burst = atoi(words[5]);
+        }
         spray(atof(words[2]), atoi(words[3]));
     } else if (count == 6 && !strcmp(words[1], "ping") && client_count) {
         ping(atof(words[2]), atof(words[3]), atoi(words[4]), atoi(words[5]));
+    } else if (count == 5 && !strcmp(words[1], "repeat") && request_count) {
+        rate = atol(words[2]);
+        repeat(atof(words[3]), atoi(words[4]));
     } else if (count == 3 && !strcmp(words[1], "ask")) {
         ask(atoi(words[2]));
     } else {

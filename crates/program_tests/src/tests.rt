@@ -3,6 +3,7 @@ mod carrying;
 mod channels;
 mod checks;
 mod conversations;
+mod counted;
 mod credentials;
 mod endless;
 mod faults;

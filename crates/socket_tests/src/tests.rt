@@ -1,5 +1,6 @@
+mod backlog;
 mod listening;
-mod order;
 mod pace;
 mod ports;
 mod received;
+mod schedule;

@@ -91,7 +91,7 @@ pub enum Command {
         store: String,
         /// After how many turns it ends, if it does.
         turns: Option<u64>,
-        /// How many datagrams a turn takes of each socket, 1 to 64.
+        /// How many datagrams a counted turn reads of each socket at most, else a round of all that have more, 1 to 64.
         burst: u8,
         /// The address on which relay sockets are bound, if it isn't the configuration's.
         relay_bind: Option<u32>,

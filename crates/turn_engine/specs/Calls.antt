@@ -30,7 +30,9 @@ use Rattle.turn_engine.specs.declared.error.SubmitError.TheVariants.{BatchFull, 
 -- `submit` of an arrival at a moment that isn't before the clock
 pub record Submits {D H G : Type 0} (disk : disks.Ghosts D) (handler : handlers.Ghosts H) (ports : generators.Ghosts G) (old new : ServerState D H G) (moment : ℕ) (a : Arrives) (result : Result Unit SubmitError) : Type 0 where
   pub in_time : now_of old ≤ moment
+  -- a batch has room for one arrival at least
   pub few : old.arrivals ≤ (limits_of old).acts
+  pub room : 1 ≤ (limits_of old).acts
   -- nothing is written, and the setting stays
   pub store : new.store ≡ old.store
   pub setting : KeepsSetting ports.range old.machine new.machine

@@ -242,11 +242,13 @@ impl<D: Disk, H: AuthHandler, G: RelayAddressGenerator, A: Allocator + Copy> Ser
         ensures none { IfNone result (self.now.arrivals < (limits_of self.now).acts) }
         ensures few { self.now.arrivals ≤ (limits_of self.now).acts }
         ensures small { IfNone result (self.now.arrivals + 1 < 2 ^ 16) }
+        ensures room { 1 ≤ (limits_of self.now).acts }
     {
+        let room = self.machine.config().limits().acts();
         if self.store.is_stopped() {
             return Some(SubmitError::Stopped);
         }
-        let is_full = self.arrivals >= self.machine.config().limits().acts();
+        let is_full = self.arrivals >= room;
         if is_full {
             return Some(SubmitError::BatchFull);
         }

@@ -1,4 +1,4 @@
--- Which responses a log has, and how many lines.
+-- Which responses and commits a log has, and how many lines.
 use Rattle.std.specs.Prelude.{ℕ, ◌≡◌, ◌+◌, ◌%◌, ◌==◌, ◌&&◌, ◌||◌, nat_le, if◌then◌else◌, Bool, List, [], ◌∷◌, Option, Some, None, length, get_or, slice_index}
 use Rattle.turn_types.specs.declared.address.Endpoint.{Endpoint}
 use Rattle.turn_log.specs.declared.response.Response.{Response}
@@ -38,6 +38,10 @@ place_of client = (client.ip + client.port) % 256
 -- a client is the one that is noted at its place
 abbrev pub IsNoted : List (Option Endpoint) → Endpoint → Type 0
 IsNoted places client = get_or places (place_of client) None ≡ Some client
+
+-- how long a commit takes that has no line, at most, in nanoseconds: 100 ms
+abbrev pub slow : ℕ
+slow = 100000000
 
 -- how many lines a log has in a second, at most
 abbrev pub at_most : ℕ

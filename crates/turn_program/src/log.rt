@@ -3,8 +3,9 @@
 use std::alloc::{AllocError, Allocator, Global};
 use std::cell::RefCell;
 use std::io::Write;
+use std::time::Duration;
 use turn_config::ShownEndpoint;
-use turn_log::{Challenged, LineLimit, Response, ShownName, response_of};
+use turn_log::{Challenged, DroppedCount, LineLimit, Response, ShownName, is_slow, response_of};
 use turn_player::Effect;
 use turn_scenario::event_text;
 use turn_serving::Watch;
@@ -49,6 +50,7 @@ struct Lines<L: Write + Drop> {
     alloc: Global,
     out: L,
     limit: LineLimit,
+    dropped: DroppedCount,
     challenged: Challenged,
     // The moment up to which expired allocations are told.
     looked: Option<Moment>,
@@ -74,19 +76,40 @@ impl<L: Write + Drop> Lines<L> {
         }
     }
 
-    // Begins a second, and says how many lines were left out in the one before.
-    fn begin(&mut self, second: u64) {
+    // Writes a line of the server itself, beside those for which the second has room. False if that can't be done.
+    fn tell(&mut self, second: u64, text: Result<String, AllocError>) -> bool {
+        match text {
+            Ok(text) => self.write(second, NOBODY, text.as_str()),
+            Err(_) => false,
+        }
+    }
+
+    fn tell_left_out(&mut self, second: u64) {
         let left_out = self.limit.begin(second);
         if left_out == 0 {
             return;
         }
-        let done = match format!(in self.alloc; "left out {left_out}") {
-            Ok(text) => self.write(second, NOBODY, text.as_str()),
-            Err(_) => false,
-        };
-        if !done {
+        let text = format!(in self.alloc; "left out {left_out}");
+        if !self.tell(second, text) {
             self.limit.leave_out(left_out);
         }
+    }
+
+    fn tell_dropped(&mut self, second: u64) {
+        let dropped = self.dropped.begin(second);
+        if dropped == 0 {
+            return;
+        }
+        let text = format!(in self.alloc; "dropped {dropped} requests: too many wait for the disk");
+        if !self.tell(second, text) {
+            self.dropped.add(dropped);
+        }
+    }
+
+    // Begins a second, and says how many lines were left out and how many requests were dropped in the one before.
+    fn begin(&mut self, second: u64) {
+        self.tell_left_out(second);
+        self.tell_dropped(second);
     }
 
     // Says what a client got, if that is logged.
@@ -131,6 +154,24 @@ impl<L: Write + Drop> Lines<L> {
         }
     }
 
+    // Counts a request that was dropped. A line of a later second has how many were.
+    fn count_dropped(&mut self, moment: Moment) {
+        let second = self.second_of(moment);
+        self.begin(second);
+        self.dropped.add(1);
+    }
+
+    // Says how long a commit took, if that is logged.
+    fn note_commit(&mut self, moment: Moment, took: Duration) {
+        let second = self.second_of(moment);
+        self.begin(second);
+        if is_slow(took) && self.limit.take() {
+            let millis = took.as_millis();
+            let text = format!(in self.alloc; "commit took {millis} ms");
+            self.put(second, NOBODY, text);
+        }
+    }
+
     // Says which allocations of a table expired after a second, up to another one.
     fn tell_expired<A: Allocator + Copy>(&mut self, after: u64, second: u64, table: &Table<A>) {
         for (five_tuple, entry) in table.entries() {
@@ -172,6 +213,7 @@ impl<L: Write + Drop> Log<L> {
                 alloc,
                 out,
                 limit: LineLimit::new(),
+                dropped: DroppedCount::new(),
                 challenged: Challenged::new(),
                 looked: None,
             })),
@@ -211,6 +253,22 @@ impl<'l, L: Write + Drop> Watch for &'l Log<L> {
         if let Some(lines) = &self.lines {
             if let Ok(mut lines) = lines.try_borrow_mut() {
                 lines.see(moment, table, outgoing);
+            }
+        }
+    }
+
+    fn shed(&self, moment: Moment) {
+        if let Some(lines) = &self.lines {
+            if let Ok(mut lines) = lines.try_borrow_mut() {
+                lines.count_dropped(moment);
+            }
+        }
+    }
+
+    fn committed(&self, moment: Moment, took: Duration) {
+        if let Some(lines) = &self.lines {
+            if let Ok(mut lines) = lines.try_borrow_mut() {
+                lines.note_commit(moment, took);
             }
         }
     }

@@ -1,5 +1,7 @@
 pub mod Held
 pub mod Named
-pub mod Requests
+pub mod Order
+pub mod Others
+pub mod Rounds
 pub mod Starts
 pub mod Turns

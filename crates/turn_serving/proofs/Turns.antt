@@ -26,7 +26,7 @@ use Rattle.turn_store.specs.declared.error.StoreError.{StoreError}
 use Rattle.turn_serving.specs.Turns.{AreAt, At, Never, Served}
 
 module _ {D H G : Type 0} (disk : disks.Ghosts D) (handler : handlers.Ghosts H) (ports : generators.Ghosts G) where
-  serves-append : (server : ServerState D H G) (first second : List (ServerCall D H G)) → Serves disk handler ports server first → Serves disk handler ports (last_of server first) second
+  pub serves-append : (server : ServerState D H G) (first second : List (ServerCall D H G)) → Serves disk handler ports server first → Serves disk handler ports (last_of server first) second
       → Serves disk handler ports server (first ++ second)
   serves-append server [] second before after = after
   serves-append server (x ∷ xs) second before after = (before.0, serves-append (after_of x) xs second before.1 after)
@@ -47,16 +47,16 @@ module _ {D H G : Type 0} (disk : disks.Ghosts D) (handler : handlers.Ghosts H) 
       let rest = calls_in_time (after_of x) xs serves.1 in
       omega arith
 
-last_of-append : {D H G : Type 0} (server : ServerState D H G) (first second : List (ServerCall D H G)) → last_of server (first ++ second) ≡ last_of (last_of server first) second
+pub last_of-append : {D H G : Type 0} (server : ServerState D H G) (first second : List (ServerCall D H G)) → last_of server (first ++ second) ≡ last_of (last_of server first) second
 last_of-append server [] second = refl
 last_of-append server (x ∷ xs) second = last_of-append (after_of x) xs second
 
-are_at-append : {D H G : Type 0} (IsOne : ℕ → ℕ → Type 0) (server : ServerState D H G) (first second : List (ServerCall D H G)) → AreAt IsOne server first → AreAt IsOne (last_of server first) second → AreAt IsOne server (first ++ second)
+pub are_at-append : {D H G : Type 0} (IsOne : ℕ → ℕ → Type 0) (server : ServerState D H G) (first second : List (ServerCall D H G)) → AreAt IsOne server first → AreAt IsOne (last_of server first) second → AreAt IsOne server (first ++ second)
 are_at-append IsOne server [] second before after = after
 are_at-append IsOne server (Submit moment a result new ∷ xs) second before after = (before.0, are_at-append IsOne new xs second before.1 after)
 are_at-append IsOne server (Commit result new ∷ xs) second before after = are_at-append IsOne new xs second before after
 
-never_at : {D H G : Type 0} (IsOne : ℕ → ℕ → Type 0) (server : ServerState D H G) (steps : List (ServerCall D H G)) → AreAt Never server steps → AreAt IsOne server steps
+pub never_at : {D H G : Type 0} (IsOne : ℕ → ℕ → Type 0) (server : ServerState D H G) (steps : List (ServerCall D H G)) → AreAt Never server steps → AreAt IsOne server steps
 never_at IsOne server [] at = tt
 never_at IsOne server (Submit moment a result new ∷ xs) at = absurd at.0
 never_at IsOne server (Commit result new ∷ xs) at = never_at IsOne new xs at
@@ -82,7 +82,7 @@ module _ {D H G : Type 0} (disk : disks.Ghosts D) (handler : handlers.Ghosts H) 
   call_still old (Commit (Ok outs) new) call at is = subst (λ (n : ℕ). IsMoment told n moment) (sym (ap now_of call.ok)) is
   call_still old (Commit (Err fault) new) call at is = subst (λ (n : ℕ). IsMoment told n moment) (sym (ap now_of call.err)) is
 
-  all_told : (old : ServerState D H G) (steps : List (ServerCall D H G)) → Serves disk handler ports old steps → AreAt (At moment) old steps → IsMoment told (now_of old) moment → AreAt (IsMoment told) old steps
+  pub all_told : (old : ServerState D H G) (steps : List (ServerCall D H G)) → Serves disk handler ports old steps → AreAt (At moment) old steps → IsMoment told (now_of old) moment → AreAt (IsMoment told) old steps
   all_told old [] serves at is = tt
   all_told old (Submit m a result new ∷ xs) serves at is = (
     subst (IsMoment told (now_of old)) (sym at.0) is,
@@ -91,15 +91,15 @@ module _ {D H G : Type 0} (disk : disks.Ghosts D) (handler : handlers.Ghosts H) 
   all_told old (Commit result new ∷ xs) serves at is = all_told new xs serves.1 at (call_still old (Commit result new) serves.0 tt is)
 
 module _ {D H G : Type 0} {disk : disks.Ghosts D} {handler : handlers.Ghosts H} {ports : generators.Ghosts G} where
-  pub no_call : {IsOne : ℕ → ℕ → Type 0} (server : ServerState D H G) → Served disk handler ports IsOne server server
+  unfoldable pub no_call : {IsOne : ℕ → ℕ → Type 0} (server : ServerState D H G) → Served disk handler ports IsOne server server
   no_call server = record { steps = []; serves = tt; moments = tt; last = refl }
 
   pub submitted : {old new : ServerState D H G} {moment : ℕ} {a : Arrives} {result : Result Unit SubmitError} → Submits disk handler ports old new moment a result
       → Served disk handler ports (At moment) old new
   submitted {new = new} {moment = moment} {a = a} {result = result} call = record { steps = Submit moment a result new ∷ []; serves = (call, tt); moments = (refl, tt); last = refl }
 
-  pub then : {IsOne : ℕ → ℕ → Type 0} {old middle new : ServerState D H G} → Served disk handler ports IsOne old middle → Served disk handler ports IsOne middle new → Served disk handler ports IsOne old new
-  then {IsOne = IsOne} {old = old} first second =
+  unfoldable pub in_row : {IsOne : ℕ → ℕ → Type 0} {old middle new : ServerState D H G} → Served disk handler ports IsOne old middle → Served disk handler ports IsOne middle new → Served disk handler ports IsOne old new
+  in_row {IsOne = IsOne} {old = old} first second =
       record {
         steps = first.steps ++ second.steps;
         serves = serves-append disk handler ports old first.steps second.steps first.serves (subst (λ s. Serves disk handler ports s second.steps) (sym first.last) second.serves);
@@ -108,11 +108,11 @@ module _ {D H G : Type 0} {disk : disks.Ghosts D} {handler : handlers.Ghosts H} 
       }
 
   -- calls without a submit are at whatever moments
-  pub none : {IsOne : ℕ → ℕ → Type 0} {old new : ServerState D H G} → Served disk handler ports Never old new → Served disk handler ports IsOne old new
+  unfoldable pub none : {IsOne : ℕ → ℕ → Type 0} {old new : ServerState D H G} → Served disk handler ports Never old new → Served disk handler ports IsOne old new
   none {IsOne = IsOne} {old = old} served = record { steps = served.steps; serves = served.serves; moments = never_at IsOne old served.steps served.moments; last = served.last }
 
   -- calls at one moment, which was one by the clock before them
-  pub at_told : {told : ℕ → Type 0} {moment : ℕ} {old new : ServerState D H G} → IsMoment told (now_of old) moment → Served disk handler ports (At moment) old new → Served disk handler ports (IsMoment told) old new
+  unfoldable pub at_told : {told : ℕ → Type 0} {moment : ℕ} {old new : ServerState D H G} → IsMoment told (now_of old) moment → Served disk handler ports (At moment) old new → Served disk handler ports (IsMoment told) old new
   at_told {told = told} {moment = moment} {old = old} is served = record {
     steps = served.steps;
     serves = served.serves;

@@ -1,3 +1,5 @@
+pub mod Manner
 pub mod Requests
+pub mod Serving
 pub mod Starts
 pub mod Turns

@@ -1,10 +1,17 @@
 -- What a turn does with the server.
-use Rattle.std.specs.Prelude.{◌≡◌, ℕ, List, [], ◌∷◌}
+use Rattle.std.specs.Prelude.{◌≡◌, ◌≢◌, ◌⊎◌, ℕ, Bool, true, List, [], ◌∷◌, ◌++◌, Result, Ok, Err, filter, length, map, ◌≤◌}
 use Rattle.turn_cred.specs.declared.handler.AuthHandler as handlers
 use Rattle.turn_disk.specs.declared.disk.Disk as disks
 use Rattle.turn_engine.specs.Runs.{Commit, Serves, ServerCall, Submit, last_of}
 use Rattle.turn_engine.specs.State.{ServerState, now_of}
+use Rattle.turn_engine.specs.declared.error.SubmitError.{SubmitError}
+use Rattle.turn_engine.specs.declared.error.SubmitError.TheVariants.{BatchFull, Memory, Stopped}
 use Rattle.turn_ports.specs.declared.generator.RelayAddressGenerator as generators
+use Rattle.turn_sockets.specs.Backlog.{BacklogState, is_same_tuple, waiting_of}
+use Rattle.turn_step.specs.Outcome.{Arrives}
+use Rattle.turn_step.specs.Outcome.Arrives.{FromClient, FromPeer}
+use Rattle.turn_types.specs.declared.address.FiveTuple.{FiveTuple}
+use Rattle.turn_serving.specs.Requests.{MayChange}
 
 -- each arrival is submitted at a moment that is one by the clock before it
 abbrev pub AreAt : {D H G : Type 0} → (ℕ → ℕ → Type 0) → ServerState D H G → List (ServerCall D H G) → Type 0
@@ -27,3 +34,57 @@ pub record Served {D H G : Type 0} (disk : disks.Ghosts D) (handler : handlers.G
   pub serves : Serves disk handler ports old steps
   pub moments : AreAt IsOne old steps
   pub last : last_of old steps ≡ new
+
+-- ---- What was submitted
+
+-- the arrival of a submit; one that found the batch full is submitted again
+abbrev pub submitted_by : Arrives → Result Unit SubmitError → List Arrives
+submitted_by arrival (Ok done) = arrival ∷ []
+submitted_by arrival (Err Memory) = arrival ∷ []
+submitted_by arrival (Err BatchFull) = []
+submitted_by arrival (Err Stopped) = arrival ∷ []
+
+-- the arrivals that were submitted by calls, in order
+abbrev pub submitted_in : {D H G : Type 0} → List (ServerCall D H G) → List Arrives
+submitted_in [] = []
+submitted_in (Submit moment arrival result after ∷ steps) = submitted_by arrival result ++ submitted_in steps
+submitted_in (Commit result after ∷ steps) = submitted_in steps
+
+-- the datagrams of clients among arrivals, each with its five-tuple
+abbrev pub datagrams_of : List Arrives → List (FiveTuple × List ℕ)
+datagrams_of [] = []
+datagrams_of (FromClient f bytes ∷ arrivals) = (f, bytes) ∷ datagrams_of arrivals
+datagrams_of (FromPeer port from bytes id ∷ arrivals) = datagrams_of arrivals
+
+-- those of one five-tuple
+abbrev pub of_tuple : FiveTuple → List (FiveTuple × List ℕ) → List (List ℕ)
+of_tuple f datagrams = map (λ d. d.1) (filter (λ d. is_same_tuple d.0 f) datagrams)
+
+-- Calls of a server in a row, as `Served` has them, and some datagrams of clients that were received and not lost: of each five-tuple
+-- what waited before and what was received is, in order, what was submitted and what waits afterwards.
+pub record KeepsOrder {D H G : Type 0} (disk : disks.Ghosts D) (handler : handlers.Ghosts H) (ports : generators.Ghosts G) (IsOne : ℕ → ℕ → Type 0) (old : ServerState D H G) (waited : BacklogState) (new : ServerState D H G) (waits : BacklogState) : Type 0 where
+  pub served : Served disk handler ports IsOne old new
+  -- in the order of receiving
+  pub received : List (FiveTuple × List ℕ)
+  pub order : (f : FiveTuple) → of_tuple f (datagrams_of (submitted_in served.steps)) ++ waiting_of waits f ≡ waiting_of waited f ++ of_tuple f received
+
+-- At most so many datagrams of a socket were taken, as `KeepsOrder` has it.
+pub record TakesAtMost {D H G : Type 0} (disk : disks.Ghosts D) (handler : handlers.Ghosts H) (ports : generators.Ghosts G) (most : ℕ) (IsOne : ℕ → ℕ → Type 0) (old : ServerState D H G) (waited : BacklogState) (new : ServerState D H G) (waits : BacklogState) : Type 0 where
+  pub order : KeepsOrder disk handler ports IsOne old waited new waits
+  pub received : length order.received ≤ most
+  pub submitted : length (submitted_in order.served.steps) ≤ most
+
+-- An arrival was submitted, once.
+pub record IsSubmitted {D H G : Type 0} (disk : disks.Ghosts D) (handler : handlers.Ghosts H) (ports : generators.Ghosts G) (moment : ℕ) (arrival : Arrives) (old new : ServerState D H G) : Type 0 where
+  pub served : Served disk handler ports (At moment) old new
+  pub once : submitted_in served.steps ≡ arrival ∷ []
+
+-- What comes of a client's datagram. It is submitted at once, if nothing of its five-tuple waits and, where requests wait, it can't change
+-- the table; or it waits, after what waits of its five-tuple; or it is dropped, but only if it had to wait.
+pub data TakesDatagram {D H G : Type 0} (disk : disks.Ghosts D) (handler : handlers.Ghosts H) (ports : generators.Ghosts G) (waits_for_commits : Bool) (moment : ℕ) (f : FiveTuple) (bytes : List ℕ) (old : ServerState D H G) (waited : BacklogState) (new : ServerState D H G) (waits : BacklogState) : Type 0 where
+  is_submitted : IsSubmitted disk handler ports moment (FromClient f bytes) old new → waits ≡ waited → waiting_of waited f ≡ [] → (waits_for_commits ≡ true → MayChange bytes → ⊥)
+      → TakesDatagram disk handler ports waits_for_commits moment f bytes old waited new waits
+  does_wait : new ≡ old → ((g : FiveTuple) → waiting_of waits g ≡ waiting_of waited g ++ of_tuple g ((f, bytes) ∷ []))
+      → TakesDatagram disk handler ports waits_for_commits moment f bytes old waited new waits
+  is_dropped : new ≡ old → waits ≡ waited → (waiting_of waited f ≢ []) ⊎ MayChange bytes
+      → TakesDatagram disk handler ports waits_for_commits moment f bytes old waited new waits

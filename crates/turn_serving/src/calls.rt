@@ -2,7 +2,8 @@
 
 ghost use Rattle.std.specs.Prelude.{◌≡◌, ◌≤◌, OnOk, false};
 ghost use Rattle.turn_engine.specs.State.{emptied, now_of};
-ghost use Rattle.turn_serving.specs.Turns.{At, Never, Served};
+ghost use Rattle.turn_step.specs.Views.{arrival_of};
+ghost use Rattle.turn_serving.specs.Turns.{At, IsSubmitted, Never, Served};
 
 use crate::error::TurnError;
 use crate::listening::Listening;
@@ -48,6 +49,7 @@ pub(crate) fn submit<
     requires { now_of server.old ≤ moment }
     ensures served { Served D.Disk H.AuthHandler G.RelayAddressGenerator (At moment) server.old server.new }
     ensures clock { now_of server.new ≤ moment }
+    ensures once { OnOk result (IsSubmitted D.Disk H.AuthHandler G.RelayAddressGenerator moment (arrival_of arrival.now) server.old server.new) }
 {
     if server.submit(moment, arrival) == Err(SubmitError::BatchFull) {
         flush(listening, server)?;

@@ -1,6 +1,6 @@
 //! What follows of the contracts of `Setup::start` and `Serving::turn`, as clauses of a function that does nothing.
 
-ghost use Rattle.std.specs.Prelude.{◌≡◌, ℕ, None};
+ghost use Rattle.std.specs.Prelude.{◌≡◌, ◌++◌, [], ℕ, None};
 ghost use Rattle.turn_engine.specs.Images.{AtLeast};
 ghost use Rattle.turn_engine.specs.Runs.{IsAtPlace, Leads, Place};
 ghost use Rattle.turn_engine.specs.State.{ServerState};
@@ -13,7 +13,9 @@ ghost use Rattle.turn_store.specs.Images.{EachImage};
 ghost use Rattle.turn_types.specs.Config.{Config};
 ghost use Rattle.turn_serving.specs.Requests.{OthersChangeNothing};
 ghost use Rattle.turn_serving.specs.Starts.{BeginsRun, Started};
-ghost use Rattle.turn_serving.specs.Turns.{Served};
+ghost use Rattle.turn_sockets.specs.Backlog.{BacklogState, waiting_of};
+ghost use Rattle.turn_types.specs.declared.address.FiveTuple.{FiveTuple};
+ghost use Rattle.turn_serving.specs.Turns.{KeepsOrder, Served, datagrams_of, of_tuple, submitted_in};
 
 use turn_cred::AuthHandler;
 use turn_disk::Disk;
@@ -43,4 +45,12 @@ pub fn turns_keep_ports<D: Disk, H: AuthHandler, G: RelayAddressGenerator, T: Ti
 /// indications and Bindings don't wait for a sync.
 pub fn others_change_nothing()
     ensures { OthersChangeNothing }
+{}
+
+/// Where nothing waits at first, what was submitted of a five-tuple is, in order, the first part of what was received of it and not lost.
+pub fn five_tuples_keep_their_order<D: Disk, H: AuthHandler, G: RelayAddressGenerator, T: Time>()
+    ensures { (system : T) (old new : ServerState D H G) (waited waits : BacklogState)
+        → (turns : KeepsOrder D.Disk H.AuthHandler G.RelayAddressGenerator (IsMoment (T.told system)) old waited new waits)
+        → (f : FiveTuple) → waiting_of waited f ≡ []
+        → of_tuple f turns.received ≡ of_tuple f (datagrams_of (submitted_in turns.served.steps)) ++ waiting_of waits f }
 {}

@@ -4,10 +4,11 @@
 
 mod calls;
 mod error;
-mod kept;
 mod laws;
 mod listening;
+mod manner;
 mod relay_sockets;
+mod requests;
 mod sending;
 mod serving;
 mod start;
@@ -15,9 +16,12 @@ mod turn;
 mod watch;
 
 pub use error::{SetupError, StartError, TurnError};
-pub use kept::may_change;
-pub use laws::{others_change_nothing, turns_keep_ports, turns_make_runs};
+pub use laws::{
+    five_tuples_keep_their_order, others_change_nothing, turns_keep_ports, turns_make_runs,
+};
+pub use manner::Commits;
 pub use relay_sockets::RelaySockets;
-pub use serving::{Commits, Serving, SocketServing};
+pub use requests::may_change;
+pub use serving::{Serving, SocketServing};
 pub use start::Setup;
 pub use watch::{Silent, Watch};

@@ -1,7 +1,8 @@
 //! The sockets that clients send to, and the wait for them and for the relay sockets.
 
-ghost use Rattle.std.specs.Prelude.{◌≡◌, ◌≢◌, ◌↔◌, All, Contains, IfNone, IfOk, IfSome, None, map};
+ghost use Rattle.std.specs.Prelude.{◌≡◌, ◌≢◌, ◌↔◌, ℕ, All, Contains, IfNone, IfOk, IfSome, List, None, OnOk, map};
 ghost use Rattle.turn_sockets.specs.Own.{IsRelay};
+ghost use Rattle.turn_sockets.specs.Schedule.{with_all_ready};
 
 use crate::error::{StartError, TurnError};
 use crate::watch::Watch;
@@ -14,25 +15,19 @@ use std::rt::Clock;
 use std::thread;
 use std::time::Duration;
 use turn_sockets::{
-    LISTENING, ListeningAddresses, Order, OwnAddresses, RECEIVE_BUFFER, Ready, address_of,
-    endpoint_of, set_receive_buffer,
+    LISTENING, ListeningAddresses, OwnAddresses, RECEIVE_BUFFER, Schedule, address_of, endpoint_of,
+    set_receive_buffer,
 };
 use turn_types::{Endpoint, FiveTuple};
 
 /// How many sockets one wait reports; the next one reports more.
 const EVENTS: usize = 1_025;
 
-/// How long a turn waits at most if no socket is known to have a datagram.
-pub(crate) const WAIT_MILLIS: u64 = 50;
-
 /// How often a start tries to bind a port that is in use, and the pause after each attempt: the process before may still be
 /// ending.
 pub(crate) const ATTEMPTS: u32 = 40;
 
 const PAUSE_MILLIS: u64 = 50;
-
-/// Every how many turns the other sockets are asked for while some have datagrams.
-const LOOK_EVERY: u32 = 16;
 
 /// A socket that clients send to, and its address.
 #[derive(Drop)]
@@ -152,15 +147,12 @@ impl<W: Watch + Drop, A: Allocator + Copy> Listening<W, A> {
     }
 }
 
-/// The wait for datagrams.
+/// The wait for datagrams, and the sockets that may have some.
 #[derive(Drop)]
 pub(crate) struct Waiting<A: Allocator = Global> {
     poll: Poll,
     events: Events<A>,
-    pub(crate) ready: Ready<A>,
-    pub(crate) order: Order<A>,
-    // How many turns there were since the last look at all sockets.
-    turns: u32,
+    pub(crate) schedule: Schedule<A>,
 }
 
 impl<A: Allocator + Copy> Waiting<A> {
@@ -168,49 +160,20 @@ impl<A: Allocator + Copy> Waiting<A> {
         Ok(Waiting {
             poll,
             events: Events::with_capacity(alloc, EVENTS)?,
-            ready: Ready::new(alloc)?,
-            order: Order::new(alloc)?,
-            turns: 0,
+            schedule: Schedule::new(alloc)?,
         })
     }
 }
 
 impl<A: Allocator> Waiting<A> {
     /// Waits for so long until a socket gets a datagram, and lists those that got one.
-    pub(crate) fn wait(&mut self, timeout: Duration) -> Result<(), TurnError> {
+    pub(crate) fn look(&mut self, timeout: Duration) -> Result<(), TurnError>
+        ensures { OnOk result ((ready : List ℕ) × (self.new.schedule ≡ with_all_ready self.old.schedule ready)) }
+    {
         if self.poll.poll(&mut self.events, Some(timeout)).is_err() {
             return Err(TurnError::Socket);
         }
-        self.ready.add_all(&self.events)?;
-        Ok(())
-    }
-
-    /// Plans in which order the listed sockets are served.
-    pub(crate) fn plan(&mut self) -> Result<(), TurnError> {
-        self.order.plan(&self.ready)?;
-        Ok(())
-    }
-
-    // Lists the sockets that got a datagram.
-    fn look(&mut self) -> Result<(), TurnError> {
-        self.turns = 0;
-        self.wait(Duration::ZERO)
-    }
-
-    /// Lists the sockets that got a datagram, if that is asked for.
-    pub(crate) fn look_if(&mut self, asked: bool) -> Result<(), TurnError> {
-        if asked {
-            self.look()?;
-        }
-        Ok(())
-    }
-
-    /// Looks now and then, while some sockets have datagrams, for others that got one.
-    pub(crate) fn look_sometimes(&mut self) -> Result<(), TurnError> {
-        self.turns = self.turns.wrapping_add(1);
-        if self.turns >= LOOK_EVERY {
-            self.look()?;
-        }
+        self.schedule.add_all(&self.events)?;
         Ok(())
     }
 }

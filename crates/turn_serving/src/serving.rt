@@ -5,55 +5,30 @@ ghost use Rattle.turn_disk.specs.Disk.{EachImageSince};
 ghost use Rattle.turn_engine.specs.Runs.{BeginsWith, IsAtPlace, Place, accepted};
 ghost use Rattle.turn_engine.specs.State.{emptied, now_of};
 ghost use Rattle.turn_history.specs.History.{History};
+ghost use Rattle.turn_sockets.specs.Fairness.{IsRound};
 ghost use Rattle.turn_sockets.specs.Moments.{IsMoment};
 ghost use Rattle.turn_step.specs.Answer.{Setting};
 ghost use Rattle.turn_store.specs.State.{form_of};
-ghost use Rattle.turn_serving.specs.Turns.{Served};
+ghost use Rattle.turn_serving.specs.Manner.{reads_of};
+ghost use Rattle.turn_serving.specs.Serving.{TakesRounds};
+ghost use Rattle.turn_serving.specs.Turns.{KeepsOrder, Served};
 
 use crate::calls::flush;
 use crate::error::TurnError;
-use crate::kept::Kept;
-use crate::listening::{Listening, WAIT_MILLIS, Waiting};
+use crate::listening::{Listening, Waiting};
+use crate::manner::{Commits, Manner};
 use crate::relay_sockets::RelaySockets;
 use crate::sending::send_all;
 use crate::turn::{Taken, Turn, Work};
 use crate::watch::{Silent, Watch};
-use std::alloc::{AllocError, Allocator, Global};
+use std::alloc::{Allocator, Global};
 use std::marker::Model;
 use std::time::Duration;
 use turn_cred::AuthHandler;
 use turn_disk::Disk;
 use turn_engine::Server;
 use turn_sockets::{ListeningAddresses, Pace, SocketPorts, Time, moment_now};
-use turn_types::{Endpoint, Limits, Moment};
-
-/// When the requests of clients are committed.
-#[derive(Clone, Copy, Debug, PartialEq, Eq)]
-pub enum Commits {
-    /// At the end of each turn, with all else that the turn took.
-    EachTurn,
-    /// Together, so that a sync seldom holds up data: what came is sent at once where it needs no write, and requests wait. They are
-    /// submitted and committed if no data came since the last commit, if the pause after that is over (four times as long as it
-    /// took, at most 50 ms), or if as many wait as a batch has (at most 64).
-    Paced,
-}
-
-/// How many requests may wait at most.
-const MAX_KEPT: u16 = 64;
-
-impl Commits {
-    /// The place for requests that wait.
-    pub(crate) fn places<A: Allocator + Copy>(
-        self,
-        alloc: A,
-        limits: Limits,
-    ) -> Result<Kept<A>, AllocError> {
-        match self {
-            Commits::EachTurn => Kept::new(alloc, 0),
-            Commits::Paced => Kept::new(alloc, usize::from(limits.acts().min(MAX_KEPT))),
-        }
-    }
-}
+use turn_types::{Endpoint, Moment};
 
 /// A server with its sockets, which takes turns.
 pub struct Serving<
@@ -67,11 +42,12 @@ pub struct Serving<
     listening: Listening<W, A>,
     waiting: Waiting<A>,
     work: Work<A>,
-    // How many datagrams a turn takes of each socket.
-    burst: u8,
+    manner: Manner,
     pace: Pace,
     // Whether data came since the last commit of requests that waited.
     has_data: bool,
+    // Whether something was read in the last turn, and sockets may have more.
+    is_busy: bool,
 }
 
 /// A server whose relay ports each have a socket.
@@ -83,7 +59,6 @@ pub type SocketServing<'a, D, H, R, A = Global, W = Silent> = Serving<
     W,
 >;
 
-// Clauses see the server alone.
 impl<
     D: Disk + Drop,
     H: AuthHandler + Drop,
@@ -93,13 +68,13 @@ impl<
 > Model for Serving<D, H, G, A, W> {
     ghost use Rattle.std.specs.Coded.{codes};
     ghost use Rattle.turn_table.specs.State.{state_code};
-    ghost use Rattle.turn_engine.specs.State.{ServerState};
+    ghost use Rattle.turn_serving.specs.Serving.{ServingState};
 
-    ghost Value = { ServerState D H G };
+    ghost Value = { ServingState D H G };
 
     ghost coded = { Prim.hlevel (codes, state_code) };
 
-    ghost view = { λ s. s.server };
+    ghost view = { λ s. record { server = s.server; backlog = s.work.backlog; agenda = s.waiting.schedule; manner = s.manner } };
 }
 
 // By hand: a derived drop is one step for each field in the proof of each caller.
@@ -116,9 +91,10 @@ impl<
             listening: _,
             waiting: _,
             work: _,
-            burst: _,
+            manner: _,
             pace: _,
             has_data: _,
+            is_busy: _,
         } = self;
     }
 }
@@ -135,18 +111,21 @@ impl<
         listening: Listening<W, A>,
         waiting: Waiting<A>,
         work: Work<A>,
-        burst: u8,
+        manner: Manner,
     ) -> Serving<D, H, G, A, W>
-        ensures { result ≡ server }
+        ensures server { result.server ≡ server }
+        ensures backlog { result.backlog ≡ work.backlog }
+        ensures manner { result.manner ≡ manner }
     {
         Serving {
             server,
             listening,
             waiting,
             work,
-            burst,
+            manner,
             pace: Pace::new(),
             has_data: false,
+            is_busy: false,
         }
     }
 
@@ -162,24 +141,25 @@ impl<
 
     /// The server over the store.
     pub fn server(&self) -> &Server<D, H, G, A>
-        ensures { result.now ≡ self.now }
+        ensures { result.now ≡ self.now.server }
     {
         &self.server
     }
 
     /// Ends the server, and returns its disk and its handler. The sockets are closed.
     pub fn close(self) -> (D, H)
-        ensures disk { result.0 ≡ self.store.disk }
-        ensures handler { result.1 ≡ self.machine.handler }
+        ensures disk { result.0 ≡ self.server.store.disk }
+        ensures handler { result.1 ≡ self.server.machine.handler }
     {
         let Serving {
             server,
             listening: _,
             waiting: _,
             work: _,
-            burst: _,
+            manner: _,
             pace: _,
             has_data: _,
+            is_busy: _,
         } = self;
         let (disk, handler, _) = server.close();
         (disk, handler)
@@ -187,149 +167,224 @@ impl<
 
     // At which moment something is submitted now.
     fn moment<T: Time>(&self, system: &T) -> Result<Moment, TurnError>
-        ensures is_one { IfOk result (λ moment. IsMoment (T.told system.now) (now_of self.now) moment) }
-        ensures late { IfOk result (λ moment. now_of self.now ≤ moment) }
+        ensures is_one { IfOk result (λ moment. IsMoment (T.told system.now) (now_of self.now.server) moment) }
+        ensures late { IfOk result (λ moment. now_of self.now.server ≤ moment) }
     {
         moment_now(system, self.server.clock()).ok_or(TurnError::Clock)
     }
 
-    // Takes up to `burst` datagrams of each socket that may have some.
-    fn take_all<T: Time>(&mut self, system: &T) -> Result<Taken, TurnError>
-        ensures { Served D.Disk H.AuthHandler G.RelayAddressGenerator (IsMoment (T.told system.now)) self.old self.new }
+    // Reads sockets to the end of a round.
+    fn take_round<T: Time>(&mut self, system: &T) -> Result<Taken, TurnError>
+        ensures served { Served D.Disk H.AuthHandler G.RelayAddressGenerator (IsMoment (T.told system.now)) self.old.server self.new.server }
+        ensures order { OnOk result (KeepsOrder D.Disk H.AuthHandler G.RelayAddressGenerator (IsMoment (T.told system.now))
+            self.old.server self.old.backlog self.new.server self.new.backlog) }
+        ensures round { OnOk result (IsRound (reads_of self.old.manner) self.old.agenda self.new.agenda) }
+        ensures manner { self.new.manner ≡ self.old.manner }
     {
         let moment = self.moment(system)?;
-        let turn = Turn::begin(&self.listening, moment, self.burst, self.server.table());
-        self.waiting.plan()?;
-        turn.take_all(
-            &mut self.server,
-            &mut self.work,
-            &self.waiting.order,
-            &mut self.waiting.ready,
-        )
+        let turn = Turn::begin(&self.listening, moment, self.manner, self.server.table());
+        turn.take_round(&mut self.server, &mut self.work, &mut self.waiting.schedule)
     }
 
-    // For how long nothing is to be done unless a datagram comes: at most 50 ms, and no longer than requests wait.
+    // Submits at most so many of the datagrams that wait, and returns how many.
+    fn submit_waiting<T: Time>(&mut self, system: &T, most: u16) -> Result<u16, TurnError>
+        ensures served { Served D.Disk H.AuthHandler G.RelayAddressGenerator (IsMoment (T.told system.now)) self.old.server self.new.server }
+        ensures order { OnOk result (KeepsOrder D.Disk H.AuthHandler G.RelayAddressGenerator (IsMoment (T.told system.now))
+            self.old.server self.old.backlog self.new.server self.new.backlog) }
+        ensures few { IfOk result (λ count. count ≤ most) }
+        ensures agenda { self.new.agenda ≡ self.old.agenda }
+        ensures manner { self.new.manner ≡ self.old.manner }
+    {
+        let moment = self.moment(system)?;
+        let turn = Turn::begin(&self.listening, moment, self.manner, self.server.table());
+        turn.submit_waiting(&mut self.server, &mut self.work.backlog, most)
+    }
+
+    // Looks which sockets got a datagram, for so long if there is none, and reads each that has some.
+    fn take_each<T: Time>(&mut self, system: &T, timeout: Duration) -> Result<Taken, TurnError>
+        ensures served { Served D.Disk H.AuthHandler G.RelayAddressGenerator (IsMoment (T.told system.now)) self.old.server self.new.server }
+        ensures order { OnOk result (KeepsOrder D.Disk H.AuthHandler G.RelayAddressGenerator (IsMoment (T.told system.now))
+            self.old.server self.old.backlog self.new.server self.new.backlog) }
+        ensures manner { self.new.manner ≡ self.old.manner }
+    {
+        self.waiting.look(timeout)?;
+        self.waiting.schedule.begin_for_each()?;
+        self.take_round(system)
+    }
+
+    // Looks which sockets got a datagram, for so long if there is none, and takes a round.
+    fn take_fairly<T: Time>(&mut self, system: &T, timeout: Duration) -> Result<Taken, TurnError>
+        ensures served { Served D.Disk H.AuthHandler G.RelayAddressGenerator (IsMoment (T.told system.now)) self.old.server self.new.server }
+        ensures order { OnOk result (KeepsOrder D.Disk H.AuthHandler G.RelayAddressGenerator (IsMoment (T.told system.now))
+            self.old.server self.old.backlog self.new.server self.new.backlog) }
+        ensures rounds { OnOk result (TakesRounds (reads_of self.old.manner) 1 self.old.agenda self.new.agenda) }
+        ensures manner { self.new.manner ≡ self.old.manner }
+    {
+        self.waiting.look(timeout)?;
+        self.waiting.schedule.begin();
+        self.take_round(system)
+    }
+
+    // For how long nothing is to be done unless a datagram comes.
     fn rest<T: Time>(&self, system: &T) -> Duration {
-        let most = Duration::from_millis(WAIT_MILLIS);
-        if self.work.kept.is_empty() {
-            return most;
+        let patience = self.manner.patience();
+        if self.work.backlog.is_empty() {
+            return patience;
         }
-        if self.work.kept.is_full() || !self.has_data {
+        if !self.has_data {
             return Duration::ZERO;
         }
-        // Without a clock they don't wait.
+        // Without a clock nothing waits.
         match system.monotonic() {
-            Ok(now) => self.pace.rest(now).min(most),
+            Ok(now) => self.pace.rest(now).min(patience),
             Err(_) => Duration::ZERO,
         }
     }
 
     // Takes what there is. If there is nothing it waits first.
-    fn take<T: Time>(&mut self, system: &T) -> Result<Taken, TurnError>
-        ensures { Served D.Disk H.AuthHandler G.RelayAddressGenerator (IsMoment (T.told system.now)) self.old self.new }
+    fn take_each_or_wait<T: Time>(&mut self, system: &T) -> Result<Taken, TurnError>
+        ensures served { Served D.Disk H.AuthHandler G.RelayAddressGenerator (IsMoment (T.told system.now)) self.old.server self.new.server }
+        ensures order { OnOk result (KeepsOrder D.Disk H.AuthHandler G.RelayAddressGenerator (IsMoment (T.told system.now))
+            self.old.server self.old.backlog self.new.server self.new.backlog) }
+        ensures manner { self.new.manner ≡ self.old.manner }
     {
-        let taken = self.take_all(system)?;
+        let taken = self.take_each(system, Duration::ZERO)?;
         if taken.any {
-            self.waiting.look_sometimes()?;
             return Ok(taken);
         }
-        let rest = self.rest(system);
-        self.waiting.wait(rest)?;
-        self.take_all(system)
+        self.take_each(system, self.manner.patience())
     }
 
-    // If `share` is set, takes what came by now: it would wait for the commit that follows anyway. No request of it is kept.
-    fn take_late<T: Time>(&mut self, system: &T, share: bool) -> Result<(), TurnError>
-        ensures { Served D.Disk H.AuthHandler G.RelayAddressGenerator (IsMoment (T.told system.now)) self.old self.new }
+    // Takes what comes, if nothing is there as soon as it comes.
+    fn take<T: Time>(&mut self, system: &T) -> Result<Taken, TurnError>
+        ensures served { Served D.Disk H.AuthHandler G.RelayAddressGenerator (IsMoment (T.told system.now)) self.old.server self.new.server }
+        ensures order { OnOk result (KeepsOrder D.Disk H.AuthHandler G.RelayAddressGenerator (IsMoment (T.told system.now))
+            self.old.server self.old.backlog self.new.server self.new.backlog) }
+        ensures rounds { self.old.manner.commits ≡ Commits.Paced → OnOk result (TakesRounds (reads_of self.old.manner) 1 self.old.agenda self.new.agenda) }
+        ensures manner { self.new.manner ≡ self.old.manner }
     {
-        if !share {
+        match self.manner.commits {
+            Commits::EachTurn => self.take_each_or_wait(system),
+            Commits::Paced => {
+                let rest = if self.is_busy {
+                    Duration::ZERO
+                } else {
+                    self.rest(system)
+                };
+                self.take_fairly(system, rest)
+            }
+        }
+    }
+
+    // If several datagrams were submitted, and the batch has room for more, takes what came meanwhile and submits what of that
+    // waits: it would wait for the same commit anyway.
+    fn share_batch<T: Time>(&mut self, system: &T, count: u16) -> Result<(), TurnError>
+        ensures served { Served D.Disk H.AuthHandler G.RelayAddressGenerator (IsMoment (T.told system.now)) self.old.server self.new.server }
+        ensures order { OnOk result (KeepsOrder D.Disk H.AuthHandler G.RelayAddressGenerator (IsMoment (T.told system.now))
+            self.old.server self.old.backlog self.new.server self.new.backlog) }
+        ensures rounds { OnOk result (TakesRounds (reads_of self.old.manner) 0 self.old.agenda self.new.agenda) }
+        ensures manner { self.new.manner ≡ self.old.manner }
+    {
+        let batch = self.manner.batch;
+        if count < 2 || batch <= count {
             return Ok(());
         }
-        self.waiting.look_if(true)?;
-        self.work.kept.set_open(false);
-        self.take_all(system)?;
-        self.work.kept.set_open(true);
+        self.take_fairly(system, Duration::ZERO)?;
+        self.submit_waiting(system, batch - count)?;
         Ok(())
     }
 
-    // Submits the requests that waited. To submit several takes a while, so what came meanwhile is taken too.
-    fn submit_waiting<T: Time>(&mut self, system: &T) -> Result<(), TurnError>
-        ensures { Served D.Disk H.AuthHandler G.RelayAddressGenerator (IsMoment (T.told system.now)) self.old self.new }
+    // Submits a batch of the datagrams that wait, and commits it. Notes how long the commit took.
+    fn commit_waiting<T: Time>(&mut self, system: &T) -> Result<(), TurnError>
+        ensures served { Served D.Disk H.AuthHandler G.RelayAddressGenerator (IsMoment (T.told system.now)) self.old.server self.new.server }
+        ensures done { OnOk result (self.new.server ≡ emptied self.new.server self.new.server.store) }
+        ensures runs { OnOk result (self.new.server.store.stopped ≡ false) }
+        ensures order { OnOk result (KeepsOrder D.Disk H.AuthHandler G.RelayAddressGenerator (IsMoment (T.told system.now))
+            self.old.server self.old.backlog self.new.server self.new.backlog) }
+        ensures rounds { OnOk result (TakesRounds (reads_of self.old.manner) 0 self.old.agenda self.new.agenda) }
+        ensures manner { self.new.manner ≡ self.old.manner }
     {
-        let moment = self.moment(system)?;
-        let turn = Turn::begin(&self.listening, moment, self.burst, self.server.table());
-        turn.submit_kept(&mut self.server, &self.work.kept)?;
-        let share = self.work.kept.clear();
-        self.take_late(system, share)
-    }
-
-    // Submits the requests that waited, and commits them. Notes how long the commit took.
-    fn commit_kept<T: Time>(&mut self, system: &T) -> Result<(), TurnError>
-        ensures served { Served D.Disk H.AuthHandler G.RelayAddressGenerator (IsMoment (T.told system.now)) self.old self.new }
-        ensures done { OnOk result (self.new ≡ emptied self.new self.new.store) }
-        ensures runs { OnOk result (self.new.store.stopped ≡ false) }
-    {
-        self.submit_waiting(system)?;
+        let count = self.submit_waiting(system, self.manner.batch)?;
+        self.share_batch(system, count)?;
         self.has_data = false;
         let began = system.monotonic().ok();
         let outgoing = self.server.commit()?;
-        self.pace.note(began, system.monotonic().ok());
+        let ended = system.monotonic().ok();
+        self.pace.note(began, ended);
         send_all(&self.listening, &self.server, &outgoing);
+        if let (Some(began), Some(ended)) = (began, ended) {
+            let took = ended.saturating_sub(began);
+            self.listening.watch.committed(self.server.clock(), took);
+        }
         Ok(())
     }
 
-    // Commits the requests that waited, if they are due.
-    fn commit_due<T: Time>(&mut self, system: &T) -> Result<bool, TurnError>
-        ensures served { Served D.Disk H.AuthHandler G.RelayAddressGenerator (IsMoment (T.told system.now)) self.old self.new }
-        ensures done { self.old ≡ emptied self.old self.old.store → OnOk result (self.new ≡ emptied self.new self.new.store) }
-        ensures runs { self.old.store.stopped ≡ false → OnOk result (self.new.store.stopped ≡ false) }
+    // Commits a batch of what waits, if it is due.
+    fn commit_due<T: Time>(&mut self, system: &T) -> Result<(), TurnError>
+        ensures served { Served D.Disk H.AuthHandler G.RelayAddressGenerator (IsMoment (T.told system.now)) self.old.server self.new.server }
+        ensures done { self.old.server ≡ emptied self.old.server self.old.server.store
+            → OnOk result (self.new.server ≡ emptied self.new.server self.new.server.store) }
+        ensures runs { self.old.server.store.stopped ≡ false → OnOk result (self.new.server.store.stopped ≡ false) }
+        ensures order { OnOk result (KeepsOrder D.Disk H.AuthHandler G.RelayAddressGenerator (IsMoment (T.told system.now))
+            self.old.server self.old.backlog self.new.server self.new.backlog) }
+        ensures rounds { OnOk result (TakesRounds (reads_of self.old.manner) 0 self.old.agenda self.new.agenda) }
+        ensures manner { self.new.manner ≡ self.old.manner }
     {
-        let is_due = !self.work.kept.is_empty() && self.rest(system) == Duration::ZERO;
-        if is_due {
-            self.commit_kept(system)?;
+        if !self.work.backlog.is_empty() && self.rest(system) == Duration::ZERO {
+            self.commit_waiting(system)?;
         }
-        Ok(is_due)
+        Ok(())
     }
 
-    /// One turn: takes up to `burst` datagrams of each socket that has some, commits, and sends what came of them. If there
-    /// are none it waits for one first, at most 50 ms. The moment is the system's second, or the server's clock if that is
-    /// later. Under `Commits::Paced` requests are kept, and committed at the end of the turn in which they are due.
+    /// One turn: reads sockets that have datagrams, commits, and sends what came of them, as `Commits` says. The moment is the system's
+    /// second, or the server's clock if that is later.
     ///
     /// Nothing is sent that was not committed. After a commit that failed each later turn fails.
     pub fn turn<T: Time>(&mut self, system: &T) -> Result<(), TurnError>
         // Calls of `submit` and `commit`, each within its contract, the last of which leaves nothing staged. Each arrival is
         // submitted at the later of the clock and a second that the system told.
-        ensures served { Served D.Disk H.AuthHandler G.RelayAddressGenerator (IsMoment (T.told system.now)) self.old self.new }
-        ensures clock { now_of self.old ≤ now_of self.new }
-        ensures done { OnOk result (self.new ≡ emptied self.new self.new.store) }
-        ensures runs { OnOk result (self.new.store.stopped ≡ false) }
+        ensures served { Served D.Disk H.AuthHandler G.RelayAddressGenerator (IsMoment (T.told system.now)) self.old.server self.new.server }
+        ensures clock { now_of self.old.server ≤ now_of self.new.server }
+        ensures done { OnOk result (self.new.server ≡ emptied self.new.server self.new.server.store) }
+        ensures runs { OnOk result (self.new.server.store.stopped ≡ false) }
+        // Of one five-tuple datagrams are submitted in the order of receiving.
+        ensures order { OnOk result (KeepsOrder D.Disk H.AuthHandler G.RelayAddressGenerator (IsMoment (T.told system.now))
+            self.old.server self.old.backlog self.new.server self.new.backlog) }
+        // Where requests wait, sockets are read in rounds.
+        ensures rounds { self.old.manner.commits ≡ Commits.Paced → OnOk result (TakesRounds (reads_of self.old.manner) 1 self.old.agenda self.new.agenda) }
+        ensures manner { self.new.manner ≡ self.old.manner }
         // Whatever run the server is in, at every moment of the turn each image stands for a history that begins with what was
         // handed out before.
-        ensures stop { (s : Setting) (h : History) (t : ℕ) (p : Place) → IsAtPlace D.Disk H.AuthHandler G.RelayAddressGenerator s h t self.old p
-            → D.follows_crash_model self.new.store.disk → EachImageSince (D.trace self.old.store.disk) (D.trace self.new.store.disk)
-            (BeginsWith (form_of self.old.store) (h ++ accepted p.handed) (now_of self.new)) }
+        ensures stop { (s : Setting) (h : History) (t : ℕ) (p : Place) → IsAtPlace D.Disk H.AuthHandler G.RelayAddressGenerator s h t self.old.server p
+            → D.follows_crash_model self.new.server.store.disk → EachImageSince (D.trace self.old.server.store.disk) (D.trace self.new.server.store.disk)
+            (BeginsWith (form_of self.old.server.store) (h ++ accepted p.handed) (now_of self.new.server)) }
     {
         let taken = self.take(system)?;
         self.has_data |= taken.data;
+        self.is_busy = taken.any && !self.waiting.schedule.is_empty();
         flush(&self.listening, &mut self.server)?;
-        // While a commit wrote, the other sockets may have got datagrams.
-        let has_committed = self.commit_due(system)?;
-        self.waiting.look_if(has_committed || taken.submitted)
+        self.commit_due(system)
     }
 
     /// So many turns, one after the other, or up to the first that fails.
     pub fn turns<T: Time>(&mut self, system: &T, count: u64) -> Result<(), TurnError>
-        ensures served { Served D.Disk H.AuthHandler G.RelayAddressGenerator (IsMoment (T.told system.now)) self.old self.new }
-        ensures clock { now_of self.old ≤ now_of self.new }
-        // No turn leaves the server as it was; one turn or more that ended well are what one is.
+        ensures served { Served D.Disk H.AuthHandler G.RelayAddressGenerator (IsMoment (T.told system.now)) self.old.server self.new.server }
+        ensures clock { now_of self.old.server ≤ now_of self.new.server }
+        // No turn leaves all as it was; one turn or more that ended well are what one is.
         ensures none { count ≡ 0 → self.new ≡ self.old }
-        ensures done { 1 ≤ count → OnOk result (self.new ≡ emptied self.new self.new.store) }
-        ensures runs { 1 ≤ count → OnOk result (self.new.store.stopped ≡ false) }
+        ensures done { 1 ≤ count → OnOk result (self.new.server ≡ emptied self.new.server self.new.server.store) }
+        ensures runs { 1 ≤ count → OnOk result (self.new.server.store.stopped ≡ false) }
+        // Of one five-tuple datagrams are submitted in the order of receiving.
+        ensures order { OnOk result (KeepsOrder D.Disk H.AuthHandler G.RelayAddressGenerator (IsMoment (T.told system.now))
+            self.old.server self.old.backlog self.new.server self.new.backlog) }
+        // Where requests wait, sockets are read in at least as many rounds.
+        ensures rounds { self.old.manner.commits ≡ Commits.Paced → OnOk result (TakesRounds (reads_of self.old.manner) count self.old.agenda self.new.agenda) }
+        ensures manner { self.new.manner ≡ self.old.manner }
         // Whatever run the server is in, at every moment of the turns each image stands for a history that begins with what was
         // handed out before.
-        ensures stop { (s : Setting) (h : History) (t : ℕ) (p : Place) → IsAtPlace D.Disk H.AuthHandler G.RelayAddressGenerator s h t self.old p
-            → D.follows_crash_model self.new.store.disk → EachImageSince (D.trace self.old.store.disk) (D.trace self.new.store.disk)
-            (BeginsWith (form_of self.old.store) (h ++ accepted p.handed) (now_of self.new)) }
+        ensures stop { (s : Setting) (h : History) (t : ℕ) (p : Place) → IsAtPlace D.Disk H.AuthHandler G.RelayAddressGenerator s h t self.old.server p
+            → D.follows_crash_model self.new.server.store.disk → EachImageSince (D.trace self.old.server.store.disk) (D.trace self.new.server.store.disk)
+            (BeginsWith (form_of self.old.server.store) (h ++ accepted p.handed) (now_of self.new.server)) }
     {
         for turned in 0..count {
             self.turn(system)?;

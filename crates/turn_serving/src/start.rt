@@ -1,6 +1,6 @@
 //! How a server over sockets is started.
 
-ghost use Rattle.std.specs.Prelude.{◌≡◌, ◌↔◌, ℕ, None, Ok, IfErr, IfOk, IsTrue, true, false, unwrap_or};
+ghost use Rattle.std.specs.Prelude.{◌≡◌, ◌↔◌, ℕ, [], None, Ok, IfErr, IfOk, IsTrue, true, false, unwrap_or};
 ghost use Rattle.std.specs.List.{list_all};
 ghost use Rattle.turn_disk.specs.Disk.{EachImageSince};
 ghost use Rattle.turn_engine.specs.Calls.{Opening};
@@ -8,15 +8,18 @@ ghost use Rattle.turn_engine.specs.Images.{AtLeast};
 ghost use Rattle.turn_history.specs.Fitting.{is_taken};
 ghost use Rattle.turn_history.specs.History.{History};
 ghost use Rattle.turn_store.specs.Areas.{Form};
+ghost use Rattle.turn_sockets.specs.Backlog.{waiting_of};
 ghost use Rattle.turn_step.specs.State.{HoldsPorts};
 ghost use Rattle.turn_store.specs.Carrying.{Carries};
 ghost use Rattle.turn_store.specs.Images.{EachImage};
+ghost use Rattle.turn_types.specs.declared.address.FiveTuple.{FiveTuple};
 ghost use Rattle.turn_serving.specs.Starts.{IsBeforeReopening, IsKept, IsOfVersion, KeepsImages, Started, have_ports, is_first};
 
 use crate::error::{SetupError, StartError};
 use crate::listening::{ATTEMPTS, Listening, Waiting, pause};
+use crate::manner::{Commits, Manner};
 use crate::relay_sockets::RelaySockets;
-use crate::serving::{Commits, Serving, SocketServing};
+use crate::serving::{Serving, SocketServing};
 use crate::turn::Work;
 use crate::watch::Watch;
 use mio::Poll;
@@ -29,10 +32,12 @@ use turn_engine::Server;
 use turn_history::Reservation;
 use turn_ports::{PortRange, RelayAddressGenerator};
 use turn_record::Version;
-use turn_sockets::{Bound, Buffer, DataIds, ListeningAddresses, OwnAddresses, SocketPorts};
+use turn_sockets::{
+    Backlog, Bound, Buffer, DataIds, ListeningAddresses, OwnAddresses, Room, SocketPorts,
+};
 use turn_store::StoreOpenError;
 use turn_table::Table;
-use turn_types::ServerConfig;
+use turn_types::{Endpoint, ServerConfig};
 
 /// What a server is started with, beside its disk and the handler of its users.
 #[derive(Clone, Copy)]
@@ -45,9 +50,9 @@ pub struct Setup<'c, A: Allocator = Global> {
     pub ports: PortRange,
     /// The address on which relay sockets are bound, if it isn't the one that clients are told.
     pub relay_bind: Option<u32>,
-    /// How many datagrams a turn takes of each socket.
+    /// How many datagrams a turn reads, as `Commits` says.
     pub burst: u8,
-    /// When what was accepted is written.
+    /// When what was accepted is written, and how sockets are read.
     pub commits: Commits,
     /// What relay ports are drawn from: random bytes, new at each start.
     pub seed: [u8; 32],
@@ -55,10 +60,29 @@ pub struct Setup<'c, A: Allocator = Global> {
 
 /// What a server has beside its store.
 struct Beside<'a, R: Net, W: Watch + Drop, A: Allocator + Copy> {
-    sockets: SocketPorts<'a, R, A>,
+    ports: SocketPorts<'a, R, A>,
     listening: Listening<W, A>,
     waiting: Waiting<A>,
     work: Work<A>,
+}
+
+/// How many datagrams of clients may wait for a commit, of all that were sent to the server's addresses.
+const MAX_WAITING: usize = 1_024;
+
+/// How many of these may be of one client, so that those of others have places too.
+const MAX_OF_ONE: usize = 64;
+
+/// How many bytes they may have in all.
+const MAX_BYTES: usize = 1 << 20;
+
+/// What may wait of the datagrams that were sent to one of so many addresses: each has the same share.
+fn room_of(addresses: &[Endpoint]) -> Room {
+    let count = addresses.len().max(1);
+    Room {
+        datagrams: MAX_WAITING / count,
+        of_one: MAX_OF_ONE,
+        bytes: MAX_BYTES / count,
+    }
 }
 
 /// Whether a store of this version may have to be carried over.
@@ -269,21 +293,22 @@ impl<'c, A: Allocator + Copy> Setup<'c, A> {
         ports: &[u16],
         watch: W,
     ) -> Result<Beside<'a, R, W, A>, StartError>
-        ensures { IfOk result (λ beside. ⟦<SocketPorts<'a, R, A> as RelayAddressGenerator>⟧.range beside.sockets ≡ self.now.ports) }
+        ensures range { IfOk result (λ beside. ⟦<SocketPorts<'a, R, A> as RelayAddressGenerator>⟧.range beside.ports ≡ self.now.ports) }
+        ensures waits { IfOk result (λ beside. (f : FiveTuple) → waiting_of beside.work.backlog f ≡ []) }
     {
         let poll = Poll::new(net).map_err(|_| StartError::Socket)?;
-        let sockets = self.bind_ports(alloc, net, system, &poll, ports)?;
+        let ports = self.bind_ports(alloc, net, system, &poll, ports)?;
         let listening = Listening::open(alloc, net, system, &poll, self.own(), watch)?;
-        let waiting = Waiting::new(alloc, poll)?;
+        let addresses = listening.own.listening.as_slice();
         let work = Work {
             buffer: Buffer::new(alloc)?,
             ids: DataIds::new(),
-            kept: self.commits.places(alloc, self.config.limits())?,
+            backlog: Backlog::new(alloc, addresses, room_of(addresses))?,
         };
         Ok(Beside {
-            sockets,
+            ports,
             listening,
-            waiting,
+            waiting: Waiting::new(alloc, poll)?,
             work,
         })
     }
@@ -310,17 +335,20 @@ impl<'c, A: Allocator + Copy> Setup<'c, A> {
         watch: W,
     ) -> Result<SocketServing<'a, D, H, R, A, W>, SetupError<D>>
         ensures started { IfOk result (λ serving. Started D.Disk H.AuthHandler ⟦<SocketPorts<'a, R, A> as RelayAddressGenerator>⟧
-            disk self.now.config.now handler self.now.ports serving) }
+            disk self.now.config.now handler self.now.ports serving.server) }
         // The relay port of each allocation has a socket, and each reserved port.
-        ensures sockets { IfOk result (λ serving. have_ports (⟦<SocketPorts<'a, R, A> as RelaySockets>⟧.has_socket serving.machine.ports)
-            serving.machine.table.contents ≡ true) }
+        ensures sockets { IfOk result (λ serving. have_ports (⟦<SocketPorts<'a, R, A> as RelaySockets>⟧.has_socket serving.server.machine.ports)
+            serving.server.machine.table.contents ≡ true) }
         // And no other port has one.
-        ensures held { IfOk result (λ serving. HoldsPorts ⟦<SocketPorts<'a, R, A> as RelayAddressGenerator>⟧.holds serving.machine None) }
-
+        ensures held { IfOk result (λ serving. HoldsPorts ⟦<SocketPorts<'a, R, A> as RelayAddressGenerator>⟧.holds serving.server.machine None) }
+        // No datagram waits, and turns are taken as the setup says.
+        ensures waits { IfOk result (λ serving. (f : FiveTuple) → waiting_of serving.backlog f ≡ []) }
+        ensures manner { IfOk result (λ serving. serving.manner
+            ≡ record { commits = self.now.commits; burst = self.now.burst; batch = self.now.config.now.limits.acts }) }
         // A store that isn't of version 1 keeps its content, and each one does at a refusal before the second opening.
-        ensures same { IfOk result (λ serving. D.follows_crash_model serving.store.disk
+        ensures same { IfOk result (λ serving. D.follows_crash_model serving.server.store.disk
             → (IsOfVersion Version.V1 (D.trace disk).now.bytes → ⊥)
-            → (D.trace serving.store.disk).now.bytes ≡ (D.trace disk).now.bytes) }
+            → (D.trace serving.server.store.disk).now.bytes ≡ (D.trace disk).now.bytes) }
         ensures same_err { IfErr result (λ r. D.follows_crash_model r.disk → (IsOfVersion Version.V1 (D.trace disk).now.bytes → ⊥)
             → (D.trace r.disk).now.bytes ≡ (D.trace disk).now.bytes) }
         ensures before_err { IfErr result (λ r. D.follows_crash_model r.disk → IsBeforeReopening r.fault
@@ -328,9 +356,9 @@ impl<'c, A: Allocator + Copy> Setup<'c, A> {
 
         // Where each image of the disk stands for the first events of a history, at least k of them, a stop at any moment of the
         // start leaves such images, and so does a refusal.
-        ensures stop { IfOk result (λ serving. D.follows_crash_model serving.store.disk → (form : Form) (h : History) (k m : ℕ)
+        ensures stop { IfOk result (λ serving. D.follows_crash_model serving.server.store.disk → (form : Form) (h : History) (k m : ℕ)
             → EachImage (D.trace disk).now (AtLeast form h k m)
-            → EachImageSince (D.trace disk) (D.trace serving.store.disk) (AtLeast form h k m)) }
+            → EachImageSince (D.trace disk) (D.trace serving.server.store.disk) (AtLeast form h k m)) }
         ensures stop_err { IfErr result (λ r. D.follows_crash_model r.disk → (form : Form) (h : History) (k m : ℕ)
             → EachImage (D.trace disk).now (AtLeast form h k m)
             → EachImageSince (D.trace disk) (D.trace r.disk) (AtLeast form h k m)) }
@@ -345,14 +373,14 @@ impl<'c, A: Allocator + Copy> Setup<'c, A> {
             Err(fault) => return Err(SetupError { fault, disk }),
         };
         let Beside {
-            sockets,
+            ports,
             listening,
             waiting,
             work,
         } = beside;
         // This opening may write, so it comes behind all else that may be refused.
         let carry = is_first(version);
-        let server = match self.open(alloc, disk, handler, sockets, carry) {
+        let server = match self.open(alloc, disk, handler, ports, carry) {
             Ok(server) => server,
             Err(StoreOpenError { fault, disk }) => {
                 return Err(SetupError {
@@ -369,6 +397,11 @@ impl<'c, A: Allocator + Copy> Setup<'c, A> {
                 disk,
             });
         }
-        Ok(Serving::new(server, listening, waiting, work, self.burst))
+        let manner = Manner {
+            commits: self.commits,
+            burst: self.burst,
+            batch: self.config.limits().acts(),
+        };
+        Ok(Serving::new(server, listening, waiting, work, manner))
     }
 }

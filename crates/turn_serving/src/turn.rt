@@ -1,45 +1,48 @@
-//! What a turn does with one socket.
+//! What a turn does with the sockets that may have a datagram.
 
-ghost use Rattle.std.specs.Prelude.{◌≡◌, ◌≤◌, false, true};
-ghost use Rattle.std.specs.BTreeMap.{get};
+ghost use Rattle.std.specs.Prelude.{◌≡◌, ◌≤◌, ℕ, IfOk, IsTrue, ◌↔◌, ◌⊎◌, ◌≢◌, ◌==◌, ◌++◌, [], OnOk, false, true};
 ghost use Rattle.turn_engine.specs.State.{now_of};
-ghost use Rattle.turn_serving.specs.Turns.{At, Served};
+ghost use Rattle.turn_sockets.specs.Backlog.{if_same, waiting_of};
+ghost use Rattle.turn_sockets.specs.Fairness.{IsRound};
+ghost use Rattle.turn_sockets.specs.Own.{IsRelay};
+ghost use Rattle.turn_serving.specs.Manner.{reads_of, waits_for_commits};
+ghost use Rattle.turn_serving.specs.Requests.{MayChange};
+ghost use Rattle.turn_serving.specs.Turns.{At, KeepsOrder, Served, TakesAtMost, TakesDatagram};
 
-use crate::calls::{flush, submit};
+use crate::calls::submit;
 use crate::error::TurnError;
-use crate::kept::{Kept, may_change};
 use crate::listening::{ClientSocket, Listening};
+use crate::manner::Manner;
 use crate::relay_sockets::RelaySockets;
+use crate::requests::may_change;
 use crate::watch::Watch;
 use std::alloc::{Allocator, Global};
 use turn_cred::AuthHandler;
 use turn_disk::Disk;
 use turn_engine::Server;
 use turn_ports::RelayAddressGenerator;
-use turn_sockets::{Buffer, DataIds, LISTENING, Order, Ready, Received};
+use turn_sockets::{Backlog, Buffer, DataIds, LISTENING, Received, Schedule};
 use turn_step::Arrival;
 use turn_table::Table;
-use turn_types::{Endpoint, Moment};
+use turn_types::{Endpoint, FiveTuple, Moment};
 
 /// What a turn works with, beside the server.
 #[derive(Drop)]
 pub(crate) struct Work<A: Allocator = Global> {
     pub(crate) buffer: Buffer<A>,
     pub(crate) ids: DataIds,
-    pub(crate) kept: Kept<A>,
+    pub(crate) backlog: Backlog<A>,
 }
 
-/// What came of a look at a socket.
+/// What came of a read of a socket.
 #[derive(Clone, Copy)]
 enum Took {
-    /// Something that is answered or relayed without a write to the disk.
+    /// A datagram that was submitted, or one of the server itself, which is lost.
     Data,
-    /// A request that is kept.
-    Kept,
-    /// A request that was submitted, whose commit may write.
-    Submitted,
-    /// Nothing for now, though more may wait: the system failed, or as many requests are kept as may be.
-    Later,
+    /// A datagram that waits for a commit, or for which there was no room.
+    Request,
+    /// None, though some may wait: the system failed.
+    Failed,
     /// None waits, or there is no socket any more.
     Nothing,
 }
@@ -49,24 +52,32 @@ enum Took {
 pub(crate) struct Taken {
     /// Whether anything was.
     pub(crate) any: bool,
+    /// Whether something was that didn't have to wait.
     pub(crate) data: bool,
-    /// Whether requests were submitted.
-    pub(crate) submitted: bool,
 }
 
 impl Taken {
     pub(crate) const NOTHING: Taken = Taken {
         any: false,
         data: false,
-        submitted: false,
     };
 
     fn and(self, took: Took) -> Taken {
         Taken {
-            any: self.any || matches!(took, Took::Data | Took::Kept | Took::Submitted),
+            any: self.any || matches!(took, Took::Data | Took::Request),
             data: self.data || matches!(took, Took::Data),
-            submitted: self.submitted || matches!(took, Took::Submitted),
         }
+    }
+}
+
+/// Adds a datagram to those that wait. False if there is no room for it, or no memory.
+fn add<A: Allocator + Copy>(backlog: &mut Backlog<A>, five_tuple: FiveTuple, bytes: &[u8]) -> bool
+    ensures order { result ≡ true → (g : FiveTuple) → waiting_of backlog.new g ≡ waiting_of backlog.old g ++ if_same five_tuple g bytes.now }
+    ensures refused { result ≡ false → backlog.new ≡ backlog.old }
+{
+    match backlog.push(five_tuple, bytes) {
+        Ok(is_added) => is_added,
+        Err(_) => false,
     }
 }
 
@@ -75,7 +86,7 @@ impl Taken {
 pub(crate) struct Turn<'l, W: Watch + Drop, A: Allocator = Global> {
     listening: &'l Listening<W, A>,
     moment: Moment,
-    burst: u8,
+    manner: Manner,
 }
 
 impl<'l, W: Watch + Drop, A: Allocator + Copy> Turn<'l, W, A> {
@@ -83,44 +94,79 @@ impl<'l, W: Watch + Drop, A: Allocator + Copy> Turn<'l, W, A> {
     pub(crate) fn begin(
         listening: &'l Listening<W, A>,
         moment: Moment,
-        burst: u8,
+        manner: Manner,
         table: &Table<A>,
     ) -> Turn<'l, W, A>
-        ensures { result.moment ≡ moment }
+        ensures at { result.moment ≡ moment }
+        ensures manner { result.manner ≡ manner }
     {
         listening.watch.taking(moment, table);
         Turn {
             listening,
             moment,
-            burst,
+            manner,
         }
     }
 
-    /// Submits requests that waited, in their order.
-    pub(crate) fn submit_kept<D: Disk, H: AuthHandler, G: RelaySockets>(
+    // Submits the next datagram that waits. False if there is none.
+    fn submit_next<D: Disk, H: AuthHandler, G: RelaySockets>(
         &self,
         server: &mut Server<D, H, G, A>,
-        kept: &Kept<A>,
-    ) -> Result<(), TurnError>
+        backlog: &mut Backlog<A>,
+    ) -> Result<bool, TurnError>
         requires { now_of server.old ≤ self.now.moment }
         ensures served { Served D.Disk H.AuthHandler G.RelayAddressGenerator (At self.now.moment) server.old server.new }
         ensures clock { now_of server.new ≤ self.now.moment }
+        ensures order { OnOk result (KeepsOrder D.Disk H.AuthHandler G.RelayAddressGenerator (At self.now.moment)
+            server.old backlog.old server.new backlog.new) }
     {
-        for request in kept.requests() {
-            let arrival = Arrival::Client {
-                five_tuple: request.five_tuple,
-                bytes: request.bytes.as_slice(),
-            };
-            submit(self.listening, server, self.moment, &arrival)?;
-        }
-        Ok(())
+        let Some((five_tuple, bytes)) = backlog.pop() else {
+            return Ok(false);
+        };
+        let arrival = Arrival::Client {
+            five_tuple,
+            bytes: bytes.as_slice(),
+        };
+        submit(self.listening, server, self.moment, &arrival)?;
+        Ok(true)
     }
 
-    // Submits a client's datagram, or keeps it if it is a request and there is a place. One of the server itself is lost.
+    /// Submits at most so many datagrams that wait. Returns how many.
+    pub(crate) fn submit_waiting<D: Disk, H: AuthHandler, G: RelaySockets>(
+        &self,
+        server: &mut Server<D, H, G, A>,
+        backlog: &mut Backlog<A>,
+        most: u16,
+    ) -> Result<u16, TurnError>
+        requires { now_of server.old ≤ self.now.moment }
+        ensures served { Served D.Disk H.AuthHandler G.RelayAddressGenerator (At self.now.moment) server.old server.new }
+        ensures clock { now_of server.new ≤ self.now.moment }
+        ensures order { OnOk result (KeepsOrder D.Disk H.AuthHandler G.RelayAddressGenerator (At self.now.moment)
+            server.old backlog.old server.new backlog.new) }
+        ensures few { IfOk result (λ count. count ≤ most) }
+    {
+        for count in 0..most {
+            if !self.submit_next(server, backlog)? {
+                return Ok(count);
+            }
+        }
+        Ok(most)
+    }
+
+    // Whether a client's datagram has to wait: a request that may change the table, and what comes after one of the same five-tuple.
+    fn has_to_wait(&self, backlog: &Backlog<A>, five_tuple: FiveTuple, bytes: &[u8]) -> bool
+        ensures waits { IsTrue result → (waiting_of backlog.now five_tuple ≢ []) ⊎ MayChange bytes.now }
+        ensures nothing { result ≡ false → waiting_of backlog.now five_tuple ≡ [] }
+        ensures no_change { result ≡ false → waits_for_commits self.now.manner.commits ≡ true → MayChange bytes.now → ⊥ }
+    {
+        backlog.has(five_tuple) || (self.manner.waits_for_commits() && may_change(bytes))
+    }
+
+    // Takes a client's datagram: it is submitted, or waits. One for which there is no room is dropped, and so is one of the server itself.
     fn take_from_client<D: Disk, H: AuthHandler, G: RelaySockets>(
         &self,
         server: &mut Server<D, H, G, A>,
-        kept: &mut Kept<A>,
+        backlog: &mut Backlog<A>,
         client: &ClientSocket,
         bytes: &[u8],
         from: Endpoint,
@@ -128,81 +174,83 @@ impl<'l, W: Watch + Drop, A: Allocator + Copy> Turn<'l, W, A> {
         requires { now_of server.old ≤ self.now.moment }
         ensures served { Served D.Disk H.AuthHandler G.RelayAddressGenerator (At self.now.moment) server.old server.new }
         ensures clock { now_of server.new ≤ self.now.moment }
+        ensures taken { OnOk result ((IsRelay self.now.listening.now.own from → ⊥) → TakesDatagram D.Disk H.AuthHandler G.RelayAddressGenerator
+            (waits_for_commits self.now.manner.commits) self.now.moment (record { client = from; server = client.now.at }) bytes.now server.old backlog.old server.new backlog.new) }
+        ensures own { IsRelay self.now.listening.now.own from → (server.new ≡ server.old) × (backlog.new ≡ backlog.old) }
+        ensures takes { OnOk result (TakesAtMost D.Disk H.AuthHandler G.RelayAddressGenerator 1 (At self.now.moment)
+            server.old backlog.old server.new backlog.new) }
     {
         let Some(five_tuple) = self.listening.five_tuple_of(client, from) else {
             return Ok(Took::Data);
         };
-        let is_request = may_change(bytes);
-        if is_request && kept.keep(five_tuple, bytes) {
-            return Ok(Took::Kept);
+        if self.has_to_wait(backlog, five_tuple, bytes) {
+            if !add(backlog, five_tuple, bytes) {
+                self.listening.watch.shed(self.moment);
+            }
+            return Ok(Took::Request);
         }
         let arrival = Arrival::Client { five_tuple, bytes };
         submit(self.listening, server, self.moment, &arrival)?;
-        Ok(if is_request {
-            Took::Submitted
-        } else {
-            Took::Data
-        })
+        Ok(Took::Data)
     }
 
-    // Takes a datagram of the listening socket at a place.
+    // Reads a datagram of the listening socket at a place.
     fn take_of_client<D: Disk, H: AuthHandler, G: RelaySockets>(
         &self,
         server: &mut Server<D, H, G, A>,
-        buffer: &mut Buffer<A>,
-        kept: &mut Kept<A>,
+        work: &mut Work<A>,
         place: usize,
     ) -> Result<Took, TurnError>
         requires { now_of server.old ≤ self.now.moment }
         ensures served { Served D.Disk H.AuthHandler G.RelayAddressGenerator (At self.now.moment) server.old server.new }
         ensures clock { now_of server.new ≤ self.now.moment }
+        ensures takes { OnOk result (TakesAtMost D.Disk H.AuthHandler G.RelayAddressGenerator 1 (At self.now.moment)
+            server.old work.old.backlog server.new work.new.backlog) }
     {
-        if kept.is_full() {
-            return Ok(Took::Later);
-        }
         let Some(client) = self.listening.sockets.get(place) else {
             return Ok(Took::Nothing);
         };
-        match buffer.receive(&client.socket) {
+        match work.buffer.receive(&client.socket) {
             Received::Datagram { bytes, from } => {
-                self.take_from_client(server, kept, client, bytes, from)
+                self.take_from_client(server, &mut work.backlog, client, bytes, from)
             }
-            Received::Failed => Ok(Took::Later),
+            Received::Failed => Ok(Took::Failed),
             Received::Nothing => Ok(Took::Nothing),
         }
     }
 
-    // Takes a datagram of a relay socket.
+    // Reads a datagram of a relay socket.
     fn take_of_peer<D: Disk, H: AuthHandler, G: RelaySockets>(
         &self,
         server: &mut Server<D, H, G, A>,
-        buffer: &mut Buffer<A>,
-        ids: &mut DataIds,
+        work: &mut Work<A>,
         port: u16,
     ) -> Result<Took, TurnError>
         requires { now_of server.old ≤ self.now.moment }
         ensures served { Served D.Disk H.AuthHandler G.RelayAddressGenerator (At self.now.moment) server.old server.new }
         ensures clock { now_of server.new ≤ self.now.moment }
+        ensures takes { OnOk result (TakesAtMost D.Disk H.AuthHandler G.RelayAddressGenerator 1 (At self.now.moment)
+            server.old work.old.backlog server.new work.new.backlog) }
     {
         let Some(socket) = server.ports().socket(port) else {
             return Ok(Took::Nothing);
         };
-        let (bytes, from) = match buffer.receive(socket) {
+        let (bytes, from) = match work.buffer.receive(socket) {
             Received::Datagram { bytes, from } => (bytes, from),
-            Received::Failed => return Ok(Took::Later),
+            Received::Failed => return Ok(Took::Failed),
             Received::Nothing => return Ok(Took::Nothing),
         };
         let arrival = Arrival::Peer {
             port,
             from,
             bytes,
-            id: ids.next(self.moment),
+            id: work.ids.next(self.moment),
         };
         submit(self.listening, server, self.moment, &arrival)?;
         Ok(Took::Data)
     }
 
-    // Takes a datagram of the socket of a token.
+    // Reads a datagram of the socket of a token.
     fn take<D: Disk, H: AuthHandler, G: RelaySockets>(
         &self,
         server: &mut Server<D, H, G, A>,
@@ -212,18 +260,20 @@ impl<'l, W: Watch + Drop, A: Allocator + Copy> Turn<'l, W, A> {
         requires { now_of server.old ≤ self.now.moment }
         ensures served { Served D.Disk H.AuthHandler G.RelayAddressGenerator (At self.now.moment) server.old server.new }
         ensures clock { now_of server.new ≤ self.now.moment }
+        ensures takes { OnOk result (TakesAtMost D.Disk H.AuthHandler G.RelayAddressGenerator 1 (At self.now.moment)
+            server.old work.old.backlog server.new work.new.backlog) }
     {
         match u16::try_from(token) {
-            Ok(port) => self.take_of_peer(server, &mut work.buffer, &mut work.ids, port),
+            Ok(port) => self.take_of_peer(server, work, port),
             Err(_) => {
                 let place = token.wrapping_sub(LISTENING);
-                self.take_of_client(server, &mut work.buffer, &mut work.kept, place)
+                self.take_of_client(server, work, place)
             }
         }
     }
 
-    // Takes up to `burst` datagrams of the socket of a token, and adds what was taken. False if no more waits.
-    fn serve<D: Disk, H: AuthHandler, G: RelaySockets>(
+    // Reads the socket of a token until nothing is left, or as many datagrams as a visit has. Whether it may have more.
+    fn visit<D: Disk, H: AuthHandler, G: RelaySockets>(
         &self,
         server: &mut Server<D, H, G, A>,
         work: &mut Work<A>,
@@ -233,8 +283,10 @@ impl<'l, W: Watch + Drop, A: Allocator + Copy> Turn<'l, W, A> {
         requires { now_of server.old ≤ self.now.moment }
         ensures served { Served D.Disk H.AuthHandler G.RelayAddressGenerator (At self.now.moment) server.old server.new }
         ensures clock { now_of server.new ≤ self.now.moment }
+        ensures takes { OnOk result (TakesAtMost D.Disk H.AuthHandler G.RelayAddressGenerator (reads_of self.now.manner) (At self.now.moment)
+            server.old work.old.backlog server.new work.new.backlog) }
     {
-        for _turn in 0..self.burst {
+        for _read in 0..self.manner.reads() {
             let took = self.take(server, work, token)?;
             *taken = taken.and(took);
             if let Took::Nothing = took {
@@ -244,40 +296,25 @@ impl<'l, W: Watch + Drop, A: Allocator + Copy> Turn<'l, W, A> {
         Ok(true)
     }
 
-    // Takes up to `burst` datagrams of the socket of a token, if it is listed, and removes it if no more waits.
-    fn serve_listed<D: Disk, H: AuthHandler, G: RelaySockets>(
+    /// Visits sockets to the end of a round.
+    pub(crate) fn take_round<D: Disk, H: AuthHandler, G: RelaySockets>(
         &self,
         server: &mut Server<D, H, G, A>,
         work: &mut Work<A>,
-        ready: &mut Ready<A>,
-        token: usize,
-        taken: &mut Taken,
-    ) -> Result<(), TurnError>
-        requires { now_of server.old ≤ self.now.moment }
-        ensures served { Served D.Disk H.AuthHandler G.RelayAddressGenerator (At self.now.moment) server.old server.new }
-        ensures clock { now_of server.new ≤ self.now.moment }
-    {
-        if ready.has(token) && !self.serve(server, work, token, taken)? {
-            ready.remove(token);
-        }
-        Ok(())
-    }
-
-    /// Takes up to `burst` datagrams of each socket of an order that is listed, and removes those that have no more.
-    pub(crate) fn take_all<D: Disk, H: AuthHandler, G: RelaySockets>(
-        &self,
-        server: &mut Server<D, H, G, A>,
-        work: &mut Work<A>,
-        order: &Order<A>,
-        ready: &mut Ready<A>,
+        schedule: &mut Schedule<A>,
     ) -> Result<Taken, TurnError>
         requires { now_of server.old ≤ self.now.moment }
         ensures served { Served D.Disk H.AuthHandler G.RelayAddressGenerator (At self.now.moment) server.old server.new }
         ensures clock { now_of server.new ≤ self.now.moment }
+        ensures order { OnOk result (KeepsOrder D.Disk H.AuthHandler G.RelayAddressGenerator (At self.now.moment)
+            server.old work.old.backlog server.new work.new.backlog) }
+        ensures round { OnOk result (IsRound (reads_of self.now.manner) schedule.old schedule.new) }
     {
         let mut taken = Taken::NOTHING;
-        for place in 0..order.len() {
-            self.serve_listed(server, work, ready, order.at(place), &mut taken)?;
+        while let Some(token) = schedule.next() {
+            if self.visit(server, work, token, &mut taken)? {
+                schedule.put_back(token)?;
+            }
         }
         Ok(taken)
     }

@@ -1,6 +1,7 @@
 //! Who sees what a server sends.
 
 use std::alloc::Allocator;
+use std::time::Duration;
 use turn_step::Outgoing;
 use turn_table::Table;
 use turn_types::Moment;
@@ -13,6 +14,12 @@ pub trait Watch {
 
     /// These were handed out by a commit and sent, in this order. The moment is that of the last arrival.
     fn sent<A: Allocator + Copy>(&self, moment: Moment, table: &Table<A>, outgoing: &[Outgoing<A>]);
+
+    /// A client's datagram was dropped at this moment, since nothing more may wait for a commit.
+    fn shed(&self, moment: Moment);
+
+    /// A commit of requests took so long. The moment is that of the last arrival.
+    fn committed(&self, moment: Moment, took: Duration);
 }
 
 /// Sees nothing.
@@ -28,4 +35,8 @@ impl Watch for Silent {
         _table: &Table<A>,
         _outgoing: &[Outgoing<A>],
     ) {}
+
+    fn shed(&self, _moment: Moment) {}
+
+    fn committed(&self, _moment: Moment, _took: Duration) {}
 }

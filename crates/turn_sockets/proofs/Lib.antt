@@ -1,5 +1,7 @@
 pub mod Addresses
 pub mod Among
+pub mod Fair
 pub mod Finding
 pub mod Listened
-pub mod Served
+pub mod Listing
+pub mod Waiting

@@ -1,7 +1,8 @@
 pub mod Addresses
+pub mod Backlog
+pub mod Fairness
 pub mod Moments
-pub mod Order
 pub mod Own
 pub mod Pace
 pub mod Ports
-pub mod Tokens
+pub mod Schedule

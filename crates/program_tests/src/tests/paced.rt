@@ -1,15 +1,16 @@
-//! When requests are committed while data comes: by a clock that the tests set.
+//! When requests are committed while data comes, and what waits behind them: by a clock that the tests set.
 
-use super::sockets::{HOME, tell};
+use super::sockets::{BINDING, HOME, tell};
 use super::turns::{PORTS, Talk, begin_so};
 use std::cell::Cell;
 use std::io;
 use std::rt::Clock;
 use std::test::Fail;
 use std::time::Duration;
-use turn_client::ClientError;
+use turn_client::{ClientError, TimedSocket};
+use turn_requests::Attribute;
 use turn_serving::Commits;
-use turn_types::Method;
+use turn_types::{Endpoint, Method};
 
 /// A clock that stands still but for each reading of it, which takes it on by some milliseconds: a commit is timed by two readings.
 #[derive(Drop)]
@@ -38,98 +39,154 @@ impl Ticking {
     }
 }
 
-/// What the client got: how many successes of Refreshes, and how many Data indications.
-fn receive_all(talk: &mut Talk<'_>) -> (u8, u8) {
-    let (mut refreshes, mut data) = (0u8, 0u8);
-    for _ in 0..16u8 {
+/// What the client got: how many successes of Refreshes, Data indications, and successes of Bindings.
+fn receive_all(talk: &mut Talk<'_>) -> (u8, u8, u8) {
+    let (mut refreshes, mut data, mut bindings) = (0u8, 0u8, 0u8);
+    for _ in 0..80u8 {
         match talk.client().receive() {
             Ok([1, 4, ..]) => refreshes = refreshes.wrapping_add(1),
             Ok([0, 0x17, ..]) => data = data.wrapping_add(1),
-            Ok(_) => return (0xFF, 0xFF),
-            Err(_) => return (refreshes, data),
+            Ok([1, 1, ..]) => bindings = bindings.wrapping_add(1),
+            Ok(_) => return (0xFF, 0xFF, 0xFF),
+            Err(_) => return (refreshes, data, bindings),
         }
     }
-    (refreshes, data)
+    (refreshes, data, bindings)
 }
 
-/// What is sent before a turn, at which time in milliseconds, how long a commit takes, and what the client has got after the turn.
+/// What is sent before some turns; at which time in milliseconds the turns are, how long a commit takes, and how many turns there are.
 struct Row {
+    /// How many Refreshes the client sends.
     refreshes: u8,
+    /// Whether its peer sends data.
     data: bool,
+    /// Whether the client sends a Binding after its Refreshes.
+    binding: bool,
+    /// Whether another client sends a Binding.
+    other: bool,
     at: u64,
     commit: u64,
-    got: (u8, u8),
+    turns: u8,
+    /// What the client has got after the turns: Refreshes, data and Bindings.
+    got: (u8, u8, u8),
 }
 
+/// A turn before which nothing is sent.
+const ROW: Row = Row {
+    refreshes: 0,
+    data: false,
+    binding: false,
+    other: false,
+    at: 0,
+    commit: 0,
+    turns: 1,
+    got: (0, 0, 0),
+};
+
 /// A lone request is answered at once, and so is the next one while no data comes. Once data came, a request waits for 40 ms after
-/// a commit of 10, and data doesn't. Four requests, which are as many as a batch of the server has, don't wait.
-const ROWS: [Row; 9] = [
+/// a commit of 10, and so does what the client sends after it, but neither data nor other clients. Once the pause is over up to
+/// four requests, a batch of this server, are committed, and the next ones in the next turn. Of 70 requests of a client 64 may wait:
+/// the others are dropped, and data isn't.
+const ROWS: [Row; 12] = [
     Row {
         refreshes: 1,
-        data: false,
         at: 1_000,
         commit: 10,
-        got: (1, 0),
+        got: (1, 0, 0),
+        ..ROW
     },
     Row {
         refreshes: 1,
-        data: false,
         at: 1_011,
         commit: 10,
-        got: (1, 0),
+        got: (1, 0, 0),
+        ..ROW
     },
     Row {
-        refreshes: 0,
         data: true,
         at: 1_022,
-        commit: 0,
-        got: (0, 1),
+        got: (0, 1, 0),
+        ..ROW
     },
     Row {
         refreshes: 1,
-        data: false,
+        binding: true,
         at: 1_023,
-        commit: 0,
-        got: (0, 0),
+        ..ROW
     },
     Row {
         refreshes: 1,
         data: true,
+        other: true,
         at: 1_060,
-        commit: 0,
-        got: (0, 1),
+        got: (0, 1, 0),
+        ..ROW
     },
     Row {
-        refreshes: 0,
-        data: false,
         at: 1_061,
         commit: 10,
-        got: (2, 0),
+        got: (2, 0, 1),
+        ..ROW
     },
     Row {
-        refreshes: 0,
         data: true,
         at: 1_072,
-        commit: 0,
-        got: (0, 1),
+        got: (0, 1, 0),
+        ..ROW
     },
     Row {
-        refreshes: 3,
-        data: false,
-        at: 1_073,
-        commit: 0,
-        got: (0, 0),
-    },
-    Row {
-        refreshes: 1,
+        refreshes: 5,
         data: true,
-        at: 1_074,
-        commit: 0,
-        got: (4, 1),
+        at: 1_110,
+        got: (0, 1, 0),
+        ..ROW
+    },
+    Row {
+        at: 1_200,
+        commit: 10,
+        got: (4, 0, 0),
+        ..ROW
+    },
+    Row {
+        data: true,
+        at: 1_240,
+        commit: 10,
+        got: (0, 1, 0),
+        ..ROW
+    },
+    Row {
+        refreshes: 69,
+        data: true,
+        other: true,
+        at: 1_245,
+        got: (0, 1, 0),
+        ..ROW
+    },
+    Row {
+        at: 1_400,
+        turns: 16,
+        got: (64, 0, 0),
+        ..ROW
     },
 ];
 
-/// Sends what a row says, takes a turn, and compares what the client got.
+/// The client and its peer send what a row says.
+fn send(rt: &HostRuntime, talk: &mut Talk<'_>, port: u16, row: &Row) -> Result<(), Fail> {
+    for _ in 0..row.refreshes {
+        let request = talk.client().request(Method::REFRESH, &[])?;
+        talk.client().send(&request)?;
+    }
+    if row.binding {
+        let request = talk.client().plain_request(Method::BINDING)?;
+        talk.client().send(&request)?;
+    }
+    if row.data {
+        tell(rt, HOME, port, 3, 1)?;
+    }
+    Ok(())
+}
+
+/// Sends what a row says, takes its turns, and compares what the clients got.
 fn is_row(
     rt: &HostRuntime,
     talk: &mut Talk<'_>,
@@ -137,16 +194,17 @@ fn is_row(
     port: u16,
     row: &Row,
 ) -> Result<bool, Fail> {
-    for _ in 0..row.refreshes {
-        let request = talk.client().request(Method::REFRESH, &[])?;
-        talk.client().send(&request)?;
-    }
-    if row.data {
-        tell(rt, HOME, port, 3, 1)?;
+    send(rt, talk, port, row)?;
+    let mut other = TimedSocket::open(rt.alloc(), rt, Endpoint { ip: HOME, port: 0 })?;
+    if row.other {
+        other.send(talk.server(), BINDING)?;
     }
     clock.set(row.at, row.commit);
-    talk.turn(clock)?;
-    Ok(receive_all(talk) == row.got)
+    for _ in 0..row.turns {
+        talk.turn(clock)?;
+    }
+    let is_answered = !row.other || matches!(other.receive(), Ok(([1, 1, ..], _)));
+    Ok(is_answered && receive_all(talk) == row.got)
 }
 
 /// An allocation with a permission, each of its requests answered in its turn.
@@ -173,8 +231,79 @@ fn play(rt: &HostRuntime, talk: &mut Talk<'_>) -> Result<(), Fail> {
 
 #[test]
 fn requests_wait_for_the_end_of_a_pause_and_data_does_not(rt: HostRuntime) -> Result<(), Fail> {
-    let mut talk = begin_so(&rt, 0, PORTS, 8, Commits::Paced)??;
+    let mut talk = begin_so(&rt, 0, PORTS, 64, Commits::Paced)??;
     let played = play(&rt, &mut talk);
     talk.end();
     played
+}
+
+/// What a client sends right after a request, without waiting for its answer.
+#[derive(Clone, Copy)]
+enum Next {
+    /// A Send indication after the CreatePermission for its peer.
+    Indication,
+    /// Data over a channel after the ChannelBind.
+    OverChannel,
+}
+
+/// The channel.
+const CHANNEL: u16 = 0x4000;
+
+/// Each is sent over a server with no permission of the client, in one turn with the request before it.
+const NEXT: [Next; 2] = [Next::Indication, Next::OverChannel];
+
+/// What the peer gets of data that is sent in one turn with the request that allows it.
+fn send_next(
+    talk: &mut Talk<'_>,
+    clock: &Ticking,
+    port: u16,
+    next: Next,
+) -> Result<Vec<u8>, ClientError> {
+    let peer = talk.peer();
+    match next {
+        Next::Indication => {
+            let attributes = [Attribute::Peer(peer)];
+            let request = talk
+                .client()
+                .request(Method::CREATE_PERMISSION, &attributes)?;
+            talk.client().send(&request)?;
+            talk.send(clock, port, b"data")
+        }
+        Next::OverChannel => {
+            let attributes = [Attribute::Channel(CHANNEL), Attribute::Peer(peer)];
+            let request = talk.client().request(Method::CHANNEL_BIND, &attributes)?;
+            talk.client().send(&request)?;
+            talk.send_over(clock, CHANNEL, port, b"data")
+        }
+    }
+}
+
+fn play_next(talk: &mut Talk<'_>, next: Next) -> Result<(), Fail> {
+    let clock = Ticking {
+        millis: Cell::new(0),
+        tick: Cell::new(0),
+    };
+    talk.challenge(&clock)?;
+    let port = talk.allocate(&clock)?.port;
+    let got = send_next(talk, &clock, port, next)?;
+    if got.as_slice() == b"data".as_slice() {
+        Ok(())
+    } else {
+        Err(Fail::new("other data"))
+    }
+}
+
+fn expect_next(rt: &HostRuntime, next: Next) -> Result<(), Fail> {
+    let mut talk = begin_so(rt, 0, PORTS, 8, Commits::Paced)??;
+    let played = play_next(&mut talk, next);
+    talk.end();
+    played
+}
+
+#[test]
+fn data_right_after_the_request_that_allows_it_is_relayed(rt: HostRuntime) -> Result<(), Fail> {
+    for next in NEXT {
+        expect_next(&rt, next)?;
+    }
+    Ok(())
 }

@@ -102,18 +102,18 @@ fn take_both(rt: &HostRuntime, talk: &mut Talk<'_>, port: u16) -> Result<bool, F
     Ok(receive_all(talk) == got(1, 1))
 }
 
-/// Of 20 datagrams of the client a turn takes one. The peer's comes in between, and is taken at the latest in the turn after
-/// the look that each sixteenth turn has.
+/// Of 20 datagrams of the client a turn takes one. The peer's comes in between, and is taken in the next turn.
 fn look(rt: &HostRuntime, talk: &mut Talk<'_>, port: u16) -> Result<bool, Fail> {
     ask(talk, 20)?;
     turns(rt, talk, 1)?;
     tell(rt, HOME, port, 3, 1)?;
-    turns(rt, talk, 17)?;
-    Ok(receive_all(talk) == got(18, 1))
+    turns(rt, talk, 1)?;
+    let first = receive_all(talk);
+    turns(rt, talk, 18)?;
+    Ok(first == got(2, 1) && receive_all(talk) == got(18, 0))
 }
 
-/// The client's Refreshes are answered one in each turn. A peer's datagram that comes before the second is taken at the latest in the
-/// third: behind a turn that wrote all sockets are looked at.
+/// The client's Refreshes are answered one in each turn. A peer's datagram that comes before the second is taken in it.
 fn look_after_writes(rt: &HostRuntime, talk: &mut Talk<'_>, port: u16) -> Result<bool, Fail> {
     for _ in 0..5u8 {
         let request = talk.client().request(Method::REFRESH, &[])?;
@@ -121,7 +121,7 @@ fn look_after_writes(rt: &HostRuntime, talk: &mut Talk<'_>, port: u16) -> Result
     }
     turns(rt, talk, 1)?;
     tell(rt, HOME, port, 3, 1)?;
-    turns(rt, talk, 2)?;
+    turns(rt, talk, 1)?;
     let received = receive_all(talk);
     Ok(received.data == 1)
 }
@@ -215,14 +215,16 @@ relay 127.0.0.1 63022 63029
 limits 2 1 1 1 8
 ";
 
-const BINDING: &[u8] =
+pub const BINDING: &[u8] =
     b"\x00\x01\x00\x00\x21\x12\xA4\x42\x01\x02\x03\x04\x05\x06\x07\x08\x09\x0A\x0B\x0C";
 
-/// A standard output that sends three Binding requests to a port when something is printed for the first time.
+/// A standard output that sends a datagram so many times to a port when something is printed for the first time.
 #[derive(Drop)]
 pub struct Caller<'a> {
     pub client: &'a TimedSocket,
     pub port: u16,
+    pub datagram: &'a [u8],
+    pub count: u8,
     pub called: bool,
     pub printed: Vec<u8>,
 }
@@ -231,7 +233,13 @@ impl Write for Caller<'_> {
     fn write(&mut self, buf: &[u8]) -> io::Result<usize> {
         if !self.called {
             self.called = true;
-            call(self.client, self.port);
+            let server = Endpoint {
+                ip: HOME,
+                port: self.port,
+            };
+            for _ in 0..self.count {
+                let _ = self.client.send(server, self.datagram);
+            }
         }
         self.printed.extend_from_slice(buf)?;
         Ok(buf.len())
@@ -239,13 +247,6 @@ impl Write for Caller<'_> {
 
     fn flush(&mut self) -> io::Result<()> {
         Ok(())
-    }
-}
-
-fn call(client: &TimedSocket, port: u16) {
-    let server = Endpoint { ip: HOME, port };
-    for _ in 0..3u8 {
-        let _ = client.send(server, BINDING);
     }
 }
 
@@ -266,6 +267,8 @@ fn serve(rt: &HostRuntime, client: &TimedSocket, turns: &str, burst: &str) -> Op
     let mut out = Caller {
         client,
         port: 63_021,
+        datagram: BINDING,
+        count: 3,
         called: false,
         printed: Vec::new(rt.alloc()),
     };

@@ -8,7 +8,7 @@ use turn_disk::Disk;
 use turn_serving::{Commits, Setup, SocketServing, StartError, Watch};
 use turn_sockets::ListeningAddresses;
 
-/// Starts a server as a configuration says. A turn takes one datagram of a socket.
+/// Starts a server as a configuration says. A visit of a socket reads one datagram.
 pub fn start<'a, D: Disk + Drop, C: Clock, W: Watch + Drop>(
     rt: &'a HostRuntime,
     configured: Configured<'_>,

@@ -24,9 +24,13 @@ relay 127.0.0.1 63150 63159
 limits 2 1 1 1 8
 ";
 
-/// An Allocate without attributes, which is kept until the end of the turn.
-const ALLOCATE: &[u8] =
+/// An Allocate without attributes. It can change nothing, and is answered at once.
+pub const PLAIN: &[u8] =
     b"\x00\x03\x00\x00\x21\x12\xA4\x42\x01\x02\x03\x04\x05\x06\x07\x08\x09\x0A\x0B\x0C";
+
+/// An Allocate with MESSAGE-INTEGRITY alone. It waits for a commit, and then its answer is an error.
+pub const SIGNED: &[u8] =
+    b"\x00\x03\x00\x18\x21\x12\xA4\x42\x01\x02\x03\x04\x05\x06\x07\x08\x09\x0A\x0B\x0C\x00\x08\x00\x14\x00\x00\x00\x00\x00\x00\x00\x00\x00\x00\x00\x00\x00\x00\x00\x00\x00\x00\x00\x00";
 
 /// A clock of which each reading is a second later.
 #[derive(Drop)]
@@ -46,10 +50,11 @@ impl Clock for Seconds {
     }
 }
 
-/// The second at which the table was seen last, and that of what was sent last.
+/// The second at which the table was seen last, that of what was sent last, and how often a commit of requests that waited was told.
 #[derive(Drop)]
 struct Seen {
     table: Cell<u64>,
+    commits: Cell<u8>,
     sent: Cell<u64>,
 }
 
@@ -68,9 +73,16 @@ impl<'s> Watch for &'s Seen {
             self.sent.set(moment.seconds());
         }
     }
+
+    fn shed(&self, _moment: Moment) {}
+
+    fn committed(&self, _moment: Moment, _took: Duration) {
+        self.commits.set(self.commits.get().wrapping_add(1));
+    }
 }
 
-fn new_disk(rt: &HostRuntime, config: &Configured<'_>) -> Result<MemoryDisk, Fail> {
+/// A new store in memory, with the limits of a configuration.
+pub fn new_disk(rt: &HostRuntime, config: &Configured<'_>) -> Result<MemoryDisk, Fail> {
     let limits = config.config.limits();
     let area = least_area(limits);
     let mut disk = MemoryDisk::new(rt.alloc(), Vec::from_elem(rt.alloc(), 0u8, 64 + 2 * area)?);
@@ -80,8 +92,8 @@ fn new_disk(rt: &HostRuntime, config: &Configured<'_>) -> Result<MemoryDisk, Fai
     Ok(disk)
 }
 
-/// A client's Allocate, and the turn that answers it.
-fn play(rt: &HostRuntime, seen: &Seen) -> Result<(), Fail> {
+/// A client's datagram, and the turn that answers it.
+fn play(rt: &HostRuntime, seen: &Seen, datagram: &[u8]) -> Result<(), Fail> {
     let clock = Seconds {
         next: Cell::new(1_000),
     };
@@ -89,7 +101,7 @@ fn play(rt: &HostRuntime, seen: &Seen) -> Result<(), Fail> {
     let disk = new_disk(rt, &configured)?;
     let mut serving = start(rt, configured, Commits::Paced, &clock, disk, seen)?;
     let client = TimedSocket::open(rt.alloc(), rt, Endpoint { ip: HOME, port: 0 })?;
-    let sent = client.send(serving.local(), ALLOCATE);
+    let sent = client.send(serving.local(), datagram);
     let turned = serving.turns(&&clock, 1);
     serving.close();
     sent?;
@@ -97,14 +109,30 @@ fn play(rt: &HostRuntime, seen: &Seen) -> Result<(), Fail> {
     Ok(())
 }
 
-#[test]
-fn the_table_is_seen_at_the_moment_of_a_kept_request(rt: HostRuntime) -> Result<(), Fail> {
+/// A datagram, the second at which it is submitted, and how many commits of requests that waited the turn has. What waits is
+/// submitted when the clock is read for the second time.
+const ROWS: [(&[u8], u64, u8); 2] = [(PLAIN, 1_000, 0), (SIGNED, 1_001, 1)];
+
+fn expect(rt: &HostRuntime, row: &(&[u8], u64, u8)) -> Result<(), Fail> {
+    let (datagram, second, commits) = *row;
     let seen = Seen {
         table: Cell::new(0),
+        commits: Cell::new(0),
         sent: Cell::new(0),
     };
-    play(&rt, &seen)?;
-    assert!(rt; 1_000 < seen.sent.get());
-    assert!(rt; seen.table.get() == seen.sent.get());
+    play(rt, &seen, datagram)?;
+    let (table, sent) = (seen.table.get(), seen.sent.get());
+    if table == second && sent == second && seen.commits.get() == commits {
+        Ok(())
+    } else {
+        Err(Fail::new(format_args!("seen at {table}, sent at {sent}")))
+    }
+}
+
+#[test]
+fn the_table_is_seen_at_the_moment_of_a_request(rt: HostRuntime) -> Result<(), Fail> {
+    for row in &ROWS {
+        expect(&rt, row)?;
+    }
     Ok(())
 }

@@ -1,4 +1,4 @@
-use Rattle.turn_serving.proofs.Requests.{others}
+use Rattle.turn_serving.proofs.Others.{others}
 use Rattle.turn_serving.proofs.laws.others_change_nothing.Goals as goal
 
 pub returns : goal.returns

@@ -1,13 +1,15 @@
-use Rattle.std.proofs.Common.{rules, subst, sym}
+use Rattle.std.proofs.Common.{ap, subst, sym}
+use Rattle.std.proofs.lemmas.Result.{on_ok_weaker}
 use Rattle.turn_sockets.specs.Moments.{IsMoment}
-use Rattle.turn_serving.proofs.Turns.{at_told, from, then}
+use Rattle.turn_serving.proofs.Order.{order_from, told_order}
+use Rattle.turn_serving.proofs.Turns.{at_told, from}
 use Rattle.turn_serving.proofs.serving.Serving.submit_waiting.Goals as goal
 
-pub submit_kept-requires : goal.submit_kept-requires
-submit_kept-requires g c = search rules
+pub returns-clause-served : goal.returns-clause-served
+returns-clause-served g c = at_told (subst (IsMoment _ _) (sym c.begin-turn.ensures.at) c.in_ok-moment.ensures.is_one) (from (ap (λ s. s.server) c.self.view_is) c.submit_waiting.ensures.served)
 
-pub returns-in_err-submit_kept : goal.returns-in_err-submit_kept
-returns-in_err-submit_kept g c = at_told (subst (IsMoment _ _) (sym c.begin-turn.ensures) c.in_ok-moment.ensures.is_one) (from c.self.view_is c.submit_kept.ensures.served)
-
-pub returns : goal.returns
-returns g c = then (at_told (subst (IsMoment _ _) (sym c.begin-turn.ensures) c.in_ok-moment.ensures.is_one) (from c.self.view_is c.submit_kept.ensures.served)) c.take_late.ensures
+pub returns-clause-order : goal.returns-clause-order
+returns-clause-order g c =
+    on_ok_weaker c.submit_waiting.result
+    (λ kept. told_order (subst (IsMoment _ _) (sym c.begin-turn.ensures.at) c.in_ok-moment.ensures.is_one) (order_from (ap (λ s. s.server) c.self.view_is) (ap (λ s. s.backlog) c.self.view_is) kept))
+    c.submit_waiting.ensures.order

@@ -28,22 +28,22 @@ returns-then-not-holds_ports-clause-stop_err g c =
 
 pub returns-clause-started : goal.returns-clause-started
 returns-clause-started g c =
-    started_as c.new.ensures
-    (started g.D.Disk g.H.AuthHandler _ _ _ _ _ _ _ _ _ c.in-Ok.ensures.kept c.in-Ok.ensures.handler c.in-Ok-bind_beside.ensures c.in-Ok-open.ensures.opens _ c.in-Ok.ensures.version _ c.is_first-carry.ensures
+    started_as c.new.ensures.server
+    (started g.D.Disk g.H.AuthHandler _ _ _ _ _ _ _ _ _ c.in-Ok.ensures.kept c.in-Ok.ensures.handler c.in-Ok-bind_beside.ensures.range c.in-Ok-open.ensures.opens _ c.in-Ok.ensures.version _ c.is_first-carry.ensures
     c.in-Ok-open.ensures.carried)
 
 pub returns-clause-sockets : goal.returns-clause-sockets
-returns-clause-sockets g c = rw c.new.ensures (all_pass _ c.in-Ok-open.server.machine.table.contents (c.holds_ports.ensures.0 search))
+returns-clause-sockets g c = rw c.new.ensures.server (all_pass _ c.in-Ok-open.server.machine.table.contents (c.holds_ports.ensures.0 search))
 
 pub returns-clause-held : goal.returns-clause-held
-returns-clause-held g c = rw c.new.ensures (c.holds_ports.ensures.0 search)
+returns-clause-held g c = rw c.new.ensures.server (c.holds_ports.ensures.0 search)
 
 pub returns-clause-same : goal.returns-clause-same
 returns-clause-same g c crash_model later =
-    let now = subst (λ s. g.D.Disk.follows_crash_model s.store.disk) c.new.ensures crash_model in
+    let now = subst (λ s. g.D.Disk.follows_crash_model s.store.disk) c.new.ensures.server crash_model in
     let unasked = c.is_first-carry.ensures ∙ not_first _ _ (c.in-Ok.ensures.version (c.in-Ok-open.ensures.opens.uses.crash_model now)) later in
-    ap (λ s. (g.D.Disk.trace s.store.disk).now.bytes) c.new.ensures ∙ (both_kept g.D.Disk c.in-Ok.ensures.kept (c.in-Ok-open.ensures.kept unasked)).content now
+    ap (λ s. (g.D.Disk.trace s.store.disk).now.bytes) c.new.ensures.server ∙ (both_kept g.D.Disk c.in-Ok.ensures.kept (c.in-Ok-open.ensures.kept unasked)).content now
 
 pub returns-clause-stop : goal.returns-clause-stop
 returns-clause-stop g c =
-    (subst (λ s. KeepsImages g.D.Disk c.args.disk s.store.disk) (sym c.new.ensures) (joined g.D.Disk c.in-Ok.ensures.kept.images (opened_images g.D.Disk c.in-Ok-open.ensures.opens))).stop
+    (subst (λ s. KeepsImages g.D.Disk c.args.disk s.store.disk) (sym c.new.ensures.server) (joined g.D.Disk c.in-Ok.ensures.kept.images (opened_images g.D.Disk c.in-Ok-open.ensures.opens))).stop

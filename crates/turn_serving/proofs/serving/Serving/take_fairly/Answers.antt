@@ -1,0 +1,12 @@
+use Rattle.std.proofs.Common.{subst}
+use Rattle.std.proofs.lemmas.Result.{on_ok_weaker}
+use Rattle.turn_serving.specs.Manner.{reads_of}
+use Rattle.turn_serving.specs.Serving.{TakesRounds}
+use Rattle.turn_serving.proofs.Rounds.{looked_round}
+use Rattle.turn_serving.proofs.serving.Serving.take_fairly.Goals as goal
+
+pub returns-clause-rounds : goal.returns-clause-rounds
+returns-clause-rounds g c =
+    on_ok_weaker c.take_round.result
+    (λ round. subst (λ s. TakesRounds (reads_of s.manner) 1 s.agenda c.take_round.new.self.agenda) c.self.view_is (looked_round c.in_ok-look.ensures.0 c.in_ok-look.ensures.1 c.begin.ensures round))
+    c.take_round.ensures.round

@@ -1,0 +1,14 @@
+use Rattle.turn_serving.proofs.Order.{takes_none, takes_of_peer}
+use Rattle.turn_serving.proofs.turn.Turn.take_of_peer.Goals as goal
+
+pub returns-in_default-clause-takes : goal.returns-in_default-clause-takes
+returns-in_default-clause-takes g c = takes_none _ _
+
+pub returns-in-Failed-clause-takes : goal.returns-in-Failed-clause-takes
+returns-in-Failed-clause-takes g c = takes_none _ _
+
+pub returns-in-Nothing-clause-takes : goal.returns-in-Nothing-clause-takes
+returns-in-Nothing-clause-takes g c = takes_none _ _
+
+pub returns-clause-takes : goal.returns-clause-takes
+returns-clause-takes g c = takes_of_peer _ c.in_ok-submit.ensures.once

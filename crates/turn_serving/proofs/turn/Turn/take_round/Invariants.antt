@@ -1,0 +1,17 @@
+use Rattle.std.proofs.Common.{◌+◌, ◌≤◌, List, length}
+use Rattle.turn_engine.specs.State.{now_of}
+use Rattle.turn_sockets.specs.Fairness.{AreVisits, Visit}
+use Rattle.turn_serving.specs.Manner.{reads_of}
+use Rattle.turn_serving.specs.Turns.{At, KeepsOrder, Served}
+use Rattle.turn_serving.proofs.turn.Turn.take_round.Given as goal
+
+abbrev pub invariant-loop-token : goal.invariant-loop-token
+invariant-loop-token g l = record {
+  served : Served g.D.Disk g.H.AuthHandler g.G.RelayAddressGenerator (At l.self.moment) l.fn.server l.server;
+  in_time : now_of l.server ≤ l.self.moment;
+  order : KeepsOrder g.D.Disk g.H.AuthHandler g.G.RelayAddressGenerator (At l.self.moment) l.fn.server l.fn.work.backlog l.server l.work.backlog;
+  visits : (visits : List Visit) × AreVisits (reads_of l.self.manner) l.fn.schedule visits l.schedule;
+}
+
+abbrev pub decreases-loop-token : goal.decreases-loop-token
+decreases-loop-token g l = length l.schedule.fresh + l.schedule.left

@@ -1,0 +1,12 @@
+use Rattle.std.proofs.Common.{◌≤◌}
+use Rattle.turn_engine.specs.State.{now_of}
+use Rattle.turn_serving.specs.Turns.{At, TakesAtMost, Served}
+use Rattle.turn_serving.proofs.turn.Turn.visit.Given as goal
+
+abbrev pub invariant-loop-read : goal.invariant-loop-read
+invariant-loop-read g l = record {
+  served : Served g.D.Disk g.H.AuthHandler g.G.RelayAddressGenerator (At l.self.moment) l.fn.server l.server;
+  in_time : now_of l.server ≤ l.self.moment;
+  within : l._read ≤ l._read-end;
+  takes : TakesAtMost g.D.Disk g.H.AuthHandler g.G.RelayAddressGenerator l._read (At l.self.moment) l.fn.server l.fn.work.backlog l.server l.work.backlog;
+}

@@ -1,6 +1,0 @@
-use Rattle.std.proofs.Common.{arith}
-use Rattle.std.proofs.lemmas.Grind.{common_steps}
-use Rattle.turn_sockets.proofs.ready.Ready.add_all.Goals as goal
-
-pub loop-event-preserved : goal.loop-event-preserved
-loop-event-preserved g c = grind (arith, common_steps)
