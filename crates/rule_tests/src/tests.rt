@@ -6,7 +6,6 @@ mod full_tables;
 mod judged;
 mod peers_data;
 mod player;
-mod references;
 mod refused_growths;
 mod released_ports;
 mod reservations;

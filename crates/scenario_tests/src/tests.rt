@@ -3,14 +3,9 @@ mod blanks;
 mod carrying;
 mod configurations;
 mod events;
-mod examples;
 mod expects;
-mod failing;
 mod memory;
-mod messages;
 mod players;
-mod reservations;
-mod rounds;
 mod settings;
 
 use std::alloc::Global;
@@ -29,12 +24,6 @@ quota 2
 deny 203.0.113.9 203.0.113.9
 limits 2 1 1 1 8
 ";
-
-/// The settings without their last line, the limits.
-fn without_limits(rt: &impl Abort) -> &'static str {
-    let end = SETTINGS.len().wrapping_sub(17);
-    SETTINGS.get(..end).expect(rt, "settings without limits")
-}
 
 /// Texts, one after the other.
 fn joined(rt: &impl Abort, alloc: Global, parts: &[&str]) -> String {

@@ -1,7 +1,7 @@
 //! The texts, in the order in which they are replayed.
 
 /// The names of the files in `data`, without `.txt`.
-pub const NAMES: [&str; 101] = [
+pub const NAMES: [&str; 110] = [
     "example_kept",
     "example_lost",
     "rounds",
@@ -20,6 +20,7 @@ pub const NAMES: [&str; 101] = [
     "permissions_after_a_crash",
     "earlier_permissions",
     "nonces",
+    "nonces_after_openings",
     "credentials",
     "names_that_expire",
     "forms_of_names_that_expire",
@@ -41,6 +42,7 @@ pub const NAMES: [&str; 101] = [
     "batches",
     "not_committed",
     "closed_and_stopped",
+    "stops_and_failures_until_a_crash",
     "device_calls",
     "room_for_a_frame",
     "room_for_a_frame_but_one_byte",
@@ -64,6 +66,7 @@ pub const NAMES: [&str; 101] = [
     "stops_of_pieces",
     "stops_of_later_pieces",
     "failures_of_a_commit",
+    "failures_of_a_second_commit",
     "failures_and_crashes_of_a_commit",
     "failures_of_a_compaction",
     "failures_of_a_compaction_call_5",
@@ -73,10 +76,14 @@ pub const NAMES: [&str; 101] = [
     "stops_of_an_opening_after_a_compaction",
     "stops_of_the_reads_of_an_opening",
     "two_hundred_rounds",
+    "eighty_rounds_in_another_order",
     "small_area",
     "defaults",
     "defaults_small_area",
     "forms",
+    "datagrams_as_they_are_shown",
+    "tables_as_they_are_shown",
+    "expected_after_later_lines",
     "pairs",
     "reservations_run_out",
     "reservations_outlive_allocations",
@@ -103,4 +110,6 @@ pub const NAMES: [&str; 101] = [
     "bad_second_format",
     "no_format",
     "bad_token",
+    "bad_token_of_a_failed_commit",
+    "bad_token_of_version_1",
 ];

@@ -12,13 +12,13 @@ use turn_ports::PortSet;
 use turn_table::{Entry, EntryParts, Table, above_the_last, above_the_last_reserved};
 use turn_types::{Endpoint, FiveTuple, Limits, Token, TxId};
 
-pub const SERVER: Endpoint = Endpoint {
+const SERVER: Endpoint = Endpoint {
     ip: 0xC000_0264,
     port: 3478,
 };
 
 /// The IPv4 address of the peers.
-pub const PEER_IP: u32 = 0xCB00_7105;
+const PEER_IP: u32 = 0xCB00_7105;
 
 /// The five-tuple of a client's port at 192.0.2.1.
 pub fn tuple(client: u16) -> FiveTuple {
@@ -31,7 +31,7 @@ pub fn tuple(client: u16) -> FiveTuple {
     }
 }
 
-pub fn peer(port: u16) -> Endpoint {
+fn peer(port: u16) -> Endpoint {
     Endpoint { ip: PEER_IP, port }
 }
 
@@ -49,7 +49,7 @@ pub enum Step {
 }
 
 /// The token for the port after an even one.
-pub fn token_after(even: u16) -> Token {
+fn token_after(even: u16) -> Token {
     let [high, low] = even.wrapping_add(1).to_be_bytes();
     Token([high, low, 1, 2, 3, 4, 5, 6])
 }

@@ -1,6 +1,6 @@
 //! Configuration lines, and `format`.
 
-use super::{expect, expect_each, expect_rows, repeated, without_limits};
+use super::{expect, expect_each, expect_rows, repeated};
 use std::alloc::Global;
 use std::process::Abort;
 
@@ -201,7 +201,7 @@ fn a_missing_setting_makes_format_a_bad_line(rt: HostRuntime) {
     expect_each(&rt, rt.alloc(), "", &MISSING, "line 5: bad line\n");
 }
 
-const FORMATS: [(&str, &str); 25] = [
+const FORMATS: [(&str, &str); 24] = [
     ("format1 238", "opened clock 0\n"),
     ("\n\nformat1 00000000000000000238\n", "opened clock 0\n"),
     ("format 4096", "opened clock 0\n"),
@@ -226,29 +226,9 @@ const FORMATS: [(&str, &str); 25] = [
     ("format 1 304", "line 10: bad line\n"),
     ("format 304\nformat1 238", "line 11: bad line\n"),
     ("format1 238\nformat 304", "line 11: bad line\n"),
-    (
-        "format1 237\nreopen\ntable\ncommit\nraw 192.0.2.1:5 -\npeer 50000 192.0.2.1:5 -\ncrash kept\nfail 1\nreopen",
-        "area too small 238\nnot a store\nclosed\nclosed\nclosed\nclosed\nnot a store\ndevice\n",
-    ),
 ];
 
 #[test]
 fn format_opens_a_store_or_says_why_not(rt: HostRuntime) {
     expect_rows(&rt, rt.alloc(), &FORMATS);
-}
-
-/// The min area of the max limits has 1,544,037 bytes, in version 1 1,515,873, and that of the settings 304 and 238.
-const AREAS: [(&[u8], &str); 4] = [
-    (b"format 1544036", "area too small 1544037\n"),
-    (b"format 1544037", "opened clock 0\n"),
-    (b"format1 1515872", "area too small 1515873\n"),
-    (b"format1 1515873", "opened clock 0\n"),
-];
-
-#[test]
-fn the_limits_are_the_max_ones_if_none_are_set(rt: HostRuntime) {
-    let settings = without_limits(&rt);
-    for (line, outcome) in &AREAS {
-        expect(&rt, rt.alloc(), settings, line, outcome);
-    }
 }

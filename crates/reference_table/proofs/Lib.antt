@@ -1,4 +1,0 @@
-pub mod Maps
-pub mod Raw
-pub mod ReservedPorts
-pub mod Tables
