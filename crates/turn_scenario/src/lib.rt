@@ -14,6 +14,7 @@ mod table_lines;
 
 pub use error::ScenarioError;
 pub use events::event_text;
+pub use line::{Ask, Line, PeerLine, read_line};
 pub use report::Report;
 pub use scenario::replay;
 pub use table_lines::put_table;

@@ -1,44 +1,80 @@
 //! The lines after `format` or `format1`.
 
+use crate::attributes::attributes;
+use std::alloc::{AllocError, Allocator};
 use turn_config::values::{endpoint, moment, ordinal, port, split_once};
 use turn_disk::CrashOutcome;
-use turn_types::{Endpoint, Method, Moment, TxId};
+use turn_requests::Attribute;
+use turn_types::{Endpoint, Method, Moment, Token, TxId};
 
 /// What an `ask` line says.
 #[derive(Clone, Copy)]
-pub(crate) struct Ask<'a> {
-    pub(crate) client: Endpoint,
-    pub(crate) user: &'a [u8],
-    pub(crate) tx: TxId,
-    pub(crate) method: Method,
+pub struct Ask<'a> {
+    /// The client's address.
+    pub client: Endpoint,
+    /// The user's name.
+    pub user: &'a [u8],
+    /// The transaction id.
+    pub tx: TxId,
+    /// What is asked for.
+    pub method: Method,
     /// The attributes' words, if there are any.
-    pub(crate) attributes: Option<&'a [u8]>,
+    pub attributes: Option<&'a [u8]>,
+}
+
+impl Ask<'_> {
+    /// The attributes, or `None` if a word is no attribute. The last token that was reported is passed.
+    pub fn read_attributes<A: Allocator>(
+        &self,
+        alloc: A,
+        reported: Option<Token>,
+    ) -> Result<Option<Vec<Attribute, A>>, AllocError> {
+        match self.attributes {
+            Some(words) => attributes(alloc, words, reported),
+            None => Ok(Some(Vec::new(alloc))),
+        }
+    }
 }
 
 /// A datagram of a peer, at a relayed port.
 #[derive(Clone, Copy)]
-pub(crate) struct PeerLine<'a> {
-    pub(crate) port: u16,
-    pub(crate) from: Endpoint,
-    pub(crate) hex: &'a [u8],
+pub struct PeerLine<'a> {
+    /// The relayed port.
+    pub port: u16,
+    /// The peer's address.
+    pub from: Endpoint,
+    /// The datagram.
+    pub hex: &'a [u8],
 }
 
 /// A line after `format` or `format1`. What is written in hex is still text.
 #[derive(Clone, Copy)]
-pub(crate) enum Line<'a> {
+pub enum Line<'a> {
+    /// The moment of the lines after it.
     At(Moment),
+    /// The moment of the nonces of the requests after it.
     Nonce(Moment),
+    /// A datagram of a client.
     Raw(Endpoint, &'a [u8]),
+    /// A request of a client.
     Ask(Ask<'a>),
-    /// The client, the peer and the data.
+    /// A Send indication: the client, the peer and the data.
     Send(Endpoint, Endpoint, &'a [u8]),
+    /// A datagram of a peer.
     Peer(PeerLine<'a>),
+    /// A commit.
     Commit,
+    /// The device call of this number fails.
     Fail(u64),
+    /// The device call of this number fails, and so does each later one.
     Stop(u64),
+    /// A crash of the disk.
     Crash(CrashOutcome),
+    /// Another opening.
     Reopen,
+    /// The table is reported.
     Table,
+    /// The next line of the report.
     Expect(&'a [u8]),
 }
 
@@ -129,7 +165,7 @@ fn with_values<'a>(word: &[u8], text: &'a [u8]) -> Option<Line<'a>> {
 }
 
 /// What a line says, if it is well-formed.
-pub(crate) fn read_line(text: &[u8]) -> Option<Line<'_>> {
+pub fn read_line(text: &[u8]) -> Option<Line<'_>> {
     match text {
         b"commit" => Some(Line::Commit),
         b"reopen" => Some(Line::Reopen),

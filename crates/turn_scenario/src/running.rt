@@ -6,7 +6,6 @@ ghost use Rattle.turn_store.specs.Superblock.{least_area};
 ghost use Rattle.turn_store.specs.Images.{EachImage, StandsForAt};
 ghost use Rattle.turn_scenario.specs.Lived.{IsRefused, Lived, LivesOn};
 
-use crate::attributes::attributes;
 use crate::error::LineError;
 use crate::events::{event_text, event_token};
 use crate::line::{Ask, Line, PeerLine, read_line};
@@ -125,10 +124,9 @@ impl<'a, A: Allocator + Copy> Client<'a, A> {
     /// The datagram of an `ask` line at a moment.
     fn request(&self, alloc: A, ask: &Ask<'_>, moment: Moment) -> Result<Vec<u8, A>, LineError> {
         let key = self.key(ask.user)?;
-        let attributes = match ask.attributes {
-            Some(words) => attributes(alloc, words, self.token)?.ok_or(LineError::Bad)?,
-            None => Vec::new(alloc),
-        };
+        let attributes = ask
+            .read_attributes(alloc, self.token)?
+            .ok_or(LineError::Bad)?;
         let request = Request {
             method: ask.method,
             tx: ask.tx,

@@ -1,7 +1,9 @@
 pub mod Held
+pub mod Moments
 pub mod Named
 pub mod Order
 pub mod Others
 pub mod Rounds
 pub mod Starts
 pub mod Turns
+pub mod Wire

@@ -35,7 +35,7 @@ of_one f g bytes = by (is_same_tuple f g)
     by true = refl
     by false = refl
 
-submitted-append : {D H G : Type 0} (xs ys : List (ServerCall D H G)) → submitted_in (xs ++ ys) ≡ submitted_in xs ++ submitted_in ys
+pub submitted-append : {D H G : Type 0} (xs ys : List (ServerCall D H G)) → submitted_in (xs ++ ys) ≡ submitted_in xs ++ submitted_in ys
 submitted-append [] ys = refl
 submitted-append (Submit moment arrival result after ∷ xs) ys = ap (λ l. submitted_by arrival result ++ l) (submitted-append xs ys) ∙ sym (append_assoc (submitted_by arrival result) (submitted_in xs) (submitted_in ys))
 submitted-append (Commit result after ∷ xs) ys = submitted-append xs ys
@@ -52,7 +52,7 @@ of_calls-append f xs ys =
     ∙ ap (of_tuple f) (datagrams-append (submitted_in xs) (submitted_in ys))
     ∙ of_tuple-append f (datagrams_of (submitted_in xs)) (datagrams_of (submitted_in ys))
 
-none_submitted : {D H G : Type 0} (server : ServerState D H G) (steps : List (ServerCall D H G)) → AreAt Never server steps → submitted_in steps ≡ []
+pub none_submitted : {D H G : Type 0} (server : ServerState D H G) (steps : List (ServerCall D H G)) → AreAt Never server steps → submitted_in steps ≡ []
 none_submitted server [] at = refl
 none_submitted server (Submit moment arrival result after ∷ steps) at = absurd at.0
 none_submitted server (Commit result after ∷ steps) at = none_submitted after steps at
@@ -66,7 +66,7 @@ alone f g bytes b none = by (is_same_tuple f g) refl
     by false other = sym (append-nil (waiting_of b g))
 
 -- a submit that didn't find the batch full submits the arrival
-counted_once : (arrival : Arrives) (result : Result Unit SubmitError) → (result ≡ Err BatchFull → ⊥) → submitted_by arrival result ++ [] ≡ arrival ∷ []
+pub counted_once : (arrival : Arrives) (result : Result Unit SubmitError) → (result ≡ Err BatchFull → ⊥) → submitted_by arrival result ++ [] ≡ arrival ∷ []
 counted_once arrival (Ok done) other = refl
 counted_once arrival (Err Memory) other = refl
 counted_once arrival (Err Stopped) other = refl
@@ -107,7 +107,7 @@ module _ {D H G : Type 0} {disk : disks.Ghosts D} {handler : handlers.Ghosts H} 
   }
 
   -- calls at one moment, which was one by the clock before them
-  pub told_order : {told : ℕ → Type 0} {moment : ℕ} {old new : ServerState D H G} {waited waits : BacklogState} → IsMoment told (now_of old) moment → KeepsOrder disk handler ports (At moment) old waited new waits
+  unfoldable pub told_order : {told : ℕ → Type 0} {moment : ℕ} {old new : ServerState D H G} {waited waits : BacklogState} → IsMoment told (now_of old) moment → KeepsOrder disk handler ports (At moment) old waited new waits
       → KeepsOrder disk handler ports (IsMoment told) old waited new waits
   unfolding at_told
   told_order is kept = record { served = at_told is kept.served; received = kept.received; order = kept.order }
@@ -123,7 +123,7 @@ module _ {D H G : Type 0} {disk : disks.Ghosts D} {handler : handlers.Ghosts H} 
   }
 
   -- one that waited is submitted
-  pub waited_order : {moment : ℕ} {f : FiveTuple} {bytes : List ℕ} {old new : ServerState D H G} {waited waits : BacklogState} → IsSubmitted disk handler ports moment (FromClient f bytes) old new
+  unfoldable pub waited_order : {moment : ℕ} {f : FiveTuple} {bytes : List ℕ} {old new : ServerState D H G} {waited waits : BacklogState} → IsSubmitted disk handler ports moment (FromClient f bytes) old new
       → ((g : FiveTuple) → waiting_of waited g ≡ if_same f g bytes ++ waiting_of waits g) → KeepsOrder disk handler ports (At moment) old waited new waits
   waited_order {f = f} {bytes = bytes} {waited = waited} {waits = waits} is first = record {
     served = is.served;
@@ -171,7 +171,7 @@ module _ {D H G : Type 0} {disk : disks.Ghosts D} {handler : handlers.Ghosts H} 
   }
 
   -- a batch that was committed has room
-  has_room : {moment : ℕ} {arrival : Arrives} {old new : ServerState D H G} {result : Result Unit SubmitError} → Submits disk handler ports old new moment arrival result → old.arrivals ≡ 0 → result ≡ Err BatchFull → ⊥
+  pub has_room : {moment : ℕ} {arrival : Arrives} {old new : ServerState D H G} {result : Result Unit SubmitError} → Submits disk handler ports old new moment arrival result → old.arrivals ≡ 0 → result ≡ Err BatchFull → ⊥
   has_room call empty is = let full = (call.full.0 is).1 in let room = call.room in absurd (omega arith)
 
   -- an arrival that found the batch full is submitted again once it is committed

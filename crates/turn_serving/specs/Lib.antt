@@ -3,3 +3,4 @@ pub mod Requests
 pub mod Serving
 pub mod Starts
 pub mod Turns
+pub mod Wire

@@ -1,9 +1,10 @@
 //! The calls of a server in a turn: of `submit` and of `commit`.
 
-ghost use Rattle.std.specs.Prelude.{◌≡◌, ◌≤◌, OnOk, false};
+ghost use Rattle.std.specs.Prelude.{◌≡◌, ◌≤◌, IsOk, OnOk, false};
 ghost use Rattle.turn_engine.specs.State.{emptied, now_of};
 ghost use Rattle.turn_step.specs.Views.{arrival_of};
 ghost use Rattle.turn_serving.specs.Turns.{At, IsSubmitted, Never, Served};
+ghost use Rattle.turn_serving.specs.Wire.{Flushes, SubmitsOnWire, addresses_of};
 
 use crate::error::TurnError;
 use crate::listening::Listening;
@@ -15,6 +16,7 @@ use turn_cred::AuthHandler;
 use turn_disk::Disk;
 use turn_engine::{Server, SubmitError};
 use turn_ports::RelayAddressGenerator;
+use turn_sockets::SocketRecord;
 use turn_step::Arrival;
 use turn_types::Moment;
 
@@ -22,14 +24,17 @@ use turn_types::Moment;
 pub(crate) fn flush<D: Disk, H: AuthHandler, G: RelaySockets, A: Allocator + Copy, W: Watch + Drop>(
     listening: &Listening<W, A>,
     server: &mut Server<D, H, G, A>,
+    wire: &mut SocketRecord,
 ) -> Result<(), TurnError>
     ensures served { Served D.Disk H.AuthHandler G.RelayAddressGenerator Never server.old server.new }
     ensures done { OnOk result (server.new ≡ emptied server.old server.new.store) }
     ensures runs { OnOk result (server.new.store.stopped ≡ false) }
     ensures clock { now_of server.new ≡ now_of server.old }
+    ensures wire { Flushes D.Disk H.AuthHandler G.RelayAddressGenerator G.has_socket (addresses_of listening.now.sockets.items listening.now.own)
+        server.old server.new wire.old.passed wire.new.passed }
 {
     let outgoing = server.commit()?;
-    send_all(listening, server, &outgoing);
+    send_all(listening, server, wire, &outgoing);
     Ok(())
 }
 
@@ -43,16 +48,21 @@ pub(crate) fn submit<
 >(
     listening: &Listening<W, A>,
     server: &mut Server<D, H, G, A>,
+    wire: &mut SocketRecord,
     moment: Moment,
     arrival: &Arrival<'_>,
 ) -> Result<(), TurnError>
     requires { now_of server.old ≤ moment }
     ensures served { Served D.Disk H.AuthHandler G.RelayAddressGenerator (At moment) server.old server.new }
     ensures clock { now_of server.new ≤ moment }
+    // A server that runs is at the moment then.
+    ensures reached { OnOk result (server.new.store.stopped ≡ false → now_of server.new ≡ moment) }
     ensures once { OnOk result (IsSubmitted D.Disk H.AuthHandler G.RelayAddressGenerator moment (arrival_of arrival.now) server.old server.new) }
+    ensures wire { SubmitsOnWire D.Disk H.AuthHandler G.RelayAddressGenerator G.has_socket (addresses_of listening.now.sockets.items listening.now.own)
+        moment (IsOk result) (arrival_of arrival.now) server.old server.new wire.old.passed wire.new.passed }
 {
     if server.submit(moment, arrival) == Err(SubmitError::BatchFull) {
-        flush(listening, server)?;
+        flush(listening, server, wire)?;
         let _ = server.submit(moment, arrival);
     }
     Ok(())

@@ -1,13 +1,12 @@
 //! The sockets that clients send to, and the wait for them and for the relay sockets.
 
-ghost use Rattle.std.specs.Prelude.{◌≡◌, ◌≢◌, ◌↔◌, ℕ, All, Contains, IfNone, IfOk, IfSome, List, None, OnOk, map};
+ghost use Rattle.std.specs.Prelude.{◌≡◌, ◌≢◌, ◌↔◌, ℕ, All, Contains, IfNone, IfOk, IfSome, List, None, OnOk};
 ghost use Rattle.turn_sockets.specs.Own.{IsRelay};
 ghost use Rattle.turn_sockets.specs.Schedule.{with_all_ready};
 
 use crate::error::{StartError, TurnError};
 use crate::watch::Watch;
-use mio::net::UdpSocket;
-use mio::{Events, Interest, Poll, Token};
+use mio::{Events, Poll};
 use std::alloc::{AllocError, Allocator, Global};
 use std::io::ErrorKind;
 use std::net::Net;
@@ -15,8 +14,7 @@ use std::rt::Clock;
 use std::thread;
 use std::time::Duration;
 use turn_sockets::{
-    LISTENING, ListeningAddresses, OwnAddresses, RECEIVE_BUFFER, Schedule, address_of, endpoint_of,
-    set_receive_buffer,
+    BoundSocket, LISTENING, ListeningAddresses, OwnAddresses, RECEIVE_BUFFER, Schedule,
 };
 use turn_types::{Endpoint, FiveTuple};
 
@@ -29,17 +27,10 @@ pub(crate) const ATTEMPTS: u32 = 40;
 
 const PAUSE_MILLIS: u64 = 50;
 
-/// A socket that clients send to, and its address.
-#[derive(Drop)]
-pub(crate) struct ClientSocket {
-    pub(crate) socket: UdpSocket,
-    pub(crate) at: Endpoint,
-}
-
 /// The sockets that clients send to, and who sees what is sent.
 #[derive(Drop)]
 pub(crate) struct Listening<W: Watch + Drop, A: Allocator = Global> {
-    pub(crate) sockets: Vec<ClientSocket, A>,
+    pub(crate) sockets: Vec<BoundSocket, A>,
     pub(crate) own: OwnAddresses,
     pub(crate) watch: W,
 }
@@ -50,9 +41,9 @@ pub(crate) fn pause<C: Clock>(system: &C) {
 }
 
 /// Binds a socket. While the address is in use it tries again, up to two seconds.
-fn bind<R: Net, C: Clock>(net: &R, system: &C, at: Endpoint) -> Result<UdpSocket, StartError> {
+fn bind<R: Net, C: Clock>(net: &R, system: &C, at: Endpoint) -> Result<BoundSocket, StartError> {
     for _ in 0..ATTEMPTS {
-        match UdpSocket::bind(net, address_of(at)) {
+        match BoundSocket::bind(net, at) {
             Ok(socket) => return Ok(socket),
             Err(error) if error.kind() == ErrorKind::AddrInUse => {}
             Err(_) => return Err(StartError::Socket),
@@ -69,16 +60,14 @@ fn open_one<R: Net, C: Clock>(
     poll: &Poll,
     at: Endpoint,
     token: usize,
-) -> Result<ClientSocket, StartError> {
+) -> Result<BoundSocket, StartError> {
     let mut socket = bind(net, system, at)?;
-    poll.registry()
-        .register(&mut socket, Token(token), Interest::READABLE)
+    socket
+        .watch(poll.registry(), token)
         .map_err(|_| StartError::Socket)?;
     // A smaller buffer is no fault.
-    let _ = set_receive_buffer(&socket, RECEIVE_BUFFER);
-    let local = socket.local_addr().map_err(|_| StartError::Socket)?;
-    let at = endpoint_of(local).ok_or(StartError::Socket)?;
-    Ok(ClientSocket { socket, at })
+    let _ = socket.set_receive_buffer(RECEIVE_BUFFER);
+    Ok(socket)
 }
 
 /// Binds a socket at each of these addresses, in whose place it puts the one that was bound.
@@ -88,15 +77,15 @@ fn open_all<R: Net, C: Clock, A: Allocator + Copy>(
     system: &C,
     poll: &Poll,
     listening: &mut ListeningAddresses,
-) -> Result<Vec<ClientSocket, A>, StartError>
-    ensures { IfOk result (λ sockets. map (λ s. s.at) sockets.items ≡ listening.new) }
+) -> Result<Vec<BoundSocket, A>, StartError>
+    ensures { IfOk result (λ sockets. sockets.items ≡ listening.new) }
 {
     let count = listening.as_slice().len();
     let mut sockets = Vec::with_capacity(alloc, count)?;
     for place in 0..count {
         let at = listening.as_slice()[place];
         let socket = open_one(net, system, poll, at, LISTENING + place)?;
-        listening.set(place, socket.at);
+        listening.set(place, socket.at());
         sockets.push(socket).map_err(|_| StartError::Memory)?;
     }
     Ok(sockets)
@@ -113,7 +102,7 @@ impl<W: Watch + Drop, A: Allocator + Copy> Listening<W, A> {
         watch: W,
     ) -> Result<Listening<W, A>, StartError>
         // The server's own addresses are those of all sockets.
-        ensures { IfOk result (λ l. map (λ s. s.at) l.sockets.items ≡ l.own.listening) }
+        ensures { IfOk result (λ l. l.sockets.items ≡ l.own.listening) }
     {
         let sockets = open_all(alloc, net, system, poll, &mut own.listening)?;
         Ok(Listening {
@@ -124,26 +113,26 @@ impl<W: Watch + Drop, A: Allocator + Copy> Listening<W, A> {
     }
 
     /// The five-tuple of a datagram that a socket received. `None` if it comes from a relay port of this server: it is lost.
-    pub(crate) fn five_tuple_of(&self, socket: &ClientSocket, from: Endpoint) -> Option<FiveTuple>
+    pub(crate) fn five_tuple_of(&self, socket: &BoundSocket, from: Endpoint) -> Option<FiveTuple>
         ensures own { (result ≡ None) ↔ IsRelay self.now.own from }
-        ensures client { IfSome result (λ f. f ≡ record { client = from; server = socket.now.at }) }
+        ensures client { IfSome result (λ f. f ≡ record { client = from; server = socket.now }) }
     {
         if self.own.is_relay(from) {
             return None;
         }
         Some(FiveTuple {
             client: from,
-            server: socket.at,
+            server: socket.at(),
         })
     }
 
     /// The socket by which a client of a five-tuple gets datagrams: that of its server's address. `None` if there is none such, as
     /// after a start with other addresses.
-    pub(crate) fn socket_of(&self, five_tuple: FiveTuple) -> Option<&ClientSocket>
-        ensures found { IfSome result (λ s. (s.now.at ≡ five_tuple.server) × Contains self.now.sockets.items s.now) }
-        ensures none { IfNone result (All (λ s. s.at ≢ five_tuple.server) self.now.sockets.items) }
+    pub(crate) fn socket_of(&self, five_tuple: FiveTuple) -> Option<&BoundSocket>
+        ensures found { IfSome result (λ s. (s.now ≡ five_tuple.server) × Contains self.now.sockets.items s.now) }
+        ensures none { IfNone result (All (λ at. at ≢ five_tuple.server) self.now.sockets.items) }
     {
-        self.sockets.iter().find(|s| s.at == five_tuple.server)
+        self.sockets.iter().find(|s| s.at() == five_tuple.server)
     }
 }
 

@@ -12,8 +12,9 @@ pub enum Commits {
     /// to `burst` datagrams of it. If none has one it waits for one first, at most 50 ms.
     EachTurn,
     /// Requests are committed together, so that a sync seldom holds up data: what came is sent at once where it needs no write, and
-    /// requests wait. Up to a batch of them is committed if no data came since the last commit, or if the pause after that is over
-    /// (four times as long as it took, at most 50 ms). What comes from a five-tuple after a request that waits, waits too.
+    /// requests wait. Up to a batch of them is committed if all that came was read and no data since the last commit, or if the pause
+    /// after that is over (four times as long as it took, at most 50 ms). What comes from a five-tuple after a request that waits,
+    /// waits too.
     ///
     /// Sockets are read in rounds, as `turn_sockets::Schedule` says, an eighth of `burst` datagrams a visit. If none has one a turn
     /// waits for one, at most a second.

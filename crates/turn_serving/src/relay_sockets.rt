@@ -1,14 +1,13 @@
 //! Relay ports with sockets.
 
-ghost use Rattle.std.specs.Prelude.{◌≡◌, ◌↔◌, ℕ, Bool, IsTrue, is_some, true};
+ghost use Rattle.std.specs.Prelude.{◌≡◌, ◌↔◌, ℕ, Bool, IfSome, IsTrue, is_some, true};
 ghost use Rattle.std.specs.BTreeMap.{get};
 ghost use Rattle.std.specs.Ordering.{nat_cmp};
 
-use mio::net::UdpSocket;
 use std::alloc::Allocator;
 use std::net::Net;
 use turn_ports::{PortSet, RelayAddressGenerator};
-use turn_sockets::SocketPorts;
+use turn_sockets::{BoundSocket, SocketPorts};
 
 /// Relay ports with sockets.
 pub trait RelaySockets: RelayAddressGenerator {
@@ -16,8 +15,9 @@ pub trait RelaySockets: RelayAddressGenerator {
     ghost has_socket: { Self → ℕ → Bool };
 
     /// The socket of a port.
-    fn socket(&self, port: u16) -> Option<&UdpSocket>
-        ensures { is_some result ≡ has_socket self.now port };
+    fn socket(&self, port: u16) -> Option<&BoundSocket>
+        ensures found { is_some result ≡ has_socket self.now port }
+        ensures at { IfSome result (λ s. s.now.port ≡ port) };
 
     /// Whether each port that has a socket is in a set.
     fn are_all_in<S: PortSet>(&self, ports: &S) -> bool
@@ -30,7 +30,7 @@ pub trait RelaySockets: RelayAddressGenerator {
 impl<'a, R: Net, A: Allocator + Copy> RelaySockets for SocketPorts<'a, R, A> {
     ghost has_socket = { λ ports port. is_some (get nat_cmp ports.sockets port) };
 
-    fn socket(&self, port: u16) -> Option<&UdpSocket> {
+    fn socket(&self, port: u16) -> Option<&BoundSocket> {
         self.socket(port)
     }
 

@@ -1,7 +1,10 @@
 //! What a server sends, by its sockets.
 
-ghost use Rattle.std.specs.Prelude.{◌≢◌, ◌↔◌, All, IsTrue};
+ghost use Rattle.std.specs.Prelude.{◌≡◌, ◌≢◌, ◌↔◌, ◌++◌, All, IsTrue, List, map};
 ghost use Rattle.turn_sockets.specs.Own.{IsListening, IsNamed};
+ghost use Rattle.turn_sockets.specs.Wire.{Passed};
+ghost use Rattle.turn_step.specs.Views.{sent_of};
+ghost use Rattle.turn_serving.specs.Wire.{SendsEach, SendsOne, addresses_of};
 
 use crate::listening::Listening;
 use crate::relay_sockets::RelaySockets;
@@ -10,7 +13,7 @@ use std::alloc::Allocator;
 use turn_cred::AuthHandler;
 use turn_disk::Disk;
 use turn_engine::Server;
-use turn_sockets::{OwnAddresses, address_of};
+use turn_sockets::{OwnAddresses, SocketRecord};
 use turn_step::Outgoing;
 use turn_types::Endpoint;
 
@@ -30,14 +33,17 @@ fn is_listening<G: RelaySockets>(own: &OwnAddresses, ports: &G, peer: Endpoint) 
 fn send<G: RelaySockets, A: Allocator + Copy, W: Watch + Drop>(
     listening: &Listening<W, A>,
     ports: &G,
+    wire: &mut SocketRecord,
     outgoing: &Outgoing<A>,
-) {
+)
+    ensures { (out : List Passed) × (wire.new.passed ≡ wire.old.passed ++ out) × SendsOne (addresses_of listening.now.sockets.items listening.now.own)
+        (G.has_socket ports.now) (sent_of outgoing.now) out }
+{
     match outgoing {
         Outgoing::ToClient { five_tuple, bytes } => {
             // The address that the client sent to.
-            if let Some(client) = listening.socket_of(*five_tuple) {
-                let to = address_of(five_tuple.client);
-                let _ = client.socket.send_to(bytes.as_slice(), to);
+            if let Some(socket) = listening.socket_of(*five_tuple) {
+                socket.send(wire, bytes.as_slice(), five_tuple.client);
             }
         }
         Outgoing::ToPeer { port, peer, bytes } => {
@@ -45,7 +51,7 @@ fn send<G: RelaySockets, A: Allocator + Copy, W: Watch + Drop>(
                 return;
             }
             if let Some(socket) = ports.socket(*port) {
-                let _ = socket.send_to(bytes.as_slice(), address_of(*peer));
+                socket.send(wire, bytes.as_slice(), *peer);
             }
         }
     }
@@ -58,9 +64,17 @@ pub(crate) fn send_all<
     G: RelaySockets,
     A: Allocator + Copy,
     W: Watch + Drop,
->(listening: &Listening<W, A>, server: &Server<D, H, G, A>, outgoing: &[Outgoing<A>]) {
+>(
+    listening: &Listening<W, A>,
+    server: &Server<D, H, G, A>,
+    wire: &mut SocketRecord,
+    outgoing: &[Outgoing<A>],
+)
+    ensures { (out : List Passed) × (wire.new.passed ≡ wire.old.passed ++ out) × SendsEach (addresses_of listening.now.sockets.items listening.now.own)
+        (G.has_socket server.now.machine.ports) (map sent_of outgoing.now) out }
+{
     for datagram in outgoing {
-        send(listening, server.ports(), datagram);
+        send(listening, server.ports(), wire, datagram);
     }
     listening
         .watch

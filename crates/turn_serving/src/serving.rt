@@ -1,6 +1,6 @@
 //! A server over sockets that serves.
 
-ghost use Rattle.std.specs.Prelude.{◌≡◌, ◌≤◌, ◌++◌, ℕ, IfOk, OnOk, false};
+ghost use Rattle.std.specs.Prelude.{◌≡◌, ◌≤◌, ◌++◌, ℕ, IfOk, IsOk, OnOk, false};
 ghost use Rattle.turn_disk.specs.Disk.{EachImageSince};
 ghost use Rattle.turn_engine.specs.Runs.{BeginsWith, IsAtPlace, Place, accepted};
 ghost use Rattle.turn_engine.specs.State.{emptied, now_of};
@@ -10,8 +10,9 @@ ghost use Rattle.turn_sockets.specs.Moments.{IsMoment};
 ghost use Rattle.turn_step.specs.Answer.{Setting};
 ghost use Rattle.turn_store.specs.State.{form_of};
 ghost use Rattle.turn_serving.specs.Manner.{reads_of};
-ghost use Rattle.turn_serving.specs.Serving.{TakesRounds};
+ghost use Rattle.turn_serving.specs.Serving.{TakesRounds, wire_of};
 ghost use Rattle.turn_serving.specs.Turns.{KeepsOrder, Served};
+ghost use Rattle.turn_serving.specs.Wire.{Passes, addresses_of};
 
 use crate::calls::flush;
 use crate::error::TurnError;
@@ -69,12 +70,13 @@ impl<
     ghost use Rattle.std.specs.Coded.{codes};
     ghost use Rattle.turn_table.specs.State.{state_code};
     ghost use Rattle.turn_serving.specs.Serving.{ServingState};
+    ghost use Rattle.turn_serving.specs.Wire.{addresses_of};
 
     ghost Value = { ServingState D H G };
 
     ghost coded = { Prim.hlevel (codes, state_code) };
 
-    ghost view = { λ s. record { server = s.server; backlog = s.work.backlog; agenda = s.waiting.schedule; manner = s.manner } };
+    ghost view = { λ s. record { server = s.server; backlog = s.work.backlog; agenda = s.waiting.schedule; manner = s.manner; passed = s.work.wire.passed; addresses = addresses_of s.listening.sockets.items s.listening.own } };
 }
 
 // By hand: a derived drop is one step for each field in the proof of each caller.
@@ -115,6 +117,8 @@ impl<
     ) -> Serving<D, H, G, A, W>
         ensures server { result.server ≡ server }
         ensures backlog { result.backlog ≡ work.backlog }
+        ensures passed { result.passed ≡ work.wire.passed }
+        ensures addresses { result.addresses ≡ addresses_of listening.sockets.items listening.own }
         ensures manner { result.manner ≡ manner }
     {
         Serving {
@@ -173,12 +177,17 @@ impl<
         moment_now(system, self.server.clock()).ok_or(TurnError::Clock)
     }
 
-    // Reads sockets to the end of a round.
+    // Reads sockets to the end of a round, and brings the table to the moment.
     fn take_round<T: Time>(&mut self, system: &T) -> Result<Taken, TurnError>
         ensures served { Served D.Disk H.AuthHandler G.RelayAddressGenerator (IsMoment (T.told system.now)) self.old.server self.new.server }
+        // A server that runs is at a moment that the system told then.
+        ensures current { OnOk result (self.new.server.store.stopped ≡ false → IsMoment (T.told system.now) (now_of self.old.server) (now_of self.new.server)) }
         ensures order { OnOk result (KeepsOrder D.Disk H.AuthHandler G.RelayAddressGenerator (IsMoment (T.told system.now))
             self.old.server self.old.backlog self.new.server self.new.backlog) }
         ensures round { OnOk result (IsRound (reads_of self.old.manner) self.old.agenda self.new.agenda) }
+        ensures wire { Passes D.Disk H.AuthHandler G.RelayAddressGenerator G.has_socket self.old.addresses (IsMoment (T.told system.now))
+            (IsOk result) (wire_of self.old) (wire_of self.new) }
+        ensures addresses { self.new.addresses ≡ self.old.addresses }
         ensures manner { self.new.manner ≡ self.old.manner }
     {
         let moment = self.moment(system)?;
@@ -193,18 +202,31 @@ impl<
             self.old.server self.old.backlog self.new.server self.new.backlog) }
         ensures few { IfOk result (λ count. count ≤ most) }
         ensures agenda { self.new.agenda ≡ self.old.agenda }
+        ensures wire { Passes D.Disk H.AuthHandler G.RelayAddressGenerator G.has_socket self.old.addresses (IsMoment (T.told system.now))
+            (IsOk result) (wire_of self.old) (wire_of self.new) }
+        ensures addresses { self.new.addresses ≡ self.old.addresses }
         ensures manner { self.new.manner ≡ self.old.manner }
     {
         let moment = self.moment(system)?;
         let turn = Turn::begin(&self.listening, moment, self.manner, self.server.table());
-        turn.submit_waiting(&mut self.server, &mut self.work.backlog, most)
+        turn.submit_waiting(
+            &mut self.server,
+            &mut self.work.backlog,
+            &mut self.work.wire,
+            most,
+        )
     }
 
     // Looks which sockets got a datagram, for so long if there is none, and reads each that has some.
     fn take_each<T: Time>(&mut self, system: &T, timeout: Duration) -> Result<Taken, TurnError>
         ensures served { Served D.Disk H.AuthHandler G.RelayAddressGenerator (IsMoment (T.told system.now)) self.old.server self.new.server }
+        // A server that runs is at a moment that the system told then.
+        ensures current { OnOk result (self.new.server.store.stopped ≡ false → IsMoment (T.told system.now) (now_of self.old.server) (now_of self.new.server)) }
         ensures order { OnOk result (KeepsOrder D.Disk H.AuthHandler G.RelayAddressGenerator (IsMoment (T.told system.now))
             self.old.server self.old.backlog self.new.server self.new.backlog) }
+        ensures wire { Passes D.Disk H.AuthHandler G.RelayAddressGenerator G.has_socket self.old.addresses (IsMoment (T.told system.now))
+            (IsOk result) (wire_of self.old) (wire_of self.new) }
+        ensures addresses { self.new.addresses ≡ self.old.addresses }
         ensures manner { self.new.manner ≡ self.old.manner }
     {
         self.waiting.look(timeout)?;
@@ -215,9 +237,14 @@ impl<
     // Looks which sockets got a datagram, for so long if there is none, and takes a round.
     fn take_fairly<T: Time>(&mut self, system: &T, timeout: Duration) -> Result<Taken, TurnError>
         ensures served { Served D.Disk H.AuthHandler G.RelayAddressGenerator (IsMoment (T.told system.now)) self.old.server self.new.server }
+        // A server that runs is at a moment that the system told then.
+        ensures current { OnOk result (self.new.server.store.stopped ≡ false → IsMoment (T.told system.now) (now_of self.old.server) (now_of self.new.server)) }
         ensures order { OnOk result (KeepsOrder D.Disk H.AuthHandler G.RelayAddressGenerator (IsMoment (T.told system.now))
             self.old.server self.old.backlog self.new.server self.new.backlog) }
         ensures rounds { OnOk result (TakesRounds (reads_of self.old.manner) 1 self.old.agenda self.new.agenda) }
+        ensures wire { Passes D.Disk H.AuthHandler G.RelayAddressGenerator G.has_socket self.old.addresses (IsMoment (T.told system.now))
+            (IsOk result) (wire_of self.old) (wire_of self.new) }
+        ensures addresses { self.new.addresses ≡ self.old.addresses }
         ensures manner { self.new.manner ≡ self.old.manner }
     {
         self.waiting.look(timeout)?;
@@ -231,7 +258,8 @@ impl<
         if self.work.backlog.is_empty() {
             return patience;
         }
-        if !self.has_data {
+        // What is there is read before the next commit, or the pause is over.
+        if !self.has_data && !self.is_busy {
             return Duration::ZERO;
         }
         // Without a clock nothing waits.
@@ -244,8 +272,13 @@ impl<
     // Takes what there is. If there is nothing it waits first.
     fn take_each_or_wait<T: Time>(&mut self, system: &T) -> Result<Taken, TurnError>
         ensures served { Served D.Disk H.AuthHandler G.RelayAddressGenerator (IsMoment (T.told system.now)) self.old.server self.new.server }
+        // A server that runs is at a moment that the system told then.
+        ensures current { OnOk result (self.new.server.store.stopped ≡ false → IsMoment (T.told system.now) (now_of self.old.server) (now_of self.new.server)) }
         ensures order { OnOk result (KeepsOrder D.Disk H.AuthHandler G.RelayAddressGenerator (IsMoment (T.told system.now))
             self.old.server self.old.backlog self.new.server self.new.backlog) }
+        ensures wire { Passes D.Disk H.AuthHandler G.RelayAddressGenerator G.has_socket self.old.addresses (IsMoment (T.told system.now))
+            (IsOk result) (wire_of self.old) (wire_of self.new) }
+        ensures addresses { self.new.addresses ≡ self.old.addresses }
         ensures manner { self.new.manner ≡ self.old.manner }
     {
         let taken = self.take_each(system, Duration::ZERO)?;
@@ -258,9 +291,14 @@ impl<
     // Takes what comes, if nothing is there as soon as it comes.
     fn take<T: Time>(&mut self, system: &T) -> Result<Taken, TurnError>
         ensures served { Served D.Disk H.AuthHandler G.RelayAddressGenerator (IsMoment (T.told system.now)) self.old.server self.new.server }
+        // A server that runs is at a moment that the system told then.
+        ensures current { OnOk result (self.new.server.store.stopped ≡ false → IsMoment (T.told system.now) (now_of self.old.server) (now_of self.new.server)) }
         ensures order { OnOk result (KeepsOrder D.Disk H.AuthHandler G.RelayAddressGenerator (IsMoment (T.told system.now))
             self.old.server self.old.backlog self.new.server self.new.backlog) }
         ensures rounds { self.old.manner.commits ≡ Commits.Paced → OnOk result (TakesRounds (reads_of self.old.manner) 1 self.old.agenda self.new.agenda) }
+        ensures wire { Passes D.Disk H.AuthHandler G.RelayAddressGenerator G.has_socket self.old.addresses (IsMoment (T.told system.now))
+            (IsOk result) (wire_of self.old) (wire_of self.new) }
+        ensures addresses { self.new.addresses ≡ self.old.addresses }
         ensures manner { self.new.manner ≡ self.old.manner }
     {
         match self.manner.commits {
@@ -283,6 +321,9 @@ impl<
         ensures order { OnOk result (KeepsOrder D.Disk H.AuthHandler G.RelayAddressGenerator (IsMoment (T.told system.now))
             self.old.server self.old.backlog self.new.server self.new.backlog) }
         ensures rounds { OnOk result (TakesRounds (reads_of self.old.manner) 0 self.old.agenda self.new.agenda) }
+        ensures wire { Passes D.Disk H.AuthHandler G.RelayAddressGenerator G.has_socket self.old.addresses (IsMoment (T.told system.now))
+            (IsOk result) (wire_of self.old) (wire_of self.new) }
+        ensures addresses { self.new.addresses ≡ self.old.addresses }
         ensures manner { self.new.manner ≡ self.old.manner }
     {
         let batch = self.manner.batch;
@@ -302,6 +343,9 @@ impl<
         ensures order { OnOk result (KeepsOrder D.Disk H.AuthHandler G.RelayAddressGenerator (IsMoment (T.told system.now))
             self.old.server self.old.backlog self.new.server self.new.backlog) }
         ensures rounds { OnOk result (TakesRounds (reads_of self.old.manner) 0 self.old.agenda self.new.agenda) }
+        ensures wire { Passes D.Disk H.AuthHandler G.RelayAddressGenerator G.has_socket self.old.addresses (IsMoment (T.told system.now))
+            (IsOk result) (wire_of self.old) (wire_of self.new) }
+        ensures addresses { self.new.addresses ≡ self.old.addresses }
         ensures manner { self.new.manner ≡ self.old.manner }
     {
         let count = self.submit_waiting(system, self.manner.batch)?;
@@ -311,7 +355,12 @@ impl<
         let outgoing = self.server.commit()?;
         let ended = system.monotonic().ok();
         self.pace.note(began, ended);
-        send_all(&self.listening, &self.server, &outgoing);
+        send_all(
+            &self.listening,
+            &self.server,
+            &mut self.work.wire,
+            &outgoing,
+        );
         if let (Some(began), Some(ended)) = (began, ended) {
             let took = ended.saturating_sub(began);
             self.listening.watch.committed(self.server.clock(), took);
@@ -328,6 +377,9 @@ impl<
         ensures order { OnOk result (KeepsOrder D.Disk H.AuthHandler G.RelayAddressGenerator (IsMoment (T.told system.now))
             self.old.server self.old.backlog self.new.server self.new.backlog) }
         ensures rounds { OnOk result (TakesRounds (reads_of self.old.manner) 0 self.old.agenda self.new.agenda) }
+        ensures wire { Passes D.Disk H.AuthHandler G.RelayAddressGenerator G.has_socket self.old.addresses (IsMoment (T.told system.now))
+            (IsOk result) (wire_of self.old) (wire_of self.new) }
+        ensures addresses { self.new.addresses ≡ self.old.addresses }
         ensures manner { self.new.manner ≡ self.old.manner }
     {
         if !self.work.backlog.is_empty() && self.rest(system) == Duration::ZERO {
@@ -345,6 +397,8 @@ impl<
         // submitted at the later of the clock and a second that the system told.
         ensures served { Served D.Disk H.AuthHandler G.RelayAddressGenerator (IsMoment (T.told system.now)) self.old.server self.new.server }
         ensures clock { now_of self.old.server ≤ now_of self.new.server }
+        // Whatever came, the table is brought to a second that the system told, if that isn't before it.
+        ensures current { OnOk result (IsMoment (T.told system.now) (now_of self.old.server) (now_of self.new.server)) }
         ensures done { OnOk result (self.new.server ≡ emptied self.new.server self.new.server.store) }
         ensures runs { OnOk result (self.new.server.store.stopped ≡ false) }
         // Of one five-tuple datagrams are submitted in the order of receiving.
@@ -352,6 +406,9 @@ impl<
             self.old.server self.old.backlog self.new.server self.new.backlog) }
         // Where requests wait, sockets are read in rounds.
         ensures rounds { self.old.manner.commits ≡ Commits.Paced → OnOk result (TakesRounds (reads_of self.old.manner) 1 self.old.agenda self.new.agenda) }
+        ensures wire { Passes D.Disk H.AuthHandler G.RelayAddressGenerator G.has_socket self.old.addresses (IsMoment (T.told system.now))
+            (IsOk result) (wire_of self.old) (wire_of self.new) }
+        ensures addresses { self.new.addresses ≡ self.old.addresses }
         ensures manner { self.new.manner ≡ self.old.manner }
         // Whatever run the server is in, at every moment of the turn each image stands for a history that begins with what was
         // handed out before.
@@ -362,7 +419,7 @@ impl<
         let taken = self.take(system)?;
         self.has_data |= taken.data;
         self.is_busy = taken.any && !self.waiting.schedule.is_empty();
-        flush(&self.listening, &mut self.server)?;
+        flush(&self.listening, &mut self.server, &mut self.work.wire)?;
         self.commit_due(system)
     }
 
@@ -372,6 +429,7 @@ impl<
         ensures clock { now_of self.old.server ≤ now_of self.new.server }
         // No turn leaves all as it was; one turn or more that ended well are what one is.
         ensures none { count ≡ 0 → self.new ≡ self.old }
+        ensures current { 1 ≤ count → OnOk result (IsMoment (T.told system.now) (now_of self.old.server) (now_of self.new.server)) }
         ensures done { 1 ≤ count → OnOk result (self.new.server ≡ emptied self.new.server self.new.server.store) }
         ensures runs { 1 ≤ count → OnOk result (self.new.server.store.stopped ≡ false) }
         // Of one five-tuple datagrams are submitted in the order of receiving.
@@ -379,6 +437,9 @@ impl<
             self.old.server self.old.backlog self.new.server self.new.backlog) }
         // Where requests wait, sockets are read in at least as many rounds.
         ensures rounds { self.old.manner.commits ≡ Commits.Paced → OnOk result (TakesRounds (reads_of self.old.manner) count self.old.agenda self.new.agenda) }
+        ensures wire { Passes D.Disk H.AuthHandler G.RelayAddressGenerator G.has_socket self.old.addresses (IsMoment (T.told system.now))
+            (IsOk result) (wire_of self.old) (wire_of self.new) }
+        ensures addresses { self.new.addresses ≡ self.old.addresses }
         ensures manner { self.new.manner ≡ self.old.manner }
         // Whatever run the server is in, at every moment of the turns each image stands for a history that begins with what was
         // handed out before.

@@ -34,6 +34,7 @@ use turn_ports::{PortRange, RelayAddressGenerator};
 use turn_record::Version;
 use turn_sockets::{
     Backlog, Bound, Buffer, DataIds, ListeningAddresses, OwnAddresses, Room, SocketPorts,
+    SocketRecord,
 };
 use turn_store::StoreOpenError;
 use turn_table::Table;
@@ -295,6 +296,8 @@ impl<'c, A: Allocator + Copy> Setup<'c, A> {
     ) -> Result<Beside<'a, R, W, A>, StartError>
         ensures range { IfOk result (λ beside. ⟦<SocketPorts<'a, R, A> as RelayAddressGenerator>⟧.range beside.ports ≡ self.now.ports) }
         ensures waits { IfOk result (λ beside. (f : FiveTuple) → waiting_of beside.work.backlog f ≡ []) }
+        ensures passed { IfOk result (λ beside. beside.work.wire.passed ≡ []) }
+        ensures own { IfOk result (λ beside. beside.listening.sockets.items ≡ beside.listening.own.listening) }
     {
         let poll = Poll::new(net).map_err(|_| StartError::Socket)?;
         let ports = self.bind_ports(alloc, net, system, &poll, ports)?;
@@ -304,6 +307,7 @@ impl<'c, A: Allocator + Copy> Setup<'c, A> {
             buffer: Buffer::new(alloc)?,
             ids: DataIds::new(),
             backlog: Backlog::new(alloc, addresses, room_of(addresses))?,
+            wire: SocketRecord::new(),
         };
         Ok(Beside {
             ports,
@@ -343,6 +347,9 @@ impl<'c, A: Allocator + Copy> Setup<'c, A> {
         ensures held { IfOk result (λ serving. HoldsPorts ⟦<SocketPorts<'a, R, A> as RelayAddressGenerator>⟧.holds serving.server.machine None) }
         // No datagram waits, and turns are taken as the setup says.
         ensures waits { IfOk result (λ serving. (f : FiveTuple) → waiting_of serving.backlog f ≡ []) }
+        // No socket has received or sent anything, and each listening address has one.
+        ensures passed { IfOk result (λ serving. serving.passed ≡ []) }
+        ensures own { IfOk result (λ serving. serving.addresses.sockets ≡ serving.addresses.own.listening) }
         ensures manner { IfOk result (λ serving. serving.manner
             ≡ record { commits = self.now.commits; burst = self.now.burst; batch = self.now.config.now.limits.acts }) }
         // A store that isn't of version 1 keeps its content, and each one does at a refusal before the second opening.

@@ -1,17 +1,19 @@
 //! What a turn does with the sockets that may have a datagram.
 
-ghost use Rattle.std.specs.Prelude.{◌≡◌, ◌≤◌, ℕ, IfOk, IsTrue, ◌↔◌, ◌⊎◌, ◌≢◌, ◌==◌, ◌++◌, [], OnOk, false, true};
+ghost use Rattle.std.specs.Prelude.{◌≡◌, ◌≤◌, ℕ, Contains, IfOk, IsOk, IsTrue, List, ◌↔◌, ◌⊎◌, ◌≢◌, ◌==◌, ◌++◌, ◌∷◌, [], OnOk, false, true};
 ghost use Rattle.turn_engine.specs.State.{now_of};
-ghost use Rattle.turn_sockets.specs.Backlog.{if_same, waiting_of};
+ghost use Rattle.turn_sockets.specs.Backlog.{BacklogState, if_same, waiting_of};
 ghost use Rattle.turn_sockets.specs.Fairness.{IsRound};
 ghost use Rattle.turn_sockets.specs.Own.{IsRelay};
+ghost use Rattle.turn_sockets.specs.Wire.{Passed, received};
 ghost use Rattle.turn_serving.specs.Manner.{reads_of, waits_for_commits};
 ghost use Rattle.turn_serving.specs.Requests.{MayChange};
 ghost use Rattle.turn_serving.specs.Turns.{At, KeepsOrder, Served, TakesAtMost, TakesDatagram};
+ghost use Rattle.turn_serving.specs.Wire.{Passes, addresses_of, on_wire};
 
 use crate::calls::submit;
 use crate::error::TurnError;
-use crate::listening::{ClientSocket, Listening};
+use crate::listening::Listening;
 use crate::manner::Manner;
 use crate::relay_sockets::RelaySockets;
 use crate::requests::may_change;
@@ -21,10 +23,15 @@ use turn_cred::AuthHandler;
 use turn_disk::Disk;
 use turn_engine::Server;
 use turn_ports::RelayAddressGenerator;
-use turn_sockets::{Backlog, Buffer, DataIds, LISTENING, Received, Schedule};
+use turn_sockets::{
+    Backlog, BoundSocket, Buffer, DataIds, LISTENING, Received, Schedule, SocketRecord,
+};
 use turn_step::Arrival;
 use turn_table::Table;
-use turn_types::{Endpoint, FiveTuple, Moment};
+use turn_types::{Endpoint, FiveTuple, Moment, TxId};
+
+/// Where no datagram comes from.
+const NOBODY: Endpoint = Endpoint { ip: 0, port: 0 };
 
 /// What a turn works with, beside the server.
 #[derive(Drop)]
@@ -32,6 +39,8 @@ pub(crate) struct Work<A: Allocator = Global> {
     pub(crate) buffer: Buffer<A>,
     pub(crate) ids: DataIds,
     pub(crate) backlog: Backlog<A>,
+    // What the sockets received and sent.
+    pub(crate) wire: SocketRecord,
 }
 
 /// What came of a read of a socket.
@@ -97,6 +106,7 @@ impl<'l, W: Watch + Drop, A: Allocator + Copy> Turn<'l, W, A> {
         manner: Manner,
         table: &Table<A>,
     ) -> Turn<'l, W, A>
+        ensures listening { result.listening.now ≡ listening.now }
         ensures at { result.moment ≡ moment }
         ensures manner { result.manner ≡ manner }
     {
@@ -108,17 +118,47 @@ impl<'l, W: Watch + Drop, A: Allocator + Copy> Turn<'l, W, A> {
         }
     }
 
+    // Brings the table to the moment, if no arrival did: what has expired by then ends, and its ports are released. It submits a
+    // datagram of a peer at port 0, which no allocation has, so nothing else comes of it.
+    fn pass_time<D: Disk, H: AuthHandler, G: RelaySockets>(
+        &self,
+        server: &mut Server<D, H, G, A>,
+        wire: &mut SocketRecord,
+    ) -> Result<(), TurnError>
+        requires { now_of server.old ≤ self.now.moment }
+        ensures served { Served D.Disk H.AuthHandler G.RelayAddressGenerator (At self.now.moment) server.old server.new }
+        ensures wire { (b : BacklogState) → Passes D.Disk H.AuthHandler G.RelayAddressGenerator G.has_socket (addresses_of self.now.listening.now.sockets.items self.now.listening.now.own) (At self.now.moment)
+            (IsOk result) (on_wire server.old b wire.old.passed) (on_wire server.new b wire.new.passed) }
+        ensures clock { now_of server.new ≤ self.now.moment }
+        ensures reached { OnOk result (server.new.store.stopped ≡ false → now_of server.new ≡ self.now.moment) }
+        ensures order { OnOk result ((b : BacklogState) → KeepsOrder D.Disk H.AuthHandler G.RelayAddressGenerator (At self.now.moment) server.old b server.new b) }
+    {
+        if self.moment <= server.clock() {
+            return Ok(());
+        }
+        let arrival = Arrival::Peer {
+            port: 0,
+            from: NOBODY,
+            bytes: &[],
+            id: TxId([0; 12]),
+        };
+        submit(self.listening, server, wire, self.moment, &arrival)
+    }
+
     // Submits the next datagram that waits. False if there is none.
     fn submit_next<D: Disk, H: AuthHandler, G: RelaySockets>(
         &self,
         server: &mut Server<D, H, G, A>,
         backlog: &mut Backlog<A>,
+        wire: &mut SocketRecord,
     ) -> Result<bool, TurnError>
         requires { now_of server.old ≤ self.now.moment }
         ensures served { Served D.Disk H.AuthHandler G.RelayAddressGenerator (At self.now.moment) server.old server.new }
         ensures clock { now_of server.new ≤ self.now.moment }
         ensures order { OnOk result (KeepsOrder D.Disk H.AuthHandler G.RelayAddressGenerator (At self.now.moment)
             server.old backlog.old server.new backlog.new) }
+        ensures wire { Passes D.Disk H.AuthHandler G.RelayAddressGenerator G.has_socket (addresses_of self.now.listening.now.sockets.items self.now.listening.now.own) (At self.now.moment)
+            (IsOk result) (on_wire server.old backlog.old wire.old.passed) (on_wire server.new backlog.new wire.new.passed) }
     {
         let Some((five_tuple, bytes)) = backlog.pop() else {
             return Ok(false);
@@ -127,7 +167,7 @@ impl<'l, W: Watch + Drop, A: Allocator + Copy> Turn<'l, W, A> {
             five_tuple,
             bytes: bytes.as_slice(),
         };
-        submit(self.listening, server, self.moment, &arrival)?;
+        submit(self.listening, server, wire, self.moment, &arrival)?;
         Ok(true)
     }
 
@@ -136,6 +176,7 @@ impl<'l, W: Watch + Drop, A: Allocator + Copy> Turn<'l, W, A> {
         &self,
         server: &mut Server<D, H, G, A>,
         backlog: &mut Backlog<A>,
+        wire: &mut SocketRecord,
         most: u16,
     ) -> Result<u16, TurnError>
         requires { now_of server.old ≤ self.now.moment }
@@ -143,10 +184,12 @@ impl<'l, W: Watch + Drop, A: Allocator + Copy> Turn<'l, W, A> {
         ensures clock { now_of server.new ≤ self.now.moment }
         ensures order { OnOk result (KeepsOrder D.Disk H.AuthHandler G.RelayAddressGenerator (At self.now.moment)
             server.old backlog.old server.new backlog.new) }
+        ensures wire { Passes D.Disk H.AuthHandler G.RelayAddressGenerator G.has_socket (addresses_of self.now.listening.now.sockets.items self.now.listening.now.own) (At self.now.moment)
+            (IsOk result) (on_wire server.old backlog.old wire.old.passed) (on_wire server.new backlog.new wire.new.passed) }
         ensures few { IfOk result (λ count. count ≤ most) }
     {
         for count in 0..most {
-            if !self.submit_next(server, backlog)? {
+            if !self.submit_next(server, backlog, wire)? {
                 return Ok(count);
             }
         }
@@ -167,7 +210,8 @@ impl<'l, W: Watch + Drop, A: Allocator + Copy> Turn<'l, W, A> {
         &self,
         server: &mut Server<D, H, G, A>,
         backlog: &mut Backlog<A>,
-        client: &ClientSocket,
+        wire: &mut SocketRecord,
+        socket: &BoundSocket,
         bytes: &[u8],
         from: Endpoint,
     ) -> Result<Took, TurnError>
@@ -175,12 +219,16 @@ impl<'l, W: Watch + Drop, A: Allocator + Copy> Turn<'l, W, A> {
         ensures served { Served D.Disk H.AuthHandler G.RelayAddressGenerator (At self.now.moment) server.old server.new }
         ensures clock { now_of server.new ≤ self.now.moment }
         ensures taken { OnOk result ((IsRelay self.now.listening.now.own from → ⊥) → TakesDatagram D.Disk H.AuthHandler G.RelayAddressGenerator
-            (waits_for_commits self.now.manner.commits) self.now.moment (record { client = from; server = client.now.at }) bytes.now server.old backlog.old server.new backlog.new) }
+            (waits_for_commits self.now.manner.commits) self.now.moment (record { client = from; server = socket.now }) bytes.now server.old backlog.old server.new backlog.new) }
         ensures own { IsRelay self.now.listening.now.own from → (server.new ≡ server.old) × (backlog.new ≡ backlog.old) }
         ensures takes { OnOk result (TakesAtMost D.Disk H.AuthHandler G.RelayAddressGenerator 1 (At self.now.moment)
             server.old backlog.old server.new backlog.new) }
+        // Where a listening socket received it.
+        ensures wire { (before : List Passed) → wire.old.passed ≡ before ++ received socket.now from bytes.now ∷ [] → Contains self.now.listening.now.sockets.items socket.now
+            → Passes D.Disk H.AuthHandler G.RelayAddressGenerator G.has_socket (addresses_of self.now.listening.now.sockets.items self.now.listening.now.own) (At self.now.moment)
+            (IsOk result) (on_wire server.old backlog.old before) (on_wire server.new backlog.new wire.new.passed) }
     {
-        let Some(five_tuple) = self.listening.five_tuple_of(client, from) else {
+        let Some(five_tuple) = self.listening.five_tuple_of(socket, from) else {
             return Ok(Took::Data);
         };
         if self.has_to_wait(backlog, five_tuple, bytes) {
@@ -190,7 +238,7 @@ impl<'l, W: Watch + Drop, A: Allocator + Copy> Turn<'l, W, A> {
             return Ok(Took::Request);
         }
         let arrival = Arrival::Client { five_tuple, bytes };
-        submit(self.listening, server, self.moment, &arrival)?;
+        submit(self.listening, server, wire, self.moment, &arrival)?;
         Ok(Took::Data)
     }
 
@@ -206,14 +254,21 @@ impl<'l, W: Watch + Drop, A: Allocator + Copy> Turn<'l, W, A> {
         ensures clock { now_of server.new ≤ self.now.moment }
         ensures takes { OnOk result (TakesAtMost D.Disk H.AuthHandler G.RelayAddressGenerator 1 (At self.now.moment)
             server.old work.old.backlog server.new work.new.backlog) }
+        ensures wire { Passes D.Disk H.AuthHandler G.RelayAddressGenerator G.has_socket (addresses_of self.now.listening.now.sockets.items self.now.listening.now.own) (At self.now.moment)
+            (IsOk result) (on_wire server.old work.old.backlog work.old.wire.passed) (on_wire server.new work.new.backlog work.new.wire.passed) }
     {
-        let Some(client) = self.listening.sockets.get(place) else {
+        let Some(socket) = self.listening.sockets.get(place) else {
             return Ok(Took::Nothing);
         };
-        match work.buffer.receive(&client.socket) {
-            Received::Datagram { bytes, from } => {
-                self.take_from_client(server, &mut work.backlog, client, bytes, from)
-            }
+        match work.buffer.receive(socket, &mut work.wire) {
+            Received::Datagram { bytes, from } => self.take_from_client(
+                server,
+                &mut work.backlog,
+                &mut work.wire,
+                socket,
+                bytes,
+                from,
+            ),
             Received::Failed => Ok(Took::Failed),
             Received::Nothing => Ok(Took::Nothing),
         }
@@ -231,11 +286,13 @@ impl<'l, W: Watch + Drop, A: Allocator + Copy> Turn<'l, W, A> {
         ensures clock { now_of server.new ≤ self.now.moment }
         ensures takes { OnOk result (TakesAtMost D.Disk H.AuthHandler G.RelayAddressGenerator 1 (At self.now.moment)
             server.old work.old.backlog server.new work.new.backlog) }
+        ensures wire { Passes D.Disk H.AuthHandler G.RelayAddressGenerator G.has_socket (addresses_of self.now.listening.now.sockets.items self.now.listening.now.own) (At self.now.moment)
+            (IsOk result) (on_wire server.old work.old.backlog work.old.wire.passed) (on_wire server.new work.new.backlog work.new.wire.passed) }
     {
         let Some(socket) = server.ports().socket(port) else {
             return Ok(Took::Nothing);
         };
-        let (bytes, from) = match work.buffer.receive(socket) {
+        let (bytes, from) = match work.buffer.receive(socket, &mut work.wire) {
             Received::Datagram { bytes, from } => (bytes, from),
             Received::Failed => return Ok(Took::Failed),
             Received::Nothing => return Ok(Took::Nothing),
@@ -246,7 +303,13 @@ impl<'l, W: Watch + Drop, A: Allocator + Copy> Turn<'l, W, A> {
             bytes,
             id: work.ids.next(self.moment),
         };
-        submit(self.listening, server, self.moment, &arrival)?;
+        submit(
+            self.listening,
+            server,
+            &mut work.wire,
+            self.moment,
+            &arrival,
+        )?;
         Ok(Took::Data)
     }
 
@@ -262,6 +325,8 @@ impl<'l, W: Watch + Drop, A: Allocator + Copy> Turn<'l, W, A> {
         ensures clock { now_of server.new ≤ self.now.moment }
         ensures takes { OnOk result (TakesAtMost D.Disk H.AuthHandler G.RelayAddressGenerator 1 (At self.now.moment)
             server.old work.old.backlog server.new work.new.backlog) }
+        ensures wire { Passes D.Disk H.AuthHandler G.RelayAddressGenerator G.has_socket (addresses_of self.now.listening.now.sockets.items self.now.listening.now.own) (At self.now.moment)
+            (IsOk result) (on_wire server.old work.old.backlog work.old.wire.passed) (on_wire server.new work.new.backlog work.new.wire.passed) }
     {
         match u16::try_from(token) {
             Ok(port) => self.take_of_peer(server, work, port),
@@ -285,6 +350,8 @@ impl<'l, W: Watch + Drop, A: Allocator + Copy> Turn<'l, W, A> {
         ensures clock { now_of server.new ≤ self.now.moment }
         ensures takes { OnOk result (TakesAtMost D.Disk H.AuthHandler G.RelayAddressGenerator (reads_of self.now.manner) (At self.now.moment)
             server.old work.old.backlog server.new work.new.backlog) }
+        ensures wire { Passes D.Disk H.AuthHandler G.RelayAddressGenerator G.has_socket (addresses_of self.now.listening.now.sockets.items self.now.listening.now.own) (At self.now.moment)
+            (IsOk result) (on_wire server.old work.old.backlog work.old.wire.passed) (on_wire server.new work.new.backlog work.new.wire.passed) }
     {
         for _read in 0..self.manner.reads() {
             let took = self.take(server, work, token)?;
@@ -296,7 +363,7 @@ impl<'l, W: Watch + Drop, A: Allocator + Copy> Turn<'l, W, A> {
         Ok(true)
     }
 
-    /// Visits sockets to the end of a round.
+    /// Visits sockets to the end of a round, and brings the table to the moment.
     pub(crate) fn take_round<D: Disk, H: AuthHandler, G: RelaySockets>(
         &self,
         server: &mut Server<D, H, G, A>,
@@ -306,8 +373,12 @@ impl<'l, W: Watch + Drop, A: Allocator + Copy> Turn<'l, W, A> {
         requires { now_of server.old ≤ self.now.moment }
         ensures served { Served D.Disk H.AuthHandler G.RelayAddressGenerator (At self.now.moment) server.old server.new }
         ensures clock { now_of server.new ≤ self.now.moment }
+        // A server that runs is at the moment then.
+        ensures reached { OnOk result (server.new.store.stopped ≡ false → now_of server.new ≡ self.now.moment) }
         ensures order { OnOk result (KeepsOrder D.Disk H.AuthHandler G.RelayAddressGenerator (At self.now.moment)
             server.old work.old.backlog server.new work.new.backlog) }
+        ensures wire { Passes D.Disk H.AuthHandler G.RelayAddressGenerator G.has_socket (addresses_of self.now.listening.now.sockets.items self.now.listening.now.own) (At self.now.moment)
+            (IsOk result) (on_wire server.old work.old.backlog work.old.wire.passed) (on_wire server.new work.new.backlog work.new.wire.passed) }
         ensures round { OnOk result (IsRound (reads_of self.now.manner) schedule.old schedule.new) }
     {
         let mut taken = Taken::NOTHING;
@@ -316,6 +387,7 @@ impl<'l, W: Watch + Drop, A: Allocator + Copy> Turn<'l, W, A> {
                 schedule.put_back(token)?;
             }
         }
+        self.pass_time(server, &mut work.wire)?;
         Ok(taken)
     }
 }

@@ -1,10 +1,10 @@
 -- How long a socket waits for its turn.
-use Rattle.std.proofs.Common.{arith, ◌≡◌, ℕ, zero, suc, ◌+◌, ◌-◌, ◌*◌, ◌<◌, ◌≤◌, ◌⊎◌, inl, inr, ◌==◌, ◌&&◌, not, Bool, true, false, if◌then◌else◌, nat_le, nat_lt, Some, None, List, [], ◌∷◌, ◌++◌, Contains, length, slice_get, sum_by, take, refl, sym, ap, ◌∙◌, subst, ⊎_elim, append-nil, mul-le-mul_left, mul-suc}
+use Rattle.std.proofs.Common.{arith, ◌≡◌, ℕ, zero, suc, ◌+◌, ◌-◌, ◌*◌, ◌<◌, ◌≤◌, ◌⊎◌, inl, inr, ◌==◌, ◌&&◌, not, Bool, true, false, if◌then◌else◌, nat_le, nat_lt, Some, None, List, [], ◌∷◌, ◌++◌, Contains, length, map, slice_get, sum_by, take, refl, sym, ap, ◌∙◌, subst, ⊎_elim, append-nil, mul-le-mul_left, mul-suc}
 use Rattle.std.proofs.lemmas.Bool.{and_cases, and_parts, eqb-false, eqb-true, leb-false, leb-true, ltb-false, ltb-true}
 use Rattle.std.proofs.lemmas.List.Sums.{sum_by-cons}
-use Rattle.turn_sockets.specs.Schedule.{Agenda, begun, can_list, counted, is_relay, first_of, kept_back, next_from, next_of, with_all_ready, with_more, with_ready}
+use Rattle.turn_sockets.specs.Schedule.{Agenda, begun, begun_for_each, can_list, counted, is_relay, first_of, kept_back, next_from, next_of, with_all_ready, with_more, with_ready}
 use Rattle.turn_sockets.specs.declared.schedule.Source.TheVariants.{Clients, Fresh, Nothing, Peers}
-use Rattle.turn_sockets.specs.Fairness.{AreRounds, AreVisits, ComesWithin, FreshComeFirst, IsVisited, NoneStarves, Round, Visit, after_visit}
+use Rattle.turn_sockets.specs.Fairness.{AreRounds, AreVisits, ComesWithin, EachIsVisited, FreshComeFirst, IsVisited, NoneStarves, Round, Visit, after_visit}
 
 -- ---- What is next
 
@@ -458,3 +458,22 @@ none_starves most a end rounds place token are within (inl there) =
     in_rounds (λ b. b.clients) clients_queue LeavesClients clients_wait most token (λ b ready. many (omega arith)) (λ b ready. (adds_all b ready).clients) rounds a end place are within there
 none_starves most a end rounds place token are within (inr there) =
     in_rounds (λ b. b.peers) peers_queue LeavesPeers peers_wait most token (λ b ready. two (omega arith)) (λ b ready. (adds_all b ready).peers) rounds a end place are within there
+
+-- ---- A round for each
+
+-- where there are no visits for those that have more, a round visits the fresh sockets, in order
+fresh_in_order : (most : ℕ) (visits : List Visit) (a end : Agenda) → a.left ≡ 0 → AreVisits most a visits end → next_of end ≡ None → map (λ v. v.token) visits ≡ a.fresh
+fresh_in_order most [] a end none are over = sym ((ap (λ (b : Agenda). b.fresh) are) ∙ (is_over end over).0)
+fresh_in_order most (v ∷ vs) a end none are over =
+    by (takes are.1) (λ left. fresh_in_order most vs (after_visit are.0 v) end left are.3 over)
+  where
+    by : Takes a v.token are.0 → ((after_visit are.0 v).left ≡ 0 → map (λ w. w.token) vs ≡ (after_visit are.0 v).fresh) → map (λ w. w.token) (v ∷ vs) ≡ a.fresh
+    by (of_clients t) later = let some = t.in_turn in absurd (omega arith)
+    by (of_peers t) later = let some = t.some in absurd (omega arith)
+    by (of_fresh t) later =
+        let kept = visit_extends are.0 v in
+        let left = kept.left ∙ ap (λ (b : Agenda). b.left) t.rest_is ∙ none in
+        ap (λ (l : List ℕ). v.token ∷ l) (later left ∙ kept.fresh ∙ ap (λ (b : Agenda). b.fresh) t.rest_is) ∙ sym t.first
+
+pub each_visited : EachIsVisited
+each_visited most a end visits are over = fresh_in_order most visits (begun_for_each a) end refl are over

@@ -9,6 +9,7 @@ use Rattle.std.proofs.lemmas.Bool.Decides.{nat_tests}
 use Rattle.std.specs.Map.{lookup, remove_entry}
 use Rattle.std.specs.BTreeMap.{BTreeMap, IsUnchanged, get, insert_entry, is_at}
 use Rattle.turn_ports.specs.Ports.{IsFree, IsFreePair}
+use Rattle.turn_types.specs.declared.address.Endpoint.{Endpoint}
 use Rattle.turn_sockets.specs.declared.ports.Search.{Search}
 use Rattle.turn_sockets.specs.declared.ports.Search.TheVariants.{Found, Nothing, Failed, Exhausted}
 use Rattle.turn_sockets.specs.declared.ports.Wanted.{Wanted}
@@ -104,7 +105,7 @@ left_in_upper refuses exhausted sockets range from taken wanted Failed lower lef
 left_in_upper refuses exhausted sockets range from taken wanted Exhausted lower left below none = left
 
 -- the same, where nothing was found in the upper one
-pub left_in_lower : {X : Type 0} (refuses : ℕ → Type 0) (exhausted : Type 0) (old new : BTreeMap ℕ X) (range : ℕ × ℕ) (from : ℕ) (taken : ℕ → Bool) (wanted : Wanted) (upper lower : Search)
+pub left_in_lower : (refuses : ℕ → Type 0) (exhausted : Type 0) (old new : BTreeMap ℕ Endpoint) (range : ℕ × ℕ) (from : ℕ) (taken : ℕ → Bool) (wanted : Wanted) (upper lower : Search)
     → ((port : ℕ) → upper ≡ Found port → ⊥) → (upper ≡ Exhausted → ⊥) → Binds wanted old new (found_port upper)
     → Searches (from, range.1) taken wanted upper → LeavesOutEach refuses exhausted old (from, range.1) taken wanted upper
     → LeavesOutEach refuses exhausted new (range.0, from) taken wanted lower

@@ -1,6 +1,6 @@
 -- How long a socket waits for its turn.
-use Rattle.std.specs.Prelude.{◌≡◌, ℕ, ◌+◌, ◌*◌, ◌<◌, ◌≤◌, ◌⊎◌, Bool, if◌then◌else◌, Some, None, List, [], ◌∷◌, Contains, length, map, slice_get, sum_by, take}
-use Rattle.turn_sockets.specs.Schedule.{Agenda, begun, next_of, with_all_ready, with_more}
+use Rattle.std.specs.Prelude.{◌≡◌, ℕ, ◌+◌, ◌*◌, ◌<◌, ◌≤◌, ◌⊎◌, Bool, if◌then◌else◌, Some, None, List, [], ◌∷◌, ◌++◌, Contains, length, map, slice_get, sum_by, take}
+use Rattle.turn_sockets.specs.Schedule.{Agenda, begun, begun_for_each, next_of, with_all_ready, with_more}
 
 -- A visit of a socket: how many datagrams were read of it, and whether it may have more.
 pub record Visit : Type 0 where
@@ -57,3 +57,8 @@ abbrev pub NoneStarves : Type 0
 NoneStarves = (most : ℕ) (a end : Agenda) (rounds : List Round) (place token : ℕ) → AreRounds most a rounds end → place < length rounds
     → (slice_get a.clients place ≡ Some token) ⊎ (slice_get a.peers place ≡ Some token)
     → (r : Round) × Contains rounds r × IsVisited token r.visits
+
+-- A round that is begun for each socket visits those that are listed, in their order, each as often as it is listed, whatever has more.
+abbrev pub EachIsVisited : Type 0
+EachIsVisited = (most : ℕ) (a end : Agenda) (visits : List Visit) → AreVisits most (begun_for_each a) visits end → next_of end ≡ None
+    → map (λ v. v.token) visits ≡ (a.clients ++ a.fresh) ++ a.peers

@@ -5,4 +5,6 @@ pub mod Moments
 pub mod Own
 pub mod Pace
 pub mod Ports
+pub mod Received
 pub mod Schedule
+pub mod Wire

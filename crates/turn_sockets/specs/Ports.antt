@@ -4,6 +4,7 @@ use Rattle.std.specs.Ordering.{nat_cmp}
 use Rattle.std.specs.BTreeMap.{BTreeMap, get, insert_entry, IsUnchanged}
 use Rattle.rand_chacha.specs.ChaCha.{ChaCha, next_word}
 use Rattle.turn_ports.specs.Ports.{IsFree, IsFreePair}
+use Rattle.turn_types.specs.declared.address.Endpoint.{Endpoint}
 use Rattle.turn_sockets.specs.declared.ports.Bound.{Bound}
 use Rattle.turn_sockets.specs.declared.ports.Bound.TheVariants as bound
 use Rattle.turn_sockets.specs.declared.ports.Bound.TheVariants.{Done, Unavailable}
@@ -12,9 +13,17 @@ use Rattle.turn_sockets.specs.declared.ports.Search.TheVariants.{Found, Nothing,
 use Rattle.turn_sockets.specs.declared.ports.Wanted.{Wanted}
 use Rattle.turn_sockets.specs.declared.ports.Wanted.TheVariants.{Port, Pair}
 
+-- each port's socket is bound at it
+abbrev pub AreAtPorts : BTreeMap ℕ Endpoint → Type 0
+AreAtPorts sockets = (port : ℕ) (s : Endpoint) → get nat_cmp sockets port ≡ Some s → s.port ≡ port
+
+-- a port has a socket, which is bound at it
+abbrev pub HasItsSocket : BTreeMap ℕ Endpoint → ℕ → Type 0
+HasItsSocket sockets port = (s : Endpoint) × (get nat_cmp sockets port ≡ Some s) × (s.port ≡ port)
+
 -- a port of which there was no socket has one, and each other port is as before
-abbrev pub IsBound : {X : Type 0} → BTreeMap ℕ X → BTreeMap ℕ X → ℕ → Type 0
-IsBound old new port = (get nat_cmp old port ≡ None) × IsSome (get nat_cmp new port)
+abbrev pub IsBound : BTreeMap ℕ Endpoint → BTreeMap ℕ Endpoint → ℕ → Type 0
+IsBound old new port = (get nat_cmp old port ≡ None) × HasItsSocket new port
     × ((other : ℕ) → ¬ (other ≡ port) → get nat_cmp new other ≡ get nat_cmp old other)
 
 -- the entries are as before, with one of a port in its place
@@ -22,13 +31,13 @@ abbrev pub Inserts : {X : Type 0} → BTreeMap ℕ X → BTreeMap ℕ X → ℕ 
 Inserts {X} old new port = (socket : X) × (new.entries ≡ insert_entry nat_cmp old.entries port socket)
 
 -- of a port and the next one there was no socket, both have one, and each other port is as before
-abbrev pub AreBound : {X : Type 0} → BTreeMap ℕ X → BTreeMap ℕ X → ℕ → Type 0
+abbrev pub AreBound : BTreeMap ℕ Endpoint → BTreeMap ℕ Endpoint → ℕ → Type 0
 AreBound old new port = (get nat_cmp old port ≡ None) × (get nat_cmp old (port + 1) ≡ None)
-    × IsSome (get nat_cmp new port) × IsSome (get nat_cmp new (port + 1))
+    × HasItsSocket new port × HasItsSocket new (port + 1)
     × ((other : ℕ) → ¬ (other ≡ port) → ¬ (other ≡ port + 1) → get nat_cmp new other ≡ get nat_cmp old other)
 
 -- what was found is bound, a port or a port and the next one; where nothing was, the sockets are as before
-abbrev pub Binds : {X : Type 0} → Wanted → BTreeMap ℕ X → BTreeMap ℕ X → Option ℕ → Type 0
+abbrev pub Binds : Wanted → BTreeMap ℕ Endpoint → BTreeMap ℕ Endpoint → Option ℕ → Type 0
 Binds wanted old new None = IsUnchanged old new
 Binds (Port even) old new (Some port) = IsBound old new port
 Binds Pair old new (Some port) = AreBound old new port

@@ -1,13 +1,16 @@
 //! Datagrams as they are received, and the ids of Data indications.
 
-ghost use Rattle.std.specs.Prelude.{◌≡◌, ◌+◌, ◌%◌, ◌^◌, ◌++◌, ◌↔◌};
+ghost use Rattle.std.specs.Prelude.{◌≡◌, ◌+◌, ◌%◌, ◌^◌, ◌++◌, [], ◌↔◌};
 ghost use Rattle.std.specs.Int.{to_be_bytes, w32, w64};
 ghost use Rattle.std.specs.IoError.{error_kind};
 ghost use Rattle.std.specs.declared.io.ErrorKind.TheVariants.{WouldBlock};
+ghost use Rattle.turn_sockets.specs.Received.{passed_by};
+ghost use Rattle.turn_types.specs.declared.address.Endpoint.{Endpoint};
 ghost use Rattle.turn_sockets.specs.declared.buffer.Received.TheVariants as received;
 
 use crate::address::endpoint_of;
-use mio::net::UdpSocket;
+use crate::record::SocketRecord;
+use crate::socket::BoundSocket;
 use std::alloc::{AllocError, Allocator, Global};
 use std::io::{self, Error, ErrorKind};
 use std::net::SocketAddr;
@@ -44,14 +47,27 @@ impl DataIds {
 
 /// A socket that datagrams are received from.
 pub trait DatagramSocket {
+    /// The address at which it is bound.
+    ghost bound_at: { Self → Endpoint };
+
+    /// The address at which it is bound.
+    fn at(&self) -> Endpoint
+        ensures { result ≡ bound_at self.now };
+
     /// Receives a datagram into a buffer: its size, and who sent it. A datagram that doesn't fit loses its end. An error whose kind
     /// is `WouldBlock` says that none waits.
     fn receive(&self, buffer: &mut [u8]) -> io::Result<(usize, SocketAddr)>;
 }
 
-impl DatagramSocket for UdpSocket {
+impl DatagramSocket for BoundSocket {
+    ghost bound_at = { λ s. s };
+
+    fn at(&self) -> Endpoint {
+        self.at()
+    }
+
     fn receive(&self, buffer: &mut [u8]) -> io::Result<(usize, SocketAddr)> {
-        self.recv_from(buffer)
+        self.receive(buffer)
     }
 }
 
@@ -69,7 +85,8 @@ pub enum Received<'b> {
 /// What an error of a receive says. One that reports something else than that none waits, as an ICMP message or a lack of memory,
 /// says nothing of what waits.
 fn failure_of<'b>(error: &Error) -> Received<'b>
-    ensures { (result ≡ received.Nothing) ↔ (error_kind error.now ≡ WouldBlock) }
+    ensures nothing { (result ≡ received.Nothing) ↔ (error_kind error.now ≡ WouldBlock) }
+    ensures none { (at : Endpoint) → passed_by at result ≡ [] }
 {
     match error.kind() {
         ErrorKind::WouldBlock => Received::Nothing,
@@ -91,14 +108,24 @@ impl<A: Allocator> Buffer<A> {
         })
     }
 
-    /// Receives a datagram of a socket.
-    pub fn receive<S: DatagramSocket>(&mut self, socket: &S) -> Received<'_> {
+    /// Receives a datagram of a socket, and notes it.
+    pub fn receive<S: DatagramSocket>(
+        &mut self,
+        socket: &S,
+        wire: &mut SocketRecord,
+    ) -> Received<'_>
+        ensures { wire.new.passed ≡ wire.old.passed ++ passed_by (S.bound_at socket.now) result }
+    {
         let (size, from) = match socket.receive(self.bytes.as_mut_slice()) {
             Ok(found) => found,
             Err(error) => return failure_of(&error),
         };
         match (self.bytes.as_slice().get(..size), endpoint_of(from)) {
-            (Some(bytes), Some(from)) => Received::Datagram { bytes, from },
+            (Some(bytes), Some(from)) => {
+                let at = socket.at();
+                wire.note(false, at.ip, at.port, from.ip, from.port, bytes);
+                Received::Datagram { bytes, from }
+            }
             _ => Received::Failed,
         }
     }

@@ -10,8 +10,10 @@ mod moment;
 mod own;
 mod pace;
 mod ports;
+mod record;
 mod schedule;
 mod search;
+mod socket;
 mod socket_option;
 
 pub use address::{address_of, endpoint_of};
@@ -22,5 +24,9 @@ pub use moment::{Time, moment_at, moment_now};
 pub use own::OwnAddresses;
 pub use pace::Pace;
 pub use ports::{Bound, SocketPorts};
-pub use schedule::{LISTENING, Schedule, fresh_sockets_come_first, no_socket_starves};
-pub use socket_option::{RECEIVE_BUFFER, receive_buffer, set_receive_buffer};
+pub use record::SocketRecord;
+pub use schedule::{
+    LISTENING, Schedule, each_listed_socket_is_visited, fresh_sockets_come_first, no_socket_starves,
+};
+pub use socket::BoundSocket;
+pub use socket_option::RECEIVE_BUFFER;

@@ -1,19 +1,18 @@
 //! Relay ports, each with a socket.
 
-ghost use Rattle.std.specs.Prelude.{◌≡◌, ◌≢◌, ◌<◌, ◌≤◌, ◌+◌, ◌^◌, ◌⊎◌, ◌↔◌, ℕ, Bool, true, [], Ok, Some, None, IfOk, IsTrue, OnErr, is_some, option_map};
+ghost use Rattle.std.specs.Prelude.{◌≡◌, ◌≢◌, ◌<◌, ◌≤◌, ◌+◌, ◌^◌, ◌⊎◌, ◌↔◌, ℕ, Bool, true, [], Ok, Some, None, IfOk, IsTrue, OnErr, is_some, option_map, IfSome};
 ghost use Rattle.std.specs.BTreeMap.{IsUnchanged, Updates, get};
 ghost use Rattle.std.specs.Ordering.{nat_cmp};
 ghost use Rattle.rand_chacha.specs.ChaCha.{next_word, of_seed};
 ghost use Rattle.turn_ports.specs.Ports.{Failed, MayPick, MayPickPair, has_failed, with_pair, with_port, without_port};
-ghost use Rattle.turn_sockets.specs.Ports.{Binds, HaveSockets, Inserts, IsBound, MayFind, drawn_place};
+ghost use Rattle.turn_sockets.specs.Ports.{AreAtPorts, Binds, HaveSockets, Inserts, IsBound, MayFind, drawn_place};
 ghost use Rattle.turn_sockets.specs.declared.ports.Bound.TheVariants as binds;
 ghost use Rattle.turn_sockets.specs.declared.ports.Wanted.TheVariants as wants;
 
-use crate::address::address_of;
 use crate::search::PortBinder;
-use crate::socket_option::{RECEIVE_BUFFER, set_receive_buffer};
-use mio::net::UdpSocket;
-use mio::{Interest, Registry, Token};
+use crate::socket::BoundSocket;
+use crate::socket_option::RECEIVE_BUFFER;
+use mio::Registry;
 use rand_chacha::ChaCha20Rng;
 use rand_core::SeedableRng;
 use rand_core::utils::NextWord;
@@ -76,9 +75,11 @@ pub struct SocketPorts<'a, R: Net, A: Allocator = Global> {
     last: u16,
     // What ports are drawn by.
     draws: ChaCha20Rng,
-    sockets: BTreeMap<u16, UdpSocket, A>,
+    sockets: BTreeMap<u16, BoundSocket, A>,
     failures: u64,
     ghost ordered: { first ≤ last },
+    // Each socket is bound at its port.
+    ghost at_ports: { AreAtPorts sockets },
 }
 
 // By hand: a derived drop is one step for each field in the proof of each caller.
@@ -104,13 +105,13 @@ fn is_of_port(error: &Error) -> bool {
 }
 
 impl<'a, R: Net> Binder<'a, R> {
-    fn open(&self, port: u16) -> io::Result<UdpSocket> {
-        let at = address_of(Endpoint { ip: self.ip, port });
-        let mut socket = UdpSocket::bind(self.net, at)?;
-        self.registry
-            .register(&mut socket, Token(usize::from(port)), Interest::READABLE)?;
+    fn open(&self, port: u16) -> io::Result<BoundSocket>
+        ensures { port ≢ 0 → IfOk result (λ s. s.port ≡ port) }
+    {
+        let mut socket = BoundSocket::bind(self.net, Endpoint { ip: self.ip, port })?;
+        socket.watch(&self.registry, usize::from(port))?;
         // A smaller buffer is no fault.
-        let _ = set_receive_buffer(&socket, RECEIVE_BUFFER);
+        let _ = socket.set_receive_buffer(RECEIVE_BUFFER);
         Ok(socket)
     }
 }
@@ -125,7 +126,7 @@ impl<'a, R: Net> PortBinder for Binder<'a, R> {
     /// Port 0 isn't bound, since the system would take another one.
     fn bind<A: Allocator + Copy>(
         &self,
-        sockets: &mut BTreeMap<u16, UdpSocket, A>,
+        sockets: &mut BTreeMap<u16, BoundSocket, A>,
         port: u16,
     ) -> Result<Bound, AllocError>
         requires { get nat_cmp sockets.old port ≡ None }
@@ -177,8 +178,9 @@ impl<'a, R: Net, A: Allocator + Copy> SocketPorts<'a, R, A> {
     }
 
     /// The socket of a port.
-    pub fn socket(&self, port: u16) -> Option<&UdpSocket>
-        ensures { option_map (λ s. s.now) result ≡ get nat_cmp self.now.sockets port }
+    pub fn socket(&self, port: u16) -> Option<&BoundSocket>
+        ensures found { option_map (λ s. s.now) result ≡ get nat_cmp self.now.sockets port }
+        ensures at { IfSome result (λ s. s.now.port ≡ port) }
     {
         self.sockets.get(&port)
     }
@@ -197,8 +199,7 @@ impl<'a, R: Net, A: Allocator + Copy> SocketPorts<'a, R, A> {
 
     /// Whether an address is one of this machine: a socket is bound at it, at any port, and released.
     pub fn is_local(&self, ip: u32) -> bool {
-        let at = address_of(Endpoint { ip, port: 0 });
-        UdpSocket::bind(self.binder.net, at).is_ok()
+        BoundSocket::bind(self.binder.net, Endpoint { ip, port: 0 }).is_ok()
     }
 
     /// Whether the address of the relay ports is one of this machine.

@@ -3,7 +3,7 @@
 ghost use Rattle.std.specs.Prelude.{◌≡◌, ◌+◌, ◌==◌, ◌&&◌, min, not, slice_index_or, length, nat_lt, IfOk, IfSome, OnErr, OnOk, None, false, map, option_map, true};
 ghost use Rattle.mio.specs.Event.{event_token};
 ghost use Rattle.mio.specs.Events.{items};
-ghost use Rattle.turn_sockets.specs.Fairness.{FreshComeFirst, NoneStarves};
+ghost use Rattle.turn_sockets.specs.Fairness.{EachIsVisited, FreshComeFirst, NoneStarves};
 ghost use Rattle.turn_sockets.specs.Schedule.{begun, begun_for_each, can_list, counted, is_turn_of_clients, next_of, nothing_ready, source_of, with_all_ready, with_more, with_ready};
 
 use crate::listening::MAX_LISTENING;
@@ -242,4 +242,9 @@ pub fn fresh_sockets_come_first()
 /// A socket that has more is read in one of the next rounds, whatever the others do.
 pub fn no_socket_starves()
     ensures { NoneStarves }
+{}
+
+/// A round that is begun for each socket visits each that is listed, once.
+pub fn each_listed_socket_is_visited()
+    ensures { EachIsVisited }
 {}

@@ -8,7 +8,7 @@ ghost use Rattle.turn_sockets.specs.declared.ports.Bound.TheVariants as binds;
 ghost use Rattle.turn_sockets.specs.declared.ports.Wanted.TheVariants as wants;
 
 use crate::ports::{Bound, Search, Wanted};
-use mio::net::UdpSocket;
+use crate::socket::BoundSocket;
 use std::alloc::{AllocError, Allocator};
 use std::collections::BTreeMap;
 use turn_ports::PortSet;
@@ -25,7 +25,7 @@ pub(crate) trait PortBinder {
     /// Binds a port that has no socket yet.
     fn bind<A: Allocator + Copy>(
         &self,
-        sockets: &mut BTreeMap<u16, UdpSocket, A>,
+        sockets: &mut BTreeMap<u16, BoundSocket, A>,
         port: u16,
     ) -> Result<Bound, AllocError>
         requires { get nat_cmp sockets.old port ≡ None }
@@ -39,7 +39,7 @@ pub(crate) trait PortBinder {
     // Binds a port and the next one, which have no socket yet, or neither of them.
     fn bind_both<A: Allocator + Copy>(
         &self,
-        sockets: &mut BTreeMap<u16, UdpSocket, A>,
+        sockets: &mut BTreeMap<u16, BoundSocket, A>,
         port: u16,
     ) -> Result<Bound, AllocError>
         requires next { port + 1 < 2 ^ 16 }
@@ -65,7 +65,7 @@ pub(crate) trait PortBinder {
     // Binds a port if it is free, and even where `even` asks for it; `None` where it isn't.
     fn bind_free<A: Allocator + Copy, S: PortSet>(
         &self,
-        sockets: &mut BTreeMap<u16, UdpSocket, A>,
+        sockets: &mut BTreeMap<u16, BoundSocket, A>,
         range: (u16, u16),
         port: u16,
         taken: &S,
@@ -94,7 +94,7 @@ pub(crate) trait PortBinder {
     // Binds a port and the next one if they are a free pair; `None` where they aren't.
     fn bind_pair<A: Allocator + Copy, S: PortSet>(
         &self,
-        sockets: &mut BTreeMap<u16, UdpSocket, A>,
+        sockets: &mut BTreeMap<u16, BoundSocket, A>,
         range: (u16, u16),
         port: u16,
         taken: &S,
@@ -121,7 +121,7 @@ pub(crate) trait PortBinder {
     // Binds what is wanted at a port of a range; `None` where it isn't free. What has a socket and no allocation isn't available.
     fn bind_wanted<A: Allocator + Copy, S: PortSet>(
         &self,
-        sockets: &mut BTreeMap<u16, UdpSocket, A>,
+        sockets: &mut BTreeMap<u16, BoundSocket, A>,
         range: (u16, u16),
         port: u16,
         taken: &S,
@@ -143,7 +143,7 @@ pub(crate) trait PortBinder {
     // Binds what is wanted at the first port from one to another, both included. Ends where the system has no socket for any port.
     fn search<A: Allocator + Copy, S: PortSet>(
         &self,
-        sockets: &mut BTreeMap<u16, UdpSocket, A>,
+        sockets: &mut BTreeMap<u16, BoundSocket, A>,
         from: u16,
         to: u16,
         taken: &S,
@@ -176,7 +176,7 @@ pub(crate) trait PortBinder {
     #[tactic(auto, using(crate::proofs::Finding::searched))]
     fn search_around<A: Allocator + Copy, S: PortSet>(
         &self,
-        sockets: &mut BTreeMap<u16, UdpSocket, A>,
+        sockets: &mut BTreeMap<u16, BoundSocket, A>,
         range: (u16, u16),
         from: u16,
         taken: &S,

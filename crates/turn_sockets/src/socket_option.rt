@@ -9,14 +9,14 @@ pub const RECEIVE_BUFFER: u32 = 8 << 20;
 
 /// Asks for a receive buffer of so many bytes. The system may give less: on Linux at most `net.core.rmem_max`, doubled.
 /// False if it refuses.
-pub fn set_receive_buffer(socket: &UdpSocket, bytes: u32) -> bool {
+pub(crate) fn set_receive_buffer(socket: &UdpSocket, bytes: u32) -> bool {
     let [a, b, c3, d] = bytes.to_ne_bytes();
     let value = [a, b, c3, d, 0, 0, 0, 0, 0, 0, 0, 0, 0, 0, 0, 0];
     unsafe { c::setsockopt(socket.as_raw_fd(), c::SOL_SOCKET, c::SO_RCVBUF, &value, 4) == 0 }
 }
 
 /// The size of the receive buffer as the system counts it, or 0 if it doesn't say.
-pub fn receive_buffer(socket: &UdpSocket) -> u32 {
+pub(crate) fn receive_buffer(socket: &UdpSocket) -> u32 {
     let mut value = [0u8; 16];
     let mut size = 4u32;
     let done = unsafe {

@@ -1,4 +1,4 @@
-use Rattle.std.proofs.Common.{◌≡◌, ◌≤◌, length, map, take}
+use Rattle.std.proofs.Common.{◌≡◌, ◌≤◌, length, take}
 use Rattle.turn_serving.proofs.listening.open_all.Given as goal
 
 -- the addresses so far are those of the sockets
@@ -6,5 +6,5 @@ abbrev pub invariant-loop-place : goal.invariant-loop-place
 invariant-loop-place g l = record {
   long : length l.listening ≡ l.count;
   known : l.place ≤ l.count;
-  bound : map (λ s. s.at) l.sockets.items ≡ take l.place l.listening;
+  bound : l.sockets.items ≡ take l.place l.listening;
 }

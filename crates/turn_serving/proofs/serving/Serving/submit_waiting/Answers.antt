@@ -1,8 +1,10 @@
-use Rattle.std.proofs.Common.{ap, subst, sym}
+use Rattle.std.proofs.Common.{ap, subst, sym, append-nil}
 use Rattle.std.proofs.lemmas.Result.{on_ok_weaker}
 use Rattle.turn_sockets.specs.Moments.{IsMoment}
+use Rattle.turn_serving.specs.Wire.{addresses_of}
 use Rattle.turn_serving.proofs.Order.{order_from, told_order}
 use Rattle.turn_serving.proofs.Turns.{at_told, from}
+use Rattle.turn_serving.proofs.Wire.{nothing_passes, passes_of, passes_told, passes_at}
 use Rattle.turn_serving.proofs.serving.Serving.submit_waiting.Goals as goal
 
 pub returns-clause-served : goal.returns-clause-served
@@ -13,3 +15,9 @@ returns-clause-order g c =
     on_ok_weaker c.submit_waiting.result
     (λ kept. told_order (subst (IsMoment _ _) (sym c.begin-turn.ensures.at) c.in_ok-moment.ensures.is_one) (order_from (ap (λ s. s.server) c.self.view_is) (ap (λ s. s.backlog) c.self.view_is) kept))
     c.submit_waiting.ensures.order
+
+pub returns-in_err-moment-clause-wire : goal.returns-in_err-moment-clause-wire
+returns-in_err-moment-clause-wire g c = nothing_passes _ _ (sym (append-nil _))
+
+pub returns-clause-wire : goal.returns-clause-wire
+returns-clause-wire g c = passes_told (passes_of c.self.view_is (passes_at (ap (λ l. addresses_of l.sockets.items l.own) c.begin-turn.ensures.listening) c.submit_waiting.ensures.wire)) (subst (IsMoment _ _) (sym c.begin-turn.ensures.at) c.in_ok-moment.ensures.is_one)

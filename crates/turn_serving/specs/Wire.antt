@@ -1,0 +1,159 @@
+-- What the sockets of a server receive and send, beside the calls of the server.
+use Rattle.std.specs.Prelude.{◌≡◌, ◌≢◌, ◌⊎◌, ℕ, Bool, false, nat_eq, if◌then◌else◌, List, [], ◌∷◌, ◌++◌, Result, Ok, Err, All, Contains}
+use Rattle.turn_cred.specs.declared.handler.AuthHandler as handlers
+use Rattle.turn_disk.specs.declared.disk.Disk as disks
+use Rattle.turn_engine.specs.Runs.{Commit, ServerCall, Submit}
+use Rattle.turn_engine.specs.State.{ServerState}
+use Rattle.turn_engine.specs.declared.error.SubmitError.{SubmitError}
+use Rattle.turn_ports.specs.declared.generator.RelayAddressGenerator as generators
+use Rattle.turn_sockets.specs.Backlog.{BacklogState}
+use Rattle.turn_sockets.specs.Own.{IsListening}
+use Rattle.turn_sockets.specs.Wire.{Passed, received, sent}
+use Rattle.turn_sockets.specs.declared.own.OwnAddresses.{OwnAddresses}
+use Rattle.turn_step.specs.Outcome.{Arrives, Sent}
+use Rattle.turn_step.specs.Outcome.Arrives.{FromClient, FromPeer}
+use Rattle.turn_step.specs.Outcome.Sent.{ToClient, ToPeer}
+use Rattle.turn_store.specs.declared.error.StoreError.{StoreError}
+use Rattle.turn_types.specs.declared.address.Endpoint.{Endpoint}
+use Rattle.turn_types.specs.declared.address.FiveTuple.{FiveTuple}
+use Rattle.turn_serving.specs.Turns.{At, KeepsOrder, Never, Served, submitted_in}
+
+-- Something that happens in a turn.
+pub data Event (D H G : Type 0) : Type 0 where
+  -- a listening socket received a datagram: its address, who sent it, and the bytes
+  OfClient : (at from : Endpoint) (bytes : List ℕ) → Event D H G
+  -- the socket of a relay port did
+  OfPeer : (at from : Endpoint) (bytes : List ℕ) → Event D H G
+  -- an arrival was submitted
+  Submitted : (moment : ℕ) (arrival : Arrives) (result : Result Unit SubmitError) (after : ServerState D H G) → Event D H G
+  -- a commit, and what was sent then
+  Committed : (result : Result (List Sent) StoreError) (after : ServerState D H G) (sent : List Passed) → Event D H G
+
+-- the calls of the server among events
+abbrev pub calls_of : {D H G : Type 0} → List (Event D H G) → List (ServerCall D H G)
+calls_of [] = []
+calls_of (OfClient at from bytes ∷ events) = calls_of events
+calls_of (OfPeer at from bytes ∷ events) = calls_of events
+calls_of (Submitted moment arrival result after ∷ events) = Submit moment arrival result after ∷ calls_of events
+calls_of (Committed result after out ∷ events) = Commit result after ∷ calls_of events
+
+-- the datagrams that sockets received and sent, in order
+abbrev pub passed_in : {D H G : Type 0} → List (Event D H G) → List Passed
+passed_in [] = []
+passed_in (OfClient at from bytes ∷ events) = received at from bytes ∷ passed_in events
+passed_in (OfPeer at from bytes ∷ events) = received at from bytes ∷ passed_in events
+passed_in (Submitted moment arrival result after ∷ events) = passed_in events
+passed_in (Committed result after out ∷ events) = out ++ passed_in events
+
+-- ---- What is sent
+
+-- The addresses of the listening sockets, and those that are the server's own.
+pub record Addresses : Type 0 where
+  pub sockets : List Endpoint
+  pub own : OwnAddresses
+
+-- these sockets, of a server with these addresses of its own
+abbrev pub addresses_of : List Endpoint → OwnAddresses → Addresses
+addresses_of sockets own = record { sockets = sockets; own = own }
+
+-- What is sent of a datagram that a commit hands out, once: to a client from the socket of its five-tuple's server, or nothing if no socket
+-- has that address; to a peer from the socket of the relay port, or nothing if the port has none, or if it would come to the server itself.
+abbrev pub SendsOne : Addresses → (ℕ → Bool) → Sent → List Passed → Type 0
+SendsOne here has (ToClient f bytes) out =
+    (Contains here.sockets f.server × (out ≡ sent f.server f.client bytes ∷ [])) ⊎ (All (λ at. at ≢ f.server) here.sockets × (out ≡ []))
+SendsOne here has (ToPeer port peer bytes) out =
+    ((at : Endpoint) × (at.port ≡ port) × (out ≡ sent at peer bytes ∷ [])) ⊎ (((has port ≡ false) ⊎ IsListening here.own peer) × (out ≡ []))
+
+-- what is sent of several, in their order
+abbrev pub SendsEach : Addresses → (ℕ → Bool) → List Sent → List Passed → Type 0
+SendsEach here has [] out = out ≡ []
+SendsEach here has (o ∷ os) out =
+    (first : List Passed) × (rest : List Passed) × SendsOne here has o first × SendsEach here has os rest × (out ≡ first ++ rest)
+
+-- Clients' datagrams come by the listening sockets; what a commit hands out is sent right after it, and nothing else is.
+abbrev pub AreSent : {D H G : Type 0} → (G → ℕ → Bool) → Addresses → List (Event D H G) → Type 0
+AreSent has here [] = Unit {0}
+AreSent has here (OfClient at from bytes ∷ events) = Contains here.sockets at × AreSent has here events
+AreSent has here (OfPeer at from bytes ∷ events) = AreSent has here events
+AreSent has here (Submitted moment arrival result after ∷ events) = AreSent has here events
+AreSent has here (Committed (Ok outs) after out ∷ events) = SendsEach here (has after.machine.ports) outs out × AreSent has here events
+AreSent has here (Committed (Err fault) after out ∷ events) = (out ≡ []) × AreSent has here events
+
+-- Calls of a server, as `Served` has them, and what its sockets received and sent meanwhile.
+pub record Moves {D H G : Type 0} (disk : disks.Ghosts D) (handler : handlers.Ghosts H) (ports : generators.Ghosts G) (has : G → ℕ → Bool) (here : Addresses) (IsOne : ℕ → ℕ → Type 0) (old new : ServerState D H G) (before after : List Passed) : Type 0 where
+  pub events : List (Event D H G)
+  pub served : Served disk handler ports IsOne old new
+  pub calls : served.steps ≡ calls_of events
+  pub passed : after ≡ before ++ passed_in events
+  pub are_sent : AreSent has here events
+
+-- ---- What is submitted
+
+-- the datagrams of clients that were received, each with the five-tuple of its sender and of the socket that received it
+abbrev pub of_clients : {D H G : Type 0} → List (Event D H G) → List (FiveTuple × List ℕ)
+of_clients [] = []
+of_clients (OfClient at from bytes ∷ events) = (record { client = from; server = at }, bytes) ∷ of_clients events
+of_clients (OfPeer at from bytes ∷ events) = of_clients events
+of_clients (Submitted moment arrival result after ∷ events) = of_clients events
+of_clients (Committed result after out ∷ events) = of_clients events
+
+-- A datagram of a peer: the port that it came to, who sent it, and the bytes. Port 0 is no port: by an arrival there a server brings its
+-- table to the moment.
+abbrev pub peer_at : ℕ → Endpoint → List ℕ → List (ℕ × (Endpoint × List ℕ))
+peer_at port from bytes = if nat_eq port 0 then [] else (port, (from, bytes)) ∷ []
+
+-- the datagrams of peers that were received, each with the port of the socket that received it
+abbrev pub of_peers : {D H G : Type 0} → List (Event D H G) → List (ℕ × (Endpoint × List ℕ))
+of_peers [] = []
+of_peers (OfClient at from bytes ∷ events) = of_peers events
+of_peers (OfPeer at from bytes ∷ events) = peer_at at.port from bytes ++ of_peers events
+of_peers (Submitted moment arrival result after ∷ events) = of_peers events
+of_peers (Committed result after out ∷ events) = of_peers events
+
+-- the datagrams of peers among arrivals
+abbrev pub peers_of : List Arrives → List (ℕ × (Endpoint × List ℕ))
+peers_of [] = []
+peers_of (FromClient f bytes ∷ arrivals) = peers_of arrivals
+peers_of (FromPeer port from bytes id ∷ arrivals) = peer_at port from bytes ++ peers_of arrivals
+
+-- a list without some of its elements
+abbrev pub IsPart : {X : Type 0} → List X → List X → Type 0
+IsPart [] ys = Unit {0}
+IsPart (x ∷ xs) [] = ⊥
+IsPart (x ∷ xs) (y ∷ ys) = ((x ≡ y) × IsPart xs ys) ⊎ IsPart (x ∷ xs) ys
+
+-- ---- Turns
+
+-- A server, the datagrams of clients that wait, and what its sockets received and sent so far.
+pub record OnWire (D H G : Type 0) : Type 0 where
+  pub server : ServerState D H G
+  pub waits : BacklogState
+  pub passed : List Passed
+
+-- the state of a server with what waits and what has passed
+abbrev pub on_wire : {D H G : Type 0} → ServerState D H G → BacklogState → List Passed → OnWire D H G
+on_wire server waits passed = record { server = server; waits = waits; passed = passed }
+
+-- What led from one state to another. By `is_done` all that was received was taken: of each five-tuple what waited and what was received, but
+-- for what was dropped, is what was submitted and what waits then, in order and once, as `KeepsOrder` has it; and what was submitted of peers
+-- is what was received of them, in order and once.
+pub record Passes {D H G : Type 0} (disk : disks.Ghosts D) (handler : handlers.Ghosts H) (ports : generators.Ghosts G) (has : G → ℕ → Bool) (here : Addresses) (IsOne : ℕ → ℕ → Type 0) (is_done : Type 0) (old new : OnWire D H G) : Type 0 where
+  pub moves : Moves disk handler ports has here IsOne old.server new.server old.passed new.passed
+  pub clients : is_done → (kept : KeepsOrder disk handler ports IsOne old.server old.waits new.server new.waits) × (kept.served.steps ≡ calls_of moves.events) × IsPart kept.received (of_clients moves.events)
+  pub peers : is_done → peers_of (submitted_in (calls_of moves.events)) ≡ of_peers moves.events
+
+-- no socket received anything
+pub record ReceivesNothing {D H G : Type 0} (events : List (Event D H G)) : Type 0 where
+  pub no_client : of_clients events ≡ []
+  pub no_peer : of_peers events ≡ []
+
+-- Nothing was received, and nothing submitted; what was handed out was sent.
+pub record Flushes {D H G : Type 0} (disk : disks.Ghosts D) (handler : handlers.Ghosts H) (ports : generators.Ghosts G) (has : G → ℕ → Bool) (here : Addresses) (old new : ServerState D H G) (before after : List Passed) : Type 0 where
+  pub moves : Moves disk handler ports has here Never old new before after
+  pub nothing : ReceivesNothing moves.events
+
+-- An arrival was submitted, and nothing was received; what a full batch handed out before it was sent. By `is_done` it was submitted once.
+pub record SubmitsOnWire {D H G : Type 0} (disk : disks.Ghosts D) (handler : handlers.Ghosts H) (ports : generators.Ghosts G) (has : G → ℕ → Bool) (here : Addresses) (moment : ℕ) (is_done : Type 0) (arrival : Arrives) (old new : ServerState D H G) (before after : List Passed) : Type 0 where
+  pub moves : Moves disk handler ports has here (At moment) old new before after
+  pub nothing : ReceivesNothing moves.events
+  pub once : is_done → submitted_in moves.served.steps ≡ arrival ∷ []
