@@ -1,14 +1,4 @@
-mod commits;
-mod crashes;
-mod examples;
 mod hostile_bytes;
 mod mixed_runs;
-mod player;
 mod refused_growths;
-mod released_ports;
-mod reservations;
-mod row;
 mod same;
-mod setup;
-mod stops;
-mod worn;

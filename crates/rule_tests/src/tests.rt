@@ -1,15 +1,2 @@
-mod allocate;
-mod binding;
-mod clients_data;
-mod credentials;
-mod full_tables;
-mod judged;
-mod peers_data;
-mod player;
 mod refused_growths;
-mod released_ports;
-mod reservations;
-mod row;
-mod setup;
 mod tables;
-mod time_limited;

@@ -1,6 +1,4 @@
 mod backlog;
-mod listening;
-mod pace;
 mod ports;
 mod received;
 mod schedule;

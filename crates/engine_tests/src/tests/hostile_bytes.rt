@@ -1,88 +1,46 @@
 //! Datagrams that are cut, or one of whose bits is flipped.
 
-use super::player::Player;
-use super::row::{ALLOCATE, ALLOCATED, REQUEST, Row};
-use super::setup::{SMALL, made};
 use std::alloc::Global;
 use std::process::Abort;
-use test_requests::{FIRST, code_of, five_tuple, of_client};
-use turn_codec::{Message, MessageError};
-use turn_disk::Disk;
+use test_requests::{FIRST, five_tuple};
+use test_servers::{Datagram, Scenario, Source};
+use turn_codec::Message;
 use turn_step::Outgoing;
-use turn_types::Method;
+use turn_types::{Class, Method};
 
-/// The table and the store are as at first.
-const UNCHANGED: [Row; 4] = [
-    Row::Live(&[]),
-    Row::Clock(1000),
-    Row::Picked(&[]),
-    Row::Idle,
-];
+/// One act a batch, in areas of the min size of version 1.
+const OPENED: &[u8] = b"limits 2 1 1 1 8
+format1 238
+expect opened clock 0
+at 1000";
 
-/// A change of alice's Allocate.
-#[derive(Clone, Copy)]
-enum Change {
-    /// It ends before a byte.
-    Cut,
-    /// Each bit of a byte is flipped, one after the other.
-    Flip,
-}
+/// Alice's Allocate with the nonce of second 1000; its HMACs are those of another program.
+const REQUEST: &[u8] =
+    b"raw 192.0.2.1:32853 000300902112a4420102030405060708090a0b0c001900041100000000060005616c6963650000000014000b6578616d706c652e\
+    6f726700001500503030303030303030303030303033653836376234363161613630393434666632643533616132333762363430\
+    376331616236373739633534386532393739373662336265643037383430353639343839000800142e8b21b3d028a40d856c10c6\
+    e9597ba44aa87efa";
 
-/// The first bytes of alice's Allocate.
-fn front(len: usize) -> &'static [u8] {
-    if len > 164 {
-        return REQUEST;
-    }
-    &REQUEST[..len]
-}
+/// The table and the store are as at first: an open gate, version 1, generation 1, an empty snapshot, a closed gate.
+const UNCHANGED: &[u8] = b"fail 18446744073709551615
+picked
+table
+expect live 0
+disk 64 a50100000000000000010000000c00000000000000000000000000";
 
-/// Why the bytes before a place are no message: a header has 20 bytes, and the length in it is that of the whole Allocate.
-fn is_malformed(place: usize) -> bool {
-    let expected = if place < 20 {
-        MessageError::Short
-    } else {
-        MessageError::BadLength
-    };
-    match Message::parse(front(place)) {
-        Ok(_) => false,
-        Err(fault) => fault == expected,
-    }
-}
-
-/// Whether the Allocate that ends before a byte is no message, and is dropped.
-fn is_dropped(rt: &impl Abort, player: &mut Player, place: usize) -> bool {
-    player.take(rt, 1000, &of_client(FIRST, front(place)));
-    is_malformed(place) && player.is_idle(rt)
-}
-
-// ---- Flipped bits
-
-/// Alice's Allocate with a bit of a byte flipped.
-fn flipped(place: usize, bit: u32) -> [u8; 164] {
-    let mut bytes = *REQUEST;
-    if let Some(byte) = bytes.get_mut(place) {
-        *byte ^= 1u8.wrapping_shl(bit);
-    }
-    bytes
-}
+/// The success of the Allocate, by port 50000 for 600 seconds, with an HMAC-SHA1 of another program.
+const ALLOCATED: &[u8] = b"commit
+expect client 192.0.2.1:32853 success allocate 0102030405060708090a0b0c port=50000 life=600
+bytes 010300382112a4420102030405060708090a0b0c001600080001e242e721c043000d000400000258002000080001a147e112a643\
+    000800145ff505a059dfbd61700a6f8cc0be22a6d88f1648
+expect committed 1";
 
 /// Whether a response is the success of a Binding request, or an error of another one.
-fn is_success_of_binding(rt: &impl Abort, message: &Message<'_>, is_binding: bool) -> bool {
-    let is_success = made(rt, code_of(message), "a code") == 0;
-    let is_of_binding = message.method() == Method::BINDING;
-    is_success == is_binding && is_of_binding == is_binding
-}
-
-/// The same of a datagram, which goes to alice's client.
-fn is_response(rt: &impl Abort, out: &Outgoing, is_binding: bool) -> bool {
-    match out {
-        Outgoing::ToClient {
-            five_tuple: to,
-            bytes,
-        } if *to == five_tuple(FIRST) => {
-            let message = Message::parse(bytes).expect(rt, "a message");
-            is_success_of_binding(rt, &message, is_binding)
-        }
+fn is_response(rt: &impl Abort, bytes: &[u8], is_binding: bool) -> bool {
+    let message = Message::parse(bytes).expect(rt, "a message");
+    match message.class() {
+        Class::Success => is_binding && message.method() == Method::BINDING,
+        Class::Error => !is_binding && message.method() != Method::BINDING,
         _ => false,
     }
 }
@@ -91,69 +49,92 @@ fn is_response(rt: &impl Abort, out: &Outgoing, is_binding: bool) -> bool {
 fn is_harmless(rt: &impl Abort, outs: &[Outgoing], is_binding: bool) -> bool {
     match outs {
         [] => !is_binding,
-        [out] => is_response(rt, out, is_binding),
+        [
+            Outgoing::ToClient {
+                five_tuple: to,
+                bytes,
+            },
+        ] => *to == five_tuple(FIRST) && is_response(rt, bytes, is_binding),
         _ => false,
     }
 }
 
-/// Takes the Allocate with a flipped bit, whose commit makes no device call. The second bit of the second byte makes it a
-/// Binding request, which needs no credentials.
-fn is_flip_harmless(rt: &impl Abort, player: &mut Player, place: usize, bit: u32) -> bool {
-    let bytes = flipped(place, bit);
-    player.take(rt, 1000, &of_client(FIRST, &bytes));
-    player.disk().fail_call(1);
-    let outs = player.commit(rt);
+/// Submits bytes of the client, whose commit makes no device call, and returns what is handed out.
+fn sent(rt: &impl Abort, scenario: &mut Scenario, bytes: Vec<u8>) -> Vec<Outgoing> {
+    let source = Source::Client(FIRST);
+    assert!(rt; scenario.submit(&Datagram { source, bytes }) == Some(Ok(())));
+    let server = scenario.server_mut().expect(rt, "a server");
+    server.disk().fail_call(1);
+    match server.commit() {
+        Ok(outs) => outs,
+        Err(_) => panic!(rt; "a refused commit"),
+    }
+}
+
+/// Whether the Allocate that ends before a byte is dropped.
+fn is_cut_dropped(
+    rt: &impl Abort,
+    alloc: Global,
+    scenario: &mut Scenario,
+    request: &[u8],
+    place: usize,
+) -> bool {
+    let bytes = Vec::from_slice(alloc, request.get(..place).expect(rt, "a place")).expect(
+        rt, "memory",
+    );
+    sent(rt, scenario, bytes).is_empty()
+}
+
+/// Whether the Allocate with a bit flipped is harmless. The second bit of the second byte makes it a Binding request, which
+/// needs no credentials.
+fn is_flip_harmless(
+    rt: &impl Abort,
+    alloc: Global,
+    scenario: &mut Scenario,
+    request: &[u8],
+    place: usize,
+    bit: u32,
+) -> bool {
+    let mut bytes = Vec::from_slice(alloc, request).expect(rt, "memory");
+    if let Some(byte) = bytes.get_mut(place) {
+        *byte ^= 1u8.wrapping_shl(bit);
+    }
+    let outs = sent(rt, scenario, bytes);
     is_harmless(rt, &outs, (place, bit) == (1, 1))
 }
 
-/// The same of each bit of a byte, by which the table stays empty.
-fn are_flips_harmless(rt: &impl Abort, player: &mut Player, place: usize) -> bool {
+/// The same of each bit of a byte.
+fn are_flips_harmless(
+    rt: &impl Abort,
+    alloc: Global,
+    scenario: &mut Scenario,
+    request: &[u8],
+    place: usize,
+) -> bool {
     for bit in 0..8u32 {
-        if !is_flip_harmless(rt, player, place, bit) || !player.table().is_empty() {
+        if !is_flip_harmless(rt, alloc, scenario, request, place, bit) {
             return false;
         }
     }
     true
 }
 
-// ---- All places
-
-fn is_harmless_at(rt: &impl Abort, player: &mut Player, change: Change, place: usize) -> bool {
-    match change {
-        Change::Cut => is_dropped(rt, player, place),
-        Change::Flip => are_flips_harmless(rt, player, place),
-    }
-}
-
-/// Fails with the first place at which the change does something.
-fn try_places(rt: &impl Abort, player: &mut Player, change: Change) {
-    for place in 0..164usize {
-        if !is_harmless_at(rt, player, change, place) {
+/// Cuts and flips each byte, after which the server is as at first, but for the clock, and goes on.
+fn try_all(rt: &impl Abort, alloc: Global, scenario: &mut Scenario) {
+    let request = scenario.datagram(REQUEST).expect(rt, "a datagram").bytes;
+    for place in 0..request.len() {
+        let is_cut = is_cut_dropped(rt, alloc, scenario, &request, place);
+        if !is_cut || !are_flips_harmless(rt, alloc, scenario, &request, place) {
             panic!(rt; "place {place}");
         }
     }
-}
-
-/// Tries the change at each byte. The server is then as at first, but for the clock, and goes on.
-fn try_all(rt: &impl Abort, player: &mut Player, change: Change) {
-    let kept = player.kept(rt);
-    try_places(rt, player, change);
-    player.play(rt, &UNCHANGED);
-    assert!(rt; player.keeps(&kept) && player.disk().failures() == 0);
-    player.play(rt, &[ALLOCATE, ALLOCATED]);
-}
-
-fn play_changes(rt: &impl Abort, alloc: Global, change: Change) {
-    let mut player = Player::new(rt, alloc, alloc, &SMALL);
-    try_all(rt, &mut player, change);
+    assert!(rt; scenario.play_all(UNCHANGED));
+    assert!(rt; scenario.play(REQUEST) && scenario.play_all(ALLOCATED));
 }
 
 #[test]
-fn each_front_of_a_request_is_dropped(rt: HostRuntime) {
-    play_changes(&rt, rt.alloc(), Change::Cut);
-}
-
-#[test]
-fn each_flipped_bit_of_a_request_leads_to_no_act(rt: HostRuntime) {
-    play_changes(&rt, rt.alloc(), Change::Flip);
+fn each_front_and_each_flipped_bit_of_a_request_leads_to_no_act(rt: HostRuntime) {
+    let alloc = rt.alloc();
+    let mut scenario = Scenario::begin(alloc, alloc, OPENED).expect(&rt, "a server");
+    try_all(&rt, alloc, &mut scenario);
 }

@@ -1,25 +1,15 @@
 //! A server beside the rules alone, over a long mixed run.
 
-use super::player::{Player, moment};
 use super::same::{are_same, is_same_table};
-use super::setup::{LARGE, Setup, made};
 use std::alloc::Global;
 use std::process::Abort;
-use test_requests::{
-    ALICE, Attribute, BOB, FIRST, HIGHEST, HOUR, ID, Kind, LOWEST, PEER, PEER_ENDPOINT, Ports,
-    SECOND, UDP, ZERO, credentials, nonce_of, of_client, signed,
-};
+use test_requests::{FIRST, Ports};
+use test_servers::{Datagram, Scenario, Source};
+use turn_config::Configured;
 use turn_cred::Credentials;
-use turn_step::{Arrival, Machine, Outgoing};
+use turn_step::{Machine, Outgoing};
 use turn_table::Table;
-use turn_types::Endpoint;
-
-/// The max limits.
-const WIDEST: Setup = Setup {
-    bounds: HIGHEST,
-    area: 2_000_000,
-    ..LARGE
-};
+use turn_types::Moment;
 
 /// A linear congruential generator.
 #[derive(Clone, Copy)]
@@ -39,57 +29,38 @@ impl Random {
     }
 }
 
-/// Where a datagram comes from: a client, or 203.0.113.5:7000 to a relayed port.
-#[derive(Clone, Copy)]
-enum Source {
-    Client(Endpoint),
-    Port(u16),
-}
-
-/// A datagram, and where it comes from.
-#[derive(Drop)]
-struct Drawn {
-    source: Source,
-    bytes: Vec<u8>,
-}
-
-impl Drawn {
-    fn arrival(&self) -> Arrival<'_> {
-        match self.source {
-            Source::Client(client) => of_client(client, &self.bytes),
-            Source::Port(port) => Arrival::Peer {
-                port,
-                from: PEER_ENDPOINT,
-                bytes: &self.bytes,
-                id: ID,
-            },
-        }
-    }
-}
-
 /// The requests, some more often than others.
-const REQUESTS: [(Kind, &[Attribute]); 12] = [
-    (Kind::Allocate, &[UDP]),
-    (Kind::Allocate, &[UDP, HOUR]),
-    (Kind::Allocate, &[UDP]),
-    (Kind::Allocate, &[Attribute::NoTransport]),
-    (Kind::Refresh, &[]),
-    (Kind::Refresh, &[HOUR]),
-    (Kind::Refresh, &[ZERO]),
-    (Kind::CreatePermission, &[PEER]),
-    (Kind::CreatePermission, &[PEER]),
-    (Kind::ChannelBind, &[LOWEST, PEER]),
-    (Kind::ChannelBind, &[LOWEST, PEER]),
-    (Kind::ChannelBind, &[PEER]),
+const REQUESTS: [&str; 12] = [
+    "allocate",
+    "allocate life=3600",
+    "allocate",
+    "allocate transport=none",
+    "refresh",
+    "refresh life=3600",
+    "refresh life=0",
+    "permit peer=203.0.113.5:7000",
+    "permit peer=203.0.113.5:7000",
+    "bind chan=4000 peer=203.0.113.5:7000",
+    "bind chan=4000 peer=203.0.113.5:7000",
+    "bind peer=203.0.113.5:7000",
 ];
 
-/// Data of clients: the text "hello" in a Send indication, and "abc" over channel 0x4000.
-const DATA: [&[u8]; 2] = [
-    b"\x00\x16\x00\x18\x21\x12\xa4\x42\x01\x02\x03\x04\x05\x06\x07\x08\x09\x0a\x0b\x0c\
-    \x00\x12\x00\x08\x00\x01\x3a\x4a\xea\x12\xd5\x47\
-    \x00\x13\x00\x05hello\x00\x00\x00",
-    b"\x40\x00\x00\x03abc",
+/// The clients, and their users with the transaction ids of their requests.
+const CLIENTS: [&str; 2] = ["192.0.2.1:32853 ", "192.0.2.2:40000 "];
+
+const USERS: [&str; 2] = [
+    "alice 0102030405060708090a0b0c ",
+    "bob 000000000000000000000002 ",
 ];
+
+/// Data: what comes before the client or the port, and after it. A Send indication, data over channel 0x4000, and data of a peer.
+const DATA: [(&str, &str); 3] = [
+    ("send ", "203.0.113.5:7000 68656c6c6f"),
+    ("raw ", "40000003616263"),
+    ("peer ", "203.0.113.5:7000 68656c6c6f"),
+];
+
+const PORTS: [&str; 2] = ["50000 ", "50001 "];
 
 /// A run of two clients, their requests, and their data.
 #[derive(Drop)]
@@ -100,7 +71,16 @@ struct Run {
     // How many arrivals are left of the batch.
     left: u32,
     // The last request.
-    last: Drawn,
+    last: Datagram,
+}
+
+/// The datagram of a line that has these parts.
+fn datagram(rt: &impl Abort, alloc: Global, scenario: &Scenario, parts: &[&str]) -> Datagram {
+    let mut line = Vec::new(alloc);
+    for part in parts {
+        line.extend_from_slice(part.as_bytes()).expect(rt, "memory");
+    }
+    scenario.datagram(&line).expect(rt, "a datagram")
 }
 
 impl Run {
@@ -110,53 +90,46 @@ impl Run {
             random: Random { state: 20 },
             second: 1000,
             left: 1,
-            last: Drawn {
+            last: Datagram {
                 source: Source::Client(FIRST),
                 bytes: Vec::new(alloc),
             },
         }
     }
 
-    fn client(&mut self) -> Endpoint {
-        if self.random.below(2) == 0 {
-            FIRST
-        } else {
-            SECOND
+    /// One of some words.
+    fn one_of(&mut self, words: &[&'static str]) -> &'static str {
+        let place = self.random.below(12) as usize;
+        match words.get(place % words.len().max(1)) {
+            Some(word) => *word,
+            None => "",
         }
     }
 
-    /// A request with the nonce of this second, mostly of the user whose address it comes from.
-    fn request(&mut self, rt: &impl Abort) -> Drawn {
-        let client = self.client();
-        let user = if (client == FIRST) == (self.random.below(16) > 0) {
-            ALICE
+    /// A request, mostly of the user whose address it comes from.
+    fn request(&mut self, rt: &impl Abort, scenario: &Scenario) -> Datagram {
+        let client = self.one_of(&CLIENTS);
+        let is_own = self.random.below(16) > 0;
+        let user = if (client == CLIENTS[0]) == is_own {
+            USERS[0]
         } else {
-            BOB
+            USERS[1]
         };
-        let (kind, attributes) = match REQUESTS.get(self.random.below(12) as usize) {
-            Some((kind, attributes)) => (*kind, *attributes),
-            None => (Kind::Refresh, REQUESTS[4].1),
-        };
-        let source = Source::Client(client);
-        let nonce = made(rt, nonce_of(self.second, client), "a nonce");
-        let signed = signed(self.alloc, user, kind, &nonce, attributes);
-        self.last = Drawn {
-            source,
-            bytes: made(rt, signed, "a request"),
-        };
+        let parts = ["ask ", client, user, self.one_of(&REQUESTS)];
+        self.last = datagram(rt, self.alloc, scenario, &parts);
         self.repeated(rt)
     }
 
     /// The last request again.
-    fn repeated(&self, rt: &impl Abort) -> Drawn {
-        Drawn {
+    fn repeated(&self, rt: &impl Abort) -> Datagram {
+        Datagram {
             source: self.last.source,
             bytes: Vec::from_slice(self.alloc, &self.last.bytes).expect(rt, "memory"),
         }
     }
 
     /// The last request with a byte changed, or with its end cut.
-    fn malformed(&mut self, rt: &impl Abort) -> Drawn {
+    fn malformed(&mut self, rt: &impl Abort) -> Datagram {
         let mut drawn = self.repeated(rt);
         let place = self.random.below(164) as usize;
         match drawn.bytes.get_mut(place) {
@@ -166,24 +139,14 @@ impl Run {
         drawn
     }
 
-    fn port(&mut self) -> u16 {
-        if self.random.below(2) == 0 {
-            50000
-        } else {
-            50001
-        }
-    }
-
-    fn data(&mut self, rt: &impl Abort) -> Drawn {
-        let place = self.random.below(3) as usize;
-        let (source, bytes) = match DATA.get(place) {
-            Some(bytes) => (Source::Client(self.client()), *bytes),
-            None => (Source::Port(self.port()), b"hello".as_slice()),
+    fn data(&mut self, rt: &impl Abort, scenario: &Scenario) -> Datagram {
+        let (word, rest) = match DATA.get(self.random.below(3) as usize) {
+            Some((word, rest)) => (*word, *rest),
+            None => DATA[0],
         };
-        Drawn {
-            source,
-            bytes: Vec::from_slice(self.alloc, bytes).expect(rt, "memory"),
-        }
+        let place = if word == DATA[2].0 { &PORTS } else { &CLIENTS };
+        let parts = [word, self.one_of(place), rest];
+        datagram(rt, self.alloc, scenario, &parts)
     }
 
     /// Whether the batch ends, which has up to seven arrivals; the next one is drawn then.
@@ -197,13 +160,16 @@ impl Run {
     }
 
     /// The next datagram, after up to seven seconds.
-    fn next(&mut self, rt: &impl Abort) -> Drawn {
+    fn next(&mut self, rt: &impl Abort, scenario: &mut Scenario) -> Datagram {
         self.second = self.second.saturating_add(u64::from(self.random.below(8)));
+        let second = self.second;
+        let line = format!(in self.alloc; "at {second}").expect(rt, "memory");
+        assert!(rt; scenario.play(line.as_bytes()));
         match self.random.below(16) {
-            0..6 => self.request(rt),
+            0..6 => self.request(rt, scenario),
             6..8 => self.repeated(rt),
             8 => self.malformed(rt),
-            _ => self.data(rt),
+            _ => self.data(rt, scenario),
         }
     }
 }
@@ -211,32 +177,42 @@ impl Run {
 /// The rules of the server, without a store.
 type Rules = Machine<Credentials, Ports>;
 
-fn rules(rt: &impl Abort, alloc: Global, setup: &Setup) -> Rules {
-    let (config, ports) = (setup.config(rt, alloc), setup.ports(rt));
-    let credentials = made(rt, credentials(alloc), "credentials");
+fn moment(rt: &impl Abort, second: u64) -> Moment {
+    Moment::new(second).expect(rt, "a moment")
+}
+
+fn rules(rt: &impl Abort, alloc: Global, scenario: &Scenario) -> Rules {
+    let Configured {
+        config,
+        credentials,
+        ports,
+        ..
+    } = scenario.configured().expect(rt, "a configuration");
     let table = Table::new(alloc, config.limits(), moment(rt, 0));
-    match Machine::new(alloc, config, credentials, ports, table, true) {
+    match Machine::new(alloc, config, credentials, Ports::new(ports), table, true) {
         Ok(machine) => machine,
         Err(_) => panic!(rt; "memory"),
     }
 }
 
-/// What the rules answer to an arrival at a second.
-fn step(
-    rt: &impl Abort,
-    rules: &mut Rules,
-    second: u64,
-    arrival: &Arrival<'_>,
-) -> Option<Outgoing> {
+/// What the rules answer to a datagram at a second.
+fn step(rt: &impl Abort, rules: &mut Rules, second: u64, datagram: &Datagram) -> Option<Outgoing> {
     let moment = moment(rt, second);
     assert!(rt; rules.moment() <= moment);
-    rules.step(moment, arrival).expect(rt, "memory")
+    rules.step(moment, &datagram.arrival()).expect(rt, "memory")
+}
+
+/// Gives the server a datagram at a second.
+fn take(rt: &impl Abort, scenario: &mut Scenario, second: u64, datagram: &Datagram) {
+    let moment = moment(rt, second);
+    let server = scenario.server_mut().expect(rt, "a server");
+    assert!(rt; server.clock() <= moment && server.submit(moment, &datagram.arrival()).is_ok());
 }
 
 /// A server over a store, the same rules without a store, and what these sent since the last commit.
 #[derive(Drop)]
 struct Twins<'a> {
-    player: &'a mut Player,
+    scenario: &'a mut Scenario,
     rules: &'a mut Rules,
     sent: Vec<Outgoing>,
     // How many datagrams were sent, to clients and to peers.
@@ -245,14 +221,6 @@ struct Twins<'a> {
 }
 
 impl Twins<'_> {
-    /// Gives both an arrival at a second.
-    fn take(&mut self, rt: &impl Abort, second: u64, arrival: &Arrival<'_>) {
-        self.player.take(rt, second, arrival);
-        if let Some(out) = step(rt, self.rules, second, arrival) {
-            self.send(rt, out);
-        }
-    }
-
     /// Notes a datagram that the rules alone sent.
     fn send(&mut self, rt: &impl Abort, out: Outgoing) {
         match &out {
@@ -264,32 +232,38 @@ impl Twins<'_> {
 
     /// Whether a commit hands out what the rules alone sent since the last one.
     fn commits(&mut self, rt: &impl Abort) -> bool {
-        let outs = self.player.commit(rt);
+        let outs = match self.scenario.server_mut().expect(rt, "a server").commit() {
+            Ok(outs) => outs,
+            Err(_) => return false,
+        };
         let is_same = are_same(&outs, &self.sent);
         self.sent.clear();
         is_same
     }
 
-    fn is_same(&self) -> bool {
-        is_same_table(self.player.table(), self.rules.table()) && self.player.keeps_ports()
+    fn is_same(&self, rt: &impl Abort) -> bool {
+        let server = self.scenario.server().expect(rt, "a server");
+        is_same_table(server.table(), self.rules.table()) && self.scenario.keeps_ports()
     }
 
-    /// Takes the next arrival of a run, and commits if it is the last one of its batch.
+    /// Takes the next datagram of a run, and commits if it is the last one of its batch.
     fn take_next(&mut self, rt: &impl Abort, run: &mut Run) -> bool {
-        let drawn = run.next(rt);
-        self.take(rt, run.second, &drawn.arrival());
+        let datagram = run.next(rt, self.scenario);
+        take(rt, self.scenario, run.second, &datagram);
+        if let Some(out) = step(rt, self.rules, run.second, &datagram) {
+            self.send(rt, out);
+        }
         !run.ends_batch() || self.commits(rt)
     }
 
-    /// Takes the next arrival of a run, with a commit after every one to seven of them. After each hundredth one there is a
+    /// Takes the next datagram of a run, with a commit after every one to seven of them. After each hundredth one there is a
     /// commit, and the tables are compared.
     fn goes_on(&mut self, rt: &impl Abort, run: &mut Run, count: u32) -> bool {
         let is_right = self.take_next(rt, run);
-        is_right && (count % 100 != 0 || self.commits(rt) && self.is_same())
+        is_right && (count % 100 != 0 || self.commits(rt) && self.is_same(rt))
     }
 }
 
-/// Takes 2,000 arrivals.
 fn take_thousands(rt: &impl Abort, twins: &mut Twins<'_>, run: &mut Run) {
     for count in 1..=2000u32 {
         if !twins.goes_on(rt, run, count) {
@@ -298,11 +272,11 @@ fn take_thousands(rt: &impl Abort, twins: &mut Twins<'_>, run: &mut Run) {
     }
 }
 
-/// Takes 2,000 arrivals, which send many datagrams to clients and to peers, and returns the last second.
-fn take_all(rt: &impl Abort, alloc: Global, player: &mut Player, rules: &mut Rules) -> u64 {
+/// Takes 2,000 datagrams, by which many are sent to clients and to peers, and returns the last second.
+fn take_all(rt: &impl Abort, alloc: Global, scenario: &mut Scenario, rules: &mut Rules) -> u64 {
     let mut run = Run::new(alloc);
     let mut twins = Twins {
-        player,
+        scenario,
         rules,
         sent: Vec::new(alloc),
         to_clients: 0,
@@ -313,33 +287,39 @@ fn take_all(rt: &impl Abort, alloc: Global, player: &mut Player, rules: &mut Rul
     run.second
 }
 
-/// Whether a server that was opened has this table at a second.
-fn has_table(rt: &impl Abort, player: &mut Player, second: u64, table: &Table) -> bool {
-    player.take(rt, second, &of_client(FIRST, b""));
-    is_same_table(player.table(), table)
+/// Whether the store that is opened again has this table at a second.
+fn is_stored(
+    rt: &impl Abort,
+    alloc: Global,
+    scenario: &mut Scenario,
+    second: u64,
+    table: &Table,
+) -> bool {
+    assert!(rt; scenario.play(b"reopen"));
+    let empty = Datagram {
+        source: Source::Client(FIRST),
+        bytes: Vec::new(alloc),
+    };
+    take(rt, scenario, second, &empty);
+    is_same_table(scenario.server().expect(rt, "a server").table(), table)
 }
 
-fn is_stored(rt: &impl Abort, player: Player, second: u64, table: &Table) -> bool {
-    has_table(rt, &mut player.reopen(rt), second, table)
-}
+/// The max limits, and areas so small that commits compact.
+const SETUPS: [&[u8]; 2] = [
+    b"limits 1024 32 32 64 508\nformat 2000000\nexpect opened clock 0",
+    b"limits 8 4 4 8 8\nformat 4096\nexpect opened clock 0",
+];
 
-/// Takes the run, and opens the store.
-fn take_run(rt: &impl Abort, alloc: Global, mut player: Player, rules: &mut Rules) {
-    let second = take_all(rt, alloc, &mut player, rules);
-    assert!(rt; is_stored(rt, player, second, rules.table()));
+fn take_run(rt: &impl Abort, alloc: Global, setup: &[u8]) {
+    let mut scenario = Scenario::begin(alloc, alloc, setup).expect(rt, "a server");
+    let mut rules = rules(rt, alloc, &scenario);
+    let second = take_all(rt, alloc, &mut scenario, &mut rules);
+    assert!(rt; is_stored(rt, alloc, &mut scenario, second, rules.table()));
 }
-
-fn take_run_of(rt: &impl Abort, alloc: Global, setup: &Setup) {
-    let mut rules = rules(rt, alloc, setup);
-    take_run(rt, alloc, Player::new(rt, alloc, alloc, setup), &mut rules);
-}
-
-/// Under the max limits, and in areas so small that commits compact.
-const SETUPS: [Setup; 2] = [WIDEST, LARGE];
 
 #[test]
 fn server_answers_as_the_rules_without_a_store(rt: HostRuntime) {
     for setup in &SETUPS {
-        take_run_of(&rt, rt.alloc(), setup);
+        take_run(&rt, rt.alloc(), setup);
     }
 }

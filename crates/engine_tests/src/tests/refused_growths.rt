@@ -1,81 +1,60 @@
 //! Each growth of memory refused in turn.
 
-use super::player::Player;
-use super::reservations::{RESERVE, RESERVING, TOKENED};
-use super::row::{Row, Sent};
 use super::same::{are_same, is_same_table};
-use super::setup::{LARGE, SMALL, made};
-use super::stops::act_of;
 use failing_alloc::FailingAlloc;
 use std::alloc::{Allocator, Global};
 use std::process::Abort;
-use test_requests::{
-    ALICE, BOB, FIRST, HOUR, Kind, LOWEST, PEER, PEER_ENDPOINT, Ports, SECOND, UDP, ZERO,
-    credentials,
-};
+use test_requests::Ports;
+use test_servers::{Datagram, Scenario, Served};
+use turn_config::Configured;
 use turn_cred::Credentials;
 use turn_disk::{Disk, MemoryDisk};
-use turn_engine::{Server, ServerOpenError};
+use turn_engine::{Server, ServerOpenError, SubmitError};
 use turn_step::Outgoing;
 use turn_store::OpenError;
-use turn_types::ServerConfig;
+use turn_table::Table;
+use turn_types::{Moment, ServerConfig};
+
+/// Eight acts a batch.
+const LARGE: &[u8] = b"limits 8 4 4 8 8
+format 4096
+expect opened clock 0";
 
 // ---- Arrivals
 
-/// The allocations of alice, by port 50000 for an hour, and of bob, by port 50001 up to second 1001, and then these rows.
-macro_rules! both_and {
-    ($($row:expr),*) => {
-        &[
-            Row::Ask(401, ALICE, FIRST, Kind::Allocate, &[UDP, HOUR]),
-            Row::Ask(401, BOB, SECOND, Kind::Allocate, &[UDP]),
-            Row::Commit(&[Sent::Code(FIRST, 0), Sent::Code(SECOND, 0)]),
-            $($row),*
-        ]
-    };
-}
+/// The allocations of alice, by port 50000 for an hour, and of bob, by port 50001 up to second 1001.
+const BOTH: &[u8] = b"at 401
+ask 192.0.2.1:32853 alice 0102030405060708090a0b0c allocate life=3600
+ask 192.0.2.2:40000 bob 000000000000000000000002 allocate
+commit
+expect client 192.0.2.1:32853 success allocate 0102030405060708090a0b0c port=50000 life=3600
+expect client 192.0.2.2:40000 success allocate 000000000000000000000002 port=50001 life=600
+expect committed 2
+at 1000";
 
-const BOTH: &[Row] = both_and!();
+const PERMIT: &[u8] =
+    b"ask 192.0.2.1:32853 alice 0102030405060708090a0b0c permit peer=203.0.113.5:7000";
 
-const PERMIT: Row = Row::Ask(1000, ALICE, FIRST, Kind::CreatePermission, &[PEER]);
+const BIND: &[u8] =
+    b"ask 192.0.2.1:32853 alice 0102030405060708090a0b0c bind chan=4000 peer=203.0.113.5:7000";
 
-const BIND: Row = Row::Ask(1000, ALICE, FIRST, Kind::ChannelBind, &[LOWEST, PEER]);
-
-/// A permission, which is staged.
-const PERMITTED: &[Row] = both_and!(PERMIT);
-
-/// A channel, of whose binding nothing is staged any more.
-const BOUND: &[Row] = both_and!(BIND, Row::Commit(&[Sent::Code(FIRST, 0)]));
-
-/// Four arrivals of a batch of eight. The first of them made room for the datagrams of all eight.
-const FOUR_STAGED: &[Row] = both_and!(PERMIT, BIND, PERMIT, BIND);
-
-/// The text "hello" to 203.0.113.5:7000.
-const SEND: &[u8] =
-    b"\x00\x16\x00\x18\x21\x12\xa4\x42\x01\x02\x03\x04\x05\x06\x07\x08\x09\x0a\x0b\x0c\
-    \x00\x12\x00\x08\x00\x01\x3a\x4a\xea\x12\xd5\x47\
-    \x00\x13\x00\x05hello\x00\x00\x00";
-
-/// The text "abc" over channel 0x4000.
-const ABC: &[u8] = b"\x40\x00\x00\x03abc";
-
-const BOBS: Row = Row::Ask(1001, BOB, SECOND, Kind::Allocate, &[UDP]);
-
-const BOBS_PAIR: Row = Row::Ask(1001, BOB, SECOND, Kind::Allocate, &[UDP, RESERVING]);
-
-const REFRESH: Row = Row::Ask(1001, ALICE, FIRST, Kind::Refresh, &[]);
+const BOUND: &[u8] = b"commit
+expect client 192.0.2.1:32853 success bind 0102030405060708090a0b0c
+expect committed 1";
 
 /// A request of bob's that takes nothing. His key is remembered from then on: a refused growth of that would not be told.
-const ASKED: &[Row] = &[
-    Row::Ask(401, BOB, SECOND, Kind::Refresh, &[]),
-    Row::Commit(&[Sent::Code(SECOND, 437)]),
-];
+const ASKED: &[u8] = b"at 401
+ask 192.0.2.2:40000 bob 000000000000000000000002 refresh
+commit
+expect client 192.0.2.2:40000 error refresh 000000000000000000000002 437
+expect committed 1
+at 1000";
 
-/// The same, and alice's allocation of port 50000, which reserves port 50001 up to second 1030.
-const RESERVED: &[Row] = &[
-    Row::Ask(401, BOB, SECOND, Kind::Refresh, &[]),
-    RESERVE,
-    Row::Commit(&[Sent::Code(SECOND, 437), Sent::Code(FIRST, 0)]),
-];
+/// Alice's allocation of port 50000, which reserves port 50001 up to second 1030.
+const RESERVED: &[u8] = b"ask 192.0.2.1:32853 alice 0102030405060708090a0b0c allocate even+
+commit
+expect client 192.0.2.1:32853 success allocate 0102030405060708090a0b0c port=50000 life=600 token=c351d574b15a49fa
+expect committed 1";
 
 /// What is done before.
 #[derive(Clone, Copy)]
@@ -83,138 +62,174 @@ enum Before {
     Asked,
     Reserved,
     Both,
+    /// A permission is staged.
     Permitted,
+    /// A channel, of whose binding nothing is staged any more.
     Bound,
+    /// Four arrivals of a batch of eight. The first of them made room for the datagrams of all eight.
     FourStaged,
 }
 
 impl Before {
-    fn rows(self) -> &'static [Row] {
+    fn lines(self) -> &'static [&'static [u8]] {
         match self {
-            Before::Asked => ASKED,
-            Before::Reserved => RESERVED,
-            Before::Both => BOTH,
-            Before::Permitted => PERMITTED,
-            Before::Bound => BOUND,
-            Before::FourStaged => FOUR_STAGED,
+            Before::Asked => &[ASKED],
+            Before::Reserved => &[ASKED, RESERVED],
+            Before::Both => &[BOTH],
+            Before::Permitted => &[BOTH, PERMIT],
+            Before::Bound => &[BOTH, BIND, BOUND],
+            Before::FourStaged => &[BOTH, PERMIT, BIND, PERMIT, BIND],
         }
     }
 }
 
+const REFRESH: &[u8] = b"ask 192.0.2.1:32853 alice 0102030405060708090a0b0c refresh";
+
+const BOBS: &[u8] = b"ask 192.0.2.2:40000 bob 000000000000000000000002 allocate";
+
+const BOBS_PAIR: &[u8] = b"ask 192.0.2.2:40000 bob 000000000000000000000002 allocate even+";
+
+const BOBS_TOKEN: &[u8] =
+    b"ask 192.0.2.2:40000 bob 000000000000000000000002 allocate token=c351d574b15a49fa";
+
+const DELETE: &[u8] = b"ask 192.0.2.1:32853 alice 0102030405060708090a0b0c refresh life=0";
+
 /// What is done before, and the request at second 1001 whose growths are refused.
-const GROWTHS: [(Before, Row); 11] = [
+const GROWTHS: [(Before, &[u8]); 11] = [
     (Before::Asked, BOBS),
     (Before::Asked, BOBS_PAIR),
     (Before::Reserved, BOBS_PAIR),
-    (
-        Before::Reserved,
-        Row::Ask(1001, BOB, SECOND, Kind::Allocate, TOKENED),
-    ),
+    (Before::Reserved, BOBS_TOKEN),
     (Before::Both, BOBS),
     (Before::Permitted, BOBS),
     (Before::Both, REFRESH),
     (Before::FourStaged, REFRESH),
-    (
-        Before::Bound,
-        Row::Ask(1001, ALICE, FIRST, Kind::Refresh, &[ZERO]),
-    ),
-    (
-        Before::Both,
-        Row::Ask(1001, ALICE, FIRST, Kind::CreatePermission, &[PEER]),
-    ),
-    (
-        Before::Permitted,
-        Row::Ask(1001, ALICE, FIRST, Kind::ChannelBind, &[LOWEST, PEER]),
-    ),
+    (Before::Bound, DELETE),
+    (Before::Both, PERMIT),
+    (Before::Permitted, BIND),
 ];
+
+/// The text "hello" to 203.0.113.5:7000.
+const SEND: &[u8] = b"send 192.0.2.1:32853 203.0.113.5:7000 68656c6c6f";
+
+/// The text "abc" over channel 0x4000.
+const ABC: &[u8] = b"raw 192.0.2.1:32853 40000003616263";
+
+const PEERS: &[u8] = b"peer 50000 203.0.113.5:7000 616263";
 
 /// The same of data that is relayed, with the number of its growths: one for the datagram, and the first of a batch has one
 /// more, for the list of the batch.
-const DATA_GROWTHS: [((Before, Row), u64); 6] = [
-    ((Before::Permitted, Row::Client(1001, FIRST, SEND)), 1),
-    ((Before::Bound, Row::Client(1001, FIRST, SEND)), 2),
-    ((Before::Bound, Row::Client(1001, FIRST, ABC)), 2),
-    (
-        (Before::Permitted, Row::Peer(1001, PEER_ENDPOINT, b"hello")),
-        1,
-    ),
-    ((Before::Bound, Row::Peer(1001, PEER_ENDPOINT, b"abc")), 2),
-    (
-        (Before::FourStaged, Row::Peer(1001, PEER_ENDPOINT, b"abc")),
-        1,
-    ),
+const DATA_GROWTHS: [(Before, &[u8], u64); 6] = [
+    (Before::Permitted, SEND, 1),
+    (Before::Bound, SEND, 2),
+    (Before::Bound, ABC, 2),
+    (Before::Permitted, PEERS, 1),
+    (Before::Bound, PEERS, 2),
+    (Before::FourStaged, PEERS, 1),
 ];
 
 /// Whether two servers have the same table at the same moment, and each holds the ports of its allocations.
-fn are_alike<A: Allocator + Copy>(first: &Player<A>, second: &Player<A>) -> bool {
-    is_same_table(first.table(), second.table()) && first.keeps_ports() && second.keeps_ports()
+fn are_alike<A: Allocator + Copy>(
+    rt: &impl Abort,
+    first: &Scenario<A>,
+    second: &Scenario<A>,
+) -> bool {
+    let server = first.server().expect(rt, "a server");
+    let other = second.server().expect(rt, "a server");
+    is_same_table(server.table(), other.table()) && first.keeps_ports() && second.keeps_ports()
 }
 
-/// Whether a commit hands out these datagrams.
-fn commits<A: Allocator + Copy>(
+/// What a commit hands out.
+fn handed_out<A: Allocator + Copy>(
     rt: &impl Abort,
-    player: &mut Player<A>,
-    wanted: &[Outgoing<A>],
-) -> bool {
-    let outs = player.commit(rt);
-    are_same(wanted, &outs)
+    scenario: &mut Scenario<A>,
+) -> Vec<Outgoing<A>, A> {
+    match scenario.server_mut().expect(rt, "a server").commit() {
+        Ok(outs) => outs,
+        Err(_) => panic!(rt; "a refused commit"),
+    }
+}
+
+fn content<'a, A: Allocator + Copy>(rt: &impl Abort, scenario: &'a Scenario<A>) -> &'a [u8] {
+    scenario.server().expect(rt, "a server").disk().content()
 }
 
 /// Whether commits of two servers hand out the same datagrams, and leave the same bytes on their disks.
 fn commit_alike<A: Allocator + Copy>(
     rt: &impl Abort,
-    first: &mut Player<A>,
-    second: &mut Player<A>,
+    first: &mut Scenario<A>,
+    second: &mut Scenario<A>,
 ) -> bool {
-    let outs = first.commit(rt);
-    commits(rt, second, &outs) && first.disk().content() == second.disk().content()
+    let outs = handed_out(rt, first);
+    let others = handed_out(rt, second);
+    are_same(&outs, &others) && content(rt, first) == content(rt, second)
 }
 
 /// A server that had no memory for an arrival goes on as another one that got a datagram without an answer in its place, at
 /// the same second: in what is handed out, and at the same arrival again.
 fn go_on<A: Allocator + Copy>(
     rt: &impl Abort,
-    player: &mut Player<A>,
-    other: &mut Player<A>,
-    row: &Row,
+    scenario: &mut Scenario<A>,
+    other: &mut Scenario<A>,
+    line: &[u8],
 ) {
-    other.play(rt, &[Row::Client(1001, FIRST, b"")]);
-    assert!(rt; are_alike(player, other) && commit_alike(rt, player, other));
-    player.play(rt, &[*row]);
-    other.play(rt, &[*row]);
-    assert!(rt; are_alike(player, other) && commit_alike(rt, player, other));
+    assert!(rt; other.play(b"raw 192.0.2.1:32853 -"));
+    assert!(rt; are_alike(rt, scenario, other) && commit_alike(rt, scenario, other));
+    assert!(rt; scenario.play(line) && other.play(line));
+    assert!(rt; are_alike(rt, scenario, other) && commit_alike(rt, scenario, other));
 }
 
-/// Whether the growth after so many is refused, which the result says, and after which the server goes on.
-fn is_refused<A: Allocator + Copy>(
+/// Submits a datagram, of which the growth after so many is refused, and returns whether one was: the result has to say it.
+fn lacks_memory<A: Allocator + Copy>(
     rt: &impl Abort,
     refusing: &FailingAlloc<Global>,
-    player: &mut Player<A>,
-    other: &mut Player<A>,
-    (before, row): &(Before, Row),
+    scenario: &mut Scenario<A>,
+    datagram: &Datagram,
     served: u64,
 ) -> bool {
-    player.play(rt, before.rows());
-    other.play(rt, before.rows());
-    let was_refused = player.lacks_memory(rt, refusing, row, served);
-    if was_refused {
-        go_on(rt, player, other, row);
+    refusing.arm(served);
+    let taken = scenario.submit(datagram).expect(rt, "a server");
+    let was_refused = refusing.has_refused();
+    refusing.arm(u64::MAX);
+    match taken {
+        Ok(()) => assert!(rt; !was_refused),
+        Err(refused) => assert!(rt; was_refused && refused == SubmitError::Memory),
     }
     was_refused
 }
 
-/// The same of two new servers.
-fn is_refused_at_first(rt: &impl Abort, alloc: Global, rows: &(Before, Row), served: u64) -> bool {
+/// A server after lines, at second 1001.
+fn begun<A: Allocator + Copy>(
+    rt: &impl Abort,
+    inner: A,
+    alloc: Global,
+    before: Before,
+) -> Scenario<A> {
+    let mut scenario = Scenario::begin(alloc, inner, LARGE).expect(rt, "a server");
+    for lines in before.lines() {
+        assert!(rt; scenario.play_all(lines));
+    }
+    assert!(rt; scenario.play(b"at 1001"));
+    scenario
+}
+
+/// Whether the growth after so many is refused, which the result says, and after which the server goes on.
+fn is_refused(rt: &impl Abort, alloc: Global, before: Before, line: &[u8], served: u64) -> bool {
     let refusing = FailingAlloc::new(alloc, u64::MAX);
-    let mut player = Player::new(rt, &refusing, alloc, &LARGE);
-    let mut other = Player::new(rt, &refusing, alloc, &LARGE);
-    is_refused(rt, &refusing, &mut player, &mut other, rows, served)
+    let mut scenario = begun(rt, &refusing, alloc, before);
+    let mut other = begun(rt, &refusing, alloc, before);
+    let datagram = scenario.datagram(line).expect(rt, "a datagram");
+    let was_refused = lacks_memory(rt, &refusing, &mut scenario, &datagram, served);
+    if was_refused {
+        go_on(rt, &mut scenario, &mut other, line);
+    }
+    was_refused
 }
 
 /// How many growths an arrival takes, each of which is refused once.
-fn growths_of(rt: &impl Abort, alloc: Global, rows: &(Before, Row)) -> u64 {
+fn growths_of(rt: &impl Abort, alloc: Global, before: Before, line: &[u8]) -> u64 {
     for served in 0..32u64 {
-        if !is_refused_at_first(rt, alloc, rows, served) {
+        if !is_refused(rt, alloc, before, line, served) {
             return served;
         }
     }
@@ -223,8 +238,8 @@ fn growths_of(rt: &impl Abort, alloc: Global, rows: &(Before, Row)) -> u64 {
 
 #[test]
 fn arrival_that_lacks_memory_changes_the_moment_alone(rt: HostRuntime) {
-    for (place, rows) in GROWTHS.iter().enumerate() {
-        if growths_of(&rt, rt.alloc(), rows) == 0 {
+    for (place, (before, line)) in GROWTHS.iter().enumerate() {
+        if growths_of(&rt, rt.alloc(), *before, line) == 0 {
             panic!(rt; "row {place}");
         }
     }
@@ -232,8 +247,8 @@ fn arrival_that_lacks_memory_changes_the_moment_alone(rt: HostRuntime) {
 
 #[test]
 fn relayed_data_takes_one_growth_a_datagram_and_one_a_batch(rt: HostRuntime) {
-    for (place, (rows, growths)) in DATA_GROWTHS.iter().enumerate() {
-        if growths_of(&rt, rt.alloc(), rows) != *growths {
+    for (place, (before, line, growths)) in DATA_GROWTHS.iter().enumerate() {
+        if growths_of(&rt, rt.alloc(), *before, line) != *growths {
             panic!(rt; "row {place}");
         }
     }
@@ -241,37 +256,61 @@ fn relayed_data_takes_one_growth_a_datagram_and_one_a_batch(rt: HostRuntime) {
 
 // ---- Openings
 
-/// Of a server over the store of `BOUND`, whose handler knows alice.
-const OPENED: [Row; 4] = [
-    Row::Live(&[(FIRST, 50000, 4001), (SECOND, 50001, 1001)]),
-    Row::Clock(1000),
-    REFRESH,
-    Row::Commit(&[Sent::Code(FIRST, 0)]),
-];
-
-/// The disk of a server after `BOUND`, with a store of two frames: both allocations, and a channel.
-fn stored(rt: &impl Abort, alloc: Global) -> MemoryDisk {
-    let mut player = Player::new(rt, alloc, alloc, &LARGE);
-    player.play(rt, BOUND);
-    player.close()
+/// A configuration over other memory, a handler, and a generator.
+fn parts<A: Allocator + Copy>(
+    rt: &impl Abort,
+    inner: A,
+    scenario: &Scenario,
+) -> (ServerConfig<A>, Credentials, Ports) {
+    let Configured {
+        config,
+        credentials,
+        ports,
+        ..
+    } = scenario.configured().expect(rt, "a configuration");
+    let config = config.try_clone(inner).expect(rt, "memory");
+    (config, credentials, Ports::new(ports))
 }
 
-/// A disk with this content, and with room for the record of an opening.
-fn disk_of<A: Allocator + Copy>(rt: &impl Abort, alloc: A, content: &[u8]) -> MemoryDisk<A> {
-    let content = Vec::from_slice(alloc, content).expect(rt, "memory");
-    let mut disk = MemoryDisk::new(alloc, content);
-    assert!(rt; disk.reserve(1, 0).is_ok());
+/// The disk of a server, with room for the record of so many calls and bytes.
+fn disk_of<A: Allocator + Copy>(
+    rt: &impl Abort,
+    inner: A,
+    scenario: &Scenario,
+    calls: usize,
+    bytes: usize,
+) -> MemoryDisk<A> {
+    let content = Vec::from_slice(inner, content(rt, scenario)).expect(rt, "memory");
+    let mut disk = MemoryDisk::new(inner, content);
+    assert!(rt; disk.reserve(calls, bytes).is_ok());
     disk
+}
+
+/// Takes a datagram at second 1001, and commits, which hands out one.
+fn serve<A: Allocator + Copy>(rt: &impl Abort, server: &mut Served<A>, datagram: &Datagram) {
+    let moment = Moment::new(1001).expect(rt, "a moment");
+    assert!(rt; server.clock() <= moment && server.submit(moment, &datagram.arrival()).is_ok());
+    match server.commit() {
+        Ok(outs) => assert!(rt; outs.len() == 1),
+        Err(_) => panic!(rt; "a refused commit"),
+    }
 }
 
 /// What an opening returns that is refused.
 type Refused<A> = ServerOpenError<MemoryDisk<A>, Credentials, Ports>;
 
-/// What an opening returned after an allocation failure opens the store, whose server goes on as `OPENED` says.
+/// Whether two tables have the same allocations at the same moment.
+fn has_table<A: Allocator + Copy>(table: &Table<A>, other: &Table) -> bool {
+    let is_same = table.entries().zip(other.entries()).all(|(first, second)| first.0 == second.0
+        && (first.1.port(), first.1.expiry()) == (second.1.port(), second.1.expiry()));
+    is_same && table.len() == other.len() && table.moment() == other.moment()
+}
+
+/// What an opening returned after an allocation failure opens the store, whose server goes on.
 fn open_again<A: Allocator + Copy>(
     rt: &impl Abort,
     inner: A,
-    alloc: Global,
+    scenario: &Scenario,
     config: &ServerConfig<A>,
     refused: Refused<A>,
 ) {
@@ -281,8 +320,13 @@ fn open_again<A: Allocator + Copy>(
         ports,
         ..
     } = refused;
+    let datagram = scenario.datagram(REFRESH).expect(rt, "a datagram");
+    let table = scenario.server().expect(rt, "a server").table();
     match Server::open(inner, disk, config, handler, ports) {
-        Ok(server) => Player::of(alloc, &LARGE, server).play(rt, &OPENED),
+        Ok(mut server) => {
+            assert!(rt; has_table(server.table(), table));
+            serve(rt, &mut server, &datagram);
+        }
         Err(_) => panic!(rt; "refused again"),
     }
 }
@@ -294,37 +338,34 @@ fn is_for_memory<A: Allocator>(refused: &Refused<A>, content: &[u8]) -> bool {
         && refused.disk.failures() == 0
 }
 
-/// Whether an opening is refused where the growth after so many is, after which it succeeds.
-fn opening_is_refused<A: Allocator + Copy>(
+/// Whether an opening of a server's disk is refused where the growth after so many is, after which it succeeds.
+fn opening_is_refused(
     rt: &impl Abort,
     refusing: &FailingAlloc<Global>,
-    inner: A,
-    alloc: Global,
-    content: &[u8],
+    scenario: &Scenario,
     served: u64,
 ) -> bool {
-    let (config, ports) = (LARGE.config(rt, inner), LARGE.ports(rt));
-    let credentials = made(rt, credentials(alloc), "credentials");
-    let disk = disk_of(rt, inner, content);
+    let (config, credentials, ports) = parts(rt, refusing, scenario);
+    let disk = disk_of(rt, refusing, scenario, 1, 0);
     refusing.arm(served);
-    let opened = Server::open(inner, disk, &config, credentials, ports);
+    let opened = Server::open(refusing, disk, &config, credentials, ports);
     let was_refused = refusing.has_refused();
     refusing.arm(u64::MAX);
     match opened {
         Ok(_) => assert!(rt; !was_refused),
         Err(refused) => {
-            assert!(rt; was_refused && is_for_memory(&refused, content));
-            open_again(rt, inner, alloc, &config, refused);
+            assert!(rt; was_refused && is_for_memory(&refused, content(rt, scenario)));
+            open_again(rt, refusing, scenario, &config, refused);
         }
     }
     was_refused
 }
 
 /// How many growths the opening takes, each of which is refused once.
-fn growths_of_an_opening(rt: &impl Abort, alloc: Global, content: &[u8]) -> u64 {
+fn growths_of_an_opening(rt: &impl Abort, alloc: Global, scenario: &Scenario) -> u64 {
     let refusing = FailingAlloc::new(alloc, u64::MAX);
     for served in 0..64u64 {
-        if !opening_is_refused(rt, &refusing, &refusing, alloc, content, served) {
+        if !opening_is_refused(rt, &refusing, scenario, served) {
             return served;
         }
     }
@@ -333,55 +374,63 @@ fn growths_of_an_opening(rt: &impl Abort, alloc: Global, content: &[u8]) -> u64 
 
 #[test]
 fn opening_that_lacks_memory_returns_what_it_was_passed(rt: HostRuntime) {
-    let disk = stored(&rt, rt.alloc());
-    assert!(rt; growths_of_an_opening(&rt, rt.alloc(), disk.content()) > 3);
+    let scenario = begun(&rt, rt.alloc(), rt.alloc(), Before::Bound);
+    assert!(rt; growths_of_an_opening(&rt, rt.alloc(), &scenario) > 3);
 }
 
 // ---- Commits
 
-/// Commits an act, with no memory for any growth.
-fn commits_without_memory<A: Allocator + Copy>(
+/// One act a batch, in areas of the min size of version 1.
+const SMALL: &[u8] = b"limits 2 1 1 1 8
+format1 238
+expect opened clock 0
+at 1000";
+
+/// Takes a datagram at a second, and commits, with no memory for any growth of the commit.
+fn commit_without_memory(
     rt: &impl Abort,
     refusing: &FailingAlloc<Global>,
-    player: &mut Player<A>,
-    act: &Row,
-) -> bool {
-    player.play(rt, &[*act]);
+    server: &mut Served<&FailingAlloc<Global>>,
+    second: u64,
+    datagram: &Datagram,
+) {
+    let moment = Moment::new(second).expect(rt, "a moment");
+    assert!(rt; server.clock() <= moment && server.submit(moment, &datagram.arrival()).is_ok());
     refusing.arm(0);
-    let is_handed_out = player.hands_out(rt, &[Sent::Code(FIRST, 0)]);
-    let was_refused = refusing.has_refused();
+    match server.commit() {
+        Ok(outs) => assert!(rt; outs.len() == 1),
+        Err(_) => panic!(rt; "a refused commit"),
+    }
+    assert!(rt; !refusing.has_refused());
     refusing.arm(u64::MAX);
-    is_handed_out && !was_refused
 }
 
-/// Thirteen commits, two of which compact.
-fn commit_each<A: Allocator + Copy>(
+/// Thirteen commits, two of which compact: alice's Allocate at 1000, and then her Refresh, once a second.
+fn commit_each(
     rt: &impl Abort,
     refusing: &FailingAlloc<Global>,
-    player: &mut Player<A>,
+    server: &mut Served<&FailingAlloc<Global>>,
+    scenario: &Scenario,
 ) {
-    for second in 1000..1013u64 {
-        if !commits_without_memory(rt, refusing, player, &act_of(second)) {
-            panic!(rt; "second {second}");
-        }
+    let allocate = scenario.datagram(ALLOCATE).expect(rt, "a datagram");
+    let refresh = scenario.datagram(REFRESH).expect(rt, "a datagram");
+    commit_without_memory(rt, refusing, server, 1000, &allocate);
+    for second in 1001..1013u64 {
+        commit_without_memory(rt, refusing, server, second, &refresh);
     }
 }
 
-/// A disk with an empty store, and with room for the record of all of these commits.
-fn reserved<A: Allocator + Copy>(rt: &impl Abort, alloc: A) -> MemoryDisk<A> {
-    let mut disk = SMALL.disk(rt, alloc);
-    assert!(rt; disk.reserve(128, 4096).is_ok());
-    disk
-}
-
-fn commit_over_reserved(rt: &impl Abort, alloc: Global) {
-    let refusing = FailingAlloc::new(alloc, u64::MAX);
-    let disk = reserved(rt, &refusing);
-    let mut player = Player::open(rt, &refusing, alloc, &SMALL, disk);
-    commit_each(rt, &refusing, &mut player);
-}
+const ALLOCATE: &[u8] = b"ask 192.0.2.1:32853 alice 0102030405060708090a0b0c allocate";
 
 #[test]
 fn commit_over_a_reserved_record_takes_no_memory(rt: HostRuntime) {
-    commit_over_reserved(&rt, rt.alloc());
+    let alloc = rt.alloc();
+    let scenario = Scenario::begin(alloc, alloc, SMALL).expect(&rt, "a server");
+    let refusing = FailingAlloc::new(alloc, u64::MAX);
+    let (config, credentials, ports) = parts(&rt, &refusing, &scenario);
+    let disk = disk_of(&rt, &refusing, &scenario, 128, 4096);
+    match Server::open(&refusing, disk, &config, credentials, ports) {
+        Ok(mut server) => commit_each(&rt, &refusing, &mut server, &scenario),
+        Err(_) => panic!(rt; "not opened"),
+    }
 }

@@ -1,27 +1,14 @@
-//! Several addresses that clients send to: by which of them data comes back, over a crash too, and the faults of a start.
+//! Several addresses that clients send to: by which of them data comes back, over a crash too.
 
 use super::conversations::are_got;
-use super::formats::{fresh, put};
-use super::inspections::FRAME;
-use super::logs::At;
 use super::own::is_lost;
-use super::sockets::HOME;
-use super::turns::{PORTS, Talk};
-use super::{RELEASE, USAGE, expect};
-use std::fs;
-use std::net::UdpSocket;
+use super::talks::{ELSEWHERE, HOME, PORTS, Talk, end_right, make_loopback, new_disk};
 use std::test::Fail;
-use turn_client::{Allocated, ClientError, Loopback, limits};
+use turn_client::{Allocated, ClientError, limits};
 use turn_disk::{CrashOutcome, MemoryDisk};
-use turn_ports::PortRange;
-use turn_program::run_words;
 use turn_serving::Commits;
 use turn_sockets::ListeningAddresses;
-use turn_store::{format, least_area};
 use turn_types::Endpoint;
-
-/// 127.0.0.2, which is this machine's as 127.0.0.1 is.
-const ELSEWHERE: u32 = 0x7F00_0002;
 
 fn two(first: (u32, u16), second: (u32, u16)) -> Result<ListeningAddresses, Fail> {
     let [first, second] = [first, second].map(|(ip, port)| Endpoint { ip, port });
@@ -30,15 +17,9 @@ fn two(first: (u32, u16), second: (u32, u16)) -> Result<ListeningAddresses, Fail
 
 /// A server over a new store in memory that listens on these addresses.
 fn begin_at(rt: &HostRuntime, listen: ListeningAddresses) -> Result<Talk<'_>, Fail> {
-    let area = least_area(limits());
-    let mut disk = MemoryDisk::new(rt.alloc(), Vec::from_elem(rt.alloc(), 0u8, 64 + 2 * area)?);
-    if format(&mut disk, limits(), area).is_err() {
-        return Err(Fail::new("format"));
-    }
-    let ports = PortRange::new(PORTS.0, PORTS.1).ok_or("a range")?;
-    let mut loopback = Loopback::new(rt.alloc(), rt, ports, 1, Commits::EachTurn)?;
+    let mut loopback = make_loopback(rt, PORTS, 1, Commits::EachTurn)?;
     loopback.set_listen(listen);
-    Ok(loopback.serve(rt, disk)?)
+    Ok(loopback.serve(rt, new_disk(rt.alloc(), limits())?)?)
 }
 
 /// A crash of the server, and a start that listens on these addresses.
@@ -167,187 +148,6 @@ fn what_a_relay_port_sends_to_the_second_address_is_lost(rt: HostRuntime) -> Res
         ip: HOME,
         port: 63_102,
     };
-    let lost = is_lost(&rt, &mut talk, second);
-    talk.end();
-    assert!(rt; lost?);
-    Ok(())
-}
-
-const CONFIG: &str = "turn_addresses.conf";
-
-const STORE: &str = "turn_addresses.store";
-
-const LINES: &str = "realm example.org
-secret 0000000000000000000000000000000000000000000000000000000000000000
-listen 127.0.0.1:63101
-relay 127.0.0.1 63122 63129
-limits 2 1 1 1 8
-";
-
-const EIGHT: [&str; 16] = [
-    "--listen",
-    "127.0.0.1:63102",
-    "--listen",
-    "127.0.0.1:63103",
-    "--listen",
-    "127.0.0.2:63101",
-    "--listen",
-    "127.0.0.1:63105",
-    "--listen",
-    "127.0.0.1:63106",
-    "--listen",
-    "127.0.0.1:63107",
-    "--listen",
-    "127.0.0.1:63108",
-    "--listen",
-    "127.0.0.1:63109",
-];
-
-/// Further words, and the status, the output and the fault of a start with them.
-type Case = (&'static [&'static str], u8, &'static str, &'static str);
-
-const CASES: [Case; 11] = [
-    (
-        &["--listen", "127.0.0.1:63102"],
-        0,
-        "listening 127.0.0.1:63101\nlistening 127.0.0.1:63102\nserved 0 turns\n",
-        "",
-    ),
-    (
-        &EIGHT,
-        0,
-        "listening 127.0.0.1:63101\nlistening 127.0.0.1:63102\nlistening 127.0.0.1:63103
-listening 127.0.0.2:63101\nlistening 127.0.0.1:63105\nlistening 127.0.0.1:63106
-listening 127.0.0.1:63107\nlistening 127.0.0.1:63108\nlistening 127.0.0.1:63109\nserved 0 turns\n",
-        "",
-    ),
-    // Twice the same, beside the configuration's and among themselves.
-    (&["--listen", "127.0.0.1:63101"], 1, "", USAGE),
-    (
-        &[
-            "--listen",
-            "127.0.0.2:63101",
-            "--listen",
-            "127.0.0.1:63102",
-            "--listen",
-            "127.0.0.2:63101",
-        ],
-        1,
-        "",
-        USAGE,
-    ),
-    (&["--listen", "127.0.0.1:0"], 1, "", USAGE),
-    (&["--listen", "127.0.0.1"], 1, "", USAGE),
-    (&["--listen", "[::1]:63102"], 1, "", USAGE),
-    (&["--listen", "localhost:63102"], 1, "", USAGE),
-    (&["--listen", "127.0.0.1:65536"], 1, "", USAGE),
-    (&["--listen"], 1, "", USAGE),
-    // An address that is none of this machine's.
-    (
-        &["--listen", "127.0.0.1:63102", "--listen", "192.0.2.1:63102"],
-        3,
-        "",
-        "turn: socket\n",
-    ),
-];
-
-/// A start with further words ends so and leaves the store as it is. A check ends so too, but for a fault of a socket.
-fn expect_start(rt: &HostRuntime, case: &Case) -> Result<(), Fail> {
-    let (further, status, out, err) = *case;
-    let mut content = fresh(rt.alloc())?;
-    put(&mut content, 90, FRAME);
-    put(&mut content, 90 + 34, b"\xF6\x9A");
-    fs::write(rt, CONFIG, LINES)?;
-    fs::write(rt, STORE, content.as_slice())?;
-    let mut words = vec![in rt.alloc();
-        "serve", "--config", CONFIG, "--store", STORE, "--turns", "0",
-    ]?;
-    words.extend_from_slice(further)?;
-    expect(rt, words.as_slice(), status, out, err)?;
-    let mut words = vec![in rt.alloc(); "check", "--config", CONFIG, "--store", STORE]?;
-    words.extend_from_slice(further)?;
-    if status == 1 {
-        expect(rt, words.as_slice(), 1, "", err)?;
-    } else {
-        expect(rt, words.as_slice(), 0, "ok\n", "")?;
-    }
-    if fs::read(rt, STORE)?.as_slice() != content.as_slice() {
-        return Err(Fail::new("another store"));
-    }
-    Ok(())
-}
-
-/// A ninth option.
-fn expect_nine(rt: &HostRuntime) -> Result<(), Fail> {
-    let mut words = vec![in rt.alloc();
-        "serve", "--config", CONFIG, "--store", STORE, "--turns", "0",
-    ]?;
-    words.extend_from_slice(&EIGHT)?;
-    words.extend_from_slice(&["--listen", "127.0.0.2:63102"])?;
-    expect(rt, words.as_slice(), 1, "", USAGE)
-}
-
-/// What a start of no turns with these words logs.
-fn logged(rt: &HostRuntime, further: &[&str]) -> Result<Vec<u8>, Fail> {
-    let mut words = vec![in rt.alloc();
-        "turn", "serve", "--config", CONFIG, "--store", STORE, "--turns", "0", "--log",
-    ]?;
-    words.extend_from_slice(further)?;
-    let (mut out, mut err) = (Vec::new(rt.alloc()), Vec::new(rt.alloc()));
-    let mut lines = Vec::new(rt.alloc());
-    run_words(
-        rt,
-        &At(1_600),
-        RELEASE,
-        words.as_slice(),
-        &mut out,
-        &mut err,
-        &mut lines,
-    );
-    Ok(lines)
-}
-
-/// Further words, and the log.
-const LOGS: [(&[&str], &str); 3] = [
-    (
-        &["--listen", "127.0.0.2:63101"],
-        "1600 - turn 1.2.3
-1600 - listening 127.0.0.1:63101 127.0.0.2:63101 relay ports 63122-63129
-1600 - store turn_addresses.store generation 1 live 0 opened in 0 ms
-",
-    ),
-    (
-        &["--listen", "127.0.0.1:63101"],
-        "1600 - listen: an address is given twice\n",
-    ),
-    (
-        &["--listen", "192.0.2.1:63102"],
-        "1600 - listen 192.0.2.1:63102: Cannot assign requested address (os error 99)\n",
-    ),
-];
-
-fn expect_logs(rt: &HostRuntime) -> Result<(), Fail> {
-    for (further, log) in &LOGS {
-        if logged(rt, further)?.as_slice() != log.as_bytes() {
-            return Err(Fail::new(log));
-        }
-    }
-    Ok(())
-}
-
-/// One test, since all have the same files and ports.
-#[test]
-fn a_start_binds_all_addresses_or_none(rt: HostRuntime) -> Result<(), Fail> {
-    for case in &CASES {
-        expect_start(&rt, case)?;
-    }
-    expect_nine(&rt)?;
-    expect_logs(&rt)?;
-    let held = UdpSocket::bind(&rt, "127.0.0.1:63103")?;
-    let in_use: Case = (&["--listen", "127.0.0.1:63103"], 3, "", "turn: socket\n");
-    expect_start(&rt, &in_use)?;
-    drop(held);
-    fs::remove_file(&rt, CONFIG)?;
-    fs::remove_file(&rt, STORE)?;
-    Ok(())
+    let right = is_lost(&rt, &mut talk, second);
+    end_right(talk, right)
 }

@@ -1,20 +1,12 @@
 //! Data that no channel takes.
 
-use super::sockets::HOME;
+use super::talks::{ALICE, ANY, HOME};
 use std::test::Fail;
-use turn_client::{Client, ClientCredentials, ClientError};
+use turn_client::{Client, ClientError};
 use turn_types::Endpoint;
-
-const ANY: Endpoint = Endpoint { ip: HOME, port: 0 };
 
 /// Nothing is received here.
 const SERVER: Endpoint = Endpoint { ip: HOME, port: 9 };
-
-const ALICE: ClientCredentials<'static> = ClientCredentials {
-    user: b"alice",
-    realm: b"example.org",
-    password: b"wonder",
-};
 
 /// A channel's number, how many bytes, and whether no channel takes them.
 const SENT: [(u16, usize, bool); 5] = [

@@ -1,14 +1,13 @@
 //! A client and a peer over sockets of 127.0.0.1, and a server over a store in a file that is dropped and opened again.
 
+use super::talks::{PORTS, end_right, go_on, make_loopback};
 use std::fs::{self, File};
 use std::test::Fail;
-use turn_client::{Allocated, ClientError, Conversation, Loopback, limits};
+use turn_client::{Allocated, ClientError, Conversation, limits};
 use turn_disk::FileDisk;
-use turn_ports::PortRange;
 use turn_program::format_disk;
 use turn_serving::Commits;
 use turn_store::least_area;
-use turn_types::Method;
 
 pub type Talk<'a> = Conversation<'a, FileDisk<File>, HostRuntime>;
 
@@ -83,11 +82,9 @@ fn make_disk(rt: &HostRuntime, path: &str) -> Result<FileDisk<File>, Fail> {
 }
 
 /// A server over a new store in a file.
-pub fn begin<'a>(rt: &'a HostRuntime, path: &str, burst: u8) -> Result<Talk<'a>, Fail> {
+pub fn begin<'a>(rt: &'a HostRuntime, path: &str) -> Result<Talk<'a>, Fail> {
     let disk = make_disk(rt, path)?;
-    let ports = PortRange::new(62_000, 62_999).ok_or("a range")?;
-    let loopback = Loopback::new(rt.alloc(), rt, ports, burst, Commits::EachTurn)?;
-    Ok(loopback.serve(rt, disk)?)
+    Ok(make_loopback(rt, PORTS, 1, Commits::EachTurn)?.serve(rt, disk)?)
 }
 
 fn allocate(rt: &HostRuntime, talk: &mut Talk<'_>) -> Result<Allocated, Fail> {
@@ -101,38 +98,10 @@ fn allocate(rt: &HostRuntime, talk: &mut Talk<'_>) -> Result<Allocated, Fail> {
     Ok(allocated)
 }
 
-/// Whether all steps come out right.
-fn are_right(rt: &HostRuntime, talk: &mut Talk<'_>, first: &Allocated) -> bool {
-    STEPS.iter().all(|step| is_right(rt, talk, first, *step))
-}
-
-/// Each step comes out right in one conversation.
-fn expect_steps(rt: &HostRuntime, path: &str) -> Result<(), Fail> {
-    let mut talk = begin(rt, path, 1)?;
-    let right = allocate(rt, &mut talk).map(|first| are_right(rt, &mut talk, &first));
-    talk.end();
-    let _ = fs::remove_file(rt, path);
-    if right? {
-        Ok(())
-    } else {
-        Err(Fail::new("a step"))
-    }
-}
-
-/// Takes a step of a server that was opened again.
-fn take_again<'a>(
-    rt: &'a HostRuntime,
-    talk: Talk<'a>,
-    path: &str,
-    first: &Allocated,
-    step: Step,
-) -> Result<Talk<'a>, Fail> {
-    let mut talk = reopen(rt, talk, path)?;
-    if is_right(rt, &mut talk, first, step) {
-        return Ok(talk);
-    }
-    talk.end();
-    Err(Fail::new("a step"))
+/// Whether all steps come out right in one conversation.
+fn are_right(rt: &HostRuntime, talk: &mut Talk<'_>) -> Result<bool, Fail> {
+    let first = allocate(rt, talk)?;
+    Ok(STEPS.iter().all(|step| is_right(rt, talk, &first, *step)))
 }
 
 /// Takes all steps, each of a server that was opened again.
@@ -144,7 +113,9 @@ fn take_all_again<'a>(
 ) -> Result<(), Fail> {
     let mut talk = talk;
     for step in &STEPS {
-        talk = take_again(rt, talk, path, first, *step)?;
+        let mut opened = reopen(rt, talk, path)?;
+        let right = is_right(rt, &mut opened, first, *step);
+        talk = go_on(opened, Ok(right))?;
     }
     talk.end();
     Ok(())
@@ -152,7 +123,7 @@ fn take_all_again<'a>(
 
 /// Each step comes out right, if the server is dropped and opened again before it.
 fn expect_steps_again(rt: &HostRuntime, path: &str) -> Result<(), Fail> {
-    let mut talk = begin(rt, path, 1)?;
+    let mut talk = begin(rt, path)?;
     let taken = match allocate(rt, &mut talk) {
         Ok(first) => take_all_again(rt, talk, path, &first),
         Err(fail) => {
@@ -166,53 +137,14 @@ fn expect_steps_again(rt: &HostRuntime, path: &str) -> Result<(), Fail> {
 
 #[test]
 fn a_conversation_over_a_file(rt: HostRuntime) -> Result<(), Fail> {
-    expect_steps(&rt, "turn_talk.store")
+    let mut talk = begin(&rt, "turn_talk.store")?;
+    let right = are_right(&rt, &mut talk);
+    end_right(talk, right)?;
+    fs::remove_file(&rt, "turn_talk.store")?;
+    Ok(())
 }
 
 #[test]
 fn a_conversation_goes_on_when_the_server_is_opened_again(rt: HostRuntime) -> Result<(), Fail> {
     expect_steps_again(&rt, "turn_again.store")
-}
-
-/// Sends so many Binding requests, takes one turn, and receives the responses to as many as it should have taken.
-fn is_answered(
-    rt: &HostRuntime,
-    talk: &mut Talk<'_>,
-    sent: u8,
-    taken: u8,
-) -> Result<bool, ClientError> {
-    for _ in 0..sent {
-        let request = talk.client().plain_request(Method::BINDING)?;
-        talk.client().send(&request)?;
-    }
-    talk.turn(rt)?;
-    for _ in 0..taken {
-        talk.client().receive_message()?;
-    }
-    Ok(talk.client().receive().is_err())
-}
-
-fn expect_responses(
-    rt: &HostRuntime,
-    path: &str,
-    burst: u8,
-    sent: u8,
-    taken: u8,
-) -> Result<(), Fail> {
-    let mut talk = begin(rt, path, burst)?;
-    let answered = is_answered(rt, &mut talk, sent, taken);
-    talk.end();
-    fs::remove_file(rt, path)?;
-    match answered {
-        Ok(true) => Ok(()),
-        _ => Err(Fail::new(burst)),
-    }
-}
-
-/// A batch of the server takes four arrivals: a turn that takes more commits in the middle.
-#[test]
-fn a_turn_takes_as_many_datagrams_as_its_burst(rt: HostRuntime) -> Result<(), Fail> {
-    expect_responses(&rt, "turn_burst.store", 1, 3, 1)?;
-    expect_responses(&rt, "turn_burst.store", 3, 3, 3)?;
-    expect_responses(&rt, "turn_burst.store", 64, 9, 9)
 }

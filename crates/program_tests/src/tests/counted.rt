@@ -1,13 +1,12 @@
 //! What a counted turn takes, by how many relay sockets have datagrams.
 
-use super::sockets::{BINDING, HOME, tell};
 use super::started::start;
-use super::watches::new_disk;
+use super::talks::{ALICE, ANY, BINDING, HOME, new_disk, tell};
 use std::alloc::{Allocator, Global};
 use std::cell::Cell;
 use std::test::Fail;
 use std::time::Duration;
-use turn_client::{Client, ClientCredentials, TimedSocket};
+use turn_client::{Client, TimedSocket};
 use turn_config::read_config;
 use turn_cred::Credentials;
 use turn_disk::MemoryDisk;
@@ -15,7 +14,7 @@ use turn_requests::{Attribute, ServerMessage, read_message};
 use turn_serving::{Commits, SocketServing, Watch};
 use turn_step::Outgoing;
 use turn_table::Table;
-use turn_types::{Endpoint, FiveTuple, Method, Moment};
+use turn_types::{FiveTuple, Method, Moment};
 
 const CONFIG: &[u8] = b"realm example.org
 user alice wonder
@@ -25,12 +24,6 @@ relay 127.0.0.1 63170 63199
 quota 20
 limits 20 1 1 1 8
 ";
-
-const CREDENTIALS: ClientCredentials<'static> = ClientCredentials {
-    user: b"alice",
-    realm: b"example.org",
-    password: b"wonder",
-};
 
 /// How many allocations there are.
 const CLIENTS: usize = 17;
@@ -120,8 +113,7 @@ fn ask(
 
 /// A client gets an allocation with a permission for peers at 127.0.0.1. Returns its relayed port.
 fn allocate(rt: &HostRuntime, serving: &mut Serving<'_, '_>) -> Result<u16, Fail> {
-    let any = Endpoint { ip: HOME, port: 0 };
-    let mut client = Client::open(rt.alloc(), rt, any, serving.local(), CREDENTIALS)?;
+    let mut client = Client::open(rt.alloc(), rt, ANY, serving.local(), ALICE)?;
     let first = client.plain_request(Method::ALLOCATE)?;
     client.send(&first)?;
     serving.turns(&rt, 1)?;
@@ -131,7 +123,7 @@ fn allocate(rt: &HostRuntime, serving: &mut Serving<'_, '_>) -> Result<u16, Fail
         Some(ServerMessage::Allocated { port, .. }) => port,
         _ => return Err(Fail::new("no allocation")),
     };
-    let peer = [Attribute::Peer(any)];
+    let peer = [Attribute::Peer(ANY)];
     ask(rt, serving, &mut client, Method::CREATE_PERMISSION, &peer)?;
     Ok(port)
 }
@@ -147,7 +139,7 @@ fn is_one_of_each(
     ports: &[u16],
     ready: u8,
 ) -> Result<bool, Fail> {
-    let caller = TimedSocket::open(rt.alloc(), rt, Endpoint { ip: HOME, port: 0 })?;
+    let caller = TimedSocket::open(rt.alloc(), rt, ANY)?;
     for _ in 0..3u8 {
         caller.send(serving.local(), BINDING)?;
     }
@@ -185,7 +177,7 @@ fn a_counted_turn_takes_one_datagram_of_each_socket(rt: HostRuntime) -> Result<(
         repeated: Cell::new(0),
     };
     let configured = read_config(rt.alloc(), CONFIG)?;
-    let disk = new_disk(&rt, &configured)?;
+    let disk = new_disk(rt.alloc(), configured.config.limits())?;
     let mut serving = start(&rt, configured, Commits::EachTurn, &rt, disk, &counts)?;
     let played = play(&rt, &mut serving, &counts);
     serving.close();

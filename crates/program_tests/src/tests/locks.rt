@@ -1,8 +1,7 @@
 //! The lock of a store: who has it, who waits for it, and who needs none.
 
-use super::formats::{fresh, put};
-use super::inspections::FRAME;
-use super::{expect_by, run_by};
+use super::run_line;
+use super::stores::allocated;
 use std::cell::Cell;
 use std::fs::{self, File};
 use std::io::{self, Write};
@@ -50,69 +49,46 @@ impl Clock for Pauses<'_> {
 
 /// A store with alice's allocation at relayed port 63,049.
 fn make_store(rt: &HostRuntime) -> Result<Vec<u8>, Fail> {
-    let mut content = fresh(rt.alloc())?;
-    put(&mut content, 90, FRAME);
-    put(&mut content, 90 + 34, b"\xF6\x49");
+    let content = allocated(rt.alloc(), 63_049)?;
     fs::write(rt, STORE, &content)?;
     Ok(content)
 }
 
-const SERVE: [&str; 7] = [
-    "serve",
-    "--config",
-    "turn_lock.conf",
-    "--store",
-    STORE,
-    "--turns",
-    "0",
-];
+const SERVE: &str = "turn serve --config turn_lock.conf --store turn_lock.store --turns 0";
 
-const FORMAT: [&str; 7] = [
-    "format",
-    "--config",
-    "turn_lock.conf",
-    "--store",
-    STORE,
-    "--area",
-    "304",
-];
+const FORMAT: &str = "turn format --config turn_lock.conf --store turn_lock.store --area 304";
+
+const SHOWN: &str = "store generation 1 frames 1 clock 1000
+192.0.2.1:32853 192.0.2.100:3478 616c696365 63049 1600
+live 1
+";
 
 /// Words while a store is in use, the status, the output, the fault, and how many pauses there are.
-type Case = (&'static [&'static str], u8, &'static str, &'static str, u32);
+type Case = (&'static str, u8, &'static str, &'static str, u32);
 
-const IN_USE: [Case; 5] = [
-    (&SERVE, 3, "", "turn: store in use\n", 40),
-    (&FORMAT, 3, "", "turn: store in use\n", 0),
-    // Faults of the configuration and of the area come first.
+/// Faults of the configuration and of the area come first.
+const IN_USE: [Case; 6] = [
+    (SERVE, 3, "", "turn: store in use\n", 40),
+    (FORMAT, 3, "", "turn: store in use\n", 0),
     (
-        &["serve", "--config", STORE, "--store", STORE],
+        "turn serve --config turn_lock.store --store turn_lock.store",
         1,
         "",
         "turn: line 1: bad line\n",
         0,
     ),
     (
-        &[
-            "format",
-            "--config",
-            "turn_lock.conf",
-            "--store",
-            STORE,
-            "--area",
-            "303",
-        ],
+        "turn format --config turn_lock.conf --store turn_lock.store --area 303",
         2,
         "",
         "turn: area too small, needs 304\n",
         0,
     ),
+    ("turn inspect --store turn_lock.store", 0, SHOWN, "", 0),
     (
-        &["inspect", "--store", STORE],
+        "turn check --config turn_lock.conf --store turn_lock.store",
         0,
-        "store generation 1 frames 1 clock 1000
-192.0.2.1:32853 192.0.2.100:3478 616c696365 63049 1600
-live 1
-",
+        "ok\n",
         "",
         0,
     ),
@@ -128,14 +104,18 @@ fn make_pauses<'a>(rt: &'a HostRuntime, last: u32, held: FileDisk<File>) -> Paus
 }
 
 fn expect_in_use(rt: &HostRuntime, case: &Case) -> Result<(), Fail> {
-    let (words, status, out, err, count) = *case;
+    let (line, status, out, err, count) = *case;
     let content = make_store(rt)?;
     let clock = make_pauses(rt, u32::MAX, FileDisk::open(rt, STORE)?);
-    expect_by(rt, &clock, words, status, out, err)?;
-    if clock.count.get() != count || fs::read(rt, STORE)?.as_slice() != content.as_slice() {
-        return Err(Fail::new(format_args!("{words:?}")));
+    let (mut printed, mut said) = (Vec::new(rt.alloc()), Vec::new(rt.alloc()));
+    let got = run_line(rt, &clock, line, &mut printed, &mut said)?;
+    let is_kept = fs::read(rt, STORE)?.as_slice() == content.as_slice();
+    let is_said = printed.as_slice() == out.as_bytes() && said.as_slice() == err.as_bytes();
+    if got == status && is_said && clock.count.get() == count && is_kept {
+        Ok(())
+    } else {
+        Err(Fail::new(line))
     }
-    Ok(())
 }
 
 /// Whether `serve` starts after so many pauses, if the lock is released in the last of them.
@@ -143,7 +123,7 @@ fn starts_after(rt: &HostRuntime, last: u32) -> Result<bool, Fail> {
     make_store(rt)?;
     let clock = make_pauses(rt, last, FileDisk::open(rt, STORE)?);
     let (mut out, mut err) = (Vec::new(rt.alloc()), Vec::new(rt.alloc()));
-    let status = run_by(rt, &clock, &SERVE, &mut out, &mut err)?;
+    let status = run_line(rt, &clock, SERVE, &mut out, &mut err)?;
     Ok(status == 0 && clock.count.get() == last)
 }
 
@@ -170,7 +150,7 @@ impl Write for Prober<'_> {
 }
 
 /// Whether a command prints something, has the store's lock at each write, and releases it at its end.
-fn has_lock(rt: &HostRuntime, words: &[&str]) -> Result<bool, Fail> {
+fn has_lock(rt: &HostRuntime, line: &str) -> Result<bool, Fail> {
     make_store(rt)?;
     let mut out = Prober {
         rt,
@@ -178,7 +158,7 @@ fn has_lock(rt: &HostRuntime, words: &[&str]) -> Result<bool, Fail> {
         refused: 0,
     };
     let mut err = Vec::new(rt.alloc());
-    let status = run_by(rt, rt, words, &mut out, &mut err)?;
+    let status = run_line(rt, rt, line, &mut out, &mut err)?;
     let is_free = FileDisk::open(rt, STORE).is_ok();
     Ok(status == 0 && 0 < out.writes && out.writes == out.refused && is_free)
 }
@@ -192,8 +172,8 @@ fn a_store_in_use_is_refused_and_stays_as_it_is(rt: HostRuntime) -> Result<(), F
     }
     assert!(rt; starts_after(&rt, 1)?);
     assert!(rt; starts_after(&rt, 40)?);
-    assert!(rt; has_lock(&rt, &SERVE)?);
-    assert!(rt; has_lock(&rt, &FORMAT)?);
+    assert!(rt; has_lock(&rt, SERVE)?);
+    assert!(rt; has_lock(&rt, FORMAT)?);
     fs::remove_file(&rt, "turn_lock.conf")?;
     fs::remove_file(&rt, STORE)?;
     Ok(())

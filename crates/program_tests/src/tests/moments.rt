@@ -1,32 +1,12 @@
 //! The moment of a turn, by a system whose time stands still.
 
-use super::sockets::{HOME, tell};
-use super::turns::{PORTS, Talk, begin};
-use std::io::{self, ErrorKind};
-use std::rt::Clock;
+use super::clocks::Still;
+use super::talks::{HOME, Talk, begin, end_right, tell};
 use std::test::Fail;
-use std::time::Duration;
 use turn_client::ClientError;
-use turn_serving::TurnError;
+use turn_serving::{Commits, TurnError};
 use turn_sockets::moment_now;
 use turn_types::Moment;
-
-/// A time since 1970, or none.
-#[derive(Clone, Copy)]
-pub struct Still(pub Option<u64>);
-
-impl Clock for Still {
-    fn monotonic(&self) -> io::Result<Duration> {
-        self.since_1970()
-    }
-
-    fn since_1970(&self) -> io::Result<Duration> {
-        match self.0 {
-            Some(second) => Ok(Duration::from_secs(second)),
-            None => Err(io::Error::from(ErrorKind::Unsupported)),
-        }
-    }
-}
 
 /// The system's second, the server's clock, and the moment.
 const MOMENTS: [(Option<u64>, u64, Option<u64>); 7] = [
@@ -116,12 +96,7 @@ fn relay(rt: &HostRuntime, talk: &mut Talk<'_>) -> Result<bool, Fail> {
 
 #[test]
 fn a_turn_is_at_the_systems_second_or_the_clock(rt: HostRuntime) -> Result<(), Fail> {
-    let mut talk = begin(&rt, 0, PORTS, 1)??;
-    let relayed = relay(&rt, &mut talk);
-    talk.end();
-    if relayed? {
-        Ok(())
-    } else {
-        Err(Fail::new("another moment or id"))
-    }
+    let mut talk = begin(&rt, 1, Commits::EachTurn)?;
+    let right = relay(&rt, &mut talk);
+    end_right(talk, right)
 }

@@ -1,13 +1,13 @@
 //! A store of version 1 that a program from before version 2 made, at commit 16229f6, by `--area 1600000` and the default limits: it is
 //! carried over, and its calls go on.
 
-use super::formats::put;
-use super::moments::Still;
-use super::sockets::HOME;
+use super::clocks::Still;
 use super::started::start;
+use super::stores::put;
+use super::talks::{ALICE, ANY, HOME};
 use std::alloc::Global;
 use std::test::Fail;
-use turn_client::{Client, ClientCredentials, ClientError, TimedSocket};
+use turn_client::{Client, ClientError, TimedSocket};
 use turn_config::read_config;
 use turn_disk::MemoryDisk;
 use turn_requests::{Attribute, ServerMessage, read_message};
@@ -63,15 +63,6 @@ const RELAYED: Endpoint = Endpoint {
 const PEER: Endpoint = Endpoint {
     ip: HOME,
     port: 63_092,
-};
-
-/// Any free port.
-const ANY: Endpoint = Endpoint { ip: HOME, port: 0 };
-
-const ALICE: ClientCredentials<'static> = ClientCredentials {
-    user: b"alice",
-    realm: b"example.org",
-    password: b"wonder",
 };
 
 type Serving<'a> = SocketServing<'a, MemoryDisk, turn_cred::Credentials, HostRuntime>;

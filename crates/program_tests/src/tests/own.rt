@@ -1,10 +1,10 @@
 //! Datagrams of a server to itself.
 
-use super::sockets::HOME;
-use super::turns::{PORTS, Talk, begin};
+use super::talks::{ANY, BINDING, HOME, Talk, begin, end_right, make_loopback, new_disk};
 use std::test::Fail;
-use turn_client::{ClientError, TimedSocket};
-use turn_types::{Endpoint, Method};
+use turn_client::{ClientError, TimedSocket, limits};
+use turn_serving::Commits;
+use turn_types::Endpoint;
 
 /// A range of relay ports, and one of them.
 const RANGE: (u16, u16) = (63_011, 63_013);
@@ -14,17 +14,9 @@ const OF_RANGE: Endpoint = Endpoint {
     port: 63_012,
 };
 
-/// A Binding request.
-const BINDING: &[u8] =
-    b"\x00\x01\x00\x00\x21\x12\xA4\x42\x01\x02\x03\x04\x05\x06\x07\x08\x09\x0A\x0B\x0C";
-
-/// A client sends a Binding request through its relay port to the address that it sends to itself, and permits what would come back.
-/// Returns whether nothing does, which would be a Data indication.
-pub fn is_lost(
-    rt: &HostRuntime,
-    talk: &mut Talk<'_>,
-    server: Endpoint,
-) -> Result<bool, ClientError> {
+/// A client sends a Binding request through its relay port to an address of the server, and permits what would come back. Returns
+/// whether nothing does, which would be a Data indication.
+pub fn is_lost(rt: &HostRuntime, talk: &mut Talk<'_>, server: Endpoint) -> Result<bool, Fail> {
     talk.challenge(rt)?;
     talk.allocate(rt)?;
     talk.permit(rt)?;
@@ -37,41 +29,30 @@ pub fn is_lost(
 
 #[test]
 fn what_a_relay_port_sends_to_the_listening_address_is_lost(rt: HostRuntime) -> Result<(), Fail> {
-    let mut talk = begin(&rt, 0, PORTS, 1)??;
+    let mut talk = begin(&rt, 1, Commits::EachTurn)?;
     let server = talk.server();
-    let lost = is_lost(&rt, &mut talk, server);
-    talk.end();
-    if lost? {
-        Ok(())
-    } else {
-        Err(Fail::new("an answer"))
-    }
+    let right = is_lost(&rt, &mut talk, server);
+    end_right(talk, right)
 }
 
 /// Whether a Binding request of a socket is answered.
-fn is_answered(
-    rt: &HostRuntime,
-    talk: &mut Talk<'_>,
-    at: Endpoint,
-    server: Endpoint,
-) -> Result<bool, ClientError> {
+fn is_answered(rt: &HostRuntime, talk: &mut Talk<'_>, at: Endpoint) -> Result<bool, Fail> {
     let mut socket = TimedSocket::open(rt.alloc(), rt, at)?;
-    socket.send(server, BINDING)?;
+    socket.send(talk.server(), BINDING)?;
     talk.turn(rt)?;
     Ok(socket.receive().is_ok())
 }
 
+/// Whether a port of the range isn't answered, and another one is.
+fn is_of_no_client(rt: &HostRuntime, talk: &mut Talk<'_>) -> Result<bool, Fail> {
+    let is_lost = !is_answered(rt, talk, OF_RANGE)?;
+    Ok(is_lost && is_answered(rt, talk, ANY)?)
+}
+
 #[test]
 fn what_comes_from_a_port_of_the_range_is_of_no_client(rt: HostRuntime) -> Result<(), Fail> {
-    let mut talk = begin(&rt, 0, RANGE, 1)??;
-    let server = talk.server();
-    let any = Endpoint { ip: HOME, port: 0 };
-    let own = is_answered(&rt, &mut talk, OF_RANGE, server);
-    let other = is_answered(&rt, &mut talk, any, server);
-    talk.end();
-    if !own? && other? {
-        Ok(())
-    } else {
-        Err(Fail::new("another answer"))
-    }
+    let loopback = make_loopback(&rt, RANGE, 1, Commits::EachTurn)?;
+    let mut talk = loopback.serve(&rt, new_disk(rt.alloc(), limits())?)?;
+    let right = is_of_no_client(&rt, &mut talk);
+    end_right(talk, right)
 }

@@ -1,58 +1,13 @@
 //! When requests are committed while data comes, and what waits behind them: by a clock that the tests set.
 
-use super::sockets::{BINDING, HOME, tell};
-use super::turns::{PORTS, Talk, begin_so};
-use std::cell::Cell;
-use std::io;
-use std::rt::Clock;
+use super::clocks::Ticking;
+use super::received::{got, receive_all};
+use super::talks::{ANY, BINDING, HOME, Talk, begin, end_right, tell};
 use std::test::Fail;
-use std::time::Duration;
 use turn_client::{ClientError, TimedSocket};
 use turn_requests::Attribute;
 use turn_serving::Commits;
-use turn_types::{Endpoint, Method};
-
-/// A clock that stands still but for each reading of it, which takes it on by some milliseconds: a commit is timed by two readings.
-#[derive(Drop)]
-struct Ticking {
-    millis: Cell<u64>,
-    tick: Cell<u64>,
-}
-
-impl Clock for Ticking {
-    fn monotonic(&self) -> io::Result<Duration> {
-        let now = self.millis.get();
-        self.millis.set(now.wrapping_add(self.tick.get()));
-        Ok(Duration::from_millis(now))
-    }
-
-    fn since_1970(&self) -> io::Result<Duration> {
-        Ok(Duration::from_secs(1_000))
-    }
-}
-
-impl Ticking {
-    /// At this time, with so long commits.
-    fn set(&self, millis: u64, tick: u64) {
-        self.millis.set(millis);
-        self.tick.set(tick);
-    }
-}
-
-/// What the client got: how many successes of Refreshes, Data indications, and successes of Bindings.
-fn receive_all(talk: &mut Talk<'_>) -> (u8, u8, u8) {
-    let (mut refreshes, mut data, mut bindings) = (0u8, 0u8, 0u8);
-    for _ in 0..80u8 {
-        match talk.client().receive() {
-            Ok([1, 4, ..]) => refreshes = refreshes.wrapping_add(1),
-            Ok([0, 0x17, ..]) => data = data.wrapping_add(1),
-            Ok([1, 1, ..]) => bindings = bindings.wrapping_add(1),
-            Ok(_) => return (0xFF, 0xFF, 0xFF),
-            Err(_) => return (refreshes, data, bindings),
-        }
-    }
-    (refreshes, data, bindings)
-}
+use turn_types::Method;
 
 /// What is sent before some turns; at which time in milliseconds the turns are, how long a commit takes, and how many turns there are.
 struct Row {
@@ -195,7 +150,7 @@ fn is_row(
     row: &Row,
 ) -> Result<bool, Fail> {
     send(rt, talk, port, row)?;
-    let mut other = TimedSocket::open(rt.alloc(), rt, Endpoint { ip: HOME, port: 0 })?;
+    let mut other = TimedSocket::open(rt.alloc(), rt, ANY)?;
     if row.other {
         other.send(talk.server(), BINDING)?;
     }
@@ -204,7 +159,8 @@ fn is_row(
         talk.turn(clock)?;
     }
     let is_answered = !row.other || matches!(other.receive(), Ok(([1, 1, ..], _)));
-    Ok(is_answered && receive_all(talk) == row.got)
+    let (refreshes, data, bindings) = row.got;
+    Ok(is_answered && receive_all(talk) == got(refreshes, data, bindings))
 }
 
 /// An allocation with a permission, each of its requests answered in its turn.
@@ -215,26 +171,22 @@ fn allocate(talk: &mut Talk<'_>, clock: &Ticking) -> Result<u16, ClientError> {
     Ok(port)
 }
 
-fn play(rt: &HostRuntime, talk: &mut Talk<'_>) -> Result<(), Fail> {
-    let clock = Ticking {
-        millis: Cell::new(0),
-        tick: Cell::new(0),
-    };
+fn play(rt: &HostRuntime, talk: &mut Talk<'_>) -> Result<bool, Fail> {
+    let clock = Ticking::new(u32::MAX, 0);
     let port = allocate(talk, &clock)?;
     for row in &ROWS {
         if !is_row(rt, talk, &clock, port, row)? {
             return Err(Fail::new(row.at));
         }
     }
-    Ok(())
+    Ok(true)
 }
 
 #[test]
 fn requests_wait_for_the_end_of_a_pause_and_data_does_not(rt: HostRuntime) -> Result<(), Fail> {
-    let mut talk = begin_so(&rt, 0, PORTS, 64, Commits::Paced)??;
-    let played = play(&rt, &mut talk);
-    talk.end();
-    played
+    let mut talk = begin(&rt, 64, Commits::Paced)?;
+    let right = play(&rt, &mut talk);
+    end_right(talk, right)
 }
 
 /// What a client sends right after a request, without waiting for its answer.
@@ -278,32 +230,20 @@ fn send_next(
     }
 }
 
-fn play_next(talk: &mut Talk<'_>, next: Next) -> Result<(), Fail> {
-    let clock = Ticking {
-        millis: Cell::new(0),
-        tick: Cell::new(0),
-    };
+fn is_relayed(talk: &mut Talk<'_>, next: Next) -> Result<bool, Fail> {
+    let clock = Ticking::new(u32::MAX, 0);
     talk.challenge(&clock)?;
     let port = talk.allocate(&clock)?.port;
     let got = send_next(talk, &clock, port, next)?;
-    if got.as_slice() == b"data".as_slice() {
-        Ok(())
-    } else {
-        Err(Fail::new("other data"))
-    }
-}
-
-fn expect_next(rt: &HostRuntime, next: Next) -> Result<(), Fail> {
-    let mut talk = begin_so(rt, 0, PORTS, 8, Commits::Paced)??;
-    let played = play_next(&mut talk, next);
-    talk.end();
-    played
+    Ok(got.as_slice() == b"data".as_slice())
 }
 
 #[test]
 fn data_right_after_the_request_that_allows_it_is_relayed(rt: HostRuntime) -> Result<(), Fail> {
     for next in NEXT {
-        expect_next(&rt, next)?;
+        let mut talk = begin(&rt, 8, Commits::Paced)?;
+        let right = is_relayed(&mut talk, next);
+        end_right(talk, right)?;
     }
     Ok(())
 }

@@ -2,6 +2,7 @@
 //! token gets it.
 
 use super::conversations::{Talk, begin, reopen};
+use super::talks::{end_right, go_on};
 use std::fs;
 use std::net::UdpSocket;
 use std::test::Fail;
@@ -36,71 +37,36 @@ fn is_bound(rt: &HostRuntime, port: u16) -> Result<bool, Fail> {
     Ok(UdpSocket::bind(rt, address.as_str()).is_err())
 }
 
-/// What is done after the server was opened again.
-#[derive(Clone, Copy)]
-enum Step {
-    /// The allocation is deleted, and the reservation stays.
-    Delete,
-    /// The token gets the reserved port, over which data goes to the peer.
-    Take,
-}
-
-fn is_right(
-    rt: &HostRuntime,
-    talk: &mut Talk<'_>,
-    (port, token): (u16, Token),
-    step: Step,
-) -> Result<bool, Fail> {
+/// Deletes the allocation. Whether its reservation stays.
+fn stays(rt: &HostRuntime, talk: &mut Talk<'_>, port: u16) -> Result<bool, Fail> {
     let next = port.wrapping_add(1);
-    match step {
-        Step::Delete => {
-            let was_bound = is_bound(rt, next)?;
-            talk.refresh(rt, 0)?;
-            Ok(was_bound && is_bound(rt, next)? && !is_bound(rt, port)?)
-        }
-        Step::Take => {
-            let got = allocate(rt, talk, Attribute::ReservationToken(token))?;
-            talk.permit(rt)?;
-            let bytes = talk.send(rt, next, b"hello")?;
-            Ok(got == (next, None) && bytes.as_slice() == b"hello".as_slice())
-        }
-    }
+    let was_bound = is_bound(rt, next)?;
+    talk.refresh(rt, 0)?;
+    Ok(was_bound && is_bound(rt, next)? && !is_bound(rt, port)?)
 }
 
-/// Takes a step of a server that was opened again.
-fn take_again<'a>(
-    rt: &'a HostRuntime,
-    talk: Talk<'a>,
-    path: &str,
-    first: (u16, Token),
-    step: Step,
-) -> Result<Talk<'a>, Fail> {
-    let mut talk = reopen(rt, talk, path)?;
-    match is_right(rt, &mut talk, first, step) {
-        Ok(true) => Ok(talk),
-        Ok(false) => {
-            talk.end();
-            Err(Fail::new("a step"))
-        }
-        Err(fail) => {
-            talk.end();
-            Err(fail)
-        }
-    }
+/// Whether the token gets the reserved port, over which data goes to the peer.
+fn is_taken(rt: &HostRuntime, talk: &mut Talk<'_>, next: u16, token: Token) -> Result<bool, Fail> {
+    let got = allocate(rt, talk, Attribute::ReservationToken(token))?;
+    talk.permit(rt)?;
+    let bytes = talk.send(rt, next, b"hello")?;
+    Ok(got == (next, None) && bytes.as_slice() == b"hello".as_slice())
 }
 
 fn expect_steps(rt: &HostRuntime, path: &str) -> Result<(), Fail> {
-    let mut talk = begin(rt, path, 1)?;
-    let first = match reserve(rt, &mut talk) {
+    let mut talk = begin(rt, path)?;
+    let (port, token) = match reserve(rt, &mut talk) {
         Ok(first) => first,
         Err(fail) => {
             talk.end();
             return Err(fail);
         }
     };
-    let talk = take_again(rt, talk, path, first, Step::Delete)?;
-    let talk = take_again(rt, talk, path, first, Step::Take)?;
-    talk.end();
+    let mut talk = reopen(rt, talk, path)?;
+    let right = stays(rt, &mut talk, port);
+    let mut talk = reopen(rt, go_on(talk, right)?, path)?;
+    let right = is_taken(rt, &mut talk, port.wrapping_add(1), token);
+    end_right(talk, right)?;
     fs::remove_file(rt, path)?;
     Ok(())
 }

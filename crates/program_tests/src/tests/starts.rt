@@ -1,8 +1,7 @@
 //! A start over a disk that has other allocations when it is opened again, and the receive buffers of relay sockets.
 
-use super::formats::{formatted, fresh, put};
-use super::inspections::{FRAME, PAIR};
 use super::started::start;
+use super::stores::{FRAME, allocated, formatted, fresh, put};
 use std::alloc::Global;
 use std::cell::Cell;
 use std::fs;
@@ -14,7 +13,7 @@ use turn_cred::AuthHandler;
 use turn_disk::{Disk, FileDisk};
 use turn_engine::Server;
 use turn_serving::{Commits, RelaySockets, Silent, StartError};
-use turn_sockets::receive_buffer;
+use turn_sockets::BoundSocket;
 
 const CONFIG: &[u8] = b"realm example.org
 user alice wonder
@@ -24,13 +23,12 @@ relay 127.0.0.1 63014 63019
 limits 2 1 1 1 8
 ";
 
-/// A store with alice's allocation at relayed port 63,019.
-fn allocated(alloc: Global) -> Result<Vec<u8>, Fail> {
-    let mut bytes = fresh(alloc)?;
-    put(&mut bytes, 90, FRAME);
-    put(&mut bytes, 90 + 34, b"\xF6\x2B");
-    Ok(bytes)
-}
+/// A frame with alice's allocation of a pair at 1000 for 600 seconds, and the closed gate after it: the next port, which is at 52, is
+/// reserved.
+const PAIR: &[u8] = b"\xA5\x00\x00\x00\x37\x01\x05\x00\x00\x00\x00\x00\x00\x03\xE8\
+    \xC0\x00\x02\x01\x80\x55\xC0\x00\x02\x64\x0D\x96\x00\x05\x61\x6C\x69\x63\x65\xF6\x2A\
+    \x00\x00\x02\x58\x01\x02\x03\x04\x05\x06\x07\x08\x09\x0A\x0B\x0C\
+    \xF6\x2B\xD5\x74\xB1\x5A\x49\xFA\x00";
 
 /// A store of version 2 with alice's allocation at relayed port 63,018.
 fn even(alloc: Global) -> Result<Vec<u8>, Fail> {
@@ -44,8 +42,6 @@ fn even(alloc: Global) -> Result<Vec<u8>, Fail> {
 fn pair(alloc: Global) -> Result<Vec<u8>, Fail> {
     let mut bytes = formatted(alloc)?;
     put(&mut bytes, 94, PAIR);
-    put(&mut bytes, 94 + 34, b"\xF6\x2A");
-    put(&mut bytes, 94 + 52, b"\xF6\x2B");
     Ok(bytes)
 }
 
@@ -62,7 +58,7 @@ fn buffer_at<D: Disk, H: AuthHandler, G: RelaySockets>(
     server: &Server<D, H, G>,
     port: u16,
 ) -> Option<u32> {
-    server.ports().socket(port).map(receive_buffer)
+    server.ports().socket(port).map(BoundSocket::receive_buffer)
 }
 
 /// What a start over a file comes to.
@@ -116,7 +112,7 @@ fn started(buffer: Option<u32>) -> Came {
 
 #[test]
 fn a_start_needs_a_socket_for_each_port_of_its_second_opening(rt: HostRuntime) -> Result<(), Fail> {
-    let (empty, allocated) = (fresh(rt.alloc())?, allocated(rt.alloc())?);
+    let (empty, allocated) = (fresh(rt.alloc())?, allocated(rt.alloc(), 63_019)?);
     let buffer = Some(given_buffer(&rt)?);
     assert!(rt; outcome(&rt, &allocated, &allocated)? == started(buffer));
     let refused = Came {

@@ -1,14 +1,11 @@
 //! Runs with some of standard input, output and error closed: a test is a process of its own, so it may close them.
 
-use super::formats::{formatted, fresh, put};
-use super::inspections::FRAME;
-use super::replay::SCENARIO;
-use super::{BINDING, FROM, run_by};
+use super::stores::allocated;
+use super::{SCENARIO, run_line};
 use std::fs::{self, File};
 use std::io;
 use std::os::fd::{AsFd, AsRawFd, IntoRawFd, OwnedFd};
 use std::test::Fail;
-use turn_program::fill_streams;
 
 const CONFIG: &str = "realm example.org
 secret 0000000000000000000000000000000000000000000000000000000000000000
@@ -54,133 +51,65 @@ fn restore(rt: &HostRuntime, saved: &[OwnedFd; 2]) -> io::Result<()> {
     Ok(())
 }
 
-/// What a command does with a store.
-#[derive(Clone, Copy, PartialEq, Eq)]
-enum Use {
-    None,
-    Keeps,
-    Empties,
-}
-
-/// A command, and what it does with the store.
-type Case = (&'static [&'static str], Use);
-
-const CASES: [Case; 8] = [
-    (&["answer", "--from", FROM, BINDING], Use::None),
-    (&["replay", "turn_streams.scenario"], Use::None),
-    (&["version"], Use::None),
+/// A command, and whether it uses the store.
+const CASES: [(&str, bool); 7] = [
     (
-        &[
-            "format",
-            "--config",
-            "turn_streams.conf",
-            "--store",
-            "turn_streams.store",
-            "--area",
-            "304",
-        ],
-        Use::Empties,
+        "turn answer --from 192.0.2.1:32853 000100002112a4420102030405060708090a0b0c",
+        false,
     ),
-    (&["inspect", "--store", "turn_streams.store"], Use::Keeps),
+    ("turn replay turn_streams.scenario", false),
+    ("turn version", false),
     (
-        &[
-            "check",
-            "--config",
-            "turn_streams.conf",
-            "--store",
-            "turn_streams.store",
-        ],
-        Use::Keeps,
+        "turn format --config turn_streams.conf --store turn_streams.store --area 304",
+        true,
+    ),
+    ("turn inspect --store turn_streams.store", true),
+    (
+        "turn check --config turn_streams.conf --store turn_streams.store",
+        true,
     ),
     (
-        &[
-            "serve",
-            "--config",
-            "turn_streams.conf",
-            "--store",
-            "turn_streams.store",
-            "--turns",
-            "1",
-        ],
-        Use::Keeps,
+        "turn serve --config turn_streams.conf --store turn_streams.store --turns 1",
+        true,
     ),
-    (&["demo"], Use::None),
 ];
 
-/// Runs a command over a store with an allocation. Returns the status, and what the file has then.
-fn run(rt: &HostRuntime, words: &[&str], store: &[u8]) -> Result<(u8, Vec<u8>), Fail> {
-    fs::write(rt, "turn_streams.store", store)?;
-    let status = run_by(rt, rt, words, &mut io::writer(rt), &mut rt.stderr())?;
-    Ok((status, fs::read(rt, "turn_streams.store")?))
-}
-
-/// A store with alice's allocation at relayed port 63,039.
-fn allocated(rt: &HostRuntime) -> Result<Vec<u8>, Fail> {
-    let mut store = fresh(rt.alloc())?;
-    put(&mut store, 90, FRAME);
-    put(&mut store, 90 + 34, b"\xF6\x3F");
-    Ok(store)
-}
-
-/// The status of a command, and the store after it. Without `fill_streams` a file that stays open would take the place of a
-/// stream.
-fn outcome(
-    rt: &HostRuntime,
-    closed: u8,
-    is_filled: bool,
-    its_use: Use,
-) -> Result<(u8, Vec<u8>), Fail> {
-    if !is_filled && closed != 0 && its_use != Use::None {
-        return Ok((3, allocated(rt)?));
-    }
-    let status = if closed & 2 == 2 { 3 } else { 0 };
-    if its_use == Use::Empties {
-        return Ok((status, formatted(rt.alloc())?));
-    }
-    Ok((status, allocated(rt)?))
-}
-
-fn expect(rt: &HostRuntime, closed: u8, is_filled: bool, case: &Case) -> Result<(), Fail> {
-    let (words, its_use) = *case;
-    let (status, store) = outcome(rt, closed, is_filled, its_use)?;
-    let before = allocated(rt)?;
+/// Without `fill_streams` a file that stays open would take the place of a stream: a command over a store is a device fault, as is one
+/// that can't print, and the store stays as it is.
+fn expect(rt: &HostRuntime, closed: u8, line: &str, uses_store: bool) -> Result<(), Fail> {
+    let status = if uses_store || closed & 2 == 2 { 3 } else { 0 };
+    let store = allocated(rt.alloc(), 63_039)?;
     close(rt, closed)?;
-    if is_filled {
-        fill_streams(rt);
-    }
-    let (got, after) = run(rt, words, &before)?;
-    if got != status || after.as_slice() != store.as_slice() {
-        return Err(Fail::new(format_args!("{closed} {words:?}")));
+    fs::write(rt, "turn_streams.store", &store)?;
+    let (mut out, mut err) = (io::writer(rt), rt.stderr());
+    let got = run_line(rt, rt, line, &mut out, &mut err)?;
+    if got != status || fs::read(rt, "turn_streams.store")?.as_slice() != store.as_slice() {
+        return Err(Fail::new(format_args!("{closed} {line}")));
     }
     Ok(())
 }
 
-/// Runs these commands, each with every set of closed streams.
-fn expect_each(rt: &HostRuntime, is_filled: bool, cases: &[Case]) -> Result<(), Fail> {
-    fs::write(rt, "turn_streams.conf", CONFIG)?;
-    fs::write(rt, "turn_streams.scenario", SCENARIO)?;
-    for closed in 0..8 {
-        for case in cases {
-            expect(rt, closed, is_filled, case)?;
+/// Each command, with every set of closed streams.
+fn expect_all(rt: &HostRuntime) -> Result<(), Fail> {
+    for closed in 1..8 {
+        for (line, uses_store) in &CASES {
+            expect(rt, closed, line, *uses_store)?;
         }
     }
-    fs::remove_file(rt, "turn_streams.conf")?;
-    fs::remove_file(rt, "turn_streams.scenario")?;
-    fs::remove_file(rt, "turn_streams.store")?;
     Ok(())
 }
 
-fn expect_all(rt: &HostRuntime) -> Result<(), Fail> {
-    expect_each(rt, true, &CASES)?;
-    // Without `fill_streams` it is open what the sockets of the demonstration take the place of.
-    expect_each(rt, false, &CASES[..7])
-}
-
-/// One test, since all have the same files and ports.
+/// One test, since all have the same files and ports. A script closes the streams of the program, which has them filled.
 #[test]
 fn what_is_printed_never_goes_into_a_store(rt: HostRuntime) -> Result<(), Fail> {
+    fs::write(&rt, "turn_streams.conf", CONFIG)?;
+    fs::write(&rt, "turn_streams.scenario", SCENARIO)?;
     let saved = save(&rt)?;
     let come = expect_all(&rt);
     let _ = restore(&rt, &saved);
-    come
+    come?;
+    fs::remove_file(&rt, "turn_streams.conf")?;
+    fs::remove_file(&rt, "turn_streams.scenario")?;
+    fs::remove_file(&rt, "turn_streams.store")?;
+    Ok(())
 }

@@ -1,48 +1,25 @@
 //! Turns of a server over a disk in memory: a commit that fails, and datagrams that are none of a client's.
 
+use super::talks::{PORTS, Talk, begin, end_right, make_loopback, new_disk};
 use std::test::Fail;
-use turn_client::{ClientError, Conversation, Loopback, limits};
-use turn_disk::MemoryDisk;
+use turn_client::{ClientError, limits};
 use turn_engine::CommitError;
-use turn_ports::PortRange;
 use turn_serving::{Commits, StartError, TurnError};
-use turn_store::{OpenError, format, least_area};
+use turn_store::OpenError;
 use turn_types::Method;
 
-pub type Talk<'a> = Conversation<'a, MemoryDisk, HostRuntime>;
-
-/// The relay ports of conversations.
-pub const PORTS: (u16, u16) = (62_000, 62_999);
-
 /// A server over a new store, whose turns take so many datagrams of a socket. The device call of this number from its start on
-/// fails, where 0 is none.
-pub fn begin(
+/// fails.
+fn begin_failing(
     rt: &HostRuntime,
     call: u64,
-    (first, last): (u16, u16),
     burst: u8,
 ) -> Result<Result<Talk<'_>, ClientError>, Fail> {
-    begin_so(rt, call, (first, last), burst, Commits::EachTurn)
-}
-
-/// The same with a way to commit.
-pub fn begin_so(
-    rt: &HostRuntime,
-    call: u64,
-    (first, last): (u16, u16),
-    burst: u8,
-    commits: Commits,
-) -> Result<Result<Talk<'_>, ClientError>, Fail> {
-    let area = least_area(limits());
-    let mut disk = MemoryDisk::new(rt.alloc(), Vec::from_elem(rt.alloc(), 0u8, 64 + 2 * area)?);
-    if format(&mut disk, limits(), area).is_err() {
-        return Err(Fail::new("format"));
-    }
+    let mut disk = new_disk(rt.alloc(), limits())?;
     if 0 < call {
         disk.fail_call(call);
     }
-    let ports = PortRange::new(first, last).ok_or("a range")?;
-    Ok(Loopback::new(rt.alloc(), rt, ports, burst, commits)?.serve(rt, disk))
+    Ok(make_loopback(rt, PORTS, burst, Commits::EachTurn)?.serve(rt, disk))
 }
 
 /// Where a device call that fails is.
@@ -89,7 +66,7 @@ fn place_of(rt: &HostRuntime, talk: &mut Talk<'_>) -> Result<Place, Fail> {
 }
 
 fn expect_place(rt: &HostRuntime, call: u64, place: Place) -> Result<(), Fail> {
-    let found = match begin(rt, call, PORTS, 1)? {
+    let found = match begin_failing(rt, call, 1)? {
         Ok(mut talk) => {
             let found = place_of(rt, &mut talk);
             talk.end();
@@ -119,7 +96,7 @@ fn a_turn_whose_commit_fails_answers_nothing(rt: HostRuntime) -> Result<(), Fail
 const REFRESHES: [(u8, u64, bool); 3] = [(1, 33, true), (2, 32, true), (2, 33, false)];
 
 /// Whether a turn fails of two after two Refreshes.
-fn fails(rt: &HostRuntime, talk: &mut Talk<'_>) -> Result<bool, ClientError> {
+fn fails(rt: &HostRuntime, talk: &mut Talk<'_>) -> Result<bool, Fail> {
     talk.challenge(rt)?;
     talk.allocate(rt)?;
     for _ in 0..2u8 {
@@ -129,28 +106,24 @@ fn fails(rt: &HostRuntime, talk: &mut Talk<'_>) -> Result<bool, ClientError> {
     Ok(talk.turn(rt).is_err() || talk.turn(rt).is_err())
 }
 
-fn expect_failure(rt: &HostRuntime, burst: u8, call: u64, failure: bool) -> Result<(), Fail> {
-    let mut talk = begin(rt, call, PORTS, burst)??;
-    let found = fails(rt, &mut talk);
-    talk.end();
-    if found? == failure {
-        Ok(())
-    } else {
-        Err(Fail::new(call))
-    }
+/// Whether one fails exactly if one is to.
+fn fails_so(rt: &HostRuntime, talk: &mut Talk<'_>, failure: bool) -> Result<bool, Fail> {
+    Ok(fails(rt, talk)? == failure)
 }
 
 #[test]
 fn requests_of_one_turn_share_a_commit(rt: HostRuntime) -> Result<(), Fail> {
     for (burst, call, failure) in &REFRESHES {
-        expect_failure(&rt, *burst, *call, *failure)?;
+        let mut talk = begin_failing(&rt, *call, *burst)??;
+        let right = fails_so(&rt, &mut talk, *failure);
+        end_right(talk, right)?;
     }
     Ok(())
 }
 
 /// Whether the answers to two requests of one turn come in the order of the requests, and nothing else comes. The first answer is an
 /// error of 401, and the second one a Binding success.
-fn are_in_order(rt: &HostRuntime, talk: &mut Talk<'_>) -> Result<bool, ClientError> {
+fn are_in_order(rt: &HostRuntime, talk: &mut Talk<'_>) -> Result<bool, Fail> {
     let first = talk.client().plain_request(Method::ALLOCATE)?;
     let second = talk.client().plain_request(Method::BINDING)?;
     talk.client().send(&first)?;
@@ -166,14 +139,9 @@ fn are_in_order(rt: &HostRuntime, talk: &mut Talk<'_>) -> Result<bool, ClientErr
 fn the_answers_of_a_turn_are_sent_in_the_order_of_its_requests_once_each(
     rt: HostRuntime,
 ) -> Result<(), Fail> {
-    let mut talk = begin(&rt, 0, PORTS, 2)??;
-    let in_order = are_in_order(&rt, &mut talk);
-    talk.end();
-    if in_order? {
-        Ok(())
-    } else {
-        Err(Fail::new("another order"))
-    }
+    let mut talk = begin(&rt, 2, Commits::EachTurn)?;
+    let right = are_in_order(&rt, &mut talk);
+    end_right(talk, right)
 }
 
 /// No datagram of a client: nothing, texts, headers that are cut or of another length, a channel of no allocation, and an
@@ -193,7 +161,7 @@ const STRANGE: [&[u8]; 8] = [
 const MAX_DATAGRAM: usize = 65_507;
 
 /// Sends a datagram, and a Binding request. Returns whether the request alone is answered.
-fn is_dropped(rt: &HostRuntime, talk: &mut Talk<'_>, bytes: &[u8]) -> Result<bool, ClientError> {
+fn is_dropped(rt: &HostRuntime, talk: &mut Talk<'_>, bytes: &[u8]) -> Result<bool, Fail> {
     talk.client().send(bytes)?;
     talk.turn(rt)?;
     let request = talk.client().plain_request(Method::BINDING)?;
@@ -204,30 +172,21 @@ fn is_dropped(rt: &HostRuntime, talk: &mut Talk<'_>, bytes: &[u8]) -> Result<boo
     Ok(answer.get(..2) == Some(b"\x01\x01".as_slice()) && answer.get(8..20) == request.get(8..20))
 }
 
-fn are_dropped(rt: &HostRuntime, talk: &mut Talk<'_>, longest: &[u8]) -> Result<bool, ClientError> {
+fn are_dropped(rt: &HostRuntime, talk: &mut Talk<'_>) -> Result<bool, Fail> {
+    let longest = Vec::from_elem(rt.alloc(), 0u8, MAX_DATAGRAM)?;
     for bytes in &STRANGE {
         if !is_dropped(rt, talk, bytes)? {
             return Ok(false);
         }
     }
-    is_dropped(rt, talk, longest)
-}
-
-fn expect_dropped(rt: &HostRuntime) -> Result<(), Fail> {
-    let longest = Vec::from_elem(rt.alloc(), 0u8, MAX_DATAGRAM)?;
-    let mut talk = begin(rt, 0, PORTS, 1)??;
-    let dropped = are_dropped(rt, &mut talk, &longest);
-    talk.end();
-    if dropped? {
-        Ok(())
-    } else {
-        Err(Fail::new("another answer"))
-    }
+    is_dropped(rt, talk, &longest)
 }
 
 #[test]
 fn a_datagram_of_no_client_is_dropped_and_the_next_is_answered(
     rt: HostRuntime,
 ) -> Result<(), Fail> {
-    expect_dropped(&rt)
+    let mut talk = begin(&rt, 1, Commits::EachTurn)?;
+    let right = are_dropped(&rt, &mut talk);
+    end_right(talk, right)
 }

@@ -1,7 +1,7 @@
 //! What a watch sees of a server whose clock goes on within a turn.
 
-use super::sockets::HOME;
 use super::started::start;
+use super::talks::{ANY, PLAIN, SIGNED, new_disk};
 use std::alloc::Allocator;
 use std::cell::Cell;
 use std::io;
@@ -9,13 +9,11 @@ use std::rt::Clock;
 use std::test::Fail;
 use std::time::Duration;
 use turn_client::TimedSocket;
-use turn_config::{Configured, read_config};
-use turn_disk::MemoryDisk;
+use turn_config::read_config;
 use turn_serving::{Commits, Watch};
 use turn_step::Outgoing;
-use turn_store::{format, least_area};
 use turn_table::Table;
-use turn_types::{Endpoint, Moment};
+use turn_types::Moment;
 
 const CONFIG: &[u8] = b"realm example.org
 secret 0000000000000000000000000000000000000000000000000000000000000000
@@ -23,14 +21,6 @@ listen 127.0.0.1:0
 relay 127.0.0.1 63150 63159
 limits 2 1 1 1 8
 ";
-
-/// An Allocate without attributes. It can change nothing, and is answered at once.
-pub const PLAIN: &[u8] =
-    b"\x00\x03\x00\x00\x21\x12\xA4\x42\x01\x02\x03\x04\x05\x06\x07\x08\x09\x0A\x0B\x0C";
-
-/// An Allocate with MESSAGE-INTEGRITY alone. It waits for a commit, and then its answer is an error.
-pub const SIGNED: &[u8] =
-    b"\x00\x03\x00\x18\x21\x12\xA4\x42\x01\x02\x03\x04\x05\x06\x07\x08\x09\x0A\x0B\x0C\x00\x08\x00\x14\x00\x00\x00\x00\x00\x00\x00\x00\x00\x00\x00\x00\x00\x00\x00\x00\x00\x00\x00\x00";
 
 /// A clock of which each reading is a second later.
 #[derive(Drop)]
@@ -81,26 +71,15 @@ impl<'s> Watch for &'s Seen {
     }
 }
 
-/// A new store in memory, with the limits of a configuration.
-pub fn new_disk(rt: &HostRuntime, config: &Configured<'_>) -> Result<MemoryDisk, Fail> {
-    let limits = config.config.limits();
-    let area = least_area(limits);
-    let mut disk = MemoryDisk::new(rt.alloc(), Vec::from_elem(rt.alloc(), 0u8, 64 + 2 * area)?);
-    if format(&mut disk, limits, area).is_err() {
-        return Err(Fail::new("format"));
-    }
-    Ok(disk)
-}
-
 /// A client's datagram, and the turn that answers it.
 fn play(rt: &HostRuntime, seen: &Seen, datagram: &[u8]) -> Result<(), Fail> {
     let clock = Seconds {
         next: Cell::new(1_000),
     };
     let configured = read_config(rt.alloc(), CONFIG)?;
-    let disk = new_disk(rt, &configured)?;
+    let disk = new_disk(rt.alloc(), configured.config.limits())?;
     let mut serving = start(rt, configured, Commits::Paced, &clock, disk, seen)?;
-    let client = TimedSocket::open(rt.alloc(), rt, Endpoint { ip: HOME, port: 0 })?;
+    let client = TimedSocket::open(rt.alloc(), rt, ANY)?;
     let sent = client.send(serving.local(), datagram);
     let turned = serving.turns(&&clock, 1);
     serving.close();

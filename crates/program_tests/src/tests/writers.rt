@@ -1,7 +1,6 @@
 //! Writers that fail.
 
-use super::replay::SCENARIO;
-use super::{BINDING, FROM, RELEASE, SUCCESS};
+use super::{BINDING, FROM, RELEASE, SCENARIO, SUCCESS};
 use std::io::{ErrorKind, Write};
 use std::test::Fail;
 use std::{fs, io};

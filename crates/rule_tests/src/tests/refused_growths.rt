@@ -1,22 +1,24 @@
-//! Each growth of memory refused in turn.
+//! Each growth of memory refused in turn: how much a decision and a datagram take.
 
-use super::judged::judged;
-use super::player::{Player, is_same};
-use super::row::{ALLOCATED, BOUND, PAIR, PAIRED, PERMITTED, Row, TOKEN};
-use super::setup::{RESERVING, SETUP, Setup, moment_at, value_of};
 use failing_alloc::FailingAlloc;
 use std::alloc::Global;
 use std::process::Abort;
-use test_requests::{
-    ALICE, Attribute, BOB, FIRST, ID, Kind, LOWEST, OTHER, PEER, PEER_ENDPOINT, REALM, SECOND, UDP,
-    ZERO, five_tuple, nonce_of, signed,
-};
-use turn_codec::{AttributeType, Builder, Message};
-use turn_mac::{append_fingerprint, append_integrity};
+use test_requests::{FIRST, ID, PEER_ENDPOINT, five_tuple};
+use test_servers::Scenario;
+use turn_codec::{AttributeType, Message};
+use turn_config::Configured;
+use turn_cred::Checker;
 use turn_relay::{ToClient, from_client, from_peer};
 use turn_rules::{ClientMessage, Decision, assess, decide};
 use turn_table::Table;
-use turn_types::{Class, Method, ServerConfig};
+use turn_types::{Moment, ServerConfig};
+
+/// A server at second 1000.
+const OPENED: &[u8] = b"limits 8 4 4 8 8
+format 4096
+expect opened clock 0
+at 1000
+raw 192.0.2.3:40000 -";
 
 fn has_fingerprint(rt: &impl Abort, reply: &[u8]) -> bool {
     let message = Message::parse(reply).expect(rt, "a message");
@@ -77,71 +79,118 @@ fn growths_with(
     panic!(rt; "some growth is always refused");
 }
 
-/// The same for a datagram of the first client.
+/// The outcome of the credential check of a message of the first client at a moment, and what it is of.
+fn judged<'a>(
+    rt: &impl Abort,
+    alloc: Global,
+    configured: Configured<'_>,
+    message: Message<'a>,
+    moment: Moment,
+) -> (ServerConfig, ClientMessage<'a>) {
+    let Configured {
+        config,
+        credentials,
+        ..
+    } = configured;
+    let verdict = match Checker::new(alloc, &config, credentials) {
+        Ok(mut checker) => checker.check(&message, FIRST, moment),
+        Err(_) => panic!(rt; "memory"),
+    };
+    let request = ClientMessage {
+        message,
+        five_tuple: five_tuple(FIRST),
+        verdict: Some(verdict),
+    };
+    (config, request)
+}
+
+/// The same for the request of a line.
 fn growths(
     rt: &impl Abort,
     alloc: Global,
-    table: &Table,
-    bytes: &[u8],
+    scenario: &Scenario,
+    line: &[u8],
     port: Option<u16>,
 ) -> (u64, (bool, bool)) {
-    let config = SETUP.config(rt, alloc);
-    let request = judged(rt, alloc, &config, bytes, table.moment());
+    let configured = scenario.configured().expect(rt, "a configuration");
+    let datagram = scenario.datagram(line).expect(rt, "a datagram");
+    let table = scenario.server().expect(rt, "a server").table();
+    let message = Message::parse(&datagram.bytes).expect(rt, "a message");
+    let (config, request) = judged(rt, alloc, configured, message, table.moment());
     growths_with(rt, alloc, table, &config, &request, port)
 }
 
-/// Alice's requests in their order, the port that each has, and the growths of a decision: one for the reply, and one
+/// Alice's requests in their order, what each gets, the port that it has, and the growths of a decision: one for the reply, and one
 /// for a user's name or a list of addresses. A token takes none.
-const DECISIONS: [(Kind, &[Attribute], Option<u16>, u64); 6] = [
-    (Kind::Allocate, &[UDP], Some(50000), 2),
-    (Kind::Refresh, &[], None, 1),
-    (Kind::CreatePermission, &[PEER, OTHER], None, 2),
-    (Kind::ChannelBind, &[LOWEST, PEER], None, 1),
-    (Kind::Refresh, &[ZERO], None, 1),
-    (Kind::Allocate, &[UDP, PAIR], Some(50000), 2),
+const DECISIONS: [(&[u8], &[u8], Option<u16>, u64); 6] = [
+    (
+        b"ask 192.0.2.1:32853 alice 0102030405060708090a0b0c allocate transport=17",
+        b"expect client 192.0.2.1:32853 success allocate 0102030405060708090a0b0c port=50000 life=600",
+        Some(50000),
+        2,
+    ),
+    (
+        b"ask 192.0.2.1:32853 alice 0102030405060708090a0b0c refresh",
+        b"expect client 192.0.2.1:32853 success refresh 0102030405060708090a0b0c life=600",
+        None,
+        1,
+    ),
+    (
+        b"ask 192.0.2.1:32853 alice 0102030405060708090a0b0c permit peer=203.0.113.5:7000 peer=203.0.113.6:7000",
+        b"expect client 192.0.2.1:32853 success permit 0102030405060708090a0b0c",
+        None,
+        2,
+    ),
+    (
+        b"ask 192.0.2.1:32853 alice 0102030405060708090a0b0c bind chan=4000 peer=203.0.113.5:7000",
+        b"expect client 192.0.2.1:32853 success bind 0102030405060708090a0b0c",
+        None,
+        1,
+    ),
+    (
+        b"ask 192.0.2.1:32853 alice 0102030405060708090a0b0c refresh life=0",
+        b"expect client 192.0.2.1:32853 success refresh 0102030405060708090a0b0c life=0",
+        None,
+        1,
+    ),
+    (
+        b"ask 192.0.2.1:32853 alice 0102030405060708090a0b0c allocate transport=17 even+",
+        b"expect client 192.0.2.1:32853 success allocate 0102030405060708090a0b0c port=50000 life=600 token=c351d574b15a49fa",
+        Some(50000),
+        2,
+    ),
 ];
 
-const SECOND_1000: [Row; 1] = [Row::Drop(1000, FIRST, b"")];
-
-fn play_decisions(rt: &impl Abort, alloc: Global, player: &mut Player) {
-    player.play(rt, &SECOND_1000);
-    let nonce = value_of(rt, nonce_of(1000, FIRST));
-    for (place, (kind, attributes, port, count)) in DECISIONS.iter().enumerate() {
-        let bytes = value_of(rt, signed(alloc, ALICE, *kind, &nonce, attributes));
-        if growths(rt, alloc, player.table(), &bytes, *port) != (*count, (true, false)) {
+fn play_decisions(rt: &impl Abort, alloc: Global, scenario: &mut Scenario) {
+    scenario.play_all(b"commit\nexpect committed 0");
+    for (place, (line, reply, port, count)) in DECISIONS.iter().enumerate() {
+        let is_right = growths(rt, alloc, scenario, line, *port) == (*count, (true, false));
+        let lines: [&[u8]; 4] = [line, b"commit", reply, b"expect committed 1"];
+        if !is_right || !lines.iter().all(|line| scenario.play(line)) {
             panic!(rt; "decision {place}");
         }
-        player.play(rt, &[Row::Ask(1000, ALICE, FIRST, *kind, attributes, 0)]);
     }
 }
 
 #[test]
 fn decision_takes_the_memory_of_the_reply_and_the_act(rt: HostRuntime) {
-    let mut player = Player::new(&rt, rt.alloc(), rt.alloc(), &RESERVING);
-    play_decisions(&rt, rt.alloc(), &mut player);
+    let alloc = rt.alloc();
+    let mut scenario = Scenario::begin(alloc, alloc, OPENED).expect(&rt, "a server");
+    play_decisions(&rt, alloc, &mut scenario);
 }
 
-/// Alice's Refresh with the nonce of second 1000 and a FINGERPRINT.
-fn fingerprinted(rt: &impl Abort, alloc: Global) -> Vec<u8> {
-    let nonce = value_of(rt, nonce_of(1000, FIRST));
-    let mut builder = Builder::new(alloc, Class::Request, Method::REFRESH, ID).expect(rt, "memory");
-    builder
-        .push(AttributeType::USERNAME, ALICE.name())
-        .expect(rt, "room");
-    builder.push(AttributeType::REALM, REALM).expect(rt, "room");
-    builder
-        .push(AttributeType::NONCE, &nonce)
-        .expect(rt, "room");
-    append_integrity(&mut builder, &ALICE.key()).expect(rt, "room");
-    append_fingerprint(&mut builder).expect(rt, "room");
-    builder.finish()
-}
+/// Alice's Refresh with the nonce of second 1000 and a FINGERPRINT, by Python's modules hmac, hashlib and zlib.
+const FINGERPRINTED: &[u8] =
+    b"raw 192.0.2.1:32853 000400902112a4420102030405060708090a0b0c00060005616c6963650000000014000b6578616d706c652e6f7267000015\
+    0050303030303030303030303030303365383637623436316161363039343466663264353361613233376236343037633161\
+    6236373739633534386532393739373662336265643037383430353639343839000800143a63c1c81ccf1e57978c0a02f6cb\
+    1130279839d080280004bcc1fc4b";
 
 #[test]
 fn refusal_takes_the_memory_of_the_reply(rt: HostRuntime) {
-    let bytes = fingerprinted(&rt, rt.alloc());
-    let table = Table::new(rt.alloc(), SETUP.limits(&rt), moment_at(&rt, 1000));
-    assert!(rt; growths(&rt, rt.alloc(), &table, &bytes, None) == (1, (false, true)));
+    let alloc = rt.alloc();
+    let scenario = Scenario::begin(alloc, alloc, OPENED).expect(&rt, "a server");
+    assert!(rt; growths(&rt, alloc, &scenario, FINGERPRINTED, None) == (1, (false, true)));
 }
 
 /// The text "hello" to and from 203.0.113.5:7000.
@@ -190,180 +239,46 @@ fn write_at_once(
     assert!(rt; refusing.left() == 0 && sent.bytes == b"hello".as_slice());
     assert!(rt; written(rt, refusing, &out).is_none() && refusing.has_refused());
     refusing.arm(1);
-    assert!(rt; is_same(&written(rt, refusing, &out), Some(wanted)));
+    let bytes = written(rt, refusing, &out).expect(rt, "memory");
+    assert!(rt; bytes.as_slice() == wanted);
     assert!(rt; refusing.left() == 0);
     refusing.arm(u64::MAX);
 }
 
-/// Peers' data is written at once, as an indication and over a channel.
-fn write_both(
+/// An allocation and a permission.
+const PERMITTED: &[u8] = b"commit
+expect committed 0
+ask 192.0.2.1:32853 alice 0102030405060708090a0b0c allocate
+ask 192.0.2.1:32853 alice 0102030405060708090a0b0c permit peer=203.0.113.5:7000
+commit
+expect client 192.0.2.1:32853 success allocate 0102030405060708090a0b0c port=50000 life=600
+expect client 192.0.2.1:32853 success permit 0102030405060708090a0b0c
+expect committed 2";
+
+/// A channel.
+const BOUND: &[u8] =
+    b"ask 192.0.2.1:32853 alice 0102030405060708090a0b0c bind chan=4000 peer=203.0.113.5:7000";
+
+/// A server over memory that may be refused.
+type Refused<'a> = Scenario<&'a FailingAlloc<Global>>;
+
+/// Plays lines, after which peers' data is written at once as these bytes.
+fn write_after(
     rt: &impl Abort,
     refusing: &FailingAlloc<Global>,
-    player: &mut Player<&FailingAlloc<Global>>,
+    scenario: &mut Refused<'_>,
+    lines: &[u8],
+    wanted: &[u8],
 ) {
-    player.play(rt, &[ALLOCATED, PERMITTED]);
-    write_at_once(rt, refusing, player.table(), INDICATION);
-    player.play(rt, &[BOUND]);
-    write_at_once(rt, refusing, player.table(), CHANNEL_DATA);
+    assert!(rt; scenario.play_all(lines));
+    let table = scenario.server().expect(rt, "a server").table();
+    write_at_once(rt, refusing, table, wanted);
 }
 
 #[test]
 fn peers_data_takes_the_memory_of_the_datagram(rt: HostRuntime) {
     let refusing = FailingAlloc::new(rt.alloc(), u64::MAX);
-    let mut player = Player::new(&rt, &refusing, rt.alloc(), &SETUP);
-    write_both(&rt, &refusing, &mut player);
-}
-
-/// A request of alice's that takes nothing. Her key is remembered from then on: a refused growth of that would not be told.
-const ASKED: Row = Row::Ask(1000, ALICE, FIRST, Kind::Refresh, &[], 437);
-
-/// The same of bob's.
-const BOBS_ASKED: Row = Row::Ask(1000, BOB, SECOND, Kind::Refresh, &[], 437);
-
-/// Whether ports may be reserved, what is done before, the row at second 1001 whose growths are refused, and how many ports it picks,
-/// which are then released.
-const GROWTHS: [(Setup, &[Row], Row, usize); 11] = [
-    (
-        SETUP,
-        &[ASKED],
-        Row::Ask(1001, ALICE, FIRST, Kind::Allocate, &[UDP], 0),
-        1,
-    ),
-    (
-        SETUP,
-        &[ALLOCATED],
-        Row::Ask(1001, ALICE, SECOND, Kind::Allocate, &[UDP], 0),
-        1,
-    ),
-    (
-        SETUP,
-        &[ALLOCATED],
-        Row::Ask(1001, ALICE, FIRST, Kind::Refresh, &[], 0),
-        0,
-    ),
-    (
-        SETUP,
-        &[ALLOCATED, PERMITTED],
-        Row::Ask(
-            1001,
-            ALICE,
-            FIRST,
-            Kind::CreatePermission,
-            &[PEER, OTHER],
-            0,
-        ),
-        0,
-    ),
-    (
-        SETUP,
-        &[ALLOCATED],
-        Row::Ask(1001, ALICE, FIRST, Kind::ChannelBind, &[LOWEST, PEER], 0),
-        0,
-    ),
-    (
-        SETUP,
-        &[ALLOCATED, BOUND],
-        Row::Ask(1001, ALICE, FIRST, Kind::Refresh, &[ZERO], 0),
-        0,
-    ),
-    (
-        SETUP,
-        &[ALLOCATED, PERMITTED],
-        Row::Send(1001, SEND, Some(b"hello")),
-        0,
-    ),
-    (
-        SETUP,
-        &[ALLOCATED, PERMITTED],
-        Row::Receive(1001, PEER_ENDPOINT, b"hello", Some(INDICATION)),
-        0,
-    ),
-    // Both ports of a pair; again; none where a token names one.
-    (
-        RESERVING,
-        &[ASKED],
-        Row::Ask(1001, ALICE, FIRST, Kind::Allocate, &[UDP, PAIR], 0),
-        2,
-    ),
-    (
-        RESERVING,
-        &[PAIRED],
-        Row::Ask(1001, ALICE, FIRST, Kind::Allocate, &[UDP, PAIR], 0),
-        0,
-    ),
-    (
-        RESERVING,
-        &[BOBS_ASKED, PAIRED],
-        Row::Ask(1001, BOB, SECOND, Kind::Allocate, &[UDP, TOKEN], 0),
-        0,
-    ),
-];
-
-/// How many ports were released where the growth after so many is refused, which changes nothing but the moment, and after which the
-/// same arrival is answered. Where no growth is left to be refused the row is taken at once.
-fn released_at(
-    rt: &impl Abort,
-    refusing: &FailingAlloc<Global>,
-    player: &mut Player<&FailingAlloc<Global>>,
-    row: &Row,
-    served: u64,
-) -> Option<usize> {
-    let state = player.state();
-    refusing.arm(served);
-    let is_taken = player.is_taken(rt, row);
-    assert!(rt; is_taken != refusing.has_refused());
-    refusing.arm(u64::MAX);
-    if is_taken {
-        return None;
-    }
-    let is_same = player.state() == state && player.keeps_ports();
-    if !is_same || player.moment().seconds() != 1001 {
-        panic!(rt; "{served} served");
-    }
-    let released = player.ports().released().len();
-    player.play(rt, &[*row]);
-    Some(released)
-}
-
-/// The same at a new server, after other rows.
-fn released_after(
-    rt: &impl Abort,
-    alloc: Global,
-    setup: &Setup,
-    before: &[Row],
-    row: &Row,
-    served: u64,
-) -> Option<usize> {
-    let refusing = FailingAlloc::new(alloc, u64::MAX);
-    let mut player = Player::new(rt, &refusing, alloc, setup);
-    player.play(rt, before);
-    released_at(rt, &refusing, &mut player, row, served)
-}
-
-/// How many growths a row takes, each of which is refused once, and how many ports the last refusal released.
-fn growths_of(
-    rt: &impl Abort,
-    alloc: Global,
-    setup: &Setup,
-    before: &[Row],
-    row: &Row,
-) -> (u64, usize) {
-    let mut last = 0;
-    for served in 0..16u64 {
-        match released_after(rt, alloc, setup, before, row, served) {
-            Some(released) => last = released,
-            None => return (served, last),
-        }
-    }
-    panic!(rt; "some growth is always refused");
-}
-
-#[test]
-fn step_that_lacks_memory_changes_nothing(rt: HostRuntime) {
-    for (place, (setup, before, row, picked)) in GROWTHS.iter().enumerate() {
-        let (growths, released) = growths_of(&rt, rt.alloc(), setup, before, row);
-        if growths == 0 || released != *picked {
-            panic!(rt; "row {place}");
-        }
-    }
+    let mut scenario = Scenario::begin(rt.alloc(), &refusing, OPENED).expect(&rt, "a server");
+    write_after(&rt, &refusing, &mut scenario, PERMITTED, INDICATION);
+    write_after(&rt, &refusing, &mut scenario, BOUND, CHANNEL_DATA);
 }

@@ -3,14 +3,17 @@
 ghost use Rattle.std.specs.Prelude.{IsTrue};
 ghost use Rattle.turn_table.specs.Table.{IsAbove, IsAboveReserved};
 
-use super::setup::moment_at;
 use failing_alloc::FailingAlloc;
 use std::alloc::{Allocator, Global};
 use std::process::Abort;
 use turn_history::{Act, Addresses, Channel, ChannelNumber, Reservation, UserName};
 use turn_ports::PortSet;
 use turn_table::{Entry, EntryParts, Table, above_the_last, above_the_last_reserved};
-use turn_types::{Endpoint, FiveTuple, Limits, Token, TxId};
+use turn_types::{Endpoint, FiveTuple, Limits, Moment, Token, TxId};
+
+fn moment_at(rt: &impl Abort, seconds: u64) -> Moment {
+    Moment::new(seconds).expect(rt, "a moment")
+}
 
 const SERVER: Endpoint = Endpoint {
     ip: 0xC000_0264,
@@ -21,7 +24,7 @@ const SERVER: Endpoint = Endpoint {
 const PEER_IP: u32 = 0xCB00_7105;
 
 /// The five-tuple of a client's port at 192.0.2.1.
-pub fn tuple(client: u16) -> FiveTuple {
+fn tuple(client: u16) -> FiveTuple {
     FiveTuple {
         client: Endpoint {
             ip: 0xC000_0201,
@@ -37,7 +40,7 @@ fn peer(port: u16) -> Endpoint {
 
 /// An act, with slices where `Act` has vectors.
 #[derive(Clone, Copy)]
-pub enum Step {
+enum Step {
     /// A user, a relayed port, and the seconds granted.
     Alloc(&'static [u8], u16, u32),
     /// The same, with an even port, which reserves the next one.
@@ -54,7 +57,7 @@ fn token_after(even: u16) -> Token {
     Token([high, low, 1, 2, 3, 4, 5, 6])
 }
 
-pub fn act_of<A: Allocator + Copy>(rt: &impl Abort, alloc: A, step: Step) -> Act<A> {
+fn act_of<A: Allocator + Copy>(rt: &impl Abort, alloc: A, step: Step) -> Act<A> {
     match step {
         Step::Alloc(user, port, granted) => Act::Alloc {
             user: UserName::from(Vec::from_slice(alloc, user).expect(rt, "memory")),
@@ -81,7 +84,7 @@ pub fn act_of<A: Allocator + Copy>(rt: &impl Abort, alloc: A, step: Step) -> Act
 }
 
 /// Purges a table to a second, and returns how many entries and reservations that removed, and the last port, 0 for none.
-pub fn purge_to<A: Allocator + Copy>(
+fn purge_to<A: Allocator + Copy>(
     rt: &impl Abort,
     table: &mut Table<A>,
     seconds: u64,
@@ -96,18 +99,6 @@ pub fn purge_to<A: Allocator + Copy>(
         }
     }
     panic!(rt; "more than 7 ports");
-}
-
-/// Does an act that fits at a table's moment.
-pub fn apply<A: Allocator + Copy>(
-    rt: &impl Abort,
-    table: &mut Table<A>,
-    tuple: FiveTuple,
-    act: Act<A>,
-) {
-    assert!(rt; table.fits(tuple, &act));
-    table.reserve_for(tuple, &act).expect(rt, "memory");
-    table.apply(table.moment(), tuple, act);
 }
 
 const PERMISSIONS: [(u32, u64); 2] = [(1, 1300), (PEER_IP, 1200)];

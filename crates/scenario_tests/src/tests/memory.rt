@@ -1,11 +1,24 @@
-//! Each growth refused in turn.
+//! Each growth of a scenario refused in turn.
 
-use super::{SETTINGS, joined};
 use failing_alloc::FailingAlloc;
 use std::alloc::{Allocator, Global};
 use std::process::Abort;
 use turn_scenario::{Report, ScenarioError, replay};
 
+/// The settings of the realm example.org with alice and bob, ten relay ports, a denied address, and the min limits but two
+/// allocations and names of eight bytes.
+const SETTINGS: &str = "realm example.org
+user alice wonder
+user bob builder
+secret 0000000000000000000000000000000000000000000000000000000000000000
+listen 192.0.2.100:3478
+relay 198.51.100.1 50000 50009
+quota 2
+deny 203.0.113.9 203.0.113.9
+limits 2 1 1 1 8
+";
+
+/// A datagram and data both ways, a channel, a crash.
 const LINES: &str = "format1 238
 ask 192.0.2.1:5 alice 000000000000000000000001 allocate life=600
 commit
@@ -131,7 +144,7 @@ fn refuse_each(rt: &impl Abort, alloc: Global, scenario: &[u8], whole: &Report) 
 
 /// Refuses each growth of a scenario, some of an arrival or an opening and some of the disk's record.
 fn expect_told(rt: &impl Abort, alloc: Global, lines: &str) {
-    let scenario = joined(rt, alloc, &[SETTINGS, lines]);
+    let scenario = format!(in alloc; "{SETTINGS}{lines}").expect(rt, "memory");
     let whole = replay(alloc, scenario.as_bytes()).expect(rt, "a report");
     let told = refuse_each(rt, alloc, scenario.as_bytes(), &whole);
     assert!(rt; told.memory);

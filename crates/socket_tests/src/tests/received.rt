@@ -4,7 +4,7 @@ use std::cell::Cell;
 use std::io::{self, Error, ErrorKind};
 use std::net::{Ipv6Addr, SocketAddr, SocketAddrV6};
 use std::test::Fail;
-use turn_sockets::{Buffer, DatagramSocket, Received, address_of};
+use turn_sockets::{Buffer, DatagramSocket, Received, SocketRecord, address_of};
 use turn_types::Endpoint;
 
 const PEER: Endpoint = Endpoint {
@@ -19,6 +19,12 @@ struct FailingOnce<'a> {
 }
 
 impl DatagramSocket for FailingOnce<'_> {
+    ghost bound_at = { λ _. record { ip = 0; port = 7001 } };
+
+    fn at(&self) -> Endpoint {
+        Endpoint { ip: 0, port: 7001 }
+    }
+
     fn receive(&self, buffer: &mut [u8]) -> io::Result<(usize, SocketAddr)> {
         let call = self.calls.get();
         self.calls.set(call.wrapping_add(1));
@@ -49,9 +55,10 @@ fn only_would_block_says_that_nothing_waits(rt: HostRuntime) -> Result<(), Fail>
     let calls = Cell::new(0);
     let socket = FailingOnce { calls: &calls };
     let mut buffer = Buffer::new(rt.alloc())?;
-    assert!(rt; matches!(buffer.receive(&socket), Received::Failed));
-    assert!(rt; matches!(buffer.receive(&socket), Received::Failed));
-    assert!(rt; is_datagram(buffer.receive(&socket)));
-    assert!(rt; matches!(buffer.receive(&socket), Received::Nothing));
+    let mut wire = SocketRecord::new();
+    assert!(rt; matches!(buffer.receive(&socket, &mut wire), Received::Failed));
+    assert!(rt; matches!(buffer.receive(&socket, &mut wire), Received::Failed));
+    assert!(rt; is_datagram(buffer.receive(&socket, &mut wire)));
+    assert!(rt; matches!(buffer.receive(&socket, &mut wire), Received::Nothing));
     Ok(())
 }

@@ -1,18 +1,18 @@
 ghost use Rattle.std.specs.Prelude.{◌≤◌, IfOk};
 
-use super::disks::{read, write};
 use std::cell::Cell;
 use std::fs::{File, Files};
 use std::io::{Error, ErrorKind};
 use std::process::Abort;
 use std::{fs, io};
 use test_files::{FileCalls, TestFile};
-use turn_disk::{Disk, FileDisk, FileError};
+use test_stores::{read_at, write_at};
+use turn_disk::{DeviceError, Disk, FileDisk, FileError};
 
 fn write_a_file<R: Abort + Files<File = File>>(rt: &R, path: &str) {
     let mut disk = FileDisk::create(rt, path, 64).expect(rt, "made");
     assert!(rt; disk.size() == 64);
-    assert!(rt; write(rt, &mut disk, 60, b"abcd"));
+    assert!(rt; write_at(&mut disk, 60, b"abcd") == Some(Ok(())));
     assert!(rt; disk.sync().is_ok());
     assert!(rt; disk.failures() == 0);
 }
@@ -21,7 +21,7 @@ fn read_a_file<R: Abort + Files<File = File>>(rt: &R, disk: FileDisk) {
     let mut disk = disk;
     assert!(rt; disk.size() == 64);
     let mut buffer = [9; 6];
-    assert!(rt; read(rt, &mut disk, 58, &mut buffer));
+    assert!(rt; read_at(&mut disk, 58, &mut buffer) == Some(Ok(())));
     assert!(rt; buffer == *b"\0\0abcd");
 }
 
@@ -67,9 +67,9 @@ fn shortened<R: Abort + Files<File = File>>(rt: &R, path: &str) -> FileDisk {
 
 fn read_past_the_end<D: Disk>(rt: &impl Abort, disk: &mut D) {
     let mut buffer = [9; 4];
-    assert!(rt; read(rt, disk, 0, &mut buffer));
+    assert!(rt; read_at(disk, 0, &mut buffer) == Some(Ok(())));
     assert!(rt; buffer == [0; 4]);
-    assert!(rt; !read(rt, disk, 14, &mut buffer));
+    assert!(rt; read_at(disk, 14, &mut buffer) == Some(Err(DeviceError)));
     assert!(rt; disk.failures() == 1);
 }
 
@@ -127,7 +127,7 @@ fn a_disk_that_is_opened_to_be_read_is_not_written(rt: HostRuntime) -> io::Resul
     write_a_file(&rt, path);
     let mut disk = FileDisk::open_to_read(&rt, path).expect(&rt, "opened");
     assert!(rt; disk.sync().is_ok());
-    assert!(rt; !write(&rt, &mut disk, 60, b"efgh"));
+    assert!(rt; write_at(&mut disk, 60, b"efgh") == Some(Err(DeviceError)));
     assert!(rt; disk.failures() == 1);
     read_a_file(&rt, disk);
     fs::remove_file(&rt, path)
@@ -176,9 +176,9 @@ fn short_counts_and_interruptions_are_no_failures(rt: HostRuntime) {
     };
     let mut disk = FileDisk::new(TestFile(file), 100);
     let mut buffer = [0; 5];
-    assert!(rt; read(&rt, &mut disk, 7, &mut buffer));
+    assert!(rt; read_at(&mut disk, 7, &mut buffer) == Some(Ok(())));
     assert!(rt; buffer == [7, 8, 9, 10, 11]);
-    assert!(rt; write(&rt, &mut disk, 7, &buffer));
+    assert!(rt; write_at(&mut disk, 7, &buffer) == Some(Ok(())));
     assert!(rt; disk.failures() == 0);
     assert!(rt; disk.sync().is_err());
     assert!(rt; disk.failures() == 1);
@@ -210,7 +210,7 @@ impl FileCalls for SyncedFile<'_> {
 fn a_sync_is_one_of_the_file(rt: HostRuntime) {
     let syncs = Cell::new(0);
     let mut disk = FileDisk::new(TestFile(SyncedFile { syncs: &syncs }), 100);
-    assert!(rt; write(&rt, &mut disk, 7, b"abcd"));
+    assert!(rt; write_at(&mut disk, 7, b"abcd") == Some(Ok(())));
     assert!(rt; syncs.get() == 0);
     assert!(rt; disk.sync().is_ok());
     assert!(rt; syncs.get() == 1);

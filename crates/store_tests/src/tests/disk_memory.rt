@@ -1,18 +1,19 @@
-use super::disks::{disk_of, write};
+use super::disks::disk_of;
 use failing_alloc::FailingAlloc;
 use std::alloc::Allocator;
 use std::process::Abort;
+use test_stores::write_at;
 use turn_disk::{CrashOutcome, Disk, MemoryDisk};
 
 // The contents after each of four calls, the second of which is a sync.
 const CONTENTS: [&[u8; 8]; 4] = [b"abcd4567", b"abcd4567", b"ababcd67", b"abaabcd7"];
 
 // Whether the call succeeds: call 1 syncs, and each other one writes at the position of its number.
-fn make_call<A: Allocator>(rt: &impl Abort, disk: &mut MemoryDisk<A>, call: usize) -> bool {
+fn make_call<A: Allocator>(disk: &mut MemoryDisk<A>, call: usize) -> bool {
     if call == 1 {
         return disk.sync().is_ok();
     }
-    write(rt, disk, call, b"abcd")
+    write_at(disk, call, b"abcd") == Some(Ok(()))
 }
 
 // A call that fails leaves the content before it, and succeeds when it is repeated.
@@ -23,10 +24,10 @@ fn make_calls<A: Allocator, B: Allocator>(
 ) {
     let mut before = b"01234567";
     for (call, after) in CONTENTS.iter().enumerate() {
-        if !make_call(rt, disk, call) {
+        if !make_call(disk, call) {
             assert!(rt; disk.content() == before.as_slice());
             assert!(rt; refusing.has_refused());
-            assert!(rt; make_call(rt, disk, call));
+            assert!(rt; make_call(disk, call));
         }
         assert!(rt; disk.content() == after.as_slice());
         before = after;

@@ -1,19 +1,14 @@
 //! What a store writes, call by call, while batches are added to it and snapshots are written.
 
-ghost use Rattle.std.specs.Prelude.{◌≡◌, ◌↔◌, IsTrue};
-ghost use Rattle.turn_record.specs.declared.version.Version.TheVariants.{V1};
-
-use super::limits::limits_of;
-use super::stores::format_disk;
 use std::alloc::Global;
 use std::cell::RefCell;
 use std::io::{self, Error, ErrorKind};
-use std::marker::Model;
 use std::process::Abort;
 use test_files::{FileCalls, TestFile, copy_at};
+use test_stores::{SnapshotTable, TestStore, format_as};
 use turn_disk::FileDisk;
-use turn_record::{Version, max_payload, read_snapshot};
-use turn_store::{Opened, Store, WrittenAs, least_area};
+use turn_record::Version;
+use turn_store::{WrittenAs, least_area};
 use turn_types::{Bounds, Limits};
 
 /// The last version of a table. The first one is 0, and each batch makes the next.
@@ -67,7 +62,7 @@ impl Shape {
             acts: 2,
             name_bytes: self.name_bytes(),
         };
-        limits_of(rt, bounds)
+        Limits::new(bounds).expect(rt, "limits")
     }
 
     /// The entry of a snapshot.
@@ -167,74 +162,28 @@ impl FileCalls for Recorder<'_> {
     }
 }
 
-fn is_first(version: Version) -> bool
-    ensures { IsTrue result ↔ (version ≡ V1) }
-{
-    version == Version::V1
+/// An open store of version 1 over a recorder.
+type Recorded<'a> = TestStore<FileDisk<TestFile<Recorder<'a>>>>;
+
+fn table_of(rt: &impl Abort, alloc: Global, shape: Shape, version: u16) -> SnapshotTable {
+    let bytes = shape.snapshot(rt, alloc, version);
+    match SnapshotTable::read(alloc, Version::V1, shape.limits(rt), &bytes) {
+        Ok(table) => table,
+        Err(_) => panic!(rt; "a snapshot"),
+    }
 }
 
-/// An open store of version 1, and its limits.
-#[derive(Drop)]
-struct Stored<'a> {
-    store: Store<FileDisk<TestFile<Recorder<'a>>>>,
-    limits: Limits,
-    shape: Shape,
+/// Writes the snapshot of a version's table.
+fn compact(rt: &impl Abort, alloc: Global, store: &mut Recorded<'_>, shape: Shape, version: u16) {
+    let table = table_of(rt, alloc, shape, version);
+    assert!(rt; store.compact(&table) == Some(Ok(())));
 }
 
-impl<'a> Model for Stored<'a> {
-    ghost use Rattle.std.specs.Prelude.{◌≡◌};
-    ghost use Rattle.turn_disk.specs.Views.{InFile};
-    ghost use Rattle.turn_record.specs.declared.version.Version.TheVariants.{V1};
-    ghost use Rattle.turn_store.specs.State.{StoreState};
-
-    ghost Value = { StoreState InFile };
-
-    ghost view = { λ s. s.store };
-
-    ghost invariant = { λ s. (s.store.bounds ≡ s.limits) × (s.store.version ≡ V1) };
-}
-
-impl<'a> Stored<'a> {
-    fn open(
-        rt: &impl Abort,
-        alloc: Global,
-        disk: FileDisk<TestFile<Recorder<'a>>>,
-        shape: Shape,
-    ) -> Stored<'a> {
-        let limits = shape.limits(rt);
-        match Store::open_as(alloc, disk, limits, false) {
-            Ok(opened) => {
-                let Opened { store, table: _ } = opened;
-                assert!(rt; is_first(store.info().version));
-                Stored {
-                    store,
-                    limits,
-                    shape,
-                }
-            }
-            Err(_) => panic!(rt; "not opened"),
-        }
-    }
-
-    /// Writes the snapshot of a version's table.
-    fn compact(&mut self, rt: &impl Abort, alloc: Global, version: u16) {
-        let bytes = self.shape.snapshot(rt, alloc, version);
-        match read_snapshot(alloc, Version::V1, self.limits, &bytes) {
-            Ok(table) => assert!(rt; self.store.compact(&table).is_ok()),
-            Err(_) => panic!(rt; "a snapshot"),
-        }
-    }
-
-    /// Adds the batch that makes a version.
-    fn append(&mut self, rt: &impl Abort, alloc: Global, version: u16) {
-        let payload = self.shape.batch(rt, alloc, version);
-        assert!(rt; payload.len() <= max_payload(Version::V1, self.limits));
-        let bytes = self.shape.snapshot(rt, alloc, version);
-        match read_snapshot(alloc, Version::V1, self.limits, &bytes) {
-            Ok(table) => assert!(rt; self.store.append(&payload, &table) == Ok(WrittenAs::Frame)),
-            Err(_) => panic!(rt; "a snapshot"),
-        }
-    }
+/// Adds the batch that makes a version.
+fn append(rt: &impl Abort, alloc: Global, store: &mut Recorded<'_>, shape: Shape, version: u16) {
+    let table = table_of(rt, alloc, shape, version);
+    let payload = shape.batch(rt, alloc, version);
+    assert!(rt; store.append(&payload, &table) == Some(Ok(WrittenAs::Frame)));
 }
 
 /// A store's bytes, what is then written to it, and which version it has after each of these writes.
@@ -252,14 +201,18 @@ fn begin<'a>(
     alloc: Global,
     content: &'a RefCell<Content>,
     shape: Shape,
-    area: usize,
-) -> Stored<'a> {
-    assert!(rt; area <= 2_000_000);
-    let mut disk = FileDisk::new(TestFile(Recorder { alloc, content }), 64 + 2 * area);
-    assert!(rt; format_disk(rt, &mut disk, shape.limits(rt), area).is_ok());
-    let mut stored = Stored::open(rt, alloc, disk, shape);
-    stored.compact(rt, alloc, 0);
-    stored
+    size: usize,
+) -> Recorded<'a> {
+    let mut disk = FileDisk::new(TestFile(Recorder { alloc, content }), size);
+    let limits = shape.limits(rt);
+    assert!(rt; format_as(&mut disk, Version::V1, limits) == Some(Ok(())));
+    match TestStore::open(alloc, disk, limits, false) {
+        Ok((mut store, _)) => {
+            compact(rt, alloc, &mut store, shape, 0);
+            store
+        }
+        Err(_) => panic!(rt; "not opened"),
+    }
 }
 
 /// Forgets the writes so far, and returns the bytes.
@@ -295,15 +248,16 @@ fn add_all(
     rt: &impl Abort,
     alloc: Global,
     content: &RefCell<Content>,
-    stored: &mut Stored<'_>,
+    store: &mut Recorded<'_>,
+    shape: Shape,
 ) -> Vec<u16> {
     let mut versions = Vec::new(alloc);
     for before in 0..LAST {
         let version = before + 1;
-        stored.append(rt, alloc, version);
+        append(rt, alloc, store, shape, version);
         note(rt, count_calls(content), &mut versions, before, version);
         if version % BATCHES == 0 {
-            stored.compact(rt, alloc, version);
+            compact(rt, alloc, store, shape, version);
             note(rt, count_calls(content), &mut versions, version, version);
         }
     }
@@ -314,14 +268,15 @@ fn add_all(
 pub fn record_calls(rt: &impl Abort, alloc: Global, shape: Shape) -> Record {
     let area = least_area(shape.limits(rt)) + 400;
     assert!(rt; area <= 2_000_000);
+    let size = 64 + 2 * area;
     let content = RefCell::new(Content {
-        bytes: Vec::from_elem(alloc, 0u8, 64 + 2 * area).expect(rt, "memory"),
+        bytes: Vec::from_elem(alloc, 0u8, size).expect(rt, "memory"),
         calls: Vec::new(alloc),
     });
-    let mut stored = begin(rt, alloc, &content, shape, area);
+    let mut store = begin(rt, alloc, &content, shape, size);
     let first = restart(rt, alloc, &content);
-    let versions = add_all(rt, alloc, &content, &mut stored);
-    drop(stored);
+    let versions = add_all(rt, alloc, &content, &mut store, shape);
+    drop(store);
     let Content { bytes: _, calls } = content.into_inner();
     Record {
         shape,

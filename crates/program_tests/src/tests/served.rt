@@ -1,0 +1,253 @@
+//! `turn serve` for some turns, or up to a fault: what is answered, and what the log has of requests that are dropped and of commits.
+
+use super::RELEASE;
+use super::clocks::Ticking;
+use super::stores::fresh;
+use super::talks::{ANY, BINDING, HOME, PLAIN, SIGNED};
+use std::fs;
+use std::io::{self, Write};
+use std::test::Fail;
+use turn_client::TimedSocket;
+use turn_program::run_words;
+use turn_types::Endpoint;
+
+const CONFIG: &str = "realm example.org
+secret 0000000000000000000000000000000000000000000000000000000000000000
+listen 127.0.0.1:63160
+relay 127.0.0.1 63161 63169
+limits 2 1 1 1 8
+";
+
+const SERVER: Endpoint = Endpoint {
+    ip: HOME,
+    port: 63_160,
+};
+
+/// A standard output that sends a datagram so many times to the server when something is printed for the first time.
+#[derive(Drop)]
+struct Caller<'a> {
+    client: &'a TimedSocket,
+    row: &'a Row,
+    called: bool,
+    printed: Vec<u8>,
+}
+
+impl Write for Caller<'_> {
+    fn write(&mut self, buf: &[u8]) -> io::Result<usize> {
+        if !self.called {
+            self.called = true;
+            for _ in 0..self.row.count {
+                let _ = self.client.send(SERVER, self.row.datagram);
+            }
+        }
+        self.printed.extend_from_slice(buf)?;
+        Ok(buf.len())
+    }
+
+    fn flush(&mut self) -> io::Result<()> {
+        Ok(())
+    }
+}
+
+/// What a client sends before the first turn, and what comes of it.
+struct Row {
+    words: &'static str,
+    datagram: &'static [u8],
+    /// How often it is sent.
+    count: u8,
+    /// How many milliseconds a commit takes.
+    tick: u64,
+    /// How often the clock tells a second.
+    readings: u32,
+    answers: u8,
+    /// The lines of the log on the server itself but for those of the start.
+    log: &'static str,
+    status: u8,
+    out: &'static str,
+    err: &'static str,
+}
+
+/// Without `--turns` turns are taken up to a fault: the clock tells no second.
+const ENDS: Row = Row {
+    words: "turn serve --config turn_served.conf --store turn_served.store --log",
+    datagram: BINDING,
+    count: 70,
+    tick: 0,
+    readings: 5,
+    answers: 70,
+    log: "",
+    status: 3,
+    out: "listening 127.0.0.1:63160\n",
+    err: "turn: device\n",
+};
+
+const COUNTED: Row = Row {
+    count: 3,
+    readings: u32::MAX,
+    status: 0,
+    err: "",
+    ..ENDS
+};
+
+/// A round takes up to 72 datagrams of a socket. Of 70 requests of a client that may change something 64 wait, and 6 are dropped. A
+/// Binding waits for nothing, nor does an Allocate without MESSAGE-INTEGRITY. A commit of 100 ms has no line.
+const UP_TO_A_FAULT: [Row; 5] = [
+    Row { ..ENDS },
+    Row {
+        datagram: PLAIN,
+        ..ENDS
+    },
+    Row {
+        datagram: SIGNED,
+        readings: 132,
+        answers: 64,
+        log: "1001 - dropped 6 requests: too many wait for the disk\n",
+        ..ENDS
+    },
+    Row {
+        datagram: SIGNED,
+        count: 1,
+        tick: 100,
+        readings: 6,
+        answers: 1,
+        ..ENDS
+    },
+    Row {
+        datagram: SIGNED,
+        count: 1,
+        tick: 101,
+        readings: 6,
+        answers: 1,
+        log: "1000 - commit took 101 ms\n",
+        ..ENDS
+    },
+];
+
+/// Turns, a burst, and how many of three requests are answered.
+const SO_MANY_TURNS: [Row; 5] = [
+    Row {
+        words: "turn serve --config turn_served.conf --store turn_served.store --log --turns 0 --burst 64",
+        answers: 0,
+        out: "listening 127.0.0.1:63160\nserved 0 turns\n",
+        ..COUNTED
+    },
+    Row {
+        words: "turn serve --config turn_served.conf --store turn_served.store --log --turns 1 --burst 1",
+        answers: 1,
+        out: "listening 127.0.0.1:63160\nserved 1 turns\n",
+        ..COUNTED
+    },
+    Row {
+        words: "turn serve --config turn_served.conf --store turn_served.store --log --turns 2 --burst 1",
+        answers: 2,
+        out: "listening 127.0.0.1:63160\nserved 2 turns\n",
+        ..COUNTED
+    },
+    Row {
+        words: "turn serve --config turn_served.conf --store turn_served.store --log --turns 1 --burst 2",
+        answers: 2,
+        out: "listening 127.0.0.1:63160\nserved 1 turns\n",
+        ..COUNTED
+    },
+    Row {
+        words: "turn serve --config turn_served.conf --store turn_served.store --log --turns 3 --burst 1",
+        answers: 3,
+        out: "listening 127.0.0.1:63160\nserved 3 turns\n",
+        ..COUNTED
+    },
+];
+
+/// The lines of a log but for the first three, which are those of the start, and those of clients.
+fn own_lines(rt: &HostRuntime, log: &[u8]) -> Result<String, Fail> {
+    let mut own = String::new(rt.alloc());
+    for line in str::from_utf8(log)?.lines().skip(3) {
+        if !line.contains(" client ") {
+            own.push_str(line)?;
+            own.push('\n')?;
+        }
+    }
+    Ok(own)
+}
+
+/// How many datagrams a socket has got by now.
+fn count_datagrams(client: &mut TimedSocket) -> u8 {
+    let mut count = 0u8;
+    for _ in 0..100u8 {
+        if client.receive().is_err() {
+            return count;
+        }
+        count = count.wrapping_add(1);
+    }
+    count
+}
+
+/// What a server writes, and whether it ends as a row says.
+#[derive(Drop)]
+struct Written {
+    out: Vec<u8>,
+    err: Vec<u8>,
+    log: Vec<u8>,
+    has_ended: bool,
+}
+
+/// Serves while a client sends what a row says.
+fn serve(rt: &HostRuntime, client: &TimedSocket, row: &Row) -> Result<Written, Fail> {
+    let mut words = Vec::new(rt.alloc());
+    for word in row.words.split(' ') {
+        words.push(word)?;
+    }
+    let mut out = Caller {
+        client,
+        row,
+        called: false,
+        printed: Vec::new(rt.alloc()),
+    };
+    let (mut err, mut log) = (Vec::new(rt.alloc()), Vec::new(rt.alloc()));
+    let clock = Ticking::new(row.readings, row.tick);
+    let status = run_words(
+        rt,
+        &clock,
+        RELEASE,
+        words.as_slice(),
+        &mut out,
+        &mut err,
+        &mut log,
+    );
+    Ok(Written {
+        out: out.printed,
+        err,
+        log,
+        has_ended: status == row.status,
+    })
+}
+
+fn expect(rt: &HostRuntime, row: &Row) -> Result<(), Fail> {
+    fs::write(rt, "turn_served.conf", CONFIG)?;
+    fs::write(rt, "turn_served.store", fresh(rt.alloc())?)?;
+    let mut client = TimedSocket::open(rt.alloc(), rt, ANY)?;
+    let written = serve(rt, &client, row)?;
+    fs::remove_file(rt, "turn_served.conf")?;
+    fs::remove_file(rt, "turn_served.store")?;
+    let answers = count_datagrams(&mut client);
+    let own = own_lines(rt, &written.log)?;
+    let is_written = written.has_ended
+        && written.out.as_slice() == row.out.as_bytes()
+        && written.err.as_slice() == row.err.as_bytes();
+    if is_written && answers == row.answers && own.as_str() == row.log {
+        Ok(())
+    } else {
+        Err(Fail::new(format_args!("{answers} answers, log {own}")))
+    }
+}
+
+/// One test, since all have the same files and ports.
+#[test]
+fn serve_takes_turns_up_to_a_fault_or_so_many(rt: HostRuntime) -> Result<(), Fail> {
+    for row in &UP_TO_A_FAULT {
+        expect(&rt, row)?;
+    }
+    for row in &SO_MANY_TURNS {
+        expect(&rt, row)?;
+    }
+    Ok(())
+}

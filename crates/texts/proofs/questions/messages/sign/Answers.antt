@@ -1,0 +1,12 @@
+use Rattle.std.proofs.Common.{◌≡◌, [], ap, subst}
+use Rattle.std.specs.Result.{result_unwrap_or}
+use Rattle.turn_codec.specs.AttributeTypes.{message_integrity}
+use Rattle.turn_codec.specs.Grammar.{Datagram, from}
+use Rattle.texts.proofs.questions.messages.sign.Goals as goal
+
+pub append_integrity-requires : goal.append_integrity-requires
+append_integrity-requires c =
+    let written : Datagram = record { bytes = c.as_bytes.result.now; content = c.args.builder.now } in
+    let read = c.in-Ok.ensures.only c.args.builder.now c.as_bytes.ensures.spells in
+    let same = ap (λ r. result_unwrap_or r written) read in
+    subst (λ (d : Datagram). from message_integrity d.content.attributes ≡ []) same c.in-None.ensures.found
