@@ -1,7 +1,6 @@
 -- What a call that uses a disk says of its device calls.
-use Rattle.std.specs.Prelude.{◌≡◌, ℕ}
+use Rattle.std.specs.Prelude.{◌≡◌}
 use Rattle.turn_disk.specs.Counts.{Rises}
-use Rattle.turn_disk.specs.Disk.{Trace}
 use Rattle.turn_disk.specs.declared.disk.Disk as disks
 
 -- a call that may write, and in which a device call failed where `failed` holds

@@ -16,8 +16,8 @@ use std::os::unix::fs::FileExt;
 ///
 /// Reads and writes continue after a short count or an interruption; each other error is a failed call.
 ///
-/// `S` stands for what the file held then. Clauses on its content have the premise that the answers so far, of reads above all, were
-/// those of a file which held it, kept what was written, and which nothing else wrote.
+/// `S` stands for the state that the file was found in. Clauses on its content have the premise that the answers so far, of reads above
+/// all, were those of a file in this state, which kept what was written, and which nothing else wrote.
 #[derive(Drop)]
 pub struct FileDisk<F: FileExt + OpenFile = File, S: Start = Unknown> {
     file: F,
@@ -49,7 +49,7 @@ impl<F: FileExt + OpenFile> FileDisk<F> {
         }
     }
 
-    /// The same disk, with a name for what the file held when it was opened.
+    /// The same disk, with a name for the state that the file was found in when it was opened.
     pub fn holding<S: Start>(self) -> FileDisk<F, S>
         ensures { result ≡ self }
     {
@@ -137,11 +137,11 @@ impl<F: FileExt + OpenFile, S: Start> Disk for FileDisk<F, S> {
 
     ghost failed = { λ disk. disk.failures };
 
-    ghost follows_crash_model = { λ disk. (length S.Start.content ≡ disk.size) × FollowCrashModel S.Start.content disk.events };
+    ghost follows_crash_model = { λ disk. (length S.Start.found.bytes ≡ disk.size) × FollowCrashModel S.Start.found disk.events };
 
-    ghost trace = { λ disk. replay S.Start.content disk.events };
+    ghost trace = { λ disk. replay S.Start.found disk.events };
 
-    ghost sized = { λ disk crash_model. sized_by S.Start.content disk.events disk.size crash_model };
+    ghost sized = { λ disk crash_model. sized_by S.Start.found disk.events disk.size crash_model };
 
     fn size(&self) -> usize {
         self.size

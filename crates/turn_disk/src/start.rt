@@ -1,17 +1,19 @@
 //! What a file holds when it is opened.
 
-ghost use Rattle.std.specs.Prelude.{ℕ, [], List};
+ghost use Rattle.std.specs.Prelude.{[]};
+ghost use Rattle.turn_disk.specs.Disk.{State};
 
-/// What a file held when it was opened. No code can read it, so what is proved over `S: Start` holds for each content.
+/// The state that a file was found in when it was opened. No code can read it, so what is proved over `S: Start` holds for each state.
 pub trait Start: Drop {
-    /// The bytes that it held.
-    ghost content: { List ℕ };
+    /// What a read returned, and what was written and not synced: a process that was killed may have left it so, and a loss of
+    /// power may still take it back.
+    ghost found: { State };
 }
 
-/// A name for the content that a program doesn't know.
+/// A name for the state that a program doesn't know.
 #[derive(Drop)]
 pub struct Unknown;
 
 impl Start for Unknown {
-    ghost content = { [] };
+    ghost found = { record { bytes = []; pending = [] } };
 }

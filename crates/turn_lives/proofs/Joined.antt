@@ -1,26 +1,29 @@
 -- Processes as calls of a life.
-use Rattle.std.proofs.Common.{◌≡◌, ◌≤◌, ◌++◌, ℕ, Bool, false, List, [], ◌∷◌, Ok, length, map, max, sym, subst, arith, append_assoc, append-nil}
+use Rattle.std.proofs.Common.{◌≡◌, ◌≤◌, ◌++◌, ℕ, Bool, false, List, [], ◌∷◌, Ok, length, map, max, refl, sym, ap, ◌∙◌, subst, arith, append_assoc, append-nil}
 use Rattle.turn_cred.specs.declared.handler.AuthHandler as handlers
 use Rattle.turn_disk.specs.declared.disk.Disk as disks
 use Rattle.turn_engine.proofs.Runs as runs
-use Rattle.turn_engine.proofs.Stops.{left_alone, left_has}
+use Rattle.turn_engine.proofs.Stops.{left_has}
 use Rattle.turn_engine.specs.Calls.{Submits}
 use Rattle.turn_engine.specs.Images.{AtLeast}
 use Rattle.turn_engine.specs.Runs.{Commit, NeverFails, Serves, ServerCall, Submit, Taken, accepted, last_of}
 use Rattle.turn_engine.specs.State.{ServerState, now_of}
-use Rattle.turn_player.proofs.Lives.{begins_life, one_run}
+use Rattle.turn_player.proofs.Growing.{grows_by_last, longer_by}
+use Rattle.turn_player.proofs.Lives.{behind_life, keeps, one_run_by, sent_in-append, sent_lasts}
 use Rattle.turn_player.proofs.Worlds.{calls_make_lives, commit_since, leaves}
 use Rattle.turn_player.specs.Lives as lives
-use Rattle.turn_player.specs.Lives.{Goes, Halted, Input, Lasting, Life, NeverFall, Point, Running, Said, Shut, arrivals, bound_of, formatted, sure_of, taken_of, unsettled_of}
+use Rattle.turn_player.specs.Laws.{AreOneRun, IsRunBy}
+use Rattle.turn_player.specs.Lives.{Goes, Halted, Input, Lasting, Life, NeverFall, Point, Running, Said, Shut, arrivals, arrivals_of, bound_of, formatted, sent_by_all, sent_in, sure_of, taken_of, unsettled_of}
 use Rattle.turn_player.specs.Worlds as worlds
 use Rattle.turn_player.specs.Worlds.{Calls, Down, IsDown, Leaves, Serving, Stands, World}
 use Rattle.turn_ports.specs.declared.generator.RelayAddressGenerator as generators
 use Rattle.turn_sockets.specs.declared.moment.Time as times
 use Rattle.turn_step.specs.Answer.{Setting}
+use Rattle.turn_step.specs.Outcome.{Sent}
 use Rattle.turn_store.specs.Areas.{Form}
 use Rattle.turn_store.specs.Images.{EachImage, StandsForAt}
 use Rattle.turn_lives.specs.Processes as processes
-use Rattle.turn_lives.specs.Processes.{AreOneRun, Follows, IsStopped, LiveOn, Process, Processes, inputs_of, said_of}
+use Rattle.turn_lives.specs.Processes.{AreLives, AreOneRunOn, Follows, HaveLimits, IsStopping, LiveOn, MayLeave, Part, Process, Processes, Stopping, inputs_of, inputs_of_all, last_disk, said_of, said_of_all, settings_of}
 
 later_is : (moment clock : ℕ) → clock ≤ moment → max moment clock ≡ moment
 later_is moment clock le = omega (arith, le)
@@ -32,13 +35,13 @@ join s may_fail p q r _ later _ more (lives.goes_on {input = input} {inputs = in
     subst (λ (l : List Said). Life s may_fail p (input ∷ (inputs ++ later)) l r) (sym (append_assoc said after more))
     (lives.goes_on next goes (join s may_fail next q r inputs later after more rest second))
 
--- a stop with a server at a point of a life, and what its image has
-record StopsAt (form : Form) (s : Setting) (may_fail : Bool) (p : Point) (image : List ℕ) : Type 0 where
+-- a stop with a server at a point of a life, and what each content has that it may leave
+record StopsAt (form : Form) (s : Setting) (may_fail : Bool) (p : Point) (IsFound : List ℕ → Type 0) : Type 0 where
   lasting : List Lasting
   unsettled : List Taken
   bound : ℕ
   goes : Goes s may_fail p lives.Stop [] (Shut lasting unsettled bound)
-  has : AtLeast form (accepted (arrivals lasting unsettled)) (length (accepted (map taken_of lasting))) bound image
+  has : (image : List ℕ) → IsFound image → AtLeast form (accepted (arrivals lasting unsettled)) (length (accepted (map taken_of lasting))) bound image
 
 module _ {D H G : Type 0} (disk : disks.Ghosts D) (handler : handlers.Ghosts H) (ports : generators.Ghosts G) (s : Setting) where
   calls_of : (server : ServerState D H G) (steps : List (ServerCall D H G)) → Serves disk handler ports server steps
@@ -51,56 +54,64 @@ module _ {D H G : Type 0} (disk : disks.Ghosts D) (handler : handlers.Ghosts H) 
       (calls_of after xs serves.1)
   calls_of server (Commit result after ∷ xs) serves = worlds.then (Serving after) (worlds.commits result serves.0) (calls_of after xs serves.1)
 
-  stops_at : (form : Form) (may_fail : Bool) (p : Point) (server : ServerState D H G) (image : List ℕ) (last : D) → Stands disk handler ports form s (Serving server) p → IsStopped disk server image last
-      → disk.follows_crash_model last → StopsAt form s may_fail p image
-  stops_at form may_fail p server image _ stands (processes.at_rest of) crash_model = record {
+  stops_at : (form : Form) (may_fail : Bool) (p : Point) (server : ServerState D H G) (stop : Stopping D H G) → Stands disk handler ports form s (Serving server) p
+      → IsStopping disk server stop → disk.follows_crash_model (last_disk server stop) → StopsAt form s may_fail p (MayLeave disk server stop)
+  stops_at form may_fail p server processes.AtRest stands is crash_model = record {
     lasting = sure_of p;
     unsettled = unsettled_of p;
     bound = bound_of p;
     goes = lives.stops;
-    has = (leaves disk handler ports form s (Serving server) p stands).images image of;
+    has = (leaves disk handler ports form s (Serving server) p stands).images;
   }
-  stops_at form may_fail (Running sure recent pairs c m) server image _ stands (processes.in_commit {new = new} result call of) crash_model = record {
+  stops_at form may_fail (Running sure recent pairs c m) server (processes.InCommit result new) stands call crash_model = record {
     lasting = sure;
     unsettled = recent;
     bound = m;
     goes = lives.commit_stops;
-    has = left_has _ _ _ image (commit_since disk handler ports form s (Running sure recent pairs c m) server new result stands call crash_model) of;
+    has = λ image of. left_has _ _ _ image (commit_since disk handler ports form s (Running sure recent pairs c m) server new result stands call crash_model) of;
   }
-  stops_at form may_fail (Halted sure recent m) server image _ stands (processes.in_commit {new = new} result call of) crash_model = record {
+  stops_at form may_fail (Halted sure recent m) server (processes.InCommit result new) stands call crash_model = record {
     lasting = sure;
     unsettled = recent;
     bound = m;
     goes = lives.stops;
-    has = left_has _ _ _ image (commit_since disk handler ports form s (Halted sure recent m) server new result stands call crash_model) of;
+    has = λ image of. left_has _ _ _ image (commit_since disk handler ports form s (Halted sure recent m) server new result stands call crash_model) of;
   }
-  stops_at form may_fail (Shut sure recent m) server image _ stands (processes.in_commit result call of) crash_model = absurd stands
+  stops_at form may_fail (Shut sure recent m) server (processes.InCommit result new) stands call crash_model = absurd stands
 
   -- a disk that follows the crash model after a stop was so before it
-  before_stop : (server : ServerState D H G) (image : List ℕ) (last : D) → IsStopped disk server image last → disk.follows_crash_model last → disk.follows_crash_model server.store.disk
-  before_stop server image _ (processes.at_rest of) crash_model = crash_model
-  before_stop server image _ (processes.in_commit result call of) crash_model = call.uses.crash_model crash_model
+  before_stop : (server : ServerState D H G) (stop : Stopping D H G) → IsStopping disk server stop → disk.follows_crash_model (last_disk server stop) → disk.follows_crash_model server.store.disk
+  before_stop server processes.AtRest is crash_model = crash_model
+  before_stop server (processes.InCommit result new) call crash_model = call.uses.crash_model crash_model
 
   before_turns : (server : ServerState D H G) (steps : List (ServerCall D H G)) (after : ServerState D H G) → Serves disk handler ports server steps → last_of server steps ≡ after
       → disk.follows_crash_model after.store.disk → disk.follows_crash_model server.store.disk
   before_turns server steps after serves is crash_model =
       runs.earlier disk handler ports server steps serves (subst (λ (x : ServerState D H G). disk.follows_crash_model x.store.disk) (sym is) crash_model)
 
+-- one process leads from a point of a life at which all is shut to another
+record LifeOn {D : Type 0} (disk : disks.Ghosts D) (form : Form) (s : Setting) (may_fail : Bool) (sure : List Lasting) (recent : List Taken) (m : ℕ) (inputs : List Input) (said : List Said) (new : D) : Type 0 where
+  lasting : List Lasting
+  unsettled : List Taken
+  bound : ℕ
+  life : Life s may_fail (Shut sure recent m) inputs said (Shut lasting unsettled bound)
+  leaves : Leaves disk form new lasting unsettled bound
+
 module _ {D N H G T : Type 0} (disk : disks.Ghosts D) (following : disks.Ghosts N) (handler : handlers.Ghosts H) (ports : generators.Ghosts G) (time : times.Ghosts T) (s : Setting) where
   -- a disk that follows the crash model after a process was so before it
   earlier : (old : D) (new : N) (inputs : List Input) (said : List Said) → Process disk following handler ports time s old inputs said new → following.follows_crash_model new → disk.follows_crash_model old
-  earlier old new _ _ (processes.serves {last = last} {server = server} {after = after} {image = image} users system keys begun turns stopped next) crash_model =
-      begun.crash_model (before_turns disk handler ports s server turns.steps after turns.serves turns.last (before_stop disk handler ports s after image last stopped (next.crash_model crash_model)))
-  earlier old new _ _ (processes.starts_no_server kept of next) crash_model = kept.crash_model (next.crash_model crash_model)
+  earlier old new _ _ (processes.serves {server = server} {after = after} users system stop keys begun turns stopping next) crash_model =
+      begun.crash_model (before_turns disk handler ports s server turns.steps after turns.serves turns.last (before_stop disk handler ports s after stop stopping (next.crash_model crash_model)))
+  earlier old new _ _ (processes.starts_no_server kept next) crash_model = kept.crash_model (next.crash_model crash_model)
 
   module _ (form : Form) (may_fail : Bool) (same : form.bounds ≡ s.config.limits) (never : may_fail ≡ false → NeverFails ports) where
-    pub lives_on : (old : D) (new : N) (inputs : List Input) (said : List Said) (sure : List Lasting) (recent : List Taken) (m : ℕ) → Process disk following handler ports time s old inputs said new
-        → Leaves disk form old sure recent m → following.follows_crash_model new → LiveOn following form s may_fail sure recent m inputs said new
-    lives_on old new _ _ sure recent m (processes.serves {last = last} {server = server} {after = after} {image = image} users system keys begun turns stopped next) l crash_model =
+    lives_on : (old : D) (new : N) (inputs : List Input) (said : List Said) (sure : List Lasting) (recent : List Taken) (m : ℕ) → Process disk following handler ports time s old inputs said new
+        → Leaves disk form old sure recent m → following.follows_crash_model new → LifeOn following form s may_fail sure recent m inputs said new
+    lives_on old new _ _ sure recent m (processes.serves {server = server} {after = after} users system stop keys begun turns stopping next) l crash_model =
         let again = begun.reopened in
         let h = accepted (arrivals sure recent) in
         let k = length (accepted (map taken_of sure)) in
-        let ended = before_stop disk handler ports s after image last stopped (next.crash_model crash_model) in
+        let ended = before_stop disk handler ports s after stop stopping (next.crash_model crash_model) in
         let kept = again.opening.uses.crash_model (before_turns disk handler ports s server turns.steps after turns.serves turns.last ended) in
         let w : World D H G = Down again.middle users again.generator in
         let stands : IsDown disk handler ports form s again.middle users again.generator sure recent m = record {
@@ -114,17 +125,17 @@ module _ {D N H G T : Type 0} (disk : disks.Ghosts D) (following : disks.Ghosts 
         let said = lives.Opened (now_of server) ∷ said_of turns.steps in
         let calls : Calls disk handler ports s w inputs said (Serving after) = worlds.then (Serving server) (worlds.opens {w = w} (Ok server) again.opening) turned in
         let all = calls_make_lives disk handler ports form s may_fail never same (Shut sure recent m) w (Serving after) inputs said calls stands ended in
-        let stop = stops_at disk handler ports s form may_fail all.end after image last all.stands stopped (next.crash_model crash_model) in
+        let at = stops_at disk handler ports s form may_fail all.end after stop all.stands stopping (next.crash_model crash_model) in
         record {
-          lasting = stop.lasting;
-          unsettled = stop.unsettled;
-          bound = stop.bound;
-          life = subst (λ (x : List Said). Life s may_fail (Shut sure recent m) (inputs ++ lives.Stop ∷ []) x (Shut stop.lasting stop.unsettled stop.bound)) (append-nil said)
-              (join s may_fail (Shut sure recent m) all.end (Shut stop.lasting stop.unsettled stop.bound) inputs (lives.Stop ∷ []) said [] all.life
-              (lives.goes_on (Shut stop.lasting stop.unsettled stop.bound) stop.goes lives.ends));
-          leaves = record { crash_model = crash_model; images = left_alone (following.trace new).now _ image next.bytes next.settled stop.has };
+          lasting = at.lasting;
+          unsettled = at.unsettled;
+          bound = at.bound;
+          life = subst (λ (x : List Said). Life s may_fail (Shut sure recent m) (inputs ++ lives.Stop ∷ []) x (Shut at.lasting at.unsettled at.bound)) (append-nil said)
+              (join s may_fail (Shut sure recent m) all.end (Shut at.lasting at.unsettled at.bound) inputs (lives.Stop ∷ []) said [] all.life
+              (lives.goes_on (Shut at.lasting at.unsettled at.bound) at.goes lives.ends));
+          leaves = record { crash_model = crash_model; images = λ image is. at.has image (next.images image is) };
         }
-    lives_on old new _ _ sure recent m (processes.starts_no_server {last = last} {image = image} kept of next) l crash_model =
+    lives_on old new _ _ sure recent m (processes.starts_no_server {last = last} kept next) l crash_model =
         let h = accepted (arrivals sure recent) in
         let k = length (accepted (map taken_of sure)) in
         let since = kept.stop (next.crash_model crash_model) form h k m l.images in
@@ -133,28 +144,104 @@ module _ {D N H G T : Type 0} (disk : disks.Ghosts D) (following : disks.Ghosts 
           unsettled = recent;
           bound = m;
           life = lives.goes_on (Shut sure recent m) lives.stops lives.ends;
-          leaves = record { crash_model = crash_model; images = left_alone (following.trace new).now _ image next.bytes next.settled (left_has (disk.trace old) (disk.trace last) _ image since of) };
+          leaves = record { crash_model = crash_model; images = λ image is. left_has (disk.trace old) (disk.trace last) _ image since (next.images image is) };
         }
 
-module _ {I D H G T : Type 0} (disk_of : I → disks.Ghosts D) (handler : handlers.Ghosts H) (ports : generators.Ghosts G) (time : times.Ghosts T) (s : Setting) where
-  all_earlier : (i k : I) (old new : D) (inputs : List Input) (said : List Said) → Processes disk_of handler ports time s i old inputs said k new → (disk_of k).follows_crash_model new → (disk_of i).follows_crash_model old
-  all_earlier i _ old _ _ _ processes.none crash_model = crash_model
-  all_earlier i k old new _ _ (processes.then {inputs = inputs} {later = later} {said = said} {more = more} j next one rest) crash_model =
-      earlier (disk_of i) (disk_of j) handler ports time s old next inputs said one (all_earlier j k next new later more rest crash_model)
+-- ---- Lives one after another
 
-  module _ (form : Form) (may_fail : Bool) (same : form.bounds ≡ s.config.limits) (never : may_fail ≡ false → NeverFails ports) where
-    pub all_live_on : (i k : I) (old new : D) (inputs : List Input) (said : List Said) (sure : List Lasting) (recent : List Taken) (m : ℕ) → Processes disk_of handler ports time s i old inputs said k new
-        → Leaves (disk_of i) form old sure recent m → (disk_of k).follows_crash_model new → LiveOn (disk_of k) form s may_fail sure recent m inputs said new
-    all_live_on i _ old _ _ _ sure recent m processes.none l crash_model = record { lasting = sure; unsettled = recent; bound = m; life = lives.ends; leaves = l }
-    all_live_on i k old new _ _ sure recent m (processes.then {inputs = inputs} {later = later} {said = said} {more = more} j next one rest) l crash_model =
-        let first = lives_on (disk_of i) (disk_of j) handler ports time s form may_fail same never old next inputs said sure recent m one l (all_earlier j k next new later more rest crash_model) in
-        let second = all_live_on j k next new later more first.lasting first.unsettled first.bound rest first.leaves crash_model in
+never_front : (m : ℕ) (inputs more : List Input) → NeverFall m (inputs ++ more) → NeverFall m inputs
+never_front m [] more never = tt
+never_front m (lives.Arrive t a ∷ inputs) more never = (never.0, never_front t inputs more never.1)
+never_front m (lives.Commit ∷ inputs) more never = never_front m inputs more never
+never_front m (lives.Stop ∷ inputs) more never = never_front m inputs more never
+never_front m (lives.Open ∷ inputs) more never = never_front m inputs more never
+
+-- a run by settings is one with more settings behind them
+widen : (settings more : List Setting) (may_fail : Bool) (sent : List Sent) (p : Point) → AreOneRun (IsRunBy settings [] 0) may_fail sent p
+    → AreOneRun (IsRunBy (settings ++ more) [] 0) may_fail sent p
+widen settings more may_fail sent p one = record {
+  is_run = longer_by settings more [] 0 (arrivals_of p) one.is_run;
+  sent_is = one.sent_is;
+  have_acts = one.have_acts;
+  moments = one.moments;
+  in_time = one.in_time;
+  flags = one.flags;
+}
+
+one_run_of : (may_fail : Bool) (settings : List Setting) (p q : Point) (parts : List Part) (sent : List Sent) → AreLives may_fail p parts q → NeverFall (bound_of p) (inputs_of_all parts)
+    → AreOneRun (IsRunBy settings [] 0) may_fail sent p → AreOneRun (IsRunBy (settings ++ settings_of parts) [] 0) may_fail (sent ++ sent_in (said_of_all parts)) q
+one_run_of may_fail settings p _ _ sent processes.none never one =
+    subst (λ (l : List Sent). AreOneRun (IsRunBy (settings ++ []) [] 0) may_fail l p) (sym (append-nil sent)) (widen settings [] may_fail sent p one)
+one_run_of may_fail settings p q _ sent (processes.then {parts = parts} part next life rest) never one =
+    let s = part.setting in
+    let more = inputs_of_all parts in
+    let later = behind_life s may_fail p next part.inputs more part.said life never in
+    let here = one_run_by s (IsRunBy (settings ++ s ∷ []) [] 0) (grows_by_last settings s) may_fail p next part.inputs part.said sent life (never_front (bound_of p) part.inputs more never)
+    (widen settings (s ∷ []) may_fail sent p one) in
+    let all = one_run_of may_fail (settings ++ s ∷ []) next q parts (sent ++ sent_in part.said) rest later here in
+    let said : (sent ++ sent_in part.said) ++ sent_in (said_of_all parts) ≡ sent ++ sent_in (part.said ++ said_of_all parts) =
+    append_assoc sent (sent_in part.said) (sent_in (said_of_all parts)) ∙ ap (λ (l : List Sent). sent ++ l) (sym (sent_in-append part.said (said_of_all parts))) in
+    subst (λ (l : List Setting). AreOneRun (IsRunBy l [] 0) may_fail (sent ++ sent_in (part.said ++ said_of_all parts)) q) (append_assoc settings (s ∷ []) (settings_of parts))
+    (subst (λ (l : List Sent). AreOneRun (IsRunBy ((settings ++ s ∷ []) ++ settings_of parts) [] 0) may_fail l q) said all)
+
+chain : (may_fail : Bool) (p m q : Point) (part : Part) (parts : List Part) → AreLives may_fail p (part ∷ []) m → AreLives may_fail m parts q → AreLives may_fail p (part ∷ parts) q
+chain may_fail p m q _ parts (processes.then part _ life processes.none) rest = processes.then part m life rest
+
+-- ---- Processes one after another
+
+-- one process, with what lasts and what was handed out
+pub one_lives_on : {D N H G T : Type 0} (disk : disks.Ghosts D) (following : disks.Ghosts N) (handler : handlers.Ghosts H) (ports : generators.Ghosts G) (time : times.Ghosts T) (form : Form) (may_fail : Bool)
+    → (may_fail ≡ false → NeverFails ports) → (old : D) (new : N) (part : Part) (sure : List Lasting) (recent : List Taken) (m : ℕ) → form.bounds ≡ part.setting.config.limits
+    → Process disk following handler ports time part.setting old part.inputs part.said new → Leaves disk form old sure recent m → following.follows_crash_model new
+    → LiveOn following form may_fail sure recent m (part ∷ []) new
+one_lives_on disk following handler ports time form may_fail never old new part sure recent m same one l crash_model =
+    let s = part.setting in
+    let on = lives_on disk following handler ports time s form may_fail same never old new part.inputs part.said sure recent m one l crash_model in
+    let end = Shut on.lasting on.unsettled on.bound in
+    record {
+      lasting = on.lasting;
+      unsettled = on.unsettled;
+      bound = on.bound;
+      lives = processes.then part end on.life processes.none;
+      keeps = keeps s may_fail (Shut sure recent m) end part.inputs part.said on.life;
+      handed_out = sent_lasts s may_fail (Shut sure recent m) end part.inputs part.said on.life ∙ ap (λ (l : List Said). sent_by_all sure ++ sent_in l) (sym (append-nil part.said));
+      leaves = on.leaves;
+    }
+
+module _ {I D H G T : Type 0} (disk_of : I → disks.Ghosts D) (handler : handlers.Ghosts H) (ports : generators.Ghosts G) (time : times.Ghosts T) where
+  all_earlier : (i k : I) (old new : D) (parts : List Part) → Processes disk_of handler ports time i old parts k new → (disk_of k).follows_crash_model new → (disk_of i).follows_crash_model old
+  all_earlier i _ old _ _ processes.none crash_model = crash_model
+  all_earlier i k old new _ (processes.then {parts = parts} part j next one rest) crash_model =
+      earlier (disk_of i) (disk_of j) handler ports time part.setting old next part.inputs part.said one (all_earlier j k next new parts rest crash_model)
+
+  module _ (form : Form) (may_fail : Bool) (never : may_fail ≡ false → NeverFails ports) where
+    pub all_live_on : (i k : I) (old new : D) (parts : List Part) (sure : List Lasting) (recent : List Taken) (m : ℕ) → HaveLimits form parts → Processes disk_of handler ports time i old parts k new
+        → Leaves (disk_of i) form old sure recent m → (disk_of k).follows_crash_model new → LiveOn (disk_of k) form may_fail sure recent m parts new
+    all_live_on i _ old _ _ sure recent m same processes.none l crash_model = record {
+      lasting = sure;
+      unsettled = recent;
+      bound = m;
+      lives = processes.none;
+      keeps = record { more = []; sure = sym (append-nil sure) };
+      handed_out = sym (append-nil (sent_by_all sure));
+      leaves = l;
+    }
+    all_live_on i k old new _ sure recent m same (processes.then {parts = parts} part j next process rest) l crash_model =
+        let one = one_lives_on (disk_of i) (disk_of j) handler ports time form may_fail never old next part sure recent m same.0 process l (all_earlier j k next new parts rest crash_model) in
+        let more = all_live_on j k next new parts one.lasting one.unsettled one.bound same.1 rest one.leaves crash_model in
         record {
-          lasting = second.lasting;
-          unsettled = second.unsettled;
-          bound = second.bound;
-          life = join s may_fail (Shut sure recent m) (Shut first.lasting first.unsettled first.bound) (Shut second.lasting second.unsettled second.bound) inputs later said more first.life second.life;
-          leaves = second.leaves;
+          lasting = more.lasting;
+          unsettled = more.unsettled;
+          bound = more.bound;
+          lives = chain may_fail (Shut sure recent m) (Shut one.lasting one.unsettled one.bound) (Shut more.lasting more.unsettled more.bound) part parts one.lives more.lives;
+          keeps = record {
+            more = one.keeps.more ++ more.keeps.more;
+            sure = more.keeps.sure ∙ ap (λ (l : List Lasting). l ++ more.keeps.more) one.keeps.sure ∙ append_assoc sure one.keeps.more more.keeps.more;
+          };
+          handed_out = more.handed_out ∙ ap (λ (l : List Sent). l ++ sent_in (said_of_all parts)) (one.handed_out ∙ ap (λ (l : List Said). sent_by_all sure ++ sent_in l) (append-nil part.said))
+              ∙ append_assoc (sent_by_all sure) (sent_in part.said) (sent_in (said_of_all parts))
+              ∙ ap (λ (l : List Sent). sent_by_all sure ++ l) (sym (sent_in-append part.said (said_of_all parts)));
+          leaves = more.leaves;
         }
 
     formatted_leaves : (i : I) (d : D) → (disk_of i).follows_crash_model d → EachImage ((disk_of i).trace d).now (StandsForAt form [] 0) → Leaves (disk_of i) form d [] [] 0
@@ -168,15 +255,17 @@ module _ {I D H G T : Type 0} (disk_of : I → disks.Ghosts D) (handler : handle
       };
     }
 
-    pub are_one_run : (i k : I) (old new : D) (inputs : List Input) (said : List Said) → Processes disk_of handler ports time s i old inputs said k new → EachImage ((disk_of i).trace old).now (StandsForAt form [] 0)
-        → NeverFall 0 inputs → (disk_of k).follows_crash_model new → AreOneRun (disk_of k) form s may_fail inputs said new
-    are_one_run i k old new inputs said all images rising crash_model =
-        let on = all_live_on i k old new inputs said [] [] 0 all (formatted_leaves i old (all_earlier i k old new inputs said all crash_model) images) crash_model in
+    pub lasts : (i k : I) (old new : D) (parts : List Part) → HaveLimits form parts → Processes disk_of handler ports time i old parts k new
+        → EachImage ((disk_of i).trace old).now (StandsForAt form [] 0) → (disk_of k).follows_crash_model new → LiveOn (disk_of k) form may_fail [] [] 0 parts new
+    lasts i k old new parts same all images crash_model =
+        all_live_on i k old new parts [] [] 0 same all (formatted_leaves i old (all_earlier i k old new parts all crash_model) images) crash_model
+
+    pub are_one_run : (i k : I) (old new : D) (parts : List Part) → HaveLimits form parts → Processes disk_of handler ports time i old parts k new
+        → EachImage ((disk_of i).trace old).now (StandsForAt form [] 0) → NeverFall 0 (inputs_of_all parts) → (disk_of k).follows_crash_model new → AreOneRunOn (disk_of k) form may_fail parts new
+    are_one_run i k old new parts same all images rising crash_model =
+        let on = lasts i k old new parts same all images crash_model in
         record {
-          lasting = on.lasting;
-          unsettled = on.unsettled;
-          bound = on.bound;
-          life = on.life;
-          one = one_run s may_fail formatted (Shut on.lasting on.unsettled on.bound) inputs said [] on.life rising (begins_life s may_fail);
-          leaves = on.leaves;
+          on = on;
+          one = one_run_of may_fail [] formatted (Shut on.lasting on.unsettled on.bound) parts [] on.lives rising
+              (record { is_run = tt; sent_is = refl; have_acts = tt; moments = omega arith; in_time = tt; flags = λ never. tt });
         }

@@ -1,14 +1,15 @@
--- Disks over files, by what each file held when it was opened.
-use Rattle.std.specs.Prelude.{◌≡◌, ℕ, List, length}
+-- Disks over files, by the state in which each file was found when it was opened.
+use Rattle.std.specs.Prelude.{◌≡◌, length}
 use Rattle.turn_disk.specs.Calls.{FollowCrashModel, replay}
+use Rattle.turn_disk.specs.Disk.{State}
 use Rattle.turn_disk.specs.Views.{InFile}
 use Rattle.turn_disk.specs.declared.disk.Disk as disks
 
--- What contracts say of a disk over a file that held this content when it was opened.
-abbrev pub file_of : List ℕ → disks.Ghosts InFile
-file_of content = record {
+-- what contracts say of a disk over a file that was found in this state when it was opened
+abbrev pub file_of : State → disks.Ghosts InFile
+file_of found = record {
   capacity = λ disk. disk.size;
   failed = λ disk. disk.failures;
-  follows_crash_model = λ disk. (length content ≡ disk.size) × FollowCrashModel content disk.events;
-  trace = λ disk. replay content disk.events;
+  follows_crash_model = λ disk. (length found.bytes ≡ disk.size) × FollowCrashModel found disk.events;
+  trace = λ disk. replay found disk.events;
 }

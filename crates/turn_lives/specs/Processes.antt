@@ -1,15 +1,16 @@
 -- Processes one after another over one disk: each is started, takes turns, and is stopped.
-use Rattle.std.specs.Prelude.{◌≡◌, ◌++◌, ℕ, Bool, List, [], ◌∷◌, Result}
+use Rattle.std.specs.Prelude.{◌≡◌, ◌++◌, ℕ, Bool, List, [], ◌∷◌, Result, map}
+use Rattle.std.specs.List.{AllByRecursion}
 use Rattle.turn_cred.specs.declared.handler.AuthHandler as handlers
-use Rattle.turn_disk.specs.Disk.{IsImage, IsSettled}
+use Rattle.turn_disk.specs.Disk.{IsImage}
 use Rattle.turn_disk.specs.declared.disk.Disk as disks
 use Rattle.turn_engine.specs.Calls.{Commits}
 use Rattle.turn_engine.specs.Runs.{Commit, ServerCall, Submit, Taken}
 use Rattle.turn_engine.specs.State.{ServerState, now_of}
 use Rattle.turn_engine.specs.Stops.{IsLeft}
-use Rattle.turn_player.specs.Laws.{IsOneRun}
+use Rattle.turn_player.specs.Laws.{AreOneRun, IsRunBy, Keeps}
 use Rattle.turn_player.specs.Lives as lives
-use Rattle.turn_player.specs.Lives.{Input, Lasting, Life, Opened, Said, Shut, formatted, sent_in}
+use Rattle.turn_player.specs.Lives.{Input, Lasting, Life, Opened, Point, Said, Shut, sent_by_all, sent_in}
 use Rattle.turn_player.specs.Worlds.{Leaves, said_by_commit, said_by_submit}
 use Rattle.turn_ports.specs.declared.generator.RelayAddressGenerator as generators
 use Rattle.turn_serving.specs.Starts.{KeepsImages, Started}
@@ -19,6 +20,7 @@ use Rattle.turn_sockets.specs.declared.moment.Time as times
 use Rattle.turn_step.specs.Answer.{Setting}
 use Rattle.turn_step.specs.Outcome.{Sent}
 use Rattle.turn_store.specs.Areas.{Form}
+use Rattle.turn_store.specs.Images.{EachImage}
 use Rattle.turn_store.specs.declared.error.StoreError.{StoreError}
 
 -- the inputs of calls
@@ -33,53 +35,100 @@ said_of [] = []
 said_of (Submit moment arrival result after ∷ steps) = said_by_submit result ++ said_of steps
 said_of (Commit result after ∷ steps) = said_by_commit result ++ said_of steps
 
--- A process was stopped with this server: at rest, or inside a commit. Its disk has this content then, and would have become this one.
-pub data IsStopped {D H G : Type 0} (disk : disks.Ghosts D) (server : ServerState D H G) (image : List ℕ) : D → Type 0 where
-  at_rest : IsImage (disk.trace server.store.disk).now image → IsStopped disk server image server.store.disk
-  in_commit : {new : ServerState D H G} (result : Result (List Sent) StoreError) → Commits disk server new result
-      → IsLeft (disk.trace server.store.disk) (disk.trace new.store.disk) image → IsStopped disk server image new.store.disk
+-- where a process is stopped: at rest, or inside a commit that would have ended so
+pub data Stopping (D H G : Type 0) : Type 0 where
+  AtRest : Stopping D H G
+  InCommit : (result : Result (List Sent) StoreError) (new : ServerState D H G) → Stopping D H G
 
--- The next process finds this content with nothing pending, on a disk that follows the crash model only if the one before it was. It may be a disk of
+-- the commit is one of this server
+abbrev pub IsStopping : {D H G : Type 0} → disks.Ghosts D → ServerState D H G → Stopping D H G → Type 0
+IsStopping disk server AtRest = Unit {0}
+IsStopping disk server (InCommit result new) = Commits disk server new result
+
+-- the disk whose calls were made until then, or would have been at the end of the commit
+abbrev pub last_disk : {D H G : Type 0} → ServerState D H G → Stopping D H G → D
+last_disk server AtRest = server.store.disk
+last_disk server (InCommit result new) = new.store.disk
+
+-- a content that the stop may leave
+abbrev pub MayLeave : {D H G : Type 0} → disks.Ghosts D → ServerState D H G → Stopping D H G → List ℕ → Type 0
+MayLeave disk server AtRest image = IsImage (disk.trace server.store.disk).now image
+MayLeave disk server (InCommit result new) image = IsLeft (disk.trace server.store.disk) (disk.trace new.store.disk) image
+
+-- What the next process finds: each image of its disk is one that the stop may leave. So what was written and not synced may be found
+-- written, and be lost later, or be lost already. Its disk follows the crash model only if the one before it did. It may be a disk of
 -- another type.
-pub record Follows {D N : Type 0} (disk : disks.Ghosts D) (following : disks.Ghosts N) (last : D) (image : List ℕ) (next : N) : Type 0 where
-  pub bytes : (following.trace next).now.bytes ≡ image
-  pub settled : IsSettled (following.trace next).now
+pub record Follows {D N : Type 0} (disk : disks.Ghosts D) (following : disks.Ghosts N) (last : D) (IsFound : List ℕ → Type 0) (next : N) : Type 0 where
+  pub images : EachImage (following.trace next).now IsFound
   pub crash_model : following.follows_crash_model next → disk.follows_crash_model last
 
--- One process leads from a disk to a disk. It was started, with users who have the keys of the setting, took turns, and was stopped; or
+-- One process leads from a disk to a disk. It was started, with users who have the keys of its setting, took turns, and was stopped; or
 -- its start was refused, or stopped at any moment.
 pub data Process {D N H G T : Type 0} (disk : disks.Ghosts D) (following : disks.Ghosts N) (handler : handlers.Ghosts H) (ports : generators.Ghosts G) (time : times.Ghosts T) (s : Setting) : D → List Input → List Said → N → Type 0 where
   -- the start opened the store and had its sockets
-  serves : {old last : D} {new : N} {server after : ServerState D H G} {image : List ℕ} (users : H) (system : T) → handler.key_of users ≡ s.keys
+  serves : {old : D} {new : N} {server after : ServerState D H G} (users : H) (system : T) (stop : Stopping D H G) → handler.key_of users ≡ s.keys
       → Started disk handler ports old s.config users s.range server → (turns : Served disk handler ports (IsMoment (time.told system)) server after)
-      → IsStopped disk after image last → Follows disk following last image new
+      → IsStopping disk after stop → Follows disk following (last_disk after stop) (MayLeave disk after stop) new
       → Process disk following handler ports time s old (lives.Open ∷ (inputs_of turns.steps ++ lives.Stop ∷ [])) (Opened (now_of server) ∷ said_of turns.steps) new
   -- the start was refused, or stopped
-  starts_no_server : {old last : D} {new : N} {image : List ℕ} → KeepsImages disk old last → IsLeft (disk.trace old) (disk.trace last) image
-      → Follows disk following last image new → Process disk following handler ports time s old (lives.Stop ∷ []) [] new
+  starts_no_server : {old last : D} {new : N} → KeepsImages disk old last → Follows disk following last (IsLeft (disk.trace old) (disk.trace last)) new
+      → Process disk following handler ports time s old (lives.Stop ∷ []) [] new
 
--- Any number of them. What a process finds is a disk of a family: of files, by what each held when it was opened.
-pub data Processes {I D H G T : Type 0} (disk_of : I → disks.Ghosts D) (handler : handlers.Ghosts H) (ports : generators.Ghosts G) (time : times.Ghosts T) (s : Setting) : I → D → List Input → List Said → I → D → Type 0 where
-  none : {i : I} {d : D} → Processes disk_of handler ports time s i d [] [] i d
-  then : {i k : I} {old new : D} {inputs later : List Input} {said more : List Said} (j : I) (next : D) → Process (disk_of i) (disk_of j) handler ports time s old inputs said next
-      → Processes disk_of handler ports time s j next later more k new → Processes disk_of handler ports time s i old (inputs ++ later) (said ++ more) k new
+-- of a process: its setting, what it was asked, and what it said
+pub record Part : Type 0 where
+  -- configuration, keys and range of relay ports
+  pub setting : Setting
+  pub inputs : List Input
+  pub said : List Said
 
--- These inputs led from a point of a life at which all is shut to another, and each image of the disk has what lasts there.
-pub record LiveOn {D : Type 0} (disk : disks.Ghosts D) (form : Form) (s : Setting) (may_fail : Bool) (sure : List Lasting) (recent : List Taken) (m : ℕ) (inputs : List Input) (said : List Said) (new : D) : Type 0 where
+-- the settings of processes, one after another
+abbrev pub settings_of : List Part → List Setting
+settings_of parts = map (λ (part : Part). part.setting) parts
+
+-- what processes were asked, one after another
+abbrev pub inputs_of_all : List Part → List Input
+inputs_of_all [] = []
+inputs_of_all (part ∷ parts) = part.inputs ++ inputs_of_all parts
+
+-- what processes said, one after another
+abbrev pub said_of_all : List Part → List Said
+said_of_all [] = []
+said_of_all (part ∷ parts) = part.said ++ said_of_all parts
+
+-- each process has the limits that the store was formatted with
+abbrev pub HaveLimits : Form → List Part → Type 0
+HaveLimits form parts = AllByRecursion (λ (part : Part). form.bounds ≡ part.setting.config.limits) parts
+
+-- Any number of processes, each with a setting of its own. What a process finds is a disk of a family: of files, by the state in which each
+-- was found when it was opened.
+pub data Processes {I D H G T : Type 0} (disk_of : I → disks.Ghosts D) (handler : handlers.Ghosts H) (ports : generators.Ghosts G) (time : times.Ghosts T) : I → D → List Part → I → D → Type 0 where
+  none : {i : I} {d : D} → Processes disk_of handler ports time i d [] i d
+  then : {i k : I} {old new : D} {parts : List Part} (part : Part) (j : I) (next : D)
+      → Process (disk_of i) (disk_of j) handler ports time part.setting old part.inputs part.said next
+      → Processes disk_of handler ports time j next parts k new → Processes disk_of handler ports time i old (part ∷ parts) k new
+
+-- lives one after another, each by the setting of its process
+pub data AreLives (may_fail : Bool) : Point → List Part → Point → Type 0 where
+  none : {p : Point} → AreLives may_fail p [] p
+  then : {p q : Point} {parts : List Part} (part : Part) (next : Point) → Life part.setting may_fail p part.inputs part.said next
+      → AreLives may_fail next parts q → AreLives may_fail p (part ∷ parts) q
+
+-- Processes led from a point of a life at which all is shut to another. What lasted still lasts, with all that they handed out, in order,
+-- and each image of the disk has what lasts.
+pub record LiveOn {D : Type 0} (disk : disks.Ghosts D) (form : Form) (may_fail : Bool) (sure : List Lasting) (recent : List Taken) (m : ℕ) (parts : List Part) (new : D) : Type 0 where
   -- the arrivals that last at the point
   pub lasting : List Lasting
   -- those that may get lost
   pub unsettled : List Taken
   -- a moment that none that was handed in is after
   pub bound : ℕ
-  pub life : Life s may_fail (Shut sure recent m) inputs said (Shut lasting unsettled bound)
+  pub lives : AreLives may_fail (Shut sure recent m) parts (Shut lasting unsettled bound)
+  pub keeps : Keeps (Shut sure recent m) (Shut lasting unsettled bound)
+  pub handed_out : sent_by_all lasting ≡ sent_by_all sure ++ sent_in (said_of_all parts)
   pub leaves : Leaves disk form new lasting unsettled bound
 
--- These inputs are a life from a formatted disk on that is one run, and each image of the disk has what lasts at its end.
-pub record AreOneRun {D : Type 0} (disk : disks.Ghosts D) (form : Form) (s : Setting) (may_fail : Bool) (inputs : List Input) (said : List Said) (new : D) : Type 0 where
-  pub lasting : List Lasting
-  pub unsettled : List Taken
-  pub bound : ℕ
-  pub life : Life s may_fail formatted inputs said (Shut lasting unsettled bound)
-  pub one : IsOneRun s may_fail (sent_in said) (Shut lasting unsettled bound)
-  pub leaves : Leaves disk form new lasting unsettled bound
+-- Processes lived on from a formatted disk, and all arrivals that aren't lost are one run, each answered by the setting of a process, in
+-- their order.
+pub record AreOneRunOn {D : Type 0} (disk : disks.Ghosts D) (form : Form) (may_fail : Bool) (parts : List Part) (new : D) : Type 0 where
+  pub on : LiveOn disk form may_fail [] [] 0 parts new
+  pub one : AreOneRun (IsRunBy (settings_of parts) [] 0) may_fail (sent_in (said_of_all parts)) (Shut on.lasting on.unsettled on.bound)

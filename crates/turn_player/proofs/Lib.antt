@@ -1,3 +1,4 @@
+pub mod Growing
 pub mod Lasting
 pub mod Lists
 pub mod Lives

@@ -45,7 +45,7 @@ by_option (Some a) none some = some a refl
 found-none : (x : Taken) (xs : List Taken) (n : ℕ) → x.outcome.change ≡ None → found (x ∷ xs) (suc n) ≡ found xs (suc n)
 found-none x xs n is = rw is refl
 
-found-some : (x : Taken) (xs : List Taken) (n : ℕ) (c : Change) → x.outcome.change ≡ Some c → found (x ∷ xs) (suc n) ≡ Found x ∷ found xs n
+pub found-some : (x : Taken) (xs : List Taken) (n : ℕ) (c : Change) → x.outcome.change ≡ Some c → found (x ∷ xs) (suc n) ≡ Found x ∷ found xs n
 found-some x xs n c is = rw is refl
 
 added-none : (t : ℕ) (o : Option Change) (l : History) → o ≡ None → added t o ++ l ≡ l
@@ -131,7 +131,7 @@ last_from s h t [] run = omega arith
 last_from s h t (x ∷ xs) run = let a = run.0 in let b = last_from s (h ++ added x.moment x.outcome.change) x.moment xs run.2 in omega arith
 
 -- a bound of the last moment holds from each beginning that it bounds
-bounded : (t u m : ℕ) (xs : List Taken) → t ≤ m → last_moment u xs ≤ m → last_moment t xs ≤ m
+pub bounded : (t u m : ℕ) (xs : List Taken) → t ≤ m → last_moment u xs ≤ m → last_moment t xs ≤ m
 bounded t u m [] le most = le
 bounded t u m (x ∷ xs) le most = most
 

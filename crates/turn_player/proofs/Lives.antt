@@ -4,15 +4,16 @@ use Rattle.std.specs.List.{AllByRecursion}
 use Rattle.turn_step.specs.Answer.{Setting}
 use Rattle.turn_step.specs.Outcome.{Sent}
 use Rattle.turn_engine.specs.Runs.{IsAnswered, IsRun, Taken, accepted, last_moment, sent_about}
-use Rattle.turn_engine.proofs.Answered.{last_moment-push, run-push}
+use Rattle.turn_engine.proofs.Answered.{last_moment-push}
 use Rattle.turn_engine.proofs.Lists.{all-append}
-use Rattle.turn_player.specs.Laws.{HasAct, IsInTime, IsOneRun, Keeps}
+use Rattle.turn_player.proofs.Growing.{GrowsBy, grows_by_one}
+use Rattle.turn_player.specs.Laws.{AreOneRun, HasAct, IsInTime, IsOneRun, Keeps}
 use Rattle.turn_player.specs.Lives.{Arrive, Closed, Commit, Committed, Failed, Goes, Halted, HandedOut, Input, Lasting, Life, NeverFall, NotOpened, Open, Opened, Point, Refused, Running, Said, Sends, Shut, Stop, arrivals, arrivals_of, bound_of, commit_stops, ends, fails, formatted, found, goes_on, handing_out, hands_out, is_full, is_halted, is_shut, no_memory, not_opened, opens, recent_of, sent_by_all, sent_in, shut, stays_halted, stays_shut, stops, sure_of, taken_of, takes, unsettled_of}
-use Rattle.turn_player.proofs.Lists.{acts-found, acts-handed, all-back, all-found, all-front, found_run, last_from, last_moment-append, run-join, run-split, sent_by_all-append, sent_by_all-found, sent_by_all-handed, taken-append, taken-handed}
+use Rattle.turn_player.proofs.Lists.{acts-found, acts-handed, all-back, all-found, all-front, sent_by_all-append, sent_by_all-found, sent_by_all-handed, taken-append, taken-handed}
 
 -- ---- What was handed out
 
-sent_in-append : (xs ys : List Said) → sent_in (xs ++ ys) ≡ sent_in xs ++ sent_in ys
+pub sent_in-append : (xs ys : List Said) → sent_in (xs ++ ys) ≡ sent_in xs ++ sent_in ys
 sent_in-append [] ys = refl
 sent_in-append (Sends out ∷ xs) ys = ap (λ (l : List Sent). out ∷ l) (sent_in-append xs ys)
 sent_in-append (Refused why ∷ xs) ys = sent_in-append xs ys
@@ -34,15 +35,15 @@ sent_in-handing_out outs = sends_then outs (Committed (length outs) ∷ []) refl
 abbrev IsFlagged : Taken → Type 0
 IsFlagged x = x.failed ≡ false
 
-module _ (s : Setting) (may_fail : Bool) where
+module _ (s : Setting) (IsSuch : List Taken → Type 0) (grows : GrowsBy s IsSuch) (may_fail : Bool) where
   -- the same arrivals, of which the same were handed out
   same_run : (sent : List Sent) (p q : Point) → sure_of q ≡ sure_of p → recent_of q ≡ recent_of p → bound_of p ≤ bound_of q → IsInTime q
-      → IsOneRun s may_fail sent p → IsOneRun s may_fail sent q
+      → AreOneRun IsSuch may_fail sent p → AreOneRun IsSuch may_fail sent q
   same_run sent p q sures recents le time one =
       let whole : arrivals_of q ≡ arrivals_of p = cc in
       let last = one.moments in
       record {
-        is_run = subst (IsRun s [] 0) (sym whole) one.is_run;
+        is_run = subst IsSuch (sym whole) one.is_run;
         sent_is = ap sent_by_all sures ∙ one.sent_is;
         have_acts = subst (AllByRecursion HasAct) (sym sures) one.have_acts;
         moments = subst (λ (l : List Taken). last_moment 0 l ≤ bound_of q) (sym whole) (omega arith);
@@ -53,7 +54,7 @@ module _ (s : Setting) (may_fail : Bool) where
   -- one more arrival
   taken : (sent : List Sent) (sure : List Lasting) (recent : List Taken) (pairs : Bool) (c m t : ℕ) (x : Taken) → m ≤ t → x.moment ≡ max t c
       → IsAnswered s (accepted (arrivals sure recent)) x → (may_fail ≡ false → x.failed ≡ false)
-      → IsOneRun s may_fail sent (Running sure recent pairs c m) → IsOneRun s may_fail sent (Running sure (recent ++ x ∷ []) pairs (max t c) (max t m))
+      → AreOneRun IsSuch may_fail sent (Running sure recent pairs c m) → AreOneRun IsSuch may_fail sent (Running sure (recent ++ x ∷ []) pairs (max t c) (max t m))
   taken sent sure recent pairs c m t x le at answers flag one =
       let last = one.moments in
       let in_time = one.in_time in
@@ -62,7 +63,7 @@ module _ (s : Setting) (may_fail : Bool) where
       let moment : last_moment 0 (arrivals sure recent ++ x ∷ []) ≡ x.moment = last_moment-push 0 (arrivals sure recent) x in
       let most : last_moment 0 (arrivals sure recent ++ x ∷ []) ≤ max t m = omega arith in
       record {
-        is_run = subst (IsRun s [] 0) whole (run-push s [] 0 (arrivals sure recent) x one.is_run later answers);
+        is_run = subst IsSuch whole (grows.push (arrivals sure recent) x one.is_run later answers);
         sent_is = one.sent_is;
         have_acts = one.have_acts;
         moments = subst (λ (l : List Taken). last_moment 0 l ≤ max t m) whole most;
@@ -72,12 +73,12 @@ module _ (s : Setting) (may_fail : Bool) where
 
   -- a commit that hands out
   handed : (sent : List Sent) (sure : List Lasting) (recent : List Taken) (pairs : Bool) (c m : ℕ)
-      → IsOneRun s may_fail sent (Running sure recent pairs c m) → IsOneRun s may_fail (sent ++ sent_in (handing_out (sent_about recent))) (Running (sure ++ map HandedOut recent) [] pairs c m)
+      → AreOneRun IsSuch may_fail sent (Running sure recent pairs c m) → AreOneRun IsSuch may_fail (sent ++ sent_in (handing_out (sent_about recent))) (Running (sure ++ map HandedOut recent) [] pairs c m)
   handed sent sure recent pairs c m one =
       let whole : arrivals sure recent ≡ arrivals (sure ++ map HandedOut recent) [] =
       sym (append-nil (map taken_of (sure ++ map HandedOut recent)) ∙ taken-append sure (map HandedOut recent) ∙ ap (λ (l : List Taken). map taken_of sure ++ l) (taken-handed recent)) in
       record {
-        is_run = subst (IsRun s [] 0) whole one.is_run;
+        is_run = subst IsSuch whole one.is_run;
         sent_is = sent_by_all-append sure (map HandedOut recent) ∙ ap (λ (l : List Sent). l ++ sent_by_all (map HandedOut recent)) one.sent_is
             ∙ ap (λ (l : List Sent). sent ++ l) (sent_by_all-handed recent ∙ sym (sent_in-handing_out (sent_about recent)));
         have_acts = all-append HasAct sure (map HandedOut recent) one.have_acts (acts-handed recent);
@@ -87,17 +88,15 @@ module _ (s : Setting) (may_fail : Bool) where
       }
 
   -- at rest nothing of what is staged lasts
-  settled : (sent : List Sent) (p : Point) → IsOneRun s may_fail sent p → IsOneRun s may_fail sent (shut p)
+  settled : (sent : List Sent) (p : Point) → AreOneRun IsSuch may_fail sent p → AreOneRun IsSuch may_fail sent (shut p)
   settled sent (Running sure recent pairs c m) one =
       let front = map taken_of sure in
-      let parts = run-split s [] 0 front recent one.is_run in
       let plain : front ≡ arrivals sure [] = sym (append-nil front) in
-      let more = last_from s (accepted front) (last_moment 0 front) recent parts.1 in
-      let whole : last_moment 0 (arrivals sure recent) ≡ last_moment (last_moment 0 front) recent = last_moment-append 0 front recent in
+      let sooner : last_moment 0 front ≤ last_moment 0 (arrivals sure recent) = grows.front_ends front recent one.is_run in
       let last = one.moments in
       let most : last_moment 0 front ≤ m = omega arith in
       record {
-        is_run = subst (IsRun s [] 0) plain parts.0;
+        is_run = subst IsSuch plain (grows.front front recent one.is_run);
         sent_is = one.sent_is;
         have_acts = one.have_acts;
         moments = subst (λ (l : List Taken). last_moment 0 l ≤ m) plain most;
@@ -109,21 +108,17 @@ module _ (s : Setting) (may_fail : Bool) where
 
   -- an opening of what is shut
   opened : (sent : List Sent) (sure : List Lasting) (recent : List Taken) (pairs : Bool) (m n c : ℕ) → c ≤ m
-      → IsOneRun s may_fail sent (Shut sure recent m) → IsOneRun s may_fail sent (Running (sure ++ found recent n) [] pairs c m)
+      → AreOneRun IsSuch may_fail sent (Shut sure recent m) → AreOneRun IsSuch may_fail sent (Running (sure ++ found recent n) [] pairs c m)
   opened sent sure recent pairs m n c le one =
       let front = map taken_of sure in
       let left = map taken_of (found recent n) in
-      let parts = run-split s [] 0 front recent one.is_run in
-      let kept = found_run s (accepted front) (last_moment 0 front) recent n parts.1 in
-      let run : IsRun s [] 0 (front ++ left) = run-join s [] 0 front left parts.0 kept.is_run in
+      let run : IsSuch (front ++ left) = grows.left front recent n one.is_run in
       let plain : front ++ left ≡ arrivals (sure ++ found recent n) [] = sym (append-nil (map taken_of (sure ++ found recent n)) ∙ taken-append sure (found recent n)) in
-      let before : last_moment 0 (arrivals sure recent) ≡ last_moment (last_moment 0 front) recent = last_moment-append 0 front recent in
-      let after : last_moment 0 (front ++ left) ≡ last_moment (last_moment 0 front) left = last_moment-append 0 front left in
-      let a = kept.moments in
-      let b = one.moments in
+      let sooner : last_moment 0 (front ++ left) ≤ last_moment 0 (arrivals sure recent) = grows.left_ends front recent n one.is_run in
+      let last = one.moments in
       let most : last_moment 0 (front ++ left) ≤ m = omega arith in
       record {
-        is_run = subst (IsRun s [] 0) plain run;
+        is_run = subst IsSuch plain run;
         sent_is = sent_by_all-append sure (found recent n) ∙ ap (λ (l : List Sent). sent_by_all sure ++ l) (sent_by_all-found recent n) ∙ append-nil (sent_by_all sure) ∙ one.sent_is;
         have_acts = all-append HasAct sure (found recent n) one.have_acts (acts-found recent n);
         moments = subst (λ (l : List Taken). last_moment 0 l ≤ m) plain most;
@@ -132,8 +127,8 @@ module _ (s : Setting) (may_fail : Bool) where
             (all-append IsFlagged front left (all-front IsFlagged front recent (one.flags never)) (all-found IsFlagged recent n (all-back IsFlagged front recent (one.flags never))));
       }
 
-  silent : (sent : List Sent) (p : Point) → IsOneRun s may_fail sent p → IsOneRun s may_fail (sent ++ []) p
-  silent sent p one = subst (λ (l : List Sent). IsOneRun s may_fail l p) (sym (append-nil sent)) one
+  silent : (sent : List Sent) (p : Point) → AreOneRun IsSuch may_fail sent p → AreOneRun IsSuch may_fail (sent ++ []) p
+  silent sent p one = subst (λ (l : List Sent). AreOneRun IsSuch may_fail l p) (sym (append-nil sent)) one
 
 -- ---- One input
 
@@ -148,31 +143,31 @@ IsLater m Commit = Unit {0}
 IsLater m Stop = Unit {0}
 IsLater m Open = Unit {0}
 
-pub step : (s : Setting) (f : Bool) (sent : List Sent) (p q : Point) (input : Input) (said : List Said) → Goes s f p input said q → IsLater (bound_of p) input
-    → IsOneRun s f sent p → IsOneRun s f (sent ++ sent_in said) q
-step s f sent _ _ _ _ (takes {sure = sure} {recent = recent} {pairs = pairs} {c = c} {m = m} {t = t} {a = a} failed o answers flag room) later one =
-    silent s f sent _ (taken s f sent sure recent pairs c m t (record { moment = max t c; arrival = a; failed = failed; pairs = pairs; outcome = o }) later refl answers (never_failed failed f flag) one)
-step s f sent _ _ _ _ (no_memory {sure = sure} {recent = recent} {pairs = pairs} {c = c} {m = m} {t = t} room) later one =
+pub step : (s : Setting) (IsSuch : List Taken → Type 0) (grows : GrowsBy s IsSuch) (f : Bool) (sent : List Sent) (p q : Point) (input : Input) (said : List Said) → Goes s f p input said q → IsLater (bound_of p) input
+    → AreOneRun IsSuch f sent p → AreOneRun IsSuch f (sent ++ sent_in said) q
+step s is_such grows f sent _ _ _ _ (takes {sure = sure} {recent = recent} {pairs = pairs} {c = c} {m = m} {t = t} {a = a} failed o answers flag room) later one =
+    silent s is_such grows f sent _ (taken s is_such grows f sent sure recent pairs c m t (record { moment = max t c; arrival = a; failed = failed; pairs = pairs; outcome = o }) later refl answers (never_failed failed f flag) one)
+step s is_such grows f sent _ _ _ _ (no_memory {sure = sure} {recent = recent} {pairs = pairs} {c = c} {m = m} {t = t} room) later one =
     let time = one.in_time in
-    silent s f sent _ (same_run s f sent (Running sure recent pairs c m) (Running sure recent pairs (max t c) (max t m)) refl refl (omega arith) (omega arith) one)
-step s f sent _ _ _ _ (is_full {sure = sure} {recent = recent} {pairs = pairs} {c = c} {m = m} {t = t} room) later one =
+    silent s is_such grows f sent _ (same_run s is_such grows f sent (Running sure recent pairs c m) (Running sure recent pairs (max t c) (max t m)) refl refl (omega arith) (omega arith) one)
+step s is_such grows f sent _ _ _ _ (is_full {sure = sure} {recent = recent} {pairs = pairs} {c = c} {m = m} {t = t} room) later one =
     let time = one.in_time in
-    silent s f sent _ (same_run s f sent (Running sure recent pairs c m) (Running sure recent pairs c (max t m)) refl refl (omega arith) (omega arith) one)
-step s f sent _ _ _ _ (is_halted {sure = sure} {recent = recent} {m = m} {t = t}) later one =
-    silent s f sent _ (same_run s f sent (Halted sure recent m) (Halted sure recent (max t m)) refl refl (omega arith) tt one)
-step s f sent _ _ _ _ (is_shut {sure = sure} {recent = recent} {m = m} {t = t}) later one =
-    silent s f sent _ (same_run s f sent (Shut sure recent m) (Shut sure recent (max t m)) refl refl (omega arith) tt one)
-step s f sent _ _ _ _ (hands_out {sure = sure} {recent = recent} {pairs = pairs} {c = c} {m = m}) later one = handed s f sent sure recent pairs c m one
-step s f sent _ _ _ _ (fails {sure = sure} {recent = recent} {pairs = pairs} {c = c} {m = m} why is some) later one =
-    silent s f sent _ (same_run s f sent (Running sure recent pairs c m) (Halted sure recent m) refl refl (omega arith) tt one)
-step s f sent _ _ _ _ stays_halted later one = silent s f sent _ one
-step s f sent _ _ _ _ stays_shut later one = silent s f sent _ one
-step s f sent p _ _ _ stops later one = silent s f sent _ (settled s f sent p one)
-step s f sent _ _ _ _ (commit_stops {sure = sure} {recent = recent} {pairs = pairs} {c = c} {m = m}) later one =
-    silent s f sent _ (same_run s f sent (Running sure recent pairs c m) (Shut sure recent m) refl refl (omega arith) tt one)
-step s f sent p _ _ _ (opens n pairs c few le late) later one =
-    silent s f sent _ (opened s f sent (sure_of p) (unsettled_of p) pairs (bound_of p) n c le (settled s f sent p one))
-step s f sent p _ _ _ (not_opened fault plain) later one = silent s f sent _ (settled s f sent p one)
+    silent s is_such grows f sent _ (same_run s is_such grows f sent (Running sure recent pairs c m) (Running sure recent pairs c (max t m)) refl refl (omega arith) (omega arith) one)
+step s is_such grows f sent _ _ _ _ (is_halted {sure = sure} {recent = recent} {m = m} {t = t}) later one =
+    silent s is_such grows f sent _ (same_run s is_such grows f sent (Halted sure recent m) (Halted sure recent (max t m)) refl refl (omega arith) tt one)
+step s is_such grows f sent _ _ _ _ (is_shut {sure = sure} {recent = recent} {m = m} {t = t}) later one =
+    silent s is_such grows f sent _ (same_run s is_such grows f sent (Shut sure recent m) (Shut sure recent (max t m)) refl refl (omega arith) tt one)
+step s is_such grows f sent _ _ _ _ (hands_out {sure = sure} {recent = recent} {pairs = pairs} {c = c} {m = m}) later one = handed s is_such grows f sent sure recent pairs c m one
+step s is_such grows f sent _ _ _ _ (fails {sure = sure} {recent = recent} {pairs = pairs} {c = c} {m = m} why is some) later one =
+    silent s is_such grows f sent _ (same_run s is_such grows f sent (Running sure recent pairs c m) (Halted sure recent m) refl refl (omega arith) tt one)
+step s is_such grows f sent _ _ _ _ stays_halted later one = silent s is_such grows f sent _ one
+step s is_such grows f sent _ _ _ _ stays_shut later one = silent s is_such grows f sent _ one
+step s is_such grows f sent p _ _ _ stops later one = silent s is_such grows f sent _ (settled s is_such grows f sent p one)
+step s is_such grows f sent _ _ _ _ (commit_stops {sure = sure} {recent = recent} {pairs = pairs} {c = c} {m = m}) later one =
+    silent s is_such grows f sent _ (same_run s is_such grows f sent (Running sure recent pairs c m) (Shut sure recent m) refl refl (omega arith) tt one)
+step s is_such grows f sent p _ _ _ (opens n pairs c few le late) later one =
+    silent s is_such grows f sent _ (opened s is_such grows f sent (sure_of p) (unsettled_of p) pairs (bound_of p) n c le (settled s is_such grows f sent p one))
+step s is_such grows f sent p _ _ _ (not_opened fault plain) later one = silent s is_such grows f sent _ (settled s is_such grows f sent p one)
 
 -- ---- All inputs
 
@@ -198,18 +193,28 @@ onward s f _ _ _ _ inputs commit_stops never = record { is_later = tt; rest = ne
 onward s f p _ _ _ inputs (opens n pairs c few le late) never = record { is_later = tt; rest = never }
 onward s f p _ _ _ inputs (not_opened fault plain) never = record { is_later = tt; rest = never }
 
-pub one_run : (s : Setting) (f : Bool) (p q : Point) (inputs : List Input) (said : List Said) (sent : List Sent) → Life s f p inputs said q → NeverFall (bound_of p) inputs
-    → IsOneRun s f sent p → IsOneRun s f (sent ++ sent_in said) q
-one_run s f p q _ _ sent ends never one = silent s f sent p one
-one_run s f p q _ _ sent (goes_on {input = input} {inputs = inputs} {said = said} {later = later} m goes life) never one =
+pub one_run_by : (s : Setting) (IsSuch : List Taken → Type 0) (grows : GrowsBy s IsSuch) (f : Bool) (p q : Point) (inputs : List Input) (said : List Said) (sent : List Sent)
+    → Life s f p inputs said q → NeverFall (bound_of p) inputs → AreOneRun IsSuch f sent p → AreOneRun IsSuch f (sent ++ sent_in said) q
+one_run_by s is_such grows f p q _ _ sent ends never one = silent s is_such grows f sent p one
+one_run_by s is_such grows f p q _ _ sent (goes_on {input = input} {inputs = inputs} {said = said} {later = later} m goes life) never one =
     let on = onward s f p m input said inputs goes never in
-    let next = step s f sent p m input said goes on.is_later one in
+    let next = step s is_such grows f sent p m input said goes on.is_later one in
     let whole : (sent ++ sent_in said) ++ sent_in later ≡ sent ++ sent_in (said ++ later) =
     append_assoc sent (sent_in said) (sent_in later) ∙ ap (λ (l : List Sent). sent ++ l) (sym (sent_in-append said later)) in
-    subst (λ (l : List Sent). IsOneRun s f l q) whole (one_run s f m q inputs later (sent ++ sent_in said) life on.rest next)
+    subst (λ (l : List Sent). AreOneRun is_such f l q) whole (one_run_by s is_such grows f m q inputs later (sent ++ sent_in said) life on.rest next)
+
+pub one_run : (s : Setting) (f : Bool) (p q : Point) (inputs : List Input) (said : List Said) (sent : List Sent) → Life s f p inputs said q → NeverFall (bound_of p) inputs
+    → IsOneRun s f sent p → IsOneRun s f (sent ++ sent_in said) q
+one_run s = one_run_by s (IsRun s [] 0) (grows_by_one s)
 
 pub begins_life : (s : Setting) (f : Bool) → IsOneRun s f [] formatted
 begins_life s f = record { is_run = tt; sent_is = refl; have_acts = tt; moments = omega arith; in_time = tt; flags = λ never. tt }
+
+-- inputs behind a life whose moments never fall
+pub behind_life : (s : Setting) (f : Bool) (p q : Point) (inputs more : List Input) (said : List Said) → Life s f p inputs said q → NeverFall (bound_of p) (inputs ++ more) → NeverFall (bound_of q) more
+behind_life s f p _ _ more _ ends never = never
+behind_life s f p q _ more _ (goes_on {input = input} {inputs = inputs} {said = said} {later = later} m goes life) never =
+    behind_life s f m q inputs more later life (onward s f p m input said (inputs ++ more) goes never).rest
 
 -- ---- What lasts stays
 
@@ -237,3 +242,31 @@ keeps s f p q _ _ (goes_on {input = input} {inputs = inputs} {said = said} {late
     let first = keep_step s f p m input said goes in
     let rest = keeps s f m q inputs later life in
     record { more = first.more ++ rest.more; sure = rest.sure ∙ ap (λ (l : List Lasting). l ++ rest.more) first.sure ∙ append_assoc (sure_of p) first.more rest.more }
+
+-- ---- What was handed out lasts
+
+stays_sent : (p q : Point) → sure_of q ≡ sure_of p → sent_by_all (sure_of q) ≡ sent_by_all (sure_of p) ++ []
+stays_sent p q same = ap sent_by_all same ∙ sym (append-nil (sent_by_all (sure_of p)))
+
+sent_step : (s : Setting) (f : Bool) (p q : Point) (input : Input) (said : List Said) → Goes s f p input said q → sent_by_all (sure_of q) ≡ sent_by_all (sure_of p) ++ sent_in said
+sent_step s f p q _ _ (takes failed o answers flag room) = stays_sent p q refl
+sent_step s f p q _ _ (no_memory room) = stays_sent p q refl
+sent_step s f p q _ _ (is_full room) = stays_sent p q refl
+sent_step s f p q _ _ is_halted = stays_sent p q refl
+sent_step s f p q _ _ is_shut = stays_sent p q refl
+sent_step s f p q _ _ (hands_out {sure = sure} {recent = recent}) =
+    sent_by_all-append sure (map HandedOut recent) ∙ ap (λ (l : List Sent). sent_by_all sure ++ l) (sent_by_all-handed recent ∙ sym (sent_in-handing_out (sent_about recent)))
+sent_step s f p q _ _ (fails why is some) = stays_sent p q refl
+sent_step s f p q _ _ stays_halted = stays_sent p q refl
+sent_step s f p q _ _ stays_shut = stays_sent p q refl
+sent_step s f p q _ _ stops = stays_sent p q refl
+sent_step s f p q _ _ commit_stops = stays_sent p q refl
+sent_step s f p q _ _ (opens n pairs c few le late) =
+    sent_by_all-append (sure_of p) (found (unsettled_of p) n) ∙ ap (λ (l : List Sent). sent_by_all (sure_of p) ++ l) (sent_by_all-found (unsettled_of p) n)
+sent_step s f p q _ _ (not_opened fault plain) = stays_sent p q refl
+
+pub sent_lasts : (s : Setting) (f : Bool) (p q : Point) (inputs : List Input) (said : List Said) → Life s f p inputs said q → sent_by_all (sure_of q) ≡ sent_by_all (sure_of p) ++ sent_in said
+sent_lasts s f p _ _ _ ends = stays_sent p p refl
+sent_lasts s f p q _ _ (goes_on {input = input} {inputs = inputs} {said = said} {later = later} m goes life) =
+    sent_lasts s f m q inputs later life ∙ ap (λ (l : List Sent). l ++ sent_in later) (sent_step s f p m input said goes)
+    ∙ append_assoc (sent_by_all (sure_of p)) (sent_in said) (sent_in later) ∙ ap (λ (l : List Sent). sent_by_all (sure_of p) ++ l) (sym (sent_in-append said later))

@@ -1,9 +1,10 @@
 -- What holds of every life.
-use Rattle.std.specs.Prelude.{◌≡◌, ◌≤◌, ◌++◌, ℕ, Bool, false, List, [], is_some, map, true}
+use Rattle.std.specs.Prelude.{◌≡◌, ◌≤◌, ◌++◌, ℕ, Bool, false, List, [], ◌∷◌, is_some, map, true}
 use Rattle.std.specs.List.{AllByRecursion}
 use Rattle.turn_cred.specs.declared.handler.AuthHandler as handlers
 use Rattle.turn_disk.specs.declared.disk.Disk as disks
 use Rattle.turn_engine.specs.Runs.{BeginsWith, IsAnswered, IsRun, Taken, accepted, last_moment}
+use Rattle.turn_history.specs.History.{History}
 use Rattle.turn_ports.specs.declared.generator.RelayAddressGenerator as generators
 use Rattle.turn_step.specs.Answer.{Setting}
 use Rattle.turn_step.specs.Outcome.{Sent, added}
@@ -23,15 +24,34 @@ IsInTime (Running sure recent pairs c m) = c ≤ m
 IsInTime (Halted sure recent m) = Unit {0}
 IsInTime (Shut sure recent m) = Unit {0}
 
--- All arrivals that were taken and aren't lost are, in order, one run from the empty history on. What was handed out is, in
--- order, what those of them that were handed out were answered. The others that last have an act.
-pub record IsOneRun (s : Setting) (may_fail : Bool) (sent : List Sent) (p : Point) : Type 0 where
-  pub is_run : IsRun s [] 0 (arrivals_of p)
+-- an arrival was answered from the history by one of these settings: some are before it, and some behind it
+pub record AnsweredBy (settings : List Setting) (h : History) (x : Taken) : Type 0 where
+  pub before : List Setting
+  pub setting : Setting
+  pub behind : List Setting
+  pub is : settings ≡ before ++ setting ∷ behind
+  pub answered : IsAnswered setting h x
+
+-- Arrivals in a row, by settings in a row: moments never fall, none is before the moment t, and each arrival is answered from the
+-- history before it, by the setting of the arrival before it or by one behind that.
+abbrev pub IsRunBy : List Setting → History → ℕ → List Taken → Type 0
+IsRunBy settings h t [] = Unit {0}
+IsRunBy settings h t (x ∷ xs) =
+    (by : AnsweredBy settings h x) × (t ≤ x.moment) × IsRunBy (by.setting ∷ by.behind) (h ++ added x.moment x.outcome.change) x.moment xs
+
+-- All arrivals that were taken and aren't lost are, in order, one run of this kind. What was handed out is, in order, what those of
+-- them that were handed out were answered. The others that last have an act.
+pub record AreOneRun (IsSuch : List Taken → Type 0) (may_fail : Bool) (sent : List Sent) (p : Point) : Type 0 where
+  pub is_run : IsSuch (arrivals_of p)
   pub sent_is : sent_by_all (sure_of p) ≡ sent
   pub have_acts : AllByRecursion HasAct (sure_of p)
   pub moments : last_moment 0 (arrivals_of p) ≤ bound_of p
   pub in_time : IsInTime p
   pub flags : may_fail ≡ false → AllByRecursion (λ (x : Taken). x.failed ≡ false) (arrivals_of p)
+
+-- the same of one setting: they are one run from the empty history on
+abbrev pub IsOneRun : Setting → Bool → List Sent → Point → Type 0
+IsOneRun s = AreOneRun (IsRun s [] 0)
 
 -- what lasts stays: it is the beginning of what lasts later
 pub record Keeps (p q : Point) : Type 0 where

@@ -17,7 +17,7 @@ ghost use Rattle.turn_store.specs.Areas.{Form};
 ghost use Rattle.turn_store.specs.Images.{EachImage, StandsForAt};
 ghost use Rattle.turn_store.specs.declared.error.StoreError.{StoreError};
 ghost use Rattle.turn_player.specs.Laws.{IsOneRun, IsWhole, Keeps, LastsOnDisk};
-ghost use Rattle.turn_player.specs.Lives.{Input, Lasting, Life, NeverFall, Point, Said, bound_of, count_of, formatted, history_of, sent_in, settled_history_of, sure_of, taken_of};
+ghost use Rattle.turn_player.specs.Lives.{Input, Lasting, Life, NeverFall, Point, Said, bound_of, count_of, formatted, history_of, sent_by_all, sent_in, settled_history_of, sure_of, taken_of};
 ghost use Rattle.turn_player.specs.Repeats.{ComesAgain, LastsAfter, MadeBefore, Makes};
 ghost use Rattle.turn_player.specs.Worlds.{Calls, Down, Lives, Serving, Stands, World, disk_of, handler_of, ports_of, world_after};
 
@@ -37,6 +37,9 @@ pub fn every_life_is_one_run()
         → IsOneRun s may_fail (sent ++ sent_in said) q }
     ensures keeps { (s : Setting) (may_fail : Bool) (p q : Point) (inputs : List Input) (said : List Said)
         → Life s may_fail p inputs said q → Keeps p q }
+    // What was handed out lasts, in order, whatever the moments are.
+    ensures handed_out { (s : Setting) (may_fail : Bool) (p q : Point) (inputs : List Input) (said : List Said)
+        → Life s may_fail p inputs said q → sent_by_all (sure_of q) ≡ sent_by_all (sure_of p) ++ sent_in said }
 {}
 
 /// An Allocate whose success was handed out, or whose act an opening found, gets the same bytes again, and nothing is done,

@@ -1,14 +1,18 @@
-use Rattle.turn_lives.proofs.Joined.{all_live_on, are_one_run, lives_on}
+use Rattle.turn_lives.proofs.Joined.{all_live_on, are_one_run, lasts, one_lives_on}
 use Rattle.turn_lives.proofs.laws.processes_make_lives.Goals as goal
 
 pub returns-clause-one : goal.returns-clause-one
-returns-clause-one g c = λ form s may_fail old new inputs said sure recent m same never.
-    lives_on g.D.Disk g.N.Disk g.H.AuthHandler g.G.RelayAddressGenerator g.T.Time s form may_fail same never old new inputs said sure recent m
+returns-clause-one g c = λ form may_fail old new part sure recent m same never.
+    one_lives_on g.D.Disk g.N.Disk g.H.AuthHandler g.G.RelayAddressGenerator g.T.Time form may_fail never old new part sure recent m same
 
 pub returns-clause-lives : goal.returns-clause-lives
-returns-clause-lives g c = λ form s may_fail old new inputs said sure recent m same never.
-    all_live_on (λ (name : Unit {0}). g.D.Disk) g.H.AuthHandler g.G.RelayAddressGenerator g.T.Time s form may_fail same never tt tt old new inputs said sure recent m
+returns-clause-lives g c = λ form may_fail old new parts sure recent m same never.
+    all_live_on (λ (name : Unit {0}). g.D.Disk) g.H.AuthHandler g.G.RelayAddressGenerator g.T.Time form may_fail never tt tt old new parts sure recent m same
+
+pub returns-clause-lasts : goal.returns-clause-lasts
+returns-clause-lasts g c = λ form may_fail old new parts same never.
+    lasts (λ (name : Unit {0}). g.D.Disk) g.H.AuthHandler g.G.RelayAddressGenerator g.T.Time form may_fail never tt tt old new parts same
 
 pub returns-clause-whole : goal.returns-clause-whole
-returns-clause-whole g c = λ form s may_fail old new inputs said same never.
-    are_one_run (λ (name : Unit {0}). g.D.Disk) g.H.AuthHandler g.G.RelayAddressGenerator g.T.Time s form may_fail same never tt tt old new inputs said
+returns-clause-whole g c = λ form may_fail old new parts same never.
+    are_one_run (λ (name : Unit {0}). g.D.Disk) g.H.AuthHandler g.G.RelayAddressGenerator g.T.Time form may_fail never tt tt old new parts same
