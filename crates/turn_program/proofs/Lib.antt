@@ -1,2 +1,3 @@
 pub mod NoUsers
 pub mod StoreErrors
+pub mod Serves

@@ -75,7 +75,7 @@ fn run_command<
                 listen,
                 log: *is_logged,
             };
-            run_serve::<Unknown, R, C, W, L>(rt, clock, service, out, log)
+            run_serve::<Unknown, R, C, W, L>(rt, clock, service, out, log).told
         }
         Command::Demo => run_demo(rt, clock, out),
         Command::Version => run_version(rt.alloc(), release, out),

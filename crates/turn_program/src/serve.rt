@@ -1,7 +1,9 @@
 //! `turn serve`.
 
-ghost use Rattle.std.specs.Prelude.{◌≡◌, IfErr};
-ghost use Rattle.turn_program.specs.Serving.{commits_of};
+ghost use Rattle.std.specs.Prelude.{◌≡◌, IfErr, IfOk, IfSome};
+ghost use Rattle.turn_sockets.specs.Moments.{IsMoment};
+ghost use Rattle.turn_serving.specs.Turns.{Served};
+ghost use Rattle.turn_program.specs.Serving.{AnySecond, KeptSince, Serves, StartedOver, commits_of, just_opened};
 
 use crate::about::{ShownAddresses, second_now, tell_config, tell_sockets, tell_store};
 use crate::error::ProgramError;
@@ -18,10 +20,11 @@ use std::rt::{Clock, Files};
 use std::thread;
 use std::time::Duration;
 use turn_config::ShownEndpoint;
-use turn_cred::Credentials;
-use turn_disk::{FileDisk, FileError, Start};
+use turn_cred::{AuthHandler, Credentials};
+use turn_disk::{Disk, FileDisk, FileError, Start};
 use turn_ports::RelayAddressGenerator;
 use turn_serving::{Commits, Setup, SetupError, SocketServing, StartError, TurnError};
+use turn_sockets::SocketPorts;
 use turn_types::Endpoint;
 
 /// What the words of `turn serve` say.
@@ -88,7 +91,9 @@ fn open_disk<R: Files<File = File>, C: Clock>(
     rt: &R,
     clock: &C,
     store: &str,
-) -> Result<FileDisk<File>, ProgramError> {
+) -> Result<FileDisk<File>, ProgramError>
+    ensures { IfOk result (λ disk. disk ≡ just_opened disk.size) }
+{
     for _ in 0..AGAIN {
         match FileDisk::open(rt, store) {
             Ok(disk) => return Ok(disk),
@@ -119,7 +124,9 @@ fn take_files<R: Files<File = File> + AllocGlobal, C: Clock, L: Write + Drop>(
     clock: &C,
     service: Service<'_>,
     log: &Log<L>,
-) -> Result<Prepared<FileDisk<File>>, ProgramError> {
+) -> Result<Prepared<FileDisk<File>>, ProgramError>
+    ensures { IfOk result (λ prepared. prepared.store ≡ just_opened prepared.store.size) }
+{
     let taken = prepare(rt, service.config, service.listen, |_| {
         Ok(open_disk(rt, clock, service.store))
     });
@@ -175,6 +182,28 @@ fn since<C: Clock>(clock: &C, began: Option<Duration>) -> Option<Duration> {
     Some(now.saturating_sub(began?))
 }
 
+/// How a service ended, and the disk of its store, if that was opened.
+#[derive(Drop)]
+pub struct Ended<S: Start> {
+    /// The first fault, if there was one.
+    pub told: Result<(), ProgramError>,
+    /// The disk as it was left.
+    pub disk: Option<FileDisk<File, S>>,
+}
+
+impl<S: Start> From<ProgramError> for Ended<S> {
+    ghost use Rattle.std.specs.Prelude.{None};
+
+    ghost from_gives = { λ fault ended. ended.disk ≡ None };
+
+    fn from(fault: ProgramError) -> Ended<S> {
+        Ended {
+            told: Err(fault),
+            disk: None,
+        }
+    }
+}
+
 /// Starts a server. At a fault the log says which file or address it is about, and else what was started.
 fn start<
     'a,
@@ -188,7 +217,12 @@ fn start<
     clock: &C,
     service: Service<'_>,
     log: &'l Log<L>,
-) -> Result<FileServing<'a, 'l, S, R, L>, ProgramError> {
+) -> Result<FileServing<'a, 'l, S, R, L>, Ended<S>>
+    ensures started { IfOk result (λ serving. StartedOver ⟦<FileDisk<File, S> as Disk>⟧ ⟦<Credentials as AuthHandler>⟧
+        ⟦<SocketPorts<'a, R, Global> as RelayAddressGenerator>⟧ serving.server) }
+    ensures kept { IfErr result (λ ended. IfSome ended.disk (KeptSince ⟦<FileDisk<File, S> as Disk>⟧)) }
+{
+    let seed = random_bytes(rt)?;
     let Prepared {
         config,
         credentials,
@@ -203,30 +237,36 @@ fn start<
         relay_bind: service.relay_bind,
         burst: service.burst,
         commits: commits_of(service.turns),
-        seed: random_bytes(rt)?,
+        seed,
     };
     match setup.start(rt.alloc(), rt, clock, disk.holding::<S>(), credentials, log) {
         Ok(serving) => Ok(serving),
-        Err(SetupError { fault, disk: _ }) => {
+        Err(SetupError { fault, disk }) => {
             let addresses = ShownAddresses {
                 listen: listen.as_slice(),
                 relay: service.relay_bind.unwrap_or(config.relay()),
                 ports,
             };
             tell_start(rt, clock, log, service.store, &addresses, fault);
-            Err(ProgramError::from(fault))
+            Err(Ended {
+                told: Err(ProgramError::from(fault)),
+                disk: Some(disk),
+            })
         }
     }
 }
 
 /// Takes turns. At a fault of the store the log says which file it is.
-fn take_turns<S: Start, R: Files + Net + Drop + AllocGlobal, C: Clock, L: Write + Drop>(
+fn take_turns<'a, S: Start, R: Files + Net + Drop + AllocGlobal, C: Clock, L: Write + Drop>(
     rt: &R,
-    serving: &mut FileServing<'_, '_, S, R, L>,
+    serving: &mut FileServing<'a, '_, S, R, L>,
     clock: &C,
     service: Service<'_>,
     log: &Log<L>,
-) -> Result<(), ProgramError> {
+) -> Result<(), ProgramError>
+    ensures { Served ⟦<FileDisk<File, S> as Disk>⟧ ⟦<Credentials as AuthHandler>⟧ ⟦<SocketPorts<'a, R, Global> as RelayAddressGenerator>⟧
+        (IsMoment AnySecond) serving.old.server serving.new.server }
+{
     // 2^64 turns of which each takes a microsecond are 580,000 years.
     match serving.turns(&clock, service.turns.unwrap_or(u64::MAX)) {
         Ok(()) => Ok(()),
@@ -253,14 +293,17 @@ fn print_addresses<W: Write>(
 }
 
 /// Says where the server listens, takes the turns, and says how many there were.
-fn tell<S: Start, R: Files + Net + Drop + AllocGlobal, C: Clock, W: Write, L: Write + Drop>(
+fn tell<'a, S: Start, R: Files + Net + Drop + AllocGlobal, C: Clock, W: Write, L: Write + Drop>(
     rt: &R,
-    serving: &mut FileServing<'_, '_, S, R, L>,
+    serving: &mut FileServing<'a, '_, S, R, L>,
     clock: &C,
     service: Service<'_>,
     log: &Log<L>,
     out: &mut W,
-) -> Result<(), ProgramError> {
+) -> Result<(), ProgramError>
+    ensures { Served ⟦<FileDisk<File, S> as Disk>⟧ ⟦<Credentials as AuthHandler>⟧ ⟦<SocketPorts<'a, R, Global> as RelayAddressGenerator>⟧
+        (IsMoment AnySecond) serving.old.server serving.new.server }
+{
     print_addresses(rt.alloc(), serving.locals().as_slice(), out)?;
     take_turns(rt, serving, clock, service, log)?;
     match service.turns {
@@ -269,18 +312,25 @@ fn tell<S: Start, R: Files + Net + Drop + AllocGlobal, C: Clock, W: Write, L: Wr
     }
 }
 
-/// Serves for so many turns, or until the process is ended. If a log is asked for it is written to `lines`. `S` stands for what the
-/// store's file held, whatever that is.
+/// Serves for so many turns, or until the process is ended. If a log is asked for it is written to `lines`. `S` stands for the state in
+/// which the store's file was found, whatever that is. The disk is returned as it was left, if it was opened.
 pub fn run_serve<
+    'a,
     S: Start,
     R: Files<File = File> + Net + RandomSource + Drop + AllocGlobal,
     C: Clock,
     W: Write,
     L: Write + Drop,
->(rt: &R, clock: &C, service: Service<'_>, out: &mut W, lines: L) -> Result<(), ProgramError> {
+>(rt: &'a R, clock: &C, service: Service<'_>, out: &mut W, lines: L) -> Ended<S>
+    ensures { IfSome result.disk (Serves ⟦<FileDisk<File, S> as Disk>⟧ ⟦<Credentials as AuthHandler>⟧
+        ⟦<SocketPorts<'a, R, Global> as RelayAddressGenerator>⟧) }
+{
     let log = Log::new(rt.alloc(), lines, service.log);
     let began = clock.monotonic().ok();
-    let mut serving = start::<S, R, C, L>(rt, clock, service, &log)?;
+    let mut serving = match start::<S, R, C, L>(rt, clock, service, &log) {
+        Ok(serving) => serving,
+        Err(ended) => return ended,
+    };
     let started = Started {
         version: service.version,
         listen: serving.locals().as_slice(),
@@ -292,6 +342,9 @@ pub fn run_serve<
     };
     tell_started(rt.alloc(), clock, &log, &started);
     let told = tell(rt, &mut serving, clock, service, &log, out);
-    serving.close();
-    told
+    let (disk, _) = serving.close();
+    Ended {
+        told,
+        disk: Some(disk),
+    }
 }

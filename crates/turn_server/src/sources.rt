@@ -1,7 +1,7 @@
 //! What this program is made from. This file is written by packaging/digest.
 
 /// The digest of the sources.
-pub const SOURCES: &str = "e625da886b4985c509f2f9ca7ffd6938859c2aaf4ff8f8668eb65583869f87b7";
+pub const SOURCES: &str = "24489b0fab45c34e5e977bd6087944543016f6bfc44169fa8139dfbcc736060d";
 
 /// The toolchain, as it names itself.
 pub const TOOLCHAIN: &str = "rattle-kit-13f logic dac8208d650f15bf";

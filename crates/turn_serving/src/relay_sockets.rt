@@ -14,6 +14,9 @@ pub trait RelaySockets: RelayAddressGenerator {
     /// Whether a port has a socket.
     ghost has_socket: { Self → ℕ → Bool };
 
+    /// It has said so of an address. What is proved of every such fact can be had by asking alone.
+    ghost has_said: { Self → ℕ → Bool → Type 0 };
+
     /// The socket of a port.
     fn socket(&self, port: u16) -> Option<&BoundSocket>
         ensures found { is_some result ≡ has_socket self.now port }
@@ -24,11 +27,15 @@ pub trait RelaySockets: RelayAddressGenerator {
         ensures { IsTrue result ↔ ((port : ℕ) → has_socket self.now port ≡ true → S.has ports.now port ≡ true) };
 
     /// Whether an address is one of this machine.
-    fn is_local(&self, ip: u32) -> bool;
+    fn is_local(&self, ip: u32) -> bool
+        ensures { has_said self.now ip result };
 }
 
 impl<'a, R: Net, A: Allocator + Copy> RelaySockets for SocketPorts<'a, R, A> {
     ghost has_socket = { λ ports port. is_some (get nat_cmp ports.sockets port) };
+
+    // The system says what it will.
+    ghost has_said = { λ _ _ _. Unit {0} };
 
     fn socket(&self, port: u16) -> Option<&BoundSocket> {
         self.socket(port)

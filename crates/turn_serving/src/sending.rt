@@ -24,6 +24,8 @@ fn is_listening<G: RelaySockets>(own: &OwnAddresses, ports: &G, peer: Endpoint) 
     ensures only { IsTrue result → IsListening own.now peer }
     ensures named { All (λ a. a.ip ≢ 0) own.now.listening → (IsTrue result ↔ IsListening own.now peer) }
     ensures by_name { IsNamed own.now peer → IsTrue result }
+    // Whether a peer is meant by 0.0.0.0 alone is what was said of its address.
+    ensures asked { IsListening own.now peer → ¬ IsNamed own.now peer → G.has_said ports.now peer.ip result }
 {
     own.is_listening(peer) && (own.is_named(peer) || ports.is_local(peer.ip))
 }

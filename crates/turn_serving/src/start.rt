@@ -9,6 +9,7 @@ ghost use Rattle.turn_history.specs.Fitting.{is_taken};
 ghost use Rattle.turn_history.specs.History.{History};
 ghost use Rattle.turn_store.specs.Areas.{Form};
 ghost use Rattle.turn_sockets.specs.Backlog.{waiting_of};
+ghost use Rattle.turn_sockets.specs.Ports.{draws_of};
 ghost use Rattle.turn_step.specs.State.{HoldsPorts};
 ghost use Rattle.turn_store.specs.Carrying.{Carries};
 ghost use Rattle.turn_store.specs.Images.{EachImage};
@@ -122,6 +123,7 @@ fn bind<R: Net, A: Allocator + Copy, C: Clock>(
 ) -> Result<(), StartError>
     ensures first { sockets.new.first ≡ sockets.old.first }
     ensures last { sockets.new.last ≡ sockets.old.last }
+    ensures draws { sockets.new.draws ≡ sockets.old.draws }
 {
     for _attempt in 0..ATTEMPTS {
         if sockets.socket(port).is_some() {
@@ -144,6 +146,7 @@ fn bind_all<R: Net, A: Allocator + Copy, C: Clock>(
 ) -> Result<(), StartError>
     ensures first { sockets.new.first ≡ sockets.old.first }
     ensures last { sockets.new.last ≡ sockets.old.last }
+    ensures draws { sockets.new.draws ≡ sockets.old.draws }
 {
     for port in ports {
         bind(sockets, system, *port)?;
@@ -273,7 +276,8 @@ impl<'c, A: Allocator + Copy> Setup<'c, A> {
         poll: &Poll,
         ports: &[u16],
     ) -> Result<SocketPorts<'a, R, A>, StartError>
-        ensures { IfOk result (λ sockets. ⟦<SocketPorts<'a, R, A> as RelayAddressGenerator>⟧.range sockets ≡ self.now.ports) }
+        ensures range { IfOk result (λ sockets. ⟦<SocketPorts<'a, R, A> as RelayAddressGenerator>⟧.range sockets ≡ self.now.ports) }
+        ensures draws { IfOk result (λ sockets. sockets.draws ≡ draws_of self.now.seed) }
     {
         let registry = poll.registry().try_clone().map_err(|_| StartError::Socket)?;
         let ip = self.bound();
@@ -295,6 +299,7 @@ impl<'c, A: Allocator + Copy> Setup<'c, A> {
         watch: W,
     ) -> Result<Beside<'a, R, W, A>, StartError>
         ensures range { IfOk result (λ beside. ⟦<SocketPorts<'a, R, A> as RelayAddressGenerator>⟧.range beside.ports ≡ self.now.ports) }
+        ensures draws { IfOk result (λ beside. beside.ports.draws ≡ draws_of self.now.seed) }
         ensures waits { IfOk result (λ beside. (f : FiveTuple) → waiting_of beside.work.backlog f ≡ []) }
         ensures passed { IfOk result (λ beside. beside.work.wire.passed ≡ []) }
         ensures own { IfOk result (λ beside. beside.listening.sockets.items ≡ beside.listening.own.listening) }
@@ -345,6 +350,8 @@ impl<'c, A: Allocator + Copy> Setup<'c, A> {
             serving.server.machine.table.contents ≡ true) }
         // And no other port has one.
         ensures held { IfOk result (λ serving. HoldsPorts ⟦<SocketPorts<'a, R, A> as RelayAddressGenerator>⟧.holds serving.server.machine None) }
+        // The next port is drawn by the seed.
+        ensures draws { IfOk result (λ serving. serving.server.machine.ports.draws ≡ draws_of self.now.seed) }
         // No datagram waits, and turns are taken as the setup says.
         ensures waits { IfOk result (λ serving. (f : FiveTuple) → waiting_of serving.backlog f ≡ []) }
         // No socket has received or sent anything, and each listening address has one.

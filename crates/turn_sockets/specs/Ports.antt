@@ -1,8 +1,8 @@
 -- Relay ports with a socket each. A range is its first and its last port.
-use Rattle.std.specs.Prelude.{ℕ, ◌≡◌, ◌+◌, ◌-◌, ◌%◌, ◌⊎◌, ⊤, Bool, false, IsSome, is_some, Option, Some, None}
+use Rattle.std.specs.Prelude.{ℕ, ◌≡◌, ◌+◌, ◌-◌, ◌%◌, ◌⊎◌, ⊤, Bool, false, IsSome, is_some, List, Option, Some, None}
 use Rattle.std.specs.Ordering.{nat_cmp}
 use Rattle.std.specs.BTreeMap.{BTreeMap, get, insert_entry, IsUnchanged}
-use Rattle.rand_chacha.specs.ChaCha.{ChaCha, next_word}
+use Rattle.rand_chacha.specs.ChaCha.{ChaCha, next_word, of_seed}
 use Rattle.turn_ports.specs.Ports.{IsFree, IsFreePair}
 use Rattle.turn_types.specs.declared.address.Endpoint.{Endpoint}
 use Rattle.turn_sockets.specs.declared.ports.Bound.{Bound}
@@ -111,6 +111,10 @@ found_port Exhausted = None
 abbrev pub MayFind : ℕ × ℕ → (ℕ → Bool) → Wanted → Bool → Option ℕ → Type 0
 MayFind range taken wanted failed (Some port) = IsWanted range taken wanted port
 MayFind range taken wanted failed None = failed ≡ false → NoneIsWanted range taken wanted
+
+-- what ports are drawn by from the beginning on, by a seed of 32 bytes
+abbrev pub draws_of : List ℕ → ChaCha
+draws_of seed = of_seed seed
 
 -- where a search of a range begins: the next word of a generator, modulo how many ports there are
 abbrev pub drawn_place : ℕ × ℕ → ChaCha → ℕ

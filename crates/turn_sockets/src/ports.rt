@@ -3,9 +3,9 @@
 ghost use Rattle.std.specs.Prelude.{◌≡◌, ◌≢◌, ◌<◌, ◌≤◌, ◌+◌, ◌^◌, ◌⊎◌, ◌↔◌, ℕ, Bool, true, [], Ok, Some, None, IfOk, IsTrue, OnErr, is_some, option_map, IfSome};
 ghost use Rattle.std.specs.BTreeMap.{IsUnchanged, Updates, get};
 ghost use Rattle.std.specs.Ordering.{nat_cmp};
-ghost use Rattle.rand_chacha.specs.ChaCha.{next_word, of_seed};
+ghost use Rattle.rand_chacha.specs.ChaCha.{next_word};
 ghost use Rattle.turn_ports.specs.Ports.{Failed, MayPick, MayPickPair, has_failed, with_pair, with_port, without_port};
-ghost use Rattle.turn_sockets.specs.Ports.{AreAtPorts, Binds, HaveSockets, Inserts, IsBound, MayFind, drawn_place};
+ghost use Rattle.turn_sockets.specs.Ports.{AreAtPorts, Binds, HaveSockets, Inserts, IsBound, MayFind, drawn_place, draws_of};
 ghost use Rattle.turn_sockets.specs.declared.ports.Bound.TheVariants as binds;
 ghost use Rattle.turn_sockets.specs.declared.ports.Wanted.TheVariants as wants;
 
@@ -162,7 +162,7 @@ impl<'a, R: Net, A: Allocator + Copy> SocketPorts<'a, R, A> {
     ) -> SocketPorts<'a, R, A>
         ensures first { result.first ≡ ports.0 }
         ensures last { result.last ≡ ports.1 }
-        ensures draws { result.draws ≡ of_seed seed }
+        ensures draws { result.draws ≡ draws_of seed }
         ensures count { result.failures ≡ 0 }
         ensures empty { result.sockets.entries ≡ [] }
     {
@@ -310,6 +310,7 @@ impl<'a, R: Net, A: Allocator + Copy> RelayAddressGenerator for SocketPorts<'a, 
     fn release(&mut self, port: u16)
         ensures first { self.new.first ≡ self.old.first }
         ensures last { self.new.last ≡ self.old.last }
+        ensures draws { self.new.draws ≡ self.old.draws }
         ensures count { self.new.failures ≡ self.old.failures }
         ensures updated { Updates nat_cmp self.old.sockets self.new.sockets port None }
         ensures released { (held : ℕ → Bool) → HaveSockets self.old.sockets held → held port ≡ true → HaveSockets self.new.sockets (without_port held port) }
