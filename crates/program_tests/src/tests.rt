@@ -8,6 +8,7 @@ mod full_disk;
 mod locks;
 mod memory;
 mod moments;
+mod names;
 mod old_stores;
 mod own;
 mod paced;
