@@ -1,11 +1,13 @@
 -- Each attribute makes a message longer.
-use Rattle.std.proofs.Common.{◌≡◌, ◌≤◌, ◌<◌, ◌+◌, ℕ, List, [], ◌∷◌, take, drop, take-append-drop, length, get_or, ap, sym, ◌∙◌, arith}
+use Rattle.std.proofs.Common.{◌≡◌, ◌≤◌, ◌<◌, ◌+◌, ◌*◌, ◌/◌, ℕ, refl, List, [], ◌∷◌, take, drop, take-append-drop, length, get_or, ap, sym, ◌∙◌, arith}
 use Rattle.std.specs.Prelude.{fold}
 use Rattle.std.proofs.lemmas.List.Sums.{sum_by_push, fold-append, fold_more}
+use Rattle.turn_codec.specs.Address.{xor_value}
 use Rattle.turn_codec.specs.Grammar.{Content, body_size, size_of, with_attribute}
 use Rattle.turn_requests.specs.declared.request.Attribute.{Attribute}
 use Rattle.turn_requests.specs.declared.request.Attribute.TheVariants.{Lifetime, Peer, Channel, Transport, NoTransport, EvenPort, DontFragment, ReservationToken}
-use Rattle.turn_requests.specs.Sending.{with_one}
+use Rattle.turn_requests.specs.Sending.{send_of, with_one}
+use Rattle.turn_types.specs.declared.address.Endpoint.{Endpoint}
 
 pub more : (m : Content) (kind : ℕ) (value : List ℕ) → body_size m ≤ body_size (with_attribute m kind value)
 more m kind value = omega (arith, sum_by_push size_of m.attributes (record { kind = kind; value = value }))
@@ -36,3 +38,11 @@ long_front m now attributes i d lt is long =
     ∙ ap body_size (fold-append with_one m (take (i + 1) attributes) (drop (i + 1) attributes)) in
     let grows = all_more (drop (i + 1) attributes) front in
     omega (arith, step, whole, grows, long)
+
+address_size : (peer : Endpoint) → length (xor_value peer) ≡ 8
+unfolding xor_value
+address_size peer = refl
+
+-- a Send indication has an XOR-PEER-ADDRESS of 12 bytes, and its data
+pub send_size : (peer : Endpoint) (bytes : List ℕ) → body_size (send_of peer bytes) ≡ 16 + (length bytes + 3) / 4 * 4
+send_size peer bytes = let size = address_size peer in omega arith

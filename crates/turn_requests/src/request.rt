@@ -1,10 +1,10 @@
 //! Requests of a client, with the credentials of a user, and Send indications, as bytes, and data over channels.
 
-ghost use Rattle.std.specs.Prelude.{◌≡◌, ◌≢◌, ◌≤◌, ◌<◌, ◌+◌, ◌^◌, ◌⊎◌, Err, [], fold, length, IfOk, IfNone, IfSome, OnOk};
+ghost use Rattle.std.specs.Prelude.{◌≡◌, ◌≢◌, ◌≤◌, ◌<◌, ◌+◌, ◌*◌, ◌/◌, ◌^◌, ◌⊎◌, ◌↔◌, ◌==◌, ◌&&◌, not, Err, [], fold, length, IfOk, IfNone, IfSome, IsTrue, OnOk};
 ghost use Rattle.std.specs.List.{list_any};
 ghost use Rattle.turn_codec.specs.AttributeTypes.{message_integrity};
 ghost use Rattle.turn_codec.specs.Channel.{IsChannel};
-ghost use Rattle.turn_codec.specs.Grammar.{Spells, body_size, from, with_attribute};
+ghost use Rattle.turn_codec.specs.Grammar.{Content, Spells, body_size, from, with_attribute};
 ghost use Rattle.turn_mac.specs.Integrity.{IntegrityHolds};
 ghost use Rattle.turn_requests.specs.Sending.{identified, is_transport, named, send_of, signed, with_one};
 
@@ -20,6 +20,15 @@ const UDP: u8 = 17;
 
 /// DONT-FRAGMENT (RFC 8656, section 18.9).
 const DONT_FRAGMENT: u16 = 0x001A;
+
+/// How many bytes of attributes a message may have.
+const MAX_ATTRIBUTES: usize = 65_532;
+
+/// How many of these a MESSAGE-INTEGRITY takes.
+const INTEGRITY_SIZE: usize = 24;
+
+/// How many bytes of data a Send indication may have: beside its DATA it has an XOR-PEER-ADDRESS of 12 bytes.
+const MAX_SEND_DATA: usize = MAX_ATTRIBUTES - 12 - 4;
 
 /// An attribute of a request.
 #[derive(Clone, Copy, Debug)]
@@ -156,6 +165,82 @@ fn names_transport(attributes: &[Attribute]) -> bool
     ))
 }
 
+/// Whether a request begins with a REQUESTED-TRANSPORT that is not among its attributes.
+fn adds_transport(request: &Request<'_>) -> bool
+    ensures { result ≡ ((request.now.method == 0x003) && not (list_any is_transport request.now.attributes.now)) }
+{
+    request.method == Method::ALLOCATE && !names_transport(request.attributes)
+}
+
+/// The size of an attribute in a message.
+fn size_of(attribute: &Attribute) -> usize
+    ensures value { (m : Content) → body_size (with_one m attribute.now) ≡ body_size m + result }
+    ensures small { result ≤ 12 }
+{
+    match attribute {
+        Attribute::NoTransport => 0,
+        Attribute::DontFragment => 4,
+        Attribute::Lifetime(_)
+        | Attribute::Channel(_)
+        | Attribute::Transport(_)
+        | Attribute::EvenPort { .. } => 8,
+        Attribute::Peer(peer) => 4 + xor_address(*peer).len(),
+        Attribute::ReservationToken(token) => {
+            let value: &[u8] = &token.0;
+            4 + value.len()
+        }
+    }
+}
+
+/// The size of a message with so many bytes of attributes and these more, if a message has room for them.
+fn size_with(size: usize, attributes: &[Attribute]) -> Option<usize>
+    requires { size ≤ 65532 }
+    ensures some { (m : Content) → size ≡ body_size m
+        → IfSome result (λ sum. sum ≡ body_size (fold with_one m attributes.now)) }
+    ensures room { IfSome result (λ sum. sum ≤ 65532) }
+    ensures none { (m : Content) → size ≡ body_size m
+        → IfNone result (65532 < body_size (fold with_one m attributes.now)) }
+{
+    let mut size = size;
+    for attribute in attributes {
+        size += size_of(attribute);
+        if MAX_ATTRIBUTES < size {
+            return None;
+        }
+    }
+    Some(size)
+}
+
+/// The size of an attribute whose value has so many bytes, if a message has room for it.
+fn size_of_value(count: usize) -> Option<usize>
+    ensures some { IfSome result (λ size. (size ≡ 4 + (count + 3) / 4 * 4) × (size ≤ 65532)) }
+    ensures none { IfNone result (65532 < 4 + (count + 3) / 4 * 4) }
+{
+    if MAX_ATTRIBUTES - 4 < count {
+        return None;
+    }
+    Some(4 + count.next_multiple_of(4))
+}
+
+/// Whether a message has room for a request with its credentials.
+#[tactic(auto, unfolding(crate::specs::Sending::named))]
+fn has_room(request: &Request<'_>, nonce: &[u8]) -> bool
+    ensures { IsTrue result ↔ (body_size (named request.now nonce.now) + 24 ≤ 65532) }
+{
+    let first = if adds_transport(request) { 8 } else { 0 };
+    let Some(size) = size_with(first, request.attributes) else {
+        return false;
+    };
+    let (Some(user), Some(realm), Some(nonce)) = (
+        size_of_value(request.user.len()),
+        size_of_value(request.realm.len()),
+        size_of_value(nonce.len()),
+    ) else {
+        return false;
+    };
+    size + user + realm + nonce + INTEGRITY_SIZE <= MAX_ATTRIBUTES
+}
+
 /// A request with its credentials: its attributes, then USERNAME, REALM, NONCE and MESSAGE-INTEGRITY (RFC 8489, section
 /// 9.2). An Allocate begins with a REQUESTED-TRANSPORT of UDP, unless its attributes say what the transport is.
 #[tactic(auto, unfolding(crate::specs::Sending::named))]
@@ -168,10 +253,14 @@ pub fn build_request<A: Allocator + Copy>(
     ensures content { IfOk result (λ v. Spells v.items (signed key.now (named request.now nonce.now))) }
     ensures holds { IfOk result (λ v. IntegrityHolds key.now
         (record { bytes = v.items; content = signed key.now (named request.now nonce.now) })) }
-    ensures too_long { result ≡ Err PushError.TooLong → 65532 < body_size (named request.now nonce.now) + 24 }
+    // Whether it is too long is judged before memory is asked for.
+    ensures too_long { (result ≡ Err PushError.TooLong) ↔ (65532 < body_size (named request.now nonce.now) + 24) }
 {
+    if !has_room(request, nonce) {
+        return Err(PushError::TooLong);
+    }
     let mut message = Unsigned::new(alloc, Class::Request, request.method, request.tx)?;
-    if request.method == Method::ALLOCATE && !names_transport(request.attributes) {
+    if adds_transport(request) {
         message.push_attribute(&Attribute::Transport(UDP))?;
     }
     message.push_all(request.attributes)?;
@@ -180,14 +269,19 @@ pub fn build_request<A: Allocator + Copy>(
 }
 
 /// A Send indication with data for a peer, with transaction id zero (RFC 8656, section 11.1).
+#[tactic(auto, using(crate::proofs::Sizes::send_size))]
 pub fn build_send<A: Allocator + Copy>(
     alloc: A,
     peer: Endpoint,
     payload: &[u8],
 ) -> Result<Vec<u8, A>, PushError>
     ensures content { IfOk result (λ v. Spells v.items (send_of peer payload.now)) }
-    ensures too_long { result ≡ Err PushError.TooLong → 65532 < body_size (send_of peer payload.now) }
+    // Whether it is too long is judged before memory is asked for.
+    ensures too_long { (result ≡ Err PushError.TooLong) ↔ (65532 < body_size (send_of peer payload.now)) }
 {
+    if MAX_SEND_DATA < payload.len() {
+        return Err(PushError::TooLong);
+    }
     let mut builder = Builder::new(alloc, Class::Indication, Method::SEND, TxId([0; 12]))?;
     builder.push(AttributeType::XOR_PEER_ADDRESS, &xor_address(peer))?;
     builder.push(AttributeType::DATA, payload)?;
