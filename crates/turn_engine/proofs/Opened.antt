@@ -15,8 +15,9 @@ use Rattle.turn_history.specs.Table as tables
 use Rattle.turn_record.specs.Bytes as bytes
 use Rattle.turn_record.specs.Records.{IsSnapshot, Writes}
 use Rattle.turn_record.specs.declared.version.Version.{Version}
+use Rattle.turn_record.specs.declared.version.Version.TheVariants.{V2}
 use Rattle.turn_store.specs.Areas.{Form}
-use Rattle.turn_store.specs.Images.{EachImage, StandsBy, StandsForAt}
+use Rattle.turn_store.specs.Images.{EachImage, IsInVersion, IsInVersionOr2, StandsBy, StandsForAt}
 use Rattle.turn_store.specs.Opened.{OpensTo}
 use Rattle.turn_store.specs.Replay.{Snapshot}
 use Rattle.turn_store.specs.State.{RecoversToAt}
@@ -83,6 +84,12 @@ since_opened old new form h k m content each at since =
     let early = stands.bounded in
     record { count = at.count; no_less = at.no_less; no_more = at.no_more; stands = record { clock = stands.clock; bounded = omega (arith, bounded, early); stands = stands.stands } }) either)
     since
+
+-- what a stop may have left before a call, or what is carried over, is of version 2 where each image was
+pub since_second : (old new : Trace) (form : Form) → EachImage old.now (IsInVersion V2 form) → EachImageSince old new (λ image. IsImage old.now image ⊎ IsInVersionOr2 V2 form image) → EachImageSince old new (IsInVersion V2 form)
+since_second old new form each since =
+    since_weaken old new (λ (image : List ℕ). IsImage old.now image ⊎ IsInVersionOr2 V2 form image) (IsInVersion V2 form)
+    (λ image either. ⊎_elim (λ (was : IsImage old.now image). each image was) (λ (is : IsInVersionOr2 V2 form image). ⊎_elim (λ one. one) (λ two. two) is) either) since
 
 module _ {D H G : Type 0} (form : Form) (h : History) (k m : ℕ) (content : List ℕ) (state : State) (server : ServerState D H G) (at : AtLeast form h k m content) where
   abbrev first : History

@@ -14,7 +14,7 @@ use Rattle.turn_history.specs.Laws.{AllFrom}
 use Rattle.turn_record.specs.Bytes as bytes
 use Rattle.turn_record.specs.Records.{Writes}
 use Rattle.turn_store.specs.Areas.{Form, Holds}
-use Rattle.turn_store.specs.Images.{EachImage, EitherBy, StandsBy, StandsForAt}
+use Rattle.turn_store.specs.Images.{EachImage, EitherBy, IsInVersion, StandsBy, StandsForAt}
 use Rattle.turn_store.specs.Spells.{HasSize}
 use Rattle.turn_store.specs.Stages.{InStages}
 use Rattle.turn_store.specs.State.{MayFollow, RecoversToAt, StoreState, form_of, framed, swapped}
@@ -22,6 +22,7 @@ use Rattle.turn_store.specs.declared.error.StoreError.{StoreError}
 use Rattle.turn_store.specs.declared.store.WrittenAs.{WrittenAs}
 use Rattle.turn_store.specs.declared.store.WrittenAs.TheVariants.{Frame, Snapshot}
 use Rattle.turn_store.proofs.Staged.{stages_all, stages_first, stages_weaken}
+use Rattle.turn_store.proofs.Versions.{shown_in}
 use Rattle.turn_types.specs.declared.limits.Bounds.{Bounds}
 use Rattle.turn_step.specs.Outcome.{Sent}
 use Rattle.turn_engine.specs.Calls.{Commits}
@@ -112,6 +113,13 @@ images_stored state server h k recovers image is =
 pub not_written : {D H G : Type 0} (old new : Trace) (server : ServerState D H G) (h : History) (k : ℕ) → new ≡ old → RecoversTo old.now server h k
     → EachImageSince old new (AtLeast (form_of server.store) h k (now_of server))
 not_written old new server h k same recovers = since_same old new (AtLeast (form_of server.store) h k (now_of server)) same (images_stored old.now server h k recovers)
+
+-- and is of the store's version
+pub not_written_in : {D H G : Type 0} (old new : Trace) (server : ServerState D H G) (h : History) (k : ℕ) → new ≡ old → RecoversTo old.now server h k
+    → EachImageSince old new (IsInVersion server.store.version (form_of server.store))
+not_written_in old new server h k same recovers =
+    let stored = recovers.stored in
+    since_same old new (IsInVersion server.store.version (form_of server.store)) same (shown_in server.store old.now stored.snapshot stored.payloads stored.shows)
 
 -- what an append leaves
 pub written : {D H G : Type 0} (old new : Trace) (server : ServerState D H G) (h : History) (k : ℕ) → (recovers : RecoversTo old.now server h k)

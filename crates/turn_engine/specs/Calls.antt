@@ -7,11 +7,12 @@ use Rattle.turn_disk.specs.declared.disk.Disk as disks
 use Rattle.turn_history.specs.History.{History}
 use Rattle.turn_ports.specs.Ports.{has_failed}
 use Rattle.turn_ports.specs.declared.generator.RelayAddressGenerator as generators
+use Rattle.turn_record.specs.declared.version.Version.TheVariants.{V2}
 use Rattle.turn_step.specs.Outcome.{Arrives, Sent}
 use Rattle.turn_step.specs.State.{CountsOne, HoldsPorts, IsPurged, KeepsSetting, setting_of}
 use Rattle.turn_types.specs.Config.{Config}
 use Rattle.turn_store.specs.Areas.{Form}
-use Rattle.turn_store.specs.Images.{EachImage, EitherBy, StandsBy}
+use Rattle.turn_store.specs.Images.{EachImage, EitherBy, IsInVersion, StandsBy}
 use Rattle.turn_store.specs.Opened.{IsOpened}
 use Rattle.turn_store.specs.Refused.{IsPlain, WhyRefused}
 use Rattle.turn_store.specs.Stages.{InStages}
@@ -74,6 +75,7 @@ pub record Commits {D H G : Type 0} (disk : disks.Ghosts D) (old new : ServerSta
   -- Device comes with one failed call
   pub uses : Uses disk old.store.disk new.store.disk (result ≡ Err faults.Device)
   pub form : form_of new.store ≡ form_of old.store
+  pub version : new.store.version ≡ old.store.version
   -- Worn comes without a device call, at the last generation
   pub worn : (result ≡ Err faults.Worn) ↔ ((old.store.stopped ≡ false) × (1 ≤ old.acts) × (old.store.generation ≡ 2 ^ 64 - 1)
       × CompactsFor old.store (length old.payload))
@@ -86,6 +88,9 @@ pub record Commits {D H G : Type 0} (disk : disks.Ghosts D) (old new : ServerSta
   -- so it always leaves what is stored, or more
   pub stop : disk.follows_crash_model new.store.disk → (h : History) (k : ℕ) → RecoversTo (disk.trace old.store.disk).now old h k
       → EachImageSince (disk.trace old.store.disk) (disk.trace new.store.disk) (AtLeast (form_of old.store) h k (now_of old))
+  -- in the store's version
+  pub stop_version : disk.follows_crash_model new.store.disk → (h : History) (k : ℕ) → RecoversTo (disk.trace old.store.disk).now old h k
+      → EachImageSince (disk.trace old.store.disk) (disk.trace new.store.disk) (IsInVersion old.store.version (form_of old.store))
   -- at Ok all of it is stored
   pub recovers : disk.follows_crash_model new.store.disk → (h : History) (k : ℕ) → RecoversTo (disk.trace old.store.disk).now old h k
       → OnOk result (RecoversTo (disk.trace new.store.disk).now new h (length h))
@@ -124,3 +129,7 @@ pub record Opening {D H G : Type 0} (disk : disks.Ghosts D) (old : D) (config : 
   -- and a stop leaves such images
   pub stop : disk.follows_crash_model (disk_after result) → (form : Form) (h : History) (k m : ℕ) → EachImage (disk.trace old).now (AtLeast form h k m)
       → EachImageSince (disk.trace old) (disk.trace (disk_after result)) (AtLeast form h k m)
+  -- where each image of the disk is of version 2, so is the store, and each image that a stop leaves
+  pub version : IfOk result (λ s. disk.follows_crash_model s.store.disk → (form : Form) → EachImage (disk.trace old).now (IsInVersion V2 form) → s.store.version ≡ V2)
+  pub stop_version : disk.follows_crash_model (disk_after result) → (form : Form) → EachImage (disk.trace old).now (IsInVersion V2 form)
+      → EachImageSince (disk.trace old) (disk.trace (disk_after result)) (IsInVersion V2 form)

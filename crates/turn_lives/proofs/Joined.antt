@@ -44,7 +44,7 @@ record StopsAt (form : Form) (s : Setting) (may_fail : Bool) (p : Point) (IsFoun
   has : (image : List ℕ) → IsFound image → AtLeast form (accepted (arrivals lasting unsettled)) (length (accepted (map taken_of lasting))) bound image
 
 module _ {D H G : Type 0} (disk : disks.Ghosts D) (handler : handlers.Ghosts H) (ports : generators.Ghosts G) (s : Setting) where
-  calls_of : (server : ServerState D H G) (steps : List (ServerCall D H G)) → Serves disk handler ports server steps
+  pub calls_of : (server : ServerState D H G) (steps : List (ServerCall D H G)) → Serves disk handler ports server steps
       → Calls disk handler ports s (Serving server) (inputs_of steps) (said_of steps) (Serving (last_of server steps))
   calls_of server [] serves = worlds.done
   calls_of server (Submit moment a result after ∷ xs) serves =
@@ -80,11 +80,11 @@ module _ {D H G : Type 0} (disk : disks.Ghosts D) (handler : handlers.Ghosts H) 
   stops_at form may_fail (Shut sure recent m) server (processes.InCommit result new) stands call crash_model = absurd stands
 
   -- a disk that follows the crash model after a stop was so before it
-  before_stop : (server : ServerState D H G) (stop : Stopping D H G) → IsStopping disk server stop → disk.follows_crash_model (last_disk server stop) → disk.follows_crash_model server.store.disk
+  pub before_stop : (server : ServerState D H G) (stop : Stopping D H G) → IsStopping disk server stop → disk.follows_crash_model (last_disk server stop) → disk.follows_crash_model server.store.disk
   before_stop server processes.AtRest is crash_model = crash_model
   before_stop server (processes.InCommit result new) call crash_model = call.uses.crash_model crash_model
 
-  before_turns : (server : ServerState D H G) (steps : List (ServerCall D H G)) (after : ServerState D H G) → Serves disk handler ports server steps → last_of server steps ≡ after
+  pub before_turns : (server : ServerState D H G) (steps : List (ServerCall D H G)) (after : ServerState D H G) → Serves disk handler ports server steps → last_of server steps ≡ after
       → disk.follows_crash_model after.store.disk → disk.follows_crash_model server.store.disk
   before_turns server steps after serves is crash_model =
       runs.earlier disk handler ports server steps serves (subst (λ (x : ServerState D H G). disk.follows_crash_model x.store.disk) (sym is) crash_model)
@@ -209,7 +209,7 @@ one_lives_on disk following handler ports time form may_fail never old new part 
     }
 
 module _ {I D H G T : Type 0} (disk_of : I → disks.Ghosts D) (handler : handlers.Ghosts H) (ports : generators.Ghosts G) (time : times.Ghosts T) where
-  all_earlier : (i k : I) (old new : D) (parts : List Part) → Processes disk_of handler ports time i old parts k new → (disk_of k).follows_crash_model new → (disk_of i).follows_crash_model old
+  pub all_earlier : (i k : I) (old new : D) (parts : List Part) → Processes disk_of handler ports time i old parts k new → (disk_of k).follows_crash_model new → (disk_of i).follows_crash_model old
   all_earlier i _ old _ _ processes.none crash_model = crash_model
   all_earlier i k old new _ (processes.then {parts = parts} part j next one rest) crash_model =
       earlier (disk_of i) (disk_of j) handler ports time part.setting old next part.inputs part.said one (all_earlier j k next new parts rest crash_model)

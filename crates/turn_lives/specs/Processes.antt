@@ -1,5 +1,5 @@
 -- Processes one after another over one disk: each is started, takes turns, and is stopped.
-use Rattle.std.specs.Prelude.{◌≡◌, ◌++◌, ℕ, Bool, List, [], ◌∷◌, Result, map}
+use Rattle.std.specs.Prelude.{◌≡◌, ◌++◌, ℕ, Bool, true, List, [], ◌∷◌, Result, map}
 use Rattle.std.specs.List.{AllByRecursion}
 use Rattle.turn_cred.specs.declared.handler.AuthHandler as handlers
 use Rattle.turn_disk.specs.Disk.{IsImage}
@@ -106,6 +106,24 @@ pub data Processes {I D H G T : Type 0} (disk_of : I → disks.Ghosts D) (handle
   then : {i k : I} {old new : D} {parts : List Part} (part : Part) (j : I) (next : D)
       → Process (disk_of i) (disk_of j) handler ports time part.setting old part.inputs part.said next
       → Processes disk_of handler ports time j next parts k new → Processes disk_of handler ports time i old (part ∷ parts) k new
+
+-- a process started a server, and that reserves ports
+abbrev pub IsReserving : {D N H G T : Type 0} {disk : disks.Ghosts D} {following : disks.Ghosts N} {handler : handlers.Ghosts H} {ports : generators.Ghosts G} {time : times.Ghosts T} {s : Setting} {old : D} {inputs : List Input} {said : List Said} {new : N}
+    → Process disk following handler ports time s old inputs said new → Type 0
+IsReserving (serves {server = server} users system stop keys begun turns stopping next) = server.machine.pairs ≡ true
+IsReserving (starts_no_server kept next) = ⊥
+
+-- the server of a process reserves ports, if it started one
+abbrev pub ReservesIfServing : {D N H G T : Type 0} {disk : disks.Ghosts D} {following : disks.Ghosts N} {handler : handlers.Ghosts H} {ports : generators.Ghosts G} {time : times.Ghosts T} {s : Setting} {old : D} {inputs : List Input} {said : List Said} {new : N}
+    → Process disk following handler ports time s old inputs said new → Type 0
+ReservesIfServing (serves {server = server} users system stop keys begun turns stopping next) = server.machine.pairs ≡ true
+ReservesIfServing (starts_no_server kept next) = Unit {0}
+
+-- so do all of these
+abbrev pub AllReserve : {I D H G T : Type 0} {disk_of : I → disks.Ghosts D} {handler : handlers.Ghosts H} {ports : generators.Ghosts G} {time : times.Ghosts T} {i k : I} {old new : D} {parts : List Part}
+    → Processes disk_of handler ports time i old parts k new → Type 0
+AllReserve none = Unit {0}
+AllReserve (then part j next one rest) = ReservesIfServing one × AllReserve rest
 
 -- lives one after another, each by the setting of its process
 pub data AreLives (may_fail : Bool) : Point → List Part → Point → Type 0 where

@@ -10,7 +10,7 @@ ghost use Rattle.turn_player.specs.Worlds.{Leaves};
 ghost use Rattle.turn_store.specs.Areas.{Form};
 ghost use Rattle.turn_store.specs.Images.{EachImage, StandsForAt};
 ghost use Rattle.turn_lives.specs.Files.{file_of};
-ghost use Rattle.turn_lives.specs.Processes.{AreOneRunOn, HaveLimits, LiveOn, Part, Process, Processes, inputs_of_all};
+ghost use Rattle.turn_lives.specs.Processes.{AllReserve, AreOneRunOn, HaveLimits, IsReserving, LiveOn, Part, Process, Processes, inputs_of_all};
 
 use std::fs::OpenFile;
 use std::os::unix::fs::FileExt;
@@ -48,6 +48,13 @@ pub fn processes_make_lives<D: Disk, N: Disk, H: AuthHandler, G: RelayAddressGen
         → Processes (λ (name : Unit {0}). D.Disk) H.AuthHandler G.RelayAddressGenerator T.Time tt old parts tt new
         → EachImage (D.trace old).now (StandsForAt form [] 0) → NeverFall 0 (inputs_of_all parts) → D.follows_crash_model new
         → AreOneRunOn D.Disk form may_fail parts new }
+
+    // A process whose server reserves ports is followed by such processes.
+    ensures reserves { (form : Form) (old next new : D) (part : Part) (parts : List Part) (sure : List Lasting) (recent : List Taken) (m : ℕ)
+        → HaveLimits form (part ∷ parts)
+        → (one : Process D.Disk D.Disk H.AuthHandler G.RelayAddressGenerator T.Time part.setting old part.inputs part.said next)
+        → (rest : Processes (λ (name : Unit {0}). D.Disk) H.AuthHandler G.RelayAddressGenerator T.Time tt next parts tt new)
+        → Leaves D.Disk form old sure recent m → D.follows_crash_model new → IsReserving one → AllReserve rest }
 {}
 
 /// The same of processes over a file, which each of them opens anew: a disk by the state in which the file was found then.
@@ -86,4 +93,10 @@ pub fn files_make_lives<
         → Processes file_of H.AuthHandler G.RelayAddressGenerator T.Time first old parts last new
         → EachImage ((file_of first).trace old).now (StandsForAt form [] 0) → NeverFall 0 (inputs_of_all parts)
         → (file_of last).follows_crash_model new → AreOneRunOn (file_of last) form may_fail parts new }
+
+    ensures reserves { (form : Form) (first mid last : State) (old next new : InFile) (part : Part) (parts : List Part) (sure : List Lasting)
+        (recent : List Taken) (m : ℕ) → HaveLimits form (part ∷ parts)
+        → (one : Process (file_of first) (file_of mid) H.AuthHandler G.RelayAddressGenerator T.Time part.setting old part.inputs part.said next)
+        → (rest : Processes file_of H.AuthHandler G.RelayAddressGenerator T.Time mid next parts last new)
+        → Leaves (file_of first) form old sure recent m → (file_of last).follows_crash_model new → IsReserving one → AllReserve rest }
 {}

@@ -5,3 +5,4 @@ pub mod Lives
 pub mod Plays
 pub mod Repeats
 pub mod Worlds
+pub mod Versions

@@ -163,7 +163,7 @@ module _ {D H G : Type 0} (disk : disks.Ghosts D) (handler : handlers.Ghosts H) 
   call_earlier _ _ _ _ (worlds.commit_stops result call image of is) crash_model = call.uses.crash_model (is.crash_model crash_model)
   call_earlier w _ _ _ (worlds.open_stops result call image of is) crash_model = opening_earlier w result call (is.crash_model crash_model)
 
-  earlier : (w v : World D H G) (inputs : List Input) (said : List Said) → Calls disk handler ports s w inputs said v → disk.follows_crash_model (disk_of v) → disk.follows_crash_model (disk_of w)
+  pub earlier : (w v : World D H G) (inputs : List Input) (said : List Said) → Calls disk handler ports s w inputs said v → disk.follows_crash_model (disk_of v) → disk.follows_crash_model (disk_of w)
   earlier w _ _ _ worlds.done crash_model = crash_model
   earlier w v _ _ (worlds.then {input = input} {inputs = inputs} {said = said} {later = more} u call rest) crash_model = call_earlier w u input said call (earlier u v inputs more rest crash_model)
 

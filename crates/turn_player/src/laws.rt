@@ -1,16 +1,17 @@
 //! Laws of lives: what holds of every list of arrivals, commits, stops and openings. Each is a clause of a function that does
 //! nothing.
 
-ghost use Rattle.std.specs.Prelude.{◌≡◌, ◌++◌, ◌∷◌, [], ℕ, Bool, List, None, Result, false, map};
+ghost use Rattle.std.specs.Prelude.{◌≡◌, ◌++◌, ◌∷◌, [], ℕ, Bool, List, None, Result, false, map, true};
 ghost use Rattle.turn_types.specs.declared.address.FiveTuple.{FiveTuple};
 ghost use Rattle.turn_history.specs.History.{Allocation};
 ghost use Rattle.turn_codec.specs.Grammar.{Datagram};
 ghost use Rattle.turn_disk.specs.Disk.{EachImageSince};
 ghost use Rattle.turn_engine.specs.Calls.{Commits, Opening};
 ghost use Rattle.turn_engine.specs.Images.{AtLeast};
-ghost use Rattle.turn_engine.specs.Runs.{NeverFails, accepted};
+ghost use Rattle.turn_engine.specs.Runs.{NeverFails, Taken, accepted};
 ghost use Rattle.turn_engine.specs.State.{ServerState};
 ghost use Rattle.turn_engine.specs.declared.error.ServerOpenError.{ServerOpenError};
+ghost use Rattle.turn_record.specs.declared.version.Version.TheVariants.{V2};
 ghost use Rattle.turn_step.specs.Answer.{Setting};
 ghost use Rattle.turn_step.specs.Outcome.{StepOutcome, Sent};
 ghost use Rattle.turn_store.specs.Areas.{Form};
@@ -19,7 +20,8 @@ ghost use Rattle.turn_store.specs.declared.error.StoreError.{StoreError};
 ghost use Rattle.turn_player.specs.Laws.{IsOneRun, IsWhole, Keeps, LastsOnDisk};
 ghost use Rattle.turn_player.specs.Lives.{Input, Lasting, Life, NeverFall, Point, Said, bound_of, count_of, formatted, history_of, sent_by_all, sent_in, settled_history_of, sure_of, taken_of};
 ghost use Rattle.turn_player.specs.Repeats.{ComesAgain, LastsAfter, MadeBefore, Makes};
-ghost use Rattle.turn_player.specs.Worlds.{Calls, Down, Lives, Serving, Stands, World, disk_of, handler_of, ports_of, world_after};
+ghost use Rattle.turn_player.specs.Versions.{Reserves};
+ghost use Rattle.turn_player.specs.Worlds.{Calls, Down, Lives, Runs, Serving, Stands, World, disk_of, handler_of, ports_of, world_after};
 
 use turn_cred::AuthHandler;
 use turn_disk::Disk;
@@ -85,4 +87,16 @@ pub fn calls_make_lives<D: Disk, H: AuthHandler, G: RelayAddressGenerator>()
         → form.bounds ≡ s.config.limits → (may_fail ≡ false → NeverFails G.RelayAddressGenerator)
         → Calls D.Disk H.AuthHandler G.RelayAddressGenerator s w inputs said v → Stands D.Disk H.AuthHandler G.RelayAddressGenerator form s w p
         → IsOneRun s may_fail sent p → sure_of p ≡ before ++ x ∷ after → D.follows_crash_model (disk_of v) → LastsOnDisk D.Disk form s before (taken_of x) (disk_of v) }
+{}
+
+/// A server that reserves ports is followed by such servers, whatever arrivals, commits, stops and openings come, and whether or not
+/// these may carry a store over.
+pub fn servers_go_on_reserving_ports<D: Disk, H: AuthHandler, G: RelayAddressGenerator>()
+    ensures begins { (form : Form) (s : Setting) (server : ServerState D H G) (sure : List Lasting) (recent : List Taken) (pairs : Bool) (c m : ℕ)
+        → Runs D.Disk H.AuthHandler G.RelayAddressGenerator form s server sure recent pairs c m → server.store.version ≡ V2 → server.machine.pairs ≡ true
+        → Reserves D.Disk form (Serving server) }
+    ensures goes_on { (form : Form) (s : Setting) (p : Point) (w v : World D H G) (inputs : List Input) (said : List Said)
+        → form.bounds ≡ s.config.limits → Calls D.Disk H.AuthHandler G.RelayAddressGenerator s w inputs said v
+        → Stands D.Disk H.AuthHandler G.RelayAddressGenerator form s w p → D.follows_crash_model (disk_of v)
+        → Reserves D.Disk form w → Reserves D.Disk form v }
 {}

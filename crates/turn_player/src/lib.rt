@@ -8,6 +8,8 @@ mod player;
 mod step;
 
 pub use faulty::Faulty;
-pub use laws::{calls_make_lives, every_life_is_one_run, repeats_get_the_same};
+pub use laws::{
+    calls_make_lives, every_life_is_one_run, repeats_get_the_same, servers_go_on_reserving_ports,
+};
 pub use player::{MemoryServer, Player};
 pub use step::{Action, Effect};

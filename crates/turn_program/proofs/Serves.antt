@@ -1,16 +1,11 @@
 -- What a service makes of a file that was just opened.
 use Rattle.std.proofs.Common.{◌≡◌, ℕ, subst}
 use Rattle.turn_cred.specs.declared.handler.AuthHandler as handlers
-use Rattle.turn_disk.specs.Disk.{EachImageSince}
 use Rattle.turn_disk.specs.Views.{InFile}
 use Rattle.turn_disk.specs.declared.disk.Disk as disks
-use Rattle.turn_engine.specs.Images.{AtLeast}
 use Rattle.turn_engine.specs.State.{ServerState}
-use Rattle.turn_history.specs.History.{History}
 use Rattle.turn_ports.specs.declared.generator.RelayAddressGenerator as generators
 use Rattle.turn_serving.specs.Starts.{KeepsImages, Started}
-use Rattle.turn_store.specs.Areas.{Form}
-use Rattle.turn_store.specs.Images.{EachImage}
 use Rattle.turn_types.specs.Config.{Config}
 use Rattle.turn_program.specs.Serving.{KeptSince, StartedOver, just_opened}
 
@@ -24,10 +19,5 @@ started_over disk handler ports old config users range server size same started 
   started = subst (λ (d : InFile). Started disk handler ports d config users range server) same started;
 }
 
-pub kept_since : (disk : disks.Ghosts InFile) (old last : InFile) (size : ℕ) → old ≡ just_opened size → (disk.follows_crash_model last → disk.follows_crash_model old)
-    → (disk.follows_crash_model last → (form : Form) (h : History) (k m : ℕ) → EachImage (disk.trace old).now (AtLeast form h k m) → EachImageSince (disk.trace old) (disk.trace last) (AtLeast form h k m))
-    → KeptSince disk last
-kept_since disk old last size same crash_model stop = record {
-  size = size;
-  kept = subst (λ (d : InFile). KeepsImages disk d last) same (record { crash_model = crash_model; stop = stop });
-}
+pub kept_since : (disk : disks.Ghosts InFile) (old last : InFile) (size : ℕ) → old ≡ just_opened size → KeepsImages disk old last → KeptSince disk last
+kept_since disk old last size same kept = record { size = size; kept = subst (λ (d : InFile). KeepsImages disk d last) same kept }

@@ -1,6 +1,6 @@
 //! `turn serve`.
 
-ghost use Rattle.std.specs.Prelude.{◌≡◌, IfErr, IfOk, IfSome};
+ghost use Rattle.std.specs.Prelude.{◌≡◌, IfErr, IfNone, IfOk, IfSome, IsErr};
 ghost use Rattle.turn_sockets.specs.Moments.{IsMoment};
 ghost use Rattle.turn_serving.specs.Turns.{Served};
 ghost use Rattle.turn_program.specs.Serving.{AnySecond, KeptSince, Serves, StartedOver, commits_of, just_opened};
@@ -192,9 +192,9 @@ pub struct Ended<S: Start> {
 }
 
 impl<S: Start> From<ProgramError> for Ended<S> {
-    ghost use Rattle.std.specs.Prelude.{None};
+    ghost use Rattle.std.specs.Prelude.{Err, None};
 
-    ghost from_gives = { λ fault ended. ended.disk ≡ None };
+    ghost from_gives = { λ fault ended. (ended.told ≡ Err fault) × (ended.disk ≡ None) };
 
     fn from(fault: ProgramError) -> Ended<S> {
         Ended {
@@ -221,6 +221,7 @@ fn start<
     ensures started { IfOk result (λ serving. StartedOver ⟦<FileDisk<File, S> as Disk>⟧ ⟦<Credentials as AuthHandler>⟧
         ⟦<SocketPorts<'a, R, Global> as RelayAddressGenerator>⟧ serving.server) }
     ensures kept { IfErr result (λ ended. IfSome ended.disk (KeptSince ⟦<FileDisk<File, S> as Disk>⟧)) }
+    ensures told { IfErr result (λ ended. IsErr ended.told) }
 {
     let seed = random_bytes(rt)?;
     let Prepared {
@@ -322,8 +323,10 @@ pub fn run_serve<
     W: Write,
     L: Write + Drop,
 >(rt: &'a R, clock: &C, service: Service<'_>, out: &mut W, lines: L) -> Ended<S>
-    ensures { IfSome result.disk (Serves ⟦<FileDisk<File, S> as Disk>⟧ ⟦<Credentials as AuthHandler>⟧
+    ensures serves { IfSome result.disk (Serves ⟦<FileDisk<File, S> as Disk>⟧ ⟦<Credentials as AuthHandler>⟧
         ⟦<SocketPorts<'a, R, Global> as RelayAddressGenerator>⟧) }
+    // Without a store nothing was served.
+    ensures told { IfNone result.disk (IsErr result.told) }
 {
     let log = Log::new(rt.alloc(), lines, service.log);
     let began = clock.monotonic().ok();

@@ -19,21 +19,48 @@ use Rattle.turn_record.specs.declared.version.Version.TheVariants.{V1, V2}
 use Rattle.turn_store.specs.Areas.{AreAreas, AreaHolds, Form}
 use Rattle.turn_store.specs.Carrying.{Carries}
 use Rattle.turn_store.specs.Images.{EachImage}
+use Rattle.turn_store.specs.Refused.{WhyRefused}
+use Rattle.turn_store.specs.declared.error.OpenError.{OpenError}
 use Rattle.turn_store.specs.State.{StoreState}
 use Rattle.turn_store.proofs.Sound.{holds_once}
 use Rattle.turn_store.proofs.Superblocks.{superblock_once}
 use Rattle.turn_types.specs.Config.{Config}
-use Rattle.turn_serving.specs.Starts.{BeginsRun, IsKept, IsOfVersion, KeepsImages, Started, is_first}
+use Rattle.turn_types.specs.declared.limits.Bounds.{Bounds}
+use Rattle.turn_serving.specs.Starts.{BeginsRun, IfOfStore, IsKept, IsOfVersion, IsRefusedFor, KeepsImages, Started, is_first, of_bind}
+use Rattle.turn_serving.specs.declared.error.BindError.{BindError}
+use Rattle.turn_serving.specs.declared.error.BindError.TheVariants as binds
+use Rattle.turn_serving.specs.declared.error.StartError.{StartError}
 
 -- ---- What an opening leaves of its disk
 
 pub opened_images : {D H G : Type 0} (disk : disks.Ghosts D) {old : D} {config : Config} {users : H} {ports : G} {server : ServerState D H G} → Opening disk old config users ports (Ok server)
     → KeepsImages disk old server.store.disk
-opened_images disk call = record { crash_model = call.uses.crash_model; stop = call.stop }
+opened_images disk call = record { crash_model = call.uses.crash_model; stop = call.stop; stop_version = call.stop_version }
 
 pub refused_images : {D H G : Type 0} (disk : disks.Ghosts D) {old : D} {config : Config} {users : H} {ports : G} {refused : ServerOpenError D H G} → Opening disk old config users ports (Err refused)
     → KeepsImages disk old refused.disk
-refused_images disk call = record { crash_model = call.uses.crash_model; stop = call.stop }
+refused_images disk call = record { crash_model = call.uses.crash_model; stop = call.stop; stop_version = call.stop_version }
+
+-- a start without its sockets was not refused by its store
+not_of_store : (fault : BindError) (P : OpenError → Type 0) → IfOfStore (of_bind fault) P
+not_of_store binds.Socket P = tt
+not_of_store binds.Memory P = tt
+
+pub told_by_sockets : {fault : StartError} (why : BindError) (P : OpenError → Type 0) → fault ≡ of_bind why → IfOfStore fault P
+told_by_sockets {fault = fault} why P is = subst (λ (f : StartError). IfOfStore f P) (sym is) (not_of_store why P)
+
+-- why an opening was refused
+pub refused_for : {D H G : Type 0} (disk : disks.Ghosts D) {old : D} {config : Config} {users : H} {ports : G} {refused : ServerOpenError D H G} → Opening disk old config users ports (Err refused)
+    → IsRefusedFor disk old refused.disk config.limits refused.fault
+refused_for disk call = record { why = call.why; sound = call.sound }
+
+-- the same of a disk that such calls left, and whose content is the same
+pub refused_again : {D : Type 0} (disk : disks.Ghosts D) {old middle new : D} (limits : Bounds) (fault : OpenError) → IsKept disk old middle → KeepsImages disk middle new → IsRefusedFor disk middle new limits fault
+    → IsRefusedFor disk old new limits fault
+refused_again disk limits fault same kept is = record {
+  why = λ crash_model. subst (λ (content : List ℕ). WhyRefused limits content fault) (same.content (kept.crash_model crash_model)) (is.why crash_model);
+  sound = λ crash_model form h k m bounds images. is.sound crash_model form h k m bounds (same.images.stop (kept.crash_model crash_model) form h k m images).after;
+}
 
 pub kept : {D : Type 0} (disk : disks.Ghosts D) {old new : D} → KeepsImages disk old new → (disk.follows_crash_model new → (disk.trace new).now.bytes ≡ (disk.trace old).now.bytes) → IsKept disk old new
 kept disk images content = record { images = images; content = content }
@@ -44,6 +71,9 @@ joined disk first second = record {
   stop = λ crash_model form h k m images.
       let one = first.stop (second.crash_model crash_model) form h k m images in
       since_join _ _ _ _ one (second.stop crash_model form h k m one.after);
+  stop_version = λ crash_model form images.
+      let one = first.stop_version (second.crash_model crash_model) form images in
+      since_join _ _ _ _ one (second.stop_version crash_model form one.after);
 }
 
 pub both_kept : {D : Type 0} (disk : disks.Ghosts D) {old middle new : D} → IsKept disk old middle → IsKept disk middle new → IsKept disk old new

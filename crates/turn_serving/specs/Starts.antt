@@ -19,9 +19,13 @@ use Rattle.turn_step.specs.Answer.{Setting}
 use Rattle.turn_step.specs.State.{setting_of}
 use Rattle.turn_store.specs.Areas.{Form}
 use Rattle.turn_store.specs.Carrying.{Carries, IsActiveAs}
-use Rattle.turn_store.specs.Images.{EachImage}
+use Rattle.turn_store.specs.Images.{EachImage, IsInVersion}
+use Rattle.turn_store.specs.Refused.{IsPlain, WhyRefused}
+use Rattle.turn_store.specs.declared.error.OpenError.{OpenError}
 use Rattle.turn_types.specs.Config.{Config}
 use Rattle.turn_types.specs.declared.limits.Bounds.{Bounds}
+use Rattle.turn_serving.specs.declared.error.BindError.{BindError}
+use Rattle.turn_serving.specs.declared.error.BindError.TheVariants as binds
 use Rattle.turn_serving.specs.declared.error.StartError.{StartError}
 use Rattle.turn_serving.specs.declared.error.StartError.TheVariants as faults
 
@@ -31,6 +35,9 @@ pub record KeepsImages {D : Type 0} (disk : disks.Ghosts D) (old new : D) : Type
   pub crash_model : disk.follows_crash_model new → disk.follows_crash_model old
   pub stop : disk.follows_crash_model new → (form : Form) (h : History) (k m : ℕ) → EachImage (disk.trace old).now (AtLeast form h k m)
       → EachImageSince (disk.trace old) (disk.trace new) (AtLeast form h k m)
+  -- and where each was of version 2, each is
+  pub stop_version : disk.follows_crash_model new → (form : Form) → EachImage (disk.trace old).now (IsInVersion V2 form)
+      → EachImageSince (disk.trace old) (disk.trace new) (IsInVersion V2 form)
 
 -- such calls led from one state of a disk to another, and the content is the same
 pub record IsKept {D : Type 0} (disk : disks.Ghosts D) (old new : D) : Type 0 where
@@ -57,6 +64,26 @@ IsBeforeReopening faults.Socket = Unit {0}
 IsBeforeReopening faults.Memory = Unit {0}
 IsBeforeReopening (faults.Reopen fault) = ⊥
 IsBeforeReopening faults.Changed = ⊥
+
+-- what a start tells where it has not its sockets
+abbrev pub of_bind : BindError → StartError
+of_bind binds.Socket = faults.Socket
+of_bind binds.Memory = faults.Memory
+
+-- a start was refused by an opening of its store, for a fault that has P
+abbrev pub IfOfStore : StartError → (OpenError → Type 0) → Type 0
+IfOfStore (faults.Store fault) P = P fault
+IfOfStore (faults.Reopen fault) P = P fault
+IfOfStore faults.Socket P = Unit {0}
+IfOfStore faults.Memory P = Unit {0}
+IfOfStore faults.Changed P = Unit {0}
+
+-- An opening was refused for this fault. It is the first reason that applies to the content; where each image stands for the first events
+-- of a history, at least k of them, it is of the device or of memory.
+pub record IsRefusedFor {D : Type 0} (disk : disks.Ghosts D) (old new : D) (limits : Bounds) (fault : OpenError) : Type 0 where
+  pub why : disk.follows_crash_model new → WhyRefused limits (disk.trace old).now.bytes fault
+  pub sound : disk.follows_crash_model new → (form : Form) (h : History) (k m : ℕ) → form.bounds ≡ limits → EachImage (disk.trace old).now (AtLeast form h k m)
+      → IsPlain fault
 
 -- A store was opened a second time, over a disk that the first opening left as it was, with these users and a generator of this range.
 pub record Reopened {D H G : Type 0} (disk : disks.Ghosts D) (ports : generators.Ghosts G) (old : D) (config : Config) (users : H) (range : ℕ × ℕ) (server : ServerState D H G) : Type 0 where

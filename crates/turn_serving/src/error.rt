@@ -1,7 +1,8 @@
 //! Why a server over sockets didn't start, and why its turns ended.
 
 ghost use Rattle.std.specs.Prelude.{◌≡◌};
-ghost use Rattle.turn_serving.specs.declared.error.StartError.TheVariants as starts;
+ghost use Rattle.turn_serving.specs.Starts.{of_bind};
+ghost use Rattle.turn_serving.specs.declared.error.BindError.TheVariants as binds;
 ghost use Rattle.turn_serving.specs.declared.error.TurnError.TheVariants as turns;
 
 use std::alloc::{AllocError, AllocFailed};
@@ -40,11 +41,31 @@ pub struct SetupError<D: Disk> {
     pub disk: D,
 }
 
-impl From<AllocError> for StartError {
-    ghost from_gives = { λ _ f. f ≡ starts.Memory };
+/// Why a server has not the sockets that it needs.
+#[derive(Clone, Copy, Debug, PartialEq, Eq)]
+pub(crate) enum BindError {
+    /// A port or an address can't be bound, or there are too many open files.
+    Socket,
+    /// An allocation failed.
+    Memory,
+}
 
-    fn from(_: AllocError) -> StartError {
-        StartError::Memory
+impl From<AllocError> for BindError {
+    ghost from_gives = { λ _ f. f ≡ binds.Memory };
+
+    fn from(_: AllocError) -> BindError {
+        BindError::Memory
+    }
+}
+
+impl From<BindError> for StartError {
+    ghost from_gives = { λ fault f. f ≡ of_bind fault };
+
+    fn from(fault: BindError) -> StartError {
+        match fault {
+            BindError::Socket => StartError::Socket,
+            BindError::Memory => StartError::Memory,
+        }
     }
 }
 

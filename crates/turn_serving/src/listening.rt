@@ -4,7 +4,7 @@ ghost use Rattle.std.specs.Prelude.{◌≡◌, ◌≢◌, ◌↔◌, ℕ, All, C
 ghost use Rattle.turn_sockets.specs.Own.{IsRelay};
 ghost use Rattle.turn_sockets.specs.Schedule.{with_all_ready};
 
-use crate::error::{StartError, TurnError};
+use crate::error::{BindError, TurnError};
 use crate::watch::Watch;
 use mio::{Events, Poll};
 use std::alloc::{AllocError, Allocator, Global};
@@ -41,16 +41,16 @@ pub(crate) fn pause<C: Clock>(system: &C) {
 }
 
 /// Binds a socket. While the address is in use it tries again, up to two seconds.
-fn bind<R: Net, C: Clock>(net: &R, system: &C, at: Endpoint) -> Result<BoundSocket, StartError> {
+fn bind<R: Net, C: Clock>(net: &R, system: &C, at: Endpoint) -> Result<BoundSocket, BindError> {
     for _ in 0..ATTEMPTS {
         match BoundSocket::bind(net, at) {
             Ok(socket) => return Ok(socket),
             Err(error) if error.kind() == ErrorKind::AddrInUse => {}
-            Err(_) => return Err(StartError::Socket),
+            Err(_) => return Err(BindError::Socket),
         }
         pause(system);
     }
-    Err(StartError::Socket)
+    Err(BindError::Socket)
 }
 
 /// Binds a socket that clients send to, whose datagrams a wait reports by this token. Port 0 is any free one.
@@ -60,11 +60,11 @@ fn open_one<R: Net, C: Clock>(
     poll: &Poll,
     at: Endpoint,
     token: usize,
-) -> Result<BoundSocket, StartError> {
+) -> Result<BoundSocket, BindError> {
     let mut socket = bind(net, system, at)?;
     socket
         .watch(poll.registry(), token)
-        .map_err(|_| StartError::Socket)?;
+        .map_err(|_| BindError::Socket)?;
     // A smaller buffer is no fault.
     let _ = socket.set_receive_buffer(RECEIVE_BUFFER);
     Ok(socket)
@@ -77,7 +77,7 @@ fn open_all<R: Net, C: Clock, A: Allocator + Copy>(
     system: &C,
     poll: &Poll,
     listening: &mut ListeningAddresses,
-) -> Result<Vec<BoundSocket, A>, StartError>
+) -> Result<Vec<BoundSocket, A>, BindError>
     ensures { IfOk result (λ sockets. sockets.items ≡ listening.new) }
 {
     let count = listening.as_slice().len();
@@ -86,7 +86,7 @@ fn open_all<R: Net, C: Clock, A: Allocator + Copy>(
         let at = listening.as_slice()[place];
         let socket = open_one(net, system, poll, at, LISTENING + place)?;
         listening.set(place, socket.at());
-        sockets.push(socket).map_err(|_| StartError::Memory)?;
+        sockets.push(socket).map_err(|_| BindError::Memory)?;
     }
     Ok(sockets)
 }
@@ -100,7 +100,7 @@ impl<W: Watch + Drop, A: Allocator + Copy> Listening<W, A> {
         poll: &Poll,
         mut own: OwnAddresses,
         watch: W,
-    ) -> Result<Listening<W, A>, StartError>
+    ) -> Result<Listening<W, A>, BindError>
         // The server's own addresses are those of all sockets.
         ensures { IfOk result (λ l. l.sockets.items ≡ l.own.listening) }
     {

@@ -2,21 +2,16 @@
 
 ghost use Rattle.std.specs.Prelude.{◌≡◌, ◌↔◌, ℕ, [], None, Ok, IfErr, IfOk, IsTrue, true, false, unwrap_or};
 ghost use Rattle.std.specs.List.{list_all};
-ghost use Rattle.turn_disk.specs.Disk.{EachImageSince};
 ghost use Rattle.turn_engine.specs.Calls.{Opening};
-ghost use Rattle.turn_engine.specs.Images.{AtLeast};
 ghost use Rattle.turn_history.specs.Fitting.{is_taken};
-ghost use Rattle.turn_history.specs.History.{History};
-ghost use Rattle.turn_store.specs.Areas.{Form};
 ghost use Rattle.turn_sockets.specs.Backlog.{waiting_of};
 ghost use Rattle.turn_sockets.specs.Ports.{draws_of};
 ghost use Rattle.turn_step.specs.State.{HoldsPorts};
 ghost use Rattle.turn_store.specs.Carrying.{Carries};
-ghost use Rattle.turn_store.specs.Images.{EachImage};
 ghost use Rattle.turn_types.specs.declared.address.FiveTuple.{FiveTuple};
-ghost use Rattle.turn_serving.specs.Starts.{IsBeforeReopening, IsKept, IsOfVersion, KeepsImages, Started, have_ports, is_first};
+ghost use Rattle.turn_serving.specs.Starts.{IfOfStore, IsBeforeReopening, IsKept, IsOfVersion, IsRefusedFor, KeepsImages, Started, have_ports, is_first};
 
-use crate::error::{SetupError, StartError};
+use crate::error::{BindError, SetupError, StartError};
 use crate::listening::{ATTEMPTS, Listening, Waiting, pause};
 use crate::manner::{Commits, Manner};
 use crate::relay_sockets::RelaySockets;
@@ -120,7 +115,7 @@ fn bind<R: Net, A: Allocator + Copy, C: Clock>(
     sockets: &mut SocketPorts<'_, R, A>,
     system: &C,
     port: u16,
-) -> Result<(), StartError>
+) -> Result<(), BindError>
     ensures first { sockets.new.first ≡ sockets.old.first }
     ensures last { sockets.new.last ≡ sockets.old.last }
     ensures draws { sockets.new.draws ≡ sockets.old.draws }
@@ -132,10 +127,10 @@ fn bind<R: Net, A: Allocator + Copy, C: Clock>(
         match sockets.bind(port)? {
             Bound::Done => return Ok(()),
             Bound::Unavailable => pause(system),
-            Bound::Exhausted => return Err(StartError::Socket),
+            Bound::Exhausted => return Err(BindError::Socket),
         }
     }
-    Err(StartError::Socket)
+    Err(BindError::Socket)
 }
 
 /// Binds each of these ports.
@@ -143,7 +138,7 @@ fn bind_all<R: Net, A: Allocator + Copy, C: Clock>(
     sockets: &mut SocketPorts<'_, R, A>,
     system: &C,
     ports: &[u16],
-) -> Result<(), StartError>
+) -> Result<(), BindError>
     ensures first { sockets.new.first ≡ sockets.old.first }
     ensures last { sockets.new.last ≡ sockets.old.last }
     ensures draws { sockets.new.draws ≡ sockets.old.draws }
@@ -223,6 +218,7 @@ impl<'c, A: Allocator + Copy> Setup<'c, A> {
         ensures kept { carry ≡ false → IfOk result (λ server. IsKept D.Disk disk server.store.disk) }
         ensures kept_err { carry ≡ false → IfErr result (λ r. IsKept D.Disk disk r.disk) }
         ensures images_err { IfErr result (λ r. KeepsImages D.Disk disk r.disk) }
+        ensures refused { IfErr result (λ r. IsRefusedFor D.Disk disk r.disk self.now.config.now.limits r.fault) }
     {
         match Server::open_as(alloc, disk, self.config, handler, ports, carry) {
             Ok(server) => Ok(server),
@@ -245,6 +241,7 @@ impl<'c, A: Allocator + Copy> Setup<'c, A> {
         ensures handler { IfOk result (λ looked. looked.1 ≡ handler) }
         ensures version { IfOk result (λ looked. D.follows_crash_model looked.0 → IsOfVersion looked.3 (D.trace disk).now.bytes) }
         ensures kept_err { IfErr result (λ r. IsKept D.Disk disk r.disk) }
+        ensures refused { IfErr result (λ r. IfOfStore r.fault (IsRefusedFor D.Disk disk r.disk self.now.config.now.limits)) }
     {
         let server = match self.open(alloc, disk, handler, self.ports, false) {
             Ok(server) => server,
@@ -275,15 +272,15 @@ impl<'c, A: Allocator + Copy> Setup<'c, A> {
         system: &C,
         poll: &Poll,
         ports: &[u16],
-    ) -> Result<SocketPorts<'a, R, A>, StartError>
+    ) -> Result<SocketPorts<'a, R, A>, BindError>
         ensures range { IfOk result (λ sockets. ⟦<SocketPorts<'a, R, A> as RelayAddressGenerator>⟧.range sockets ≡ self.now.ports) }
         ensures draws { IfOk result (λ sockets. sockets.draws ≡ draws_of self.now.seed) }
     {
-        let registry = poll.registry().try_clone().map_err(|_| StartError::Socket)?;
+        let registry = poll.registry().try_clone().map_err(|_| BindError::Socket)?;
         let ip = self.bound();
         let mut sockets = SocketPorts::new(alloc, net, registry, ip, self.ports, self.seed);
         if !sockets.has_address() {
-            return Err(StartError::Socket);
+            return Err(BindError::Socket);
         }
         bind_all(&mut sockets, system, ports)?;
         Ok(sockets)
@@ -297,14 +294,14 @@ impl<'c, A: Allocator + Copy> Setup<'c, A> {
         system: &C,
         ports: &[u16],
         watch: W,
-    ) -> Result<Beside<'a, R, W, A>, StartError>
+    ) -> Result<Beside<'a, R, W, A>, BindError>
         ensures range { IfOk result (λ beside. ⟦<SocketPorts<'a, R, A> as RelayAddressGenerator>⟧.range beside.ports ≡ self.now.ports) }
         ensures draws { IfOk result (λ beside. beside.ports.draws ≡ draws_of self.now.seed) }
         ensures waits { IfOk result (λ beside. (f : FiveTuple) → waiting_of beside.work.backlog f ≡ []) }
         ensures passed { IfOk result (λ beside. beside.work.wire.passed ≡ []) }
         ensures own { IfOk result (λ beside. beside.listening.sockets.items ≡ beside.listening.own.listening) }
     {
-        let poll = Poll::new(net).map_err(|_| StartError::Socket)?;
+        let poll = Poll::new(net).map_err(|_| BindError::Socket)?;
         let ports = self.bind_ports(alloc, net, system, &poll, ports)?;
         let listening = Listening::open(alloc, net, system, &poll, self.own(), watch)?;
         let addresses = listening.own.listening.as_slice();
@@ -368,15 +365,12 @@ impl<'c, A: Allocator + Copy> Setup<'c, A> {
         ensures before_err { IfErr result (λ r. D.follows_crash_model r.disk → IsBeforeReopening r.fault
             → (D.trace r.disk).now.bytes ≡ (D.trace disk).now.bytes) }
 
-        // Where each image of the disk stands for the first events of a history, at least k of them, a stop at any moment of the
-        // start leaves such images, and so does a refusal.
-        ensures stop { IfOk result (λ serving. D.follows_crash_model serving.server.store.disk → (form : Form) (h : History) (k m : ℕ)
-            → EachImage (D.trace disk).now (AtLeast form h k m)
-            → EachImageSince (D.trace disk) (D.trace serving.server.store.disk) (AtLeast form h k m)) }
-        ensures stop_err { IfErr result (λ r. D.follows_crash_model r.disk → (form : Form) (h : History) (k m : ℕ)
-            → EachImage (D.trace disk).now (AtLeast form h k m)
-            → EachImageSince (D.trace disk) (D.trace r.disk) (AtLeast form h k m)) }
-        ensures crash_model_err { IfErr result (λ r. D.follows_crash_model r.disk → D.follows_crash_model disk) }
+        // A stop at any moment of the start leaves images of the same history, and of version 2 if all were, and so does a refusal.
+        ensures stop { IfOk result (λ serving. KeepsImages D.Disk disk serving.server.store.disk) }
+        ensures stop_err { IfErr result (λ r. KeepsImages D.Disk disk r.disk) }
+
+        // A fault of the store is the first one of its content, and none but of the device or of memory if that is sound.
+        ensures refused { IfErr result (λ r. IfOfStore r.fault (IsRefusedFor D.Disk disk r.disk self.now.config.now.limits)) }
     {
         let (disk, handler, ports, version) = match self.look_into(alloc, disk, handler) {
             Ok(looked) => looked,
@@ -384,7 +378,12 @@ impl<'c, A: Allocator + Copy> Setup<'c, A> {
         };
         let beside = match self.bind_beside(alloc, net, system, &ports, watch) {
             Ok(beside) => beside,
-            Err(fault) => return Err(SetupError { fault, disk }),
+            Err(fault) => {
+                return Err(SetupError {
+                    fault: StartError::from(fault),
+                    disk,
+                });
+            }
         };
         let Beside {
             ports,

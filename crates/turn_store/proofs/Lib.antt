@@ -20,3 +20,4 @@ pub mod Spelling
 pub mod Staged
 pub mod Steps
 pub mod Superblocks
+pub mod Versions

@@ -3,6 +3,7 @@ use Rattle.std.specs.Prelude.{◌⊎◌, ◌≤◌, ◌++◌, ℕ, List}
 use Rattle.turn_disk.specs.Disk.{State, IsImage}
 use Rattle.turn_history.specs.History.{Event, History}
 use Rattle.turn_record.specs.declared.version.Version.{Version}
+use Rattle.turn_record.specs.declared.version.Version.TheVariants.{V2}
 use Rattle.turn_store.specs.Areas.{Form, Holds}
 use Rattle.turn_store.specs.Spells.{Spells}
 
@@ -24,6 +25,16 @@ pub record StandsBy (form : Form) (h : History) (moment : ℕ) (image : List ℕ
 -- the image stands for the history before some events, or with them, at a clock that is not later than a moment
 abbrev pub EitherBy : Form → History → List Event → ℕ → List ℕ → Type 0
 EitherBy form h es moment image = StandsBy form h moment image ⊎ StandsBy form (h ++ es) moment image
+
+-- the image is of this version: it holds a snapshot and payloads in it
+pub record IsInVersion (v : Version) (form : Form) (image : List ℕ) : Type 0 where
+  pub snapshot : List ℕ
+  pub payloads : List (List ℕ)
+  pub holds : Holds v form snapshot payloads image
+
+-- the image is of this version, or of version 2
+abbrev pub IsInVersionOr2 : Version → Form → List ℕ → Type 0
+IsInVersionOr2 v form image = IsInVersion v form image ⊎ IsInVersion V2 form image
 
 -- each image of a disk in this state has P
 abbrev pub EachImage : State → (List ℕ → Type 0) → Type 0

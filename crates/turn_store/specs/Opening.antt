@@ -5,9 +5,10 @@ use Rattle.turn_disk.specs.Disk.{EachImageSince, IsImage, IsSettled}
 use Rattle.turn_disk.specs.declared.disk.Disk as disks
 use Rattle.turn_history.specs.History.{History}
 use Rattle.turn_record.specs.Records.{IsSnapshot}
+use Rattle.turn_record.specs.declared.version.Version.{Version}
 use Rattle.turn_store.specs.Areas.{Form}
 use Rattle.turn_store.specs.Carrying.{Carries}
-use Rattle.turn_store.specs.Images.{StandsBy, StandsForAt}
+use Rattle.turn_store.specs.Images.{IsInVersion, IsInVersionOr2, StandsBy, StandsForAt}
 use Rattle.turn_store.specs.Opened.{IsOpened, OpensTo}
 use Rattle.turn_store.specs.Refused.{IsPlain, WhyRefused}
 use Rattle.turn_store.specs.Tables.{snapshot_of}
@@ -32,6 +33,9 @@ pub record Opening {D A : Type 0} (disk : disks.Ghosts D) (old : D) (limits : Bo
   -- a stop at any moment leaves what it might have left before, or an image that stands for the same history
   pub stop : disk.follows_crash_model (disk_of result) → (form : Form) (h : History) (clock : ℕ) → StandsForAt form h clock (disk.trace old).now.bytes
       → EachImageSince (disk.trace old) (disk.trace (disk_of result)) (λ image. IsImage (disk.trace old).now image ⊎ StandsBy form h clock image)
+  -- and which is of the version of the content, or carried over to version 2
+  pub version : disk.follows_crash_model (disk_of result) → (v : Version) (form : Form) → IsInVersion v form (disk.trace old).now.bytes
+      → EachImageSince (disk.trace old) (disk.trace (disk_of result)) (λ image. IsImage (disk.trace old).now image ⊎ IsInVersionOr2 v form image)
   -- where nothing is to be carried over the content stays, and a stop at any moment leaves what it might have left before
   pub same : carry ≡ false → disk.follows_crash_model (disk_of result) → (disk.trace (disk_of result)).now.bytes ≡ (disk.trace old).now.bytes
   pub stop_kept : carry ≡ false → disk.follows_crash_model (disk_of result) → EachImageSince (disk.trace old) (disk.trace (disk_of result)) (IsImage (disk.trace old).now)

@@ -1,6 +1,6 @@
 //! What a store holds is read: its superblock, the active area, the snapshot and the log.
 
-ghost use Rattle.std.specs.Prelude.{◌≡◌, ◌≢◌, ◌+◌, ◌*◌, ◌≤◌, ◌<◌, ◌^◌, ◌↔◌, ℕ, IfOk, IfErr, IfSome, IsNone, IsTrue, OnOk, Err};
+ghost use Rattle.std.specs.Prelude.{◌≡◌, ◌≢◌, ◌+◌, ◌*◌, ◌≤◌, ◌<◌, ◌^◌, ◌↔◌, ℕ, IfOk, IfErr, IfSome, IsNone, IsTrue, IsErr, OnOk, Err};
 ghost use Rattle.turn_disk.specs.Device.{Reads, Uses};
 ghost use Rattle.turn_disk.specs.Disk.{EachImageSince, IsImage, IsSettled};
 ghost use Rattle.turn_record.specs.Records.{IsSnapshot, max_payload, max_snapshot};
@@ -23,7 +23,7 @@ use crate::log::replay_log;
 use crate::snapshots::read_snapshot;
 use crate::superblock::{LimitsError, least_area, least_area_of, read_superblock};
 use std::alloc::{Allocator, Global};
-use turn_disk::Disk;
+use turn_disk::{DeviceError, Disk};
 use turn_journal::{Area, Journal};
 use turn_record::{Version, max_payload, max_snapshot};
 use turn_table::Table;
@@ -218,6 +218,20 @@ fn read_area_size<D: Disk>(disk: &mut D, limits: Limits) -> Result<usize, OpenEr
     Ok(found.area)
 }
 
+// Syncs a disk, as an earlier process may have left it with a write pending.
+fn settle<D: Disk>(disk: &mut D) -> Result<(), DeviceError>
+    ensures uses { Uses D.Disk disk.old disk.new (IsErr result) }
+    ensures same { D.follows_crash_model disk.new → (D.trace disk.new).now.bytes ≡ (D.trace disk.old).now.bytes }
+
+    // A stop at any moment leaves what it might have left before.
+    ensures stop { D.follows_crash_model disk.new
+        → EachImageSince (D.trace disk.old) (D.trace disk.new) (IsImage (D.trace disk.old).now) }
+    ensures settled { D.follows_crash_model disk.new → OnOk result (IsSettled (D.trace disk.new).now) }
+{
+    disk.sync()?;
+    Ok(())
+}
+
 /// Syncs a disk, and reads what it holds.
 pub fn load<D: Disk, A: Allocator + Copy>(
     alloc: A,
@@ -248,7 +262,7 @@ pub fn load<D: Disk, A: Allocator + Copy>(
     ensures sound { D.follows_crash_model disk.new → (form : Form) (h : History) (clock : ℕ) → form.bounds ≡ limits
         → StandsForAt form h clock (D.trace disk.old).now.bytes → IfErr result IsPlain }
 {
-    disk.sync()?;
+    settle(disk)?;
     let size = read_area_size(disk, limits)?;
     let chosen = choose(alloc, disk, limits, size)?;
     Ok(chosen)

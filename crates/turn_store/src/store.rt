@@ -13,7 +13,7 @@ ghost use Rattle.turn_journal.specs.Area.{end_of};
 ghost use Rattle.turn_journal.specs.Layout.{frame_room, gate_size};
 ghost use Rattle.turn_store.specs.Areas.{Form, Holds, RecoversToParts};
 ghost use Rattle.turn_store.specs.Carrying.{Carries, IsCarried};
-ghost use Rattle.turn_store.specs.Images.{EitherBy, StandsBy, StandsForAt};
+ghost use Rattle.turn_store.specs.Images.{EitherBy, IsInVersion, IsInVersionOr2, StandsBy, StandsForAt};
 ghost use Rattle.turn_store.specs.Layout.{head_size};
 ghost use Rattle.turn_store.specs.Opened.{OpensTo};
 ghost use Rattle.turn_store.specs.Opening.{Opening, disk_of};
@@ -277,6 +277,14 @@ impl<D: Disk, A: Allocator + Copy> Store<D, A> {
         snapshot_size(version, table)
     }
 
+    // Where the next snapshot is written: the area that isn't active.
+    fn next_area(&self) -> usize
+        ensures { result ≡ self.now.other }
+    {
+        let next = self.other;
+        next
+    }
+
     // Writes a snapshot of the table into the other area, which then is active.
     fn replace_snapshot(&mut self, table: &Table<A>) -> Result<(), DeviceError>
         requires runs { self.old.stopped ≡ false }
@@ -312,9 +320,10 @@ impl<D: Disk, A: Allocator + Copy> Store<D, A> {
             generation,
             size,
         };
-        write_snapshot(&mut self.disk, self.other, self.other_is_below, next, table)?;
+        let area = self.next_area();
+        write_snapshot(&mut self.disk, area, self.other_is_below, next, table)?;
         let start = self.journal.start();
-        self.journal.move_to(self.other, HEAD_SIZE + size);
+        self.journal.move_to(area, HEAD_SIZE + size);
         self.other = start;
         self.generation = generation;
         self.frames = 0;
@@ -353,6 +362,11 @@ impl<D: Disk, A: Allocator + Copy> Store<D, A> {
             → table.now.contents ≡ tables.table (h ++ es) table.now.moment
             → InStages (D.trace self.old.disk) (D.trace self.new.disk)
             (StandsForAt (form_of self.old) h c) (EitherBy (form_of self.old) h es table.now.moment) }
+
+        // And it leaves the store's version, as Ok does.
+        ensures version { D.follows_crash_model self.new.disk → (s : List ℕ) (ps : List (List ℕ))
+            → Shows self.old (D.trace self.old.disk).now s ps
+            → EachImageSince (D.trace self.old.disk) (D.trace self.new.disk) (IsInVersion self.old.version (form_of self.old)) }
         ensures done { D.follows_crash_model self.new.disk → (c : ℕ) (h : History) (es : List Event)
             → RecoversToAt self.old (D.trace self.old.disk).now c h → MayFollow self.old.bounds c h es table.now.moment
             → HasSize self.old.version self.old.bounds es → payload.now ≡ bytes.payload es
@@ -404,6 +418,11 @@ impl<D: Disk, A: Allocator + Copy> Store<D, A> {
             → table.now.contents ≡ tables.table h table.now.moment
             → InStagesAt self.old.other (D.trace self.old.disk) (D.trace self.new.disk)
             (StandsForAt (form_of self.old) h c) (StandsBy (form_of self.old) h table.now.moment) }
+
+        // And it leaves the store's version, as Ok does.
+        ensures version { D.follows_crash_model self.new.disk → (s : List ℕ) (ps : List (List ℕ))
+            → Shows self.old (D.trace self.old.disk).now s ps
+            → EachImageSince (D.trace self.old.disk) (D.trace self.new.disk) (IsInVersion self.old.version (form_of self.old)) }
         ensures done { D.follows_crash_model self.new.disk → (c : ℕ) (h : History)
             → RecoversToAt self.old (D.trace self.old.disk).now c h → MayFollow self.old.bounds c h [] table.now.moment
             → table.now.contents ≡ tables.table h table.now.moment
@@ -508,7 +527,8 @@ impl<D: Disk, A: Allocator + Copy> Store<D, A> {
             generation,
             size,
         };
-        write_snapshot(&mut self.disk, self.other, self.other_is_below, over, table)?;
+        let area = self.next_area();
+        write_snapshot(&mut self.disk, area, self.other_is_below, over, table)?;
         self.other = self.journal.start();
         self.journal = journal;
         self.version = Version::V2;
@@ -546,6 +566,10 @@ fn carry_over<D: Disk, A: Allocator + Copy>(
     ensures stop { D.follows_crash_model (disk_of result) → (form : Form) (h : History) (clock : ℕ)
         → OpensTo form h clock opened.store (D.trace opened.store.disk).now (snapshot_of opened.table)
         → EachImageSince (D.trace opened.store.disk) (D.trace (disk_of result)) (StandsBy form h clock) }
+    ensures version { D.follows_crash_model (disk_of result) → (s : List ℕ) (ps : List (List ℕ))
+        → Shows opened.store (D.trace opened.store.disk).now s ps
+        → EachImageSince (D.trace opened.store.disk) (D.trace (disk_of result))
+        (IsInVersionOr2 opened.store.version (form_of opened.store)) }
     ensures recovers { IfOk result (λ o. D.follows_crash_model o.store.disk → (form : Form) (h : History) (clock : ℕ)
         → OpensTo form h clock opened.store (D.trace opened.store.disk).now (snapshot_of opened.table)
         → OpensTo form h clock o.store (D.trace o.store.disk).now (snapshot_of o.table)) }

@@ -1,4 +1,5 @@
 use Rattle.turn_lives.proofs.Joined.{all_live_on, are_one_run, lasts, one_lives_on}
+use Rattle.turn_lives.proofs.Reserving.{reserve_after}
 use Rattle.turn_lives.proofs.laws.processes_make_lives.Goals as goal
 
 pub returns-clause-one : goal.returns-clause-one
@@ -16,3 +17,7 @@ returns-clause-lasts g c = λ form may_fail old new parts same never.
 pub returns-clause-whole : goal.returns-clause-whole
 returns-clause-whole g c = λ form may_fail old new parts same never.
     are_one_run (λ (name : Unit {0}). g.D.Disk) g.H.AuthHandler g.G.RelayAddressGenerator g.T.Time form may_fail never tt tt old new parts same
+
+pub returns-clause-reserves : goal.returns-clause-reserves
+returns-clause-reserves g c = λ form old next new part parts sure recent m same one rest l.
+    reserve_after (λ (name : Unit {0}). g.D.Disk) g.H.AuthHandler g.G.RelayAddressGenerator g.T.Time form tt tt tt old next new part parts sure recent m same one rest l

@@ -2,5 +2,5 @@ use Rattle.std.proofs.Common.{sym}
 use Rattle.turn_program.specs.Serving.{serves}
 use Rattle.turn_program.proofs.serve.run_serve.Goals as goal
 
-pub returns : goal.returns
-returns g c = serves c.in-Ok.serving.server c.tell-told.new.serving.server c.in-Ok.ensures.started c.tell-told.ensures (sym c.close-disk.ensures.disk)
+pub returns-clause-serves : goal.returns-clause-serves
+returns-clause-serves g c = serves c.in-Ok.serving.server c.tell-told.new.serving.server c.in-Ok.ensures.started c.tell-told.ensures (sym c.close-disk.ensures.disk)

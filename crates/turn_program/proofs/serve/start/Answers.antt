@@ -11,4 +11,4 @@ returns-in-Ok-clause-started g c =
 pub returns-clause-kept : goal.returns-clause-kept
 returns-clause-kept g c =
     let same : c.holding.result ≡ just_opened c.in_ok-config.disk.size = search rules in
-    kept_since _ _ _ _ same c.in-Err.ensures.crash_model_err c.in-Err.ensures.stop_err
+    kept_since _ _ _ _ same c.in-Err.ensures.stop_err

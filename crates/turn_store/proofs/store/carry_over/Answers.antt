@@ -2,12 +2,13 @@ use Rattle.std.proofs.Common.{◌≡◌, ℕ, ◌∙◌, [], ap, refl, sym, subs
 use Rattle.turn_disk.proofs.Device.{uses_as}
 use Rattle.turn_disk.specs.Device.{Uses}
 use Rattle.turn_disk.specs.Disk.{EachImageSince}
-use Rattle.turn_store.specs.Images.{StandsBy}
+use Rattle.turn_store.specs.Images.{IsInVersionOr2, StandsBy}
 use Rattle.turn_store.specs.Opened.{OpensTo}
-use Rattle.turn_store.specs.State.{Shows, carried, carried_area}
+use Rattle.turn_store.specs.State.{Shows, carried, carried_area, form_of}
 use Rattle.turn_store.specs.Tables.{snapshot_of}
 use Rattle.turn_store.specs.declared.error.OpenError.TheVariants.{Device}
 use Rattle.turn_store.proofs.Carried.{next, over_rests, over_since, stays_since}
+use Rattle.turn_store.proofs.Versions.{rest_in_or_2, stages_over}
 use Rattle.turn_store.proofs.store.carry_over.Goals as goal
 
 pub returns-in-Ok-carry-clause-store : goal.returns-in-Ok-carry-clause-store
@@ -56,3 +57,18 @@ returns-in-Ok-carry-clause-uses g c = uses_as (λ never. absurd never) (λ e. cc
 pub returns-in-Err-clause-uses : goal.returns-in-Err-clause-uses
 returns-in-Err-clause-uses g c =
     subst (λ d. Uses g.D.Disk c.args.opened.store.disk d (Device ≡ Device)) (sym c.into_disk-in-Err.ensures) (uses_as (λ is. refl) (λ is. refl) c.in-Err.ensures.uses)
+
+pub returns-in-Ok-carry-clause-version : goal.returns-in-Ok-carry-clause-version
+returns-in-Ok-carry-clause-version g c = λ crash_model s ps shows. stages_over _ _ _ _ _ s _ ps _ (c.carry.ensures.stages crash_model s ps shows)
+
+pub returns-in-Err-clause-version : goal.returns-in-Err-clause-version
+returns-in-Err-clause-version g c = λ crash_model s ps shows.
+    let old = c.args.opened.store in
+    subst (λ d. EachImageSince (g.D.Disk.trace old.disk) (g.D.Disk.trace d) (IsInVersionOr2 old.version (form_of old))) (sym c.into_disk-in-Err.ensures)
+    (stages_over _ _ _ _ _ s _ ps _ (c.carry.ensures.stages (subst (λ d. g.D.Disk.follows_crash_model d) c.into_disk-in-Err.ensures crash_model) s ps shows))
+
+pub returns-in_default-clause-version : goal.returns-in_default-clause-version
+returns-in_default-clause-version g c = λ crash_model s ps shows.
+    let old = c.args.opened.store in
+    subst (λ d. EachImageSince (g.D.Disk.trace old.disk) (g.D.Disk.trace d) (IsInVersionOr2 old.version (form_of old))) (sym c.into_disk.ensures)
+    (rest_in_or_2 old (g.D.Disk.trace old.disk) s ps shows)

@@ -1,14 +1,16 @@
 use Rattle.std.proofs.Common.{◌≡◌, ℕ, refl, take, sym, ap, ◌∙◌, subst}
 use Rattle.turn_disk.specs.Disk.{EachImageSince}
 use Rattle.turn_history.specs.History.{History}
+use Rattle.turn_record.specs.declared.version.Version.TheVariants.{V2}
 use Rattle.turn_store.specs.Areas.{Form}
-use Rattle.turn_store.specs.Images.{EachImage}
+use Rattle.turn_store.specs.Images.{EachImage, IsInVersion}
 use Rattle.turn_store.specs.Refused.{WhyRefused}
+use Rattle.turn_store.proofs.Versions.{stays_second}
 use Rattle.turn_types.specs.Config.{Config}
 use Rattle.turn_types.specs.declared.limits.Bounds.{Bounds}
 use Rattle.turn_engine.specs.Images.{AtLeast}
 use Rattle.turn_engine.specs.State.{has_pairs}
-use Rattle.turn_engine.proofs.Opened.{after_over, image_self, of_made, of_refused, opens, since_opened, uses_over}
+use Rattle.turn_engine.proofs.Opened.{after_over, image_self, of_made, of_refused, opens, since_opened, since_second, uses_over}
 use Rattle.turn_engine.proofs.server.Server.open_as.Goals as goal
 
 pub returns-in-Err-clause-call : goal.returns-in-Err-clause-call
@@ -29,6 +31,8 @@ returns-in-Err-clause-call g c = record {
   stop = λ crash_model form h k m images.
       let at = images _ (image_self (g.D.Disk.trace c.args.disk).now) in
       since_opened _ _ form h k m _ images at (c.in-Err.ensures.stop crash_model form (take at.count h) at.stands.clock at.stands.stands);
+  version = tt;
+  stop_version = λ crash_model form images. since_second _ _ form images (c.in-Err.ensures.version crash_model V2 form (images _ (image_self (g.D.Disk.trace c.args.disk).now)));
 }
 
 pub returns-clause-call : goal.returns-clause-call
@@ -54,6 +58,12 @@ returns-clause-call g c =
           → EachImageSince (g.D.Disk.trace c.args.disk) (g.D.Disk.trace d) (AtLeast form h k m)) _ _ c.over.result c.over.ensures.ok c.over.ensures.err refl (λ crash_model form h k m images.
           let at = images _ (image_self (g.D.Disk.trace c.args.disk).now) in
           since_opened _ _ form h k m _ images at (c.in-Ok-open_as.ensures.stop crash_model form (take at.count h) at.stands.clock at.stands.stands));
+      version = of_made _ _ c.over.result c.over.ensures.ok (λ crash_model form images.
+          stays_second c.args.carry _ opened.store form (images _ (image_self (g.D.Disk.trace c.args.disk).now)) (c.in-Ok-open_as.ensures.carried crash_model));
+      stop_version = after_over
+          (λ d. g.D.Disk.follows_crash_model d → (form : Form) → EachImage (g.D.Disk.trace c.args.disk).now (IsInVersion V2 form) → EachImageSince (g.D.Disk.trace c.args.disk) (g.D.Disk.trace d) (IsInVersion V2 form))
+          _ _ c.over.result c.over.ensures.ok c.over.ensures.err refl
+          (λ crash_model form images. since_second _ _ form images (c.in-Ok-open_as.ensures.version crash_model V2 form (images _ (image_self (g.D.Disk.trace c.args.disk).now))));
     }
 
 pub returns-clause-carried : goal.returns-clause-carried

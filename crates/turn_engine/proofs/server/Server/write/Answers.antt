@@ -6,7 +6,7 @@ use Rattle.turn_store.specs.Areas.{Form}
 use Rattle.turn_store.proofs.Sound.{not_both}
 use Rattle.turn_types.specs.declared.limits.Bounds.{Bounds}
 use Rattle.turn_engine.specs.State.{ServerState, has_pairs}
-use Rattle.turn_engine.proofs.Written.{batch_stages, batch_stop, batch_stored, done_at, done_never, failed_at, fault_as, few_acts, form_kept, none_staged, not_none, not_written, runs_on, some_acts, stages_none, version_kept}
+use Rattle.turn_engine.proofs.Written.{batch_stages, batch_stop, batch_stored, done_at, done_never, failed_at, fault_as, few_acts, form_kept, none_staged, not_none, not_written, not_written_in, runs_on, some_acts, stages_none, version_kept}
 use Rattle.turn_engine.proofs.server.Server.write.Goals as goal
 use Rattle.turn_engine.proofs.server.Server.write.Goals.{in-Ok, in-Err}
 
@@ -24,10 +24,12 @@ returns-then-is_stopped-clause-call g c =
       nothing = λ runs _. cc;
       uses = search rules;
       form = refl;
+      version = refl;
       worn = (λ e. cc, λ facts. let runs = facts.0 in cc);
       untouched_worn = λ _. refl;
       stages = λ crash_model h k recovers. stages_none _ _ c.args.self.now h k refl recovers;
       stop = λ crash_model h k recovers. not_written _ _ c.args.self.now h k refl recovers;
+      stop_version = λ crash_model h k recovers. not_written_in _ _ c.args.self.now h k refl recovers;
       recovers = λ crash_model h k recovers. tt;
     }
 
@@ -46,10 +48,12 @@ returns-then-acts-eq0-clause-call g c =
       nothing = λ _ _. (refl, refl);
       uses = search rules;
       form = refl;
+      version = refl;
       worn = (λ e. cc, λ facts. let some = facts.1 in absurd (omega (arith, some, none)));
       untouched_worn = λ e. refl;
       stages = λ crash_model h k recovers. stages_none _ _ c.args.self.now h k refl recovers;
       stop = λ crash_model h k recovers. not_written _ _ c.args.self.now h k refl recovers;
+      stop_version = λ crash_model h k recovers. not_written_in _ _ c.args.self.now h k refl recovers;
       recovers = λ crash_model h k recovers. none_staged _ c.args.self.now h k recovers none;
     }
 
@@ -81,6 +85,7 @@ returns-clause-call g c =
     let same = c.self.invariant.store_is in
     let range = c.self.invariant.snapshot.moment in
     let kept = form_kept c.self.inside.store c.append.new.self _ _ c.append.result c.append.ensures.framed c.append.ensures.compacted c.append.ensures.stops in
+    let same_version = version_kept c.self.inside.store c.append.new.self _ _ c.append.result c.append.ensures.framed c.append.ensures.compacted c.append.ensures.stops in
     let stages = rw (c.table.ensures.value, c.payload.ensures.value) at c.append.ensures.stages in
     elim c.match-append.branch [
       | in-Ok w ↦
@@ -97,10 +102,12 @@ returns-clause-call g c =
             nothing = λ _ none. absurd (not_none _ some none);
             uses = uses_as (λ e. absurd (done_never e)) (λ e. absurd (done_never e)) w.in-Ok.ensures.uses;
             form = kept;
+            version = same_version;
             worn = (λ e. absurd (done_never e), λ facts. absurd (done_never (worn.1 (facts.0, facts.2, facts.3))));
             untouched_worn = λ e. absurd (done_never e);
             stages = λ crash_model. batch_stages g.D.Disk _ c.append.new.self same range some few (stages crash_model);
             stop = λ crash_model. batch_stop g.D.Disk _ c.append.new.self same range some few (stages crash_model);
+            stop_version = λ crash_model h k recovers. c.append.ensures.version crash_model recovers.stored.snapshot recovers.stored.payloads recovers.stored.shows;
             recovers = λ crash_model. batch_stored g.D.Disk _ c.append.new.self same range some few (done crash_model);
           }))
       | in-Err w ↦
@@ -116,10 +123,12 @@ returns-clause-call g c =
             nothing = λ _ none. absurd (not_none _ some none);
             uses = uses_as fault_as fault_as w.in-Err.ensures.uses;
             form = kept;
+            version = same_version;
             worn = (λ e. let is = worn.0 (fault_as e) in (is.0, some, is.1, is.2), λ facts. fault_as (worn.1 (facts.0, facts.2, facts.3)));
             untouched_worn = λ e. w.in-Err.ensures.untouched_worn (fault_as e);
             stages = λ crash_model. batch_stages g.D.Disk _ c.append.new.self same range some few (stages crash_model);
             stop = λ crash_model. batch_stop g.D.Disk _ c.append.new.self same range some few (stages crash_model);
+            stop_version = λ crash_model h k recovers. c.append.ensures.version crash_model recovers.stored.snapshot recovers.stored.payloads recovers.stored.shows;
             recovers = λ crash_model h k recovers. tt;
           }))
     ]

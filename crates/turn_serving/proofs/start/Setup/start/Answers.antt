@@ -1,20 +1,16 @@
 use Rattle.std.proofs.Common.{sym, ap, ◌∙◌, subst}
 use Rattle.turn_serving.specs.Starts.{KeepsImages}
 use Rattle.turn_serving.proofs.Held.{all_pass}
-use Rattle.turn_serving.proofs.Starts.{both_kept, joined, not_first, opened_images, started, started_as}
+use Rattle.turn_serving.proofs.Starts.{both_kept, joined, not_first, opened_images, refused_again, started, started_as, told_by_sockets}
 use Rattle.turn_serving.proofs.start.Setup.start.Goals as goal
 
 pub returns-in-Err-open-clause-stop_err : goal.returns-in-Err-open-clause-stop_err
-returns-in-Err-open-clause-stop_err g c = (joined g.D.Disk c.in-Ok.ensures.kept.images c.in-Err-open.ensures.images_err).stop
+returns-in-Err-open-clause-stop_err g c = joined g.D.Disk c.in-Ok.ensures.kept.images c.in-Err-open.ensures.images_err
 
 pub returns-in-Err-open-clause-same_err : goal.returns-in-Err-open-clause-same_err
 returns-in-Err-open-clause-same_err g c crash_model later =
     let unasked = c.is_first-carry.ensures ∙ not_first _ _ (c.in-Ok.ensures.version (c.in-Err-open.ensures.images_err.crash_model crash_model)) later in
     (both_kept g.D.Disk c.in-Ok.ensures.kept (c.in-Err-open.ensures.kept_err unasked)).content crash_model
-
-pub returns-then-not-holds_ports-clause-crash_model_err : goal.returns-then-not-holds_ports-clause-crash_model_err
-returns-then-not-holds_ports-clause-crash_model_err g c crash_model =
-    c.in-Ok.ensures.kept.images.crash_model (c.in-Ok-open.ensures.opens.uses.crash_model (subst (λ d. g.D.Disk.follows_crash_model d) c.close-disk.ensures.disk crash_model))
 
 pub returns-then-not-holds_ports-clause-same_err : goal.returns-then-not-holds_ports-clause-same_err
 returns-then-not-holds_ports-clause-same_err g c crash_model later =
@@ -24,7 +20,7 @@ returns-then-not-holds_ports-clause-same_err g c crash_model later =
 
 pub returns-then-not-holds_ports-clause-stop_err : goal.returns-then-not-holds_ports-clause-stop_err
 returns-then-not-holds_ports-clause-stop_err g c =
-    (subst (λ d. KeepsImages g.D.Disk c.args.disk d) (sym c.close-disk.ensures.disk) (joined g.D.Disk c.in-Ok.ensures.kept.images (opened_images g.D.Disk c.in-Ok-open.ensures.opens))).stop
+    subst (λ d. KeepsImages g.D.Disk c.args.disk d) (sym c.close-disk.ensures.disk) (joined g.D.Disk c.in-Ok.ensures.kept.images (opened_images g.D.Disk c.in-Ok-open.ensures.opens))
 
 pub returns-clause-started : goal.returns-clause-started
 returns-clause-started g c =
@@ -46,4 +42,10 @@ returns-clause-same g c crash_model later =
 
 pub returns-clause-stop : goal.returns-clause-stop
 returns-clause-stop g c =
-    (subst (λ s. KeepsImages g.D.Disk c.args.disk s.store.disk) (sym c.new.ensures.server) (joined g.D.Disk c.in-Ok.ensures.kept.images (opened_images g.D.Disk c.in-Ok-open.ensures.opens))).stop
+    subst (λ s. KeepsImages g.D.Disk c.args.disk s.store.disk) (sym c.new.ensures.server) (joined g.D.Disk c.in-Ok.ensures.kept.images (opened_images g.D.Disk c.in-Ok-open.ensures.opens))
+
+pub returns-in-Err-open-clause-refused : goal.returns-in-Err-open-clause-refused
+returns-in-Err-open-clause-refused g c = refused_again g.D.Disk _ _ c.in-Ok.ensures.kept c.in-Err-open.ensures.images_err c.in-Err-open.ensures.refused
+
+pub returns-in-Err-bind_beside-clause-refused : goal.returns-in-Err-bind_beside-clause-refused
+returns-in-Err-bind_beside-clause-refused g c = told_by_sockets _ _ c.from.ensures

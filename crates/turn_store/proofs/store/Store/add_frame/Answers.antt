@@ -1,16 +1,24 @@
-use Rattle.std.proofs.Common.{refl, ap, arith}
+use Rattle.std.proofs.Common.{◌+◌, length, refl, ap, arith, rules}
+use Rattle.turn_journal.specs.Area.{end_of, limit_of}
+use Rattle.turn_journal.specs.Frames.{AddsFrame}
 use Rattle.turn_store.proofs.Rows.{recovers_frames}
 use Rattle.turn_store.proofs.Steps.{frame_stages, frame_shown}
 use Rattle.turn_store.proofs.store.Store.add_frame.Goals as goal
 
 pub returns-in-Ok-clause-stages : goal.returns-in-Ok-clause-stages
 returns-in-Ok-clause-stages g c = rw (← c.self.view_is) (λ crash_model s ps shows.
-    let adds = c.append.ensures.stages crash_model shows.recovers.holds.settled _ ps (recovers_frames _ _ _ _ _ _ _ s ps _ shows.recovers) in
+    let area = c.self.inside.journal in
+    let staged = c.append.ensures.stages crash_model in
+    let frames = recovers_frames _ _ _ _ _ _ _ s ps _ shows.recovers in
+    let adds : AddsFrame (area.start + 14 + length s) ps c.args.payload.now (end_of area) (limit_of area) (g.D.Disk.trace c.self.inside.disk) (g.D.Disk.trace c.append.new.disk) = search (rules, staged, shows.recovers.holds.settled, frames) in
     frame_stages _ _ s ps shows c.args.payload.now (omega (arith, c.requires.room, ap (λ st. st.area.end) c.self.view_is, ap (λ st. st.area.size) c.self.view_is)) _ adds)
 
 pub returns-in-Err-clause-stages : goal.returns-in-Err-clause-stages
 returns-in-Err-clause-stages g c = rw (← c.self.view_is) (λ crash_model s ps shows.
-    let adds = c.append.ensures.stages crash_model shows.recovers.holds.settled _ ps (recovers_frames _ _ _ _ _ _ _ s ps _ shows.recovers) in
+    let area = c.self.inside.journal in
+    let staged = c.append.ensures.stages crash_model in
+    let frames = recovers_frames _ _ _ _ _ _ _ s ps _ shows.recovers in
+    let adds : AddsFrame (area.start + 14 + length s) ps c.args.payload.now (end_of area) (limit_of area) (g.D.Disk.trace c.self.inside.disk) (g.D.Disk.trace c.append.new.disk) = search (rules, staged, shows.recovers.holds.settled, frames) in
     frame_stages _ _ s ps shows c.args.payload.now (omega (arith, c.requires.room, ap (λ st. st.area.end) c.self.view_is, ap (λ st. st.area.size) c.self.view_is)) _ adds)
 
 pub returns-in-Ok-clause-shown : goal.returns-in-Ok-clause-shown

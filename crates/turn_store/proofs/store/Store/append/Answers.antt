@@ -1,5 +1,6 @@
 use Rattle.std.proofs.Common.{◌∙◌, ap, arith, rules}
 use Rattle.turn_store.proofs.Appends.{frame_stages, frame_done, rest_stages, snapshot_stages, snapshot_done}
+use Rattle.turn_store.proofs.Versions.{rest_in, stages_in}
 use Rattle.turn_store.proofs.store.Store.append.Goals as goal
 
 pub returns-in-Some-clause-stages : goal.returns-in-Some-clause-stages
@@ -39,3 +40,18 @@ returns-in_ok-replace_snapshot-in-Snapshot-clause-done g c = λ crash_model at h
 
 pub returns-in-Some-clause-worn : goal.returns-in-Some-clause-worn
 returns-in-Some-clause-worn g c = search rules
+
+pub returns-in-Some-clause-version : goal.returns-in-Some-clause-version
+returns-in-Some-clause-version g c = rw (← c.self.view_is) (λ crash_model s ps shows. rest_in _ (g.D.Disk.trace c.self.inside.disk) s ps shows)
+
+pub returns-in_err-add_frame-in-Frame-clause-version : goal.returns-in_err-add_frame-in-Frame-clause-version
+returns-in_err-add_frame-in-Frame-clause-version g c = λ crash_model s ps shows. stages_in _ _ _ _ _ s _ ps _ (c.add_frame.ensures.stages crash_model s ps shows)
+
+pub returns-in_ok-add_frame-in-Frame-clause-version : goal.returns-in_ok-add_frame-in-Frame-clause-version
+returns-in_ok-add_frame-in-Frame-clause-version g c = λ crash_model s ps shows. stages_in _ _ _ _ _ s _ ps _ (c.add_frame.ensures.stages crash_model s ps shows)
+
+pub returns-in_err-replace_snapshot-in-Snapshot-clause-version : goal.returns-in_err-replace_snapshot-in-Snapshot-clause-version
+returns-in_err-replace_snapshot-in-Snapshot-clause-version g c = λ crash_model s ps shows. stages_in _ _ _ _ _ s _ ps _ (c.replace_snapshot.ensures.stages crash_model s ps shows)
+
+pub returns-in_ok-replace_snapshot-in-Snapshot-clause-version : goal.returns-in_ok-replace_snapshot-in-Snapshot-clause-version
+returns-in_ok-replace_snapshot-in-Snapshot-clause-version g c = λ crash_model s ps shows. stages_in _ _ _ _ _ s _ ps _ (c.replace_snapshot.ensures.stages crash_model s ps shows)

@@ -3,6 +3,7 @@ use Rattle.turn_history.specs.History.{History}
 use Rattle.turn_history.specs.Table as tables
 use Rattle.turn_store.specs.State.{RecoversToAt}
 use Rattle.turn_store.proofs.Appends.{alone_stages, rest_stages, snapshot_stages, snapshot_done}
+use Rattle.turn_store.proofs.Versions.{rest_in, stages_in}
 use Rattle.turn_store.proofs.store.Store.compact.Goals as goal
 
 pub returns-in-Some-clause-stages : goal.returns-in-Some-clause-stages
@@ -29,3 +30,12 @@ returns-clause-done g c = λ crash_model at h recovers follows contents.
     subst (λ (l : History). RecoversToAt c.replace_snapshot.new.self (g.D.Disk.trace c.replace_snapshot.new.self.disk).now t.moment l) (append-nil h)
     (snapshot_done _ _ at h [] _ recovers follows c.args.self.now.version t.contents there c.requires.snapshot.holds _ _ (ap (λ st. st.version) after) (ap (λ st. st.bounds) after) (ap (λ st. st.stopped) after ∙ recovers.runs)
     (c.in_ok-replace_snapshot.ensures.shown crash_model recovers.snapshot recovers.payloads recovers.shows))
+
+pub returns-in-Some-clause-version : goal.returns-in-Some-clause-version
+returns-in-Some-clause-version g c = rw (← c.self.view_is) (λ crash_model s ps shows. rest_in _ (g.D.Disk.trace c.self.inside.disk) s ps shows)
+
+pub returns-in_err-replace_snapshot-clause-version : goal.returns-in_err-replace_snapshot-clause-version
+returns-in_err-replace_snapshot-clause-version g c = λ crash_model s ps shows. stages_in _ _ _ _ _ s _ ps _ (c.replace_snapshot.ensures.stages crash_model s ps shows)
+
+pub returns-clause-version : goal.returns-clause-version
+returns-clause-version g c = λ crash_model s ps shows. stages_in _ _ _ _ _ s _ ps _ (c.replace_snapshot.ensures.stages crash_model s ps shows)

@@ -12,6 +12,7 @@ use Rattle.turn_store.specs.Opened.{IsOpened}
 use Rattle.turn_store.specs.Tables.{snapshot_of}
 use Rattle.turn_store.proofs.Carried.{all_ok, and_err, and_ok, at_err, at_ok, carried_since, is_active_as, kept_carries, on_err, on_ok, opened_anew, over_carries, plain_why, same_bounds}
 use Rattle.turn_store.proofs.Sound.{not_both}
+use Rattle.turn_store.proofs.Versions.{opened_in}
 use Rattle.turn_store.proofs.store.Store.open_as.Goals as goal
 
 pub returns-in_err-opened : goal.returns-in_err-opened
@@ -21,6 +22,7 @@ returns-in_err-opened g c = let is = c.in_err-opened.ensures in let p = err_from
   runs = tt;
   snapshot = tt;
   stop = is.stop;
+  version = is.version;
   same = λ no. is.same refl;
   stop_kept = λ no. is.stop_kept refl;
   settled = is.settled;
@@ -40,6 +42,7 @@ returns-then-not-is_carried g c =
       runs = is.runs;
       snapshot = is.snapshot;
       stop = is.stop;
+      version = is.version;
       same = λ no. is.same refl;
       stop_kept = λ no. is.stop_kept refl;
       settled = tt;
@@ -83,6 +86,11 @@ returns g c =
           let before = c.carry_over.ensures.uses.crash_model crash_model in
           let same = same_bounds c.in_ok-opened.opened.store _ _ form h clock c.args.limits _ (c.in_ok-opened.ensures.opened before) (c.in_ok-opened.ensures.same refl before) c.in_ok-opened.ensures.bounds.0 stands in
           carried_since form h clock _ _ _ (c.in_ok-opened.ensures.stop_kept refl before) (c.carry_over.ensures.stop crash_model form h clock (c.in_ok-opened.ensures.recovers before form h clock same stands));
+      version = λ crash_model v form in_version.
+          let before = c.carry_over.ensures.uses.crash_model crash_model in
+          let was = c.in_ok-opened.ensures.opened before in
+          opened_in c.in_ok-opened.opened.store _ _ _ was.snapshot was.payloads was.shows v form _ (c.in_ok-opened.ensures.same refl before) in_version (c.in_ok-opened.ensures.stop_kept refl before)
+          (c.carry_over.ensures.version crash_model was.snapshot was.payloads was.shows);
       same = λ no. absurd (not_both c.args.carry is.asked no);
       stop_kept = λ no. absurd (not_both c.args.carry is.asked no);
       settled = on_err _ _ c.carry_over.result

@@ -6,6 +6,7 @@ use Rattle.turn_store.specs.Superblock.{HasSuperblock}
 use Rattle.turn_store.specs.Tables.{snapshot_of}
 use Rattle.turn_store.proofs.Carried.{is_active_as, kept_carries, kept_since}
 use Rattle.turn_store.proofs.Opens.{opened, opens_to}
+use Rattle.turn_store.proofs.Versions.{kept_in}
 use Rattle.turn_store.proofs.store.Store.open_unchanged.Goals as goal
 
 pub returns-in-Ok : goal.returns-in-Ok
@@ -25,6 +26,7 @@ returns-in-Ok g c =
       runs = refl;
       snapshot = is.snapshot;
       stop = λ crash_model form h clock stands. kept_since form h clock _ _ (is.stop crash_model);
+      version = λ crash_model v form in_version. kept_in v form _ _ (is.stop crash_model);
       same = λ no crash_model. is.same crash_model;
       stop_kept = λ no crash_model. is.stop crash_model;
       settled = tt;
@@ -45,6 +47,7 @@ returns-in-Err g c =
       runs = tt;
       snapshot = tt;
       stop = λ crash_model form h clock stands. kept_since form h clock _ _ (is.stop crash_model);
+      version = λ crash_model v form in_version. kept_in v form _ _ (is.stop crash_model);
       same = λ no crash_model. is.same crash_model;
       stop_kept = λ no crash_model. is.stop crash_model;
       settled = is.settled_err;

@@ -4,17 +4,17 @@ use Rattle.turn_store.proofs.Steps.{swap_shown}
 use Rattle.turn_store.proofs.store.Store.replace_snapshot.Goals as goal
 
 pub returns-in_err-write_snapshot-clause-stages : goal.returns-in_err-write_snapshot-clause-stages
-returns-in_err-write_snapshot-clause-stages g c = rw (← c.self.view_is) (λ crash_model s ps shows.
+returns-in_err-write_snapshot-clause-stages g c = rw (← c.self.view_is, ← c.next_area-area.ensures) (λ crash_model s ps shows.
     let last : c.self.inside.generation + 1 < 2 ^ 64 = omega (arith, c.requires.generation, ap (λ st. st.generation) c.self.view_is) in
     c.write_snapshot.ensures.stages crash_model _ _ _ _ _ s ps refl last c.self.invariant.room c.next_size-size.ensures.room shows.recovers)
 
 pub returns-clause-stages : goal.returns-clause-stages
-returns-clause-stages g c = rw (← c.self.view_is) (λ crash_model s ps shows.
+returns-clause-stages g c = rw (← c.self.view_is, ← c.next_area-area.ensures) (λ crash_model s ps shows.
     let last : c.self.inside.generation + 1 < 2 ^ 64 = omega (arith, c.requires.generation, ap (λ st. st.generation) c.self.view_is) in
     c.write_snapshot.ensures.stages crash_model _ _ _ _ _ s ps refl last c.self.invariant.room c.next_size-size.ensures.room shows.recovers)
 
 pub returns-clause-shown : goal.returns-clause-shown
-returns-clause-shown g c = rw (← c.self.view_is) (λ crash_model s ps shows.
+returns-clause-shown g c = rw (← c.self.view_is, ← c.next_area-area.ensures) (λ crash_model s ps shows.
     let next = bytes.snapshot c.self.inside.version c.args.table.now.moment c.args.table.now.contents in
     let size = c.next_size-size.ensures in
     let last : c.self.inside.generation + 1 < 2 ^ 64 = omega (arith, c.requires.generation, ap (λ st. st.generation) c.self.view_is) in
