@@ -1,20 +1,12 @@
-//! The line and the status of faults that no command comes to here. Texts have the others.
+//! The line and the status of a fault that no command comes to here: `tests/memory` has commands that do.
 
 use std::test::Fail;
 use turn_program::{ProgramError, report};
 
-const FAULTS: [(ProgramError, u8, &str); 2] = [
-    (ProgramError::Worn, 2, "turn: worn\n"),
-    (ProgramError::Memory, 5, "turn: memory\n"),
-];
-
 #[test]
-fn each_fault_has_a_line_and_a_status(rt: HostRuntime) -> Result<(), Fail> {
-    for (fault, status, line) in &FAULTS {
-        let mut err = Vec::new(rt.alloc());
-        if report(*fault, &mut err) != *status || err.as_slice() != line.as_bytes() {
-            return Err(Fail::new(*line));
-        }
-    }
+fn out_of_memory_has_a_line_and_a_status(rt: HostRuntime) -> Result<(), Fail> {
+    let mut err = Vec::new(rt.alloc());
+    assert!(rt; report(ProgramError::Memory, &mut err) == 5);
+    assert!(rt; err.as_slice() == b"turn: memory\n".as_slice());
     Ok(())
 }

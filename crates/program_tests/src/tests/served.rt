@@ -2,8 +2,9 @@
 
 use super::RELEASE;
 use super::clocks::Ticking;
-use super::stores::fresh;
-use super::talks::{ANY, BINDING, HOME, PLAIN, SIGNED};
+use super::stores::{filled, fresh};
+use super::talks::{BINDING, HOME, PLAIN, SIGNED};
+use std::alloc::{AllocError, Global};
 use std::fs;
 use std::io::{self, Write};
 use std::test::Fail;
@@ -12,9 +13,10 @@ use turn_program::run_words;
 use turn_types::Endpoint;
 
 const CONFIG: &str = "realm example.org
+user alice wonder
 secret 0000000000000000000000000000000000000000000000000000000000000000
 listen 127.0.0.1:63160
-relay 127.0.0.1 63161 63169
+relay 127.0.0.1 63161 63168
 limits 2 1 1 1 8
 ";
 
@@ -22,6 +24,18 @@ const SERVER: Endpoint = Endpoint {
     ip: HOME,
     port: 63_160,
 };
+
+const CLIENT: Endpoint = Endpoint {
+    ip: HOME,
+    port: 63_169,
+};
+
+/// Alice's Allocate, by a nonce of the second 1,000 for this client. Its HMACs were made by Python's module.
+const ALLOCATE: &[u8] =
+    b"\x00\x03\x00\x90\x21\x12\xA4\x42\x01\x02\x03\x04\x05\x06\x07\x08\x09\x0A\x0B\x0C\
+    \x00\x19\x00\x04\x11\x00\x00\x00\x00\x06\x00\x05alice\x00\x00\x00\x00\x14\x00\x0Bexample.org\x00\
+    \x00\x15\x00\x5000000000000003e88d1edb3c29a478f0b49ddddd24ff4ab3b8dd14dc3c93216cacded363ef0da7a7\
+    \x00\x08\x00\x14\x0A\x38\x02\xD5\x4C\x3D\xE1\xAE\x58\x6C\xE1\x32\x37\x36\x70\x70\xD5\xE7\x62\x3A";
 
 /// A standard output that sends a datagram so many times to the server when something is printed for the first time.
 #[derive(Drop)]
@@ -59,6 +73,8 @@ struct Row {
     tick: u64,
     /// How often the clock tells a second.
     readings: u32,
+    /// The generation of a store whose area is full. If there is none the store holds nothing.
+    full: Option<u64>,
     answers: u8,
     /// The lines of the log on the server itself but for those of the start.
     log: &'static str,
@@ -74,6 +90,7 @@ const ENDS: Row = Row {
     count: 70,
     tick: 0,
     readings: 5,
+    full: None,
     answers: 70,
     log: "",
     status: 3,
@@ -157,6 +174,30 @@ const SO_MANY_TURNS: [Row; 5] = [
     },
 ];
 
+/// A request for which the area has no room needs a snapshot. The last generation has no next one.
+const WITHOUT_ROOM: [Row; 2] = [
+    Row {
+        words: "turn serve --config turn_served.conf --store turn_served.store --log --turns 1",
+        datagram: ALLOCATE,
+        count: 1,
+        full: Some(u64::MAX - 1),
+        answers: 1,
+        out: "listening 127.0.0.1:63160\nserved 1 turns\n",
+        ..COUNTED
+    },
+    Row {
+        words: "turn serve --config turn_served.conf --store turn_served.store --log --turns 1",
+        datagram: ALLOCATE,
+        count: 1,
+        full: Some(u64::MAX),
+        answers: 0,
+        log: "1000 - store turn_served.store\n",
+        status: 2,
+        err: "turn: worn\n",
+        ..COUNTED
+    },
+];
+
 /// The lines of a log but for the first three, which are those of the start, and those of clients.
 fn own_lines(rt: &HostRuntime, log: &[u8]) -> Result<String, Fail> {
     let mut own = String::new(rt.alloc());
@@ -221,10 +262,18 @@ fn serve(rt: &HostRuntime, client: &TimedSocket, row: &Row) -> Result<Written, F
     })
 }
 
+/// The store of a row.
+fn store_of(alloc: Global, row: &Row) -> Result<Vec<u8>, AllocError> {
+    match row.full {
+        Some(generation) => filled(alloc, 63_168, generation),
+        None => fresh(alloc),
+    }
+}
+
 fn expect(rt: &HostRuntime, row: &Row) -> Result<(), Fail> {
     fs::write(rt, "turn_served.conf", CONFIG)?;
-    fs::write(rt, "turn_served.store", fresh(rt.alloc())?)?;
-    let mut client = TimedSocket::open(rt.alloc(), rt, ANY)?;
+    fs::write(rt, "turn_served.store", store_of(rt.alloc(), row)?)?;
+    let mut client = TimedSocket::open(rt.alloc(), rt, CLIENT)?;
     let written = serve(rt, &client, row)?;
     fs::remove_file(rt, "turn_served.conf")?;
     fs::remove_file(rt, "turn_served.store")?;
@@ -247,6 +296,9 @@ fn serve_takes_turns_up_to_a_fault_or_so_many(rt: HostRuntime) -> Result<(), Fai
         expect(&rt, row)?;
     }
     for row in &SO_MANY_TURNS {
+        expect(&rt, row)?;
+    }
+    for row in &WITHOUT_ROOM {
         expect(&rt, row)?;
     }
     Ok(())

@@ -19,6 +19,10 @@ pub const FRAME: &[u8] = b"\xA5\x00\x00\x00\x2F\x01\x01\x00\x00\x00\x00\x00\x00\
     \xC0\x00\x02\x01\x80\x55\xC0\x00\x02\x64\x0D\x96\x00\x05\x61\x6C\x69\x63\x65\xC3\x50\
     \x00\x00\x02\x58\x01\x02\x03\x04\x05\x06\x07\x08\x09\x0A\x0B\x0C\x00";
 
+/// A frame with a Refresh of that allocation at 1000 for 600 seconds.
+const REFRESH: &[u8] = b"\xA5\x00\x00\x00\x1A\x01\x02\x00\x00\x00\x00\x00\x00\x03\xE8\
+    \xC0\x00\x02\x01\x80\x55\xC0\x00\x02\x64\x0D\x96\x00\x00\x02\x58";
+
 /// Writes bytes over those from a position on.
 pub fn put(content: &mut [u8], at: usize, bytes: &[u8]) {
     for (place, byte) in content.iter_mut().skip(at).zip(bytes) {
@@ -46,6 +50,16 @@ pub fn allocated(alloc: Global, port: u16) -> Result<Vec<u8>, AllocError> {
     let mut content = fresh(alloc)?;
     put(&mut content, 90, FRAME);
     put(&mut content, 90 + 34, &port.to_be_bytes());
+    Ok(content)
+}
+
+/// The same of a generation, with five Refreshes. Five bytes of the area are left, in which no frame has room.
+pub fn filled(alloc: Global, port: u16, generation: u64) -> Result<Vec<u8>, AllocError> {
+    let mut content = allocated(alloc, port)?;
+    put(&mut content, 66, &generation.to_be_bytes());
+    for number in 0..5usize {
+        put(&mut content, 142 + 31 * number, REFRESH);
+    }
     Ok(content)
 }
 
