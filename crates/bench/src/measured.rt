@@ -1,5 +1,7 @@
 //! The time that a number of calls takes.
 
+ghost use Rattle.std.specs.Prelude.{◌≡◌, ◌≤◌, ◌⊎◌, IfSome, Some};
+
 use std::io;
 use std::rt::Clock;
 use std::time::Instant;
@@ -31,7 +33,10 @@ impl Timing {
     }
 
     /// The better of this timing and the best one before it.
-    pub fn or_before(self, before: Option<Timing>) -> Timing {
+    pub fn or_before(self, before: Option<Timing>) -> Timing
+        ensures least { (result.micros ≤ self.micros) × IfSome before (λ other. result.micros ≤ other.micros) }
+        ensures one_of_them { (result ≡ self) ⊎ (before ≡ Some result) }
+    {
         match before {
             Some(before) if before.micros <= self.micros => before,
             _ => self,

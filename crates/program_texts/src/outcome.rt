@@ -1,5 +1,7 @@
 //! What a run of the program comes to.
 
+ghost use Rattle.std.specs.Prelude.{◌≡◌, ◌↔◌, IsTrue};
+
 use crate::clock::At;
 use std::alloc::Global;
 use turn_program::{Release, run_words};
@@ -67,7 +69,10 @@ impl Outcome {
     }
 
     /// Whether all is as in another.
-    pub fn is(&self, other: &Outcome) -> bool {
+    pub fn is(&self, other: &Outcome) -> bool
+        ensures { IsTrue result ↔ ((self.now.status ≡ other.now.status) × (self.now.out.items ≡ other.now.out.items)
+            × (self.now.err.items ≡ other.now.err.items) × (self.now.log.items ≡ other.now.log.items)) }
+    {
         self.status == other.status
             && self.out.as_slice() == other.out.as_slice()
             && self.err.as_slice() == other.err.as_slice()

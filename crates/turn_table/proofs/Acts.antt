@@ -1,10 +1,11 @@
 -- What an act does to a table.
-use Rattle.std.proofs.Common.{◌≡◌, ℕ, ◌++◌, ◌∷◌, [], true, cond, eqb, refl, sym, ap, ◌∙◌, subst, Option, Some, None}
+use Rattle.std.proofs.Common.{◌≡◌, ◌+◌, ℕ, ◌++◌, ◌∷◌, [], true, cond, eqb, refl, sym, ap, ◌∙◌, subst, Option, Some, None, option_map}
+use Rattle.std.proofs.lemmas.Bool.{eq-eqb}
 use Rattle.std.specs.Prelude.{IsSomeAnd}
 use Rattle.turn_history.proofs.Histories.{table-follows}
 use Rattle.turn_history.specs.Fitting.{Follows}
 use Rattle.turn_history.specs.History.{PlainAct, Renews, Event, History}
-use Rattle.turn_history.specs.Table.{Entry, Contents, Reservations, applied, applied_to, reserving, with_entry, table}
+use Rattle.turn_history.specs.Table.{Entry, Contents, Reservations, applied, applied_to, renewed, reserving, with_entry, table}
 use Rattle.turn_types.specs.declared.address.FiveTuple.{FiveTuple}
 use Rattle.std.specs.FinMap as fin
 use Rattle.turn_table.specs.State.{State}
@@ -30,6 +31,12 @@ changed_by s new t f d e is h gives left some = by_entry (fin.get s.contents.ent
     by_entry : (o : Option Entry) → fin.get s.contents.entries f ≡ o → IsSomeAnd o (λ v. new ≡ calls.with_entry s f (h v)) → new ≡ record s { contents = applied t f d s.contents; room = None }
     by_entry None at none = absurd none
     by_entry (Some v) at new_is = new_is ∙ sym (done s t f d e is (Some (h v)) s.contents.reserved (ap (applied_to t e) at ∙ gives v) left)
+
+-- where an act is a Renew of 0, which removes the entry that is there, and no reserved port
+pub removed_by : (s new : State) (t : ℕ) (f : FiveTuple) (granted : ℕ) (d : PlainAct) → d ≡ Renews granted → granted ≡ 0 → new ≡ without_entry s f → new ≡ record s { contents = applied t f d s.contents; room = None }
+removed_by s new t f granted d is zero gone =
+    gone
+    ∙ sym (done s t f d (Renews granted) is None s.contents.reserved (ap (λ b. cond b None (option_map (renewed (t + granted)) (fin.get s.contents.entries f))) (eq-eqb granted 0 zero)) refl)
 
 -- the port of the entry that an act removes is free
 pub free_end : (s new : State) (f : FiveTuple) (port : ℕ) → new ≡ without_entry s f → IsSomeAnd (fin.get s.contents.entries f) (λ e. e.port ≡ port) → BecomesFree s.contents new.contents port

@@ -1,4 +1,4 @@
-use Rattle.std.proofs.Common.{◌≡◌, sym, ap, ◌∙◌, Some, None}
+use Rattle.std.proofs.Common.{◌≡◌, sym, ap, ◌∙◌, Some, None, rules}
 use Rattle.std.specs.FinMap as fin
 use Rattle.std.specs.Ordering.{nat_cmp}
 use Rattle.turn_types.specs.FiveTuple.{tuple_cmp}
@@ -9,6 +9,13 @@ use Rattle.turn_table.proofs.Held.{Updated, held-inserted}
 use Rattle.turn_table.proofs.Index.{inserted}
 use Rattle.turn_table.proofs.Users.{users_inserted}
 use Rattle.turn_table.proofs.allocations.Allocations.insert.Goals as goal
+
+pub returns : goal.returns
+returns g c =
+    let updates = ok_holds c.insert-2.result c.unwrap.result c.unwrap.ensures c.insert-2.ensures.updates in
+    let updated : Updated c.self.inside.entries.entries c.args.tuple (Some c.args.entry) c.insert-2.new.self.entries = search (rules, updates.0) in
+    held-inserted c.self.inside.entries.entries c.insert-2.new.self.entries c.args.tuple c.args.entry updated
+    ∙ ap (λ l. fin.insert l.held c.args.tuple c.args.entry) c.self.view_is
 
 pub invariant_of-self : goal.invariant_of-self
 invariant_of-self g c =
@@ -22,8 +29,3 @@ invariant_of-self g c =
           (c.put-2.ensures.map ∙ ap (λ p. fin.insert (map_in nat_cmp c.self.inside.ports) p c.args.tuple) c.port-2.ensures),
       users_inserted c.self.inside.entries.entries c.insert-2.new.self.entries c.self.inside.users.0 c.insert.new.self.0 c.args.tuple c.args.entry c.user.result.now c.user.ensures c.self.invariant.1 absent updated c.insert.ensures.tuples,
     )
-
-pub returns : goal.returns
-returns g c =
-    held-inserted c.self.inside.entries.entries c.insert-2.new.self.entries c.args.tuple c.args.entry (ok_holds c.insert-2.result c.unwrap.result c.unwrap.ensures c.insert-2.ensures.updates).0
-    ∙ ap (λ l. fin.insert l.held c.args.tuple c.args.entry) c.self.view_is

@@ -1,4 +1,4 @@
-use Rattle.std.proofs.Common.{◌≡◌, ◌≤◌, ◌+◌, ℕ, ap, sym, ◌∙◌, arith, refl, subst, option_map, Option, Some, None}
+use Rattle.std.proofs.Common.{◌≡◌, ◌≤◌, ◌+◌, ℕ, ap, sym, ◌∙◌, arith, rules, refl, subst, option_map, Option, Some, None}
 use Rattle.std.specs.Prelude.{IfSome, IsSomeAnd}
 use Rattle.std.specs.FinMap as fin
 use Rattle.std.specs.Ordering.{nat_cmp}
@@ -49,11 +49,20 @@ none_of (Some x) not_some = absurd (not_some x refl)
 
 -- ---- Without a token
 
+pub returns-in_default : goal.returns-in_default
+returns-in_default g c =
+    let old : Reservations = map_in nat_cmp c.self.inside.reserved in
+    let removed : map_in nat_cmp c.remove.new.self ≡ fin.remove old c.args.entry.entry.port = c.remove.ensures.map ∙ ap (fin.remove old) (search rules) in
+    let none : c.args.entry.entry.token ≡ None = sym c.token-token.ensures ∙ none_of c.token-token.result c.in_default.not-Some in
+    with_allocation-is c.self.inside.limits c.self.inside.moment c.self.inside.allocations.held (option_map room_of c.self.inside.room) c.args.self.now c.self.view_is
+    c.args.moment c.insert.new.self.held c.args.tuple c.args.entry c.insert.ensures (map_in nat_cmp c.remove.new.self)
+    (removed ∙ ap (λ t. with_reservation c.args.moment c.args.entry.entry.port t (fin.remove old c.args.entry.entry.port)) (sym none))
+
 pub invariant_of-self-in_default : goal.invariant_of-self-in_default
 invariant_of-self-in_default g c =
     let least = min_below c.self.inside.quiet_until c.earliest.result c.min-self-inside.result c.min-self-inside.ensures in
     let old : Reservations = map_in nat_cmp c.self.inside.reserved in
-    let removed : map_in nat_cmp c.remove.new.self ≡ fin.remove old c.args.entry.entry.port = c.remove.ensures.map ∙ ap (fin.remove old) c.port-port.ensures in
+    let removed : map_in nat_cmp c.remove.new.self ≡ fin.remove old c.args.entry.entry.port = c.remove.ensures.map ∙ ap (fin.remove old) (search rules) in
     record {
       quiet = subst (AreQuiet c.min-self-inside.result) (sym c.insert.ensures)
           (quiet_insert c.min-self-inside.result c.self.inside.allocations.held c.args.tuple c.args.entry
@@ -67,16 +76,20 @@ invariant_of-self-in_default g c =
           (apart_allocated c.self.inside.allocations.held old c.self.invariant.apart c.args.tuple c.args.entry));
     }
 
-pub returns-in_default : goal.returns-in_default
-returns-in_default g c =
-    let old : Reservations = map_in nat_cmp c.self.inside.reserved in
-    let removed : map_in nat_cmp c.remove.new.self ≡ fin.remove old c.args.entry.entry.port = c.remove.ensures.map ∙ ap (fin.remove old) c.port-port.ensures in
-    let none : c.args.entry.entry.token ≡ None = sym c.token-token.ensures ∙ none_of c.token-token.result c.in_default.not-Some in
-    with_allocation-is c.self.inside.limits c.self.inside.moment c.self.inside.allocations.held (option_map room_of c.self.inside.room) c.args.self.now c.self.view_is
-    c.args.moment c.insert.new.self.held c.args.tuple c.args.entry c.insert.ensures (map_in nat_cmp c.remove.new.self)
-    (removed ∙ ap (λ t. with_reservation c.args.moment c.args.entry.entry.port t (fin.remove old c.args.entry.entry.port)) (sym none))
-
 -- ---- With a token
+
+pub returns-in-Some : goal.returns-in-Some
+returns-in-Some g c =
+    let old : Reservations = map_in nat_cmp c.self.inside.reserved in
+    let port = c.args.entry.entry.port in
+    let r : Reservation = record { token = c.in-Some.token; expiry = c.seconds-expiry.result + 30 } in
+    let removed : map_in nat_cmp c.remove.new.self ≡ fin.remove old port = c.remove.ensures.map ∙ ap (fin.remove old) (search rules) in
+    let put : map_in nat_cmp c.put.new.self ≡ fin.insert (fin.remove old port) (port + 1) r =
+    c.put.ensures.map ∙ ap (λ m. fin.insert m (c.port-port.result + 1) r) removed ∙ ap (λ p. fin.insert (fin.remove old port) (p + 1) r) c.port-port.ensures in
+    let with_expiry : ℕ → Reservations = λ t. fin.insert (fin.remove old port) (port + 1) (record { token = c.in-Some.token; expiry = t + 30 }) in
+    with_allocation-is c.self.inside.limits c.self.inside.moment c.self.inside.allocations.held (option_map room_of c.self.inside.room) c.args.self.now c.self.view_is
+    c.args.moment c.insert.new.self.held c.args.tuple c.args.entry c.insert.ensures (map_in nat_cmp c.put.new.self)
+    (put ∙ ap with_expiry c.seconds-expiry.ensures.value ∙ ap (λ t. with_reservation c.args.moment port t (fin.remove old port)) c.in-Some.ensures)
 
 pub invariant_of-self : goal.invariant_of-self
 invariant_of-self g c =
@@ -85,7 +98,7 @@ invariant_of-self g c =
     let old : Reservations = map_in nat_cmp c.self.inside.reserved in
     let port = c.args.entry.entry.port in
     let r : Reservation = record { token = c.in-Some.token; expiry = c.seconds-expiry.result + 30 } in
-    let removed : map_in nat_cmp c.remove.new.self ≡ fin.remove old port = c.remove.ensures.map ∙ ap (fin.remove old) c.port-port.ensures in
+    let removed : map_in nat_cmp c.remove.new.self ≡ fin.remove old port = c.remove.ensures.map ∙ ap (fin.remove old) (search rules) in
     let put : map_in nat_cmp c.put.new.self ≡ fin.insert (fin.remove old port) (port + 1) r =
     c.put.ensures.map ∙ ap (λ m. fin.insert m (c.port-port.result + 1) r) removed ∙ ap (λ p. fin.insert (fin.remove old port) (p + 1) r) c.port-port.ensures in
     let next = subst (FitsReservation c.args.self.now.bounds c.args.self.now.contents port) (sym c.in-Some.ensures) c.requires.next in
@@ -104,16 +117,3 @@ invariant_of-self g c =
           (apart_paired c.self.inside.allocations.held old c.self.invariant.apart c.args.tuple c.args.entry r next.0
           (port_free_of c.self.inside.allocations.held c.args.self.now.contents (ap (λ s. s.contents) c.self.view_is) (port + 1) next.1)));
     }
-
-pub returns-in-Some : goal.returns-in-Some
-returns-in-Some g c =
-    let old : Reservations = map_in nat_cmp c.self.inside.reserved in
-    let port = c.args.entry.entry.port in
-    let r : Reservation = record { token = c.in-Some.token; expiry = c.seconds-expiry.result + 30 } in
-    let removed : map_in nat_cmp c.remove.new.self ≡ fin.remove old port = c.remove.ensures.map ∙ ap (fin.remove old) c.port-port.ensures in
-    let put : map_in nat_cmp c.put.new.self ≡ fin.insert (fin.remove old port) (port + 1) r =
-    c.put.ensures.map ∙ ap (λ m. fin.insert m (c.port-port.result + 1) r) removed ∙ ap (λ p. fin.insert (fin.remove old port) (p + 1) r) c.port-port.ensures in
-    let with_expiry : ℕ → Reservations = λ t. fin.insert (fin.remove old port) (port + 1) (record { token = c.in-Some.token; expiry = t + 30 }) in
-    with_allocation-is c.self.inside.limits c.self.inside.moment c.self.inside.allocations.held (option_map room_of c.self.inside.room) c.args.self.now c.self.view_is
-    c.args.moment c.insert.new.self.held c.args.tuple c.args.entry c.insert.ensures (map_in nat_cmp c.put.new.self)
-    (put ∙ ap with_expiry c.seconds-expiry.ensures.value ∙ ap (λ t. with_reservation c.args.moment port t (fin.remove old port)) c.in-Some.ensures)

@@ -1,11 +1,11 @@
-use Rattle.std.proofs.Common.{◌≡◌, ◌+◌, refl, ap, sym, ◌∙◌, Some, None, arith, cond, option_map}
+use Rattle.std.proofs.Common.{◌≡◌, ◌+◌, refl, ap, sym, ◌∙◌, Some, None, arith, cond, rules}
 use Rattle.std.proofs.lemmas.Bool.{eq-eqb, ne_eqb}
 use Rattle.std.specs.FinMap as fin
 use Rattle.turn_history.specs.Act.{act_of}
 use Rattle.turn_history.specs.History.{Allocates, Renews, Permits, Binds}
 use Rattle.turn_history.specs.Table.{renewed, permitting, binding}
 use Rattle.turn_table.specs.Table.{with_allocation}
-use Rattle.turn_table.proofs.Acts.{done, changed_by, agrees_after, free_end, freed_end}
+use Rattle.turn_table.proofs.Acts.{done, changed_by, removed_by, agrees_after, free_end, freed_end}
 use Rattle.turn_table.proofs.table.Table.apply.Goals as goal
 
 pub returns-in-Alloc-clause-state : goal.returns-in-Alloc-clause-state
@@ -29,10 +29,7 @@ returns-in-AllocEven-clause-agrees g c = agrees_after c.args.self.now _ c.args.m
 -- ---- A Renew
 
 pub returns-then-granted-eq0-clause-state : goal.returns-then-granted-eq0-clause-state
-returns-then-granted-eq0-clause-state g c =
-    c.remove_entry.ensures.state
-    ∙ sym (done c.args.self.now c.args.moment c.args.tuple (act_of c.args.act) (Renews c.in-Renew.granted) (ap act_of c.in-Renew.is) None c.args.self.now.contents.reserved
-    (ap (λ b. cond b None (option_map (renewed (c.args.moment + c.in-Renew.granted)) (fin.get c.args.self.now.contents.entries c.args.tuple))) (eq-eqb c.in-Renew.granted 0 c.if-granted-eq0.true)) refl)
+returns-then-granted-eq0-clause-state g c = removed_by c.args.self.now _ c.args.moment c.args.tuple c.in-Renew.granted (act_of c.args.act) (ap act_of c.in-Renew.is) c.if-granted-eq0.true (search rules)
 
 pub returns-then-granted-eq0-clause-freed : goal.returns-then-granted-eq0-clause-freed
 returns-then-granted-eq0-clause-freed g c =
