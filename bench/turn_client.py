@@ -81,6 +81,9 @@ def code_of(attributes):
 class Client:
     """One five-tuple. What arrives and is no answer to the request under way waits in `arrived`."""
 
+    # After how many seconds a request is sent again. The last one is how long the last answer is waited for.
+    waits = (0.5, 1, 2, 4)
+
     def __init__(self, server, user, password, local="127.0.0.1"):
         self.socket = socket.socket(socket.AF_INET, socket.SOCK_DGRAM)
         self.socket.bind((local, 0))
@@ -108,8 +111,8 @@ class Client:
         return message(method, os.urandom(12), attributes + names, self.key)
 
     def exchange(self, request):
-        """Sends the bytes, again after 0.5, 1 and 2 seconds, and returns the response's bytes."""
-        for seconds in (0.5, 1, 2, 4):
+        """Sends the bytes, again after each wait but the last, and returns the response's bytes."""
+        for seconds in self.waits:
             self.send(request)
             until = time.monotonic() + seconds
             while (left := until - time.monotonic()) > 0:
