@@ -28,6 +28,7 @@ mod writers;
 use std::io::{self, Write};
 use std::rt::Clock;
 use std::test::Fail;
+use test_files::ProcInFolder;
 use turn_program::{Release, run_words};
 
 const FROM: &str = "192.0.2.1:32853";
@@ -65,5 +66,14 @@ fn run_line<C: Clock, W: Write, E: Write>(
     for word in line.split(' ') {
         words.push(word)?;
     }
-    Ok(run_words(rt, clock, RELEASE, words.as_slice(), out, err, io::sink()))
+    let system = ProcInFolder(rt);
+    Ok(run_words(
+        &system,
+        clock,
+        RELEASE,
+        words.as_slice(),
+        out,
+        err,
+        io::sink(),
+    ))
 }

@@ -13,7 +13,7 @@ use player::Player;
 use std::fs;
 
 /// The names of the files in `data`, without `.txt`.
-const TEXTS: [&str; 12] = [
+const TEXTS: [&str; 14] = [
     "words",
     "values",
     "replies",
@@ -25,6 +25,8 @@ const TEXTS: [&str; 12] = [
     "carrying",
     "listening",
     "logs",
+    "reasons",
+    "notes",
     "credentials",
 ];
 

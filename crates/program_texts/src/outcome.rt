@@ -4,6 +4,7 @@ ghost use Rattle.std.specs.Prelude.{◌≡◌, ◌↔◌, IsTrue};
 
 use crate::clock::At;
 use std::alloc::Global;
+use test_files::ProcInFolder;
 use turn_program::{Release, run_words};
 
 /// What the program says it is made from.
@@ -58,8 +59,8 @@ impl Outcome {
     pub fn of(rt: &HostRuntime, second: u64, words: &[String]) -> Outcome {
         let (mut out, mut err) = (Vec::new(rt.alloc()), Vec::new(rt.alloc()));
         let mut log = Vec::new(rt.alloc());
-        let at = At(second);
-        let status = run_words(rt, &at, RELEASE, words, &mut out, &mut err, &mut log);
+        let (system, at) = (ProcInFolder(rt), At(second));
+        let status = run_words(&system, &at, RELEASE, words, &mut out, &mut err, &mut log);
         Outcome {
             status,
             out,

@@ -3,6 +3,8 @@
 
 mod changing;
 mod file;
+mod proc;
 
 pub use changing::{Changing, copy_at};
 pub use file::{FileCalls, TestFile};
+pub use proc::ProcInFolder;

@@ -3,7 +3,7 @@ use Rattle.std.specs.Prelude.{ℕ, ◌≡◌, ◌≢◌, ◌≤◌, ◌<◌, ◌
 use Rattle.hex.specs.Hex.{decode_of}
 use Rattle.turn_types.specs.declared.address.Endpoint.{Endpoint}
 use Rattle.turn_cli.specs.declared.command.Command.{Command}
-use Rattle.turn_cli.specs.declared.command.Command.TheVariants.{Answer, Replay, Credential, Format, Inspect, Check, Serve, Demo, Version}
+use Rattle.turn_cli.specs.declared.command.Command.TheVariants.{Answer, Replay, Credential, Format, Inspect, Check, Serve, Probe, Status, Demo, Version, Help}
 use Rattle.turn_cli.specs.declared.error.CliError.{CliError}
 use Rattle.turn_cli.specs.declared.error.CliError.TheVariants.{Usage, BadDatagram, Memory}
 use Rattle.turn_config.specs.Values.{number_of, IsNumberBelow, IsIp, IsEndpoint}
@@ -64,14 +64,17 @@ pub record AreWellFormed (from : List ℕ) (at : Option (List ℕ)) : Type 0 whe
 abbrev pub IsAnswer : List ℕ → Option (List ℕ) → List ℕ → Command → Type 0
 IsAnswer from at hex (Answer endpoint moment datagram) =
     IsEndpoint from endpoint × IsMomentWord at × (moment ≡ seconds_at at) × (decode_of hex ≡ Ok datagram.items)
-IsAnswer from at hex (Replay file) = ⊥
-IsAnswer from at hex (Credential config name expiry) = ⊥
-IsAnswer from at hex (Format config store area) = ⊥
-IsAnswer from at hex (Inspect store moment) = ⊥
-IsAnswer from at hex (Check config store listen) = ⊥
+IsAnswer from at hex (Replay file log) = ⊥
+IsAnswer from at hex (Credential config name expiry log) = ⊥
+IsAnswer from at hex (Format config store area log) = ⊥
+IsAnswer from at hex (Inspect store moment log) = ⊥
+IsAnswer from at hex (Check config store listen log) = ⊥
 IsAnswer from at hex (Serve config store turns burst bind listen log) = ⊥
+IsAnswer from at hex (Probe server asker only) = ⊥
+IsAnswer from at hex (Status config store) = ⊥
 IsAnswer from at hex Demo = ⊥
 IsAnswer from at hex Version = ⊥
+IsAnswer from at hex (Help synopsis) = ⊥
 
 -- why they make no command: a malformed text before a datagram that is not hex
 abbrev pub IsAnswerError : List ℕ → Option (List ℕ) → List ℕ → CliError → Type 0
@@ -97,11 +100,14 @@ pub record AreTimes (at life : List ℕ) : Type 0 where
 -- a server takes 1 to 64 datagrams of a socket in a turn, and listens on at most eight addresses beside the configuration's
 abbrev pub IsInRange : Command → Type 0
 IsInRange (Answer endpoint moment datagram) = ⊤
-IsInRange (Replay file) = ⊤
-IsInRange (Credential config name expiry) = 1 ≤ expiry
-IsInRange (Format config store area) = ⊤
-IsInRange (Inspect store moment) = ⊤
-IsInRange (Check config store listen) = length listen.items ≤ 8
+IsInRange (Replay file log) = ⊤
+IsInRange (Credential config name expiry log) = 1 ≤ expiry
+IsInRange (Format config store area log) = ⊤
+IsInRange (Inspect store moment log) = ⊤
+IsInRange (Check config store listen log) = length listen.items ≤ 8
 IsInRange (Serve config store turns burst bind listen log) = (1 ≤ burst) × (burst ≤ 64) × (length listen.items ≤ 8)
+IsInRange (Probe server asker only) = ⊤
+IsInRange (Status config store) = ⊤
 IsInRange Demo = ⊤
 IsInRange Version = ⊤
+IsInRange (Help synopsis) = ⊤

@@ -10,10 +10,13 @@ mod answer;
 mod check;
 mod credential;
 mod format;
+mod help;
 mod inspect;
 mod listen;
+mod probe;
 mod replay;
 mod serve;
+mod status;
 mod words;
 
 use crate::error::CliError;
@@ -22,10 +25,15 @@ use check::{check_command, check_of};
 use clap::error::ErrorKind;
 use credential::{credential_command, credential_of};
 use format::{format_command, format_of};
+pub use help::{SYNOPSES, Synopsis};
+use help::{help_command, help_of};
 pub use inspect::shown_at;
 use inspect::{inspect_command, inspect_of};
+pub use probe::Asker;
+use probe::{probe_command, probe_of};
 use replay::{replay_command, replay_of};
 use serve::{serve_command, serve_of};
+use status::{status_command, status_of};
 use std::alloc::{AllocError, Global};
 use std::convert::AsStr;
 use turn_types::{Endpoint, Moment};
@@ -46,6 +54,8 @@ pub enum Command {
     Replay {
         /// The path of the scenario.
         file: String,
+        /// Whether the reason of a fault is told.
+        log: bool,
     },
     /// A user's name that expires at a moment, with its password under the secret of a configuration. The name given, if there is
     /// one, comes after the moment.
@@ -56,6 +66,8 @@ pub enum Command {
         name: Option<String>,
         /// The moment of `--at` and the seconds of `--life` after it.
         expiry: Moment,
+        /// Whether the reason of a fault is told.
+        log: bool,
     },
     /// A new store in a file, with the limits of a configuration and two areas of so many bytes.
     Format {
@@ -65,6 +77,8 @@ pub enum Command {
         store: String,
         /// The size of each of the two areas, in bytes.
         area: u32,
+        /// Whether the reason of a fault is told.
+        log: bool,
     },
     /// What the store in a file holds.
     Inspect {
@@ -72,6 +86,8 @@ pub enum Command {
         store: String,
         /// The moment at which the table is shown, by `--at`, if it is not before the table's own.
         at: Option<Moment>,
+        /// Whether the reason of a fault is told.
+        log: bool,
     },
     /// Whether a server would start with a configuration, as far as its sockets, and with a store if one is given. `listen` are
     /// the addresses that clients send to beside the configuration's.
@@ -82,6 +98,8 @@ pub enum Command {
         store: Option<String>,
         /// The addresses of `--listen`, in their order.
         listen: Vec<Endpoint>,
+        /// Whether the reason of a fault is told.
+        log: bool,
     },
     /// A server over sockets and the store in a file, for so many turns if that is given. It keeps a log if that is asked for.
     Serve {
@@ -100,15 +118,37 @@ pub enum Command {
         /// Whether a log is kept.
         log: bool,
     },
+    /// The answers of a server to what a client asks.
+    Probe {
+        /// The server's address, if it isn't that of the configuration.
+        server: Option<Endpoint>,
+        /// Who asks.
+        asker: Asker,
+        /// Whether it asks for a Binding alone.
+        only_binding: bool,
+    },
+    /// Who has what in the store in a file.
+    Status {
+        /// The path of the configuration.
+        config: String,
+        /// The path of the store.
+        store: String,
+    },
     /// A server over sockets that shows what it does.
     Demo,
     /// What the program is made from.
     Version,
+    /// How commands are called.
+    Help {
+        /// The synopsis of the command that is asked about, if one is.
+        synopsis: Option<&'static Synopsis>,
+    },
 }
 
 fn turn_command<'a>(alloc: Global) -> Result<clap::Command<'a>, AllocError> {
     clap::Command::new(alloc, "turn")
         .subcommand_required(true)
+        .disable_help_subcommand(true)
         .subcommand(answer_command(alloc)?)?
         .subcommand(replay_command(alloc)?)?
         .subcommand(credential_command(alloc)?)?
@@ -116,8 +156,11 @@ fn turn_command<'a>(alloc: Global) -> Result<clap::Command<'a>, AllocError> {
         .subcommand(inspect_command(alloc)?)?
         .subcommand(check_command(alloc)?)?
         .subcommand(serve_command(alloc)?)?
+        .subcommand(probe_command(alloc)?)?
+        .subcommand(status_command(alloc)?)?
         .subcommand(clap::Command::new(alloc, "demo"))?
-        .subcommand(clap::Command::new(alloc, "version"))
+        .subcommand(clap::Command::new(alloc, "version"))?
+        .subcommand(help_command(alloc)?)
 }
 
 /// A refusal of the words, `--help` included, is a usage fault.
@@ -145,8 +188,11 @@ pub fn command_of<S: AsStr>(alloc: Global, words: &[S]) -> Result<Command, CliEr
         Some(("inspect", found)) => inspect_of(alloc, found),
         Some(("check", found)) => check_of(alloc, found),
         Some(("serve", found)) => serve_of(alloc, found),
+        Some(("probe", found)) => probe_of(alloc, found),
+        Some(("status", found)) => status_of(alloc, found),
         Some(("demo", _)) => Ok(Command::Demo),
         Some(("version", _)) => Ok(Command::Version),
+        Some(("help", found)) => help_of(found),
         _ => Err(CliError::Usage),
     }
 }

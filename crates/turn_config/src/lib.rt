@@ -3,10 +3,12 @@
 
 mod config;
 mod lines;
+mod reason;
 mod settings;
 mod shown;
 pub mod values;
 
 pub use config::{ConfigTextError, read_config};
 pub use lines::{ConfigLines, Configured, is_skipped};
+pub use reason::{BadLineReason, Times, bad_line_reason};
 pub use shown::{ShownEndpoint, ShownIp};

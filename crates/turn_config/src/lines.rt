@@ -25,7 +25,7 @@ use turn_types::{ConfigError, Endpoint, IpRange, Limits, ServerConfig, Settings}
 const QUOTA: u32 = 10;
 
 /// How many `deny` lines there may be.
-const MAX_DENIED: usize = 64;
+pub(crate) const MAX_DENIED: usize = 64;
 
 /// What the lines of a configuration say so far. The texts are slices of the lines.
 #[derive(Drop)]

@@ -5,12 +5,15 @@ ghost use Rattle.turn_disk.specs.Calls.{FollowCrashModel, replay};
 
 use crate::disk::{DeviceError, Disk};
 use crate::failures::raise;
-use crate::opened::{FileError, lock, open_apart};
+use crate::opened::{FileError, is_link, lock, open_apart};
 use crate::record::{CallRecord, READ, SYNC, WRITE};
 use crate::start::{Start, Unknown};
 use std::fs::{File, Files, OpenFile, OpenOptions};
 use std::marker::{Model, PhantomData};
-use std::os::unix::fs::FileExt;
+use std::os::unix::fs::{FileExt, OpenOptionsExt};
+
+/// The permissions of a new file: its owner reads and writes it.
+const OWNER_ALONE: u32 = 0o600;
 
 /// A disk over a file, as large as the file is when it is opened.
 ///
@@ -72,7 +75,7 @@ impl<F: FileExt + OpenFile> FileDisk<F> {
 
 impl FileDisk<File> {
     /// Makes the file, or makes it anew, with so many zero bytes, and takes its lock. The content of a file of that name is
-    /// lost, unless the file is in use.
+    /// lost, unless the file is in use. A new file is the owner's alone. A symbolic link is followed to no file.
     pub fn create<R: Files<File = File>>(
         files: &R,
         path: &str,
@@ -83,7 +86,14 @@ impl FileDisk<File> {
         ensures events { IfOk result (λ disk. disk.events ≡ []) }
     {
         let mut options = OpenOptions::new();
-        options.read(true).write(true).create(true);
+        options
+            .read(true)
+            .write(true)
+            .create(true)
+            .mode(OWNER_ALONE);
+        if is_link(files, path) {
+            return Err(FileError::Device);
+        }
         let file = open_apart(files, path, &options)?;
         lock(&file)?;
         file.set_len(0)?;

@@ -55,6 +55,11 @@ pub fn open_regular<R: Files>(files: &R, path: &str, options: &OpenOptions) -> i
     }
 }
 
+/// Whether a symbolic link has the name.
+pub fn is_link<R: Files>(files: &R, path: &str) -> bool {
+    matches!(fs::symlink_metadata(files, path), Ok(there) if there.file_type().is_symlink())
+}
+
 /// Opens a regular file whose descriptor is none of a standard stream.
 pub fn open_apart<R: Files<File = File>>(
     files: &R,

@@ -1,2 +1,4 @@
+pub mod Causes
+pub mod Lines
 pub mod Logged
 pub mod Names

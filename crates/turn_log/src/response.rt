@@ -1,24 +1,26 @@
 //! What a log takes a datagram to a client for.
 
 ghost use Rattle.std.specs.Prelude.{◌≡◌};
-ghost use Rattle.turn_log.specs.Logged.{is_401, response_of};
+ghost use Rattle.turn_log.specs.Logged.{code_of, response_of};
 
 /// A response to a request that asks for credentials.
 #[derive(Clone, Copy, Debug, PartialEq, Eq)]
 pub enum Response {
     /// A success response.
     Success,
-    /// An error of code 401: no credentials, or wrong ones.
-    Unauthenticated,
-    /// An error of another code.
-    Error,
+    /// An error, with its code: 401 and so on.
+    Error(u16),
 }
 
-/// Whether the first attribute of a message is the error code 401.
-fn is_401(bytes: &[u8]) -> bool
-    ensures { result ≡ is_401 bytes.now }
+/// The error code of an error response whose first attribute that is, or 0.
+fn code_of(bytes: &[u8]) -> u16
+    ensures { result ≡ code_of bytes.now }
 {
-    bytes.len() >= 28 && bytes[20] == 0 && bytes[21] == 9 && bytes[26] == 4 && bytes[27] == 1
+    if bytes.len() >= 28 && bytes[20] == 0 && bytes[21] == 9 {
+        u16::from(bytes[26]) * 100 + u16::from(bytes[27])
+    } else {
+        0
+    }
 }
 
 /// The response that a datagram of the server is, to an Allocate, a Refresh, a CreatePermission or a ChannelBind. Data that is
@@ -29,11 +31,7 @@ pub fn response_of(bytes: &[u8]) -> Option<Response>
 {
     match bytes {
         [1, 3 | 4 | 8 | 9, ..] => Some(Response::Success),
-        [1, 19 | 20 | 24 | 25, ..] => Some(if is_401(bytes) {
-            Response::Unauthenticated
-        } else {
-            Response::Error
-        }),
+        [1, 19 | 20 | 24 | 25, ..] => Some(Response::Error(code_of(bytes))),
         _ => None,
     }
 }

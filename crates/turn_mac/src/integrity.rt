@@ -40,11 +40,24 @@ fn fingerprint_value(front: &[u8]) -> [u8; 4]
     (checksum.finalize() ^ FINGERPRINT_MASK).to_be_bytes()
 }
 
-/// Whether a digest that was received is the expected one. Every digest that depends on a secret is compared here.
+/// In how many places two digests differ, of which the first has at least the length of the other.
+fn differences(found: &[u8], expected: &[u8]) -> usize
+    requires { length found.now ≡ length expected.now }
+    ensures none { (result ≡ 0) ↔ (found.now ≡ expected.now) }
+    ensures bound { result ≤ length found.now }
+{
+    match (found, expected) {
+        ([a, found @ ..], [b, expected @ ..]) => usize::from(a != b) + differences(found, expected),
+        _ => 0,
+    }
+}
+
+/// Whether a digest that was received is the expected one. Every digest that depends on a secret is compared here, to its end: so the
+/// time doesn't say in how many bytes they agree.
 pub fn digests_agree(found: &[u8], expected: &[u8]) -> bool
     ensures { IsTrue result ↔ (found.now ≡ expected.now) }
 {
-    found == expected
+    found.len() == expected.len() && differences(found, expected) == 0
 }
 
 /// Whether the first MESSAGE-INTEGRITY of a message is right under the key (RFC 8489, section 14.5).

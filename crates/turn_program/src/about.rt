@@ -1,10 +1,13 @@
 //! What a fault of a start is about: the file or the address, and the system's reason, where a second look finds one.
 
+use crate::bad_line::bad_line_text;
+use crate::error::ProgramError;
+use crate::files::read_whole;
 use crate::log::Log;
 use std::alloc::{AllocError, Global};
-use std::fmt::Display;
+use std::fmt::{self, Display};
 use std::fs::OpenOptions;
-use std::io::{self, Write};
+use std::io::{self, ErrorKind, Write};
 use std::net::{Net, UdpSocket};
 use std::rt::{Clock, Files};
 use turn_config::{ShownEndpoint, ShownIp};
@@ -25,6 +28,20 @@ pub fn second_now<C: Clock>(clock: &C) -> u64 {
     }
 }
 
+/// The reason of the system, or that something else than a regular file has the name, which the system has no number for.
+#[derive(Drop)]
+struct ShownError(io::Error);
+
+impl fmt::Display for ShownError {
+    fn fmt<W: fmt::Write>(&self, f: &mut fmt::Formatter<W>) -> fmt::Result {
+        let reason = &self.0;
+        if reason.kind() == ErrorKind::InvalidInput && reason.raw_os_error().is_none() {
+            return write!(f, "not a regular file");
+        }
+        write!(f, "{reason}")
+    }
+}
+
 /// What is at fault, and why if the system said so.
 fn text_of<T: Display>(
     alloc: Global,
@@ -33,7 +50,10 @@ fn text_of<T: Display>(
     reason: Option<io::Error>,
 ) -> Result<String, AllocError> {
     match reason {
-        Some(reason) => format!(in alloc; "{what} {name}: {reason}"),
+        Some(reason) => {
+            let reason = ShownError(reason);
+            format!(in alloc; "{what} {name}: {reason}")
+        }
         None => format!(in alloc; "{what} {name}"),
     }
 }
@@ -52,27 +72,103 @@ fn tell<C: Clock, L: Write + Drop, T: Display>(
     }
 }
 
-/// Says that a configuration's file is at fault, and why it can't be read if it can't.
+/// Says that a file is at fault, and why it can't be opened if it can't.
+fn tell_file<R: Files + AllocGlobal, C: Clock, L: Write + Drop>(
+    rt: &R,
+    clock: &C,
+    log: &Log<L>,
+    what: &str,
+    path: &str,
+    options: &OpenOptions,
+) {
+    if !log.is_kept() {
+        return;
+    }
+    let reason = open_regular(rt, path, options).err();
+    tell(
+        rt.alloc(),
+        clock,
+        log,
+        what,
+        &ShownName(path.as_bytes()),
+        reason,
+    );
+}
+
+/// How a file is opened that is only read.
+fn to_read() -> OpenOptions {
+    let mut options = OpenOptions::new();
+    options.read(true);
+    options
+}
+
+/// Says what is wrong with a configuration whose first bad line has this number.
+fn tell_line<R: Files + AllocGlobal, C: Clock, L: Write + Drop>(
+    rt: &R,
+    clock: &C,
+    log: &Log<L>,
+    path: &str,
+    number: u64,
+) {
+    if !log.is_kept() {
+        return;
+    }
+    if let Ok(text) = read_whole(rt, rt.alloc(), path) {
+        if let Ok(line) = bad_line_text(rt.alloc(), path, &text, number) {
+            log.say(second_now(clock), line.as_str());
+        }
+    }
+}
+
+/// Says that a configuration is at fault: what is wrong with a bad line, or why the file can't be read if it can't.
 pub fn tell_config<R: Files + AllocGlobal, C: Clock, L: Write + Drop>(
     rt: &R,
     clock: &C,
     log: &Log<L>,
     path: &str,
+    fault: ProgramError,
 ) {
-    if !log.is_kept() {
-        return;
+    match fault {
+        ProgramError::BadLine(number) => tell_line(rt, clock, log, path, number),
+        _ => tell_file(rt, clock, log, "config", path, &to_read()),
     }
-    let mut options = OpenOptions::new();
-    options.read(true);
-    let reason = open_regular(rt, path, &options).err();
-    tell(
-        rt.alloc(),
-        clock,
-        log,
-        "config",
-        &ShownName(path.as_bytes()),
-        reason,
-    );
+}
+
+/// What a log says of an address that is given twice.
+const LISTENS_TWICE: &str = "listen: an address is given twice";
+
+/// Says what the fault of a configuration, or of the addresses, is about.
+pub fn tell_prepared<R: Files + AllocGlobal, C: Clock, L: Write + Drop>(
+    rt: &R,
+    clock: &C,
+    log: &Log<L>,
+    path: &str,
+    fault: ProgramError,
+) {
+    match fault {
+        ProgramError::Usage => log.say(second_now(clock), LISTENS_TWICE),
+        _ => tell_config(rt, clock, log, path, fault),
+    }
+}
+
+/// Says that a scenario's file is at fault, and why it can't be opened if it can't.
+pub fn tell_scenario<R: Files + AllocGlobal, C: Clock, L: Write + Drop>(
+    rt: &R,
+    clock: &C,
+    log: &Log<L>,
+    path: &str,
+) {
+    tell_file(rt, clock, log, "scenario", path, &to_read());
+}
+
+/// Says that the file of a store that is only read is at fault, and why it can't be opened if it can't.
+pub fn tell_read_store<R: Files + AllocGlobal, C: Clock, L: Write + Drop>(
+    rt: &R,
+    clock: &C,
+    log: &Log<L>,
+    path: &str,
+) {
+    tell_file(rt, clock, log, "store", path, &to_read());
 }
 
 /// Says that a store's file is at fault, and why it can't be opened if it can't.
@@ -82,20 +178,21 @@ pub fn tell_store<R: Files + AllocGlobal, C: Clock, L: Write + Drop>(
     log: &Log<L>,
     path: &str,
 ) {
-    if !log.is_kept() {
-        return;
-    }
-    let mut options = OpenOptions::new();
-    options.read(true).write(true);
-    let reason = open_regular(rt, path, &options).err();
-    tell(
-        rt.alloc(),
-        clock,
-        log,
-        "store",
-        &ShownName(path.as_bytes()),
-        reason,
-    );
+    let mut options = to_read();
+    options.write(true);
+    tell_file(rt, clock, log, "store", path, &options);
+}
+
+/// Says that the file of a store that was to be made is at fault, and why it can't be made if it can't.
+pub fn tell_made_store<R: Files + AllocGlobal, C: Clock, L: Write + Drop>(
+    rt: &R,
+    clock: &C,
+    log: &Log<L>,
+    path: &str,
+) {
+    let mut options = to_read();
+    options.write(true).create(true);
+    tell_file(rt, clock, log, "store", path, &options);
 }
 
 /// Where a server's sockets are bound.

@@ -5,7 +5,10 @@ ghost use Rattle.turn_program.specs.Checks.{IsStoreError};
 ghost use Rattle.turn_reading.specs.Readings.{IsRead};
 ghost use Rattle.turn_store.specs.Replay.{Snapshot};
 
+use crate::about::{tell_prepared, tell_store};
 use crate::error::ProgramError;
+use crate::log::Log;
+use crate::notes::{Note, Noted, notes_of};
 use crate::prepare::prepare;
 use crate::print::print_line;
 use std::alloc::Global;
@@ -13,8 +16,9 @@ use std::fs::{File, OpenOptions};
 use std::io::Write;
 use std::rt::{Clock, Files};
 use turn_disk::{Disk, FileDisk, open_regular};
+use turn_ports::RelayAddressGenerator;
 use turn_reading::read_store;
-use turn_types::{Endpoint, Limits};
+use turn_types::{Endpoint, Limits, Moment};
 
 /// Opens a store's file to be read alone, whoever has its lock. It has to be one that may be written to, as a start opens it.
 fn open_beside<R: Files<File = File>>(
@@ -30,13 +34,14 @@ fn open_beside<R: Files<File = File>>(
     Ok(FileDisk::open_to_read(files, store)?)
 }
 
-/// Reads a store as a start opens it, under these limits, whether or not a server writes to it meanwhile. Returns the disk too.
+/// Reads a store as a start opens it, under these limits, whether or not a server writes to it meanwhile. Returns the disk too, and the
+/// latest moment that is written.
 pub fn check_store<D: Disk + Drop, C: Clock>(
     alloc: Global,
     clock: &C,
     disk: D,
     limits: Limits,
-) -> (D, Result<(), ProgramError>)
+) -> (D, Result<Moment, ProgramError>)
     ensures crash_model { D.follows_crash_model result.0 → D.follows_crash_model disk }
     ensures same { D.follows_crash_model result.0 → (D.trace result.0).now.bytes ≡ (D.trace disk).now.bytes }
 
@@ -46,27 +51,69 @@ pub fn check_store<D: Disk + Drop, C: Clock>(
 {
     let (disk, read) = read_store(alloc, clock, disk, Some(limits));
     match read {
-        Ok(reading) => {
-            drop(reading);
-            (disk, Ok(()))
-        }
+        Ok(reading) => (disk, Ok(reading.table.moment())),
         Err(fault) => (disk, Err(ProgramError::from(fault))),
     }
 }
 
-/// Says whether a server would start with a configuration, as far as its sockets, and with a store if one is given. `listen` are
-/// the addresses beside the configuration's. Nothing is written, and no socket is opened.
-pub fn run_check<R: Files<File = File> + AllocGlobal, C: Clock, W: Write>(
+/// Checks the store in a file, if one is given. Returns the latest moment that is written there.
+fn check_file<R: Files<File = File> + AllocGlobal, C: Clock>(
     rt: &R,
     clock: &C,
+    store: Option<&str>,
+    limits: Limits,
+) -> Result<Option<Moment>, ProgramError> {
+    let Some(store) = store else {
+        return Ok(None);
+    };
+    let disk = open_beside(rt, store)?;
+    Ok(Some(check_store(rt.alloc(), clock, disk, limits).1?))
+}
+
+/// Checks a configuration, and then a store if one is given. At a fault the log says what it is about. Returns what notes are made of.
+fn check_files<R: Files<File = File> + AllocGlobal, C: Clock, L: Write + Drop>(
+    rt: &R,
+    clock: &C,
+    log: &Log<L>,
+    config: &str,
+    store: Option<&str>,
+    listen: &[Endpoint],
+) -> Result<Noted, ProgramError> {
+    let prepared = prepare(rt, config, listen, |limits| {
+        Ok(check_file(rt, clock, store, limits))
+    })
+    .inspect_err(|fault| tell_prepared(rt, clock, log, config, *fault))?;
+    let checked = prepared
+        .store
+        .inspect_err(|_| tell_store(rt, clock, log, store.unwrap_or("")))?;
+    Ok(Noted {
+        ports: prepared.ports.range(),
+        allocations: prepared.config.limits().allocations(),
+        clock: checked,
+    })
+}
+
+/// Prints a line of what is odd.
+fn print_note<W: Write>(alloc: Global, note: Note, out: &mut W) -> Result<(), ProgramError> {
+    print_line(&format!(in alloc; "note: {note}")?, out)
+}
+
+/// Says whether a server would start with a configuration, as far as its sockets, and with a store if one is given, and before that
+/// what is odd. `listen` are the addresses beside the configuration's. Nothing is written, and no socket is opened.
+pub fn run_check<R: Files<File = File> + AllocGlobal, C: Clock, W: Write, L: Write + Drop>(
+    rt: &R,
+    clock: &C,
+    log: &Log<L>,
     config: &str,
     store: Option<&str>,
     listen: &[Endpoint],
     out: &mut W,
 ) -> Result<(), ProgramError> {
-    prepare(rt, config, listen, |limits| match store {
-        Some(store) => check_store(rt.alloc(), clock, open_beside(rt, store)?, limits).1,
-        None => Ok(()),
-    })?;
+    let noted = check_files(rt, clock, log, config, store, listen)?;
+    for note in notes_of(rt, clock, noted) {
+        if let Some(note) = note {
+            print_note(rt.alloc(), note, out)?;
+        }
+    }
     print_line("ok", out)
 }

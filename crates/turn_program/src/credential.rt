@@ -1,11 +1,13 @@
 //! `turn credential`.
 
+use crate::about::{second_now, tell_config};
 use crate::error::ProgramError;
 use crate::files::read_whole;
+use crate::log::Log;
 use crate::print::print_lines;
 use std::alloc::{AllocError, Global};
 use std::io::Write;
-use std::rt::Files;
+use std::rt::{Clock, Files};
 use turn_config::{ShownEndpoint, read_config};
 use turn_types::{Endpoint, Moment};
 
@@ -57,14 +59,13 @@ fn lines_of(
     Ok(lines)
 }
 
-/// Prints a user's name that expires at a moment, and its password under the secret of a configuration.
-pub fn run_credential<R: Files + AllocGlobal, W: Write>(
+/// The lines of a user's name that expires at a moment, and of its password under the secret of a configuration.
+fn credential_lines<R: Files + AllocGlobal>(
     rt: &R,
     config: &str,
     name: Option<&str>,
     expiry: Moment,
-    out: &mut W,
-) -> Result<(), ProgramError> {
+) -> Result<Vec<String>, ProgramError> {
     let alloc = rt.alloc();
     let text = read_whole(rt, alloc, config)?;
     let configured = read_config(alloc, &text)?;
@@ -73,6 +74,31 @@ pub fn run_credential<R: Files + AllocGlobal, W: Write>(
         .shared_password(username.as_bytes())
         .ok_or(ProgramError::Usage)?;
     let password = text_of(alloc, &password)?;
-    let lines = lines_of(alloc, configured.listen, &username, &password)?;
-    print_lines(alloc, &lines, out)
+    Ok(lines_of(alloc, configured.listen, &username, &password)?)
+}
+
+/// What a log says where a server would not take the name.
+const NO_PASSWORD: &str = "name: no password for it under this configuration";
+
+/// Prints a user's name that expires at a moment, and its password under the secret of a configuration. At a fault the log says what
+/// it is about.
+pub fn run_credential<R: Files + AllocGlobal, C: Clock, W: Write, L: Write + Drop>(
+    rt: &R,
+    clock: &C,
+    log: &Log<L>,
+    config: &str,
+    name: Option<&str>,
+    expiry: Moment,
+    out: &mut W,
+) -> Result<(), ProgramError> {
+    match credential_lines(rt, config, name, expiry) {
+        Ok(lines) => print_lines(rt.alloc(), &lines, out),
+        Err(fault) => {
+            match fault {
+                ProgramError::Usage => log.say(second_now(clock), NO_PASSWORD),
+                _ => tell_config(rt, clock, log, config, fault),
+            }
+            Err(fault)
+        }
+    }
 }

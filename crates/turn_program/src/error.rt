@@ -5,6 +5,7 @@ ghost use Rattle.turn_program.specs.Faults.{of_client, of_config, of_file, of_fo
 ghost use Rattle.turn_program.specs.Status.{status_of};
 ghost use Rattle.turn_program.specs.declared.error.ProgramError.TheVariants as faults;
 
+use crate::probe::ProbeFault;
 use std::alloc::AllocError;
 use thiserror::Error;
 use turn_cli::CliError;
@@ -58,6 +59,9 @@ pub enum ProgramError {
     /// An allocation failed.
     #[error("turn: memory")]
     Memory,
+    /// A step of a probe failed.
+    #[error("turn: probe: {0}")]
+    Probe(ProbeFault),
 }
 
 impl From<AllocError> for ProgramError {
@@ -228,6 +232,7 @@ impl ProgramError {
             ProgramError::StoreInUse | ProgramError::Device | ProgramError::Socket => 3,
             ProgramError::Differs(_) => 4,
             ProgramError::Memory => 5,
+            ProgramError::Probe(_) => 6,
         }
     }
 }

@@ -1,6 +1,6 @@
 //! `turn format`.
 
-ghost use Rattle.std.specs.Prelude.{◌≡◌, [], ◌+◌, ◌*◌, ◌<◌, ◌≤◌, Err, IfErr, OnErr, OnOk, length};
+ghost use Rattle.std.specs.Prelude.{◌≡◌, [], ◌+◌, ◌*◌, ◌^◌, ◌<◌, ◌≤◌, Err, IfErr, OnErr, OnOk, length};
 ghost use Rattle.turn_disk.specs.Counts.{CountOutcome, Rises};
 ghost use Rattle.turn_program.specs.declared.error.ProgramError.TheVariants as faults;
 ghost use Rattle.turn_record.specs.declared.version.Version.TheVariants.{V2};
@@ -8,13 +8,15 @@ ghost use Rattle.turn_store.specs.Format.{IsFormatted};
 ghost use Rattle.turn_store.specs.Images.{EachImage, StandsForAt};
 ghost use Rattle.turn_store.specs.Superblock.{least_area};
 
+use crate::about::{tell_config, tell_made_store};
 use crate::error::ProgramError;
 use crate::files::read_whole;
+use crate::log::Log;
 use crate::print::print_line;
 use std::alloc::Global;
 use std::fs::File;
 use std::io::Write;
-use std::rt::Files;
+use std::rt::{Clock, Files};
 use turn_config::read_config;
 use turn_disk::{DeviceError, Disk, FileDisk};
 use turn_store::{format, least_area};
@@ -76,9 +78,10 @@ pub fn format_disk<D: Disk>(
     Ok(())
 }
 
-/// The limits of a configuration.
-fn limits_in(alloc: Global, text: &[u8]) -> Result<Limits, ProgramError> {
-    let configured = read_config(alloc, text)?;
+/// The limits of the configuration in a file.
+fn limits_in<R: Files + AllocGlobal>(rt: &R, config: &str) -> Result<Limits, ProgramError> {
+    let text = read_whole(rt, rt.alloc(), config)?;
+    let configured = read_config(rt.alloc(), &text)?;
     Ok(configured.config.limits())
 }
 
@@ -95,20 +98,38 @@ fn judge_area(limits: Limits, area: usize) -> Result<(), ProgramError>
     Ok(())
 }
 
-/// Makes a file a store with the limits of a configuration. The file is not touched before the area was judged, nor if it is in
-/// use.
-pub fn run_format<R: Files<File = File> + AllocGlobal, W: Write>(
+/// Makes a file a store. It isn't touched if it is in use.
+fn make_store<R: Files<File = File> + AllocGlobal>(
     rt: &R,
+    store: &str,
+    limits: Limits,
+    area: usize,
+) -> Result<FileDisk<File>, ProgramError>
+    requires { area < 2 ^ 32 }
+{
+    let mut disk = FileDisk::create(rt, store, 64 + 2 * area)?;
+    format_disk(rt.alloc(), &mut disk, limits, area)?;
+    Ok(disk)
+}
+
+/// Makes a file a store with the limits of a configuration. The file is not touched before the area was judged, nor if it is in
+/// use. At a fault the log says which file it is about.
+pub fn run_format<R: Files<File = File> + AllocGlobal, C: Clock, W: Write, L: Write + Drop>(
+    rt: &R,
+    clock: &C,
+    log: &Log<L>,
     config: &str,
     store: &str,
     area: u32,
     out: &mut W,
 ) -> Result<(), ProgramError> {
-    let text = read_whole(rt, rt.alloc(), config)?;
-    let limits = limits_in(rt.alloc(), &text)?;
+    let limits = limits_in(rt, config).inspect_err(|fault| tell_config(
+        rt, clock, log, config, *fault,
+    ))?;
     let area = area as usize;
     judge_area(limits, area)?;
-    let mut disk = FileDisk::create(rt, store, 64 + 2 * area)?;
-    format_disk(rt.alloc(), &mut disk, limits, area)?;
+    let _disk = make_store(rt, store, limits, area).inspect_err(|_| tell_made_store(
+        rt, clock, log, store,
+    ))?;
     print_line("formatted", out)
 }

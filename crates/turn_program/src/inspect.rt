@@ -1,6 +1,8 @@
 //! `turn inspect`.
 
+use crate::about::tell_read_store;
 use crate::error::ProgramError;
+use crate::log::Log;
 use crate::print::print_lines;
 use std::alloc::{AllocError, Global};
 use std::fs::File;
@@ -32,15 +34,29 @@ fn lines_of(
     Ok(lines)
 }
 
-/// Prints what a store holds that is live at a moment.
-pub fn run_inspect<R: Files<File = File> + AllocGlobal, C: Clock, W: Write>(
+/// The lines of the store in a file.
+fn store_lines<R: Files<File = File> + AllocGlobal, C: Clock>(
     rt: &R,
     clock: &C,
     store: &str,
     at: Option<Moment>,
-    out: &mut W,
-) -> Result<(), ProgramError> {
+) -> Result<Vec<String>, ProgramError> {
     let disk = FileDisk::open_to_read(rt, store)?;
     let (_, read) = read_store(rt.alloc(), clock, disk, None);
-    print_lines(rt.alloc(), &lines_of(rt.alloc(), &read?, at)?, out)
+    Ok(lines_of(rt.alloc(), &read?, at)?)
+}
+
+/// Prints what a store holds that is live at a moment. At a fault the log says why the file can't be opened if it can't.
+pub fn run_inspect<R: Files<File = File> + AllocGlobal, C: Clock, W: Write, L: Write + Drop>(
+    rt: &R,
+    clock: &C,
+    log: &Log<L>,
+    store: &str,
+    at: Option<Moment>,
+    out: &mut W,
+) -> Result<(), ProgramError> {
+    let lines = store_lines(rt, clock, store, at).inspect_err(|_| tell_read_store(
+        rt, clock, log, store,
+    ))?;
+    print_lines(rt.alloc(), &lines, out)
 }

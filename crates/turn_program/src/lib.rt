@@ -3,21 +3,26 @@
 
 mod about;
 mod answer;
+mod bad_line;
 mod check;
 mod credential;
 mod demo;
 mod error;
 mod files;
 mod format;
+mod help;
 mod inspect;
 mod log;
+mod notes;
 mod prepare;
 mod print;
+mod probe;
 mod program;
 mod replay;
 mod reply;
 mod serve;
 mod started;
+mod status;
 mod streams;
 mod version;
 

@@ -9,9 +9,13 @@ use crate::credential::run_credential;
 use crate::demo::run_demo;
 use crate::error::ProgramError;
 use crate::format::run_format;
+use crate::help::run_help;
 use crate::inspect::run_inspect;
+use crate::log::Log;
+use crate::probe::run_probe;
 use crate::replay::run_replay;
 use crate::serve::{Service, run_serve};
+use crate::status::run_status;
 use crate::version::{Release, run_version};
 use std::convert::AsStr;
 use std::fs::File;
@@ -21,6 +25,19 @@ use std::random::RandomSource;
 use std::rt::{Clock, Files};
 use turn_cli::{Command, command_of};
 use turn_disk::Unknown;
+
+/// Whether words ask for a log.
+fn is_logged(command: &Command) -> bool {
+    match command {
+        Command::Replay { log, .. }
+        | Command::Credential { log, .. }
+        | Command::Format { log, .. }
+        | Command::Inspect { log, .. }
+        | Command::Check { log, .. }
+        | Command::Serve { log, .. } => *log,
+        _ => false,
+    }
+}
 
 fn run_command<
     R: Files<File = File> + Net + RandomSource + Drop + AllocGlobal,
@@ -35,27 +52,31 @@ fn run_command<
     out: &mut W,
     log: L,
 ) -> Result<(), ProgramError> {
+    let log = Log::new(rt.alloc(), log, is_logged(command));
     match command {
         Command::Answer { from, at, datagram } => {
             run_answer(rt.alloc(), *from, *at, datagram, out)
         }
-        Command::Replay { file } => run_replay(rt, file, out),
+        Command::Replay { file, .. } => run_replay(rt, clock, &log, file, out),
         Command::Credential {
             config,
             name,
             expiry,
-        } => run_credential(rt, config, name.as_deref(), *expiry, out),
+            ..
+        } => run_credential(rt, clock, &log, config, name.as_deref(), *expiry, out),
         Command::Format {
             config,
             store,
             area,
-        } => run_format(rt, config, store, *area, out),
-        Command::Inspect { store, at } => run_inspect(rt, clock, store, *at, out),
+            ..
+        } => run_format(rt, clock, &log, config, store, *area, out),
+        Command::Inspect { store, at, .. } => run_inspect(rt, clock, &log, store, *at, out),
         Command::Check {
             config,
             store,
             listen,
-        } => run_check(rt, clock, config, store.as_deref(), listen, out),
+            ..
+        } => run_check(rt, clock, &log, config, store.as_deref(), listen, out),
         Command::Serve {
             config,
             store,
@@ -63,7 +84,7 @@ fn run_command<
             burst,
             relay_bind,
             listen,
-            log: is_logged,
+            ..
         } => {
             let service = Service {
                 version: release.version,
@@ -73,12 +94,18 @@ fn run_command<
                 burst: *burst,
                 relay_bind: *relay_bind,
                 listen,
-                log: *is_logged,
             };
-            run_serve::<Unknown, R, C, W, L>(rt, clock, service, out, log).told
+            run_serve::<Unknown, R, C, W, L>(rt, clock, service, &log, out).told
         }
+        Command::Probe {
+            server,
+            asker,
+            only_binding,
+        } => run_probe(rt, clock, *server, asker, *only_binding, out),
+        Command::Status { config, store } => run_status(rt, clock, config, store, out),
         Command::Demo => run_demo(rt, clock, out),
         Command::Version => run_version(rt.alloc(), release, out),
+        Command::Help { synopsis } => run_help(rt.alloc(), *synopsis, out),
     }
 }
 

@@ -1,19 +1,28 @@
 //! `turn replay`.
 
+use crate::about::tell_scenario;
 use crate::error::ProgramError;
 use crate::files::read_scenario;
+use crate::log::Log;
 use crate::print::print_lines;
 use std::io::Write;
-use std::rt::Files;
+use std::rt::{Clock, Files};
 use turn_scenario::replay;
 
-/// Prints the report of the scenario in a file.
-pub fn run_replay<R: Files + AllocGlobal, W: Write>(
+/// The lines of the report of the scenario in a file.
+fn report_lines<R: Files + AllocGlobal>(rt: &R, file: &str) -> Result<Vec<String>, ProgramError> {
+    let scenario = read_scenario(rt, rt.alloc(), file)?;
+    Ok(replay(rt.alloc(), &scenario)?.lines)
+}
+
+/// Prints the report of the scenario in a file. At a fault the log says why the file can't be opened if it can't.
+pub fn run_replay<R: Files + AllocGlobal, C: Clock, W: Write, L: Write + Drop>(
     rt: &R,
+    clock: &C,
+    log: &Log<L>,
     file: &str,
     out: &mut W,
 ) -> Result<(), ProgramError> {
-    let scenario = read_scenario(rt, rt.alloc(), file)?;
-    let report = replay(rt.alloc(), &scenario)?;
-    print_lines(rt.alloc(), &report.lines, out)
+    let lines = report_lines(rt, file).inspect_err(|_| tell_scenario(rt, clock, log, file))?;
+    print_lines(rt.alloc(), &lines, out)
 }

@@ -5,12 +5,14 @@ ghost use Rattle.turn_sockets.specs.Moments.{IsMoment};
 ghost use Rattle.turn_serving.specs.Turns.{Served};
 ghost use Rattle.turn_program.specs.Serving.{AnySecond, KeptSince, Serves, StartedOver, commits_of, just_opened};
 
-use crate::about::{ShownAddresses, second_now, tell_config, tell_sockets, tell_store};
+use crate::about::{ShownAddresses, second_now, tell_prepared, tell_sockets, tell_store};
 use crate::error::ProgramError;
-use crate::log::Log;
+use crate::files::read_whole;
+use crate::log::{Known, Log, StoreWatch};
+use crate::notes::Noted;
 use crate::prepare::{Prepared, prepare};
 use crate::print::print_line;
-use crate::started::{Started, live_at, tell_started};
+use crate::started::{Started, live_at, tell_notes, tell_started};
 use std::alloc::Global;
 use std::fs::File;
 use std::io::Write;
@@ -19,7 +21,7 @@ use std::random::RandomSource;
 use std::rt::{Clock, Files};
 use std::thread;
 use std::time::Duration;
-use turn_config::ShownEndpoint;
+use turn_config::{Configured, ShownEndpoint, read_config};
 use turn_cred::{AuthHandler, Credentials};
 use turn_disk::{Disk, FileDisk, FileError, Start};
 use turn_ports::RelayAddressGenerator;
@@ -44,8 +46,6 @@ pub struct Service<'a> {
     pub relay_bind: Option<u32>,
     /// The addresses that clients send to, beside the configuration's.
     pub listen: &'a [Endpoint],
-    /// Whether a log is kept.
-    pub log: bool,
 }
 
 /// Requests wait for each other unless turns are counted.
@@ -67,9 +67,6 @@ fn random_bytes<R: RandomSource>(rt: &R) -> Result<[u8; 32], ProgramError>
     Ok(bytes)
 }
 
-/// What a log says of an address that is given twice.
-const LISTENS_TWICE: &str = "listen: an address is given twice";
-
 /// A server over the store in a file, which a log watches.
 type FileServing<'a, 'l, S, R, L> = SocketServing<
     'a,
@@ -77,7 +74,7 @@ type FileServing<'a, 'l, S, R, L> = SocketServing<
     Credentials,
     R,
     Global,
-    &'l Log<L>,
+    &'l StoreWatch<'l, R, L>,
 >;
 
 /// How often a store that is in use is tried again: a server that ends may have it for a moment yet.
@@ -104,20 +101,6 @@ fn open_disk<R: Files<File = File>, C: Clock>(
     Ok(FileDisk::open(rt, store)?)
 }
 
-/// Says what the fault of a configuration, or of the addresses, is about.
-fn tell_prepared<R: Files<File = File> + AllocGlobal, C: Clock, L: Write + Drop>(
-    rt: &R,
-    clock: &C,
-    service: Service<'_>,
-    log: &Log<L>,
-    fault: ProgramError,
-) {
-    match fault {
-        ProgramError::Usage => log.say(second_now(clock), LISTENS_TWICE),
-        _ => tell_config(rt, clock, log, service.config),
-    }
-}
-
 /// What a start takes of files. At a fault the log says which file it is about.
 fn take_files<R: Files<File = File> + AllocGlobal, C: Clock, L: Write + Drop>(
     rt: &R,
@@ -139,7 +122,7 @@ fn take_files<R: Files<File = File> + AllocGlobal, C: Clock, L: Write + Drop>(
     } = match taken {
         Ok(prepared) => prepared,
         Err(fault) => {
-            tell_prepared(rt, clock, service, log, fault);
+            tell_prepared(rt, clock, log, service.config, fault);
             return Err(fault);
         }
     };
@@ -216,7 +199,7 @@ fn start<
     rt: &'a R,
     clock: &C,
     service: Service<'_>,
-    log: &'l Log<L>,
+    watch: &'l StoreWatch<'l, R, L>,
 ) -> Result<FileServing<'a, 'l, S, R, L>, Ended<S>>
     ensures started { IfOk result (λ serving. StartedOver ⟦<FileDisk<File, S> as Disk>⟧ ⟦<Credentials as AuthHandler>⟧
         ⟦<SocketPorts<'a, R, Global> as RelayAddressGenerator>⟧ serving.server) }
@@ -224,6 +207,7 @@ fn start<
     ensures told { IfErr result (λ ended. IsErr ended.told) }
 {
     let seed = random_bytes(rt)?;
+    let log = watch.log();
     let Prepared {
         config,
         credentials,
@@ -240,7 +224,14 @@ fn start<
         commits: commits_of(service.turns),
         seed,
     };
-    match setup.start(rt.alloc(), rt, clock, disk.holding::<S>(), credentials, log) {
+    match setup.start(
+        rt.alloc(),
+        rt,
+        clock,
+        disk.holding::<S>(),
+        credentials,
+        watch,
+    ) {
         Ok(serving) => Ok(serving),
         Err(SetupError { fault, disk }) => {
             let addresses = ShownAddresses {
@@ -258,7 +249,13 @@ fn start<
 }
 
 /// Takes turns. At a fault of the store the log says which file it is.
-fn take_turns<'a, S: Start, R: Files + Net + Drop + AllocGlobal, C: Clock, L: Write + Drop>(
+fn take_turns<
+    'a,
+    S: Start,
+    R: Files<File = File> + Net + Drop + AllocGlobal,
+    C: Clock,
+    L: Write + Drop,
+>(
     rt: &R,
     serving: &mut FileServing<'a, '_, S, R, L>,
     clock: &C,
@@ -294,7 +291,14 @@ fn print_addresses<W: Write>(
 }
 
 /// Says where the server listens, takes the turns, and says how many there were.
-fn tell<'a, S: Start, R: Files + Net + Drop + AllocGlobal, C: Clock, W: Write, L: Write + Drop>(
+fn tell<
+    'a,
+    S: Start,
+    R: Files<File = File> + Net + Drop + AllocGlobal,
+    C: Clock,
+    W: Write,
+    L: Write + Drop,
+>(
     rt: &R,
     serving: &mut FileServing<'a, '_, S, R, L>,
     clock: &C,
@@ -313,7 +317,33 @@ fn tell<'a, S: Start, R: Files + Net + Drop + AllocGlobal, C: Clock, W: Write, L
     }
 }
 
-/// Serves for so many turns, or until the process is ended. If a log is asked for it is written to `lines`. `S` stands for the state in
+/// Lets a log know the server: its configuration, which is read once more, and its ports. Without that its lines say less.
+fn inform<R: Files<File = File> + AllocGlobal, L: Write + Drop>(
+    rt: &R,
+    service: Service<'_>,
+    log: &Log<L>,
+    started: &Started<'_>,
+    second: u64,
+) -> Result<(), ProgramError> {
+    if !log.is_kept() {
+        return Ok(());
+    }
+    let text = read_whole(rt, rt.alloc(), service.config)?;
+    let Configured {
+        config,
+        credentials,
+        ..
+    } = read_config(rt.alloc(), &text)?;
+    let known = Known {
+        config,
+        credentials,
+        has_several: started.listen.len() > 1,
+    };
+    log.know(known, started.ports, second)?;
+    Ok(())
+}
+
+/// Serves for so many turns, or until the process is ended. `S` stands for the state in
 /// which the store's file was found, whatever that is. The disk is returned as it was left, if it was opened.
 pub fn run_serve<
     'a,
@@ -322,29 +352,38 @@ pub fn run_serve<
     C: Clock,
     W: Write,
     L: Write + Drop,
->(rt: &'a R, clock: &C, service: Service<'_>, out: &mut W, lines: L) -> Ended<S>
+>(rt: &'a R, clock: &C, service: Service<'_>, log: &Log<L>, out: &mut W) -> Ended<S>
     ensures serves { IfSome result.disk (Serves ⟦<FileDisk<File, S> as Disk>⟧ ⟦<Credentials as AuthHandler>⟧
         ⟦<SocketPorts<'a, R, Global> as RelayAddressGenerator>⟧) }
     // Without a store nothing was served.
     ensures told { IfNone result.disk (IsErr result.told) }
 {
-    let log = Log::new(rt.alloc(), lines, service.log);
     let began = clock.monotonic().ok();
-    let mut serving = match start::<S, R, C, L>(rt, clock, service, &log) {
+    let watch = StoreWatch::new(rt.alloc(), rt, service.store, log);
+    let mut serving = match start::<S, R, C, L>(rt, clock, service, &watch) {
         Ok(serving) => serving,
         Err(ended) => return ended,
     };
+    let second = second_now(clock);
     let started = Started {
         version: service.version,
         listen: serving.locals().as_slice(),
         ports: serving.server().ports().range(),
         store: service.store,
         generation: serving.server().info().generation,
-        live: live_at(serving.server().table(), second_now(clock)),
+        live: live_at(serving.server().table(), second),
         took: since(clock, began),
     };
-    tell_started(rt.alloc(), clock, &log, &started);
-    let told = tell(rt, &mut serving, clock, service, &log, out);
+    watch.begin();
+    tell_started(rt.alloc(), clock, log, &started);
+    let noted = Noted {
+        ports: started.ports,
+        allocations: serving.server().table().limits().allocations(),
+        clock: Some(serving.server().table().moment()),
+    };
+    tell_notes(rt, clock, log, noted);
+    let _ = inform(rt, service, log, &started, second);
+    let told = tell(rt, &mut serving, clock, service, log, out);
     let (disk, _) = serving.close();
     Ended {
         told,

@@ -2,9 +2,10 @@
 
 use crate::about::second_now;
 use crate::log::Log;
+use crate::notes::{Note, Noted, notes_of};
 use std::alloc::{AllocError, Allocator, Global};
 use std::io::Write;
-use std::rt::Clock;
+use std::rt::{Clock, Files};
 use std::time::Duration;
 use turn_config::ShownEndpoint;
 use turn_log::ShownName;
@@ -88,6 +89,31 @@ pub fn tell_started<C: Clock, L: Write + Drop>(
     if let Ok(texts) = texts_of(alloc, started) {
         for text in &texts {
             log.say(second, text.as_str());
+        }
+    }
+}
+
+/// Says something odd.
+fn tell_note<L: Write + Drop>(alloc: Global, second: u64, log: &Log<L>, note: Note) {
+    if let Ok(text) = format!(in alloc; "note: {note}") {
+        log.say(second, text.as_str());
+    }
+}
+
+/// Says what is odd of the machine and of the store.
+pub fn tell_notes<R: Files + AllocGlobal, C: Clock, L: Write + Drop>(
+    rt: &R,
+    clock: &C,
+    log: &Log<L>,
+    noted: Noted,
+) {
+    if !log.is_kept() {
+        return;
+    }
+    let second = second_now(clock);
+    for note in notes_of(rt, clock, noted) {
+        if let Some(note) = note {
+            tell_note(rt.alloc(), second, log, note);
         }
     }
 }

@@ -61,8 +61,10 @@ pub(crate) fn submit<
     ensures wire { SubmitsOnWire D.Disk H.AuthHandler G.RelayAddressGenerator G.has_socket (addresses_of listening.now.sockets.items listening.now.own)
         moment (IsOk result) (arrival_of arrival.now) server.old server.new wire.old.passed wire.new.passed }
 {
+    listening.watch.arrives(server.table(), arrival);
     if server.submit(moment, arrival) == Err(SubmitError::BatchFull) {
         flush(listening, server, wire)?;
+        listening.watch.arrives(server.table(), arrival);
         let _ = server.submit(moment, arrival);
     }
     Ok(())

@@ -2,7 +2,7 @@
 
 use std::alloc::Allocator;
 use std::time::Duration;
-use turn_step::Outgoing;
+use turn_step::{Arrival, Outgoing};
 use turn_table::Table;
 use turn_types::Moment;
 
@@ -11,6 +11,9 @@ pub trait Watch {
     /// Something may be submitted at this moment from now on. The table is the one before that; what of it has expired by then
     /// can't be refreshed any more.
     fn taking<A: Allocator + Copy>(&self, moment: Moment, table: &Table<A>);
+
+    /// This is submitted next, and once more after a commit if the batch is full. The table is the one before it.
+    fn arrives<A: Allocator + Copy>(&self, table: &Table<A>, arrival: &Arrival<'_>);
 
     /// These were handed out by a commit and sent, in this order. The moment is that of the last arrival.
     fn sent<A: Allocator + Copy>(&self, moment: Moment, table: &Table<A>, outgoing: &[Outgoing<A>]);
@@ -28,6 +31,8 @@ pub struct Silent;
 
 impl Watch for Silent {
     fn taking<A: Allocator + Copy>(&self, _moment: Moment, _table: &Table<A>) {}
+
+    fn arrives<A: Allocator + Copy>(&self, _table: &Table<A>, _arrival: &Arrival<'_>) {}
 
     fn sent<A: Allocator + Copy>(
         &self,

@@ -12,7 +12,7 @@ use turn_cred::Credentials;
 use turn_disk::MemoryDisk;
 use turn_requests::{Attribute, ServerMessage, read_message};
 use turn_serving::{Commits, SocketServing, Watch};
-use turn_step::Outgoing;
+use turn_step::{Arrival, Outgoing};
 use turn_table::Table;
 use turn_types::{FiveTuple, Method, Moment};
 
@@ -76,6 +76,8 @@ impl Counts {
 
 impl<'c> Watch for &'c Counts {
     fn taking<A: Allocator + Copy>(&self, _moment: Moment, _table: &Table<A>) {}
+
+    fn arrives<A: Allocator + Copy>(&self, _table: &Table<A>, _arrival: &Arrival<'_>) {}
 
     fn sent<A: Allocator + Copy>(
         &self,

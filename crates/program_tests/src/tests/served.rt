@@ -89,7 +89,7 @@ const ENDS: Row = Row {
     datagram: BINDING,
     count: 70,
     tick: 0,
-    readings: 5,
+    readings: 7,
     full: None,
     answers: 70,
     log: "",
@@ -107,25 +107,27 @@ const COUNTED: Row = Row {
 };
 
 /// A round takes up to 72 datagrams of a socket. Of 70 requests of a client that may change something 64 wait, and 6 are dropped. A
-/// Binding waits for nothing, nor does an Allocate without MESSAGE-INTEGRITY. A commit of 100 ms has no line.
+/// Binding waits for nothing, nor does an Allocate without MESSAGE-INTEGRITY: of 70 the first 401 has no line, and the others have one. A
+/// commit of 100 ms has no line.
 const UP_TO_A_FAULT: [Row; 5] = [
     Row { ..ENDS },
     Row {
         datagram: PLAIN,
+        log: "1001 - 69 x 401 from 127.0.0.1\n",
         ..ENDS
     },
     Row {
         datagram: SIGNED,
-        readings: 132,
+        readings: 134,
         answers: 64,
-        log: "1001 - dropped 6 requests: too many wait for the disk\n",
+        log: "1001 - 64 x 400 from 127.0.0.1\n1001 - dropped 6 requests: too many wait for the disk\n",
         ..ENDS
     },
     Row {
         datagram: SIGNED,
         count: 1,
         tick: 100,
-        readings: 6,
+        readings: 8,
         answers: 1,
         ..ENDS
     },
@@ -133,7 +135,7 @@ const UP_TO_A_FAULT: [Row; 5] = [
         datagram: SIGNED,
         count: 1,
         tick: 101,
-        readings: 6,
+        readings: 8,
         answers: 1,
         log: "1000 - commit took 101 ms\n",
         ..ENDS
@@ -198,11 +200,11 @@ const WITHOUT_ROOM: [Row; 2] = [
     },
 ];
 
-/// The lines of a log but for the first three, which are those of the start, and those of clients.
+/// The lines of a log but for the first three, which are those of the start, the notes, which are of the machine, and those of clients.
 fn own_lines(rt: &HostRuntime, log: &[u8]) -> Result<String, Fail> {
     let mut own = String::new(rt.alloc());
     for line in str::from_utf8(log)?.lines().skip(3) {
-        if !line.contains(" client ") {
+        if !line.contains(" client ") && !line.contains(" - note: ") {
             own.push_str(line)?;
             own.push('\n')?;
         }

@@ -11,7 +11,7 @@ use std::time::Duration;
 use turn_client::TimedSocket;
 use turn_config::read_config;
 use turn_serving::{Commits, Watch};
-use turn_step::Outgoing;
+use turn_step::{Arrival, Outgoing};
 use turn_table::Table;
 use turn_types::Moment;
 
@@ -52,6 +52,8 @@ impl<'s> Watch for &'s Seen {
     fn taking<A: Allocator + Copy>(&self, moment: Moment, _table: &Table<A>) {
         self.table.set(moment.seconds());
     }
+
+    fn arrives<A: Allocator + Copy>(&self, _table: &Table<A>, _arrival: &Arrival<'_>) {}
 
     fn sent<A: Allocator + Copy>(
         &self,

@@ -17,7 +17,7 @@ pub fn answer_command<'a>(alloc: Global) -> Result<clap::Command<'a>, AllocError
     clap::Command::new(alloc, "answer")
         .arg(option(alloc, "from").required(true))?
         .arg(option(alloc, "at"))?
-        .arg(value(alloc, "HEX"))
+        .arg(value(alloc, "HEX").required(true))
 }
 
 /// The moment of `--at`, 0 if there is no such option.

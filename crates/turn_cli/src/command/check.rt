@@ -5,17 +5,18 @@ ghost use Rattle.turn_cli.specs.Command.{IsInRange};
 
 use super::Command;
 use super::listen::listen_of;
-use super::words::{option, options};
+use super::words::{flag, option, options};
 use crate::error::CliError;
 use clap::ArgMatches;
 use std::alloc::{AllocError, Global};
 
-/// The words of `check`: `--config`, `--store` and any number of `--listen`.
+/// The words of `check`: `--config`, `--store`, any number of `--listen`, and `--log`.
 pub fn check_command<'a>(alloc: Global) -> Result<clap::Command<'a>, AllocError> {
     clap::Command::new(alloc, "check")
         .arg(option(alloc, "config").required(true))?
         .arg(option(alloc, "store"))?
-        .arg(options(alloc, "listen"))
+        .arg(options(alloc, "listen"))?
+        .arg(flag(alloc, "log"))
 }
 
 /// The text of an option, if it is there.
@@ -35,5 +36,6 @@ pub fn check_of(alloc: Global, found: &ArgMatches<'_>) -> Result<Command, CliErr
         config: String::from_str(alloc, config)?,
         store: owned(alloc, found.get_str("store"))?,
         listen: listen_of(alloc, found)?,
+        log: found.get_flag("log"),
     })
 }

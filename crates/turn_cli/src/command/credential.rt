@@ -7,20 +7,21 @@ ghost use Rattle.turn_cli.specs.Command.{AreTimes, IsInRange, is_shown};
 
 use super::Command;
 use super::check::owned;
-use super::words::option;
+use super::words::{flag, option};
 use crate::error::CliError;
 use clap::ArgMatches;
 use std::alloc::{AllocError, Global};
 use turn_config::values::{moment, number};
 use turn_types::Moment;
 
-/// The words of `credential`: `--config`, `--name`, `--at` and `--life`.
+/// The words of `credential`: `--config`, `--name`, `--at`, `--life` and `--log`.
 pub fn credential_command<'a>(alloc: Global) -> Result<clap::Command<'a>, AllocError> {
     clap::Command::new(alloc, "credential")
         .arg(option(alloc, "config").required(true))?
         .arg(option(alloc, "name"))?
         .arg(option(alloc, "at").required(true))?
-        .arg(option(alloc, "life").required(true))
+        .arg(option(alloc, "life").required(true))?
+        .arg(flag(alloc, "log"))
 }
 
 /// The moment so many seconds after another one. 0 is no end of a name.
@@ -61,6 +62,7 @@ pub fn credential_of(alloc: Global, found: &ArgMatches<'_>) -> Result<Command, C
     Ok(Command::Credential {
         expiry: expiry(at.as_bytes(), life.as_bytes()).ok_or(CliError::Usage)?,
         name: name_in(alloc, found.get_str("name"))?,
+        log: found.get_flag("log"),
         config: String::from_str(alloc, config)?,
     })
 }

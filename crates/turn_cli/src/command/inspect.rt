@@ -5,18 +5,19 @@ ghost use Rattle.std.specs.Option.{option_copied, option_map_or};
 ghost use Rattle.turn_cli.specs.Command.{IsMomentWord, IsInRange, number_if_given};
 
 use super::Command;
-use super::words::option;
+use super::words::{flag, option};
 use crate::error::CliError;
 use clap::ArgMatches;
 use std::alloc::{AllocError, Global};
 use turn_config::values::moment;
 use turn_types::Moment;
 
-/// The words of `inspect`: `--store` and `--at`.
+/// The words of `inspect`: `--store`, `--at` and `--log`.
 pub fn inspect_command<'a>(alloc: Global) -> Result<clap::Command<'a>, AllocError> {
     clap::Command::new(alloc, "inspect")
         .arg(option(alloc, "store").required(true))?
-        .arg(option(alloc, "at"))
+        .arg(option(alloc, "at"))?
+        .arg(flag(alloc, "log"))
 }
 
 /// The moment of `--at`, if there is such an option.
@@ -47,6 +48,7 @@ pub fn inspect_of(alloc: Global, found: &ArgMatches<'_>) -> Result<Command, CliE
     let at = found.get_str("at").map(|text| text.as_bytes());
     Ok(Command::Inspect {
         at: moment_in(at).ok_or(CliError::Usage)?,
+        log: found.get_flag("log"),
         store: String::from_str(alloc, store)?,
     })
 }

@@ -4,14 +4,16 @@ ghost use Rattle.std.specs.Prelude.{IfOk};
 ghost use Rattle.turn_cli.specs.Command.{IsInRange};
 
 use super::Command;
-use super::words::value;
+use super::words::{flag, value};
 use crate::error::CliError;
 use clap::ArgMatches;
 use std::alloc::{AllocError, Global};
 
-/// The words of `replay`: a file.
+/// The words of `replay`: a file and `--log`.
 pub fn replay_command<'a>(alloc: Global) -> Result<clap::Command<'a>, AllocError> {
-    clap::Command::new(alloc, "replay").arg(value(alloc, "FILE"))
+    clap::Command::new(alloc, "replay")
+        .arg(value(alloc, "FILE").required(true))?
+        .arg(flag(alloc, "log"))
 }
 
 /// The values of `replay`.
@@ -21,5 +23,6 @@ pub fn replay_of(alloc: Global, found: &ArgMatches<'_>) -> Result<Command, CliEr
     let file = found.get_str("FILE").ok_or(CliError::Usage)?;
     Ok(Command::Replay {
         file: String::from_str(alloc, file)?,
+        log: found.get_flag("log"),
     })
 }

@@ -8,9 +8,9 @@ pub fn option<'a>(alloc: Global, name: &'a str) -> Arg<'a> {
     Arg::new(alloc, name).long(name).action(ArgAction::Set)
 }
 
-/// A word that is a value, and has to be there.
+/// A word that is a value.
 pub fn value<'a>(alloc: Global, name: &'a str) -> Arg<'a> {
-    Arg::new(alloc, name).required(true).action(ArgAction::Set)
+    Arg::new(alloc, name).action(ArgAction::Set)
 }
 
 /// A word without a value, as `--name`, at most once.

@@ -1,0 +1,28 @@
+-- Why the credentials of a request didn't pass (RFC 8489, section 9.2.4), where they are all there.
+use Rattle.std.specs.Prelude.{ℕ, not, ◌&&◌, Bool, false, List, [], ◌∷◌, Option, Some, None, is_none, unwrap_or, if◌then◌else◌}
+use Rattle.std.specs.Str.{bytes_eq}
+use Rattle.std.specs.Option.{option_map_or}
+use Rattle.turn_codec.specs.AttributeTypes.{username, realm, nonce}
+use Rattle.turn_codec.specs.Grammar.{Datagram}
+use Rattle.turn_codec.specs.Seen.{seen_value, is_seen}
+use Rattle.turn_cred.specs.Credential.{Keys, has_integrity}
+use Rattle.turn_mac.specs.Integrity.{has_right_integrity}
+use Rattle.turn_types.specs.Rows.{first_row}
+use Rattle.turn_log.specs.declared.cause.Cause.{Cause}
+use Rattle.turn_log.specs.declared.cause.Cause.TheVariants.{Realm, Unknown, Integrity, Expired}
+
+-- a request has credentials: MESSAGE-INTEGRITY, and a name, a realm and a nonce before it
+abbrev pub has_credentials : Datagram → Bool
+has_credentials d = has_integrity d && (is_seen d.content username && is_seen d.content realm && is_seen d.content nonce)
+
+-- The first that applies: another realm; a name without a key; a MESSAGE-INTEGRITY that isn't right under the key; and else the key
+-- has expired.
+abbrev pub cause_of : List ℕ → Keys → Datagram → Cause
+cause_of its_realm keys d =
+    let user = unwrap_or (seen_value d.content username) [] in
+    let key = keys user its_realm in
+    first_row (
+    (not (bytes_eq (unwrap_or (seen_value d.content realm) []) its_realm), Realm) ∷
+    (is_none key, Unknown) ∷
+    (not (option_map_or (λ k. has_right_integrity k.bytes d) key false), Integrity) ∷ [])
+    Expired

@@ -1,0 +1,62 @@
+//! Why a request with credentials is answered 401.
+
+ghost use Rattle.std.specs.Prelude.{◌≡◌, IfSome, None, Some, if◌then◌else◌};
+ghost use Rattle.turn_log.specs.Causes.{cause_of, has_credentials};
+
+use turn_codec::{AttributeType, Message};
+use turn_cred::AuthHandler;
+use turn_mac::integrity_holds;
+
+/// Why the credentials of a request didn't pass. The client isn't told: its answer is one 401.
+#[derive(Clone, Copy, Debug, PartialEq, Eq)]
+pub enum Cause {
+    /// It names another realm.
+    Realm,
+    /// Nobody has the name.
+    Unknown,
+    /// It was made with another password.
+    Integrity,
+    /// The name has expired.
+    Expired,
+}
+
+impl Cause {
+    /// The word that a line has.
+    pub fn word(self) -> &'static str {
+        match self {
+            Cause::Realm => "realm",
+            Cause::Unknown => "unknown",
+            Cause::Integrity => "integrity",
+            Cause::Expired => "expired",
+        }
+    }
+}
+
+/// Whether a request has MESSAGE-INTEGRITY, and before it a name, a realm and a nonce. One without is challenged, or a bad request.
+pub fn has_credentials(message: &Message<'_>) -> bool
+    ensures { result ≡ has_credentials message.now }
+{
+    message.before_integrity().is_some()
+        && message.is_seen(AttributeType::USERNAME)
+        && message.is_seen(AttributeType::REALM)
+        && message.is_seen(AttributeType::NONCE)
+}
+
+/// Why a request with credentials was answered 401, as the handler of the realm's users knows them.
+pub fn cause_of<H: AuthHandler>(realm: &[u8], handler: &H, message: &Message<'_>) -> Cause
+    ensures { result ≡ cause_of realm.now (H.key_of handler.now) message.now }
+{
+    let user = message
+        .seen_value(AttributeType::USERNAME)
+        .unwrap_or_default();
+    if message.seen_value(AttributeType::REALM).unwrap_or_default() != realm {
+        return Cause::Realm;
+    }
+    let Some(key) = handler.key(user, realm) else {
+        return Cause::Unknown;
+    };
+    if !integrity_holds(message, &key.bytes) {
+        return Cause::Integrity;
+    }
+    Cause::Expired
+}

@@ -1,0 +1,32 @@
+//! `turn help`.
+
+use crate::error::ProgramError;
+use crate::print::{print_line, print_lines};
+use std::alloc::{AllocError, Global};
+use std::io::Write;
+use turn_cli::{SYNOPSES, Synopsis};
+
+fn line_of(alloc: Global, synopsis: &Synopsis) -> Result<String, AllocError> {
+    let (name, words) = (synopsis.name, synopsis.words);
+    format!(in alloc; "turn {name}{words}")
+}
+
+fn lines_of(alloc: Global, synopses: &[Synopsis]) -> Result<Vec<String>, AllocError> {
+    let mut lines = Vec::new(alloc);
+    for synopsis in synopses {
+        lines.push(line_of(alloc, synopsis)?)?;
+    }
+    Ok(lines)
+}
+
+/// Prints how a command is called, or each one.
+pub fn run_help<W: Write>(
+    alloc: Global,
+    synopsis: Option<&Synopsis>,
+    out: &mut W,
+) -> Result<(), ProgramError> {
+    match synopsis {
+        Some(synopsis) => print_line(&line_of(alloc, synopsis)?, out),
+        None => print_lines(alloc, &lines_of(alloc, &SYNOPSES)?, out),
+    }
+}

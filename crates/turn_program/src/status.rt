@@ -1,0 +1,141 @@
+//! `turn status`: who has what in a store, for people.
+
+use crate::error::ProgramError;
+use crate::prepare::prepare;
+use crate::print::print_lines;
+use std::alloc::{AllocError, Global};
+use std::fs::File;
+use std::io::Write;
+use std::rt::{Clock, Files};
+use turn_config::ShownEndpoint;
+use turn_disk::{FileDisk, FileError};
+use turn_log::ShownName;
+use turn_reading::{Reading, read_store};
+use turn_sockets::moment_now;
+use turn_table::{Entry, Table};
+use turn_types::{FiveTuple, Limits, Moment};
+
+/// Whether a server holds a store: it has its lock. The lock is taken for a moment to see that.
+fn is_held<R: Files<File = File>>(files: &R, store: &str) -> bool {
+    matches!(FileDisk::open(files, store), Err(FileError::InUse))
+}
+
+/// Whether an allocation is the first of its user that is live at a second, in the order of the table.
+fn is_first(table: &Table, five_tuple: FiveTuple, entry: &Entry, second: u64) -> bool {
+    for (other, beside) in table.entries() {
+        if beside.user() == entry.user() && second < beside.expiry() {
+            return other == five_tuple;
+        }
+    }
+    false
+}
+
+/// How many allocations of a user are live at a second.
+fn count_of(table: &Table, user: &[u8], second: u64) -> u64 {
+    let mut count = 0u64;
+    for (_, entry) in table.entries() {
+        if entry.user() == user && second < entry.expiry() {
+            count = count.wrapping_add(1);
+        }
+    }
+    count
+}
+
+fn live_of(table: &Table, second: u64) -> u64 {
+    let mut count = 0u64;
+    for (_, entry) in table.entries() {
+        if second < entry.expiry() {
+            count = count.wrapping_add(1);
+        }
+    }
+    count
+}
+
+/// A line for each user who has a live allocation: how many, of how many.
+fn put_users(
+    alloc: Global,
+    table: &Table,
+    quota: u32,
+    second: u64,
+    lines: &mut Vec<String>,
+) -> Result<(), AllocError> {
+    for (five_tuple, entry) in table.entries() {
+        if second < entry.expiry() && is_first(table, five_tuple, entry, second) {
+            let count = count_of(table, entry.user(), second);
+            let name = ShownName(entry.user());
+            lines.push(format!(in alloc; "user {name} {count} of {quota}")?)?;
+        }
+    }
+    Ok(())
+}
+
+/// A line for each live allocation.
+fn put_allocations(
+    alloc: Global,
+    table: &Table,
+    second: u64,
+    lines: &mut Vec<String>,
+) -> Result<(), AllocError> {
+    for (five_tuple, entry) in table.entries() {
+        if second < entry.expiry() {
+            let (client, server) = (
+                ShownEndpoint(five_tuple.client),
+                ShownEndpoint(five_tuple.server),
+            );
+            let (name, port) = (ShownName(entry.user()), entry.port());
+            let left = entry.expiry().saturating_sub(second);
+            lines.push(format!(in alloc;
+                "allocation {name} client {client} at={server} port={port} expires in {left} s"
+            )?)?;
+        }
+    }
+    Ok(())
+}
+
+fn lines_of(
+    alloc: Global,
+    reading: &Reading,
+    limits: Limits,
+    quota: u32,
+    second: u64,
+    is_held: bool,
+) -> Result<Vec<String>, AllocError> {
+    let table = &reading.table;
+    let (live, most) = (live_of(table, second), limits.allocations());
+    let mut lines = Vec::new(alloc);
+    let server = if is_held { "running" } else { "none" };
+    lines.push(format!(in alloc; "server {server}")?)?;
+    lines.push(format!(in alloc; "allocations {live} of {most}")?)?;
+    put_users(alloc, table, quota, second, &mut lines)?;
+    put_allocations(alloc, table, second, &mut lines)?;
+    Ok(lines)
+}
+
+/// Prints whether a server holds a store, how many allocations there are, and what each user has, with names as a log has them.
+pub fn run_status<R: Files<File = File> + AllocGlobal, C: Clock, W: Write>(
+    rt: &R,
+    clock: &C,
+    config: &str,
+    store: &str,
+    out: &mut W,
+) -> Result<(), ProgramError> {
+    let alloc = rt.alloc();
+    let prepared = prepare(rt, config, &[], |limits| {
+        let disk = FileDisk::open_to_read(rt, store)?;
+        let (disk, read) = read_store(alloc, clock, disk, Some(limits));
+        drop(disk);
+        Ok(read?)
+    })?;
+    let first = Moment::new(0).ok_or(ProgramError::Device)?;
+    let now = moment_now(&clock, first).ok_or(ProgramError::Device)?;
+    let (limits, quota) = (prepared.config.limits(), prepared.config.quota());
+    let lines = lines_of(
+        alloc,
+        &prepared.store,
+        limits,
+        quota,
+        now.seconds(),
+        is_held(rt, store),
+    )?;
+    print_lines(alloc, &lines, out)
+}
