@@ -13,13 +13,14 @@ use player::Player;
 use std::fs;
 
 /// The names of the files in `data`, without `.txt`.
-const TEXTS: [&str; 14] = [
+const TEXTS: [&str; 15] = [
     "words",
     "values",
     "replies",
     "replays",
     "formats",
     "inspections",
+    "ends",
     "checks",
     "starts",
     "carrying",

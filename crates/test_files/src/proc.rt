@@ -1,6 +1,7 @@
 //! A system whose files of `/proc` are those of a test.
 
 use std::alloc::{Allocator, Global};
+use std::env::{Env, FillError};
 use std::fs::{File, Files, Metadata, OpenOptions};
 use std::io::{self, Empty, Error, ErrorKind};
 use std::net::{Net, SocketAddr, TcpListener, TcpStream, UdpSocket};
@@ -87,6 +88,20 @@ impl Net for ProcInFolder<'_> {
 
     fn bind_udp(&self, addr: SocketAddr) -> io::Result<UdpSocket> {
         self.0.bind_udp(addr)
+    }
+}
+
+impl Env for ProcInFolder<'_> {
+    fn arg(&self, i: usize, buf: &mut [u8]) -> Result<usize, FillError> {
+        self.0.arg(i, buf)
+    }
+
+    fn var(&self, name: &str, buf: &mut [u8]) -> Result<usize, FillError> {
+        self.0.var(name, buf)
+    }
+
+    fn var_at(&self, i: usize, buf: &mut [u8]) -> Result<usize, FillError> {
+        self.0.var_at(i, buf)
     }
 }
 

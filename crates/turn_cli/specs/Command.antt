@@ -3,7 +3,7 @@ use Rattle.std.specs.Prelude.{ℕ, ◌≡◌, ◌≢◌, ◌≤◌, ◌<◌, ◌
 use Rattle.hex.specs.Hex.{decode_of}
 use Rattle.turn_types.specs.declared.address.Endpoint.{Endpoint}
 use Rattle.turn_cli.specs.declared.command.Command.{Command}
-use Rattle.turn_cli.specs.declared.command.Command.TheVariants.{Answer, Replay, Credential, Format, Inspect, Check, Serve, Probe, Status, Demo, Version, Help}
+use Rattle.turn_cli.specs.declared.command.Command.TheVariants.{Answer, Replay, Credential, Format, Inspect, Check, Serve, End, Probe, Status, Demo, Version, Help}
 use Rattle.turn_cli.specs.declared.error.CliError.{CliError}
 use Rattle.turn_cli.specs.declared.error.CliError.TheVariants.{Usage, BadDatagram, Memory}
 use Rattle.turn_config.specs.Values.{number_of, IsNumberBelow, IsIp, IsEndpoint}
@@ -69,7 +69,8 @@ IsAnswer from at hex (Credential config name expiry log) = ⊥
 IsAnswer from at hex (Format config store area log) = ⊥
 IsAnswer from at hex (Inspect store moment log) = ⊥
 IsAnswer from at hex (Check config store listen log) = ⊥
-IsAnswer from at hex (Serve config store turns burst bind listen log) = ⊥
+IsAnswer from at hex (Serve config store turns burst bind listen held log) = ⊥
+IsAnswer from at hex (End config store ended log) = ⊥
 IsAnswer from at hex (Probe server asker only) = ⊥
 IsAnswer from at hex (Status config store) = ⊥
 IsAnswer from at hex Demo = ⊥
@@ -84,7 +85,7 @@ IsAnswerError from at hex Memory = AreWellFormed from at
 
 -- ---- credential
 
--- no control character
+-- no control character of ASCII
 abbrev pub is_shown : ℕ → Bool
 is_shown byte = nat_le 32 byte && not (nat_eq byte 127)
 
@@ -105,7 +106,8 @@ IsInRange (Credential config name expiry log) = 1 ≤ expiry
 IsInRange (Format config store area log) = ⊤
 IsInRange (Inspect store moment log) = ⊤
 IsInRange (Check config store listen log) = length listen.items ≤ 8
-IsInRange (Serve config store turns burst bind listen log) = (1 ≤ burst) × (burst ≤ 64) × (length listen.items ≤ 8)
+IsInRange (Serve config store turns burst bind listen held log) = (1 ≤ burst) × (burst ≤ 64) × (length listen.items ≤ 8)
+IsInRange (End config store ended log) = ⊤
 IsInRange (Probe server asker only) = ⊤
 IsInRange (Status config store) = ⊤
 IsInRange Demo = ⊤

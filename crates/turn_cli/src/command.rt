@@ -9,6 +9,7 @@ ghost use Rattle.turn_cli.specs.declared.error.CliError.TheVariants as faults;
 mod answer;
 mod check;
 mod credential;
+mod end;
 mod format;
 mod help;
 mod inspect;
@@ -24,6 +25,8 @@ use answer::{answer_command, answer_of};
 use check::{check_command, check_of};
 use clap::error::ErrorKind;
 use credential::{credential_command, credential_of};
+pub use end::Ended;
+use end::{end_command, end_of};
 use format::{format_command, format_of};
 pub use help::{SYNOPSES, Synopsis};
 use help::{help_command, help_of};
@@ -115,7 +118,20 @@ pub enum Command {
         relay_bind: Option<u32>,
         /// The addresses of `--listen`, in their order, which clients send to beside the configuration's.
         listen: Vec<Endpoint>,
+        /// Whether a supervisor hands the listening sockets over.
+        held: bool,
         /// Whether a log is kept.
+        log: bool,
+    },
+    /// The end of allocations in the store in a file, which no server holds.
+    End {
+        /// The path of the configuration.
+        config: String,
+        /// The path of the store.
+        store: String,
+        /// Whose allocations end.
+        ended: Ended,
+        /// Whether the reason of a fault is told.
         log: bool,
     },
     /// The answers of a server to what a client asks.
@@ -156,6 +172,7 @@ fn turn_command<'a>(alloc: Global) -> Result<clap::Command<'a>, AllocError> {
         .subcommand(inspect_command(alloc)?)?
         .subcommand(check_command(alloc)?)?
         .subcommand(serve_command(alloc)?)?
+        .subcommand(end_command(alloc)?)?
         .subcommand(probe_command(alloc)?)?
         .subcommand(status_command(alloc)?)?
         .subcommand(clap::Command::new(alloc, "demo"))?
@@ -188,6 +205,7 @@ pub fn command_of<S: AsStr>(alloc: Global, words: &[S]) -> Result<Command, CliEr
         Some(("inspect", found)) => inspect_of(alloc, found),
         Some(("check", found)) => check_of(alloc, found),
         Some(("serve", found)) => serve_of(alloc, found),
+        Some(("end", found)) => end_of(alloc, found),
         Some(("probe", found)) => probe_of(alloc, found),
         Some(("status", found)) => status_of(alloc, found),
         Some(("demo", _)) => Ok(Command::Demo),

@@ -15,7 +15,7 @@ use turn_disk::Disk;
 use turn_mac::generate_auth_key;
 use turn_ports::PortRange;
 use turn_requests::{Attribute, ServerMessage, read_message};
-use turn_serving::{Commits, Setup, Silent, SocketServing};
+use turn_serving::{Commits, ListeningSockets, Setup, Silent, SocketServing};
 use turn_sockets::ListeningAddresses;
 use turn_types::{Bounds, ConfigError, Endpoint, Limits, Method, ServerConfig, Settings};
 
@@ -199,7 +199,15 @@ impl<'a, R: Net + Drop, A: Allocator + Copy> Loopback<'a, R, A> {
             commits: plan.commits,
             seed: seed_of(client.local()),
         };
-        let serving = setup.start(plan.alloc, plan.net, system, disk, users, Silent)?;
+        let serving = setup.start(
+            plan.alloc,
+            plan.net,
+            system,
+            disk,
+            users,
+            ListeningSockets::Bound,
+            Silent,
+        )?;
         client.set_server(serving.local());
         Ok(Conversation {
             plan,

@@ -11,7 +11,7 @@ use Rattle.turn_config.specs.Values.{number_of, IsNumberBelow, IsIp}
 use Rattle.turn_config.specs.declared.settings.Relay.{Relay}
 use Rattle.turn_config.specs.declared.settings.Setting.{Setting}
 use Rattle.turn_config.specs.declared.settings.Setting.TheVariants as settings
-use Rattle.turn_config.specs.declared.settings.Setting.TheVariants.{Realm, Secret, Listen, Quota, Limits, Deny, User, AuthSecret}
+use Rattle.turn_config.specs.declared.settings.Setting.TheVariants.{Realm, Secret, Listen, RelayBind, Quota, Limits, Deny, User, AuthSecret}
 use Rattle.turn_config.proofs.Addresses.{ip_without}
 use Rattle.turn_config.proofs.Numbers.{number_without}
 use Rattle.turn_config.proofs.Splits.{Without, cons_without, same_split}
@@ -95,6 +95,7 @@ name_of_setting Realm = visible_without (name_of Realm) refl
 name_of_setting Secret = visible_without (name_of Secret) refl
 name_of_setting Listen = visible_without (name_of Listen) refl
 name_of_setting settings.Relay = visible_without (name_of settings.Relay) refl
+name_of_setting RelayBind = visible_without (name_of RelayBind) refl
 name_of_setting Quota = visible_without (name_of Quota) refl
 name_of_setting Limits = visible_without (name_of Limits) refl
 name_of_setting Deny = visible_without (name_of Deny) refl

@@ -1,5 +1,5 @@
 -- What the lines of a configuration say after their first words.
-use Rattle.std.specs.Prelude.{ℕ, ◌≡◌, ◌≤◌, ◌<◌, ◌^◌, ◌&&◌, if◌then◌else◌, Bool, true, not, nat_eq, nat_le, Option, Some, None, option_map, is_some, IfSome, Ok, ◌⊎◌, List, [], ◌∷◌, ◌++◌, length, Vec, map as each}
+use Rattle.std.specs.Prelude.{ℕ, ◌≡◌, ◌≤◌, ◌<◌, ◌^◌, ◌&&◌, if◌then◌else◌, Bool, true, not, nat_eq, nat_le, nat_lt, Option, Some, None, option_map, is_some, IfSome, Ok, ◌⊎◌, List, [], ◌∷◌, ◌++◌, length, Vec, map as each}
 use Rattle.std.specs.List.{list_all, list_any}
 use Rattle.std.specs.FinMap as map
 use Rattle.std.specs.Option.{unwrap_or}
@@ -62,12 +62,17 @@ pub record IsRange (text : List ℕ) (range : IpRange) : Type 0 where
   pub ordered : range.first ≤ range.last
   pub spelled : text ≡ first ++ 32 ∷ last
 
--- an address, a first port and a last one, which is not below the first, with blanks between
+-- an address that one machine can have: not 0.0.0.0, no group's from 224.0.0.0 to 239.255.255.255, not 255.255.255.255
+abbrev pub is_unicast : ℕ → Bool
+is_unicast ip = nat_lt 0 ip && (nat_lt ip 4294967295 && not (is_between 3758096384 4026531839 ip))
+
+-- an address of one machine, a first port and a last one, which is not below the first, with blanks between
 pub record IsRelay (text : List ℕ) (relay : Relay) : Type 0 where
   pub ip : List ℕ
   pub low : List ℕ
   pub high : List ℕ
   pub address : IsIp ip relay.ip
+  pub unicast : is_unicast relay.ip ≡ true
   pub numbers : IsNumberBelow (2 ^ 16) low × IsNumberBelow (2 ^ 16) high
   pub ordered : number_of low ≤ number_of high
   pub spelled : text ≡ ip ++ 32 ∷ (low ++ 32 ∷ high)
@@ -105,6 +110,8 @@ pub record Lines : Type 0 where
   pub secret : Option (List ℕ)
   pub listen : Option Endpoint
   pub relay : Option Relay
+  -- the address that relay sockets are bound to
+  pub relay_bind : Option ℕ
   pub quota : Option ℕ
   pub limits : Option Bounds
   pub denied : List IpRange
@@ -115,7 +122,7 @@ pub record Lines : Type 0 where
 
 -- what no lines say
 abbrev pub no_lines : Lines
-no_lines = record { realm = None; secret = None; listen = None; relay = None; quota = None; limits = None; denied = []; passwords = map.empty; auth_secret = None }
+no_lines = record { realm = None; secret = None; listen = None; relay = None; relay_bind = None; quota = None; limits = None; denied = []; passwords = map.empty; auth_secret = None }
 
 -- the passwords of a tree of names
 abbrev pub passwords_of : {A : Type 0} → List (Vec ℕ A × Bor (List ℕ)) → KeyMap
@@ -129,6 +136,7 @@ Sets settings.Secret text old new =
 Sets settings.Listen text old new =
     (endpoint : Endpoint) × IsEndpoint text endpoint × (old.listen ≡ None) × (new ≡ record old { listen = Some endpoint })
 Sets settings.Relay text old new = (relay : Relay) × IsRelay text relay × (old.relay ≡ None) × (new ≡ record old { relay = Some relay })
+Sets settings.RelayBind text old new = (ip : ℕ) × IsIp text ip × (old.relay_bind ≡ None) × (new ≡ record old { relay_bind = Some ip })
 Sets settings.Quota text old new = IsQuota text × (old.quota ≡ None) × (new ≡ record old { quota = Some (number_of text) })
 Sets settings.Limits text old new = (limits : Bounds) × IsLimits text limits × (old.limits ≡ None) × (new ≡ record old { limits = Some limits })
 Sets settings.Deny text old new =
@@ -165,6 +173,7 @@ pub record IsConfigured {A : Type 0} (lines : Lines) (c : Configured A) : Type 0
   pub realm : lines.realm ≡ Some c.realm.now
   pub listen : lines.listen ≡ Some c.listen
   pub relay : lines.relay ≡ Some (record { ip = c.config.relay; ports = c.ports })
+  pub relay_bind : c.relay_bind ≡ lines.relay_bind
   pub secret : lines.secret ≡ Some c.config.secret
   pub same_realm : c.config.realm ≡ c.realm.now
   pub quota : c.config.quota ≡ unwrap_or lines.quota 10

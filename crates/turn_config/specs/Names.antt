@@ -1,7 +1,7 @@
 -- The settings of a configuration, and the words of their lines.
 use Rattle.std.specs.Prelude.{ℕ, List, codes}
 use Rattle.turn_config.specs.declared.settings.Setting.{Setting}
-use Rattle.turn_config.specs.declared.settings.Setting.TheVariants.{Realm, Secret, Listen, Relay, Quota, Limits, Deny, User, AuthSecret}
+use Rattle.turn_config.specs.declared.settings.Setting.TheVariants.{Realm, Secret, Listen, Relay, RelayBind, Quota, Limits, Deny, User, AuthSecret}
 
 -- the first word of the line of a setting
 abbrev pub name_of : Setting → List ℕ
@@ -9,6 +9,7 @@ name_of Realm = codes "realm"
 name_of Secret = codes "secret"
 name_of Listen = codes "listen"
 name_of Relay = codes "relay"
+name_of RelayBind = codes "relay-bind"
 name_of Quota = codes "quota"
 name_of Limits = codes "limits"
 name_of Deny = codes "deny"

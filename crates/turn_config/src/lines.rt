@@ -12,7 +12,7 @@ use crate::settings::{
     Relay, Setting, auth_secret_of, limits_of, quota_of, range_of, realm_of, relay_of, secret_of,
     setting_of, user_of,
 };
-use crate::values::{endpoint, split_once};
+use crate::values::{endpoint, ip, split_once};
 use std::alloc::{AllocError, Allocator, Global};
 use std::collections::BTreeMap;
 use std::marker::Model;
@@ -35,6 +35,7 @@ pub struct ConfigLines<'a, A: Allocator = Global> {
     secret: Option<[u8; 32]>,
     listen: Option<Endpoint>,
     relay: Option<Relay>,
+    relay_bind: Option<u32>,
     quota: Option<u32>,
     limits: Option<Limits>,
     denied: Vec<IpRange, A>,
@@ -57,6 +58,7 @@ impl<'a, A: Allocator> Model for ConfigLines<'a, A> {
       secret = c.secret;
       listen = c.listen;
       relay = c.relay;
+      relay_bind = c.relay_bind;
       quota = c.quota;
       limits = c.limits;
       denied = c.denied.items;
@@ -78,6 +80,8 @@ pub struct Configured<'a, A: Allocator = Global> {
     pub listen: Endpoint,
     /// The range of the relayed ports.
     pub ports: PortRange,
+    /// The address that relay sockets are bound to, if a line says so.
+    pub relay_bind: Option<u32>,
     /// The realm, as the configuration has it: 1 to 127 bytes.
     pub realm: &'a [u8],
     /// The passwords by the users' names.
@@ -152,6 +156,7 @@ impl<'a, A: Allocator + Copy> ConfigLines<'a, A> {
             secret: None,
             listen: None,
             relay: None,
+            relay_bind: None,
             quota: None,
             limits: None,
             denied: Vec::new(alloc),
@@ -187,6 +192,7 @@ impl<'a, A: Allocator + Copy> ConfigLines<'a, A> {
             Setting::Secret => Ok(put(&mut self.secret, secret_of(text))),
             Setting::Listen => Ok(put(&mut self.listen, endpoint(text))),
             Setting::Relay => Ok(put(&mut self.relay, relay_of(text))),
+            Setting::RelayBind => Ok(put(&mut self.relay_bind, ip(text))),
             Setting::Quota => Ok(put(&mut self.quota, quota_of(text))),
             Setting::Limits => Ok(put(&mut self.limits, limits_of(text))),
             Setting::Deny => self.deny(text),
@@ -302,6 +308,7 @@ impl<'a, A: Allocator + Copy> ConfigLines<'a, A> {
             credentials: self.credentials(realm)?,
             listen,
             ports: relay.ports,
+            relay_bind: self.relay_bind,
             realm,
             auth_secret: self.shared()?,
             passwords: self.passwords,

@@ -11,7 +11,7 @@ use crate::settings::{
     Setting, auth_secret_of, limits_of, quota_of, range_of, realm_of, relay_of, secret_of,
     setting_of, user_of,
 };
-use crate::values::{endpoint, split_once};
+use crate::values::{endpoint, ip, split_once};
 
 /// How many lines of a setting there may be.
 #[derive(Clone, Copy, Debug, PartialEq, Eq)]
@@ -92,7 +92,14 @@ fn row_of(setting: Setting) -> Row
         Setting::Realm => open("realm", "1 to 127 visible ASCII characters", Times::Once),
         Setting::Secret => secret("secret", "64 hex digits", Times::Once),
         Setting::Listen => open("listen", "IP:PORT", Times::Once),
-        Setting::Relay => open("relay", "IP LOW HIGH with LOW <= HIGH", Times::Once),
+        Setting::Relay => {
+            open(
+                "relay",
+                "IP LOW HIGH with an IP of one machine and LOW <= HIGH",
+                Times::Once,
+            )
+        }
+        Setting::RelayBind => open("relay-bind", "IP", Times::Once),
         Setting::Quota => open("quota", "a number from 1 to 1024", Times::Once),
         Setting::Limits => open(
             "limits",
@@ -128,6 +135,7 @@ fn has_form(setting: Setting, value: &[u8]) -> bool
         Setting::Secret => secret_of(value).is_some(),
         Setting::Listen => endpoint(value).is_some(),
         Setting::Relay => relay_of(value).is_some(),
+        Setting::RelayBind => ip(value).is_some(),
         Setting::Quota => quota_of(value).is_some(),
         Setting::Limits => limits_of(value).is_some(),
         Setting::Deny => range_of(value).is_some(),

@@ -1,15 +1,15 @@
 //! What the lines of a configuration say after their first words.
 
-ghost use Rattle.std.specs.Prelude.{◌≡◌, ℕ, List, None, Some, IfSome, IsSome, MatchResult, SomeIff};
+ghost use Rattle.std.specs.Prelude.{◌≡◌, ℕ, List, None, Some, IfSome, IsSome, true, MatchResult, SomeIff};
 ghost use Rattle.std.specs.List.{list_all};
 ghost use Rattle.hex.specs.Hex.{decode_sized};
 ghost use Rattle.turn_types.specs.declared.config.IpRange.{IpRange};
 ghost use Rattle.turn_types.specs.declared.limits.Bounds.{Bounds};
 ghost use Rattle.turn_config.specs.Lines as lines;
-ghost use Rattle.turn_config.specs.Lines.{is_visible, IsAuthSecret, IsLimits, IsQuota, IsRange, IsRealm, IsRelay, IsUser};
+ghost use Rattle.turn_config.specs.Lines.{is_unicast, is_visible, IsAuthSecret, IsLimits, IsQuota, IsRange, IsRealm, IsRelay, IsUser};
 ghost use Rattle.turn_config.specs.Names.{name_of};
 ghost use Rattle.turn_config.specs.declared.settings.Setting.{Setting};
-ghost use Rattle.turn_config.specs.Values.{number_of};
+ghost use Rattle.turn_config.specs.Values.{number_of, IsIp};
 ghost use Rattle.turn_config.specs.declared.settings.Relay.{Relay};
 
 use crate::values::{ip, number_32, port, split_once};
@@ -39,6 +39,7 @@ pub(crate) enum Setting {
     Secret,
     Listen,
     Relay,
+    RelayBind,
     Quota,
     Limits,
     Deny,
@@ -56,6 +57,7 @@ pub(crate) fn setting_of(word: &[u8]) -> Option<Setting>
         b"secret" => Some(Setting::Secret),
         b"listen" => Some(Setting::Listen),
         b"relay" => Some(Setting::Relay),
+        b"relay-bind" => Some(Setting::RelayBind),
         b"quota" => Some(Setting::Quota),
         b"limits" => Some(Setting::Limits),
         b"deny" => Some(Setting::Deny),
@@ -113,6 +115,26 @@ pub(crate) fn auth_secret_of(text: &[u8]) -> Option<&[u8]>
     }
 }
 
+/// Whether one machine can have an address: it isn't that of no machine, of a group (RFC 5771) or of all machines.
+fn is_unicast(ip: u32) -> bool
+    ensures { result ≡ is_unicast ip }
+{
+    0 < ip && ip < u32::MAX && !(0xE000_0000 <= ip && ip <= 0xEFFF_FFFF)
+}
+
+/// An address that one machine can have.
+fn unicast(text: &[u8]) -> Option<u32>
+    ensures found { IfSome result (λ address. IsIp text.now address × (is_unicast address ≡ true)) }
+    ensures only { (address : ℕ) → IsIp text.now address → is_unicast address ≡ true → result ≡ Some address }
+{
+    let address = ip(text)?;
+    if is_unicast(address) {
+        Some(address)
+    } else {
+        None
+    }
+}
+
 pub(crate) fn relay_of(text: &[u8]) -> Option<Relay>
     ensures found { IfSome result (λ relay. IsRelay text.now relay) }
     ensures only { (relay : Relay) → IsRelay text.now relay → result ≡ Some relay }
@@ -120,7 +142,7 @@ pub(crate) fn relay_of(text: &[u8]) -> Option<Relay>
     let (address, rest) = split_once(text, b' ')?;
     let (low, high) = split_once(rest, b' ')?;
     Some(Relay {
-        ip: ip(address)?,
+        ip: unicast(address)?,
         ports: PortRange::new(port(low)?, port(high)?)?,
     })
 }

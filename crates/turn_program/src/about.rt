@@ -151,6 +151,15 @@ pub fn tell_prepared<R: Files + AllocGlobal, C: Clock, L: Write + Drop>(
     }
 }
 
+/// What a log says where a supervisor doesn't hand over what is to be served.
+const NOT_HELD: &str =
+    "held: no UDP sockets are handed over, or not one for each listening address and for no other";
+
+/// Says that the sockets that are handed over are at fault.
+pub fn tell_held<C: Clock, L: Write + Drop>(clock: &C, log: &Log<L>) {
+    log.say(second_now(clock), NOT_HELD);
+}
+
 /// Says that a scenario's file is at fault, and why it can't be opened if it can't.
 pub fn tell_scenario<R: Files + AllocGlobal, C: Clock, L: Write + Drop>(
     rt: &R,

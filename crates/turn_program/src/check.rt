@@ -79,16 +79,19 @@ fn check_files<R: Files<File = File> + AllocGlobal, C: Clock, L: Write + Drop>(
     store: Option<&str>,
     listen: &[Endpoint],
 ) -> Result<Noted, ProgramError> {
-    let prepared = prepare(rt, config, listen, |limits| {
-        Ok(check_file(rt, clock, store, limits))
-    })
-    .inspect_err(|fault| tell_prepared(rt, clock, log, config, *fault))?;
-    let checked = prepared
-        .store
-        .inspect_err(|_| tell_store(rt, clock, log, store.unwrap_or("")))?;
+    let prepared = prepare(rt, config, listen).inspect_err(|fault| tell_prepared(
+        rt, clock, log, config, *fault,
+    ))?;
+    let limits = prepared.config.limits();
+    let checked = check_file(rt, clock, store, limits).inspect_err(|_| tell_store(
+        rt,
+        clock,
+        log,
+        store.unwrap_or(""),
+    ))?;
     Ok(Noted {
         ports: prepared.ports.range(),
-        allocations: prepared.config.limits().allocations(),
+        allocations: limits.allocations(),
         clock: checked,
     })
 }

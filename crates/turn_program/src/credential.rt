@@ -11,12 +11,12 @@ use std::rt::{Clock, Files};
 use turn_config::{ShownEndpoint, read_config};
 use turn_types::{Endpoint, Moment};
 
-/// A user's name that expires at a moment: its seconds and, after a colon, the name given, if there is one.
+/// A user's name that expires at a moment: its seconds and, after a colon, the name given, if there is one and it isn't empty.
 fn username_of(alloc: Global, name: Option<&str>, expiry: Moment) -> Result<String, AllocError> {
     let seconds = expiry.seconds();
     match name {
-        Some(name) => Ok(format!(in alloc; "{seconds}:{name}")?),
-        None => Ok(format!(in alloc; "{seconds}")?),
+        Some(name) if !name.is_empty() => Ok(format!(in alloc; "{seconds}:{name}")?),
+        _ => Ok(format!(in alloc; "{seconds}")?),
     }
 }
 
@@ -41,7 +41,7 @@ fn escaped(alloc: Global, text: &str) -> Result<String, AllocError> {
     Ok(escaped)
 }
 
-/// The lines of a user's name and password, and that of the configuration of an `RTCPeerConnection`.
+/// The lines of a user's name and password, and that of the configuration of an `RTCPeerConnection`, if the server's port is known.
 fn lines_of(
     alloc: Global,
     listen: Endpoint,
@@ -53,6 +53,9 @@ fn lines_of(
     let mut lines = Vec::new(alloc);
     lines.push(format!(in alloc; "username {username}")?)?;
     lines.push(format!(in alloc; "password {password}")?)?;
+    if listen.port == 0 {
+        return Ok(lines);
+    }
     lines.push(format!(in alloc;
         "{{\"iceServers\": [{{\"urls\": \"turn:{server}?transport=udp\", \"username\": \"{quoted}\", \"credential\": \"{password}\"}}]}}"
     )?)?;

@@ -12,6 +12,7 @@ use turn_cli::CliError;
 use turn_client::ClientError;
 use turn_config::ConfigTextError;
 use turn_disk::{DeviceError, FileError};
+use turn_ending::EndError;
 use turn_reading::ReadingError;
 use turn_scenario::ScenarioError;
 use turn_serving::{StartError, TurnError};
@@ -175,6 +176,17 @@ impl From<StoreError> for ProgramError {
             // A store stops after a failed device call.
             StoreError::Device | StoreError::Stopped => ProgramError::Device,
             StoreError::Worn => ProgramError::Worn,
+        }
+    }
+}
+
+impl From<EndError> for ProgramError {
+    fn from(fault: EndError) -> ProgramError {
+        match fault {
+            EndError::Store(fault) => ProgramError::from(fault),
+            EndError::Memory => ProgramError::Memory,
+            // A Refresh of a live allocation is not refused.
+            EndError::Refused => ProgramError::Device,
         }
     }
 }

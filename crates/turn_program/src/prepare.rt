@@ -1,7 +1,7 @@
-//! What a start takes before its sockets: a configuration, and then its store.
+//! What a start takes before its store: a configuration.
 
-ghost use Rattle.std.specs.Prelude.{◌≡◌, ◌⊎◌, ◌∷◌, Err, IfErr, IfOk, Ok, OkIff};
-ghost use Rattle.turn_program.specs.Checks.{IsConfigTextError, IsErrorBeforeStore};
+ghost use Rattle.std.specs.Prelude.{◌≡◌, ◌∷◌, IfErr, IfOk};
+ghost use Rattle.turn_program.specs.Checks.{IsErrorBeforeStore};
 ghost use Rattle.turn_sockets.specs.Own.{AreListened};
 ghost use Rattle.turn_types.specs.declared.address.Endpoint.{Endpoint};
 
@@ -13,11 +13,11 @@ use turn_config::{Configured, read_config};
 use turn_cred::Credentials;
 use turn_ports::PortRange;
 use turn_sockets::ListeningAddresses;
-use turn_types::{Endpoint, Limits, ServerConfig};
+use turn_types::{Endpoint, ServerConfig};
 
-/// A configuration, and what was taken of a store.
+/// A configuration.
 #[derive(Drop)]
-pub struct Prepared<S> {
+pub struct Prepared {
     /// The configuration.
     pub config: ServerConfig,
     /// The handler of its users.
@@ -26,8 +26,8 @@ pub struct Prepared<S> {
     pub listen: ListeningAddresses,
     /// The range of the relay ports.
     pub ports: PortRange,
-    /// What was taken of the store.
-    pub store: S,
+    /// The address on which relay sockets are bound, if it isn't the one that clients are told.
+    pub relay_bind: Option<u32>,
 }
 
 /// The addresses that clients send to: that of a configuration and others. One that is there twice is a usage fault.
@@ -41,21 +41,16 @@ fn listening_of(
     ListeningAddresses::new(configured, others).ok_or(ProgramError::Usage)
 }
 
-/// Reads the configuration in a file, and then takes a store by `take`, under the limits of the configuration. `others` are the
-/// addresses that clients send to beside the configuration's. So `turn serve` and `turn check` tell the first fault in one order:
-/// of the file, of its lines, of an address that is there twice, of the store.
-pub fn prepare<
-    R: Files + AllocGlobal,
-    S: Drop,
-    T: FnOnce(Limits) -> Result<S, ProgramError> + Drop,
->(rt: &R, config: &str, others: &[Endpoint], take: T) -> Result<Prepared<S>, ProgramError>
-    requires { T.IsAlwaysCallable take }
-    // The store is what `take` came to under these limits.
-    ensures store { IfOk result (λ prepared. T.post take prepared.config.limits (Ok prepared.store)) }
+/// Reads the configuration in a file. `others` are the addresses that clients send to beside the configuration's. So `turn serve`
+/// and `turn check` tell the first fault in one order: of the file, of its lines, of an address that is there twice.
+pub fn prepare<R: Files + AllocGlobal>(
+    rt: &R,
+    config: &str,
+    others: &[Endpoint],
+) -> Result<Prepared, ProgramError>
     // The addresses are the others behind one, each once.
     ensures listened { IfOk result (λ prepared. (first : Endpoint) × (prepared.listen ≡ first ∷ others.now) × AreListened prepared.listen) }
-    // A fault is that of the configuration or of the addresses, or else what `take` came to under its limits.
-    ensures fault { IfErr result (λ fault. IsErrorBeforeStore others.now fault ⊎ ((limits : _) × T.post take limits (Err fault))) }
+    ensures fault { IfErr result (IsErrorBeforeStore others.now) }
 {
     let text = read_whole(rt, rt.alloc(), config)?;
     let Configured {
@@ -63,15 +58,14 @@ pub fn prepare<
         credentials,
         listen,
         ports,
+        relay_bind,
         ..
     } = read_config(rt.alloc(), &text)?;
-    let listen = listening_of(listen, others)?;
-    let store = take(config.limits())?;
     Ok(Prepared {
         config,
         credentials,
-        listen,
+        listen: listening_of(listen, others)?,
         ports,
-        store,
+        relay_bind,
     })
 }

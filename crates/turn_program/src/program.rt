@@ -7,6 +7,7 @@ use crate::answer::run_answer;
 use crate::check::run_check;
 use crate::credential::run_credential;
 use crate::demo::run_demo;
+use crate::end::run_end;
 use crate::error::ProgramError;
 use crate::format::run_format;
 use crate::help::run_help;
@@ -18,6 +19,7 @@ use crate::serve::{Service, run_serve};
 use crate::status::run_status;
 use crate::version::{Release, run_version};
 use std::convert::AsStr;
+use std::env::Env;
 use std::fs::File;
 use std::io::Write;
 use std::net::Net;
@@ -34,13 +36,14 @@ fn is_logged(command: &Command) -> bool {
         | Command::Format { log, .. }
         | Command::Inspect { log, .. }
         | Command::Check { log, .. }
+        | Command::End { log, .. }
         | Command::Serve { log, .. } => *log,
         _ => false,
     }
 }
 
 fn run_command<
-    R: Files<File = File> + Net + RandomSource + Drop + AllocGlobal,
+    R: Files<File = File> + Net + RandomSource + Env + Drop + AllocGlobal,
     C: Clock,
     W: Write,
     L: Write + Drop,
@@ -84,6 +87,7 @@ fn run_command<
             burst,
             relay_bind,
             listen,
+            held,
             ..
         } => {
             let service = Service {
@@ -94,9 +98,16 @@ fn run_command<
                 burst: *burst,
                 relay_bind: *relay_bind,
                 listen,
+                is_held: *held,
             };
             run_serve::<Unknown, R, C, W, L>(rt, clock, service, &log, out).told
         }
+        Command::End {
+            config,
+            store,
+            ended,
+            ..
+        } => run_end(rt, clock, &log, config, store, ended, out),
         Command::Probe {
             server,
             asker,
@@ -110,7 +121,7 @@ fn run_command<
 }
 
 fn try_words<
-    R: Files<File = File> + Net + RandomSource + Drop + AllocGlobal,
+    R: Files<File = File> + Net + RandomSource + Env + Drop + AllocGlobal,
     C: Clock,
     S: AsStr,
     W: Write,
@@ -138,7 +149,7 @@ pub fn report<E: Write>(fault: ProgramError, err: &mut E) -> u8
 /// Runs the program on its words, its name first, and gives the exit status. `release` says what the program is made from; a server
 /// that is to keep a log writes it to `log`.
 pub fn run_words<
-    R: Files<File = File> + Net + RandomSource + Drop + AllocGlobal,
+    R: Files<File = File> + Net + RandomSource + Env + Drop + AllocGlobal,
     C: Clock,
     S: AsStr,
     W: Write,

@@ -5,15 +5,19 @@ ghost use Rattle.turn_sockets.specs.Moments.{IsMoment};
 ghost use Rattle.turn_serving.specs.Turns.{Served};
 ghost use Rattle.turn_program.specs.Serving.{AnySecond, KeptSince, Serves, StartedOver, commits_of, just_opened};
 
-use crate::about::{ShownAddresses, second_now, tell_prepared, tell_sockets, tell_store};
+use crate::about::{
+    ShownAddresses, second_now, tell_held, tell_prepared, tell_sockets, tell_store,
+};
 use crate::error::ProgramError;
 use crate::files::read_whole;
+use crate::held::sockets_of;
 use crate::log::{Known, Log, StoreWatch};
 use crate::notes::Noted;
 use crate::prepare::{Prepared, prepare};
 use crate::print::print_line;
 use crate::started::{Started, live_at, tell_notes, tell_started};
 use std::alloc::Global;
+use std::env::Env;
 use std::fs::File;
 use std::io::Write;
 use std::net::Net;
@@ -25,7 +29,9 @@ use turn_config::{Configured, ShownEndpoint, read_config};
 use turn_cred::{AuthHandler, Credentials};
 use turn_disk::{Disk, FileDisk, FileError, Start};
 use turn_ports::RelayAddressGenerator;
-use turn_serving::{Commits, Setup, SetupError, SocketServing, StartError, TurnError};
+use turn_serving::{
+    Commits, ListeningSockets, Setup, SetupError, SocketServing, StartError, TurnError,
+};
 use turn_sockets::SocketPorts;
 use turn_types::Endpoint;
 
@@ -42,10 +48,12 @@ pub struct Service<'a> {
     pub turns: Option<u64>,
     /// How many datagrams a turn takes of each socket.
     pub burst: u8,
-    /// The address on which relay sockets are bound, if it isn't the one that clients are told.
+    /// The address on which relay sockets are bound, if it isn't that of the configuration.
     pub relay_bind: Option<u32>,
     /// The addresses that clients send to, beside the configuration's.
     pub listen: &'a [Endpoint],
+    /// Whether a supervisor hands the listening sockets over.
+    pub is_held: bool,
 }
 
 /// Requests wait for each other unless turns are counted.
@@ -101,44 +109,43 @@ fn open_disk<R: Files<File = File>, C: Clock>(
     Ok(FileDisk::open(rt, store)?)
 }
 
-/// What a start takes of files. At a fault the log says which file it is about.
-fn take_files<R: Files<File = File> + AllocGlobal, C: Clock, L: Write + Drop>(
+/// What a start takes.
+#[derive(Drop)]
+struct Taken {
+    prepared: Prepared,
+    sockets: ListeningSockets,
+    disk: FileDisk<File>,
+}
+
+/// Takes the configuration, the sockets that are handed over, and the store. At a fault the log says what it is about.
+fn take_all<R: Files<File = File> + Env + AllocGlobal, C: Clock, L: Write + Drop>(
     rt: &R,
     clock: &C,
     service: Service<'_>,
     log: &Log<L>,
-) -> Result<Prepared<FileDisk<File>>, ProgramError>
-    ensures { IfOk result (λ prepared. prepared.store ≡ just_opened prepared.store.size) }
+) -> Result<Taken, ProgramError>
+    ensures { IfOk result (λ taken. taken.disk ≡ just_opened taken.disk.size) }
 {
-    let taken = prepare(rt, service.config, service.listen, |_| {
-        Ok(open_disk(rt, clock, service.store))
-    });
-    let Prepared {
-        config,
-        credentials,
-        listen,
-        ports,
-        store,
-    } = match taken {
-        Ok(prepared) => prepared,
-        Err(fault) => {
-            tell_prepared(rt, clock, log, service.config, fault);
-            return Err(fault);
-        }
-    };
-    match store {
-        Ok(store) => Ok(Prepared {
-            config,
-            credentials,
-            listen,
-            ports,
-            store,
-        }),
-        Err(fault) => {
-            tell_store(rt, clock, log, service.store);
-            Err(fault)
-        }
-    }
+    let prepared = prepare(rt, service.config, service.listen).inspect_err(|fault| tell_prepared(
+        rt,
+        clock,
+        log,
+        service.config,
+        *fault,
+    ))?;
+    let listen = prepared.listen.as_slice();
+    let sockets = sockets_of(rt, service.is_held, listen).inspect_err(|_| tell_held(clock, log))?;
+    let disk = open_disk(rt, clock, service.store).inspect_err(|_| tell_store(
+        rt,
+        clock,
+        log,
+        service.store,
+    ))?;
+    Ok(Taken {
+        prepared,
+        sockets,
+        disk,
+    })
 }
 
 /// Says what the fault of a start is about.
@@ -192,7 +199,7 @@ fn start<
     'a,
     'l,
     S: Start,
-    R: Files<File = File> + Net + RandomSource + Drop + AllocGlobal,
+    R: Files<File = File> + Net + RandomSource + Env + Drop + AllocGlobal,
     C: Clock,
     L: Write + Drop,
 >(
@@ -208,18 +215,24 @@ fn start<
 {
     let seed = random_bytes(rt)?;
     let log = watch.log();
+    let Taken {
+        prepared,
+        sockets,
+        disk,
+    } = take_all(rt, clock, service, log)?;
     let Prepared {
         config,
         credentials,
         listen,
         ports,
-        store: disk,
-    } = take_files(rt, clock, service, log)?;
+        relay_bind,
+    } = prepared;
+    let relay_bind = service.relay_bind.or(relay_bind);
     let setup = Setup {
         config: &config,
         listen: &listen,
         ports,
-        relay_bind: service.relay_bind,
+        relay_bind,
         burst: service.burst,
         commits: commits_of(service.turns),
         seed,
@@ -230,13 +243,14 @@ fn start<
         clock,
         disk.holding::<S>(),
         credentials,
+        sockets,
         watch,
     ) {
         Ok(serving) => Ok(serving),
         Err(SetupError { fault, disk }) => {
             let addresses = ShownAddresses {
                 listen: listen.as_slice(),
-                relay: service.relay_bind.unwrap_or(config.relay()),
+                relay: relay_bind.unwrap_or(config.relay()),
                 ports,
             };
             tell_start(rt, clock, log, service.store, &addresses, fault);
@@ -348,7 +362,7 @@ fn inform<R: Files<File = File> + AllocGlobal, L: Write + Drop>(
 pub fn run_serve<
     'a,
     S: Start,
-    R: Files<File = File> + Net + RandomSource + Drop + AllocGlobal,
+    R: Files<File = File> + Net + RandomSource + Env + Drop + AllocGlobal,
     C: Clock,
     W: Write,
     L: Write + Drop,

@@ -120,18 +120,16 @@ pub fn run_status<R: Files<File = File> + AllocGlobal, C: Clock, W: Write>(
     out: &mut W,
 ) -> Result<(), ProgramError> {
     let alloc = rt.alloc();
-    let prepared = prepare(rt, config, &[], |limits| {
-        let disk = FileDisk::open_to_read(rt, store)?;
-        let (disk, read) = read_store(alloc, clock, disk, Some(limits));
-        drop(disk);
-        Ok(read?)
-    })?;
+    let prepared = prepare(rt, config, &[])?;
+    let (limits, quota) = (prepared.config.limits(), prepared.config.quota());
+    let disk = FileDisk::open_to_read(rt, store)?;
+    let (_, read) = read_store(alloc, clock, disk, Some(limits));
+    let reading = read?;
     let first = Moment::new(0).ok_or(ProgramError::Device)?;
     let now = moment_now(&clock, first).ok_or(ProgramError::Device)?;
-    let (limits, quota) = (prepared.config.limits(), prepared.config.quota());
     let lines = lines_of(
         alloc,
-        &prepared.store,
+        &reading,
         limits,
         quota,
         now.seconds(),

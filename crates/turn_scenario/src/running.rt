@@ -158,6 +158,7 @@ impl<'a, A: Allocator + Copy> Running<'a, A> {
             realm,
             passwords,
             auth_secret,
+            relay_bind: _,
         } = configured;
         let (disk, outcome) = format_disk(alloc, config.limits(), version, area)?;
         let client = Client {

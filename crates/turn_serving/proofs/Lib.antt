@@ -4,6 +4,7 @@ pub mod Named
 pub mod Order
 pub mod Others
 pub mod Rounds
+pub mod Sockets
 pub mod Starts
 pub mod Turns
 pub mod Wire

@@ -10,7 +10,9 @@ use Rattle.turn_engine.specs.declared.error.SubmitError.TheVariants.{BatchFull}
 use Rattle.turn_ports.specs.declared.generator.RelayAddressGenerator as generators
 use Rattle.turn_sockets.specs.Backlog.{BacklogState, if_same, waiting_of}
 use Rattle.turn_sockets.specs.Moments.{IsMoment}
+use Rattle.turn_sockets.specs.Own.{come_from}
 use Rattle.turn_sockets.specs.Wire.{Passed, received}
+use Rattle.turn_sockets.specs.declared.own.OwnAddresses.{OwnAddresses}
 use Rattle.turn_step.specs.Outcome.{Arrives, Sent}
 use Rattle.turn_step.specs.Outcome.Arrives.{FromClient, FromPeer}
 use Rattle.turn_store.specs.declared.error.StoreError.{StoreError}
@@ -46,12 +48,14 @@ module _ {D H G : Type 0} where
   clients-append (Submitted moment a result new ∷ xs) ys = clients-append xs ys
   clients-append (Committed result new out ∷ xs) ys = clients-append xs ys
 
-  pub peers-append : (xs ys : List (Event D H G)) → of_peers (xs ++ ys) ≡ of_peers xs ++ of_peers ys
-  peers-append [] ys = refl
-  peers-append (OfClient at from bytes ∷ xs) ys = peers-append xs ys
-  peers-append (OfPeer at from bytes ∷ xs) ys = ap (λ l. peer_at at.port from bytes ++ l) (peers-append xs ys) ∙ sym (append_assoc (peer_at at.port from bytes) (of_peers xs) (of_peers ys))
-  peers-append (Submitted moment a result new ∷ xs) ys = peers-append xs ys
-  peers-append (Committed result new out ∷ xs) ys = peers-append xs ys
+  pub peers-append : (own : OwnAddresses) (xs ys : List (Event D H G)) → of_peers own (xs ++ ys) ≡ of_peers own xs ++ of_peers own ys
+  peers-append own [] ys = refl
+  peers-append own (OfClient at from bytes ∷ xs) ys = peers-append own xs ys
+  peers-append own (OfPeer at from bytes ∷ xs) ys =
+      let first = peer_at at.port (come_from own from) bytes in
+      ap (λ l. first ++ l) (peers-append own xs ys) ∙ sym (append_assoc first (of_peers own xs) (of_peers own ys))
+  peers-append own (Submitted moment a result new ∷ xs) ys = peers-append own xs ys
+  peers-append own (Committed result new out ∷ xs) ys = peers-append own xs ys
 
   pub sent-append : (has : G → ℕ → Bool) (here : Addresses) (xs ys : List (Event D H G)) → AreSent has here xs → AreSent has here ys → AreSent has here (xs ++ ys)
   sent-append has here [] ys first second = second
@@ -136,7 +140,7 @@ module _ {D H G : Type 0} {disk : disks.Ghosts D} {handler : handlers.Ghosts H} 
   pub flushes : {old new : ServerState D H G} {result : Result (List Sent) StoreError} {before after : List Passed} (out : List Passed) → Commits disk old new result → after ≡ before ++ out
       → AreSent has here (Committed result new out ∷ []) → Flushes disk handler ports has here old new before after
   unfolding commit_moves
-  flushes out call passed rules = record { moves = commit_moves out call passed rules; nothing = record { no_client = refl; no_peer = refl } }
+  flushes out call passed rules = record { moves = commit_moves out call passed rules; nothing = record { no_client = refl; no_peer = λ own. refl } }
 
   unfoldable submit_moves : {moment : ℕ} {a : Arrives} {old new : ServerState D H G} {result : Result Unit SubmitError} {before after : List Passed} → Submits disk handler ports old new moment a result → after ≡ before
       → Moves disk handler ports has here (At moment) old new before after
@@ -154,7 +158,7 @@ module _ {D H G : Type 0} {disk : disks.Ghosts D} {handler : handlers.Ghosts H} 
   unfolding submit_moves
   submits {a = a} {result = result} call other same = record {
     moves = submit_moves call same;
-    nothing = record { no_client = refl; no_peer = refl };
+    nothing = record { no_client = refl; no_peer = λ own. refl };
     once = λ d. counted_once a result (other d);
   }
 
@@ -177,7 +181,7 @@ module _ {D H G : Type 0} {disk : disks.Ghosts D} {handler : handlers.Ghosts H} 
         moves = moves_in_row (submit_moves refused refl) (moves_in_row (moves_never flushed.moves) (submit_moves taken refl));
         nothing = record {
           no_client = clients-append flushed.moves.events (last ∷ []) ∙ ap (λ l. l ++ []) flushed.nothing.no_client;
-          no_peer = peers-append flushed.moves.events (last ∷ []) ∙ ap (λ l. l ++ []) flushed.nothing.no_peer;
+          no_peer = λ own. peers-append own flushed.moves.events (last ∷ []) ∙ ap (λ l. l ++ []) (flushed.nothing.no_peer own);
         };
         once = λ d.
             ap (λ r. submitted_by a r ++ submitted_in (flushed.moves.served.steps ++ (Submit moment a second new ∷ []))) is
@@ -213,8 +217,8 @@ module _ {D H G : Type 0} {disk : disks.Ghosts D} {handler : handlers.Ghosts H} 
             ap (λ l. peers_of (submitted_in l)) (calls-append before after)
             ∙ of_rows (calls_of before) (calls_of after)
             ∙ ap (λ l. l ++ peers_of (submitted_in (calls_of after))) (first.peers ok)
-            ∙ ap (λ l. of_peers before ++ l) (second.peers d)
-            ∙ sym (peers-append before after);
+            ∙ ap (λ l. of_peers here.own before ++ l) (second.peers d)
+            ∙ sym (peers-append here.own before after);
       }
 
   -- what was not done to its end
@@ -257,7 +261,7 @@ module _ {D H G : Type 0} {disk : disks.Ghosts D} {handler : handlers.Ghosts H} 
           f.moves.calls,
           tt,
         );
-        peers = λ d. ap (λ l. peers_of (submitted_in l)) (sym f.moves.calls) ∙ ap peers_of no_submit ∙ sym f.nothing.no_peer;
+        peers = λ d. ap (λ l. peers_of (submitted_in l)) (sym f.moves.calls) ∙ ap peers_of no_submit ∙ sym (f.nothing.no_peer here.own);
       }
 
   -- time passes
@@ -267,14 +271,14 @@ module _ {D H G : Type 0} {disk : disks.Ghosts D} {handler : handlers.Ghosts H} 
   time_passes b s = record {
     moves = s.moves;
     clients = λ d. (peer_order b (record { served = s.moves.served; once = s.once d }), s.moves.calls, tt);
-    peers = λ d. ap (λ l. peers_of (submitted_in l)) (sym s.moves.calls) ∙ ap peers_of (s.once d) ∙ sym s.nothing.no_peer;
+    peers = λ d. ap (λ l. peers_of (submitted_in l)) (sym s.moves.calls) ∙ ap peers_of (s.once d) ∙ sym (s.nothing.no_peer here.own);
   }
 
   -- a peer's datagram was received, and is submitted
-  pub peer_passes : {moment : ℕ} {is_done : Type 0} {port : ℕ} {from : Endpoint} {bytes id : List ℕ} {old new : ServerState D H G} {before between after : List Passed} (at : Endpoint) (b : BacklogState) → at.port ≡ port → between ≡ before ++ received at from bytes ∷ []
-      → SubmitsOnWire disk handler ports has here moment is_done (FromPeer port from bytes id) old new between after → Passes disk handler ports has here (At moment) is_done (on_wire old b before) (on_wire new b after)
+  pub peer_passes : {moment : ℕ} {is_done : Type 0} {port : ℕ} {peer : Endpoint} {bytes id : List ℕ} {old new : ServerState D H G} {before between after : List Passed} (at from : Endpoint) (b : BacklogState) → at.port ≡ port → peer ≡ come_from here.own from → between ≡ before ++ received at from bytes ∷ []
+      → SubmitsOnWire disk handler ports has here moment is_done (FromPeer port peer bytes id) old new between after → Passes disk handler ports has here (At moment) is_done (on_wire old b before) (on_wire new b after)
   unfolding peer_order
-  peer_passes {from = from} {bytes = bytes} {before = before} at b is came s = record {
+  peer_passes {peer = peer} {bytes = bytes} {before = before} at from b is seen came s = record {
     moves = record {
       events = OfPeer at from bytes ∷ s.moves.events;
       served = s.moves.served;
@@ -286,8 +290,9 @@ module _ {D H G : Type 0} {disk : disks.Ghosts D} {handler : handlers.Ghosts H} 
     peers = λ d.
         ap (λ l. peers_of (submitted_in l)) (sym s.moves.calls)
         ∙ ap peers_of (s.once d)
-        ∙ ap (λ p. peer_at p from bytes ++ []) (sym is)
-        ∙ ap (λ l. peer_at at.port from bytes ++ l) (sym s.nothing.no_peer);
+        ∙ ap (λ p. peer_at p peer bytes ++ []) (sym is)
+        ∙ ap (λ (e : Endpoint). peer_at at.port e bytes ++ []) seen
+        ∙ ap (λ l. peer_at at.port (come_from here.own from) bytes ++ l) (sym (s.nothing.no_peer here.own));
   }
 
   -- a client's datagram was received, and is submitted
@@ -304,7 +309,7 @@ module _ {D H G : Type 0} {disk : disks.Ghosts D} {handler : handlers.Ghosts H} 
       are_sent = (there, s.moves.are_sent);
     };
     clients = λ d. (submitted_order b (record { served = s.moves.served; once = s.once d }) none_waits, s.moves.calls, inl (ap (λ (g : FiveTuple). (g, bytes)) is, tt));
-    peers = λ d. ap (λ l. peers_of (submitted_in l)) (sym s.moves.calls) ∙ ap peers_of (s.once d) ∙ sym s.nothing.no_peer;
+    peers = λ d. ap (λ l. peers_of (submitted_in l)) (sym s.moves.calls) ∙ ap peers_of (s.once d) ∙ sym (s.nothing.no_peer here.own);
   }
 
   -- a client's datagram was received, and nothing else happened
@@ -342,7 +347,7 @@ module _ {D H G : Type 0} {disk : disks.Ghosts D} {handler : handlers.Ghosts H} 
   waited_passes s first = record {
     moves = s.moves;
     clients = λ d. (waited_order (record { served = s.moves.served; once = s.once d }) first, s.moves.calls, tt);
-    peers = λ d. ap (λ l. peers_of (submitted_in l)) (sym s.moves.calls) ∙ ap peers_of (s.once d) ∙ sym s.nothing.no_peer;
+    peers = λ d. ap (λ l. peers_of (submitted_in l)) (sym s.moves.calls) ∙ ap peers_of (s.once d) ∙ sym (s.nothing.no_peer here.own);
   }
 
   -- nothing happened, and the same waits

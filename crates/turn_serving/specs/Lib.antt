@@ -1,3 +1,4 @@
+pub mod Listening
 pub mod Manner
 pub mod Requests
 pub mod Serving

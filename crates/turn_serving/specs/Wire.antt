@@ -7,7 +7,7 @@ use Rattle.turn_engine.specs.State.{ServerState}
 use Rattle.turn_engine.specs.declared.error.SubmitError.{SubmitError}
 use Rattle.turn_ports.specs.declared.generator.RelayAddressGenerator as generators
 use Rattle.turn_sockets.specs.Backlog.{BacklogState}
-use Rattle.turn_sockets.specs.Own.{IsListening}
+use Rattle.turn_sockets.specs.Own.{IsListening, come_from, sent_to}
 use Rattle.turn_sockets.specs.Wire.{Passed, received, sent}
 use Rattle.turn_sockets.specs.declared.own.OwnAddresses.{OwnAddresses}
 use Rattle.turn_step.specs.Outcome.{Arrives, Sent}
@@ -57,12 +57,14 @@ abbrev pub addresses_of : List Endpoint → OwnAddresses → Addresses
 addresses_of sockets own = record { sockets = sockets; own = own }
 
 -- What is sent of a datagram that a commit hands out, once: to a client from the socket of its five-tuple's server, or nothing if no socket
--- has that address; to a peer from the socket of the relay port, or nothing if the port has none, or if it would come to the server itself.
+-- has that address; to a peer from the socket of the relay port, or nothing if the port has none, or if it would come to the server itself. A
+-- relay port of the server is reached where it is bound.
 abbrev pub SendsOne : Addresses → (ℕ → Bool) → Sent → List Passed → Type 0
 SendsOne here has (ToClient f bytes) out =
     (Contains here.sockets f.server × (out ≡ sent f.server f.client bytes ∷ [])) ⊎ (All (λ at. at ≢ f.server) here.sockets × (out ≡ []))
 SendsOne here has (ToPeer port peer bytes) out =
-    ((at : Endpoint) × (at.port ≡ port) × (out ≡ sent at peer bytes ∷ [])) ⊎ (((has port ≡ false) ⊎ IsListening here.own peer) × (out ≡ []))
+    ((at : Endpoint) × (at.port ≡ port) × (out ≡ sent at (sent_to here.own peer) bytes ∷ []))
+    ⊎ (((has port ≡ false) ⊎ IsListening here.own (sent_to here.own peer)) × (out ≡ []))
 
 -- what is sent of several, in their order
 abbrev pub SendsEach : Addresses → (ℕ → Bool) → List Sent → List Passed → Type 0
@@ -102,13 +104,14 @@ of_clients (Committed result after out ∷ events) = of_clients events
 abbrev pub peer_at : ℕ → Endpoint → List ℕ → List (ℕ × (Endpoint × List ℕ))
 peer_at port from bytes = if nat_eq port 0 then [] else (port, (from, bytes)) ∷ []
 
--- the datagrams of peers that were received, each with the port of the socket that received it
-abbrev pub of_peers : {D H G : Type 0} → List (Event D H G) → List (ℕ × (Endpoint × List ℕ))
-of_peers [] = []
-of_peers (OfClient at from bytes ∷ events) = of_peers events
-of_peers (OfPeer at from bytes ∷ events) = peer_at at.port from bytes ++ of_peers events
-of_peers (Submitted moment arrival result after ∷ events) = of_peers events
-of_peers (Committed result after out ∷ events) = of_peers events
+-- the datagrams of peers that were received, each with the port of the socket that received it, and who sent it in the addresses that
+-- clients are told
+abbrev pub of_peers : {D H G : Type 0} → OwnAddresses → List (Event D H G) → List (ℕ × (Endpoint × List ℕ))
+of_peers own [] = []
+of_peers own (OfClient at from bytes ∷ events) = of_peers own events
+of_peers own (OfPeer at from bytes ∷ events) = peer_at at.port (come_from own from) bytes ++ of_peers own events
+of_peers own (Submitted moment arrival result after ∷ events) = of_peers own events
+of_peers own (Committed result after out ∷ events) = of_peers own events
 
 -- the datagrams of peers among arrivals
 abbrev pub peers_of : List Arrives → List (ℕ × (Endpoint × List ℕ))
@@ -140,12 +143,12 @@ on_wire server waits passed = record { server = server; waits = waits; passed = 
 pub record Passes {D H G : Type 0} (disk : disks.Ghosts D) (handler : handlers.Ghosts H) (ports : generators.Ghosts G) (has : G → ℕ → Bool) (here : Addresses) (IsOne : ℕ → ℕ → Type 0) (is_done : Type 0) (old new : OnWire D H G) : Type 0 where
   pub moves : Moves disk handler ports has here IsOne old.server new.server old.passed new.passed
   pub clients : is_done → (kept : KeepsOrder disk handler ports IsOne old.server old.waits new.server new.waits) × (kept.served.steps ≡ calls_of moves.events) × IsPart kept.received (of_clients moves.events)
-  pub peers : is_done → peers_of (submitted_in (calls_of moves.events)) ≡ of_peers moves.events
+  pub peers : is_done → peers_of (submitted_in (calls_of moves.events)) ≡ of_peers here.own moves.events
 
 -- no socket received anything
 pub record ReceivesNothing {D H G : Type 0} (events : List (Event D H G)) : Type 0 where
   pub no_client : of_clients events ≡ []
-  pub no_peer : of_peers events ≡ []
+  pub no_peer : (own : OwnAddresses) → of_peers own events ≡ []
 
 -- Nothing was received, and nothing submitted; what was handed out was sent.
 pub record Flushes {D H G : Type 0} (disk : disks.Ghosts D) (handler : handlers.Ghosts H) (ports : generators.Ghosts G) (has : G → ℕ → Bool) (here : Addresses) (old new : ServerState D H G) (before after : List Passed) : Type 0 where

@@ -19,6 +19,7 @@ pub use error::{SetupError, StartError, TurnError};
 pub use laws::{
     five_tuples_keep_their_order, others_change_nothing, turns_keep_ports, turns_make_runs,
 };
+pub use listening::ListeningSockets;
 pub use manner::Commits;
 pub use relay_sockets::RelaySockets;
 pub use requests::may_change;

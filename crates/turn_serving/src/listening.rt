@@ -3,6 +3,7 @@
 ghost use Rattle.std.specs.Prelude.{◌≡◌, ◌≢◌, ◌↔◌, ℕ, All, Contains, IfNone, IfOk, IfSome, List, None, OnOk};
 ghost use Rattle.turn_sockets.specs.Own.{IsRelay};
 ghost use Rattle.turn_sockets.specs.Schedule.{with_all_ready};
+ghost use Rattle.turn_serving.specs.Listening.{HasSockets};
 
 use crate::error::{BindError, TurnError};
 use crate::watch::Watch;
@@ -14,7 +15,7 @@ use std::rt::Clock;
 use std::thread;
 use std::time::Duration;
 use turn_sockets::{
-    BoundSocket, LISTENING, ListeningAddresses, OwnAddresses, RECEIVE_BUFFER, Schedule,
+    BoundSocket, LISTENING, ListeningAddresses, OwnAddresses, RECEIVE_BUFFER, Schedule, are_at,
 };
 use turn_types::{Endpoint, FiveTuple};
 
@@ -26,6 +27,15 @@ const EVENTS: usize = 1_025;
 pub(crate) const ATTEMPTS: u32 = 40;
 
 const PAUSE_MILLIS: u64 = 50;
+
+/// Where the sockets that clients send to come from.
+#[derive(Drop)]
+pub enum ListeningSockets<A: Allocator = Global> {
+    /// The server binds one at each of its addresses.
+    Bound,
+    /// A supervisor hands these over, which are bound at its addresses. Several may be at one address.
+    Held(Vec<BoundSocket, A>),
+}
 
 /// The sockets that clients send to, and who sees what is sent.
 #[derive(Drop)]
@@ -53,29 +63,23 @@ fn bind<R: Net, C: Clock>(net: &R, system: &C, at: Endpoint) -> Result<BoundSock
     Err(BindError::Socket)
 }
 
-/// Binds a socket that clients send to, whose datagrams a wait reports by this token. Port 0 is any free one.
-fn open_one<R: Net, C: Clock>(
-    net: &R,
-    system: &C,
-    poll: &Poll,
-    at: Endpoint,
-    token: usize,
-) -> Result<BoundSocket, BindError> {
-    let mut socket = bind(net, system, at)?;
+/// Has a wait report the datagrams of a socket by this token.
+fn watch(poll: &Poll, socket: &mut BoundSocket, token: usize) -> Result<(), BindError>
+    ensures { socket.new ≡ socket.old }
+{
     socket
         .watch(poll.registry(), token)
         .map_err(|_| BindError::Socket)?;
     // A smaller buffer is no fault.
     let _ = socket.set_receive_buffer(RECEIVE_BUFFER);
-    Ok(socket)
+    Ok(())
 }
 
-/// Binds a socket at each of these addresses, in whose place it puts the one that was bound.
-fn open_all<R: Net, C: Clock, A: Allocator + Copy>(
+/// Binds a socket at each of these addresses, in whose place it puts the one that was bound. Port 0 is any free one.
+fn bind_all<R: Net, C: Clock, A: Allocator + Copy>(
     alloc: A,
     net: &R,
     system: &C,
-    poll: &Poll,
     listening: &mut ListeningAddresses,
 ) -> Result<Vec<BoundSocket, A>, BindError>
     ensures { IfOk result (λ sockets. sockets.items ≡ listening.new) }
@@ -84,27 +88,64 @@ fn open_all<R: Net, C: Clock, A: Allocator + Copy>(
     let mut sockets = Vec::with_capacity(alloc, count)?;
     for place in 0..count {
         let at = listening.as_slice()[place];
-        let socket = open_one(net, system, poll, at, LISTENING + place)?;
+        let socket = bind(net, system, at)?;
         listening.set(place, socket.at());
         sockets.push(socket).map_err(|_| BindError::Memory)?;
     }
     Ok(sockets)
 }
 
+/// Has a wait report the datagrams of each of these sockets.
+fn watch_all(poll: &Poll, sockets: &mut [BoundSocket]) -> Result<(), BindError>
+    ensures { sockets.new ≡ sockets.old }
+{
+    for place in 0..sockets.len() {
+        watch(poll, &mut sockets[place], LISTENING.wrapping_add(place))?;
+    }
+    Ok(())
+}
+
+/// The sockets of these addresses. Those that are handed over have to be theirs.
+fn take_all<R: Net, C: Clock, A: Allocator + Copy>(
+    alloc: A,
+    net: &R,
+    system: &C,
+    listening: &mut ListeningAddresses,
+    sockets: ListeningSockets<A>,
+) -> Result<Vec<BoundSocket, A>, BindError>
+    ensures { IfOk result (λ taken. HasSockets taken.items listening.new) }
+{
+    match sockets {
+        ListeningSockets::Bound => {
+            let sockets = bind_all(alloc, net, system, listening)?;
+            Ok(sockets)
+        }
+        ListeningSockets::Held(sockets) => {
+            if are_at(&sockets, listening.as_slice()) {
+                Ok(sockets)
+            } else {
+                Err(BindError::Socket)
+            }
+        }
+    }
+}
+
 impl<W: Watch + Drop, A: Allocator + Copy> Listening<W, A> {
-    /// Binds a socket at each listening address of these.
+    /// A socket or more for each listening address of these.
     pub(crate) fn open<R: Net, C: Clock>(
         alloc: A,
         net: &R,
         system: &C,
         poll: &Poll,
         mut own: OwnAddresses,
+        sockets: ListeningSockets<A>,
         watch: W,
     ) -> Result<Listening<W, A>, BindError>
         // The server's own addresses are those of all sockets.
-        ensures { IfOk result (λ l. l.sockets.items ≡ l.own.listening) }
+        ensures { IfOk result (λ l. HasSockets l.sockets.items l.own.listening) }
     {
-        let sockets = open_all(alloc, net, system, poll, &mut own.listening)?;
+        let mut sockets = take_all(alloc, net, system, &mut own.listening, sockets)?;
+        watch_all(poll, &mut sockets)?;
         Ok(Listening {
             sockets,
             own,

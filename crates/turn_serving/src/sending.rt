@@ -49,11 +49,12 @@ fn send<G: RelaySockets, A: Allocator + Copy, W: Watch + Drop>(
             }
         }
         Outgoing::ToPeer { port, peer, bytes } => {
-            if is_listening(&listening.own, ports, *peer) {
+            let to = listening.own.sent_to(*peer);
+            if is_listening(&listening.own, ports, to) {
                 return;
             }
             if let Some(socket) = ports.socket(*port) {
-                socket.send(wire, bytes.as_slice(), *peer);
+                socket.send(wire, bytes.as_slice(), to);
             }
         }
     }

@@ -9,10 +9,11 @@ ghost use Rattle.turn_sockets.specs.Ports.{draws_of};
 ghost use Rattle.turn_step.specs.State.{HoldsPorts};
 ghost use Rattle.turn_store.specs.Carrying.{Carries};
 ghost use Rattle.turn_types.specs.declared.address.FiveTuple.{FiveTuple};
+ghost use Rattle.turn_serving.specs.Listening.{HasSockets};
 ghost use Rattle.turn_serving.specs.Starts.{IfOfStore, IsBeforeReopening, IsKept, IsOfVersion, IsRefusedFor, KeepsImages, Started, have_ports, is_first};
 
 use crate::error::{BindError, SetupError, StartError};
-use crate::listening::{ATTEMPTS, Listening, Waiting, pause};
+use crate::listening::{ATTEMPTS, Listening, ListeningSockets, Waiting, pause};
 use crate::manner::{Commits, Manner};
 use crate::relay_sockets::RelaySockets;
 use crate::serving::{Serving, SocketServing};
@@ -293,17 +294,18 @@ impl<'c, A: Allocator + Copy> Setup<'c, A> {
         net: &'a R,
         system: &C,
         ports: &[u16],
+        sockets: ListeningSockets<A>,
         watch: W,
     ) -> Result<Beside<'a, R, W, A>, BindError>
         ensures range { IfOk result (λ beside. ⟦<SocketPorts<'a, R, A> as RelayAddressGenerator>⟧.range beside.ports ≡ self.now.ports) }
         ensures draws { IfOk result (λ beside. beside.ports.draws ≡ draws_of self.now.seed) }
         ensures waits { IfOk result (λ beside. (f : FiveTuple) → waiting_of beside.work.backlog f ≡ []) }
         ensures passed { IfOk result (λ beside. beside.work.wire.passed ≡ []) }
-        ensures own { IfOk result (λ beside. beside.listening.sockets.items ≡ beside.listening.own.listening) }
+        ensures own { IfOk result (λ beside. HasSockets beside.listening.sockets.items beside.listening.own.listening) }
     {
         let poll = Poll::new(net).map_err(|_| BindError::Socket)?;
         let ports = self.bind_ports(alloc, net, system, &poll, ports)?;
-        let listening = Listening::open(alloc, net, system, &poll, self.own(), watch)?;
+        let listening = Listening::open(alloc, net, system, &poll, self.own(), sockets, watch)?;
         let addresses = listening.own.listening.as_slice();
         let work = Work {
             buffer: Buffer::new(alloc)?,
@@ -319,8 +321,8 @@ impl<'c, A: Allocator + Copy> Setup<'c, A> {
         })
     }
 
-    /// Opens the store of a disk, binds the relay ports of its allocations and those that it reserves, binds the listening sockets, and
-    /// opens the store again over these: so a fault of the store comes before one of a socket. A port that is in use is tried again
+    /// Opens the store of a disk, binds the relay ports of its allocations and those that it reserves, binds or takes the
+    /// listening sockets, and opens the store again over these: so a fault of the store comes before one of a socket. A port that is in use is tried again
     /// for two seconds, in pauses by the system's clock. The second opening alone carries the store over to version 2, if it can
     /// be, so that a start which finds a socket at fault leaves the store as it was. A refusal returns the disk.
     /// `watch` sees what the server sends.
@@ -338,6 +340,7 @@ impl<'c, A: Allocator + Copy> Setup<'c, A> {
         system: &C,
         disk: D,
         handler: H,
+        sockets: ListeningSockets<A>,
         watch: W,
     ) -> Result<SocketServing<'a, D, H, R, A, W>, SetupError<D>>
         ensures started { IfOk result (λ serving. Started D.Disk H.AuthHandler ⟦<SocketPorts<'a, R, A> as RelayAddressGenerator>⟧
@@ -353,7 +356,7 @@ impl<'c, A: Allocator + Copy> Setup<'c, A> {
         ensures waits { IfOk result (λ serving. (f : FiveTuple) → waiting_of serving.backlog f ≡ []) }
         // No socket has received or sent anything, and each listening address has one.
         ensures passed { IfOk result (λ serving. serving.passed ≡ []) }
-        ensures own { IfOk result (λ serving. serving.addresses.sockets ≡ serving.addresses.own.listening) }
+        ensures own { IfOk result (λ serving. HasSockets serving.addresses.sockets serving.addresses.own.listening) }
         ensures manner { IfOk result (λ serving. serving.manner
             ≡ record { commits = self.now.commits; burst = self.now.burst; batch = self.now.config.now.limits.acts }) }
         // A store that isn't of version 1 keeps its content, and each one does at a refusal before the second opening.
@@ -376,7 +379,7 @@ impl<'c, A: Allocator + Copy> Setup<'c, A> {
             Ok(looked) => looked,
             Err(refused) => return Err(refused),
         };
-        let beside = match self.bind_beside(alloc, net, system, &ports, watch) {
+        let beside = match self.bind_beside(alloc, net, system, &ports, sockets, watch) {
             Ok(beside) => beside,
             Err(fault) => {
                 return Err(SetupError {

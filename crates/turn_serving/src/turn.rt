@@ -299,7 +299,7 @@ impl<'l, W: Watch + Drop, A: Allocator + Copy> Turn<'l, W, A> {
         };
         let arrival = Arrival::Peer {
             port,
-            from,
+            from: self.listening.own.come_from(from),
             bytes,
             id: work.ids.next(self.moment),
         };

@@ -40,7 +40,7 @@ flag_is {flags = flags} {fresh = fresh} {clients = clients} {peers = peers} are 
 -- a test of the flags says whether a socket can be listed
 pub can_list_is : {flags seen : List Bool} {fresh clients peers : List ℕ} (token : ℕ) (tested is : Bool) → AreFlags flags fresh clients peers → seen ≡ flags
     → tested ≡ (nat_lt token (length seen) && not (get_or seen token false)) → tested ≡ is
-    → (nat_lt token 65545 && not (list_any (nat_eq token) (fresh ++ (clients ++ peers)))) ≡ is
+    → (nat_lt token 65600 && not (list_any (nat_eq token) (fresh ++ (clients ++ peers)))) ≡ is
 can_list_is token tested is are same test was =
     (λ i. nat_lt token (sym are.size i) && not (flag_is are token i)) ∙ (λ i. nat_lt token (length (sym same i)) && not (get_or (sym same i) token false)) ∙ sym test ∙ was
 
@@ -60,17 +60,17 @@ module _ (a : Agenda) (token : ℕ) where
 unlisted : (n token : ℕ) → get_or (replicate n false) token false ≡ false
 unlisted n token = ⊎_elim (λ within. get_or-replicate n token false false within) (λ past. get_or_past (replicate n false) token false (omega (arith, length-replicate n false))) (cases_lt token n)
 
-pub no_flags : (flags : List Bool) → flags ≡ replicate 65545 false → AreFlags flags [] [] []
+pub no_flags : (flags : List Bool) → flags ≡ replicate 65600 false → AreFlags flags [] [] []
 no_flags flags is = record {
-  size = ap length is ∙ length-replicate 65545 false;
-  each = λ token. sym (ap number_of (ap (λ l. get_or l token false) is ∙ unlisted 65545 token));
+  size = ap length is ∙ length-replicate 65600 false;
+  each = λ token. sym (ap number_of (ap (λ l. get_or l token false) is ∙ unlisted 65600 token));
 }
 
 -- ---- A socket that is taken from its list
 
 -- a flag by token says of each socket whether it is listed, but for this one, whose flag still does
 pub record AreFlagsBut (taken : ℕ) (flags : List Bool) (fresh clients peers : List ℕ) : Type 0 where
-  pub size : length flags ≡ 65545
+  pub size : length flags ≡ 65600
   pub each : (token : ℕ) → cond (nat_eq token taken) 1 0 + (count token fresh + (count token clients + count token peers)) ≡ number_of (get_or flags token false)
 
 flagged : (b : Bool) (n : ℕ) → 1 + n ≡ number_of b → (b ≡ true) × (n ≡ 0)
@@ -128,8 +128,8 @@ module _ {flags : List Bool} {fresh clients peers : List ℕ} where
           omega arith
 
   -- and it can be listed again
-  pub can_be_listed : (taken : ℕ) → AreFlagsBut taken flags fresh clients peers → (nat_lt taken 65545 && not (list_any (nat_eq taken) (fresh ++ (clients ++ peers)))) ≡ true
+  pub can_be_listed : (taken : ℕ) → AreFlagsBut taken flags fresh clients peers → (nat_lt taken 65600 && not (list_any (nat_eq taken) (fresh ++ (clients ++ peers)))) ≡ true
   can_be_listed taken but =
       let unset = flag_is (cleared taken but) taken ∙ get_or-set_same flags taken false false (has_flag taken but) in
       let within = has_flag taken but in
-      and_from (nat_lt taken 65545) (not (list_any (nat_eq taken) (fresh ++ (clients ++ peers)))) (lt-ltb taken 65545 (subst (λ n. taken < n) but.size within)) (ap not unset)
+      and_from (nat_lt taken 65600) (not (list_any (nat_eq taken) (fresh ++ (clients ++ peers)))) (lt-ltb taken 65600 (subst (λ n. taken < n) but.size within)) (ap not unset)

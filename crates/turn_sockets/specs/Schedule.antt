@@ -25,9 +25,9 @@ nothing_ready = record { fresh = []; clients = []; peers = []; since = 0; left =
 abbrev pub is_relay : ℕ → Bool
 is_relay token = nat_lt token 65536
 
--- a token of a socket: of one of the ports, or of one of nine listening sockets
+-- a token of a socket: of one of the ports, or of one of 64 listening sockets
 abbrev pub is_token : ℕ → Bool
-is_token token = nat_lt token 65545
+is_token token = nat_lt token 65600
 
 -- whether a socket is listed
 abbrev pub is_listed : Agenda → ℕ → Bool
@@ -104,6 +104,6 @@ number_of b = if b then 1 else 0
 
 -- A flag by token says of each socket whether it is listed, and each is listed once at most.
 pub record AreFlags (flags : List Bool) (fresh clients peers : List ℕ) : Type 0 where
-  pub size : length flags ≡ 65545
+  pub size : length flags ≡ 65600
   pub each : (token : ℕ) → count_by (nat_eq token) fresh + (count_by (nat_eq token) clients + count_by (nat_eq token) peers)
       ≡ number_of (slice_index_or flags token false)

@@ -5,6 +5,8 @@
 mod address;
 mod backlog;
 mod buffer;
+mod held;
+mod laws;
 mod listening;
 mod moment;
 mod own;
@@ -19,6 +21,8 @@ mod socket_option;
 pub use address::{address_of, endpoint_of};
 pub use backlog::{Backlog, Room};
 pub use buffer::{Buffer, DataIds, DatagramSocket, Received};
+pub use held::{MAX_HELD, are_at, held_count, take_held};
+pub use laws::relay_ports_are_one_address;
 pub use listening::{ListeningAddresses, MAX_LISTENING};
 pub use moment::{Time, moment_at, moment_now};
 pub use own::OwnAddresses;

@@ -29,7 +29,7 @@ impl Model for ListeningAddresses {
 }
 
 /// Whether an address is one of these.
-fn is_among(addresses: &[Endpoint], address: Endpoint) -> bool
+pub(crate) fn is_among(addresses: &[Endpoint], address: Endpoint) -> bool
     ensures { result ≡ list_any (λ a. nat_eq a.ip address.ip && nat_eq a.port address.port) addresses.now }
 {
     addresses

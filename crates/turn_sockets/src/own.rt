@@ -2,7 +2,7 @@
 
 ghost use Rattle.std.specs.Prelude.{◌↔◌, ◌≡◌, ◌||◌, ◌&&◌, Any, IsTrue, nat_eq};
 ghost use Rattle.std.specs.List.{list_any};
-ghost use Rattle.turn_sockets.specs.Own.{IsListening, IsNamed, IsRelay};
+ghost use Rattle.turn_sockets.specs.Own.{IsListening, IsNamed, IsRelay, come_from, is_relay_port, sent_to};
 
 use crate::listening::ListeningAddresses;
 use turn_ports::{PortRange, RelayAddressGenerator};
@@ -58,14 +58,47 @@ impl OwnAddresses {
         has_ip(self.listening.as_slice(), ip)
     }
 
+    // Whether a port is of the range.
+    fn is_relay_port(&self, port: u16) -> bool
+        ensures { result ≡ is_relay_port self.now port }
+    {
+        let (first, last) = self.ports.range();
+        first <= port && port <= last
+    }
+
+    /// Where a relay port sends what is for a peer. Where the relay ports are bound on another address than clients are told, by a
+    /// translation that may not lead back, one of them is reached at the address that is bound.
+    pub fn sent_to(&self, peer: Endpoint) -> Endpoint
+        ensures { result ≡ sent_to self.now peer }
+    {
+        if peer.ip != self.relay || !self.is_relay_port(peer.port) || self.bound == 0 {
+            return peer;
+        }
+        Endpoint {
+            ip: self.bound,
+            port: peer.port,
+        }
+    }
+
+    /// Which peer something comes from that a relay port receives: one of them is that of the address that clients are told.
+    pub fn come_from(&self, from: Endpoint) -> Endpoint
+        ensures { result ≡ come_from self.now from }
+    {
+        if from.ip != self.bound || !self.is_relay_port(from.port) || self.bound == 0 {
+            return from;
+        }
+        Endpoint {
+            ip: self.relay,
+            port: from.port,
+        }
+    }
+
     /// Whether an address may be that of a relay port: one of the server's addresses, with a port of the range. The listening ones
     /// count, since each is the source of what goes to it where relay ports are bound on any address.
     pub fn is_relay(&self, from: Endpoint) -> bool
         ensures { IsTrue result ↔ IsRelay self.now from }
     {
-        let (first, last) = self.ports.range();
-        let is_in_range = first <= from.port && from.port <= last;
-        is_in_range
+        self.is_relay_port(from.port)
             && (from.ip == self.relay || from.ip == self.bound || self.has_listening_ip(from.ip))
     }
 

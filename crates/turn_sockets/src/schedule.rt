@@ -6,7 +6,7 @@ ghost use Rattle.mio.specs.Events.{items};
 ghost use Rattle.turn_sockets.specs.Fairness.{EachIsVisited, FreshComeFirst, NoneStarves};
 ghost use Rattle.turn_sockets.specs.Schedule.{begun, begun_for_each, can_list, counted, is_turn_of_clients, next_of, nothing_ready, source_of, with_all_ready, with_more, with_ready};
 
-use crate::listening::MAX_LISTENING;
+use crate::held::MAX_HELD;
 use mio::Events;
 use std::alloc::{AllocError, AllocFailed, Allocator, Global};
 use std::collections::VecDeque;
@@ -17,7 +17,7 @@ use std::mem;
 pub const LISTENING: usize = 65_536;
 
 /// How many tokens there are: one for each port, and those of the listening sockets.
-const TOKENS: usize = LISTENING + MAX_LISTENING;
+const TOKENS: usize = LISTENING + MAX_HELD;
 
 /// How many other sockets are visited in a row while a listening one has more.
 const FEW: u8 = 4;

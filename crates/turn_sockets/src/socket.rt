@@ -43,6 +43,14 @@ impl BoundSocket {
         }
     }
 
+    /// A socket that is bound already, and doesn't block. It is an error if it is not over IPv4.
+    pub(crate) fn of(socket: UdpSocket) -> io::Result<BoundSocket> {
+        match endpoint_of(socket.local_addr()?) {
+            Some(at) => Ok(BoundSocket { socket, at }),
+            None => Err(Error::from(ErrorKind::AddrNotAvailable)),
+        }
+    }
+
     /// The address at which it is bound.
     pub fn at(&self) -> Endpoint
         ensures { result ≡ self.now }

@@ -1,8 +1,8 @@
-//! The size of a socket's receive buffer, the one setting that neither the standard library nor `mio` has.
+//! What neither the standard library nor `mio` says of a socket: the size of its receive buffer, and what it is a socket of.
 
 use libc::net as c;
 use mio::net::UdpSocket;
-use std::os::fd::AsRawFd;
+use std::os::fd::{AsRawFd, RawFd};
 
 /// How many bytes of datagrams a socket is asked to keep until they are read.
 pub const RECEIVE_BUFFER: u32 = 8 << 20;
@@ -32,4 +32,39 @@ pub(crate) fn receive_buffer(socket: &UdpSocket) -> u32 {
         return 0;
     }
     u32::from_ne_bytes([value[0], value[1], value[2], value[3]])
+}
+
+/// Whether a descriptor is a socket.
+fn has_buffer(descriptor: RawFd) -> bool {
+    let mut value = [0u8; 16];
+    let mut size = 4u32;
+    unsafe {
+        c::getsockopt(
+            descriptor,
+            c::SOL_SOCKET,
+            c::SO_RCVBUF,
+            &mut value,
+            &mut size,
+        ) == 0
+    }
+}
+
+/// Whether a descriptor is a socket of TCP.
+fn is_stream(descriptor: RawFd) -> bool {
+    let mut value = [0u8; 16];
+    let mut size = 4u32;
+    unsafe {
+        c::getsockopt(
+            descriptor,
+            c::IPPROTO_TCP,
+            c::TCP_NODELAY,
+            &mut value,
+            &mut size,
+        ) == 0
+    }
+}
+
+/// Whether a descriptor is a socket, and none of TCP.
+pub(crate) fn is_datagram_socket(descriptor: RawFd) -> bool {
+    has_buffer(descriptor) && !is_stream(descriptor)
 }

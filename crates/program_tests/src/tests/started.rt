@@ -5,7 +5,7 @@ use std::rt::Clock;
 use turn_config::Configured;
 use turn_cred::Credentials;
 use turn_disk::Disk;
-use turn_serving::{Commits, Setup, SocketServing, StartError, Watch};
+use turn_serving::{Commits, ListeningSockets, Setup, SocketServing, StartError, Watch};
 use turn_sockets::ListeningAddresses;
 
 /// Starts a server as a configuration says. A visit of a socket reads one datagram.
@@ -33,7 +33,15 @@ pub fn start<'a, D: Disk + Drop, C: Clock, W: Watch + Drop>(
         commits,
         seed: [0; 32],
     };
-    match setup.start(rt.alloc(), rt, system, disk, credentials, watch) {
+    match setup.start(
+        rt.alloc(),
+        rt,
+        system,
+        disk,
+        credentials,
+        ListeningSockets::Bound,
+        watch,
+    ) {
         Ok(serving) => Ok(serving),
         Err(refused) => Err(refused.fault),
     }

@@ -37,17 +37,22 @@ fn expiry(at: &[u8], life: &[u8]) -> Option<Moment>
     Moment::new(seconds)
 }
 
-/// Whether a line can show a text: it has no control character.
+/// Whether a line can show a text: it has no control character of ASCII.
 fn is_shown(text: &[u8]) -> bool
     ensures { result ≡ list_all is_shown text.now }
 {
     text.iter().all(|byte| 0x20 <= *byte && *byte != 0x7f)
 }
 
+/// Whether a text has a control character, of those beyond ASCII too: U+0085 begins a line.
+fn has_control(text: &str) -> bool {
+    text.chars().any(|c| c.is_control())
+}
+
 /// The name of `--name`, if it is there.
 fn name_in(alloc: Global, text: Option<&str>) -> Result<Option<String>, CliError> {
     match text {
-        Some(name) if !is_shown(name.as_bytes()) => Err(CliError::Usage),
+        Some(name) if !is_shown(name.as_bytes()) || has_control(name) => Err(CliError::Usage),
         _ => Ok(owned(alloc, text)?),
     }
 }

@@ -19,14 +19,14 @@ pub struct Synopsis {
 }
 
 /// The commands, in the order of the manual page.
-pub static SYNOPSES: [Synopsis; 12] = [
+pub static SYNOPSES: [Synopsis; 13] = [
     Synopsis {
         name: "format",
         words: " --config FILE --store FILE --area N [--log]",
     },
     Synopsis {
         name: "serve",
-        words: " --config FILE --store FILE [--turns N] [--burst N] [--relay-bind IP] [--listen IP:PORT]... [--log]",
+        words: " --config FILE --store FILE [--turns N] [--burst N] [--relay-bind IP] [--listen IP:PORT]... [--held] [--log]",
     },
     Synopsis {
         name: "check",
@@ -39,6 +39,10 @@ pub static SYNOPSES: [Synopsis; 12] = [
     Synopsis {
         name: "status",
         words: " --config FILE --store FILE",
+    },
+    Synopsis {
+        name: "end",
+        words: " --config FILE --store FILE --user NAME | --client IP:PORT [--log]",
     },
     Synopsis {
         name: "probe",

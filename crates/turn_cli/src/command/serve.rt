@@ -15,7 +15,8 @@ use turn_config::values::{ip, number};
 /// How many datagrams of a socket may be taken in a turn.
 const MAX_BURST: u64 = 64;
 
-/// The words of `serve`: `--config`, `--store`, `--turns`, `--burst`, `--relay-bind`, any number of `--listen`, and `--log`.
+/// The words of `serve`: `--config`, `--store`, `--turns`, `--burst`, `--relay-bind`, any number of `--listen`, `--held`
+/// and `--log`.
 pub fn serve_command<'a>(alloc: Global) -> Result<clap::Command<'a>, AllocError> {
     clap::Command::new(alloc, "serve")
         .arg(option(alloc, "config").required(true))?
@@ -24,6 +25,7 @@ pub fn serve_command<'a>(alloc: Global) -> Result<clap::Command<'a>, AllocError>
         .arg(option(alloc, "burst"))?
         .arg(option(alloc, "relay-bind"))?
         .arg(options(alloc, "listen"))?
+        .arg(flag(alloc, "held"))?
         .arg(flag(alloc, "log"))
 }
 
@@ -84,6 +86,7 @@ pub fn serve_of(alloc: Global, found: &ArgMatches<'_>) -> Result<Command, CliErr
         burst: burst_in(text_of(found, "burst"), turns).ok_or(CliError::Usage)?,
         relay_bind: bind_in(text_of(found, "relay-bind")).ok_or(CliError::Usage)?,
         listen: listen_of(alloc, found)?,
+        held: found.get_flag("held"),
         log: found.get_flag("log"),
         config: String::from_str(alloc, config)?,
         store: String::from_str(alloc, store)?,

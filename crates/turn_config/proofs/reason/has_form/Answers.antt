@@ -15,6 +15,12 @@ returns-in-Relay c old new sets =
     let found = c.relay_of.ensures.only s.0 s.1 in
     search rules
 
+pub returns-in-RelayBind : goal.returns-in-RelayBind
+returns-in-RelayBind c old new sets =
+    let s : Sets settings.RelayBind c.args.value.now old new = rw c.in-RelayBind.is at sets in
+    let found = c.ip.ensures.only s.0 s.1 in
+    search rules
+
 pub returns-in-Limits : goal.returns-in-Limits
 returns-in-Limits c old new sets =
     let s : Sets settings.Limits c.args.value.now old new = rw c.in-Limits.is at sets in

@@ -12,10 +12,10 @@ returns-in_err-low-clause-only c relay n =
     let words = relay_words _ _ _ relay n c.in_ok-address.ensures.parts c.in_ok-address.ensures.first in
     absurd (no_split 32 _ _ _ words.1 c.in_err-low.ensures.none)
 
-pub returns-in_err-ip-clause-only : goal.returns-in_err-ip-clause-only
-returns-in_err-ip-clause-only c relay n =
+pub returns-in_err-unicast-clause-only : goal.returns-in_err-unicast-clause-only
+returns-in_err-unicast-clause-only c relay n =
     let words = relay_words _ _ _ relay n c.in_ok-address.ensures.parts c.in_ok-address.ensures.first in
-    let some = c.in_err-ip.ensures.only relay.ip (rw words.0 n.address) in
+    let some = c.in_err-unicast.ensures.only relay.ip (rw words.0 n.address) n.unicast in
     cc
 
 pub returns-in_err-port-clause-only : goal.returns-in_err-port-clause-only
@@ -41,4 +41,4 @@ returns-clause-only c relay n =
     let number = λ (x : List ℕ). number_of x in
     let low = c.in_ok-port.ensures.1 ∙ ap number ports.0 in
     let high = c.in_ok-port-2.ensures.1 ∙ ap number ports.1 in
-    same_relay _ _ relay (c.in_ok-ip.ensures.only relay.ip (rw words.0 n.address)) (c.in_ok-new.ensures.1 ∙ rw (low, high) (sym n.ports))
+    same_relay _ _ relay (c.in_ok-unicast.ensures.only relay.ip (rw words.0 n.address) n.unicast) (c.in_ok-new.ensures.1 ∙ rw (low, high) (sym n.ports))

@@ -32,6 +32,7 @@ returns-clause-good g c _ =
         secret = c.self.inside.secret;
         listen = c.self.inside.listen;
         relay = c.self.inside.relay;
+        relay_bind = c.self.inside.relay_bind;
         quota = c.self.inside.quota;
         limits = c.self.inside.limits;
         denied = c.self.inside.denied.items;

@@ -16,6 +16,12 @@ returns-in-Relay-clause-only g c new sets bad =
     let good = is_put _ _ s.0 _ c.put-in-Relay.ensures.done (ap (λ (l : Lines). l.relay) c.self-in-Relay.view_is ∙ s.2) (c.relay_of.ensures.only s.0 s.1) in
     cc
 
+pub returns-in-RelayBind-clause-only : goal.returns-in-RelayBind-clause-only
+returns-in-RelayBind-clause-only g c new sets bad =
+    let s : Sets settings.RelayBind c.args.text.now c.args.self.now new = rw c.in-RelayBind.is at sets in
+    let good = is_put _ _ s.0 _ c.put-in-RelayBind.ensures.done (ap (λ (l : Lines). l.relay_bind) c.self-in-RelayBind.view_is ∙ s.2) (c.ip.ensures.only s.0 s.1) in
+    cc
+
 pub returns-in-Limits-clause-only : goal.returns-in-Limits-clause-only
 returns-in-Limits-clause-only g c new sets bad =
     let s : Sets settings.Limits c.args.text.now c.args.self.now new = rw c.in-Limits.is at sets in

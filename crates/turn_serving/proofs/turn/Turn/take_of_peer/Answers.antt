@@ -25,7 +25,7 @@ pub returns-in-Nothing-clause-wire : goal.returns-in-Nothing-clause-wire
 returns-in-Nothing-clause-wire g c = nothing_passes _ _ c.in-Nothing.ensures
 
 pub returns-in_err-submit-clause-wire : goal.returns-in_err-submit-clause-wire
-returns-in_err-submit-clause-wire g c = unfinished (not_ok _ c.from_residual.result c.from_residual.ensures.1) (peer_passes c.in-Some.socket.now _ c.in-Some.ensures.at c.in-Datagram.ensures c.in_err-submit.ensures.wire)
+returns-in_err-submit-clause-wire g c = unfinished (not_ok _ c.from_residual.result c.from_residual.ensures.1) (peer_passes c.in-Some.socket.now _ _ c.in-Some.ensures.at c.come_from.ensures c.in-Datagram.ensures c.in_err-submit.ensures.wire)
 
 pub returns-clause-wire : goal.returns-clause-wire
-returns-clause-wire g c = peer_passes c.in-Some.socket.now _ c.in-Some.ensures.at c.in-Datagram.ensures c.in_ok-submit.ensures.wire
+returns-clause-wire g c = peer_passes c.in-Some.socket.now _ _ c.in-Some.ensures.at c.come_from.ensures c.in-Datagram.ensures c.in_ok-submit.ensures.wire

@@ -1,0 +1,81 @@
+//! `turn end`: allocations end, in a store that no server holds.
+
+use crate::about::{tell_prepared, tell_store};
+use crate::error::ProgramError;
+use crate::log::Log;
+use crate::prepare::{Prepared, prepare};
+use crate::print::print_lines;
+use std::alloc::{AllocError, Global};
+use std::fs::File;
+use std::io::Write;
+use std::rt::{Clock, Files};
+use turn_cli::Ended;
+use turn_config::ShownEndpoint;
+use turn_disk::FileDisk;
+use turn_ending::{Chosen, Operator, Whose, chosen_of, end_all};
+use turn_engine::Server;
+use turn_log::ShownName;
+use turn_ports::RelayAddressGenerator;
+use turn_sockets::moment_now;
+
+fn whose_of(ended: &Ended) -> Whose<'_> {
+    match ended {
+        Ended::User(name) => Whose::User(name.as_bytes()),
+        Ended::Client(client) => Whose::Client(*client),
+    }
+}
+
+/// A line for each allocation that ended.
+fn lines_of(alloc: Global, ended: &[Chosen]) -> Result<Vec<String>, AllocError> {
+    let mut lines = Vec::new(alloc);
+    for one in ended {
+        let (client, server) = (
+            ShownEndpoint(one.five_tuple.client),
+            ShownEndpoint(one.five_tuple.server),
+        );
+        let (name, port) = (ShownName(&one.user), one.port);
+        lines.push(format!(in alloc; "ended {name} client {client} at={server} port={port}")?)?;
+    }
+    Ok(lines)
+}
+
+/// Ends allocations in the store in a file.
+fn end_in<R: Files<File = File> + AllocGlobal, C: Clock>(
+    rt: &R,
+    clock: &C,
+    prepared: &Prepared,
+    store: &str,
+    ended: &Ended,
+) -> Result<Vec<Chosen>, ProgramError> {
+    let (alloc, config) = (rt.alloc(), &prepared.config);
+    let disk = FileDisk::open(rt, store)?;
+    // The store keeps its version: a start carries it over.
+    let mut server = Server::open_as(alloc, disk, config, Operator, prepared.ports, false).map_err(
+        |refused| refused.fault,
+    )?;
+    let moment = moment_now(&clock, server.clock()).ok_or(ProgramError::Device)?;
+    let chosen = chosen_of(alloc, server.table(), whose_of(ended), moment)?;
+    end_all(alloc, &mut server, config, &chosen, moment)?;
+    Ok(chosen)
+}
+
+/// Ends the allocations of a user or of a client's address in a store that no server holds, and prints a line for each. Nothing else of
+/// the store changes, but that it is opened. At a fault the log says which file it is about.
+pub fn run_end<R: Files<File = File> + AllocGlobal, C: Clock, W: Write, L: Write + Drop>(
+    rt: &R,
+    clock: &C,
+    log: &Log<L>,
+    config: &str,
+    store: &str,
+    ended: &Ended,
+    out: &mut W,
+) -> Result<(), ProgramError> {
+    let prepared = prepare(rt, config, &[]).inspect_err(|fault| tell_prepared(
+        rt, clock, log, config, *fault,
+    ))?;
+    let chosen = end_in(rt, clock, &prepared, store, ended).inspect_err(|_| tell_store(
+        rt, clock, log, store,
+    ))?;
+    let lines = lines_of(rt.alloc(), &chosen)?;
+    print_lines(rt.alloc(), &lines, out)
+}

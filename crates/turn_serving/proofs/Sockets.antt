@@ -1,0 +1,26 @@
+-- Sockets of addresses: those that are bound at them, and those that a test finds at them.
+use Rattle.std.proofs.Common.{arith, ◌≡◌, ◌&&◌, ℕ, zero, suc, Bool, true, nat_eq, List, [], ◌∷◌, All, Contains, get_or, sym, subst}
+use Rattle.std.specs.List.{list_all, list_any}
+use Rattle.std.proofs.lemmas.Bool.{and_parts}
+use Rattle.std.proofs.lemmas.List.Elements.{All-contains_itself}
+use Rattle.turn_types.specs.declared.address.Endpoint.{Endpoint}
+use Rattle.turn_sockets.proofs.Listened.{among}
+use Rattle.turn_sockets.specs.Own.{are_at}
+use Rattle.turn_serving.specs.Listening.{HasSockets}
+
+each_passes : {X : Type 0} (p : X → Bool) (xs : List X) → list_all p xs ≡ true → All (λ x. p x ≡ true) xs
+each_passes p [] all k d lt = absurd (omega arith)
+each_passes p (x ∷ xs) all zero d lt = (and_parts (p x) (list_all p xs) all).0
+each_passes p (x ∷ xs) all (suc k) d lt = each_passes p xs (and_parts (p x) (list_all p xs) all).1 k d (omega arith)
+
+all_among : (some others : List Endpoint) → list_all (λ s. list_any (λ a. nat_eq a.ip s.ip && nat_eq a.port s.port) others) some ≡ true → All (λ s. Contains others s) some
+all_among some others all k d lt = among others (get_or some k d) (each_passes (λ s. list_any (λ a. nat_eq a.ip s.ip && nat_eq a.port s.port) others) some all k d lt)
+
+pub found_sockets : (sockets addresses : List Endpoint) → are_at sockets addresses ≡ true → HasSockets sockets addresses
+found_sockets sockets addresses found =
+    let parts = and_parts (list_all (λ s. list_any (λ a. nat_eq a.ip s.ip && nat_eq a.port s.port) addresses) sockets) (list_all (λ a. list_any (λ s. nat_eq s.ip a.ip && nat_eq s.port a.port) sockets) addresses) found in
+    record { known = all_among sockets addresses parts.0; each = all_among addresses sockets parts.1 }
+
+pub bound_sockets : (sockets addresses : List Endpoint) → sockets ≡ addresses → HasSockets sockets addresses
+bound_sockets sockets addresses same =
+    subst (λ (found : List Endpoint). HasSockets found addresses) (sym same) (record { known = All-contains_itself addresses; each = All-contains_itself addresses })
