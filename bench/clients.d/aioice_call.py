@@ -3,7 +3,7 @@
 words: PORT PEER_PORT USER PASSWORD [FILE]
 
 With FILE it prints `talking` after the first data, sends on until FILE is there (the server is killed and started again in
-between), and goes on with the same allocation."""
+between), and goes on with the same allocation. The variables SERVER_HOST and PEER_HOST are addresses other than 127.0.0.1."""
 import asyncio
 import os
 import struct
@@ -29,8 +29,9 @@ class Receiver(asyncio.DatagramProtocol):
 
 
 async def main(port, peer_port, user, password, again=None):
-    peer = ("127.0.0.1", int(peer_port))
-    transport, receiver = await turn.create_turn_endpoint(Receiver, ("127.0.0.1", int(port)), user, password)
+    peer = (os.environ.get("PEER_HOST", "127.0.0.1"), int(peer_port))
+    server = (os.environ.get("SERVER_HOST", "127.0.0.1"), int(port))
+    transport, receiver = await turn.create_turn_endpoint(Receiver, server, user, password)
     inner = transport._TurnTransport__inner_protocol
     number = 0
 

@@ -1,18 +1,21 @@
 -- Refreshes of 0, and what they do.
-use Rattle.std.specs.Prelude.{ℕ, ◌≡◌, List, Contains, Some}
-use Rattle.std.specs.List.{AllByRecursion}
+use Rattle.std.specs.Prelude.{ℕ, ◌≡◌, List, Contains, Some, true, is_none}
+use Rattle.std.specs.FinMap as fin
+use Rattle.std.specs.List.{AllByRecursion, list_all}
 use Rattle.turn_codec.specs.Grammar.{Content, Spells}
 use Rattle.turn_cred.specs.declared.handler.AuthHandler as handlers
 use Rattle.turn_disk.specs.declared.disk.Disk as disks
 use Rattle.turn_engine.specs.Runs.{Commit, Serves, ServerCall, Submit, last_of}
 use Rattle.turn_engine.specs.State.{ServerState}
 use Rattle.turn_history.specs.History.{Event, Renews}
+use Rattle.turn_history.specs.Table.{Contents}
 use Rattle.turn_ports.specs.declared.generator.RelayAddressGenerator as generators
 use Rattle.turn_rules.specs.Fields.{lifetime_of}
 use Rattle.turn_step.specs.Outcome.{Arrives}
 use Rattle.turn_step.specs.Outcome.Arrives.{FromClient, FromPeer}
 use Rattle.turn_types.specs.Methods.{refresh}
 use Rattle.turn_types.specs.declared.address.FiveTuple.{FiveTuple}
+use Rattle.turn_ending.specs.declared.chosen.Chosen.{Chosen}
 
 -- a message of the method Refresh with a LIFETIME of 0
 pub record IsEnd (bytes : List ℕ) : Type 0 where
@@ -42,3 +45,7 @@ pub record Ends {D H G : Type 0} (disk : disks.Ghosts D) (handler : handlers.Gho
 pub record IsDeletion (tuples : List FiveTuple) (e : Event) : Type 0 where
   pub tuple : Contains tuples e.tuple
   pub deletes : e.act ≡ Renews 0
+
+-- none of these has an allocation
+abbrev pub are_ended : {A : Type 0} → Contents → List (Chosen A) → Type 0
+are_ended c chosen = list_all (λ one. is_none (fin.get c.entries one.five_tuple)) chosen ≡ true

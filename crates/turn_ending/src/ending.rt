@@ -1,9 +1,11 @@
 //! Refreshes of 0, one allocation after the other.
 
-ghost use Rattle.std.specs.Prelude.{◌≡◌, ◌≤◌, ◌∷◌, [], IsTrue, Some, map};
+ghost use Rattle.std.specs.Prelude.{◌≡◌, ◌≤◌, ◌∷◌, [], IsTrue, OnOk, Some, is_none, map};
+ghost use Rattle.std.specs.FinMap as fin;
+ghost use Rattle.std.specs.List.{list_all};
 ghost use Rattle.std.specs.Option.{option_copied};
 ghost use Rattle.turn_engine.specs.State.{now_of};
-ghost use Rattle.turn_ending.specs.Ends.{Ends, IsEnd};
+ghost use Rattle.turn_ending.specs.Ends.{Ends, IsEnd, are_ended};
 
 use crate::chosen::Chosen;
 use crate::error::EndError;
@@ -16,6 +18,7 @@ use turn_engine::Server;
 use turn_ports::RelayAddressGenerator;
 use turn_requests::{Attribute, Request, build_request};
 use turn_step::Arrival;
+use turn_table::Table;
 use turn_types::{FiveTuple, Method, Moment, ServerConfig, TxId};
 
 /// Whether the value of a LIFETIME is there, and is 0.
@@ -72,9 +75,6 @@ fn submit<D: Disk, G: RelayAddressGenerator, A: Allocator + Copy>(
     server.submit(moment, &Arrival::Client { five_tuple, bytes })?;
     // The response is of nobody.
     let _ = server.commit()?;
-    if server.table().get(five_tuple).is_some() {
-        return Err(EndError::Refused);
-    }
     Ok(())
 }
 
@@ -94,6 +94,20 @@ fn end<D: Disk, G: RelayAddressGenerator, A: Allocator + Copy>(
     submit(server, moment, chosen.five_tuple, &bytes)
 }
 
+/// Whether a five-tuple has no allocation.
+fn is_ended<A: Allocator + Copy>(table: &Table<A>, five_tuple: FiveTuple) -> bool
+    ensures { result ≡ is_none (fin.get table.now.contents.entries five_tuple) }
+{
+    table.get(five_tuple).is_none()
+}
+
+/// Whether none of these has an allocation.
+fn are_ended<A: Allocator + Copy>(table: &Table<A>, chosen: &[Chosen<A>]) -> bool
+    ensures { result ≡ list_all (λ one. is_none (fin.get table.now.contents.entries one.five_tuple)) chosen.now }
+{
+    chosen.iter().all(|one| is_ended(table, one.five_tuple))
+}
+
 /// Ends these allocations, one after the other, up to the first that can't be. `config` is the server's.
 pub fn end_all<D: Disk, G: RelayAddressGenerator, A: Allocator + Copy>(
     alloc: A,
@@ -106,9 +120,15 @@ pub fn end_all<D: Disk, G: RelayAddressGenerator, A: Allocator + Copy>(
     // Nothing but Refreshes of 0 of their five-tuples is submitted.
     ensures ends { Ends D.Disk ⟦<Operator as AuthHandler>⟧ G.RelayAddressGenerator (map (λ c. c.five_tuple) chosen.now) moment server.old server.new }
     ensures clock { now_of server.new ≤ moment }
+    // And none of them has an allocation any more.
+    ensures ended { OnOk result (are_ended server.new.machine.table.contents chosen.now) }
 {
     for one in chosen {
         end(alloc, server, config, one, moment)?;
     }
-    Ok(())
+    if are_ended(server.table(), chosen) {
+        Ok(())
+    } else {
+        Err(EndError::Refused)
+    }
 }

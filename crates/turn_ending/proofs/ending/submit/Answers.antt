@@ -7,8 +7,5 @@ returns-in_err-submit-clause-ends g c = submitted c.submit.ensures.call (only c.
 pub returns-in_err-commit-clause-ends : goal.returns-in_err-commit-clause-ends
 returns-in_err-commit-clause-ends g c = in_row (submitted c.submit.ensures.call (only c.args.five_tuple, c.is_end.ensures c.if-not-is_end.false)) (committed c.commit.ensures.call)
 
-pub returns-then-is_some-clause-ends : goal.returns-then-is_some-clause-ends
-returns-then-is_some-clause-ends g c = in_row (submitted c.submit.ensures.call (only c.args.five_tuple, c.is_end.ensures c.if-not-is_end.false)) (committed c.commit.ensures.call)
-
 pub returns-clause-ends : goal.returns-clause-ends
 returns-clause-ends g c = in_row (submitted c.submit.ensures.call (only c.args.five_tuple, c.is_end.ensures c.if-not-is_end.false)) (committed c.commit.ensures.call)
