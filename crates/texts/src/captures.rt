@@ -12,7 +12,7 @@ use turn_cred::Users;
 use turn_mac::generate_auth_key;
 use turn_ports::PortRange;
 use turn_requests::{ServerMessage, read_message};
-use turn_step::{Arrival, Machine, Outgoing};
+use turn_step::{Arrival, Machine, Outgoing, Pairs};
 use turn_table::Table;
 use turn_types::{Endpoint, FiveTuple, Limits, Moment, ServerConfig, Settings, TxId};
 
@@ -55,7 +55,7 @@ fn server(alloc: Global) -> Option<Server> {
     users.add(b"user", key).ok()?;
     let ports = PortRange::new(20000, 29999)?;
     let table = Table::new(alloc, config.limits(), Moment::new(0)?);
-    Machine::new(alloc, config, users, ports, table, false).ok()
+    Machine::new(alloc, config, users, ports, table, Pairs::Refused).ok()
 }
 
 /// What a datagram to a peer leads to.
