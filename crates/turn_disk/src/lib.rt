@@ -23,6 +23,7 @@ mod start;
 mod writes;
 
 pub use disk::{DeviceError, Disk};
+pub use failures::raise;
 pub use file::FileDisk;
 pub use laws::{a_risen_count_differs, a_settled_disk_has_one_image};
 pub use memory_disk::MemoryDisk;
@@ -30,5 +31,6 @@ pub use opened::{FileError, is_apart, open_regular};
 pub use outcome::CrashOutcome;
 pub use produced::{Bytes, Chain, PIECE, Producer, write_produced};
 pub use reads::{read_array, read_pieces};
+pub use record::{CallRecord, READ, SYNC, WRITE};
 pub use start::{Start, Unknown};
 pub use writes::write_through;

@@ -1,4 +1,4 @@
-//! The calls on a file with their answers, which clauses alone read.
+//! The calls on a file, or on an export of another crate, with their answers, which clauses alone read.
 
 ghost use Rattle.std.specs.Prelude.{◌≡◌, ◌∷◌, [], List};
 ghost use Rattle.std.specs.Borrow.{ftrue};
@@ -7,13 +7,13 @@ ghost use Rattle.turn_disk.specs.Calls.{LoggedCall};
 use std::marker::{Model, PhantomData};
 
 /// The number of a read, by which it is noted.
-pub(crate) const READ: u8 = 0;
+pub const READ: u8 = 0;
 
 /// The number of a write.
-pub(crate) const WRITE: u8 = 1;
+pub const WRITE: u8 = 1;
 
 /// The number of a sync.
-pub(crate) const SYNC: u8 = 2;
+pub const SYNC: u8 = 2;
 
 /// The calls so far, the newest first. It takes no memory: it exists in proofs alone.
 #[derive(Drop)]
@@ -28,7 +28,8 @@ impl Model for CallRecord {
 }
 
 impl CallRecord {
-    pub(crate) fn new() -> CallRecord
+    /// No call was made.
+    pub fn new() -> CallRecord
         ensures { result.events ≡ [] }
     {
         CallRecord {
@@ -37,7 +38,7 @@ impl CallRecord {
     }
 
     /// Notes a call: which one, at which position, whether it succeeded, and the bytes that it read or wrote.
-    pub(crate) fn note(&mut self, _call: u8, _at: usize, _succeeded: bool, _bytes: &[u8])
+    pub fn note(&mut self, _call: u8, _at: usize, _succeeded: bool, _bytes: &[u8])
         ensures { self.new.events ≡ (_call, _at, _succeeded, _bytes.now) ∷ self.old.events }
     {}
 }
