@@ -22,27 +22,27 @@ pub struct Synopsis {
 pub static SYNOPSES: [Synopsis; 13] = [
     Synopsis {
         name: "format",
-        words: " --config FILE --store FILE --area N [--log]",
+        words: " --config FILE --store STORE --area N [--log]",
     },
     Synopsis {
         name: "serve",
-        words: " --config FILE --store FILE [--turns N] [--burst N] [--relay-bind IP] [--listen IP:PORT]... [--held] [--log]",
+        words: " --config FILE --store STORE [--turns N] [--burst N] [--relay-bind IP] [--listen IP:PORT]... [--held] [--log]",
     },
     Synopsis {
         name: "check",
-        words: " --config FILE [--store FILE] [--listen IP:PORT]... [--log]",
+        words: " --config FILE [--store STORE] [--listen IP:PORT]... [--log]",
     },
     Synopsis {
         name: "inspect",
-        words: " --store FILE [--at S] [--log]",
+        words: " --store STORE [--at S] [--log]",
     },
     Synopsis {
         name: "status",
-        words: " --config FILE --store FILE",
+        words: " --config FILE --store STORE",
     },
     Synopsis {
         name: "end",
-        words: " --config FILE --store FILE --user NAME | --client IP:PORT [--log]",
+        words: " --config FILE --store STORE --user NAME | --client IP:PORT [--log]",
     },
     Synopsis {
         name: "probe",
