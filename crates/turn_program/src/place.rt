@@ -10,6 +10,8 @@ use std::alloc::{AllocError, Global};
 use std::io::Write;
 use std::net::Net;
 use std::rt::Clock;
+use std::thread;
+use std::time::Duration;
 use turn_cli::Command;
 use turn_log::ShownName;
 use turn_nbd::{Export, NbdDisk, NbdError, is_uri};
@@ -75,7 +77,7 @@ pub fn judge_store(command: &Command) -> Result<(), ProgramError>
 pub const PATIENCE: u64 = 2;
 
 /// How many seconds a server waits for it: what serves the export may have been started at the same time.
-pub const PATIENCE_OF_SERVER: u64 = 15;
+const PATIENCE_OF_SERVER: u64 = 15;
 
 fn text_of(alloc: Global, word: &str, reason: Option<NbdError>) -> Result<String, AllocError> {
     let name = ShownName(word.as_bytes());
@@ -101,6 +103,18 @@ pub fn tell_export<C: Clock, L: Write + Drop>(
     }
 }
 
+/// Says why an export could not be opened. Returns the fault.
+fn refuse<C: Clock, L: Write + Drop>(
+    alloc: Global,
+    clock: &C,
+    log: &Log<L>,
+    named: NamedExport<'_>,
+    reason: NbdError,
+) -> ProgramError {
+    tell_export(alloc, clock, log, named.word, Some(reason));
+    ProgramError::from(reason)
+}
+
 /// Opens an export as a disk. At a fault the log says why.
 pub fn open_export<R: Net + AllocGlobal, C: Clock, L: Write + Drop>(
     rt: &R,
@@ -113,11 +127,33 @@ pub fn open_export<R: Net + AllocGlobal, C: Clock, L: Write + Drop>(
 {
     match NbdDisk::open(rt.alloc(), rt, clock, &named.export, seconds) {
         Ok(disk) => Ok(disk),
-        Err(reason) => {
-            tell_export(rt.alloc(), clock, log, named.word, Some(reason));
-            Err(ProgramError::from(reason))
+        Err(reason) => Err(refuse(rt.alloc(), clock, log, named, reason)),
+    }
+}
+
+/// How often an export whose server takes no further client is tried again: a server that ends may be one for a moment yet.
+const AGAIN: u32 = 40;
+
+/// The milliseconds before each of these.
+const PAUSE: u64 = 50;
+
+/// Opens the export of a server. If its own server takes no further client it waits, at most two seconds. At a fault the log says why.
+pub fn open_export_to_serve<R: Net + AllocGlobal, C: Clock, L: Write + Drop>(
+    rt: &R,
+    clock: &C,
+    log: &Log<L>,
+    named: NamedExport<'_>,
+) -> Result<NbdDisk, ProgramError>
+    ensures { IfOk result (λ disk. IsConnected disk) }
+{
+    for _ in 0..AGAIN {
+        match NbdDisk::open(rt.alloc(), rt, clock, &named.export, PATIENCE_OF_SERVER) {
+            Ok(disk) => return Ok(disk),
+            Err(NbdError::Closed) => thread::sleep(clock, Duration::from_millis(PAUSE)),
+            Err(reason) => return Err(refuse(rt.alloc(), clock, log, named, reason)),
         }
     }
+    open_export(rt, clock, log, named, PATIENCE_OF_SERVER)
 }
 
 /// Opens an export as a disk that is read alone. At a fault the log says why.
@@ -129,9 +165,6 @@ pub fn open_export_to_read<R: Net + AllocGlobal, C: Clock, L: Write + Drop>(
 ) -> Result<NbdDisk, ProgramError> {
     match NbdDisk::open_to_read(rt.alloc(), rt, clock, &named.export, PATIENCE) {
         Ok(disk) => Ok(disk),
-        Err(reason) => {
-            tell_export(rt.alloc(), clock, log, named.word, Some(reason));
-            Err(ProgramError::from(reason))
-        }
+        Err(reason) => Err(refuse(rt.alloc(), clock, log, named, reason)),
     }
 }

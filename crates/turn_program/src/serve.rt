@@ -14,7 +14,7 @@ use crate::files::read_whole;
 use crate::held::sockets_of;
 use crate::log::{Known, Log, StoreWatch};
 use crate::notes::Noted;
-use crate::place::{NamedExport, PATIENCE_OF_SERVER, StorePlace, open_export, tell_export};
+use crate::place::{NamedExport, StorePlace, open_export_to_serve, tell_export};
 use crate::prepare::{Prepared, prepare};
 use crate::print::print_line;
 use crate::started::{Started, live_at, tell_notes, tell_started};
@@ -181,7 +181,7 @@ fn take_export<
     ensures { IfOk result (λ taken. IsConnected taken.1) }
 {
     let taken = take_first(rt, clock, service, log)?;
-    let disk = open_export(rt, clock, log, named, PATIENCE_OF_SERVER)?;
+    let disk = open_export_to_serve(rt, clock, log, named)?;
     Ok((taken, disk))
 }
 
