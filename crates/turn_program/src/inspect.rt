@@ -3,7 +3,7 @@
 use crate::about::tell_read_store;
 use crate::error::ProgramError;
 use crate::log::Log;
-use crate::place::{StorePlace, open_export_to_read, tell_export};
+use crate::place::{PATIENCE, StorePlace, open_export, tell_export};
 use crate::print::print_lines;
 use std::alloc::{AllocError, Global};
 use std::fs::File;
@@ -70,7 +70,7 @@ fn store_lines<R: Files<File = File> + Net + AllocGlobal, C: Clock, L: Write + D
             rt, clock, log, path,
         )),
         StorePlace::Export(named) => {
-            let disk = open_export_to_read(rt, clock, log, named)?;
+            let disk = open_export(rt, clock, log, named, PATIENCE)?;
             lines_on(rt.alloc(), clock, disk, at).inspect_err(|_| tell_export(
                 rt.alloc(),
                 clock,

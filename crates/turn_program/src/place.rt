@@ -155,16 +155,3 @@ pub fn open_export_to_serve<R: Net + AllocGlobal, C: Clock, L: Write + Drop>(
     }
     open_export(rt, clock, log, named, PATIENCE_OF_SERVER)
 }
-
-/// Opens an export as a disk that is read alone. At a fault the log says why.
-pub fn open_export_to_read<R: Net + AllocGlobal, C: Clock, L: Write + Drop>(
-    rt: &R,
-    clock: &C,
-    log: &Log<L>,
-    named: NamedExport<'_>,
-) -> Result<NbdDisk, ProgramError> {
-    match NbdDisk::open_to_read(rt.alloc(), rt, clock, &named.export, PATIENCE) {
-        Ok(disk) => Ok(disk),
-        Err(reason) => Err(refuse(rt.alloc(), clock, log, named, reason)),
-    }
-}

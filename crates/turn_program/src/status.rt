@@ -163,7 +163,7 @@ fn read_at<R: Files<File = File> + Net + AllocGlobal, C: Clock>(
             Ok((reading, holder_of(rt, path)))
         }
         StorePlace::Export(named) => {
-            let disk = NbdDisk::open_to_read(rt.alloc(), rt, clock, &named.export, PATIENCE)?;
+            let disk = NbdDisk::open(rt.alloc(), rt, clock, &named.export, PATIENCE)?;
             let reading = read_on(rt.alloc(), clock, disk, limits)?;
             Ok((reading, Holder::Unknown))
         }

@@ -1,9 +1,9 @@
-use Rattle.std.proofs.Common.{◌≡◌, rules}
-use Rattle.turn_program.specs.Serving.{just_opened}
+use Rattle.std.proofs.Common.{rules}
+use Rattle.turn_program.specs.Serving.{IsOpened}
 use Rattle.turn_program.proofs.Serves.{serves_opened}
 use Rattle.turn_program.proofs.serve.run_serve.Goals as goal
 
 pub returns-in-Ok-clause-serves : goal.returns-in-Ok-clause-serves
 returns-in-Ok-clause-serves g c =
-    let same : c.holding.result ≡ just_opened c.in-Ok.disk.size = search rules in
-    serves_opened _ _ _ _ _ _ _ same c.serve_over.ensures.serves
+    let is_new : IsOpened c.holding.result = search rules in
+    serves_opened _ _ _ _ _ _ is_new c.serve_over.ensures.serves
