@@ -1,9 +1,10 @@
 -- What the words of `turn serve` say of its turns, and what it makes of its store.
-use Rattle.std.specs.Prelude.{◌≡◌, ℕ, Option, Some, None, []}
+use Rattle.std.specs.Prelude.{◌≡◌, ℕ, Option, Some, None, [], true}
 use Rattle.turn_cred.specs.declared.handler.AuthHandler as handlers
 use Rattle.turn_disk.specs.Views.{InFile}
 use Rattle.turn_disk.specs.declared.disk.Disk as disks
 use Rattle.turn_engine.specs.State.{ServerState}
+use Rattle.turn_nbd.specs.Views.{InExport}
 use Rattle.turn_ports.specs.declared.generator.RelayAddressGenerator as generators
 use Rattle.turn_serving.specs.Starts.{KeepsImages, Started}
 use Rattle.turn_serving.specs.Turns.{Served}
@@ -21,26 +22,34 @@ commits_of (Some turns) = EachTurn
 abbrev pub just_opened : ℕ → InFile
 just_opened size = record { size = size; failures = 0; events = [] }
 
+-- a disk over a file was just opened
+abbrev pub IsOpened : InFile → Type 0
+IsOpened opened = (size : ℕ) × (opened ≡ just_opened size)
+
+-- a disk over an export was just opened, to be written: it has made no call
+abbrev pub IsConnected : InExport → Type 0
+IsConnected opened = (opened.failures ≡ 0) × (opened.events ≡ []) × (opened.can_write ≡ true)
+
 -- a second that the system's clock told, of which nothing is known
 abbrev pub AnySecond : ℕ → Type 0
 AnySecond second = Unit {0}
 
--- a server was started over a file that was just opened
-pub record StartedOver {H G : Type 0} (disk : disks.Ghosts InFile) (handler : handlers.Ghosts H) (ports : generators.Ghosts G) (server : ServerState InFile H G) : Type 0 where
-  pub size : ℕ
+-- a server was started over a disk
+pub record StartedOver {D H G : Type 0} (disk : disks.Ghosts D) (handler : handlers.Ghosts H) (ports : generators.Ghosts G) (opened : D) (server : ServerState D H G) : Type 0 where
   pub config : Config
   pub users : H
   -- the first and the last relay port
   pub range : ℕ × ℕ
-  pub started : Started disk handler ports (just_opened size) config users range server
+  pub started : Started disk handler ports opened config users range server
 
--- a file that was just opened has kept its images, as a start that was refused keeps them
-pub record KeptSince (disk : disks.Ghosts InFile) (last : InFile) : Type 0 where
-  pub size : ℕ
-  pub kept : KeepsImages disk (just_opened size) last
+-- What a service makes of a disk: a server was started over it and took turns, or its start was refused.
+pub data Serves {D H G : Type 0} (disk : disks.Ghosts D) (handler : handlers.Ghosts H) (ports : generators.Ghosts G) (opened last : D) : Type 0 where
+  serves : (server after : ServerState D H G) → StartedOver disk handler ports opened server → Served disk handler ports (IsMoment AnySecond) server after
+      → after.store.disk ≡ last → Serves disk handler ports opened last
+  starts_no_server : KeepsImages disk opened last → Serves disk handler ports opened last
 
--- What a service makes of a file that was just opened: a server was started over it and took turns, or its start was refused.
-pub data Serves {H G : Type 0} (disk : disks.Ghosts InFile) (handler : handlers.Ghosts H) (ports : generators.Ghosts G) (last : InFile) : Type 0 where
-  serves : (server after : ServerState InFile H G) → StartedOver disk handler ports server → Served disk handler ports (IsMoment AnySecond) server after
-      → after.store.disk ≡ last → Serves disk handler ports last
-  starts_no_server : KeptSince disk last → Serves disk handler ports last
+-- what a service makes of a disk that was just opened, of which this holds
+pub record ServesOpened {D H G : Type 0} (disk : disks.Ghosts D) (handler : handlers.Ghosts H) (ports : generators.Ghosts G) (IsNew : D → Type 0) (last : D) : Type 0 where
+  pub opened : D
+  pub is_new : IsNew opened
+  pub serves : Serves disk handler ports opened last

@@ -9,11 +9,13 @@ use crate::about::{tell_prepared, tell_store};
 use crate::error::ProgramError;
 use crate::log::Log;
 use crate::notes::{Note, Noted, notes_of};
+use crate::place::{PATIENCE, StorePlace, open_export, tell_export};
 use crate::prepare::prepare;
 use crate::print::print_line;
 use std::alloc::Global;
 use std::fs::{File, OpenOptions};
 use std::io::Write;
+use std::net::Net;
 use std::rt::{Clock, Files};
 use turn_disk::{Disk, FileDisk, open_regular};
 use turn_ports::RelayAddressGenerator;
@@ -56,22 +58,41 @@ pub fn check_store<D: Disk + Drop, C: Clock>(
     }
 }
 
-/// Checks the store in a file, if one is given. Returns the latest moment that is written there.
+/// Checks the store in a file. Returns the latest moment that is written there.
 fn check_file<R: Files<File = File> + AllocGlobal, C: Clock>(
     rt: &R,
     clock: &C,
-    store: Option<&str>,
+    path: &str,
     limits: Limits,
-) -> Result<Option<Moment>, ProgramError> {
-    let Some(store) = store else {
-        return Ok(None);
-    };
-    let disk = open_beside(rt, store)?;
-    Ok(Some(check_store(rt.alloc(), clock, disk, limits).1?))
+) -> Result<Moment, ProgramError> {
+    let disk = open_beside(rt, path)?;
+    check_store(rt.alloc(), clock, disk, limits).1
+}
+
+/// Checks the store in a place. It is opened as a start opens it, and nothing is written. At a fault the log says what it is about.
+/// Returns the latest moment that is written there.
+fn check_place<R: Files<File = File> + Net + AllocGlobal, C: Clock, L: Write + Drop>(
+    rt: &R,
+    clock: &C,
+    log: &Log<L>,
+    store: &str,
+    limits: Limits,
+) -> Result<Moment, ProgramError> {
+    match StorePlace::of(store)? {
+        StorePlace::File(path) => check_file(rt, clock, path, limits).inspect_err(|_| tell_store(
+            rt, clock, log, path,
+        )),
+        StorePlace::Export(named) => {
+            let disk = open_export(rt, clock, log, named, PATIENCE)?;
+            check_store(rt.alloc(), clock, disk, limits)
+                .1
+                .inspect_err(|_| tell_export(rt.alloc(), clock, log, store, None))
+        }
+    }
 }
 
 /// Checks a configuration, and then a store if one is given. At a fault the log says what it is about. Returns what notes are made of.
-fn check_files<R: Files<File = File> + AllocGlobal, C: Clock, L: Write + Drop>(
+fn check_files<R: Files<File = File> + Net + AllocGlobal, C: Clock, L: Write + Drop>(
     rt: &R,
     clock: &C,
     log: &Log<L>,
@@ -83,12 +104,10 @@ fn check_files<R: Files<File = File> + AllocGlobal, C: Clock, L: Write + Drop>(
         rt, clock, log, config, *fault,
     ))?;
     let limits = prepared.config.limits();
-    let checked = check_file(rt, clock, store, limits).inspect_err(|_| tell_store(
-        rt,
-        clock,
-        log,
-        store.unwrap_or(""),
-    ))?;
+    let checked = match store {
+        Some(store) => Some(check_place(rt, clock, log, store, limits)?),
+        None => None,
+    };
     Ok(Noted {
         ports: prepared.ports.range(),
         allocations: limits.allocations(),
@@ -103,7 +122,7 @@ fn print_note<W: Write>(alloc: Global, note: Note, out: &mut W) -> Result<(), Pr
 
 /// Says whether a server would start with a configuration, as far as its sockets, and with a store if one is given, and before that
 /// what is odd. `listen` are the addresses beside the configuration's. Nothing is written, and no socket is opened.
-pub fn run_check<R: Files<File = File> + AllocGlobal, C: Clock, W: Write, L: Write + Drop>(
+pub fn run_check<R: Files<File = File> + Net + AllocGlobal, C: Clock, W: Write, L: Write + Drop>(
     rt: &R,
     clock: &C,
     log: &Log<L>,

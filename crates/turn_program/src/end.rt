@@ -3,15 +3,17 @@
 use crate::about::{tell_prepared, tell_store};
 use crate::error::ProgramError;
 use crate::log::Log;
+use crate::place::{PATIENCE, StorePlace, open_export, tell_export};
 use crate::prepare::{Prepared, prepare};
 use crate::print::print_lines;
 use std::alloc::{AllocError, Global};
 use std::fs::File;
 use std::io::Write;
+use std::net::Net;
 use std::rt::{Clock, Files};
 use turn_cli::Ended;
 use turn_config::ShownEndpoint;
-use turn_disk::FileDisk;
+use turn_disk::{Disk, FileDisk};
 use turn_ending::{Chosen, Operator, Whose, chosen_of, end_all};
 use turn_engine::Server;
 use turn_log::ShownName;
@@ -39,16 +41,15 @@ fn lines_of(alloc: Global, ended: &[Chosen]) -> Result<Vec<String>, AllocError> 
     Ok(lines)
 }
 
-/// Ends allocations in the store in a file.
-fn end_in<R: Files<File = File> + AllocGlobal, C: Clock>(
-    rt: &R,
+/// Ends allocations in the store on a disk.
+fn end_on<D: Disk + Drop, C: Clock>(
+    alloc: Global,
     clock: &C,
     prepared: &Prepared,
-    store: &str,
+    disk: D,
     ended: &Ended,
 ) -> Result<Vec<Chosen>, ProgramError> {
-    let (alloc, config) = (rt.alloc(), &prepared.config);
-    let disk = FileDisk::open(rt, store)?;
+    let config = &prepared.config;
     // The store keeps its version: a start carries it over.
     let mut server = Server::open_as(alloc, disk, config, Operator, prepared.ports, false).map_err(
         |refused| refused.fault,
@@ -59,9 +60,54 @@ fn end_in<R: Files<File = File> + AllocGlobal, C: Clock>(
     Ok(chosen)
 }
 
+/// Ends allocations in the store in a file.
+fn end_in<R: Files<File = File> + AllocGlobal, C: Clock>(
+    rt: &R,
+    clock: &C,
+    prepared: &Prepared,
+    path: &str,
+    ended: &Ended,
+) -> Result<Vec<Chosen>, ProgramError> {
+    end_on(
+        rt.alloc(),
+        clock,
+        prepared,
+        FileDisk::open(rt, path)?,
+        ended,
+    )
+}
+
+/// Ends allocations in a store. At a fault the log says which one it is.
+fn end_at<R: Files<File = File> + Net + AllocGlobal, C: Clock, L: Write + Drop>(
+    rt: &R,
+    clock: &C,
+    log: &Log<L>,
+    prepared: &Prepared,
+    store: &str,
+    ended: &Ended,
+) -> Result<Vec<Chosen>, ProgramError> {
+    match StorePlace::of(store)? {
+        StorePlace::File(path) => {
+            end_in(rt, clock, prepared, path, ended).inspect_err(|_| tell_store(
+                rt, clock, log, path,
+            ))
+        }
+        StorePlace::Export(named) => {
+            let disk = open_export(rt, clock, log, named, PATIENCE)?;
+            end_on(rt.alloc(), clock, prepared, disk, ended).inspect_err(|_| tell_export(
+                rt.alloc(),
+                clock,
+                log,
+                store,
+                None,
+            ))
+        }
+    }
+}
+
 /// Ends the allocations of a user or of a client's address in a store that no server holds, and prints a line for each. Nothing else of
 /// the store changes, but that it is opened. At a fault the log says which file it is about.
-pub fn run_end<R: Files<File = File> + AllocGlobal, C: Clock, W: Write, L: Write + Drop>(
+pub fn run_end<R: Files<File = File> + Net + AllocGlobal, C: Clock, W: Write, L: Write + Drop>(
     rt: &R,
     clock: &C,
     log: &Log<L>,
@@ -73,9 +119,7 @@ pub fn run_end<R: Files<File = File> + AllocGlobal, C: Clock, W: Write, L: Write
     let prepared = prepare(rt, config, &[]).inspect_err(|fault| tell_prepared(
         rt, clock, log, config, *fault,
     ))?;
-    let chosen = end_in(rt, clock, &prepared, store, ended).inspect_err(|_| tell_store(
-        rt, clock, log, store,
-    ))?;
+    let chosen = end_at(rt, clock, log, &prepared, store, ended)?;
     let lines = lines_of(rt.alloc(), &chosen)?;
     print_lines(rt.alloc(), &lines, out)
 }

@@ -13,6 +13,7 @@ use turn_client::ClientError;
 use turn_config::ConfigTextError;
 use turn_disk::{DeviceError, FileError};
 use turn_ending::EndError;
+use turn_nbd::NbdError;
 use turn_reading::ReadingError;
 use turn_scenario::ScenarioError;
 use turn_serving::{StartError, TurnError};
@@ -48,7 +49,7 @@ pub enum ProgramError {
     /// A store that another process has open to write to, or that was changed each time it was read.
     #[error("turn: store in use")]
     StoreInUse,
-    /// A file that can't be read or written or is too long, a system that tells no time, or standard output took no more.
+    /// A file that can't be read or written or is too long, an export that can't be reached or is refused, a system that tells no time, or standard output took no more.
     #[error("turn: device")]
     Device,
     /// A socket that can't be opened, used or waited for. In the demonstration also an answer that doesn't come.
@@ -89,6 +90,14 @@ impl From<FileError> for ProgramError {
             FileError::InUse => ProgramError::StoreInUse,
             FileError::Device => ProgramError::Device,
         }
+    }
+}
+
+impl From<NbdError> for ProgramError {
+    ghost from_gives = { λ _ f. f ≡ faults.Device };
+
+    fn from(_refused: NbdError) -> ProgramError {
+        ProgramError::Device
     }
 }
 

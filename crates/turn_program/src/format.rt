@@ -1,6 +1,6 @@
 //! `turn format`.
 
-ghost use Rattle.std.specs.Prelude.{◌≡◌, [], ◌+◌, ◌*◌, ◌^◌, ◌<◌, ◌≤◌, Err, IfErr, OnErr, OnOk, length};
+ghost use Rattle.std.specs.Prelude.{◌≡◌, [], ◌+◌, ◌*◌, ◌^◌, ◌<◌, ◌≤◌, Err, IfErr, IfSome, OnErr, OnOk, length};
 ghost use Rattle.turn_disk.specs.Counts.{CountOutcome, Rises};
 ghost use Rattle.turn_program.specs.declared.error.ProgramError.TheVariants as faults;
 ghost use Rattle.turn_record.specs.declared.version.Version.TheVariants.{V2};
@@ -8,17 +8,20 @@ ghost use Rattle.turn_store.specs.Format.{IsFormatted};
 ghost use Rattle.turn_store.specs.Images.{EachImage, StandsForAt};
 ghost use Rattle.turn_store.specs.Superblock.{least_area};
 
-use crate::about::{tell_config, tell_made_store};
+use crate::about::{second_now, tell_config, tell_made_store};
 use crate::error::ProgramError;
 use crate::files::read_whole;
 use crate::log::Log;
+use crate::place::{NamedExport, PATIENCE, StorePlace, open_export, tell_export};
 use crate::print::print_line;
 use std::alloc::Global;
 use std::fs::File;
 use std::io::Write;
+use std::net::Net;
 use std::rt::{Clock, Files};
 use turn_config::read_config;
 use turn_disk::{DeviceError, Disk, FileDisk};
+use turn_log::ShownName;
 use turn_store::{format, least_area};
 use turn_types::Limits;
 
@@ -112,9 +115,85 @@ fn make_store<R: Files<File = File> + AllocGlobal>(
     Ok(disk)
 }
 
-/// Makes a file a store with the limits of a configuration. The file is not touched before the area was judged, nor if it is in
-/// use. At a fault the log says which file it is about.
-pub fn run_format<R: Files<File = File> + AllocGlobal, C: Clock, W: Write, L: Write + Drop>(
+/// The size of the two areas that fill a disk of so many bytes, if each has no fewer than so many.
+fn area_in(size: usize, least: usize) -> Option<usize>
+    ensures { IfSome result (λ area. (64 + 2 * area ≡ size) × (least ≤ area)) }
+{
+    if size < 64 || size % 2 != 0 {
+        return None;
+    }
+    let area = (size - 64) / 2;
+    if area < least {
+        return None;
+    }
+    Some(area)
+}
+
+/// Says that an export has not a size that a store may have.
+fn tell_size<C: Clock, L: Write + Drop>(
+    alloc: Global,
+    clock: &C,
+    log: &Log<L>,
+    word: &str,
+    size: usize,
+) {
+    let name = ShownName(word.as_bytes());
+    if let Ok(text) = format!(in alloc;
+        "store {name}: an export of {size} bytes, not of 64 and two areas"
+    ) {
+        log.say(second_now(clock), text.as_str());
+    }
+}
+
+/// Makes an export a store, whose areas have no fewer bytes than so many. The store is as large as the export.
+fn fill_export<R: Net + AllocGlobal, C: Clock, L: Write + Drop>(
+    rt: &R,
+    clock: &C,
+    log: &Log<L>,
+    named: NamedExport<'_>,
+    limits: Limits,
+    least: usize,
+) -> Result<(), ProgramError> {
+    let mut disk = open_export(rt, clock, log, named, PATIENCE)?;
+    let size = disk.size();
+    let Some(area) = area_in(size, least) else {
+        tell_size(rt.alloc(), clock, log, named.word, size);
+        return Err(ProgramError::Device);
+    };
+    format_disk(rt.alloc(), &mut disk, limits, area).inspect_err(|_| tell_export(
+        rt.alloc(),
+        clock,
+        log,
+        named.word,
+        None,
+    ))
+}
+
+/// Makes a file or an export a store. At a fault the log says which one it is about.
+fn make_at<R: Files<File = File> + Net + AllocGlobal, C: Clock, L: Write + Drop>(
+    rt: &R,
+    clock: &C,
+    log: &Log<L>,
+    store: &str,
+    limits: Limits,
+    area: usize,
+) -> Result<(), ProgramError>
+    requires { area < 2 ^ 32 }
+{
+    match StorePlace::of(store)? {
+        StorePlace::File(path) => {
+            make_store(rt, path, limits, area).inspect_err(|_| tell_made_store(
+                rt, clock, log, path,
+            ))?;
+            Ok(())
+        }
+        StorePlace::Export(named) => fill_export(rt, clock, log, named, limits, area),
+    }
+}
+
+/// Makes a file a store with the limits of a configuration, or an export. The file is not touched before the area was judged, nor if it is
+/// in use. At a fault the log says which file it is about.
+pub fn run_format<R: Files<File = File> + Net + AllocGlobal, C: Clock, W: Write, L: Write + Drop>(
     rt: &R,
     clock: &C,
     log: &Log<L>,
@@ -128,8 +207,6 @@ pub fn run_format<R: Files<File = File> + AllocGlobal, C: Clock, W: Write, L: Wr
     ))?;
     let area = area as usize;
     judge_area(limits, area)?;
-    let _disk = make_store(rt, store, limits, area).inspect_err(|_| tell_made_store(
-        rt, clock, log, store,
-    ))?;
+    make_at(rt, clock, log, store, limits, area)?;
     print_line("formatted", out)
 }

@@ -3,13 +3,15 @@
 use crate::about::tell_read_store;
 use crate::error::ProgramError;
 use crate::log::Log;
+use crate::place::{PATIENCE, StorePlace, open_export, tell_export};
 use crate::print::print_lines;
 use std::alloc::{AllocError, Global};
 use std::fs::File;
 use std::io::Write;
+use std::net::Net;
 use std::rt::{Clock, Files};
 use turn_cli::shown_at;
-use turn_disk::FileDisk;
+use turn_disk::{Disk, FileDisk};
 use turn_reading::{Reading, read_store};
 use turn_scenario::put_table;
 use turn_store::Info;
@@ -34,20 +36,54 @@ fn lines_of(
     Ok(lines)
 }
 
+/// The lines of the store on a disk.
+fn lines_on<D: Disk + Drop, C: Clock>(
+    alloc: Global,
+    clock: &C,
+    disk: D,
+    at: Option<Moment>,
+) -> Result<Vec<String>, ProgramError> {
+    let (_, read) = read_store(alloc, clock, disk, None);
+    Ok(lines_of(alloc, &read?, at)?)
+}
+
 /// The lines of the store in a file.
-fn store_lines<R: Files<File = File> + AllocGlobal, C: Clock>(
+fn lines_in<R: Files<File = File> + AllocGlobal, C: Clock>(
     rt: &R,
     clock: &C,
+    path: &str,
+    at: Option<Moment>,
+) -> Result<Vec<String>, ProgramError> {
+    lines_on(rt.alloc(), clock, FileDisk::open_to_read(rt, path)?, at)
+}
+
+/// The lines of a store. At a fault the log says why it can't be opened if it can't.
+fn store_lines<R: Files<File = File> + Net + AllocGlobal, C: Clock, L: Write + Drop>(
+    rt: &R,
+    clock: &C,
+    log: &Log<L>,
     store: &str,
     at: Option<Moment>,
 ) -> Result<Vec<String>, ProgramError> {
-    let disk = FileDisk::open_to_read(rt, store)?;
-    let (_, read) = read_store(rt.alloc(), clock, disk, None);
-    Ok(lines_of(rt.alloc(), &read?, at)?)
+    match StorePlace::of(store)? {
+        StorePlace::File(path) => lines_in(rt, clock, path, at).inspect_err(|_| tell_read_store(
+            rt, clock, log, path,
+        )),
+        StorePlace::Export(named) => {
+            let disk = open_export(rt, clock, log, named, PATIENCE)?;
+            lines_on(rt.alloc(), clock, disk, at).inspect_err(|_| tell_export(
+                rt.alloc(),
+                clock,
+                log,
+                store,
+                None,
+            ))
+        }
+    }
 }
 
-/// Prints what a store holds that is live at a moment. At a fault the log says why the file can't be opened if it can't.
-pub fn run_inspect<R: Files<File = File> + AllocGlobal, C: Clock, W: Write, L: Write + Drop>(
+/// Prints what a store holds that is live at a moment.
+pub fn run_inspect<R: Files<File = File> + Net + AllocGlobal, C: Clock, W: Write, L: Write + Drop>(
     rt: &R,
     clock: &C,
     log: &Log<L>,
@@ -55,8 +91,6 @@ pub fn run_inspect<R: Files<File = File> + AllocGlobal, C: Clock, W: Write, L: W
     at: Option<Moment>,
     out: &mut W,
 ) -> Result<(), ProgramError> {
-    let lines = store_lines(rt, clock, store, at).inspect_err(|_| tell_read_store(
-        rt, clock, log, store,
-    ))?;
+    let lines = store_lines(rt, clock, log, store, at)?;
     print_lines(rt.alloc(), &lines, out)
 }

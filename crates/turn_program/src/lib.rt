@@ -16,6 +16,7 @@ mod help;
 mod inspect;
 mod log;
 mod notes;
+mod place;
 mod prepare;
 mod print;
 mod probe;

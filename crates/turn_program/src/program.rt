@@ -13,9 +13,10 @@ use crate::format::run_format;
 use crate::help::run_help;
 use crate::inspect::run_inspect;
 use crate::log::Log;
+use crate::place::judge_store;
 use crate::probe::run_probe;
 use crate::replay::run_replay;
-use crate::serve::{Service, run_serve};
+use crate::serve::{Service, run_service};
 use crate::status::run_status;
 use crate::version::{Release, run_version};
 use std::convert::AsStr;
@@ -26,7 +27,6 @@ use std::net::Net;
 use std::random::RandomSource;
 use std::rt::{Clock, Files};
 use turn_cli::{Command, command_of};
-use turn_disk::Unknown;
 
 /// Whether words ask for a log.
 fn is_logged(command: &Command) -> bool {
@@ -100,7 +100,7 @@ fn run_command<
                 listen,
                 is_held: *held,
             };
-            run_serve::<Unknown, R, C, W, L>(rt, clock, service, &log, out).told
+            run_service(rt, clock, service, &log, out)
         }
         Command::End {
             config,
@@ -135,6 +135,7 @@ fn try_words<
     log: L,
 ) -> Result<(), ProgramError> {
     let command = command_of(rt.alloc(), words)?;
+    judge_store(&command)?;
     run_command(rt, clock, release, &command, out, log)
 }
 

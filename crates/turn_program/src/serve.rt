@@ -2,8 +2,9 @@
 
 ghost use Rattle.std.specs.Prelude.{◌≡◌, IfErr, IfNone, IfOk, IfSome, IsErr};
 ghost use Rattle.turn_sockets.specs.Moments.{IsMoment};
+ghost use Rattle.turn_serving.specs.Starts.{KeepsImages};
 ghost use Rattle.turn_serving.specs.Turns.{Served};
-ghost use Rattle.turn_program.specs.Serving.{AnySecond, KeptSince, Serves, StartedOver, commits_of, just_opened};
+ghost use Rattle.turn_program.specs.Serving.{AnySecond, IsConnected, IsOpened, Serves, ServesOpened, StartedOver, commits_of, just_opened};
 
 use crate::about::{
     ShownAddresses, second_now, tell_held, tell_prepared, tell_sockets, tell_store,
@@ -13,6 +14,7 @@ use crate::files::read_whole;
 use crate::held::sockets_of;
 use crate::log::{Known, Log, StoreWatch};
 use crate::notes::Noted;
+use crate::place::{NamedExport, StorePlace, open_export_to_serve, tell_export};
 use crate::prepare::{Prepared, prepare};
 use crate::print::print_line;
 use crate::started::{Started, live_at, tell_notes, tell_started};
@@ -27,7 +29,8 @@ use std::thread;
 use std::time::Duration;
 use turn_config::{Configured, ShownEndpoint, read_config};
 use turn_cred::{AuthHandler, Credentials};
-use turn_disk::{Disk, FileDisk, FileError, Start};
+use turn_disk::{Disk, FileDisk, FileError, Start, Unknown};
+use turn_nbd::{NbdDisk, Socket, is_uri};
 use turn_ports::RelayAddressGenerator;
 use turn_serving::{
     Commits, ListeningSockets, Setup, SetupError, SocketServing, StartError, TurnError,
@@ -42,7 +45,7 @@ pub struct Service<'a> {
     pub version: &'a str,
     /// The path of the configuration.
     pub config: &'a str,
-    /// The path of the store.
+    /// The path of the store, or the URI of its export.
     pub store: &'a str,
     /// After how many turns the server ends, if it does.
     pub turns: Option<u64>,
@@ -75,10 +78,10 @@ fn random_bytes<R: RandomSource>(rt: &R) -> Result<[u8; 32], ProgramError>
     Ok(bytes)
 }
 
-/// A server over the store in a file, which a log watches.
-type FileServing<'a, 'l, S, R, L> = SocketServing<
+/// A server over the store on a disk, which a log watches.
+type DiskServing<'a, 'l, D, R, L> = SocketServing<
     'a,
-    FileDisk<File, S>,
+    D,
     Credentials,
     R,
     Global,
@@ -109,23 +112,24 @@ fn open_disk<R: Files<File = File>, C: Clock>(
     Ok(FileDisk::open(rt, store)?)
 }
 
-/// What a start takes.
+/// What a start takes before its store.
 #[derive(Drop)]
 struct Taken {
+    began: Option<Duration>,
+    seed: [u8; 32],
     prepared: Prepared,
     sockets: ListeningSockets,
-    disk: FileDisk<File>,
 }
 
-/// Takes the configuration, the sockets that are handed over, and the store. At a fault the log says what it is about.
-fn take_all<R: Files<File = File> + Env + AllocGlobal, C: Clock, L: Write + Drop>(
+/// Takes the configuration, and the sockets that are handed over. At a fault the log says what it is about.
+fn take_first<R: Files<File = File> + RandomSource + Env + AllocGlobal, C: Clock, L: Write + Drop>(
     rt: &R,
     clock: &C,
     service: Service<'_>,
     log: &Log<L>,
-) -> Result<Taken, ProgramError>
-    ensures { IfOk result (λ taken. taken.disk ≡ just_opened taken.disk.size) }
-{
+) -> Result<Taken, ProgramError> {
+    let began = clock.monotonic().ok();
+    let seed = random_bytes(rt)?;
     let prepared = prepare(rt, service.config, service.listen).inspect_err(|fault| tell_prepared(
         rt,
         clock,
@@ -135,17 +139,64 @@ fn take_all<R: Files<File = File> + Env + AllocGlobal, C: Clock, L: Write + Drop
     ))?;
     let listen = prepared.listen.as_slice();
     let sockets = sockets_of(rt, service.is_held, listen).inspect_err(|_| tell_held(clock, log))?;
+    Ok(Taken {
+        began,
+        seed,
+        prepared,
+        sockets,
+    })
+}
+
+/// Takes these and the store in a file. At a fault the log says what it is about.
+fn take_file<R: Files<File = File> + RandomSource + Env + AllocGlobal, C: Clock, L: Write + Drop>(
+    rt: &R,
+    clock: &C,
+    service: Service<'_>,
+    log: &Log<L>,
+) -> Result<(Taken, FileDisk<File>), ProgramError>
+    ensures { IfOk result (λ taken. taken.1 ≡ just_opened taken.1.size) }
+{
+    let taken = take_first(rt, clock, service, log)?;
     let disk = open_disk(rt, clock, service.store).inspect_err(|_| tell_store(
         rt,
         clock,
         log,
         service.store,
     ))?;
-    Ok(Taken {
-        prepared,
-        sockets,
-        disk,
-    })
+    Ok((taken, disk))
+}
+
+/// Takes these and the store in an export. At a fault the log says what it is about.
+fn take_export<
+    R: Files<File = File> + Net + RandomSource + Env + AllocGlobal,
+    C: Clock,
+    L: Write + Drop,
+>(
+    rt: &R,
+    clock: &C,
+    service: Service<'_>,
+    named: NamedExport<'_>,
+    log: &Log<L>,
+) -> Result<(Taken, NbdDisk), ProgramError>
+    ensures { IfOk result (λ taken. IsConnected taken.1) }
+{
+    let taken = take_first(rt, clock, service, log)?;
+    let disk = open_export_to_serve(rt, clock, log, named)?;
+    Ok((taken, disk))
+}
+
+/// Says which store is at fault, and why its file can't be opened if it can't.
+fn tell_place<R: Files<File = File> + AllocGlobal, C: Clock, L: Write + Drop>(
+    rt: &R,
+    clock: &C,
+    log: &Log<L>,
+    store: &str,
+) {
+    if is_uri(store) {
+        tell_export(rt.alloc(), clock, log, store, None);
+    } else {
+        tell_store(rt, clock, log, store);
+    }
 }
 
 /// Says what the fault of a start is about.
@@ -159,7 +210,7 @@ fn tell_start<R: Files<File = File> + Net + AllocGlobal, C: Clock, L: Write + Dr
 ) {
     match fault {
         StartError::Store(_) | StartError::Reopen(_) | StartError::Changed => {
-            tell_store(rt, clock, log, store)
+            tell_place(rt, clock, log, store)
         }
         StartError::Socket => tell_sockets(rt, clock, log, addresses),
         StartError::Memory => {}
@@ -174,19 +225,19 @@ fn since<C: Clock>(clock: &C, began: Option<Duration>) -> Option<Duration> {
 
 /// How a service ended, and the disk of its store, if that was opened.
 #[derive(Drop)]
-pub struct Ended<S: Start> {
+pub struct Ended<D: Disk + Drop> {
     /// The first fault, if there was one.
     pub told: Result<(), ProgramError>,
     /// The disk as it was left.
-    pub disk: Option<FileDisk<File, S>>,
+    pub disk: Option<D>,
 }
 
-impl<S: Start> From<ProgramError> for Ended<S> {
+impl<D: Disk + Drop> From<ProgramError> for Ended<D> {
     ghost use Rattle.std.specs.Prelude.{Err, None};
 
     ghost from_gives = { λ fault ended. (ended.told ≡ Err fault) × (ended.disk ≡ None) };
 
-    fn from(fault: ProgramError) -> Ended<S> {
+    fn from(fault: ProgramError) -> Ended<D> {
         Ended {
             told: Err(fault),
             disk: None,
@@ -194,11 +245,11 @@ impl<S: Start> From<ProgramError> for Ended<S> {
     }
 }
 
-/// Starts a server. At a fault the log says which file or address it is about, and else what was started.
+/// Starts a server over a disk. At a fault the log says which store or address it is about.
 fn start<
     'a,
     'l,
-    S: Start,
+    D: Disk + Drop,
     R: Files<File = File> + Net + RandomSource + Env + Drop + AllocGlobal,
     C: Clock,
     L: Write + Drop,
@@ -207,19 +258,21 @@ fn start<
     clock: &C,
     service: Service<'_>,
     watch: &'l StoreWatch<'l, R, L>,
-) -> Result<FileServing<'a, 'l, S, R, L>, Ended<S>>
-    ensures started { IfOk result (λ serving. StartedOver ⟦<FileDisk<File, S> as Disk>⟧ ⟦<Credentials as AuthHandler>⟧
-        ⟦<SocketPorts<'a, R, Global> as RelayAddressGenerator>⟧ serving.server) }
-    ensures kept { IfErr result (λ ended. IfSome ended.disk (KeptSince ⟦<FileDisk<File, S> as Disk>⟧)) }
+    taken: Taken,
+    disk: D,
+) -> Result<DiskServing<'a, 'l, D, R, L>, Ended<D>>
+    ensures started { IfOk result (λ serving. StartedOver D.Disk ⟦<Credentials as AuthHandler>⟧
+        ⟦<SocketPorts<'a, R, Global> as RelayAddressGenerator>⟧ disk serving.server) }
+    ensures kept { IfErr result (λ ended. IfSome ended.disk (KeepsImages D.Disk disk)) }
     ensures told { IfErr result (λ ended. IsErr ended.told) }
 {
-    let seed = random_bytes(rt)?;
     let log = watch.log();
     let Taken {
+        began: _,
+        seed,
         prepared,
         sockets,
-        disk,
-    } = take_all(rt, clock, service, log)?;
+    } = taken;
     let Prepared {
         config,
         credentials,
@@ -237,15 +290,7 @@ fn start<
         commits: commits_of(service.turns),
         seed,
     };
-    match setup.start(
-        rt.alloc(),
-        rt,
-        clock,
-        disk.holding::<S>(),
-        credentials,
-        sockets,
-        watch,
-    ) {
+    match setup.start(rt.alloc(), rt, clock, disk, credentials, sockets, watch) {
         Ok(serving) => Ok(serving),
         Err(SetupError { fault, disk }) => {
             let addresses = ShownAddresses {
@@ -262,21 +307,21 @@ fn start<
     }
 }
 
-/// Takes turns. At a fault of the store the log says which file it is.
+/// Takes turns. At a fault of the store the log says which one it is.
 fn take_turns<
     'a,
-    S: Start,
+    D: Disk + Drop,
     R: Files<File = File> + Net + Drop + AllocGlobal,
     C: Clock,
     L: Write + Drop,
 >(
     rt: &R,
-    serving: &mut FileServing<'a, '_, S, R, L>,
+    serving: &mut DiskServing<'a, '_, D, R, L>,
     clock: &C,
     service: Service<'_>,
     log: &Log<L>,
 ) -> Result<(), ProgramError>
-    ensures { Served ⟦<FileDisk<File, S> as Disk>⟧ ⟦<Credentials as AuthHandler>⟧ ⟦<SocketPorts<'a, R, Global> as RelayAddressGenerator>⟧
+    ensures { Served D.Disk ⟦<Credentials as AuthHandler>⟧ ⟦<SocketPorts<'a, R, Global> as RelayAddressGenerator>⟧
         (IsMoment AnySecond) serving.old.server serving.new.server }
 {
     // 2^64 turns of which each takes a microsecond are 580,000 years.
@@ -284,7 +329,7 @@ fn take_turns<
         Ok(()) => Ok(()),
         Err(fault) => {
             if let TurnError::Commit(_) = fault {
-                tell_store(rt, clock, log, service.store);
+                tell_place(rt, clock, log, service.store);
             }
             Err(ProgramError::from(fault))
         }
@@ -307,20 +352,20 @@ fn print_addresses<W: Write>(
 /// Says where the server listens, takes the turns, and says how many there were.
 fn tell<
     'a,
-    S: Start,
+    D: Disk + Drop,
     R: Files<File = File> + Net + Drop + AllocGlobal,
     C: Clock,
     W: Write,
     L: Write + Drop,
 >(
     rt: &R,
-    serving: &mut FileServing<'a, '_, S, R, L>,
+    serving: &mut DiskServing<'a, '_, D, R, L>,
     clock: &C,
     service: Service<'_>,
     log: &Log<L>,
     out: &mut W,
 ) -> Result<(), ProgramError>
-    ensures { Served ⟦<FileDisk<File, S> as Disk>⟧ ⟦<Credentials as AuthHandler>⟧ ⟦<SocketPorts<'a, R, Global> as RelayAddressGenerator>⟧
+    ensures { Served D.Disk ⟦<Credentials as AuthHandler>⟧ ⟦<SocketPorts<'a, R, Global> as RelayAddressGenerator>⟧
         (IsMoment AnySecond) serving.old.server serving.new.server }
 {
     print_addresses(rt.alloc(), serving.locals().as_slice(), out)?;
@@ -357,28 +402,23 @@ fn inform<R: Files<File = File> + AllocGlobal, L: Write + Drop>(
     Ok(())
 }
 
-/// Serves for so many turns, or until the process is ended. `S` stands for the state in
-/// which the store's file was found, whatever that is. The disk is returned as it was left, if it was opened.
-pub fn run_serve<
+/// Says what was started. At a file the log looks from then on whether its path still leads to it.
+fn tell_begun<
     'a,
-    S: Start,
-    R: Files<File = File> + Net + RandomSource + Env + Drop + AllocGlobal,
+    'l,
+    D: Disk + Drop,
+    R: Files<File = File> + Net + Drop + AllocGlobal,
     C: Clock,
-    W: Write,
     L: Write + Drop,
->(rt: &'a R, clock: &C, service: Service<'_>, log: &Log<L>, out: &mut W) -> Ended<S>
-    ensures serves { IfSome result.disk (Serves ⟦<FileDisk<File, S> as Disk>⟧ ⟦<Credentials as AuthHandler>⟧
-        ⟦<SocketPorts<'a, R, Global> as RelayAddressGenerator>⟧) }
-    // Without a store nothing was served.
-    ensures told { IfNone result.disk (IsErr result.told) }
-{
-    let began = clock.monotonic().ok();
-    let watch = StoreWatch::new(rt.alloc(), rt, service.store, log);
-    let mut serving = match start::<S, R, C, L>(rt, clock, service, &watch) {
-        Ok(serving) => serving,
-        Err(ended) => return ended,
-    };
-    let second = second_now(clock);
+>(
+    rt: &R,
+    clock: &C,
+    service: Service<'_>,
+    watch: &'l StoreWatch<'l, R, L>,
+    serving: &DiskServing<'a, '_, D, R, L>,
+    began: Option<Duration>,
+) {
+    let (second, log) = (second_now(clock), watch.log());
     let started = Started {
         version: service.version,
         listen: serving.locals().as_slice(),
@@ -388,7 +428,9 @@ pub fn run_serve<
         live: live_at(serving.server().table(), second),
         took: since(clock, began),
     };
-    watch.begin();
+    if !is_uri(service.store) {
+        watch.begin();
+    }
     tell_started(rt.alloc(), clock, log, &started);
     let noted = Noted {
         ports: started.ports,
@@ -397,10 +439,109 @@ pub fn run_serve<
     };
     tell_notes(rt, clock, log, noted);
     let _ = inform(rt, service, log, &started, second);
+}
+
+/// Serves over a disk for so many turns, or until the process is ended. The disk is returned as it was left.
+fn serve_over<
+    'a,
+    D: Disk + Drop,
+    R: Files<File = File> + Net + RandomSource + Env + Drop + AllocGlobal,
+    C: Clock,
+    W: Write,
+    L: Write + Drop,
+>(
+    rt: &'a R,
+    clock: &C,
+    service: Service<'_>,
+    taken: Taken,
+    disk: D,
+    log: &Log<L>,
+    out: &mut W,
+) -> Ended<D>
+    ensures serves { IfSome result.disk (Serves D.Disk ⟦<Credentials as AuthHandler>⟧
+        ⟦<SocketPorts<'a, R, Global> as RelayAddressGenerator>⟧ disk) }
+    ensures told { IfNone result.disk (IsErr result.told) }
+{
+    let watch = StoreWatch::new(rt.alloc(), rt, service.store, log);
+    let began = taken.began;
+    let mut serving = match start(rt, clock, service, &watch, taken, disk) {
+        Ok(serving) => serving,
+        Err(ended) => return ended,
+    };
+    tell_begun(rt, clock, service, &watch, &serving, began);
     let told = tell(rt, &mut serving, clock, service, log, out);
     let (disk, _) = serving.close();
     Ended {
         told,
         disk: Some(disk),
+    }
+}
+
+/// Serves over the store in a file, for so many turns, or until the process is ended. `S` stands for the state in
+/// which the store's file was found, whatever that is. The disk is returned as it was left, if it was opened.
+pub fn run_serve<
+    'a,
+    S: Start,
+    R: Files<File = File> + Net + RandomSource + Env + Drop + AllocGlobal,
+    C: Clock,
+    W: Write,
+    L: Write + Drop,
+>(rt: &'a R, clock: &C, service: Service<'_>, log: &Log<L>, out: &mut W) -> Ended<FileDisk<File, S>>
+    ensures serves { IfSome result.disk (ServesOpened ⟦<FileDisk<File, S> as Disk>⟧ ⟦<Credentials as AuthHandler>⟧
+        ⟦<SocketPorts<'a, R, Global> as RelayAddressGenerator>⟧ IsOpened) }
+    // Without a store nothing was served.
+    ensures told { IfNone result.disk (IsErr result.told) }
+{
+    match take_file(rt, clock, service, log) {
+        Ok((taken, disk)) => {
+            serve_over(rt, clock, service, taken, disk.holding::<S>(), log, out)
+        }
+        Err(fault) => Ended::from(fault),
+    }
+}
+
+/// Serves over the store in an export, as `run_serve` over one in a file. `S` stands for the state in which the export was found.
+pub fn serve_export<
+    'a,
+    S: Start,
+    R: Files<File = File> + Net + RandomSource + Env + Drop + AllocGlobal,
+    C: Clock,
+    W: Write,
+    L: Write + Drop,
+>(
+    rt: &'a R,
+    clock: &C,
+    service: Service<'_>,
+    named: NamedExport<'_>,
+    log: &Log<L>,
+    out: &mut W,
+) -> Ended<NbdDisk<Socket, S>>
+    ensures serves { IfSome result.disk (ServesOpened ⟦<NbdDisk<Socket, S> as Disk>⟧ ⟦<Credentials as AuthHandler>⟧
+        ⟦<SocketPorts<'a, R, Global> as RelayAddressGenerator>⟧ IsConnected) }
+    // Without a store nothing was served.
+    ensures told { IfNone result.disk (IsErr result.told) }
+{
+    match take_export(rt, clock, service, named, log) {
+        Ok((taken, disk)) => {
+            serve_over(rt, clock, service, taken, disk.holding::<S>(), log, out)
+        }
+        Err(fault) => Ended::from(fault),
+    }
+}
+
+/// Serves over a store in a file or in an export, for so many turns, or until the process is ended.
+pub fn run_service<
+    R: Files<File = File> + Net + RandomSource + Env + Drop + AllocGlobal,
+    C: Clock,
+    W: Write,
+    L: Write + Drop,
+>(rt: &R, clock: &C, service: Service<'_>, log: &Log<L>, out: &mut W) -> Result<(), ProgramError> {
+    match StorePlace::of(service.store)? {
+        StorePlace::File(_) => {
+            run_serve::<Unknown, R, C, W, L>(rt, clock, service, log, out).told
+        }
+        StorePlace::Export(named) => {
+            serve_export::<Unknown, R, C, W, L>(rt, clock, service, named, log, out).told
+        }
     }
 }

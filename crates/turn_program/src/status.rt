@@ -1,24 +1,22 @@
 //! `turn status`: who has what in a store, for people.
 
 use crate::error::ProgramError;
+use crate::place::{PATIENCE, StorePlace};
 use crate::prepare::prepare;
 use crate::print::print_lines;
 use std::alloc::{AllocError, Global};
 use std::fs::File;
 use std::io::Write;
+use std::net::Net;
 use std::rt::{Clock, Files};
 use turn_config::ShownEndpoint;
-use turn_disk::{FileDisk, FileError};
+use turn_disk::{Disk, FileDisk, FileError};
 use turn_log::ShownName;
+use turn_nbd::NbdDisk;
 use turn_reading::{Reading, read_store};
 use turn_sockets::moment_now;
 use turn_table::{Entry, Table};
 use turn_types::{FiveTuple, Limits, Moment};
-
-/// Whether a server holds a store: it has its lock. The lock is taken for a moment to see that.
-fn is_held<R: Files<File = File>>(files: &R, store: &str) -> bool {
-    matches!(FileDisk::open(files, store), Err(FileError::InUse))
-}
 
 /// Whether an allocation is the first of its user that is live at a second, in the order of the table.
 fn is_first(table: &Table, five_tuple: FiveTuple, entry: &Entry, second: u64) -> bool {
@@ -92,18 +90,47 @@ fn put_allocations(
     Ok(())
 }
 
+/// Whether a server holds a store.
+#[derive(Clone, Copy, Debug, PartialEq, Eq)]
+enum Holder {
+    /// One does.
+    Server,
+    /// None does.
+    None,
+    /// The store is in an export, which has no lock.
+    Unknown,
+}
+
+impl Holder {
+    fn word(self) -> &'static str {
+        match self {
+            Holder::Server => "running",
+            Holder::None => "none",
+            Holder::Unknown => "unknown",
+        }
+    }
+}
+
+/// Whether a server holds the store in a file: it has its lock, which is taken for a moment to see that.
+fn holder_of<R: Files<File = File>>(files: &R, path: &str) -> Holder {
+    match FileDisk::open(files, path) {
+        Err(FileError::InUse) => Holder::Server,
+        _ => Holder::None,
+    }
+}
+
 fn lines_of(
     alloc: Global,
     reading: &Reading,
     limits: Limits,
     quota: u32,
     second: u64,
-    is_held: bool,
+    holder: Holder,
 ) -> Result<Vec<String>, AllocError> {
     let table = &reading.table;
     let (live, most) = (live_of(table, second), limits.allocations());
     let mut lines = Vec::new(alloc);
-    let server = if is_held { "running" } else { "none" };
+    let server = holder.word();
     lines.push(format!(in alloc; "server {server}")?)?;
     lines.push(format!(in alloc; "allocations {live} of {most}")?)?;
     put_users(alloc, table, quota, second, &mut lines)?;
@@ -111,8 +138,40 @@ fn lines_of(
     Ok(lines)
 }
 
+/// Reads a store under these limits.
+fn read_on<D: Disk + Drop, C: Clock>(
+    alloc: Global,
+    clock: &C,
+    disk: D,
+    limits: Limits,
+) -> Result<Reading, ProgramError> {
+    let (_, read) = read_store(alloc, clock, disk, Some(limits));
+    Ok(read?)
+}
+
+/// Reads a store, and sees whether a server holds it.
+fn read_at<R: Files<File = File> + Net + AllocGlobal, C: Clock>(
+    rt: &R,
+    clock: &C,
+    store: &str,
+    limits: Limits,
+) -> Result<(Reading, Holder), ProgramError> {
+    match StorePlace::of(store)? {
+        StorePlace::File(path) => {
+            let disk = FileDisk::open_to_read(rt, path)?;
+            let reading = read_on(rt.alloc(), clock, disk, limits)?;
+            Ok((reading, holder_of(rt, path)))
+        }
+        StorePlace::Export(named) => {
+            let disk = NbdDisk::open(rt.alloc(), rt, clock, &named.export, PATIENCE)?;
+            let reading = read_on(rt.alloc(), clock, disk, limits)?;
+            Ok((reading, Holder::Unknown))
+        }
+    }
+}
+
 /// Prints whether a server holds a store, how many allocations there are, and what each user has, with names as a log has them.
-pub fn run_status<R: Files<File = File> + AllocGlobal, C: Clock, W: Write>(
+pub fn run_status<R: Files<File = File> + Net + AllocGlobal, C: Clock, W: Write>(
     rt: &R,
     clock: &C,
     config: &str,
@@ -122,18 +181,9 @@ pub fn run_status<R: Files<File = File> + AllocGlobal, C: Clock, W: Write>(
     let alloc = rt.alloc();
     let prepared = prepare(rt, config, &[])?;
     let (limits, quota) = (prepared.config.limits(), prepared.config.quota());
-    let disk = FileDisk::open_to_read(rt, store)?;
-    let (_, read) = read_store(alloc, clock, disk, Some(limits));
-    let reading = read?;
+    let (reading, holder) = read_at(rt, clock, store, limits)?;
     let first = Moment::new(0).ok_or(ProgramError::Device)?;
     let now = moment_now(&clock, first).ok_or(ProgramError::Device)?;
-    let lines = lines_of(
-        alloc,
-        &reading,
-        limits,
-        quota,
-        now.seconds(),
-        is_held(rt, store),
-    )?;
+    let lines = lines_of(alloc, &reading, limits, quota, now.seconds(), holder)?;
     print_lines(alloc, &lines, out)
 }

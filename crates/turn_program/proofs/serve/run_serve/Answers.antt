@@ -1,6 +1,9 @@
-use Rattle.std.proofs.Common.{sym}
-use Rattle.turn_program.specs.Serving.{serves}
+use Rattle.std.proofs.Common.{rules}
+use Rattle.turn_program.specs.Serving.{IsOpened}
+use Rattle.turn_program.proofs.Serves.{serves_opened}
 use Rattle.turn_program.proofs.serve.run_serve.Goals as goal
 
-pub returns-clause-serves : goal.returns-clause-serves
-returns-clause-serves g c = serves c.in-Ok.serving.server c.tell-told.new.serving.server c.in-Ok.ensures.started c.tell-told.ensures (sym c.close-disk.ensures.disk)
+pub returns-in-Ok-clause-serves : goal.returns-in-Ok-clause-serves
+returns-in-Ok-clause-serves g c =
+    let is_new : IsOpened c.holding.result = search rules in
+    serves_opened _ _ _ _ _ _ is_new c.serve_over.ensures.serves

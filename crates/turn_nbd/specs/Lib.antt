@@ -1,0 +1,5 @@
+pub mod Wire
+pub mod Requests
+pub mod Handshake
+pub mod Names
+pub mod Views

@@ -1,0 +1,157 @@
+//! A disk over an export. It follows the crash model as long as the answers are those of an export that keeps what was written.
+
+ghost use Rattle.std.specs.Prelude.{◌≡◌, ◌+◌, ◌++◌, ◌≤◌, [], ℕ, List, IfOk, OnOk, true, false, length, take, drop, flatten};
+ghost use Rattle.turn_disk.specs.Calls.{FollowCrashModel, replay};
+ghost use Rattle.turn_disk.specs.Counts.{CountOutcome};
+ghost use Rattle.turn_disk.specs.Disk.{SyncOutcome, WriteOutcome};
+ghost use Rattle.turn_nbd.specs.Requests.{exchange, reads, writes};
+
+use crate::connection::Connection;
+use crate::error::NbdError;
+use crate::handshake::fit_size;
+use crate::negotiate::negotiate;
+use crate::pieces::{read_from, write_from};
+use crate::socket::Socket;
+use crate::stream::Stream;
+use crate::wire::Wire;
+use std::marker::{Model, PhantomData};
+use turn_disk::{CallRecord, DeviceError, Disk, READ, SYNC, Start, Unknown, WRITE, raise};
+
+/// A disk over an export, as large as the export is when it is opened.
+///
+/// A device call is one request, or one for each 32 MiB, each of which waits for its reply. Once one failed, each later device call fails at
+/// once. When the disk is dropped, the server is told that the connection ends.
+///
+/// `S` stands for the state that the export was found in. Clauses on its content have the premise that the answers so far, of reads above
+/// all, were those of an export in this state, which kept what was written, and which nothing else wrote.
+#[derive(Drop)]
+pub struct NbdDisk<T: Stream = Socket, S: Start = Unknown> {
+    connection: Connection<T>,
+    can_write: bool,
+    size: usize,
+    failures: u64,
+    calls: CallRecord,
+    start: PhantomData<S>,
+}
+
+impl<T: Stream, S: Start> Model for NbdDisk<T, S> {
+    ghost use Rattle.turn_nbd.specs.Views.{InExport};
+
+    ghost Value = { InExport };
+
+    ghost view = { λ d. record { size = d.size; failures = d.failures; events = d.calls.events; can_write = d.can_write; connection = d.connection } };
+}
+
+impl<T: Stream> NbdDisk<T> {
+    /// Asks a server for its export of this name. Where `can_write` is false, it may be one that can't be written, or lack FLUSH, and each
+    /// write and sync fails.
+    pub fn over(stream: T, name: &str, can_write: bool) -> Result<NbdDisk<T>, NbdError>
+        ensures failures { IfOk result (λ disk. disk.failures ≡ 0) }
+        ensures events { IfOk result (λ disk. disk.events ≡ []) }
+        ensures can_write { IfOk result (λ disk. disk.can_write ≡ can_write) }
+    {
+        let mut wire = Wire::new(stream);
+        let found = negotiate(&mut wire, name)?;
+        let size = fit_size(found, can_write)?;
+        Ok(NbdDisk {
+            connection: Connection::new(wire),
+            can_write,
+            size,
+            failures: 0,
+            calls: CallRecord::new(),
+            start: PhantomData,
+        })
+    }
+
+    /// The same disk, with a name for the state that the export was found in when it was opened.
+    pub fn holding<S: Start>(self) -> NbdDisk<T, S>
+        ensures { result ≡ self }
+    {
+        let NbdDisk {
+            connection,
+            can_write,
+            size,
+            failures,
+            calls,
+            start: _,
+        } = self;
+        NbdDisk {
+            connection,
+            can_write,
+            size,
+            failures,
+            calls,
+            start: PhantomData,
+        }
+    }
+}
+
+impl<T: Stream, S: Start> NbdDisk<T, S> {
+    // Whether a write or a sync is tried: the disk was opened to be written, and no request failed.
+    fn may_write(&self) -> bool {
+        self.can_write && self.connection.is_open()
+    }
+}
+
+// Each method notes its call with its answer. A read or a sync that failed isn't noted: it changes nothing; nor is a write that wasn't
+// tried.
+impl<T: Stream, S: Start> Disk for NbdDisk<T, S> {
+    ghost use Rattle.turn_disk.specs.Calls.{sized_by};
+
+    ghost capacity = { λ disk. disk.size };
+
+    ghost failed = { λ disk. disk.failures };
+
+    ghost follows_crash_model = { λ disk. (length S.Start.found.bytes ≡ disk.size) × FollowCrashModel S.Start.found disk.events };
+
+    ghost trace = { λ disk. replay S.Start.found disk.events };
+
+    ghost sized = { λ disk crash_model. sized_by S.Start.found disk.events disk.size crash_model };
+
+    fn size(&self) -> usize {
+        self.size
+    }
+
+    fn failures(&self) -> u64 {
+        self.failures
+    }
+
+    fn read_at(&mut self, at: usize, buffer: &mut [u8]) -> Result<(), DeviceError> {
+        match read_from(&mut self.connection, at, buffer, 0) {
+            Ok(()) => {
+                self.calls.note(READ, at, true, buffer);
+                Ok(())
+            }
+            Err(_) => Err(raise(&mut self.failures)),
+        }
+    }
+
+    fn write_at(&mut self, at: usize, bytes: &[u8]) -> Result<(), DeviceError> {
+        if !self.may_write() {
+            return Err(raise(&mut self.failures));
+        }
+        match write_from(&mut self.connection, at, bytes, 0) {
+            Ok(()) => {
+                self.calls.note(WRITE, at, true, bytes);
+                Ok(())
+            }
+            Err(_) => {
+                self.calls.note(WRITE, at, false, bytes);
+                Err(raise(&mut self.failures))
+            }
+        }
+    }
+
+    fn sync(&mut self) -> Result<(), DeviceError> {
+        if !self.may_write() {
+            return Err(raise(&mut self.failures));
+        }
+        match self.connection.flush() {
+            Ok(()) => {
+                self.calls.note(SYNC, 0, true, &[]);
+                Ok(())
+            }
+            Err(_) => Err(raise(&mut self.failures)),
+        }
+    }
+}

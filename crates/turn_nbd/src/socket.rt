@@ -1,0 +1,209 @@
+//! The socket of a server: a stream over a Unix socket or over TCP, whose waits are bounded.
+
+use crate::error::NbdError;
+use crate::stream::Stream;
+use crate::uri::Place;
+use libc::types::timespec;
+use mio::event::Source;
+use mio::net::{TcpStream, UnixStream};
+use mio::{Events, Interest, Poll, Token};
+use std::alloc::{Allocator, Global};
+use std::io::{self, ErrorKind, Read, Write};
+use std::net::{Ipv4Addr, Net, SocketAddr, SocketAddrV4};
+use std::os::fd::AsRawFd;
+use std::time::Duration;
+use turn_disk::is_apart;
+use turn_types::Endpoint;
+
+/// How long the waits of one request are together, in milliseconds.
+const REQUEST_MILLIS: u64 = 30_000;
+
+/// How long a wait for a connection over TCP is, in milliseconds.
+const CONNECT_MILLIS: u64 = 5_000;
+
+/// How often a read or a write is tried before it is given up, however short the waits are.
+const TRIES: u32 = 1 << 20;
+
+/// How many sockets one wait reports.
+const EVENTS: usize = 1;
+
+/// A socket that is connected, or about to be.
+#[derive(Drop)]
+enum Link {
+    Unix(UnixStream),
+    Tcp(TcpStream),
+}
+
+/// The socket of a server.
+#[derive(Drop)]
+pub struct Socket<A: Allocator = Global> {
+    link: Link,
+    poll: Poll,
+    events: Events<A>,
+    // When the waits end, in milliseconds of the system's clock that doesn't go back.
+    until: u64,
+}
+
+/// The milliseconds of the system's clock that doesn't go back. `None` if it fails.
+fn millis() -> Option<u64> {
+    let mut time = timespec {
+        tv_sec: 0,
+        tv_nsec: 0,
+    };
+    if libc::clock_gettime(libc::CLOCK_MONOTONIC, &mut time) != 0 {
+        return None;
+    }
+    let seconds = u64::try_from(time.tv_sec).ok()?;
+    let nanos = u64::try_from(time.tv_nsec).ok()?;
+    Some(
+        seconds
+            .saturating_mul(1_000)
+            .saturating_add(nanos / 1_000_000),
+    )
+}
+
+/// When a wait of so many milliseconds ends that begins now. It has ended if the clock fails.
+fn end_of(count: u64) -> u64 {
+    match millis() {
+        Some(now) => now.saturating_add(count),
+        None => 0,
+    }
+}
+
+impl Link {
+    // Begins to connect.
+    fn connect<R: Net>(net: &R, place: Place<'_>) -> io::Result<Link> {
+        match place {
+            Place::Unix(path) => Ok(Link::Unix(UnixStream::connect(net, path)?)),
+            Place::Tcp(Endpoint { ip, port }) => {
+                let address = SocketAddrV4::new(Ipv4Addr::from_bits(ip), port);
+                let stream = TcpStream::connect(net, SocketAddr::V4(address))?;
+                let _ = stream.set_nodelay(true);
+                Ok(Link::Tcp(stream))
+            }
+        }
+    }
+
+    // Whether it is connected. It is an error if it can't be any more.
+    fn is_connected(&self) -> Result<bool, NbdError> {
+        let Link::Tcp(stream) = self else {
+            return Ok(true);
+        };
+        match stream.take_error() {
+            Ok(None) => Ok(stream.peer_addr().is_ok()),
+            _ => Err(NbdError::Refused),
+        }
+    }
+
+    // Whether its descriptor is none of a standard stream: what is printed would be sent.
+    fn is_apart(&self) -> bool {
+        match self {
+            Link::Unix(stream) => is_apart(stream.as_raw_fd()),
+            Link::Tcp(stream) => is_apart(stream.as_raw_fd()),
+        }
+    }
+
+    // Has a wait report when it can be read or written.
+    fn watch(&mut self, poll: &Poll) -> io::Result<()> {
+        let both = Interest::READABLE | Interest::WRITABLE;
+        match self {
+            Link::Unix(stream) => poll.registry().register(stream, Token(0), both),
+            Link::Tcp(stream) => poll.registry().register(stream, Token(0), both),
+        }
+    }
+
+    fn read(&mut self, buffer: &mut [u8]) -> io::Result<usize> {
+        match self {
+            Link::Unix(stream) => stream.read(buffer),
+            Link::Tcp(stream) => stream.read(buffer),
+        }
+    }
+
+    fn write(&mut self, bytes: &[u8]) -> io::Result<usize> {
+        match self {
+            Link::Unix(stream) => stream.write(bytes),
+            Link::Tcp(stream) => stream.write(bytes),
+        }
+    }
+}
+
+impl<A: Allocator + Copy> Socket<A> {
+    /// Connects to a server at a place.
+    pub fn connect<R: Net>(alloc: A, net: &R, place: Place<'_>) -> Result<Socket<A>, NbdError> {
+        let Ok(mut link) = Link::connect(net, place) else {
+            return Err(NbdError::Refused);
+        };
+        let Ok(poll) = Poll::new(net) else {
+            return Err(NbdError::Refused);
+        };
+        if !link.is_apart() || link.watch(&poll).is_err() {
+            return Err(NbdError::Refused);
+        }
+        let mut socket = Socket {
+            link,
+            poll,
+            events: Events::with_capacity(alloc, EVENTS)?,
+            until: end_of(CONNECT_MILLIS),
+        };
+        for _ in 0..TRIES {
+            if socket.link.is_connected()? {
+                return Ok(socket);
+            }
+            socket.wait()?;
+        }
+        Err(NbdError::Refused)
+    }
+}
+
+impl<A: Allocator> Socket<A> {
+    // Waits until the socket may be read or written. It fails once the time is up.
+    fn wait(&mut self) -> Result<(), NbdError> {
+        let Some(now) = millis() else {
+            return Err(NbdError::Late);
+        };
+        if self.until <= now {
+            return Err(NbdError::Late);
+        }
+        let rest = Duration::from_millis(self.until - now);
+        match self.poll.poll(&mut self.events, Some(rest)) {
+            Ok(()) => Ok(()),
+            Err(_) => Err(NbdError::Closed),
+        }
+    }
+}
+
+// How many bytes a read or write moved, or `None` where it has to wait first.
+fn moved(answer: io::Result<usize>) -> Result<Option<usize>, NbdError> {
+    match answer {
+        Ok(0) => Err(NbdError::Closed),
+        Ok(count) => Ok(Some(count)),
+        Err(error) if error.kind() == ErrorKind::WouldBlock => Ok(None),
+        Err(_) => Err(NbdError::Closed),
+    }
+}
+
+impl<A: Allocator> Stream for Socket<A> {
+    fn begin(&mut self) {
+        self.until = end_of(REQUEST_MILLIS);
+    }
+
+    fn read(&mut self, buffer: &mut [u8]) -> Result<usize, NbdError> {
+        for _ in 0..TRIES {
+            if let Some(count) = moved(self.link.read(buffer))? {
+                return Ok(count);
+            }
+            self.wait()?;
+        }
+        Err(NbdError::Late)
+    }
+
+    fn write(&mut self, bytes: &[u8]) -> Result<usize, NbdError> {
+        for _ in 0..TRIES {
+            if let Some(count) = moved(self.link.write(bytes))? {
+                return Ok(count);
+            }
+            self.wait()?;
+        }
+        Err(NbdError::Late)
+    }
+}
