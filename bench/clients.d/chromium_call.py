@@ -2,8 +2,8 @@
 
 words: PORT USER PASSWORD CHROMIUM FOLDER [FILE]
 
-FOLDER is an empty one for Chromium's files. With FILE, `talking` is printed after the first words, and words go on until FILE
-is there and 50 more have come back; the server is killed and started again in between."""
+PORT is one of 127.0.0.1, or IP:PORT. FOLDER is an empty one for Chromium's files. With FILE, `talking` is printed after the first words,
+and words go on until FILE is there and 50 more have come back; the server is killed and started again in between."""
 import http.server
 import os
 import subprocess
@@ -13,7 +13,7 @@ import threading
 PAGE = """<!doctype html><script>
 const say = text => fetch("/" + text, {method: "POST"});
 const wait = ms => new Promise(done => setTimeout(done, ms));
-const config = {iceTransportPolicy: "relay", iceServers: [{urls: "turn:127.0.0.1:PORT?transport=udp", username: "USER", credential: "PASSWORD"}]};
+const config = {iceTransportPolicy: "relay", iceServers: [{urls: "turn:SERVER?transport=udp", username: "USER", credential: "PASSWORD"}]};
 async function run() {
   const [a, b] = [new RTCPeerConnection(config), new RTCPeerConnection(config)];
   const types = new Set();
@@ -78,7 +78,8 @@ class Page(http.server.BaseHTTPRequestHandler):
 
 def main(port, user, password, chromium, folder, again=""):
     server = http.server.ThreadingHTTPServer(("127.0.0.1", 0), Page)
-    page = PAGE.replace("PORT", port).replace("USER", user).replace("PASSWORD", password)
+    address = port if ":" in port else f"127.0.0.1:{port}"
+    page = PAGE.replace("SERVER", address).replace("USER", user).replace("PASSWORD", password)
     server.page = page.replace("AGAIN", "true" if again else "false")
     server.again, server.result, server.ended = again, "no result", threading.Event()
     threading.Thread(target=server.serve_forever, daemon=True).start()

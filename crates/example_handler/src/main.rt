@@ -11,7 +11,7 @@ use std::alloc::Global;
 use turn::messages::{Message, Method, Request, ServerMessage, build_request, read_message};
 use turn::rules::{
     Arrival, AuthHandler, Endpoint, FiveTuple, Key, Limits, Machine, Moment, Nonces, Outgoing,
-    PortRange, ServerConfig, Settings, Table, TxId, generate_auth_key,
+    Pairs, PortRange, ServerConfig, Settings, Table, TxId, generate_auth_key,
 };
 use turn_mac::hmac_sha1;
 
@@ -73,9 +73,7 @@ fn server(alloc: Global, devices: Devices) -> Result<Server> {
     let config = ServerConfig::new(alloc, settings)?;
     let ports = PortRange::new(50000, 50009).context("ports")?;
     let table = Table::new(alloc, config.limits(), Moment::new(0).context("moment")?);
-    Machine::new(alloc, config, devices, ports, table, false)
-        .ok()
-        .context("memory")
+    Ok(Machine::new(alloc, config, devices, ports, table, Pairs::Refused)?)
 }
 
 /// From 192.0.2.1:32853 to 192.0.2.100:3478.

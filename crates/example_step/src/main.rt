@@ -8,8 +8,8 @@ use turn::messages::{
     Attribute, AttributeType, Builder, Class, Message, Method, Request, build_request, build_send,
 };
 use turn::rules::{
-    Arrival, Endpoint, FiveTuple, Limits, Machine, Moment, Outgoing, PortRange, ServerConfig,
-    Settings, Table, TxId, Users, generate_auth_key,
+    Arrival, Endpoint, FiveTuple, Limits, Machine, Moment, Outgoing, Pairs, PortRange,
+    ServerConfig, Settings, Table, TxId, Users, generate_auth_key,
 };
 
 const REALM: &[u8] = b"example.org";
@@ -58,9 +58,7 @@ fn server(alloc: Global) -> Result<Server> {
     users.add(USER, generate_auth_key(USER, REALM, PASSWORD))?;
     let ports = PortRange::new(50000, 50009).context("ports")?;
     let table = Table::new(alloc, config.limits(), Moment::new(0).context("moment")?);
-    Machine::new(alloc, config, users, ports, table, false)
-        .ok()
-        .context("memory")
+    Ok(Machine::new(alloc, config, users, ports, table, Pairs::Refused)?)
 }
 
 /// Hands an arrival at a second to the server, and prints and returns what is to be sent, which is at most one datagram.

@@ -7,7 +7,33 @@ mod names;
 use anyhow::Result;
 use names::NAMES;
 use std::fs;
-use turn_scenario::replay;
+use turn_scenario::{Report, ScenarioError, replay};
+
+/// What the text reports without its `expect` lines, up to a line, and how many of those there are before it.
+fn report_to(rt: &HostRuntime, text: &[u8], number: u64) -> Result<(Option<Report>, usize)> {
+    let (mut acts, mut expected) = (Vec::new(rt.alloc()), 0_usize);
+    for (line, _) in text.split(|byte| *byte == b'\n').zip(1..number) {
+        if line.starts_with(b"expect ") {
+            expected = expected.wrapping_add(1);
+        } else {
+            acts.extend_from_slice(line)?;
+            acts.push(b'\n')?;
+        }
+    }
+    Ok((replay(rt.alloc(), &acts).ok(), expected))
+}
+
+/// What an `expect` line that differs was compared with.
+fn show_found(rt: &HostRuntime, text: &[u8], number: u64) -> Result<()> {
+    let (Some(report), expected) = report_to(rt, text, number)? else {
+        return Ok(());
+    };
+    match report.lines.get(expected) {
+        Some(line) => println!(rt; "found: {line}")?,
+        None => println!(rt; "found: no line")?,
+    }
+    Ok(())
+}
 
 fn replay_file(rt: &HostRuntime, name: &str) -> Result<()> {
     println!(rt; "== {name}")?;
@@ -19,7 +45,12 @@ fn replay_file(rt: &HostRuntime, name: &str) -> Result<()> {
                 println!(rt; "{line}")?;
             }
         }
-        Err(fault) => println!(rt; "{fault}")?,
+        Err(fault) => {
+            println!(rt; "{fault}")?;
+            if let ScenarioError::Differs(number) = fault {
+                show_found(rt, &text, number)?;
+            }
+        }
     }
     Ok(())
 }

@@ -58,10 +58,26 @@ impl<A: Allocator + Copy> Report<A> {
         }
     }
 
+    /// The next line that was not compared, if there is one.
+    pub(crate) fn next(&self) -> Option<&str> {
+        match self.lines.get(self.compared) {
+            Some(line) => Some(line.text.as_str()),
+            None => None,
+        }
+    }
+
+    /// The bytes of the datagram of the line that was compared last.
+    pub(crate) fn last_bytes(&self) -> Option<&[u8]> {
+        match self.lines.get(self.compared.wrapping_sub(1)) {
+            Some(line) => Some(line.bytes.as_slice()),
+            None => None,
+        }
+    }
+
     /// Whether the datagram of the line that was compared last has these bytes.
     pub(crate) fn has_bytes(&self, bytes: &[u8]) -> bool {
-        match self.lines.get(self.compared.wrapping_sub(1)) {
-            Some(line) => line.bytes.as_slice() == bytes,
+        match self.last_bytes() {
+            Some(last) => last == bytes,
             None => false,
         }
     }

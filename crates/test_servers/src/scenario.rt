@@ -169,6 +169,18 @@ impl<A: Allocator + Copy> Scenario<A> {
         }
     }
 
+    /// What a line that doesn't hold was compared with, as text: the ports or the bytes, else the next line of the report, if there is
+    /// one.
+    pub fn found(&self, line: &[u8]) -> Option<String> {
+        let (word, _) = first_word(line);
+        match word {
+            b"bytes" => hex::encode(self.alloc, self.report.last_bytes()?).ok(),
+            b"picked" => format!(in self.alloc; "{:?}", self.server()?.ports().picked()).ok(),
+            b"released" => format!(in self.alloc; "{:?}", self.server()?.ports().released()).ok(),
+            _ => String::from_str(self.alloc, self.report.next()?).ok(),
+        }
+    }
+
     /// A place and bytes.
     fn placed(&self, text: &[u8]) -> Option<(usize, Vec<u8>)> {
         let (at, word) = first_word(text);

@@ -12,7 +12,7 @@ use turn_cred::Users;
 use turn_mac::generate_auth_key;
 use turn_ports::PortRange;
 use turn_requests::{ServerMessage, read_message};
-use turn_step::{Arrival, Machine, Outgoing};
+use turn_step::{Arrival, Machine, Outgoing, Pairs};
 use turn_table::Table;
 use turn_types::{Endpoint, FiveTuple, Limits, Moment, ServerConfig, Settings, TxId};
 
@@ -37,6 +37,7 @@ const SECRET: [u8; 32] = [
 pub struct Captures {
     alloc: Global,
     server: Option<Server>,
+    found: Option<String>,
 }
 
 /// The server of the captures, with an empty table.
@@ -55,7 +56,7 @@ fn server(alloc: Global) -> Option<Server> {
     users.add(b"user", key).ok()?;
     let ports = PortRange::new(20000, 29999)?;
     let table = Table::new(alloc, config.limits(), Moment::new(0)?);
-    Machine::new(alloc, config, users, ports, table, false).ok()
+    Machine::new(alloc, config, users, ports, table, Pairs::Refused).ok()
 }
 
 /// What a datagram to a peer leads to.
@@ -124,6 +125,7 @@ impl Captures {
         Captures {
             alloc,
             server: server(alloc),
+            found: None,
         }
     }
 
@@ -145,18 +147,25 @@ impl Captures {
     }
 
     fn plays(&mut self, line: &[u8]) -> Option<bool> {
+        self.found = None;
         let (line, expected) = str::from_utf8(line).ok()?.split_once(" = ")?;
         let (second, rest) = line.split_once(' ')?;
         let (client, rest) = rest.split_once(' ')?;
         let (bytes, _) = rest.split_once(' ')?;
         let bytes = hex::decode(self.alloc, bytes).ok()?;
         let outcome = self.outcome(moment(second)?, endpoint(client)?, &bytes)?;
-        Some(outcome.as_str() == expected)
+        let holds = outcome.as_str() == expected;
+        self.found = Some(outcome);
+        Some(holds)
     }
 }
 
 impl Interpreter for Captures {
     fn play(&mut self, line: &[u8]) -> Result<bool, AllocError> {
         Ok(self.plays(line) == Some(true))
+    }
+
+    fn found(&mut self) -> Option<String> {
+        self.found.take()
     }
 }

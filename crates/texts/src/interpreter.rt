@@ -6,14 +6,19 @@ use std::alloc::AllocError;
 pub trait Interpreter {
     /// Plays a line that is neither empty nor a comment. False if what it says doesn't hold, or if it can't be read.
     fn play(&mut self, line: &[u8]) -> Result<bool, AllocError>;
+
+    /// Takes what the last line came to, if that is a text.
+    fn found(&mut self) -> Option<String> {
+        None
+    }
 }
 
 /// What came of a text.
 pub enum Outcome {
     /// Each line holds: how many there are, without comments and empty lines.
     Holds(u64),
-    /// The number of the first line that doesn't, from 1.
-    Differs(u64),
+    /// The number of the first line that doesn't, from 1, and what it came to, if that is a text.
+    Differs(u64, Option<String>),
 }
 
 /// Plays a text to its end, or to its first line that doesn't hold.
@@ -24,7 +29,7 @@ pub fn play_text<I: Interpreter>(interpreter: &mut I, text: &[u8]) -> Result<Out
         number = number.wrapping_add(1);
         if !line.is_empty() && line[0] != b'#' {
             if !interpreter.play(line)? {
-                return Ok(Outcome::Differs(number));
+                return Ok(Outcome::Differs(number, interpreter.found()));
             }
             held = held.wrapping_add(1);
         }

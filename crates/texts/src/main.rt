@@ -94,7 +94,10 @@ fn play_file(rt: &HostRuntime, name: &str, family: &Family) -> Result<()> {
     let text = fs::read(rt, file.as_str())?;
     match interpret(rt.alloc(), family, &text)? {
         Outcome::Holds(lines) => println!(rt; "{name}: {lines} lines")?,
-        Outcome::Differs(line) => println!(rt; "{name}: line {line} differs")?,
+        Outcome::Differs(line, None) => println!(rt; "{name}: line {line} differs")?,
+        Outcome::Differs(line, Some(found)) => {
+            println!(rt; "{name}: line {line} differs, which came to: {found}")?
+        }
     }
     Ok(())
 }

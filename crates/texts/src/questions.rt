@@ -27,6 +27,7 @@ pub struct Questions {
     topic: Topic,
     values: Values,
     known: Known,
+    found: Option<String>,
 }
 
 impl Questions {
@@ -36,6 +37,7 @@ impl Questions {
             topic,
             values: Values::new(alloc),
             known: Known::new(alloc),
+            found: None,
         }
     }
 
@@ -49,12 +51,16 @@ impl Questions {
         }
     }
 
-    fn has_answer(&self, question: &str, answer: &str) -> Option<bool> {
+    fn has_answer(&mut self, question: &str, answer: &str) -> Option<bool> {
         let words = self.values.words(question)?;
-        Some(is_answer(self.answer(&words)?.as_str(), answer))
+        let found = self.answer(&words)?;
+        let holds = is_answer(found.as_str(), answer);
+        self.found = Some(found);
+        Some(holds)
     }
 
     fn plays(&mut self, line: &str) -> Option<bool> {
+        self.found = None;
         if let Some((question, answer)) = line.split_once(" = ") {
             return self.has_answer(question, answer);
         }
@@ -82,5 +88,9 @@ impl Interpreter for Questions {
             Ok(line) => self.plays(line) == Some(true),
             Err(_) => false,
         })
+    }
+
+    fn found(&mut self) -> Option<String> {
+        self.found.take()
     }
 }

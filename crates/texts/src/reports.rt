@@ -17,6 +17,7 @@ pub struct Reports {
     alloc: Global,
     before: String,
     report: String,
+    found: Option<String>,
 }
 
 fn put_repeated(all: &mut Vec<u8>, text: &[u8]) -> Option<()> {
@@ -81,23 +82,31 @@ impl Reports {
             alloc,
             before: String::new(alloc),
             report: String::new(alloc),
+            found: None,
         }
     }
 
-    fn has_report(&self, lines: &[u8]) -> Option<bool> {
+    /// Whether the report is this one.
+    fn is_report(&mut self, found: String) -> bool {
+        let holds = found.as_str() == self.report.as_str();
+        self.found = Some(found);
+        holds
+    }
+
+    fn has_report(&mut self, lines: &[u8]) -> Option<bool> {
         let mut scenario = Vec::from_slice(self.alloc, self.before.as_bytes()).ok()?;
         scenario.extend_from_slice(lines).ok()?;
         let found = match replay(self.alloc, &scenario) {
             Ok(report) => text_of(self.alloc, &report)?,
             Err(fault) => format!(in self.alloc; "{fault}\n").ok()?,
         };
-        Some(found.as_str() == self.report.as_str())
+        Some(self.is_report(found))
     }
 
-    fn is_refused(&self, text: &[u8]) -> Option<bool> {
+    fn is_refused(&mut self, text: &[u8]) -> Option<bool> {
         let fault = read_config(self.alloc, text).err()?;
         let found = format!(in self.alloc; "{fault}\n").ok()?;
-        Some(found.as_str() == self.report.as_str())
+        Some(self.is_report(found))
     }
 
     fn set(&mut self, line: &str) -> Option<()> {
@@ -115,6 +124,7 @@ impl Reports {
     }
 
     fn plays(&mut self, line: &[u8]) -> Option<bool> {
+        self.found = None;
         if let Some(text) = line.strip_prefix(b"configuration ") {
             return self.is_refused(&quoted(self.alloc, text)?);
         }
@@ -129,5 +139,9 @@ impl Reports {
 impl Interpreter for Reports {
     fn play(&mut self, line: &[u8]) -> Result<bool, AllocError> {
         Ok(self.plays(line) == Some(true))
+    }
+
+    fn found(&mut self) -> Option<String> {
+        self.found.take()
     }
 }

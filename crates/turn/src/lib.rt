@@ -1,10 +1,12 @@
-//! A TURN server without sockets (RFC 8656 over UDP and IPv4, in this project's profile), for programs that bring their own. It has no
+//! A TURN server (RFC 8656 over UDP and IPv4, in this project's profile), over UDP sockets or for programs that bring their own. It has no
 //! function of its own: each item is that of a crate below, with its contract.
 //!
 //! - `rules`: what an arrival sends, and what it does to the table of allocations.
 //! - `engine`: the same over a store on a disk, which survives stops at any moment.
 //! - `messages`: what a client writes and reads, for tests and for clients.
 //! - `scenarios`: servers over a disk in memory that fails and crashes when it is told to, by steps or by a text.
+//! - `serving`: the engine over UDP sockets.
+//! - `text`: addresses as text.
 //!
 //! # What a program does, in order
 //!
@@ -27,12 +29,19 @@
 //! again. A program that stores acts itself does so between `Machine::prepare`, which decides, and `Machine::apply`, which returns
 //! what is to be sent.
 //!
+//! # What a program over sockets does
+//!
+//! In place of steps 4 to 6: `Setup::start`, over a formatted disk, opens the store and binds the sockets, and `Serving::turns` takes what
+//! comes and sends what comes of it, as in `example_serve`. A server that ends is one whose turns are counted, with `Commits::EachTurn`;
+//! one that stays takes `u64::MAX` turns, with `Commits::Paced`. A `Watch` is told of all that is sent, to log or count it; `Silent` is
+//! none.
+//!
 //! # Units
 //!
 //! - A `Moment` is a number of seconds, below 2^40 - 3,600, since any start that all moments share. Lifetimes are in seconds.
 //! - An IPv4 address is a `u32` whose highest byte is the address's first: 192.0.2.1 is `0xC000_0201`. A port is its number.
 //! - The bytes of an arrival and of an outgoing datagram are the whole payload of a UDP datagram, as on the wire: numbers in them are in
-//!   network byte order.
+//!   network byte order. `text::ip` and `text::endpoint` read `192.0.2.1` and `192.0.2.1:3478`; `ShownIp` and `ShownEndpoint` print them.
 //! - Sizes and positions on a disk are in bytes.
 //!
 //! # Errors
@@ -46,3 +55,5 @@ pub mod engine;
 pub mod messages;
 pub mod rules;
 pub mod scenarios;
+pub mod serving;
+pub mod text;

@@ -7,6 +7,7 @@ use Rattle.turn_cli.specs.declared.command.Command.TheVariants.{Answer, Replay, 
 use Rattle.turn_cli.specs.declared.error.CliError.{CliError}
 use Rattle.turn_cli.specs.declared.error.CliError.TheVariants.{Usage, BadDatagram, Memory}
 use Rattle.turn_config.specs.Values.{number_of, IsNumberBelow, IsIp, IsEndpoint}
+use Rattle.turn_types.specs.Profile.{end_of_moments}
 
 -- the option is not there, or its text is a number below the bound
 abbrev pub IsBelowIfGiven : ℕ → Option (List ℕ) → Type 0
@@ -19,7 +20,7 @@ number_if_given text = option_map number_of text
 
 -- the option `--at` is not there, or its text is that of a moment
 abbrev pub IsMomentWord : Option (List ℕ) → Type 0
-IsMomentWord at = IsBelowIfGiven (2 ^ 40 - 3600) at
+IsMomentWord at = IsBelowIfGiven end_of_moments at
 
 -- the moment that the option sets: 0 if it is not there
 abbrev pub seconds_at : Option (List ℕ) → ℕ
@@ -91,10 +92,10 @@ is_shown byte = nat_le 32 byte && not (nat_eq byte 127)
 
 -- the texts of a moment and of seconds from then on, up to a moment other than 0
 pub record AreTimes (at life : List ℕ) : Type 0 where
-  pub is_at : IsNumberBelow (2 ^ 40 - 3600) at
+  pub is_at : IsNumberBelow end_of_moments at
   pub is_life : IsNumberBelow (2 ^ 64) life
   pub some : 1 ≤ number_of at + number_of life
-  pub below : number_of at + number_of life < 2 ^ 40 - 3600
+  pub below : number_of at + number_of life < end_of_moments
 
 -- ---- All commands
 

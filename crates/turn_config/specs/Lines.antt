@@ -19,6 +19,7 @@ use Rattle.turn_config.specs.declared.lines.Configured.{Configured}
 use Rattle.turn_config.specs.declared.settings.Relay.{Relay}
 use Rattle.turn_config.specs.declared.settings.Setting.{Setting}
 use Rattle.turn_config.specs.declared.settings.Setting.TheVariants as settings
+use Rattle.turn_types.specs.Profile.{max_allocations}
 
 -- an empty line, or a comment, which begins with #
 abbrev pub skipped : List ℕ → Bool
@@ -155,7 +156,7 @@ pub record Says (line : List ℕ) (old new : Lines) : Type 0 where
 -- these settings are in range, so that no configuration with them is refused
 pub record CanBeUsed (realm : Option (List ℕ)) (quota : Option ℕ) (denied : List IpRange) : Type 0 where
   pub text : IfSome realm IsRealm
-  pub number : IfSome quota (λ n. (1 ≤ n) × (n ≤ 1024))
+  pub number : IfSome quota (λ n. (1 ≤ n) × (n ≤ max_allocations))
   pub few : length denied ≤ 64
   pub ordered : list_all is_ordered denied ≡ true
 

@@ -5,6 +5,7 @@ ghost use Rattle.std.specs.Prelude.{◌≡◌, ◌≢◌, ◌-◌, ◌<◌, ◌^
 ghost use Rattle.hex.specs.Hex.{decode_of};
 ghost use Rattle.turn_types.specs.declared.address.Endpoint.{Endpoint};
 ghost use Rattle.turn_config.specs.Values.{number_of, IsNumberBelow, IsIp, IsEndpoint};
+ghost use Rattle.turn_types.specs.Profile.{end_of_moments};
 
 use hex::FromHexError;
 use std::alloc::{AllocError, Allocator};
@@ -27,7 +28,7 @@ pub fn number(text: &[u8]) -> Option<u64>
 
 /// A moment, as the number of its seconds.
 pub fn moment(text: &[u8]) -> Option<Moment>
-    ensures { SomeIff result (IsNumberBelow (2 ^ 40 - 3600) text.now) (number_of text.now) }
+    ensures { SomeIff result (IsNumberBelow end_of_moments text.now) (number_of text.now) }
 {
     Moment::new(number(text)?)
 }

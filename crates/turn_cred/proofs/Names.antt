@@ -11,6 +11,7 @@ use Rattle.std.proofs.lemmas.Str.Parse.{digit_from_value}
 use Rattle.turn_cred.specs.Names.{HasExpiry, IsSharedKey, colon_and}
 use Rattle.turn_cred.specs.Shared.{as_moment, expiring_key, expiry_of, moment_from, shared_key}
 use Rattle.turn_cred.specs.declared.key.Key.{Key}
+use Rattle.turn_types.specs.Profile.{end_of_moments}
 
 none_is_some : {X : Type 0} {x : X} → ◌≡◌ {A = Option X} None (Some x) → ⊥
 none_is_some e = cc
@@ -57,7 +58,7 @@ record Reads (n : ℕ) (bytes : List ℕ) (e : ℕ) : Type 0 where
   spelled : bytes ≡ digits ++ colon_and rest
   all : AllDigits 10 digits
   value : e ≡ digits_value_after 10 n digits
-  below : e < 2 ^ 40 - 3600
+  below : e < end_of_moments
 
 moment_is : (n e : ℕ) → as_moment n ≡ Some e → (e ≡ n) × (n < 1099511624176)
 moment_is n e = by_test (nat_lt n 1099511624176) refl
@@ -69,7 +70,7 @@ moment_is n e = by_test (nat_lt n 1099511624176) refl
 ends : (n : ℕ) (rest : Option (List ℕ)) (e : ℕ) → as_moment n ≡ Some e → Reads n (colon_and rest) e
 ends n rest e h =
     let is = moment_is n e h in
-    record { digits = []; rest = rest; spelled = refl; all = tt; value = is.0; below = subst (λ k. k < 2 ^ 40 - 3600) (sym is.0) is.1 }
+    record { digits = []; rest = rest; spelled = refl; all = tt; value = is.0; below = subst (λ k. k < end_of_moments) (sym is.0) is.1 }
 
 more : (n b : ℕ) (bs : List ℕ) (e : ℕ) → 48 ≤ b → b ≤ 57 → Reads (n * 10 + (b - 48)) bs e → Reads n (b ∷ bs) e
 more n b bs e low high is = record {
@@ -99,10 +100,10 @@ reads n (b ∷ bs) e h = by_colon (λ later. reads (n * 10 + (b - 48)) bs e late
     by_colon again false is h = by_digit again _ refl h
 
 -- the other way round
-moment_of : (n : ℕ) → n < 2 ^ 40 - 3600 → as_moment n ≡ Some n
+moment_of : (n : ℕ) → n < end_of_moments → as_moment n ≡ Some n
 moment_of n below = ap (λ b. if b then Some n else None) (is_below n 1099511624176 below)
 
-read : (n : ℕ) (digits : List ℕ) (rest : Option (List ℕ)) → AllDigits 10 digits → digits_value_after 10 n digits < 2 ^ 40 - 3600
+read : (n : ℕ) (digits : List ℕ) (rest : Option (List ℕ)) → AllDigits 10 digits → digits_value_after 10 n digits < end_of_moments
     → moment_from n (digits ++ colon_and rest) ≡ Some (digits_value_after 10 n digits)
 unfolding moment_from
 read n [] None all below = moment_of n below
@@ -150,7 +151,7 @@ expiry_is (b ∷ bs) e h = by_first (nat_le 49 b && nat_le b 57) refl h
         first b bs e (at_most _ _ parts.0) (at_most _ _ parts.1) (reads (b - 48) bs e h)
     by_first false is h = absurd (none_is_some h)
 
-read_first : (digits : List ℕ) (rest : Option (List ℕ)) → IsNumeral 10 digits → get_or digits 0 0 ≢ 48 → digits_value 10 digits < 2 ^ 40 - 3600
+read_first : (digits : List ℕ) (rest : Option (List ℕ)) → IsNumeral 10 digits → get_or digits 0 0 ≢ 48 → digits_value 10 digits < end_of_moments
     → expiry_of (digits ++ colon_and rest) ≡ Some (digits_value 10 digits)
 unfolding expiry_of
 read_first [] rest numeral other below = absurd (let no : ⊥ = omega (arith, numeral.0) in no)
@@ -164,7 +165,7 @@ read_first (b ∷ bs) rest numeral other below =
 
 pub expiry_read : (name : List ℕ) (e : ℕ) → HasExpiry name e → expiry_of name ≡ Some e
 expiry_read name e is =
-    ap expiry_of is.spelled ∙ read_first is.digits is.rest is.numeral is.no_leading_zero (subst (λ k. k < 2 ^ 40 - 3600) is.value is.range.1) ∙ ap (λ k. Some k) (sym is.value)
+    ap expiry_of is.spelled ∙ read_first is.digits is.rest is.numeral is.no_leading_zero (subst (λ k. k < end_of_moments) is.value is.range.1) ∙ ap (λ k. Some k) (sym is.value)
 
 -- ---- Keys
 

@@ -4,6 +4,7 @@ use Rattle.std.specs.Str.Parse.{IsNumeral, digits_value}
 use Rattle.turn_mac.specs.Hmac.{auth_key}
 use Rattle.turn_cred.specs.Shared.{password_of}
 use Rattle.turn_cred.specs.declared.key.Key.{Key}
+use Rattle.turn_types.specs.Profile.{end_of_moments}
 
 -- nothing, or a colon and what comes after it
 abbrev pub colon_and : Option (List ℕ) → List ℕ
@@ -19,7 +20,7 @@ pub record HasExpiry (name : List ℕ) (expiry : ℕ) : Type 0 where
   pub numeral : IsNumeral 10 digits
   pub no_leading_zero : slice_index digits 0 ≢ 48
   pub value : expiry ≡ digits_value 10 digits
-  pub range : (1 ≤ expiry) × (expiry < 2 ^ 40 - 3600)
+  pub range : (1 ≤ expiry) × (expiry < end_of_moments)
 
 -- the key of a name under a secret in a realm: the name has an expiry time, and the password is that of the whole name
 pub record IsSharedKey (secret name realm : List ℕ) (key : Key) : Type 0 where

@@ -14,11 +14,12 @@ ghost use Rattle.turn_cred.specs.Passed.{NonceHolds, IsSentBy};
 ghost use Rattle.turn_cred.specs.Shared.{Sources, expiry_of, key_in, lasting, shared_key};
 ghost use Rattle.turn_cred.specs.Users.{KeyMap};
 ghost use Rattle.turn_cred.specs.declared.key.Key.{Key};
+ghost use Rattle.turn_types.specs.Profile.{nonce_lifetime};
 
 /// The nonce of a second holds for its client from that second on, for 3,600 seconds, and at no other moment.
 pub fn holds_for_an_hour()
     ensures { (secret : List ℕ) (s t : ℕ) (client : Client) → s < 2 ^ 64 → t < 2 ^ 64 →
-        Holds secret (nonce_of secret s client) client t ↔ ((s ≤ t) × (t < s + 3600)) }
+        Holds secret (nonce_of secret s client) client t ↔ ((s ≤ t) × (t < s + nonce_lifetime)) }
 {}
 
 /// The test in the table of credentials is the one of the nonce.

@@ -24,10 +24,11 @@ use Rattle.turn_types.specs.declared.limits.Bounds.{Bounds}
 use Rattle.turn_engine.specs.Recovering.{RecoversTo}
 use Rattle.turn_engine.specs.State.{IsSound, ServerState, has_pairs, now_of}
 use Rattle.turn_engine.proofs.Lists.{all-append, added_few, added_from}
+use Rattle.turn_types.specs.Profile.{end_of_moments}
 
 -- ---- What a server keeps
 
-pub snapshot_later : (v : Version) (b : Bounds) (t : ℕ) (old new : State) → t < 2 ^ 40 - 3600 → old.moment ≤ t → IsPurged t old new → IsSnapshot v b old.moment old.contents
+pub snapshot_later : (v : Version) (b : Bounds) (t : ℕ) (old new : State) → t < end_of_moments → old.moment ≤ t → IsPurged t old new → IsSnapshot v b old.moment old.contents
     → IsSnapshot v b new.moment new.contents
 snapshot_later v b t old new range le later is = elim (eq-or-lt_of_le le) [
   | inl e ↦ subst (λ (m : ℕ). IsSnapshot v b m new.contents) (e ∙ sym later.moment) (subst (λ (c : Contents). IsSnapshot v b old.moment c) (sym (later.same e)) is)
@@ -35,7 +36,7 @@ snapshot_later v b t old new range le later is = elim (eq-or-lt_of_le le) [
       (subst (λ (c : Contents). IsSnapshot v b t c) (sym (later.later lt)) (snapshot-purged v b old.moment t old.contents le range is))
 ]
 
-pub sound_later : (b limits store batch : Bounds) (v staged : Version) (acts arrivals t : ℕ) (before after : Bool) (old new : State) → t < 2 ^ 40 - 3600 → old.moment ≤ t → IsPurged t old new → limits ≡ b
+pub sound_later : (b limits store batch : Bounds) (v staged : Version) (acts arrivals t : ℕ) (before after : Bool) (old new : State) → t < end_of_moments → old.moment ≤ t → IsPurged t old new → limits ≡ b
     → after ≡ before → IsSound b store batch v staged acts arrivals before old → IsSound limits store batch v staged acts arrivals after new
 sound_later b limits store batch v staged acts arrivals t before after old new range le later same pairs s =
     subst (λ (x : Bounds). IsSound x store batch v staged acts arrivals after new) (sym same) (record {

@@ -30,6 +30,7 @@ use Rattle.turn_engine.specs.Images.{AtLeast}
 use Rattle.turn_engine.specs.Recovering.{RecoversTo}
 use Rattle.turn_engine.specs.State.{ServerState, emptied, limits_of, now_of}
 use Rattle.turn_engine.proofs.Lists.{none_left}
+use Rattle.turn_types.specs.Profile.{end_of_moments}
 
 -- the form of a store is kept, whatever an append answers
 pub form_kept : {D : Type 0} (old new : StoreState D) (count size : ℕ) (result : Result WrittenAs StoreError) → (result ≡ Ok Frame → new ≡ framed old count new.disk)
@@ -157,7 +158,7 @@ stages_none old new server h k same recovers =
 -- ---- What an append asks
 
 pub may_follow : {D H G : Type 0} (state : State) (server : ServerState D H G) (h : History) (k : ℕ) (recovers : RecoversTo state server h k) → server.store.bounds ≡ limits_of server
-    → now_of server < 2 ^ 40 - 3600 → MayFollow server.store.bounds recovers.at (take k h) (drop k h) (now_of server)
+    → now_of server < end_of_moments → MayFollow server.store.bounds recovers.at (take k h) (drop k h) (now_of server)
 may_follow state server h k recovers same range =
     let whole : take k h ++ drop k h ≡ h = take-append-drop k h in
     record {
@@ -213,7 +214,7 @@ none_staged state old h k recovers none =
 
 -- ---- What an append of a server's batch says of each history that the server recovers to
 
-module _ {D H G : Type 0} (disk : disks.Ghosts D) (server : ServerState D H G) (store : StoreState D) (same : server.store.bounds ≡ limits_of server) (range : now_of server < 2 ^ 40 - 3600)
+module _ {D H G : Type 0} (disk : disks.Ghosts D) (server : ServerState D H G) (store : StoreState D) (same : server.store.bounds ≡ limits_of server) (range : now_of server < end_of_moments)
     (some : 1 ≤ server.acts) (few : server.acts ≤ server.store.bounds.acts) where
   -- for each history of a store, and events that may follow it and are the batch
   abbrev Appends : (ℕ → History → List Event → Type 0) → Type 0

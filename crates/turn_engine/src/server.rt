@@ -12,7 +12,7 @@ ghost use Rattle.turn_record.specs.Bytes as bytes;
 ghost use Rattle.turn_record.specs.Records.{IsSnapshot, Writes};
 ghost use Rattle.turn_step.specs.Outcome.{added, event_at};
 ghost use Rattle.turn_step.specs.State.{CountsOne, HasPortsApart, HoldsPorts, IsPurged, KeepsSetting, setting_of};
-ghost use Rattle.turn_step.specs.Views.{arrival_of, sent_of};
+ghost use Rattle.turn_step.specs.Views.{arrival_of, is_reserved, sent_of};
 ghost use Rattle.turn_store.specs.Areas.{Form};
 ghost use Rattle.turn_store.specs.Carrying.{Carries};
 ghost use Rattle.turn_store.specs.Images.{EachImage, EitherBy, StandsBy};
@@ -28,14 +28,14 @@ ghost use Rattle.turn_engine.specs.State.{emptied, has_pairs, limits_of, now_of}
 
 use crate::batch::Batch;
 use crate::error::{ServerOpenError, SubmitError};
-use std::alloc::{AllocError, AllocFailed, Allocator, Global};
+use std::alloc::{AllocError, Allocator, Global};
 use std::marker::Model;
 use std::mem;
 use turn_cred::AuthHandler;
 use turn_disk::Disk;
 use turn_ports::RelayAddressGenerator;
 use turn_record::Version;
-use turn_step::{Arrival, Machine, Outgoing, Parts, Step};
+use turn_step::{Arrival, Machine, MachineError, Outgoing, Pairs, Step};
 use turn_store::{Info, OpenError, Opened, Store, StoreError, StoreOpenError};
 use turn_table::Table;
 use turn_types::{Moment, ServerConfig};
@@ -94,10 +94,13 @@ impl<D: Disk, H: AuthHandler, G: RelayAddressGenerator, A: Allocator> Model for 
 }
 
 /// Whether a server over a store of this version reserves ports.
-fn has_pairs(version: Version) -> bool
-    ensures { result ≡ has_pairs version }
+fn pairs_of(version: Version) -> Pairs
+    ensures { is_reserved result ≡ has_pairs version }
 {
-    version == Version::V2
+    match version {
+        Version::V1 => Pairs::Refused,
+        Version::V2 => Pairs::Reserved,
+    }
 }
 
 /// Adds the act of a step, which the batch's version can hold, to a batch that has room for it.
@@ -159,7 +162,7 @@ impl<D: Disk, H: AuthHandler, G: RelayAddressGenerator, A: Allocator + Copy> Ser
                 ports,
             });
         };
-        match Machine::new(alloc, config, handler, ports, table, has_pairs(version)) {
+        match Machine::new(alloc, config, handler, ports, table, pairs_of(version)) {
             Ok(machine) => Ok(Server {
                 alloc,
                 store,
@@ -168,11 +171,11 @@ impl<D: Disk, H: AuthHandler, G: RelayAddressGenerator, A: Allocator + Copy> Ser
                 outgoing: Vec::new(alloc),
                 arrivals: 0,
             }),
-            Err(AllocFailed { value }) => Err(ServerOpenError {
+            Err(MachineError { handler, ports }) => Err(ServerOpenError {
                 fault: OpenError::Memory,
                 disk: store.into_disk(),
-                handler: value.handler,
-                ports: value.ports,
+                handler,
+                ports,
             }),
         }
     }
@@ -401,7 +404,7 @@ impl<D: Disk, H: AuthHandler, G: RelayAddressGenerator, A: Allocator + Copy> Ser
             outgoing: _,
             arrivals: _,
         } = self;
-        let Parts { handler, ports, .. } = machine.into_parts();
+        let (handler, ports) = machine.into_parts();
         (store.into_disk(), handler, ports)
     }
 }

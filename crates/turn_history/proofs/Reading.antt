@@ -22,6 +22,7 @@ use Rattle.turn_types.specs.FiveTuple.{tuple_cmp, same_tuple}
 use Rattle.turn_history.specs.History.{PlainAct, Allocates, Renews, Permits, Binds, Event, History, first_some, own, addresses_of, numbers_of, permission_at, channel_at, channel_by, reserved_by, reservation_with, reservation_by, reservation_at, flat, reservation}
 use Rattle.turn_history.specs.Table.{ahead, channel_ahead, Entry, permissions_in, channels_in, entry_in, entry_of, Contents, table, still_permitted, still_bound, kept, purged, allocated, renewed, permitting, binding, applied_to, with_entry, applied, Reservations, reservation_ahead, reservations, still_reserved, with_reservation, reserving}
 use Rattle.turn_history.proofs.Maps.{tuple_total, tuple_exact, from_eq, get-map_of-all, outside_keys}
+use Rattle.turn_types.specs.Profile.{permission_lifetime, channel_lifetime, reservation_lifetime}
 
 -- ---- Tests
 
@@ -55,7 +56,7 @@ permission-none [] a none = refl
 permission-none (e ∷ es) a none =
     let split = sym (list_any-append (eq_by_cmp nat_cmp a) (addresses_of e.act) (flat_map (λ x. addresses_of x.act) es)) ∙ none in
     let here : list_any (nat_eq a) (addresses_of e.act) ≡ false = sym (any_same a (addresses_of e.act)) ∙ (or_parts _ _ split).0 in
-    ap (λ b. option_or (cond b (Some (e.moment + 300)) None) (first_some (permission_at a) es)) here ∙ permission-none es a (or_parts _ _ split).1
+    ap (λ b. option_or (cond b (Some (e.moment + permission_lifetime)) None) (first_some (permission_at a) es)) here ∙ permission-none es a (or_parts _ _ split).1
 
 pub get-permissions_in : (t : ℕ) (es : List Event) (a : ℕ) → fin.get (permissions_in t es) a ≡ ahead t (first_some (permission_at a) es)
 unfolding permissions_in
@@ -73,7 +74,7 @@ channel-none (e ∷ es) n none =
     here m (Allocates user port granted tx token) none = refl
     here m (Renews granted) none = refl
     here m (Permits addresses) none = refl
-    here m (Binds number peer) none = ap (λ b. cond b (Some (record { peer = peer; expiry = m + 600 })) None) (sym (nat_same n number) ∙ (or_parts _ _ none).0)
+    here m (Binds number peer) none = ap (λ b. cond b (Some (record { peer = peer; expiry = m + channel_lifetime })) None) (sym (nat_same n number) ∙ (or_parts _ _ none).0)
 
 pub get-channels_in : (t : ℕ) (es : List Event) (n : ℕ) → fin.get (channels_in t es) n ≡ channel_ahead t (first_some (channel_at n) es)
 unfolding channels_in
@@ -126,7 +127,7 @@ purged_from t c f e is = option_and_then_some (kept t) (fin.get c.entries f) e (
 abbrev pub Makes : (Entry → Type 0) → ℕ → PlainAct → Option Entry → Type 0
 Makes P t (Allocates user port granted tx token) o = P (allocated t user port granted tx token)
 Makes P t (Renews granted) o = (granted ≡ 0 → ⊥) → (x : Entry) → o ≡ Some x → P (renewed (t + granted) x)
-Makes P t (Permits addresses) o = (x : Entry) → o ≡ Some x → P (permitting (t + 300) addresses x)
+Makes P t (Permits addresses) o = (x : Entry) → o ≡ Some x → P (permitting (t + permission_lifetime) addresses x)
 Makes P t (Binds number peer) o = (x : Entry) → o ≡ Some x → P (binding t number peer x)
 
 mapped : (P : Entry → Type 0) (g : Entry → Entry) (o : Option Entry) (e : Entry) → ((x : Entry) → o ≡ Some x → P (g x)) → option_map g o ≡ Some e → P e
@@ -140,7 +141,7 @@ made P t (Renews granted) o e makes is = by_test (eqb granted 0) refl is
     by_test : (b : Bool) → eqb granted 0 ≡ b → cond b None (option_map (renewed (t + granted)) o) ≡ Some e → P e
     by_test true all is = cc
     by_test false some is = mapped P (renewed (t + granted)) o e (makes (eqb-false granted 0 some)) is
-made P t (Permits addresses) o e makes is = mapped P (permitting (t + 300) addresses) o e makes is
+made P t (Permits addresses) o e makes is = mapped P (permitting (t + permission_lifetime) addresses) o e makes is
 made P t (Binds number peer) o e makes is = mapped P (binding t number peer) o e makes is
 
 -- what holds of each entry, and of what an act makes of its own, holds of each entry after the act
@@ -161,7 +162,7 @@ reservation-none (e ∷ es) q none =
   where
     by_port : (m port : ℕ) (token : Option Token) (user : List ℕ) (granted : ℕ) (tx : TxId) → list_any (eq_by_cmp nat_cmp q) (reserved_by (Allocates user port granted tx token)) ≡ false → reservation_with q m port token ≡ None
     by_port m port None user granted tx none = refl
-    by_port m port (Some token) user granted tx none = ap (λ b. cond b (Some (Some (record { token = token; expiry = m + 30 }))) None) (sym (nat_same q (port + 1)) ∙ (or_parts _ _ none).0)
+    by_port m port (Some token) user granted tx none = ap (λ b. cond b (Some (Some (record { token = token; expiry = m + reservation_lifetime }))) None) (sym (nat_same q (port + 1)) ∙ (or_parts _ _ none).0)
 
     by_answer : (d : PlainAct) → list_any (eq_by_cmp nat_cmp q) (reserved_by d) ≡ false → flat (first_some (reservation_at q) es) ≡ None → flat (option_or (reservation_by q e.moment d) (first_some (reservation_at q) es)) ≡ None
     by_answer (Allocates user port granted tx token) none rest = by_test (nat_eq q port)
@@ -218,14 +219,14 @@ applied-reserved t f d c = refl
 -- what an Alloc makes of the reservation of a port
 abbrev pub at_alloc : ℕ → ℕ → ℕ → Option Token → Option Reservation → Option Reservation
 at_alloc t q port None old = cond (nat_eq q port) None old
-at_alloc t q port (Some token) old = cond (nat_eq q (port + 1)) (Some (record { token = token; expiry = t + 30 })) (cond (nat_eq q port) None old)
+at_alloc t q port (Some token) old = cond (nat_eq q (port + 1)) (Some (record { token = token; expiry = t + reservation_lifetime })) (cond (nat_eq q port) None old)
 
 pub get-with_reservation : (t q port : ℕ) (token : Option Token) (m : Reservations) → fin.get (with_reservation t port token (fin.remove m port)) q ≡ at_alloc t q port token (fin.get m q)
 get-with_reservation t q port None m = get-remove nat_cmp_total m port q ∙ ap (λ b. cond b None (fin.get m q)) (nat_same q port)
 get-with_reservation t q port (Some token) m =
-    get-insert nat_cmp_total (fin.remove m port) (port + 1) (record { token = token; expiry = t + 30 }) q
-    ∙ ap (λ b. cond b (Some (record { token = token; expiry = t + 30 })) (fin.get (fin.remove m port) q)) (nat_same q (port + 1))
-    ∙ ap (cond (nat_eq q (port + 1)) (Some (record { token = token; expiry = t + 30 }))) (get-remove nat_cmp_total m port q ∙ ap (λ b. cond b None (fin.get m q)) (nat_same q port))
+    get-insert nat_cmp_total (fin.remove m port) (port + 1) (record { token = token; expiry = t + reservation_lifetime }) q
+    ∙ ap (λ b. cond b (Some (record { token = token; expiry = t + reservation_lifetime })) (fin.get (fin.remove m port) q)) (nat_same q (port + 1))
+    ∙ ap (cond (nat_eq q (port + 1)) (Some (record { token = token; expiry = t + reservation_lifetime }))) (get-remove nat_cmp_total m port q ∙ ap (λ b. cond b None (fin.get m q)) (nat_same q port))
 
 -- tables with one answer at each five-tuple and at each port are one
 pub same_contents : (c d : Contents) → ((f : FiveTuple) → fin.get c.entries f ≡ fin.get d.entries f) → ((q : ℕ) → fin.get c.reserved q ≡ fin.get d.reserved q) → c ≡ d

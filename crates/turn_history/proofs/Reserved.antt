@@ -18,6 +18,7 @@ use Rattle.turn_history.specs.Table.{Contents, applied, purged, reserving, reser
 use Rattle.turn_history.proofs.Histories.{NextFrom, next_fits, next_zero, below_first, below_rest, table-follows, fitting-split, clock-append}
 use Rattle.turn_history.proofs.Reading.{Makes, all_applied, applied-reserved, at_alloc, get-purged_reserved, get-reserved, get-with_reservation, purged_from, reservation-push}
 use Rattle.turn_history.proofs.Steps.{table-later}
+use Rattle.turn_types.specs.Profile.{reservation_lifetime}
 
 -- ---- What is left of a reservation
 
@@ -32,7 +33,7 @@ reservation_ahead_is t (Some s) r h = by_test (ltb t s.expiry) refl h
 -- what an Alloc leaves of the reservation of a port: the new one of the port after its own, or an old one of another port
 module _ (t q port : ℕ) (r : Reservation) (old : Option Reservation) where
   abbrev pub IsLeft : Option Token → Type 0
-  IsLeft token = (k : Token) × (token ≡ Some k) × (q ≡ port + 1) × (r ≡ record { token = k; expiry = t + 30 })
+  IsLeft token = (k : Token) × (token ≡ Some k) × (q ≡ port + 1) × (r ≡ record { token = k; expiry = t + reservation_lifetime })
 
   pub left_by : (token : Option Token) → at_alloc t q port token old ≡ Some r → IsLeft token ⊎ ((q ≡ port → ⊥) × (old ≡ Some r))
   left_by None is = by_test (nat_eq q port) refl is
@@ -42,7 +43,7 @@ module _ (t q port : ℕ) (r : Reservation) (old : Option Reservation) where
       by_test false e is = inr (eqb-false q port e, is)
   left_by (Some k) is = by_tests (nat_eq q (port + 1)) refl (nat_eq q port) refl is
     where
-      by_tests : (b : Bool) → nat_eq q (port + 1) ≡ b → (a : Bool) → nat_eq q port ≡ a → cond b (Some (record { token = k; expiry = t + 30 })) (cond a None old) ≡ Some r → IsLeft (Some k) ⊎ ((q ≡ port → ⊥) × (old ≡ Some r))
+      by_tests : (b : Bool) → nat_eq q (port + 1) ≡ b → (a : Bool) → nat_eq q port ≡ a → cond b (Some (record { token = k; expiry = t + reservation_lifetime })) (cond a None old) ≡ Some r → IsLeft (Some k) ⊎ ((q ≡ port → ⊥) × (old ≡ Some r))
       by_tests true eb a ea is = inl (k, refl, eqb-true q (port + 1) eb, sym (same_Some _ r is))
       by_tests false eb true ea is = cc
       by_tests false eb false ea is = inr (eqb-false q port ea, is)
@@ -153,20 +154,20 @@ says_none q m (Permits addresses) says same = same
 says_none q m (Binds number peer) says same = same
 
 -- an act that makes a reservation of a port
-says_some : (q m : ℕ) (d : PlainAct) (r : Reservation) → reservation_by q m d ≡ Some (Some r) → Reserves q r.token d × (r.expiry ≡ m + 30)
+says_some : (q m : ℕ) (d : PlainAct) (r : Reservation) → reservation_by q m d ≡ Some (Some r) → Reserves q r.token d × (r.expiry ≡ m + reservation_lifetime)
 says_some q m (Allocates user port granted tx token) r says = by_test (nat_eq q port) says
   where
-    by_token : (token : Option Token) → reservation_with q m port token ≡ Some (Some r) → Reserves q r.token (Allocates user port granted tx token) × (r.expiry ≡ m + 30)
+    by_token : (token : Option Token) → reservation_with q m port token ≡ Some (Some r) → Reserves q r.token (Allocates user port granted tx token) × (r.expiry ≡ m + reservation_lifetime)
     by_token None says = cc
     by_token (Some k) says = by_next (nat_eq q (port + 1)) refl says
       where
-        by_next : (b : Bool) → nat_eq q (port + 1) ≡ b → cond b (Some (Some (record { token = k; expiry = m + 30 }))) None ≡ Some (Some r) → Reserves q r.token (Allocates user port granted tx (Some k)) × (r.expiry ≡ m + 30)
+        by_next : (b : Bool) → nat_eq q (port + 1) ≡ b → cond b (Some (Some (record { token = k; expiry = m + reservation_lifetime }))) None ≡ Some (Some r) → Reserves q r.token (Allocates user port granted tx (Some k)) × (r.expiry ≡ m + reservation_lifetime)
         by_next true e says =
-            let is : record { token = k; expiry = m + 30 } ≡ r = same_Some _ r (same_Some _ (Some r) says) in
+            let is : record { token = k; expiry = m + reservation_lifetime } ≡ r = same_Some _ r (same_Some _ (Some r) says) in
             ((sym (eqb-true q (port + 1) e), ap (λ x. Some x.token) is), sym (ap (λ x. x.expiry) is))
         by_next false e says = cc
 
-    by_test : (b : Bool) → cond b (Some None) (reservation_with q m port token) ≡ Some (Some r) → Reserves q r.token (Allocates user port granted tx token) × (r.expiry ≡ m + 30)
+    by_test : (b : Bool) → cond b (Some None) (reservation_with q m port token) ≡ Some (Some r) → Reserves q r.token (Allocates user port granted tx token) × (r.expiry ≡ m + reservation_lifetime)
     by_test true says = let no = same_Some None (Some r) says in cc
     by_test false says = by_token token says
 says_some q m (Renews granted) r says = cc
@@ -180,7 +181,7 @@ pub record IsMadeBy (h : History) (q : ℕ) (r : Reservation) : Type 0 where
   pub after : History
   pub place : h ≡ before ++ event ∷ after
   pub reserves : Reserves q r.token event.act
-  pub expiry : r.expiry ≡ event.moment + 30
+  pub expiry : r.expiry ≡ event.moment + reservation_lifetime
   pub untaken : AllByRecursion (λ e. IsAllocOf q e.act → ⊥) after
 
 push_made : (h : History) (e : Event) (q : ℕ) (r : Reservation) → (IsAllocOf q e.act → ⊥) → IsMadeBy h q r → IsMadeBy (h ++ e ∷ []) q r
@@ -214,7 +215,7 @@ unfolding reservation
 made_by h q r is = subst (λ k. IsMadeBy k q r) (reverse-reverse h) (made_in (reverse h) q r is)
 
 -- the table has a reservation: some event made it, which is young enough and after which the port wasn't allocated
-pub reserved-at : (h : History) (t q : ℕ) (token : Token) (x : ℕ) → fin.get (table h t).reserved q ≡ Some (record { token = token; expiry = x }) → (m : ℕ) × (x ≡ m + 30) × ReservedAt h t q token m
+pub reserved-at : (h : History) (t q : ℕ) (token : Token) (x : ℕ) → fin.get (table h t).reserved q ≡ Some (record { token = token; expiry = x }) → (m : ℕ) × (x ≡ m + reservation_lifetime) × ReservedAt h t q token m
 reserved-at h t q token x is =
     let was = reservation_ahead_is t (reservation h q) (record { token = token; expiry = x }) (sym (get-reserved h t q) ∙ is) in
     let m = made_by h q (record { token = token; expiry = x }) was.0 in
@@ -223,13 +224,13 @@ reserved-at h t q token x is =
     (m.event.moment, m.expiry, record { before = m.before; event = m.event; after = m.after; place = m.place; reserves = m.reserves; moment = refl; untaken = m.untaken; ahead = omega arith })
 
 -- what an event that reserves a port says of it
-reserves_says : (q m : ℕ) (token : Token) (d : PlainAct) → Reserves q token d → reservation_by q m d ≡ Some (Some (record { token = token; expiry = m + 30 }))
+reserves_says : (q m : ℕ) (token : Token) (d : PlainAct) → Reserves q token d → reservation_by q m d ≡ Some (Some (record { token = token; expiry = m + reservation_lifetime }))
 reserves_says q m token (Allocates user port granted tx its) (next, is) =
     let other : nat_eq q port ≡ false = ne_eqb q port (λ same. omega (arith, next, same)) in
     let here : nat_eq q (port + 1) ≡ true = eq-eqb q (port + 1) (sym next) in
     ap (λ b. cond b (Some None) (reservation_with q m port its)) other
     ∙ ap (reservation_with q m port) is
-    ∙ ap (λ b. cond b (Some (Some (record { token = token; expiry = m + 30 }))) None) here
+    ∙ ap (λ b. cond b (Some (Some (record { token = token; expiry = m + reservation_lifetime }))) None) here
 reserves_says q m token (Renews granted) reserves = absurd reserves
 reserves_says q m token (Permits addresses) reserves = absurd reserves
 reserves_says q m token (Binds number peer) reserves = absurd reserves
@@ -248,7 +249,7 @@ module _ (b : Bounds) (h : History) (q : ℕ) (r : Reservation) (is : reservatio
 
       by_token : (token : Option Token) → FitsReservation b (table h e.moment) port token → reservation_with q e.moment port token ≡ None
       by_token None room = refl
-      by_token (Some k) room = ap (λ c. cond c (Some (Some (record { token = k; expiry = e.moment + 30 }))) None) (ne_eqb q (port + 1) (λ same. let no : Some r ≡ None = sym there ∙ ap (fin.get (table h e.moment).reserved) same ∙ room.2 in cc))
+      by_token (Some k) room = ap (λ c. cond c (Some (Some (record { token = k; expiry = e.moment + reservation_lifetime }))) None) (ne_eqb q (port + 1) (λ same. let no : Some r ≡ None = sym there ∙ ap (fin.get (table h e.moment).reserved) same ∙ room.2 in cc))
   quiet e follows young (Renews granted) fits other = refl
   quiet e follows young (Permits addresses) fits other = refl
   quiet e follows young (Binds number peer) fits other = refl
@@ -266,17 +267,17 @@ stays_all b h (e ∷ es) q r is fits young none =
     ∙ stays_all b (h ++ e ∷ []) es q r (stays b h q r is e (quiet b h q r is e fits.0 (omega arith) e.act fits.0.fits none.0)) fits.1 (omega arith) none.1
 
 -- and where some event made it, the table has it
-pub at-reserved : (b : Bounds) (h : History) (t q : ℕ) (token : Token) (m : ℕ) → IsFitting b h → clock h ≤ t → ReservedAt h t q token m → fin.get (table h t).reserved q ≡ Some (record { token = token; expiry = m + 30 })
+pub at-reserved : (b : Bounds) (h : History) (t q : ℕ) (token : Token) (m : ℕ) → IsFitting b h → clock h ≤ t → ReservedAt h t q token m → fin.get (table h t).reserved q ≡ Some (record { token = token; expiry = m + reservation_lifetime })
 at-reserved b h t q token m fits below a =
-    get-reserved h t q ∙ ap (reservation_ahead t) whole ∙ ap (λ c. cond c (Some r) None) (lt-ltb t (m + 30) a.ahead)
+    get-reserved h t q ∙ ap (reservation_ahead t) whole ∙ ap (λ c. cond c (Some r) None) (lt-ltb t (m + reservation_lifetime) a.ahead)
   where
     r : Reservation
-    r = record { token = token; expiry = m + 30 }
+    r = record { token = token; expiry = m + reservation_lifetime }
 
     parts : FitsAfter b (a.before ++ a.event ∷ []) a.after
     parts = subst (λ l. FitsAfter b l a.after) refl (fitting-split b (a.before ++ a.event ∷ []) a.after (subst (IsFitting b) (a.place ∙ sym (append_assoc a.before (a.event ∷ []) a.after)) fits)).1
 
-    young : clock a.after < m + 30
+    young : clock a.after < m + reservation_lifetime
     young =
         let join : clock h ≡ max (clock a.before) (clock (a.event ∷ a.after)) = ap clock a.place ∙ clock-append a.before (a.event ∷ a.after) in
         let rest = below_rest a.event a.after (clock (a.event ∷ a.after)) (omega arith) in

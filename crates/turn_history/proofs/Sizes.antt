@@ -26,6 +26,7 @@ use Rattle.turn_history.proofs.Histories.{NextFrom, next_fits, below_first, belo
 use Rattle.turn_history.proofs.Maps.{tuple_total, tuple_exact, from_eq}
 use Rattle.turn_history.proofs.Reading.{get-still_permitted, get-still_bound, get-purged, get-purged_reserved, get-applied, get-table, purged_from, Makes, all_applied}
 use Rattle.turn_history.proofs.Steps.{get-install, table-later}
+use Rattle.turn_types.specs.Profile.{permission_lifetime, channel_lifetime, reservation_lifetime}
 
 -- ---- A map without keys that another one lacks is no larger
 
@@ -156,7 +157,7 @@ module _ (b : Bounds) (t : ℕ) (f : FiveTuple) (c : Contents) (w : IsWithin b c
       renews : (z : Bool) (o : Option Entry) → is_some (cond z None (option_map (renewed (t + granted)) o)) ≡ true → is_some o ≡ true
       renews true o h = cc
       renews false o h = some_mapped (renewed (t + granted)) o h
-  allocations-applied (Permits addresses) fits = let le = no_new t f (Permits addresses) c (some_mapped (permitting (t + 300) addresses)) in let all = w.allocations in omega arith
+  allocations-applied (Permits addresses) fits = let le = no_new t f (Permits addresses) c (some_mapped (permitting (t + permission_lifetime) addresses)) in let all = w.allocations in omega arith
   allocations-applied (Binds number peer) fits = let le = no_new t f (Binds number peer) c (some_mapped (binding t number peer)) in let all = w.allocations in omega arith
 
   no_more_reserved : (port : ℕ) → fin.len (fin.remove c.reserved port) ≤ fin.len c.reserved
@@ -172,9 +173,9 @@ module _ (b : Bounds) (t : ℕ) (f : FiveTuple) (c : Contents) (w : IsWithin b c
     where
       by_token : (token : Option Token) → FitsReservation b c port token → fin.len (with_reservation t port token (fin.remove c.reserved port)) ≤ b.allocations
       by_token None room = let le = no_more_reserved port in let all = w.reserved in omega arith
-      by_token (Some k) room = grow (is_some (fin.get (fin.remove c.reserved port) (port + 1))) (len-insert nat_cmp_total (fin.remove c.reserved port) (port + 1) (record { token = k; expiry = t + 30 }))
+      by_token (Some k) room = grow (is_some (fin.get (fin.remove c.reserved port) (port + 1))) (len-insert nat_cmp_total (fin.remove c.reserved port) (port + 1) (record { token = k; expiry = t + reservation_lifetime }))
         where
-          grow : (i : Bool) → fin.len (fin.insert (fin.remove c.reserved port) (port + 1) (record { token = k; expiry = t + 30 })) ≡ cond i (fin.len (fin.remove c.reserved port)) (fin.len (fin.remove c.reserved port) + 1) → fin.len (fin.insert (fin.remove c.reserved port) (port + 1) (record { token = k; expiry = t + 30 })) ≤ b.allocations
+          grow : (i : Bool) → fin.len (fin.insert (fin.remove c.reserved port) (port + 1) (record { token = k; expiry = t + reservation_lifetime })) ≡ cond i (fin.len (fin.remove c.reserved port)) (fin.len (fin.remove c.reserved port) + 1) → fin.len (fin.insert (fin.remove c.reserved port) (port + 1) (record { token = k; expiry = t + reservation_lifetime })) ≤ b.allocations
           grow true is = let le = no_more_reserved port in let few = room.3 in omega arith
           grow false is = let le = no_more_reserved port in let few = room.3 in omega arith
   reserved-applied (Renews granted) fits = w.reserved
@@ -192,12 +193,12 @@ module _ (b : Bounds) (t : ℕ) (f : FiveTuple) (c : Contents) (w : IsWithin b c
   made_small (Renews granted) fits = λ some x is. was_small f x is
   made_small (Permits addresses) fits = λ x is.
       let room = subst (λ o. IsSomeAnd o (λ e. fin.len (install 0 addresses e.permissions) ≤ b.permissions)) is fits in
-      let le = installed_alike (t + 300) 0 addresses x.permissions in
+      let le = installed_alike (t + permission_lifetime) 0 addresses x.permissions in
       (omega arith, w.channels f x is)
   made_small (Binds number peer) fits = λ x is.
       let room = subst (λ o. IsSomeAnd o (λ e. FitsChannel b number peer e × IsChannelNumber number)) is fits in
-      let ps = inserted_alike (t + 300) 0 peer.ip x.permissions in
-      let cs = inserted_alike (record { peer = peer; expiry = t + 600 }) (record { peer = peer; expiry = 0 }) number x.channels in
+      let ps = inserted_alike (t + permission_lifetime) 0 peer.ip x.permissions in
+      let cs = inserted_alike (record { peer = peer; expiry = t + channel_lifetime }) (record { peer = peer; expiry = 0 }) number x.channels in
       let permissions = room.0.0 in
       let channels = room.0.1 in
       (omega arith, omega arith)

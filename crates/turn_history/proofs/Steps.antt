@@ -21,6 +21,7 @@ use Rattle.turn_history.specs.History.{PlainAct, Allocates, Renews, Permits, Bin
 use Rattle.turn_history.specs.Table.{ahead, channel_ahead, map_of, Entry, permissions_in, channels_in, entry_with, entry_in, entry_of, table, install, still_permitted, still_bound, kept, purged, renewed, permitting, binding, applied_to, applied, reservation_ahead, reserving}
 use Rattle.turn_history.proofs.Reading.{nat_same, own-push, get-permissions_in, get-channels_in, get-table, get-still_permitted, get-still_bound, get-purged, get-applied, same_contents, get-reserved, get-purged_reserved, applied-reserved, reservation-push, at_alloc, get-with_reservation}
 use Rattle.turn_history.proofs.Maps.{tuple_exact, from_eq}
+use Rattle.turn_types.specs.Profile.{permission_lifetime, channel_lifetime, reservation_lifetime}
 
 -- ---- At a later moment
 
@@ -105,28 +106,28 @@ abbrev pub event : ℕ → FiveTuple → PlainAct → Event
 event m f d = record { moment = m; tuple = f; act = d }
 
 -- an act installs its addresses for 300 s
-permissions_in-more : (m : ℕ) (f : FiveTuple) (d : PlainAct) (es : List Event) → permissions_in m (event m f d ∷ es) ≡ install (m + 300) (addresses_of d) (permissions_in m es)
+permissions_in-more : (m : ℕ) (f : FiveTuple) (d : PlainAct) (es : List Event) → permissions_in m (event m f d ∷ es) ≡ install (m + permission_lifetime) (addresses_of d) (permissions_in m es)
 permissions_in-more m f d es = same_map nat_cmp_total nat_cmp-IsAntisymmetric _ _ (λ a.
     get-permissions_in m (event m f d ∷ es) a
     ∙ fresh (list_any (nat_eq a) (addresses_of d)) (first_some (permission_at a) es)
-    ∙ sym (get-install (m + 300) (addresses_of d) (permissions_in m es) a ∙ ap (cond (list_any (nat_eq a) (addresses_of d)) (Some (m + 300))) (get-permissions_in m es a)))
+    ∙ sym (get-install (m + permission_lifetime) (addresses_of d) (permissions_in m es) a ∙ ap (cond (list_any (nat_eq a) (addresses_of d)) (Some (m + permission_lifetime))) (get-permissions_in m es a)))
   where
-    fresh : (b : Bool) (o : Option ℕ) → ahead m (option_or (cond b (Some (m + 300)) None) o) ≡ cond b (Some (m + 300)) (ahead m o)
-    fresh true o = ap (λ b. cond b (Some (m + 300)) None) (lt-ltb m (m + 300) (omega arith))
+    fresh : (b : Bool) (o : Option ℕ) → ahead m (option_or (cond b (Some (m + permission_lifetime)) None) o) ≡ cond b (Some (m + permission_lifetime)) (ahead m o)
+    fresh true o = ap (λ b. cond b (Some (m + permission_lifetime)) None) (lt-ltb m (m + permission_lifetime) (omega arith))
     fresh false o = refl
 
 -- a Bind binds its number for 600 s
-channels_in-bound : (m : ℕ) (f : FiveTuple) (n : ℕ) (p : Endpoint) (es : List Event) → channels_in m (event m f (Binds n p) ∷ es) ≡ fin.insert (channels_in m es) n (record { peer = p; expiry = m + 600 })
+channels_in-bound : (m : ℕ) (f : FiveTuple) (n : ℕ) (p : Endpoint) (es : List Event) → channels_in m (event m f (Binds n p) ∷ es) ≡ fin.insert (channels_in m es) n (record { peer = p; expiry = m + channel_lifetime })
 channels_in-bound m f n p es = same_map nat_cmp_total nat_cmp-IsAntisymmetric _ _ (λ k.
     get-channels_in m (event m f (Binds n p) ∷ es) k
     ∙ fresh (nat_eq k n) (first_some (channel_at k) es)
     ∙ sym (get-insert nat_cmp_total (channels_in m es) n bound k ∙ ap (λ b. cond b (Some bound) (fin.get (channels_in m es) k)) (nat_same k n) ∙ ap (cond (nat_eq k n) (Some bound)) (get-channels_in m es k)))
   where
     bound : Channel
-    bound = record { peer = p; expiry = m + 600 }
+    bound = record { peer = p; expiry = m + channel_lifetime }
 
     fresh : (b : Bool) (o : Option Channel) → channel_ahead m (option_or (cond b (Some bound) None) o) ≡ cond b (Some bound) (channel_ahead m o)
-    fresh true o = ap (λ b. cond b (Some bound) None) (lt-ltb m (m + 600) (omega arith))
+    fresh true o = ap (λ b. cond b (Some bound) None) (lt-ltb m (m + channel_lifetime) (omega arith))
     fresh false o = refl
 
 no_permissions : (m : ℕ) → permissions_in m [] ≡ fin.empty
@@ -190,7 +191,7 @@ entry_in-more b m f (Permits addresses) es in_range acts = permit (first_some al
     since : List Event
     since = until_first (λ e. is_some (allocation_at e)) es
 
-    permit : (a : Option Allocation) (o : Option ℕ) → entry_with (permissions_in m (event m f (Permits addresses) ∷ since)) (channels_in m (event m f (Permits addresses) ∷ since)) a o ≡ option_map (permitting (m + 300) addresses) (entry_with (permissions_in m since) (channels_in m since) a o)
+    permit : (a : Option Allocation) (o : Option ℕ) → entry_with (permissions_in m (event m f (Permits addresses) ∷ since)) (channels_in m (event m f (Permits addresses) ∷ since)) a o ≡ option_map (permitting (m + permission_lifetime) addresses) (entry_with (permissions_in m since) (channels_in m since) a o)
     permit None o = refl
     permit (Some a) None = refl
     permit (Some a) (Some x) = λ i. Some (record { user = a.user; port = a.port; granted = a.granted; tx = a.tx; token = a.token; expiry = x; permissions = permissions_in-more m f (Permits addresses) since i; channels = channels_in-permit m f addresses since i })
@@ -218,7 +219,7 @@ reservation-more h e q =
     before : reservation_ahead e.moment (flat rest) ≡ fin.get (table h e.moment).reserved q
     before = sym (get-reserved h e.moment q)
 
-    fresh : (r : Reservation) → r.expiry ≡ e.moment + 30 → reservation_ahead e.moment (Some r) ≡ Some r
+    fresh : (r : Reservation) → r.expiry ≡ e.moment + reservation_lifetime → reservation_ahead e.moment (Some r) ≡ Some r
     fresh r is = ap (λ b. cond b (Some r) None) (lt-ltb e.moment r.expiry (omega (arith, is)))
 
     by_port : (port : ℕ) (token : Option Token) → reservation_ahead e.moment (flat (option_or (cond (nat_eq q port) (Some None) (reservation_with q e.moment port token)) rest)) ≡ at_alloc e.moment q port token (fin.get (table h e.moment).reserved q)
@@ -230,7 +231,7 @@ reservation-more h e q =
     by_port port (Some token) = by_tests (nat_eq q port) refl (nat_eq q (port + 1)) refl
       where
         made : Reservation
-        made = record { token = token; expiry = e.moment + 30 }
+        made = record { token = token; expiry = e.moment + reservation_lifetime }
 
         by_tests : (a : Bool) → nat_eq q port ≡ a → (b : Bool) → nat_eq q (port + 1) ≡ b → reservation_ahead e.moment (flat (option_or (cond a (Some None) (cond b (Some (Some made)) None)) rest)) ≡ cond b (Some made) (cond a None (fin.get (table h e.moment).reserved q))
         by_tests true ea true eb = let one = eqb-true q port ea in let other = eqb-true q (port + 1) eb in absurd (omega (arith, one, other))

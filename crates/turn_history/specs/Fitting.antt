@@ -12,13 +12,14 @@ use Rattle.turn_types.specs.declared.address.Endpoint.{Endpoint}
 use Rattle.turn_types.specs.declared.address.FiveTuple.{FiveTuple}
 use Rattle.turn_history.specs.declared.channel.Channel.{Channel}
 use Rattle.turn_history.specs.declared.reservation.Reservation.{Reservation}
+use Rattle.turn_types.specs.Profile.{permission_lifetime, channel_lifetime, default_lifetime, max_lifetime, reservation_lifetime, end_of_moments}
 use Rattle.turn_types.specs.declared.message.Token.{Token}
 
 -- ---- The ranges of an event's values
 
 -- seconds that an Alloc may grant (RFC 8656, section 7.2: at least the default of 600, and at most 3600)
 abbrev pub IsLifetime : ℕ → Type 0
-IsLifetime granted = (600 ≤ granted) × (granted ≤ 3600)
+IsLifetime granted = (default_lifetime ≤ granted) × (granted ≤ max_lifetime)
 
 -- a token has eight bytes, and begins with the two of its port
 pub record IsTokenOf (port : ℕ) (token : Token) : Type 0 where
@@ -48,7 +49,7 @@ IsActInRange b (Binds number peer) = IsChannelNumber number × IsEndpoint peer
 
 -- the values of an event are in their ranges under the limits; a moment is below 2^40 - 3600 seconds
 pub record IsInRange (b : Bounds) (e : Event) : Type 0 where
-  pub moment : e.moment < 2 ^ 40 - 3600
+  pub moment : e.moment < end_of_moments
   pub tuple : IsTuple e.tuple
   pub act : IsActInRange b e.act
 
@@ -56,9 +57,9 @@ pub record IsInRange (b : Bounds) (e : Event) : Type 0 where
 -- seconds, each permission within 300, and each channel within 600.
 pub record IsEntryInRange (b : Bounds) (t : ℕ) (e : Entry) : Type 0 where
   pub made : IsActInRange b (Allocates e.user e.port e.granted e.tx e.token)
-  pub expiry : (t < e.expiry) × (e.expiry ≤ t + 3600)
-  pub permissions : (a x : ℕ) → fin.get e.permissions a ≡ Some x → (a < 2 ^ 32) × (t < x) × (x ≤ t + 300)
-  pub channels : (n : ℕ) (c : Channel) → fin.get e.channels n ≡ Some c → IsChannelNumber n × IsEndpoint c.peer × (t < c.expiry) × (c.expiry ≤ t + 600)
+  pub expiry : (t < e.expiry) × (e.expiry ≤ t + max_lifetime)
+  pub permissions : (a x : ℕ) → fin.get e.permissions a ≡ Some x → (a < 2 ^ 32) × (t < x) × (x ≤ t + permission_lifetime)
+  pub channels : (n : ℕ) (c : Channel) → fin.get e.channels n ≡ Some c → IsChannelNumber n × IsEndpoint c.peer × (t < c.expiry) × (c.expiry ≤ t + channel_lifetime)
 
 -- each entry of a table at the moment t is in its ranges, and so is its five-tuple
 abbrev pub AreEntriesInRange : Bounds → ℕ → Contents → Type 0
@@ -68,7 +69,7 @@ AreEntriesInRange b t c = (f : FiveTuple) (e : Entry) → fin.get c.entries f �
 pub record IsReservationInRange (t q : ℕ) (r : Reservation) : Type 0 where
   pub port : (q < 2 ^ 16) × (q % 2 ≡ 1)
   pub token : IsTokenOf q r.token
-  pub expiry : (t < r.expiry) × (r.expiry ≤ t + 30)
+  pub expiry : (t < r.expiry) × (r.expiry ≤ t + reservation_lifetime)
 
 -- each reservation of a table at the moment t is in its ranges
 abbrev pub AreReservationsInRange : ℕ → Contents → Type 0

@@ -10,6 +10,7 @@ use Rattle.turn_history.specs.declared.channel.Channel.{Channel}
 use Rattle.turn_types.specs.declared.message.TxId.{TxId}
 use Rattle.turn_types.specs.declared.message.Token.{Token}
 use Rattle.turn_history.specs.declared.reservation.Reservation.{Reservation}
+use Rattle.turn_types.specs.Profile.{permission_lifetime, channel_lifetime, reservation_lifetime}
 
 -- ---- Acts and histories
 
@@ -131,14 +132,14 @@ numbers_of (Binds number peer) = number ∷ []
 
 -- when the permission of the address a expires that an event installs, if it installs one: 300 seconds later
 abbrev pub permission_at : ℕ → Event → Option ℕ
-permission_at a e = if list_any (nat_eq a) (addresses_of e.act) then Some (e.moment + 300) else None
+permission_at a e = if list_any (nat_eq a) (addresses_of e.act) then Some (e.moment + permission_lifetime) else None
 
 -- the channel of number n that an act at the moment m binds, if it binds one: it expires 600 seconds later
 abbrev pub channel_by : ℕ → ℕ → PlainAct → Option Channel
 channel_by n m (Allocates user port granted tx token) = None
 channel_by n m (Renews granted) = None
 channel_by n m (Permits addresses) = None
-channel_by n m (Binds number peer) = if n == number then Some (record { peer = peer; expiry = m + 600 }) else None
+channel_by n m (Binds number peer) = if n == number then Some (record { peer = peer; expiry = m + channel_lifetime }) else None
 
 -- the channel of number n that an event binds, if it binds one
 abbrev pub channel_at : ℕ → Event → Option Channel
@@ -166,7 +167,7 @@ reserved_by (Binds number peer) = []
 -- the reservation of the port q by an Alloc of another port at the moment m, if it makes one
 abbrev pub reservation_with : ℕ → ℕ → ℕ → Option Token → Option (Option Reservation)
 reservation_with q m port None = None
-reservation_with q m port (Some token) = if q == port + 1 then Some (Some (record { token = token; expiry = m + 30 })) else None
+reservation_with q m port (Some token) = if q == port + 1 then Some (Some (record { token = token; expiry = m + reservation_lifetime })) else None
 
 -- what an act at the moment m says of the reservation of the port q: an Alloc of q ends it, an Alloc of the port before it
 -- may make one, and the others say nothing

@@ -12,6 +12,7 @@ use Rattle.turn_history.specs.Table.{Entry, Contents}
 use Rattle.turn_types.specs.declared.address.Endpoint.{Endpoint}
 use Rattle.turn_types.specs.declared.address.FiveTuple.{FiveTuple}
 use Rattle.turn_history.specs.declared.channel.Channel.{Channel}
+use Rattle.turn_types.specs.Profile.{permission_lifetime, channel_lifetime, reservation_lifetime}
 
 -- no event is older than a moment
 abbrev pub AllFrom : ℕ → List Event → Type 0
@@ -72,11 +73,11 @@ IsBindOf n p e = e.act ≡ Binds n p
 
 -- the permission of an address was installed at the moment m, and holds still
 abbrev pub InstalledAt : History → ℕ → FiveTuple → ℕ → ℕ → Type 0
-InstalledAt h t f a m = HoldsFrom (Installs a) 300 h t f m
+InstalledAt h t f a m = HoldsFrom (Installs a) permission_lifetime h t f m
 
 -- number n was bound to the peer p at the moment m, and is still
 abbrev pub BoundAt : History → ℕ → FiveTuple → ℕ → Endpoint → ℕ → Type 0
-BoundAt h t f n p m = HoldsFrom (IsBindOf n p) 600 h t f m
+BoundAt h t f n p m = HoldsFrom (IsBindOf n p) channel_lifetime h t f m
 
 -- f is live at t, and a permission of the address was installed after its last Alloc and holds still (RFC 8656, section 9)
 abbrev pub IsPermitted : History → ℕ → FiveTuple → ℕ → Type 0
@@ -160,7 +161,7 @@ pub record ReservedAt (h : History) (t q : ℕ) (token : Token) (m : ℕ) : Type
   pub moment : event.moment ≡ m
   -- no later event is an Alloc of the port
   pub untaken : AllByRecursion (λ e. IsAllocOf q e.act → ⊥) after
-  pub ahead : t < m + 30
+  pub ahead : t < m + reservation_lifetime
 
 -- an act that reserves no port
 abbrev pub ReservesNone : PlainAct → Type 0

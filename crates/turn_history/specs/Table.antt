@@ -14,6 +14,7 @@ use Rattle.turn_history.specs.declared.channel.Channel.{Channel}
 use Rattle.turn_types.specs.declared.message.TxId.{TxId}
 use Rattle.turn_types.specs.declared.message.Token.{Token}
 use Rattle.turn_history.specs.declared.reservation.Reservation.{Reservation}
+use Rattle.turn_types.specs.Profile.{permission_lifetime, channel_lifetime, reservation_lifetime}
 
 -- ---- What a table holds
 
@@ -168,15 +169,15 @@ permitting x addresses e = record e { permissions = install x addresses e.permis
 abbrev pub binding : ℕ → ℕ → Endpoint → Entry → Entry
 binding t number peer e =
     record e {
-      permissions = fin.insert e.permissions peer.ip (t + 300);
-      channels = fin.insert e.channels number (record { peer = peer; expiry = t + 600 });
+      permissions = fin.insert e.permissions peer.ip (t + permission_lifetime);
+      channels = fin.insert e.channels number (record { peer = peer; expiry = t + channel_lifetime });
     }
 
 -- an act done at the moment t to the entry of its five-tuple
 abbrev pub applied_to : ℕ → PlainAct → Option Entry → Option Entry
 applied_to t (Allocates user port granted tx token) o = Some (allocated t user port granted tx token)
 applied_to t (Renews granted) o = if granted == 0 then None else option_map (renewed (t + granted)) o
-applied_to t (Permits addresses) o = option_map (permitting (t + 300) addresses) o
+applied_to t (Permits addresses) o = option_map (permitting (t + permission_lifetime) addresses) o
 applied_to t (Binds number peer) o = option_map (binding t number peer) o
 
 -- the map with this at f, or nothing, and all else as it was
@@ -187,7 +188,7 @@ with_entry m f (Some e) = fin.insert m f e
 -- the reserved ports with the one after a port, if there is a token (RFC 8656, section 7.2)
 abbrev pub with_reservation : ℕ → ℕ → Option Token → Reservations → Reservations
 with_reservation t port None m = m
-with_reservation t port (Some token) m = fin.insert m (port + 1) (record { token = token; expiry = t + 30 })
+with_reservation t port (Some token) m = fin.insert m (port + 1) (record { token = token; expiry = t + reservation_lifetime })
 
 -- an act done at the moment t to the reserved ports: an Alloc ends the reservation of its port
 abbrev pub reserving : ℕ → PlainAct → Reservations → Reservations

@@ -10,6 +10,7 @@ ghost use Rattle.turn_history.specs.Laws.{AllFrom, HasNoTokens, NeverFall, Ports
 ghost use Rattle.turn_types.specs.declared.limits.Bounds.{Bounds};
 ghost use Rattle.turn_types.specs.declared.message.Token.{Token};
 ghost use Rattle.turn_history.specs.Table.{Contents, Entry, table, purged, applied};
+ghost use Rattle.turn_types.specs.Profile.{permission_lifetime, channel_lifetime, reservation_lifetime};
 ghost use Rattle.turn_types.specs.declared.address.Endpoint.{Endpoint};
 ghost use Rattle.turn_types.specs.declared.address.FiveTuple.{FiveTuple};
 
@@ -95,7 +96,7 @@ pub fn tables_hold_the_permitted()
         IsFitting b h → (HasPermission (table h t) f a ↔ IsPermitted h t f a) }
     ensures expiry { (b : Bounds) (h : History) (t : ℕ) (f : FiveTuple) (a x : ℕ) → IsFitting b h →
         (PermissionEnds (table h t) f a x ↔
-        (IsLive h t f × IsAfterLatest 300 (InstalledAt h t f a) x)) }
+        (IsLive h t f × IsAfterLatest permission_lifetime (InstalledAt h t f a) x)) }
 {}
 
 /// The channels of a live five-tuple in a table are the numbers and peers of its Binds that are after its last
@@ -106,7 +107,7 @@ pub fn tables_hold_the_bound()
     ensures expiry { (b : Bounds) (h : History) (t : ℕ) (f : FiveTuple) (n : ℕ) (p : Endpoint) (x : ℕ) →
         IsFitting b h → clock h ≤ t →
         (ChannelEnds (table h t) f n p x ↔
-        (IsLive h t f × IsAfterLatest 600 (BoundAt h t f n p) x)) }
+        (IsLive h t f × IsAfterLatest channel_lifetime (BoundAt h t f n p) x)) }
 {}
 
 /// A port is reserved in a table, with a token and until a moment, exactly if some event less than 30 seconds old
@@ -115,7 +116,7 @@ pub fn tables_hold_the_bound()
 pub fn tables_hold_the_reserved()
     ensures { (b : Bounds) (h : History) (t q : ℕ) (token : Token) (x : ℕ) → IsFitting b h → clock h ≤ t →
         ((fin.get (table h t).reserved q ≡ Some (record { token = token; expiry = x })) ↔
-        ((m : ℕ) × (x ≡ m + 30) × ReservedAt h t q token m)) }
+        ((m : ℕ) × (x ≡ m + reservation_lifetime) × ReservedAt h t q token m)) }
 {}
 
 /// A table without tokens is one at a later moment, and after an act that reserves no port. So is the table of a history

@@ -1,6 +1,7 @@
 -- What `turn answer` answers by: the realm example.org, no users, a secret of 32 zero bytes, no denied addresses.
 use Rattle.std.specs.Prelude.{ℕ, false, List, [], Option, Some, None, replicate, codes}
 use Rattle.turn_types.specs.Config.{Config}
+use Rattle.turn_types.specs.Profile.{max_allocations}
 use Rattle.turn_history.specs.Table.{no_contents}
 use Rattle.turn_types.specs.declared.address.FiveTuple.{FiveTuple}
 use Rattle.turn_codec.specs.Grammar.{Datagram}
@@ -18,7 +19,7 @@ profile = record {
   relay = 0xC6336401;
   quota = 10;
   denied = [];
-  limits = record { allocations = 1024; permissions = 32; channels = 32; acts = 64; name_bytes = 508 };
+  limits = record { allocations = max_allocations; permissions = 32; channels = 32; acts = 64; name_bytes = 508 };
 }
 
 -- no user has a key

@@ -9,7 +9,7 @@ ghost use Rattle.turn_step.specs.Views.{sent_of};
 use std::alloc::{AllocError, Allocator};
 use turn_cred::{AuthHandler, Key};
 use turn_ports::PortRange;
-use turn_step::{Arrival, Machine, Outgoing};
+use turn_step::{Arrival, Machine, Outgoing, Pairs};
 use turn_table::Table;
 use turn_types::{ConfigError, FiveTuple, Limits, Moment, ServerConfig, Settings};
 
@@ -59,7 +59,7 @@ fn make_machine<A: Allocator + Copy>(
     let config = make_config(alloc)?;
     let ports = PortRange::new(50000, 59999).unwrap();
     let table = Table::new(alloc, config.limits(), moment);
-    Ok(Machine::new(alloc, config, NoUsers, ports, table, false)?)
+    Ok(Machine::new(alloc, config, NoUsers, ports, table, Pairs::Refused)?)
 }
 
 /// The bytes that are sent to the client, if any are.

@@ -21,6 +21,7 @@ use Rattle.turn_types.specs.declared.message.TxId.{TxId}
 use Rattle.turn_record.proofs.Once.{bytes_of_all, all_of_bytes, FitsAddress, none_before, after_distinct, distinct_after}
 use Rattle.std.proofs.lemmas.List.Elements.{All-from_recursion, recursion_from_All}
 use Rattle.turn_record.proofs.Readers.{EachAfter, IsBytes, Reads, reads16, reads32, reads64, one, reads_byte, reads_bytes, reads_judged, chain, made, in_words, reads_as, reads_counted, two_bytes, two_bytes_again}
+use Rattle.turn_types.specs.Profile.{default_lifetime, max_lifetime, end_of_moments}
 
 -- ---- What a reader asks, before it is said in the words of histories
 
@@ -60,10 +61,10 @@ lt_from a b h = search (rules, le-leb)
 
 -- ---- Fields
 
-pub reads_moment : Reads moment_at (to_be_bytes w64) (λ m. m < 2 ^ 40 - 3600)
+pub reads_moment : Reads moment_at (to_be_bytes w64) (λ m. m < end_of_moments)
 unfolding moment_at
 reads_moment =
-    in_words _ _ _ _ _ (reads_judged (number_at w64) (to_be_bytes w64) (λ n. n < 2 ^ 64) (λ n. ltb n (2 ^ 40 - 3600)) BadValue reads64)
+    in_words _ _ _ _ _ (reads_judged (number_at w64) (to_be_bytes w64) (λ n. n < 2 ^ 64) (λ n. ltb n end_of_moments) BadValue reads64)
     (λ m. refl) (λ m h. ltb-true _ _ h.1) (λ m h. (omega arith, lt_from _ _ h))
 
 pub reads_endpoint : Reads endpoint_at endpoint IsEndpoint
@@ -98,28 +99,28 @@ reads_name b range =
     (λ n h. in_words _ _ _ _ _ (reads_bytes n) (λ text. refl) (λ text e. ((tt, e.0), e.1)) (λ text e. (e.0.1, e.1))))
     (λ text. refl) (λ text h. (h.1.0.0, h.1.0.1, h.1.1)) (λ text h. (tt, ((h.0, h.1, omega (arith, range.name_bytes.1, h.1)), h.2)))
 
-pub reads_granted : Reads granted_at (to_be_bytes w32) (λ g. (600 ≤ g) × (g ≤ 3600))
+pub reads_granted : Reads granted_at (to_be_bytes w32) (λ g. (default_lifetime ≤ g) × (g ≤ max_lifetime))
 unfolding granted_at
 reads_granted =
-    in_words _ _ _ _ _ (reads_judged (number_at w32) (to_be_bytes w32) (λ n. n < 2 ^ 32) (λ g. leb 600 g && leb g 3600) BadValue reads32)
+    in_words _ _ _ _ _ (reads_judged (number_at w32) (to_be_bytes w32) (λ n. n < 2 ^ 32) (λ g. leb default_lifetime g && leb g max_lifetime) BadValue reads32)
     (λ n. refl) (λ n h. let p = and_is _ _ h.1 in (leb-true _ _ p.0, leb-true _ _ p.1)) (λ n h. (omega arith, and_from _ _ (le-leb _ _ h.0) (le-leb _ _ h.1)))
 
 pub any_or : (a : Bool) → (a || true) ≡ true
 any_or true = refl
 any_or false = refl
 
-renewed_good : (g : ℕ) → (g ≡ 0) ⊎ ((600 ≤ g) × (g ≤ 3600)) → (g < 2 ^ 32) × ((eqb g 0 || (leb 600 g && leb g 3600)) ≡ true)
+renewed_good : (g : ℕ) → (g ≡ 0) ⊎ ((default_lifetime ≤ g) × (g ≤ max_lifetime)) → (g < 2 ^ 32) × ((eqb g 0 || (leb default_lifetime g && leb g max_lifetime)) ≡ true)
 renewed_good g (inl e) = (omega arith, rw e refl)
-renewed_good g (inr h) = (omega arith, rw (and_from _ _ (le-leb 600 g h.0) (le-leb g 3600 h.1)) (any_or (eqb g 0)))
+renewed_good g (inr h) = (omega arith, rw (and_from _ _ (le-leb default_lifetime g h.0) (le-leb g max_lifetime h.1)) (any_or (eqb g 0)))
 
-renewed_words : (g : ℕ) → (eqb g 0 ≡ true) ⊎ ((leb 600 g && leb g 3600) ≡ true) → (g ≡ 0) ⊎ ((600 ≤ g) × (g ≤ 3600))
+renewed_words : (g : ℕ) → (eqb g 0 ≡ true) ⊎ ((leb default_lifetime g && leb g max_lifetime) ≡ true) → (g ≡ 0) ⊎ ((default_lifetime ≤ g) × (g ≤ max_lifetime))
 renewed_words g (inl e) = inl (eqb-true _ _ e)
 renewed_words g (inr e) = let p = and_is _ _ e in inr (leb-true _ _ p.0, leb-true _ _ p.1)
 
-pub reads_renewed : Reads renewed_at (to_be_bytes w32) (λ g. (g ≡ 0) ⊎ ((600 ≤ g) × (g ≤ 3600)))
+pub reads_renewed : Reads renewed_at (to_be_bytes w32) (λ g. (g ≡ 0) ⊎ ((default_lifetime ≤ g) × (g ≤ max_lifetime)))
 unfolding renewed_at
 reads_renewed =
-    in_words _ _ _ _ _ (reads_judged (number_at w32) (to_be_bytes w32) (λ n. n < 2 ^ 32) (λ g. eqb g 0 || (leb 600 g && leb g 3600)) BadValue reads32)
+    in_words _ _ _ _ _ (reads_judged (number_at w32) (to_be_bytes w32) (λ n. n < 2 ^ 32) (λ g. eqb g 0 || (leb default_lifetime g && leb g max_lifetime)) BadValue reads32)
     (λ n. refl) (λ n h. renewed_words n (or_is _ _ h.1)) (λ n h. renewed_good n h)
 
 pub reads_tx : Reads tx_at (λ t. t.0) FitsTx
@@ -171,8 +172,8 @@ pub record FitsAllocation (b : Bounds) (test : ℕ → Bool) (a : Allocation) : 
   pub user : FitsName b a.user
   pub port : a.port < 2 ^ 16
   pub free : test a.port ≡ true
-  pub low : 600 ≤ a.granted
-  pub high : a.granted ≤ 3600
+  pub low : default_lifetime ≤ a.granted
+  pub high : a.granted ≤ max_lifetime
   pub tx : FitsTx a.tx
   pub token : a.token ≡ None
 
@@ -182,7 +183,7 @@ reads_allocation b range free =
     in_words (allocation_at b free) _ allocation _ (FitsAllocation b free)
     (chain (name_at b) name (FitsName b) (λ user bytes. port_at free bytes >>= λ port. granted_at port.1 >>= λ granted. tx_at granted.1 >>= λ tx. Ok (record { user = user; port = port.0; granted = granted.0; tx = tx.0; token = None }, tx.1)) _ (λ (a : Allocation). a.user) (λ a. a.token ≡ None) _ (reads_name b range)
     (λ user h0. chain (port_at free) (to_be_bytes w16) (λ n. (n < 2 ^ 16) × (free n ≡ true)) (λ port bytes. granted_at bytes >>= λ granted. tx_at granted.1 >>= λ tx. Ok (record { user = user; port = port; granted = granted.0; tx = tx.0; token = None }, tx.1)) _ (λ (a : Allocation). a.port) (λ a. (a.token ≡ None) × (a.user ≡ user)) _ (reads_port free)
-    (λ port h1. chain granted_at (to_be_bytes w32) (λ g. (600 ≤ g) × (g ≤ 3600)) (λ granted bytes. tx_at bytes >>= λ tx. Ok (record { user = user; port = port; granted = granted; tx = tx.0; token = None }, tx.1)) _ (λ (a : Allocation). a.granted) (λ a. ((a.token ≡ None) × (a.user ≡ user)) × (a.port ≡ port)) _ reads_granted
+    (λ port h1. chain granted_at (to_be_bytes w32) (λ g. (default_lifetime ≤ g) × (g ≤ max_lifetime)) (λ granted bytes. tx_at bytes >>= λ tx. Ok (record { user = user; port = port; granted = granted; tx = tx.0; token = None }, tx.1)) _ (λ (a : Allocation). a.granted) (λ a. ((a.token ≡ None) × (a.user ≡ user)) × (a.port ≡ port)) _ reads_granted
     (λ granted h2. chain tx_at (λ (t : TxId). t.0) FitsTx (λ tx bytes. Ok (record { user = user; port = port; granted = granted; tx = tx; token = None }, bytes)) _ (λ (a : Allocation). a.tx) (λ a. (((a.token ≡ None) × (a.user ≡ user)) × (a.port ≡ port)) × (a.granted ≡ granted)) _ reads_tx
     (λ tx h3. made (record { user = user; port = port; granted = granted; tx = tx; token = None }) (λ a. ((((a.token ≡ None) × (a.user ≡ user)) × (a.port ≡ port)) × (a.granted ≡ granted)) × (a.tx ≡ tx)) ((((refl, refl), refl), refl), refl)
     (λ a e. λ i. record { user = e.0.0.0.1 i; port = e.0.0.1 i; granted = e.0.1 i; tx = e.1 i; token = e.0.0.0.0 i }))))))
@@ -317,7 +318,7 @@ reads_even b range =
 
 -- ---- The other acts
 
-from_renews : (b : Bounds) (d : PlainAct) → FitsTagged b 2 d → (g : ℕ) × (d ≡ Renews g) × ((g ≡ 0) ⊎ ((600 ≤ g) × (g ≤ 3600)))
+from_renews : (b : Bounds) (d : PlainAct) → FitsTagged b 2 d → (g : ℕ) × (d ≡ Renews g) × ((g ≡ 0) ⊎ ((default_lifetime ≤ g) × (g ≤ max_lifetime)))
 from_renews b (Allocates user port granted tx None) h = absurd cc
 from_renews b (Allocates user port granted tx (Some token)) h = absurd cc
 from_renews b (Renews granted) h = (granted, refl, h.1)
@@ -325,7 +326,7 @@ from_renews b (Permits xs) h = absurd cc
 from_renews b (Binds number peer) h = absurd cc
 
 reads_renews : (b : Bounds) → Reads renews_at body (FitsTagged b 2)
-reads_renews b = reads_as renewed_at (to_be_bytes w32) (λ g. (g ≡ 0) ⊎ ((600 ≤ g) × (g ≤ 3600))) Renews body (FitsTagged b 2) reads_renewed (λ a h. refl) (λ a h. (refl, h)) (from_renews b)
+reads_renews b = reads_as renewed_at (to_be_bytes w32) (λ g. (g ≡ 0) ⊎ ((default_lifetime ≤ g) × (g ≤ max_lifetime))) Renews body (FitsTagged b 2) reads_renewed (λ a h. refl) (λ a h. (refl, h)) (from_renews b)
 
 from_permits : (b : Bounds) (d : PlainAct) → FitsTagged b 3 d → (xs : List ℕ) × (d ≡ Permits xs) × FitsAddresses b xs
 from_permits b (Allocates user port granted tx None) h = absurd cc
@@ -396,11 +397,11 @@ reads_tag v =
     (λ n. refl) (λ n h. let p = and_is _ _ h.1 in (leb-true _ _ p.0, leb-true _ _ p.1)) (λ n h. (omega (arith, h.1, max_tag_small v), and_from _ _ (le-leb _ _ h.0) (le-leb _ _ h.1)))
 
 abbrev FitsMoment : List Event → ℕ → Type 0
-FitsMoment before m = (m < 2 ^ 40 - 3600) × (last_passes (λ last. leb last.moment m) before ≡ true)
+FitsMoment before m = (m < end_of_moments) × (last_passes (λ last. leb last.moment m) before ≡ true)
 
 reads_after : (before : List Event) → Reads (moment_after before) (to_be_bytes w64) (FitsMoment before)
 unfolding moment_after
-reads_after before = reads_judged moment_at (to_be_bytes w64) (λ m. m < 2 ^ 40 - 3600) (λ m. last_passes (λ last. leb last.moment m) before) OutOfOrder reads_moment
+reads_after before = reads_judged moment_at (to_be_bytes w64) (λ m. m < end_of_moments) (λ m. last_passes (λ last. leb last.moment m) before) OutOfOrder reads_moment
 
 -- after others: its moment is not below theirs, and the version can hold it
 pub record FitsAfter (v : Version) (b : Bounds) (before : List Event) (e : Event) : Type 0 where

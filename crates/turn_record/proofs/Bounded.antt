@@ -28,6 +28,7 @@ use Rattle.turn_record.specs.declared.error.DecodeError.TheVariants.{Short, BadT
 use Rattle.turn_record.proofs.Acts.{and_is}
 use Rattle.turn_record.proofs.Readers.{bind_ok, judged_ok, ok_is}
 use Rattle.turn_types.specs.FiveTuple.{tuple_cmp}
+use Rattle.turn_types.specs.Profile.{permission_lifetime, channel_lifetime, default_lifetime, max_lifetime, reservation_lifetime, end_of_moments}
 use Rattle.turn_types.specs.declared.address.FiveTuple.{FiveTuple}
 use Rattle.turn_types.specs.declared.limits.Bounds.{Bounds}
 
@@ -149,9 +150,9 @@ within r P Q n m h le more = record {
 
 -- ---- The fields of a snapshot
 
-at_most_moment : IsAtMost moment_at (λ m. ltb m (2 ^ 40 - 3600) ≡ true) 8
+at_most_moment : IsAtMost moment_at (λ m. ltb m end_of_moments ≡ true) 8
 unfolding moment_at
-at_most_moment = at_most_judged (number_at w64) (λ m. ltb m (2 ^ 40 - 3600)) BadValue Any 8 refl (at_most_number w64)
+at_most_moment = at_most_judged (number_at w64) (λ m. ltb m end_of_moments) BadValue Any 8 refl (at_most_number w64)
 
 at_most_endpoint : IsAtMost endpoint_at Any 6
 unfolding endpoint_at
@@ -171,9 +172,9 @@ at_most_port : (free : ℕ → Bool) → IsAtMost (port_at free) (λ p. free p �
 unfolding port_at
 at_most_port free = at_most_judged (number_at w16) free BadValue Any 2 refl (at_most_number w16)
 
-at_most_granted : IsAtMost granted_at (λ g. (leb 600 g && leb g 3600) ≡ true) 4
+at_most_granted : IsAtMost granted_at (λ g. (leb default_lifetime g && leb g max_lifetime) ≡ true) 4
 unfolding granted_at
-at_most_granted = at_most_judged (number_at w32) (λ g. leb 600 g && leb g 3600) BadValue Any 4 refl (at_most_number w32)
+at_most_granted = at_most_judged (number_at w32) (λ g. leb default_lifetime g && leb g max_lifetime) BadValue Any 4 refl (at_most_number w32)
 
 at_most_tx : IsAtMost tx_at Any 12
 unfolding tx_at
@@ -183,7 +184,7 @@ at_most_allocation : (b : Bounds) (free : ℕ → Bool) → IsAtMost (allocation
 unfolding allocation_at
 at_most_allocation b free =
     bind (name_at b) _ Any Any (2 + b.name_bytes) 18 (at_most_name b) (λ user h. bind (port_at free) _ (λ p. free p ≡ true) Any 2 16 (at_most_port free) (λ port h2.
-    bind granted_at _ (λ g. (leb 600 g && leb g 3600) ≡ true) Any 4 12 at_most_granted (λ granted h3. bind tx_at _ Any Any 12 0 at_most_tx (λ tx h4. end _))))
+    bind granted_at _ (λ g. (leb default_lifetime g && leb g max_lifetime) ≡ true) Any 4 12 at_most_granted (λ granted h3. bind tx_at _ Any Any 12 0 at_most_tx (λ tx h4. end _))))
 
 at_most_count : (low high : ℕ) → IsAtMost (count_at low high) (λ n. (leb low n && leb n high) ≡ true) 1
 unfolding count_at
@@ -199,7 +200,7 @@ at_most_address_after before = within _ _ Any 4 4 (at_most_judged (number_at w32
 
 at_most_permission : (t : ℕ) (before : List (ℕ × ℕ)) → IsAtMost (permission_at t before) Any 12
 unfolding permission_at
-at_most_permission t before = bind (address_after before) _ Any Any 4 8 (at_most_address_after before) (λ a h. bind (expiry_at t 300) _ Any Any 8 0 (at_most_expiry t 300) (λ x h2. end _))
+at_most_permission t before = bind (address_after before) _ Any Any 4 8 (at_most_address_after before) (λ a h. bind (expiry_at t permission_lifetime) _ Any Any 8 0 (at_most_expiry t permission_lifetime) (λ x h2. end _))
 
 -- a count up to a limit, and that many
 counted : {A : Type 0} (item : List A → List ℕ → Field A) (s high : ℕ) → ((before : List A) → IsAtMost (item before) Any s) → IsAtMost (λ bytes. count_at 0 high bytes >>= λ n. many item n.0 [] n.1) Any (1 + high * s)
@@ -224,7 +225,7 @@ at_most_other_peer before = within _ _ Any 6 6 (at_most_judged endpoint_at (λ p
 at_most_channel : (t : ℕ) (before : List (ℕ × Channel)) → IsAtMost (channel_at t before) Any 16
 unfolding channel_at
 at_most_channel t before =
-    bind (number_after before) _ Any Any 2 14 (at_most_number_after before) (λ n h. bind (other_peer_at before) _ Any Any 6 8 (at_most_other_peer before) (λ p h2. bind (expiry_at t 600) _ Any Any 8 0 (at_most_expiry t 600) (λ x h3. end _)))
+    bind (number_after before) _ Any Any 2 14 (at_most_number_after before) (λ n h. bind (other_peer_at before) _ Any Any 6 8 (at_most_other_peer before) (λ p h2. bind (expiry_at t channel_lifetime) _ Any Any 8 0 (at_most_expiry t channel_lifetime) (λ x h3. end _)))
 
 at_most_channels : (b : Bounds) (t : ℕ) → IsAtMost (channels_at b t) Any ((1 + b.channels * 16) + 0)
 unfolding channel_list_at
@@ -278,7 +279,7 @@ at_most_entry v b t before =
     let k = mark_most v in
     within _ Any Any (12 + (((2 + b.name_bytes) + 18) + (k + (8 + (ps + (cs + 0)))))) (max_entry v b)
     (bind (tuple_after before) _ Any Any 12 _ (at_most_tuple_after before) (λ f h0. bind (allocation_at b (is_free_after before)) _ Any Any ((2 + b.name_bytes) + 18) _ (at_most_allocation b (is_free_after before)) (λ a h1.
-    bind (mark_at v a.port) _ Any Any k _ (at_most_mark v a.port) (λ token h. bind (expiry_at t 3600) _ Any Any 8 _ (at_most_expiry t 3600) (λ x h2. bind (permissions_at b t) _ Any Any ps _ (at_most_permissions b t) (λ p h3. bind (channels_at b t) _ Any Any cs 0 (at_most_channels b t) (λ c h4. end _)))))))
+    bind (mark_at v a.port) _ Any Any k _ (at_most_mark v a.port) (λ token h. bind (expiry_at t max_lifetime) _ Any Any 8 _ (at_most_expiry t max_lifetime) (λ x h2. bind (permissions_at b t) _ Any Any ps _ (at_most_permissions b t) (λ p h3. bind (channels_at b t) _ Any Any cs 0 (at_most_channels b t) (λ c h4. end _)))))))
     (omega (arith, mark_room v)) (λ x h. tt)
 
 at_most_total : (b : Bounds) → IsAtMost (total_at b) (λ n. leb n b.allocations ≡ true) 4
@@ -288,7 +289,7 @@ at_most_total b = at_most_judged (number_at w32) (λ n. leb n b.allocations) Bad
 pub at_most_head : (b : Bounds) → IsAtMost (head_at b) Any 12
 unfolding head_at
 at_most_head b =
-    bind moment_at _ (λ m. ltb m (2 ^ 40 - 3600) ≡ true) Any 8 4 at_most_moment (λ t h. bind (total_at b) _ (λ n. leb n b.allocations ≡ true) Any 4 0 (at_most_total b) (λ n h2. end _))
+    bind moment_at _ (λ m. ltb m end_of_moments ≡ true) Any 8 4 at_most_moment (λ t h. bind (total_at b) _ (λ n. leb n b.allocations ≡ true) Any 4 0 (at_most_total b) (λ n h2. end _))
 
 at_most_port_after : (entries : List (FiveTuple × Entry)) (before : List (ℕ × Reservation)) → IsAtMost (reserved_port_after entries before) Any 2
 unfolding reserved_port_after odd_port_at
@@ -299,7 +300,7 @@ at_most_port_after entries before =
 at_most_reservation : (t : ℕ) (entries : List (FiveTuple × Entry)) (before : List (ℕ × Reservation)) → IsAtMost (reservation_at t entries before) Any 18
 unfolding reservation_at
 at_most_reservation t entries before =
-    bind (reserved_port_after entries before) _ Any Any 2 16 (at_most_port_after entries before) (λ q h. bind (token_at q) _ Any Any 8 8 (at_most_token q) (λ k h2. bind (expiry_at t 30) _ Any Any 8 0 (at_most_expiry t 30) (λ x h3. end _)))
+    bind (reserved_port_after entries before) _ Any Any 2 16 (at_most_port_after entries before) (λ q h. bind (token_at q) _ Any Any 8 8 (at_most_token q) (λ k h2. bind (expiry_at t reservation_lifetime) _ Any Any 8 0 (at_most_expiry t reservation_lifetime) (λ x h3. end _)))
 
 -- ---- What a reader holds
 

@@ -13,9 +13,10 @@ use Rattle.turn_history.proofs.Tokens.{all}
 use Rattle.turn_record.specs.Records.{Holds, IsSnapshot, Writes}
 use Rattle.turn_record.specs.declared.version.Version.{Version}
 use Rattle.turn_record.specs.declared.version.Version.TheVariants.{V1, V2}
+use Rattle.turn_types.specs.Profile.{end_of_moments}
 use Rattle.turn_types.specs.declared.limits.Bounds.{Bounds}
 
-pub table_has_snapshot : (v : Version) (b : Bounds) (h : History) (t : ℕ) → IsFitting b h → clock h ≤ t → t < 2 ^ 40 - 3600 → Holds v (table h t) → IsSnapshot v b t (table h t)
+pub table_has_snapshot : (v : Version) (b : Bounds) (h : History) (t : ℕ) → IsFitting b h → clock h ≤ t → t < end_of_moments → Holds v (table h t) → IsSnapshot v b t (table h t)
 table_has_snapshot v b h t fits now moment holds = record {
   moment = moment;
   holds = holds;

@@ -11,6 +11,7 @@ use Rattle.turn_history.proofs.Tokens.{acts, later}
 use Rattle.turn_record.specs.Records.{Holds, IsSnapshot, Writes}
 use Rattle.turn_record.specs.declared.version.Version.{Version}
 use Rattle.turn_record.specs.declared.version.Version.TheVariants.{V1, V2}
+use Rattle.turn_types.specs.Profile.{end_of_moments}
 use Rattle.turn_types.specs.declared.address.FiveTuple.{FiveTuple}
 use Rattle.turn_types.specs.declared.limits.Bounds.{Bounds}
 
@@ -22,7 +23,7 @@ holds-applied : (v : Version) (t : ℕ) (f : FiveTuple) (d : PlainAct) (c : Cont
 holds-applied V1 t f d c writes h = acts t f c h d writes
 holds-applied V2 t f d c writes h = tt
 
-pub snapshot-purged : (v : Version) (b : Bounds) (t u : ℕ) (c : Contents) → t ≤ u → u < 2 ^ 40 - 3600 → IsSnapshot v b t c → IsSnapshot v b u (purged u c)
+pub snapshot-purged : (v : Version) (b : Bounds) (t u : ℕ) (c : Contents) → t ≤ u → u < end_of_moments → IsSnapshot v b t c → IsSnapshot v b u (purged u c)
 snapshot-purged v b t u c le moment s = record {
   moment = moment;
   holds = holds-purged v u c s.holds;

@@ -14,6 +14,7 @@ use Rattle.turn_types.specs.declared.address.FiveTuple.{FiveTuple}
 use Rattle.turn_types.specs.declared.limits.Bounds.{Bounds}
 use Rattle.turn_record.specs.declared.version.Version.{Version}
 use Rattle.turn_record.specs.declared.version.Version.TheVariants.{V1, V2}
+use Rattle.turn_types.specs.Profile.{permission_lifetime, channel_lifetime, max_lifetime, reservation_lifetime}
 
 abbrev pub Stays : {A : Type 0} → DecodeError → Result A DecodeError → Type 0
 Stays Short after = Unit {0}
@@ -148,7 +149,7 @@ lasts_address_after before = lasts_judged _ _ _ (lasts_number w32)
 
 lasts_permission : (t : ℕ) (before : List (ℕ × ℕ)) → Lasts (permission_at t before)
 unfolding permission_at
-lasts_permission t before = bind _ _ (lasts_address_after before) (λ a. bind _ _ (lasts_expiry t 300) (λ x. end _))
+lasts_permission t before = bind _ _ (lasts_address_after before) (λ a. bind _ _ (lasts_expiry t permission_lifetime) (λ x. end _))
 
 lasts_permission_list : (b : Bounds) (t : ℕ) → Lasts (permission_list_at b t)
 unfolding permission_list_at
@@ -167,7 +168,7 @@ lasts_other_peer before = lasts_judged _ _ _ lasts_endpoint
 
 lasts_channel : (t : ℕ) (before : List (ℕ × Channel)) → Lasts (channel_at t before)
 unfolding channel_at
-lasts_channel t before = bind _ _ (lasts_number_after before) (λ n. bind _ _ (lasts_other_peer before) (λ p. bind _ _ (lasts_expiry t 600) (λ x. end _)))
+lasts_channel t before = bind _ _ (lasts_number_after before) (λ n. bind _ _ (lasts_other_peer before) (λ p. bind _ _ (lasts_expiry t channel_lifetime) (λ x. end _)))
 
 lasts_channel_list : (b : Bounds) (t : ℕ) → Lasts (channel_list_at b t)
 unfolding channel_list_at
@@ -209,7 +210,7 @@ lasts_mark V2 port = bind _ _ (lasts_mark_byte port) (λ m. lasts_token_if port 
 pub lasts_entry : (v : Version) (b : Bounds) (t : ℕ) (before : List (FiveTuple × Entry)) → Lasts (entry_at v b t before)
 unfolding entry_at
 lasts_entry v b t before =
-    bind _ _ (lasts_tuple_after before) (λ f. bind _ _ (lasts_allocation b (is_free_after before)) (λ a. bind _ _ (lasts_mark v a.port) (λ k. bind _ _ (lasts_expiry t 3600) (λ x.
+    bind _ _ (lasts_tuple_after before) (λ f. bind _ _ (lasts_allocation b (is_free_after before)) (λ a. bind _ _ (lasts_mark v a.port) (λ k. bind _ _ (lasts_expiry t max_lifetime) (λ x.
     bind _ _ (lasts_permissions b t) (λ ps. bind _ _ (lasts_channels b t) (λ cs. end _))))))
 
 pub lasts_total : (b : Bounds) → Lasts (total_at b)
@@ -232,4 +233,4 @@ lasts_port_after entries before = lasts_judged _ _ _ (lasts_odd_port entries)
 
 pub lasts_reservation : (t : ℕ) (entries : List (FiveTuple × Entry)) (before : List (ℕ × Reservation)) → Lasts (reservation_at t entries before)
 unfolding reservation_at
-lasts_reservation t entries before = bind _ _ (lasts_port_after entries before) (λ q. bind _ _ (lasts_token q) (λ k. bind _ _ (lasts_expiry t 30) (λ x. end _)))
+lasts_reservation t entries before = bind _ _ (lasts_port_after entries before) (λ q. bind _ _ (lasts_token q) (λ k. bind _ _ (lasts_expiry t reservation_lifetime) (λ x. end _)))

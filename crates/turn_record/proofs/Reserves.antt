@@ -28,6 +28,7 @@ use Rattle.std.proofs.Common.{append_assoc, append-nil}
 use Rattle.std.specs.Ordering.{is_lt}
 use Rattle.turn_types.specs.FiveTuple.{tuple_cmp}
 use Rattle.turn_types.specs.Limits.{AreInRange}
+use Rattle.turn_types.specs.Profile.{reservation_lifetime}
 use Rattle.turn_types.specs.declared.address.FiveTuple.{FiveTuple}
 use Rattle.turn_types.specs.declared.limits.Bounds.{Bounds}
 
@@ -60,13 +61,13 @@ reads_port_after : (entries : List (FiveTuple × Entry)) (before : List (ℕ × 
 unfolding reserved_port_after
 reads_port_after entries before = reads_judged (odd_port_at entries) (to_be_bytes w16) (IsOdd entries) (λ q. last_passes (λ last. ltb last.0 q) before) OutOfOrder (reads_odd_port entries)
 
-reads_reservation : (t : ℕ) → t + 30 < 2 ^ 64 → (entries : List (FiveTuple × Entry)) (before : List (ℕ × Reservation)) → Reads (reservation_at t entries before) reservation (FitsReserved t entries before)
+reads_reservation : (t : ℕ) → t + reservation_lifetime < 2 ^ 64 → (entries : List (FiveTuple × Entry)) (before : List (ℕ × Reservation)) → Reads (reservation_at t entries before) reservation (FitsReserved t entries before)
 unfolding reservation_at
 reads_reservation t room entries before =
     in_words (reservation_at t entries before) _ reservation _ (FitsReserved t entries before)
-    (chain (reserved_port_after entries before) (to_be_bytes w16) (IsNextPort entries before) (λ q bytes. token_at q bytes >>= λ k. expiry_at t 30 k.1 >>= λ x. Ok ((q, record { token = k.0; expiry = x.0 }), x.1)) _ (λ (r : ℕ × Reservation). r.0) (λ r. Unit {0}) _ (reads_port_after entries before)
-    (λ q h0. chain (token_at q) (λ k. k.0) (IsTokenOf q) (λ k bytes. expiry_at t 30 bytes >>= λ x. Ok ((q, record { token = k; expiry = x.0 }), x.1)) _ (λ (r : ℕ × Reservation). r.1.token) (λ r. Unit {0} × (r.0 ≡ q)) _ (reads_token q h0.0.0)
-    (λ k h1. chain (expiry_at t 30) (to_be_bytes w64) (IsAhead t 30) (λ x bytes. Ok ((q, record { token = k; expiry = x }), bytes)) _ (λ (r : ℕ × Reservation). r.1.expiry) (λ r. (Unit {0} × (r.0 ≡ q)) × (r.1.token ≡ k)) _ (reads_expiry t 30 room)
+    (chain (reserved_port_after entries before) (to_be_bytes w16) (IsNextPort entries before) (λ q bytes. token_at q bytes >>= λ k. expiry_at t reservation_lifetime k.1 >>= λ x. Ok ((q, record { token = k.0; expiry = x.0 }), x.1)) _ (λ (r : ℕ × Reservation). r.0) (λ r. Unit {0}) _ (reads_port_after entries before)
+    (λ q h0. chain (token_at q) (λ k. k.0) (IsTokenOf q) (λ k bytes. expiry_at t reservation_lifetime bytes >>= λ x. Ok ((q, record { token = k; expiry = x.0 }), x.1)) _ (λ (r : ℕ × Reservation). r.1.token) (λ r. Unit {0} × (r.0 ≡ q)) _ (reads_token q h0.0.0)
+    (λ k h1. chain (expiry_at t reservation_lifetime) (to_be_bytes w64) (IsAhead t reservation_lifetime) (λ x bytes. Ok ((q, record { token = k; expiry = x }), bytes)) _ (λ (r : ℕ × Reservation). r.1.expiry) (λ r. (Unit {0} × (r.0 ≡ q)) × (r.1.token ≡ k)) _ (reads_expiry t 30 room)
     (λ x h2. made ((q, record { token = k; expiry = x })) (λ r. ((Unit {0} × (r.0 ≡ q)) × (r.1.token ≡ k)) × (r.1.expiry ≡ x)) (((tt, refl), refl), refl) (λ r e. rw (← e.0.0.1, ← e.0.1, ← e.1) refl)))))
     (λ r. refl)
     (λ r h. (h.1.0.1, (record { port = (h.1.0.0.0, h.1.0.0.1.0); token = h.1.1.0; expiry = h.1.1.1.0 }, h.1.0.0.1.1)))
@@ -113,7 +114,7 @@ module _ (t : ℕ) (entries : List (FiveTuple × Entry)) (sorted : T (fin.is_sor
   entries_are : fin.entries (fin.from_sorted {R = tuple_cmp} entries) ≡ entries
   entries_are = entries-from_sorted tuple_cmp entries sorted
 
-  reads_reserving : t + 30 < 2 ^ 64 → (n : ℕ) → Reads (reserving_at t n entries []) (λ y. each reservation (fin.entries y.1.reserved)) (λ y. (HasEntries t entries y × (fin.len y.1.reserved ≡ n)) × EachAfter (FitsReserved t entries) [] (fin.entries y.1.reserved))
+  reads_reserving : t + reservation_lifetime < 2 ^ 64 → (n : ℕ) → Reads (reserving_at t n entries []) (λ y. each reservation (fin.entries y.1.reserved)) (λ y. (HasEntries t entries y × (fin.len y.1.reserved ≡ n)) × EachAfter (FitsReserved t entries) [] (fin.entries y.1.reserved))
   unfolding reserving_at
   reads_reserving room n =
       let are = λ (rs : List (ℕ × Reservation)) (h : (length rs ≡ n) × EachAfter (FitsReserved t entries) [] rs). entries-from_sorted nat_cmp rs (reserved_rise t entries rs h.1) in
@@ -124,7 +125,7 @@ module _ (t : ℕ) (entries : List (FiveTuple × Entry)) (sorted : T (fin.is_sor
       (λ rs h. ap (each reservation) (are rs h)) (λ rs h. (((refl, entries_are), size rs h), rw (are rs h) h.1))
       (λ y h. (fin.entries y.1.reserved, table_again t entries (fin.entries y.1.reserved) y h.0.0 refl, (sym (len-entries y.1.reserved) ∙ h.0.1, h.1)))
 
-  pub reads_reserved : (v : Version) (b : Bounds) → AreInRange b → t + 30 < 2 ^ 64 → Reads (reserved_at v b t entries) (λ y. reserved v y.1.reserved) (λ y. HasEntries t entries y × FitsReservations v b t entries y.1.reserved)
+  pub reads_reserved : (v : Version) (b : Bounds) → AreInRange b → t + reservation_lifetime < 2 ^ 64 → Reads (reserved_at v b t entries) (λ y. reserved v y.1.reserved) (λ y. HasEntries t entries y × FitsReservations v b t entries y.1.reserved)
   unfolding reserved_at reserved
   reads_reserved V1 b range room =
       reads_as (λ bytes. Ok (tt, bytes)) (λ x. []) (λ x. Unit {0}) (λ x. (t, table_of entries [])) (λ y. []) (λ y. HasEntries t entries y × (fin.entries y.1.reserved ≡ [])) reads_nothing

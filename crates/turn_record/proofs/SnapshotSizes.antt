@@ -22,6 +22,7 @@ use Rattle.turn_record.specs.declared.version.Version.{Version}
 use Rattle.turn_record.specs.declared.version.Version.TheVariants.{V1, V2}
 use Rattle.turn_record.specs.Written.{IsShort, AreShort}
 use Rattle.turn_types.specs.Limits.{AreInRange, max_bounds}
+use Rattle.turn_types.specs.Profile.{max_allocations}
 use Rattle.turn_types.specs.declared.address.FiveTuple.{FiveTuple}
 use Rattle.turn_types.specs.declared.limits.Bounds.{Bounds}
 use Rattle.turn_types.specs.declared.message.Token.{Token}
@@ -145,7 +146,7 @@ snapshot_at_most v b t c s =
 -- whatever the limits are
 pub snapshot_small : (v : Version) (b : Bounds) (t : ℕ) (c : Contents) → AreInRange b → IsSnapshot v b t c → length (snapshot v t c) ≤ 1508368
 snapshot_small v b t c range s =
-    let one : b.allocations * max_entry v b ≤ 1024 * max_entry v b = mul-le-mul_right (max_entry v b) range.allocations.1 in
+    let one : b.allocations * max_entry v b ≤ max_allocations * max_entry v b = mul-le-mul_right (max_entry v b) range.allocations.1 in
     omega (arith, one, snapshot_at_most v b t c s, range.name_bytes.1, range.permissions.1, range.channels.1, entry_size_most v, max_reserved_small v b range)
 
 -- under the max limits too

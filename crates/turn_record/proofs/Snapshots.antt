@@ -27,6 +27,7 @@ use Rattle.turn_record.proofs.Rising.{rising_sorted}
 use Rattle.turn_record.proofs.Tables.{ArePermissions, AreChannels, FitsEntry, HoldsToken, IsOne, by_keys, entries_rise, from_keys, reads_entry, reads_total, same_port, same_ports}
 use Rattle.turn_types.specs.FiveTuple.{tuple_cmp}
 use Rattle.turn_types.specs.Limits.{AreInRange}
+use Rattle.turn_types.specs.Profile.{max_lifetime, end_of_moments}
 use Rattle.turn_types.specs.declared.address.FiveTuple.{FiveTuple}
 use Rattle.turn_types.specs.declared.limits.Bounds.{Bounds}
 
@@ -59,7 +60,7 @@ holds : (v : Version) (b : Bounds) (t : ℕ) (c : Contents) → FitsReservations
 holds V1 b t c reservations tokens = record { reserved = none_at c.reserved reservations; entries = tokens }
 holds V2 b t c reservations tokens = tt
 
-is_snapshot : (v : Version) (b : Bounds) (t : ℕ) (c : Contents) → t < 2 ^ 40 - 3600 → fin.len c.entries ≤ b.allocations → FitsContents v b t c → IsSnapshot v b t c
+is_snapshot : (v : Version) (b : Bounds) (t : ℕ) (c : Contents) → t < end_of_moments → fin.len c.entries ≤ b.allocations → FitsContents v b t c → IsSnapshot v b t c
 is_snapshot v b t c moment few h =
     let one = of_entries tuple_total tuple_exact (IsOne v b t) c.entries (each_alone (IsOne v b t) [] (fin.entries c.entries) (each_more _ _ (λ before p fits. fits.1.1) [] (fin.entries c.entries) h.0)) in
     let apart : Apart tuple_cmp same_port (fin.entries c.entries) = apart_new tuple_cmp same_port tuple_total same_ports (fin.entries c.entries) (each_more _ _ (λ before p fits. fits.1.0) [] (fin.entries c.entries) h.0) in
@@ -108,7 +109,7 @@ tail v y = each (entry v) (fin.entries y.1.entries) ++ reserved v y.1.reserved
 abbrev FitsTable : Version → Bounds → ℕ → ℕ → ℕ × Contents → Type 0
 FitsTable v b t n y = (y.0 ≡ t) × (((length (fin.entries y.1.entries) ≡ n) × EachAfter (FitsEntry v b t) [] (fin.entries y.1.entries)) × FitsReservations v b t (fin.entries y.1.entries) y.1.reserved)
 
-reads_table : (v : Version) (b : Bounds) → AreInRange b → (t : ℕ) → t + 3600 < 2 ^ 64 → (n : ℕ) → Reads (table_at v b t n []) (tail v) (FitsTable v b t n)
+reads_table : (v : Version) (b : Bounds) → AreInRange b → (t : ℕ) → t + max_lifetime < 2 ^ 64 → (n : ℕ) → Reads (table_at v b t n []) (tail v) (FitsTable v b t n)
 unfolding table_at
 reads_table v b range t room n =
     chain (many (entry_at v b t) n []) (each (entry v)) (λ es. (length es ≡ n) × EachAfter (FitsEntry v b t) [] es) (λ es bytes. reserved_at v b t es bytes) (λ es y. reserved v y.1.reserved) (λ (y : ℕ × Contents). fin.entries y.1.entries) (λ y. y.0 ≡ t) (λ es y. FitsReservations v b t es y.1.reserved)
@@ -116,13 +117,13 @@ reads_table v b range t room n =
     (λ es h. reads_reserved t es (entries_rise v b t es h.1) v b range (omega (arith, room)))
 
 abbrev FitsHead : Bounds → Head → Type 0
-FitsHead b h = (h.moment < 2 ^ 40 - 3600) × (h.count ≤ b.allocations)
+FitsHead b h = (h.moment < end_of_moments) × (h.count ≤ b.allocations)
 
 reads_head : (b : Bounds) → AreInRange b → Reads (head_at b) (λ h. head h.moment h.count) (FitsHead b)
 unfolding head_at
 reads_head b range =
     in_words (head_at b) _ (λ h. head h.moment h.count) _ (FitsHead b)
-    (chain moment_at (to_be_bytes w64) (λ t. t < 2 ^ 40 - 3600) (λ t bytes. total_at b bytes >>= λ n. Ok (record { moment = t; count = n.0 }, n.1)) _ (λ (h : Head). h.moment) (λ h. Unit {0}) _ reads_moment
+    (chain moment_at (to_be_bytes w64) (λ t. t < end_of_moments) (λ t bytes. total_at b bytes >>= λ n. Ok (record { moment = t; count = n.0 }, n.1)) _ (λ (h : Head). h.moment) (λ h. Unit {0}) _ reads_moment
     (λ t h0. chain (total_at b) (to_be_bytes w32) (λ n. n ≤ b.allocations) (λ n bytes. Ok (record { moment = t; count = n }, bytes)) _ (λ (h : Head). h.count) (λ h. Unit {0} × (h.moment ≡ t)) _ (reads_total b range)
     (λ n h1. made (record { moment = t; count = n }) (λ h. (Unit {0} × (h.moment ≡ t)) × (h.count ≡ n)) ((tt, refl), refl) (λ h q. rw (← q.0.1, ← q.1) refl))))
     (λ h. refl) (λ h p. (p.1.0, p.1.1.0)) (λ h p. (tt, (p.0, (p.1, tt))))

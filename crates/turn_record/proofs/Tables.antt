@@ -33,6 +33,7 @@ use Rattle.turn_types.specs.declared.limits.Bounds.{Bounds}
 use Rattle.turn_types.specs.declared.message.Token.{Token}
 use Rattle.turn_record.specs.declared.version.Version.{Version}
 use Rattle.turn_record.specs.declared.version.Version.TheVariants.{V1, V2}
+use Rattle.turn_types.specs.Profile.{permission_lifetime, channel_lifetime, max_lifetime}
 
 -- a moment after another, and not by more than so many seconds
 abbrev pub IsAhead : ℕ → ℕ → ℕ → Type 0
@@ -71,7 +72,7 @@ above_is before k = passes_alike _ _ (λ last. sym (less_is last.0 k)) before
 -- ---- Permissions
 
 abbrev pub IsPermission : ℕ → ℕ × ℕ → Type 0
-IsPermission t p = (p.0 < 2 ^ 32) × IsAhead t 300 p.1
+IsPermission t p = (p.0 < 2 ^ 32) × IsAhead t permission_lifetime p.1
 
 abbrev pub FitsPermission : ℕ → List (ℕ × ℕ) → ℕ × ℕ → Type 0
 FitsPermission t before p = (last_passes (λ last. ltb last.0 p.0) before ≡ true) × IsPermission t p
@@ -80,19 +81,19 @@ reads_address_after : (before : List (ℕ × ℕ)) → Reads (address_after befo
 unfolding address_after
 reads_address_after before = reads_judged (number_at w32) (to_be_bytes w32) (λ n. n < 2 ^ 32) (λ a. last_passes (λ last. ltb last.0 a) before) OutOfOrder reads32
 
-reads_permission : (t : ℕ) → t + 300 < 2 ^ 64 → (before : List (ℕ × ℕ)) → Reads (permission_at t before) permission (FitsPermission t before)
+reads_permission : (t : ℕ) → t + permission_lifetime < 2 ^ 64 → (before : List (ℕ × ℕ)) → Reads (permission_at t before) permission (FitsPermission t before)
 unfolding permission_at
 reads_permission t room before =
     in_words (permission_at t before) _ permission _ (FitsPermission t before)
-    (chain (address_after before) (to_be_bytes w32) (λ a. (a < 2 ^ 32) × (last_passes (λ last. ltb last.0 a) before ≡ true)) (λ a bytes. expiry_at t 300 bytes >>= λ x. Ok ((a, x.0), x.1)) _ (λ (p : ℕ × ℕ). p.0) (λ p. Unit {0}) _ (reads_address_after before)
-    (λ a h0. chain (expiry_at t 300) (to_be_bytes w64) (IsAhead t 300) (λ x bytes. Ok ((a, x), bytes)) _ (λ (p : ℕ × ℕ). p.1) (λ p. Unit {0} × (p.0 ≡ a)) _ (reads_expiry t 300 room)
+    (chain (address_after before) (to_be_bytes w32) (λ a. (a < 2 ^ 32) × (last_passes (λ last. ltb last.0 a) before ≡ true)) (λ a bytes. expiry_at t permission_lifetime bytes >>= λ x. Ok ((a, x.0), x.1)) _ (λ (p : ℕ × ℕ). p.0) (λ p. Unit {0}) _ (reads_address_after before)
+    (λ a h0. chain (expiry_at t permission_lifetime) (to_be_bytes w64) (IsAhead t permission_lifetime) (λ x bytes. Ok ((a, x), bytes)) _ (λ (p : ℕ × ℕ). p.1) (λ p. Unit {0} × (p.0 ≡ a)) _ (reads_expiry t 300 room)
     (λ x h1. made ((a, x)) (λ p. (Unit {0} × (p.0 ≡ a)) × (p.1 ≡ x)) ((tt, refl), refl) (λ p q. rw (← q.0.1, ← q.1) refl))))
     (λ p. refl) (λ p h. (h.1.0.1, (h.1.0.0, h.1.1.0))) (λ p h. (tt, ((h.1.0, h.0), (h.1.1, tt))))
 
 abbrev FitsPermissionList : Bounds → ℕ → List (ℕ × ℕ) → Type 0
 FitsPermissionList b t ps = (length ps ≤ b.permissions) × EachAfter (FitsPermission t) [] ps
 
-reads_permission_list : (b : Bounds) → AreInRange b → (t : ℕ) → t + 300 < 2 ^ 64 → Reads (permission_list_at b t) (λ ps. one (length ps) ++ each permission ps) (FitsPermissionList b t)
+reads_permission_list : (b : Bounds) → AreInRange b → (t : ℕ) → t + permission_lifetime < 2 ^ 64 → Reads (permission_list_at b t) (λ ps. one (length ps) ++ each permission ps) (FitsPermissionList b t)
 unfolding permission_list_at
 reads_permission_list b range t room =
     in_words _ _ _ _ _ (reads_counted (count_at 0 b.permissions) one (λ n. (0 ≤ n) × (n ≤ b.permissions)) (permission_at t) permission (FitsPermission t) (reads_count 0 b.permissions (omega (arith, range.permissions.1))) (reads_permission t room))
@@ -105,14 +106,14 @@ pub true_of : (b : Bool) → T b → b ≡ true
 true_of true p = refl
 true_of false p = absurd p
 
-pub permission_list_rises : (b : Bounds) → AreInRange b → (t : ℕ) → t + 300 < 2 ^ 64 → (bytes : List ℕ) → IsBytes bytes → (ps : List (ℕ × ℕ)) (rest : List ℕ) → permission_list_at b t bytes ≡ Ok (ps, rest) → fin.is_sorted nat_cmp ps ≡ true
+pub permission_list_rises : (b : Bounds) → AreInRange b → (t : ℕ) → t + permission_lifetime < 2 ^ 64 → (bytes : List ℕ) → IsBytes bytes → (ps : List (ℕ × ℕ)) (rest : List ℕ) → permission_list_at b t bytes ≡ Ok (ps, rest) → fin.is_sorted nat_cmp ps ≡ true
 permission_list_rises b range t room bytes fits ps rest e = true_of _ (permissions_rise t ps ((reads_permission_list b range t room).takes bytes ps rest fits e).fits.1)
 
 -- what a table holds of permissions
 abbrev pub ArePermissions : Bounds → ℕ → FinMap nat_cmp ℕ → Type 0
 ArePermissions b t m = (fin.len m ≤ b.permissions) × ((a x : ℕ) → fin.get m a ≡ Some x → IsPermission t (a, x))
 
-reads_permissions : (b : Bounds) → AreInRange b → (t : ℕ) → t + 300 < 2 ^ 64 → Reads (permissions_at b t) permissions (ArePermissions b t)
+reads_permissions : (b : Bounds) → AreInRange b → (t : ℕ) → t + permission_lifetime < 2 ^ 64 → Reads (permissions_at b t) permissions (ArePermissions b t)
 unfolding permissions
 reads_permissions b range t room =
     let sorted = λ (ps : List (ℕ × ℕ)) (h : FitsPermissionList b t ps). entries-from_sorted nat_cmp ps (permissions_rise t ps h.1) in
@@ -133,7 +134,7 @@ reads_permissions b range t room =
 -- ---- Channels
 
 abbrev pub IsChannel : ℕ → ℕ × Channel → Type 0
-IsChannel t c = IsChannelNumber c.0 × (IsEndpoint c.1.peer × IsAhead t 600 c.1.expiry)
+IsChannel t c = IsChannelNumber c.0 × (IsEndpoint c.1.peer × IsAhead t channel_lifetime c.1.expiry)
 
 -- they have one peer
 abbrev pub same_peer : ℕ × Channel → ℕ × Channel → Bool
@@ -152,20 +153,20 @@ reads_other_peer before =
     in_words _ _ _ _ _ (reads_judged endpoint_at endpoint IsEndpoint (λ p. not (list_any (λ c. is_peer p c.1) before)) BadValue reads_endpoint)
     (λ p. refl) (λ p h. (h.0, not_is _ h.1)) (λ p h. (h.0, not_from _ h.1))
 
-reads_channel : (t : ℕ) → t + 600 < 2 ^ 64 → (before : List (ℕ × Channel)) → Reads (channel_at t before) channel (FitsChannel t before)
+reads_channel : (t : ℕ) → t + channel_lifetime < 2 ^ 64 → (before : List (ℕ × Channel)) → Reads (channel_at t before) channel (FitsChannel t before)
 unfolding channel_at
 reads_channel t room before =
     in_words (channel_at t before) _ channel _ (FitsChannel t before)
-    (chain (number_after before) (to_be_bytes w16) (λ n. IsChannelNumber n × (last_passes (λ last. ltb last.0 n) before ≡ true)) (λ n bytes. other_peer_at before bytes >>= λ p. expiry_at t 600 p.1 >>= λ x. Ok ((n, record { peer = p.0; expiry = x.0 }), x.1)) _ (λ (c : ℕ × Channel). c.0) (λ c. Unit {0}) _ (reads_number_after before)
-    (λ n h0. chain (other_peer_at before) endpoint (λ p. IsEndpoint p × (list_any (λ c. is_peer p c.1) before ≡ false)) (λ p bytes. expiry_at t 600 bytes >>= λ x. Ok ((n, record { peer = p; expiry = x.0 }), x.1)) _ (λ (c : ℕ × Channel). c.1.peer) (λ c. Unit {0} × (c.0 ≡ n)) _ (reads_other_peer before)
-    (λ p h1. chain (expiry_at t 600) (to_be_bytes w64) (IsAhead t 600) (λ x bytes. Ok ((n, record { peer = p; expiry = x }), bytes)) _ (λ (c : ℕ × Channel). c.1.expiry) (λ c. (Unit {0} × (c.0 ≡ n)) × (c.1.peer ≡ p)) _ (reads_expiry t 600 room)
+    (chain (number_after before) (to_be_bytes w16) (λ n. IsChannelNumber n × (last_passes (λ last. ltb last.0 n) before ≡ true)) (λ n bytes. other_peer_at before bytes >>= λ p. expiry_at t channel_lifetime p.1 >>= λ x. Ok ((n, record { peer = p.0; expiry = x.0 }), x.1)) _ (λ (c : ℕ × Channel). c.0) (λ c. Unit {0}) _ (reads_number_after before)
+    (λ n h0. chain (other_peer_at before) endpoint (λ p. IsEndpoint p × (list_any (λ c. is_peer p c.1) before ≡ false)) (λ p bytes. expiry_at t channel_lifetime bytes >>= λ x. Ok ((n, record { peer = p; expiry = x.0 }), x.1)) _ (λ (c : ℕ × Channel). c.1.peer) (λ c. Unit {0} × (c.0 ≡ n)) _ (reads_other_peer before)
+    (λ p h1. chain (expiry_at t channel_lifetime) (to_be_bytes w64) (IsAhead t channel_lifetime) (λ x bytes. Ok ((n, record { peer = p; expiry = x }), bytes)) _ (λ (c : ℕ × Channel). c.1.expiry) (λ c. (Unit {0} × (c.0 ≡ n)) × (c.1.peer ≡ p)) _ (reads_expiry t 600 room)
     (λ x h2. made ((n, record { peer = p; expiry = x })) (λ c. ((Unit {0} × (c.0 ≡ n)) × (c.1.peer ≡ p)) × (c.1.expiry ≡ x)) (((tt, refl), refl), refl) (λ c q. rw (← q.0.0.1, ← q.0.1, ← q.1) refl)))))
     (λ c. refl) (λ c h. (h.1.0.1, (h.1.1.0.1, (h.1.0.0, (h.1.1.0.0, h.1.1.1.0))))) (λ c h. (tt, ((h.1.1.0, h.0), ((h.1.1.1.0, h.1.0), (h.1.1.1.1, tt)))))
 
 abbrev FitsChannelList : Bounds → ℕ → List (ℕ × Channel) → Type 0
 FitsChannelList b t cs = (length cs ≤ b.channels) × EachAfter (FitsChannel t) [] cs
 
-reads_channel_list : (b : Bounds) → AreInRange b → (t : ℕ) → t + 600 < 2 ^ 64 → Reads (channel_list_at b t) (λ cs. one (length cs) ++ each channel cs) (FitsChannelList b t)
+reads_channel_list : (b : Bounds) → AreInRange b → (t : ℕ) → t + channel_lifetime < 2 ^ 64 → Reads (channel_list_at b t) (λ cs. one (length cs) ++ each channel cs) (FitsChannelList b t)
 unfolding channel_list_at
 reads_channel_list b range t room =
     in_words _ _ _ _ _ (reads_counted (count_at 0 b.channels) one (λ n. (0 ≤ n) × (n ≤ b.channels)) (channel_at t) channel (FitsChannel t) (reads_count 0 b.channels (omega (arith, range.channels.1))) (reads_channel t room))
@@ -174,7 +175,7 @@ reads_channel_list b range t room =
 pub channels_rise : (t : ℕ) (cs : List (ℕ × Channel)) → EachAfter (FitsChannel t) [] cs → T (fin.is_sorted nat_cmp cs)
 channels_rise t cs h = sorted_rising nat_cmp nat_cmp_total cs (each_more _ _ (λ before c fits. sym (above_is before c.0) ∙ fits.0) [] cs h)
 
-pub channel_list_rises : (b : Bounds) → AreInRange b → (t : ℕ) → t + 600 < 2 ^ 64 → (bytes : List ℕ) → IsBytes bytes → (cs : List (ℕ × Channel)) (rest : List ℕ) → channel_list_at b t bytes ≡ Ok (cs, rest) → fin.is_sorted nat_cmp cs ≡ true
+pub channel_list_rises : (b : Bounds) → AreInRange b → (t : ℕ) → t + channel_lifetime < 2 ^ 64 → (bytes : List ℕ) → IsBytes bytes → (cs : List (ℕ × Channel)) (rest : List ℕ) → channel_list_at b t bytes ≡ Ok (cs, rest) → fin.is_sorted nat_cmp cs ≡ true
 channel_list_rises b range t room bytes fits cs rest e = true_of _ (channels_rise t cs ((reads_channel_list b range t room).takes bytes cs rest fits e).fits.1)
 
 alike : (a b : Bool) → (a ≡ true → b ≡ true) → (b ≡ true → a ≡ true) → a ≡ b
@@ -224,7 +225,7 @@ channels_are b t m h =
       each_both _ _ _ (λ before c up more. (above_is before c.0 ∙ up, more)) [] (fin.entries m) rises (each_both _ _ (λ before c. (list_any (same_peer c) before ≡ false) × IsChannel t c) (λ before c other value. (other, value)) [] (fin.entries m) new values),
     )
 
-reads_channels : (b : Bounds) → AreInRange b → (t : ℕ) → t + 600 < 2 ^ 64 → Reads (channels_at b t) channels (AreChannels b t)
+reads_channels : (b : Bounds) → AreInRange b → (t : ℕ) → t + channel_lifetime < 2 ^ 64 → Reads (channels_at b t) channels (AreChannels b t)
 unfolding channels
 reads_channels b range t room =
     let sorted = λ (cs : List (ℕ × Channel)) (h : FitsChannelList b t cs). entries-from_sorted nat_cmp cs (channels_rise t cs h.1) in
@@ -341,7 +342,7 @@ abbrev plain_of : Entry → Allocation
 plain_of e = plain e.user e.port e.granted e.tx
 
 -- an entry in its range, from its fields
-in_range : (b : Bounds) (t : ℕ) (free : ℕ → Bool) (e : Entry) → FitsAllocation b free (plain_of e) → IfSome e.token (IsTokenAfter e.port) → IsAhead t 3600 e.expiry → ArePermissions b t e.permissions → AreChannels b t e.channels → IsEntryInRange b t e
+in_range : (b : Bounds) (t : ℕ) (free : ℕ → Bool) (e : Entry) → FitsAllocation b free (plain_of e) → IfSome e.token (IsTokenAfter e.port) → IsAhead t max_lifetime e.expiry → ArePermissions b t e.permissions → AreChannels b t e.channels → IsEntryInRange b t e
 in_range b t free e a token x ps cs = record {
   made = allocation_fits b free (plain_of e) e.token a token;
   expiry = x;
@@ -349,14 +350,14 @@ in_range b t free e a token x ps cs = record {
   channels = λ n c is. let p = cs.values n c is in (p.0, p.1.0, p.1.1.0, p.1.1.1);
 }
 
-pub reads_entry : (v : Version) (b : Bounds) → AreInRange b → (t : ℕ) → t + 3600 < 2 ^ 64 → (before : List (FiveTuple × Entry)) → Reads (entry_at v b t before) (entry v) (FitsEntry v b t before)
+pub reads_entry : (v : Version) (b : Bounds) → AreInRange b → (t : ℕ) → t + max_lifetime < 2 ^ 64 → (before : List (FiveTuple × Entry)) → Reads (entry_at v b t before) (entry v) (FitsEntry v b t before)
 unfolding entry_at entry
 reads_entry v b range t room before =
     in_words (entry_at v b t before) _ (entry v) _ (FitsEntry v b t before)
-    (chain (tuple_after before) five_tuple (λ f. IsTuple f × (last_passes (λ last. is_lt (tuple_cmp last.0 f)) before ≡ true)) (λ f bytes. allocation_at b (is_free_after before) bytes >>= λ a. mark_at v a.0.port a.1 >>= λ k. expiry_at t 3600 k.1 >>= λ x. permissions_at b t x.1 >>= λ ps. channels_at b t ps.1 >>= λ cs. Ok ((f, entry_with a.0 k.0 x.0 ps.0 cs.0), cs.1)) _ (λ (p : FiveTuple × Entry). p.0) (λ p. Unit {0}) _ (reads_tuple_after before)
-    (λ f h0. chain (allocation_at b (is_free_after before)) allocation (FitsAllocation b (is_free_after before)) (λ a bytes. mark_at v a.port bytes >>= λ k. expiry_at t 3600 k.1 >>= λ x. permissions_at b t x.1 >>= λ ps. channels_at b t ps.1 >>= λ cs. Ok ((f, entry_with a k.0 x.0 ps.0 cs.0), cs.1)) _ (λ (p : FiveTuple × Entry). plain_of p.1) (λ p. Unit {0} × (p.0 ≡ f)) _ (reads_allocation b range (is_free_after before))
-    (λ a h1. chain (mark_at v a.port) (mark v) (FitsMark v a.port) (λ k bytes. expiry_at t 3600 bytes >>= λ x. permissions_at b t x.1 >>= λ ps. channels_at b t ps.1 >>= λ cs. Ok ((f, entry_with a k x.0 ps.0 cs.0), cs.1)) _ (λ (p : FiveTuple × Entry). p.1.token) (λ p. (Unit {0} × (p.0 ≡ f)) × (plain_of p.1 ≡ a)) _ (reads_mark v a.port h1.port)
-    (λ k hk. chain (expiry_at t 3600) (to_be_bytes w64) (IsAhead t 3600) (λ x bytes. permissions_at b t bytes >>= λ ps. channels_at b t ps.1 >>= λ cs. Ok ((f, entry_with a k x ps.0 cs.0), cs.1)) _ (λ (p : FiveTuple × Entry). p.1.expiry) (λ p. ((Unit {0} × (p.0 ≡ f)) × (plain_of p.1 ≡ a)) × (p.1.token ≡ k)) _ (reads_expiry t 3600 room)
+    (chain (tuple_after before) five_tuple (λ f. IsTuple f × (last_passes (λ last. is_lt (tuple_cmp last.0 f)) before ≡ true)) (λ f bytes. allocation_at b (is_free_after before) bytes >>= λ a. mark_at v a.0.port a.1 >>= λ k. expiry_at t max_lifetime k.1 >>= λ x. permissions_at b t x.1 >>= λ ps. channels_at b t ps.1 >>= λ cs. Ok ((f, entry_with a.0 k.0 x.0 ps.0 cs.0), cs.1)) _ (λ (p : FiveTuple × Entry). p.0) (λ p. Unit {0}) _ (reads_tuple_after before)
+    (λ f h0. chain (allocation_at b (is_free_after before)) allocation (FitsAllocation b (is_free_after before)) (λ a bytes. mark_at v a.port bytes >>= λ k. expiry_at t max_lifetime k.1 >>= λ x. permissions_at b t x.1 >>= λ ps. channels_at b t ps.1 >>= λ cs. Ok ((f, entry_with a k.0 x.0 ps.0 cs.0), cs.1)) _ (λ (p : FiveTuple × Entry). plain_of p.1) (λ p. Unit {0} × (p.0 ≡ f)) _ (reads_allocation b range (is_free_after before))
+    (λ a h1. chain (mark_at v a.port) (mark v) (FitsMark v a.port) (λ k bytes. expiry_at t max_lifetime bytes >>= λ x. permissions_at b t x.1 >>= λ ps. channels_at b t ps.1 >>= λ cs. Ok ((f, entry_with a k x.0 ps.0 cs.0), cs.1)) _ (λ (p : FiveTuple × Entry). p.1.token) (λ p. (Unit {0} × (p.0 ≡ f)) × (plain_of p.1 ≡ a)) _ (reads_mark v a.port h1.port)
+    (λ k hk. chain (expiry_at t max_lifetime) (to_be_bytes w64) (IsAhead t max_lifetime) (λ x bytes. permissions_at b t bytes >>= λ ps. channels_at b t ps.1 >>= λ cs. Ok ((f, entry_with a k x ps.0 cs.0), cs.1)) _ (λ (p : FiveTuple × Entry). p.1.expiry) (λ p. ((Unit {0} × (p.0 ≡ f)) × (plain_of p.1 ≡ a)) × (p.1.token ≡ k)) _ (reads_expiry t 3600 room)
     (λ x h2. chain (permissions_at b t) permissions (ArePermissions b t) (λ ps bytes. channels_at b t bytes >>= λ cs. Ok ((f, entry_with a k x ps cs.0), cs.1)) _ (λ (p : FiveTuple × Entry). p.1.permissions) (λ p. (((Unit {0} × (p.0 ≡ f)) × (plain_of p.1 ≡ a)) × (p.1.token ≡ k)) × (p.1.expiry ≡ x)) _ (reads_permissions b range t (omega (arith, room)))
     (λ ps h3. chain (channels_at b t) channels (AreChannels b t) (λ cs bytes. Ok ((f, entry_with a k x ps cs), bytes)) _ (λ (p : FiveTuple × Entry). p.1.channels) (λ p. ((((Unit {0} × (p.0 ≡ f)) × (plain_of p.1 ≡ a)) × (p.1.token ≡ k)) × (p.1.expiry ≡ x)) × (p.1.permissions ≡ ps)) _ (reads_channels b range t (omega (arith, room)))
     (λ cs h4. made ((f, entry_with a k x ps cs)) (λ p. (((((Unit {0} × (p.0 ≡ f)) × (plain_of p.1 ≡ a)) × (p.1.token ≡ k)) × (p.1.expiry ≡ x)) × (p.1.permissions ≡ ps)) × (p.1.channels ≡ cs)) ((((((tt, refl), λ i. record { user = a.user; port = a.port; granted = a.granted; tx = a.tx; token = sym h1.token i }), refl), refl), refl), refl) (λ p q. rw (← q.0.0.0.0.0.1, ← q.0.0.0.0.1, ← q.0.0.0.1, ← q.0.0.1, ← q.0.1, ← q.1) refl))))))))

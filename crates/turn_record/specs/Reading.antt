@@ -11,6 +11,7 @@ use Rattle.turn_record.specs.declared.error.ReadError.{ReadError}
 use Rattle.turn_record.specs.declared.error.ReadError.TheVariants as errors
 use Rattle.turn_record.specs.declared.version.Version.{Version}
 use Rattle.turn_record.specs.declared.version.Version.TheVariants.{V1, V2}
+use Rattle.turn_types.specs.Profile.{default_lifetime, max_lifetime, end_of_moments}
 use Rattle.turn_types.specs.declared.address.Endpoint.{Endpoint}
 use Rattle.turn_types.specs.declared.address.FiveTuple.{FiveTuple}
 use Rattle.turn_types.specs.declared.limits.Bounds.{Bounds}
@@ -76,7 +77,7 @@ many item (suc n) before bytes = do
 unfoldable pub moment_at : List ℕ → Field ℕ
 moment_at bytes = do
   m ← number_at w64 bytes
-  judged (nat_lt m.0 (2 ^ 40 - 3600)) BadValue m
+  judged (nat_lt m.0 end_of_moments) BadValue m
 
 -- an address and a port
 unfoldable pub endpoint_at : List ℕ → Field Endpoint
@@ -108,13 +109,13 @@ name_at b bytes = do
 unfoldable pub granted_at : List ℕ → Field ℕ
 granted_at bytes = do
   g ← number_at w32 bytes
-  judged (nat_le 600 g.0 && nat_le g.0 3600) BadValue g
+  judged (nat_le default_lifetime g.0 && nat_le g.0 max_lifetime) BadValue g
 
 -- the seconds of a Renew: 0, or 600 to 3600
 unfoldable pub renewed_at : List ℕ → Field ℕ
 renewed_at bytes = do
   g ← number_at w32 bytes
-  judged (nat_eq g.0 0 || (nat_le 600 g.0 && nat_le g.0 3600)) BadValue g
+  judged (nat_eq g.0 0 || (nat_le default_lifetime g.0 && nat_le g.0 max_lifetime)) BadValue g
 
 -- a transaction id: twelve bytes
 unfoldable pub tx_at : List ℕ → Field TxId

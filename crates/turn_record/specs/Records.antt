@@ -9,6 +9,7 @@ use Rattle.turn_types.specs.declared.limits.Bounds.{Bounds}
 use Rattle.turn_record.specs.Bytes.{act_entry, payload, snapshot}
 use Rattle.turn_record.specs.declared.version.Version.{Version}
 use Rattle.turn_record.specs.declared.version.Version.TheVariants.{V1, V2}
+use Rattle.turn_types.specs.Profile.{end_of_moments}
 
 -- the acts that a version can hold: version 1 those that reserve no port
 abbrev pub Writes : Version → PlainAct → Type 0
@@ -49,7 +50,7 @@ pub record SpellsPayload (v : Version) (b : Bounds) (es : List Event) (bytes : L
 -- a table at a moment that a snapshot can hold: all of it is ahead of the moment, in its range and within the limits,
 -- no port and no peer stands twice, and the version can hold it
 pub record IsSnapshot (v : Version) (b : Bounds) (t : ℕ) (c : Contents) : Type 0 where
-  pub moment : t < 2 ^ 40 - 3600
+  pub moment : t < end_of_moments
   pub holds : Holds v c
   pub values : AreEntriesInRange b t c
   pub reserved : AreReservationsInRange t c

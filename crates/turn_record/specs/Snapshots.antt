@@ -16,6 +16,7 @@ use Rattle.turn_record.specs.Reading.{◌>>=◌, Field, last_passes, judged, byt
 use Rattle.turn_record.specs.declared.version.Version.{Version}
 use Rattle.turn_record.specs.declared.version.Version.TheVariants.{V1, V2}
 use Rattle.turn_types.specs.FiveTuple.{tuple_cmp}
+use Rattle.turn_types.specs.Profile.{permission_lifetime, channel_lifetime, max_lifetime, reservation_lifetime}
 use Rattle.turn_types.specs.declared.address.Endpoint.{Endpoint}
 use Rattle.turn_types.specs.declared.address.FiveTuple.{FiveTuple}
 use Rattle.turn_types.specs.declared.limits.Bounds.{Bounds}
@@ -45,7 +46,7 @@ address_after before bytes = do
 unfoldable pub permission_at : ℕ → List (ℕ × ℕ) → List ℕ → Field (ℕ × ℕ)
 permission_at t before bytes = do
   a ← address_after before bytes
-  x ← expiry_at t 300 a.1
+  x ← expiry_at t permission_lifetime a.1
   Ok ((a.0, x.0), x.1)
 
 -- a count, and as many permissions
@@ -77,7 +78,7 @@ unfoldable pub channel_at : ℕ → List (ℕ × Channel) → List ℕ → Field
 channel_at t before bytes = do
   n ← number_after before bytes
   p ← other_peer_at before n.1
-  x ← expiry_at t 600 p.1
+  x ← expiry_at t channel_lifetime p.1
   Ok ((n.0, record { peer = p.0; expiry = x.0 }), x.1)
 
 -- a count, and as many channels
@@ -135,7 +136,7 @@ entry_at v b t before bytes = do
   f ← tuple_after before bytes
   a ← allocation_at b (is_free_after before) f.1
   k ← mark_at v a.0.port a.1
-  x ← expiry_at t 3600 k.1
+  x ← expiry_at t max_lifetime k.1
   ps ← permissions_at b t x.1
   cs ← channels_at b t ps.1
   Ok ((f.0, entry_with a.0 k.0 x.0 ps.0 cs.0), cs.1)
@@ -167,7 +168,7 @@ unfoldable pub reservation_at : ℕ → List (FiveTuple × Entry) → List (ℕ 
 reservation_at t entries before bytes = do
   q ← reserved_port_after entries before bytes
   k ← token_at q.0 q.1
-  x ← expiry_at t 30 k.1
+  x ← expiry_at t reservation_lifetime k.1
   Ok ((q.0, record { token = k.0; expiry = x.0 }), x.1)
 
 -- n reserved ports more, and the table that they make with those before them and the entries, at the moment t

@@ -17,7 +17,7 @@ use crate::version::Version;
 use std::alloc::Allocator;
 use turn_history::UserName;
 use turn_table::{Entry, EntryParts, Table, above_the_last};
-use turn_types::{FiveTuple, Token, TxId};
+use turn_types::{FiveTuple, MAX_LIFETIME, Token, TxId};
 
 /// Whether a five-tuple is above that of the last entry.
 fn is_above_last<A: Allocator + Copy>(table: &Table<A>, tuple: FiveTuple) -> bool
@@ -147,7 +147,7 @@ pub(crate) fn entry_after<'a, A: Allocator + Copy>(
     let (tuple, rest) = tuple_after(table, bytes)?;
     let (made, rest) = allocation_of(alloc, table, rest)?;
     let (token, rest) = mark_of(version, made.port, rest)?;
-    let (expiry, rest) = expiry_of(table.moment(), 3600, rest)?;
+    let (expiry, rest) = expiry_of(table.moment(), u64::from(MAX_LIFETIME), rest)?;
     let (permissions, rest) = permissions_of(alloc, table.limits(), table.moment(), rest)?;
     let (channels, rest) = channels_of(alloc, table.limits(), table.moment(), rest)?;
     let entry = Entry::new(EntryParts {

@@ -9,7 +9,9 @@ ghost use Rattle.turn_record.specs.Reading.{Gives, byte_at, bytes_at, count_at, 
 use crate::error::{DecodeError, ReadError};
 use std::alloc::Allocator;
 use turn_history::{ChannelNumber, UserName};
-use turn_types::{Bounds, Endpoint, FiveTuple, Moment, Token, TxId};
+use turn_types::{
+    Bounds, DEFAULT_LIFETIME, Endpoint, FiveTuple, MAX_LIFETIME, Moment, Token, TxId,
+};
 
 pub(crate) fn byte_of(bytes: &[u8]) -> Result<(u8, &[u8]), ReadError>
     ensures { Gives (λ x. (x.0, x.1.now)) result (byte_at bytes.now) }
@@ -124,7 +126,7 @@ pub(crate) fn granted_of(bytes: &[u8]) -> Result<(u32, &[u8]), ReadError>
     ensures { Gives (λ x. (x.0, x.1.now)) result (granted_at bytes.now) }
 {
     let (granted, rest) = u32_of(bytes)?;
-    if granted < 600 || 3600 < granted {
+    if granted < DEFAULT_LIFETIME || MAX_LIFETIME < granted {
         return Err(ReadError::Malformed(DecodeError::BadValue));
     }
     Ok((granted, rest))
@@ -135,7 +137,7 @@ pub(crate) fn renewed_of(bytes: &[u8]) -> Result<(u32, &[u8]), ReadError>
     ensures { Gives (λ x. (x.0, x.1.now)) result (renewed_at bytes.now) }
 {
     let (granted, rest) = u32_of(bytes)?;
-    if granted != 0 && (granted < 600 || 3600 < granted) {
+    if granted != 0 && (granted < DEFAULT_LIFETIME || MAX_LIFETIME < granted) {
         return Err(ReadError::Malformed(DecodeError::BadValue));
     }
     Ok((granted, rest))

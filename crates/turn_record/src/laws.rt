@@ -10,6 +10,7 @@ ghost use Rattle.turn_record.specs.Records.{Holds, IsBatch, IsSnapshot, Writes, 
 ghost use Rattle.turn_record.specs.declared.version.Version.{Version};
 ghost use Rattle.turn_record.specs.declared.version.Version.TheVariants.{V1, V2};
 ghost use Rattle.turn_types.specs.Limits.{AreInRange};
+ghost use Rattle.turn_types.specs.Profile.{end_of_moments};
 ghost use Rattle.turn_types.specs.declared.limits.Bounds.{Bounds};
 
 /// Bytes encode one event, one batch, or in a version one table at one moment, at most, and no encoding of one is a
@@ -26,16 +27,16 @@ pub fn spellings_are_one()
 /// The table of a fitting history has a snapshot, at each moment from the history's clock on, in each version that can
 /// hold it, as a version can that can hold the history's acts.
 pub fn tables_have_snapshots()
-    ensures holds { (v : Version) (b : Bounds) (h : History) (t : ℕ) → IsFitting b h → clock h ≤ t → t < 2 ^ 40 - 3600 →
+    ensures holds { (v : Version) (b : Bounds) (h : History) (t : ℕ) → IsFitting b h → clock h ≤ t → t < end_of_moments →
         Holds v (table h t) → IsSnapshot v b t (table h t) }
-    ensures writes { (v : Version) (b : Bounds) (h : History) (t : ℕ) → IsFitting b h → clock h ≤ t → t < 2 ^ 40 - 3600 →
+    ensures writes { (v : Version) (b : Bounds) (h : History) (t : ℕ) → IsFitting b h → clock h ≤ t → t < end_of_moments →
         AllByRecursion (λ e. Writes v e.act) h → IsSnapshot v b t (table h t) }
 {}
 
 /// What has a snapshot at a moment still has one at a later moment, without what has expired by then, and has one after
 /// an event that fits it at its moment and that the version can hold.
 pub fn snapshots_go_on()
-    ensures later { (v : Version) (b : Bounds) (t u : ℕ) (c : Contents) → t ≤ u → u < 2 ^ 40 - 3600 → IsSnapshot v b t c → IsSnapshot v b u (purged u c) }
+    ensures later { (v : Version) (b : Bounds) (t u : ℕ) (c : Contents) → t ≤ u → u < end_of_moments → IsSnapshot v b t c → IsSnapshot v b u (purged u c) }
     ensures acts { (v : Version) (b : Bounds) (e : Event) (c : Contents) → Writes v e.act → IsInRange b e → Fits b c e.tuple e.act → IsSnapshot v b e.moment c →
         IsSnapshot v b e.moment (applied e.moment e.tuple e.act c) }
 {}

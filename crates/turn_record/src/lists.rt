@@ -9,16 +9,17 @@ ghost use Rattle.turn_history.specs.Fitting.{is_peer};
 ghost use Rattle.turn_record.specs.Reading.{Field, Gives, judged, last_passes, many};
 ghost use Rattle.turn_record.specs.Snapshots.{address_after, channel_at, channel_list_at, expiry_at, list_at, other_peer_at, permission_at, permission_list_at};
 ghost use Rattle.turn_record.specs.declared.error.DecodeError.TheVariants.{BadValue};
+ghost use Rattle.turn_types.specs.Profile.{max_lifetime};
 
 use crate::error::{DecodeError, ReadError};
 use crate::field::{channel_number, count_of, endpoint_of, u16_of, u32_of, u64_of};
 use std::alloc::Allocator;
 use turn_history::{Channel, ChannelNumber};
-use turn_types::{Endpoint, Limits, Moment};
+use turn_types::{CHANNEL_LIFETIME, Endpoint, Limits, Moment, PERMISSION_LIFETIME};
 
 #[tactic(auto, unfolding(crate::specs::Snapshots::expiry_at))]
 pub(crate) fn expiry_of(moment: Moment, most: u64, bytes: &[u8]) -> Result<(u64, &[u8]), ReadError>
-    requires { most ≤ 3600 }
+    requires { most ≤ max_lifetime }
     ensures { Gives (λ x. (x.0, x.1.now)) result (expiry_at moment most bytes.now) }
 {
     let (expiry, rest) = u64_of(bytes)?;
@@ -99,7 +100,7 @@ impl ListItem for (u32, u64) {
         bytes: &'a [u8],
     ) -> Result<((u32, u64), &'a [u8]), ReadError> {
         let (address, rest) = address_after(before, bytes)?;
-        let (expiry, rest) = expiry_of(moment, 300, rest)?;
+        let (expiry, rest) = expiry_of(moment, PERMISSION_LIFETIME, rest)?;
         Ok(((address, expiry), rest))
     }
 }
@@ -167,7 +168,7 @@ impl ListItem for (ChannelNumber, Channel) {
             return Err(ReadError::Malformed(DecodeError::OutOfOrder));
         }
         let (peer, rest) = other_peer_of(before, rest)?;
-        let (expiry, rest) = expiry_of(moment, 600, rest)?;
+        let (expiry, rest) = expiry_of(moment, CHANNEL_LIFETIME, rest)?;
         Ok(((number, Channel { peer, expiry }), rest))
     }
 }

@@ -13,6 +13,7 @@ use crate::lists::expiry_of;
 use std::alloc::Allocator;
 use turn_history::Reservation;
 use turn_table::Table;
+use turn_types::RESERVATION_LIFETIME;
 
 /// An odd port that no entry has.
 #[tactic(auto, unfolding(crate::specs::Snapshots::odd_port_at))]
@@ -68,6 +69,6 @@ pub(crate) fn reservation_after<'a, A: Allocator + Copy>(
 {
     let (port, rest) = reserved_port_after(table, bytes)?;
     let (token, rest) = token_of(port, rest)?;
-    let (expiry, rest) = expiry_of(table.moment(), 30, rest)?;
+    let (expiry, rest) = expiry_of(table.moment(), RESERVATION_LIFETIME, rest)?;
     Ok((port, Reservation { token, expiry }, rest))
 }

@@ -42,21 +42,22 @@ use Rattle.turn_rules.proofs.EachOnce.{many, once_distinct}
 use Rattle.turn_rules.proofs.Chosen.{needed_is, next_free, port_is_port}
 use Rattle.turn_rules.proofs.Reached.{IsNew, Known, Reached, known}
 use Rattle.turn_rules.proofs.Tokens.{token_is_of}
+use Rattle.turn_types.specs.Profile.{default_lifetime, max_lifetime}
 
 -- ---- Lifetimes
 
 lifetime : (o : Option ℕ) → IsLifetime (granted o)
 unfolding granted
 lifetime None = (omega arith, omega arith)
-lifetime (Some x) = by_most (nat_lt 3600 x) refl
+lifetime (Some x) = by_most (nat_lt max_lifetime x) refl
   where
-    by_least : (b : Bool) → nat_lt 600 x ≡ b → nat_lt 3600 x ≡ false → IsLifetime (if b then x else 600)
+    by_least : (b : Bool) → nat_lt default_lifetime x ≡ b → nat_lt max_lifetime x ≡ false → IsLifetime (if b then x else default_lifetime)
     by_least true is most = (grind (arith, nat_tests), grind (arith, nat_tests))
     by_least false is most = (omega arith, omega arith)
 
-    by_most : (b : Bool) → nat_lt 3600 x ≡ b → IsLifetime (if b then 3600 else if nat_lt 600 x then x else 600)
+    by_most : (b : Bool) → nat_lt max_lifetime x ≡ b → IsLifetime (if b then max_lifetime else if nat_lt default_lifetime x then x else default_lifetime)
     by_most true is = (omega arith, omega arith)
-    by_most false is = by_least (nat_lt 600 x) refl is
+    by_most false is = by_least (nat_lt default_lifetime x) refl is
 
 renewed : (o : Option ℕ) → (renewed_for o ≡ 0) ⊎ IsLifetime (renewed_for o)
 renewed None = inr (lifetime None)

@@ -11,15 +11,16 @@ use Rattle.turn_ports.specs.declared.generator.RelayAddressGenerator as generato
 use Rattle.turn_sockets.specs.Moments.{IsMoment}
 use Rattle.turn_step.specs.Outcome.{Arrives}
 use Rattle.turn_serving.specs.Turns.{AreAt, Served}
+use Rattle.turn_types.specs.Profile.{end_of_moments}
 
 -- of two moments in a row the second is one by the first clock
 pub moments_in_row : {told : ℕ → Type 0} {clock middle moment : ℕ} → IsMoment told clock middle → IsMoment told middle moment → IsMoment told clock moment
 moments_in_row {told = told} {clock = clock} {middle = middle} {moment = moment} first second = by_second (low_or_high second.second)
   where
-    low_or_high : (n : ℕ) → (n < 2 ^ 40 - 3600) ⊎ (2 ^ 40 - 3600 ≤ n)
+    low_or_high : (n : ℕ) → (n < end_of_moments) ⊎ (end_of_moments ≤ n)
     low_or_high n = search arith
 
-    by_first : second.second < 2 ^ 40 - 3600 → (first.second < 2 ^ 40 - 3600) ⊎ (2 ^ 40 - 3600 ≤ first.second) → (first.second ≤ second.second) ⊎ (second.second < first.second) → IsMoment told clock moment
+    by_first : second.second < end_of_moments → (first.second < end_of_moments) ⊎ (end_of_moments ≤ first.second) → (first.second ≤ second.second) ⊎ (second.second < first.second) → IsMoment told clock moment
     by_first low (inl early) (inl less) = record {
       second = second.second;
       was_told = second.was_told;
@@ -39,7 +40,7 @@ moments_in_row {told = told} {clock = clock} {middle = middle} {moment = moment}
       beyond = λ high. absurd (omega arith);
     }
 
-    by_second : (second.second < 2 ^ 40 - 3600) ⊎ (2 ^ 40 - 3600 ≤ second.second) → IsMoment told clock moment
+    by_second : (second.second < end_of_moments) ⊎ (end_of_moments ≤ second.second) → IsMoment told clock moment
     by_second (inl low) = by_first low (low_or_high first.second) (search arith)
     by_second (inr high) = subst (IsMoment told clock) (sym (second.beyond high)) first
 

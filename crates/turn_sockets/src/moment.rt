@@ -2,6 +2,7 @@
 
 ghost use Rattle.std.specs.Prelude.{◌≡◌, ◌<◌, ◌≤◌, ◌-◌, ◌^◌, ℕ, IfSome, max};
 ghost use Rattle.turn_sockets.specs.Moments.{IsMoment};
+ghost use Rattle.turn_types.specs.Profile.{end_of_moments};
 
 use std::rt::Clock;
 use std::time::SystemTime;
@@ -10,8 +11,8 @@ use turn_types::Moment;
 /// The later of a server's clock and the system's second. A second that is no moment, which is one from the year 36812 on,
 /// counts as none.
 pub fn moment_at(clock: Moment, second: u64) -> Moment
-    ensures in_range { second < 2 ^ 40 - 3600 → result ≡ max clock second }
-    ensures beyond { 2 ^ 40 - 3600 ≤ second → result ≡ clock }
+    ensures in_range { second < end_of_moments → result ≡ max clock second }
+    ensures beyond { end_of_moments ≤ second → result ≡ clock }
     ensures monotone { clock ≤ result }
 {
     match Moment::new(second) {

@@ -39,6 +39,7 @@ use Rattle.turn_rules.specs.declared.need.Need.TheVariants.{Any, Even, Pair}
 use Rattle.turn_step.specs.Holding.{ArePicked}
 use Rattle.turn_step.specs.Outcome.{Change, StepOutcome, Sent, change_of}
 use Rattle.turn_step.specs.State.{HasPortsApart, HoldsPorts, IsPurged, MachineState, MayBeNext}
+use Rattle.turn_types.specs.Profile.{permission_lifetime, reservation_lifetime}
 
 -- ---- Tests
 
@@ -221,7 +222,7 @@ alloc_test t n port None has old = by_port (n == port)
     by_port false = refl
 alloc_test t n port (Some token) has old = by_ports (n == port) (n == port + 1)
   where
-    by_ports : (x y : Bool) → (x || has) || is_some (cond y (Some (record { token = token; expiry = t + 30 })) (cond x None old)) ≡ (x || y) || (has || is_some old)
+    by_ports : (x y : Bool) → (x || has) || is_some (cond y (Some (record { token = token; expiry = t + reservation_lifetime })) (cond x None old)) ≡ (x || y) || (has || is_some old)
     by_ports true y = refl
     by_ports false true = or-true has
     by_ports false false = refl
@@ -246,7 +247,7 @@ module _ (b : Bounds) (t : ℕ) (f : FiveTuple) (c : Contents) (apart : PortsApa
       ∙ ap (λ o. ((n == port) || has_port c n) || is_some o) (get-with_reservation t n port token c.reserved)
       ∙ alloc_test t n port token (has_port c n) (fin.get c.reserved n)
   leaves_ports (Permits addresses) fits =
-      keeps_ports (Permits addresses) (mapped (permitting (t + 300) addresses) (λ e. refl) (fin.get c.entries f)) (applied-reserved t f (Permits addresses) c)
+      keeps_ports (Permits addresses) (mapped (permitting (t + permission_lifetime) addresses) (λ e. refl) (fin.get c.entries f)) (applied-reserved t f (Permits addresses) c)
   leaves_ports (Binds number peer) fits =
       keeps_ports (Binds number peer) (mapped (binding t number peer) (λ e. refl) (fin.get c.entries f)) (applied-reserved t f (Binds number peer) c)
   leaves_ports (Renews granted) fits = by_test (granted == 0) refl

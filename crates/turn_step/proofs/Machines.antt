@@ -17,6 +17,7 @@ use Rattle.turn_types.specs.declared.address.FiveTuple.{FiveTuple}
 use Rattle.turn_step.specs.Answer.{AnswersArrival, Setting}
 use Rattle.turn_step.specs.Outcome.{Arrives, Change, StepOutcome, added, change_of, event_at}
 use Rattle.turn_step.specs.State.{IsAfter, IsPurged, IsReady, IsSameTable, MachineState, MayBeNext, setting_of}
+use Rattle.turn_types.specs.Profile.{end_of_moments}
 
 -- ---- A later moment
 
@@ -95,7 +96,7 @@ answers_along s z h t x y n a b r same_s same_x same_a answers =
     (subst (λ v. IfOk r (AnswersArrival s h t (has_failed x n) v)) same_a answers))
 
 -- a change for which a table was made ready
-pub may_be_next : (b : Bounds) (s new : State) (f : FiveTuple) (act : Option PlainAct) → s.bounds ≡ b → s.moment < 2 ^ 40 - 3600 → IfSome act (Fits s.bounds s.contents f) → IfSome act (IsActInRange b) → ((a : PlainAct) → act ≡ Some a → (new ≡ record s { room = Some (room_for f a) }) × IsTuple f) → IfSome (option_map (change_of f) act) (MayBeNext new)
+pub may_be_next : (b : Bounds) (s new : State) (f : FiveTuple) (act : Option PlainAct) → s.bounds ≡ b → s.moment < end_of_moments → IfSome act (Fits s.bounds s.contents f) → IfSome act (IsActInRange b) → ((a : PlainAct) → act ≡ Some a → (new ≡ record s { room = Some (room_for f a) }) × IsTuple f) → IfSome (option_map (change_of f) act) (MayBeNext new)
 may_be_next b s new f None bounds moment fits in_range made = tt
 may_be_next b s new f (Some a) bounds moment fits in_range made =
     subst (λ x. MayBeNext x (change_of f a)) (sym (made a refl).0)

@@ -1,8 +1,11 @@
 -- What contracts see of the code's data.
+use Rattle.std.specs.Prelude.{Bool, false, true}
 use Rattle.turn_step.specs.declared.arrival.Arrival.{Arrival}
 use Rattle.turn_step.specs.declared.arrival.Arrival.TheVariants as arrivals
 use Rattle.turn_step.specs.declared.arrival.Outgoing.{Outgoing}
 use Rattle.turn_step.specs.declared.arrival.Outgoing.TheVariants as outgoing
+use Rattle.turn_step.specs.declared.pairs.Pairs.{Pairs}
+use Rattle.turn_step.specs.declared.pairs.Pairs.TheVariants.{Refused, Reserved}
 use Rattle.turn_step.specs.Outcome.{Arrives, Sent}
 
 -- an arrival of the code as the definitions have it
@@ -14,3 +17,8 @@ arrival_of (arrivals.Peer port from bytes id) = Arrives.FromPeer port from bytes
 abbrev pub sent_of : {A : Type 0} → Outgoing A → Sent
 sent_of (outgoing.ToClient five_tuple bytes) = Sent.ToClient five_tuple bytes.items
 sent_of (outgoing.ToPeer port peer bytes) = Sent.ToPeer port peer bytes.items
+
+-- whether a machine reserves ports
+abbrev pub is_reserved : Pairs → Bool
+is_reserved Refused = false
+is_reserved Reserved = true

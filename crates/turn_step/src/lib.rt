@@ -4,14 +4,18 @@
 
 mod arrival;
 mod client;
+mod error;
 mod laws;
 mod machine;
+mod pairs;
 mod peer;
 mod purge;
 mod request;
 mod step;
 
 pub use arrival::{Arrival, Outgoing};
+pub use error::MachineError;
 pub use laws::{clients_stand_alone, histories_keep_ports_apart, replies_answer_requests};
-pub use machine::{Machine, Parts};
+pub use machine::Machine;
+pub use pairs::Pairs;
 pub use step::Step;

@@ -9,11 +9,13 @@ ghost use Rattle.turn_rules.specs.Laws.{IsMadeOfBytes};
 ghost use Rattle.turn_step.specs.Answer.{AnswersArrival, AnswersClient, IsDecided};
 ghost use Rattle.turn_step.specs.Outcome.{added, event_at};
 ghost use Rattle.turn_step.specs.State.{Answered, CountsOne, HasPortsApart, HoldsPorts, IsAfter, IsPurged, IsReady, IsSameTable, KeepsSetting, changed, setting_of};
-ghost use Rattle.turn_step.specs.Views.{arrival_of, sent_of};
+ghost use Rattle.turn_step.specs.Views.{arrival_of, is_reserved, sent_of};
 ghost use Rattle.turn_table.specs.Table.{Agrees};
 
 use crate::arrival::{Arrival, Outgoing};
 use crate::client::{data_step, is_request};
+use crate::error::MachineError;
+use crate::pairs::Pairs;
 use crate::peer::peer_step;
 use crate::purge::{advance, release, release_for};
 use crate::request::{judge, pick, settle};
@@ -28,21 +30,6 @@ use turn_relay::{from_channel_data, from_message};
 use turn_rules::{ClientMessage, Need, assess};
 use turn_table::Table;
 use turn_types::{FiveTuple, Moment, ServerConfig};
-
-/// The configuration, the users' keys, the generator of ports and the table of a machine, and whether it reserves ports.
-#[derive(Drop)]
-pub struct Parts<H: AuthHandler, G: RelayAddressGenerator, A: Allocator = Global> {
-    /// The configuration.
-    pub config: ServerConfig<A>,
-    /// Who knows the users' keys.
-    pub handler: H,
-    /// The generator of relayed ports.
-    pub ports: G,
-    /// The live allocations and the reserved ports.
-    pub table: Table<A>,
-    /// Whether ports may be reserved (EVEN-PORT with the R bit: RFC 8656, section 7.2).
-    pub pairs: bool,
-}
 
 /// The rules of a server over its configuration, credentials, ports and table, without sockets and without a store.
 ///
@@ -93,19 +80,19 @@ impl<H: AuthHandler, G: RelayAddressGenerator, A: Allocator> Model for Machine<H
 }
 
 impl<H: AuthHandler, G: RelayAddressGenerator, A: Allocator + Copy> Machine<H, G, A> {
-    /// A machine over a table with the limits of the configuration. `pairs` says whether it reserves ports: if not, EVEN-PORT with the R
-    /// bit is 508, and so is each RESERVATION-TOKEN. After an allocation failure the error has the parts.
+    /// A machine over a table with the limits of the configuration. After an allocation failure the error has the handler and the
+    /// generator.
     pub fn new(
         alloc: A,
         config: ServerConfig<A>,
         handler: H,
         ports: G,
         table: Table<A>,
-        pairs: bool,
-    ) -> Result<Machine<H, G, A>, AllocFailed<Parts<H, G, A>>>
+        pairs: Pairs,
+    ) -> Result<Machine<H, G, A>, MachineError<H, G>>
         requires { table.bounds ≡ config.limits }
-        ensures ok { IfOk result (λ m. m ≡ record { config = config; handler = handler; ports = ports; table = table; pairs = pairs }) }
-        ensures err { IfErr result (λ e. e.value ≡ record { config = config; handler = handler; ports = ports; table = table; pairs = pairs }) }
+        ensures ok { IfOk result (λ m. m ≡ record { config = config; handler = handler; ports = ports; table = table; pairs = is_reserved pairs }) }
+        ensures err { IfErr result (λ e. e ≡ record { handler = handler; ports = ports }) }
     {
         match Checker::new(alloc, &config, handler) {
             Ok(checker) => Ok(Machine {
@@ -114,17 +101,9 @@ impl<H: AuthHandler, G: RelayAddressGenerator, A: Allocator + Copy> Machine<H, G
                 checker,
                 ports,
                 table,
-                pairs,
+                pairs: pairs.is_reserved(),
             }),
-            Err(AllocFailed { value: handler }) => Err(AllocFailed {
-                value: Parts {
-                    config,
-                    handler,
-                    ports,
-                    table,
-                    pairs,
-                },
-            }),
+            Err(AllocFailed { value: handler }) => Err(MachineError { handler, ports }),
         }
     }
 
@@ -157,25 +136,20 @@ impl<H: AuthHandler, G: RelayAddressGenerator, A: Allocator + Copy> Machine<H, G
         &self.config
     }
 
-    /// What the machine was made of, as it is now.
-    pub fn into_parts(self) -> Parts<H, G, A>
-        ensures { record { config = result.config; handler = result.handler; ports = result.ports; table = result.table; pairs = result.pairs } ≡ self }
+    /// Returns the handler and the generator, as they are now.
+    pub fn into_parts(self) -> (H, G)
+        ensures handler { result.0 ≡ self.handler }
+        ensures ports { result.1 ≡ self.ports }
     {
         let Machine {
-            config,
+            alloc: _,
+            config: _,
             checker,
             ports,
-            table,
-            pairs,
-            alloc: _,
+            table: _,
+            pairs: _,
         } = self;
-        Parts {
-            config,
-            handler: checker.into_handler(),
-            ports,
-            table,
-            pairs,
-        }
+        (checker.into_handler(), ports)
     }
 
     /// The step of a request.

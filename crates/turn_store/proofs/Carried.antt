@@ -30,6 +30,7 @@ use Rattle.turn_store.proofs.NeverRefused.{has_superblock}
 use Rattle.turn_store.proofs.Spelling.{clock_late}
 use Rattle.turn_store.proofs.Staged.{stages_all_at}
 use Rattle.turn_store.proofs.Superblocks.{superblock_once}
+use Rattle.turn_types.specs.Profile.{end_of_moments}
 
 module _ {D : Type 0} (form : Form) (h : History) (c : ℕ) (store : StoreState D) (state : State) (t : Snapshot) (o : OpensTo form h c store state t) where
   pub now_is : t.moment ≡ c
@@ -38,7 +39,7 @@ module _ {D : Type 0} (form : Form) (h : History) (c : ℕ) (store : StoreState 
   pub contents_are : t.contents ≡ tables.table (h ++ []) t.moment
   contents_are = ap (λ s. s.contents) o.table_is ∙ ap (tables.table h) (sym now_is) ∙ ap (λ (l : History). tables.table l t.moment) (sym (append-nil h))
 
-  pub nothing_follows : t.moment < 2 ^ 40 - 3600 → MayFollow store.bounds c h [] t.moment
+  pub nothing_follows : t.moment < end_of_moments → MayFollow store.bounds c h [] t.moment
   nothing_follows small =
       let s = o.recovers.spells in
       let late = clock_late store.version store.bounds h c o.recovers.snapshot o.recovers.payloads s in
@@ -74,7 +75,7 @@ module _ {D : Type 0} (old : StoreState D) (t : Snapshot) where
       (subst (λ (a : Area). Shows (record old { disk = disk; version = V2; area = a; other = old.area.start; generation = old.generation + 1; frames = 0; other_is_below = true; stopped = false }) after next []) (sym area_is)
       (record { recovers = done; frames = refl }))
 
-  module _ (before : State) (form : Form) (h : History) (c : ℕ) (o : OpensTo form h c old before t) (small : t.moment < 2 ^ 40 - 3600) where
+  module _ (before : State) (form : Form) (h : History) (c : ℕ) (o : OpensTo form h c old before t) (small : t.moment < end_of_moments) where
     pub over_rests : (disk : D) (after : State) → Shows (over disk) after next [] → OpensTo form h c (over disk) after t
     over_rests disk after shows = record {
       same_form = o.same_form;
@@ -105,7 +106,7 @@ opened_anew new after t version can shows = record {
 }
 
 -- no call
-pub stays_since : {D : Type 0} (form : Form) (h : History) (c : ℕ) (old : StoreState D) (since : Trace) (t : Snapshot) → OpensTo form h c old since.now t → t.moment < 2 ^ 40 - 3600 → EachImageSince since since (StandsBy form h c)
+pub stays_since : {D : Type 0} (form : Form) (h : History) (c : ℕ) (old : StoreState D) (since : Trace) (t : Snapshot) → OpensTo form h c old since.now t → t.moment < end_of_moments → EachImageSince since since (StandsBy form h c)
 stays_since form h c old since t o small =
     stands_throughout form h c old since.now t o 0 since since
     (alone_stages 0 (form_of old) c h t.moment since since (rest_stages old since c h [] t.moment o.recovers (nothing_follows form h c old since.now t o small) 0))

@@ -10,6 +10,7 @@ use Rattle.turn_record.specs.Bytes.{payload, snapshot}
 use Rattle.turn_record.specs.Records.{Holds, IsBatch}
 use Rattle.turn_record.specs.declared.version.Version.{Version}
 use Rattle.turn_store.specs.Spells.{all_of, HasSize, Spells}
+use Rattle.turn_types.specs.Profile.{end_of_moments}
 use Rattle.turn_types.specs.declared.limits.Bounds.{Bounds}
 
 pub from_less : (c d : ℕ) (es : List Event) → c ≤ d → AllFrom d es → AllFrom c es
@@ -47,7 +48,7 @@ clock_late v b h c bytes payloads s =
     let joined = ap clock s.whole ∙ clock-append s.before (all_of s.batches) in
     omega arith
 
-pub snapshots_go_on : (v : Version) (b : Bounds) (h : History) (m : ℕ) → IsFitting b h → clock h ≤ m → m < 2 ^ 40 - 3600 → Holds v (table h m) → Spells v b h m (snapshot v m (table h m)) []
+pub snapshots_go_on : (v : Version) (b : Bounds) (h : History) (m : ℕ) → IsFitting b h → clock h ≤ m → m < end_of_moments → Holds v (table h m) → Spells v b h m (snapshot v m (table h m)) []
 snapshots_go_on v b h m fits le range none = record {
   fitting = fits;
   before = h;

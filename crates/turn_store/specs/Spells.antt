@@ -8,6 +8,7 @@ use Rattle.turn_history.specs.Table.{table}
 use Rattle.turn_record.specs.Bytes.{payload, snapshot}
 use Rattle.turn_record.specs.Records.{Holds, Writes}
 use Rattle.turn_record.specs.declared.version.Version.{Version}
+use Rattle.turn_types.specs.Profile.{end_of_moments}
 use Rattle.turn_types.specs.declared.limits.Bounds.{Bounds}
 
 -- the events of all batches, in order
@@ -33,7 +34,7 @@ pub record Spells (v : Version) (b : Bounds) (h : History) (c : ℕ) (bytes : Li
   pub whole : h ≡ before ++ all_of batches
   -- that of the snapshot
   pub moment : ℕ
-  pub in_range : moment < 2 ^ 40 - 3600
+  pub in_range : moment < end_of_moments
   pub late : clock before ≤ moment
   pub holds : Holds v (table before moment)
   pub from : AllFrom moment (all_of batches)

@@ -14,6 +14,7 @@ use Rattle.turn_record.specs.declared.version.Version.TheVariants.{V2}
 use Rattle.turn_store.specs.Layout.{head_size, second_area, store_size}
 use Rattle.turn_store.specs.Spells.{Spells}
 use Rattle.turn_store.specs.Superblock.{least_area}
+use Rattle.turn_types.specs.Profile.{end_of_moments}
 use Rattle.turn_types.specs.declared.limits.Bounds.{Bounds}
 
 -- the disk, the limits, the version and the place of the active area, where the other one begins, the generation, how many
@@ -60,7 +61,7 @@ pub record MayFollow (b : Bounds) (c : ℕ) (h : History) (es : List Event) (mom
   pub from : AllFrom c es
   pub clock_late : c ≤ moment
   pub late : clock (h ++ es) ≤ moment
-  pub in_range : moment < 2 ^ 40 - 3600
+  pub in_range : moment < end_of_moments
 
 -- what a store keeps in any state: its areas fill the disk, and each batch fits
 pub record IsSound (capacity : ℕ) (v : Version) (b : Bounds) (area : Area) (other frames : ℕ) : Type 0 where

@@ -18,6 +18,7 @@ use Rattle.turn_table.specs.Live.{AreQuiet, Changes, Holdings, IsQuiet, entries_
 use Rattle.turn_table.specs.State.{Held}
 use Rattle.turn_table.proofs.Held.{entry_at, of_entry}
 use Rattle.turn_table.proofs.Quiet.{quiet_before}
+use Rattle.turn_types.specs.Profile.{permission_lifetime, channel_lifetime}
 
 -- what a map answers, if a value or nothing came in at a key
 pub or_new : {X : Type 0} (P : X → Type 0) (b : Bool) (new old : Option X) (x : X) → cond b new old ≡ Some x → (new ≡ Some x → P x) → (old ≡ Some x → P x) → P x
@@ -72,15 +73,15 @@ quiet_permitting t u x addresses e le before q =
       channels = same.channels;
     }
 
-pub quiet_binding : (t u m n : ℕ) (p : Endpoint) (e : Entry) → t ≤ u → t ≤ m + 300 → IsQuiet u e → IsQuiet t (binding m n p e)
+pub quiet_binding : (t u m n : ℕ) (p : Endpoint) (e : Entry) → t ≤ u → t ≤ m + permission_lifetime → IsQuiet u e → IsQuiet t (binding m n p e)
 quiet_binding t u m n p e le before q =
     let same = quiet_before t u e le q in
-    let channel : Channel = record { peer = p; expiry = m + 600 } in
+    let channel : Channel = record { peer = p; expiry = m + channel_lifetime } in
     record {
       entry = same.entry;
       permissions = λ a y is.
-          or_new (λ y. t ≤ y) (eq_by_cmp nat_cmp a p.ip) (Some (m + 300)) (fin.get e.permissions a) y (sym (get-insert nat_cmp_total e.permissions p.ip (m + 300) a) ∙ is)
-          (λ new. subst (λ z. t ≤ z) (same_Some (m + 300) y new) before) (same.permissions a y);
+          or_new (λ y. t ≤ y) (eq_by_cmp nat_cmp a p.ip) (Some (m + permission_lifetime)) (fin.get e.permissions a) y (sym (get-insert nat_cmp_total e.permissions p.ip (m + permission_lifetime) a) ∙ is)
+          (λ new. subst (λ z. t ≤ z) (same_Some (m + permission_lifetime) y new) before) (same.permissions a y);
       channels = λ k c is.
           or_new (λ c. t ≤ c.expiry) (eq_by_cmp nat_cmp k n) (Some channel) (fin.get e.channels k) c (sym (get-insert nat_cmp_total e.channels n channel k) ∙ is)
           (λ new. subst (λ d. t ≤ d.expiry) (same_Some channel c new) (omega (arith, before))) (same.channels k c);

@@ -13,7 +13,7 @@ use indexmap::IndexMap;
 use std::alloc::{AllocError, Allocator};
 use std::hash::{BuildHasherDefault, FoldHasher};
 use turn_history::{Act, Channel, ChannelNumber};
-use turn_types::{Endpoint, FiveTuple};
+use turn_types::{CHANNEL_LIFETIME, Endpoint, FiveTuple, PERMISSION_LIFETIME};
 
 /// Entries by their five-tuples.
 pub(crate) type EntryMap<A> = IndexMap<FiveTuple, Entry<A>, BuildHasherDefault<FoldHasher>, A>;
@@ -115,8 +115,8 @@ pub(crate) fn bind<A: Allocator + Copy>(
     requires moment { moment < 2 ^ 40 }
     ensures { entry.new.entry ≡ binding moment number peer entry.old.entry }
 {
-    entry.permissions.put(peer.ip, moment + 300);
-    let expiry = moment + 600;
+    entry.permissions.put(peer.ip, moment + PERMISSION_LIFETIME);
+    let expiry = moment + CHANNEL_LIFETIME;
     entry.channels.put(number, Channel { peer, expiry });
 }
 

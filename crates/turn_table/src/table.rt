@@ -30,7 +30,9 @@ use std::alloc::{AllocError, Allocator, Global};
 use std::marker::Model;
 use turn_history::{Act, ChannelNumber, Reservation};
 use turn_ports::PortSet;
-use turn_types::{Endpoint, FiveTuple, Limits, Moment, Token};
+use turn_types::{
+    Endpoint, FiveTuple, Limits, Moment, PERMISSION_LIFETIME, RESERVATION_LIFETIME, Token,
+};
 
 /// The allocations that live at a moment, and the reserved ports.
 pub struct Table<A: Allocator = Global> {
@@ -414,7 +416,7 @@ impl<A: Allocator + Copy> Table<A> {
         self.allocations.insert(tuple, entry);
         self.reserved.remove(port);
         if let Some(token) = token {
-            let expiry = moment.seconds() + 30;
+            let expiry = moment.seconds() + RESERVATION_LIFETIME;
             self.quiet_until = self.quiet_until.min(expiry);
             self.reserved.put(port + 1, Reservation { token, expiry });
         }
@@ -466,7 +468,7 @@ impl<A: Allocator + Copy> Table<A> {
         ensures { IsSomeAnd (fin.get self.old.contents.entries tuple) (λ e. self.new ≡ with_entry self.old tuple (binding moment number peer e)) }
     {
         self.room = None;
-        self.quiet_until = self.quiet_until.min(moment.seconds() + 300);
+        self.quiet_until = self.quiet_until.min(moment.seconds() + PERMISSION_LIFETIME);
         self.allocations.bind(tuple, number, peer, moment.seconds());
     }
 
@@ -514,7 +516,11 @@ impl<A: Allocator + Copy> Table<A> {
                 None
             }
             Act::Permit { addresses } => {
-                self.permit(tuple, addresses.as_slice(), moment.seconds() + 300);
+                self.permit(
+                    tuple,
+                    addresses.as_slice(),
+                    moment.seconds() + PERMISSION_LIFETIME,
+                );
                 None
             }
             Act::Bind { number, peer } => {

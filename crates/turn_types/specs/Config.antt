@@ -1,6 +1,7 @@
 -- The configuration of a server.
 use Rattle.std.specs.Prelude.{ℕ, ◌&&◌, ◌||◌, Bool, not, nat_le, nat_lt, Option, Some, None, List, length, if◌then◌else◌}
 use Rattle.std.specs.List.{list_any, list_all}
+use Rattle.turn_types.specs.Profile.{max_allocations}
 use Rattle.turn_types.specs.declared.config.IpRange.{IpRange}
 use Rattle.turn_types.specs.declared.config.ConfigError.{ConfigError}
 use Rattle.turn_types.specs.declared.config.ConfigError.TheVariants.{BadRealm, BadQuota, BadRange}
@@ -34,7 +35,7 @@ is_ordered range = nat_le range.first range.last
 abbrev pub refusal_of : List ℕ → ℕ → List IpRange → Option ConfigError
 refusal_of realm quota denied =
     if not (is_between 1 127 (length realm)) then Some BadRealm
-    else if not (is_between 1 1024 quota) then Some BadQuota
+    else if not (is_between 1 max_allocations quota) then Some BadQuota
     else if nat_lt 64 (length denied) || not (list_all is_ordered denied) then Some BadRange
     else None
 

@@ -4,9 +4,11 @@ ghost use Rattle.std.specs.Prelude.{◌≡◌, ◌≤◌, length, IfOk, IfSome, 
 ghost use Rattle.std.specs.List.{list_all};
 ghost use Rattle.turn_types.specs.Config.{is_ordered, refusal_of, is_denied};
 ghost use Rattle.turn_types.specs.Limits.{AreInRange};
+ghost use Rattle.turn_types.specs.Profile.{max_allocations};
 ghost use Rattle.turn_types.specs.Settings.{config_of};
 
 use crate::limits::Limits;
+use crate::profile::MAX_ALLOCATIONS;
 use std::alloc::{AllocError, Allocator, Global};
 use std::marker::Model;
 use thiserror::Error;
@@ -118,7 +120,7 @@ fn refusal(realm: &[u8], quota: u32, denied: &[IpRange]) -> Option<ConfigError>
     if realm.is_empty() || 127 < realm.len() {
         return Some(ConfigError::BadRealm);
     }
-    if quota < 1 || 1024 < quota {
+    if quota < 1 || MAX_ALLOCATIONS < quota {
         return Some(ConfigError::BadQuota);
     }
     if 64 < denied.len() || !are_ordered(denied) {
@@ -188,7 +190,7 @@ impl<A: Allocator> ServerConfig<A> {
     /// How many live allocations a user may have.
     pub fn quota(&self) -> u32
         ensures value { result ≡ self.now.quota }
-        ensures range { (1 ≤ result) × (result ≤ 1024) }
+        ensures range { (1 ≤ result) × (result ≤ max_allocations) }
     {
         self.quota
     }

@@ -9,6 +9,7 @@ mod laws;
 mod limits;
 mod message;
 mod moment;
+mod profile;
 
 pub use address::{Addr, Endpoint, FiveTuple, PeerAddress};
 pub use config::{ConfigError, IpRange, ServerConfig, Settings};
@@ -17,3 +18,7 @@ pub use laws::tuples_go_by_bytes;
 pub use limits::{Bounds, Limits};
 pub use message::{Class, Method, Token, TxId};
 pub use moment::Moment;
+pub use profile::{
+    CHANNEL_LIFETIME, DEFAULT_LIFETIME, MAX_ALLOCATIONS, MAX_LIFETIME, NONCE_LIFETIME,
+    PERMISSION_LIFETIME, RESERVATION_LIFETIME,
+};

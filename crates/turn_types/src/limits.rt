@@ -2,7 +2,9 @@
 
 ghost use Rattle.std.specs.Prelude.{◌≡◌, ◌≤◌, SomeIff};
 ghost use Rattle.turn_types.specs.Limits.{AreInRange};
+ghost use Rattle.turn_types.specs.Profile.{max_allocations};
 
+use crate::profile::MAX_ALLOCATIONS;
 use std::marker::Model;
 
 /// Five numbers that limits are made of.
@@ -43,7 +45,7 @@ impl Limits {
     /// The max limits: each bound has the last value of its range.
     pub const MAX: Limits = Limits {
         bounds: Bounds {
-            allocations: 1024,
+            allocations: MAX_ALLOCATIONS,
             permissions: 32,
             channels: 32,
             acts: 64,
@@ -56,7 +58,7 @@ impl Limits {
     pub fn new(bounds: Bounds) -> Option<Limits>
         ensures { SomeIff result (AreInRange bounds) bounds }
     {
-        if bounds.allocations < 1 || 1024 < bounds.allocations {
+        if bounds.allocations < 1 || MAX_ALLOCATIONS < bounds.allocations {
             return None;
         }
         if bounds.permissions < 1 || 32 < bounds.permissions {
@@ -85,7 +87,7 @@ impl Limits {
     /// The max number of live allocations, 1 to 1,024.
     pub fn allocations(&self) -> u32
         ensures value { result ≡ self.now.allocations }
-        ensures range { (1 ≤ result) × (result ≤ 1024) }
+        ensures range { (1 ≤ result) × (result ≤ max_allocations) }
     {
         self.bounds.allocations
     }

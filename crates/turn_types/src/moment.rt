@@ -1,7 +1,9 @@
 //! Moments.
 
 ghost use Rattle.std.specs.Prelude.{◌≡◌, ◌<◌, ◌-◌, ◌^◌, ℕ, SomeIff};
+ghost use Rattle.turn_types.specs.Profile.{end_of_moments};
 
+use crate::profile::MAX_LIFETIME;
 use std::marker::Model;
 
 /// A moment: a number of seconds below 2^40 - 3600, so that a moment plus any lifetime is below 2^40.
@@ -15,7 +17,7 @@ impl Model for Moment {
 
     ghost view = { λ m. m.seconds };
 
-    ghost invariant = { λ m. m.seconds < 2 ^ 40 - 3600 };
+    ghost invariant = { λ m. m.seconds < end_of_moments };
 
     ghost inverse = { λ n. record { seconds = n } };
 }
@@ -23,9 +25,9 @@ impl Model for Moment {
 impl Moment {
     /// The moment of a number of seconds.
     pub fn new(seconds: u64) -> Option<Moment>
-        ensures { SomeIff result (seconds < 2 ^ 40 - 3600) seconds }
+        ensures { SomeIff result (seconds < end_of_moments) seconds }
     {
-        if seconds < (1 << 40) - 3600 {
+        if seconds < (1 << 40) - u64::from(MAX_LIFETIME) {
             Some(Moment { seconds })
         } else {
             None
@@ -35,7 +37,7 @@ impl Moment {
     /// The number of seconds, from the same start as every other moment's.
     pub fn seconds(self) -> u64
         ensures value { result ≡ self }
-        ensures range { self < 2 ^ 40 - 3600 }
+        ensures range { self < end_of_moments }
     {
         self.seconds
     }

@@ -10,7 +10,7 @@ use turn_engine::Server;
 use turn_history::{Act, UserName};
 use turn_ports::PortRange;
 use turn_requests::Attribute;
-use turn_step::Machine;
+use turn_step::{Machine, Pairs};
 use turn_store::format;
 use turn_table::Table;
 use turn_types::{Endpoint, FiveTuple, Limits, Moment, ServerConfig, Settings};
@@ -131,7 +131,14 @@ pub fn make_rules(alloc: Global, allocations: u16, pairs: u16) -> Result<Rules, 
     let moment = moment()?;
     let config = config(alloc)?;
     let table = Table::new(alloc, config.limits(), moment);
-    let mut server = Machine::new(alloc, config, users(alloc)?, ports()?, table, true)?;
+    let mut server = Machine::new(
+        alloc,
+        config,
+        users(alloc)?,
+        ports()?,
+        table,
+        Pairs::Reserved,
+    )?;
     let take = &mut |client: Endpoint, bytes: &[u8]| take_by_rules(
         &mut server,
         moment,

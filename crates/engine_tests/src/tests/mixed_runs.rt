@@ -7,7 +7,7 @@ use test_requests::{FIRST, Ports};
 use test_servers::{Datagram, Scenario, Source};
 use turn_config::Configured;
 use turn_cred::Credentials;
-use turn_step::{Machine, Outgoing};
+use turn_step::{Machine, Outgoing, Pairs};
 use turn_table::Table;
 use turn_types::Moment;
 
@@ -189,10 +189,8 @@ fn rules(rt: &impl Abort, alloc: Global, scenario: &Scenario) -> Rules {
         ..
     } = scenario.configured().expect(rt, "a configuration");
     let table = Table::new(alloc, config.limits(), moment(rt, 0));
-    match Machine::new(alloc, config, credentials, Ports::new(ports), table, true) {
-        Ok(machine) => machine,
-        Err(_) => panic!(rt; "memory"),
-    }
+    let ports = Ports::new(ports);
+    Machine::new(alloc, config, credentials, ports, table, Pairs::Reserved).expect(rt, "a machine")
 }
 
 /// What the rules answer to a datagram at a second.

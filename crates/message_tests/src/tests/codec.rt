@@ -25,13 +25,13 @@ fn a_message_takes_memory_twice(rt: HostRuntime) -> Result<(), Fail> {
     assert!(rt; Builder::new(&refusing, Class::Error, Method::REFRESH, ID).is_err());
     refusing.arm(1);
     let mut builder = Builder::new(&refusing, Class::Error, Method::REFRESH, ID)?;
-    assert!(rt; refusing.left() == 0);
+    assert_eq!(rt; refusing.left(), 0);
     assert!(rt;
         builder
             .push_fitting(AttributeType::REALM, b"example.org")
             .is_err()
     );
-    assert!(rt; builder.as_bytes().len() == 20);
+    assert_eq!(rt; builder.as_bytes().len(), 20);
     let (kind, value) = (AttributeType::REALM, b"example.org");
     refusing.arm(0);
     assert!(rt; has_outcome(&mut builder, kind, value, Err(PushError::Memory), 20));
@@ -54,9 +54,9 @@ fn fills_its_capacity(builder: &mut Builder<&FailingAlloc<Global>>) -> bool {
 fn a_message_with_a_capacity_takes_memory_once(rt: HostRuntime) -> Result<(), Fail> {
     let refusing = FailingAlloc::new(rt.alloc(), 1);
     let mut builder = Builder::with_capacity(&refusing, Class::Request, Method::ALLOCATE, ID, 24)?;
-    assert!(rt; refusing.left() == 0);
+    assert_eq!(rt; refusing.left(), 0);
     assert!(rt; fills_its_capacity(&mut builder));
-    assert!(rt; builder.finish().len() == 52);
+    assert_eq!(rt; builder.finish().len(), 52);
     Ok(())
 }
 
@@ -71,6 +71,6 @@ fn channel_data_is_written_in_one_allocation(rt: HostRuntime) -> Result<(), Fail
     refusing.arm(1);
     let written = data.write(&refusing)?;
     assert!(rt; !refusing.has_refused());
-    assert!(rt; written.as_slice() == b"\x40\x00\x00\x03abc".as_slice());
+    assert_eq!(rt; written.as_slice(), b"\x40\x00\x00\x03abc".as_slice());
     Ok(())
 }

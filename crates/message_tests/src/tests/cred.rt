@@ -191,7 +191,7 @@ fn asked(alloc: Global, first: u16, end: u16) -> Result<u64, Fail> {
 #[test]
 fn the_last_256_known_users_are_remembered(rt: HostRuntime) -> Result<(), Fail> {
     for (first, end, calls) in &ASKED {
-        assert!(rt; asked(rt.alloc(), *first, *end)? == *calls);
+        assert_eq!(rt; asked(rt.alloc(), *first, *end)?, *calls);
     }
     Ok(())
 }

@@ -37,6 +37,6 @@ fn a_set_that_finds_free_ports_is_asked_for_no_single_port(rt: HostRuntime) -> R
     let mut ports = PortRange::new(50000, 50009).ok_or("a range")?;
     assert!(rt; ports.pick(&set, false)?.is_none());
     assert!(rt; ports.pick_pair(&set)?.is_none());
-    assert!(rt; set.asked.get() == 0);
+    assert_eq!(rt; set.asked.get(), 0);
     Ok(())
 }

@@ -37,19 +37,25 @@ const ERROR_CODES: [(ErrorCode, u16, &str); 12] = [
 #[test]
 fn error_codes_have_their_numbers_and_reasons(rt: HostRuntime) {
     for (code, number, reason) in &ERROR_CODES {
-        assert!(rt; code.number() == *number);
-        assert!(rt; code.reason() == *reason);
+        assert_eq!(rt; code.number(), *number);
+        assert_eq!(rt; code.reason(), *reason);
     }
 }
 
 #[test]
 fn faults_are_printed(rt: HostRuntime) -> Result<(), Fail> {
     let malformed = format!(in rt.alloc(); "{}", MessageError::BadCookie)?;
-    assert!(rt; malformed.as_str() == "the datagram doesn't have the magic cookie");
+    assert_eq!(rt;
+        malformed.as_str(),
+        "the datagram doesn't have the magic cookie"
+    );
     let too_long = format!(in rt.alloc(); "{}", PushError::TooLong)?;
-    assert!(rt; too_long.as_str() == "the attributes would have more than 65,532 bytes");
+    assert_eq!(rt;
+        too_long.as_str(),
+        "the attributes would have more than 65,532 bytes"
+    );
     let realm = format!(in rt.alloc(); "{}", ConfigError::BadRealm)?;
-    assert!(rt; realm.as_str() == "the realm doesn't have 1 to 127 bytes");
+    assert_eq!(rt; realm.as_str(), "the realm doesn't have 1 to 127 bytes");
     Ok(())
 }
 

@@ -7,6 +7,6 @@ use turn_program::{ProgramError, report};
 fn out_of_memory_has_a_line_and_a_status(rt: HostRuntime) -> Result<(), Fail> {
     let mut err = Vec::new(rt.alloc());
     assert!(rt; report(ProgramError::Memory, &mut err) == 5);
-    assert!(rt; err.as_slice() == b"turn: memory\n".as_slice());
+    assert_eq!(rt; err.as_slice(), b"turn: memory\n".as_slice());
     Ok(())
 }

@@ -190,7 +190,10 @@ const FINGERPRINTED: &[u8] =
 fn refusal_takes_the_memory_of_the_reply(rt: HostRuntime) {
     let alloc = rt.alloc();
     let scenario = Scenario::begin(alloc, alloc, OPENED).expect(&rt, "a server");
-    assert!(rt; growths(&rt, alloc, &scenario, FINGERPRINTED, None) == (1, (false, true)));
+    assert_eq!(rt;
+        growths(&rt, alloc, &scenario, FINGERPRINTED, None),
+        (1, (false, true))
+    );
 }
 
 /// The text "hello" to and from 203.0.113.5:7000.
@@ -240,7 +243,7 @@ fn write_at_once(
     assert!(rt; written(rt, refusing, &out).is_none() && refusing.has_refused());
     refusing.arm(1);
     let bytes = written(rt, refusing, &out).expect(rt, "memory");
-    assert!(rt; bytes.as_slice() == wanted);
+    assert_eq!(rt; bytes.as_slice(), wanted);
     assert!(rt; refusing.left() == 0);
     refusing.arm(u64::MAX);
 }

@@ -215,7 +215,7 @@ fn restore_all<'a>(rt: &impl Abort, refusing: Refused<'a>, table: &mut Table<Ref
     for client in 2..10u16 {
         restores_after_refusals(rt, refusing, table, client);
     }
-    assert!(rt; table.len() == 9);
+    assert_eq!(rt; table.len(), 9);
 }
 
 #[test]
@@ -326,7 +326,7 @@ const GROWTHS: [(Step, u64, u64); 7] = [
 fn apply_all<'a>(rt: &impl Abort, refusing: Refused<'a>, table: &mut Table<Refused<'a>>) {
     for (step, growths, expiry) in &GROWTHS {
         apply_refused(rt, refusing, table, tuple(32853), *step, *growths);
-        assert!(rt; expiry_of(table, 32853) == *expiry);
+        assert_eq!(rt; expiry_of(table, 32853), *expiry);
         let bound = 4600 == *expiry && *growths == 2;
         assert!(rt; !bound || peer_is(table, 32853, 0x4000, 9));
         let permitted = 4600 == *expiry && *growths == 1;

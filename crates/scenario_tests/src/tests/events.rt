@@ -21,7 +21,7 @@ const EVENTS: [(Effect, &str); 8] = [
 fn each_fault_of_an_opening_and_of_a_commit_has_a_line(rt: HostRuntime) -> Result<(), Fail> {
     for (event, text) in &EVENTS {
         let found = event_text(rt.alloc(), event)?;
-        assert!(rt; found.as_str() == *text);
+        assert_eq!(rt; found.as_str(), *text);
     }
     Ok(())
 }

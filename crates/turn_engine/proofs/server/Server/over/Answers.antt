@@ -1,7 +1,7 @@
 use Rattle.std.proofs.Common.{◌∷◌, [], Bool, List, map, ap, ◌∙◌}
 use Rattle.turn_step.specs.Outcome.{Sent}
 use Rattle.turn_step.specs.State.{MachineState}
-use Rattle.turn_step.specs.Views.{sent_of}
+use Rattle.turn_step.specs.Views.{is_reserved, sent_of}
 use Rattle.turn_engine.specs.Staged.{Staged}
 use Rattle.turn_engine.specs.State.{ServerState, has_pairs}
 use Rattle.turn_engine.proofs.Opened.{fresh_sound}
@@ -11,7 +11,7 @@ pub invariant_of-result : goal.invariant_of-result
 invariant_of-result g c =
     fresh_sound c.args.config.limits _ _ _ _ _ _ _ c.in-Ok-new.machine.table c.args.opened.table (ap (λ m. m.config.limits) c.in-Ok-new.ensures.ok) (ap (λ m. m.table) c.in-Ok-new.ensures.ok)
     c.requires.bounds.0 (ap (λ b. b.bounds) c.in-Ok.ensures ∙ c.limits.ensures.value) c.requires.bounds.1 (ap (λ b. b.version) c.in-Ok.ensures ∙ c.info-version.ensures.version) (ap (λ b. b.acts) c.in-Ok.ensures)
-    (ap (λ m. m.pairs) c.in-Ok-new.ensures.ok ∙ c.has_pairs.ensures ∙ ap has_pairs c.info-version.ensures.version) c.requires.snapshot
+    (ap (λ m. m.pairs) c.in-Ok-new.ensures.ok ∙ c.pairs_of.ensures ∙ ap has_pairs c.info-version.ensures.version) c.requires.snapshot
 
 pub returns-in-Ok-new-clause-ok : goal.returns-in-Ok-new-clause-ok
 returns-in-Ok-new-clause-ok g c =
@@ -32,6 +32,6 @@ returns-in-Ok-new-clause-ok g c =
     } in
     let empty : Staged = record { bounds = c.limits.result; version = c.info-version.result.version; payload = 0 ∷ []; acts = 0 } in
     ap (λ (m : MachineState _ _). made m (map sent_of c.new-in-Ok-new.result.items) c.in-Ok.batch) c.in-Ok-new.ensures.ok
-    ∙ ap (λ (b : Staged). made (with c.has_pairs.result) (map sent_of c.new-in-Ok-new.result.items) b) c.in-Ok.ensures
-    ∙ ap (λ (l : List _). made (with c.has_pairs.result) (map sent_of l) empty) c.new-in-Ok-new.ensures.items
-    ∙ ap (λ (pairs : Bool). made (with pairs) [] empty) (c.has_pairs.ensures ∙ ap has_pairs c.info-version.ensures.version)
+    ∙ ap (λ (b : Staged). made (with (is_reserved c.pairs_of.result)) (map sent_of c.new-in-Ok-new.result.items) b) c.in-Ok.ensures
+    ∙ ap (λ (l : List _). made (with (is_reserved c.pairs_of.result)) (map sent_of l) empty) c.new-in-Ok-new.ensures.items
+    ∙ ap (λ (pairs : Bool). made (with pairs) [] empty) (c.pairs_of.ensures ∙ ap has_pairs c.info-version.ensures.version)

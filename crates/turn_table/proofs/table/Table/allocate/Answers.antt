@@ -16,6 +16,7 @@ use Rattle.turn_table.proofs.Quiet.{min_below, quiet_before}
 use Rattle.turn_table.proofs.Ready.{quiet_earlier, quiet_insert}
 use Rattle.turn_table.proofs.States.{absent_of, no_room, port_free_of, room_for, some_weaker, with_allocation-is}
 use Rattle.turn_table.proofs.table.Table.allocate.Goals as goal
+use Rattle.turn_types.specs.Profile.{reservation_lifetime}
 
 pub insert-requires-clause-room : goal.insert-requires-clause-room
 insert-requires-clause-room g c =
@@ -82,11 +83,11 @@ pub returns-in-Some : goal.returns-in-Some
 returns-in-Some g c =
     let old : Reservations = map_in nat_cmp c.self.inside.reserved in
     let port = c.args.entry.entry.port in
-    let r : Reservation = record { token = c.in-Some.token; expiry = c.seconds-expiry.result + 30 } in
+    let r : Reservation = record { token = c.in-Some.token; expiry = c.seconds-expiry.result + reservation_lifetime } in
     let removed : map_in nat_cmp c.remove.new.self ≡ fin.remove old port = c.remove.ensures.map ∙ ap (fin.remove old) (search rules) in
     let put : map_in nat_cmp c.put.new.self ≡ fin.insert (fin.remove old port) (port + 1) r =
     c.put.ensures.map ∙ ap (λ m. fin.insert m (c.port-port.result + 1) r) removed ∙ ap (λ p. fin.insert (fin.remove old port) (p + 1) r) c.port-port.ensures in
-    let with_expiry : ℕ → Reservations = λ t. fin.insert (fin.remove old port) (port + 1) (record { token = c.in-Some.token; expiry = t + 30 }) in
+    let with_expiry : ℕ → Reservations = λ t. fin.insert (fin.remove old port) (port + 1) (record { token = c.in-Some.token; expiry = t + reservation_lifetime }) in
     with_allocation-is c.self.inside.limits c.self.inside.moment c.self.inside.allocations.held (option_map room_of c.self.inside.room) c.args.self.now c.self.view_is
     c.args.moment c.insert.new.self.held c.args.tuple c.args.entry c.insert.ensures (map_in nat_cmp c.put.new.self)
     (put ∙ ap with_expiry c.seconds-expiry.ensures.value ∙ ap (λ t. with_reservation c.args.moment port t (fin.remove old port)) c.in-Some.ensures)
@@ -94,10 +95,10 @@ returns-in-Some g c =
 pub invariant_of-self : goal.invariant_of-self
 invariant_of-self g c =
     let least = min_below c.self.inside.quiet_until c.earliest.result c.min-self-inside.result c.min-self-inside.ensures in
-    let less = min_below c.min-self-inside.result (c.seconds-expiry.result + 30) c.min-self-inside-in-Some.result c.min-self-inside-in-Some.ensures in
+    let less = min_below c.min-self-inside.result (c.seconds-expiry.result + reservation_lifetime) c.min-self-inside-in-Some.result c.min-self-inside-in-Some.ensures in
     let old : Reservations = map_in nat_cmp c.self.inside.reserved in
     let port = c.args.entry.entry.port in
-    let r : Reservation = record { token = c.in-Some.token; expiry = c.seconds-expiry.result + 30 } in
+    let r : Reservation = record { token = c.in-Some.token; expiry = c.seconds-expiry.result + reservation_lifetime } in
     let removed : map_in nat_cmp c.remove.new.self ≡ fin.remove old port = c.remove.ensures.map ∙ ap (fin.remove old) (search rules) in
     let put : map_in nat_cmp c.put.new.self ≡ fin.insert (fin.remove old port) (port + 1) r =
     c.put.ensures.map ∙ ap (λ m. fin.insert m (c.port-port.result + 1) r) removed ∙ ap (λ p. fin.insert (fin.remove old port) (p + 1) r) c.port-port.ensures in

@@ -7,6 +7,7 @@ use Rattle.turn_history.specs.Table.{renewed, permitting, binding}
 use Rattle.turn_table.specs.Table.{with_allocation}
 use Rattle.turn_table.proofs.Acts.{done, changed_by, removed_by, agrees_after, free_end, freed_end}
 use Rattle.turn_table.proofs.table.Table.apply.Goals as goal
+use Rattle.turn_types.specs.Profile.{permission_lifetime}
 
 pub returns-in-Alloc-clause-state : goal.returns-in-Alloc-clause-state
 returns-in-Alloc-clause-state g c =
@@ -57,8 +58,8 @@ returns-else-granted-eq0-clause-agrees g c = agrees_after c.args.self.now _ c.ar
 pub returns-in-Permit-clause-state : goal.returns-in-Permit-clause-state
 returns-in-Permit-clause-state g c =
     changed_by c.args.self.now c.permit.new.self c.args.moment c.args.tuple (act_of c.args.act) (Permits c.in-Permit.addresses) (ap act_of c.in-Permit.is)
-    (permitting (c.seconds-in-Permit.result + 300) c.as_slice.result.now)
-    (λ v. ap (λ as'. Some (permitting (c.args.moment + 300) as' v)) (sym c.as_slice.ensures) ∙ ap (λ t. Some (permitting (t + 300) c.as_slice.result.now v)) (sym c.seconds-in-Permit.ensures.value))
+    (permitting (c.seconds-in-Permit.result + permission_lifetime) c.as_slice.result.now)
+    (λ v. ap (λ as'. Some (permitting (c.args.moment + permission_lifetime) as' v)) (sym c.as_slice.ensures) ∙ ap (λ t. Some (permitting (t + permission_lifetime) c.as_slice.result.now v)) (sym c.seconds-in-Permit.ensures.value))
     refl c.permit.ensures
 
 pub returns-in-Permit-clause-agrees : goal.returns-in-Permit-clause-agrees

@@ -11,10 +11,11 @@ use Rattle.turn_table.proofs.Quiet.{min_below}
 use Rattle.turn_table.proofs.Ready.{quiet_changes, quiet_binding}
 use Rattle.turn_table.proofs.States.{changed-is, no_room, room_inside, there_of}
 use Rattle.turn_table.proofs.table.Table.bind.Goals as goal
+use Rattle.turn_types.specs.Profile.{permission_lifetime}
 
 pub invariant_of-self : goal.invariant_of-self
 invariant_of-self g c =
-    let least = min_below c.self.inside.quiet_until (c.seconds.result + 300) c.min-self-inside.result c.min-self-inside.ensures in
+    let least = min_below c.self.inside.quiet_until (c.seconds.result + permission_lifetime) c.min-self-inside.result c.min-self-inside.ensures in
     record {
       quiet = quiet_changes c.min-self-inside.result c.self.inside.quiet_until c.self.inside.allocations.held c.bind.new.self.held c.args.tuple (binding c.args.moment c.args.number c.args.peer) least.0
           (λ e. quiet_binding c.min-self-inside.result c.self.inside.quiet_until c.args.moment c.args.number c.args.peer e least.0 (omega (arith, least.1, c.seconds.ensures.value))) c.self.invariant.quiet (subst (λ t. Changes c.args.tuple (binding t c.args.number c.args.peer) c.self.inside.allocations.held c.bind.new.self.held) c.seconds-2.ensures.value c.bind.ensures);
