@@ -1,0 +1,5 @@
+pub mod Passing
+pub mod InPieces
+pub mod Replies
+pub mod Filled
+pub mod Schemes

@@ -1,40 +1,35 @@
 -- The handshake, fixed newstyle, as far as a client needs it that asks for one export. Numbers are big-endian.
-use Rattle.std.specs.Prelude.{ℕ, ◌≡◌, ◌≢◌, ◌<◌, ◌≤◌, ◌^◌, ◌⊎◌, Bool, IsTrue, List, [], ◌∷◌, ◌++◌, length, take, codes, bit_and}
-use Rattle.std.specs.Int.{w16, w32, w64, to_be_bytes}
+use Rattle.std.specs.Prelude.{ℕ, ◌≡◌, ◌≢◌, ◌+◌, ◌<◌, ◌≤◌, ◌^◌, ◌⊎◌, Bool, IsTrue, List, [], ◌∷◌, ◌++◌, length, codes, bit_and}
+use Rattle.std.specs.Int.{w16, w32, to_be_bytes, from_be_bytes}
 use Rattle.turn_nbd.specs.declared.error.NbdError.{NbdError}
 use Rattle.turn_nbd.specs.declared.error.NbdError.TheVariants.{Handshake, Unsupported, ReadOnly, NoFlush, Size}
 use Rattle.turn_nbd.specs.declared.handshake.Found.{Found}
 
--- what the server sends first; bit 0 of its flags says that it has the fixed newstyle handshake, bit 1 that it can leave out zeros
-unfoldable pub greeting : ℕ → List ℕ
-greeting flags = codes "NBDMAGICIHAVEOPT" ++ to_be_bytes w16 flags
+-- what the server sends first; flags follow, of which bit 0 says that it has the fixed newstyle handshake
+abbrev pub greeting_magic : List ℕ
+greeting_magic = codes "NBDMAGICIHAVEOPT"
 
 -- why a greeting isn't accepted
-abbrev pub IsNoGreeting : NbdError → List ℕ → Type 0
-IsNoGreeting Handshake bytes = take 16 bytes ≢ codes "NBDMAGICIHAVEOPT"
-IsNoGreeting Unsupported bytes = (flags : ℕ) × (bytes ≡ greeting flags) × (bit_and flags 1 ≡ 0)
-IsNoGreeting _ bytes = ⊥
+abbrev pub IsNoGreeting : NbdError → List ℕ → List ℕ → Type 0
+IsNoGreeting Handshake magic flags = magic ≢ greeting_magic
+IsNoGreeting Unsupported magic flags = (magic ≡ greeting_magic) × (bit_and (from_be_bytes w16 flags) 1 ≡ 0)
+IsNoGreeting _ magic flags = ⊥
 
--- an option that a client asks for, with its data
-unfoldable pub option : ℕ → List ℕ → List ℕ
-option number parameter = codes "IHAVEOPT" ++ to_be_bytes w32 number ++ to_be_bytes w32 (length parameter) ++ parameter
+-- what an option begins with: its number, and how many bytes of data follow
+unfoldable pub option_head : ℕ → ℕ → List ℕ
+option_head number count = codes "IHAVEOPT" ++ to_be_bytes w32 number ++ to_be_bytes w32 count
 
 -- the option GO, with the name of an export and no request for information
 abbrev pub go : List ℕ → List ℕ
-go name = option 7 (to_be_bytes w32 (length name) ++ name ++ 0 ∷ 0 ∷ [])
+go name = option_head 7 (length name + 6) ++ to_be_bytes w32 (length name) ++ name ++ 0 ∷ 0 ∷ []
 
 -- the option EXPORT_NAME, which all servers have
 abbrev pub export_name : List ℕ → List ℕ
-export_name name = option 1 name
+export_name name = option_head 1 (length name) ++ name
 
--- the reply to an option, without its data: magic, the option, the type of the reply, and how many bytes of data follow
-unfoldable pub option_reply : ℕ → ℕ → ℕ → List ℕ
-option_reply number kind count =
-    to_be_bytes w64 0x3e889045565a9 ++ to_be_bytes w32 number ++ to_be_bytes w32 kind ++ to_be_bytes w32 count
-
--- what is told of an export: its size, and its transmission flags
-unfoldable pub told : Found → List ℕ
-told found = to_be_bytes w64 found.size ++ to_be_bytes w16 found.flags
+-- what the reply to an option begins with
+abbrev pub option_reply_magic : List ℕ
+option_reply_magic = 0 ∷ 3 ∷ 0xe8 ∷ 0x89 ∷ 4 ∷ 0x55 ∷ 0x65 ∷ 0xa9 ∷ []
 
 -- the export can't be written: transmission flag 1
 abbrev pub IsReadOnly : Found → Type 0

@@ -1,5 +1,5 @@
 pub mod Wire
 pub mod Requests
 pub mod Handshake
-pub mod Names
 pub mod Views
+pub mod Names

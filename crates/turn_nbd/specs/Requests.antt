@@ -34,9 +34,9 @@ success cookie = reply_magic ++ no_error ++ to_be_bytes w64 cookie
 -- why a reply to the request of this cookie isn't one of success
 abbrev pub IsNoSuccess : NbdError → ℕ → List ℕ → Type 0
 IsNoSuccess Reply cookie bytes = take 4 bytes ≢ reply_magic
-IsNoSuccess Cookie cookie bytes = (take 4 bytes ≡ reply_magic) × (drop 8 bytes ≢ to_be_bytes w64 cookie)
+IsNoSuccess Cookie cookie bytes = (take 4 bytes ≡ reply_magic) × (take 8 (drop 8 bytes) ≢ to_be_bytes w64 cookie)
 IsNoSuccess Failed cookie bytes =
-    (take 4 bytes ≡ reply_magic) × (drop 8 bytes ≡ to_be_bytes w64 cookie) × (take 4 (drop 4 bytes) ≢ no_error)
+    (take 4 bytes ≡ reply_magic) × (take 8 (drop 8 bytes) ≡ to_be_bytes w64 cookie) × (take 4 (drop 4 bytes) ≢ no_error)
 IsNoSuccess _ cookie bytes = ⊥
 
 -- what passes at a request that succeeds: the request with its data, and then its reply with the reply's data
@@ -47,6 +47,11 @@ exchange kind cookie at count data_sent data_received =
 -- the cookie of the next request
 abbrev pub next_cookie : ℕ → ℕ
 next_cookie cookie = (cookie + 1) % 2 ^ 64
+
+-- the bytes of these pieces, one after another
+abbrev pub joined : List (List ℕ) → List ℕ
+joined [] = []
+joined (piece ∷ pieces) = piece ++ joined pieces
 
 -- what passes at reads of these pieces, each from the end of the one before on
 abbrev pub reads : ℕ → ℕ → List (List ℕ) → List (Bool × ℕ)

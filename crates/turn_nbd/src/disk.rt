@@ -1,10 +1,10 @@
 //! A disk over an export. It follows the crash model as long as the answers are those of an export that keeps what was written.
 
-ghost use Rattle.std.specs.Prelude.{◌≡◌, ◌+◌, ◌++◌, ◌≤◌, [], ℕ, List, IfOk, OnOk, true, false, length, take, drop, flatten};
+ghost use Rattle.std.specs.Prelude.{◌≡◌, ◌⊎◌, ◌&&◌, ◌+◌, ◌++◌, ◌∷◌, ◌≤◌, [], ℕ, List, IfOk, OnOk, MatchResult, true, false, length};
 ghost use Rattle.turn_disk.specs.Calls.{FollowCrashModel, replay};
 ghost use Rattle.turn_disk.specs.Counts.{CountOutcome};
-ghost use Rattle.turn_disk.specs.Disk.{SyncOutcome, WriteOutcome};
-ghost use Rattle.turn_nbd.specs.Requests.{exchange, reads, writes};
+ghost use Rattle.turn_nbd.specs.Requests.{exchange, joined, reads, writes};
+ghost use Rattle.turn_nbd.specs.declared.request.Kind.TheVariants.{Flush};
 
 use crate::connection::Connection;
 use crate::error::NbdError;
@@ -88,13 +88,82 @@ impl<T: Stream> NbdDisk<T> {
 
 impl<T: Stream, S: Start> NbdDisk<T, S> {
     // Whether a write or a sync is tried: the disk was opened to be written, and no request failed.
-    fn may_write(&self) -> bool {
+    fn may_write(&self) -> bool
+        ensures { result ≡ (self.now.can_write && self.now.connection.is_open) }
+    {
         self.can_write && self.connection.is_open()
+    }
+
+    // Reads by requests, and notes the call if it succeeds: one that fails changes nothing.
+    fn ask_read(&mut self, at: usize, buffer: &mut [u8]) -> Result<(), DeviceError>
+        requires { at + length buffer.old ≤ self.old.size }
+        ensures size { self.new.size ≡ self.old.size }
+        ensures count { CountOutcome self.old.failures self.new.failures result }
+        ensures noted { MatchResult result (λ _. self.new.events ≡ (0, at, true, buffer.new) ∷ self.old.events) (λ _. self.new.events ≡ self.old.events) }
+        ensures wire { OnOk result ((pieces : List (List ℕ)) × (joined pieces ≡ buffer.new)
+            × (self.new.connection.wire ≡ self.old.connection.wire ++ reads self.old.connection.cookie at pieces)) }
+    {
+        // Its size is one of a disk.
+        let _size = self.size;
+        match read_from(&mut self.connection, at, buffer, 0) {
+            Ok(()) => {
+                self.calls.note(READ, at, true, buffer);
+                Ok(())
+            }
+            Err(_) => Err(raise(&mut self.failures)),
+        }
+    }
+
+    // Writes by requests, and notes the call, unless it isn't tried.
+    fn ask_write(&mut self, at: usize, bytes: &[u8]) -> Result<(), DeviceError>
+        requires { at + length bytes.now ≤ self.old.size }
+        ensures size { self.new.size ≡ self.old.size }
+        ensures count { CountOutcome self.old.failures self.new.failures result }
+        ensures noted { MatchResult result (λ _. self.new.events ≡ (1, at, true, bytes.now) ∷ self.old.events)
+            (λ _. (self.new.events ≡ (1, at, false, bytes.now) ∷ self.old.events)
+            ⊎ ((self.new.events ≡ self.old.events) × (self.new.connection ≡ self.old.connection))) }
+        ensures wire { OnOk result ((pieces : List (List ℕ)) × (joined pieces ≡ bytes.now)
+            × (self.new.connection.wire ≡ self.old.connection.wire ++ writes self.old.connection.cookie at pieces)) }
+        ensures can_write { OnOk result (self.old.can_write ≡ true) }
+    {
+        // Its size is one of a disk.
+        let _size = self.size;
+        if !self.may_write() {
+            return Err(raise(&mut self.failures));
+        }
+        match write_from(&mut self.connection, at, bytes, 0) {
+            Ok(()) => {
+                self.calls.note(WRITE, at, true, bytes);
+                Ok(())
+            }
+            Err(_) => {
+                self.calls.note(WRITE, at, false, bytes);
+                Err(raise(&mut self.failures))
+            }
+        }
+    }
+
+    // Makes durable what was written by one request, and notes the call if it succeeds: one that fails changes nothing.
+    fn ask_flush(&mut self) -> Result<(), DeviceError>
+        ensures size { self.new.size ≡ self.old.size }
+        ensures count { CountOutcome self.old.failures self.new.failures result }
+        ensures noted { MatchResult result (λ _. self.new.events ≡ (2, 0, true, []) ∷ self.old.events) (λ _. self.new.events ≡ self.old.events) }
+        ensures wire { OnOk result (self.new.connection.wire ≡ self.old.connection.wire ++ exchange Flush self.old.connection.cookie 0 0 [] []) }
+        ensures can_write { OnOk result (self.old.can_write ≡ true) }
+    {
+        if !self.may_write() {
+            return Err(raise(&mut self.failures));
+        }
+        match self.connection.flush() {
+            Ok(()) => {
+                self.calls.note(SYNC, 0, true, &[]);
+                Ok(())
+            }
+            Err(_) => Err(raise(&mut self.failures)),
+        }
     }
 }
 
-// Each method notes its call with its answer. A read or a sync that failed isn't noted: it changes nothing; nor is a write that wasn't
-// tried.
 impl<T: Stream, S: Start> Disk for NbdDisk<T, S> {
     ghost use Rattle.turn_disk.specs.Calls.{sized_by};
 
@@ -117,41 +186,14 @@ impl<T: Stream, S: Start> Disk for NbdDisk<T, S> {
     }
 
     fn read_at(&mut self, at: usize, buffer: &mut [u8]) -> Result<(), DeviceError> {
-        match read_from(&mut self.connection, at, buffer, 0) {
-            Ok(()) => {
-                self.calls.note(READ, at, true, buffer);
-                Ok(())
-            }
-            Err(_) => Err(raise(&mut self.failures)),
-        }
+        self.ask_read(at, buffer)
     }
 
     fn write_at(&mut self, at: usize, bytes: &[u8]) -> Result<(), DeviceError> {
-        if !self.may_write() {
-            return Err(raise(&mut self.failures));
-        }
-        match write_from(&mut self.connection, at, bytes, 0) {
-            Ok(()) => {
-                self.calls.note(WRITE, at, true, bytes);
-                Ok(())
-            }
-            Err(_) => {
-                self.calls.note(WRITE, at, false, bytes);
-                Err(raise(&mut self.failures))
-            }
-        }
+        self.ask_write(at, bytes)
     }
 
     fn sync(&mut self) -> Result<(), DeviceError> {
-        if !self.may_write() {
-            return Err(raise(&mut self.failures));
-        }
-        match self.connection.flush() {
-            Ok(()) => {
-                self.calls.note(SYNC, 0, true, &[]);
-                Ok(())
-            }
-            Err(_) => Err(raise(&mut self.failures)),
-        }
+        self.ask_flush()
     }
 }

@@ -1,17 +1,14 @@
 //! The parts of the handshake, as bytes that a server sends and a client answers.
 
-ghost use Rattle.std.specs.Prelude.{◌≡◌, ◌≢◌, ◌+◌, ◌++◌, ◌≤◌, ◌<◌, ◌×◌, ◌∷◌, [], bit_and, IfOk, IfErr, IfSome, IfNone, MatchResult, length, take};
-ghost use Rattle.std.specs.Int.{w16, w32, w64, to_be_bytes};
-ghost use Rattle.turn_nbd.specs.Handshake.{greeting, IsNoGreeting, option_reply, told, IsUnfit, IsFit};
+ghost use Rattle.std.specs.Prelude.{◌≡◌, ◌≢◌, ◌++◌, bit_and, MatchResult};
+ghost use Rattle.std.specs.Int.{w16, w32, w64, from_be_bytes};
+ghost use Rattle.turn_nbd.specs.Handshake.{greeting_magic, option_head, option_reply_magic, IsNoGreeting, IsUnfit, IsFit};
 
+use crate::bytes::{differ, put};
 use crate::error::NbdError;
-use crate::request::put;
 
 /// The max number of bytes of an export's name, by the protocol.
 pub const MAX_NAME: usize = 4096;
-
-/// How many bytes a greeting has.
-pub const GREETING_SIZE: usize = 18;
 
 /// What a greeting begins with.
 const GREETING: [u8; 16] = *b"NBDMAGICIHAVEOPT";
@@ -20,7 +17,7 @@ const GREETING: [u8; 16] = *b"NBDMAGICIHAVEOPT";
 const OPTION: [u8; 8] = *b"IHAVEOPT";
 
 /// What the reply to an option begins with.
-const OPTION_REPLY: u64 = 0x0003_e889_0455_65a9;
+const OPTION_REPLY: [u8; 8] = [0, 3, 0xe8, 0x89, 4, 0x55, 0x65, 0xa9];
 
 /// The option that asks for an export, and for what there is to say of it.
 pub const GO: u32 = 7;
@@ -61,14 +58,15 @@ pub struct Found {
     pub flags: u16,
 }
 
-/// The flags of a greeting.
-pub fn read_greeting(bytes: &[u8; GREETING_SIZE]) -> Result<u16, NbdError>
-    ensures { MatchResult result (λ flags. (bytes.now ≡ greeting flags) × (bit_and flags 1 ≢ 0)) (λ why. IsNoGreeting why bytes.now) }
+/// The flags of a greeting, which come after its magic.
+pub fn read_greeting(magic: &[u8; 16], flags: [u8; 2]) -> Result<u16, NbdError>
+    ensures { MatchResult result (λ n. (magic.now ≡ greeting_magic) × (n ≡ from_be_bytes w16 flags) × (bit_and n 1 ≢ 0))
+        (λ why. IsNoGreeting why magic.now flags) }
 {
-    if bytes[0..16] != GREETING[..] {
+    if differ(magic, &GREETING) {
         return Err(NbdError::Handshake);
     }
-    let flags = u16::from_be_bytes([bytes[16], bytes[17]]);
+    let flags = u16::from_be_bytes(flags);
     if flags & FIXED_NEWSTYLE == 0 {
         return Err(NbdError::Unsupported);
     }
@@ -89,7 +87,7 @@ pub fn has_no_zeros(flags: u16) -> bool {
 
 /// What an option begins with, up to its data of so many bytes.
 pub fn option_head(number: u32, count: u32) -> [u8; 16]
-    ensures { result ≡ OPTION ++ to_be_bytes w32 number ++ to_be_bytes w32 count }
+    ensures { result ≡ option_head number count }
 {
     let mut bytes = [0; 16];
     put(&mut bytes, 0, &OPTION);
@@ -98,41 +96,28 @@ pub fn option_head(number: u32, count: u32) -> [u8; 16]
     bytes
 }
 
-/// The head of a reply to an option.
-#[derive(Clone, Copy, Debug, PartialEq, Eq)]
-pub struct OptionReply {
-    /// The type of the reply.
-    pub kind: u32,
-    /// How many bytes of data follow.
-    pub count: u32,
-}
-
-/// The type of a reply to an option, and how many bytes of data follow.
-pub fn read_option_reply(bytes: &[u8; 20], number: u32) -> Result<OptionReply, NbdError>
-    ensures ok { IfOk result (λ reply. bytes.now ≡ option_reply number reply.kind reply.count) }
-    ensures err { IfErr result (λ why. (why ≡ NbdError.Handshake)
-        × (take 12 bytes.now ≢ to_be_bytes w64 OPTION_REPLY ++ to_be_bytes w32 number)) }
+/// Whether a reply to an option begins as one of this option does.
+pub fn check_option_reply(magic: &[u8; 8], option: [u8; 4], number: u32) -> Result<(), NbdError>
+    ensures { MatchResult result (λ _. (magic.now ≡ option_reply_magic) × (from_be_bytes w32 option ≡ number))
+        (λ why. (why ≡ NbdError.Handshake) × (magic.now ≡ option_reply_magic → from_be_bytes w32 option ≢ number)) }
 {
-    let mut expected = [0; 12];
-    put(&mut expected, 0, &OPTION_REPLY.to_be_bytes());
-    put(&mut expected, 8, &number.to_be_bytes());
-    if bytes[0..12] != expected[..] {
+    if differ(magic, &OPTION_REPLY) {
         return Err(NbdError::Handshake);
     }
-    Ok(OptionReply {
-        kind: u32::from_be_bytes([bytes[12], bytes[13], bytes[14], bytes[15]]),
-        count: u32::from_be_bytes([bytes[16], bytes[17], bytes[18], bytes[19]]),
-    })
+    if u32::from_be_bytes(option) != number {
+        return Err(NbdError::Handshake);
+    }
+    Ok(())
 }
 
-/// What a server tells of an export, after the size of which its flags stand.
-pub fn read_told(bytes: &[u8; 10]) -> Found
-    ensures { bytes.now ≡ told result }
+/// What a server tells of an export: after its size come its flags.
+pub fn read_told(size: [u8; 8], flags: [u8; 2]) -> Found
+    ensures size { result.size ≡ from_be_bytes w64 size }
+    ensures flags { result.flags ≡ from_be_bytes w16 flags }
 {
-    let [a, b, c, d, e, f, g, h, high, low] = *bytes;
     Found {
-        size: u64::from_be_bytes([a, b, c, d, e, f, g, h]),
-        flags: u16::from_be_bytes([high, low]),
+        size: u64::from_be_bytes(size),
+        flags: u16::from_be_bytes(flags),
     }
 }
 

@@ -5,6 +5,7 @@
 //! succeeded sent its request, and then received the reply that answers it.
 #![tactic(auto)]
 
+mod bytes;
 mod connection;
 mod disk;
 mod error;

@@ -2,12 +2,12 @@
 
 ghost use Rattle.std.specs.Prelude.{◌≡◌, ◌+◌, ◌++◌, ◌≤◌, ◌<◌, ◌^◌, ◌∷◌, [], OnOk, length};
 ghost use Rattle.turn_nbd.specs.Wire.{sent, received};
-ghost use Rattle.turn_nbd.specs.Handshake.{option, go, export_name};
+ghost use Rattle.turn_nbd.specs.Handshake.{go, export_name};
 
 use crate::error::NbdError;
 use crate::handshake::{
-    ACK, EXPORT_NAME, Found, GO, INFO, MAX_NAME, UNKNOWN_OPTION, client_flags, has_no_zeros,
-    option_head, read_greeting, read_option_reply, read_told,
+    ACK, EXPORT_NAME, Found, GO, INFO, MAX_NAME, UNKNOWN_OPTION, check_option_reply, client_flags,
+    has_no_zeros, option_head, read_greeting, read_told,
 };
 use crate::stream::Stream;
 use crate::wire::Wire;
@@ -93,25 +93,29 @@ fn receive_information<T: Stream>(wire: &mut Wire<T>, count: u32) -> Result<Answ
     if count != EXPORT_INFO_SIZE {
         return Err(NbdError::Handshake);
     }
-    let bytes = wire.receive_array()?;
-    Ok(Answer::Told(read_told(&bytes)))
+    let size = wire.receive_array()?;
+    let flags = wire.receive_array()?;
+    Ok(Answer::Told(read_told(size, flags)))
 }
 
 /// Receives a reply to GO.
 fn receive_answer<T: Stream>(wire: &mut Wire<T>) -> Result<Answer, NbdError> {
-    let head = wire.receive_array()?;
-    let reply = read_option_reply(&head, GO)?;
-    if reply.kind == INFO {
-        return receive_information(wire, reply.count);
+    let magic = wire.receive_array()?;
+    let option = wire.receive_array()?;
+    check_option_reply(&magic, option, GO)?;
+    let kind = u32::from_be_bytes(wire.receive_array()?);
+    let count = u32::from_be_bytes(wire.receive_array()?);
+    if kind == INFO {
+        return receive_information(wire, count);
     }
-    skip(wire, reply.count)?;
-    if reply.kind == ACK {
+    skip(wire, count)?;
+    if kind == ACK {
         return Ok(Answer::Taken);
     }
-    if reply.kind == UNKNOWN_OPTION {
+    if kind == UNKNOWN_OPTION {
         return Ok(Answer::Unknown);
     }
-    if reply.kind & ERROR != 0 {
+    if kind & ERROR != 0 {
         return Err(NbdError::NoExport);
     }
     Err(NbdError::Handshake)
@@ -145,14 +149,15 @@ fn negotiate_by_name<T: Stream>(
     requires { length name.now ≤ 4096 }
 {
     send_name(wire, name)?;
-    let bytes = match wire.receive_array() {
+    let size = match wire.receive_array() {
         Err(NbdError::Closed) => return Err(NbdError::NoExport),
         received => received?,
     };
+    let told = read_told(size, wire.receive_array()?);
     if !has_no_zeros(flags) {
         skip(wire, ZEROS)?;
     }
-    Ok(read_told(&bytes))
+    Ok(told)
 }
 
 /// Does the handshake with a server of which nothing was received yet, and asks for the export of this name.
@@ -161,7 +166,8 @@ pub fn negotiate<T: Stream>(wire: &mut Wire<T>, name: &str) -> Result<Found, Nbd
         return Err(NbdError::NoExport);
     }
     wire.begin();
-    let flags = read_greeting(&wire.receive_array()?)?;
+    let magic = wire.receive_array()?;
+    let flags = read_greeting(&magic, wire.receive_array()?)?;
     wire.send(&client_flags(flags).to_be_bytes())?;
     send_go(wire, name)?;
     match receive_answers(wire)? {

@@ -1,8 +1,8 @@
 //! Reads and writes of any length, in requests of at most 32 MiB.
 
-ghost use Rattle.std.specs.Prelude.{◌≡◌, ◌+◌, ◌++◌, ◌<◌, ◌≤◌, ◌^◌, ℕ, List, Ok, Err, true, false, OnOk, MatchResult, length, take, drop, flatten};
-ghost use Rattle.turn_nbd.specs.Requests.{reads, writes};
-ghost use Rattle.turn_nbd.specs.declared.error.NbdError.TheVariants.{Closed};
+ghost use Rattle.std.specs.Prelude.{◌≡◌, ◌+◌, ◌++◌, ◌<◌, ◌≤◌, ◌^◌, [], ℕ, List, OnOk, length, take, drop};
+ghost use Rattle.turn_nbd.specs.Requests.{exchange, joined, next_cookie, reads, writes};
+ghost use Rattle.turn_nbd.specs.declared.request.Kind.TheVariants.{Read, Write};
 
 use crate::connection::Connection;
 use crate::error::NbdError;
@@ -10,6 +10,25 @@ use crate::stream::Stream;
 
 /// The max number of bytes of one request's data, which is that of the protocol's default.
 pub const MAX_PIECE: usize = 32 << 20;
+
+// Reads so many bytes to this position of the buffer, in one request.
+fn read_piece<T: Stream>(
+    connection: &mut Connection<T>,
+    at: usize,
+    buffer: &mut [u8],
+    done: usize,
+    count: usize,
+) -> Result<(), NbdError>
+    requires within { done + count ≤ length buffer.old }
+    requires small { count < 2 ^ 32 }
+    ensures front { take done buffer.new ≡ take done buffer.old }
+    ensures wire { OnOk result (connection.new.wire ≡ connection.old.wire
+        ++ exchange Read connection.old.cookie at count [] (take count (drop done buffer.new))) }
+    ensures cookie { OnOk result (connection.new.cookie ≡ next_cookie connection.old.cookie) }
+{
+    connection.read(at, &mut buffer[done..done + count])?;
+    Ok(())
+}
 
 /// Reads to the buffer from this position of it on, in requests of at most 32 MiB. Position `at` of the export is where the buffer begins.
 pub fn read_from<T: Stream>(
@@ -21,15 +40,34 @@ pub fn read_from<T: Stream>(
     requires place { at + length buffer.old < 2 ^ 64 }
     requires within { done ≤ length buffer.old }
     ensures front { take done buffer.new ≡ take done buffer.old }
-    ensures wire { OnOk result ((pieces : List (List ℕ)) × (flatten pieces ≡ drop done buffer.new)
+    ensures wire { OnOk result ((pieces : List (List ℕ)) × (joined pieces ≡ drop done buffer.new)
         × (connection.new.wire ≡ connection.old.wire ++ reads connection.old.cookie (at + done) pieces)) }
 {
     let count = MAX_PIECE.min(buffer.len() - done);
     if count == 0 {
         return Ok(());
     }
-    connection.read(at + done, &mut buffer[done..done + count])?;
-    read_from(connection, at, buffer, done + count)
+    read_piece(connection, at + done, buffer, done, count)?;
+    read_from(connection, at, buffer, done + count)?;
+    Ok(())
+}
+
+// Writes so many bytes from this position of them on, in one request.
+fn write_piece<T: Stream>(
+    connection: &mut Connection<T>,
+    at: usize,
+    bytes: &[u8],
+    done: usize,
+    count: usize,
+) -> Result<(), NbdError>
+    requires within { done + count ≤ length bytes.now }
+    requires small { count < 2 ^ 32 }
+    ensures wire { OnOk result (connection.new.wire ≡ connection.old.wire
+        ++ exchange Write connection.old.cookie at count (take count (drop done bytes.now)) []) }
+    ensures cookie { OnOk result (connection.new.cookie ≡ next_cookie connection.old.cookie) }
+{
+    connection.write(at, &bytes[done..done + count])?;
+    Ok(())
 }
 
 /// Writes these bytes from this position of them on, in requests of at most 32 MiB. Position `at` of the export is where the bytes begin.
@@ -41,13 +79,14 @@ pub fn write_from<T: Stream>(
 ) -> Result<(), NbdError>
     requires place { at + length bytes.now < 2 ^ 64 }
     requires within { done ≤ length bytes.now }
-    ensures wire { OnOk result ((pieces : List (List ℕ)) × (flatten pieces ≡ drop done bytes.now)
+    ensures { OnOk result ((pieces : List (List ℕ)) × (joined pieces ≡ drop done bytes.now)
         × (connection.new.wire ≡ connection.old.wire ++ writes connection.old.cookie (at + done) pieces)) }
 {
     let count = MAX_PIECE.min(bytes.len() - done);
     if count == 0 {
         return Ok(());
     }
-    connection.write(at + done, &bytes[done..done + count])?;
-    write_from(connection, at, bytes, done + count)
+    write_piece(connection, at + done, bytes, done, count)?;
+    write_from(connection, at, bytes, done + count)?;
+    Ok(())
 }

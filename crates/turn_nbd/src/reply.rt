@@ -3,6 +3,7 @@
 ghost use Rattle.std.specs.Prelude.{◌≡◌, MatchResult};
 ghost use Rattle.turn_nbd.specs.Requests.{success, IsNoSuccess};
 
+use crate::bytes::differ;
 use crate::error::NbdError;
 
 /// How many bytes a reply has, without its data.
@@ -18,13 +19,13 @@ const NO_ERROR: [u8; 4] = [0; 4];
 pub fn check_reply(bytes: &[u8; REPLY_SIZE], cookie: u64) -> Result<(), NbdError>
     ensures { MatchResult result (λ _. bytes.now ≡ success cookie) (λ why. IsNoSuccess why cookie bytes.now) }
 {
-    if bytes[0..4] != MAGIC[..] {
+    if differ(&bytes[0..4], &MAGIC) {
         return Err(NbdError::Reply);
     }
-    if bytes[8..16] != cookie.to_be_bytes()[..] {
+    if differ(&bytes[8..16], &cookie.to_be_bytes()) {
         return Err(NbdError::Cookie);
     }
-    if bytes[4..8] != NO_ERROR[..] {
+    if differ(&bytes[4..8], &NO_ERROR) {
         return Err(NbdError::Failed);
     }
     Ok(())

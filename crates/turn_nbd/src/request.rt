@@ -1,7 +1,9 @@
 //! Requests, as the bytes that a client sends.
 
-ghost use Rattle.std.specs.Prelude.{◌≡◌, ◌+◌, ◌++◌, ◌≤◌, length, take};
+ghost use Rattle.std.specs.Prelude.{◌≡◌};
 ghost use Rattle.turn_nbd.specs.Requests.{kind_number, request};
+
+use crate::bytes::put;
 
 /// How many bytes a request has, without its data.
 pub const REQUEST_SIZE: usize = 28;
@@ -34,14 +36,6 @@ impl Kind {
             Kind::Flush => 3,
         }
     }
-}
-
-/// Puts bytes into a buffer.
-pub(crate) fn put(buffer: &mut [u8], at: usize, bytes: &[u8])
-    requires { at + length bytes.now ≤ length buffer.old }
-    ensures { take (at + length bytes.now) buffer.new ≡ take at buffer.old ++ bytes.now }
-{
-    buffer[at..at + bytes.len()].copy_from_slice(bytes);
 }
 
 /// A request without its data. Its cookie comes back in its reply; `at` and `count` are in bytes.

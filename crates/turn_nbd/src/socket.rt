@@ -1,10 +1,11 @@
 //! The socket of a server: a stream over a Unix socket or over TCP, whose waits are bounded.
 
+ghost use Rattle.std.specs.Prelude.{◌<◌, ◌≤◌, IfOk, IfSome};
+
 use crate::error::NbdError;
 use crate::stream::Stream;
 use crate::uri::Place;
 use libc::types::timespec;
-use mio::event::Source;
 use mio::net::{TcpStream, UnixStream};
 use mio::{Events, Interest, Poll, Token};
 use std::alloc::{Allocator, Global};
@@ -172,13 +173,14 @@ impl<A: Allocator> Socket<A> {
     }
 }
 
-// How many bytes a read or write moved, or `None` where it has to wait first.
-fn moved(answer: io::Result<usize>) -> Result<Option<usize>, NbdError> {
+// How many bytes a read or write moved, of at most so many, or `None` where it has to wait first.
+fn moved(answer: io::Result<usize>, max: usize) -> Result<Option<usize>, NbdError>
+    ensures { IfOk result (λ moved. IfSome moved (λ count. (0 < count) × (count ≤ max))) }
+{
     match answer {
-        Ok(0) => Err(NbdError::Closed),
-        Ok(count) => Ok(Some(count)),
+        Ok(count) if 0 < count && count <= max => Ok(Some(count)),
         Err(error) if error.kind() == ErrorKind::WouldBlock => Ok(None),
-        Err(_) => Err(NbdError::Closed),
+        _ => Err(NbdError::Closed),
     }
 }
 
@@ -188,8 +190,9 @@ impl<A: Allocator> Stream for Socket<A> {
     }
 
     fn read(&mut self, buffer: &mut [u8]) -> Result<usize, NbdError> {
+        let max = buffer.len();
         for _ in 0..TRIES {
-            if let Some(count) = moved(self.link.read(buffer))? {
+            if let Some(count) = moved(self.link.read(buffer), max)? {
                 return Ok(count);
             }
             self.wait()?;
@@ -198,8 +201,9 @@ impl<A: Allocator> Stream for Socket<A> {
     }
 
     fn write(&mut self, bytes: &[u8]) -> Result<usize, NbdError> {
+        let max = bytes.len();
         for _ in 0..TRIES {
-            if let Some(count) = moved(self.link.write(bytes))? {
+            if let Some(count) = moved(self.link.write(bytes), max)? {
                 return Ok(count);
             }
             self.wait()?;

@@ -1,10 +1,9 @@
 //! Texts that name an export.
 
-ghost use Rattle.std.specs.Prelude.{◌≡◌, ◌×◌, ◌↔◌, ℕ, List, All, IfNone, IfSome, IsTrue};
-ghost use Rattle.turn_nbd.specs.Names.{IsHost, IsPlain, IsUri, IsUnix, IsTcp, Names};
-ghost use Rattle.turn_types.specs.declared.address.Endpoint.{Endpoint};
+ghost use Rattle.std.specs.Prelude.{◌≡◌, ◌≢◌, ◌↔◌, ◌<◌, ◌∷◌, ◌++◌, ℕ, List, All, IfSome, IsTrue, MatchBool, MatchOption, codes};
+ghost use Rattle.turn_nbd.specs.Names.{Begins, IsHost, IsPlain, IsUri, Names};
 
-use turn_config::values::{endpoint, ip};
+use std::net::{Ipv4Addr, SocketAddrV4};
 use turn_types::Endpoint;
 
 /// The port that is registered for NBD.
@@ -28,14 +27,32 @@ pub struct Export<'t> {
     pub place: Place<'t>,
 }
 
-/// Whether a word names an export, well-formed or not, and no file: it begins with a scheme of NBD.
-pub fn is_uri(text: &str) -> bool
-    ensures { IsTrue result ↔ IsUri text.now }
+// Whether a text begins with this one.
+fn begins(text: &str, front: &str) -> bool
+    ensures { MatchBool result (Begins front.now text.now) (Begins front.now text.now → ⊥) }
 {
-    text.starts_with("nbd:")
-        || text.starts_with("nbd+")
-        || text.starts_with("nbds:")
-        || text.starts_with("nbds+")
+    after(text, front).is_some()
+}
+
+// What follows this front of a text.
+fn after<'t>(text: &'t str, front: &str) -> Option<&'t str>
+    ensures { MatchOption result ((rest : List ℕ) → text.now ≢ front.now ++ rest) (λ rest. text.now ≡ front.now ++ rest.now) }
+{
+    match text.strip_prefix(front) {
+        Some(rest) => Some(rest),
+        None => None,
+    }
+}
+
+// What is before and after the first such character, which is one of ASCII.
+fn cut(text: &str, mark: char) -> Option<(&str, &str)>
+    requires { mark < 128 }
+    ensures { IfSome result (λ x. text.now ≡ x.0.now ++ mark ∷ x.1.now) }
+{
+    match text.split_once(mark) {
+        Some(parts) => Some(parts),
+        None => None,
+    }
 }
 
 // Whether no byte has a meaning of its own in a URI, or ends a path.
@@ -46,22 +63,31 @@ fn is_plain(text: &str) -> bool
 }
 
 // The address of a server, of which the port may be left out.
-fn host(text: &[u8]) -> Option<Endpoint>
-    ensures found { IfSome result (λ at. IsHost text.now at) }
-    ensures none { IfNone result ((at : Endpoint) → IsHost text.now at → ⊥) }
+fn host(text: &str) -> Option<Endpoint>
+    ensures { IfSome result (λ at. IsHost text.now at) }
 {
-    if let Some(at) = endpoint(text) {
-        return Some(at);
+    if let Ok(at) = text.parse::<SocketAddrV4>() {
+        return Some(Endpoint {
+            ip: at.ip().to_bits(),
+            port: at.port(),
+        });
     }
-    let ip = ip(text)?;
-    Some(Endpoint { ip, port: PORT })
+    match text.parse::<Ipv4Addr>() {
+        Ok(address) => Some(Endpoint {
+            ip: address.to_bits(),
+            port: PORT,
+        }),
+        Err(_) => None,
+    }
 }
 
-// The export that "NAME?socket=/PATH" names.
-fn unix(text: &str) -> Option<Export<'_>> {
-    let (name, query) = text.split_once('?')?;
-    let path = query.strip_prefix("socket=")?;
-    if !is_plain(name) || !is_plain(path) || !path.starts_with('/') {
+// The export that "NAME?socket=/PATH" names after its scheme.
+fn unix(text: &str) -> Option<Export<'_>>
+    ensures { IfSome result (λ e. Names (codes "nbd+unix:///" ++ text.now) e.name.now e.place) }
+{
+    let (name, query) = cut(text, '?')?;
+    let path = after(query, "socket=")?;
+    if !is_plain(name) || !is_plain(path) || !begins(path, "/") {
         return None;
     }
     Some(Export {
@@ -70,10 +96,12 @@ fn unix(text: &str) -> Option<Export<'_>> {
     })
 }
 
-// The export that "IP:PORT/NAME" names.
-fn tcp(text: &str) -> Option<Export<'_>> {
-    let (server, name) = text.split_once('/')?;
-    let at = host(server.as_bytes())?;
+// The export that "IP:PORT/NAME" names after its scheme.
+fn tcp(text: &str) -> Option<Export<'_>>
+    ensures { IfSome result (λ e. Names (codes "nbd://" ++ text.now) e.name.now e.place) }
+{
+    let (server, name) = cut(text, '/')?;
+    let at = host(server)?;
     if !is_plain(name) {
         return None;
     }
@@ -83,17 +111,32 @@ fn tcp(text: &str) -> Option<Export<'_>> {
     })
 }
 
+/// Whether a word names an export, well-formed or not, and no file: it begins with a scheme of NBD.
+pub fn is_uri(text: &str) -> bool
+    ensures { MatchBool result (IsUri text.now) (IsUri text.now → ⊥) }
+{
+    if begins(text, "nbd:") {
+        return true;
+    }
+    if begins(text, "nbd+") {
+        return true;
+    }
+    if begins(text, "nbds:") {
+        return true;
+    }
+    begins(text, "nbds+")
+}
+
 impl<'t> Export<'t> {
     /// The export that a text names: `nbd+unix:///NAME?socket=/PATH`, or `nbd://IP:PORT/NAME`, where port 10809 may be left out. The name may
     /// be empty. There is no other query, and nothing is percent-encoded: a text with a percent sign names none.
     pub fn parse(text: &'t str) -> Option<Export<'t>>
-        ensures found { IfSome result (λ e. Names text.now e.name.now e.place) }
-        ensures none { IfNone result ((name path : List ℕ) → IsUnix text.now name path → ⊥) }
-        ensures none_tcp { IfNone result ((name : List ℕ) (at : Endpoint) → IsTcp text.now name at → ⊥) }
+        ensures { IfSome result (λ e. Names text.now e.name.now e.place) }
     {
-        if let Some(rest) = text.strip_prefix("nbd+unix:///") {
+        if let Some(rest) = after(text, "nbd+unix:///") {
             return unix(rest);
         }
-        tcp(text.strip_prefix("nbd://")?)
+        let rest = after(text, "nbd://")?;
+        tcp(rest)
     }
 }
