@@ -20,6 +20,7 @@ request kind cookie at count =
     to_be_bytes w32 0x25609513 ++ to_be_bytes w16 0 ++ to_be_bytes w16 (kind_number kind) ++ to_be_bytes w64 cookie
     ++ to_be_bytes w64 at ++ to_be_bytes w32 count
 
+-- what a reply begins with
 abbrev pub reply_magic : List ℕ
 reply_magic = 0x67 ∷ 0x44 ∷ 0x66 ∷ 0x98 ∷ []
 

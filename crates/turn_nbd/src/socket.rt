@@ -168,6 +168,8 @@ impl<A: Allocator> Socket<A> {
         let rest = Duration::from_millis(self.until - now);
         match self.poll.poll(&mut self.events, Some(rest)) {
             Ok(()) => Ok(()),
+            // As by a signal that lets a stopped process go on.
+            Err(error) if error.kind() == ErrorKind::Interrupted => Ok(()),
             Err(_) => Err(NbdError::Closed),
         }
     }
