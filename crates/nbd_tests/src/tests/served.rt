@@ -70,7 +70,7 @@ fn an_export_is_written_flushed_and_read(rt: HostRuntime) {
         let (outcome, count, sent) = served(&answers(), at_once);
         assert!(rt; outcome == Ok((7, 0)));
         assert!(rt; count == SENT.len());
-        assert!(rt; sent[..142] == SENT[..]);
+        assert!(rt; sent.starts_with(&SENT));
     }
 }
 
