@@ -25,7 +25,8 @@ fn report_to(rt: &HostRuntime, text: &[u8], number: u64) -> Result<(Option<Repor
 
 /// What an `expect` line that differs was compared with.
 fn show_found(rt: &HostRuntime, text: &[u8], number: u64) -> Result<()> {
-    let (Some(report), expected) = report_to(rt, text, number)? else {
+    let (report, expected) = report_to(rt, text, number)?;
+    let Some(report) = report else {
         return Ok(());
     };
     match report.lines.get(expected) {
