@@ -53,6 +53,9 @@ pub record Submits {D H G : Type 0} (disk : disks.Ghosts D) (handler : handlers.
   -- what an arrival that is taken moves
   pub clock : OnOk result (now_of new ≡ moment)
   pub arrivals : OnOk result (new.arrivals ≡ old.arrivals + 1)
+  -- the first since the last commit is of this moment
+  pub since : OnOk result (old.arrivals ≡ 0 → new.since ≡ moment)
+  pub since_kept : OnOk result (1 ≤ old.arrivals → new.since ≡ old.since)
   -- for each history on which the server rests: an arrival that is taken is answered after it, and after a refusal the server recovers to it still
   pub takes : (h : History) (k : ℕ) → RecoversTo (disk.trace old.store.disk).now old h k
       → OnOk result (Takes (setting_of handler.key_of ports.range old.machine) (disk.trace old.store.disk).now old new h k moment

@@ -1,9 +1,9 @@
 -- What a server recovers to.
-use Rattle.std.specs.Prelude.{◌≡◌, ◌≤◌, ◌++◌, ℕ, Bool, List, length, take, drop}
+use Rattle.std.specs.Prelude.{◌≡◌, ◌≤◌, ◌++◌, ℕ, Bool, List, length, map, take, drop}
 use Rattle.std.specs.List.{AllByRecursion}
 use Rattle.std.specs.Option.{option_to_list}
 use Rattle.turn_disk.specs.Disk.{State}
-use Rattle.turn_history.specs.History.{History}
+use Rattle.turn_history.specs.History.{Event, History}
 use Rattle.turn_history.specs.Laws.{AllFrom}
 use Rattle.turn_record.specs.Bytes as bytes
 use Rattle.turn_record.specs.Records.{Writes}
@@ -13,7 +13,12 @@ use Rattle.turn_step.specs.State.{IsAfter}
 use Rattle.turn_store.specs.Areas.{Form}
 use Rattle.turn_store.specs.Images.{StandsForAt}
 use Rattle.turn_store.specs.State.{RecoversToAt, form_of}
+use Rattle.turn_types.specs.declared.address.FiveTuple.{FiveTuple}
 use Rattle.turn_engine.specs.State.{ServerState, now_of}
+
+-- the five-tuples of events, in their order
+abbrev pub tuples_of : History → List FiveTuple
+tuples_of h = map (λ (e : Event). e.tuple) h
 
 -- A server that isn't stopped, over a disk in this state, recovers to a history of which the first k events are stored: its
 -- machine is after the history, its store recovers to the first k events at a clock, the others are staged, and none of these
@@ -27,6 +32,8 @@ pub record RecoversTo {D H G : Type 0} (state : State) (server : ServerState D H
   pub stored : RecoversToAt server.store state at (take k h)
   pub staged : server.payload ≡ bytes.payload (drop k h)
   pub counted : server.acts ≡ length (drop k h)
+  pub tuples : server.tuples ≡ tuples_of (drop k h)
+  pub since : server.since ≤ now_of server
   pub from : AllFrom at (drop k h)
   -- the store's version can hold each act that is staged
   pub writes : AllByRecursion (λ e. Writes server.store.version e.act) (drop k h)

@@ -1,5 +1,5 @@
 -- Runs: what a server answers from an opening on, call after call.
-use Rattle.std.specs.Prelude.{◌≡◌, ◌≤◌, ◌++◌, ℕ, Bool, List, [], ◌∷◌, Result, Ok, Err, false, length, map}
+use Rattle.std.specs.Prelude.{◌≡◌, ◌≤◌, ◌++◌, ℕ, Bool, List, [], ◌∷◌, Option, Result, Ok, Err, false, length, map}
 use Rattle.std.specs.List.{AllByRecursion}
 use Rattle.std.specs.Option.{option_to_list}
 use Rattle.turn_cred.specs.declared.handler.AuthHandler as handlers
@@ -18,6 +18,7 @@ use Rattle.turn_store.specs.declared.error.StoreError.{StoreError}
 use Rattle.turn_engine.specs.Calls.{Submits, Commits}
 use Rattle.turn_engine.specs.Images.{AtLeast}
 use Rattle.turn_engine.specs.Recovering.{RecoversTo}
+use Rattle.turn_engine.specs.Relaying.{Relays, beside}
 use Rattle.turn_engine.specs.State.{ServerState, now_of}
 use Rattle.turn_engine.specs.declared.error.SubmitError.{SubmitError}
 
@@ -65,11 +66,14 @@ last_moment t (x ∷ xs) = last_moment x.moment xs
 pub data ServerCall (D H G : Type 0) : Type 0 where
   Submit : (moment : ℕ) (arrival : Arrives) (result : Result Unit SubmitError) (after : ServerState D H G) → ServerCall D H G
   Commit : (result : Result (List Sent) StoreError) (after : ServerState D H G) → ServerCall D H G
+  -- data that was answered beside what is staged, at rest or while a commit waited for its disk: then before that commit
+  Relay : (arrival : Arrives) (sent : Option Sent) (after : ServerState D H G) → ServerCall D H G
 
 -- the server after a call
 abbrev pub after_of : {D H G : Type 0} → ServerCall D H G → ServerState D H G
 after_of (Submit moment arrival result after) = after
 after_of (Commit result after) = after
+after_of (Relay arrival sent after) = after
 
 -- the server after calls in a row, or the one before them where there are none
 abbrev pub last_of : {D H G : Type 0} → ServerState D H G → List (ServerCall D H G) → ServerState D H G
@@ -85,8 +89,9 @@ datagrams_of (Err fault) = []
 abbrev pub handed_by : {D H G : Type 0} → ServerCall D H G → List Sent
 handed_by (Submit moment arrival result after) = []
 handed_by (Commit result after) = datagrams_of result
+handed_by (Relay arrival sent after) = option_to_list sent
 
--- what the commits among calls handed out, in order
+-- what calls handed out, in order
 abbrev pub handed_out : {D H G : Type 0} → List (ServerCall D H G) → List Sent
 handed_out [] = []
 handed_out (x ∷ xs) = handed_by x ++ handed_out xs
@@ -96,22 +101,35 @@ handed_out (x ∷ xs) = handed_by x ++ handed_out xs
 abbrev pub asked : Taken → ℕ × Arrives × Bool × Bool
 asked x = (x.moment, x.arrival, x.failed, x.pairs)
 
--- what was asked in a call, as `asked` has it; nothing in one that took no arrival
-abbrev pub asked_by : {D H G : Type 0} → generators.Ghosts G → ServerState D H G → ServerCall D H G → List (ℕ × Arrives × Bool × Bool)
-asked_by ports old (Submit moment arrival (Ok done) after) =
-    (moment, arrival, has_failed (ports.failures old.machine.ports) (ports.failures after.machine.ports), old.machine.pairs) ∷ []
-asked_by ports old (Submit moment arrival (Err why) after) = []
-asked_by ports old (Commit result after) = []
+-- the arrivals of a run, as `asked` has them: those that were handed out, and those that were taken since the last commit that answered
+-- Ok
+pub record Asked : Type 0 where
+  pub handed : List (ℕ × Arrives × Bool × Bool)
+  pub recent : List (ℕ × Arrives × Bool × Bool)
 
--- what was asked in calls in a row, in order
-abbrev pub all_asked : {D H G : Type 0} → generators.Ghosts G → ServerState D H G → List (ServerCall D H G) → List (ℕ × Arrives × Bool × Bool)
-all_asked ports server [] = []
-all_asked ports server (x ∷ xs) = asked_by ports server x ++ all_asked ports (after_of x) xs
+-- the arrivals of a run after a call: one that was submitted is a recent one until a commit, and data that was answered beside these
+-- comes before them
+abbrev pub asked_after : {D H G : Type 0} → generators.Ghosts G → ServerState D H G → Asked → ServerCall D H G → Asked
+asked_after ports old q (Submit moment arrival (Ok done) after) = record {
+  handed = q.handed;
+  recent = q.recent ++ (moment, arrival, has_failed (ports.failures old.machine.ports) (ports.failures after.machine.ports), old.machine.pairs) ∷ [];
+}
+asked_after ports old q (Submit moment arrival (Err why) after) = q
+asked_after ports old q (Commit (Ok outs) after) = record { handed = q.handed ++ q.recent; recent = [] }
+asked_after ports old q (Commit (Err why) after) = q
+asked_after ports old q (Relay arrival sent after) = record { handed = q.handed ++ (now_of old, arrival, false, old.machine.pairs) ∷ []; recent = q.recent }
+
+-- the same after calls in a row
+abbrev pub all_asked : {D H G : Type 0} → generators.Ghosts G → ServerState D H G → Asked → List (ServerCall D H G) → Asked
+all_asked ports server q [] = q
+all_asked ports server q (x ∷ xs) = all_asked ports (after_of x) (asked_after ports server q x) xs
 
 -- a call does what its contract says
 abbrev pub IsCall : {D H G : Type 0} → disks.Ghosts D → handlers.Ghosts H → generators.Ghosts G → ServerState D H G → ServerCall D H G → Type 0
 IsCall disk handler ports old (Submit moment arrival result after) = Submits disk handler ports old after moment arrival result
 IsCall disk handler ports old (Commit result after) = Commits disk old after result
+IsCall disk handler ports old (Relay arrival sent after) =
+    (old.store.stopped ≡ false) × Relays handler.key_of ports.range (beside old) arrival sent × (after ≡ old)
 
 -- calls, each at the server that the one before left
 abbrev pub Serves : {D H G : Type 0} → disks.Ghosts D → handlers.Ghosts H → generators.Ghosts G → ServerState D H G → List (ServerCall D H G) → Type 0
@@ -120,9 +138,10 @@ Serves disk handler ports server (x ∷ xs) = IsCall disk handler ports server x
 
 -- ---- Where a run is
 
--- where a run is: the arrivals that were taken up to the last commit that answered Ok, and those that were taken since
+-- where a run is: the arrivals that were taken up to the last commit that answered Ok, with the data that was answered beside others
+-- since, and the others that were taken since
 pub record Place : Type 0 where
-  -- up to the last commit that answered Ok
+  -- up to the last commit that answered Ok, and beside what is staged
   pub handed : List Taken
   -- since then
   pub recent : List Taken
@@ -130,6 +149,10 @@ pub record Place : Type 0 where
 -- the place of a run where nothing was taken
 abbrev pub start : Place
 start = record { handed = []; recent = [] }
+
+-- the arrivals of a place, as `asked` has them
+abbrev pub asked_at : Place → Asked
+asked_at p = record { handed = map asked p.handed; recent = map asked p.recent }
 
 -- the history after all arrivals of a place
 abbrev pub history_at : History → Place → History
@@ -155,11 +178,12 @@ pub record IsAtPlace {D H G : Type 0} (disk : disks.Ghosts D) (handler : handler
   pub recovers : server.store.stopped ≡ false → RecoversTo (disk.trace server.store.disk).now server (history_at h p) (count_at h p)
   pub outs : server.store.stopped ≡ false → server.outs ≡ sent_about p.recent
   pub arrivals : server.store.stopped ≡ false → server.arrivals ≡ length p.recent
+  pub since : server.store.stopped ≡ false → AllByRecursion (λ x. server.since ≤ x.moment) p.recent
   pub flags : NeverFails ports → AllByRecursion (λ x. x.failed ≡ false) (p.handed ++ p.recent)
 
--- Calls led from one place to another. The arrivals of the run are those that the calls took, in order, and the generator
--- counts as failed at one exactly where its count differs after the call. What the calls handed out is what the arrivals that
--- were added to the handed ones were answered, in order, each once.
+-- Calls led from one place to another. The arrivals of the run are those that the calls took, in order, but that data which was answered
+-- beside what was staged comes before that, and the generator counts as failed at one exactly where its count differs after the call.
+-- What the calls handed out is what the arrivals that were added to the handed ones were answered, in order, each once.
 pub record Leads {D H G : Type 0} (disk : disks.Ghosts D) (handler : handlers.Ghosts H) (ports : generators.Ghosts G) (s : Setting) (h : History) (t : ℕ) (server : ServerState D H G) (p : Place) (steps : List (ServerCall D H G)) : Type 0 where
   pub end : Place
   pub is_at : IsAtPlace disk handler ports s h t (last_of server steps) end
@@ -167,7 +191,7 @@ pub record Leads {D H G : Type 0} (disk : disks.Ghosts D) (handler : handlers.Gh
   pub more : List Taken
   pub handed : end.handed ≡ p.handed ++ more
   pub sent : handed_out steps ≡ sent_about more
-  pub arrivals : map asked (end.handed ++ end.recent) ≡ map asked (p.handed ++ p.recent) ++ all_asked ports server steps
+  pub arrivals : asked_at end ≡ all_asked ports server (asked_at p) steps
 
 -- calls that hand nothing out and leave the server as it was
 pub record IsSilent {D H G : Type 0} (server : ServerState D H G) (steps : List (ServerCall D H G)) : Type 0 where

@@ -7,10 +7,11 @@ use Rattle.turn_step.specs.Outcome.{Sent}
 use Rattle.turn_step.specs.State.{MachineState}
 use Rattle.turn_store.specs.State.{StoreState}
 use Rattle.turn_table.specs.State.{State}
+use Rattle.turn_types.specs.declared.address.FiveTuple.{FiveTuple}
 use Rattle.turn_types.specs.declared.limits.Bounds.{Bounds}
 
--- The store and the machine, and what is staged since the last commit: the payload of the acts, how many acts there are,
--- the datagrams, and how many arrivals were taken.
+-- The store and the machine, and what is staged since the last commit: the payload of the acts, how many acts there are, and of
+-- which five-tuples, the datagrams, and how many arrivals were taken, from which moment on.
 pub record ServerState (D H G : Type 0) : Type 0 where
   pub store : StoreState D
   pub machine : MachineState H G
@@ -18,10 +19,14 @@ pub record ServerState (D H G : Type 0) : Type 0 where
   pub payload : List ℕ
   -- how many acts are staged
   pub acts : ℕ
+  -- the five-tuples of these acts, in their order
+  pub tuples : List FiveTuple
   -- the datagrams that the next commit hands out
   pub outs : List Sent
   -- since the last commit
   pub arrivals : ℕ
+  -- the moment of the first of these arrivals; where there is none it says nothing
+  pub since : ℕ
 
 -- the moment of a server's table, in seconds, which is its clock
 abbrev pub now_of : {D H G : Type 0} → ServerState D H G → ℕ
@@ -33,7 +38,7 @@ limits_of s = s.machine.config.limits
 
 -- the server with nothing staged, over this store
 abbrev pub emptied : {D H G : Type 0} → ServerState D H G → StoreState D → ServerState D H G
-emptied s store = record { store = store; machine = s.machine; payload = 0 ∷ []; acts = 0; outs = []; arrivals = 0 }
+emptied s store = record { store = store; machine = s.machine; payload = 0 ∷ []; acts = 0; tuples = []; outs = []; arrivals = 0; since = now_of s }
 
 -- whether a server over a store of this version reserves ports
 abbrev pub has_pairs : Version → Bool

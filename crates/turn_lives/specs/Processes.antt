@@ -5,7 +5,7 @@ use Rattle.turn_cred.specs.declared.handler.AuthHandler as handlers
 use Rattle.turn_disk.specs.Disk.{IsImage}
 use Rattle.turn_disk.specs.declared.disk.Disk as disks
 use Rattle.turn_engine.specs.Calls.{Commits}
-use Rattle.turn_engine.specs.Runs.{Commit, ServerCall, Submit, Taken}
+use Rattle.turn_engine.specs.Runs.{Commit, Relay, ServerCall, Submit, Taken}
 use Rattle.turn_engine.specs.State.{ServerState, now_of}
 use Rattle.turn_engine.specs.Stops.{IsLeft}
 use Rattle.turn_player.specs.Laws.{AreOneRun, IsRunBy, Keeps}
@@ -28,12 +28,14 @@ abbrev pub inputs_of : {D H G : Type 0} → List (ServerCall D H G) → List Inp
 inputs_of [] = []
 inputs_of (Submit moment arrival result after ∷ steps) = lives.Arrive moment arrival ∷ inputs_of steps
 inputs_of (Commit result after ∷ steps) = lives.Commit ∷ inputs_of steps
+inputs_of (Relay arrival sent after ∷ steps) = lives.Relay arrival ∷ inputs_of steps
 
 -- what calls say
 abbrev pub said_of : {D H G : Type 0} → List (ServerCall D H G) → List Said
 said_of [] = []
 said_of (Submit moment arrival result after ∷ steps) = said_by_submit result ++ said_of steps
 said_of (Commit result after ∷ steps) = said_by_commit result ++ said_of steps
+said_of (Relay arrival sent after ∷ steps) = lives.handing_beside sent ++ said_of steps
 
 -- where a process is stopped: at rest, or inside a commit that would have ended so
 pub data Stopping (D H G : Type 0) : Type 0 where

@@ -1,12 +1,14 @@
 -- Calls of a server over a disk, one after another, with stops and openings between and inside them, and where they stand in a
 -- life.
-use Rattle.std.specs.Prelude.{◌≡◌, ◌≤◌, ◌++◌, ℕ, Bool, List, [], ◌∷◌, Result, Ok, Err, true, length, map, max}
+use Rattle.std.specs.Prelude.{◌≡◌, ◌≤◌, ◌++◌, ℕ, Bool, List, [], ◌∷◌, Option, Result, Ok, Err, false, true, length, map, max}
+use Rattle.std.specs.List.{AllByRecursion}
 use Rattle.turn_cred.specs.declared.handler.AuthHandler as handlers
 use Rattle.turn_disk.specs.Disk.{IsImage, IsSettled}
 use Rattle.turn_disk.specs.declared.disk.Disk as disks
 use Rattle.turn_engine.specs.Calls.{Commits, Opening, Submits}
 use Rattle.turn_engine.specs.Images.{AtLeast}
 use Rattle.turn_engine.specs.Recovering.{RecoversTo}
+use Rattle.turn_engine.specs.Relaying.{Relays, beside}
 use Rattle.turn_engine.specs.Runs.{Taken, accepted, sent_about}
 use Rattle.turn_engine.specs.State.{ServerState, now_of}
 use Rattle.turn_engine.specs.Stops.{IsLeft}
@@ -20,7 +22,7 @@ use Rattle.turn_store.specs.Areas.{Form}
 use Rattle.turn_store.specs.Images.{EachImage}
 use Rattle.turn_store.specs.State.{form_of}
 use Rattle.turn_store.specs.declared.error.StoreError.{StoreError}
-use Rattle.turn_player.specs.Lives.{Arrive, Closed, Commit, Failed, Halted, Input, Lasting, Life, NotOpened, Open, Opened, Point, Refused, Running, Said, Shut, Stop, arrivals, handing_out, taken_of}
+use Rattle.turn_player.specs.Lives.{Arrive, Closed, Commit, Failed, Halted, Input, Lasting, Life, NotOpened, Open, Opened, Point, Refused, Relay, Running, Said, Shut, Stop, arrivals, handing_beside, handing_out, taken_of}
 
 -- ---- Worlds
 
@@ -82,6 +84,8 @@ pub data Call {D H G : Type 0} (disk : disks.Ghosts D) (handler : handlers.Ghost
   no_submit : {d : D} {h : H} {g : G} {t : ℕ} {a : Arrives} → Call disk handler ports s (Down d h g) (Arrive t a) (Closed ∷ []) (Down d h g)
   commits : {old new : ServerState D H G} (result : Result (List Sent) StoreError) → Commits disk old new result
       → Call disk handler ports s (Serving old) Commit (said_by_commit result) (Serving new)
+  relays : {old new : ServerState D H G} {a : Arrives} (sent : Option Sent) → old.store.stopped ≡ false → Relays handler.key_of ports.range (beside old) a sent → new ≡ old
+      → Call disk handler ports s (Serving old) (Relay a) (handing_beside sent) (Serving new)
   no_commit : {d : D} {h : H} {g : G} → Call disk handler ports s (Down d h g) Commit (Closed ∷ []) (Down d h g)
   opens : {w : World D H G} (result : Result (ServerState D H G) (ServerOpenError D H G)) → Opening disk (disk_of w) s.config (handler_of w) (ports_of w) result
       → Call disk handler ports s w Open (said_by_open result) (world_after result)
@@ -118,6 +122,7 @@ pub record Runs {D H G : Type 0} (disk : disks.Ghosts D) (handler : handlers.Gho
   pub recovers : RecoversTo (disk.trace server.store.disk).now server (accepted (arrivals sure recent)) (length (accepted (map taken_of sure)))
   pub outs : server.outs ≡ sent_about recent
   pub counted : server.arrivals ≡ length recent
+  pub since : AllByRecursion (λ (x : Taken). server.since ≤ x.moment) recent
   pub clock : now_of server ≡ c
   pub bounded : c ≤ m
 
