@@ -77,8 +77,8 @@ handing_out outs = map Sends outs ++ Committed (length outs) ∷ []
 -- ---- Where a life is
 
 -- Where a life is: a server runs, or is halted after a commit that failed, or all is shut, and no store is open. The sure
--- arrivals last; the recent ones were taken since, and may get lost. No moment that was handed in is after the bound. A
--- server that runs reserves ports or doesn't, and has a clock.
+-- arrivals last; the recent ones were taken since the last commit, and may get lost. No moment that was handed in is after
+-- the bound. A server that runs reserves ports or doesn't, and has a clock.
 pub data Point : Type 0 where
   Running : (sure : List Lasting) (recent : List Taken) (pairs : Bool) (clock bound : ℕ) → Point
   Halted : (sure : List Lasting) (recent : List Taken) (bound : ℕ) → Point
