@@ -1,4 +1,5 @@
 pub mod Answer
+pub mod Data
 pub mod Holding
 pub mod Laws
 pub mod Outcome
