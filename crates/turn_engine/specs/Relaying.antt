@@ -34,16 +34,23 @@ pub record IsApart (c : Contents) (tuples : List FiveTuple) (a : Arrives) : Type
   pub owns : IsOwner c a owner
   pub apart : AllByRecursion (λ g. g ≢ owner) tuples
 
--- An arrival can be answered beside what is staged: it is no request, no act of its five-tuple is staged, and all that is staged is of
--- the clock's moment.
-pub record MayBeRelayed {H G : Type 0} (b : BesideState H G) (a : Arrives) : Type 0 where
+-- it is of no allocation, or an act of its owner is staged
+pub data IsBehind (c : Contents) (tuples : List FiveTuple) (a : Arrives) : Type 0 where
+  has_no_owner : ((f : FiveTuple) → ¬ IsOwner c a f) → IsBehind c tuples a
+  is_staged : (owner : FiveTuple) → IsOwner c a owner → ¬ AllByRecursion (λ g. g ≢ owner) tuples → IsBehind c tuples a
+
+-- why an arrival has to be submitted
+pub data HasToWait {H G : Type 0} (b : BesideState H G) (a : Arrives) : Type 0 where
+  is_request : IsRequestOf a → HasToWait b a
+  -- something that is staged is of an earlier moment
+  is_later : ¬ IsAtClock b → HasToWait b a
+  is_behind : IsBehind b.machine.table.contents b.tuples a → HasToWait b a
+
+-- Data was answered beside what is staged: no act of its five-tuple is staged, and all that is staged is of the clock's moment. After
+-- every history with which the machine agrees, it was answered after the part of it that is stored.
+pub record Relays {H G : Type 0} (keys : H → Keys) (range : G → ℕ × ℕ) (b : BesideState H G) (a : Arrives) (sent : Option Sent) : Type 0 where
   pub data : ¬ IsRequestOf a
   pub at_clock : IsAtClock b
   pub apart : IsApart b.machine.table.contents b.tuples a
-
--- An arrival was answered beside what is staged, and nothing changed: after every history with which the machine agrees, this is
--- an answer to the part of it that is stored.
-pub record Relays {H G : Type 0} (keys : H → Keys) (range : G → ℕ × ℕ) (b : BesideState H G) (a : Arrives) (sent : Option Sent) : Type 0 where
-  pub at_clock : IsAtClock b
   pub answers : (h : History) (k : ℕ) → IsAfter b.machine h → b.tuples ≡ tuples_of (drop k h)
       → AnswersArrival (setting_of keys range b.machine) (take k h) b.machine.table.moment false a (record { change = None; sent = sent })
