@@ -1,4 +1,5 @@
 pub mod Device
+pub mod Passing
 pub mod Since
 pub mod Standing
 mod Pieces

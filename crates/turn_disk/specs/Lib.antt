@@ -4,5 +4,6 @@ pub mod Device
 pub mod Calls
 pub mod Crash
 pub mod Laws
+pub mod Meanwhile
 pub mod Record
 pub mod Views

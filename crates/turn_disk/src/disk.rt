@@ -3,7 +3,9 @@
 ghost use Rattle.std.specs.Prelude.{◌≡◌, ◌+◌, ◌≤◌, ℕ, length, take, drop, OnOk};
 ghost use Rattle.turn_disk.specs.Counts.{CountOutcome};
 ghost use Rattle.turn_disk.specs.Disk.{Trace, WriteOutcome, SyncOutcome};
+ghost use Rattle.turn_disk.specs.Meanwhile.{Passes};
 
+use crate::meanwhile::Meanwhile;
 use thiserror::Error;
 
 /// A device call that failed.
@@ -46,20 +48,27 @@ pub trait Disk {
         ensures bytes { follows_crash_model self.new
             → OnOk result (buffer.new ≡ take (length buffer.old) (drop at (trace self.old).now.bytes)) };
 
-    /// Writes these bytes from this position on; they are pending until the next sync.
-    fn write_at(&mut self, at: usize, bytes: &[u8]) -> Result<(), DeviceError>
+    /// Writes these bytes from this position on; they are pending until the next sync. While it waits, it may let the other be done.
+    fn write_at<M: Meanwhile>(
+        &mut self,
+        at: usize,
+        bytes: &[u8],
+        other: &mut M,
+    ) -> Result<(), DeviceError>
         requires { at + length bytes.now ≤ capacity self.old }
         ensures size { capacity self.new ≡ capacity self.old }
         ensures count { CountOutcome (failed self.old) (failed self.new) result }
         ensures crash_model { follows_crash_model self.new → follows_crash_model self.old }
-        ensures outcome { follows_crash_model self.new → WriteOutcome at bytes.now (trace self.old) (trace self.new) result };
+        ensures outcome { follows_crash_model self.new → WriteOutcome at bytes.now (trace self.old) (trace self.new) result }
+        ensures meanwhile { Passes M.passes other.old other.new };
 
-    /// Makes all that is pending durable.
-    fn sync(&mut self) -> Result<(), DeviceError>
+    /// Makes all that is pending durable. While it waits, it may let the other be done.
+    fn sync<M: Meanwhile>(&mut self, other: &mut M) -> Result<(), DeviceError>
         ensures size { capacity self.new ≡ capacity self.old }
         ensures count { CountOutcome (failed self.old) (failed self.new) result }
         ensures crash_model { follows_crash_model self.new → follows_crash_model self.old }
-        ensures outcome { follows_crash_model self.new → SyncOutcome (trace self.old) (trace self.new) result };
+        ensures outcome { follows_crash_model self.new → SyncOutcome (trace self.old) (trace self.new) result }
+        ensures meanwhile { Passes M.passes other.old other.new };
 
     /// A disk that follows the crash model holds as many bytes as it has.
     ghost sized: { (disk : Self) → follows_crash_model disk → length (trace disk).now.bytes ≡ capacity disk };

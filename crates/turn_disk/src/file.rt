@@ -5,6 +5,7 @@ ghost use Rattle.turn_disk.specs.Calls.{FollowCrashModel, replay};
 
 use crate::disk::{DeviceError, Disk};
 use crate::failures::raise;
+use crate::meanwhile::Meanwhile;
 use crate::opened::{FileError, is_link, lock, open_apart};
 use crate::record::{CallRecord, READ, SYNC, WRITE};
 use crate::start::{Start, Unknown};
@@ -139,7 +140,7 @@ impl FileDisk<File> {
     }
 }
 
-// Each method makes one call of the system, and notes it with its answer. A read or a sync that failed isn't noted: it changes nothing.
+// Each method makes one call of the system, and notes it with its answer. Nothing else is done while the system waits. A read or a sync that failed isn't noted: it changes nothing.
 impl<F: FileExt + OpenFile, S: Start> Disk for FileDisk<F, S> {
     ghost use Rattle.turn_disk.specs.Calls.{sized_by};
 
@@ -171,7 +172,13 @@ impl<F: FileExt + OpenFile, S: Start> Disk for FileDisk<F, S> {
         }
     }
 
-    fn write_at(&mut self, at: usize, bytes: &[u8]) -> Result<(), DeviceError> {
+    #[tactic(auto, using(crate::proofs::Passing::passes_none))]
+    fn write_at<M: Meanwhile>(
+        &mut self,
+        at: usize,
+        bytes: &[u8],
+        _other: &mut M,
+    ) -> Result<(), DeviceError> {
         match self.file.write_all_at(bytes, at as u64) {
             Ok(()) => {
                 self.calls.note(WRITE, at, true, bytes);
@@ -184,7 +191,8 @@ impl<F: FileExt + OpenFile, S: Start> Disk for FileDisk<F, S> {
         }
     }
 
-    fn sync(&mut self) -> Result<(), DeviceError> {
+    #[tactic(auto, using(crate::proofs::Passing::passes_none))]
+    fn sync<M: Meanwhile>(&mut self, _other: &mut M) -> Result<(), DeviceError> {
         match self.file.sync_data() {
             Ok(()) => {
                 self.calls.note(SYNC, 0, true, &[]);

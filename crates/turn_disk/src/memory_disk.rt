@@ -3,13 +3,16 @@
 ghost use Rattle.std.specs.Prelude.{◌≡◌, ◌<◌, [], length};
 ghost use Rattle.turn_disk.specs.Crash.{left_by};
 ghost use Rattle.turn_disk.specs.Disk.{IsImage};
+ghost use Rattle.turn_disk.specs.Meanwhile.{Passes};
 
 use crate::disk::{DeviceError, Disk};
 use crate::failures::raise;
 use crate::faults::Faults;
+use crate::meanwhile::Meanwhile;
 use crate::memory::Memory;
 use crate::outcome::CrashOutcome;
 use std::alloc::{AllocError, Allocator, Global};
+use std::cell::Cell;
 use std::marker::Model;
 
 /// A disk in memory.
@@ -20,6 +23,8 @@ pub struct MemoryDisk<A: Allocator = Global> {
     memory: Memory<A>,
     faults: Faults,
     failures: u64,
+    // How many pieces each write and each sync lets be done before it answers. No contract speaks of it.
+    pieces: Cell<u32>,
 }
 
 // By hand: a derived drop is one step for each field in the proof of each caller.
@@ -29,6 +34,7 @@ impl<A: Allocator> Drop for MemoryDisk<A> {
             memory: _,
             faults: _,
             failures: _,
+            pieces: _,
         } = self;
     }
 }
@@ -51,6 +57,7 @@ impl<A: Allocator + Copy> MemoryDisk<A> {
             memory: Memory::new(alloc, content),
             faults: Faults::none(),
             failures: 0,
+            pieces: Cell::new(0),
         }
     }
 }
@@ -78,6 +85,21 @@ impl<A: Allocator> MemoryDisk<A> {
         requires { 0 < call }
     {
         self.faults.stop_after(call - 1);
+    }
+
+    /// Each write and each sync from here on lets so many pieces of the other be done before it answers. At first it lets none.
+    pub fn wait_for(&self, pieces: u32) {
+        self.pieces.set(pieces);
+    }
+
+    // Waits for an answer.
+    #[tactic(auto, using(crate::proofs::Passing::passes_none, crate::proofs::Passing::passes_one, crate::proofs::Passing::passes_join))]
+    fn wait<M: Meanwhile>(&self, other: &mut M)
+        ensures { Passes M.passes other.old other.new }
+    {
+        for _ in 0..self.pieces.get() {
+            other.pass();
+        }
     }
 
     /// The disk becomes the image that the outcome names, nothing is pending, and failures that are still to come are cancelled.
@@ -128,7 +150,13 @@ impl<A: Allocator> Disk for MemoryDisk<A> {
         Ok(())
     }
 
-    fn write_at(&mut self, at: usize, bytes: &[u8]) -> Result<(), DeviceError> {
+    fn write_at<M: Meanwhile>(
+        &mut self,
+        at: usize,
+        bytes: &[u8],
+        other: &mut M,
+    ) -> Result<(), DeviceError> {
+        self.wait(other);
         let fails = self.faults.next_call_fails();
         let Ok(()) = self.memory.write(at, bytes) else {
             return Err(raise(&mut self.failures));
@@ -139,7 +167,8 @@ impl<A: Allocator> Disk for MemoryDisk<A> {
         Ok(())
     }
 
-    fn sync(&mut self) -> Result<(), DeviceError> {
+    fn sync<M: Meanwhile>(&mut self, other: &mut M) -> Result<(), DeviceError> {
+        self.wait(other);
         if self.faults.next_call_fails() {
             return Err(raise(&mut self.failures));
         }

@@ -3,8 +3,10 @@
 ghost use Rattle.std.specs.Prelude.{◌-◌, ◌≡◌, ◌++◌, [], ◌+◌, ◌^◌, ◌<◌, ◌≤◌, ℕ, List, length, take, OnOk, IsErr};
 ghost use Rattle.turn_disk.specs.Device.{Uses};
 ghost use Rattle.turn_disk.specs.Disk.{ChangesOnly, EachImageSince, IsSettled, WritesThrough};
+ghost use Rattle.turn_disk.specs.Meanwhile.{Passes};
 
 use crate::disk::{DeviceError, Disk};
+use crate::meanwhile::Meanwhile;
 use crate::writes::write_within;
 use std::marker::Model;
 
@@ -113,10 +115,11 @@ fn extend_piece<P: Producer>(producer: &mut P, piece: &mut [u8; PIECE], size: us
 }
 
 /// Writes all bytes of the producer, in pieces of at most 4,096 bytes, and then syncs.
-pub fn write_produced<D: Disk, P: Producer>(
+pub fn write_produced<D: Disk, P: Producer, M: Meanwhile>(
     disk: &mut D,
     at: usize,
     producer: &mut P,
+    other: &mut M,
 ) -> Result<(), DeviceError>
     requires place { at + length (P.rest producer.old) ≤ D.capacity disk.old }
     requires addressable { at + length (P.rest producer.old) < 2 ^ 64 }
@@ -129,16 +132,18 @@ pub fn write_produced<D: Disk, P: Producer>(
 
     ensures done { D.follows_crash_model disk.new → IsSettled (D.trace disk.old).now
         → OnOk result (WritesThrough at (P.rest producer.old) (D.trace disk.old).now (D.trace disk.new).now) }
+
+    ensures meanwhile { Passes M.passes other.old other.new }
 {
     let mut piece = [0u8; PIECE];
     let mut done = 0;
     'pieces: loop {
         let count = fill_piece(producer, &mut piece);
         if count == 0 {
-            disk.sync()?;
+            disk.sync(other)?;
             return Ok(());
         }
-        write_within(disk, at + done, &piece[..count])?;
+        write_within(disk, at + done, &piece[..count], other)?;
         done += count;
     }
 }

@@ -3,14 +3,17 @@
 ghost use Rattle.std.specs.Prelude.{◌≡◌, ◌+◌, ◌≤◌, ℕ, List, length, OnOk, IsErr};
 ghost use Rattle.turn_disk.specs.Device.{Uses};
 ghost use Rattle.turn_disk.specs.Disk.{ChangesOnly, EachImageSince, IsSettled, IsSettledBut, ThroughOutcome, WritesThrough, WriteOutcome};
+ghost use Rattle.turn_disk.specs.Meanwhile.{Passes};
 
 use crate::disk::{DeviceError, Disk};
+use crate::meanwhile::Meanwhile;
 
 /// Writes, within a range outside which nothing is pending.
-pub(crate) fn write_within<D: Disk>(
+pub(crate) fn write_within<D: Disk, M: Meanwhile>(
     disk: &mut D,
     at: usize,
     bytes: &[u8],
+    other: &mut M,
 ) -> Result<(), DeviceError>
     requires { at + length bytes.now ≤ D.capacity disk.old }
     ensures uses { Uses D.Disk disk.old disk.new (IsErr result) }
@@ -22,12 +25,18 @@ pub(crate) fn write_within<D: Disk>(
         × IsSettledBut from count base (D.trace disk.new).now }
 
     ensures outcome { D.follows_crash_model disk.new → WriteOutcome at bytes.now (D.trace disk.old) (D.trace disk.new) result }
+    ensures meanwhile { Passes M.passes other.old other.new }
 {
-    disk.write_at(at, bytes)
+    disk.write_at(at, bytes, other)
 }
 
 /// Writes these bytes, and syncs.
-pub fn write_through<D: Disk>(disk: &mut D, at: usize, bytes: &[u8]) -> Result<(), DeviceError>
+pub fn write_through<D: Disk, M: Meanwhile>(
+    disk: &mut D,
+    at: usize,
+    bytes: &[u8],
+    other: &mut M,
+) -> Result<(), DeviceError>
     requires { at + length bytes.now ≤ D.capacity disk.old }
     ensures uses { Uses D.Disk disk.old disk.new (IsErr result) }
 
@@ -42,8 +51,10 @@ pub fn write_through<D: Disk>(disk: &mut D, at: usize, bytes: &[u8]) -> Result<(
 
     // The bytes are written once and synced once, and no other device call changes the disk.
     ensures once { D.follows_crash_model disk.new → ThroughOutcome at bytes.now (D.trace disk.old) (D.trace disk.new) result }
+
+    ensures meanwhile { Passes M.passes other.old other.new }
 {
-    write_within(disk, at, bytes)?;
-    disk.sync()?;
+    write_within(disk, at, bytes, other)?;
+    disk.sync(other)?;
     Ok(())
 }

@@ -5,12 +5,13 @@ use Rattle.turn_record.specs.Bytes.{act_entry, each, payload}
 use Rattle.turn_record.specs.Records.{max_act}
 use Rattle.turn_record.specs.declared.version.Version.{Version}
 use Rattle.turn_engine.specs.Staged.{IsSound}
+use Rattle.turn_types.specs.declared.address.FiveTuple.{FiveTuple}
 use Rattle.turn_types.specs.declared.limits.Bounds.{Bounds}
 
-pub pushed-sound : (v : Version) (b : Bounds) (acts : ℕ) (bytes entry : List ℕ) (capacity more : ℕ) → IsSound v b acts bytes capacity → acts < b.acts
-    → length entry ≤ max_act v b → capacity ≤ more → IsSound v b (acts + 1) (slice_set (bytes ++ entry) 0 (acts + 1)) more
-pushed-sound v b acts [] entry capacity more s few short room = absurd (omega (arith, s.some))
-pushed-sound v b acts (x ∷ xs) entry capacity more s few short room =
+pub pushed-sound : (v : Version) (b : Bounds) (acts : ℕ) (bytes entry : List ℕ) (capacity more : ℕ) (tuples : List FiveTuple) (places wider : ℕ) (f : FiveTuple) → IsSound v b acts bytes capacity tuples places → acts < b.acts
+    → length entry ≤ max_act v b → capacity ≤ more → places ≤ wider → IsSound v b (acts + 1) (slice_set (bytes ++ entry) 0 (acts + 1)) more (tuples ++ f ∷ []) wider
+pushed-sound v b acts [] entry capacity more tuples places wider f s few short room wide = absurd (omega (arith, s.some))
+pushed-sound v b acts (x ∷ xs) entry capacity more tuples places wider f s few short room wide =
     let size : length (xs ++ entry) ≡ length xs + length entry = length-append xs entry in
     record {
       in_range = s.in_range;
@@ -19,6 +20,8 @@ pushed-sound v b acts (x ∷ xs) entry capacity more s few short room =
       some = omega arith;
       short = omega (arith, s.short, size);
       room = omega (arith, s.room);
+      each = length-append tuples (f ∷ []) ∙ ap (λ (n : ℕ). n + 1) s.each;
+      places_for_all = omega (arith, s.places_for_all, wide);
     }
 
 pub each-one_more : (es : List Event) (e : Event) → each act_entry (es ++ e ∷ []) ≡ each act_entry es ++ act_entry e

@@ -8,7 +8,7 @@ use Rattle.turn_record.specs.declared.version.Version.{Version}
 use Rattle.turn_step.specs.State.{HasPortsApart, HoldsPorts, MachineState}
 use Rattle.turn_table.specs.State.{State}
 use Rattle.turn_types.specs.declared.limits.Bounds.{Bounds}
-use Rattle.turn_engine.specs.Runs.{Commit, IsCall, Serves, ServerCall, Submit, after_of, last_of}
+use Rattle.turn_engine.specs.Runs.{Commit, IsCall, Relay, Serves, ServerCall, Submit, after_of, last_of}
 use Rattle.turn_engine.specs.State.{ServerState}
 
 -- a table of which there is a snapshot
@@ -16,11 +16,12 @@ pub apart_in : (v : Version) (b : Bounds) (s : State) → IsSnapshot v b s.momen
 apart_in v b s is = record { ports = is.ports; reserved = is.reserved_apart; in_range = is.reserved }
 
 module _ {D H G : Type 0} (disk : disks.Ghosts D) (handler : handlers.Ghosts H) (ports : generators.Ghosts G) where
-  -- a commit leaves the machine as it is
+  -- a commit leaves the machine as it is, and so does data that is answered beside what is staged
   held_by : (old : ServerState D H G) (x : ServerCall D H G) → IsCall disk handler ports old x → HoldsPorts ports.holds old.machine None → HoldsPorts ports.holds (after_of x).machine None
   held_by old (Submit moment a result new) call = call.held
   held_by old (Commit (Ok outs) new) call = subst (λ (m : MachineState H G). HoldsPorts ports.holds m None) (sym (ap (λ s. s.machine) call.ok))
   held_by old (Commit (Err fault) new) call = subst (λ (m : MachineState H G). HoldsPorts ports.holds m None) (sym (ap (λ s. s.machine) call.err))
+  held_by old (Relay a sent new) call = subst (λ (m : MachineState H G). HoldsPorts ports.holds m None) (sym (ap (λ s. s.machine) call.2))
 
   pub stay_held : (server : ServerState D H G) (steps : List (ServerCall D H G)) → Serves disk handler ports server steps → HoldsPorts ports.holds server.machine None
       → HoldsPorts ports.holds (last_of server steps).machine None

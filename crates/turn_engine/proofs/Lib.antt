@@ -1,5 +1,6 @@
 pub mod Answered
 pub mod Batches
+pub mod Besides
 pub mod Held
 pub mod Lists
 pub mod Opened

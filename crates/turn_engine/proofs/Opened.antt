@@ -28,7 +28,7 @@ use Rattle.turn_table.specs.State as tables_state
 use Rattle.turn_types.specs.declared.limits.Bounds.{Bounds}
 use Rattle.turn_engine.specs.Calls.{disk_after}
 use Rattle.turn_engine.specs.Images.{AtLeast}
-use Rattle.turn_engine.specs.Recovering.{Opens, RecoversTo}
+use Rattle.turn_engine.specs.Recovering.{Opens, RecoversTo, tuples_of}
 use Rattle.turn_engine.specs.State.{IsSound, ServerState, has_pairs, limits_of, now_of}
 use Rattle.turn_engine.specs.declared.error.ServerOpenError.{ServerOpenError}
 use Rattle.turn_engine.proofs.Lists.{length-take-le, take_of_length-le}
@@ -96,8 +96,8 @@ module _ {D H G : Type 0} (form : Form) (h : History) (k m : ℕ) (content : Lis
   first = take at.count h
 
   recovers_to_it : (c : ℕ) → StandsForAt form first c content → OpensTo form first c server.store state (snapshot_of server.machine.table) → form.bounds ≡ limits_of server
-      → server.payload ≡ 0 ∷ [] → server.acts ≡ 0 → RecoversTo state server first at.count
-  recovers_to_it c stands is bounds payload acts =
+      → server.payload ≡ 0 ∷ [] → server.acts ≡ 0 → server.tuples ≡ [] → server.since ≤ now_of server → RecoversTo state server first at.count
+  recovers_to_it c stands is bounds payload acts tuples since =
       let long : length first ≡ at.count = length-take-le at.count h at.no_more in
       let same : take at.count first ≡ first = take_of_length-le at.count first (omega arith) in
       let none : drop at.count first ≡ [] = drop_of_length-le first (omega arith) in
@@ -115,13 +115,15 @@ module _ {D H G : Type 0} (form : Form) (h : History) (k m : ℕ) (content : Lis
         stored = subst (λ (l : History). RecoversToAt server.store state c l) (sym same) is.recovers;
         staged = payload ∙ ap (λ (l : History). length l ∷ bytes.each bytes.act_entry l) (sym none);
         counted = acts ∙ ap (λ (l : History). length l) (sym none);
+        tuples = tuples ∙ ap tuples_of (sym none);
+        since = since;
         from = subst (AllFrom c) (sym none) tt;
         writes = subst (AllByRecursion (λ (e : Event). Writes server.store.version e.act)) (sym none) tt;
       }
 
   pub opens : OpensTo form first at.stands.clock server.store state (snapshot_of server.machine.table) → form.bounds ≡ limits_of server → server.payload ≡ 0 ∷ [] → server.acts ≡ 0
-      → Opens form h k m content state server
-  opens is bounds payload acts =
+      → server.tuples ≡ [] → server.since ≤ now_of server → Opens form h k m content state server
+  opens is bounds payload acts tuples since =
       let moment : now_of server ≡ at.stands.clock = ap (λ (s : Snapshot). s.moment) is.table_is in
       let bounded = at.stands.bounded in
       record {
@@ -129,7 +131,7 @@ module _ {D H G : Type 0} (form : Form) (h : History) (k m : ℕ) (content : Lis
         no_less = at.no_less;
         no_more = at.no_more;
         same_form = is.same_form;
-        recovers = recovers_to_it at.stands.clock at.stands.stands is bounds payload acts;
+        recovers = recovers_to_it at.stands.clock at.stands.stands is bounds payload acts tuples since;
         stands = subst (λ (c : ℕ). StandsForAt form first c content) (sym moment) at.stands.stands;
         bounded = omega arith;
       }

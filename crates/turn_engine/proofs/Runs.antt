@@ -1,5 +1,5 @@
 -- Runs go on, call after call.
-use Rattle.std.proofs.Common.{rules, tests, ◌≡◌, ◌≤◌, ◌+◌, ◌⊎◌, inl, inr, ℕ, Bool, true, false, List, [], ◌∷◌, ◌++◌, length, map, take, Result, Ok, Err, refl, sym, ap, ◌∙◌, subst, arith, append_assoc, append-nil, length-append}
+use Rattle.std.proofs.Common.{rules, tests, ◌≡◌, ◌≤◌, ◌+◌, ◌⊎◌, inl, inr, ℕ, Bool, true, false, List, [], ◌∷◌, ◌++◌, length, map, take, drop, Option, None, Result, Ok, Err, refl, sym, ap, ◌∙◌, subst, arith, append_assoc, append-nil, length-append}
 use Rattle.std.proofs.lemmas.List.{map-append}
 use Rattle.std.specs.List.{AllByRecursion}
 use Rattle.std.specs.Option.{option_to_list}
@@ -22,11 +22,13 @@ use Rattle.turn_types.specs.Config.{Config}
 use Rattle.turn_engine.specs.Calls.{Commits, Submits}
 use Rattle.turn_engine.specs.Images.{AtLeast}
 use Rattle.turn_engine.specs.Recovering.{Opens, RecoversTo}
-use Rattle.turn_engine.specs.Runs.{Commit, IsAnswered, IsAtPlace, IsCall, IsRun, IsSilent, Lasts, Leads, NeverFails, Place, Serves, ServerCall, Submit, Taken, accepted, after_of, all_asked, asked, asked_by, count_at, datagrams_of, handed_by, handed_out, history_at, last_moment, last_of, sent_about, start}
+use Rattle.turn_engine.specs.Relaying.{IsAtClock, beside}
+use Rattle.turn_engine.specs.Runs.{Asked, Commit, IsAnswered, IsAtPlace, IsCall, IsRun, IsSilent, Lasts, Leads, NeverFails, Place, Relay, Serves, ServerCall, Submit, Taken, accepted, after_of, all_asked, asked, asked_after, asked_at, beside_at, count_at, datagrams_of, handed_by, handed_out, history_at, last_moment, last_of, sent_about, start}
 use Rattle.turn_engine.specs.State.{ServerState, now_of}
 use Rattle.turn_engine.specs.declared.error.SubmitError.{SubmitError}
 use Rattle.turn_engine.specs.declared.error.SubmitError.TheVariants.{BatchFull, Memory, Stopped}
-use Rattle.turn_engine.proofs.Answered.{answered_at, begins, history-cut, history-push, last_moment-push, run-push, sent_about-append}
+use Rattle.turn_engine.proofs.Answered.{accepted-append, answered_at, begins, history-cut, history-push, last_moment-push, run-push, sent_about-append}
+use Rattle.turn_engine.proofs.Besides.{accepted-beside, all-beside, front_in_time, last-beside, now_before, run-beside, since_late, since_taken, stored_part}
 use Rattle.turn_engine.proofs.Lists.{all-append, length-take-le}
 use Rattle.turn_engine.proofs.Written.{images_stored}
 
@@ -60,6 +62,7 @@ module _ {D H G : Type 0} (disk : disks.Ghosts D) (handler : handlers.Ghosts H) 
   silent_call : (server : ServerState D H G) (x : ServerCall D H G) → server.store.stopped ≡ true → IsCall disk handler ports server x → (after_of x ≡ server) × (handed_by x ≡ [])
   silent_call server (Submit moment a result after) stopped call = (call.unchanged (call.stopped.1 stopped), refl)
   silent_call server (Commit result after) stopped call = (call.unchanged stopped, ap datagrams_of (call.stopped.1 stopped))
+  silent_call server (Relay a sent after) stopped call = absurd (not_both server.store.stopped stopped call.0)
 
   pub silent : (server : ServerState D H G) (steps : List (ServerCall D H G)) → server.store.stopped ≡ true → Serves disk handler ports server steps → IsSilent server steps
   silent server [] stopped serves = record { none = refl; same = refl }
@@ -75,6 +78,7 @@ module _ {D H G : Type 0} (disk : disks.Ghosts D) (handler : handlers.Ghosts H) 
   pub call_earlier : (server : ServerState D H G) (x : ServerCall D H G) → IsCall disk handler ports server x → disk.follows_crash_model (after_of x).store.disk → disk.follows_crash_model server.store.disk
   call_earlier server (Submit moment a result after) call crash_model = subst (λ z. disk.follows_crash_model z.disk) call.store crash_model
   call_earlier server (Commit result after) call crash_model = call.uses.crash_model crash_model
+  call_earlier server (Relay a sent after) call crash_model = subst (λ (v : ServerState D H G). disk.follows_crash_model v.store.disk) call.2 crash_model
 
   pub earlier : (server : ServerState D H G) (steps : List (ServerCall D H G)) → Serves disk handler ports server steps → disk.follows_crash_model (last_of server steps).store.disk → disk.follows_crash_model server.store.disk
   earlier server [] serves crash_model = crash_model
@@ -91,8 +95,8 @@ module _ {D H G : Type 0} (disk : disks.Ghosts D) (handler : handlers.Ghosts H) 
     -- a server that recovers to all that was taken
     at_rest : (server : ServerState D H G) (p : Place) → IsRun s h t (p.handed ++ p.recent) → last_moment t (p.handed ++ p.recent) ≤ now_of server → disk.follows_crash_model server.store.disk
         → setting_of handler.key_of ports.range server.machine ≡ s → RecoversTo (disk.trace server.store.disk).now server (history_at h p) (count_at h p) → server.outs ≡ sent_about p.recent
-        → server.arrivals ≡ length p.recent → (NeverFails ports → AllByRecursion (λ x. x.failed ≡ false) (p.handed ++ p.recent)) → IsAtPlace disk handler ports s h t server p
-    at_rest server p run late crash_model same recovers outs arrivals flags = record {
+        → server.arrivals ≡ length p.recent → AllByRecursion (λ x. server.since ≤ x.moment) p.recent → (NeverFails ports → AllByRecursion (λ x. x.failed ≡ false) (p.handed ++ p.recent)) → IsAtPlace disk handler ports s h t server p
+    at_rest server p run late crash_model same recovers outs arrivals since flags = record {
       is_run = run;
       in_time = late;
       crash_model = crash_model;
@@ -101,6 +105,7 @@ module _ {D H G : Type 0} (disk : disks.Ghosts D) (handler : handlers.Ghosts H) 
       recovers = λ runs. recovers;
       outs = λ runs. outs;
       arrivals = λ runs. arrivals;
+      since = λ runs. since;
       flags = flags;
     }
 
@@ -110,16 +115,16 @@ module _ {D H G : Type 0} (disk : disks.Ghosts D) (handler : handlers.Ghosts H) 
       more : List Taken
       handed : end.handed ≡ p.handed ++ more
       sent : handed_by x ≡ sent_about more
-      arrivals : map asked (end.handed ++ end.recent) ≡ map asked (p.handed ++ p.recent) ++ asked_by ports old x
+      arrivals : asked_at end ≡ asked_after ports old (asked_at p) x
 
-    stays : (old : ServerState D H G) (p : Place) (x : ServerCall D H G) → IsAtPlace disk handler ports s h t (after_of x) p → handed_by x ≡ [] → asked_by ports old x ≡ [] → Advances old p x
+    stays : (old : ServerState D H G) (p : Place) (x : ServerCall D H G) → IsAtPlace disk handler ports s h t (after_of x) p → handed_by x ≡ [] → asked_after ports old (asked_at p) x ≡ asked_at p → Advances old p x
     stays old p x is none no_arrival = record {
       end = p;
       is_at = is;
       more = [];
       handed = sym (append-nil p.handed);
       sent = none;
-      arrivals = sym (append-nil (map asked (p.handed ++ p.recent))) ∙ ap (λ (l : List (ℕ × Arrives × Bool × Bool)). map asked (p.handed ++ p.recent) ++ l) (sym no_arrival);
+      arrivals = sym no_arrival;
     }
 
     took : (old new : ServerState D H G) (p : Place) (moment : ℕ) (a : Arrives) (u : Unit) → IsAtPlace disk handler ports s h t old p → Submits disk handler ports old new moment a (Ok u)
@@ -153,12 +158,13 @@ module _ {D H G : Type 0} (disk : disks.Ghosts D) (handler : handlers.Ghosts H) 
           is_at = at_rest new q (subst (IsRun s h t) longer (run-push s h t (p.handed ++ p.recent) x is.is_run (omega arith) answers)) (omega arith)
               (subst (λ z. disk.follows_crash_model z.disk) (sym call.store) is.crash_model) same recovers outs
               (call.arrivals ∙ ap (λ (n : ℕ). n + 1) (is.arrivals runs) ∙ sym (length-append p.recent (x ∷ [])))
+              (since_taken old.since new.since old.arrivals moment p.recent x (is.arrivals runs) refl call.since call.since_kept (since_late (is.recovers runs).since call.in_time) (is.since runs))
               (λ never. subst (AllByRecursion (λ y. y.failed ≡ false)) longer
               (all-append (λ (y : Taken). y.failed ≡ false) (p.handed ++ p.recent) (x ∷ []) (is.flags never) (none_failed _ _ (never old.machine.ports new.machine.ports), tt)));
           more = [];
           handed = sym (append-nil p.handed);
           sent = refl;
-          arrivals = ap (map asked) (sym longer) ∙ map-append asked (p.handed ++ p.recent) (x ∷ []);
+          arrivals = ap (λ l. record { handed = map asked p.handed; recent = l }) (map-append asked p.recent (x ∷ []));
         }
 
     refused : (old new : ServerState D H G) (p : Place) (moment : ℕ) (a : Arrives) (why : SubmitError) → IsAtPlace disk handler ports s h t old p → Submits disk handler ports old new moment a (Err why)
@@ -173,7 +179,8 @@ module _ {D H G : Type 0} (disk : disks.Ghosts D) (handler : handlers.Ghosts H) 
         at_rest new p is.is_run (omega arith) (subst (λ z. disk.follows_crash_model z.disk) (sym call.store) is.crash_model)
         (setting_kept handler.key_of ports.range old.machine new.machine call.setting ∙ is.same_setting)
         (subst (λ z. RecoversTo (disk.trace z.disk).now new (history_at h p) (count_at h p)) (sym call.store) (call.recovers (history_at h p) (count_at h p) (is.recovers runs)))
-        (ap (λ (v : ServerState D H G). v.outs) (call.memory refl) ∙ is.outs runs) (ap (λ (v : ServerState D H G). v.arrivals) (call.memory refl) ∙ is.arrivals runs) is.flags
+        (ap (λ (v : ServerState D H G). v.outs) (call.memory refl) ∙ is.outs runs) (ap (λ (v : ServerState D H G). v.arrivals) (call.memory refl) ∙ is.arrivals runs)
+        (subst (λ (n : ℕ). AllByRecursion (λ (x : Taken). n ≤ x.moment) p.recent) (sym (ap (λ (v : ServerState D H G). v.since) (call.memory refl))) (is.since runs)) is.flags
 
     committed : (old new : ServerState D H G) (p : Place) (outs : List Sent) → IsAtPlace disk handler ports s h t old p → Commits disk old new (Ok outs) → disk.follows_crash_model new.store.disk
         → Advances old p (Commit (Ok outs) new)
@@ -191,14 +198,48 @@ module _ {D H G : Type 0} (disk : disks.Ghosts D) (handler : handlers.Ghosts H) 
             is_at = at_rest new q (subst (IsRun s h t) (sym none) is.is_run) (omega arith) crash_model
                 (ap (λ (v : ServerState D H G). setting_of handler.key_of ports.range v.machine) call.ok ∙ is.same_setting)
                 (subst (λ (l : List Taken). RecoversTo (disk.trace new.store.disk).now new (h ++ accepted l) (count_at h q)) (sym none) recovers)
-                (ap (λ (v : ServerState D H G). v.outs) call.ok) (ap (λ (v : ServerState D H G). v.arrivals) call.ok)
+                (ap (λ (v : ServerState D H G). v.outs) call.ok) (ap (λ (v : ServerState D H G). v.arrivals) call.ok) tt
                 (λ never. subst (AllByRecursion (λ y. y.failed ≡ false)) (sym none) (is.flags never));
             more = p.recent;
             handed = refl;
             sent = call.handed ∙ is.outs runs;
-            arrivals = ap (map asked) none ∙ sym (append-nil (map asked (p.handed ++ p.recent)));
+            arrivals = ap (λ l. record { handed = l; recent = [] }) (map-append asked p.handed p.recent);
           }
     ]
+
+    -- data that was answered beside what is staged
+    relayed : (old new : ServerState D H G) (p : Place) (a : Arrives) (sent : Option Sent) → IsAtPlace disk handler ports s h t old p → IsCall disk handler ports old (Relay a sent new)
+        → Advances old p (Relay a sent new)
+    relayed old new p a sent is call =
+        let runs = call.0 in
+        let recovers = is.recovers runs in
+        let x = beside_at (now_of old) old.machine.pairs a sent in
+        let q : Place = record { handed = p.handed ++ x ∷ []; recent = p.recent } in
+        let stored : take (count_at h p) (history_at h p) ≡ h ++ accepted p.handed = stored_part h p.handed p.recent in
+        let answers = subst (λ (l : History). AnswersArrival (setting_of handler.key_of ports.range old.machine) l (now_of old) false a x.outcome) stored
+        (call.1.answers (history_at h p) (count_at h p) recovers.after recovers.tuples) in
+        let answered : IsAnswered s (h ++ accepted p.handed) x =
+        subst (λ (z : Setting). AnswersArrival (record z { pairs = old.machine.pairs }) (h ++ accepted p.handed) (now_of old) false a x.outcome) is.same_setting answers in
+        let whole : p.handed ++ x ∷ p.recent ≡ (p.handed ++ x ∷ []) ++ p.recent = sym (append_assoc p.handed (x ∷ []) p.recent) in
+        let all : history_at h p ≡ history_at h q = ap (λ (l : History). h ++ l) (sym (accepted-beside p.handed p.recent (now_of old) old.machine.pairs a sent) ∙ ap accepted whole) in
+        let count : count_at h p ≡ count_at h q = ap (λ (l : History). length (h ++ l)) (sym (accepted-append p.handed (x ∷ []) ∙ append-nil (accepted p.handed))) in
+        let later = now_before old.arrivals old.since (now_of old) p.recent (is.arrivals runs) (is.since runs) call.1.at_clock in
+        let early = front_in_time s h t p.handed p.recent is.is_run in
+        let in_time = is.in_time in
+        let first : last_moment t p.handed ≤ now_of old = omega arith in
+        let place : IsAtPlace disk handler ports s h t old q = at_rest old q (subst (IsRun s h t) whole (run-beside s h t p.handed p.recent (now_of old) old.machine.pairs a sent is.is_run first later answered))
+        (subst (λ (l : List Taken). last_moment t l ≤ now_of old) whole (last-beside t p.handed p.recent x (now_of old) is.in_time (omega arith))) is.crash_model is.same_setting
+        (subst (λ (n : ℕ). RecoversTo (disk.trace old.store.disk).now old (history_at h q) n) count (subst (λ (l : History). RecoversTo (disk.trace old.store.disk).now old l (count_at h p)) all recovers))
+        (is.outs runs) (is.arrivals runs) (is.since runs)
+        (λ never. subst (AllByRecursion (λ (y : Taken). y.failed ≡ false)) whole (all-beside (λ (y : Taken). y.failed ≡ false) p.handed p.recent x (is.flags never) refl)) in
+        record {
+          end = q;
+          is_at = subst (λ (v : ServerState D H G). IsAtPlace disk handler ports s h t v q) (sym call.2) place;
+          more = x ∷ [];
+          handed = refl;
+          sent = sym (append-nil (option_to_list sent));
+          arrivals = ap (λ l. record { handed = l; recent = map asked p.recent }) (map-append asked p.handed (x ∷ []));
+        }
 
     failed : (old new : ServerState D H G) (p : Place) (why : StoreError) → IsAtPlace disk handler ports s h t old p → Commits disk old new (Err why) → disk.follows_crash_model new.store.disk
         → IsAtPlace disk handler ports s h t new p
@@ -219,6 +260,7 @@ module _ {D H G : Type 0} (disk : disks.Ghosts D) (handler : handlers.Ghosts H) 
             recovers = λ goes. absurd (not_both new.store.stopped call.stops goes);
             outs = λ goes. absurd (not_both new.store.stopped call.stops goes);
             arrivals = λ goes. absurd (not_both new.store.stopped call.stops goes);
+            since = λ goes. absurd (not_both new.store.stopped call.stops goes);
             flags = is.flags;
           }
     ]
@@ -228,6 +270,7 @@ module _ {D H G : Type 0} (disk : disks.Ghosts D) (handler : handlers.Ghosts H) 
     advances server p (Submit moment a (Ok u) after) is call crash_model = took server after p moment a u is call
     advances server p (Submit moment a (Err why) after) is call crash_model = stays server p (Submit moment a (Err why) after) (refused server after p moment a why is call) refl refl
     advances server p (Commit (Ok outs) after) is call crash_model = committed server after p outs is call crash_model
+    advances server p (Relay a sent after) is call crash_model = relayed server after p a sent is call
     advances server p (Commit (Err why) after) is call crash_model = stays server p (Commit (Err why) after) (failed server after p why is call crash_model) refl refl
 
     pub goes_on : (server : ServerState D H G) (p : Place) (steps : List (ServerCall D H G)) → IsAtPlace disk handler ports s h t server p → Serves disk handler ports server steps
@@ -238,7 +281,7 @@ module _ {D H G : Type 0} (disk : disks.Ghosts D) (handler : handlers.Ghosts H) 
       more = [];
       handed = sym (append-nil p.handed);
       sent = refl;
-      arrivals = sym (append-nil (map asked (p.handed ++ p.recent)));
+      arrivals = refl;
     }
     goes_on server p (x ∷ xs) is serves crash_model =
         let one = advances server p x is serves.0 (earlier (after_of x) xs serves.1 crash_model) in
@@ -249,8 +292,7 @@ module _ {D H G : Type 0} (disk : disks.Ghosts D) (handler : handlers.Ghosts H) 
           more = one.more ++ rest.more;
           handed = rest.handed ∙ ap (λ (l : List Taken). l ++ rest.more) one.handed ∙ append_assoc p.handed one.more rest.more;
           sent = ap (λ (l : List Sent). l ++ handed_out xs) one.sent ∙ ap (λ (l : List Sent). sent_about one.more ++ l) rest.sent ∙ sym (sent_about-append one.more rest.more);
-          arrivals = rest.arrivals ∙ ap (λ (l : List (ℕ × Arrives × Bool × Bool)). l ++ all_asked ports (after_of x) xs) one.arrivals
-              ∙ append_assoc (map asked (p.handed ++ p.recent)) (asked_by ports server x) (all_asked ports (after_of x) xs);
+          arrivals = rest.arrivals ∙ ap (λ (q : Asked). all_asked ports (after_of x) q xs) one.arrivals;
         }
 
     -- a stop in a call
@@ -258,6 +300,7 @@ module _ {D H G : Type 0} (disk : disks.Ghosts D) (handler : handlers.Ghosts H) 
         → disk.follows_crash_model (after_of x).store.disk
         → EachImageSince (disk.trace server.store.disk) (disk.trace (after_of x).store.disk) (AtLeast (form_of server.store) (history_at h p) (count_at h p) (now_of server))
     stops server p (Submit moment a result after) is call crash_model = since_same _ _ _ (ap (λ z. disk.trace z.disk) call.store) is.images
+    stops server p (Relay a sent after) is call crash_model = since_same _ _ _ (ap (λ (v : ServerState D H G). disk.trace v.store.disk) call.2) is.images
     stops server p (Commit result after) is call crash_model = elim (by_bool server.store.stopped) [
       | inl stopped ↦ since_same _ _ _ (ap (λ (v : ServerState D H G). disk.trace v.store.disk) (call.unchanged stopped)) is.images
       | inr runs ↦ call.stop crash_model (history_at h p) (count_at h p) (is.recovers runs)
@@ -297,7 +340,7 @@ starts disk handler ports server h k crash_model recovers all none fresh =
     let same : h ++ [] ≡ h = append-nil h in
     let count : k ≡ length (h ++ []) = all ∙ ap (λ (l : History). length l) (sym same) in
     at_rest disk handler ports (setting_of handler.key_of ports.range server.machine) h (now_of server) server start tt (omega arith) crash_model refl
-    (subst (λ (n : ℕ). RecoversTo state server (h ++ []) n) count (subst (λ (l : History). RecoversTo state server l k) (sym same) recovers)) none fresh (λ never. tt)
+    (subst (λ (n : ℕ). RecoversTo state server (h ++ []) n) count (subst (λ (l : History). RecoversTo state server l k) (sym same) recovers)) none fresh tt (λ never. tt)
 
 pub opened : {D H G : Type 0} (disk : disks.Ghosts D) (handler : handlers.Ghosts H) (ports : generators.Ghosts G) (form : Form) (h : History) (k m : ℕ) (content : List ℕ) (server : ServerState D H G)
     → disk.follows_crash_model server.store.disk → (o : Opens form h k m content (disk.trace server.store.disk).now server) → server.outs ≡ [] → server.arrivals ≡ 0

@@ -1,7 +1,7 @@
 -- What an arrival makes of what a server keeps and recovers to.
-use Rattle.std.proofs.Common.{◌≡◌, ◌≤◌, ◌<◌, ◌+◌, ◌-◌, ◌^◌, inl, inr, ℕ, Bool, false, List, ◌++◌, length, take, drop, Option, Some, None, refl, sym, ap, ◌∙◌, subst, arith, length-append}
+use Rattle.std.proofs.Common.{◌≡◌, ◌≤◌, ◌<◌, ◌+◌, ◌-◌, ◌^◌, inl, inr, ℕ, zero, suc, Bool, false, List, ◌++◌, length, take, drop, Option, Some, None, refl, sym, ap, ◌∙◌, subst, arith, length-append}
 use Rattle.std.proofs.Math.Nat.{eq-or-lt_of_le}
-use Rattle.std.proofs.lemmas.List.{take-append-le, drop-append-le}
+use Rattle.std.proofs.lemmas.List.{map-append, take-append-le, drop-append-le}
 use Rattle.std.specs.Prelude.{IfSome}
 use Rattle.std.specs.List.{AllByRecursion}
 use Rattle.turn_disk.specs.Disk as disks
@@ -20,8 +20,9 @@ use Rattle.turn_store.specs.State.{RecoversToAt}
 use Rattle.turn_table.specs.State.{State}
 use Rattle.turn_table.specs.Table.{Agrees}
 use Rattle.turn_types.specs.Config.{Config}
+use Rattle.turn_types.specs.declared.address.FiveTuple.{FiveTuple}
 use Rattle.turn_types.specs.declared.limits.Bounds.{Bounds}
-use Rattle.turn_engine.specs.Recovering.{RecoversTo}
+use Rattle.turn_engine.specs.Recovering.{RecoversTo, tuples_of}
 use Rattle.turn_engine.specs.State.{IsSound, ServerState, has_pairs, now_of}
 use Rattle.turn_engine.proofs.Lists.{all-append, added_few, added_from}
 use Rattle.turn_types.specs.Profile.{end_of_moments}
@@ -104,9 +105,10 @@ after_same m n h config table after = record {
 
 -- a server whose machine alone is another, at a later moment
 pub recovers_later : {D H G : Type 0} (state : disks.State) (old new : ServerState D H G) (h : History) (k : ℕ) → RecoversTo state old h k → new.store ≡ old.store → new.payload ≡ old.payload
-    → new.acts ≡ old.acts → now_of old ≤ now_of new → IsAfter new.machine h → RecoversTo state new h k
-recovers_later state old new h k recovers store payload acts le after =
+    → new.acts ≡ old.acts → new.tuples ≡ old.tuples → new.since ≡ old.since → now_of old ≤ now_of new → IsAfter new.machine h → RecoversTo state new h k
+recovers_later state old new h k recovers store payload acts tuples since le after =
     let late = recovers.at_late in
+    let first = recovers.since in
     record {
       after = after;
       within = recovers.within;
@@ -115,6 +117,8 @@ recovers_later state old new h k recovers store payload acts le after =
       stored = subst (λ s. RecoversToAt s state recovers.at (take k h)) (sym store) recovers.stored;
       staged = payload ∙ recovers.staged;
       counted = acts ∙ recovers.counted;
+      tuples = tuples ∙ recovers.tuples;
+      since = omega arith;
       from = recovers.from;
       writes = subst (λ s. AllByRecursion (λ (e : Event). Writes s.version e.act) (drop k h)) (sym store) recovers.writes;
     }
@@ -132,8 +136,8 @@ added_writes v t (Some c) writes = (writes, tt)
 -- a server that took an arrival
 pub recovers_taken : {D H G : Type 0} (state : disks.State) (old new : ServerState D H G) (h : History) (k t : ℕ) (change : Option Change) → RecoversTo state old h k → new.store ≡ old.store
     → ((es : List Event) → old.payload ≡ bytes.payload es → new.payload ≡ bytes.payload (es ++ added t change)) → new.acts ≡ old.acts + length (added t change)
-    → now_of old ≤ t → now_of new ≡ t → IfSome change (λ c. Writes old.store.version c.act) → IsAfter new.machine (h ++ added t change) → RecoversTo state new (h ++ added t change) k
-recovers_taken state old new h k t change recovers store payload acts le now writes after =
+    → new.tuples ≡ old.tuples ++ tuples_of (added t change) → new.since ≤ t → now_of old ≤ t → now_of new ≡ t → IfSome change (λ c. Writes old.store.version c.act) → IsAfter new.machine (h ++ added t change) → RecoversTo state new (h ++ added t change) k
+recovers_taken state old new h k t change recovers store payload acts tuples since le now writes after =
     let more = added t change in
     let late = recovers.at_late in
     let within = recovers.within in
@@ -151,7 +155,18 @@ recovers_taken state old new h k t change recovers store payload acts le now wri
       stored = subst (λ s. RecoversToAt s state recovers.at (take k (h ++ more))) (sym store) (subst (λ (l : History). RecoversToAt old.store state recovers.at l) (sym front) recovers.stored);
       staged = payload (drop k h) recovers.staged ∙ ap bytes.payload (sym rest);
       counted = sum ∙ ap (λ (l : History). length l) (sym rest);
+      tuples = tuples ∙ ap (λ (l : List FiveTuple). l ++ tuples_of more) recovers.tuples ∙ sym (map-append (λ (e : Event). e.tuple) (drop k h) more) ∙ ap tuples_of (sym rest);
+      since = omega arith;
       from = subst (AllFrom recovers.at) (sym rest) (all-append (λ (e : Event). recovers.at ≤ e.moment) (drop k h) more recovers.from (added_from recovers.at t change (omega arith)));
       writes = subst (λ s. AllByRecursion (λ (e : Event). Writes s.version e.act) (drop k (h ++ more))) (sym store) (subst (AllByRecursion (λ (e : Event). Writes old.store.version e.act)) (sym rest)
           (all-append (λ (e : Event). Writes old.store.version e.act) (drop k h) more recovers.writes (added_writes old.store.version t change writes)));
     }
+
+-- ---- The first arrival that is staged
+
+pub old_late : {since inside now t : ℕ} → now ≤ t → inside ≡ since → since ≤ now → inside ≤ t
+old_late le is late = omega (arith, le, is, late)
+
+pub first_late : (arrivals since t first : ℕ) → (arrivals ≡ 0 → first ≡ t) → (1 ≤ arrivals → first ≡ since) → since ≤ t → first ≤ t
+first_late zero since t first none some late = let is = none refl in omega arith
+first_late (suc n) since t first none some late = let is = some (omega arith) in omega arith

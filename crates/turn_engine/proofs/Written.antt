@@ -27,7 +27,7 @@ use Rattle.turn_types.specs.declared.limits.Bounds.{Bounds}
 use Rattle.turn_step.specs.Outcome.{Sent}
 use Rattle.turn_engine.specs.Calls.{Commits}
 use Rattle.turn_engine.specs.Images.{AtLeast}
-use Rattle.turn_engine.specs.Recovering.{RecoversTo}
+use Rattle.turn_engine.specs.Recovering.{RecoversTo, tuples_of}
 use Rattle.turn_engine.specs.State.{ServerState, emptied, limits_of, now_of}
 use Rattle.turn_engine.proofs.Lists.{none_left}
 use Rattle.turn_types.specs.Profile.{end_of_moments}
@@ -201,6 +201,8 @@ all_stored state after old store h k recovers done =
       stored = subst (λ (l : History). RecoversToAt store after done.0 l) (take-append-drop k h ∙ sym (take-length h)) done.2;
       staged = ap (λ (l : History). length l ∷ bytes.each bytes.act_entry l) (sym none);
       counted = ap (λ (l : History). length l) (sym none);
+      tuples = ap tuples_of (sym none);
+      since = omega arith;
       from = subst (AllFrom done.0) (sym none) tt;
       writes = subst (AllByRecursion (λ (e : Event). Writes store.version e.act)) (sym none) tt;
     }

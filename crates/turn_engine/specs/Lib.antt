@@ -6,3 +6,4 @@ pub mod Runs
 pub mod Staged
 pub mod State
 pub mod Stops
+pub mod Views

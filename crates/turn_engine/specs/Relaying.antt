@@ -14,18 +14,18 @@ use Rattle.turn_engine.specs.State.{ServerState}
 
 -- What answers data while a commit waits for its disk: the machine, and of what is staged the five-tuples of the acts, how many arrivals
 -- there are, and the moment of the first.
-pub record Beside (H G : Type 0) : Type 0 where
+pub record BesideState (H G : Type 0) : Type 0 where
   pub machine : MachineState H G
   pub tuples : List FiveTuple
   pub arrivals : ℕ
   pub since : ℕ
 
 -- the same of a server
-abbrev pub beside : {D H G : Type 0} → ServerState D H G → Beside H G
+abbrev pub beside : {D H G : Type 0} → ServerState D H G → BesideState H G
 beside s = record { machine = s.machine; tuples = s.tuples; arrivals = s.arrivals; since = s.since }
 
 -- no arrival that is staged is of an earlier moment than the clock's
-abbrev pub IsAtClock : {H G : Type 0} → Beside H G → Type 0
+abbrev pub IsAtClock : {H G : Type 0} → BesideState H G → Type 0
 IsAtClock b = (b.arrivals ≡ 0) ⊎ (b.since ≡ b.machine.table.moment)
 
 -- the arrival is of the allocation of a five-tuple of which no act is staged
@@ -34,16 +34,23 @@ pub record IsApart (c : Contents) (tuples : List FiveTuple) (a : Arrives) : Type
   pub owns : IsOwner c a owner
   pub apart : AllByRecursion (λ g. g ≢ owner) tuples
 
--- An arrival can be answered beside what is staged: it is no request, no act of its five-tuple is staged, and all that is staged is of
--- the clock's moment.
-pub record MayBeRelayed {H G : Type 0} (b : Beside H G) (a : Arrives) : Type 0 where
+-- it is of no allocation, or an act of its owner is staged
+pub data IsBehind (c : Contents) (tuples : List FiveTuple) (a : Arrives) : Type 0 where
+  has_no_owner : ((f : FiveTuple) → ¬ IsOwner c a f) → IsBehind c tuples a
+  is_staged : (owner : FiveTuple) → IsOwner c a owner → ¬ AllByRecursion (λ g. g ≢ owner) tuples → IsBehind c tuples a
+
+-- why an arrival has to be submitted
+pub data HasToWait {H G : Type 0} (b : BesideState H G) (a : Arrives) : Type 0 where
+  is_request : IsRequestOf a → HasToWait b a
+  -- something that is staged is of an earlier moment
+  is_later : ¬ IsAtClock b → HasToWait b a
+  is_behind : IsBehind b.machine.table.contents b.tuples a → HasToWait b a
+
+-- Data was answered beside what is staged: no act of its five-tuple is staged, and all that is staged is of the clock's moment. After
+-- every history with which the machine agrees, it was answered after the part of it that is stored.
+pub record Relays {H G : Type 0} (keys : H → Keys) (range : G → ℕ × ℕ) (b : BesideState H G) (a : Arrives) (sent : Option Sent) : Type 0 where
   pub data : ¬ IsRequestOf a
   pub at_clock : IsAtClock b
   pub apart : IsApart b.machine.table.contents b.tuples a
-
--- An arrival was answered beside what is staged, and nothing changed: after every history with which the machine agrees, this is
--- an answer to the part of it that is stored.
-pub record Relays {H G : Type 0} (keys : H → Keys) (range : G → ℕ × ℕ) (b : Beside H G) (a : Arrives) (sent : Option Sent) : Type 0 where
-  pub at_clock : IsAtClock b
   pub answers : (h : History) (k : ℕ) → IsAfter b.machine h → b.tuples ≡ tuples_of (drop k h)
       → AnswersArrival (setting_of keys range b.machine) (take k h) b.machine.table.moment false a (record { change = None; sent = sent })

@@ -1,5 +1,5 @@
 -- Runs: what a server answers from an opening on, call after call.
-use Rattle.std.specs.Prelude.{◌≡◌, ◌≤◌, ◌++◌, ℕ, Bool, List, [], ◌∷◌, Option, Result, Ok, Err, false, length, map}
+use Rattle.std.specs.Prelude.{◌≡◌, ◌≤◌, ◌++◌, ℕ, Bool, List, [], ◌∷◌, None, Option, Result, Ok, Err, false, length, map}
 use Rattle.std.specs.List.{AllByRecursion}
 use Rattle.std.specs.Option.{option_to_list}
 use Rattle.turn_cred.specs.declared.handler.AuthHandler as handlers
@@ -35,6 +35,10 @@ pub record Taken : Type 0 where
   -- whether the server reserved ports then
   pub pairs : Bool
   pub outcome : StepOutcome
+
+-- data that was answered at the moment t beside what is staged
+abbrev pub beside_at : ℕ → Bool → Arrives → Option Sent → Taken
+beside_at t pairs a sent = record { moment = t; arrival = a; failed = false; pairs = pairs; outcome = record { change = None; sent = sent } }
 
 -- the events that arrivals added to the history, in order
 abbrev pub accepted : List Taken → History

@@ -13,13 +13,14 @@ use turn_history::Act;
 use turn_record::{Version, max_payload, write_act};
 use turn_types::{FiveTuple, Limits, Moment};
 
-/// The payload of the acts since the last commit: their number in one byte, and the act entries.
+/// The payload of the acts since the last commit: their number in one byte, and the act entries. Beside it are their five-tuples.
 #[derive(Drop)]
 pub struct Batch<A: Allocator = Global> {
     limits: Limits,
     version: Version,
     payload: Vec<u8, A>,
     acts: u16,
+    tuples: Vec<FiveTuple, A>,
 }
 
 impl<A: Allocator> Model for Batch<A> {
@@ -28,24 +29,26 @@ impl<A: Allocator> Model for Batch<A> {
 
     ghost Value = { Staged };
 
-    ghost view = { λ b. record { bounds = b.limits; version = b.version; payload = b.payload.items; acts = b.acts } };
+    ghost view = { λ b. record { bounds = b.limits; version = b.version; payload = b.payload.items; acts = b.acts; tuples = b.tuples.items } };
 
-    ghost invariant = { λ b. IsSound b.version b.limits b.acts b.payload.items (vec_capacity b.payload) };
+    ghost invariant = { λ b. IsSound b.version b.limits b.acts b.payload.items (vec_capacity b.payload) b.tuples.items (vec_capacity b.tuples) };
 }
 
 impl<A: Allocator + Copy> Batch<A> {
     /// A batch of records of a version, without acts, with the memory for as many as the limits allow.
     pub fn new(alloc: A, version: Version, limits: Limits) -> Result<Batch<A>, AllocError>
-        ensures { IfOk result (λ b. b ≡ record { bounds = limits; version = version; payload = 0 ∷ []; acts = 0 }) }
+        ensures { IfOk result (λ b. b ≡ record { bounds = limits; version = version; payload = 0 ∷ []; acts = 0; tuples = [] }) }
     {
         let _bounds = limits.bounds();
         let mut payload = Vec::with_capacity(alloc, max_payload(version, limits))?;
         payload.push(0)?;
+        let tuples = Vec::with_capacity(alloc, usize::from(limits.acts()))?;
         Ok(Batch {
             limits,
             version,
             payload,
             acts: 0,
+            tuples,
         })
     }
 }
@@ -68,6 +71,13 @@ impl<A: Allocator> Batch<A> {
         &self.payload
     }
 
+    /// The five-tuples of the acts, in their order.
+    pub fn tuples(&self) -> &[FiveTuple]
+        ensures { result.now ≡ self.now.tuples }
+    {
+        &self.tuples
+    }
+
     /// Adds an act, for which there is room and which the version can hold. It takes no memory.
     pub fn push<B: Allocator>(&mut self, moment: Moment, five_tuple: FiveTuple, act: &Act<B>)
         requires few { self.old.acts < self.old.bounds.acts }
@@ -76,6 +86,7 @@ impl<A: Allocator> Batch<A> {
         ensures bounds { self.new.bounds ≡ self.old.bounds }
         ensures version { self.new.version ≡ self.old.version }
         ensures acts { self.new.acts ≡ self.old.acts + 1 }
+        ensures tuples { self.new.tuples ≡ self.old.tuples ++ five_tuple ∷ [] }
         ensures payload { (es : List Event) → self.old.payload ≡ bytes.payload es
             → self.new.payload ≡ bytes.payload (es ++ record { moment = moment; tuple = five_tuple; act = act_of act.now } ∷ []) }
     {
@@ -89,16 +100,20 @@ impl<A: Allocator> Batch<A> {
         ) else {
             unreachable!()
         };
+        let Ok(()) = self.tuples.push(five_tuple) else {
+            unreachable!()
+        };
         self.acts += 1;
         self.payload[0] = self.acts as u8;
     }
 
     /// Removes all acts.
     pub fn clear(&mut self)
-        ensures { self.new ≡ record { bounds = self.old.bounds; version = self.old.version; payload = 0 ∷ []; acts = 0 } }
+        ensures { self.new ≡ record { bounds = self.old.bounds; version = self.old.version; payload = 0 ∷ []; acts = 0; tuples = [] } }
     {
         self.payload.truncate(1);
         self.payload[0] = 0;
         self.acts = 0;
+        self.tuples.clear();
     }
 }

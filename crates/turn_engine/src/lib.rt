@@ -3,10 +3,12 @@
 #![tactic(auto)]
 
 mod batch;
+mod beside;
 mod error;
 mod laws;
 mod server;
 
+pub use beside::{Beside, Relayed};
 pub use error::{ServerOpenError, SubmitError};
 pub use laws::{
     ports_stay_held, servers_make_runs, stopped_servers_open_again, stops_keep_what_was_handed_out,

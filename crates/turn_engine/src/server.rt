@@ -23,7 +23,7 @@ ghost use Rattle.turn_store.specs.State.{form_of};
 ghost use Rattle.turn_store.specs.Tables.{snapshot_of};
 ghost use Rattle.turn_engine.specs.Calls.{Commits, Opening, Submits, committed, disk_after};
 ghost use Rattle.turn_engine.specs.Images.{AtLeast};
-ghost use Rattle.turn_engine.specs.Recovering.{Opens, RecoversTo, Takes};
+ghost use Rattle.turn_engine.specs.Recovering.{Opens, RecoversTo, Takes, tuples_of};
 ghost use Rattle.turn_engine.specs.State.{emptied, has_pairs, limits_of, now_of};
 
 use crate::batch::Batch;
@@ -53,6 +53,8 @@ pub struct Server<D: Disk, H: AuthHandler, G: RelayAddressGenerator, A: Allocato
     outgoing: Vec<Outgoing<A>, A>,
     // How many arrivals were taken since the last commit.
     arrivals: u16,
+    // The moment of the first of them.
+    since: Moment,
 }
 
 // By hand: a derived drop is one step for each field in the proof of each caller.
@@ -66,6 +68,7 @@ impl<D: Disk + Drop, H: AuthHandler + Drop, G: RelayAddressGenerator + Drop, A: 
             batch: _,
             outgoing: _,
             arrivals: _,
+            since: _,
         } = self;
     }
 }
@@ -86,8 +89,10 @@ impl<D: Disk, H: AuthHandler, G: RelayAddressGenerator, A: Allocator> Model for 
       machine = s.machine;
       payload = s.batch.payload;
       acts = s.batch.acts;
+      tuples = s.batch.tuples;
       outs = map sent_of s.outgoing.items;
       arrivals = s.arrivals;
+      since = s.since;
     } };
 
     ghost invariant = { λ s. IsSound s.machine.config.limits s.store.bounds s.batch.bounds s.store.version s.batch.version s.batch.acts s.arrivals s.machine.pairs s.machine.table };
@@ -111,6 +116,7 @@ fn stage_act<A: Allocator>(batch: &mut Batch<A>, moment: Moment, step: &Step<A>)
     ensures bounds { batch.new.bounds ≡ batch.old.bounds }
     ensures version { batch.new.version ≡ batch.old.version }
     ensures acts { batch.new.acts ≡ batch.old.acts + length (added moment step.now.change) }
+    ensures tuples { batch.new.tuples ≡ batch.old.tuples ++ tuples_of (added moment step.now.change) }
     ensures payload { (es : List Event) → batch.old.payload ≡ bytes.payload es
         → batch.new.payload ≡ bytes.payload (es ++ added moment step.now.change) }
 {
@@ -131,6 +137,14 @@ fn stage_datagram<A: Allocator>(outgoing: &mut Vec<Outgoing<A>, A>, datagram: Op
     }
 }
 
+/// The moment of the first of the arrivals that are staged, once one of this moment is added to so many.
+fn first_moment(arrivals: u16, since: Moment, moment: Moment) -> Moment
+    ensures first { arrivals ≡ 0 → result ≡ moment }
+    ensures later { 1 ≤ arrivals → result ≡ since }
+{
+    if arrivals == 0 { moment } else { since }
+}
+
 impl<D: Disk, H: AuthHandler, G: RelayAddressGenerator, A: Allocator + Copy> Server<D, H, G, A> {
     // A server over a store that was opened, with nothing staged.
     fn over(
@@ -147,13 +161,16 @@ impl<D: Disk, H: AuthHandler, G: RelayAddressGenerator, A: Allocator + Copy> Ser
           machine = record { config = config; handler = handler; ports = ports; table = opened.table; pairs = has_pairs opened.store.version };
           payload = 0 ∷ [];
           acts = 0;
+          tuples = [];
           outs = [];
           arrivals = 0;
+          since = opened.table.moment;
         }) }
         ensures err { IfErr result (λ r. r ≡ record { fault = OpenError.Memory; disk = opened.store.disk; handler = handler; ports = ports }) }
     {
         let Opened { store, table } = opened;
         let version = store.info().version;
+        let since = table.moment();
         let Ok(batch) = Batch::new(alloc, version, config.limits()) else {
             return Err(ServerOpenError {
                 fault: OpenError::Memory,
@@ -170,6 +187,7 @@ impl<D: Disk, H: AuthHandler, G: RelayAddressGenerator, A: Allocator + Copy> Ser
                 batch,
                 outgoing: Vec::new(alloc),
                 arrivals: 0,
+                since,
             }),
             Err(MachineError { handler, ports }) => Err(ServerOpenError {
                 fault: OpenError::Memory,
@@ -270,6 +288,8 @@ impl<D: Disk, H: AuthHandler, G: RelayAddressGenerator, A: Allocator + Copy> Ser
         ensures count { CountsOne (G.failures self.old.machine.ports) (G.failures self.new.machine.ports) }
         ensures held { HoldsPorts G.holds self.old.machine None → HoldsPorts G.holds self.new.machine None }
         ensures arrivals { OnOk result (self.new.arrivals ≡ self.old.arrivals + 1) }
+        ensures since { OnOk result (self.old.arrivals ≡ 0 → self.new.since ≡ moment) }
+        ensures since_kept { OnOk result (1 ≤ self.old.arrivals → self.new.since ≡ self.old.since) }
         ensures ok { (h : History) (k : ℕ) → RecoversTo (D.trace self.old.store.disk).now self.old h k
             → OnOk result (Takes (setting_of H.key_of G.range self.old.machine) (D.trace self.old.store.disk).now self.old self.new h k moment
             (has_failed (G.failures self.old.machine.ports) (G.failures self.new.machine.ports)) (arrival_of arrival.now)) }
@@ -290,6 +310,7 @@ impl<D: Disk, H: AuthHandler, G: RelayAddressGenerator, A: Allocator + Copy> Ser
         stage_act(&mut self.batch, moment, &step);
         let datagram = self.machine.apply(step);
         stage_datagram(&mut self.outgoing, datagram);
+        self.since = first_moment(self.arrivals, self.since, moment);
         self.arrivals += 1;
         Ok(())
     }
@@ -334,6 +355,7 @@ impl<D: Disk, H: AuthHandler, G: RelayAddressGenerator, A: Allocator + Copy> Ser
     {
         self.batch.clear();
         self.arrivals = 0;
+        self.since = self.machine.moment();
         mem::replace(&mut self.outgoing, Vec::new(self.alloc))
     }
 
@@ -403,6 +425,7 @@ impl<D: Disk, H: AuthHandler, G: RelayAddressGenerator, A: Allocator + Copy> Ser
             batch: _,
             outgoing: _,
             arrivals: _,
+            since: _,
         } = self;
         let (handler, ports) = machine.into_parts();
         (store.into_disk(), handler, ports)

@@ -3,15 +3,21 @@
 ghost use Rattle.std.specs.Prelude.{◌≡◌, ◌+◌, ◌<◌, ◌≤◌, ◌^◌, ℕ, List, length, OnOk, IfOk, IsErr};
 ghost use Rattle.turn_disk.specs.Device.{Reads, Uses};
 ghost use Rattle.turn_disk.specs.Disk.{EachImageSince, IsSettled, WritesOnce, WritesThrough};
+ghost use Rattle.turn_disk.specs.Meanwhile.{Passes};
 ghost use Rattle.turn_journal.specs.Frames.{HoldsFramesTo, IsWaiting, HoldsWithout, HoldsWithOrWithout, HoldsWith};
 ghost use Rattle.turn_journal.specs.Layout.{frame_head, gate_size};
 ghost use Rattle.turn_journal.specs.Scan.{HasLength};
 
 use crate::layout::{GATE_SIZE, OPEN};
-use turn_disk::{DeviceError, Disk, read_array, write_through};
+use turn_disk::{DeviceError, Disk, Meanwhile, read_array, write_through};
 
 /// Writes after a closed gate, and syncs.
-pub fn write_after<D: Disk>(disk: &mut D, gate: usize, bytes: &[u8]) -> Result<(), DeviceError>
+pub fn write_after<D: Disk, M: Meanwhile>(
+    disk: &mut D,
+    gate: usize,
+    bytes: &[u8],
+    other: &mut M,
+) -> Result<(), DeviceError>
     requires place { gate + gate_size + length bytes.now ≤ D.capacity disk.old }
     requires addressable { gate + gate_size < 2 ^ 64 }
     ensures uses { Uses D.Disk disk.old disk.new (IsErr result) }
@@ -25,12 +31,18 @@ pub fn write_after<D: Disk>(disk: &mut D, gate: usize, bytes: &[u8]) -> Result<(
 
     ensures done { D.follows_crash_model disk.new
         → OnOk result (WritesThrough (gate + gate_size) bytes.now (D.trace disk.old).now (D.trace disk.new).now) }
+
+    ensures meanwhile { Passes M.passes other.old other.new }
 {
-    write_through(disk, gate + GATE_SIZE, bytes)
+    write_through(disk, gate + GATE_SIZE, bytes, other)
 }
 
 /// Opens the gate after which a frame waits, and syncs.
-pub fn open_gate<D: Disk>(disk: &mut D, gate: usize) -> Result<(), DeviceError>
+pub fn open_gate<D: Disk, M: Meanwhile>(
+    disk: &mut D,
+    gate: usize,
+    other: &mut M,
+) -> Result<(), DeviceError>
     requires { gate + gate_size ≤ D.capacity disk.old }
     ensures uses { Uses D.Disk disk.old disk.new (IsErr result) }
 
@@ -48,8 +60,10 @@ pub fn open_gate<D: Disk>(disk: &mut D, gate: usize) -> Result<(), DeviceError>
 
     // The gate is written at most once, and nothing else is.
     ensures once { D.follows_crash_model disk.new → WritesOnce gate gate_size (D.trace disk.old) (D.trace disk.new) }
+
+    ensures meanwhile { Passes M.passes other.old other.new }
 {
-    write_through(disk, gate, &[OPEN])?;
+    write_through(disk, gate, &[OPEN], other)?;
     Ok(())
 }
 

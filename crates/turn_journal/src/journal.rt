@@ -4,6 +4,7 @@
 ghost use Rattle.std.specs.Prelude.{◌≡◌, ◌+◌, ◌<◌, ◌≤◌, ◌^◌, ◌↔◌, ℕ, List, length, OnOk, OnErr, IfOk, IfErr, IsTrue};
 ghost use Rattle.turn_disk.specs.Device.{Reads, Uses};
 ghost use Rattle.turn_disk.specs.Disk.{EachImageSince, IsSettled};
+ghost use Rattle.turn_disk.specs.Meanwhile.{Passes};
 ghost use Rattle.turn_journal.specs.Area.{IsFullFor, end_of, limit_of};
 ghost use Rattle.turn_journal.specs.Frames.{gate_after, AddsFrame, HoldsFramesTo, HoldsWithOrWithout, HoldsWith};
 ghost use Rattle.turn_journal.specs.Layout.{frame_room};
@@ -18,7 +19,7 @@ use crate::layout::{FRAME_HEAD, FRAME_ROOM, OPEN};
 use std::alloc::{AllocError, Allocator, Global};
 use std::marker::Model;
 use thiserror::Error;
-use turn_disk::{DeviceError, Disk, read_array};
+use turn_disk::{DeviceError, Disk, Meanwhile, read_array};
 
 /// Why a frame was not added.
 #[derive(Clone, Copy, Debug, PartialEq, Eq, Error)]
@@ -131,7 +132,12 @@ impl<A: Allocator> Journal<A> {
 
     /// Adds a frame, in four device calls: a write of the frame after its closed gate, with a closed gate after it; a
     /// sync; a write that opens the gate; a sync.
-    pub fn append<D: Disk>(&mut self, disk: &mut D, payload: &[u8]) -> Result<(), AppendError>
+    pub fn append<D: Disk, M: Meanwhile>(
+        &mut self,
+        disk: &mut D,
+        payload: &[u8],
+        other: &mut M,
+    ) -> Result<(), AppendError>
         requires place { self.old.start + self.old.size ≤ D.capacity disk.old }
         requires short { length payload.now ≤ self.old.max_payload }
 
@@ -161,6 +167,8 @@ impl<A: Allocator> Journal<A> {
             → HoldsFramesTo from payloads (end_of self.old) (limit_of self.old) old.bytes
             → OnOk result (IsSettled new
             × HoldsWith from payloads payload.now (end_of self.old) (frame_room + length payload.now) (limit_of self.old) old.bytes new.bytes) }
+
+        ensures meanwhile { Passes M.passes other.old other.new }
     {
         let count = payload.len();
         if !self.room(count) {
@@ -168,8 +176,8 @@ impl<A: Allocator> Journal<A> {
         }
         put_frame(&mut self.frame, payload);
         let gate = self.area.start + self.area.end;
-        write_after(disk, gate, &self.frame[..count + FRAME_HEAD])?;
-        open_gate(disk, gate)?;
+        write_after(disk, gate, &self.frame[..count + FRAME_HEAD], other)?;
+        open_gate(disk, gate, other)?;
         self.area.end += count + FRAME_HEAD;
         Ok(())
     }

@@ -15,7 +15,9 @@ use crate::socket::Socket;
 use crate::stream::Stream;
 use crate::wire::Wire;
 use std::marker::{Model, PhantomData};
-use turn_disk::{CallRecord, DeviceError, Disk, READ, SYNC, Start, Unknown, WRITE, raise};
+use turn_disk::{
+    CallRecord, DeviceError, Disk, Meanwhile, READ, SYNC, Start, Unknown, WRITE, raise,
+};
 
 /// A disk over an export, as large as the export is when it is opened.
 ///
@@ -189,11 +191,18 @@ impl<T: Stream, S: Start> Disk for NbdDisk<T, S> {
         self.ask_read(at, buffer)
     }
 
-    fn write_at(&mut self, at: usize, bytes: &[u8]) -> Result<(), DeviceError> {
+    #[tactic(auto, using(turn_disk::proofs::Passing::passes_none))]
+    fn write_at<M: Meanwhile>(
+        &mut self,
+        at: usize,
+        bytes: &[u8],
+        _other: &mut M,
+    ) -> Result<(), DeviceError> {
         self.ask_write(at, bytes)
     }
 
-    fn sync(&mut self) -> Result<(), DeviceError> {
+    #[tactic(auto, using(turn_disk::proofs::Passing::passes_none))]
+    fn sync<M: Meanwhile>(&mut self, _other: &mut M) -> Result<(), DeviceError> {
         self.ask_flush()
     }
 }

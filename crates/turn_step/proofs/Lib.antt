@@ -1,4 +1,5 @@
 pub mod Alone
+pub mod Beginnings
 pub mod Clients
 pub mod Dropped
 pub mod Exclusion

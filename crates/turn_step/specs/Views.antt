@@ -1,12 +1,14 @@
 -- What contracts see of the code's data.
-use Rattle.std.specs.Prelude.{Bool, false, true}
+use Rattle.std.specs.Prelude.{Bool, false, true, Option, Some, None, option_map}
 use Rattle.turn_step.specs.declared.arrival.Arrival.{Arrival}
 use Rattle.turn_step.specs.declared.arrival.Arrival.TheVariants as arrivals
 use Rattle.turn_step.specs.declared.arrival.Outgoing.{Outgoing}
 use Rattle.turn_step.specs.declared.arrival.Outgoing.TheVariants as outgoing
+use Rattle.turn_step.specs.declared.data.DataAnswer.{DataAnswer}
+use Rattle.turn_step.specs.declared.data.DataAnswer.TheVariants.{Request, Data}
 use Rattle.turn_step.specs.declared.pairs.Pairs.{Pairs}
 use Rattle.turn_step.specs.declared.pairs.Pairs.TheVariants.{Refused, Reserved}
-use Rattle.turn_step.specs.Outcome.{Arrives, Sent}
+use Rattle.turn_step.specs.Outcome.{Arrives, Sent, StepOutcome}
 
 -- an arrival of the code as the definitions have it
 abbrev pub arrival_of : Arrival → Arrives
@@ -17,6 +19,11 @@ arrival_of (arrivals.Peer port from bytes id) = Arrives.FromPeer port from bytes
 abbrev pub sent_of : {A : Type 0} → Outgoing A → Sent
 sent_of (outgoing.ToClient five_tuple bytes) = Sent.ToClient five_tuple bytes.items
 sent_of (outgoing.ToPeer port peer bytes) = Sent.ToPeer port peer bytes.items
+
+-- an answer to data as an outcome that does nothing; there is none of a request
+abbrev pub data_outcome : {A : Type 0} → DataAnswer A → Option StepOutcome
+data_outcome Request = None
+data_outcome (Data outgoing) = Some (record { change = None; sent = option_map sent_of outgoing })
 
 -- whether a machine reserves ports
 abbrev pub is_reserved : Pairs → Bool

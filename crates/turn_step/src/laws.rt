@@ -1,17 +1,19 @@
 //! What holds of the definitions in specs/. Each law is a clause of a function that does nothing.
 
-ghost use Rattle.std.specs.Prelude.{◌≡◌, ◌≢◌, ◌≤◌, ◌↔◌, ℕ, Bool, List, None, Some, true, false};
+ghost use Rattle.std.specs.Prelude.{◌≡◌, ◌≢◌, ◌≤◌, ◌↔◌, ℕ, Bool, List, None, Some, drop, map, take, true, false};
 ghost use Rattle.std.specs.FinMap as fin;
+ghost use Rattle.std.specs.List.{AllByRecursion};
 ghost use Rattle.turn_codec.specs.Channel.{SpellsChannelData};
 ghost use Rattle.turn_codec.specs.Grammar.{Content, Spells};
 ghost use Rattle.turn_history.specs.Fitting.{IsFitting};
-ghost use Rattle.turn_history.specs.History.{History, clock};
+ghost use Rattle.turn_history.specs.History.{Event, History, clock};
 ghost use Rattle.turn_history.specs.Laws.{events_of};
 ghost use Rattle.turn_history.specs.Table.{Entry, table};
 ghost use Rattle.turn_rules.specs.Answer.{is_request};
 ghost use Rattle.turn_step.specs.Answer.{AnswersArrival, AnswersClient, Setting};
+ghost use Rattle.turn_step.specs.Data.{IsOwner, IsRequestOf};
 ghost use Rattle.turn_step.specs.Laws.{HasNoReply, SpellsNoAllocate, SameForAllocates};
-ghost use Rattle.turn_step.specs.Outcome.{StepOutcome, nothing};
+ghost use Rattle.turn_step.specs.Outcome.{Arrives, StepOutcome, nothing};
 ghost use Rattle.turn_step.specs.Outcome.Arrives.{FromClient, FromPeer};
 ghost use Rattle.turn_step.specs.Outcome.Sent.{ToPeer};
 ghost use Rattle.turn_step.specs.State.{HasPortsApart};
@@ -50,6 +52,14 @@ pub fn clients_stand_alone()
     ensures peer { (s : Setting) (b : Bounds) (h g : History) (t : ℕ) (failed : Bool) (f : FiveTuple) (e : Entry) (from : Endpoint) (bytes id : List ℕ) (o : StepOutcome) →
         IsFitting b h → IsFitting b g → clock h ≤ t → clock g ≤ t → events_of f h ≡ events_of f g → fin.get (table h t).entries f ≡ Some e →
         (AnswersArrival s h t failed (FromPeer e.port from bytes id) o ↔ AnswersArrival s g t failed (FromPeer e.port from bytes id) o) }
+{}
+
+/// What may be answered to data is the same after a beginning of a history, where no later event is of the owner of the data. So the
+/// answer may be sent before the later events are stored.
+pub fn data_stands_alone()
+    ensures { (s : Setting) (b : Bounds) (h : History) (k t : ℕ) (failed : Bool) (a : Arrives) (f : FiveTuple) (o : StepOutcome) →
+        IsFitting b h → clock h ≤ t → ¬ IsRequestOf a → IsOwner (table h t) a f → AllByRecursion (λ g. g ≢ f) (map (λ (e : Event). e.tuple) (drop k h)) →
+        (AnswersArrival s h t failed a o ↔ AnswersArrival s (take k h) t failed a o) }
 {}
 
 /// After every history each port of the table is that of one allocation or of one reservation. So a machine that is after one keeps that

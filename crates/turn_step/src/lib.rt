@@ -4,6 +4,7 @@
 
 mod arrival;
 mod client;
+mod data;
 mod error;
 mod laws;
 mod machine;
@@ -14,8 +15,11 @@ mod request;
 mod step;
 
 pub use arrival::{Arrival, Outgoing};
+pub use data::DataAnswer;
 pub use error::MachineError;
-pub use laws::{clients_stand_alone, histories_keep_ports_apart, replies_answer_requests};
+pub use laws::{
+    clients_stand_alone, data_stands_alone, histories_keep_ports_apart, replies_answer_requests,
+};
 pub use machine::Machine;
 pub use pairs::Pairs;
 pub use step::Step;

@@ -1,32 +1,33 @@
 //! The rules of a server.
 
-ghost use Rattle.std.specs.Prelude.{◌≡◌, ◌≤◌, ◌++◌, None, IfOk, IfErr, IfSome, OnErr, option_map};
+ghost use Rattle.std.specs.Prelude.{◌≡◌, ◌≤◌, ◌↔◌, ◌++◌, false, None, IfOk, IfErr, IfSome, OnErr, option_map};
 ghost use Rattle.turn_codec.specs.Grammar.{Datagram};
 ghost use Rattle.turn_history.specs.Fitting.{Follows};
 ghost use Rattle.turn_history.specs.History.{History};
 ghost use Rattle.turn_ports.specs.Ports.{has_failed};
 ghost use Rattle.turn_rules.specs.Laws.{IsMadeOfBytes};
 ghost use Rattle.turn_step.specs.Answer.{AnswersArrival, AnswersClient, IsDecided};
+ghost use Rattle.turn_step.specs.Data.{IsOwner, IsRequestOf};
 ghost use Rattle.turn_step.specs.Outcome.{added, event_at};
 ghost use Rattle.turn_step.specs.State.{Answered, CountsOne, HasPortsApart, HoldsPorts, IsAfter, IsPurged, IsReady, IsSameTable, KeepsSetting, changed, setting_of};
-ghost use Rattle.turn_step.specs.Views.{arrival_of, is_reserved, sent_of};
+ghost use Rattle.turn_step.specs.Views.{arrival_of, data_outcome, is_reserved, sent_of};
 ghost use Rattle.turn_table.specs.Table.{Agrees};
 
 use crate::arrival::{Arrival, Outgoing};
-use crate::client::{data_step, is_request};
+use crate::client::{ClientDatagram, data_step, read, to_peer};
+use crate::data::DataAnswer;
 use crate::error::MachineError;
 use crate::pairs::Pairs;
-use crate::peer::peer_step;
+use crate::peer::{peer_step, to_client};
 use crate::purge::{advance, release, release_for};
 use crate::request::{judge, pick, settle};
 use crate::step::Step;
 use std::alloc::{AllocError, AllocFailed, Allocator, Global};
 use std::marker::Model;
-use turn_codec::{ChannelData, Message};
+use turn_codec::Message;
 use turn_cred::{AuthHandler, Checker};
 use turn_history::Act;
 use turn_ports::RelayAddressGenerator;
-use turn_relay::{from_channel_data, from_message};
 use turn_rules::{ClientMessage, Need, assess};
 use turn_table::Table;
 use turn_types::{FiveTuple, Moment, ServerConfig};
@@ -212,18 +213,53 @@ impl<H: AuthHandler, G: RelayAddressGenerator, A: Allocator + Copy> Machine<H, G
         ensures held { HoldsPorts G.holds self.old None → IfOk result (λ s. HoldsPorts G.holds self.new s.change) }
         ensures held_err { HoldsPorts G.holds self.old None → OnErr result (HoldsPorts G.holds self.new None) }
     {
-        if let Some(data) = ChannelData::parse(bytes) {
-            let sent = from_channel_data(&self.table, five_tuple, &data, moment);
-            return data_step(self.alloc, sent);
+        match read(&self.table, five_tuple, bytes, moment) {
+            ClientDatagram::Request(message) => self.request_step(moment, five_tuple, message),
+            ClientDatagram::Data(payload) => data_step(self.alloc, payload),
         }
-        let Ok(message) = Message::parse(bytes) else {
-            return Ok(Step::new(None, None));
-        };
-        if is_request(&message) {
-            return self.request_step(moment, five_tuple, message);
+    }
+
+    /// Answers data at the moment of the table, and changes nothing. A request is left to `prepare`.
+    pub fn answer_data(&self, arrival: &Arrival<'_>) -> Result<DataAnswer<A>, AllocError>
+        ensures requests { (result ≡ Ok DataAnswer.Request) ↔ IsRequestOf (arrival_of arrival.now) }
+        ensures answers { (h : History) → IsAfter self.now h →
+            IfOk result (λ x. IfSome (data_outcome x) (AnswersArrival (setting_of H.key_of G.range self.now) h self.now.table.moment false (arrival_of arrival.now))) }
+    {
+        let moment = self.table.moment();
+        match *arrival {
+            Arrival::Client { five_tuple, bytes } => {
+                match read(&self.table, five_tuple, bytes, moment) {
+                    ClientDatagram::Request(_) => Ok(DataAnswer::Request),
+                    ClientDatagram::Data(payload) => {
+                        Ok(DataAnswer::Data(to_peer(self.alloc, payload)?))
+                    }
+                }
+            }
+            Arrival::Peer {
+                port,
+                from,
+                bytes,
+                id,
+            } => {
+                let sent = to_client(self.alloc, &self.table, port, from, bytes, id, moment)?;
+                Ok(DataAnswer::Data(sent))
+            }
         }
-        let sent = from_message(&self.table, five_tuple, &message, moment);
-        data_step(self.alloc, sent)
+    }
+
+    /// The five-tuple whose events an answer to data depends on: the client's own, or that of the live allocation whose relayed
+    /// port a peer's datagram came to.
+    pub fn owner_of(&self, arrival: &Arrival<'_>) -> Option<FiveTuple>
+        ensures some { IfSome result (IsOwner self.now.table.contents (arrival_of arrival.now)) }
+        ensures none { result ≡ None → (f : FiveTuple) → ¬ IsOwner self.now.table.contents (arrival_of arrival.now) f }
+    {
+        match *arrival {
+            Arrival::Client { five_tuple, .. } => Some(five_tuple),
+            Arrival::Peer { port, .. } => {
+                let (five_tuple, _) = self.table.by_port(port)?;
+                Some(five_tuple)
+            }
+        }
     }
 
     /// The first half of a step, at a moment that isn't before the table's: removes what has expired, decides, and makes

@@ -3,7 +3,7 @@
 use super::script::{KEPT, Script};
 use std::cell::Cell;
 use std::process::Abort;
-use turn_disk::Disk;
+use turn_disk::{Disk, Idle};
 use turn_nbd::{NbdDisk, NbdError};
 
 /// The server's part of a handshake at an export of 64 bytes with FLUSH.
@@ -38,10 +38,10 @@ fn use_export(server: Script<'_>) -> Result<(u8, u64), NbdError> {
         return Ok((0, 0));
     }
     let mut done = 0;
-    if disk.write_at(60, b"efg").is_ok() {
+    if disk.write_at(60, b"efg", &mut Idle).is_ok() {
         done += 1;
     }
-    if disk.sync().is_ok() {
+    if disk.sync(&mut Idle).is_ok() {
         done += 2;
     }
     let mut buffer = [0; 4];
@@ -182,8 +182,8 @@ fn an_export_that_is_opened_to_be_read_takes_no_write(rt: HostRuntime) {
     let mut disk = NbdDisk::over(server, "x", false).expect(&rt, "an export");
     let before = count.get();
     assert!(rt; disk.size() == 64);
-    assert!(rt; disk.write_at(0, b"a").is_err());
-    assert!(rt; disk.sync().is_err());
+    assert!(rt; disk.write_at(0, b"a", &mut Idle).is_err());
+    assert!(rt; disk.sync(&mut Idle).is_err());
     assert!(rt; disk.failures() == 2);
     assert!(rt; count.get() == before);
 }

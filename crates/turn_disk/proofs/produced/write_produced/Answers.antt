@@ -1,5 +1,6 @@
 use Rattle.std.proofs.Common.{rules, ◌+◌, arith, refl, ◌∙◌}
 use Rattle.std.proofs.lemmas.List.{length-take}
+use Rattle.turn_disk.proofs.Passing.{passes_join, passes_none}
 use Rattle.turn_disk.proofs.Pieces.{next_given, next_is, none_so_far, more_so_far, stopped_so_far, synced_so_far, whole_so_far}
 use Rattle.turn_disk.proofs.Since.{outcome_sync}
 use Rattle.turn_disk.proofs.produced.write_produced.Goals as goal
@@ -13,6 +14,7 @@ pieces-init g c = record {
   count = refl;
   crash_model = λ h. h;
   so_far = λ crash_model settled. none_so_far c.args.at _ _ settled;
+  meanwhile = passes_none;
 }
 
 pub pieces-preserved : goal.pieces-preserved
@@ -28,6 +30,7 @@ pieces-preserved g c =
       crash_model = λ h. inv.crash_model (c.write_within.ensures.uses.crash_model h);
       so_far = λ crash_model settled.
           more_so_far c.args.at _ _ c.pieces.done (c.pieces.done + c.fill_piece-count.result) _ _ _ (omega arith) given.within (next_is _ _ _ _ _ given) (inv.so_far (c.write_within.ensures.uses.crash_model crash_model) settled) (c.in_ok-write_within.ensures.outcome crash_model);
+      meanwhile = passes_join inv.meanwhile c.write_within.ensures.meanwhile;
     }
 
 pub returns-in_err-write_within-clause-stop : goal.returns-in_err-write_within-clause-stop
@@ -69,3 +72,12 @@ pieces-smaller g c =
     let inv = c.pieces.invariant in
     let given = next_given _ c.pieces.done c.fill_piece-count.result c.fill_piece-count.new.piece _ _ inv.within inv.rest (omega (arith, c.fill_piece-count.ensures.small, c.fill_piece-count.ensures.len)) c.fill_piece-count.ensures.gives (λ none. c.fill_piece-count.ensures.ends (omega (arith, none))) in
     omega (arith, given.within, c.if-count-eq0.false, inv.within)
+
+pub returns-in_err-write_within-clause-meanwhile : goal.returns-in_err-write_within-clause-meanwhile
+returns-in_err-write_within-clause-meanwhile g c = passes_join c.pieces.invariant.meanwhile c.write_within.ensures.meanwhile
+
+pub returns-in_err-sync-clause-meanwhile : goal.returns-in_err-sync-clause-meanwhile
+returns-in_err-sync-clause-meanwhile g c = passes_join c.pieces.invariant.meanwhile c.sync.ensures.meanwhile
+
+pub returns-then-count-eq0-clause-meanwhile : goal.returns-then-count-eq0-clause-meanwhile
+returns-then-count-eq0-clause-meanwhile g c = passes_join c.pieces.invariant.meanwhile c.sync.ensures.meanwhile

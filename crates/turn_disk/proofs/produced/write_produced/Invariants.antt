@@ -1,5 +1,6 @@
 use Rattle.std.proofs.Common.{length, drop, ◌-◌, ◌≡◌, ◌≤◌}
 use Rattle.turn_disk.specs.Disk.{IsSettled}
+use Rattle.turn_disk.specs.Meanwhile.{Passes}
 use Rattle.turn_disk.proofs.Pieces.{SoFar}
 use Rattle.turn_disk.proofs.produced.write_produced.Given as goal
 
@@ -12,6 +13,7 @@ invariant-pieces g l = record {
   count : g.D.Disk.failed l.disk ≡ g.D.Disk.failed l.initial.disk;
   crash_model : g.D.Disk.follows_crash_model l.disk → g.D.Disk.follows_crash_model l.initial.disk;
   so_far : g.D.Disk.follows_crash_model l.disk → IsSettled (g.D.Disk.trace l.initial.disk).now → SoFar l.at (g.P.Producer.rest l.initial.producer) l.done (g.D.Disk.trace l.initial.disk) (g.D.Disk.trace l.disk);
+  meanwhile : Passes g.M.Meanwhile.passes l.initial.other l.other;
 }
 
 abbrev pub decreases-pieces : goal.decreases-pieces

@@ -1,6 +1,7 @@
 use Rattle.std.proofs.Common.{arith, inl, length, subst, sym}
 use Rattle.std.proofs.lemmas.Result.{err_from_is_err_and}
 use Rattle.turn_disk.specs.Disk.{ChangesOnly, Overwrites, Trace}
+use Rattle.turn_disk.proofs.Passing.{passes_join}
 use Rattle.turn_disk.proofs.Since.{settled_but, since_join, since_sync_but, outcome_sync, through_failed}
 use Rattle.turn_disk.proofs.writes.write_through.Goals as goal
 
@@ -28,3 +29,9 @@ returns-in_err-sync-clause-once g c = λ crash_model.
 pub returns-clause-once : goal.returns-clause-once
 returns-clause-once g c = λ crash_model.
     (g.D.Disk.trace c.write_within.new.disk, c.in_ok-write_within.ensures.outcome (c.sync.ensures.crash_model crash_model), c.in_ok-sync.ensures.outcome crash_model)
+
+pub returns-in_err-sync-clause-meanwhile : goal.returns-in_err-sync-clause-meanwhile
+returns-in_err-sync-clause-meanwhile g c = passes_join c.write_within.ensures.meanwhile c.sync.ensures.meanwhile
+
+pub returns-clause-meanwhile : goal.returns-clause-meanwhile
+returns-clause-meanwhile g c = passes_join c.write_within.ensures.meanwhile c.sync.ensures.meanwhile

@@ -51,7 +51,7 @@ returns-clause-call g c =
       recovers = of_made _ _ c.over.result c.over.ensures.ok (λ crash_model form h k m bounds images.
           let at = images _ (image_self (g.D.Disk.trace c.args.disk).now) in
           opens form h k m _ _ _ at (c.in-Ok-open_as.ensures.recovers crash_model form (take at.count h) at.stands.clock (bounds ∙ sym c.limits-limits.ensures.value) at.stands.stands)
-          (bounds ∙ sym (ap (λ (x : Config). x.limits) c.in-Ok.ensures)) refl refl);
+          (bounds ∙ sym (ap (λ (x : Config). x.limits) c.in-Ok.ensures)) refl refl refl (omega arith));
       sound = of_refused _ _ c.over.result c.over.ensures.err (λ crash_model form h k m bounds images. tt);
       stop = after_over
           (λ d. g.D.Disk.follows_crash_model d → (form : Form) (h : History) (k m : ℕ) → EachImage (g.D.Disk.trace c.args.disk).now (AtLeast form h k m)

@@ -1,4 +1,4 @@
-use Rattle.std.proofs.Common.{◌∷◌, [], Bool, List, map, ap, ◌∙◌}
+use Rattle.std.proofs.Common.{◌∷◌, [], ℕ, Bool, List, map, ap, ◌∙◌}
 use Rattle.turn_step.specs.Outcome.{Sent}
 use Rattle.turn_step.specs.State.{MachineState}
 use Rattle.turn_step.specs.Views.{is_reserved, sent_of}
@@ -15,13 +15,15 @@ invariant_of-result g c =
 
 pub returns-in-Ok-new-clause-ok : goal.returns-in-Ok-new-clause-ok
 returns-in-Ok-new-clause-ok g c =
-    let made : MachineState _ _ → List Sent → Staged → ServerState _ _ _ = λ m l b. record {
+    let made : MachineState _ _ → List Sent → Staged → ℕ → ServerState _ _ _ = λ m l b t. record {
       store = c.args.opened.store;
       machine = m;
       payload = b.payload;
       acts = b.acts;
+      tuples = b.tuples;
       outs = l;
       arrivals = 0;
+      since = t;
     } in
     let with : Bool → MachineState _ _ = λ pairs. record {
       config = c.args.config;
@@ -30,8 +32,9 @@ returns-in-Ok-new-clause-ok g c =
       table = c.args.opened.table;
       pairs = pairs;
     } in
-    let empty : Staged = record { bounds = c.limits.result; version = c.info-version.result.version; payload = 0 ∷ []; acts = 0 } in
-    ap (λ (m : MachineState _ _). made m (map sent_of c.new-in-Ok-new.result.items) c.in-Ok.batch) c.in-Ok-new.ensures.ok
-    ∙ ap (λ (b : Staged). made (with (is_reserved c.pairs_of.result)) (map sent_of c.new-in-Ok-new.result.items) b) c.in-Ok.ensures
-    ∙ ap (λ (l : List _). made (with (is_reserved c.pairs_of.result)) (map sent_of l) empty) c.new-in-Ok-new.ensures.items
-    ∙ ap (λ (pairs : Bool). made (with pairs) [] empty) (c.pairs_of.ensures ∙ ap has_pairs c.info-version.ensures.version)
+    let empty : Staged = record { bounds = c.limits.result; version = c.info-version.result.version; payload = 0 ∷ []; acts = 0; tuples = [] } in
+    ap (λ (m : MachineState _ _). made m (map sent_of c.new-in-Ok-new.result.items) c.in-Ok.batch c.moment-since.result) c.in-Ok-new.ensures.ok
+    ∙ ap (λ (b : Staged). made (with (is_reserved c.pairs_of.result)) (map sent_of c.new-in-Ok-new.result.items) b c.moment-since.result) c.in-Ok.ensures
+    ∙ ap (λ (l : List _). made (with (is_reserved c.pairs_of.result)) (map sent_of l) empty c.moment-since.result) c.new-in-Ok-new.ensures.items
+    ∙ ap (λ (pairs : Bool). made (with pairs) [] empty c.moment-since.result) (c.pairs_of.ensures ∙ ap has_pairs c.info-version.ensures.version)
+    ∙ ap (λ (t : ℕ). made (with (has_pairs c.args.opened.store.version)) [] empty t) c.moment-since.ensures

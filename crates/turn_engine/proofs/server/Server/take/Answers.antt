@@ -11,7 +11,8 @@ use Rattle.turn_types.specs.Config.{Config}
 use Rattle.turn_table.specs.State.{State}
 use Rattle.turn_engine.proofs.Held.{apart_in}
 use Rattle.turn_engine.proofs.Lists.{on_err, room_for_one, when_ok}
-use Rattle.turn_engine.proofs.Taken.{after_same, counts_same, keeps_both, moment_changed, recovers_later, recovers_taken, sound_changed, sound_later, written_by}
+use Rattle.turn_engine.specs.Recovering.{tuples_of}
+use Rattle.turn_engine.proofs.Taken.{after_same, first_late, old_late, counts_same, keeps_both, moment_changed, recovers_later, recovers_taken, sound_changed, sound_later, written_by}
 use Rattle.turn_types.specs.declared.limits.Bounds.{Bounds}
 use Rattle.turn_engine.specs.State.{ServerState, limits_of, now_of}
 use Rattle.turn_engine.proofs.server.Server.take.Goals as goal
@@ -51,7 +52,7 @@ pub returns-in_err-step-clause-memory_rests : goal.returns-in_err-step-clause-me
 returns-in_err-step-clause-memory_rests g c = λ h k recovers.
     let moment = c.prepare.ensures.table.moment in
     on_err _ (recovers_later _ c.args.self.now _ h k recovers (ap (λ s. s.store) c.self.view_is) (ap (λ s. s.payload) c.self.view_is) (ap (λ s. s.acts) c.self.view_is)
-    (omega (arith, c.requires.clock, moment)) (c.prepare.ensures.after h (subst (λ m. IsAfter m h) (sym (ap (λ s. s.machine) c.self.view_is)) recovers.after)))
+    (ap (λ s. s.tuples) c.self.view_is) (ap (λ s. s.since) c.self.view_is) (omega (arith, c.requires.clock, moment)) (c.prepare.ensures.after h (subst (λ m. IsAfter m h) (sym (ap (λ s. s.machine) c.self.view_is)) recovers.after)))
 
 pub invariant_of-self-then-is_err : goal.invariant_of-self-then-is_err
 invariant_of-self-then-is_err g c =
@@ -89,8 +90,10 @@ returns-then-is_err-clause-memory g c =
       machine = c.abandon.new.self;
       payload = inside.batch.payload;
       acts = inside.batch.acts;
+      tuples = inside.batch.tuples;
       outs = outs;
       arrivals = inside.arrivals;
+      since = inside.since;
     } in
     ap (λ l. with (map sent_of l)) c.reserve.ensures.items ∙ ap (λ (s : ServerState _ _ _). record s { machine = c.abandon.new.self }) c.self.view_is
 
@@ -104,7 +107,7 @@ returns-then-is_err-clause-memory_rests g c = λ h k recovers.
     let same = ap (λ (s : State). s.moment) c.abandon.ensures.table in
     let after = c.prepare.ensures.after h (subst (λ m. IsAfter m h) (sym (ap (λ s. s.machine) c.self.view_is)) recovers.after) in
     recovers_later _ c.args.self.now _ h k recovers (ap (λ s. s.store) c.self.view_is) (ap (λ s. s.payload) c.self.view_is) (ap (λ s. s.acts) c.self.view_is)
-    (omega (arith, c.requires.clock, moment, same)) (after_same c.prepare.new.self c.abandon.new.self h c.abandon.ensures.setting.config c.abandon.ensures.table after)
+    (ap (λ s. s.tuples) c.self.view_is) (ap (λ s. s.since) c.self.view_is) (omega (arith, c.requires.clock, moment, same)) (after_same c.prepare.new.self c.abandon.new.self h c.abandon.ensures.setting.config c.abandon.ensures.table after)
 
 pub stage_datagram-requires : goal.stage_datagram-requires
 stage_datagram-requires g c =
@@ -173,6 +176,8 @@ returns-clause-ok g c = λ h k recovers.
       outs = c.stage_datagram.ensures ∙ ap (λ l. map sent_of l ++ option_to_list (option_map sent_of c.apply-datagram.result)) c.reserve.ensures.items
           ∙ ap (λ o. map sent_of c.self.inside.outgoing.items ++ option_to_list o) c.apply-datagram.ensures.sent ∙ ap (λ s. s.outs ++ option_to_list c.in_ok-step.step.sent) c.self.view_is;
       recovers = recovers_taken _ c.args.self.now _ h k t change recovers (ap (λ s. s.store) c.self.view_is) (λ es is. c.stage_act.ensures.payload es (ap (λ s. s.payload) c.self.view_is ∙ is))
-          (c.stage_act.ensures.acts ∙ ap (λ s. s.acts + length (added t change)) c.self.view_is) c.requires.clock
+          (c.stage_act.ensures.acts ∙ ap (λ s. s.acts + length (added t change)) c.self.view_is)
+          (c.stage_act.ensures.tuples ∙ ap (λ s. s.tuples ++ tuples_of (added t change)) c.self.view_is)
+          (first_late _ _ _ _ c.first_moment.ensures.first c.first_moment.ensures.later (old_late c.requires.clock (ap (λ s. s.since) c.self.view_is) recovers.since)) c.requires.clock
           (ap (λ (s : State). s.moment) c.apply-datagram.ensures.table ∙ moment_changed c.prepare.new.self.table change ∙ moment) writes after;
     }

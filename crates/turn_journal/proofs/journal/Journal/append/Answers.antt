@@ -1,4 +1,5 @@
 use Rattle.std.proofs.Common.{ap, arith, rules}
+use Rattle.turn_disk.proofs.Passing.{passes_join, passes_none}
 use Rattle.turn_journal.proofs.Adding.{adds_nothing, adds_opened, adds_staged, holds_opened, stop_of}
 use Rattle.turn_journal.proofs.journal.Journal.append.Goals as goal
 
@@ -51,3 +52,12 @@ returns-clause-done g c = rw (← c.self.view_is) (λ crash_model settled from p
 
 pub returns-clause-appended : goal.returns-clause-appended
 returns-clause-appended g c = search rules
+
+pub returns-then-not-room-clause-meanwhile : goal.returns-then-not-room-clause-meanwhile
+returns-then-not-room-clause-meanwhile g c = passes_none
+
+pub returns-in_err-open_gate-clause-meanwhile : goal.returns-in_err-open_gate-clause-meanwhile
+returns-in_err-open_gate-clause-meanwhile g c = passes_join c.write_after.ensures.meanwhile c.open_gate.ensures.meanwhile
+
+pub returns-clause-meanwhile : goal.returns-clause-meanwhile
+returns-clause-meanwhile g c = passes_join c.write_after.ensures.meanwhile c.open_gate.ensures.meanwhile

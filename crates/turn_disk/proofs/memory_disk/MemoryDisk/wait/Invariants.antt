@@ -1,0 +1,5 @@
+use Rattle.turn_disk.specs.Meanwhile.{Passes}
+use Rattle.turn_disk.proofs.memory_disk.MemoryDisk.wait.Given as goal
+
+abbrev pub invariant-loop : goal.invariant-loop
+invariant-loop g l = Passes g.M.Meanwhile.passes l.fn.other l.other

@@ -1,0 +1,80 @@
+-- Data that was answered beside what is staged, in a run: before what is staged, at the clock.
+use Rattle.std.proofs.Common.{◌≡◌, ◌≤◌, ◌⊎◌, inl, inr, ℕ, zero, suc, Bool, List, [], ◌∷◌, ◌++◌, length, take, Option, refl, sym, ap, ◌∙◌, subst, arith, append_assoc, append-nil}
+use Rattle.std.proofs.Math.Seq.{take-length}
+use Rattle.std.proofs.lemmas.List.{take-append-le}
+use Rattle.std.specs.List.{AllByRecursion}
+use Rattle.turn_history.specs.History.{History}
+use Rattle.turn_step.specs.Answer.{Setting}
+use Rattle.turn_step.specs.Outcome.{Arrives, Sent, added}
+use Rattle.turn_engine.specs.Runs.{IsAnswered, IsRun, Taken, accepted, beside_at, last_moment}
+use Rattle.turn_engine.proofs.Answered.{accepted-append}
+use Rattle.turn_engine.proofs.Lists.{all-append, none_left}
+
+-- ---- The moment of what is staged
+
+pub since_late : {since now t : ℕ} → since ≤ now → now ≤ t → since ≤ t
+since_late late le = omega (arith, late, le)
+
+-- one more arrival is staged
+pub since_taken : (old new arrivals t : ℕ) (recent : List Taken) (x : Taken) → arrivals ≡ length recent → x.moment ≡ t → (arrivals ≡ 0 → new ≡ t) → (1 ≤ arrivals → new ≡ old) → old ≤ t
+    → AllByRecursion (λ y. old ≤ y.moment) recent → AllByRecursion (λ y. new ≤ y.moment) (recent ++ x ∷ [])
+since_taken old new arrivals t [] x count at none some late all = let is = none count in (omega (arith, is, at), tt)
+since_taken old new arrivals t (y ∷ ys) x count at none some late all =
+    let is = some (omega (arith, count)) in
+    subst (λ (n : ℕ). AllByRecursion (λ (z : Taken). n ≤ z.moment) (y ∷ (ys ++ x ∷ []))) (sym is)
+    (all-append (λ (z : Taken). old ≤ z.moment) (y ∷ ys) (x ∷ []) all (omega (arith, late, at), tt))
+
+-- what is staged at the clock is not before it
+pub now_before : (arrivals since now : ℕ) (recent : List Taken) → arrivals ≡ length recent → AllByRecursion (λ y. since ≤ y.moment) recent → (arrivals ≡ 0) ⊎ (since ≡ now)
+    → AllByRecursion (λ y. now ≤ y.moment) recent
+now_before arrivals since now recent count all (inl none) = subst (AllByRecursion (λ (y : Taken). now ≤ y.moment)) (sym (none_left recent (sym count ∙ none))) tt
+now_before arrivals since now recent count all (inr is) = subst (λ (n : ℕ). AllByRecursion (λ (y : Taken). n ≤ y.moment) recent) is all
+
+-- ---- Its place
+
+run_later : (s : Setting) (h : History) (t u : ℕ) (xs : List Taken) → AllByRecursion (λ y. u ≤ y.moment) xs → IsRun s h t xs → IsRun s h u xs
+run_later s h t u [] all run = tt
+run_later s h t u (x ∷ xs) all run = (all.0, run.1, run.2)
+
+pub run-beside : (s : Setting) (h : History) (t : ℕ) (xs ys : List Taken) (m : ℕ) (pairs : Bool) (a : Arrives) (sent : Option Sent) → IsRun s h t (xs ++ ys) → last_moment t xs ≤ m
+    → AllByRecursion (λ y. m ≤ y.moment) ys → IsAnswered s (h ++ accepted xs) (beside_at m pairs a sent) → IsRun s h t (xs ++ beside_at m pairs a sent ∷ ys)
+run-beside s h t [] ys m pairs a sent run late all answers = (
+  late,
+  subst (λ (l : History). IsAnswered s l (beside_at m pairs a sent)) (append-nil h) answers,
+  subst (λ (l : History). IsRun s l m ys) (sym (append-nil h)) (run_later s h t m ys all run),
+)
+run-beside s h t (x ∷ xs) ys m pairs a sent run late all answers =
+    let more = added x.moment x.outcome.change in (
+      run.0,
+      run.1,
+      run-beside s (h ++ more) x.moment xs ys m pairs a sent run.2 late all
+          (subst (λ (l : History). IsAnswered s l (beside_at m pairs a sent)) (sym (append_assoc h more (accepted xs))) answers),
+    )
+
+pub front_in_time : (s : Setting) (h : History) (t : ℕ) (xs ys : List Taken) → IsRun s h t (xs ++ ys) → last_moment t xs ≤ last_moment t (xs ++ ys)
+front_in_time s h t [] ys run = begins_late s h t ys run
+  where
+    begins_late : (s : Setting) (h : History) (t : ℕ) (xs : List Taken) → IsRun s h t xs → t ≤ last_moment t xs
+    begins_late s h t [] run = omega arith
+    begins_late s h t (x ∷ xs) run = let rest = begins_late s (h ++ added x.moment x.outcome.change) x.moment xs run.2 in let le = run.0 in omega arith
+front_in_time s h t (x ∷ xs) ys run = front_in_time s (h ++ added x.moment x.outcome.change) x.moment xs ys run.2
+
+pub last-beside : (t : ℕ) (xs ys : List Taken) (x : Taken) (m : ℕ) → last_moment t (xs ++ ys) ≤ m → x.moment ≤ m → last_moment t (xs ++ x ∷ ys) ≤ m
+last-beside t [] [] x m late le = le
+last-beside t [] (y ∷ ys) x m late le = late
+last-beside t (z ∷ zs) ys x m late le = last-beside z.moment zs ys x m late le
+
+pub all-beside : (P : Taken → Type 0) (xs ys : List Taken) (x : Taken) → AllByRecursion P (xs ++ ys) → P x → AllByRecursion P (xs ++ x ∷ ys)
+all-beside P [] ys x all one = (one, all)
+all-beside P (y ∷ xs) ys x all one = (all.0, all-beside P xs ys x all.1 one)
+
+-- it adds nothing to the history
+pub accepted-beside : (xs ys : List Taken) (m : ℕ) (pairs : Bool) (a : Arrives) (sent : Option Sent) → accepted (xs ++ beside_at m pairs a sent ∷ ys) ≡ accepted (xs ++ ys)
+accepted-beside xs ys m pairs a sent = accepted-append xs (beside_at m pairs a sent ∷ ys) ∙ sym (accepted-append xs ys)
+
+-- the part of a place's history that is stored
+pub stored_part : (h : History) (xs ys : List Taken) → take (length (h ++ accepted xs)) (h ++ accepted (xs ++ ys)) ≡ h ++ accepted xs
+stored_part h xs ys =
+    let first = h ++ accepted xs in
+    let whole : h ++ accepted (xs ++ ys) ≡ first ++ accepted ys = ap (λ (l : History). h ++ l) (accepted-append xs ys) ∙ sym (append_assoc h (accepted xs) (accepted ys)) in
+    ap (λ (l : History). take (length first) l) whole ∙ take-append-le (length first) first (accepted ys) (omega arith) ∙ take-length first

@@ -1,0 +1,116 @@
+//! Answers to data beside what is staged.
+
+ghost use Rattle.std.specs.Prelude.{◌≡◌, ◌≢◌, ◌↔◌, ◌×◌, IsTrue, IfOk, IfSome, Ok, false};
+ghost use Rattle.std.specs.List.{AllByRecursion};
+ghost use Rattle.turn_step.specs.Views.{arrival_of};
+ghost use Rattle.turn_engine.specs.Relaying.{HasToWait, IsApart, IsAtClock, IsBehind, Relays};
+ghost use Rattle.turn_engine.specs.Views.{relayed_of};
+
+use std::alloc::{AllocError, Allocator, Global};
+use std::marker::Model;
+use turn_cred::AuthHandler;
+use turn_ports::RelayAddressGenerator;
+use turn_step::{Arrival, DataAnswer, Machine, Outgoing};
+use turn_types::{FiveTuple, Moment};
+
+/// What comes of an arrival that is to be answered beside what is staged.
+#[derive(Drop)]
+pub enum Relayed<A: Allocator = Global> {
+    /// It has to be submitted.
+    Waits,
+    /// It is answered. This is to be sent at once, if anything is.
+    Answered(Option<Outgoing<A>>),
+}
+
+/// What answers data beside what is staged: at rest, and while a commit waits for its disk. What is sent so rests on nothing that isn't
+/// stored.
+pub struct Beside<'a, H: AuthHandler, G: RelayAddressGenerator, A: Allocator = Global> {
+    machine: &'a Machine<H, G, A>,
+    // Of the acts that are staged.
+    tuples: &'a [FiveTuple],
+    // How many arrivals are staged, and the moment of the first.
+    arrivals: u16,
+    since: Moment,
+}
+
+impl<'a, H: AuthHandler, G: RelayAddressGenerator, A: Allocator> Drop for Beside<'a, H, G, A> {
+    fn drop(self) {
+        let Beside {
+            machine: _,
+            tuples: _,
+            arrivals: _,
+            since: _,
+        } = self;
+    }
+}
+
+impl<'a, H: AuthHandler, G: RelayAddressGenerator, A: Allocator> Model for Beside<'a, H, G, A> {
+    ghost use Rattle.std.specs.Coded.{codes};
+    ghost use Rattle.turn_table.specs.State.{state_code};
+    ghost use Rattle.turn_engine.specs.Relaying.{BesideState};
+
+    ghost Value = { BesideState H G };
+
+    ghost coded = { Prim.hlevel (codes, state_code) };
+
+    ghost view = { λ b. record { machine = b.machine.now; tuples = b.tuples.now; arrivals = b.arrivals; since = b.since } };
+}
+
+/// Whether a five-tuple is one of these.
+fn has_tuple(tuples: &[FiveTuple], owner: FiveTuple) -> bool
+    ensures some { IsTrue result → ¬ AllByRecursion (λ g. g ≢ owner) tuples.now }
+    ensures none { result ≡ false → AllByRecursion (λ g. g ≢ owner) tuples.now }
+{
+    tuples.contains(&owner)
+}
+
+impl<'a, H: AuthHandler, G: RelayAddressGenerator, A: Allocator + Copy> Beside<'a, H, G, A> {
+    pub(crate) fn new(
+        machine: &'a Machine<H, G, A>,
+        tuples: &'a [FiveTuple],
+        arrivals: u16,
+        since: Moment,
+    ) -> Beside<'a, H, G, A>
+        ensures { result ≡ record { machine = machine.now; tuples = tuples.now; arrivals = arrivals; since = since } }
+    {
+        Beside {
+            machine,
+            tuples,
+            arrivals,
+            since,
+        }
+    }
+
+    // Whether all that is staged is of the clock's moment.
+    fn is_at_clock(&self) -> bool
+        ensures { IsTrue result ↔ IsAtClock self.now }
+    {
+        self.arrivals == 0 || self.since == self.machine.moment()
+    }
+
+    // Whether the arrival is of an allocation of which no act is staged.
+    fn is_apart(&self, arrival: &Arrival<'_>) -> bool
+        ensures apart { IsTrue result → IsApart self.now.machine.table.contents self.now.tuples (arrival_of arrival.now) }
+        ensures behind { result ≡ false → IsBehind self.now.machine.table.contents self.now.tuples (arrival_of arrival.now) }
+    {
+        match self.machine.owner_of(arrival) {
+            Some(owner) => !has_tuple(self.tuples, owner),
+            None => false,
+        }
+    }
+
+    /// Answers data at the clock, and changes nothing: of a five-tuple of which no act is staged, while nothing is staged of an earlier
+    /// moment. Every other arrival has to be submitted.
+    pub fn relay(&self, arrival: &Arrival<'_>) -> Result<Relayed<A>, AllocError>
+        ensures waits { result ≡ Ok Relayed.Waits → HasToWait self.now (arrival_of arrival.now) }
+        ensures answers { IfOk result (λ r. IfSome (relayed_of r) (Relays H.key_of G.range self.now (arrival_of arrival.now))) }
+    {
+        if !self.is_at_clock() || !self.is_apart(arrival) {
+            return Ok(Relayed::Waits);
+        }
+        match self.machine.answer_data(arrival)? {
+            DataAnswer::Request => Ok(Relayed::Waits),
+            DataAnswer::Data(datagram) => Ok(Relayed::Answered(datagram)),
+        }
+    }
+}
