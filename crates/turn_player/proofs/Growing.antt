@@ -4,7 +4,7 @@ use Rattle.turn_history.specs.History.{History}
 use Rattle.turn_step.specs.Answer.{Setting}
 use Rattle.turn_step.specs.Outcome.{Change, added}
 use Rattle.turn_engine.specs.Runs.{IsAnswered, IsRun, Taken, accepted, last_moment}
-use Rattle.turn_engine.proofs.Answered.{run-push}
+use Rattle.turn_engine.proofs.Answered.{accepted-append, last_moment-push, run-push}
 use Rattle.turn_player.specs.Laws.{IsRunBy}
 use Rattle.turn_player.specs.Lives.{Lasting, found, taken_of}
 use Rattle.turn_player.proofs.Lists.{bounded, by_option, found-some, found_run, last_from, last_moment-append, run-join, run-split}
@@ -17,6 +17,16 @@ pub record GrowsBy (s : Setting) (IsSuch : List Taken → Type 0) : Type 0 where
   pub front_ends : (xs ys : List Taken) → IsSuch (xs ++ ys) → last_moment 0 xs ≤ last_moment 0 (xs ++ ys)
   pub left : (xs ys : List Taken) (n : ℕ) → IsSuch (xs ++ ys) → IsSuch (xs ++ map taken_of (found ys n))
   pub left_ends : (xs ys : List Taken) (n : ℕ) → IsSuch (xs ++ ys) → last_moment 0 (xs ++ map taken_of (found ys n)) ≤ last_moment 0 (xs ++ ys)
+
+-- a run of that setting behind such a run
+pub push_all : (s : Setting) (IsSuch : List Taken → Type 0) → GrowsBy s IsSuch → (xs ys : List Taken) → IsSuch xs → IsRun s (accepted xs) (last_moment 0 xs) ys → IsSuch (xs ++ ys)
+push_all s is_such grows xs [] such run = subst is_such (sym (append-nil xs)) such
+push_all s is_such grows xs (y ∷ ys) such run =
+    let more = added y.moment y.outcome.change in
+    let longer : accepted (xs ++ y ∷ []) ≡ accepted xs ++ more = accepted-append xs (y ∷ []) ∙ ap (λ (l : History). accepted xs ++ l) (append-nil more) in
+    let rest = subst (λ (l : History). IsRun s l (last_moment 0 (xs ++ y ∷ [])) ys) (sym longer)
+    (subst (λ (n : ℕ). IsRun s (accepted xs ++ more) n ys) (sym (last_moment-push 0 xs y)) run.2) in
+    subst is_such (append_assoc xs (y ∷ []) ys) (push_all s is_such grows (xs ++ y ∷ []) ys (grows.push xs y such run.0 run.1) rest)
 
 -- ---- By one setting
 

@@ -109,6 +109,11 @@ pub earlier : (s : Setting) (h : History) (t u : ℕ) (xs : List Taken) → t �
 earlier s h t u [] le run = tt
 earlier s h t u (x ∷ xs) le run = (let later = run.0 in omega arith, run.1, run.2)
 
+-- a run whose arrivals are all of one moment is one from that moment on
+pub at_one : (s : Setting) (h : History) (t c : ℕ) (xs : List Taken) → AllByRecursion (λ (x : Taken). x.moment ≡ c) xs → IsRun s h t xs → IsRun s h c xs
+at_one s h t c [] all run = tt
+at_one s h t c (x ∷ xs) all run = (let at = all.0 in omega arith, run.1, run.2)
+
 pub run-join : (s : Setting) (h : History) (t : ℕ) (xs ys : List Taken) → IsRun s h t xs → IsRun s (h ++ accepted xs) (last_moment t xs) ys → IsRun s h t (xs ++ ys)
 run-join s h t [] ys first second = subst (λ (l : History). IsRun s l t ys) (append-nil h) second
 run-join s h t (x ∷ xs) ys first second =

@@ -1,15 +1,18 @@
 -- Every life is one run.
-use Rattle.std.proofs.Common.{◌≡◌, ◌≤◌, ℕ, List, Bool, true, false, [], ◌∷◌, ◌++◌, length, map, max, refl, sym, ap, ◌∙◌, subst, arith, append_assoc, append-nil}
+use Rattle.std.proofs.Common.{◌≡◌, ◌≤◌, ℕ, List, Bool, true, false, [], ◌∷◌, ◌++◌, Option, Some, None, length, map, max, refl, sym, ap, ◌∙◌, subst, arith, append_assoc, append-nil}
 use Rattle.std.specs.List.{AllByRecursion}
+use Rattle.std.specs.Option.{option_to_list}
 use Rattle.turn_step.specs.Answer.{Setting}
-use Rattle.turn_step.specs.Outcome.{Sent}
-use Rattle.turn_engine.specs.Runs.{IsAnswered, IsRun, Taken, accepted, last_moment, sent_about}
-use Rattle.turn_engine.proofs.Answered.{last_moment-push}
+use Rattle.turn_step.specs.Outcome.{Arrives, Sent}
+use Rattle.turn_engine.specs.Runs.{IsAnswered, IsRun, Taken, accepted, beside_at, last_moment, sent_about}
+use Rattle.turn_engine.proofs.Answered.{accepted-append, last_moment-push, run-push}
+use Rattle.turn_engine.proofs.Besides.{all-beside, last-beside}
 use Rattle.turn_engine.proofs.Lists.{all-append}
-use Rattle.turn_player.proofs.Growing.{GrowsBy, grows_by_one}
+use Rattle.turn_history.specs.History.{History}
+use Rattle.turn_player.proofs.Growing.{GrowsBy, grows_by_one, push_all}
 use Rattle.turn_player.specs.Laws.{AreOneRun, HasAct, IsInTime, IsOneRun, Keeps}
-use Rattle.turn_player.specs.Lives.{Arrive, Closed, Commit, Committed, Failed, Goes, Halted, HandedOut, Input, Lasting, Life, NeverFall, NotOpened, Open, Opened, Point, Refused, Running, Said, Sends, Shut, Stop, arrivals, arrivals_of, bound_of, commit_stops, ends, fails, formatted, found, goes_on, handing_out, hands_out, is_full, is_halted, is_shut, no_memory, not_opened, opens, recent_of, sent_by_all, sent_in, shut, stays_halted, stays_shut, stops, sure_of, taken_of, takes, unsettled_of}
-use Rattle.turn_player.proofs.Lists.{acts-found, acts-handed, all-back, all-found, all-front, sent_by_all-append, sent_by_all-found, sent_by_all-handed, taken-append, taken-handed}
+use Rattle.turn_player.specs.Lives.{Arrive, Closed, Commit, Committed, Failed, Goes, Halted, HandedOut, Input, Lasting, Life, NeverFall, NotOpened, Open, Opened, Point, Refused, Relay, Running, Said, Sends, Shut, Stop, arrivals, arrivals_of, bound_of, commit_stops, ends, fails, formatted, found, goes_on, handing_beside, handing_out, hands_out, is_full, is_halted, is_shut, no_memory, not_opened, opens, recent_of, relays, sent_by_all, sent_in, shut, stays_halted, stays_shut, stops, sure_of, taken_of, takes, unsettled_of}
+use Rattle.turn_player.proofs.Lists.{acts-found, acts-handed, all-back, all-found, all-front, at_one, last_moment-append, run-split, sent_by_all-append, sent_by_all-found, sent_by_all-handed, taken-append, taken-handed}
 
 -- ---- What was handed out
 
@@ -29,6 +32,48 @@ sends_then (out ∷ outs) said none = ap (λ (l : List Sent). out ∷ l) (sends_
 
 pub sent_in-handing_out : (outs : List Sent) → sent_in (handing_out outs) ≡ outs
 sent_in-handing_out outs = sends_then outs (Committed (length outs) ∷ []) refl
+
+sent_in-beside : (sent : Option Sent) → sent_in (handing_beside sent) ≡ option_to_list sent
+sent_in-beside None = refl
+sent_in-beside (Some out) = refl
+
+sent_by_all-beside : (sure : List Lasting) (c : ℕ) (pairs : Bool) (a : Arrives) (sent : Option Sent)
+    → sent_by_all (sure ++ HandedOut (beside_at c pairs a sent) ∷ []) ≡ sent_by_all sure ++ sent_in (handing_beside sent)
+sent_by_all-beside sure c pairs a sent =
+    sent_by_all-append sure (HandedOut (beside_at c pairs a sent) ∷ [])
+    ∙ ap (λ (l : List Sent). sent_by_all sure ++ l) (append-nil (option_to_list sent) ∙ sym (sent_in-beside sent))
+
+-- ---- The recent arrivals
+
+-- while a server runs, the recent arrivals were answered by its setting
+abbrev pub RecentAre : Setting → Point → Type 0
+RecentAre s (Running sure recent pairs c m) = IsRun s (accepted (map taken_of sure)) (last_moment 0 (map taken_of sure)) recent
+RecentAre s (Halted sure recent m) = Unit {0}
+RecentAre s (Shut sure recent m) = Unit {0}
+
+recent_are : (s : Setting) (p : Point) → IsRun s [] 0 (arrivals_of p) → RecentAre s p
+recent_are s (Running sure recent pairs c m) run = (run-split s [] 0 (map taken_of sure) recent run).1
+recent_are s (Halted sure recent m) run = tt
+recent_are s (Shut sure recent m) run = tt
+
+-- those behind data that came before them
+recent_behind : (s : Setting) (sure : List Lasting) (recent : List Taken) (pairs : Bool) (c m n : ℕ) (a : Arrives) (sent : Option Sent) → AllByRecursion (λ (x : Taken). x.moment ≡ c) recent
+    → RecentAre s (Running sure recent pairs c m) → RecentAre s (Running (sure ++ HandedOut (beside_at c pairs a sent) ∷ []) recent pairs c n)
+recent_behind s sure recent pairs c m n a sent at are =
+    let x = beside_at c pairs a sent in
+    let front = map taken_of sure in
+    let same : accepted (front ++ x ∷ []) ≡ accepted front = accepted-append front (x ∷ []) ∙ append-nil (accepted front) in
+    subst (λ (l : List Taken). IsRun s (accepted l) (last_moment 0 l) recent) (sym (taken-append sure (HandedOut x ∷ [])))
+    (subst (λ (l : History). IsRun s l (last_moment 0 (front ++ x ∷ [])) recent) (sym same)
+    (subst (λ (n : ℕ). IsRun s (accepted front) n recent) (sym (last_moment-push 0 front x)) (at_one s (accepted front) (last_moment 0 front) c recent at are)))
+
+-- and with one more
+recent_push : (s : Setting) (sure : List Lasting) (recent : List Taken) (pairs : Bool) (c m d n : ℕ) (x : Taken) → last_moment 0 (arrivals sure recent) ≤ x.moment → IsAnswered s (accepted (arrivals sure recent)) x
+    → RecentAre s (Running sure recent pairs c m) → RecentAre s (Running sure (recent ++ x ∷ []) pairs d n)
+recent_push s sure recent pairs c m d n x late answers are =
+    let front = map taken_of sure in
+    run-push s (accepted front) (last_moment 0 front) recent x are (subst (λ (n : ℕ). n ≤ x.moment) (last_moment-append 0 front recent) late)
+    (subst (λ (l : History). IsAnswered s l x) (accepted-append front recent) answers)
 
 -- ---- What an input makes of a run
 
@@ -69,6 +114,30 @@ module _ (s : Setting) (IsSuch : List Taken → Type 0) (grows : GrowsBy s IsSuc
         moments = subst (λ (l : List Taken). last_moment 0 l ≤ max t m) whole most;
         in_time = omega arith;
         flags = λ never. subst (AllByRecursion IsFlagged) whole (all-append IsFlagged (arrivals sure recent) (x ∷ []) (one.flags never) (flag never, tt));
+      }
+
+  -- data beside what is staged
+  relayed : (sent : List Sent) (sure : List Lasting) (recent : List Taken) (pairs : Bool) (c m t : ℕ) (a : Arrives) (o : Option Sent) → m ≤ t → t ≤ c
+      → IsAnswered s (accepted (map taken_of sure)) (beside_at c pairs a o) → AllByRecursion (λ (x : Taken). x.moment ≡ c) recent → RecentAre s (Running sure recent pairs c m)
+      → AreOneRun IsSuch may_fail sent (Running sure recent pairs c m)
+      → AreOneRun IsSuch may_fail (sent ++ sent_in (handing_beside o)) (Running (sure ++ HandedOut (beside_at c pairs a o) ∷ []) recent pairs c (max t m))
+  relayed sent sure recent pairs c m t a o later early answers at are one =
+      let x = beside_at c pairs a o in
+      let more = sure ++ HandedOut x ∷ [] in
+      let front = map taken_of sure in
+      let first : map taken_of more ≡ front ++ x ∷ [] = taken-append sure (HandedOut x ∷ []) in
+      let whole : front ++ x ∷ recent ≡ arrivals more recent = sym (append_assoc front (x ∷ []) recent) ∙ ap (λ (l : List Taken). l ++ recent) (sym first) in
+      let last = one.moments in
+      let in_time = one.in_time in
+      let sooner : last_moment 0 front ≤ last_moment 0 (arrivals sure recent) = grows.front_ends front recent one.is_run in
+      let pushed : IsSuch (front ++ x ∷ []) = grows.push front x (grows.front front recent one.is_run) (omega arith) answers in
+      record {
+        is_run = push_all s IsSuch grows (map taken_of more) recent (subst IsSuch (sym first) pushed) (recent_behind s sure recent pairs c m m a o at are);
+        sent_is = sent_by_all-beside sure c pairs a o ∙ ap (λ (l : List Sent). l ++ sent_in (handing_beside o)) one.sent_is;
+        have_acts = all-append HasAct sure (HandedOut x ∷ []) one.have_acts (tt, tt);
+        moments = subst (λ (l : List Taken). last_moment 0 l ≤ max t m) whole (last-beside 0 front recent x (max t m) (omega arith) (omega arith));
+        in_time = omega arith;
+        flags = λ never. subst (AllByRecursion IsFlagged) whole (all-beside IsFlagged front recent x (one.flags never) refl);
       }
 
   -- a commit that hands out
@@ -139,35 +208,59 @@ never_failed true may_fail only never = let may : may_fail ≡ true = only refl 
 -- no moment that is handed in is before the bound
 abbrev pub IsLater : ℕ → Input → Type 0
 IsLater m (Arrive t a) = m ≤ t
+IsLater m (Relay t a) = m ≤ t
 IsLater m Commit = Unit {0}
 IsLater m Stop = Unit {0}
 IsLater m Open = Unit {0}
 
 pub step : (s : Setting) (IsSuch : List Taken → Type 0) (grows : GrowsBy s IsSuch) (f : Bool) (sent : List Sent) (p q : Point) (input : Input) (said : List Said) → Goes s f p input said q → IsLater (bound_of p) input
-    → AreOneRun IsSuch f sent p → AreOneRun IsSuch f (sent ++ sent_in said) q
-step s is_such grows f sent _ _ _ _ (takes {sure = sure} {recent = recent} {pairs = pairs} {c = c} {m = m} {t = t} {a = a} failed o answers flag room) later one =
+    → RecentAre s p → AreOneRun IsSuch f sent p → AreOneRun IsSuch f (sent ++ sent_in said) q
+step s is_such grows f sent _ _ _ _ (takes {sure = sure} {recent = recent} {pairs = pairs} {c = c} {m = m} {t = t} {a = a} failed o answers flag room) later are one =
     silent s is_such grows f sent _ (taken s is_such grows f sent sure recent pairs c m t (record { moment = max t c; arrival = a; failed = failed; pairs = pairs; outcome = o }) later refl answers (never_failed failed f flag) one)
-step s is_such grows f sent _ _ _ _ (no_memory {sure = sure} {recent = recent} {pairs = pairs} {c = c} {m = m} {t = t} room) later one =
+step s is_such grows f sent _ _ _ _ (relays {sure = sure} {recent = recent} {pairs = pairs} {c = c} {m = m} {t = t} {a = a} o early answers at) later are one =
+    relayed s is_such grows f sent sure recent pairs c m t a o later early answers at are one
+step s is_such grows f sent _ _ _ _ (no_memory {sure = sure} {recent = recent} {pairs = pairs} {c = c} {m = m} {t = t} room) later are one =
     let time = one.in_time in
     silent s is_such grows f sent _ (same_run s is_such grows f sent (Running sure recent pairs c m) (Running sure recent pairs (max t c) (max t m)) refl refl (omega arith) (omega arith) one)
-step s is_such grows f sent _ _ _ _ (is_full {sure = sure} {recent = recent} {pairs = pairs} {c = c} {m = m} {t = t} room) later one =
+step s is_such grows f sent _ _ _ _ (is_full {sure = sure} {recent = recent} {pairs = pairs} {c = c} {m = m} {t = t} room) later are one =
     let time = one.in_time in
     silent s is_such grows f sent _ (same_run s is_such grows f sent (Running sure recent pairs c m) (Running sure recent pairs c (max t m)) refl refl (omega arith) (omega arith) one)
-step s is_such grows f sent _ _ _ _ (is_halted {sure = sure} {recent = recent} {m = m} {t = t}) later one =
+step s is_such grows f sent _ _ _ _ (is_halted {sure = sure} {recent = recent} {m = m} {t = t}) later are one =
     silent s is_such grows f sent _ (same_run s is_such grows f sent (Halted sure recent m) (Halted sure recent (max t m)) refl refl (omega arith) tt one)
-step s is_such grows f sent _ _ _ _ (is_shut {sure = sure} {recent = recent} {m = m} {t = t}) later one =
+step s is_such grows f sent _ _ _ _ (is_shut {sure = sure} {recent = recent} {m = m} {t = t}) later are one =
     silent s is_such grows f sent _ (same_run s is_such grows f sent (Shut sure recent m) (Shut sure recent (max t m)) refl refl (omega arith) tt one)
-step s is_such grows f sent _ _ _ _ (hands_out {sure = sure} {recent = recent} {pairs = pairs} {c = c} {m = m}) later one = handed s is_such grows f sent sure recent pairs c m one
-step s is_such grows f sent _ _ _ _ (fails {sure = sure} {recent = recent} {pairs = pairs} {c = c} {m = m} why is some) later one =
+step s is_such grows f sent _ _ _ _ (hands_out {sure = sure} {recent = recent} {pairs = pairs} {c = c} {m = m}) later are one = handed s is_such grows f sent sure recent pairs c m one
+step s is_such grows f sent _ _ _ _ (fails {sure = sure} {recent = recent} {pairs = pairs} {c = c} {m = m} why is some) later are one =
     silent s is_such grows f sent _ (same_run s is_such grows f sent (Running sure recent pairs c m) (Halted sure recent m) refl refl (omega arith) tt one)
-step s is_such grows f sent _ _ _ _ stays_halted later one = silent s is_such grows f sent _ one
-step s is_such grows f sent _ _ _ _ stays_shut later one = silent s is_such grows f sent _ one
-step s is_such grows f sent p _ _ _ stops later one = silent s is_such grows f sent _ (settled s is_such grows f sent p one)
-step s is_such grows f sent _ _ _ _ (commit_stops {sure = sure} {recent = recent} {pairs = pairs} {c = c} {m = m}) later one =
+step s is_such grows f sent _ _ _ _ stays_halted later are one = silent s is_such grows f sent _ one
+step s is_such grows f sent _ _ _ _ stays_shut later are one = silent s is_such grows f sent _ one
+step s is_such grows f sent p _ _ _ stops later are one = silent s is_such grows f sent _ (settled s is_such grows f sent p one)
+step s is_such grows f sent _ _ _ _ (commit_stops {sure = sure} {recent = recent} {pairs = pairs} {c = c} {m = m}) later are one =
     silent s is_such grows f sent _ (same_run s is_such grows f sent (Running sure recent pairs c m) (Shut sure recent m) refl refl (omega arith) tt one)
-step s is_such grows f sent p _ _ _ (opens n pairs c few le late) later one =
+step s is_such grows f sent p _ _ _ (opens n pairs c few le late) later are one =
     silent s is_such grows f sent _ (opened s is_such grows f sent (sure_of p) (unsettled_of p) pairs (bound_of p) n c le (settled s is_such grows f sent p one))
-step s is_such grows f sent p _ _ _ (not_opened fault plain) later one = silent s is_such grows f sent _ (settled s is_such grows f sent p one)
+step s is_such grows f sent p _ _ _ (not_opened fault plain) later are one = silent s is_such grows f sent _ (settled s is_such grows f sent p one)
+
+-- the recent arrivals of a life are answered by its setting
+step_recent : (s : Setting) (IsSuch : List Taken → Type 0) (f : Bool) (sent : List Sent) (p q : Point) (input : Input) (said : List Said) → Goes s f p input said q → IsLater (bound_of p) input
+    → RecentAre s p → AreOneRun IsSuch f sent p → RecentAre s q
+step_recent s is_such f sent _ _ _ _ (takes {sure = sure} {recent = recent} {pairs = pairs} {c = c} {m = m} {t = t} {a = a} failed o answers flag room) later are one =
+    let last = one.moments in
+    recent_push s sure recent pairs c m (max t c) (max t m) (record { moment = max t c; arrival = a; failed = failed; pairs = pairs; outcome = o }) (omega arith) answers are
+step_recent s is_such f sent _ _ _ _ (relays {sure = sure} {recent = recent} {pairs = pairs} {c = c} {m = m} {t = t} {a = a} o early answers at) later are one =
+    recent_behind s sure recent pairs c m (max t m) a o at are
+step_recent s is_such f sent _ _ _ _ (no_memory room) later are one = are
+step_recent s is_such f sent _ _ _ _ (is_full room) later are one = are
+step_recent s is_such f sent _ _ _ _ is_halted later are one = tt
+step_recent s is_such f sent _ _ _ _ is_shut later are one = tt
+step_recent s is_such f sent _ _ _ _ hands_out later are one = tt
+step_recent s is_such f sent _ _ _ _ (fails why is some) later are one = tt
+step_recent s is_such f sent _ _ _ _ stays_halted later are one = tt
+step_recent s is_such f sent _ _ _ _ stays_shut later are one = tt
+step_recent s is_such f sent p _ _ _ stops later are one = tt
+step_recent s is_such f sent _ _ _ _ commit_stops later are one = tt
+step_recent s is_such f sent p _ _ _ (opens n pairs c few le late) later are one = tt
+step_recent s is_such f sent p _ _ _ (not_opened fault plain) later are one = tt
 
 -- ---- All inputs
 
@@ -180,6 +273,7 @@ record GoesOn (p q : Point) (input : Input) (inputs : List Input) : Type 0 where
 
 onward : (s : Setting) (f : Bool) (p q : Point) (input : Input) (said : List Said) (inputs : List Input) → Goes s f p input said q → NeverFall (bound_of p) (input ∷ inputs) → GoesOn p q input inputs
 onward s f _ _ _ _ inputs (takes {m = m} {t = t} failed o answers flag room) never = record { is_later = never.0; rest = arrived m t inputs never.0 never.1 }
+onward s f _ _ _ _ inputs (relays {m = m} {t = t} o early answers at) never = record { is_later = never.0; rest = arrived m t inputs never.0 never.1 }
 onward s f _ _ _ _ inputs (no_memory {m = m} {t = t} room) never = record { is_later = never.0; rest = arrived m t inputs never.0 never.1 }
 onward s f _ _ _ _ inputs (is_full {m = m} {t = t} room) never = record { is_later = never.0; rest = arrived m t inputs never.0 never.1 }
 onward s f _ _ _ _ inputs (is_halted {m = m} {t = t}) never = record { is_later = never.0; rest = arrived m t inputs never.0 never.1 }
@@ -194,18 +288,19 @@ onward s f p _ _ _ inputs (opens n pairs c few le late) never = record { is_late
 onward s f p _ _ _ inputs (not_opened fault plain) never = record { is_later = tt; rest = never }
 
 pub one_run_by : (s : Setting) (IsSuch : List Taken → Type 0) (grows : GrowsBy s IsSuch) (f : Bool) (p q : Point) (inputs : List Input) (said : List Said) (sent : List Sent)
-    → Life s f p inputs said q → NeverFall (bound_of p) inputs → AreOneRun IsSuch f sent p → AreOneRun IsSuch f (sent ++ sent_in said) q
-one_run_by s is_such grows f p q _ _ sent ends never one = silent s is_such grows f sent p one
-one_run_by s is_such grows f p q _ _ sent (goes_on {input = input} {inputs = inputs} {said = said} {later = later} m goes life) never one =
+    → Life s f p inputs said q → NeverFall (bound_of p) inputs → RecentAre s p → AreOneRun IsSuch f sent p → AreOneRun IsSuch f (sent ++ sent_in said) q
+one_run_by s is_such grows f p q _ _ sent ends never are one = silent s is_such grows f sent p one
+one_run_by s is_such grows f p q _ _ sent (goes_on {input = input} {inputs = inputs} {said = said} {later = later} m goes life) never are one =
     let on = onward s f p m input said inputs goes never in
-    let next = step s is_such grows f sent p m input said goes on.is_later one in
+    let next = step s is_such grows f sent p m input said goes on.is_later are one in
+    let kept = step_recent s is_such f sent p m input said goes on.is_later are one in
     let whole : (sent ++ sent_in said) ++ sent_in later ≡ sent ++ sent_in (said ++ later) =
     append_assoc sent (sent_in said) (sent_in later) ∙ ap (λ (l : List Sent). sent ++ l) (sym (sent_in-append said later)) in
-    subst (λ (l : List Sent). AreOneRun is_such f l q) whole (one_run_by s is_such grows f m q inputs later (sent ++ sent_in said) life on.rest next)
+    subst (λ (l : List Sent). AreOneRun is_such f l q) whole (one_run_by s is_such grows f m q inputs later (sent ++ sent_in said) life on.rest kept next)
 
 pub one_run : (s : Setting) (f : Bool) (p q : Point) (inputs : List Input) (said : List Said) (sent : List Sent) → Life s f p inputs said q → NeverFall (bound_of p) inputs
     → IsOneRun s f sent p → IsOneRun s f (sent ++ sent_in said) q
-one_run s = one_run_by s (IsRun s [] 0) (grows_by_one s)
+one_run s f p q inputs said sent life never one = one_run_by s (IsRun s [] 0) (grows_by_one s) f p q inputs said sent life never (recent_are s p one.is_run) one
 
 pub begins_life : (s : Setting) (f : Bool) → IsOneRun s f [] formatted
 begins_life s f = record { is_run = tt; sent_is = refl; have_acts = tt; moments = omega arith; in_time = tt; flags = λ never. tt }
@@ -223,6 +318,7 @@ keeps_same p q same = record { more = []; sure = same ∙ sym (append-nil (sure_
 
 keep_step : (s : Setting) (f : Bool) (p q : Point) (input : Input) (said : List Said) → Goes s f p input said q → Keeps p q
 keep_step s f p q _ _ (takes failed o answers flag room) = keeps_same p q refl
+keep_step s f p q _ _ (relays {pairs = pairs} {c = c} {a = a} o early answers at) = record { more = HandedOut (beside_at c pairs a o) ∷ []; sure = refl }
 keep_step s f p q _ _ (no_memory room) = keeps_same p q refl
 keep_step s f p q _ _ (is_full room) = keeps_same p q refl
 keep_step s f p q _ _ is_halted = keeps_same p q refl
@@ -250,6 +346,7 @@ stays_sent p q same = ap sent_by_all same ∙ sym (append-nil (sent_by_all (sure
 
 sent_step : (s : Setting) (f : Bool) (p q : Point) (input : Input) (said : List Said) → Goes s f p input said q → sent_by_all (sure_of q) ≡ sent_by_all (sure_of p) ++ sent_in said
 sent_step s f p q _ _ (takes failed o answers flag room) = stays_sent p q refl
+sent_step s f p q _ _ (relays {sure = sure} {pairs = pairs} {c = c} {a = a} o early answers at) = sent_by_all-beside sure c pairs a o
 sent_step s f p q _ _ (no_memory room) = stays_sent p q refl
 sent_step s f p q _ _ (is_full room) = stays_sent p q refl
 sent_step s f p q _ _ is_halted = stays_sent p q refl

@@ -1,7 +1,8 @@
 -- Calls that do what their contracts say make a life.
-use Rattle.std.proofs.Common.{◌≡◌, ◌≤◌, ◌<◌, ◌+◌, ◌-◌, ◌⊎◌, inl, inr, ℕ, zero, suc, Bool, true, false, List, [], ◌∷◌, ◌++◌, length, map, max, take, Result, Ok, Err, refl, sym, ap, ◌∙◌, subst, arith, append_assoc, append-nil, length-append}
+use Rattle.std.proofs.Common.{◌≡◌, ◌≤◌, ◌<◌, ◌+◌, ◌-◌, ◌⊎◌, inl, inr, ℕ, zero, suc, Bool, true, false, List, [], ◌∷◌, ◌++◌, Option, length, map, max, take, Result, Ok, Err, refl, sym, ap, ◌∙◌, subst, arith, append_assoc, append-nil, length-append}
 use Rattle.std.proofs.lemmas.List.{map-append, length-drop}
 use Rattle.std.proofs.Math.Seq.{take-length, take-append-add, take-append_seam}
+use Rattle.std.specs.List.{AllByRecursion}
 use Rattle.std.specs.Option.{option_to_list}
 use Rattle.turn_cred.specs.declared.handler.AuthHandler as handlers
 use Rattle.turn_disk.specs.Disk.{EachImageSince}
@@ -10,13 +11,15 @@ use Rattle.turn_disk.proofs.Since.{since_same, since_weaken}
 use Rattle.turn_engine.specs.Calls.{Commits, Opening, Submits}
 use Rattle.turn_engine.specs.Images.{AtLeast}
 use Rattle.turn_engine.specs.Recovering.{Opens, RecoversTo}
-use Rattle.turn_engine.specs.Runs.{IsAnswered, NeverFails, Taken, accepted, sent_about}
+use Rattle.turn_engine.specs.Relaying.{Relays, beside}
+use Rattle.turn_engine.specs.Runs.{IsAnswered, NeverFails, Taken, accepted, beside_at, sent_about}
 use Rattle.turn_engine.specs.State.{ServerState, limits_of, now_of}
 use Rattle.turn_engine.specs.declared.error.ServerOpenError.{ServerOpenError}
 use Rattle.turn_engine.specs.declared.error.SubmitError.{SubmitError}
 use Rattle.turn_engine.specs.declared.error.SubmitError.TheVariants.{BatchFull, Memory, Stopped}
 use Rattle.turn_engine.proofs.Answered.{accepted-append, sent_about-append}
-use Rattle.turn_engine.proofs.Lists.{length-take-le}
+use Rattle.turn_engine.proofs.Besides.{accepted-beside, now_before, since_late, since_taken, stored_part}
+use Rattle.turn_engine.proofs.Lists.{all-append, length-take-le}
 use Rattle.turn_engine.proofs.Runs.{memory_is_not_stopped, none_failed, not_both, ok_is_no_error, setting_kept}
 use Rattle.turn_engine.proofs.Stops.{left_alone, left_has}
 use Rattle.turn_engine.proofs.Written.{stood}
@@ -31,7 +34,7 @@ use Rattle.turn_store.specs.Images.{EachImage, StandsForAt}
 use Rattle.turn_store.specs.State.{form_of}
 use Rattle.turn_store.specs.declared.error.StoreError.{StoreError}
 use Rattle.turn_store.specs.declared.error.StoreError.TheVariants as faults
-use Rattle.turn_player.specs.Lives.{Arrive, Closed, Commit, Failed, Goes, Halted, HandedOut, Input, Lasting, Open, Opened, Point, Refused, Running, Said, Shut, Stop, arrivals, bound_of, count_of, found, handing_out, history_of, settled_history_of, sure_of, taken_of, unsettled_of}
+use Rattle.turn_player.specs.Lives.{Arrive, Closed, Commit, Failed, Goes, Halted, HandedOut, Input, Lasting, Open, Opened, Point, Refused, Relay, Running, Said, Shut, Stop, arrivals, bound_of, count_of, found, handing_beside, handing_out, history_of, settled_history_of, sure_of, taken_of, unsettled_of}
 use Rattle.turn_player.specs.Lives as lives
 use Rattle.turn_player.specs.Worlds.{Call, Calls, Down, IsDown, IsHalted, Leaves, Lives, Restarts, Runs, Serving, Stands, World, disk_of, handler_of, ports_of, said_by_commit, said_by_open, said_by_submit, world_after}
 use Rattle.turn_player.specs.Worlds as worlds
@@ -48,6 +51,16 @@ weaken_by form h k m n image le at =
       no_more = at.no_more;
       stands = record { clock = at.stands.clock; bounded = omega arith; stands = at.stands.stands };
     }
+
+-- ---- Moments
+
+by_then : (a b : ℕ) (xs : List Taken) → a ≤ b → AllByRecursion (λ (x : Taken). x.moment ≤ a) xs → AllByRecursion (λ (x : Taken). x.moment ≤ b) xs
+by_then a b [] le all = tt
+by_then a b (x ∷ xs) le all = (let at = all.0 in omega arith, by_then a b xs le all.1)
+
+at_clock : (now c : ℕ) (xs : List Taken) → now ≡ c → AllByRecursion (λ (x : Taken). now ≤ x.moment) xs → AllByRecursion (λ (x : Taken). x.moment ≤ c) xs → AllByRecursion (λ (x : Taken). x.moment ≡ c) xs
+at_clock now c [] is early late = tt
+at_clock now c (x ∷ xs) is early late = (let low = early.0 in let high = late.0 in omega arith, at_clock now c xs is early.1 late.1)
 
 not_full : (a b : ℕ) → a ≤ b → (a ≡ b → ⊥) → a < b
 not_full a b le not = omega (arith, le, not)
@@ -157,6 +170,7 @@ module _ {D H G : Type 0} (disk : disks.Ghosts D) (handler : handlers.Ghosts H) 
   call_earlier _ _ _ _ (worlds.submits result call) crash_model = subst (λ z. disk.follows_crash_model z.disk) call.store crash_model
   call_earlier _ _ _ _ worlds.no_submit crash_model = crash_model
   call_earlier _ _ _ _ (worlds.commits result call) crash_model = call.uses.crash_model crash_model
+  call_earlier _ _ _ _ (worlds.relays sent early runs call same) crash_model = subst (λ (v : ServerState D H G). disk.follows_crash_model v.store.disk) same crash_model
   call_earlier _ _ _ _ worlds.no_commit crash_model = crash_model
   call_earlier w _ _ _ (worlds.opens result call) crash_model = opening_earlier w result call crash_model
   call_earlier _ _ _ _ (worlds.stops image of is) crash_model = is.crash_model crash_model
@@ -212,6 +226,8 @@ module _ {D H G : Type 0} (disk : disks.Ghosts D) (handler : handlers.Ghosts H) 
             outs = takes.outs ∙ ap (λ (l : List Sent). l ++ option_to_list takes.outcome.sent) runs.outs
                 ∙ ap (λ (l : List Sent). sent_about recent ++ l) (sym (append-nil (option_to_list takes.outcome.sent))) ∙ sym (sent_about-append recent (x ∷ []));
             counted = call.arrivals ∙ ap (λ (n : ℕ). n + 1) counted ∙ sym (length-append recent (x ∷ []));
+            since = since_taken old.since new.since old.arrivals (max t (now_of old)) recent x counted (sym at) call.since call.since_kept (since_late runs.recovers.since call.in_time) runs.since;
+            late = all-append (λ (y : Taken). y.moment ≤ max t c) recent (x ∷ []) (by_then c (max t c) recent (omega arith) runs.late) (omega arith, tt);
             clock = call.clock ∙ at;
             bounded = omega (arith, bounded);
           };
@@ -238,6 +254,8 @@ module _ {D H G : Type 0} (disk : disks.Ghosts D) (handler : handlers.Ghosts H) 
             recovers = subst (λ z. RecoversTo (disk.trace z.disk).now new h k) (sym call.store) (call.recovers h k runs.recovers);
             outs = ap (λ (v : ServerState D H G). v.outs) (call.memory refl) ∙ runs.outs;
             counted = ap (λ (v : ServerState D H G). v.arrivals) (call.memory refl) ∙ counted;
+            since = subst (λ (n : ℕ). AllByRecursion (λ (x : Taken). n ≤ x.moment) recent) (sym (ap (λ (v : ServerState D H G). v.since) (call.memory refl))) runs.since;
+            late = by_then c (max t c) recent (omega arith) runs.late;
             clock = call.memory_clock refl ∙ ap (λ (n : ℕ). max t n) runs.clock;
             bounded = omega (arith, bounded);
           };
@@ -258,6 +276,8 @@ module _ {D H G : Type 0} (disk : disks.Ghosts D) (handler : handlers.Ghosts H) 
           recovers = runs.recovers;
           outs = runs.outs;
           counted = runs.counted;
+          since = runs.since;
+          late = runs.late;
           clock = runs.clock;
           bounded = omega (arith, bounded);
         } in
@@ -291,6 +311,56 @@ module _ {D H G : Type 0} (disk : disks.Ghosts D) (handler : handlers.Ghosts H) 
     }
     submitted (Shut sure recent m) old new t a result call stands = absurd stands
 
+    -- ---- Data beside what is staged
+
+    relayed_by : (old : ServerState D H G) (sure : List Lasting) (recent : List Taken) (pairs : Bool) (c m t : ℕ) (a : Arrives) (sent : Option Sent) → t ≤ now_of old
+        → Relays handler.key_of ports.range (beside old) a sent → Runs disk handler ports form s old sure recent pairs c m
+        → Next may_fail (Running sure recent pairs c m) (Relay t a) (handing_beside sent) (Serving old)
+    relayed_by old sure recent pairs c m t a sent early call runs =
+        let mine = map taken_of sure in
+        let h = accepted (mine ++ recent) in
+        let k = length (accepted mine) in
+        let x = beside_at c pairs a sent in
+        let more = sure ++ HandedOut x ∷ [] in
+        let clock = runs.clock in
+        let bounded = runs.bounded in
+        let own = setting_of handler.key_of ports.range old.machine in
+        let answers : IsAnswered s (accepted mine) x =
+        subst (λ (n : ℕ). AnswersArrival (record s { pairs = pairs }) (accepted mine) n false a x.outcome) clock
+        (subst (λ (z : Setting). AnswersArrival z (accepted mine) (now_of old) false a x.outcome) runs.same_setting
+        (subst (λ (l : History). AnswersArrival own l (now_of old) false a x.outcome) (stored_part [] mine recent) (call.answers h k runs.recovers.after runs.recovers.tuples))) in
+        let first : map taken_of more ≡ mine ++ x ∷ [] = map-append taken_of sure (HandedOut x ∷ []) in
+        let history : accepted (map taken_of more ++ recent) ≡ h =
+        ap (λ (l : List Taken). accepted (l ++ recent)) first ∙ ap accepted (append_assoc mine (x ∷ []) recent) ∙ accepted-beside mine recent c pairs a sent in
+        let count : length (accepted (map taken_of more)) ≡ k =
+        ap (λ (l : List Taken). length (accepted l)) first ∙ ap (λ (l : History). length l) (accepted-append mine (x ∷ []) ∙ append-nil (accepted mine)) in
+        let state = (disk.trace old.store.disk).now in
+        record {
+          end = Running more recent pairs c (max t m);
+          goes = lives.relays sent (omega (arith, early, clock)) answers (at_clock (now_of old) c recent clock (now_before old.arrivals old.since (now_of old) recent runs.counted runs.since call.at_clock) runs.late);
+          stands = record {
+            crash_model = runs.crash_model;
+            same_setting = runs.same_setting;
+            same_form = runs.same_form;
+            recovers = subst (λ (l : History). RecoversTo state old l (length (accepted (map taken_of more)))) (sym history)
+                (subst (λ (n : ℕ). RecoversTo state old h n) (sym count) runs.recovers);
+            outs = runs.outs;
+            counted = runs.counted;
+            since = runs.since;
+            late = runs.late;
+            clock = clock;
+            bounded = omega (arith, bounded);
+          };
+        }
+
+    relayed : (p : Point) (old new : ServerState D H G) (t : ℕ) (a : Arrives) (sent : Option Sent) → t ≤ now_of old → old.store.stopped ≡ false → Relays handler.key_of ports.range (beside old) a sent
+        → new ≡ old → Stands disk handler ports form s (Serving old) p → Next may_fail p (Relay t a) (handing_beside sent) (Serving new)
+    relayed (Running sure recent pairs c m) old new t a sent early goes call same stands =
+        subst (λ (v : ServerState D H G). Next may_fail (Running sure recent pairs c m) (Relay t a) (handing_beside sent) (Serving v)) (sym same)
+        (relayed_by old sure recent pairs c m t a sent early call stands)
+    relayed (Halted sure recent m) old new t a sent early goes call same stands = absurd (not_both old.store.stopped stands.stopped goes)
+    relayed (Shut sure recent m) old new t a sent early goes call same stands = absurd stands
+
     -- ---- Commits
 
     committed_ok : (old new : ServerState D H G) (sure : List Lasting) (recent : List Taken) (pairs : Bool) (c m : ℕ) (outs : List Sent) → Runs disk handler ports form s old sure recent pairs c m → Commits disk old new (Ok outs)
@@ -315,6 +385,8 @@ module _ {D H G : Type 0} (disk : disks.Ghosts D) (handler : handlers.Ghosts H) 
                 (subst (λ (n : ℕ). RecoversTo state new h n) (sym count) recovers);
             outs = ap (λ (v : ServerState D H G). v.outs) call.ok;
             counted = ap (λ (v : ServerState D H G). v.arrivals) call.ok;
+            since = tt;
+            late = tt;
             clock = ap (λ (v : ServerState D H G). now_of v) call.ok ∙ runs.clock;
             bounded = runs.bounded;
           };
@@ -407,6 +479,8 @@ module _ {D H G : Type 0} (disk : disks.Ghosts D) (handler : handlers.Ghosts H) 
                 (subst (λ (i : ℕ). RecoversTo state server (take opens.count (accepted (mine ++ recent))) i) (sym count) opens.recovers);
             outs = ap (λ (v : ServerState D H G). v.outs) call.nothing;
             counted = ap (λ (v : ServerState D H G). v.arrivals) call.nothing;
+            since = tt;
+            late = tt;
             clock = refl;
             bounded = opens.bounded;
           };
@@ -479,6 +553,7 @@ module _ {D H G : Type 0} (disk : disks.Ghosts D) (handler : handlers.Ghosts H) 
     next same p _ _ _ _ (worlds.submits {old = old} {new = new} {t = t} {a = a} result call) stands crash_model = submitted p old new t a result call stands
     next same p _ _ _ _ (worlds.no_submit {d = d} {h = h} {g = g} {t = t} {a = a}) stands crash_model = down_arrives p d h g t a stands
     next same p _ _ _ _ (worlds.commits {old = old} {new = new} result call) stands crash_model = committed p old new result call stands crash_model
+    next same p _ _ _ _ (worlds.relays {old = old} {new = new} {t = t} {a = a} sent early goes call is) stands crash_model = relayed p old new t a sent early goes call is stands
     next same p _ _ _ _ (worlds.no_commit {d = d} {h = h} {g = g}) stands crash_model = down_commits p d h g stands
     next same p w _ _ _ (worlds.opens result call) stands crash_model = opened same p w result call stands crash_model
     next same p w _ _ _ (worlds.stops {d = d} {h = h} {g = g} image of is) stands crash_model = left w p (disk_of w) image d h g stands is ((leaves w p stands).images image of) crash_model

@@ -2,7 +2,7 @@
 use Rattle.std.specs.Prelude.{◌≡◌, ◌≤◌, ◌<◌, ◌⊎◌, ◌++◌, ℕ, Bool, List, [], ◌∷◌, None, Option, false, true, zero, suc, is_some, if◌then◌else◌, length, map, max}
 use Rattle.std.specs.List.{AllByRecursion}
 use Rattle.std.specs.Option.{option_to_list}
-use Rattle.turn_engine.specs.Runs.{Taken, accepted, sent_about}
+use Rattle.turn_engine.specs.Runs.{Taken, accepted, beside_at, sent_about}
 use Rattle.turn_engine.specs.declared.error.SubmitError.{SubmitError}
 use Rattle.turn_engine.specs.declared.error.SubmitError.TheVariants as refusals
 use Rattle.turn_history.specs.History.{History, clock}
@@ -43,11 +43,11 @@ found (x ∷ xs) (suc n) = if is_some x.outcome.change then Found x ∷ found xs
 
 -- ---- What is asked, and what comes of it
 
--- What is asked: an arrival at a moment, data that is answered beside what is staged, a commit, a stop, at rest or inside a commit or an
--- opening, or an opening.
+-- What is asked: an arrival at a moment, data at a moment that is answered beside what is staged, a commit, a stop, at rest or inside a
+-- commit or an opening, or an opening.
 pub data Input : Type 0 where
   Arrive : (moment : ℕ) (arrival : Arrives) → Input
-  Relay : (arrival : Arrives) → Input
+  Relay : (moment : ℕ) (arrival : Arrives) → Input
   Commit : Input
   Stop : Input
   Open : Input
@@ -75,10 +75,6 @@ abbrev pub handing_out : List Sent → List Said
 handing_out outs = map Sends outs ++ Committed (length outs) ∷ []
 
 -- ---- Where a life is
-
--- data that was answered at the moment t beside what is staged
-abbrev pub beside_at : ℕ → Bool → Arrives → Option Sent → Taken
-beside_at t pairs a sent = record { moment = t; arrival = a; failed = false; pairs = pairs; outcome = record { change = None; sent = sent } }
 
 -- Where a life is: a server runs, or is halted after a commit that failed, or all is shut, and no store is open. The sure
 -- arrivals last; the recent ones were taken since, and may get lost. No moment that was handed in is after the bound. A
@@ -152,11 +148,11 @@ pub data Goes (s : Setting) (may_fail : Bool) : Point → Input → List Said �
       → length recent < s.config.limits.acts
       → Goes s may_fail (Running sure recent pairs c m) (Arrive t a) []
       (Running sure (recent ++ record { moment = max t c; arrival = a; failed = failed; pairs = pairs; outcome = o } ∷ []) pairs (max t c) (max t m))
-  -- Data is answered at the clock beside what is staged, all of which is of that moment: by what lasts, as if it had come before that. It
-  -- lasts at once.
-  relays : {sure : List Lasting} {recent : List Taken} {pairs : Bool} {c m : ℕ} {a : Arrives} (sent : Option Sent)
+  -- Data whose moment isn't after the clock is answered at the clock beside what is staged, all of which is of that moment: by what lasts,
+  -- as if it had come before that. It lasts at once.
+  relays : {sure : List Lasting} {recent : List Taken} {pairs : Bool} {c m t : ℕ} {a : Arrives} (sent : Option Sent) → t ≤ c
       → AnswersArrival (record s { pairs = pairs }) (accepted (map taken_of sure)) c false a (record { change = None; sent = sent }) → AllByRecursion (λ (x : Taken). x.moment ≡ c) recent
-      → Goes s may_fail (Running sure recent pairs c m) (Relay a) (handing_beside sent) (Running (sure ++ HandedOut (beside_at c pairs a sent) ∷ []) recent pairs c m)
+      → Goes s may_fail (Running sure recent pairs c m) (Relay t a) (handing_beside sent) (Running (sure ++ HandedOut (beside_at c pairs a sent) ∷ []) recent pairs c (max t m))
   -- an arrival is refused for memory, and the clock is brought to its moment
   no_memory : {sure : List Lasting} {recent : List Taken} {pairs : Bool} {c m t : ℕ} {a : Arrives} → length recent < s.config.limits.acts
       → Goes s may_fail (Running sure recent pairs c m) (Arrive t a) (Refused refusals.Memory ∷ []) (Running sure recent pairs (max t c) (max t m))
@@ -209,7 +205,7 @@ sent_in (Closed ∷ said) = sent_in said
 abbrev pub NeverFall : ℕ → List Input → Type 0
 NeverFall m [] = Unit {0}
 NeverFall m (Arrive t a ∷ inputs) = (m ≤ t) × NeverFall t inputs
-NeverFall m (Relay a ∷ inputs) = NeverFall m inputs
+NeverFall m (Relay t a ∷ inputs) = (m ≤ t) × NeverFall t inputs
 NeverFall m (Commit ∷ inputs) = NeverFall m inputs
 NeverFall m (Stop ∷ inputs) = NeverFall m inputs
 NeverFall m (Open ∷ inputs) = NeverFall m inputs

@@ -84,8 +84,10 @@ pub data Call {D H G : Type 0} (disk : disks.Ghosts D) (handler : handlers.Ghost
   no_submit : {d : D} {h : H} {g : G} {t : ℕ} {a : Arrives} → Call disk handler ports s (Down d h g) (Arrive t a) (Closed ∷ []) (Down d h g)
   commits : {old new : ServerState D H G} (result : Result (List Sent) StoreError) → Commits disk old new result
       → Call disk handler ports s (Serving old) Commit (said_by_commit result) (Serving new)
-  relays : {old new : ServerState D H G} {a : Arrives} (sent : Option Sent) → old.store.stopped ≡ false → Relays handler.key_of ports.range (beside old) a sent → new ≡ old
-      → Call disk handler ports s (Serving old) (Relay a) (handing_beside sent) (Serving new)
+  -- of data whose moment isn't after the clock
+  relays : {old new : ServerState D H G} {t : ℕ} {a : Arrives} (sent : Option Sent) → t ≤ now_of old → old.store.stopped ≡ false
+      → Relays handler.key_of ports.range (beside old) a sent → new ≡ old
+      → Call disk handler ports s (Serving old) (Relay t a) (handing_beside sent) (Serving new)
   no_commit : {d : D} {h : H} {g : G} → Call disk handler ports s (Down d h g) Commit (Closed ∷ []) (Down d h g)
   opens : {w : World D H G} (result : Result (ServerState D H G) (ServerOpenError D H G)) → Opening disk (disk_of w) s.config (handler_of w) (ports_of w) result
       → Call disk handler ports s w Open (said_by_open result) (world_after result)
@@ -123,6 +125,7 @@ pub record Runs {D H G : Type 0} (disk : disks.Ghosts D) (handler : handlers.Gho
   pub outs : server.outs ≡ sent_about recent
   pub counted : server.arrivals ≡ length recent
   pub since : AllByRecursion (λ (x : Taken). server.since ≤ x.moment) recent
+  pub late : AllByRecursion (λ (x : Taken). x.moment ≤ c) recent
   pub clock : now_of server ≡ c
   pub bounded : c ≤ m
 
