@@ -5,7 +5,7 @@ use Rattle.turn_cred.specs.declared.handler.AuthHandler as handlers
 use Rattle.turn_disk.specs.declared.disk.Disk as disks
 use Rattle.turn_engine.proofs.Lists.{all-append}
 use Rattle.turn_engine.specs.Calls.{Commits, Submits}
-use Rattle.turn_engine.specs.Runs.{Commit, Serves, ServerCall, Submit, after_of, last_of}
+use Rattle.turn_engine.specs.Runs.{Commit, Relay, Serves, ServerCall, Submit, after_of, last_of}
 use Rattle.turn_engine.specs.State.{ServerState}
 use Rattle.turn_engine.specs.declared.error.SubmitError.{SubmitError}
 use Rattle.turn_ports.specs.declared.generator.RelayAddressGenerator as generators
@@ -41,6 +41,7 @@ module _ {D H G : Type 0} where
   call_of_more tuples others moment more (Submit m (Arrives.FromClient f bytes) result after) end = (end.0, (more f end.1.0, end.1.1))
   call_of_more tuples others moment more (Submit m (Arrives.FromPeer port from bytes id) result after) end = absurd end.1
   call_of_more tuples others moment more (Commit result after) end = tt
+  call_of_more tuples others moment more (Relay arrival sent after) end = absurd end
 
   all_of_more : (tuples others : List FiveTuple) (moment : ℕ) → ((f : FiveTuple) → Contains tuples f → Contains others f) → (xs : List (ServerCall D H G)) → AllByRecursion (IsEndCall tuples moment) xs → AllByRecursion (IsEndCall others moment) xs
   all_of_more tuples others moment more [] all = tt

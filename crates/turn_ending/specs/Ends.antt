@@ -5,7 +5,7 @@ use Rattle.std.specs.List.{AllByRecursion, list_all}
 use Rattle.turn_codec.specs.Grammar.{Content, Spells}
 use Rattle.turn_cred.specs.declared.handler.AuthHandler as handlers
 use Rattle.turn_disk.specs.declared.disk.Disk as disks
-use Rattle.turn_engine.specs.Runs.{Commit, Serves, ServerCall, Submit, last_of}
+use Rattle.turn_engine.specs.Runs.{Commit, Relay, Serves, ServerCall, Submit, last_of}
 use Rattle.turn_engine.specs.State.{ServerState}
 use Rattle.turn_history.specs.History.{Event, Renews}
 use Rattle.turn_history.specs.Table.{Contents}
@@ -33,6 +33,7 @@ IsEndOf tuples (FromPeer port from bytes id) = ⊥
 abbrev pub IsEndCall : {D H G : Type 0} → List FiveTuple → ℕ → ServerCall D H G → Type 0
 IsEndCall tuples t (Submit moment arrival result after) = (moment ≡ t) × IsEndOf tuples arrival
 IsEndCall tuples t (Commit result after) = Unit {0}
+IsEndCall tuples t (Relay arrival sent after) = ⊥
 
 -- calls of a server, of which each submits such a message or commits
 pub record Ends {D H G : Type 0} (disk : disks.Ghosts D) (handler : handlers.Ghosts H) (ports : generators.Ghosts G) (tuples : List FiveTuple) (moment : ℕ) (old new : ServerState D H G) : Type 0 where

@@ -3,7 +3,7 @@ use Rattle.std.proofs.Common.{arith, ◌≡◌, ◌<◌, ◌≤◌, ◌-◌, ◌
 use Rattle.turn_cred.specs.declared.handler.AuthHandler as handlers
 use Rattle.turn_disk.specs.declared.disk.Disk as disks
 use Rattle.turn_engine.specs.Calls.{Submits}
-use Rattle.turn_engine.specs.Runs.{Commit, IsCall, Serves, ServerCall, Submit, after_of, last_of}
+use Rattle.turn_engine.specs.Runs.{Commit, IsCall, Relay, Serves, ServerCall, Submit, after_of, last_of}
 use Rattle.turn_engine.specs.State.{ServerState, now_of}
 use Rattle.turn_engine.specs.declared.error.SubmitError.{SubmitError}
 use Rattle.turn_engine.specs.declared.error.SubmitError.TheVariants.{BatchFull, Memory, Stopped}
@@ -64,6 +64,7 @@ module _ {D H G : Type 0} (disk : disks.Ghosts D) (handler : handlers.Ghosts H) 
   call_moves old (Submit moment a (Err Memory) new) call at = inr (subst (IsMoment told (now_of old)) (sym (call.memory_clock refl)) at.0)
   call_moves old (Commit (Ok outs) new) call at = inl (ap now_of call.ok)
   call_moves old (Commit (Err fault) new) call at = inl (ap now_of call.err)
+  call_moves old (Relay a sent new) call at = inl (ap now_of call.2)
 
   calls_before : (old : ServerState D H G) (steps : List (ServerCall D H G)) (moment : ℕ) → Serves disk handler ports old steps → AreAt (IsMoment told) old steps → IsMoment told (now_of (last_of old steps)) moment
       → IsMoment told (now_of old) moment
@@ -74,6 +75,7 @@ module _ {D H G : Type 0} (disk : disks.Ghosts D) (handler : handlers.Ghosts H) 
   calls_before old (Commit result new ∷ xs) moment serves at is =
       let later = calls_before new xs moment serves.1 at is in
       ⊎_elim (λ same. subst (λ (n : ℕ). IsMoment told n moment) same later) (λ moved. moments_in_row moved later) (call_moves old (Commit result new) serves.0 tt)
+  calls_before old (Relay a sent new ∷ xs) moment serves at is = subst (λ (n : ℕ). IsMoment told n moment) (ap now_of serves.0.2) (calls_before new xs moment serves.1 at.1 is)
 
   calls_after : (clock : ℕ) (old : ServerState D H G) (steps : List (ServerCall D H G)) → Serves disk handler ports old steps → AreAt (IsMoment told) old steps → IsMoment told clock (now_of old)
       → IsMoment told clock (now_of (last_of old steps))
@@ -84,12 +86,14 @@ module _ {D H G : Type 0} (disk : disks.Ghosts D) (handler : handlers.Ghosts H) 
   calls_after clock old (Commit result new ∷ xs) serves at is =
       calls_after clock new xs serves.1 at
       (⊎_elim (λ same. subst (IsMoment told clock) (sym same) is) (λ moved. moments_in_row is moved) (call_moves old (Commit result new) serves.0 tt))
+  calls_after clock old (Relay a sent new ∷ xs) serves at is = calls_after clock new xs serves.1 at.1 (subst (IsMoment told clock) (sym (ap now_of serves.0.2)) is)
 
 module _ {D H G : Type 0} (disk : disks.Ghosts D) (handler : handlers.Ghosts H) (ports : generators.Ghosts G) where
   stays_stopped : (old : ServerState D H G) (steps : List (ServerCall D H G)) → Serves disk handler ports old steps → old.store.stopped ≡ true → (last_of old steps).store.stopped ≡ true
   stays_stopped old [] serves is = is
   stays_stopped old (Submit moment a result new ∷ xs) serves is = stays_stopped new xs serves.1 (ap (λ s. s.stopped) serves.0.store ∙ is)
   stays_stopped old (Commit result new ∷ xs) serves is = stays_stopped new xs serves.1 (ap (λ (s : ServerState D H G). s.store.stopped) (serves.0.unchanged is) ∙ is)
+  stays_stopped old (Relay a sent new ∷ xs) serves is = stays_stopped new xs serves.1 (ap (λ (s : ServerState D H G). s.store.stopped) serves.0.2 ∙ is)
 
 module _ {D H G : Type 0} {disk : disks.Ghosts D} {handler : handlers.Ghosts H} {ports : generators.Ghosts G} {told : ℕ → Type 0} where
   -- a moment by the clock after calls is one by the clock before them

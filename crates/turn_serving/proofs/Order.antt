@@ -5,7 +5,7 @@ use Rattle.std.proofs.lemmas.List.Elements.{filter-append}
 use Rattle.turn_cred.specs.declared.handler.AuthHandler as handlers
 use Rattle.turn_disk.specs.declared.disk.Disk as disks
 use Rattle.turn_engine.specs.Calls.{Submits}
-use Rattle.turn_engine.specs.Runs.{Commit, ServerCall, Submit}
+use Rattle.turn_engine.specs.Runs.{Commit, Relay, ServerCall, Submit}
 use Rattle.turn_engine.specs.State.{ServerState, now_of}
 use Rattle.turn_engine.specs.declared.error.SubmitError.{SubmitError}
 use Rattle.turn_engine.specs.declared.error.SubmitError.TheVariants.{BatchFull, Memory, Stopped}
@@ -39,6 +39,7 @@ pub submitted-append : {D H G : Type 0} (xs ys : List (ServerCall D H G)) → su
 submitted-append [] ys = refl
 submitted-append (Submit moment arrival result after ∷ xs) ys = ap (λ l. submitted_by arrival result ++ l) (submitted-append xs ys) ∙ sym (append_assoc (submitted_by arrival result) (submitted_in xs) (submitted_in ys))
 submitted-append (Commit result after ∷ xs) ys = submitted-append xs ys
+submitted-append (Relay arrival sent after ∷ xs) ys = ap (λ l. arrival ∷ l) (submitted-append xs ys)
 
 datagrams-append : (xs ys : List Arrives) → datagrams_of (xs ++ ys) ≡ datagrams_of xs ++ datagrams_of ys
 datagrams-append [] ys = refl
@@ -56,6 +57,7 @@ pub none_submitted : {D H G : Type 0} (server : ServerState D H G) (steps : List
 none_submitted server [] at = refl
 none_submitted server (Submit moment arrival result after ∷ steps) at = absurd at.0
 none_submitted server (Commit result after ∷ steps) at = none_submitted after steps at
+none_submitted server (Relay arrival sent after ∷ steps) at = absurd at.0
 
 -- what waits of one five-tuple alone comes before or after the same
 pub alone : (f g : FiveTuple) (bytes : List ℕ) (b : BacklogState) → waiting_of b f ≡ [] → if_same f g bytes ++ waiting_of b g ≡ waiting_of b g ++ if_same f g bytes

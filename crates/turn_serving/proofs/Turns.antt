@@ -8,7 +8,7 @@ use Rattle.turn_engine.proofs.Answered.{accepted-append, begins}
 use Rattle.turn_engine.proofs.Runs.{earlier, goes_on, stops}
 use Rattle.turn_engine.specs.Calls.{Commits, Submits}
 use Rattle.turn_engine.specs.Images.{AtLeast}
-use Rattle.turn_engine.specs.Runs.{BeginsWith, Commit, IsAtPlace, IsCall, Place, Serves, ServerCall, Submit, Taken, accepted, after_of, count_at, history_at, last_of}
+use Rattle.turn_engine.specs.Runs.{BeginsWith, Commit, IsAtPlace, IsCall, Place, Relay, Serves, ServerCall, Submit, Taken, accepted, after_of, count_at, history_at, last_of}
 use Rattle.turn_engine.specs.State.{ServerState, now_of}
 use Rattle.turn_engine.proofs.Held.{stay_held}
 use Rattle.turn_engine.specs.declared.error.SubmitError.{SubmitError}
@@ -39,6 +39,7 @@ module _ {D H G : Type 0} (disk : disks.Ghosts D) (handler : handlers.Ghosts H) 
   call_in_time old (Submit moment a (Err Memory) new) call = subst (λ n. now_of old ≤ n) (sym (call.memory_clock refl)) call.in_time
   call_in_time old (Commit (Ok outs) new) call = let same = ap now_of call.ok in omega arith
   call_in_time old (Commit (Err fault) new) call = let same = ap now_of call.err in omega arith
+  call_in_time old (Relay a sent new) call = let same = ap now_of call.2 in omega arith
 
   calls_in_time : (old : ServerState D H G) (steps : List (ServerCall D H G)) → Serves disk handler ports old steps → now_of old ≤ now_of (last_of old steps)
   calls_in_time old [] serves = omega arith
@@ -55,11 +56,13 @@ pub are_at-append : {D H G : Type 0} (IsOne : ℕ → ℕ → Type 0) (server : 
 are_at-append IsOne server [] second before after = after
 are_at-append IsOne server (Submit moment a result new ∷ xs) second before after = (before.0, are_at-append IsOne new xs second before.1 after)
 are_at-append IsOne server (Commit result new ∷ xs) second before after = are_at-append IsOne new xs second before after
+are_at-append IsOne server (Relay a sent new ∷ xs) second before after = (before.0, are_at-append IsOne new xs second before.1 after)
 
 pub never_at : {D H G : Type 0} (IsOne : ℕ → ℕ → Type 0) (server : ServerState D H G) (steps : List (ServerCall D H G)) → AreAt Never server steps → AreAt IsOne server steps
 never_at IsOne server [] at = tt
 never_at IsOne server (Submit moment a result new ∷ xs) at = absurd at.0
 never_at IsOne server (Commit result new ∷ xs) at = never_at IsOne new xs at
+never_at IsOne server (Relay a sent new ∷ xs) at = absurd at.0
 
 -- ---- Moments
 
@@ -81,6 +84,7 @@ module _ {D H G : Type 0} (disk : disks.Ghosts D) (handler : handlers.Ghosts H) 
   call_still old (Submit m a (Err Memory) new) call at is = subst (λ (n : ℕ). IsMoment told n moment) (sym (call.memory_clock refl ∙ at.0)) (still told (now_of old) moment is)
   call_still old (Commit (Ok outs) new) call at is = subst (λ (n : ℕ). IsMoment told n moment) (sym (ap now_of call.ok)) is
   call_still old (Commit (Err fault) new) call at is = subst (λ (n : ℕ). IsMoment told n moment) (sym (ap now_of call.err)) is
+  call_still old (Relay a sent new) call at is = subst (λ (n : ℕ). IsMoment told n moment) (sym (ap now_of call.2)) is
 
   pub all_told : (old : ServerState D H G) (steps : List (ServerCall D H G)) → Serves disk handler ports old steps → AreAt (At moment) old steps → IsMoment told (now_of old) moment → AreAt (IsMoment told) old steps
   all_told old [] serves at is = tt
@@ -89,6 +93,10 @@ module _ {D H G : Type 0} (disk : disks.Ghosts D) (handler : handlers.Ghosts H) 
     all_told new xs serves.1 at.1 (call_still old (Submit m a result new) serves.0 (at.0, tt) is),
   )
   all_told old (Commit result new ∷ xs) serves at is = all_told new xs serves.1 at (call_still old (Commit result new) serves.0 tt is)
+  all_told old (Relay a sent new ∷ xs) serves at is = (
+    subst (IsMoment told (now_of old)) (sym at.0) is,
+    all_told new xs serves.1 at.1 (call_still old (Relay a sent new) serves.0 (at.0, tt) is),
+  )
 
 module _ {D H G : Type 0} {disk : disks.Ghosts D} {handler : handlers.Ghosts H} {ports : generators.Ghosts G} where
   unfoldable pub no_call : {IsOne : ℕ → ℕ → Type 0} (server : ServerState D H G) → Served disk handler ports IsOne server server
@@ -164,6 +172,7 @@ module _ {D H G : Type 0} (disk : disks.Ghosts D) (handler : handlers.Ghosts H) 
   same_form : (old : ServerState D H G) (x : ServerCall D H G) → IsCall disk handler ports old x → form_of (after_of x).store ≡ form_of old.store
   same_form old (Submit moment a result new) call = ap form_of call.store
   same_form old (Commit result new) call = call.form
+  same_form old (Relay a sent new) call = ap (λ (x : ServerState D H G). form_of x.store) call.2
 
   calls_keep : (server : ServerState D H G) (p : Place) (steps : List (ServerCall D H G)) → IsAtPlace disk handler ports s h t server p → Serves disk handler ports server steps
       → disk.follows_crash_model (last_of server steps).store.disk

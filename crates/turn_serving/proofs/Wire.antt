@@ -3,7 +3,7 @@ use Rattle.std.proofs.Common.{arith, IsErrAnd, IsOk, Some, slice_get, zero, suc,
 use Rattle.turn_cred.specs.declared.handler.AuthHandler as handlers
 use Rattle.turn_disk.specs.declared.disk.Disk as disks
 use Rattle.turn_engine.specs.Calls.{Commits, Submits}
-use Rattle.turn_engine.specs.Runs.{Commit, ServerCall, Submit}
+use Rattle.turn_engine.specs.Runs.{Commit, Relay, ServerCall, Submit}
 use Rattle.turn_engine.specs.State.{ServerState, now_of}
 use Rattle.turn_engine.specs.declared.error.SubmitError.{SubmitError}
 use Rattle.turn_engine.specs.declared.error.SubmitError.TheVariants.{BatchFull}
@@ -20,7 +20,7 @@ use Rattle.turn_types.specs.declared.address.Endpoint.{Endpoint}
 use Rattle.turn_types.specs.declared.address.FiveTuple.{FiveTuple}
 use Rattle.turn_serving.specs.Serving.{ServingState, wire_of}
 use Rattle.turn_serving.specs.Turns.{At, Never, datagrams_of, of_tuple, submitted_by, submitted_in}
-use Rattle.turn_serving.specs.Wire.{Addresses, AreSent, Committed, Event, Flushes, IsPart, Moves, OfClient, OfPeer, OnWire, Passes, SendsEach, SendsOne, Submitted, SubmitsOnWire, calls_of, of_clients, of_peers, on_wire, passed_in, peer_at, peers_of}
+use Rattle.turn_serving.specs.Wire.{Addresses, AreSent, Committed, Event, Flushes, IsPart, Moves, OfClient, OfPeer, OnWire, Passes, Relayed, SendsEach, SendsOne, Submitted, SubmitsOnWire, calls_of, of_clients, of_peers, on_wire, passed_in, peer_at, peers_of}
 use Rattle.turn_serving.proofs.Order.{counted_once, has_room, kept_order, no_order, none_submitted, order_in_row, peer_order, pushed_order, submitted-append, submitted_order, told_order, waited_order}
 use Rattle.turn_serving.proofs.Turns.{at_told, in_row, no_call, none}
 
@@ -33,6 +33,7 @@ module _ {D H G : Type 0} where
   calls-append (OfPeer at from bytes ∷ xs) ys = calls-append xs ys
   calls-append (Submitted moment a result new ∷ xs) ys = ap (λ l. Submit moment a result new ∷ l) (calls-append xs ys)
   calls-append (Committed result new out ∷ xs) ys = ap (λ l. Commit result new ∷ l) (calls-append xs ys)
+  calls-append (Relayed a answer new out ∷ xs) ys = ap (λ l. Relay a answer new ∷ l) (calls-append xs ys)
 
   pub passed-append : (xs ys : List (Event D H G)) → passed_in (xs ++ ys) ≡ passed_in xs ++ passed_in ys
   passed-append [] ys = refl
@@ -40,6 +41,7 @@ module _ {D H G : Type 0} where
   passed-append (OfPeer at from bytes ∷ xs) ys = ap (λ l. received at from bytes ∷ l) (passed-append xs ys)
   passed-append (Submitted moment a result new ∷ xs) ys = passed-append xs ys
   passed-append (Committed result new out ∷ xs) ys = ap (λ l. out ++ l) (passed-append xs ys) ∙ sym (append_assoc out (passed_in xs) (passed_in ys))
+  passed-append (Relayed a answer new out ∷ xs) ys = ap (λ l. out ++ l) (passed-append xs ys) ∙ sym (append_assoc out (passed_in xs) (passed_in ys))
 
   pub clients-append : (xs ys : List (Event D H G)) → of_clients (xs ++ ys) ≡ of_clients xs ++ of_clients ys
   clients-append [] ys = refl
@@ -47,6 +49,7 @@ module _ {D H G : Type 0} where
   clients-append (OfPeer at from bytes ∷ xs) ys = clients-append xs ys
   clients-append (Submitted moment a result new ∷ xs) ys = clients-append xs ys
   clients-append (Committed result new out ∷ xs) ys = clients-append xs ys
+  clients-append (Relayed a answer new out ∷ xs) ys = clients-append xs ys
 
   pub peers-append : (own : OwnAddresses) (xs ys : List (Event D H G)) → of_peers own (xs ++ ys) ≡ of_peers own xs ++ of_peers own ys
   peers-append own [] ys = refl
@@ -56,6 +59,7 @@ module _ {D H G : Type 0} where
       ap (λ l. first ++ l) (peers-append own xs ys) ∙ sym (append_assoc first (of_peers own xs) (of_peers own ys))
   peers-append own (Submitted moment a result new ∷ xs) ys = peers-append own xs ys
   peers-append own (Committed result new out ∷ xs) ys = peers-append own xs ys
+  peers-append own (Relayed a answer new out ∷ xs) ys = peers-append own xs ys
 
   pub sent-append : (has : G → ℕ → Bool) (here : Addresses) (xs ys : List (Event D H G)) → AreSent has here xs → AreSent has here ys → AreSent has here (xs ++ ys)
   sent-append has here [] ys first second = second
@@ -64,6 +68,7 @@ module _ {D H G : Type 0} where
   sent-append has here (Submitted moment a result new ∷ xs) ys first second = sent-append has here xs ys first second
   sent-append has here (Committed (Ok outs) new out ∷ xs) ys first second = (first.0, sent-append has here xs ys first.1 second)
   sent-append has here (Committed (Err fault) new out ∷ xs) ys first second = (first.0, sent-append has here xs ys first.1 second)
+  sent-append has here (Relayed a answer new out ∷ xs) ys first second = (first.0, sent-append has here xs ys first.1 second)
 
 of_arrivals-append : (xs ys : List Arrives) → peers_of (xs ++ ys) ≡ peers_of xs ++ peers_of ys
 of_arrivals-append [] ys = refl

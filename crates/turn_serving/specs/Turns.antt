@@ -2,7 +2,7 @@
 use Rattle.std.specs.Prelude.{◌≡◌, ◌≢◌, ◌⊎◌, ℕ, Bool, true, List, [], ◌∷◌, ◌++◌, Result, Ok, Err, filter, length, map, ◌≤◌}
 use Rattle.turn_cred.specs.declared.handler.AuthHandler as handlers
 use Rattle.turn_disk.specs.declared.disk.Disk as disks
-use Rattle.turn_engine.specs.Runs.{Commit, Serves, ServerCall, Submit, last_of}
+use Rattle.turn_engine.specs.Runs.{Commit, Relay, Serves, ServerCall, Submit, last_of}
 use Rattle.turn_engine.specs.State.{ServerState, now_of}
 use Rattle.turn_engine.specs.declared.error.SubmitError.{SubmitError}
 use Rattle.turn_engine.specs.declared.error.SubmitError.TheVariants.{BatchFull, Memory, Stopped}
@@ -13,11 +13,13 @@ use Rattle.turn_step.specs.Outcome.Arrives.{FromClient, FromPeer}
 use Rattle.turn_types.specs.declared.address.FiveTuple.{FiveTuple}
 use Rattle.turn_serving.specs.Requests.{MayChange}
 
--- each arrival is submitted at a moment that is one by the clock before it
+-- each arrival is submitted at a moment that is one by the clock before it, or answered beside what is staged at such a moment that the
+-- clock is at
 abbrev pub AreAt : {D H G : Type 0} → (ℕ → ℕ → Type 0) → ServerState D H G → List (ServerCall D H G) → Type 0
 AreAt IsOne server [] = Unit {0}
 AreAt IsOne server (Submit moment arrival result after ∷ steps) = IsOne (now_of server) moment × AreAt IsOne after steps
 AreAt IsOne server (Commit result after ∷ steps) = AreAt IsOne after steps
+AreAt IsOne server (Relay arrival sent after ∷ steps) = IsOne (now_of server) (now_of server) × AreAt IsOne after steps
 
 -- a moment that is this one, whatever the clock
 abbrev pub At : ℕ → ℕ → ℕ → Type 0
@@ -44,11 +46,12 @@ submitted_by arrival (Err Memory) = arrival ∷ []
 submitted_by arrival (Err BatchFull) = []
 submitted_by arrival (Err Stopped) = arrival ∷ []
 
--- the arrivals that were submitted by calls, in order
+-- the arrivals that were submitted by calls, in order; one that was answered beside what is staged counts as submitted
 abbrev pub submitted_in : {D H G : Type 0} → List (ServerCall D H G) → List Arrives
 submitted_in [] = []
 submitted_in (Submit moment arrival result after ∷ steps) = submitted_by arrival result ++ submitted_in steps
 submitted_in (Commit result after ∷ steps) = submitted_in steps
+submitted_in (Relay arrival sent after ∷ steps) = arrival ∷ submitted_in steps
 
 -- the datagrams of clients among arrivals, each with its five-tuple
 abbrev pub datagrams_of : List Arrives → List (FiveTuple × List ℕ)

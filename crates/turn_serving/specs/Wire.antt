@@ -1,8 +1,9 @@
 -- What the sockets of a server receive and send, beside the calls of the server.
-use Rattle.std.specs.Prelude.{◌≡◌, ◌≢◌, ◌⊎◌, ℕ, Bool, false, nat_eq, if◌then◌else◌, List, [], ◌∷◌, ◌++◌, Result, Ok, Err, All, Contains}
+use Rattle.std.specs.Prelude.{◌≡◌, ◌≢◌, ◌⊎◌, ℕ, Bool, false, nat_eq, if◌then◌else◌, List, [], ◌∷◌, ◌++◌, Option, Result, Ok, Err, All, Contains}
+use Rattle.std.specs.Option.{option_to_list}
 use Rattle.turn_cred.specs.declared.handler.AuthHandler as handlers
 use Rattle.turn_disk.specs.declared.disk.Disk as disks
-use Rattle.turn_engine.specs.Runs.{Commit, ServerCall, Submit}
+use Rattle.turn_engine.specs.Runs.{Commit, Relay, ServerCall, Submit}
 use Rattle.turn_engine.specs.State.{ServerState}
 use Rattle.turn_engine.specs.declared.error.SubmitError.{SubmitError}
 use Rattle.turn_ports.specs.declared.generator.RelayAddressGenerator as generators
@@ -28,6 +29,8 @@ pub data Event (D H G : Type 0) : Type 0 where
   Submitted : (moment : ℕ) (arrival : Arrives) (result : Result Unit SubmitError) (after : ServerState D H G) → Event D H G
   -- a commit, and what was sent then
   Committed : (result : Result (List Sent) StoreError) (after : ServerState D H G) (sent : List Passed) → Event D H G
+  -- data that was answered beside what is staged, and what was sent then
+  Relayed : (arrival : Arrives) (sent : Option Sent) (after : ServerState D H G) (out : List Passed) → Event D H G
 
 -- the calls of the server among events
 abbrev pub calls_of : {D H G : Type 0} → List (Event D H G) → List (ServerCall D H G)
@@ -36,6 +39,7 @@ calls_of (OfClient at from bytes ∷ events) = calls_of events
 calls_of (OfPeer at from bytes ∷ events) = calls_of events
 calls_of (Submitted moment arrival result after ∷ events) = Submit moment arrival result after ∷ calls_of events
 calls_of (Committed result after out ∷ events) = Commit result after ∷ calls_of events
+calls_of (Relayed arrival answer after out ∷ events) = Relay arrival answer after ∷ calls_of events
 
 -- the datagrams that sockets received and sent, in order
 abbrev pub passed_in : {D H G : Type 0} → List (Event D H G) → List Passed
@@ -44,6 +48,7 @@ passed_in (OfClient at from bytes ∷ events) = received at from bytes ∷ passe
 passed_in (OfPeer at from bytes ∷ events) = received at from bytes ∷ passed_in events
 passed_in (Submitted moment arrival result after ∷ events) = passed_in events
 passed_in (Committed result after out ∷ events) = out ++ passed_in events
+passed_in (Relayed arrival answer after out ∷ events) = out ++ passed_in events
 
 -- ---- What is sent
 
@@ -56,7 +61,7 @@ pub record Addresses : Type 0 where
 abbrev pub addresses_of : List Endpoint → OwnAddresses → Addresses
 addresses_of sockets own = record { sockets = sockets; own = own }
 
--- What is sent of a datagram that a commit hands out, once: to a client from the socket of its five-tuple's server, or nothing if no socket
+-- What is sent of a datagram that a call hands out, once: to a client from the socket of its five-tuple's server, or nothing if no socket
 -- has that address; to a peer from the socket of the relay port, or nothing if the port has none, or if it would come to the server itself. A
 -- relay port of the server is reached where it is bound.
 abbrev pub SendsOne : Addresses → (ℕ → Bool) → Sent → List Passed → Type 0
@@ -72,7 +77,7 @@ SendsEach here has [] out = out ≡ []
 SendsEach here has (o ∷ os) out =
     (first : List Passed) × (rest : List Passed) × SendsOne here has o first × SendsEach here has os rest × (out ≡ first ++ rest)
 
--- Clients' datagrams come by the listening sockets; what a commit hands out is sent right after it, and nothing else is.
+-- Clients' datagrams come by the listening sockets; what a call hands out is sent right after it, and nothing else is.
 abbrev pub AreSent : {D H G : Type 0} → (G → ℕ → Bool) → Addresses → List (Event D H G) → Type 0
 AreSent has here [] = Unit {0}
 AreSent has here (OfClient at from bytes ∷ events) = Contains here.sockets at × AreSent has here events
@@ -80,6 +85,7 @@ AreSent has here (OfPeer at from bytes ∷ events) = AreSent has here events
 AreSent has here (Submitted moment arrival result after ∷ events) = AreSent has here events
 AreSent has here (Committed (Ok outs) after out ∷ events) = SendsEach here (has after.machine.ports) outs out × AreSent has here events
 AreSent has here (Committed (Err fault) after out ∷ events) = (out ≡ []) × AreSent has here events
+AreSent has here (Relayed arrival answer after out ∷ events) = SendsEach here (has after.machine.ports) (option_to_list answer) out × AreSent has here events
 
 -- Calls of a server, as `Served` has them, and what its sockets received and sent meanwhile.
 pub record Moves {D H G : Type 0} (disk : disks.Ghosts D) (handler : handlers.Ghosts H) (ports : generators.Ghosts G) (has : G → ℕ → Bool) (here : Addresses) (IsOne : ℕ → ℕ → Type 0) (old new : ServerState D H G) (before after : List Passed) : Type 0 where
@@ -98,6 +104,7 @@ of_clients (OfClient at from bytes ∷ events) = (record { client = from; server
 of_clients (OfPeer at from bytes ∷ events) = of_clients events
 of_clients (Submitted moment arrival result after ∷ events) = of_clients events
 of_clients (Committed result after out ∷ events) = of_clients events
+of_clients (Relayed arrival answer after out ∷ events) = of_clients events
 
 -- A datagram of a peer: the port that it came to, who sent it, and the bytes. Port 0 is no port: by an arrival there a server brings its
 -- table to the moment.
@@ -112,6 +119,7 @@ of_peers own (OfClient at from bytes ∷ events) = of_peers own events
 of_peers own (OfPeer at from bytes ∷ events) = peer_at at.port (come_from own from) bytes ++ of_peers own events
 of_peers own (Submitted moment arrival result after ∷ events) = of_peers own events
 of_peers own (Committed result after out ∷ events) = of_peers own events
+of_peers own (Relayed arrival answer after out ∷ events) = of_peers own events
 
 -- the datagrams of peers among arrivals
 abbrev pub peers_of : List Arrives → List (ℕ × (Endpoint × List ℕ))
