@@ -169,7 +169,7 @@ fn fill_export<R: Net + AllocGlobal, C: Clock, L: Write + Drop>(
     ))
 }
 
-/// Makes a file or an export a store. At a fault the log says which one it is about.
+/// Makes a file or an export a store, and returns the file, which has its lock. At a fault the log says which one it is about.
 fn make_at<R: Files<File = File> + Net + AllocGlobal, C: Clock, L: Write + Drop>(
     rt: &R,
     clock: &C,
@@ -177,22 +177,25 @@ fn make_at<R: Files<File = File> + Net + AllocGlobal, C: Clock, L: Write + Drop>
     store: &str,
     limits: Limits,
     area: usize,
-) -> Result<(), ProgramError>
+) -> Result<Option<FileDisk<File>>, ProgramError>
     requires { area < 2 ^ 32 }
 {
     match StorePlace::of(store)? {
         StorePlace::File(path) => {
-            make_store(rt, path, limits, area).inspect_err(|_| tell_made_store(
+            let disk = make_store(rt, path, limits, area).inspect_err(|_| tell_made_store(
                 rt, clock, log, path,
             ))?;
-            Ok(())
+            Ok(Some(disk))
         }
-        StorePlace::Export(named) => fill_export(rt, clock, log, named, limits, area),
+        StorePlace::Export(named) => {
+            fill_export(rt, clock, log, named, limits, area)?;
+            Ok(None)
+        }
     }
 }
 
 /// Makes a file a store with the limits of a configuration, or an export. The file is not touched before the area was judged, nor if it is
-/// in use. At a fault the log says which file it is about.
+/// in use, and is locked until it has printed. At a fault the log says which file it is about.
 pub fn run_format<R: Files<File = File> + Net + AllocGlobal, C: Clock, W: Write, L: Write + Drop>(
     rt: &R,
     clock: &C,
@@ -207,6 +210,6 @@ pub fn run_format<R: Files<File = File> + Net + AllocGlobal, C: Clock, W: Write,
     ))?;
     let area = area as usize;
     judge_area(limits, area)?;
-    make_at(rt, clock, log, store, limits, area)?;
+    let _disk = make_at(rt, clock, log, store, limits, area)?;
     print_line("formatted", out)
 }

@@ -173,6 +173,7 @@ fn a_store_in_use_is_refused_and_stays_as_it_is(rt: HostRuntime) -> Result<(), F
     assert!(rt; starts_after(&rt, 1)?);
     assert!(rt; starts_after(&rt, 40)?);
     assert!(rt; has_lock(&rt, SERVE)?);
+    assert!(rt; has_lock(&rt, FORMAT)?);
     fs::remove_file(&rt, "turn_lock.conf")?;
     fs::remove_file(&rt, STORE)?;
     Ok(())
