@@ -1,11 +1,19 @@
 -- Data that was answered beside what is staged, in a run: before what is staged, at the clock.
-use Rattle.std.proofs.Common.{◌≡◌, ◌≤◌, ◌⊎◌, inl, inr, ℕ, zero, suc, Bool, List, [], ◌∷◌, ◌++◌, length, take, Option, refl, sym, ap, ◌∙◌, subst, arith, append_assoc, append-nil}
+use Rattle.std.proofs.Common.{◌≡◌, ◌≢◌, ◌≤◌, ◌⊎◌, ◌||◌, inl, inr, not, ℕ, zero, suc, Bool, true, false, List, [], ◌∷◌, ◌++◌, length, take, Option, None, refl, sym, ap, ◌∙◌, subst, arith, append_assoc, append-nil}
 use Rattle.std.proofs.Math.Seq.{take-length}
 use Rattle.std.proofs.lemmas.List.{take-append-le}
-use Rattle.std.specs.List.{AllByRecursion}
+use Rattle.std.specs.List.{AllByRecursion, list_any}
+use Rattle.turn_disk.specs.Meanwhile.{Passes, more, none}
 use Rattle.turn_history.specs.History.{History}
-use Rattle.turn_step.specs.Answer.{Setting}
+use Rattle.turn_history.specs.Table.{Contents}
+use Rattle.turn_cred.specs.Credential.{Keys}
+use Rattle.turn_step.proofs.Beginnings.{data_same}
+use Rattle.turn_step.specs.Answer.{AnswersArrival, Setting}
+use Rattle.turn_step.specs.Data.{IsOwner, IsRequestOf}
+use Rattle.turn_step.specs.State.{IsAfter, setting_of}
+use Rattle.turn_engine.specs.Relaying.{BesideState, IsApart, IsAtClock, Relays}
 use Rattle.turn_step.specs.Outcome.{Arrives, Sent, added}
+use Rattle.turn_types.specs.declared.address.FiveTuple.{FiveTuple}
 use Rattle.turn_engine.specs.Runs.{IsAnswered, IsRun, Taken, accepted, beside_at, last_moment}
 use Rattle.turn_engine.proofs.Answered.{accepted-append}
 use Rattle.turn_engine.proofs.Lists.{all-append, none_left}
@@ -78,3 +86,52 @@ stored_part h xs ys =
     let first = h ++ accepted xs in
     let whole : h ++ accepted (xs ++ ys) ≡ first ++ accepted ys = ap (λ (l : History). h ++ l) (accepted-append xs ys) ∙ sym (append_assoc h (accepted xs) (accepted ys)) in
     ap (λ (l : History). take (length first) l) whole ∙ take-append-le (length first) first (accepted ys) (omega arith) ∙ take-length first
+
+-- ---- Five-tuples that are staged
+
+neither : (a b : Bool) → (a || b) ≡ false → (a ≡ false) × (b ≡ false)
+neither false b is = (refl, is)
+neither true b is = cc
+
+one_of : (a b : Bool) → (a || b) ≡ true → (a ≡ true) ⊎ (b ≡ true)
+one_of false b is = inr is
+one_of true b is = inl refl
+
+pub apart_from : (p : FiveTuple → Bool) (f : FiveTuple) → ((g : FiveTuple) → p g ≡ false → g ≢ f) → (gs : List FiveTuple) → list_any p gs ≡ false → AllByRecursion (λ g. g ≢ f) gs
+apart_from p f differ [] none = tt
+apart_from p f differ (g ∷ gs) none = let both = neither (p g) (list_any p gs) none in (differ g both.0, apart_from p f differ gs both.1)
+
+pub not_apart : (p : FiveTuple → Bool) (f : FiveTuple) → ((g : FiveTuple) → p g ≡ true → g ≡ f) → (gs : List FiveTuple) → list_any p gs ≡ true → AllByRecursion (λ g. g ≢ f) gs → ⊥
+not_apart p f same [] some all = cc
+not_apart p f same (g ∷ gs) some all = elim (one_of (p g) (list_any p gs) some) [
+  | inl here ↦ all.0 (same g here)
+  | inr there ↦ not_apart p f same gs there all.1
+]
+
+pub not_false : (b : Bool) → not b ≡ false → b ≡ true
+not_false true is = refl
+not_false false is = cc
+
+-- ---- What is done meanwhile
+
+-- what is done with what is lent is done by the one that it is lent to
+pub lent_by : {L W B : Type 0} (beside : L → B) (other : L → W) (passes : B → W → W → Type 0) {old new : L} → Passes (λ o n. (beside n ≡ beside o) × passes (beside o) (other o) (other n)) old new
+    → Passes (passes (beside old)) (other old) (other new)
+lent_by beside other passes none = none
+lent_by beside other passes {new = new} (more {mid = mid} pass rest) =
+    more pass.1 (subst (λ b. Passes (passes b) (other mid) (other new)) pass.0 (lent_by beside other passes rest))
+
+-- ---- Answers
+
+-- data that was answered after every history is answered after the part that is stored
+pub relays_data : {H G : Type 0} (keys : H → Keys) (range : G → ℕ × ℕ) (b : BesideState H G) (a : Arrives) (sent : Option Sent) → ¬ IsRequestOf a → IsAtClock b → IsApart b.machine.table.contents b.tuples a
+    → ((h : History) → IsAfter b.machine h → AnswersArrival (setting_of keys range b.machine) h b.machine.table.moment false a (record { change = None; sent = sent })) → Relays keys range b a sent
+relays_data keys range b a sent other at_clock apart answers = record {
+  no_request = other;
+  at_clock = at_clock;
+  apart = apart;
+  answers = λ h k after is.
+      let owns = subst (λ (c : Contents). IsOwner c a apart.owner) after.agrees apart.owns in
+      let others = subst (AllByRecursion (λ (g : FiveTuple). g ≢ apart.owner)) is apart.apart in
+      (data_same h k (setting_of keys range b.machine) b.machine.config.limits b.machine.table.moment false a apart.owner (record { change = None; sent = sent }) after.fitting after.late other owns others).0 (answers h after);
+}

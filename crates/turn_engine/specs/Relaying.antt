@@ -49,7 +49,7 @@ pub data HasToWait {H G : Type 0} (b : BesideState H G) (a : Arrives) : Type 0 w
 -- Data was answered beside what is staged: no act of its five-tuple is staged, and all that is staged is of the clock's moment. After
 -- every history with which the machine agrees, it was answered after the part of it that is stored.
 pub record Relays {H G : Type 0} (keys : H → Keys) (range : G → ℕ × ℕ) (b : BesideState H G) (a : Arrives) (sent : Option Sent) : Type 0 where
-  pub data : ¬ IsRequestOf a
+  pub no_request : ¬ IsRequestOf a
   pub at_clock : IsAtClock b
   pub apart : IsApart b.machine.table.contents b.tuples a
   pub answers : (h : History) (k : ℕ) → IsAfter b.machine h → b.tuples ≡ tuples_of (drop k h)

@@ -1,6 +1,6 @@
 //! Answers to data beside what is staged.
 
-ghost use Rattle.std.specs.Prelude.{◌≡◌, ◌≢◌, ◌↔◌, ◌×◌, IsTrue, IfOk, IfSome, Ok, false};
+ghost use Rattle.std.specs.Prelude.{◌≡◌, ◌≢◌, ◌↔◌, IsTrue, IfOk, IfSome, Ok, false};
 ghost use Rattle.std.specs.List.{AllByRecursion};
 ghost use Rattle.turn_step.specs.Views.{arrival_of};
 ghost use Rattle.turn_engine.specs.Relaying.{HasToWait, IsApart, IsAtClock, IsBehind, Relays};
@@ -24,16 +24,17 @@ pub enum Relayed<A: Allocator = Global> {
 
 /// What answers data beside what is staged: at rest, and while a commit waits for its disk. What is sent so rests on nothing that isn't
 /// stored.
-pub struct Beside<'a, H: AuthHandler, G: RelayAddressGenerator, A: Allocator = Global> {
+pub struct Beside<'a, 'b, H: AuthHandler, G: RelayAddressGenerator, A: Allocator = Global> {
     machine: &'a Machine<H, G, A>,
     // Of the acts that are staged.
-    tuples: &'a [FiveTuple],
+    tuples: &'b [FiveTuple],
     // How many arrivals are staged, and the moment of the first.
     arrivals: u16,
     since: Moment,
 }
 
-impl<'a, H: AuthHandler, G: RelayAddressGenerator, A: Allocator> Drop for Beside<'a, H, G, A> {
+impl<'a, 'b, H: AuthHandler, G: RelayAddressGenerator, A: Allocator> Drop
+    for Beside<'a, 'b, H, G, A> {
     fn drop(self) {
         let Beside {
             machine: _,
@@ -44,7 +45,8 @@ impl<'a, H: AuthHandler, G: RelayAddressGenerator, A: Allocator> Drop for Beside
     }
 }
 
-impl<'a, H: AuthHandler, G: RelayAddressGenerator, A: Allocator> Model for Beside<'a, H, G, A> {
+impl<'a, 'b, H: AuthHandler, G: RelayAddressGenerator, A: Allocator> Model
+    for Beside<'a, 'b, H, G, A> {
     ghost use Rattle.std.specs.Coded.{codes};
     ghost use Rattle.turn_table.specs.State.{state_code};
     ghost use Rattle.turn_engine.specs.Relaying.{BesideState};
@@ -64,13 +66,14 @@ fn has_tuple(tuples: &[FiveTuple], owner: FiveTuple) -> bool
     tuples.contains(&owner)
 }
 
-impl<'a, H: AuthHandler, G: RelayAddressGenerator, A: Allocator + Copy> Beside<'a, H, G, A> {
+impl<'a, 'b, H: AuthHandler, G: RelayAddressGenerator, A: Allocator + Copy>
+    Beside<'a, 'b, H, G, A> {
     pub(crate) fn new(
         machine: &'a Machine<H, G, A>,
-        tuples: &'a [FiveTuple],
+        tuples: &'b [FiveTuple],
         arrivals: u16,
         since: Moment,
-    ) -> Beside<'a, H, G, A>
+    ) -> Beside<'a, 'b, H, G, A>
         ensures { result ≡ record { machine = machine.now; tuples = tuples.now; arrivals = arrivals; since = since } }
     {
         Beside {

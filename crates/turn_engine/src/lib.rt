@@ -6,6 +6,7 @@ mod batch;
 mod beside;
 mod error;
 mod laws;
+mod meanwhile;
 mod server;
 
 pub use beside::{Beside, Relayed};
@@ -13,5 +14,6 @@ pub use error::{ServerOpenError, SubmitError};
 pub use laws::{
     ports_stay_held, servers_make_runs, stopped_servers_open_again, stops_keep_what_was_handed_out,
 };
+pub use meanwhile::WhileCommitting;
 pub use server::Server;
 pub use turn_store::StoreError as CommitError;

@@ -5,6 +5,7 @@ ghost use Rattle.std.specs.Option.{option_to_list};
 ghost use Rattle.std.specs.Result.{result_map_both};
 ghost use Rattle.turn_disk.specs.Device.{Uses};
 ghost use Rattle.turn_disk.specs.Disk.{EachImageSince};
+ghost use Rattle.turn_disk.specs.Meanwhile.{Passes};
 ghost use Rattle.turn_history.specs.Fitting.{IsInRange};
 ghost use Rattle.turn_history.specs.History.{Event, History};
 ghost use Rattle.turn_ports.specs.Ports.{has_failed};
@@ -24,15 +25,18 @@ ghost use Rattle.turn_store.specs.Tables.{snapshot_of};
 ghost use Rattle.turn_engine.specs.Calls.{Commits, Opening, Submits, committed, disk_after};
 ghost use Rattle.turn_engine.specs.Images.{AtLeast};
 ghost use Rattle.turn_engine.specs.Recovering.{Opens, RecoversTo, Takes, tuples_of};
+ghost use Rattle.turn_engine.specs.Relaying.{beside};
 ghost use Rattle.turn_engine.specs.State.{emptied, has_pairs, limits_of, now_of};
 
 use crate::batch::Batch;
+use crate::beside::Beside;
 use crate::error::{ServerOpenError, SubmitError};
+use crate::meanwhile::{Lending, WhileCommitting};
 use std::alloc::{AllocError, Allocator, Global};
 use std::marker::Model;
 use std::mem;
 use turn_cred::AuthHandler;
-use turn_disk::Disk;
+use turn_disk::{Disk, Idle};
 use turn_ports::RelayAddressGenerator;
 use turn_record::Version;
 use turn_step::{Arrival, Machine, MachineError, Outgoing, Pairs, Step};
@@ -327,8 +331,22 @@ impl<D: Disk, H: AuthHandler, G: RelayAddressGenerator, A: Allocator + Copy> Ser
         Ok(())
     }
 
+    /// What answers data beside what is staged. It answers on behalf of a server that isn't stopped.
+    pub fn beside(&self) -> Beside<'_, '_, H, G, A>
+        ensures { result ≡ beside self.now }
+    {
+        Beside::new(
+            &self.machine,
+            self.batch.tuples(),
+            self.arrivals,
+            self.since,
+        )
+    }
+
     // Writes the acts that were accepted since the last commit, if there are any. With what is staged handed out after Ok, it is a commit.
-    fn write(&mut self) -> Result<(), StoreError>
+    fn write<W: WhileCommitting<H, G, A>>(&mut self, other: &mut W) -> Result<(), StoreError>
+        ensures meanwhile { Passes (W.passes (beside self.old)) other.old other.new }
+        ensures idle { self.old.store.stopped ≡ true → other.new ≡ other.old }
         ensures rest { self.new ≡ record self.old { store = self.new.store } }
         ensures call { Commits D.Disk self.old (committed self.old self.new.store result)
             (result_map_both (λ _. self.old.outs) (λ fault. fault) result) }
@@ -339,9 +357,18 @@ impl<D: Disk, H: AuthHandler, G: RelayAddressGenerator, A: Allocator + Copy> Ser
         if self.batch.acts() == 0 {
             return Ok(());
         }
+        let mut lending = Lending {
+            other,
+            beside: Beside::new(
+                &self.machine,
+                self.batch.tuples(),
+                self.arrivals,
+                self.since,
+            ),
+        };
         match self
             .store
-            .append(self.batch.payload(), self.machine.table())
+            .append(self.batch.payload(), self.machine.table(), &mut lending)
         {
             Ok(_) => Ok(()),
             Err(fault) => Err(fault),
@@ -359,12 +386,25 @@ impl<D: Disk, H: AuthHandler, G: RelayAddressGenerator, A: Allocator + Copy> Ser
         mem::replace(&mut self.outgoing, Vec::new(self.alloc))
     }
 
-    /// Writes the acts that were accepted since the last commit, and returns what is to be sent, in order.
+    /// Writes the acts that were accepted since the last commit, and returns what is to be sent, in order. While a device call waits,
+    /// `other` is done, a piece at a time, with what answers data beside what is staged; on a stopped server nothing is.
+    pub fn commit_while<W: WhileCommitting<H, G, A>>(
+        &mut self,
+        other: &mut W,
+    ) -> Result<Vec<Outgoing<A>, A>, StoreError>
+        ensures call { Commits D.Disk self.old self.new (result_map_both (λ outs. map sent_of outs.items) (λ fault. fault) result) }
+        ensures meanwhile { Passes (W.passes (beside self.old)) other.old other.new }
+        ensures idle { self.old.store.stopped ≡ true → other.new ≡ other.old }
+    {
+        self.write(other)?;
+        Ok(self.hand_out())
+    }
+
+    /// `commit_while` with nothing else to do.
     pub fn commit(&mut self) -> Result<Vec<Outgoing<A>, A>, StoreError>
         ensures call { Commits D.Disk self.old self.new (result_map_both (λ outs. map sent_of outs.items) (λ fault. fault) result) }
     {
-        self.write()?;
-        Ok(self.hand_out())
+        self.commit_while(&mut Idle)
     }
 
     /// The moment of the last arrival that was taken or refused for memory; after an opening the latest one in the store.

@@ -1,4 +1,4 @@
-use Rattle.std.proofs.Common.{◌≡◌, ℕ, refl, take, sym, ap, ◌∙◌, subst}
+use Rattle.std.proofs.Common.{arith, ◌≡◌, ℕ, refl, take, sym, ap, ◌∙◌, subst}
 use Rattle.turn_disk.specs.Disk.{EachImageSince}
 use Rattle.turn_history.specs.History.{History}
 use Rattle.turn_record.specs.declared.version.Version.TheVariants.{V2}

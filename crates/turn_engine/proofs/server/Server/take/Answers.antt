@@ -178,6 +178,6 @@ returns-clause-ok g c = λ h k recovers.
       recovers = recovers_taken _ c.args.self.now _ h k t change recovers (ap (λ s. s.store) c.self.view_is) (λ es is. c.stage_act.ensures.payload es (ap (λ s. s.payload) c.self.view_is ∙ is))
           (c.stage_act.ensures.acts ∙ ap (λ s. s.acts + length (added t change)) c.self.view_is)
           (c.stage_act.ensures.tuples ∙ ap (λ s. s.tuples ++ tuples_of (added t change)) c.self.view_is)
-          (first_late _ _ _ _ c.first_moment.ensures.first c.first_moment.ensures.later (old_late c.requires.clock (ap (λ s. s.since) c.self.view_is) recovers.since)) c.requires.clock
+          (first_late _ _ _ _ c.first_moment-self-inside.ensures.first c.first_moment-self-inside.ensures.later (old_late c.requires.clock (ap (λ s. s.since) c.self.view_is) recovers.since)) c.requires.clock
           (ap (λ (s : State). s.moment) c.apply-datagram.ensures.table ∙ moment_changed c.prepare.new.self.table change ∙ moment) writes after;
     }

@@ -1,0 +1,7 @@
+use Rattle.std.proofs.Common.{Bool, true, false, ◌≡◌, refl}
+use Rattle.turn_engine.specs.Relaying.{is_staged}
+use Rattle.turn_engine.proofs.Besides.{not_false}
+use Rattle.turn_engine.proofs.beside.Beside.is_apart.Goals as goal
+
+pub returns-in-Some-clause-behind : goal.returns-in-Some-clause-behind
+returns-in-Some-clause-behind g c = λ is. is_staged c.in-Some.owner c.in-Some.ensures.some (c.has_tuple.ensures.some (not_false _ is))
