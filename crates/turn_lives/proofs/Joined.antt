@@ -6,14 +6,14 @@ use Rattle.turn_engine.proofs.Runs as runs
 use Rattle.turn_engine.proofs.Stops.{left_has}
 use Rattle.turn_engine.specs.Calls.{Submits}
 use Rattle.turn_engine.specs.Images.{AtLeast}
-use Rattle.turn_engine.specs.Runs.{Commit, NeverFails, Serves, ServerCall, Submit, Taken, accepted, last_of}
+use Rattle.turn_engine.specs.Runs.{Commit, NeverFails, Relay, Serves, ServerCall, Submit, Taken, accepted, last_of}
 use Rattle.turn_engine.specs.State.{ServerState, now_of}
 use Rattle.turn_player.proofs.Growing.{grows_by_last, longer_by}
 use Rattle.turn_player.proofs.Lives.{behind_life, keeps, one_run_by, sent_in-append, sent_lasts}
 use Rattle.turn_player.proofs.Worlds.{calls_make_lives, commit_since, leaves}
 use Rattle.turn_player.specs.Lives as lives
 use Rattle.turn_player.specs.Laws.{AreOneRun, IsRunBy}
-use Rattle.turn_player.specs.Lives.{Goes, Halted, Input, Lasting, Life, NeverFall, Point, Running, Said, Shut, arrivals, arrivals_of, bound_of, formatted, sent_by_all, sent_in, sure_of, taken_of, unsettled_of}
+use Rattle.turn_player.specs.Lives.{Goes, Halted, Input, Lasting, Life, NeverFall, Point, Running, Said, Shut, arrivals, arrivals_of, bound_of, sent_by_all, sent_in, sure_of, taken_of, unsettled_of}
 use Rattle.turn_player.specs.Worlds as worlds
 use Rattle.turn_player.specs.Worlds.{Calls, Down, IsDown, Leaves, Serving, Stands, World}
 use Rattle.turn_ports.specs.declared.generator.RelayAddressGenerator as generators
@@ -24,6 +24,9 @@ use Rattle.turn_store.specs.Areas.{Form}
 use Rattle.turn_store.specs.Images.{EachImage, StandsForAt}
 use Rattle.turn_lives.specs.Processes as processes
 use Rattle.turn_lives.specs.Processes.{AreLives, AreOneRunOn, Follows, HaveLimits, IsStopping, LiveOn, MayLeave, Part, Process, Processes, Stopping, inputs_of, inputs_of_all, last_disk, said_of, said_of_all, settings_of}
+
+no_later : (a b : ℕ) → a ≡ b → a ≤ b
+no_later a b same = omega (arith, same)
 
 later_is : (moment clock : ℕ) → clock ≤ moment → max moment clock ≡ moment
 later_is moment clock le = omega (arith, le)
@@ -53,6 +56,9 @@ module _ {D H G : Type 0} (disk : disks.Ghosts D) (handler : handlers.Ghosts H) 
       (worlds.submits result (subst (λ (n : ℕ). Submits disk handler ports server after n a result) (sym (later_is moment (now_of server) call.in_time)) call))
       (calls_of after xs serves.1)
   calls_of server (Commit result after ∷ xs) serves = worlds.then (Serving after) (worlds.commits result serves.0) (calls_of after xs serves.1)
+  calls_of server (Relay arrival sent after ∷ xs) serves =
+      let call = serves.0 in
+      worlds.then (Serving after) (worlds.relays sent (no_later (now_of after) (now_of server) (ap now_of call.2)) call.0 call.1 call.2) (calls_of after xs serves.1)
 
   stops_at : (form : Form) (may_fail : Bool) (p : Point) (server : ServerState D H G) (stop : Stopping D H G) → Stands disk handler ports form s (Serving server) p
       → IsStopping disk server stop → disk.follows_crash_model (last_disk server stop) → StopsAt form s may_fail p (MayLeave disk server stop)
@@ -152,6 +158,7 @@ module _ {D N H G T : Type 0} (disk : disks.Ghosts D) (following : disks.Ghosts 
 never_front : (m : ℕ) (inputs more : List Input) → NeverFall m (inputs ++ more) → NeverFall m inputs
 never_front m [] more never = tt
 never_front m (lives.Arrive t a ∷ inputs) more never = (never.0, never_front t inputs more never.1)
+never_front m (lives.Relay t a ∷ inputs) more never = (never.0, never_front t inputs more never.1)
 never_front m (lives.Commit ∷ inputs) more never = never_front m inputs more never
 never_front m (lives.Stop ∷ inputs) more never = never_front m inputs more never
 never_front m (lives.Open ∷ inputs) more never = never_front m inputs more never
@@ -168,24 +175,26 @@ widen settings more may_fail sent p one = record {
   flags = one.flags;
 }
 
-one_run_of : (may_fail : Bool) (settings : List Setting) (p q : Point) (parts : List Part) (sent : List Sent) → AreLives may_fail p parts q → NeverFall (bound_of p) (inputs_of_all parts)
-    → AreOneRun (IsRunBy settings [] 0) may_fail sent p → AreOneRun (IsRunBy (settings ++ settings_of parts) [] 0) may_fail (sent ++ sent_in (said_of_all parts)) q
-one_run_of may_fail settings p _ _ sent processes.none never one =
-    subst (λ (l : List Sent). AreOneRun (IsRunBy (settings ++ []) [] 0) may_fail l p) (sym (append-nil sent)) (widen settings [] may_fail sent p one)
-one_run_of may_fail settings p q _ sent (processes.then {parts = parts} part next life rest) never one =
+one_run_of : (may_fail : Bool) (settings : List Setting) (sure : List Lasting) (recent : List Taken) (m : ℕ) (q : Point) (parts : List Part) (sent : List Sent) → AreLives may_fail (Shut sure recent m) parts q
+    → NeverFall m (inputs_of_all parts) → AreOneRun (IsRunBy settings [] 0) may_fail sent (Shut sure recent m) → AreOneRun (IsRunBy (settings ++ settings_of parts) [] 0) may_fail (sent ++ sent_in (said_of_all parts)) q
+one_run_of may_fail settings sure recent m _ _ sent processes.none never one =
+    subst (λ (l : List Sent). AreOneRun (IsRunBy (settings ++ []) [] 0) may_fail l (Shut sure recent m)) (sym (append-nil sent)) (widen settings [] may_fail sent (Shut sure recent m) one)
+one_run_of may_fail settings sure recent m q _ sent (processes.then {parts = parts} part lasting unsettled bound life rest) never one =
     let s = part.setting in
+    let p = Shut sure recent m in
+    let next = Shut lasting unsettled bound in
     let more = inputs_of_all parts in
     let later = behind_life s may_fail p next part.inputs more part.said life never in
-    let here = one_run_by s (IsRunBy (settings ++ s ∷ []) [] 0) (grows_by_last settings s) may_fail p next part.inputs part.said sent life (never_front (bound_of p) part.inputs more never)
+    let here = one_run_by s (IsRunBy (settings ++ s ∷ []) [] 0) (grows_by_last settings s) may_fail p next part.inputs part.said sent life (never_front m part.inputs more never) tt
     (widen settings (s ∷ []) may_fail sent p one) in
-    let all = one_run_of may_fail (settings ++ s ∷ []) next q parts (sent ++ sent_in part.said) rest later here in
+    let all = one_run_of may_fail (settings ++ s ∷ []) lasting unsettled bound q parts (sent ++ sent_in part.said) rest later here in
     let said : (sent ++ sent_in part.said) ++ sent_in (said_of_all parts) ≡ sent ++ sent_in (part.said ++ said_of_all parts) =
     append_assoc sent (sent_in part.said) (sent_in (said_of_all parts)) ∙ ap (λ (l : List Sent). sent ++ l) (sym (sent_in-append part.said (said_of_all parts))) in
     subst (λ (l : List Setting). AreOneRun (IsRunBy l [] 0) may_fail (sent ++ sent_in (part.said ++ said_of_all parts)) q) (append_assoc settings (s ∷ []) (settings_of parts))
     (subst (λ (l : List Sent). AreOneRun (IsRunBy ((settings ++ s ∷ []) ++ settings_of parts) [] 0) may_fail l q) said all)
 
 chain : (may_fail : Bool) (p m q : Point) (part : Part) (parts : List Part) → AreLives may_fail p (part ∷ []) m → AreLives may_fail m parts q → AreLives may_fail p (part ∷ parts) q
-chain may_fail p m q _ parts (processes.then part _ life processes.none) rest = processes.then part m life rest
+chain may_fail p _ q _ parts (processes.then part sure recent bound life processes.none) rest = processes.then part sure recent bound life rest
 
 -- ---- Processes one after another
 
@@ -202,7 +211,7 @@ one_lives_on disk following handler ports time form may_fail never old new part 
       lasting = on.lasting;
       unsettled = on.unsettled;
       bound = on.bound;
-      lives = processes.then part end on.life processes.none;
+      lives = processes.then part on.lasting on.unsettled on.bound on.life processes.none;
       keeps = keeps s may_fail (Shut sure recent m) end part.inputs part.said on.life;
       handed_out = sent_lasts s may_fail (Shut sure recent m) end part.inputs part.said on.life ∙ ap (λ (l : List Said). sent_by_all sure ++ sent_in l) (sym (append-nil part.said));
       leaves = on.leaves;
@@ -266,6 +275,6 @@ module _ {I D H G T : Type 0} (disk_of : I → disks.Ghosts D) (handler : handle
         let on = lasts i k old new parts same all images crash_model in
         record {
           on = on;
-          one = one_run_of may_fail [] formatted (Shut on.lasting on.unsettled on.bound) parts [] on.lives rising
+          one = one_run_of may_fail [] [] [] 0 (Shut on.lasting on.unsettled on.bound) parts [] on.lives rising
               (record { is_run = tt; sent_is = refl; have_acts = tt; moments = omega arith; in_time = tt; flags = λ never. tt });
         }

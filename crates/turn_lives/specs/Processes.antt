@@ -23,12 +23,12 @@ use Rattle.turn_store.specs.Areas.{Form}
 use Rattle.turn_store.specs.Images.{EachImage}
 use Rattle.turn_store.specs.declared.error.StoreError.{StoreError}
 
--- the inputs of calls
+-- the inputs of calls; data that was answered beside what is staged is of the clock's moment
 abbrev pub inputs_of : {D H G : Type 0} → List (ServerCall D H G) → List Input
 inputs_of [] = []
 inputs_of (Submit moment arrival result after ∷ steps) = lives.Arrive moment arrival ∷ inputs_of steps
 inputs_of (Commit result after ∷ steps) = lives.Commit ∷ inputs_of steps
-inputs_of (Relay arrival sent after ∷ steps) = lives.Relay arrival ∷ inputs_of steps
+inputs_of (Relay arrival sent after ∷ steps) = lives.Relay (now_of after) arrival ∷ inputs_of steps
 
 -- what calls say
 abbrev pub said_of : {D H G : Type 0} → List (ServerCall D H G) → List Said
@@ -127,11 +127,11 @@ abbrev pub AllReserve : {I D H G T : Type 0} {disk_of : I → disks.Ghosts D} {h
 AllReserve none = Unit {0}
 AllReserve (then part j next one rest) = ReservesIfServing one × AllReserve rest
 
--- lives one after another, each by the setting of its process
+-- lives one after another, each by the setting of its process, and at the end of each all is shut
 pub data AreLives (may_fail : Bool) : Point → List Part → Point → Type 0 where
   none : {p : Point} → AreLives may_fail p [] p
-  then : {p q : Point} {parts : List Part} (part : Part) (next : Point) → Life part.setting may_fail p part.inputs part.said next
-      → AreLives may_fail next parts q → AreLives may_fail p (part ∷ parts) q
+  then : {p q : Point} {parts : List Part} (part : Part) (sure : List Lasting) (recent : List Taken) (bound : ℕ)
+      → Life part.setting may_fail p part.inputs part.said (Shut sure recent bound) → AreLives may_fail (Shut sure recent bound) parts q → AreLives may_fail p (part ∷ parts) q
 
 -- Processes led from a point of a life at which all is shut to another. What lasted still lasts, with all that they handed out, in order,
 -- and each image of the disk has what lasts.
