@@ -1,14 +1,19 @@
 -- Data that was answered beside what is staged, in a run: before what is staged, at the clock.
-use Rattle.std.proofs.Common.{◌≡◌, ◌≢◌, ◌≤◌, ◌⊎◌, ◌||◌, inl, inr, not, ℕ, zero, suc, Bool, true, false, List, [], ◌∷◌, ◌++◌, length, take, Option, None, refl, sym, ap, ◌∙◌, subst, arith, append_assoc, append-nil}
+use Rattle.std.proofs.Common.{◌≡◌, ◌≢◌, ◌≤◌, ◌⊎◌, ◌&&◌, ◌||◌, nat_eq, inl, inr, not, ℕ, zero, suc, Bool, true, false, List, [], ◌∷◌, ◌++◌, length, take, Option, None, Result, Ok, refl, sym, ap, ◌∙◌, subst, arith, append_assoc, append-nil}
 use Rattle.std.proofs.Math.Seq.{take-length}
+use Rattle.std.proofs.lemmas.Bool.{and_from, and_parts, both_ways, eq-eqb, eqb-true}
 use Rattle.std.proofs.lemmas.List.{take-append-le}
 use Rattle.std.specs.List.{AllByRecursion, list_any}
-use Rattle.turn_disk.specs.Meanwhile.{Passes, more, none}
+use Rattle.turn_disk.specs.Meanwhile as meanwhile
+use Rattle.turn_disk.specs.Meanwhile.{Passes}
 use Rattle.turn_history.specs.History.{History}
 use Rattle.turn_history.specs.Table.{Contents}
 use Rattle.turn_cred.specs.Credential.{Keys}
 use Rattle.turn_step.proofs.Beginnings.{data_same}
 use Rattle.turn_step.specs.Answer.{AnswersArrival, Setting}
+use Rattle.turn_step.specs.declared.arrival.Outgoing.{Outgoing}
+use Rattle.turn_step.specs.declared.data.DataAnswer.{DataAnswer}
+use Rattle.turn_step.specs.declared.data.DataAnswer.TheVariants.{Data, Request}
 use Rattle.turn_step.specs.Data.{IsOwner, IsRequestOf}
 use Rattle.turn_step.specs.State.{IsAfter, setting_of}
 use Rattle.turn_engine.specs.Relaying.{BesideState, IsApart, IsAtClock, Relays}
@@ -89,6 +94,33 @@ stored_part h xs ys =
 
 -- ---- Five-tuples that are staged
 
+-- whether two five-tuples are the same
+abbrev same_as : FiveTuple → FiveTuple → Bool
+same_as f g = (nat_eq f.client.ip g.client.ip && nat_eq f.client.port g.client.port) && (nat_eq f.server.ip g.server.ip && nat_eq f.server.port g.server.port)
+
+pub tuple_is : (f g : FiveTuple) → same_as f g ≡ true → f ≡ g
+tuple_is f g same =
+    let both = and_parts (nat_eq f.client.ip g.client.ip && nat_eq f.client.port g.client.port) (nat_eq f.server.ip g.server.ip && nat_eq f.server.port g.server.port) same in
+    let client = and_parts (nat_eq f.client.ip g.client.ip) (nat_eq f.client.port g.client.port) both.0 in
+    let server = and_parts (nat_eq f.server.ip g.server.ip) (nat_eq f.server.port g.server.port) both.1 in
+    let ip = eqb-true f.client.ip g.client.ip client.0 in
+    let port = eqb-true f.client.port g.client.port client.1 in
+    let ip_there = eqb-true f.server.ip g.server.ip server.0 in
+    let port_there = eqb-true f.server.port g.server.port server.1 in
+    (λ i. record { client = record { ip = ip i; port = port i }; server = record { ip = ip_there i; port = port_there i } })
+
+self_is : (n : ℕ) → nat_eq n n ≡ true
+self_is n = eq-eqb n n refl
+
+tuple_self : (f : FiveTuple) → same_as f f ≡ true
+tuple_self f =
+    and_from (nat_eq f.client.ip f.client.ip && nat_eq f.client.port f.client.port) (nat_eq f.server.ip f.server.ip && nat_eq f.server.port f.server.port)
+    (and_from (nat_eq f.client.ip f.client.ip) (nat_eq f.client.port f.client.port) (self_is f.client.ip) (self_is f.client.port))
+    (and_from (nat_eq f.server.ip f.server.ip) (nat_eq f.server.port f.server.port) (self_is f.server.ip) (self_is f.server.port))
+
+pub tuple_differs : (f g : FiveTuple) → same_as f g ≡ false → f ≢ g
+tuple_differs f g apart same = both_ways (same_as f g) apart (subst (λ (x : FiveTuple). same_as f x ≡ true) same (tuple_self f))
+
 neither : (a b : Bool) → (a || b) ≡ false → (a ≡ false) × (b ≡ false)
 neither false b is = (refl, is)
 neither true b is = cc
@@ -108,6 +140,13 @@ not_apart p f same (g ∷ gs) some all = elim (one_of (p g) (list_any p gs) some
   | inr there ↦ not_apart p f same gs there all.1
 ]
 
+-- data isn't what a request is answered by
+pub data_is_no_request : {A E : Type 0} {d : Option (Outgoing A)} (r : Result (DataAnswer A) E) (x : DataAnswer A) → r ≡ Ok Request → r ≡ Ok x → x ≡ Data d → ⊥
+data_is_no_request r x request ok data_is = cc
+
+pub not_both : (b : Bool) → b ≡ false → b ≡ true → ⊥
+not_both b off on = both_ways b off on
+
 pub not_false : (b : Bool) → not b ≡ false → b ≡ true
 not_false true is = refl
 not_false false is = cc
@@ -117,16 +156,16 @@ not_false false is = cc
 -- what is done with what is lent is done by the one that it is lent to
 pub lent_by : {L W B : Type 0} (beside : L → B) (other : L → W) (passes : B → W → W → Type 0) {old new : L} → Passes (λ o n. (beside n ≡ beside o) × passes (beside o) (other o) (other n)) old new
     → Passes (passes (beside old)) (other old) (other new)
-lent_by beside other passes none = none
-lent_by beside other passes {new = new} (more {mid = mid} pass rest) =
-    more pass.1 (subst (λ b. Passes (passes b) (other mid) (other new)) pass.0 (lent_by beside other passes rest))
+lent_by beside other passes meanwhile.none = meanwhile.none
+lent_by beside other passes {new = new} (meanwhile.more {mid = mid} pass rest) =
+    meanwhile.more pass.1 (subst (λ b. Passes (passes b) (other mid) (other new)) pass.0 (lent_by beside other passes rest))
 
 -- ---- Answers
 
 -- data that was answered after every history is answered after the part that is stored
-pub relays_data : {H G : Type 0} (keys : H → Keys) (range : G → ℕ × ℕ) (b : BesideState H G) (a : Arrives) (sent : Option Sent) → ¬ IsRequestOf a → IsAtClock b → IsApart b.machine.table.contents b.tuples a
+pub relays_beside : {H G : Type 0} (keys : H → Keys) (range : G → ℕ × ℕ) (b : BesideState H G) (a : Arrives) (sent : Option Sent) → ¬ IsRequestOf a → IsAtClock b → IsApart b.machine.table.contents b.tuples a
     → ((h : History) → IsAfter b.machine h → AnswersArrival (setting_of keys range b.machine) h b.machine.table.moment false a (record { change = None; sent = sent })) → Relays keys range b a sent
-relays_data keys range b a sent other at_clock apart answers = record {
+relays_beside keys range b a sent other at_clock apart answers = record {
   no_request = other;
   at_clock = at_clock;
   apart = apart;

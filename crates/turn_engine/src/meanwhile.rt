@@ -29,22 +29,20 @@ impl<H: AuthHandler, G: RelayAddressGenerator, A: Allocator> WhileCommitting<H, 
 }
 
 /// What is done meanwhile, with what answers data then.
-#[derive(Drop)]
-pub(crate) struct Lending<'o, 'a, 'b, W, H: AuthHandler, G: RelayAddressGenerator, A: Allocator> {
-    pub other: &'o mut W,
+pub(crate) struct Lending<'a, 'b, W, H: AuthHandler, G: RelayAddressGenerator, A: Allocator> {
+    pub other: W,
     pub beside: Beside<'a, 'b, H, G, A>,
 }
 
 impl<
-    'o,
     'a,
     'b,
     W: WhileCommitting<H, G, A>,
     H: AuthHandler,
     G: RelayAddressGenerator,
     A: Allocator,
-> Meanwhile for Lending<'o, 'a, 'b, W, H, G, A> {
-    ghost passes = { λ old new. (new.beside ≡ old.beside) × W.passes old.beside old.other.now new.other.now };
+> Meanwhile for Lending<'a, 'b, W, H, G, A> {
+    ghost passes = { λ old new. (new.beside ≡ old.beside) × W.passes old.beside old.other new.other };
 
     fn pass(&mut self) -> bool {
         self.other.pass(&self.beside)

@@ -344,18 +344,18 @@ impl<D: Disk, H: AuthHandler, G: RelayAddressGenerator, A: Allocator + Copy> Ser
     }
 
     // Writes the acts that were accepted since the last commit, if there are any. With what is staged handed out after Ok, it is a commit.
-    fn write<W: WhileCommitting<H, G, A>>(&mut self, other: &mut W) -> Result<(), StoreError>
-        ensures meanwhile { Passes (W.passes (beside self.old)) other.old other.new }
-        ensures idle { self.old.store.stopped ≡ true → other.new ≡ other.old }
+    fn write<W: WhileCommitting<H, G, A>>(&mut self, other: W) -> (Result<(), StoreError>, W)
+        ensures meanwhile { Passes (W.passes (beside self.old)) other result.1 }
+        ensures idle { self.old.store.stopped ≡ true → result.1 ≡ other }
         ensures rest { self.new ≡ record self.old { store = self.new.store } }
-        ensures call { Commits D.Disk self.old (committed self.old self.new.store result)
-            (result_map_both (λ _. self.old.outs) (λ fault. fault) result) }
+        ensures call { Commits D.Disk self.old (committed self.old self.new.store result.0)
+            (result_map_both (λ _. self.old.outs) (λ fault. fault) result.0) }
     {
         if self.store.is_stopped() {
-            return Err(StoreError::Stopped);
+            return (Err(StoreError::Stopped), other);
         }
         if self.batch.acts() == 0 {
-            return Ok(());
+            return (Ok(()), other);
         }
         let mut lending = Lending {
             other,
@@ -366,13 +366,15 @@ impl<D: Disk, H: AuthHandler, G: RelayAddressGenerator, A: Allocator + Copy> Ser
                 self.since,
             ),
         };
-        match self
+        let appended = self
             .store
-            .append(self.batch.payload(), self.machine.table(), &mut lending)
-        {
+            .append(self.batch.payload(), self.machine.table(), &mut lending);
+        let Lending { other, beside: _ } = lending;
+        let written = match appended {
             Ok(_) => Ok(()),
             Err(fault) => Err(fault),
-        }
+        };
+        (written, other)
     }
 
     // Returns what is staged, in order, and empties the batch.
@@ -387,24 +389,29 @@ impl<D: Disk, H: AuthHandler, G: RelayAddressGenerator, A: Allocator + Copy> Ser
     }
 
     /// Writes the acts that were accepted since the last commit, and returns what is to be sent, in order. While a device call waits,
-    /// `other` is done, a piece at a time, with what answers data beside what is staged; on a stopped server nothing is.
+    /// `other` is done, a piece at a time, with what answers data beside what is staged; on a stopped server nothing is. It is returned
+    /// in any case.
     pub fn commit_while<W: WhileCommitting<H, G, A>>(
         &mut self,
-        other: &mut W,
-    ) -> Result<Vec<Outgoing<A>, A>, StoreError>
-        ensures call { Commits D.Disk self.old self.new (result_map_both (λ outs. map sent_of outs.items) (λ fault. fault) result) }
-        ensures meanwhile { Passes (W.passes (beside self.old)) other.old other.new }
-        ensures idle { self.old.store.stopped ≡ true → other.new ≡ other.old }
+        other: W,
+    ) -> (Result<Vec<Outgoing<A>, A>, StoreError>, W)
+        ensures call { Commits D.Disk self.old self.new (result_map_both (λ outs. map sent_of outs.items) (λ fault. fault) result.0) }
+        ensures meanwhile { Passes (W.passes (beside self.old)) other result.1 }
+        ensures idle { self.old.store.stopped ≡ true → result.1 ≡ other }
     {
-        self.write(other)?;
-        Ok(self.hand_out())
+        let (written, other) = self.write(other);
+        match written {
+            Ok(()) => (Ok(self.hand_out()), other),
+            Err(fault) => (Err(fault), other),
+        }
     }
 
     /// `commit_while` with nothing else to do.
     pub fn commit(&mut self) -> Result<Vec<Outgoing<A>, A>, StoreError>
         ensures call { Commits D.Disk self.old self.new (result_map_both (λ outs. map sent_of outs.items) (λ fault. fault) result) }
     {
-        self.commit_while(&mut Idle)
+        let (outgoing, Idle) = self.commit_while(Idle);
+        outgoing
     }
 
     /// The moment of the last arrival that was taken or refused for memory; after an opening the latest one in the store.

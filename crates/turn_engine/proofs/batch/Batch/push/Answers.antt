@@ -11,7 +11,7 @@ invariant_of-self g c =
     let range = rw (← c.self.view_is) at c.requires.in_range in
     let few = rw (← c.self.view_is) at c.requires.few in
     let writes = rw (← c.self.view_is) at c.requires.writes in
-    ?
+    rw (c.in-Ok-push.ensures.items, c.in-Ok.ensures.ok) (pushed-sound _ _ _ _ (act_entry e) _ _ _ _ _ c.args.five_tuple c.self.invariant few (act_at_most _ _ e writes range) c.write_act.ensures.capacity c.push.ensures.capacity)
 
 pub returns-clause-payload : goal.returns-clause-payload
 returns-clause-payload g c = λ es is.

@@ -1,7 +1,10 @@
-use Rattle.std.proofs.Common.{Bool, true, false, ◌≡◌, refl}
-use Rattle.turn_engine.specs.Relaying.{is_staged}
+use Rattle.std.proofs.Common.{subst}
+use Rattle.turn_step.specs.Views.{arrival_of}
+use Rattle.turn_engine.specs.Relaying.{IsBehind, is_staged}
 use Rattle.turn_engine.proofs.Besides.{not_false}
 use Rattle.turn_engine.proofs.beside.Beside.is_apart.Goals as goal
 
 pub returns-in-Some-clause-behind : goal.returns-in-Some-clause-behind
-returns-in-Some-clause-behind g c = λ is. is_staged c.in-Some.owner c.in-Some.ensures.some (c.has_tuple.ensures.some (not_false _ is))
+returns-in-Some-clause-behind g c = λ is.
+    subst (λ v. IsBehind v.machine.table.contents v.tuples (arrival_of c.args.arrival.now)) c.self.view_is
+    (is_staged c.in-Some.owner c.in-Some.ensures.some (c.has_tuple.ensures.some (not_false _ is)))
