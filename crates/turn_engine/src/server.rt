@@ -32,7 +32,7 @@ use std::alloc::{AllocError, Allocator, Global};
 use std::marker::Model;
 use std::mem;
 use turn_cred::AuthHandler;
-use turn_disk::Disk;
+use turn_disk::{Disk, Idle};
 use turn_ports::RelayAddressGenerator;
 use turn_record::Version;
 use turn_step::{Arrival, Machine, MachineError, Outgoing, Pairs, Step};
@@ -320,7 +320,7 @@ impl<D: Disk, H: AuthHandler, G: RelayAddressGenerator, A: Allocator + Copy> Ser
         }
         match self
             .store
-            .append(self.batch.payload(), self.machine.table())
+            .append(self.batch.payload(), self.machine.table(), &mut Idle)
         {
             Ok(_) => Ok(()),
             Err(fault) => Err(fault),

@@ -3,6 +3,7 @@
 ghost use Rattle.std.specs.Prelude.{◌≡◌, ◌⊎◌, [], ◌∷◌, ◌++◌, ◌+◌, ◌≤◌, ◌<◌, ◌^◌, ℕ, List, true, length, OnOk, IsErr};
 ghost use Rattle.turn_disk.specs.Device.{Uses};
 ghost use Rattle.turn_disk.specs.Disk.{EachImageSince, StandsAt, WritesOnce};
+ghost use Rattle.turn_disk.specs.Meanwhile.{Passes};
 ghost use Rattle.turn_journal.specs.Frames.{IsClosed};
 ghost use Rattle.turn_journal.specs.Layout.{closed_gate, gate_size};
 ghost use Rattle.turn_record.specs.declared.version.Version.{Version};
@@ -12,12 +13,17 @@ ghost use Rattle.turn_store.specs.Stages.{InStagesAt};
 ghost use Rattle.turn_store.specs.Superblock.{least_area};
 
 use crate::layout::VERSION_AT;
-use turn_disk::{DeviceError, Disk, Producer, write_produced, write_through};
+use turn_disk::{DeviceError, Disk, Meanwhile, Producer, write_produced, write_through};
 use turn_journal::{CLOSED, OPEN};
 
 // Closes the other area's gate, unless it is closed already: where the generation after it isn't below, a torn write of the
 // gate could open the wrong area.
-fn close<D: Disk>(disk: &mut D, gate: usize, is_below: bool) -> Result<(), DeviceError>
+fn close<D: Disk, M: Meanwhile>(
+    disk: &mut D,
+    gate: usize,
+    is_below: bool,
+    other: &mut M,
+) -> Result<(), DeviceError>
     requires { gate < D.capacity disk.old }
     ensures uses { Uses D.Disk disk.old disk.new (IsErr result) }
 
@@ -31,15 +37,22 @@ fn close<D: Disk>(disk: &mut D, gate: usize, is_below: bool) -> Result<(), Devic
         D.follows_crash_model disk.new → (v : Version) (form : Form) (start generation end : ℕ) (snapshot : List ℕ) (payloads : List (List ℕ))
         → RecoversToParts v form start gate generation end is_below snapshot payloads (D.trace disk.old).now
         → OnOk result (HoldsAt v form start gate generation snapshot payloads new × IsClosed gate new.bytes) }
+
+    ensures meanwhile { Passes M.passes other.old other.new }
 {
     if is_below {
-        write_through(disk, gate, &[CLOSED])?;
+        write_through(disk, gate, &[CLOSED], other)?;
     }
     Ok(())
 }
 
 // Writes what follows the other area's closed gate.
-fn fill<D: Disk, P: Producer>(disk: &mut D, gate: usize, front: &mut P) -> Result<(), DeviceError>
+fn fill<D: Disk, P: Producer, M: Meanwhile>(
+    disk: &mut D,
+    gate: usize,
+    front: &mut P,
+    other: &mut M,
+) -> Result<(), DeviceError>
     requires place { gate + version_at + length (P.rest front.old) ≤ D.capacity disk.old }
     requires addressable { gate + version_at + length (P.rest front.old) < 2 ^ 64 }
     ensures uses { Uses D.Disk disk.old disk.new (IsErr result) }
@@ -57,13 +70,19 @@ fn fill<D: Disk, P: Producer>(disk: &mut D, gate: usize, front: &mut P) -> Resul
         → HoldsAt v form start gate generation snapshot payloads old → IsClosed gate old.bytes
         → OnOk result (HoldsAt v form start gate generation snapshot payloads new × IsClosed gate new.bytes
         × StandsAt (gate + version_at) (P.rest front.old) new.bytes) }
+
+    ensures meanwhile { Passes M.passes other.old other.new }
 {
-    write_produced(disk, gate + VERSION_AT, front)?;
+    write_produced(disk, gate + VERSION_AT, front, other)?;
     Ok(())
 }
 
 // Opens the other area's gate: from then on it is active.
-fn switch<D: Disk>(disk: &mut D, gate: usize) -> Result<(), DeviceError>
+fn switch<D: Disk, M: Meanwhile>(
+    disk: &mut D,
+    gate: usize,
+    other: &mut M,
+) -> Result<(), DeviceError>
     requires { gate < D.capacity disk.old }
     ensures uses { Uses D.Disk disk.old disk.new (IsErr result) }
 
@@ -84,17 +103,20 @@ fn switch<D: Disk>(disk: &mut D, gate: usize) -> Result<(), DeviceError>
 
     // The gate is written at most once, and nothing else is.
     ensures once { D.follows_crash_model disk.new → WritesOnce gate gate_size (D.trace disk.old) (D.trace disk.new) }
+
+    ensures meanwhile { Passes M.passes other.old other.new }
 {
-    write_through(disk, gate, &[OPEN])?;
+    write_through(disk, gate, &[OPEN], other)?;
     Ok(())
 }
 
 /// Puts a snapshot of the next generation, in either version, into the other area, which then is active.
-pub fn replace<D: Disk, P: Producer>(
+pub fn replace<D: Disk, P: Producer, M: Meanwhile>(
     disk: &mut D,
     gate: usize,
     is_below: bool,
     front: &mut P,
+    other: &mut M,
 ) -> Result<(), DeviceError>
     requires place { gate + version_at + length (P.rest front.old) ≤ D.capacity disk.old }
     requires addressable { gate + version_at + length (P.rest front.old) < 2 ^ 64 }
@@ -116,9 +138,11 @@ pub fn replace<D: Disk, P: Producer>(
         → P.rest front.old ≡ area_front w (generation + 1) next ++ closed_gate ∷ []
         → RecoversToParts v form start gate generation end is_below snapshot payloads old
         → OnOk result (RecoversToParts w form gate start (generation + 1) (head_size + length next) true next [] (D.trace disk.new).now) }
+
+    ensures meanwhile { Passes M.passes other.old other.new }
 {
-    close(disk, gate, is_below)?;
-    fill(disk, gate, front)?;
-    switch(disk, gate)?;
+    close(disk, gate, is_below, other)?;
+    fill(disk, gate, front, other)?;
+    switch(disk, gate, other)?;
     Ok(())
 }

@@ -15,7 +15,7 @@ ghost use Rattle.turn_store.specs.declared.formatting.FormatError.TheVariants.{D
 use crate::layout::{FIRST_AREA, FRESH_SIZE_1, FRESH_SIZE_2, SUPERBLOCK_SIZE};
 use crate::superblock::{least_area_of, superblock_bytes};
 use thiserror::Error;
-use turn_disk::{DeviceError, Disk, write_through};
+use turn_disk::{DeviceError, Disk, Idle, write_through};
 use turn_journal::{CLOSED, OPEN};
 use turn_record::Version;
 use turn_types::Limits;
@@ -60,8 +60,8 @@ fn lay_first<D: Disk>(disk: &mut D, version: Version) -> Result<(), DeviceError>
         → ThroughOutcome first_area (fresh_area version) (D.trace disk.old) (D.trace disk.new) result }
 {
     match version {
-        Version::V1 => write_through(disk, FIRST_AREA, &FRESH_AREA_1),
-        Version::V2 => write_through(disk, FIRST_AREA, &FRESH_AREA_2),
+        Version::V1 => write_through(disk, FIRST_AREA, &FRESH_AREA_1, &mut Idle),
+        Version::V2 => write_through(disk, FIRST_AREA, &FRESH_AREA_2, &mut Idle),
     }
 }
 
@@ -79,7 +79,7 @@ fn lay_areas<D: Disk>(disk: &mut D, version: Version, area: usize) -> Result<(),
     ensures done { D.follows_crash_model disk.new → OnOk result (IsLaid version area (D.trace disk.new).now) }
 {
     let second = disk.size() - area;
-    disk.write_at(second, &[CLOSED])?;
+    disk.write_at(second, &[CLOSED], &mut Idle)?;
     lay_first(disk, version)?;
     Ok(())
 }
@@ -98,8 +98,8 @@ fn open_first<D: Disk>(disk: &mut D, limits: Limits, area: usize) -> Result<(), 
         → EachImageSince (D.trace disk.old) (D.trace disk.new) (HoldsNothingOrStands (record { bounds = limits; area = area })) }
 {
     let superblock = superblock_bytes(area, limits);
-    write_through(disk, 0, &superblock)?;
-    write_through(disk, FIRST_AREA, &[OPEN])?;
+    write_through(disk, 0, &superblock, &mut Idle)?;
+    write_through(disk, FIRST_AREA, &[OPEN], &mut Idle)?;
     Ok(())
 }
 
@@ -117,7 +117,7 @@ fn format_as<D: Disk>(
     if area < needed {
         return Err(FormatError::AreaTooSmall(needed));
     }
-    write_through(disk, 0, &[0; SUPERBLOCK_SIZE])?;
+    write_through(disk, 0, &[0; SUPERBLOCK_SIZE], &mut Idle)?;
     lay_areas(disk, version, area)?;
     open_first(disk, limits, area)?;
     Ok(())

@@ -23,7 +23,7 @@ use crate::log::replay_log;
 use crate::snapshots::read_snapshot;
 use crate::superblock::{LimitsError, least_area, least_area_of, read_superblock};
 use std::alloc::{Allocator, Global};
-use turn_disk::{DeviceError, Disk};
+use turn_disk::{DeviceError, Disk, Idle};
 use turn_journal::{Area, Journal};
 use turn_record::{Version, max_payload, max_snapshot};
 use turn_table::Table;
@@ -228,7 +228,7 @@ fn settle<D: Disk>(disk: &mut D) -> Result<(), DeviceError>
         → EachImageSince (D.trace disk.old) (D.trace disk.new) (IsImage (D.trace disk.old).now) }
     ensures settled { D.follows_crash_model disk.new → OnOk result (IsSettled (D.trace disk.new).now) }
 {
-    disk.sync()?;
+    disk.sync(&mut Idle)?;
     Ok(())
 }
 

@@ -9,6 +9,7 @@ ghost use Rattle.turn_record.specs.Records.{IsSnapshot, max_payload};
 ghost use Rattle.turn_record.specs.declared.version.Version.{Version};
 ghost use Rattle.turn_record.specs.declared.version.Version.TheVariants.{V2};
 ghost use Rattle.turn_disk.specs.Disk.{EachImageSince, IsImage, IsSettled};
+ghost use Rattle.turn_disk.specs.Meanwhile.{Passes};
 ghost use Rattle.turn_journal.specs.Area.{end_of};
 ghost use Rattle.turn_journal.specs.Layout.{frame_room, gate_size};
 ghost use Rattle.turn_store.specs.Areas.{Form, Holds, RecoversToParts};
@@ -32,7 +33,7 @@ use crate::open::{Chosen, Loaded, load};
 use crate::superblock::least_area;
 use std::alloc::{AllocError, Allocator, Global};
 use std::marker::Model;
-use turn_disk::{Bytes, Chain, DeviceError, Disk};
+use turn_disk::{Bytes, Chain, DeviceError, Disk, Idle, Meanwhile};
 use turn_journal::{AppendError, Area, CLOSED, Journal};
 use turn_record::{SnapshotWriter, Version, max_payload, snapshot_size};
 use turn_table::Table;
@@ -47,12 +48,13 @@ struct Next {
 }
 
 // Writes the snapshot of a table into the other area, which has this gate and then is active.
-fn write_snapshot<D: Disk, A: Allocator + Copy>(
+fn write_snapshot<D: Disk, A: Allocator + Copy, M: Meanwhile>(
     disk: &mut D,
     gate: usize,
     is_below: bool,
     next: Next,
     table: &Table<A>,
+    other: &mut M,
 ) -> Result<(), DeviceError>
     requires snapshot { IsSnapshot next.version table.now.bounds table.now.moment table.now.contents }
     requires value { next.size ≡ length (bytes.snapshot next.version table.now.moment table.now.contents) }
@@ -77,6 +79,7 @@ fn write_snapshot<D: Disk, A: Allocator + Copy>(
         → RecoversToParts v form start gate generation end is_below s ps old
         → OnOk result (RecoversToParts next.version form gate start next.generation (head_size + next.size) true
         (bytes.snapshot next.version table.now.moment table.now.contents) [] (D.trace disk.new).now) }
+    ensures meanwhile { Passes M.passes other.old other.new }
 {
     let head = area_head(next.version, next.generation, next.size as u32);
     let mut front = Chain {
@@ -86,7 +89,7 @@ fn write_snapshot<D: Disk, A: Allocator + Copy>(
             second: Bytes::new(&[CLOSED]),
         },
     };
-    replace(disk, gate, is_below, &mut front)
+    replace(disk, gate, is_below, &mut front, other)
 }
 
 /// A snapshot of a table, and a log of the batches after it, on a disk.
@@ -229,7 +232,7 @@ impl<D: Disk, A: Allocator + Copy> Store<D, A> {
     }
 
     // Adds a frame, for which there is room.
-    fn add_frame(&mut self, payload: &[u8]) -> Result<(), DeviceError>
+    fn add_frame<M: Meanwhile>(&mut self, payload: &[u8], other: &mut M) -> Result<(), DeviceError>
         requires runs { self.old.stopped ≡ false }
         requires short { length payload.now ≤ max_payload self.old.version self.old.bounds }
         requires room { self.old.area.end + frame_room + length payload.now ≤ self.old.area.size }
@@ -250,9 +253,11 @@ impl<D: Disk, A: Allocator + Copy> Store<D, A> {
         ensures shown { D.follows_crash_model self.new.disk → (s : List ℕ) (ps : List (List ℕ))
             → Shows self.old (D.trace self.old.disk).now s ps
             → OnOk result (Shows self.new (D.trace self.new.disk).now s (ps ++ payload.now ∷ [])) }
+
+        ensures meanwhile { Passes M.passes other.old other.new }
     {
         self.stopped = true;
-        match self.journal.append(&mut self.disk, payload) {
+        match self.journal.append(&mut self.disk, payload, other) {
             Ok(()) => {
                 self.frames += 1;
                 self.stopped = false;
@@ -286,7 +291,11 @@ impl<D: Disk, A: Allocator + Copy> Store<D, A> {
     }
 
     // Writes a snapshot of the table into the other area, which then is active.
-    fn replace_snapshot(&mut self, table: &Table<A>) -> Result<(), DeviceError>
+    fn replace_snapshot<M: Meanwhile>(
+        &mut self,
+        table: &Table<A>,
+        other: &mut M,
+    ) -> Result<(), DeviceError>
         requires runs { self.old.stopped ≡ false }
         requires generation { self.old.generation < 2 ^ 64 - 1 }
         requires limits { table.now.bounds ≡ self.old.bounds }
@@ -310,6 +319,8 @@ impl<D: Disk, A: Allocator + Copy> Store<D, A> {
             → Shows self.old (D.trace self.old.disk).now s ps
             → OnOk result (Shows self.new (D.trace self.new.disk).now
             (bytes.snapshot self.old.version table.now.moment table.now.contents) []) }
+
+        ensures meanwhile { Passes M.passes other.old other.new }
     {
         self.stopped = true;
         let version = self.version;
@@ -321,7 +332,14 @@ impl<D: Disk, A: Allocator + Copy> Store<D, A> {
             size,
         };
         let area = self.next_area();
-        write_snapshot(&mut self.disk, area, self.other_is_below, next, table)?;
+        write_snapshot(
+            &mut self.disk,
+            area,
+            self.other_is_below,
+            next,
+            table,
+            other,
+        )?;
         let start = self.journal.start();
         self.journal.move_to(area, HEAD_SIZE + size);
         self.other = start;
@@ -334,7 +352,12 @@ impl<D: Disk, A: Allocator + Copy> Store<D, A> {
 
     /// Adds a batch of events: a frame with their payload if one fits after the last one, and else a snapshot of the
     /// table, which has the batch, in the other area. Returns which it was. It takes no memory.
-    pub fn append(&mut self, payload: &[u8], table: &Table<A>) -> Result<WrittenAs, StoreError>
+    pub fn append<M: Meanwhile>(
+        &mut self,
+        payload: &[u8],
+        table: &Table<A>,
+        other: &mut M,
+    ) -> Result<WrittenAs, StoreError>
         requires short { length payload.now ≤ max_payload self.old.version self.old.bounds }
         requires limits { table.now.bounds ≡ self.old.bounds }
         requires snapshot { IsSnapshot self.old.version table.now.bounds table.now.moment table.now.contents }
@@ -381,6 +404,8 @@ impl<D: Disk, A: Allocator + Copy> Store<D, A> {
         ensures shown_snapshot { D.follows_crash_model self.new.disk → (s : List ℕ) (ps : List (List ℕ))
             → Shows self.old (D.trace self.old.disk).now s ps → result ≡ Ok WrittenAs.Snapshot
             → Shows self.new (D.trace self.new.disk).now (bytes.snapshot self.old.version table.now.moment table.now.contents) [] }
+
+        ensures meanwhile { Passes M.passes other.old other.new }
     {
         let written = self.written_as(payload.len());
         if let Some(fault) = self.refusal(written) {
@@ -388,14 +413,18 @@ impl<D: Disk, A: Allocator + Copy> Store<D, A> {
             return Err(fault);
         }
         match written {
-            WrittenAs::Frame => self.add_frame(payload)?,
-            WrittenAs::Snapshot => self.replace_snapshot(table)?,
+            WrittenAs::Frame => self.add_frame(payload, other)?,
+            WrittenAs::Snapshot => self.replace_snapshot(table, other)?,
         }
         Ok(written)
     }
 
     /// Writes a snapshot of the table into the other area, which then is active. It takes no memory.
-    pub fn compact(&mut self, table: &Table<A>) -> Result<(), StoreError>
+    pub fn compact<M: Meanwhile>(
+        &mut self,
+        table: &Table<A>,
+        other: &mut M,
+    ) -> Result<(), StoreError>
         requires limits { table.now.bounds ≡ self.old.bounds }
         requires snapshot { IsSnapshot self.old.version table.now.bounds table.now.moment table.now.contents }
 
@@ -432,12 +461,14 @@ impl<D: Disk, A: Allocator + Copy> Store<D, A> {
         ensures shown { D.follows_crash_model self.new.disk → (s : List ℕ) (ps : List (List ℕ))
             → Shows self.old (D.trace self.old.disk).now s ps → OnOk result
             (Shows self.new (D.trace self.new.disk).now (bytes.snapshot self.old.version table.now.moment table.now.contents) []) }
+
+        ensures meanwhile { Passes M.passes other.old other.new }
     {
         if let Some(fault) = self.refusal(WrittenAs::Snapshot) {
             self.stopped = true;
             return Err(fault);
         }
-        self.replace_snapshot(table)?;
+        self.replace_snapshot(table, other)?;
         Ok(())
     }
 }
@@ -528,7 +559,14 @@ impl<D: Disk, A: Allocator + Copy> Store<D, A> {
             size,
         };
         let area = self.next_area();
-        write_snapshot(&mut self.disk, area, self.other_is_below, over, table)?;
+        write_snapshot(
+            &mut self.disk,
+            area,
+            self.other_is_below,
+            over,
+            table,
+            &mut Idle,
+        )?;
         self.other = self.journal.start();
         self.journal = journal;
         self.version = Version::V2;

@@ -1,4 +1,5 @@
 use Rattle.std.proofs.Common.{refl, rules}
+use Rattle.turn_disk.proofs.Passing.{passes_none}
 use Rattle.turn_disk.proofs.Since.{since_same, since_weaken}
 use Rattle.turn_store.proofs.Rows.{row_close, closed_after, closed_there, recovers_image}
 use Rattle.turn_store.specs.Areas.{Holds}
@@ -23,3 +24,6 @@ returns-else-is_below-clause-stop g c = λ crash_model v form start generation e
 pub returns-else-is_below-clause-done : goal.returns-else-is_below-clause-done
 returns-else-is_below-clause-done g c = λ crash_model v form start generation end snapshot payloads recovers.
     (recovers.holds, closed_there v form start c.args.gate generation end _ snapshot payloads _ recovers (search rules))
+
+pub returns-else-is_below-clause-meanwhile : goal.returns-else-is_below-clause-meanwhile
+returns-else-is_below-clause-meanwhile g c = passes_none

@@ -1,3 +1,4 @@
+use Rattle.turn_disk.proofs.Passing.{passes_join}
 use Rattle.turn_store.proofs.Replacing.{closing, filling, ready, switching}
 use Rattle.turn_store.proofs.areas.replace.Goals as goal
 
@@ -33,3 +34,12 @@ returns-clause-done g c = λ crash_model v w form start generation end snapshot 
     let first = c.fill.ensures.uses.crash_model before in
     let filled = ready v w form start c.args.gate generation snapshot next payloads _ room front_is (g.D.Disk.trace c.close.new.disk) (g.D.Disk.trace c.fill.new.disk) (c.in_ok-close.ensures.done first v form start generation end snapshot payloads recovers) (c.in_ok-fill.ensures.done before v form start generation snapshot payloads) in
     c.in_ok-switch.ensures.done crash_model v w form start generation snapshot next payloads fits short fitting room filled.0 filled.1
+
+pub returns-in_err-fill-clause-meanwhile : goal.returns-in_err-fill-clause-meanwhile
+returns-in_err-fill-clause-meanwhile g c = passes_join c.close.ensures.meanwhile c.fill.ensures.meanwhile
+
+pub returns-in_err-switch-clause-meanwhile : goal.returns-in_err-switch-clause-meanwhile
+returns-in_err-switch-clause-meanwhile g c = passes_join c.close.ensures.meanwhile (passes_join c.fill.ensures.meanwhile c.switch.ensures.meanwhile)
+
+pub returns-clause-meanwhile : goal.returns-clause-meanwhile
+returns-clause-meanwhile g c = passes_join c.close.ensures.meanwhile (passes_join c.fill.ensures.meanwhile c.switch.ensures.meanwhile)

@@ -1,4 +1,5 @@
 use Rattle.std.proofs.Common.{◌∙◌, ap, arith, rules}
+use Rattle.turn_disk.proofs.Passing.{passes_none}
 use Rattle.turn_store.proofs.Appends.{frame_stages, frame_done, rest_stages, snapshot_stages, snapshot_done}
 use Rattle.turn_store.proofs.Versions.{rest_in, stages_in}
 use Rattle.turn_store.proofs.store.Store.append.Goals as goal
@@ -55,3 +56,6 @@ returns-in_err-replace_snapshot-in-Snapshot-clause-version g c = λ crash_model 
 
 pub returns-in_ok-replace_snapshot-in-Snapshot-clause-version : goal.returns-in_ok-replace_snapshot-in-Snapshot-clause-version
 returns-in_ok-replace_snapshot-in-Snapshot-clause-version g c = λ crash_model s ps shows. stages_in _ _ _ _ _ s _ ps _ (c.replace_snapshot.ensures.stages crash_model s ps shows)
+
+pub returns-in-Some-clause-meanwhile : goal.returns-in-Some-clause-meanwhile
+returns-in-Some-clause-meanwhile g c = passes_none

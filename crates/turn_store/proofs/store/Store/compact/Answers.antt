@@ -1,4 +1,5 @@
 use Rattle.std.proofs.Common.{◌≡◌, ◌∙◌, [], ◌++◌, sym, ap, subst, append-nil}
+use Rattle.turn_disk.proofs.Passing.{passes_none}
 use Rattle.turn_history.specs.History.{History}
 use Rattle.turn_history.specs.Table as tables
 use Rattle.turn_store.specs.State.{RecoversToAt}
@@ -39,3 +40,6 @@ returns-in_err-replace_snapshot-clause-version g c = λ crash_model s ps shows. 
 
 pub returns-clause-version : goal.returns-clause-version
 returns-clause-version g c = λ crash_model s ps shows. stages_in _ _ _ _ _ s _ ps _ (c.replace_snapshot.ensures.stages crash_model s ps shows)
+
+pub returns-in-Some-clause-meanwhile : goal.returns-in-Some-clause-meanwhile
+returns-in-Some-clause-meanwhile g c = passes_none
