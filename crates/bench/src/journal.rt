@@ -2,7 +2,7 @@
 
 use crate::measured::time;
 use std::{fs, io};
-use turn_disk::{Disk, FileDisk};
+use turn_disk::{Disk, FileDisk, Idle};
 use turn_journal::{Area, Journal};
 
 /// Appends a payload, and returns whether there was room for it and it is on the disk.
@@ -11,7 +11,7 @@ fn append(journal: &mut Journal, disk: &mut FileDisk, payload: &[u8]) -> bool {
     if disk.size() < end || journal.max_payload() < payload.len() {
         return false;
     }
-    journal.append(disk, payload).is_ok()
+    journal.append(disk, payload, &mut Idle).is_ok()
 }
 
 fn measure(

@@ -4,5 +4,6 @@ mod disk_files;
 mod disk_memory;
 mod disks;
 mod journals;
+mod meanwhile;
 mod recorded;
 mod store_memory;

@@ -1,6 +1,6 @@
 //! Device calls whose range is checked, and formatting.
 
-use turn_disk::{Bytes, Chain, DeviceError, Disk, read_pieces, write_produced};
+use turn_disk::{Bytes, Chain, DeviceError, Disk, Idle, read_pieces, write_produced};
 use turn_record::Version;
 use turn_store::{FormatError, format, format_version1};
 use turn_types::Limits;
@@ -8,7 +8,7 @@ use turn_types::Limits;
 /// Writes bytes at a place of the disk.
 pub fn write_at<D: Disk>(disk: &mut D, at: usize, bytes: &[u8]) -> Option<Result<(), DeviceError>> {
     let rest = disk.size().checked_sub(at)?;
-    (bytes.len() <= rest).then(|| disk.write_at(at, bytes))
+    (bytes.len() <= rest).then(|| disk.write_at(at, bytes, &mut Idle))
 }
 
 /// Reads the bytes at a place of the disk.
@@ -43,7 +43,7 @@ pub fn write_both_at<D: Disk>(
         first: Bytes::new(first),
         second: Bytes::new(second),
     };
-    (second.len() <= rest).then(|| write_produced(disk, at, &mut both))
+    (second.len() <= rest).then(|| write_produced(disk, at, &mut both, &mut Idle))
 }
 
 /// Formats a disk as a store of a version. Two areas have to be its size.

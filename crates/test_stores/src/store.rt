@@ -8,7 +8,7 @@ ghost use Rattle.turn_record.specs.declared.version.Version.{Version};
 
 use std::alloc::{AllocError, Allocator, Global};
 use std::marker::Model;
-use turn_disk::{Disk, Producer};
+use turn_disk::{Disk, Idle, Meanwhile, Producer};
 use turn_history::Event;
 use turn_record::{
     ReadError, SnapshotWriter, Version, max_payload, read_act, read_snapshot, snapshot_size,
@@ -163,12 +163,22 @@ impl<D: Disk, A: Allocator + Copy> TestStore<D, A> {
         payload: &[u8],
         table: &SnapshotTable<A>,
     ) -> Option<Result<WrittenAs, StoreError>> {
+        self.append_beside(payload, table, &mut Idle)
+    }
+
+    /// The same, while something else is done.
+    pub fn append_beside<M: Meanwhile>(
+        &mut self,
+        payload: &[u8],
+        table: &SnapshotTable<A>,
+        other: &mut M,
+    ) -> Option<Result<WrittenAs, StoreError>> {
         let is_short = payload.len() <= max_payload(self.version, self.limits);
         let is_same = are_versions_same(table.version, self.version);
         if !is_short || !is_same || !are_same(table.table.limits(), self.limits) {
             return None;
         }
-        Some(self.store.append(payload, &table.table))
+        Some(self.store.append(payload, &table.table, other))
     }
 
     /// Writes the snapshot of a table. Nothing, if it is of other limits or of another version.
@@ -177,7 +187,7 @@ impl<D: Disk, A: Allocator + Copy> TestStore<D, A> {
         if !is_same || !are_same(table.table.limits(), self.limits) {
             return None;
         }
-        Some(self.store.compact(&table.table))
+        Some(self.store.compact(&table.table, &mut Idle))
     }
 
     /// What the store says of itself.

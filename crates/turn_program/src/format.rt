@@ -20,7 +20,7 @@ use std::io::Write;
 use std::net::Net;
 use std::rt::{Clock, Files};
 use turn_config::read_config;
-use turn_disk::{DeviceError, Disk, FileDisk};
+use turn_disk::{DeviceError, Disk, FileDisk, Idle};
 use turn_log::ShownName;
 use turn_store::{format, least_area};
 use turn_types::Limits;
@@ -39,7 +39,7 @@ fn write_over<D: Disk>(disk: &mut D, piece: &[u8]) -> Result<(), DeviceError>
     let mut done = 0;
     while done < size {
         let count = piece.len().min(size - done);
-        disk.write_at(done, &piece[..count])?;
+        disk.write_at(done, &piece[..count], &mut Idle)?;
         done += count;
     }
     Ok(())

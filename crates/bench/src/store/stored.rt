@@ -3,7 +3,7 @@
 use std::alloc::Global;
 use std::io;
 use std::marker::Model;
-use turn_disk::FileDisk;
+use turn_disk::{FileDisk, Idle};
 use turn_record::{Version, max_payload, read_snapshot};
 use turn_store::{Opened, Store, WrittenAs, format, format_version1};
 use turn_table::Table;
@@ -79,7 +79,7 @@ impl Stored {
 
     /// Writes a snapshot of the table, and returns whether the store did.
     pub fn compact(&mut self) -> bool {
-        match self.store.compact(&self.table) {
+        match self.store.compact(&self.table, &mut Idle) {
             Ok(()) => true,
             Err(_) => false,
         }
@@ -90,7 +90,7 @@ impl Stored {
         if max_payload(self.store.info().version, self.table.limits()) < payload.len() {
             return false;
         }
-        match self.store.append(payload, &self.table) {
+        match self.store.append(payload, &self.table, &mut Idle) {
             Ok(WrittenAs::Frame) => true,
             Ok(WrittenAs::Snapshot) => false,
             Err(_) => false,

@@ -3,7 +3,7 @@
 use std::alloc::Allocator;
 use std::process::Abort;
 use test_stores::{SnapshotTable, TestStore, format_as};
-use turn_disk::MemoryDisk;
+use turn_disk::{Idle, Meanwhile, MemoryDisk};
 use turn_record::Version;
 use turn_store::{OpenError, StoreError, StoreOpenError, WrittenAs};
 use turn_types::{Bounds, Endpoint, FiveTuple, Limits};
@@ -80,10 +80,20 @@ pub fn append_with<A: Allocator + Copy>(
     second: u8,
     table: &SnapshotTable<A>,
 ) -> Option<Result<WrittenAs, StoreError>> {
+    append_beside(store, second, table, &mut Idle)
+}
+
+/// The same, while something else is done.
+pub fn append_beside<A: Allocator + Copy, M: Meanwhile>(
+    store: &mut TestStore<MemoryDisk<A>, A>,
+    second: u8,
+    table: &SnapshotTable<A>,
+    other: &mut M,
+) -> Option<Result<WrittenAs, StoreError>> {
     if second == 0 {
-        return store.append(&ALLOCATION, table);
+        return store.append_beside(&ALLOCATION, table, other);
     }
-    store.append(&refresh_at(second), table)
+    store.append_beside(&refresh_at(second), table, other)
 }
 
 /// Opens a store as it is.

@@ -7,13 +7,13 @@ use std::process::Abort;
 use std::{fs, io};
 use test_files::{FileCalls, TestFile};
 use test_stores::{read_at, write_at};
-use turn_disk::{DeviceError, Disk, FileDisk, FileError};
+use turn_disk::{DeviceError, Disk, FileDisk, FileError, Idle};
 
 fn write_a_file<R: Abort + Files<File = File>>(rt: &R, path: &str) {
     let mut disk = FileDisk::create(rt, path, 64).expect(rt, "made");
     assert!(rt; disk.size() == 64);
     assert!(rt; write_at(&mut disk, 60, b"abcd") == Some(Ok(())));
-    assert!(rt; disk.sync().is_ok());
+    assert!(rt; disk.sync(&mut Idle).is_ok());
     assert!(rt; disk.failures() == 0);
 }
 
@@ -126,7 +126,7 @@ fn a_disk_that_is_opened_to_be_read_is_not_written(rt: HostRuntime) -> io::Resul
     let path = "turn_disk.read";
     write_a_file(&rt, path);
     let mut disk = FileDisk::open_to_read(&rt, path).expect(&rt, "opened");
-    assert!(rt; disk.sync().is_ok());
+    assert!(rt; disk.sync(&mut Idle).is_ok());
     assert!(rt; write_at(&mut disk, 60, b"efgh") == Some(Err(DeviceError)));
     assert!(rt; disk.failures() == 1);
     read_a_file(&rt, disk);
@@ -180,7 +180,7 @@ fn short_counts_and_interruptions_are_no_failures(rt: HostRuntime) {
     assert!(rt; buffer == [7, 8, 9, 10, 11]);
     assert!(rt; write_at(&mut disk, 7, &buffer) == Some(Ok(())));
     assert!(rt; disk.failures() == 0);
-    assert!(rt; disk.sync().is_err());
+    assert!(rt; disk.sync(&mut Idle).is_err());
     assert!(rt; disk.failures() == 1);
 }
 
@@ -212,6 +212,6 @@ fn a_sync_is_one_of_the_file(rt: HostRuntime) {
     let mut disk = FileDisk::new(TestFile(SyncedFile { syncs: &syncs }), 100);
     assert!(rt; write_at(&mut disk, 7, b"abcd") == Some(Ok(())));
     assert!(rt; syncs.get() == 0);
-    assert!(rt; disk.sync().is_ok());
+    assert!(rt; disk.sync(&mut Idle).is_ok());
     assert!(rt; syncs.get() == 1);
 }

@@ -3,7 +3,7 @@ use failing_alloc::FailingAlloc;
 use std::alloc::Allocator;
 use std::process::Abort;
 use test_stores::write_at;
-use turn_disk::{CrashOutcome, Disk, MemoryDisk};
+use turn_disk::{CrashOutcome, Disk, Idle, MemoryDisk};
 
 // The contents after each of four calls, the second of which is a sync.
 const CONTENTS: [&[u8; 8]; 4] = [b"abcd4567", b"abcd4567", b"ababcd67", b"abaabcd7"];
@@ -11,7 +11,7 @@ const CONTENTS: [&[u8; 8]; 4] = [b"abcd4567", b"abcd4567", b"ababcd67", b"abaabc
 // Whether the call succeeds: call 1 syncs, and each other one writes at the position of its number.
 fn make_call<A: Allocator>(disk: &mut MemoryDisk<A>, call: usize) -> bool {
     if call == 1 {
-        return disk.sync().is_ok();
+        return disk.sync(&mut Idle).is_ok();
     }
     write_at(disk, call, b"abcd") == Some(Ok(()))
 }

@@ -6,7 +6,7 @@ use std::alloc::{AllocError, Allocator, Global};
 use std::fs::{File, Files};
 use std::process::Abort;
 use std::{fs, io};
-use turn_disk::{Disk, FileDisk};
+use turn_disk::{Disk, FileDisk, Idle};
 use turn_journal::{AppendError, Area, Found, Journal, ScanError};
 
 /// The journal of an area of 20 bytes that begins at position 3, with an empty log.
@@ -28,7 +28,7 @@ fn append<D: Disk, A: Allocator>(
 ) -> Result<(), AppendError> {
     assert!(rt; journal.start() + journal.size() <= disk.size());
     assert!(rt; payload.len() <= journal.max_payload());
-    journal.append(disk, payload)
+    journal.append(disk, payload, &mut Idle)
 }
 
 fn scan<D: Disk, A: Allocator>(

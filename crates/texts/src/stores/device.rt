@@ -6,7 +6,7 @@ use crate::words::{number, place, word};
 use test_stores::{
     SnapshotTable, TestStore, format_as, read_at, read_pieces_at, write_at, write_both_at,
 };
-use turn_disk::{CrashOutcome, Disk, MemoryDisk};
+use turn_disk::{CrashOutcome, Disk, Idle, MemoryDisk};
 use turn_store::{LimitsError, StoreOpenError, least_area, limits};
 
 #[derive(Drop)]
@@ -131,7 +131,7 @@ impl Device {
 
     fn sync(&mut self, scene: &Scene) -> Option<Report> {
         let mut disk = self.take_disk()?;
-        let outcome = disk.sync();
+        let outcome = disk.sync(&mut Idle);
         self.state = Some(State::Closed(disk));
         of_device(scene.alloc, outcome)
     }
