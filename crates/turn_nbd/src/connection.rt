@@ -1,6 +1,7 @@
 //! A connection on which an export was agreed, and the requests on it, one at a time.
 
 ghost use Rattle.std.specs.Prelude.{◌≡◌, ◌++◌, ◌<◌, ◌≤◌, ◌^◌, [], Ok, Err, true, false, IsErr, OnOk, MatchResult, length};
+ghost use Rattle.turn_disk.specs.Meanwhile.{Passes};
 ghost use Rattle.turn_nbd.specs.Requests.{exchange, next_cookie};
 ghost use Rattle.turn_nbd.specs.declared.error.NbdError.TheVariants.{Closed};
 ghost use Rattle.turn_nbd.specs.declared.request.Kind.TheVariants.{Read, Write, Flush};
@@ -11,6 +12,7 @@ use crate::request::{Kind, request};
 use crate::stream::Stream;
 use crate::wire::Wire;
 use std::marker::Model;
+use turn_disk::{Idle, Meanwhile};
 
 /// A connection on which an export was agreed. Once a request failed on it, each later one fails at once.
 pub struct Connection<T: Stream> {
@@ -53,49 +55,55 @@ impl<T: Stream> Connection<T> {
         }
     }
 
-    // Sends a request with its data, and receives its reply with the reply's data.
-    fn exchange(
+    // Sends a request with its data, and receives its reply with the reply's data. While the reply isn't there the other is done.
+    #[tactic(auto, using(turn_disk::proofs::Passing::passes_none))]
+    fn exchange<M: Meanwhile>(
         &mut self,
         kind: Kind,
         at: usize,
         count: u32,
         sent: &[u8],
         received: &mut [u8],
+        other: &mut M,
     ) -> Result<(), NbdError>
         ensures wire { OnOk result (self.new.wire ≡ self.old.wire ++ exchange kind self.old.cookie at count sent.now received.new) }
         ensures cookie { self.new.cookie ≡ next_cookie self.old.cookie }
         ensures same { self.new.is_open ≡ self.old.is_open }
+        ensures meanwhile { Passes M.passes other.old other.new }
     {
         let cookie = self.cookie;
         self.cookie = cookie.wrapping_add(1);
         self.wire.begin();
         self.wire.send(&request(kind, cookie, at as u64, count))?;
         self.wire.send(sent)?;
-        let head = self.wire.receive_array()?;
+        let head = self.wire.receive_array_while(other)?;
         check_reply(&head, cookie)?;
         self.wire.receive(received)?;
         Ok(())
     }
 
     // The same, unless a request failed before. If it fails, later ones fail at once.
-    fn ask(
+    #[tactic(auto, using(turn_disk::proofs::Passing::passes_none))]
+    fn ask<M: Meanwhile>(
         &mut self,
         kind: Kind,
         at: usize,
         count: u32,
         sent: &[u8],
         received: &mut [u8],
+        other: &mut M,
     ) -> Result<(), NbdError>
         ensures wire { OnOk result (self.new.wire ≡ self.old.wire ++ exchange kind self.old.cookie at count sent.now received.new) }
         ensures cookie { OnOk result (self.new.cookie ≡ next_cookie self.old.cookie) }
         ensures open { MatchResult result (λ _. self.new.is_open ≡ true) (λ _. self.new.is_open ≡ false) }
         ensures closed { self.old.is_open ≡ false → (result ≡ Err NbdError.Closed) × (self.new ≡ self.old) }
+        ensures meanwhile { Passes M.passes other.old other.new }
     {
         if !self.is_open {
             return Err(NbdError::Closed);
         }
         self.is_open = false;
-        self.exchange(kind, at, count, sent, received)?;
+        self.exchange(kind, at, count, sent, received, other)?;
         self.is_open = true;
         Ok(())
     }
@@ -115,29 +123,43 @@ impl<T: Stream> Connection<T> {
         ensures open { MatchResult result (λ _. self.new.is_open ≡ true) (λ _. self.new.is_open ≡ false) }
         ensures closed { self.old.is_open ≡ false → (result ≡ Err NbdError.Closed) × (self.new ≡ self.old) }
     {
-        self.ask(Kind::Read, at, buffer.len() as u32, &[], buffer)
+        self.ask(Kind::Read, at, buffer.len() as u32, &[], buffer, &mut Idle)
     }
 
-    /// Writes these bytes from this position on. They are durable only after a flush.
-    pub fn write(&mut self, at: usize, bytes: &[u8]) -> Result<(), NbdError>
+    /// Writes these bytes from this position on. They are durable only after a flush. While the reply isn't there the other is done.
+    pub fn write<M: Meanwhile>(
+        &mut self,
+        at: usize,
+        bytes: &[u8],
+        other: &mut M,
+    ) -> Result<(), NbdError>
         requires { length bytes.now < 2 ^ 32 }
         ensures wire { OnOk result (self.new.wire ≡ self.old.wire ++ exchange Write self.old.cookie at (length bytes.now) bytes.now []) }
         ensures cookie { OnOk result (self.new.cookie ≡ next_cookie self.old.cookie) }
         ensures open { MatchResult result (λ _. self.new.is_open ≡ true) (λ _. self.new.is_open ≡ false) }
         ensures closed { self.old.is_open ≡ false → (result ≡ Err NbdError.Closed) × (self.new ≡ self.old) }
+        ensures meanwhile { Passes M.passes other.old other.new }
     {
         let mut nothing = [0u8; 0];
-        self.ask(Kind::Write, at, bytes.len() as u32, bytes, &mut nothing)
+        self.ask(
+            Kind::Write,
+            at,
+            bytes.len() as u32,
+            bytes,
+            &mut nothing,
+            other,
+        )
     }
 
-    /// Makes durable what was written.
-    pub fn flush(&mut self) -> Result<(), NbdError>
+    /// Makes durable what was written. While the reply isn't there the other is done.
+    pub fn flush<M: Meanwhile>(&mut self, other: &mut M) -> Result<(), NbdError>
         ensures wire { OnOk result (self.new.wire ≡ self.old.wire ++ exchange Flush self.old.cookie 0 0 [] []) }
         ensures cookie { OnOk result (self.new.cookie ≡ next_cookie self.old.cookie) }
         ensures open { MatchResult result (λ _. self.new.is_open ≡ true) (λ _. self.new.is_open ≡ false) }
         ensures closed { self.old.is_open ≡ false → (result ≡ Err NbdError.Closed) × (self.new ≡ self.old) }
+        ensures meanwhile { Passes M.passes other.old other.new }
     {
         let mut nothing = [0u8; 0];
-        self.ask(Kind::Flush, 0, 0, &[], &mut nothing)
+        self.ask(Kind::Flush, 0, 0, &[], &mut nothing, other)
     }
 }

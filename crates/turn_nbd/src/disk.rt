@@ -3,6 +3,7 @@
 ghost use Rattle.std.specs.Prelude.{◌≡◌, ◌⊎◌, ◌&&◌, ◌+◌, ◌++◌, ◌∷◌, ◌≤◌, [], ℕ, List, IfOk, OnOk, MatchResult, true, false, length};
 ghost use Rattle.turn_disk.specs.Calls.{FollowCrashModel, replay};
 ghost use Rattle.turn_disk.specs.Counts.{CountOutcome};
+ghost use Rattle.turn_disk.specs.Meanwhile.{Passes};
 ghost use Rattle.turn_nbd.specs.Requests.{exchange, joined, reads, writes};
 ghost use Rattle.turn_nbd.specs.declared.request.Kind.TheVariants.{Flush};
 
@@ -116,8 +117,14 @@ impl<T: Stream, S: Start> NbdDisk<T, S> {
         }
     }
 
-    // Writes by requests, and notes the call, unless it isn't tried.
-    fn ask_write(&mut self, at: usize, bytes: &[u8]) -> Result<(), DeviceError>
+    // Writes by requests, and notes the call, unless it isn't tried. While a reply isn't there the other is done.
+    #[tactic(auto, using(turn_disk::proofs::Passing::passes_none))]
+    fn ask_write<M: Meanwhile>(
+        &mut self,
+        at: usize,
+        bytes: &[u8],
+        other: &mut M,
+    ) -> Result<(), DeviceError>
         requires { at + length bytes.now ≤ self.old.size }
         ensures size { self.new.size ≡ self.old.size }
         ensures count { CountOutcome self.old.failures self.new.failures result }
@@ -127,13 +134,14 @@ impl<T: Stream, S: Start> NbdDisk<T, S> {
         ensures wire { OnOk result ((pieces : List (List ℕ)) × (joined pieces ≡ bytes.now)
             × (self.new.connection.wire ≡ self.old.connection.wire ++ writes self.old.connection.cookie at pieces)) }
         ensures can_write { OnOk result (self.old.can_write ≡ true) }
+        ensures meanwhile { Passes M.passes other.old other.new }
     {
         // Its size is one of a disk.
         let _size = self.size;
         if !self.may_write() {
             return Err(raise(&mut self.failures));
         }
-        match write_from(&mut self.connection, at, bytes, 0) {
+        match write_from(&mut self.connection, at, bytes, 0, other) {
             Ok(()) => {
                 self.calls.note(WRITE, at, true, bytes);
                 Ok(())
@@ -145,18 +153,21 @@ impl<T: Stream, S: Start> NbdDisk<T, S> {
         }
     }
 
-    // Makes durable what was written by one request, and notes the call if it succeeds: one that fails changes nothing.
-    fn ask_flush(&mut self) -> Result<(), DeviceError>
+    // Makes durable what was written by one request, and notes the call if it succeeds: one that fails changes nothing. While the
+    // reply isn't there the other is done.
+    #[tactic(auto, using(turn_disk::proofs::Passing::passes_none))]
+    fn ask_flush<M: Meanwhile>(&mut self, other: &mut M) -> Result<(), DeviceError>
         ensures size { self.new.size ≡ self.old.size }
         ensures count { CountOutcome self.old.failures self.new.failures result }
         ensures noted { MatchResult result (λ _. self.new.events ≡ (2, 0, true, []) ∷ self.old.events) (λ _. self.new.events ≡ self.old.events) }
         ensures wire { OnOk result (self.new.connection.wire ≡ self.old.connection.wire ++ exchange Flush self.old.connection.cookie 0 0 [] []) }
         ensures can_write { OnOk result (self.old.can_write ≡ true) }
+        ensures meanwhile { Passes M.passes other.old other.new }
     {
         if !self.may_write() {
             return Err(raise(&mut self.failures));
         }
-        match self.connection.flush() {
+        match self.connection.flush(other) {
             Ok(()) => {
                 self.calls.note(SYNC, 0, true, &[]);
                 Ok(())
@@ -191,18 +202,16 @@ impl<T: Stream, S: Start> Disk for NbdDisk<T, S> {
         self.ask_read(at, buffer)
     }
 
-    #[tactic(auto, using(turn_disk::proofs::Passing::passes_none))]
     fn write_at<M: Meanwhile>(
         &mut self,
         at: usize,
         bytes: &[u8],
-        _other: &mut M,
+        other: &mut M,
     ) -> Result<(), DeviceError> {
-        self.ask_write(at, bytes)
+        self.ask_write(at, bytes, other)
     }
 
-    #[tactic(auto, using(turn_disk::proofs::Passing::passes_none))]
-    fn sync<M: Meanwhile>(&mut self, _other: &mut M) -> Result<(), DeviceError> {
-        self.ask_flush()
+    fn sync<M: Meanwhile>(&mut self, other: &mut M) -> Result<(), DeviceError> {
+        self.ask_flush(other)
     }
 }

@@ -1,12 +1,14 @@
 //! Reads and writes of any length, in requests of at most 32 MiB.
 
 ghost use Rattle.std.specs.Prelude.{◌≡◌, ◌+◌, ◌++◌, ◌<◌, ◌≤◌, ◌^◌, [], ℕ, List, OnOk, length, take, drop};
+ghost use Rattle.turn_disk.specs.Meanwhile.{Passes};
 ghost use Rattle.turn_nbd.specs.Requests.{exchange, joined, next_cookie, reads, writes};
 ghost use Rattle.turn_nbd.specs.declared.request.Kind.TheVariants.{Read, Write};
 
 use crate::connection::Connection;
 use crate::error::NbdError;
 use crate::stream::Stream;
+use turn_disk::Meanwhile;
 
 /// The max number of bytes of one request's data, which is that of the protocol's default.
 pub const MAX_PIECE: usize = 32 << 20;
@@ -53,40 +55,44 @@ pub fn read_from<T: Stream>(
 }
 
 // Writes so many bytes from this position of them on, in one request.
-fn write_piece<T: Stream>(
+fn write_piece<T: Stream, M: Meanwhile>(
     connection: &mut Connection<T>,
     at: usize,
     bytes: &[u8],
     done: usize,
     count: usize,
+    other: &mut M,
 ) -> Result<(), NbdError>
     requires within { done + count ≤ length bytes.now }
     requires small { count < 2 ^ 32 }
     ensures wire { OnOk result (connection.new.wire ≡ connection.old.wire
         ++ exchange Write connection.old.cookie at count (take count (drop done bytes.now)) []) }
     ensures cookie { OnOk result (connection.new.cookie ≡ next_cookie connection.old.cookie) }
+    ensures meanwhile { Passes M.passes other.old other.new }
 {
-    connection.write(at, &bytes[done..done + count])?;
+    connection.write(at, &bytes[done..done + count], other)?;
     Ok(())
 }
 
 /// Writes these bytes from this position of them on, in requests of at most 32 MiB. Position `at` of the export is where the bytes begin.
-pub fn write_from<T: Stream>(
+pub fn write_from<T: Stream, M: Meanwhile>(
     connection: &mut Connection<T>,
     at: usize,
     bytes: &[u8],
     done: usize,
+    other: &mut M,
 ) -> Result<(), NbdError>
     requires place { at + length bytes.now < 2 ^ 64 }
     requires within { done ≤ length bytes.now }
-    ensures { OnOk result ((pieces : List (List ℕ)) × (joined pieces ≡ drop done bytes.now)
+    ensures wire { OnOk result ((pieces : List (List ℕ)) × (joined pieces ≡ drop done bytes.now)
         × (connection.new.wire ≡ connection.old.wire ++ writes connection.old.cookie (at + done) pieces)) }
+    ensures meanwhile { Passes M.passes other.old other.new }
 {
     let count = MAX_PIECE.min(bytes.len() - done);
     if count == 0 {
         return Ok(());
     }
-    write_piece(connection, at + done, bytes, done, count)?;
-    write_from(connection, at, bytes, done + count)?;
+    write_piece(connection, at + done, bytes, done, count, other)?;
+    write_from(connection, at, bytes, done + count, other)?;
     Ok(())
 }

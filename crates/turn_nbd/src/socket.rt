@@ -22,6 +22,9 @@ const REQUEST_MILLIS: u64 = 30_000;
 /// How long a wait for a connection over TCP is, in milliseconds.
 const CONNECT_MILLIS: u64 = 5_000;
 
+/// How long a wait of `try_read` is, in milliseconds.
+const PAUSE_MILLIS: u64 = 1;
+
 /// How often a read or a write is tried before it is given up, however short the waits are.
 const TRIES: u32 = 1 << 20;
 
@@ -150,22 +153,22 @@ impl<A: Allocator + Copy> Socket<A> {
             if socket.link.is_connected()? {
                 return Ok(socket);
             }
-            socket.wait()?;
+            socket.wait(CONNECT_MILLIS)?;
         }
         Err(NbdError::Refused)
     }
 }
 
 impl<A: Allocator> Socket<A> {
-    // Waits until the socket may be read or written. It fails once the time is up.
-    fn wait(&mut self) -> Result<(), NbdError> {
+    // Waits until the socket may be read or written, at most so many milliseconds. It fails once the time is up.
+    fn wait(&mut self, most: u64) -> Result<(), NbdError> {
         let Some(now) = millis() else {
             return Err(NbdError::Late);
         };
         if self.until <= now {
             return Err(NbdError::Late);
         }
-        let rest = Duration::from_millis(self.until - now);
+        let rest = Duration::from_millis(most.min(self.until - now));
         match self.poll.poll(&mut self.events, Some(rest)) {
             Ok(()) => Ok(()),
             // As by a signal that lets a stopped process go on.
@@ -197,9 +200,19 @@ impl<A: Allocator> Stream for Socket<A> {
             if let Some(count) = moved(self.link.read(buffer), max)? {
                 return Ok(count);
             }
-            self.wait()?;
+            self.wait(REQUEST_MILLIS)?;
         }
         Err(NbdError::Late)
+    }
+
+    // It reads again after the wait: what came then is there before anything else is done.
+    fn try_read(&mut self, buffer: &mut [u8], pause: bool) -> Result<usize, NbdError> {
+        let max = buffer.len();
+        if let Some(count) = moved(self.link.read(buffer), max)? {
+            return Ok(count);
+        }
+        self.wait(if pause { PAUSE_MILLIS } else { 0 })?;
+        Ok(moved(self.link.read(buffer), max)?.unwrap_or(0))
     }
 
     fn write(&mut self, bytes: &[u8]) -> Result<usize, NbdError> {
@@ -208,7 +221,7 @@ impl<A: Allocator> Stream for Socket<A> {
             if let Some(count) = moved(self.link.write(bytes), max)? {
                 return Ok(count);
             }
-            self.wait()?;
+            self.wait(REQUEST_MILLIS)?;
         }
         Err(NbdError::Late)
     }

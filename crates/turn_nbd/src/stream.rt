@@ -14,6 +14,12 @@ pub trait Stream: Drop {
         requires { 0 < length buffer.old }
         ensures { IfOk result (λ count. (0 < count) × (count ≤ length buffer.old)) };
 
+    /// Reads what is there to the front of the buffer, and returns how many bytes that is, which may be 0. Where nothing is there, and
+    /// `pause` is true, it waits for the first of them, at most a millisecond.
+    fn try_read(&mut self, buffer: &mut [u8], pause: bool) -> Result<usize, NbdError>
+        requires { 0 < length buffer.old }
+        ensures { IfOk result (λ count. count ≤ length buffer.old) };
+
     /// Writes some bytes from the front of these, and returns how many. It waits until there is room for the first of them.
     fn write(&mut self, bytes: &[u8]) -> Result<usize, NbdError>
         requires { 0 < length bytes.now }

@@ -6,6 +6,9 @@ use turn_nbd::{NbdError, Stream};
 /// How many bytes a server keeps of what it is sent.
 pub const KEPT: usize = 512;
 
+/// How often a wait is asked whether there is something to read before it is over.
+pub const BOUND: u32 = 100;
+
 /// A server that sends these bytes, at most so many at once, and then closes the connection.
 #[derive(Drop)]
 pub struct Script<'t> {
@@ -13,10 +16,32 @@ pub struct Script<'t> {
     pub at_once: usize,
     pub sent: &'t Cell<[u8; KEPT]>,
     pub count: &'t Cell<usize>,
+    /// How often nothing is there yet before the reply to a request.
+    pub delay: u32,
+    /// How often nothing was there yet since the present request began.
+    pub asked: u32,
+    /// How many of all these asked for a pause.
+    pub pauses: &'t Cell<u32>,
 }
 
 impl Stream for Script<'_> {
-    fn begin(&mut self) {}
+    fn begin(&mut self) {
+        self.asked = 0;
+    }
+
+    fn try_read(&mut self, buffer: &mut [u8], pause: bool) -> Result<usize, NbdError> {
+        if self.delay <= self.asked {
+            return self.read(buffer);
+        }
+        if BOUND <= self.asked {
+            return Err(NbdError::Late);
+        }
+        self.asked += 1;
+        if pause {
+            self.pauses.set(self.pauses.get().saturating_add(1));
+        }
+        Ok(0)
+    }
 
     fn read(&mut self, buffer: &mut [u8]) -> Result<usize, NbdError> {
         let count = buffer.len().min(self.answers.len()).min(self.at_once);

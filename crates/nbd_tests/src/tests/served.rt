@@ -1,9 +1,11 @@
 //! Exports that are served by scripts.
 
-use super::script::{KEPT, Script};
+ghost use Rattle.std.specs.Prelude.{◌≡◌, ◌≤◌};
+
+use super::script::{BOUND, KEPT, Script};
 use std::cell::Cell;
 use std::process::Abort;
-use turn_disk::{Disk, Idle};
+use turn_disk::{Disk, Idle, Meanwhile};
 use turn_nbd::{NbdDisk, NbdError};
 
 /// The server's part of a handshake at an export of 64 bytes with FLUSH.
@@ -31,17 +33,33 @@ fn answers() -> [u8; 122] {
     bytes
 }
 
+/// Counts its pieces. Whether there may be more to do at once is always the same.
+#[derive(Drop)]
+struct Counter {
+    pieces: u32,
+    more: bool,
+}
+
+impl Meanwhile for Counter {
+    ghost passes = { λ old new. (old.pieces ≤ new.pieces) × (new.more ≡ old.more) };
+
+    fn pass(&mut self) -> bool {
+        self.pieces = self.pieces.saturating_add(1);
+        self.more
+    }
+}
+
 /// Opens, writes, flushes and reads. How many of these succeeded, and how many device calls failed.
-fn use_export(server: Script<'_>) -> Result<(u8, u64), NbdError> {
+fn use_export<M: Meanwhile>(server: Script<'_>, other: &mut M) -> Result<(u8, u64), NbdError> {
     let mut disk = NbdDisk::over(server, "x", true)?;
     if disk.size() != 64 {
         return Ok((0, 0));
     }
     let mut done = 0;
-    if disk.write_at(60, b"efg", &mut Idle).is_ok() {
+    if disk.write_at(60, b"efg", other).is_ok() {
         done += 1;
     }
-    if disk.sync(&mut Idle).is_ok() {
+    if disk.sync(other).is_ok() {
         done += 2;
     }
     let mut buffer = [0; 4];
@@ -55,13 +73,16 @@ fn use_export(server: Script<'_>) -> Result<(u8, u64), NbdError> {
 fn served(answers: &[u8], at_once: usize) -> (Result<(u8, u64), NbdError>, usize, [u8; KEPT]) {
     let sent = Cell::new([0; KEPT]);
     let count = Cell::new(0);
-    let outcome = use_export(Script {
+    let server = Script {
         answers,
         at_once,
         sent: &sent,
         count: &count,
-    });
-    (outcome, count.get(), sent.get())
+        delay: 0,
+        asked: 0,
+        pauses: &Cell::new(0),
+    };
+    (use_export(server, &mut Idle), count.get(), sent.get())
 }
 
 #[test]
@@ -154,6 +175,9 @@ fn size_to_read(answers: &[u8]) -> Result<usize, NbdError> {
         at_once: 1_000,
         sent: &sent,
         count: &count,
+        delay: 0,
+        asked: 0,
+        pauses: &Cell::new(0),
     };
     Ok(NbdDisk::over(server, "", false)?.size())
 }
@@ -178,6 +202,9 @@ fn an_export_that_is_opened_to_be_read_takes_no_write(rt: HostRuntime) {
         at_once: 1_000,
         sent: &sent,
         count: &count,
+        delay: 0,
+        asked: 0,
+        pauses: &Cell::new(0),
     };
     let mut disk = NbdDisk::over(server, "x", false).expect(&rt, "an export");
     let before = count.get();
@@ -186,4 +213,58 @@ fn an_export_that_is_opened_to_be_read_takes_no_write(rt: HostRuntime) {
     assert!(rt; disk.sync(&mut Idle).is_err());
     assert!(rt; disk.failures() == 2);
     assert!(rt; count.get() == before);
+}
+
+// Nothing is there so often before each reply. Each time a piece of the other is done, except at the read.
+#[test]
+fn another_is_done_before_a_reply_is_there(rt: HostRuntime) {
+    for (delay, more, pieces, paused) in [
+        (0, false, 0, 0),
+        (1, false, 2, 0),
+        (5, false, 10, 12),
+        (5, true, 10, 4),
+        (BOUND, true, 2 * BOUND, BOUND - 1),
+    ] {
+        let sent = Cell::new([0; KEPT]);
+        let count = Cell::new(0);
+        let pauses = Cell::new(0);
+        let mut other = Counter { pieces: 0, more };
+        let server = Script {
+            answers: &answers(),
+            at_once: 7,
+            sent: &sent,
+            count: &count,
+            delay,
+            asked: 0,
+            pauses: &pauses,
+        };
+        let outcome = use_export(server, &mut other);
+        assert!(rt; outcome == Ok((7, 0)), "{delay}");
+        assert!(rt; other.pieces == pieces, "{delay}");
+        assert!(rt; pauses.get() == paused, "{delay}");
+        assert!(rt; count.get() == SENT.len());
+        assert!(rt; sent.get().starts_with(&SENT));
+    }
+}
+
+#[test]
+fn a_reply_that_never_comes_fails_its_request(rt: HostRuntime) {
+    let sent = Cell::new([0; KEPT]);
+    let count = Cell::new(0);
+    let mut other = Counter {
+        pieces: 0,
+        more: true,
+    };
+    let server = Script {
+        answers: &answers(),
+        at_once: 1_000,
+        sent: &sent,
+        count: &count,
+        delay: u32::MAX,
+        asked: 0,
+        pauses: &Cell::new(0),
+    };
+    assert!(rt; use_export(server, &mut other) == Ok((0, 3)));
+    assert!(rt; other.pieces == BOUND);
+    assert!(rt; count.get() == 58);
 }
