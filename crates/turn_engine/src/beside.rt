@@ -66,8 +66,13 @@ fn has_tuple(tuples: &[FiveTuple], owner: FiveTuple) -> bool
     tuples.contains(&owner)
 }
 
-impl<'a, 'b, H: AuthHandler, G: RelayAddressGenerator, A: Allocator + Copy>
-    Beside<'a, 'b, H, G, A> {
+impl<'a, 'b, H: AuthHandler, G: RelayAddressGenerator, A: Allocator + Copy> Beside<
+    'a,
+    'b,
+    H,
+    G,
+    A,
+> {
     pub(crate) fn new(
         machine: &'a Machine<H, G, A>,
         tuples: &'b [FiveTuple],
