@@ -1,3 +1,4 @@
+mod beside;
 mod hostile_bytes;
 mod mixed_runs;
 mod refused_growths;
