@@ -29,6 +29,10 @@
 //! again. A program that stores acts itself does so between `Machine::prepare`, which decides, and `Machine::apply`, which returns
 //! what is to be sent.
 //!
+//! Data needn't wait for a commit. `Server::beside` answers it beside what is staged, where it is of a five-tuple of which no act is
+//! staged, and what it returns may be sent at once; `Server::commit_while` lends it to a `WhileCommitting`, which is called while the
+//! disk's calls wait. Such data is answered at the clock. So once a moment is later than that, the next arrival is to be submitted.
+//!
 //! # What a program over sockets does
 //!
 //! In place of steps 4 to 6: `Setup::start`, over a formatted disk, opens the store and binds the sockets, and `Serving::turns` takes what
