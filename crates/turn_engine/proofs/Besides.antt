@@ -7,6 +7,7 @@ use Rattle.std.specs.List.{AllByRecursion, list_any}
 use Rattle.turn_disk.specs.Meanwhile as meanwhile
 use Rattle.turn_disk.specs.Meanwhile.{Passes}
 use Rattle.turn_history.specs.History.{History}
+use Rattle.turn_history.specs.Laws.{PortsApart}
 use Rattle.turn_history.specs.Table.{Contents}
 use Rattle.turn_cred.specs.Credential.{Keys}
 use Rattle.turn_step.proofs.Beginnings.{data_same}
@@ -16,8 +17,10 @@ use Rattle.turn_step.specs.declared.data.DataAnswer.{DataAnswer}
 use Rattle.turn_step.specs.declared.data.DataAnswer.TheVariants.{Data, Request}
 use Rattle.turn_step.specs.Data.{IsOwner, IsRequestOf}
 use Rattle.turn_step.specs.State.{IsAfter, setting_of}
-use Rattle.turn_engine.specs.Relaying.{BesideState, IsApart, IsAtClock, Relays}
+use Rattle.turn_engine.specs.Relaying.{BesideState, HasToWait, IsApart, IsAtClock, IsBehind, Relays, has_no_owner, is_behind, is_later, is_request, is_staged}
 use Rattle.turn_step.specs.Outcome.{Arrives, Sent, added}
+use Rattle.turn_step.specs.Outcome.Arrives.{FromPeer}
+use Rattle.turn_types.specs.declared.address.Endpoint.{Endpoint}
 use Rattle.turn_types.specs.declared.address.FiveTuple.{FiveTuple}
 use Rattle.turn_engine.specs.Runs.{IsAnswered, IsRun, Taken, accepted, beside_at, last_moment}
 use Rattle.turn_engine.proofs.Answered.{accepted-append}
@@ -174,3 +177,15 @@ relays_beside keys range b a sent other at_clock apart answers = record {
       let others = subst (AllByRecursion (λ (g : FiveTuple). g ≢ apart.owner)) is apart.apart in
       (data_same h k (setting_of keys range b.machine) b.machine.config.limits b.machine.table.moment false a apart.owner (record { change = None; sent = sent }) after.fitting after.late other owns others).0 (answers h after);
 }
+
+-- ---- Ports
+
+-- an arrival at the port of an allocation of which no act is staged needn't wait
+pub needs_no_wait : {H G : Type 0} (b : BesideState H G) (port : ℕ) (from there : Endpoint) (bytes id first other : List ℕ) → PortsApart b.machine.table.contents → IsAtClock b → IsApart b.machine.table.contents b.tuples (FromPeer port there first other)
+    → ¬ HasToWait b (FromPeer port from bytes id)
+needs_no_wait b port from there bytes id first other apart at is (is_request request) = request
+needs_no_wait b port from there bytes id first other apart at is (is_later later) = later at
+needs_no_wait b port from there bytes id first other apart at is (is_behind (has_no_owner none)) = none is.owner is.owns
+needs_no_wait b port from there bytes id first other apart at is (is_behind (is_staged owner owns staged)) =
+    let same : is.owner ≡ owner = apart is.owner owner is.owns.0 owns.0 is.owns.1 owns.1 (is.owns.2 ∙ sym owns.2) in
+    staged (subst (λ (f : FiveTuple). AllByRecursion (λ (g : FiveTuple). g ≢ f) b.tuples) same is.apart)

@@ -1,8 +1,11 @@
 //! Answers to data beside what is staged.
 
-ghost use Rattle.std.specs.Prelude.{◌≡◌, ◌≢◌, ◌↔◌, IsTrue, IfOk, IfSome, Ok, false};
+ghost use Rattle.std.specs.Prelude.{◌≡◌, ◌≢◌, ◌↔◌, ℕ, IsTrue, IfOk, IfSome, List, Ok, false};
 ghost use Rattle.std.specs.List.{AllByRecursion};
+ghost use Rattle.turn_history.specs.Laws.{PortsApart};
+ghost use Rattle.turn_step.specs.Outcome.Arrives.{FromPeer};
 ghost use Rattle.turn_step.specs.Views.{arrival_of};
+ghost use Rattle.turn_types.specs.declared.address.Endpoint.{Endpoint};
 ghost use Rattle.turn_engine.specs.Relaying.{HasToWait, IsApart, IsAtClock, IsBehind, Relays};
 ghost use Rattle.turn_engine.specs.Views.{relayed_of};
 
@@ -11,7 +14,8 @@ use std::marker::Model;
 use turn_cred::AuthHandler;
 use turn_ports::RelayAddressGenerator;
 use turn_step::{Arrival, DataAnswer, Machine, Outgoing};
-use turn_types::{FiveTuple, Moment};
+use turn_table::Table;
+use turn_types::{Endpoint, FiveTuple, Moment, TxId};
 
 /// What comes of an arrival that is to be answered beside what is staged.
 #[derive(Drop)]
@@ -48,6 +52,7 @@ impl<'a, 'b, H: AuthHandler, G: RelayAddressGenerator, A: Allocator> Drop
 impl<'a, 'b, H: AuthHandler, G: RelayAddressGenerator, A: Allocator> Model
     for Beside<'a, 'b, H, G, A> {
     ghost use Rattle.std.specs.Coded.{codes};
+    ghost use Rattle.turn_history.specs.Laws.{PortsApart};
     ghost use Rattle.turn_table.specs.State.{state_code};
     ghost use Rattle.turn_engine.specs.Relaying.{BesideState};
 
@@ -56,6 +61,8 @@ impl<'a, 'b, H: AuthHandler, G: RelayAddressGenerator, A: Allocator> Model
     ghost coded = { Prim.hlevel (codes, state_code) };
 
     ghost view = { λ b. record { machine = b.machine.now; tuples = b.tuples.now; arrivals = b.arrivals; since = b.since } };
+
+    ghost invariant = { λ b. PortsApart b.machine.now.table.contents };
 }
 
 /// Whether a five-tuple is one of these.
@@ -79,6 +86,7 @@ impl<'a, 'b, H: AuthHandler, G: RelayAddressGenerator, A: Allocator + Copy> Besi
         arrivals: u16,
         since: Moment,
     ) -> Beside<'a, 'b, H, G, A>
+        requires { PortsApart machine.now.table.contents }
         ensures { result ≡ record { machine = machine.now; tuples = tuples.now; arrivals = arrivals; since = since } }
     {
         Beside {
@@ -89,8 +97,22 @@ impl<'a, 'b, H: AuthHandler, G: RelayAddressGenerator, A: Allocator + Copy> Besi
         }
     }
 
-    // Whether all that is staged is of the clock's moment.
-    fn is_at_clock(&self) -> bool
+    /// The generator of relayed ports.
+    pub fn ports(&self) -> &'a G
+        ensures { result.now ≡ self.now.machine.ports }
+    {
+        self.machine.ports()
+    }
+
+    /// The table at the clock, with what is staged.
+    pub fn table(&self) -> &'a Table<A>
+        ensures { result.now ≡ self.now.machine.table }
+    {
+        self.machine.table()
+    }
+
+    /// Whether all that is staged is of the clock's moment. If not, every arrival has to be submitted.
+    pub fn is_at_clock(&self) -> bool
         ensures { IsTrue result ↔ IsAtClock self.now }
     {
         self.arrivals == 0 || self.since == self.machine.moment()
@@ -105,6 +127,21 @@ impl<'a, 'b, H: AuthHandler, G: RelayAddressGenerator, A: Allocator + Copy> Besi
             Some(owner) => !has_tuple(self.tuples, owner),
             None => false,
         }
+    }
+
+    /// Whether data that comes to a relayed port is answered now, whatever it is: the port is that of an allocation of which no act is
+    /// staged, and nothing is staged of an earlier moment.
+    pub fn relays_at(&self, port: u16) -> bool
+        ensures { IsTrue result → (from : Endpoint) (bytes id : List ℕ) → ¬ HasToWait self.now (FromPeer port from bytes id) }
+    {
+        let arrival = Arrival::Peer {
+            port,
+            from: Endpoint { ip: 0, port: 0 },
+            bytes: &[],
+            id: TxId([0; 12]),
+        };
+        let _ = &self.machine;
+        self.is_at_clock() && self.is_apart(&arrival)
     }
 
     /// Answers data at the clock, and changes nothing: of a five-tuple of which no act is staged, while nothing is staged of an earlier

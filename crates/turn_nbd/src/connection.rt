@@ -55,6 +55,11 @@ impl<T: Stream> Connection<T> {
         }
     }
 
+    /// The stream over which it is.
+    pub fn stream(&self) -> &T {
+        self.wire.stream()
+    }
+
     // Sends a request with its data, and receives its reply with the reply's data. While the reply isn't there the other is done.
     #[tactic(auto, using(turn_disk::proofs::Passing::passes_none))]
     fn exchange<M: Meanwhile>(

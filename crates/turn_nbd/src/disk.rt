@@ -90,6 +90,11 @@ impl<T: Stream> NbdDisk<T> {
 }
 
 impl<T: Stream, S: Start> NbdDisk<T, S> {
+    /// The stream to the server.
+    pub(crate) fn stream(&self) -> &T {
+        self.connection.stream()
+    }
+
     // Whether a write or a sync is tried: the disk was opened to be written, and no request failed.
     fn may_write(&self) -> bool
         ensures { result ≡ (self.now.can_write && self.now.connection.is_open) }

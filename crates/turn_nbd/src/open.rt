@@ -8,6 +8,7 @@ use crate::socket::Socket;
 use crate::uri::{Export, Place};
 use std::alloc::Allocator;
 use std::net::Net;
+use std::os::fd::RawFd;
 use std::rt::Clock;
 use std::thread;
 use std::time::Duration;
@@ -34,6 +35,13 @@ fn connect<R: Net, C: Clock, A: Allocator + Copy>(
         thread::sleep(system, Duration::from_millis(PAUSE_MILLIS));
     }
     Socket::connect(alloc, net, place)
+}
+
+impl<A: Allocator> NbdDisk<Socket<A>> {
+    /// The descriptor of its socket, at which the replies come, for a wait of one's own.
+    pub fn descriptor(&self) -> RawFd {
+        self.stream().descriptor()
+    }
 }
 
 impl<A: Allocator + Copy> NbdDisk<Socket<A>> {

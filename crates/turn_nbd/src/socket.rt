@@ -11,7 +11,7 @@ use mio::{Events, Interest, Poll, Token};
 use std::alloc::{Allocator, Global};
 use std::io::{self, ErrorKind, Read, Write};
 use std::net::{Ipv4Addr, Net, SocketAddr, SocketAddrV4};
-use std::os::fd::AsRawFd;
+use std::os::fd::{AsRawFd, RawFd};
 use std::time::Duration;
 use turn_disk::is_apart;
 use turn_types::Endpoint;
@@ -160,6 +160,14 @@ impl<A: Allocator + Copy> Socket<A> {
 }
 
 impl<A: Allocator> Socket<A> {
+    /// Its descriptor, for a wait of one's own.
+    pub fn descriptor(&self) -> RawFd {
+        match &self.link {
+            Link::Unix(stream) => stream.as_raw_fd(),
+            Link::Tcp(stream) => stream.as_raw_fd(),
+        }
+    }
+
     // Waits until the socket may be read or written, at most so many milliseconds. It fails once the time is up.
     fn wait(&mut self, most: u64) -> Result<(), NbdError> {
         let Some(now) = millis() else {

@@ -45,6 +45,11 @@ impl<T: Stream> Wire<T> {
         }
     }
 
+    /// The stream.
+    pub fn stream(&self) -> &T {
+        &self.stream
+    }
+
     /// Begins a bounded wait.
     pub fn begin(&mut self)
         ensures { self.new ≡ self.old }
