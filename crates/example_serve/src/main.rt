@@ -63,6 +63,7 @@ fn main(rt: HostRuntime) -> Result<()> {
         burst: 64,
         commits: Commits::EachTurn,
         seed,
+        awaited: None,
     };
     let sockets = ListeningSockets::Bound;
     let mut serving = match setup.start(alloc, &rt, clock, disk(alloc)?, users, sockets, Silent) {

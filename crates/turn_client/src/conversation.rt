@@ -198,6 +198,7 @@ impl<'a, R: Net + Drop, A: Allocator + Copy> Loopback<'a, R, A> {
             burst: plan.burst,
             commits: plan.commits,
             seed: seed_of(client.local()),
+            awaited: None,
         };
         let serving = setup.start(
             plan.alloc,

@@ -90,6 +90,14 @@ impl<'l, L: Write + Drop> Watch for &'l Log<L> {
         }
     }
 
+    fn relayed<A: Allocator + Copy>(&self, table: &Table<A>, outgoing: &Outgoing<A>) {
+        if let Some(lines) = &self.lines {
+            if let Ok(mut lines) = lines.try_borrow_mut() {
+                lines.count_relayed(table, outgoing);
+            }
+        }
+    }
+
     fn shed(&self, moment: Moment) {
         if let Some(lines) = &self.lines {
             if let Ok(mut lines) = lines.try_borrow_mut() {

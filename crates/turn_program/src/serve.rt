@@ -23,6 +23,7 @@ use std::env::Env;
 use std::fs::File;
 use std::io::Write;
 use std::net::Net;
+use std::os::fd::RawFd;
 use std::random::RandomSource;
 use std::rt::{Clock, Files};
 use std::thread;
@@ -119,6 +120,8 @@ struct Taken {
     seed: [u8; 32],
     prepared: Prepared,
     sockets: ListeningSockets,
+    // At which the answers of the store's export come, if it is in one.
+    awaited: Option<RawFd>,
 }
 
 /// Takes the configuration, and the sockets that are handed over. At a fault the log says what it is about.
@@ -144,6 +147,7 @@ fn take_first<R: Files<File = File> + RandomSource + Env + AllocGlobal, C: Clock
         seed,
         prepared,
         sockets,
+        awaited: None,
     })
 }
 
@@ -180,8 +184,9 @@ fn take_export<
 ) -> Result<(Taken, NbdDisk), ProgramError>
     ensures { IfOk result (λ taken. IsConnected taken.1) }
 {
-    let taken = take_first(rt, clock, service, log)?;
+    let mut taken = take_first(rt, clock, service, log)?;
     let disk = open_export_to_serve(rt, clock, log, named)?;
+    taken.awaited = Some(disk.descriptor());
     Ok((taken, disk))
 }
 
@@ -272,6 +277,7 @@ fn start<
         seed,
         prepared,
         sockets,
+        awaited,
     } = taken;
     let Prepared {
         config,
@@ -289,6 +295,7 @@ fn start<
         burst: service.burst,
         commits: commits_of(service.turns),
         seed,
+        awaited,
     };
     match setup.start(rt.alloc(), rt, clock, disk, credentials, sockets, watch) {
         Ok(serving) => Ok(serving),

@@ -1,3 +1,4 @@
+pub mod Besides
 pub mod Held
 pub mod Moments
 pub mod Named

@@ -1,5 +1,5 @@
 -- To which moment calls bring the table.
-use Rattle.std.proofs.Common.{arith, ◌≡◌, ◌<◌, ◌≤◌, ◌-◌, ◌^◌, ◌⊎◌, inl, inr, ℕ, Bool, true, false, List, [], ◌∷◌, Result, Ok, Err, refl, sym, ap, ◌∙◌, subst, ⊎_elim}
+use Rattle.std.proofs.Common.{arith, ◌≡◌, ◌<◌, ◌≤◌, ◌⊎◌, inl, inr, ℕ, Bool, true, false, List, [], ◌∷◌, Result, Ok, Err, refl, sym, ap, ◌∙◌, subst, ⊎_elim}
 use Rattle.turn_cred.specs.declared.handler.AuthHandler as handlers
 use Rattle.turn_disk.specs.declared.disk.Disk as disks
 use Rattle.turn_engine.specs.Calls.{Submits}
@@ -11,6 +11,7 @@ use Rattle.turn_ports.specs.declared.generator.RelayAddressGenerator as generato
 use Rattle.turn_sockets.specs.Moments.{IsMoment}
 use Rattle.turn_step.specs.Outcome.{Arrives}
 use Rattle.turn_serving.specs.Turns.{AreAt, Served}
+use Rattle.turn_serving.proofs.Turns.{still}
 use Rattle.turn_types.specs.Profile.{end_of_moments}
 
 -- of two moments in a row the second is one by the first clock
@@ -116,3 +117,8 @@ module _ {D H G : Type 0} {disk : disks.Ghosts D} {handler : handlers.Ghosts H} 
       by true is =
           let stopped = ap (λ (s : ServerState D H G). s.store.stopped) (sym served.last) ∙ stays_stopped disk handler ports old served.steps served.serves is in
           let no : true ≡ false = sym stopped ∙ runs in cc
+
+-- a server that runs after calls is at a moment that was told, if it was before them
+pub stays_current : {D H G : Type 0} {disk : disks.Ghosts D} {handler : handlers.Ghosts H} {ports : generators.Ghosts G} {told : ℕ → Type 0} {old new : ServerState D H G} → (old.store.stopped ≡ false → IsMoment told (now_of old) (now_of old))
+    → Served disk handler ports (IsMoment told) old new → new.store.stopped ≡ false → IsMoment told (now_of new) (now_of new)
+stays_current {told = told} {old = old} {new = new} current served runs = still told (now_of old) (now_of new) (moment_after (current (ran_before served runs)) served)

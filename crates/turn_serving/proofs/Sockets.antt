@@ -1,5 +1,5 @@
 -- Sockets of addresses: those that are bound at them, and those that a test finds at them.
-use Rattle.std.proofs.Common.{arith, ◌≡◌, ◌&&◌, ℕ, zero, suc, Bool, true, nat_eq, List, [], ◌∷◌, All, Contains, get_or, sym, subst}
+use Rattle.std.proofs.Common.{arith, ◌≡◌, ◌&&◌, zero, suc, Bool, true, nat_eq, List, [], ◌∷◌, All, Contains, get_or, sym, subst}
 use Rattle.std.specs.List.{list_all, list_any}
 use Rattle.std.proofs.lemmas.Bool.{and_parts}
 use Rattle.std.proofs.lemmas.List.Elements.{All-contains_itself}

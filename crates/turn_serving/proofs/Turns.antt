@@ -67,7 +67,7 @@ never_at IsOne server (Relay a sent new ∷ xs) at = absurd at.0
 -- ---- Moments
 
 -- at the moment itself it is still that moment
-still : (told : ℕ → Type 0) (clock moment : ℕ) → IsMoment told clock moment → IsMoment told moment moment
+pub still : (told : ℕ → Type 0) (clock moment : ℕ) → IsMoment told clock moment → IsMoment told moment moment
 still told clock moment is = record {
   second = is.second;
   was_told = is.was_told;

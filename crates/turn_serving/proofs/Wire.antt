@@ -3,6 +3,7 @@ use Rattle.std.proofs.Common.{arith, IsErrAnd, IsOk, Some, slice_get, zero, suc,
 use Rattle.turn_cred.specs.declared.handler.AuthHandler as handlers
 use Rattle.turn_disk.specs.declared.disk.Disk as disks
 use Rattle.turn_engine.specs.Calls.{Commits, Submits}
+use Rattle.turn_engine.specs.Relaying.{beside}
 use Rattle.turn_engine.specs.Runs.{Commit, Relay, ServerCall, Submit}
 use Rattle.turn_engine.specs.State.{ServerState, now_of}
 use Rattle.turn_engine.specs.declared.error.SubmitError.{SubmitError}
@@ -20,7 +21,7 @@ use Rattle.turn_types.specs.declared.address.Endpoint.{Endpoint}
 use Rattle.turn_types.specs.declared.address.FiveTuple.{FiveTuple}
 use Rattle.turn_serving.specs.Serving.{ServingState, wire_of}
 use Rattle.turn_serving.specs.Turns.{At, Never, datagrams_of, of_tuple, submitted_by, submitted_in}
-use Rattle.turn_serving.specs.Wire.{Addresses, AreSent, Committed, Event, Flushes, IsPart, Moves, OfClient, OfPeer, OnWire, Passes, Relayed, SendsEach, SendsOne, Submitted, SubmitsOnWire, calls_of, of_clients, of_peers, on_wire, passed_in, peer_at, peers_of}
+use Rattle.turn_serving.specs.Wire.{Addresses, AreSent, Committed, Event, Flushes, IsPart, LostOfPeer, Moves, OfClient, OfPeer, OnWire, Passes, Relayed, RelaysOnWire, SendsEach, SendsOne, Submitted, SubmitsOnWire, calls_of, of_clients, of_peers, on_wire, passed_in, peer_at, peers_of}
 use Rattle.turn_serving.proofs.Order.{counted_once, has_room, kept_order, no_order, none_submitted, order_in_row, peer_order, pushed_order, submitted-append, submitted_order, told_order, waited_order}
 use Rattle.turn_serving.proofs.Turns.{at_told, in_row, no_call, none}
 
@@ -31,6 +32,7 @@ module _ {D H G : Type 0} where
   calls-append [] ys = refl
   calls-append (OfClient at from bytes ∷ xs) ys = calls-append xs ys
   calls-append (OfPeer at from bytes ∷ xs) ys = calls-append xs ys
+  calls-append (LostOfPeer at from bytes ∷ xs) ys = calls-append xs ys
   calls-append (Submitted moment a result new ∷ xs) ys = ap (λ l. Submit moment a result new ∷ l) (calls-append xs ys)
   calls-append (Committed result new out ∷ xs) ys = ap (λ l. Commit result new ∷ l) (calls-append xs ys)
   calls-append (Relayed a answer new out ∷ xs) ys = ap (λ l. Relay a answer new ∷ l) (calls-append xs ys)
@@ -39,6 +41,7 @@ module _ {D H G : Type 0} where
   passed-append [] ys = refl
   passed-append (OfClient at from bytes ∷ xs) ys = ap (λ l. received at from bytes ∷ l) (passed-append xs ys)
   passed-append (OfPeer at from bytes ∷ xs) ys = ap (λ l. received at from bytes ∷ l) (passed-append xs ys)
+  passed-append (LostOfPeer at from bytes ∷ xs) ys = ap (λ l. received at from bytes ∷ l) (passed-append xs ys)
   passed-append (Submitted moment a result new ∷ xs) ys = passed-append xs ys
   passed-append (Committed result new out ∷ xs) ys = ap (λ l. out ++ l) (passed-append xs ys) ∙ sym (append_assoc out (passed_in xs) (passed_in ys))
   passed-append (Relayed a answer new out ∷ xs) ys = ap (λ l. out ++ l) (passed-append xs ys) ∙ sym (append_assoc out (passed_in xs) (passed_in ys))
@@ -47,6 +50,7 @@ module _ {D H G : Type 0} where
   clients-append [] ys = refl
   clients-append (OfClient at from bytes ∷ xs) ys = ap (λ (l : List (FiveTuple × List ℕ)). (record { client = from; server = at }, bytes) ∷ l) (clients-append xs ys)
   clients-append (OfPeer at from bytes ∷ xs) ys = clients-append xs ys
+  clients-append (LostOfPeer at from bytes ∷ xs) ys = clients-append xs ys
   clients-append (Submitted moment a result new ∷ xs) ys = clients-append xs ys
   clients-append (Committed result new out ∷ xs) ys = clients-append xs ys
   clients-append (Relayed a answer new out ∷ xs) ys = clients-append xs ys
@@ -57,6 +61,7 @@ module _ {D H G : Type 0} where
   peers-append own (OfPeer at from bytes ∷ xs) ys =
       let first = peer_at at.port (come_from own from) bytes in
       ap (λ l. first ++ l) (peers-append own xs ys) ∙ sym (append_assoc first (of_peers own xs) (of_peers own ys))
+  peers-append own (LostOfPeer at from bytes ∷ xs) ys = peers-append own xs ys
   peers-append own (Submitted moment a result new ∷ xs) ys = peers-append own xs ys
   peers-append own (Committed result new out ∷ xs) ys = peers-append own xs ys
   peers-append own (Relayed a answer new out ∷ xs) ys = peers-append own xs ys
@@ -65,6 +70,7 @@ module _ {D H G : Type 0} where
   sent-append has here [] ys first second = second
   sent-append has here (OfClient at from bytes ∷ xs) ys first second = (first.0, sent-append has here xs ys first.1 second)
   sent-append has here (OfPeer at from bytes ∷ xs) ys first second = sent-append has here xs ys first second
+  sent-append has here (LostOfPeer at from bytes ∷ xs) ys first second = sent-append has here xs ys first second
   sent-append has here (Submitted moment a result new ∷ xs) ys first second = sent-append has here xs ys first second
   sent-append has here (Committed (Ok outs) new out ∷ xs) ys first second = (first.0, sent-append has here xs ys first.1 second)
   sent-append has here (Committed (Err fault) new out ∷ xs) ys first second = (first.0, sent-append has here xs ys first.1 second)
@@ -194,6 +200,21 @@ module _ {D H G : Type 0} {disk : disks.Ghosts D} {handler : handlers.Ghosts H} 
             ∙ ap (λ l. l ++ (submitted_by a second ++ [])) (none_submitted full flushed.moves.served.steps flushed.moves.served.moments)
             ∙ counted_once a second (has_room taken empty);
       }
+
+  -- data that is answered beside what is staged
+  pub answers : {is_done : Type 0} {s : ServerState D H G} {a : Arrives} {before after : List Passed} → s.store.stopped ≡ false → RelaysOnWire handler.key_of ports.range has here (beside s) a before after
+      → SubmitsOnWire disk handler ports has here (now_of s) is_done a s s before after
+  answers {s = s} {a = a} {before = before} runs r = record {
+    moves = record {
+      events = Relayed a r.answer s r.out ∷ [];
+      served = record { steps = Relay a r.answer s ∷ []; serves = ((runs, r.relays, refl), tt); moments = (refl, tt); last = refl };
+      calls = refl;
+      passed = r.passed ∙ ap (λ l. before ++ l) (sym (append-nil r.out));
+      are_sent = (r.sends, tt);
+    };
+    nothing = record { no_client = refl; no_peer = λ own. refl };
+    once = λ d. refl;
+  }
 
 -- ---- Turns
 
@@ -344,6 +365,16 @@ module _ {D H G : Type 0} {disk : disks.Ghosts D} {handler : handlers.Ghosts H} 
       → after ≡ before ++ received at from bytes ∷ [] → Passes disk handler ports has here IsOne is_done (on_wire server waited before) (on_wire server waits after)
   dropped_passes {IsOne = IsOne} {is_done = is_done} from bytes server {waited = waited} {before = before} {after = after} same there came =
       subst (λ (b : BacklogState). Passes disk handler ports has here IsOne is_done (on_wire server waited before) (on_wire server b after)) (sym same) (dropped from bytes server waited there came)
+
+  -- a peer's datagram was received, and is lost
+  pub lost_passes : {IsOne : ℕ → ℕ → Type 0} {is_done : Type 0} (at from : Endpoint) (bytes : List ℕ) (server : ServerState D H G) (b : BacklogState) {before after : List Passed} → after ≡ before ++ received at from bytes ∷ []
+      → Passes disk handler ports has here IsOne is_done (on_wire server b before) (on_wire server b after)
+  unfolding no_order no_call
+  lost_passes at from bytes server b came = record {
+    moves = record { events = LostOfPeer at from bytes ∷ []; served = no_call server; calls = refl; passed = came; are_sent = tt };
+    clients = λ d. (no_order server b, refl, tt);
+    peers = λ d. refl;
+  }
 
   -- what waited is submitted
   pub waited_passes : {moment : ℕ} {is_done : Type 0} {f : FiveTuple} {bytes : List ℕ} {old new : ServerState D H G} {waited waits : BacklogState} {before after : List Passed} → SubmitsOnWire disk handler ports has here moment is_done (FromClient f bytes) old new before after

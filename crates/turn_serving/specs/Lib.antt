@@ -1,5 +1,6 @@
 pub mod Listening
 pub mod Manner
+pub mod Reading
 pub mod Requests
 pub mod Serving
 pub mod Starts

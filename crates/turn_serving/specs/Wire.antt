@@ -1,10 +1,12 @@
 -- What the sockets of a server receive and send, beside the calls of the server.
 use Rattle.std.specs.Prelude.{◌≡◌, ◌≢◌, ◌⊎◌, ℕ, Bool, false, nat_eq, if◌then◌else◌, List, [], ◌∷◌, ◌++◌, Option, Result, Ok, Err, All, Contains}
 use Rattle.std.specs.Option.{option_to_list}
+use Rattle.turn_cred.specs.Credential.{Keys}
 use Rattle.turn_cred.specs.declared.handler.AuthHandler as handlers
 use Rattle.turn_disk.specs.declared.disk.Disk as disks
+use Rattle.turn_engine.specs.Relaying.{BesideState, Relays, beside}
 use Rattle.turn_engine.specs.Runs.{Commit, Relay, ServerCall, Submit}
-use Rattle.turn_engine.specs.State.{ServerState}
+use Rattle.turn_engine.specs.State.{ServerState, now_of}
 use Rattle.turn_engine.specs.declared.error.SubmitError.{SubmitError}
 use Rattle.turn_ports.specs.declared.generator.RelayAddressGenerator as generators
 use Rattle.turn_sockets.specs.Backlog.{BacklogState}
@@ -25,6 +27,8 @@ pub data Event (D H G : Type 0) : Type 0 where
   OfClient : (at from : Endpoint) (bytes : List ℕ) → Event D H G
   -- the socket of a relay port did
   OfPeer : (at from : Endpoint) (bytes : List ℕ) → Event D H G
+  -- it did while a commit waited for its disk, and there was no memory for an answer
+  LostOfPeer : (at from : Endpoint) (bytes : List ℕ) → Event D H G
   -- an arrival was submitted
   Submitted : (moment : ℕ) (arrival : Arrives) (result : Result Unit SubmitError) (after : ServerState D H G) → Event D H G
   -- a commit, and what was sent then
@@ -37,6 +41,7 @@ abbrev pub calls_of : {D H G : Type 0} → List (Event D H G) → List (ServerCa
 calls_of [] = []
 calls_of (OfClient at from bytes ∷ events) = calls_of events
 calls_of (OfPeer at from bytes ∷ events) = calls_of events
+calls_of (LostOfPeer at from bytes ∷ events) = calls_of events
 calls_of (Submitted moment arrival result after ∷ events) = Submit moment arrival result after ∷ calls_of events
 calls_of (Committed result after out ∷ events) = Commit result after ∷ calls_of events
 calls_of (Relayed arrival answer after out ∷ events) = Relay arrival answer after ∷ calls_of events
@@ -46,6 +51,7 @@ abbrev pub passed_in : {D H G : Type 0} → List (Event D H G) → List Passed
 passed_in [] = []
 passed_in (OfClient at from bytes ∷ events) = received at from bytes ∷ passed_in events
 passed_in (OfPeer at from bytes ∷ events) = received at from bytes ∷ passed_in events
+passed_in (LostOfPeer at from bytes ∷ events) = received at from bytes ∷ passed_in events
 passed_in (Submitted moment arrival result after ∷ events) = passed_in events
 passed_in (Committed result after out ∷ events) = out ++ passed_in events
 passed_in (Relayed arrival answer after out ∷ events) = out ++ passed_in events
@@ -82,6 +88,7 @@ abbrev pub AreSent : {D H G : Type 0} → (G → ℕ → Bool) → Addresses →
 AreSent has here [] = Unit {0}
 AreSent has here (OfClient at from bytes ∷ events) = Contains here.sockets at × AreSent has here events
 AreSent has here (OfPeer at from bytes ∷ events) = AreSent has here events
+AreSent has here (LostOfPeer at from bytes ∷ events) = AreSent has here events
 AreSent has here (Submitted moment arrival result after ∷ events) = AreSent has here events
 AreSent has here (Committed (Ok outs) after out ∷ events) = SendsEach here (has after.machine.ports) outs out × AreSent has here events
 AreSent has here (Committed (Err fault) after out ∷ events) = (out ≡ []) × AreSent has here events
@@ -102,6 +109,7 @@ abbrev pub of_clients : {D H G : Type 0} → List (Event D H G) → List (FiveTu
 of_clients [] = []
 of_clients (OfClient at from bytes ∷ events) = (record { client = from; server = at }, bytes) ∷ of_clients events
 of_clients (OfPeer at from bytes ∷ events) = of_clients events
+of_clients (LostOfPeer at from bytes ∷ events) = of_clients events
 of_clients (Submitted moment arrival result after ∷ events) = of_clients events
 of_clients (Committed result after out ∷ events) = of_clients events
 of_clients (Relayed arrival answer after out ∷ events) = of_clients events
@@ -111,12 +119,13 @@ of_clients (Relayed arrival answer after out ∷ events) = of_clients events
 abbrev pub peer_at : ℕ → Endpoint → List ℕ → List (ℕ × (Endpoint × List ℕ))
 peer_at port from bytes = if nat_eq port 0 then [] else (port, (from, bytes)) ∷ []
 
--- the datagrams of peers that were received, each with the port of the socket that received it, and who sent it in the addresses that
--- clients are told
+-- the datagrams of peers that were received and not lost, each with the port of the socket that received it, and who sent it in the
+-- addresses that clients are told
 abbrev pub of_peers : {D H G : Type 0} → OwnAddresses → List (Event D H G) → List (ℕ × (Endpoint × List ℕ))
 of_peers own [] = []
 of_peers own (OfClient at from bytes ∷ events) = of_peers own events
 of_peers own (OfPeer at from bytes ∷ events) = peer_at at.port (come_from own from) bytes ++ of_peers own events
+of_peers own (LostOfPeer at from bytes ∷ events) = of_peers own events
 of_peers own (Submitted moment arrival result after ∷ events) = of_peers own events
 of_peers own (Committed result after out ∷ events) = of_peers own events
 of_peers own (Relayed arrival answer after out ∷ events) = of_peers own events
@@ -147,7 +156,7 @@ on_wire server waits passed = record { server = server; waits = waits; passed = 
 
 -- What led from one state to another. By `is_done` all that was received was taken: of each five-tuple what waited and what was received, but
 -- for what was dropped, is what was submitted and what waits then, in order and once, as `KeepsOrder` has it; and what was submitted of peers
--- is what was received of them, in order and once.
+-- is what was received of them and not lost, in order and once.
 pub record Passes {D H G : Type 0} (disk : disks.Ghosts D) (handler : handlers.Ghosts H) (ports : generators.Ghosts G) (has : G → ℕ → Bool) (here : Addresses) (IsOne : ℕ → ℕ → Type 0) (is_done : Type 0) (old new : OnWire D H G) : Type 0 where
   pub moves : Moves disk handler ports has here IsOne old.server new.server old.passed new.passed
   pub clients : is_done → (kept : KeepsOrder disk handler ports IsOne old.server old.waits new.server new.waits) × (kept.served.steps ≡ calls_of moves.events) × IsPart kept.received (of_clients moves.events)
@@ -168,3 +177,16 @@ pub record SubmitsOnWire {D H G : Type 0} (disk : disks.Ghosts D) (handler : han
   pub moves : Moves disk handler ports has here (At moment) old new before after
   pub nothing : ReceivesNothing moves.events
   pub once : is_done → submitted_in moves.served.steps ≡ arrival ∷ []
+
+-- Data was answered beside what is staged, and the answer was sent.
+pub record RelaysOnWire {H G : Type 0} (keys : H → Keys) (range : G → ℕ × ℕ) (has : G → ℕ → Bool) (here : Addresses) (b : BesideState H G) (arrival : Arrives) (before after : List Passed) : Type 0 where
+  pub answer : Option Sent
+  pub relays : Relays keys range b arrival answer
+  pub out : List Passed
+  pub passed : after ≡ before ++ out
+  pub sends : SendsEach here (has b.machine.ports) (option_to_list answer) out
+
+-- Whichever server has this staged and isn't stopped: all that was received was taken beside what is staged, at the clock, and the server
+-- is as it was.
+pub record PassesBeside {D H G : Type 0} (disk : disks.Ghosts D) (handler : handlers.Ghosts H) (ports : generators.Ghosts G) (has : G → ℕ → Bool) (here : Addresses) (b : BesideState H G) (waited waits : BacklogState) (before after : List Passed) : Type 0 where
+  pub each : (s : ServerState D H G) → beside s ≡ b → s.store.stopped ≡ false → Passes disk handler ports has here (At (now_of s)) (Unit {0}) (on_wire s waited before) (on_wire s waits after)

@@ -1,20 +1,21 @@
-//! The calls of a server in a turn: of `submit` and of `commit`.
+//! The calls of a server in a turn: of `submit` and of `commit`, and answers beside a commit.
 
-ghost use Rattle.std.specs.Prelude.{◌≡◌, ◌≤◌, IsOk, OnOk, false};
+ghost use Rattle.std.specs.Prelude.{◌≡◌, ◌≢◌, ◌≤◌, IsOk, OnOk, false};
+ghost use Rattle.turn_engine.specs.Relaying.{HasToWait};
 ghost use Rattle.turn_engine.specs.State.{emptied, now_of};
 ghost use Rattle.turn_step.specs.Views.{arrival_of};
 ghost use Rattle.turn_serving.specs.Turns.{At, IsSubmitted, Never, Served};
-ghost use Rattle.turn_serving.specs.Wire.{Flushes, SubmitsOnWire, addresses_of};
+ghost use Rattle.turn_serving.specs.Wire.{Flushes, RelaysOnWire, SubmitsOnWire, addresses_of};
 
 use crate::error::TurnError;
 use crate::listening::Listening;
 use crate::relay_sockets::RelaySockets;
-use crate::sending::send_all;
+use crate::sending::{send_all, send_answer};
 use crate::watch::Watch;
 use std::alloc::Allocator;
 use turn_cred::AuthHandler;
 use turn_disk::Disk;
-use turn_engine::{Server, SubmitError};
+use turn_engine::{Beside, Relayed, Server, SubmitError};
 use turn_ports::RelayAddressGenerator;
 use turn_sockets::SocketRecord;
 use turn_step::Arrival;
@@ -68,4 +69,37 @@ pub(crate) fn submit<
         let _ = server.submit(moment, arrival);
     }
     Ok(())
+}
+
+/// What came of data that was to be answered beside what is staged.
+#[derive(Clone, Copy)]
+pub(crate) enum Answer {
+    /// It was answered, and what is to be sent was sent.
+    Sent,
+    /// It has to be submitted.
+    Waits,
+    /// There was no memory for the answer.
+    Lost,
+}
+
+/// Answers data beside what is staged, and sends the answer.
+pub(crate) fn relay<H: AuthHandler, G: RelaySockets, A: Allocator + Copy, W: Watch + Drop>(
+    listening: &Listening<W, A>,
+    beside: &Beside<'_, '_, H, G, A>,
+    wire: &mut SocketRecord,
+    arrival: &Arrival<'_>,
+) -> Answer
+    ensures relays { result ≡ Answer.Sent → RelaysOnWire H.key_of G.range G.has_socket (addresses_of listening.now.sockets.items listening.now.own)
+        beside.now (arrival_of arrival.now) wire.old.passed wire.new.passed }
+    ensures waits { result ≡ Answer.Waits → HasToWait beside.now (arrival_of arrival.now) }
+    ensures nothing { result ≢ Answer.Sent → wire.new.passed ≡ wire.old.passed }
+{
+    match beside.relay(arrival) {
+        Ok(Relayed::Waits) => Answer::Waits,
+        Ok(Relayed::Answered(answer)) => {
+            send_answer(listening, beside, wire, &answer);
+            Answer::Sent
+        }
+        Err(_) => Answer::Lost,
+    }
 }

@@ -7,6 +7,7 @@ mod error;
 mod laws;
 mod listening;
 mod manner;
+mod reading;
 mod relay_sockets;
 mod requests;
 mod sending;

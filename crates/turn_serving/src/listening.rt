@@ -7,10 +7,12 @@ ghost use Rattle.turn_serving.specs.Listening.{HasSockets};
 
 use crate::error::{BindError, TurnError};
 use crate::watch::Watch;
-use mio::{Events, Poll};
-use std::alloc::{AllocError, Allocator, Global};
+use mio::unix::SourceFd;
+use mio::{Events, Interest, Poll, Token};
+use std::alloc::{Allocator, Global};
 use std::io::ErrorKind;
 use std::net::Net;
+use std::os::fd::RawFd;
 use std::rt::Clock;
 use std::thread;
 use std::time::Duration;
@@ -27,6 +29,12 @@ const EVENTS: usize = 1_025;
 pub(crate) const ATTEMPTS: u32 = 40;
 
 const PAUSE_MILLIS: u64 = 50;
+
+/// The token of the disk's answers, which is none of a socket.
+const ANSWERS: Token = Token(usize::MAX);
+
+/// How long a look beside a commit waits at most.
+const BESIDE_MILLIS: u64 = 100;
 
 /// Where the sockets that clients send to come from.
 #[derive(Drop)]
@@ -73,6 +81,13 @@ fn watch(poll: &Poll, socket: &mut BoundSocket, token: usize) -> Result<(), Bind
     // A smaller buffer is no fault.
     let _ = socket.set_receive_buffer(RECEIVE_BUFFER);
     Ok(())
+}
+
+/// Has a wait end when there is something to read at a descriptor.
+fn watch_answers(poll: &Poll, descriptor: RawFd) -> Result<(), BindError> {
+    poll.registry()
+        .register(&mut SourceFd(&descriptor), ANSWERS, Interest::READABLE)
+        .map_err(|_| BindError::Socket)
 }
 
 /// Binds a socket at each of these addresses, in whose place it puts the one that was bound. Port 0 is any free one.
@@ -177,33 +192,51 @@ impl<W: Watch + Drop, A: Allocator + Copy> Listening<W, A> {
     }
 }
 
-/// The wait for datagrams, and the sockets that may have some.
+/// The wait for datagrams.
 #[derive(Drop)]
 pub(crate) struct Waiting<A: Allocator = Global> {
     poll: Poll,
     events: Events<A>,
-    pub(crate) schedule: Schedule<A>,
+    // Whether it ends too when the disk has an answer.
+    is_awaited: bool,
 }
 
 impl<A: Allocator + Copy> Waiting<A> {
-    pub(crate) fn new(alloc: A, poll: Poll) -> Result<Waiting<A>, AllocError> {
+    /// Where there is a descriptor at which the disk's answers come, a wait ends then too.
+    pub(crate) fn new(
+        alloc: A,
+        poll: Poll,
+        awaited: Option<RawFd>,
+    ) -> Result<Waiting<A>, BindError> {
+        if let Some(descriptor) = awaited {
+            watch_answers(&poll, descriptor)?;
+        }
         Ok(Waiting {
             poll,
             events: Events::with_capacity(alloc, EVENTS)?,
-            schedule: Schedule::new(alloc)?,
+            is_awaited: awaited.is_some(),
         })
     }
 }
 
 impl<A: Allocator> Waiting<A> {
+    /// For how long a look beside a commit may wait: until its disk has an answer, if that ends a wait too.
+    pub(crate) fn beside(&self) -> Duration {
+        Duration::from_millis(if self.is_awaited { BESIDE_MILLIS } else { 0 })
+    }
+
     /// Waits for so long until a socket gets a datagram, and lists those that got one.
-    pub(crate) fn look(&mut self, timeout: Duration) -> Result<(), TurnError>
-        ensures { OnOk result ((ready : List ℕ) × (self.new.schedule ≡ with_all_ready self.old.schedule ready)) }
+    pub(crate) fn look(
+        &mut self,
+        schedule: &mut Schedule<A>,
+        timeout: Duration,
+    ) -> Result<(), TurnError>
+        ensures { OnOk result ((ready : List ℕ) × (schedule.new ≡ with_all_ready schedule.old ready)) }
     {
         if self.poll.poll(&mut self.events, Some(timeout)).is_err() {
             return Err(TurnError::Socket);
         }
-        self.schedule.add_all(&self.events)?;
+        schedule.add_all(&self.events)?;
         Ok(())
     }
 }

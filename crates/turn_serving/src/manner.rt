@@ -16,6 +16,9 @@ pub enum Commits {
     /// after that is over (four times as long as it took, at most 50 ms). What comes from a five-tuple after a request that waits,
     /// waits too.
     ///
+    /// While the disk of a commit lets others pass, as that of an export does, sockets are read too: data is answered at once unless
+    /// something of its five-tuple is in the commit, and all else waits for the next one, which follows without a pause.
+    ///
     /// Sockets are read in rounds, as `turn_sockets::Schedule` says, an eighth of `burst` datagrams a visit. If none has one a turn
     /// waits for one, at most a second.
     Paced,

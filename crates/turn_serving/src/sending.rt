@@ -1,6 +1,7 @@
 //! What a server sends, by its sockets.
 
-ghost use Rattle.std.specs.Prelude.{◌≡◌, ◌≢◌, ◌↔◌, ◌++◌, All, IsTrue, List, map};
+ghost use Rattle.std.specs.Prelude.{◌≡◌, ◌≢◌, ◌↔◌, ◌++◌, All, IsTrue, List, map, option_map};
+ghost use Rattle.std.specs.Option.{option_to_list};
 ghost use Rattle.turn_sockets.specs.Own.{IsListening, IsNamed};
 ghost use Rattle.turn_sockets.specs.Wire.{Passed};
 ghost use Rattle.turn_step.specs.Views.{sent_of};
@@ -12,7 +13,7 @@ use crate::watch::Watch;
 use std::alloc::Allocator;
 use turn_cred::AuthHandler;
 use turn_disk::Disk;
-use turn_engine::Server;
+use turn_engine::{Beside, Server};
 use turn_sockets::{OwnAddresses, SocketRecord};
 use turn_step::Outgoing;
 use turn_types::Endpoint;
@@ -82,4 +83,20 @@ pub(crate) fn send_all<
     listening
         .watch
         .sent(server.clock(), server.table(), outgoing);
+}
+
+/// Sends the answer to data that was answered beside what is staged, if there is one. Then the watch sees it.
+pub(crate) fn send_answer<H: AuthHandler, G: RelaySockets, A: Allocator + Copy, W: Watch + Drop>(
+    listening: &Listening<W, A>,
+    beside: &Beside<'_, '_, H, G, A>,
+    wire: &mut SocketRecord,
+    answer: &Option<Outgoing<A>>,
+)
+    ensures { (out : List Passed) × (wire.new.passed ≡ wire.old.passed ++ out) × SendsEach (addresses_of listening.now.sockets.items listening.now.own)
+        (G.has_socket beside.now.machine.ports) (option_to_list (option_map sent_of answer.now)) out }
+{
+    if let Some(datagram) = answer {
+        send(listening, beside.ports(), wire, datagram);
+        listening.watch.relayed(beside.table(), datagram);
+    }
 }

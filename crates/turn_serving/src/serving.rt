@@ -1,34 +1,41 @@
 //! A server over sockets that serves.
 
-ghost use Rattle.std.specs.Prelude.{◌≡◌, ◌≤◌, ◌++◌, ℕ, IfOk, IsOk, OnOk, false};
+ghost use Rattle.std.specs.Prelude.{◌≡◌, ◌≤◌, ◌++◌, ℕ, IfOk, IsOk, None, OnOk, false, map, true};
+ghost use Rattle.std.specs.Result.{result_map_both};
 ghost use Rattle.turn_disk.specs.Disk.{EachImageSince};
+ghost use Rattle.turn_engine.specs.Calls as calls;
+ghost use Rattle.turn_engine.specs.Relaying.{beside};
 ghost use Rattle.turn_engine.specs.Runs.{BeginsWith, IsAtPlace, Place, accepted};
 ghost use Rattle.turn_engine.specs.State.{emptied, now_of};
 ghost use Rattle.turn_history.specs.History.{History};
 ghost use Rattle.turn_sockets.specs.Fairness.{IsRound};
 ghost use Rattle.turn_sockets.specs.Moments.{IsMoment};
 ghost use Rattle.turn_step.specs.Answer.{Setting};
+ghost use Rattle.turn_step.specs.Views.{sent_of};
 ghost use Rattle.turn_store.specs.State.{form_of};
 ghost use Rattle.turn_serving.specs.Manner.{reads_of};
 ghost use Rattle.turn_serving.specs.Serving.{TakesRounds, wire_of};
 ghost use Rattle.turn_serving.specs.Turns.{KeepsOrder, Served};
-ghost use Rattle.turn_serving.specs.Wire.{Passes, addresses_of};
+ghost use Rattle.turn_serving.specs.Wire.{Passes, PassesBeside, addresses_of};
 
 use crate::calls::flush;
 use crate::error::TurnError;
 use crate::listening::{Listening, Waiting};
 use crate::manner::{Commits, Manner};
+use crate::reading::{Read, Reading};
 use crate::relay_sockets::RelaySockets;
 use crate::sending::send_all;
-use crate::turn::{Taken, Turn, Work};
+use crate::turn::{Taken, Traffic, Turn};
 use crate::watch::{Silent, Watch};
 use std::alloc::{Allocator, Global};
-use std::marker::Model;
+use std::marker::{Model, PhantomData};
+use std::mem;
 use std::time::Duration;
 use turn_cred::AuthHandler;
 use turn_disk::Disk;
-use turn_engine::Server;
+use turn_engine::{CommitError, Server};
 use turn_sockets::{ListeningAddresses, Pace, SocketPorts, Time, moment_now};
+use turn_step::Outgoing;
 use turn_types::{Endpoint, Moment};
 
 /// A server with its sockets, which takes turns.
@@ -42,7 +49,9 @@ pub struct Serving<
     server: Server<D, H, G, A>,
     listening: Listening<W, A>,
     waiting: Waiting<A>,
-    work: Work<A>,
+    traffic: Traffic<A>,
+    // What stands in for that while it is lent to a commit.
+    stand_in: Option<Traffic<A>>,
     manner: Manner,
     pace: Pace,
     // Whether data came since the last commit of requests that waited.
@@ -76,7 +85,7 @@ impl<
 
     ghost coded = { Prim.hlevel (codes, state_code) };
 
-    ghost view = { λ s. record { server = s.server; backlog = s.work.backlog; agenda = s.waiting.schedule; manner = s.manner; passed = s.work.wire.passed; addresses = addresses_of s.listening.sockets.items s.listening.own } };
+    ghost view = { λ s. record { server = s.server; backlog = s.traffic.work.backlog; agenda = s.traffic.schedule; manner = s.manner; passed = s.traffic.work.wire.passed; addresses = addresses_of s.listening.sockets.items s.listening.own } };
 }
 
 // By hand: a derived drop is one step for each field in the proof of each caller.
@@ -92,7 +101,8 @@ impl<
             server: _,
             listening: _,
             waiting: _,
-            work: _,
+            traffic: _,
+            stand_in: _,
             manner: _,
             pace: _,
             has_data: _,
@@ -112,12 +122,13 @@ impl<
         server: Server<D, H, G, A>,
         listening: Listening<W, A>,
         waiting: Waiting<A>,
-        work: Work<A>,
+        traffic: Traffic<A>,
+        stand_in: Traffic<A>,
         manner: Manner,
     ) -> Serving<D, H, G, A, W>
         ensures server { result.server ≡ server }
-        ensures backlog { result.backlog ≡ work.backlog }
-        ensures passed { result.passed ≡ work.wire.passed }
+        ensures backlog { result.backlog ≡ traffic.work.backlog }
+        ensures passed { result.passed ≡ traffic.work.wire.passed }
         ensures addresses { result.addresses ≡ addresses_of listening.sockets.items listening.own }
         ensures manner { result.manner ≡ manner }
     {
@@ -125,7 +136,8 @@ impl<
             server,
             listening,
             waiting,
-            work,
+            traffic,
+            stand_in: Some(stand_in),
             manner,
             pace: Pace::new(),
             has_data: false,
@@ -159,7 +171,8 @@ impl<
             server,
             listening: _,
             waiting: _,
-            work: _,
+            traffic: _,
+            stand_in: _,
             manner: _,
             pace: _,
             has_data: _,
@@ -192,7 +205,11 @@ impl<
     {
         let moment = self.moment(system)?;
         let turn = Turn::begin(&self.listening, moment, self.manner, self.server.table());
-        turn.take_round(&mut self.server, &mut self.work, &mut self.waiting.schedule)
+        turn.take_round(
+            &mut self.server,
+            &mut self.traffic.work,
+            &mut self.traffic.schedule,
+        )
     }
 
     // Submits at most so many of the datagrams that wait, and returns how many.
@@ -211,8 +228,8 @@ impl<
         let turn = Turn::begin(&self.listening, moment, self.manner, self.server.table());
         turn.submit_waiting(
             &mut self.server,
-            &mut self.work.backlog,
-            &mut self.work.wire,
+            &mut self.traffic.work.backlog,
+            &mut self.traffic.work.wire,
             most,
         )
     }
@@ -229,8 +246,8 @@ impl<
         ensures addresses { self.new.addresses ≡ self.old.addresses }
         ensures manner { self.new.manner ≡ self.old.manner }
     {
-        self.waiting.look(timeout)?;
-        self.waiting.schedule.begin_for_each()?;
+        self.waiting.look(&mut self.traffic.schedule, timeout)?;
+        self.traffic.schedule.begin_for_each()?;
         self.take_round(system)
     }
 
@@ -247,15 +264,15 @@ impl<
         ensures addresses { self.new.addresses ≡ self.old.addresses }
         ensures manner { self.new.manner ≡ self.old.manner }
     {
-        self.waiting.look(timeout)?;
-        self.waiting.schedule.begin();
+        self.waiting.look(&mut self.traffic.schedule, timeout)?;
+        self.traffic.schedule.begin();
         self.take_round(system)
     }
 
     // For how long nothing is to be done unless a datagram comes.
     fn rest<T: Time>(&self, system: &T) -> Duration {
         let patience = self.manner.patience();
-        if self.work.backlog.is_empty() {
+        if self.traffic.work.backlog.is_empty() {
             return patience;
         }
         // What is there is read before the next commit, or the pause is over.
@@ -314,6 +331,11 @@ impl<
         }
     }
 
+    // Whether something is submitted at the clock now. Else data would have to wait for the commit.
+    fn is_at_clock<T: Time>(&self, system: &T) -> bool {
+        matches!(self.moment(system), Ok(moment) if moment == self.server.clock())
+    }
+
     // If several datagrams were submitted, and the batch has room for more, takes what came meanwhile and submits what of that
     // waits: it would wait for the same commit anyway.
     fn share_batch<T: Time>(&mut self, system: &T, count: u16) -> Result<(), TurnError>
@@ -327,7 +349,7 @@ impl<
         ensures manner { self.new.manner ≡ self.old.manner }
     {
         let batch = self.manner.batch;
-        if count < 2 || batch <= count {
+        if count < 2 || batch <= count || !self.is_at_clock(system) {
             return Ok(());
         }
         self.take_fairly(system, Duration::ZERO)?;
@@ -335,8 +357,91 @@ impl<
         Ok(())
     }
 
-    // Submits a batch of the datagrams that wait, and commits it. Notes how long the commit took.
+    // Commits what is staged. While the disk is waited for the sockets are read: data is answered, and what may change the table waits.
+    // Returns what is to be sent too.
+    fn commit_beside(&mut self) -> Result<(Vec<Outgoing<A>, A>, Read), CommitError>
+        ensures call { calls.Commits D.Disk self.old.server self.new.server (result_map_both (λ done. map sent_of done.0.items) (λ fault. fault) result) }
+        ensures passes { self.old.server.store.stopped ≡ false → PassesBeside D.Disk H.AuthHandler G.RelayAddressGenerator G.has_socket self.old.addresses (beside self.old.server)
+            self.old.backlog self.new.backlog self.old.passed self.new.passed }
+        ensures idle { self.old.server.store.stopped ≡ true → (self.new.backlog ≡ self.old.backlog) × (self.new.passed ≡ self.old.passed) }
+        ensures rounds { IfOk result (λ done. done.1.fault ≡ None → TakesRounds (reads_of self.old.manner) 0 self.old.agenda self.new.agenda) }
+        ensures addresses { self.new.addresses ≡ self.old.addresses }
+        ensures manner { self.new.manner ≡ self.old.manner }
+    {
+        let Some(stand_in) = self.stand_in.take() else {
+            let outgoing = self.server.commit()?;
+            return Ok((outgoing, Read::NOTHING));
+        };
+        let turn = Turn {
+            listening: &self.listening,
+            moment: self.server.clock(),
+            manner: self.manner,
+        };
+        let reading = Reading::<'_, D, W, A> {
+            turn,
+            waiting: &mut self.waiting,
+            traffic: mem::replace(&mut self.traffic, stand_in),
+            read: Read::NOTHING,
+            marker: PhantomData,
+        };
+        let (committed, reading) = self.server.commit_while(reading);
+        let Reading {
+            turn: _,
+            waiting: _,
+            traffic,
+            read,
+            marker: _,
+        } = reading;
+        self.stand_in = Some(mem::replace(&mut self.traffic, traffic));
+        let outgoing = match committed {
+            Ok(outgoing) => outgoing,
+            Err(fault) => return Err(fault),
+        };
+        Ok((outgoing, read))
+    }
+
+    // Notes how long a commit took. One beside which the sockets were read held up no data, so that there is no pause after it.
+    fn note_commit(&mut self, began: Option<Duration>, ended: Option<Duration>, read: Read)
+        ensures { self.new ≡ self.old }
+    {
+        let held_up = if read.is_asked { None } else { began };
+        self.pace.note(held_up, ended);
+        if let (Some(began), Some(ended)) = (began, ended) {
+            let took = ended.saturating_sub(began);
+            self.listening.watch.committed(self.server.clock(), took);
+        }
+    }
+
+    // Commits what is staged, sends what that hands out, and notes how long it took.
+    fn commit_staged<T: Time>(&mut self, system: &T) -> Result<Read, TurnError>
+        // The clock of a server that runs is at a second that the system told.
+        requires current { self.old.server.store.stopped ≡ false → IsMoment (T.told system.now) (now_of self.old.server) (now_of self.old.server) }
+        ensures wire { Passes D.Disk H.AuthHandler G.RelayAddressGenerator G.has_socket self.old.addresses (IsMoment (T.told system.now))
+            (IsOk result) (wire_of self.old) (wire_of self.new) }
+        ensures done { OnOk result (self.new.server ≡ emptied self.new.server self.new.server.store) }
+        ensures runs { OnOk result (self.new.server.store.stopped ≡ false) }
+        ensures rounds { IfOk result (λ read. read.fault ≡ None → TakesRounds (reads_of self.old.manner) 0 self.old.agenda self.new.agenda) }
+        ensures addresses { self.new.addresses ≡ self.old.addresses }
+        ensures manner { self.new.manner ≡ self.old.manner }
+    {
+        self.has_data = false;
+        let began = system.monotonic().ok();
+        let (outgoing, read) = self.commit_beside()?;
+        let ended = system.monotonic().ok();
+        send_all(
+            &self.listening,
+            &self.server,
+            &mut self.traffic.work.wire,
+            &outgoing,
+        );
+        self.note_commit(began, ended, read);
+        Ok(read)
+    }
+
+    // Submits a batch of the datagrams that wait, and commits it.
     fn commit_waiting<T: Time>(&mut self, system: &T) -> Result<(), TurnError>
+        // The clock of a server that runs is at a second that the system told.
+        requires current { self.old.server.store.stopped ≡ false → IsMoment (T.told system.now) (now_of self.old.server) (now_of self.old.server) }
         ensures served { Served D.Disk H.AuthHandler G.RelayAddressGenerator (IsMoment (T.told system.now)) self.old.server self.new.server }
         ensures done { OnOk result (self.new.server ≡ emptied self.new.server self.new.server.store) }
         ensures runs { OnOk result (self.new.server.store.stopped ≡ false) }
@@ -350,26 +455,16 @@ impl<
     {
         let count = self.submit_waiting(system, self.manner.batch)?;
         self.share_batch(system, count)?;
-        self.has_data = false;
-        let began = system.monotonic().ok();
-        let outgoing = self.server.commit()?;
-        let ended = system.monotonic().ok();
-        self.pace.note(began, ended);
-        send_all(
-            &self.listening,
-            &self.server,
-            &mut self.work.wire,
-            &outgoing,
-        );
-        if let (Some(began), Some(ended)) = (began, ended) {
-            let took = ended.saturating_sub(began);
-            self.listening.watch.committed(self.server.clock(), took);
+        let read = self.commit_staged(system)?;
+        match read.fault {
+            Some(fault) => Err(fault),
+            None => Ok(()),
         }
-        Ok(())
     }
 
     // Commits a batch of what waits, if it is due.
     fn commit_due<T: Time>(&mut self, system: &T) -> Result<(), TurnError>
+        requires current { self.old.server.store.stopped ≡ false → IsMoment (T.told system.now) (now_of self.old.server) (now_of self.old.server) }
         ensures served { Served D.Disk H.AuthHandler G.RelayAddressGenerator (IsMoment (T.told system.now)) self.old.server self.new.server }
         ensures done { self.old.server ≡ emptied self.old.server self.old.server.store
             → OnOk result (self.new.server ≡ emptied self.new.server self.new.server.store) }
@@ -382,7 +477,7 @@ impl<
         ensures addresses { self.new.addresses ≡ self.old.addresses }
         ensures manner { self.new.manner ≡ self.old.manner }
     {
-        if !self.work.backlog.is_empty() && self.rest(system) == Duration::ZERO {
+        if !self.traffic.work.backlog.is_empty() && self.rest(system) == Duration::ZERO {
             self.commit_waiting(system)?;
         }
         Ok(())
@@ -391,7 +486,7 @@ impl<
     /// One turn: reads sockets that have datagrams, commits, and sends what came of them, as `Commits` says. The moment is the system's
     /// second, or the server's clock if that is later.
     ///
-    /// Nothing is sent that was not committed. After a commit that failed each later turn fails.
+    /// Nothing is sent that rests on what was not committed. After a commit that failed each later turn fails.
     pub fn turn<T: Time>(&mut self, system: &T) -> Result<(), TurnError>
         // Calls of `submit` and `commit`, each within its contract, the last of which leaves nothing staged. Each arrival is
         // submitted at the later of the clock and a second that the system told.
@@ -418,8 +513,12 @@ impl<
     {
         let taken = self.take(system)?;
         self.has_data |= taken.data;
-        self.is_busy = taken.any && !self.waiting.schedule.is_empty();
-        flush(&self.listening, &mut self.server, &mut self.work.wire)?;
+        self.is_busy = taken.any && !self.traffic.schedule.is_empty();
+        flush(
+            &self.listening,
+            &mut self.server,
+            &mut self.traffic.work.wire,
+        )?;
         self.commit_due(system)
     }
 

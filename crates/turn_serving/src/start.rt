@@ -17,11 +17,12 @@ use crate::listening::{ATTEMPTS, Listening, ListeningSockets, Waiting, pause};
 use crate::manner::{Commits, Manner};
 use crate::relay_sockets::RelaySockets;
 use crate::serving::{Serving, SocketServing};
-use crate::turn::Work;
+use crate::turn::{Traffic, Work};
 use crate::watch::Watch;
 use mio::Poll;
 use std::alloc::{AllocError, Allocator, Global};
 use std::net::Net;
+use std::os::fd::RawFd;
 use std::rt::Clock;
 use turn_cred::AuthHandler;
 use turn_disk::Disk;
@@ -30,7 +31,7 @@ use turn_history::Reservation;
 use turn_ports::{PortRange, RelayAddressGenerator};
 use turn_record::Version;
 use turn_sockets::{
-    Backlog, Bound, Buffer, DataIds, ListeningAddresses, OwnAddresses, Room, SocketPorts,
+    Backlog, Bound, Buffer, DataIds, ListeningAddresses, OwnAddresses, Room, Schedule, SocketPorts,
     SocketRecord,
 };
 use turn_store::StoreOpenError;
@@ -54,6 +55,9 @@ pub struct Setup<'c, A: Allocator = Global> {
     pub commits: Commits,
     /// What relay ports are drawn from: random bytes, new at each start.
     pub seed: [u8; 32],
+    /// The descriptor at which the disk's answers come, if it has one, as that of an export has. Beside a commit sockets are waited for
+    /// only where there is one, else they are looked at again and again.
+    pub awaited: Option<RawFd>,
 }
 
 /// What a server has beside its store.
@@ -61,7 +65,8 @@ struct Beside<'a, R: Net, W: Watch + Drop, A: Allocator + Copy> {
     ports: SocketPorts<'a, R, A>,
     listening: Listening<W, A>,
     waiting: Waiting<A>,
-    work: Work<A>,
+    traffic: Traffic<A>,
+    stand_in: Traffic<A>,
 }
 
 /// How many datagrams of clients may wait for a commit, of all that were sent to the server's addresses.
@@ -81,6 +86,26 @@ fn room_of(addresses: &[Endpoint]) -> Room {
         of_one: MAX_OF_ONE,
         bytes: MAX_BYTES / count,
     }
+}
+
+/// No socket may have a datagram, and none waits of what was sent to these addresses.
+fn no_traffic<A: Allocator + Copy>(
+    alloc: A,
+    addresses: &[Endpoint],
+) -> Result<Traffic<A>, AllocError>
+    ensures waits { IfOk result (λ traffic. (f : FiveTuple) → waiting_of traffic.work.backlog f ≡ []) }
+    ensures passed { IfOk result (λ traffic. traffic.work.wire.passed ≡ []) }
+{
+    let work = Work {
+        buffer: Buffer::new(alloc)?,
+        ids: DataIds::new(),
+        backlog: Backlog::new(alloc, addresses, room_of(addresses))?,
+        wire: SocketRecord::new(),
+    };
+    Ok(Traffic {
+        schedule: Schedule::new(alloc)?,
+        work,
+    })
 }
 
 /// Whether a store of this version may have to be carried over.
@@ -299,25 +324,22 @@ impl<'c, A: Allocator + Copy> Setup<'c, A> {
     ) -> Result<Beside<'a, R, W, A>, BindError>
         ensures range { IfOk result (λ beside. ⟦<SocketPorts<'a, R, A> as RelayAddressGenerator>⟧.range beside.ports ≡ self.now.ports) }
         ensures draws { IfOk result (λ beside. beside.ports.draws ≡ draws_of self.now.seed) }
-        ensures waits { IfOk result (λ beside. (f : FiveTuple) → waiting_of beside.work.backlog f ≡ []) }
-        ensures passed { IfOk result (λ beside. beside.work.wire.passed ≡ []) }
+        ensures waits { IfOk result (λ beside. (f : FiveTuple) → waiting_of beside.traffic.work.backlog f ≡ []) }
+        ensures passed { IfOk result (λ beside. beside.traffic.work.wire.passed ≡ []) }
         ensures own { IfOk result (λ beside. HasSockets beside.listening.sockets.items beside.listening.own.listening) }
     {
         let poll = Poll::new(net).map_err(|_| BindError::Socket)?;
         let ports = self.bind_ports(alloc, net, system, &poll, ports)?;
         let listening = Listening::open(alloc, net, system, &poll, self.own(), sockets, watch)?;
         let addresses = listening.own.listening.as_slice();
-        let work = Work {
-            buffer: Buffer::new(alloc)?,
-            ids: DataIds::new(),
-            backlog: Backlog::new(alloc, addresses, room_of(addresses))?,
-            wire: SocketRecord::new(),
-        };
+        let traffic = no_traffic(alloc, addresses)?;
+        let stand_in = no_traffic(alloc, addresses)?;
         Ok(Beside {
             ports,
             listening,
-            waiting: Waiting::new(alloc, poll)?,
-            work,
+            waiting: Waiting::new(alloc, poll, self.awaited)?,
+            traffic,
+            stand_in,
         })
     }
 
@@ -392,7 +414,8 @@ impl<'c, A: Allocator + Copy> Setup<'c, A> {
             ports,
             listening,
             waiting,
-            work,
+            traffic,
+            stand_in,
         } = beside;
         // This opening may write, so it comes behind all else that may be refused.
         let carry = is_first(version);
@@ -418,6 +441,6 @@ impl<'c, A: Allocator + Copy> Setup<'c, A> {
             burst: self.burst,
             batch: self.config.limits().acts(),
         };
-        Ok(Serving::new(server, listening, waiting, work, manner))
+        Ok(Serving::new(server, listening, waiting, traffic, stand_in, manner))
     }
 }

@@ -43,10 +43,17 @@ pub(crate) struct Work<A: Allocator = Global> {
     pub(crate) wire: SocketRecord,
 }
 
+/// The sockets that may have datagrams, and what they are read with.
+#[derive(Drop)]
+pub(crate) struct Traffic<A: Allocator = Global> {
+    pub(crate) schedule: Schedule<A>,
+    pub(crate) work: Work<A>,
+}
+
 /// What came of a read of a socket.
 #[derive(Clone, Copy)]
-enum Took {
-    /// A datagram that was submitted, or one of the server itself, which is lost.
+pub(crate) enum Took {
+    /// A datagram that was submitted or answered, or one of the server itself, which is lost.
     Data,
     /// A datagram that waits for a commit, or for which there was no room.
     Request,
@@ -80,7 +87,11 @@ impl Taken {
 }
 
 /// Adds a datagram to those that wait. False if there is no room for it, or no memory.
-fn add<A: Allocator + Copy>(backlog: &mut Backlog<A>, five_tuple: FiveTuple, bytes: &[u8]) -> bool
+pub(crate) fn add<A: Allocator + Copy>(
+    backlog: &mut Backlog<A>,
+    five_tuple: FiveTuple,
+    bytes: &[u8],
+) -> bool
     ensures order { result ≡ true → (g : FiveTuple) → waiting_of backlog.new g ≡ waiting_of backlog.old g ++ if_same five_tuple g bytes.now }
     ensures refused { result ≡ false → backlog.new ≡ backlog.old }
 {
@@ -93,9 +104,9 @@ fn add<A: Allocator + Copy>(backlog: &mut Backlog<A>, five_tuple: FiveTuple, byt
 /// What a turn does with each socket.
 #[derive(Clone, Copy)]
 pub(crate) struct Turn<'l, W: Watch + Drop, A: Allocator = Global> {
-    listening: &'l Listening<W, A>,
-    moment: Moment,
-    manner: Manner,
+    pub(crate) listening: &'l Listening<W, A>,
+    pub(crate) moment: Moment,
+    pub(crate) manner: Manner,
 }
 
 impl<'l, W: Watch + Drop, A: Allocator + Copy> Turn<'l, W, A> {
@@ -197,7 +208,12 @@ impl<'l, W: Watch + Drop, A: Allocator + Copy> Turn<'l, W, A> {
     }
 
     // Whether a client's datagram has to wait: a request that may change the table, and what comes after one of the same five-tuple.
-    fn has_to_wait(&self, backlog: &Backlog<A>, five_tuple: FiveTuple, bytes: &[u8]) -> bool
+    pub(crate) fn has_to_wait(
+        &self,
+        backlog: &Backlog<A>,
+        five_tuple: FiveTuple,
+        bytes: &[u8],
+    ) -> bool
         ensures waits { IsTrue result → (waiting_of backlog.now five_tuple ≢ []) ⊎ MayChange bytes.now }
         ensures nothing { result ≡ false → waiting_of backlog.now five_tuple ≡ [] }
         ensures no_change { result ≡ false → waits_for_commits self.now.manner.commits ≡ true → MayChange bytes.now → ⊥ }

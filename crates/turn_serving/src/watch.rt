@@ -12,11 +12,15 @@ pub trait Watch {
     /// can't be refreshed any more.
     fn taking<A: Allocator + Copy>(&self, moment: Moment, table: &Table<A>);
 
-    /// This is submitted next, and once more after a commit if the batch is full. The table is the one before it.
+    /// This is submitted next, and once more after a commit if the batch is full; or it is a peer's, and answered while a commit waits
+    /// for its disk. The table is the one before it.
     fn arrives<A: Allocator + Copy>(&self, table: &Table<A>, arrival: &Arrival<'_>);
 
     /// These were handed out by a commit and sent, in this order. The moment is that of the last arrival.
     fn sent<A: Allocator + Copy>(&self, moment: Moment, table: &Table<A>, outgoing: &[Outgoing<A>]);
+
+    /// This was answered and sent while a commit waited for its disk. The table has what is staged.
+    fn relayed<A: Allocator + Copy>(&self, table: &Table<A>, outgoing: &Outgoing<A>);
 
     /// A client's datagram was dropped at this moment, since nothing more may wait for a commit.
     fn shed(&self, moment: Moment);
@@ -40,6 +44,8 @@ impl Watch for Silent {
         _table: &Table<A>,
         _outgoing: &[Outgoing<A>],
     ) {}
+
+    fn relayed<A: Allocator + Copy>(&self, _table: &Table<A>, _outgoing: &Outgoing<A>) {}
 
     fn shed(&self, _moment: Moment) {}
 

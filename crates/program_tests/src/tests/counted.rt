@@ -92,6 +92,8 @@ impl<'c> Watch for &'c Counts {
         }
     }
 
+    fn relayed<A: Allocator + Copy>(&self, _table: &Table<A>, _outgoing: &Outgoing<A>) {}
+
     fn shed(&self, _moment: Moment) {}
 
     fn committed(&self, _moment: Moment, _took: Duration) {}

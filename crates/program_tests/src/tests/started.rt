@@ -32,6 +32,7 @@ pub fn start<'a, D: Disk + Drop, C: Clock, W: Watch + Drop>(
         burst: 1,
         commits,
         seed: [0; 32],
+        awaited: None,
     };
     match setup.start(
         rt.alloc(),

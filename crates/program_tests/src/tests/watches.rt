@@ -66,6 +66,8 @@ impl<'s> Watch for &'s Seen {
         }
     }
 
+    fn relayed<A: Allocator + Copy>(&self, _table: &Table<A>, _outgoing: &Outgoing<A>) {}
+
     fn shed(&self, _moment: Moment) {}
 
     fn committed(&self, _moment: Moment, _took: Duration) {

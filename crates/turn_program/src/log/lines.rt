@@ -436,6 +436,20 @@ impl<L: Write + Drop> Lines<L> {
         self.asked = asked;
     }
 
+    /// Counts data that was answered while a commit waited for its disk. What is remembered of requests stays.
+    pub(crate) fn count_relayed<A: Allocator + Copy>(
+        &mut self,
+        table: &Table<A>,
+        outgoing: &Outgoing<A>,
+    ) {
+        match outgoing {
+            Outgoing::ToClient { five_tuple, bytes } => {
+                self.count_to_client(table, *five_tuple, bytes.len());
+            }
+            Outgoing::ToPeer { port, bytes, .. } => self.usages.count_to_peer(*port, bytes.len()),
+        }
+    }
+
     /// Remembers a request. One for which memory lacks has a line with less.
     fn remember<A: Allocator + Copy>(
         &mut self,

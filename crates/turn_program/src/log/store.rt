@@ -162,6 +162,10 @@ impl<'w, 'l, R: Files<File = File>, L: Write + Drop> Watch for &'w StoreWatch<'l
         self.log.sent(moment, table, outgoing);
     }
 
+    fn relayed<A: Allocator + Copy>(&self, table: &Table<A>, outgoing: &Outgoing<A>) {
+        self.log.relayed(table, outgoing);
+    }
+
     fn shed(&self, moment: Moment) {
         self.log.shed(moment);
     }

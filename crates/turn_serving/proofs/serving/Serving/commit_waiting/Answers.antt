@@ -1,48 +1,53 @@
-use Rattle.std.proofs.Common.{ap, [], append-nil, refl, sym, ◌∙◌, List, map, subst}
-use Rattle.turn_serving.proofs.Order.{none_order, order_from, order_in_row}
-use Rattle.turn_serving.proofs.Turns.{committed, from, in_row}
-use Rattle.turn_serving.proofs.Wire.{commit_passes, passes_at, passes_in_row, passes_of, not_ok, unfinished}
-use Rattle.turn_step.specs.Views.{sent_of}
-use Rattle.turn_step.specs.declared.arrival.Outgoing.{Outgoing}
-use Rattle.turn_serving.specs.Wire.{SendsEach, addresses_of}
+use Rattle.std.proofs.Common.{refl, ◌∙◌}
+use Rattle.turn_serving.proofs.Moments.{stays_current}
+use Rattle.turn_serving.proofs.Rounds.{rounds_from, rounds_in_row}
+use Rattle.turn_serving.proofs.Turns.{in_row}
+use Rattle.turn_serving.proofs.Wire.{passes_at, passes_in_row, not_ok, unfinished}
 use Rattle.turn_serving.proofs.serving.Serving.commit_waiting.Goals as goal
+
+pub returns-in_err-count-clause-wire : goal.returns-in_err-count-clause-wire
+returns-in_err-count-clause-wire g c = unfinished (not_ok _ c.from_residual.result c.from_residual.ensures.1) c.in_err-count.ensures.wire
 
 pub returns-in_err-share_batch-clause-served : goal.returns-in_err-share_batch-clause-served
 returns-in_err-share_batch-clause-served g c = in_row c.submit_waiting-2.ensures.served c.share_batch.ensures.served
 
-pub returns-in_err-outgoing-clause-served : goal.returns-in_err-outgoing-clause-served
-returns-in_err-outgoing-clause-served g c =
-    in_row c.submit_waiting-2.ensures.served
-    (in_row c.share_batch.ensures.served (from (ap (λ s. s.server) c.self.view_is) (committed g.G.RelayAddressGenerator c.in_err-outgoing.ensures.call)))
-
-pub returns-clause-served : goal.returns-clause-served
-returns-clause-served g c =
-    in_row c.submit_waiting-2.ensures.served
-    (in_row c.share_batch.ensures.served (from (ap (λ s. s.server) c.self.view_is) (committed g.G.RelayAddressGenerator c.in_ok-outgoing.ensures.call)))
-
-pub returns-clause-order : goal.returns-clause-order
-returns-clause-order g c =
-    order_in_row c.in_ok-count.ensures.order
-    (order_in_row c.in_ok-share_batch.ensures.order
-    (order_from (ap (λ s. s.server) c.self.view_is) (ap (λ s. s.backlog) c.self.view_is) (none_order _ (committed g.G.RelayAddressGenerator c.in_ok-outgoing.ensures.call))))
-
 pub returns-in_err-share_batch-clause-wire : goal.returns-in_err-share_batch-clause-wire
 returns-in_err-share_batch-clause-wire g c = unfinished (not_ok _ c.from_residual-in_err-share_batch.result c.from_residual-in_err-share_batch.ensures.1) (passes_in_row c.in_ok-count.ensures.wire refl (passes_at c.submit_waiting-2.ensures.addresses c.in_err-share_batch.ensures.wire))
 
-pub returns-in_err-outgoing-clause-wire : goal.returns-in_err-outgoing-clause-wire
-returns-in_err-outgoing-clause-wire g c =
+pub commit_staged-requires : goal.commit_staged-requires
+commit_staged-requires g c = record { current = stays_current c.requires.current (in_row c.submit_waiting-2.ensures.served c.share_batch.ensures.served) }
+
+pub returns-in-None-clause-wire : goal.returns-in-None-clause-wire
+returns-in-None-clause-wire g c =
     passes_in_row c.in_ok-count.ensures.wire refl
     (passes_in_row (passes_at c.submit_waiting-2.ensures.addresses c.in_ok-share_batch.ensures.wire) refl
-    (passes_at (c.share_batch.ensures.addresses ∙ c.submit_waiting-2.ensures.addresses)
-    (passes_of c.self.view_is (commit_passes c.self.inside.work.backlog [] c.in_err-outgoing.ensures.call (sym (append-nil _)) (refl, tt)))))
+    (passes_at (c.share_batch.ensures.addresses ∙ c.submit_waiting-2.ensures.addresses) (unfinished (λ _. refl) c.in_ok-read.ensures.wire)))
 
-pub returns-clause-wire : goal.returns-clause-wire
-returns-clause-wire g c =
+pub returns-in-None-clause-served : goal.returns-in-None-clause-served
+returns-in-None-clause-served g c = (returns-in-None-clause-wire g c).moves.served
+
+pub returns-in-None-clause-order : goal.returns-in-None-clause-order
+returns-in-None-clause-order g c = ((returns-in-None-clause-wire g c).clients refl).0
+
+pub returns-in-None-clause-rounds : goal.returns-in-None-clause-rounds
+returns-in-None-clause-rounds g c =
+    rounds_in_row (rounds_from c.in_ok-count.ensures.manner c.in_ok-count.ensures.agenda c.in_ok-share_batch.ensures.rounds)
+    (rounds_from (c.share_batch.ensures.manner ∙ c.submit_waiting-2.ensures.manner) refl (c.in_ok-read.ensures.rounds c.in-None.is))
+
+pub returns-in-Some-clause-wire : goal.returns-in-Some-clause-wire
+returns-in-Some-clause-wire g c =
     passes_in_row c.in_ok-count.ensures.wire refl
     (passes_in_row (passes_at c.submit_waiting-2.ensures.addresses c.in_ok-share_batch.ensures.wire) refl
-    (passes_at (c.share_batch.ensures.addresses ∙ c.submit_waiting-2.ensures.addresses)
-    (passes_of c.self.view_is (commit_passes c.self.inside.work.backlog c.send_all.ensures.0 c.in_ok-outgoing.ensures.call c.send_all.ensures.1
-    (subst (λ (l : List (Outgoing _)). SendsEach (addresses_of c.self.inside.listening.sockets.items c.self.inside.listening.own) (g.G.RelaySockets.has_socket c.commit.new.self.machine.ports) (map sent_of l) c.send_all.ensures.0) c.deref.ensures.value c.send_all.ensures.2, tt)))))
+    (passes_at (c.share_batch.ensures.addresses ∙ c.submit_waiting-2.ensures.addresses) (unfinished (λ _. refl) c.in_ok-read.ensures.wire)))
 
-pub returns-in_err-count-clause-wire : goal.returns-in_err-count-clause-wire
-returns-in_err-count-clause-wire g c = unfinished (not_ok _ c.from_residual.result c.from_residual.ensures.1) c.in_err-count.ensures.wire
+pub returns-in-Some-clause-served : goal.returns-in-Some-clause-served
+returns-in-Some-clause-served g c = (returns-in-Some-clause-wire g c).moves.served
+
+pub returns-in_err-read-clause-wire : goal.returns-in_err-read-clause-wire
+returns-in_err-read-clause-wire g c =
+    passes_in_row c.in_ok-count.ensures.wire refl
+    (passes_in_row (passes_at c.submit_waiting-2.ensures.addresses c.in_ok-share_batch.ensures.wire) refl
+    (passes_at (c.share_batch.ensures.addresses ∙ c.submit_waiting-2.ensures.addresses) (unfinished (not_ok _ c.from_residual-in_err-read.result c.from_residual-in_err-read.ensures.1) c.in_err-read.ensures.wire)))
+
+pub returns-in_err-read-clause-served : goal.returns-in_err-read-clause-served
+returns-in_err-read-clause-served g c = (returns-in_err-read-clause-wire g c).moves.served

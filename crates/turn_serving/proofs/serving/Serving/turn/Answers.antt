@@ -4,7 +4,7 @@ use Rattle.turn_serving.specs.Manner.{reads_of}
 use Rattle.turn_serving.specs.Serving.{TakesRounds}
 use Rattle.turn_serving.proofs.Order.{none_order, order_from, order_in_row}
 use Rattle.turn_serving.proofs.Rounds.{rounds_in_row}
-use Rattle.turn_serving.proofs.Turns.{from, in_row, in_time, keeps, none}
+use Rattle.turn_serving.proofs.Turns.{from, in_row, in_time, keeps, none, still}
 use Rattle.turn_serving.proofs.Moments.{moment_after, ran_before}
 use Rattle.turn_serving.proofs.Wire.{flush_passes, not_ok, passes_at, passes_in_row, passes_of, unfinished}
 use Rattle.turn_serving.proofs.serving.Serving.turn.Goals as goal
@@ -58,10 +58,18 @@ returns-in_err-taken-clause-wire g c = unfinished (not_ok _ c.from_residual.resu
 
 pub returns-in_err-flush-clause-wire : goal.returns-in_err-flush-clause-wire
 returns-in_err-flush-clause-wire g c =
-    passes_in_row c.in_ok-taken.ensures.wire refl (passes_at c.take.ensures.addresses (passes_of c.self.view_is (flush_passes c.self.inside.work.backlog c.flush.ensures.wire)))
+    passes_in_row c.in_ok-taken.ensures.wire refl (passes_at c.take.ensures.addresses (passes_of c.self.view_is (flush_passes c.self.inside.traffic.work.backlog c.flush.ensures.wire)))
 
 pub returns-clause-wire : goal.returns-clause-wire
 returns-clause-wire g c =
     passes_in_row c.in_ok-taken.ensures.wire refl
-    (passes_in_row (passes_at c.take.ensures.addresses (passes_of c.self.view_is (flush_passes {is_done = Unit {0}} c.self.inside.work.backlog c.flush.ensures.wire))) tt
+    (passes_in_row (passes_at c.take.ensures.addresses (passes_of c.self.view_is (flush_passes {is_done = Unit {0}} c.self.inside.traffic.work.backlog c.flush.ensures.wire))) tt
     (passes_at (ap (λ s. s.addresses) c.self.view_is ∙ c.take.ensures.addresses) c.commit_due.ensures.wire))
+
+pub commit_due-requires : goal.commit_due-requires
+commit_due-requires g c = record {
+  current = λ runs.
+      let flushed = from (ap (λ s. s.server) c.self.view_is) (none c.flush.ensures.served) in
+      let taken = c.in_ok-taken.ensures.current (ran_before flushed runs) in
+      still _ _ _ (moment_after taken flushed);
+}
