@@ -291,7 +291,7 @@ static void *send_pings(void *word) {
     return NULL;
 }
 
-// Prints: round trips, lost ones, p50, p90 and p99 in nanoseconds. One is lost if it isn't back a second after the last was sent.
+// Prints: round trips, lost ones, p50, p90, p99, p99.9 and the longest in nanoseconds. One is lost if it isn't back a second after the last was sent.
 static void ping(double rate, double seconds, int send_cpu, int echo_cpu) {
     pthread_t echoing, sending;
     int count = (int)(rate * seconds), done = 0, socket = clients[0].socket;
@@ -314,8 +314,10 @@ static void ping(double rate, double seconds, int send_cpu, int echo_cpu) {
     is_over = 1;
     pthread_join(echoing, NULL);
     qsort(times, done, sizeof *times, by_size);
-    long half = done ? times[done / 2] : 0, most = done ? times[done * 9L / 10] : 0, nearly_all = done ? times[done * 99L / 100] : 0;
-    printf("%d %d %ld %ld %ld\n", done, count - done, half, most, nearly_all);
+    printf("%d %d", done, count - done);
+    static const long parts[] = {500, 900, 990, 999};
+    for (int i = 0; i < 4; i++) printf(" %ld", done ? times[done * parts[i] / 1000] : 0);
+    printf(" %ld\n", done ? times[done - 1] : 0);
 }
 
 static void send_request(struct request *one) {
