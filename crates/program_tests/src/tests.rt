@@ -1,4 +1,5 @@
 mod addresses;
+mod beside;
 mod channels;
 mod clocks;
 mod conversations;

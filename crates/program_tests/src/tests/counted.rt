@@ -99,12 +99,12 @@ impl<'c> Watch for &'c Counts {
     fn committed(&self, _moment: Moment, _took: Duration) {}
 }
 
-type Serving<'a, 'c> = SocketServing<'a, MemoryDisk, Credentials, HostRuntime, Global, &'c Counts>;
+pub type Serving<'a, W> = SocketServing<'a, MemoryDisk, Credentials, HostRuntime, Global, W>;
 
 /// Sends a request, and takes the turn that answers it.
-fn ask(
+fn ask<W: Watch + Drop>(
     rt: &HostRuntime,
-    serving: &mut Serving<'_, '_>,
+    serving: &mut Serving<'_, W>,
     client: &mut Client<'static>,
     method: Method,
     attributes: &[Attribute],
@@ -116,7 +116,10 @@ fn ask(
 }
 
 /// A client gets an allocation with a permission for peers at 127.0.0.1. Returns its relayed port.
-fn allocate(rt: &HostRuntime, serving: &mut Serving<'_, '_>) -> Result<u16, Fail> {
+pub fn allocate<W: Watch + Drop>(
+    rt: &HostRuntime,
+    serving: &mut Serving<'_, W>,
+) -> Result<u16, Fail> {
     let mut client = Client::open(rt.alloc(), rt, ANY, serving.local(), ALICE)?;
     let first = client.plain_request(Method::ALLOCATE)?;
     client.send(&first)?;
@@ -138,7 +141,7 @@ const READY: [u8; 5] = [0, 4, 5, 9, 17];
 /// Two turns take one datagram of each of these sockets, and the third one what is left at the listening socket.
 fn is_one_of_each(
     rt: &HostRuntime,
-    serving: &mut Serving<'_, '_>,
+    serving: &mut Serving<'_, &Counts>,
     counts: &Counts,
     ports: &[u16],
     ready: u8,
@@ -159,7 +162,7 @@ fn is_one_of_each(
     Ok(true)
 }
 
-fn play(rt: &HostRuntime, serving: &mut Serving<'_, '_>, counts: &Counts) -> Result<(), Fail> {
+fn play(rt: &HostRuntime, serving: &mut Serving<'_, &Counts>, counts: &Counts) -> Result<(), Fail> {
     let mut ports = Vec::new(rt.alloc());
     for _ in 0..CLIENTS {
         ports.push(allocate(rt, serving)?)?;
