@@ -1,7 +1,7 @@
 //! What this program is made from. This file is written by packaging/digest.
 
 /// The digest of the sources.
-pub const SOURCES: &str = "aa5504b29a897f0cff8cce53d72d754100860e0de6d404925306f46e7e2c6431";
+pub const SOURCES: &str = "eed1cf7481ad525f5133ea73d0635507768c2c4a9b961a6f3b3333ca0a96744d";
 
 /// The toolchain, as it names itself.
 pub const TOOLCHAIN: &str = "rattle-kit-13f logic dac8208d650f15bf";

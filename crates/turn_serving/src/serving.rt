@@ -58,6 +58,8 @@ pub struct Serving<
     has_data: bool,
     // Whether something was read in the last turn, and sockets may have more.
     is_busy: bool,
+    // Whether a commit let the sockets be read.
+    has_passed: bool,
 }
 
 /// A server whose relay ports each have a socket.
@@ -107,6 +109,7 @@ impl<
             pace: _,
             has_data: _,
             is_busy: _,
+            has_passed: _,
         } = self;
     }
 }
@@ -142,6 +145,7 @@ impl<
             pace: Pace::new(),
             has_data: false,
             is_busy: false,
+            has_passed: false,
         }
     }
 
@@ -177,6 +181,7 @@ impl<
             pace: _,
             has_data: _,
             is_busy: _,
+            has_passed: _,
         } = self;
         let (disk, handler, _) = server.close();
         (disk, handler)
@@ -331,13 +336,8 @@ impl<
         }
     }
 
-    // Whether something is submitted at the clock now. Else data would have to wait for the commit.
-    fn is_at_clock<T: Time>(&self, system: &T) -> bool {
-        matches!(self.moment(system), Ok(moment) if moment == self.server.clock())
-    }
-
     // If several datagrams were submitted, and the batch has room for more, takes what came meanwhile and submits what of that
-    // waits: it would wait for the same commit anyway.
+    // waits: it would wait for the same commit anyway. Not over a disk that lets the sockets be read: data would be staged.
     fn share_batch<T: Time>(&mut self, system: &T, count: u16) -> Result<(), TurnError>
         ensures served { Served D.Disk H.AuthHandler G.RelayAddressGenerator (IsMoment (T.told system.now)) self.old.server self.new.server }
         ensures order { OnOk result (KeepsOrder D.Disk H.AuthHandler G.RelayAddressGenerator (IsMoment (T.told system.now))
@@ -349,7 +349,7 @@ impl<
         ensures manner { self.new.manner ≡ self.old.manner }
     {
         let batch = self.manner.batch;
-        if count < 2 || batch <= count || !self.is_at_clock(system) {
+        if count < 2 || batch <= count || self.has_passed {
             return Ok(());
         }
         self.take_fairly(system, Duration::ZERO)?;
@@ -404,6 +404,7 @@ impl<
     fn note_commit(&mut self, began: Option<Duration>, ended: Option<Duration>, read: Read)
         ensures { self.new ≡ self.old }
     {
+        self.has_passed |= read.is_asked;
         let held_up = if read.is_asked { None } else { began };
         self.pace.note(held_up, ended);
         if let (Some(began), Some(ended)) = (began, ended) {

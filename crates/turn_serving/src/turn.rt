@@ -57,7 +57,7 @@ pub(crate) enum Took {
     Data,
     /// A datagram that waits for a commit, or for which there was no room.
     Request,
-    /// None, though some may wait: the system failed.
+    /// None, though some may wait: the system failed, or it can't be answered beside a commit.
     Failed,
     /// None waits, or there is no socket any more.
     Nothing,
