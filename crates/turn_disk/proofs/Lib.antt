@@ -3,6 +3,6 @@ pub mod Passing
 pub mod Since
 pub mod Standing
 mod Pieces
-mod Replaced
+pub mod Replaced
 mod Recorded
 mod Crashes

@@ -2,7 +2,7 @@
 
 ghost use Rattle.std.specs.Prelude.{◌≡◌, ◌+◌, ◌≤◌, ℕ, length, take, drop, OnOk};
 ghost use Rattle.turn_disk.specs.Counts.{CountOutcome};
-ghost use Rattle.turn_disk.specs.Disk.{Trace, WriteOutcome, SyncOutcome};
+ghost use Rattle.turn_disk.specs.Disk.{Trace, ThroughOutcome, WriteOutcome, SyncOutcome};
 ghost use Rattle.turn_disk.specs.Meanwhile.{Passes};
 
 use crate::meanwhile::Meanwhile;
@@ -15,7 +15,7 @@ pub struct DeviceError;
 
 /// A disk of fixed size. Positions are counted in bytes from its first one.
 ///
-/// `read_at`, `write_at` and `sync` are its device calls; `size` and `failures` are none.
+/// `read_at`, `write_at` and `sync` are its device calls, and `write_durably` is one or two of them; `size` and `failures` are none.
 pub trait Disk {
     /// How many bytes it has.
     ghost capacity: { Self → ℕ };
@@ -69,6 +69,27 @@ pub trait Disk {
         ensures crash_model { follows_crash_model self.new → follows_crash_model self.old }
         ensures outcome { follows_crash_model self.new → SyncOutcome (trace self.old) (trace self.new) result }
         ensures meanwhile { Passes M.passes other.old other.new };
+
+    /// Writes these bytes from this position on, and makes durable all that is pending: a write and a sync, where the disk has nothing
+    /// that does both. While it waits, it may let the other be done.
+    #[tactic(auto, using(crate::proofs::Passing::passes_join))]
+    fn write_durably<M: Meanwhile>(
+        &mut self,
+        at: usize,
+        bytes: &[u8],
+        other: &mut M,
+    ) -> Result<(), DeviceError>
+        requires { at + length bytes.now ≤ capacity self.old }
+        ensures size { capacity self.new ≡ capacity self.old }
+        ensures count { CountOutcome (failed self.old) (failed self.new) result }
+        ensures crash_model { follows_crash_model self.new → follows_crash_model self.old }
+        ensures outcome { follows_crash_model self.new → ThroughOutcome at bytes.now (trace self.old) (trace self.new) result }
+        ensures meanwhile { Passes M.passes other.old other.new }
+    {
+        self.write_at(at, bytes, other)?;
+        self.sync(other)?;
+        Ok(())
+    }
 
     /// A disk that follows the crash model holds as many bytes as it has.
     ghost sized: { (disk : Self) → follows_crash_model disk → length (trace disk).now.bytes ≡ capacity disk };

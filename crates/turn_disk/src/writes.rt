@@ -30,7 +30,7 @@ pub(crate) fn write_within<D: Disk, M: Meanwhile>(
     disk.write_at(at, bytes, other)
 }
 
-/// Writes these bytes, and syncs.
+/// Writes these bytes, and makes them durable.
 pub fn write_through<D: Disk, M: Meanwhile>(
     disk: &mut D,
     at: usize,
@@ -54,7 +54,5 @@ pub fn write_through<D: Disk, M: Meanwhile>(
 
     ensures meanwhile { Passes M.passes other.old other.new }
 {
-    write_within(disk, at, bytes, other)?;
-    disk.sync(other)?;
-    Ok(())
+    disk.write_durably(at, bytes, other)
 }

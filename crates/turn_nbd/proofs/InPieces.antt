@@ -1,8 +1,8 @@
 -- Reads and writes in pieces: the first one, and those of the rest.
 use Rattle.std.proofs.Common.{◌≡◌, ◌≤◌, ◌+◌, ◌++◌, ℕ, Bool, List, [], ◌∷◌, length, take, drop, ap, sym, ◌∙◌, arith}
 use Rattle.std.proofs.lemmas.List.{append_assoc, drop-take, drop-drop, take-append-drop, length-take, length-drop}
-use Rattle.turn_nbd.specs.Requests.{joined, exchange, reads, writes, next_cookie}
-use Rattle.turn_nbd.specs.declared.request.Kind.TheVariants.{Read, Write}
+use Rattle.turn_nbd.specs.Requests.{joined, exchange, reads, writes, next_cookie, write_kind}
+use Rattle.turn_nbd.specs.declared.request.Kind.TheVariants.{Read}
 
 -- a part, and what follows it
 part_and_rest : (done count : ℕ) (xs : List ℕ) → take count (drop done xs) ++ drop (done + count) xs ≡ drop done xs
@@ -45,19 +45,19 @@ reads_more old mid new cookie next at done count b c within first follows front 
           ∙ ap (λ (passed : List (Bool × ℕ)). old ++ (exchange Read cookie (at + done) (length piece) [] piece ++ passed)) others,
     )
 
-pub writes_more : (old mid new : List (Bool × ℕ)) (cookie next at done count : ℕ) (b : List ℕ) → done + count ≤ length b
-    → mid ≡ old ++ exchange Write cookie (at + done) count (take count (drop done b)) [] → next ≡ next_cookie cookie
-    → (pieces : List (List ℕ)) × (joined pieces ≡ drop (done + count) b) × (new ≡ mid ++ writes next (at + (done + count)) pieces)
-    → (pieces : List (List ℕ)) × (joined pieces ≡ drop done b) × (new ≡ old ++ writes cookie (at + done) pieces)
-writes_more old mid new cookie next at done count b within first follows rest =
+pub writes_more : (is_durable : Bool) (old mid new : List (Bool × ℕ)) (cookie next at done count : ℕ) (b : List ℕ) → done + count ≤ length b
+    → mid ≡ old ++ exchange (write_kind is_durable) cookie (at + done) count (take count (drop done b)) [] → next ≡ next_cookie cookie
+    → (pieces : List (List ℕ)) × (joined pieces ≡ drop (done + count) b) × (new ≡ mid ++ writes is_durable next (at + (done + count)) pieces)
+    → (pieces : List (List ℕ)) × (joined pieces ≡ drop done b) × (new ≡ old ++ writes is_durable cookie (at + done) pieces)
+writes_more is_durable old mid new cookie next at done count b within first follows rest =
     let piece = take count (drop done b) in
     let size : length piece ≡ count = part_size done count b within in
     let place : at + (done + count) ≡ at + done + length piece = omega arith in
-    let others : writes next (at + (done + count)) rest.0 ≡ writes (next_cookie cookie) (at + done + length piece) rest.0 =
-    ap (λ (n : ℕ). writes n (at + (done + count)) rest.0) follows ∙ ap (λ (n : ℕ). writes (next_cookie cookie) n rest.0) place in (
+    let others : writes is_durable next (at + (done + count)) rest.0 ≡ writes is_durable (next_cookie cookie) (at + done + length piece) rest.0 =
+    ap (λ (n : ℕ). writes is_durable n (at + (done + count)) rest.0) follows ∙ ap (λ (n : ℕ). writes is_durable (next_cookie cookie) n rest.0) place in (
       piece ∷ rest.0,
       ap (λ (xs : List ℕ). piece ++ xs) rest.1 ∙ part_and_rest done count b,
       regroup old mid new _ _ first rest.2
-          ∙ ap (λ (n : ℕ). old ++ (exchange Write cookie (at + done) n piece [] ++ writes next (at + (done + count)) rest.0)) (sym size)
-          ∙ ap (λ (passed : List (Bool × ℕ)). old ++ (exchange Write cookie (at + done) (length piece) piece [] ++ passed)) others,
+          ∙ ap (λ (n : ℕ). old ++ (exchange (write_kind is_durable) cookie (at + done) n piece [] ++ writes is_durable next (at + (done + count)) rest.0)) (sym size)
+          ∙ ap (λ (passed : List (Bool × ℕ)). old ++ (exchange (write_kind is_durable) cookie (at + done) (length piece) piece [] ++ passed)) others,
     )

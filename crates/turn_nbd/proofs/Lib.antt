@@ -3,3 +3,4 @@ pub mod InPieces
 pub mod Replies
 pub mod Filled
 pub mod Schemes
+mod Durable

@@ -39,6 +39,10 @@ IsReadOnly found = bit_and found.flags 2 ≢ 0
 abbrev pub HasFlush : Found → Type 0
 HasFlush found = bit_and found.flags 5 ≡ 5
 
+-- the server has FUA: transmission flag 3, where flag 0 says that there are flags
+abbrev pub HasFua : Found → Type 0
+HasFua found = bit_and found.flags 9 ≡ 9
+
 -- why an export isn't one to write to, or, where it isn't to be written, not one to read
 abbrev pub IsUnfit : NbdError → Bool → Found → Type 0
 IsUnfit Size writes found = (found.size ≡ 0) ⊎ (2 ^ 63 ≤ found.size)

@@ -1,23 +1,34 @@
 -- Requests and their replies, as the protocol's transmission phase has them. Numbers are big-endian.
-use Rattle.std.specs.Prelude.{ℕ, ◌≡◌, ◌≢◌, ◌+◌, ◌%◌, ◌^◌, Bool, List, [], ◌∷◌, ◌++◌, length, take, drop}
+use Rattle.std.specs.Prelude.{ℕ, ◌≡◌, ◌≢◌, ◌+◌, ◌%◌, ◌^◌, Bool, true, false, List, [], ◌∷◌, ◌++◌, length, take, drop}
 use Rattle.std.specs.Int.{w16, w32, w64, to_be_bytes}
 use Rattle.turn_nbd.specs.Wire.{sent, received}
 use Rattle.turn_nbd.specs.declared.error.NbdError.{NbdError}
 use Rattle.turn_nbd.specs.declared.error.NbdError.TheVariants.{Reply, Cookie, Failed}
 use Rattle.turn_nbd.specs.declared.request.Kind.{Kind}
-use Rattle.turn_nbd.specs.declared.request.Kind.TheVariants.{Read, Write, Disconnect, Flush}
+use Rattle.turn_nbd.specs.declared.request.Kind.TheVariants.{Read, Write, DurableWrite, Disconnect, Flush}
 
 -- the number of a kind of request
 abbrev pub kind_number : Kind → ℕ
 kind_number Read = 0
 kind_number Write = 1
+kind_number DurableWrite = 1
 kind_number Disconnect = 2
 kind_number Flush = 3
+
+-- the command flags of a kind of request: FUA (bit 0) says that what is written is durable before the reply comes
+abbrev pub command_flags : Kind → ℕ
+command_flags DurableWrite = 1
+command_flags _ = 0
+
+-- a write, which is durable before its reply comes or not
+abbrev pub write_kind : Bool → Kind
+write_kind true = DurableWrite
+write_kind false = Write
 
 -- a request without its data: magic, command flags, kind, cookie, position, and how many bytes
 unfoldable pub request : Kind → ℕ → ℕ → ℕ → List ℕ
 request kind cookie at count =
-    to_be_bytes w32 0x25609513 ++ to_be_bytes w16 0 ++ to_be_bytes w16 (kind_number kind) ++ to_be_bytes w64 cookie
+    to_be_bytes w32 0x25609513 ++ to_be_bytes w16 (command_flags kind) ++ to_be_bytes w16 (kind_number kind) ++ to_be_bytes w64 cookie
     ++ to_be_bytes w64 at ++ to_be_bytes w32 count
 
 -- what a reply begins with
@@ -61,7 +72,8 @@ reads cookie at (piece ∷ pieces) =
     exchange Read cookie at (length piece) [] piece ++ reads (next_cookie cookie) (at + length piece) pieces
 
 -- what passes at writes of these pieces, likewise
-abbrev pub writes : ℕ → ℕ → List (List ℕ) → List (Bool × ℕ)
-writes cookie at [] = []
-writes cookie at (piece ∷ pieces) =
-    exchange Write cookie at (length piece) piece [] ++ writes (next_cookie cookie) (at + length piece) pieces
+abbrev pub writes : Bool → ℕ → ℕ → List (List ℕ) → List (Bool × ℕ)
+writes is_durable cookie at [] = []
+writes is_durable cookie at (piece ∷ pieces) =
+    exchange (write_kind is_durable) cookie at (length piece) piece []
+    ++ writes is_durable (next_cookie cookie) (at + length piece) pieces

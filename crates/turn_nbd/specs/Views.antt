@@ -20,4 +20,8 @@ pub record InExport : Type 0 where
   pub events : List LoggedCall
   -- it was opened to be written
   pub can_write : Bool
+  -- the server has FUA
+  pub has_fua : Bool
+  -- nothing is pending, neither of what it wrote nor of what it found
+  pub is_settled : Bool
   pub connection : InConnection

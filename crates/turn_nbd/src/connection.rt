@@ -2,9 +2,9 @@
 
 ghost use Rattle.std.specs.Prelude.{◌≡◌, ◌++◌, ◌<◌, ◌≤◌, ◌^◌, [], Ok, Err, true, false, IsErr, OnOk, MatchResult, length};
 ghost use Rattle.turn_disk.specs.Meanwhile.{Passes};
-ghost use Rattle.turn_nbd.specs.Requests.{exchange, next_cookie};
+ghost use Rattle.turn_nbd.specs.Requests.{exchange, next_cookie, write_kind};
 ghost use Rattle.turn_nbd.specs.declared.error.NbdError.TheVariants.{Closed};
-ghost use Rattle.turn_nbd.specs.declared.request.Kind.TheVariants.{Read, Write, Flush};
+ghost use Rattle.turn_nbd.specs.declared.request.Kind.TheVariants.{Read, Flush};
 
 use crate::error::NbdError;
 use crate::reply::check_reply;
@@ -131,15 +131,17 @@ impl<T: Stream> Connection<T> {
         self.ask(Kind::Read, at, buffer.len() as u32, &[], buffer, &mut Idle)
     }
 
-    /// Writes these bytes from this position on. They are durable only after a flush. While the reply isn't there the other is done.
+    /// Writes these bytes from this position on. They are durable at once where `is_durable` is true, else only after a flush. While the
+    /// reply isn't there the other is done.
     pub fn write<M: Meanwhile>(
         &mut self,
         at: usize,
         bytes: &[u8],
+        is_durable: bool,
         other: &mut M,
     ) -> Result<(), NbdError>
         requires { length bytes.now < 2 ^ 32 }
-        ensures wire { OnOk result (self.new.wire ≡ self.old.wire ++ exchange Write self.old.cookie at (length bytes.now) bytes.now []) }
+        ensures wire { OnOk result (self.new.wire ≡ self.old.wire ++ exchange (write_kind is_durable) self.old.cookie at (length bytes.now) bytes.now []) }
         ensures cookie { OnOk result (self.new.cookie ≡ next_cookie self.old.cookie) }
         ensures open { MatchResult result (λ _. self.new.is_open ≡ true) (λ _. self.new.is_open ≡ false) }
         ensures closed { self.old.is_open ≡ false → (result ≡ Err NbdError.Closed) × (self.new ≡ self.old) }
@@ -147,7 +149,7 @@ impl<T: Stream> Connection<T> {
     {
         let mut nothing = [0u8; 0];
         self.ask(
-            Kind::Write,
+            Kind::write(is_durable),
             at,
             bytes.len() as u32,
             bytes,

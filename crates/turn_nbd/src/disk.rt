@@ -9,7 +9,7 @@ ghost use Rattle.turn_nbd.specs.declared.request.Kind.TheVariants.{Flush};
 
 use crate::connection::Connection;
 use crate::error::NbdError;
-use crate::handshake::fit_size;
+use crate::handshake::{fit_size, has_fua};
 use crate::negotiate::negotiate;
 use crate::pieces::{read_from, write_from};
 use crate::socket::Socket;
@@ -22,8 +22,9 @@ use turn_disk::{
 
 /// A disk over an export, as large as the export is when it is opened.
 ///
-/// A device call is one request, or one for each 32 MiB, each of which waits for its reply. Once one failed, each later device call fails at
-/// once. When the disk is dropped, the server is told that the connection ends.
+/// A device call is one request, or one for each 32 MiB, each of which waits for its reply; so is a write with the sync after it, where the
+/// server has FUA and nothing is pending. Once a request failed, each later device call fails at once. When the disk is dropped, the server
+/// is told that the connection ends.
 ///
 /// `S` stands for the state that the export was found in. Clauses on its content have the premise that the answers so far, of reads above
 /// all, were those of an export in this state, which kept what was written, and which nothing else wrote.
@@ -31,6 +32,9 @@ use turn_disk::{
 pub struct NbdDisk<T: Stream = Socket, S: Start = Unknown> {
     connection: Connection<T>,
     can_write: bool,
+    has_fua: bool,
+    // Whether the newest call that changed something was a sync.
+    is_settled: bool,
     size: usize,
     failures: u64,
     calls: CallRecord,
@@ -38,11 +42,16 @@ pub struct NbdDisk<T: Stream = Socket, S: Start = Unknown> {
 }
 
 impl<T: Stream, S: Start> Model for NbdDisk<T, S> {
+    ghost use Rattle.std.specs.Prelude.{◌≡◌, true};
+    ghost use Rattle.turn_disk.specs.Calls.{replay};
+    ghost use Rattle.turn_disk.specs.Disk.{State, IsSettled};
     ghost use Rattle.turn_nbd.specs.Views.{InExport};
 
     ghost Value = { InExport };
 
-    ghost view = { λ d. record { size = d.size; failures = d.failures; events = d.calls.events; can_write = d.can_write; connection = d.connection } };
+    ghost view = { λ d. record { size = d.size; failures = d.failures; events = d.calls.events; can_write = d.can_write; has_fua = d.has_fua; is_settled = d.is_settled; connection = d.connection } };
+
+    ghost invariant = { λ d. d.is_settled ≡ true → (found : State) → IsSettled (replay found d.calls.events).now };
 }
 
 impl<T: Stream> NbdDisk<T> {
@@ -59,6 +68,8 @@ impl<T: Stream> NbdDisk<T> {
         Ok(NbdDisk {
             connection: Connection::new(wire),
             can_write,
+            has_fua: has_fua(found),
+            is_settled: false,
             size,
             failures: 0,
             calls: CallRecord::new(),
@@ -73,6 +84,8 @@ impl<T: Stream> NbdDisk<T> {
         let NbdDisk {
             connection,
             can_write,
+            has_fua,
+            is_settled,
             size,
             failures,
             calls,
@@ -81,6 +94,8 @@ impl<T: Stream> NbdDisk<T> {
         NbdDisk {
             connection,
             can_write,
+            has_fua,
+            is_settled,
             size,
             failures,
             calls,
@@ -128,6 +143,7 @@ impl<T: Stream, S: Start> NbdDisk<T, S> {
         &mut self,
         at: usize,
         bytes: &[u8],
+        is_durable: bool,
         other: &mut M,
     ) -> Result<(), DeviceError>
         requires { at + length bytes.now ≤ self.old.size }
@@ -137,7 +153,7 @@ impl<T: Stream, S: Start> NbdDisk<T, S> {
             (λ _. (self.new.events ≡ (1, at, false, bytes.now) ∷ self.old.events)
             ⊎ ((self.new.events ≡ self.old.events) × (self.new.connection ≡ self.old.connection))) }
         ensures wire { OnOk result ((pieces : List (List ℕ)) × (joined pieces ≡ bytes.now)
-            × (self.new.connection.wire ≡ self.old.connection.wire ++ writes self.old.connection.cookie at pieces)) }
+            × (self.new.connection.wire ≡ self.old.connection.wire ++ writes is_durable self.old.connection.cookie at pieces)) }
         ensures can_write { OnOk result (self.old.can_write ≡ true) }
         ensures meanwhile { Passes M.passes other.old other.new }
     {
@@ -146,7 +162,8 @@ impl<T: Stream, S: Start> NbdDisk<T, S> {
         if !self.may_write() {
             return Err(raise(&mut self.failures));
         }
-        match write_from(&mut self.connection, at, bytes, 0, other) {
+        self.is_settled = false;
+        match write_from(&mut self.connection, at, bytes, 0, is_durable, other) {
             Ok(()) => {
                 self.calls.note(WRITE, at, true, bytes);
                 Ok(())
@@ -156,6 +173,33 @@ impl<T: Stream, S: Start> NbdDisk<T, S> {
                 Err(raise(&mut self.failures))
             }
         }
+    }
+
+    // Writes by requests with FUA. Nothing else is pending, so that their replies say what those of a write and of a sync after it would,
+    // as which it is noted.
+    fn ask_durable_write<M: Meanwhile>(
+        &mut self,
+        at: usize,
+        bytes: &[u8],
+        other: &mut M,
+    ) -> Result<(), DeviceError>
+        requires within { at + length bytes.now ≤ self.old.size }
+        requires fua { self.old.has_fua ≡ true }
+        requires settled { self.old.is_settled ≡ true }
+        ensures size { self.new.size ≡ self.old.size }
+        ensures count { CountOutcome self.old.failures self.new.failures result }
+        ensures noted { MatchResult result (λ _. self.new.events ≡ (2, 0, true, []) ∷ (1, at, true, bytes.now) ∷ self.old.events)
+            (λ _. (self.new.events ≡ (1, at, false, bytes.now) ∷ self.old.events)
+            ⊎ ((self.new.events ≡ self.old.events) × (self.new.connection ≡ self.old.connection))) }
+        ensures wire { OnOk result ((pieces : List (List ℕ)) × (joined pieces ≡ bytes.now)
+            × (self.new.connection.wire ≡ self.old.connection.wire ++ writes true self.old.connection.cookie at pieces)) }
+        ensures can_write { OnOk result (self.old.can_write ≡ true) }
+        ensures meanwhile { Passes M.passes other.old other.new }
+    {
+        self.ask_write(at, bytes, true, other)?;
+        self.calls.note(SYNC, 0, true, &[]);
+        self.is_settled = true;
+        Ok(())
     }
 
     // Makes durable what was written by one request, and notes the call if it succeeds: one that fails changes nothing. While the
@@ -175,6 +219,7 @@ impl<T: Stream, S: Start> NbdDisk<T, S> {
         match self.connection.flush(other) {
             Ok(()) => {
                 self.calls.note(SYNC, 0, true, &[]);
+                self.is_settled = true;
                 Ok(())
             }
             Err(_) => Err(raise(&mut self.failures)),
@@ -213,10 +258,25 @@ impl<T: Stream, S: Start> Disk for NbdDisk<T, S> {
         bytes: &[u8],
         other: &mut M,
     ) -> Result<(), DeviceError> {
-        self.ask_write(at, bytes, other)
+        self.ask_write(at, bytes, false, other)
     }
 
     fn sync<M: Meanwhile>(&mut self, other: &mut M) -> Result<(), DeviceError> {
         self.ask_flush(other)
+    }
+
+    #[tactic(auto, using(turn_disk::proofs::Passing::passes_join))]
+    fn write_durably<M: Meanwhile>(
+        &mut self,
+        at: usize,
+        bytes: &[u8],
+        other: &mut M,
+    ) -> Result<(), DeviceError> {
+        if self.has_fua && self.is_settled {
+            return self.ask_durable_write(at, bytes, other);
+        }
+        self.write_at(at, bytes, other)?;
+        self.sync(other)?;
+        Ok(())
     }
 }

@@ -1,8 +1,8 @@
 //! The parts of the handshake, as bytes that a server sends and a client answers.
 
-ghost use Rattle.std.specs.Prelude.{◌≡◌, ◌≢◌, ◌++◌, bit_and, MatchResult};
+ghost use Rattle.std.specs.Prelude.{◌≡◌, ◌≢◌, ◌++◌, bit_and, MatchBool, MatchResult};
 ghost use Rattle.std.specs.Int.{w16, w32, w64, from_be_bytes};
-ghost use Rattle.turn_nbd.specs.Handshake.{greeting_magic, option_head, option_reply_magic, IsNoGreeting, IsUnfit, IsFit};
+ghost use Rattle.turn_nbd.specs.Handshake.{greeting_magic, option_head, option_reply_magic, HasFua, IsNoGreeting, IsUnfit, IsFit};
 
 use crate::bytes::{differ, put};
 use crate::error::NbdError;
@@ -48,6 +48,9 @@ const READ_ONLY: u16 = 2;
 
 /// The transmission flags of a server with flags and FLUSH.
 const FLUSH: u16 = 5;
+
+/// The transmission flags of a server with flags and FUA.
+const FUA: u16 = 9;
 
 /// What a server tells of an export.
 #[derive(Clone, Copy, Debug, PartialEq, Eq)]
@@ -135,4 +138,11 @@ pub fn fit_size(found: Found, writes: bool) -> Result<usize, NbdError>
         return Err(NbdError::NoFlush);
     }
     Ok(found.size as usize)
+}
+
+/// Whether a write to an export may ask that it is durable before its reply comes.
+pub fn has_fua(found: Found) -> bool
+    ensures { MatchBool result (HasFua found) (HasFua found → ⊥) }
+{
+    found.flags & FUA == FUA
 }

@@ -405,6 +405,8 @@ impl<
         ensures { self.new ≡ self.old }
     {
         self.has_passed |= read.is_asked;
+        // What was left unread is read in the next turn, which doesn't wait then.
+        self.is_busy |= read.is_asked && !self.traffic.schedule.is_empty();
         let held_up = if read.is_asked { None } else { began };
         self.pace.note(held_up, ended);
         if let (Some(began), Some(ended)) = (began, ended) {

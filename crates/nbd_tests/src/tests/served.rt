@@ -215,6 +215,54 @@ fn an_export_that_is_opened_to_be_read_takes_no_write(rt: HostRuntime) {
     assert!(rt; count.get() == before);
 }
 
+/// The replies of success to seven requests.
+const SUCCESSES: [u8; 112] = *b"\x67\x44\x66\x98\0\0\0\0\0\0\0\0\0\0\0\0\
+\x67\x44\x66\x98\0\0\0\0\0\0\0\0\0\0\0\x01\
+\x67\x44\x66\x98\0\0\0\0\0\0\0\0\0\0\0\x02\
+\x67\x44\x66\x98\0\0\0\0\0\0\0\0\0\0\0\x03\
+\x67\x44\x66\x98\0\0\0\0\0\0\0\0\0\0\0\x04\
+\x67\x44\x66\x98\0\0\0\0\0\0\0\0\0\0\0\x05\
+\x67\x44\x66\x98\0\0\0\0\0\0\0\0\0\0\0\x06";
+
+/// The third request, a write of "b" at 60 with FUA.
+const WITH_FUA: [u8; 29] =
+    *b"\x25\x60\x95\x13\0\x01\0\x01\0\0\0\0\0\0\0\x02\0\0\0\0\0\0\0\x3c\0\0\0\x01b";
+
+// A write has 29 bytes, and a flush 28. The export has these transmission flags.
+#[test]
+fn a_durable_write_has_fua_where_nothing_else_is_pending(rt: HostRuntime) {
+    for (flags, second) in [(0x05, 57), (0x0d, 29)] {
+        let mut answers = [0; 182];
+        answers[..70].copy_from_slice(&HANDSHAKE);
+        answers[70..].copy_from_slice(&SUCCESSES);
+        answers[49] = flags;
+        let sent = Cell::new([0; KEPT]);
+        let count = Cell::new(0);
+        let server = Script {
+            answers: &answers,
+            at_once: 1_000,
+            sent: &sent,
+            count: &count,
+            delay: 0,
+            asked: 0,
+            pauses: &Cell::new(0),
+        };
+        let mut disk = NbdDisk::over(server, "x", true).expect(&rt, "an export");
+        let opened = count.get();
+        // What was found may be pending.
+        assert!(rt; disk.write_durably(0, b"a", &mut Idle).is_ok());
+        assert!(rt; count.get() == opened + 57);
+        assert!(rt; disk.write_durably(60, b"b", &mut Idle).is_ok());
+        assert!(rt; count.get() == opened + 57 + second);
+        if second == 29 {
+            assert!(rt; sent.get()[opened + 57..opened + 86] == WITH_FUA);
+        }
+        assert!(rt; disk.write_at(0, b"c", &mut Idle).is_ok());
+        assert!(rt; disk.write_durably(60, b"d", &mut Idle).is_ok());
+        assert!(rt; count.get() == opened + 57 + second + 29 + 57);
+    }
+}
+
 // Nothing is there so often before each reply. Each time a piece of the other is done, except at the read.
 #[test]
 fn another_is_done_before_a_reply_is_there(rt: HostRuntime) {
