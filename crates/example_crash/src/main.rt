@@ -107,7 +107,8 @@ fn submit(alloc: Global, server: &mut Stored, second: u64, user: User) -> Result
         five_tuple: user.five_tuple(),
         bytes: &bytes,
     };
-    Ok(server.submit(moment, &arrival)?)
+    server.submit(moment, &arrival)?;
+    Ok(())
 }
 
 /// The answer to alice's Allocate at a second, once it may be sent.

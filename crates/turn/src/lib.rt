@@ -24,6 +24,23 @@
 //! 6. Datagrams out, each as an `Outgoing`. An arrival leads to at most one. `Machine::step` returns it. `Server::submit` stages it, and
 //!    `Server::commit` returns all that are staged, in their order.
 //!
+//! Steps 5 and 6 are these lines of `example_crash`, for a client's request that came at a moment:
+//!
+//! ```
+//! if moment < server.clock() {
+//!     bail!("the clock went back");
+//! }
+//! let arrival = Arrival::Client {
+//!     five_tuple: user.five_tuple(),
+//!     bytes: &bytes,
+//! };
+//! server.submit(moment, &arrival)?;
+//! match server.commit()?.pop() {
+//!     Some(Outgoing::ToClient { bytes, .. }) => Ok(bytes),
+//!     _ => bail!("no answer"),
+//! }
+//! ```
+//!
 //! A success response may be sent once `Server::commit` has returned it: only then is what it says durable. A commit that fails returns
 //! nothing, and the server is stopped: each later call is refused. Then `Server::close` returns the disk, which may be opened
 //! again. A program that stores acts itself does so between `Machine::prepare`, which decides, and `Machine::apply`, which returns

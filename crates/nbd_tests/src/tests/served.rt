@@ -228,10 +228,10 @@ const SUCCESSES: [u8; 112] = *b"\x67\x44\x66\x98\0\0\0\0\0\0\0\0\0\0\0\0\
 const WITH_FUA: [u8; 29] =
     *b"\x25\x60\x95\x13\0\x01\0\x01\0\0\0\0\0\0\0\x02\0\0\0\0\0\0\0\x3c\0\0\0\x01b";
 
-// A write has 29 bytes, and a flush 28. The export has these transmission flags.
+// A write has 29 bytes, a flush 28, and what comes before them 27. The export has these transmission flags.
 #[test]
 fn a_durable_write_has_fua_where_nothing_else_is_pending(rt: HostRuntime) {
-    for (flags, second) in [(0x05, 57), (0x0d, 29)] {
+    for (flags, has_fua, second, last) in [(0x05, false, 141, 227), (0x0d, true, 113, 199)] {
         let mut answers = [0; 182];
         answers[..70].copy_from_slice(&HANDSHAKE);
         answers[70..].copy_from_slice(&SUCCESSES);
@@ -248,18 +248,17 @@ fn a_durable_write_has_fua_where_nothing_else_is_pending(rt: HostRuntime) {
             pauses: &Cell::new(0),
         };
         let mut disk = NbdDisk::over(server, "x", true).expect(&rt, "an export");
-        let opened = count.get();
+        assert!(rt; disk.size() == 64);
+        assert!(rt; count.get() == 27);
         // What was found may be pending.
         assert!(rt; disk.write_durably(0, b"a", &mut Idle).is_ok());
-        assert!(rt; count.get() == opened + 57);
+        assert!(rt; count.get() == 84);
         assert!(rt; disk.write_durably(60, b"b", &mut Idle).is_ok());
-        assert!(rt; count.get() == opened + 57 + second);
-        if second == 29 {
-            assert!(rt; sent.get()[opened + 57..opened + 86] == WITH_FUA);
-        }
+        assert!(rt; count.get() == second);
+        assert!(rt; sent.get()[84..].starts_with(&WITH_FUA) == has_fua);
         assert!(rt; disk.write_at(0, b"c", &mut Idle).is_ok());
         assert!(rt; disk.write_durably(60, b"d", &mut Idle).is_ok());
-        assert!(rt; count.get() == opened + 57 + second + 29 + 57);
+        assert!(rt; count.get() == last);
     }
 }
 
