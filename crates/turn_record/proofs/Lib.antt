@@ -2,11 +2,10 @@ pub mod Acts
 pub mod Apart
 pub mod Appended
 pub mod Batches
-pub mod Bounded
+pub mod Fronts
 pub mod Histories
 pub mod Kept
 pub mod Last
-pub mod Lasting
 pub mod Many
 pub mod Once
 pub mod Onward

@@ -31,10 +31,10 @@ use Rattle.turn_types.specs.FiveTuple.{tuple_cmp}
 use Rattle.turn_types.specs.declared.address.FiveTuple.{FiveTuple}
 use Rattle.turn_types.specs.declared.limits.Bounds.{Bounds}
 use Rattle.turn_record.specs.Reading.{Field, Fails, Gives, many, moment_at, number_at, passes, whole}
-use Rattle.turn_record.proofs.Lasting.{Stays, Grows, Lasts}
+use Rattle.turn_record.proofs.Fronts.{Front, Grows, Stays}
 
-pub next_ok : {A : Type 0} (read : List ℕ → Field A) → Lasts read → (bytes : List ℕ) (x : A) (rest : List ℕ) → read bytes ≡ Ok (x, rest) → (more : List ℕ) → read (bytes ++ more) ≡ Ok (x, rest ++ more)
-next_ok {A} read lasts bytes x rest e more = subst (λ (r : Field A). Grows r more (read (bytes ++ more))) e (lasts.grows bytes more)
+pub next_ok : {A : Type 0} {P : A → Type 0} {n : ℕ} (read : List ℕ → Field A) → Front read P n → (bytes : List ℕ) (x : A) (rest : List ℕ) → read bytes ≡ Ok (x, rest) → (more : List ℕ) → read (bytes ++ more) ≡ Ok (x, rest ++ more)
+next_ok {A} read front bytes x rest e more = subst (λ (r : Field A). Grows r more (read (bytes ++ more))) e (front.grows bytes more)
 
 stays_err : {A : Type 0} (f : DecodeError) (s : Result A DecodeError) → is_short f ≡ false → Stays f s → s ≡ Err f
 stays_err Short s e h = absurd cc
@@ -43,8 +43,8 @@ stays_err BadValue s e h = h
 stays_err OutOfOrder s e h = h
 stays_err TrailingBytes s e h = h
 
-pub next_err : {A : Type 0} (read : List ℕ → Field A) → Lasts read → (bytes : List ℕ) (f : DecodeError) → read bytes ≡ Err f → is_short f ≡ false → (more : List ℕ) → read (bytes ++ more) ≡ Err f
-next_err {A} read lasts bytes f e s more = stays_err f (read (bytes ++ more)) s (subst (λ (r : Field A). Grows r more (read (bytes ++ more))) e (lasts.grows bytes more))
+pub next_err : {A : Type 0} {P : A → Type 0} {n : ℕ} (read : List ℕ → Field A) → Front read P n → (bytes : List ℕ) (f : DecodeError) → read bytes ≡ Err f → is_short f ≡ false → (more : List ℕ) → read (bytes ++ more) ≡ Err f
+next_err {A} read front bytes f e s more = stays_err f (read (bytes ++ more)) s (subst (λ (r : Field A). Grows r more (read (bytes ++ more))) e (front.grows bytes more))
 
 pub next_none : {A : Type 0} (read : List ℕ → Field A) (bytes : List ℕ) (f : DecodeError) → read bytes ≡ Err f → is_short f ≡ true → read bytes ≡ Err Short
 next_none read bytes Short e s = e
@@ -54,15 +54,15 @@ next_none read bytes OutOfOrder e s = absurd cc
 next_none read bytes TrailingBytes e s = absurd cc
 
 -- what a field gives is what is next, where nothing is given yet while the bytes end inside it
-pub next_of : {X Y : Type 0} (value : X → Y) (rest : X → List ℕ) (read : List ℕ → Field Y) → Lasts read → (bytes : List ℕ) (r : Result X ReadError) → Gives (λ x. (value x, rest x)) r (read bytes)
+pub next_of : {X Y : Type 0} {P : Y → Type 0} {n : ℕ} (value : X → Y) (rest : X → List ℕ) (read : List ℕ → Field Y) → Front read P n → (bytes : List ℕ) (r : Result X ReadError) → Gives (λ x. (value x, rest x)) r (read bytes)
     → Next value rest (if_whole r) read bytes
-next_of value rest read lasts bytes (Ok x) gives = next_ok read lasts bytes (value x) (rest x) gives
-next_of value rest read lasts bytes (Err errors.Memory) gives = λ more. tt
-next_of value rest read lasts bytes (Err (errors.Malformed f)) gives = by_fault (is_short f) refl
+next_of value rest read front bytes (Ok x) gives = next_ok read front bytes (value x) (rest x) gives
+next_of value rest read front bytes (Err errors.Memory) gives = λ more. tt
+next_of value rest read front bytes (Err (errors.Malformed f)) gives = by_fault (is_short f) refl
   where
     by_fault : (b : Bool) → is_short f ≡ b → Next value rest (if b then Ok None else Err (errors.Malformed f)) read bytes
     by_fault true short = next_none read bytes f gives short
-    by_fault false whole = next_err read lasts bytes f gives whole
+    by_fault false whole = next_err read front bytes f gives whole
 
 pub whole_keeps : {X : Type 0} (P : X → Type 0) (r : Result X ReadError) → IfOk r P → IfOk (if_whole r) (λ o. IfSome o P)
 whole_keeps P (Ok x) is = is

@@ -1,7 +1,7 @@
 use Rattle.std.specs.FinMap as fin
 use Rattle.turn_history.specs.Fitting.{PortIsFree}
 use Rattle.turn_record.specs.Snapshots.{reservation_at}
-use Rattle.turn_record.proofs.Lasting.{lasts_reservation}
+use Rattle.turn_record.proofs.Fronts.{front_reservation}
 use Rattle.turn_record.proofs.Onward.{next_of, whole_keeps}
 use Rattle.turn_record.proofs.restored.next_reservation.Goals as goal
 use Rattle.turn_table.specs.Table.{IsAboveReserved}
@@ -9,7 +9,7 @@ use Rattle.turn_table.specs.Table.{IsAboveReserved}
 pub returns-clause-next : goal.returns-clause-next
 returns-clause-next g c =
     let s = c.args.table.now in
-    rw c.if_whole.ensures (next_of _ _ (reservation_at s.moment (fin.entries s.contents.entries) (fin.entries s.contents.reserved)) (lasts_reservation _ _ _) c.args.bytes.now
+    rw c.if_whole.ensures (next_of _ _ (reservation_at s.moment (fin.entries s.contents.entries) (fin.entries s.contents.reserved)) (front_reservation _ _ _) c.args.bytes.now
     c.reservation_after.result c.reservation_after.ensures.gives)
 
 pub returns-clause-above : goal.returns-clause-above
