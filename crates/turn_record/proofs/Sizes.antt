@@ -11,7 +11,7 @@ use Rattle.turn_history.specs.Act.{event_of}
 use Rattle.turn_history.specs.declared.event.Event as accepted
 use Rattle.turn_record.specs.Views.{events_of}
 use Rattle.turn_record.proofs.Last.{length-map}
-use Rattle.turn_record.specs.Records.{IsBatch, Writes, max_act, max_payload}
+use Rattle.turn_record.specs.Records.{IsBatch, Writes, max_act, max_payload, max_act_bytes}
 use Rattle.turn_record.specs.declared.version.Version.{Version}
 use Rattle.turn_record.specs.declared.version.Version.TheVariants.{V1, V2}
 use Rattle.turn_types.specs.Limits.{AreInRange}
@@ -75,7 +75,7 @@ acts_at_most v b es h =
 pub batch_at_most : {A : Type 0} (v : Version) (b : Bounds) → AreInRange b → (es : List (accepted.Event A)) → IsBatch v b (events_of es) → length es ≤ 64
 batch_at_most v b range es h = omega (arith, length-map event_of es, h.few, range.acts.1)
 
-pub product_at_most : (n m : ℕ) → n ≤ 64 → m ≤ 557 → n * m ≤ 35648
+pub product_at_most : (n m : ℕ) → n ≤ 64 → m ≤ max_act_bytes → n * m ≤ 35648
 product_at_most n m few small = omega (arith, mul-le-mul_right m few, small)
 
 pub payload_at_most : (v : Version) (b : Bounds) (es : List Event) → IsBatch v b es → length (payload es) ≤ max_payload v b

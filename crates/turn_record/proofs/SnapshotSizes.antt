@@ -17,7 +17,7 @@ use Rattle.turn_history.specs.declared.channel.Channel.{Channel}
 use Rattle.turn_history.specs.declared.reservation.Reservation.{Reservation}
 use Rattle.turn_record.proofs.Sizes.{size_each}
 use Rattle.turn_record.specs.Bytes.{joined, each, five_tuple, allocation, mark, permission, permissions, channel, channels, entry, head, reservation, reserved, snapshot}
-use Rattle.turn_record.specs.Records.{IsSnapshot, entry_size, max_entry, max_reserved, max_snapshot}
+use Rattle.turn_record.specs.Records.{IsSnapshot, entry_size, max_entry, max_reserved, max_snapshot, max_reserved_bytes, max_snapshot_bytes}
 use Rattle.turn_record.specs.declared.version.Version.{Version}
 use Rattle.turn_record.specs.declared.version.Version.TheVariants.{V1, V2}
 use Rattle.turn_record.specs.Written.{IsShort, AreShort}
@@ -125,7 +125,7 @@ unfolding reserved
 reserved_at_most V1 b t c s = omega arith
 reserved_at_most V2 b t c s = omega (arith, size_reserved c t s.reserved, s.within.reserved)
 
-pub max_reserved_small : (v : Version) (b : Bounds) → AreInRange b → max_reserved v b ≤ 18436
+pub max_reserved_small : (v : Version) (b : Bounds) → AreInRange b → max_reserved v b ≤ max_reserved_bytes
 max_reserved_small V1 b range = omega arith
 max_reserved_small V2 b range = omega (arith, range.allocations.1)
 
@@ -144,7 +144,7 @@ snapshot_at_most v b t c s =
     omega (arith, one, two, size_snapshot v t c, reserved_at_most v b t c s)
 
 -- whatever the limits are
-pub snapshot_small : (v : Version) (b : Bounds) (t : ℕ) (c : Contents) → AreInRange b → IsSnapshot v b t c → length (snapshot v t c) ≤ 1508368
+pub snapshot_small : (v : Version) (b : Bounds) (t : ℕ) (c : Contents) → AreInRange b → IsSnapshot v b t c → length (snapshot v t c) ≤ max_snapshot_bytes
 snapshot_small v b t c range s =
     let one : b.allocations * max_entry v b ≤ max_allocations * max_entry v b = mul-le-mul_right (max_entry v b) range.allocations.1 in
     omega (arith, one, snapshot_at_most v b t c s, range.name_bytes.1, range.permissions.1, range.channels.1, entry_size_most v, max_reserved_small v b range)

@@ -4,6 +4,7 @@ ghost use Rattle.std.specs.Prelude.{◌≡◌, ◌+◌, ◌*◌, ◌≤◌, ◌<
 ghost use Rattle.std.specs.Int.{to_be_bytes, w32};
 ghost use Rattle.turn_history.specs.Laws.{allocation_of};
 ghost use Rattle.turn_record.specs.Bytes.{allocation, channel, each, endpoint, entry, five_tuple, mark, name, permission, reservation};
+ghost use Rattle.turn_record.specs.Records.{max_entry_bytes};
 ghost use Rattle.turn_record.specs.Written.{IsShort};
 ghost use Rattle.turn_types.specs.Limits.{max_bounds};
 
@@ -27,12 +28,13 @@ pub(crate) struct EntryBytes {
 
 impl Model for EntryBytes {
     ghost use Rattle.std.specs.Prelude.{ℕ, ◌≤◌, List, take};
+    ghost use Rattle.turn_record.specs.Records.{max_entry_bytes};
 
     ghost Value = { List ℕ };
 
     ghost view = { λ b. take b.len b.bytes };
 
-    ghost invariant = { λ b. b.len ≤ 1455 };
+    ghost invariant = { λ b. b.len ≤ max_entry_bytes };
 }
 
 impl EntryBytes {
@@ -59,7 +61,7 @@ impl EntryBytes {
 
     /// Appends bytes for which there is room.
     pub(crate) fn put(&mut self, field: &[u8])
-        requires room { length self.old + length field.now ≤ 1455 }
+        requires room { length self.old + length field.now ≤ max_entry_bytes }
         ensures { self.new ≡ self.old ++ field.now }
     {
         let end = self.len + field.len();
@@ -68,7 +70,7 @@ impl EntryBytes {
     }
 
     fn put_endpoint(&mut self, place: Endpoint)
-        requires room { length self.old + 6 ≤ 1455 }
+        requires room { length self.old + 6 ≤ max_entry_bytes }
         ensures { self.new ≡ self.old ++ endpoint place }
     {
         self.put(&place.ip.to_be_bytes());
@@ -76,7 +78,7 @@ impl EntryBytes {
     }
 
     fn put_tuple(&mut self, tuple: FiveTuple)
-        requires room { length self.old + 12 ≤ 1455 }
+        requires room { length self.old + 12 ≤ max_entry_bytes }
         ensures { self.new ≡ self.old ++ five_tuple tuple }
     {
         self.put_endpoint(tuple.client);
@@ -85,7 +87,7 @@ impl EntryBytes {
 
     fn put_name(&mut self, user: &[u8])
         requires short { length user.now < 2 ^ 16 }
-        requires room { length self.old + (2 + length user.now) ≤ 1455 }
+        requires room { length self.old + (2 + length user.now) ≤ max_entry_bytes }
         ensures { self.new ≡ self.old ++ name user.now }
     {
         self.put(&(user.len() as u16).to_be_bytes());
@@ -95,7 +97,7 @@ impl EntryBytes {
     /// What the Allocate request of an entry gave.
     fn put_allocation<A: Allocator>(&mut self, kept: &Entry<A>)
         requires short { IsShort max_bounds kept.now.entry }
-        requires room { length self.old + (20 + length kept.now.entry.user) ≤ 1455 }
+        requires room { length self.old + (20 + length kept.now.entry.user) ≤ max_entry_bytes }
         ensures { self.new ≡ self.old ++ allocation (allocation_of kept.now.entry) }
     {
         self.put_name(kept.user());
@@ -106,7 +108,7 @@ impl EntryBytes {
 
     /// Whether an entry has a token, and which.
     fn put_mark(&mut self, version: Version, token: Option<Token>)
-        requires room { length self.old + 9 ≤ 1455 }
+        requires room { length self.old + 9 ≤ max_entry_bytes }
         ensures { self.new ≡ self.old ++ mark version token }
     {
         match version {
@@ -119,7 +121,7 @@ impl EntryBytes {
     }
 
     fn put_token(&mut self, token: Token)
-        requires room { length self.old + 9 ≤ 1455 }
+        requires room { length self.old + 9 ≤ max_entry_bytes }
         ensures { self.new ≡ self.old ++ (1 ∷ token.0) }
     {
         self.put(&[1]);
@@ -127,7 +129,7 @@ impl EntryBytes {
     }
 
     fn put_permission(&mut self, ip: u32, expiry: u64)
-        requires room { length self.old + 12 ≤ 1455 }
+        requires room { length self.old + 12 ≤ max_entry_bytes }
         ensures { self.new ≡ self.old ++ permission (ip, expiry) }
     {
         self.put(&ip.to_be_bytes());
@@ -135,7 +137,7 @@ impl EntryBytes {
     }
 
     fn put_each_permission(&mut self, permissions: &[(u32, u64)])
-        requires room { length self.old + 12 * length permissions.now ≤ 1455 }
+        requires room { length self.old + 12 * length permissions.now ≤ max_entry_bytes }
         ensures { self.new ≡ self.old ++ each permission permissions.now }
     {
         for (ip, expiry) in permissions {
@@ -146,7 +148,7 @@ impl EntryBytes {
     /// A count, and the permissions in their order.
     fn put_permissions(&mut self, permissions: &[(u32, u64)])
         requires few { length permissions.now ≤ 32 }
-        requires room { length self.old + (1 + 12 * length permissions.now) ≤ 1455 }
+        requires room { length self.old + (1 + 12 * length permissions.now) ≤ max_entry_bytes }
         ensures { self.new ≡ self.old ++ ((length permissions.now ∷ []) ++ each permission permissions.now) }
     {
         self.put(&[permissions.len() as u8]);
@@ -154,7 +156,7 @@ impl EntryBytes {
     }
 
     fn put_channel(&mut self, number: ChannelNumber, bound: Channel)
-        requires room { length self.old + 16 ≤ 1455 }
+        requires room { length self.old + 16 ≤ max_entry_bytes }
         ensures { self.new ≡ self.old ++ channel (number, bound) }
     {
         self.put(&number.get().to_be_bytes());
@@ -163,7 +165,7 @@ impl EntryBytes {
     }
 
     fn put_each_channel(&mut self, channels: &[(ChannelNumber, Channel)])
-        requires room { length self.old + 16 * length channels.now ≤ 1455 }
+        requires room { length self.old + 16 * length channels.now ≤ max_entry_bytes }
         ensures { self.new ≡ self.old ++ each channel channels.now }
     {
         for (number, bound) in channels {
@@ -174,7 +176,7 @@ impl EntryBytes {
     /// A count, and the channels in their order.
     fn put_channels(&mut self, channels: &[(ChannelNumber, Channel)])
         requires few { length channels.now ≤ 32 }
-        requires room { length self.old + (1 + 16 * length channels.now) ≤ 1455 }
+        requires room { length self.old + (1 + 16 * length channels.now) ≤ max_entry_bytes }
         ensures { self.new ≡ self.old ++ ((length channels.now ∷ []) ++ each channel channels.now) }
     {
         self.put(&[channels.len() as u8]);

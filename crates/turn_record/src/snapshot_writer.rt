@@ -2,7 +2,7 @@
 
 ghost use Rattle.std.specs.Prelude.{◌≡◌, ◌+◌, ◌≤◌, ◌<◌, ◌++◌, [], length, drop, take, vec_capacity, IsOk, OnErr, OnOk};
 ghost use Rattle.turn_record.specs.Bytes.{entry, mark, reserved, snapshot};
-ghost use Rattle.turn_record.specs.Records.{IsSnapshot, entry_size, max_reserved, max_snapshot};
+ghost use Rattle.turn_record.specs.Records.{IsSnapshot, entry_size, max_reserved, max_snapshot, max_entry_bytes, max_reserved_bytes, max_snapshot_bytes};
 ghost use Rattle.turn_record.specs.Written.{IsShort};
 ghost use Rattle.turn_types.specs.Limits.{max_bounds};
 ghost use Rattle.turn_types.specs.declared.address.FiveTuple.{FiveTuple};
@@ -32,7 +32,7 @@ fn max_entry_size(version: Version) -> usize
 /// The max number of bytes of the reserved ports under the limits.
 fn max_reserved(version: Version, limits: Limits) -> usize
     ensures value { result ≡ max_reserved version limits }
-    ensures small { result ≤ 18436 }
+    ensures small { result ≤ max_reserved_bytes }
 {
     let bounds = limits.bounds();
     match version {
@@ -44,7 +44,7 @@ fn max_reserved(version: Version, limits: Limits) -> usize
 /// The max number of bytes of a snapshot in the version and under the limits.
 pub fn max_snapshot(version: Version, limits: Limits) -> usize
     ensures value { result ≡ max_snapshot version limits }
-    ensures small { result ≤ 1508368 }
+    ensures small { result ≤ max_snapshot_bytes }
 {
     let bounds = limits.bounds();
     let name = usize::from(bounds.name_bytes);
@@ -72,7 +72,7 @@ fn mark_size(version: Version, token: Option<Token>) -> usize
 fn entry_size<A: Allocator + Copy>(version: Version, kept: &Entry<A>) -> usize
     requires { IsShort max_bounds kept.now.entry }
     ensures size { (f : FiveTuple) → result ≡ length (entry version (f, kept.now.entry)) }
-    ensures small { result ≤ 1455 }
+    ensures small { result ≤ max_entry_bytes }
 {
     let mark = mark_size(version, kept.token());
     42 + mark + kept.user().len() + 12 * kept.permissions().len() + 16 * kept.channels().len()
@@ -82,7 +82,7 @@ fn entry_size<A: Allocator + Copy>(version: Version, kept: &Entry<A>) -> usize
 fn reserved_size<A: Allocator + Copy>(version: Version, table: &Table<A>) -> usize
     requires { IsSnapshot version table.now.bounds table.now.moment table.now.contents }
     ensures size { result ≡ length (reserved version table.now.contents.reserved) }
-    ensures small { result ≤ 18436 }
+    ensures small { result ≤ max_reserved_bytes }
 {
     let _bounds = table.limits().bounds();
     match version {

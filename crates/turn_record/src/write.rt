@@ -5,7 +5,7 @@ ghost use Rattle.std.specs.Int.{to_be_bytes, w32};
 ghost use Rattle.turn_history.specs.Act.{act_of};
 ghost use Rattle.turn_record.specs.Bytes.{act_entry, addresses, allocation, body, each, endpoint, five_tuple, name, payload, tag};
 ghost use Rattle.turn_history.specs.Fitting.{IsInRange};
-ghost use Rattle.turn_record.specs.Records.{HasShortParts, IsBatch, Writes, alloc_size, max_act, max_payload};
+ghost use Rattle.turn_record.specs.Records.{HasShortParts, IsBatch, Writes, alloc_size, max_act, max_payload, max_act_bytes};
 ghost use Rattle.turn_record.specs.Views.{events_of};
 
 use crate::version::Version;
@@ -167,7 +167,7 @@ fn alloc_size(version: Version) -> usize
 /// The max number of bytes of an act entry in the version and under the limits.
 pub fn max_act(version: Version, limits: Limits) -> usize
     ensures value { result ≡ max_act version limits }
-    ensures small { result ≤ 557 }
+    ensures small { result ≤ max_act_bytes }
 {
     let bounds = limits.bounds();
     let alloc = alloc_size(version) + usize::from(bounds.name_bytes);

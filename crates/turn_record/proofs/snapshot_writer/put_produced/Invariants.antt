@@ -1,4 +1,5 @@
 use Rattle.std.proofs.Common.{◌≡◌, ◌+◌, ◌≤◌, ◌++◌, length, vec_capacity}
+use Rattle.turn_record.specs.Records.{max_entry_bytes}
 use Rattle.turn_record.proofs.snapshot_writer.put_produced.Given as goal
 
 abbrev pub invariant-pieces : goal.invariant-pieces
@@ -6,7 +7,7 @@ invariant-pieces g l = record {
   items : l.out.items ++ g.P.Producer.rest l.producer ≡ l.fn.out.items ++ g.P.Producer.rest l.fn.producer;
   room : length l.out.items + length (g.P.Producer.rest l.producer) ≤ vec_capacity l.out;
   capacity : vec_capacity l.fn.out ≤ vec_capacity l.out;
-  size_of_piece : length l.piece ≡ 1455;
+  size_of_piece : length l.piece ≡ max_entry_bytes;
 }
 
 abbrev pub decreases-pieces : goal.decreases-pieces

@@ -1,9 +1,10 @@
 use Rattle.std.proofs.Common.{◌≡◌, ◌+◌, ◌-◌, ◌*◌, ◌≤◌, ◌++◌, drop, length}
 use Rattle.turn_record.specs.Bytes.{each, permission}
+use Rattle.turn_record.specs.Records.{max_entry_bytes}
 use Rattle.turn_record.proofs.entry_bytes.EntryBytes.put_each_permission.Given as goal
 
 abbrev pub invariant-loop-ip : goal.invariant-loop-ip
 invariant-loop-ip l = record {
   items : l.self ++ each permission (drop l.ip-index l.permissions) ≡ l.fn.self ++ each permission l.permissions;
-  room : length l.self + 12 * (length l.permissions - l.ip-index) ≤ 1455;
+  room : length l.self + 12 * (length l.permissions - l.ip-index) ≤ max_entry_bytes;
 }
