@@ -1,5 +1,5 @@
 -- What has a snapshot goes on having one, as time passes and by an event that fits, and in a later version.
-use Rattle.std.specs.Prelude.{ℕ, ◌-◌, ◌^◌, ◌<◌, ◌≤◌}
+use Rattle.std.specs.Prelude.{ℕ, ◌<◌, ◌≤◌}
 use Rattle.turn_history.specs.Fitting.{Fits, IsInRange}
 use Rattle.turn_history.specs.History.{Event, PlainAct}
 use Rattle.turn_history.specs.Table.{Contents, purged, applied}

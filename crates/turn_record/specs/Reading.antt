@@ -1,6 +1,6 @@
 -- Reading from the left, with the first fault that is met: the fields as they stand, at one field the first condition that fails, a condition over several
 -- fields at the last one that it needs, and bytes after the last field at the end.
-use Rattle.std.specs.Prelude.{◌≡◌, ℕ, zero, suc, ◌-◌, ◌^◌, Bool, true, not, ◌&&◌, ◌||◌, List, [], ◌∷◌, ◌++◌, length, take, drop, Option, Some, None, Result, Ok, Err, slice_get, nat_lt, nat_le, nat_eq, ◌==◌, ◌+◌, ◌%◌, if◌then◌else◌}
+use Rattle.std.specs.Prelude.{◌≡◌, ℕ, zero, suc, ◌-◌, Bool, true, not, ◌&&◌, ◌||◌, List, [], ◌∷◌, ◌++◌, length, take, drop, Option, Some, None, Result, Ok, Err, slice_get, nat_lt, nat_le, nat_eq, ◌==◌, ◌+◌, ◌%◌, if◌then◌else◌}
 use Rattle.std.specs.List.{list_any}
 use Rattle.std.specs.Int.{Width, w16, w32, w64, byte_len, from_be_bytes}
 use Rattle.turn_history.specs.Fitting.{is_channel_number}
