@@ -1,7 +1,7 @@
 //! What this program is made from. This file is written by packaging/digest.
 
 /// The digest of the sources.
-pub const SOURCES: &str = "3704002033896c9a2b76cf2a48cfb32180920f8e7ee02054cb15f09547805ab0";
+pub const SOURCES: &str = "386da3d27f5c4a06c8ff431879420ee486c6b08f54bd6407dbdbb0530215e13f";
 
 /// The toolchain, as it names itself.
 pub const TOOLCHAIN: &str = "rattle-kit-13f logic dac8208d650f15bf";
