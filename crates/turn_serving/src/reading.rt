@@ -1,7 +1,6 @@
 //! What is done with the sockets while a commit waits for its disk.
 
-ghost use Rattle.std.specs.Prelude.{◌≡◌, ◌++◌, ◌∷◌, ◌⊎◌, [], Contains, List, OnOk};
-ghost use Rattle.turn_sockets.specs.Backlog.{if_same, waiting_of};
+ghost use Rattle.std.specs.Prelude.{◌≡◌, ◌++◌, ◌∷◌, [], Contains, List, OnOk};
 ghost use Rattle.turn_sockets.specs.Fairness.{IsRound};
 ghost use Rattle.turn_sockets.specs.Wire.{Passed, received};
 ghost use Rattle.turn_serving.specs.Manner.{reads_of};
@@ -13,7 +12,7 @@ use crate::calls::{Answer, relay};
 use crate::error::TurnError;
 use crate::listening::Waiting;
 use crate::relay_sockets::RelaySockets;
-use crate::turn::{Took, Traffic, Turn, Work, add};
+use crate::turn::{Took, Traffic, Turn, Work};
 use crate::watch::Watch;
 use std::alloc::{Allocator, Global};
 use std::marker::{Model, PhantomData};
@@ -26,16 +25,6 @@ use turn_step::Arrival;
 use turn_types::{Endpoint, FiveTuple};
 
 impl<'l, W: Watch + Drop, A: Allocator + Copy> Turn<'l, W, A> {
-    // Keeps a client's datagram for the next commit. One for which there is no room is dropped.
-    fn keep(&self, backlog: &mut Backlog<A>, five_tuple: FiveTuple, bytes: &[u8]) -> Took
-        ensures { ((g : FiveTuple) → waiting_of backlog.new g ≡ waiting_of backlog.old g ++ if_same five_tuple g bytes.now) ⊎ (backlog.new ≡ backlog.old) }
-    {
-        if !add(backlog, five_tuple, bytes) {
-            self.listening.watch.shed(self.moment);
-        }
-        Took::Request
-    }
-
     // Takes a client's datagram: it is answered at once, or waits. One for which there is no room is dropped, and so is one of the
     // server itself, and one that lacks memory.
     fn answer_client<D: Disk, H: AuthHandler, G: RelaySockets>(

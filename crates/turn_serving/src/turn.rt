@@ -221,6 +221,16 @@ impl<'l, W: Watch + Drop, A: Allocator + Copy> Turn<'l, W, A> {
         backlog.has(five_tuple) || (self.manner.waits_for_commits() && may_change(bytes))
     }
 
+    // Keeps a client's datagram for the next commit. One for which there is no room is dropped.
+    pub(crate) fn keep(&self, backlog: &mut Backlog<A>, five_tuple: FiveTuple, bytes: &[u8]) -> Took
+        ensures { ((g : FiveTuple) → waiting_of backlog.new g ≡ waiting_of backlog.old g ++ if_same five_tuple g bytes.now) ⊎ (backlog.new ≡ backlog.old) }
+    {
+        if !add(backlog, five_tuple, bytes) {
+            self.listening.watch.shed(self.moment);
+        }
+        Took::Request
+    }
+
     // Takes a client's datagram: it is submitted, or waits. One for which there is no room is dropped, and so is one of the server itself.
     fn take_from_client<D: Disk, H: AuthHandler, G: RelaySockets>(
         &self,
@@ -248,10 +258,7 @@ impl<'l, W: Watch + Drop, A: Allocator + Copy> Turn<'l, W, A> {
             return Ok(Took::Data);
         };
         if self.has_to_wait(backlog, five_tuple, bytes) {
-            if !add(backlog, five_tuple, bytes) {
-                self.listening.watch.shed(self.moment);
-            }
-            return Ok(Took::Request);
+            return Ok(self.keep(backlog, five_tuple, bytes));
         }
         let arrival = Arrival::Client { five_tuple, bytes };
         submit(self.listening, server, wire, self.moment, &arrival)?;
