@@ -57,6 +57,21 @@
 //! one that stays takes `u64::MAX` turns, with `Commits::Paced`. A `Watch` is told of all that is sent, to log or count it; `Silent` is
 //! none.
 //!
+//! # Examples of calls
+//!
+//! The documentation of a call that programs make has an example, in the crate that the call is of; `README.md` lists them. The script
+//! `tests/doc_examples` compiles each by `rt try` and runs it, without a proof: a program also has to prove what a call requires, as
+//! that a moment isn't before the clock. Names are those of this crate's modules, `Context`, `Result` and `bail!` those of `anyhow`.
+//! An example is lines of a function that returns a `Result`. What it names and doesn't make is given to it, made as the examples of
+//! its call and of others show:
+//!
+//! - `rt`, the runtime, and `alloc`, its allocator;
+//! - `moment`, second 1000; a `peer`; the `five_tuple` of a client; a transaction id, `tx`;
+//! - `settings`, and the `config` of these; `users`, of which there is alice, her `key`, and `ports`;
+//! - `table`, which is empty, and a `machine` over it; `disk`, with an empty store, and a `server` over it; `serving`, a server over
+//!   sockets that listens at `listen`, and its `clock`;
+//! - a `nonce` for that client, and `allocate`, the bytes of alice's Allocate with it.
+//!
 //! # Units
 //!
 //! - A `Moment` is a number of seconds, below 2^40 - 3,600, since any start that all moments share. Lifetimes are in seconds.

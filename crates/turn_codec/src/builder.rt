@@ -143,6 +143,14 @@ impl<A: Allocator + Copy> Builder<A> {
     }
 
     /// Adds an attribute at the end. After an `Err` the message is as before.
+    ///
+    /// ```rust
+    /// let mut message = Builder::new(alloc, Class::Request, Method::ALLOCATE, tx)?;
+    /// message.push(AttributeType::REQUESTED_TRANSPORT, &[17, 0, 0, 0])?;
+    /// let bytes = message.finish();
+    /// assert_eq!(rt; &bytes[..4], b"\x00\x03\x00\x08".as_slice());
+    /// assert_eq!(rt; &bytes[20..], b"\x00\x19\x00\x04\x11\x00\x00\x00".as_slice());
+    /// ```
     pub fn push(&mut self, kind: AttributeType, value: &[u8]) -> Result<(), PushError>
         ensures ok { OnOk result (self.new ≡ with_attribute self.old kind value.now) }
         // Whether it is too long is judged before memory is asked for.

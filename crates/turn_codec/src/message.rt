@@ -62,6 +62,14 @@ fn has_right_length(bytes: &[u8]) -> bool
 
 impl<'a> Message<'a> {
     /// The message that a datagram encodes. A datagram with a byte after its last attribute is none.
+    ///
+    /// ```rust
+    /// let message = Message::parse(&allocate)?;
+    /// assert!(rt; message.class() == Class::Request && message.method() == Method::ALLOCATE);
+    /// assert!(rt; message.tx() == tx);
+    /// let refused = Message::parse(&allocate[..19]);
+    /// assert!(rt; matches!(refused, Err(MessageError::Short)));
+    /// ```
     pub fn parse(bytes: &'a [u8]) -> Result<Message<'a>, MessageError>
         // What is read is what the datagram encodes.
         ensures found { IfOk result (λ m. (m.bytes ≡ bytes.now) × Spells bytes.now m.content) }
@@ -147,6 +155,12 @@ impl<'a> Message<'a> {
     }
 
     /// The value of the first attribute of a type, among all.
+    ///
+    /// ```rust
+    /// let message = Message::parse(&allocate)?;
+    /// assert_eq!(rt; message.find(AttributeType::USERNAME).context("name")?, b"alice".as_slice());
+    /// assert!(rt; message.find(AttributeType::LIFETIME).is_none());
+    /// ```
     pub fn find(&self, kind: AttributeType) -> Option<&'a [u8]>
         ensures { option_copied result ≡ value_of kind self.now.content.attributes }
     {

@@ -28,6 +28,15 @@ impl From<AllocError> for ConfigTextError {
 }
 
 /// Reads a configuration. Its lines are numbered from 1, and a newline at the end opens no further line.
+///
+/// ```rust
+/// use turn_config::{ConfigTextError, read_config};
+/// let text = b"realm example.org\nsecret 0000000000000000000000000000000000000000000000000000000000000000\nlisten 192.0.2.100:3478\nrelay 198.51.100.1 50000 50009\n";
+/// let configured = read_config(alloc, text)?;
+/// assert!(rt; configured.config.quota() == 10 && configured.listen == five_tuple.server);
+/// let refused = read_config(alloc, b"realm example.org\nquota 0\n");
+/// assert!(rt; matches!(refused, Err(ConfigTextError::BadLine(2))));
+/// ```
 pub fn read_config<A: Allocator + Copy>(
     alloc: A,
     text: &[u8],

@@ -73,6 +73,11 @@ pub fn split_once(text: &[u8], separator: u8) -> Option<(&[u8], &[u8])>
 }
 
 /// An IPv4 address: four numbers up to 255 with dots between.
+///
+/// ```rust
+/// assert_eq!(rt; ip(b"192.0.2.100"), Some(0xC000_0264));
+/// assert_eq!(rt; ip(b"192.0.2"), None);
+/// ```
 pub fn ip(text: &[u8]) -> Option<u32>
     ensures found { IfSome result (λ address. IsIp text.now address) }
     ensures only { (address : ℕ) → IsIp text.now address → result ≡ Some address }
@@ -85,6 +90,12 @@ pub fn ip(text: &[u8]) -> Option<u32>
 }
 
 /// An IPv4 address and a port up to 65535, with a colon between.
+///
+/// ```rust
+/// let listen = endpoint(b"192.0.2.100:3478").context("address")?;
+/// assert_eq!(rt; (listen.ip, listen.port), (0xC000_0264, 3478));
+/// assert_eq!(rt; format!(in alloc; "{}", ShownEndpoint(listen))?.as_str(), "192.0.2.100:3478");
+/// ```
 pub fn endpoint(text: &[u8]) -> Option<Endpoint>
     ensures found { IfSome result (λ endpoint. IsEndpoint text.now endpoint) }
     ensures only { (endpoint : Endpoint) → IsEndpoint text.now endpoint → result ≡ Some endpoint }

@@ -71,6 +71,14 @@ impl<A: Allocator + Copy> SharedSecret<A> {
 
 impl<A: Allocator> SharedSecret<A> {
     /// The password of a name, whether or not it begins with an expiry time: 28 bytes of base64 (RFC 4648, section 4).
+    ///
+    /// ```rust
+    /// let shared = SharedSecret::new(alloc, b"secret")?;
+    /// assert_eq!(rt; shared.password(b"4000:alice"), *b"z9ZEAhrLbqAIJrmORfM3a6Oaklo=");
+    /// let key = shared.key(b"4000:alice", b"example.org").context("key")?;
+    /// assert!(rt; !key.has_expired(Moment::new(3999).context("moment")?));
+    /// assert!(rt; key.has_expired(Moment::new(4000).context("moment")?));
+    /// ```
     #[tactic(auto, unfolding(crate::specs::Shared::password_of))]
     pub fn password(&self, name: &[u8]) -> [u8; 28]
         ensures { result ≡ password_of self.now name.now }
@@ -117,6 +125,15 @@ impl<A: Allocator> Model for Credentials<A> {
 
 impl<A: Allocator> Credentials<A> {
     /// Users, and a secret for all other names. Without a secret no other name has a key.
+    ///
+    /// ```rust
+    /// let shared = SharedSecret::new(alloc, b"secret")?;
+    /// let credentials = Credentials::new(users, Some(shared));
+    /// let expiry = |name: &[u8]| credentials.key(name, b"example.org").map(|key| key.expiry);
+    /// assert_eq!(rt; expiry(b"alice"), Some(None));
+    /// assert_eq!(rt; expiry(b"4000:bob"), Some(Moment::new(4000)));
+    /// assert_eq!(rt; expiry(b"bob"), None);
+    /// ```
     pub fn new(users: Users<A>, shared: Option<SharedSecret<A>>) -> Credentials<A>
         ensures { result ≡ record { users = users; secret = shared } }
     {

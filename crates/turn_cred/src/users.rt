@@ -39,6 +39,13 @@ impl<A: Allocator + Copy> Users<A> {
     }
 
     /// Gives a user a key, in place of any that the name has. After an `Err` the users are as before.
+    ///
+    /// ```rust
+    /// let mut users = Users::new(alloc);
+    /// users.add(b"alice", generate_auth_key(b"alice", b"example.org", b"wonder"))?;
+    /// assert!(rt; users.key(b"alice", b"example.org").is_some());
+    /// assert!(rt; users.key(b"bob", b"example.org").is_none());
+    /// ```
     pub fn add(&mut self, name: &[u8], key: [u8; 16]) -> Result<(), AllocError>
         ensures ok { OnOk result (self.new ≡ map.insert self.old name.now key) }
         ensures err { OnErr result (self.new ≡ self.old) }

@@ -77,6 +77,13 @@ impl<F: FileExt + OpenFile> FileDisk<F> {
 impl FileDisk<File> {
     /// Makes the file, or makes it anew, with so many zero bytes, and takes its lock. The content of a file of that name is
     /// lost, unless the file is in use. A new file is the owner's alone. A symbolic link is followed to no file.
+    ///
+    /// ```rust
+    /// let area = least_area(Limits::MAX);
+    /// let mut disk = FileDisk::create(&rt, "store", 64 + 2 * area)?;
+    /// format(&mut disk, Limits::MAX, area)?;
+    /// assert!(rt; matches!(FileDisk::open(&rt, "store"), Err(FileError::InUse)));
+    /// ```
     pub fn create<R: Files<File = File>>(
         files: &R,
         path: &str,

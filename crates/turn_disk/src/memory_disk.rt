@@ -103,6 +103,13 @@ impl<A: Allocator> MemoryDisk<A> {
     }
 
     /// The disk becomes the image that the outcome names, nothing is pending, and failures that are still to come are cancelled.
+    ///
+    /// ```rust
+    /// let mut disk = MemoryDisk::new(alloc, Vec::from_elem(alloc, 0u8, 4)?);
+    /// disk.write_at(1, b"ab", &mut Idle)?;
+    /// disk.crash(CrashOutcome::Half);
+    /// assert_eq!(rt; disk.content(), b"\x00a\x00\x00".as_slice());
+    /// ```
     pub fn crash(&mut self, outcome: CrashOutcome)
         ensures left { self.new.trace.now ≡ record { bytes = left_by outcome self.old.trace; pending = [] } }
         ensures image { IsImage self.old.trace.now self.new.trace.now.bytes }

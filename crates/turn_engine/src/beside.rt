@@ -146,6 +146,14 @@ impl<'a, 'b, H: AuthHandler, G: RelayAddressGenerator, A: Allocator + Copy> Besi
 
     /// Answers data at the clock, and changes nothing: of a five-tuple of which no act is staged, while nothing is staged of an earlier
     /// moment. Every other arrival has to be submitted.
+    ///
+    /// ```rust
+    /// let send = build_send(alloc, peer, b"hello")?;
+    /// let data = server.beside().relay(&Arrival::Client { five_tuple, bytes: &send })?;
+    /// assert!(rt; matches!(data, Relayed::Answered(None)));
+    /// let request = server.beside().relay(&Arrival::Client { five_tuple, bytes: &allocate })?;
+    /// assert!(rt; matches!(request, Relayed::Waits));
+    /// ```
     pub fn relay(&self, arrival: &Arrival<'_>) -> Result<Relayed<A>, AllocError>
         ensures waits { result ≡ Ok Relayed.Waits → HasToWait self.now (arrival_of arrival.now) }
         ensures answers { IfOk result (λ r. IfSome (relayed_of r) (Relays H.key_of G.range self.now (arrival_of arrival.now))) }

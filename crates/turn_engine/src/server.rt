@@ -245,6 +245,14 @@ impl<D: Disk, H: AuthHandler, G: RelayAddressGenerator, A: Allocator + Copy> Ser
     }
 
     /// Opens the store of a disk as `open_as` does, and carries it over to version 2 if it can be.
+    ///
+    /// ```rust
+    /// let server = match Server::open(alloc, disk, &config, users, ports) {
+    ///     Ok(server) => server,
+    ///     Err(refused) => bail!("not opened: {}", refused.fault),
+    /// };
+    /// assert!(rt; server.table().is_empty() && server.clock().seconds() == 0);
+    /// ```
     pub fn open(
         alloc: A,
         disk: D,
@@ -320,6 +328,14 @@ impl<D: Disk, H: AuthHandler, G: RelayAddressGenerator, A: Allocator + Copy> Ser
     }
 
     /// Takes an arrival at a moment that isn't before the clock.
+    ///
+    /// ```rust
+    /// let arrival = Arrival::Client { five_tuple, bytes: &allocate };
+    /// if server.clock() <= moment {
+    ///     server.submit(moment, &arrival)?;
+    /// }
+    /// assert!(rt; server.clock() == moment && server.table().has_port(50000));
+    /// ```
     pub fn submit(&mut self, moment: Moment, arrival: &Arrival<'_>) -> Result<(), SubmitError>
         requires { now_of self.old ≤ moment }
         ensures call { Submits D.Disk H.AuthHandler G.RelayAddressGenerator self.old self.new moment (arrival_of arrival.now) result }
@@ -407,6 +423,13 @@ impl<D: Disk, H: AuthHandler, G: RelayAddressGenerator, A: Allocator + Copy> Ser
     }
 
     /// `commit_while` with nothing else to do.
+    ///
+    /// ```rust
+    /// server.submit(moment, &Arrival::Client { five_tuple, bytes: &allocate })?;
+    /// let outgoing = server.commit()?;
+    /// assert!(rt; matches!(outgoing.as_slice(), [Outgoing::ToClient { .. }]));
+    /// assert_eq!(rt; server.info().frames, 1);
+    /// ```
     pub fn commit(&mut self) -> Result<Vec<Outgoing<A>, A>, StoreError>
         ensures call { Commits D.Disk self.old self.new (result_map_both (λ outs. map sent_of outs.items) (λ fault. fault) result) }
     {
@@ -460,6 +483,15 @@ impl<D: Disk, H: AuthHandler, G: RelayAddressGenerator, A: Allocator + Copy> Ser
     }
 
     /// Returns the disk, the handler and the generator.
+    ///
+    /// ```rust
+    /// server.submit(moment, &Arrival::Client { five_tuple, bytes: &allocate })?;
+    /// server.commit()?;
+    /// let (mut disk, users, ports) = server.close();
+    /// disk.crash(CrashOutcome::Lost);
+    /// let server = Server::open(alloc, disk, &config, users, ports).map_err(|refused| refused.fault)?;
+    /// assert!(rt; server.table().has_port(50000));
+    /// ```
     pub fn close(self) -> (D, H, G)
         ensures disk { result.0 ≡ self.store.disk }
         ensures handler { result.1 ≡ self.machine.handler }

@@ -93,6 +93,11 @@ pub fn hmac_sha256_of(key: &[u8], pieces: &[&[u8]]) -> [u8; 32]
 
 /// The long-term key of a user: MD5 of the name, the realm and the password, with colons between
 /// (RFC 8489, section 9.2.2).
+///
+/// ```rust
+/// let key = generate_auth_key(b"user", b"realm", b"pass");
+/// assert_eq!(rt; u128::from_be_bytes(key), 0x8493_fbc5_3ba5_82fb_4c04_4c45_6bdc_40eb);
+/// ```
 pub fn generate_auth_key(user: &[u8], realm: &[u8], password: &[u8]) -> [u8; 16]
     ensures { result ≡ auth_key user.now realm.now password.now }
 {

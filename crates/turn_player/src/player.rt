@@ -351,6 +351,13 @@ impl<A: Allocator + Copy> Player<A> {
 
     /// Makes the steps in order and returns what comes of them, in order. Where an allocation for the list of events fails, this
     /// call and all later ones return the error.
+    ///
+    /// ```rust
+    /// let mut player = Player::new(alloc, disk, config, Credentials::new(users, None), ports);
+    /// let arrival = Arrival::Client { five_tuple, bytes: &allocate };
+    /// let effects = player.run(&[Action::Reopen { carry: true }, Action::Arrive(moment, arrival), Action::Commit])?;
+    /// assert!(rt; matches!(effects.as_slice(), [Effect::Opened(_), Effect::Sent(_), Effect::Committed(1)]));
+    /// ```
     pub fn run(&mut self, steps: &[Action<'_>]) -> Result<Vec<Effect<A>, A>, AllocError>
         ensures config { self.new.config ≡ self.old.config }
         ensures spent { OnErr result (self.new.world ≡ None) }

@@ -28,6 +28,12 @@ impl Model for PortRange {
 
 impl PortRange {
     /// The ports from a first to a last, both included. `None` where the first is above the last.
+    ///
+    /// ```rust
+    /// let ports = PortRange::new(50000, 50009).context("ports")?;
+    /// assert_eq!(rt; ports.range(), (50000, 50009));
+    /// assert!(rt; PortRange::new(50009, 50000).is_none());
+    /// ```
     pub fn new(first: u16, last: u16) -> Option<PortRange>
         ensures { SomeIff result (first ≤ last) (first, last) }
     {

@@ -97,6 +97,15 @@ fn success<'a>(message: &Message<'a>) -> Option<ServerMessage<'a>>
 }
 
 /// What a message says. `None` for a request, and for a message without the attributes that its class and method need.
+///
+/// ```rust
+/// let arrival = Arrival::Client { five_tuple, bytes: &allocate };
+/// let Some(Outgoing::ToClient { bytes, .. }) = machine.step(moment, &arrival)? else {
+///     bail!("no answer");
+/// };
+/// let answer = read_message(&Message::parse(&bytes)?);
+/// assert!(rt; matches!(answer, Some(ServerMessage::Allocated { port: 50000, lifetime: 600, .. })));
+/// ```
 pub fn read_message<'a>(message: &Message<'a>) -> Option<ServerMessage<'a>>
     ensures found { IfSome result (λ received. Says message.now.content received) }
     ensures none { IfNone result ((received : ServerMessage) → ¬ (Says message.now.content received)) }

@@ -243,6 +243,14 @@ fn has_room(request: &Request<'_>, nonce: &[u8]) -> bool
 
 /// A request with its credentials: its attributes, then USERNAME, REALM, NONCE and MESSAGE-INTEGRITY (RFC 8489, section
 /// 9.2). An Allocate begins with a REQUESTED-TRANSPORT of UDP, unless its attributes say what the transport is.
+///
+/// ```rust
+/// let attributes = [Attribute::Peer(peer)];
+/// let request = Request { method: Method::CREATE_PERMISSION, tx, attributes: &attributes, user: b"alice", realm: b"example.org" };
+/// let key = generate_auth_key(b"alice", b"example.org", b"wonder");
+/// let bytes = build_request(alloc, &request, &key, &nonce)?;
+/// assert_eq!(rt; Message::parse(&bytes)?.find(AttributeType::REALM).context("realm")?, b"example.org".as_slice());
+/// ```
 #[tactic(auto, unfolding(crate::specs::Sending::named))]
 pub fn build_request<A: Allocator + Copy>(
     alloc: A,
@@ -269,6 +277,13 @@ pub fn build_request<A: Allocator + Copy>(
 }
 
 /// A Send indication with data for a peer, with transaction id zero (RFC 8656, section 11.1).
+///
+/// ```rust
+/// let bytes = build_send(alloc, peer, b"hello")?;
+/// let message = Message::parse(&bytes)?;
+/// assert!(rt; message.class() == Class::Indication && message.method() == Method::SEND);
+/// assert_eq!(rt; message.find(AttributeType::DATA).context("data")?, b"hello".as_slice());
+/// ```
 #[tactic(auto, using(crate::proofs::Sizes::send_size))]
 pub fn build_send<A: Allocator + Copy>(
     alloc: A,
@@ -290,6 +305,12 @@ pub fn build_send<A: Allocator + Copy>(
 
 /// Data over a channel (RFC 8656, section 12.4). `None` where the number isn't one from 0x4000 to 0x7FFF, or there are
 /// more than 65,535 bytes.
+///
+/// ```rust
+/// let data = channel_data(0x4000, b"hello").context("channel data")?;
+/// assert_eq!(rt; data.write(alloc)?.as_slice(), b"\x40\x00\x00\x05hello".as_slice());
+/// assert!(rt; channel_data(0x3FFF, b"hello").is_none());
+/// ```
 pub fn channel_data(number: u16, payload: &[u8]) -> Option<ChannelData<'_>>
     ensures some { IfSome result (λ d. IsChannel d.number × (length d.payload.now < 2 ^ 16)
         × (d.number ≡ number) × (d.payload.now ≡ payload.now)) }

@@ -85,6 +85,14 @@ impl<'a, A: Allocator + Copy> Scenario<'a, A> {
 
 /// Runs a scenario over a disk in memory and returns its report. Lines are judged and done one after the other, so those
 /// after a fault are not read.
+///
+/// ```rust
+/// let settings = "realm example.org\nsecret 0000000000000000000000000000000000000000000000000000000000000000\nlisten 192.0.2.100:3478\nrelay 198.51.100.1 50000 50009";
+/// let report = replay(alloc, format!(in alloc; "{settings}\nformat 1600000\nexpect opened clock 0\n")?.as_bytes())?;
+/// assert_eq!(rt; report.lines[0].as_str(), "opened clock 0");
+/// let refused = replay(alloc, b"realm example.org\nquota 0\n");
+/// assert!(rt; matches!(refused, Err(ScenarioError::BadLine(2))));
+/// ```
 pub fn replay<A: Allocator + Copy>(alloc: A, text: &[u8]) -> Result<Report<A>, ScenarioError> {
     let mut scenario = Scenario {
         alloc,

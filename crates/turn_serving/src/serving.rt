@@ -526,6 +526,13 @@ impl<
     }
 
     /// So many turns, one after the other, or up to the first that fails.
+    ///
+    /// ```rust
+    /// serving.turns(&clock, 2)?;
+    /// assert!(rt; serving.server().table().is_empty());
+    /// let (disk, _) = serving.close();
+    /// assert_eq!(rt; disk.size(), 64 + 2 * least_area(Limits::MAX));
+    /// ```
     pub fn turns<T: Time>(&mut self, system: &T, count: u64) -> Result<(), TurnError>
         ensures served { Served D.Disk H.AuthHandler G.RelayAddressGenerator (IsMoment (T.told system.now)) self.old.server self.new.server }
         ensures clock { now_of self.old.server ≤ now_of self.new.server }

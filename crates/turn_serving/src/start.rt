@@ -348,6 +348,16 @@ impl<'c, A: Allocator + Copy> Setup<'c, A> {
     /// for two seconds, in pauses by the system's clock. The second opening alone carries the store over to version 2, if it can
     /// be, so that a start which finds a socket at fault leaves the store as it was. A refusal returns the disk.
     /// `watch` sees what the server sends.
+    ///
+    /// ```rust
+    /// let (relay_bind, commits, seed) = (ip(b"127.0.0.1"), Commits::EachTurn, [0; 32]);
+    /// let setup = Setup { config: &config, listen: &listen, ports, relay_bind, burst: 64, commits, seed, awaited: None };
+    /// let serving = match setup.start(alloc, &rt, &rt, disk, users, ListeningSockets::Bound, Silent) {
+    ///     Ok(serving) => serving,
+    ///     Err(refused) => bail!("not started: {}", refused.fault),
+    /// };
+    /// assert!(rt; serving.local().port != 0);
+    /// ```
     pub fn start<
         'a,
         D: Disk + Drop,

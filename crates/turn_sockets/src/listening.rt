@@ -63,6 +63,12 @@ impl ListeningAddresses {
     }
 
     /// An address and others. `None` if one is there twice, or there are more than nine.
+    ///
+    /// ```rust
+    /// let listen = ListeningAddresses::new(peer, &[five_tuple.server]).context("addresses")?;
+    /// assert!(rt; listen.first() == peer && listen.as_slice().len() == 2);
+    /// assert!(rt; ListeningAddresses::new(peer, &[peer]).is_none());
+    /// ```
     pub fn new(first: Endpoint, others: &[Endpoint]) -> Option<ListeningAddresses>
         ensures { SomeIff result (AreListened (first ∷ others.now)) (first ∷ others.now) }
     {

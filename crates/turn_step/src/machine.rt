@@ -83,6 +83,12 @@ impl<H: AuthHandler, G: RelayAddressGenerator, A: Allocator> Model for Machine<H
 impl<H: AuthHandler, G: RelayAddressGenerator, A: Allocator + Copy> Machine<H, G, A> {
     /// A machine over a table with the limits of the configuration. After an allocation failure the error has the handler and the
     /// generator.
+    ///
+    /// ```rust
+    /// let table = Table::new(alloc, config.limits(), Moment::new(0).context("moment")?);
+    /// let machine = Machine::new(alloc, config, users, ports, table, Pairs::Refused)?;
+    /// assert!(rt; machine.table().is_empty());
+    /// ```
     pub fn new(
         alloc: A,
         config: ServerConfig<A>,
@@ -345,6 +351,13 @@ impl<H: AuthHandler, G: RelayAddressGenerator, A: Allocator + Copy> Machine<H, G
     }
 
     /// Both halves. After an `Err` as after one of `prepare`.
+    ///
+    /// ```rust
+    /// let arrival = Arrival::Client { five_tuple, bytes: &allocate };
+    /// let outgoing = machine.step(moment, &arrival)?;
+    /// assert!(rt; matches!(outgoing, Some(Outgoing::ToClient { .. })));
+    /// assert!(rt; machine.moment() == moment && machine.table().has_port(50000));
+    /// ```
     pub fn step(
         &mut self,
         moment: Moment,

@@ -124,6 +124,14 @@ fn format_as<D: Disk>(
 }
 
 /// Makes a disk a store of these limits, of version 2, which holds nothing. It takes no memory.
+///
+/// ```rust
+/// let area = least_area(Limits::MAX);
+/// let mut disk = MemoryDisk::new(alloc, Vec::from_elem(alloc, 0u8, 64 + 2 * area)?);
+/// format(&mut disk, Limits::MAX, area)?;
+/// let opened = Store::open(alloc, disk, Limits::MAX).map_err(|refused| refused.fault)?;
+/// assert!(rt; opened.table.is_empty() && opened.store.info().frames == 0);
+/// ```
 pub fn format<D: Disk>(disk: &mut D, limits: Limits, area: usize) -> Result<(), FormatError>
     requires { store_size area ≡ D.capacity disk.old }
     ensures { Formats D.Disk V2 (record { bounds = limits; area = area }) disk.old disk.new result }

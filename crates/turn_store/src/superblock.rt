@@ -134,6 +134,11 @@ pub fn read_superblock<D: Disk>(disk: &mut D) -> Result<Superblock, LimitsError>
 }
 
 /// The limits that the store of a disk was formatted with.
+///
+/// ```rust
+/// let limits = limits(&mut disk)?;
+/// assert!(rt; limits == Limits::MAX);
+/// ```
 pub fn limits<D: Disk>(disk: &mut D) -> Result<Limits, LimitsError>
     ensures reads { Reads D.Disk disk.old disk.new (result ≡ Err LimitsError.Device) }
 

@@ -122,6 +122,11 @@ impl<'a, A: Allocator> Iterator for Entries<'a, A> {
 
 impl<A: Allocator + Copy> Table<A> {
     /// A table at a moment, without entries.
+    ///
+    /// ```rust
+    /// let table = Table::new(alloc, Limits::MAX, moment);
+    /// assert!(rt; table.is_empty() && table.moment() == moment);
+    /// ```
     pub fn new(alloc: A, limits: Limits, moment: Moment) -> Table<A>
         ensures { result ≡ record { bounds = limits; moment = moment; contents = no_contents; room = None } }
     {
@@ -178,6 +183,14 @@ impl<A: Allocator + Copy> Table<A> {
     }
 
     /// The entries, ascending by five-tuple.
+    ///
+    /// ```rust
+    /// machine.step(moment, &Arrival::Client { five_tuple, bytes: &allocate })?;
+    /// for (at, entry) in machine.table().entries() {
+    ///     assert!(rt; at == five_tuple && entry.permissions().is_empty());
+    /// }
+    /// assert_eq!(rt; machine.table().len(), 1);
+    /// ```
     pub fn entries(&self) -> Entries<'_, A>
         ensures { result ≡ fin.entries self.now.contents.entries }
     {
@@ -199,6 +212,13 @@ impl<A: Allocator + Copy> Table<A> {
     }
 
     /// The entry of a five-tuple.
+    ///
+    /// ```rust
+    /// machine.step(moment, &Arrival::Client { five_tuple, bytes: &allocate })?;
+    /// let entry = machine.table().get(five_tuple).context("entry")?;
+    /// assert_eq!(rt; entry.user(), b"alice".as_slice());
+    /// assert_eq!(rt; (entry.port(), entry.expiry()), (50000, 1600));
+    /// ```
     pub fn get(&self, tuple: FiveTuple) -> Option<&Entry<A>>
         ensures { option_map (λ e. e.entry) (option_copied result) ≡ fin.get self.now.contents.entries tuple }
     {
@@ -248,6 +268,12 @@ impl<A: Allocator + Copy> Table<A> {
     }
 
     /// How many entries a user made.
+    ///
+    /// ```rust
+    /// machine.step(moment, &Arrival::Client { five_tuple, bytes: &allocate })?;
+    /// assert_eq!(rt; machine.table().count_of_user(b"alice"), 1);
+    /// assert_eq!(rt; machine.table().count_of_user(b"bob"), 0);
+    /// ```
     pub fn count_of_user(&self, user: &[u8]) -> usize
         ensures { result ≡ count_by (λ p. bytes_eq p.1.user user.now) (fin.entries self.now.contents.entries) }
     {

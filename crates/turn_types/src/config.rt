@@ -131,6 +131,15 @@ fn refusal(realm: &[u8], quota: u32, denied: &[IpRange]) -> Option<ConfigError>
 
 impl<A: Allocator + Copy> ServerConfig<A> {
     /// Copies the settings, once they are in range: `Memory` comes only where no other fault applies.
+    ///
+    /// ```rust
+    /// let (secret, limits) = ([0; 32], Limits::MAX);
+    /// let settings = Settings { realm: b"example.org", secret, relay: 0xC633_6401, quota: 10, denied: &[], limits };
+    /// let config = ServerConfig::new(alloc, settings)?;
+    /// assert_eq!(rt; config.quota(), 10);
+    /// let refused = ServerConfig::new(alloc, Settings { quota: 0, ..settings });
+    /// assert!(rt; matches!(refused, Err(ConfigError::BadQuota)));
+    /// ```
     pub fn new(alloc: A, settings: Settings<'_>) -> Result<ServerConfig<A>, ConfigError>
         ensures ok { IfOk result (λ c. c ≡ config_of settings.entry) }
         ensures refused { IfSome (refusal_of settings.entry.realm.now settings.entry.quota settings.entry.denied.now) (λ e. result ≡ Err e) }
@@ -196,6 +205,12 @@ impl<A: Allocator> ServerConfig<A> {
     }
 
     /// Whether an address lies in a denied range.
+    ///
+    /// ```rust
+    /// let denied = [IpRange { first: 0x7F00_0000, last: 0x7FFF_FFFF }];
+    /// let config = ServerConfig::new(alloc, Settings { denied: &denied, ..settings })?;
+    /// assert!(rt; config.is_denied(0x7F00_0001) && !config.is_denied(peer.ip));
+    /// ```
     pub fn is_denied(&self, ip: u32) -> bool
         ensures { result ≡ is_denied self.now ip }
     {

@@ -55,6 +55,13 @@ impl Limits {
 
     /// Limits of 1 to 1,024 allocations, 1 to 32 permissions and channels of each, 1 to 64 acts of a frame, and 1 to 508
     /// bytes of a user's name. `None` where a bound is out of its range.
+    ///
+    /// ```rust
+    /// let bounds = Limits::MAX.bounds();
+    /// let limits = Limits::new(Bounds { allocations: 100, ..bounds }).context("limits")?;
+    /// assert_eq!(rt; limits.allocations(), 100);
+    /// assert!(rt; Limits::new(Bounds { allocations: 1025, ..bounds }).is_none());
+    /// ```
     pub fn new(bounds: Bounds) -> Option<Limits>
         ensures { SomeIff result (AreInRange bounds) bounds }
     {

@@ -24,6 +24,11 @@ impl Model for Moment {
 
 impl Moment {
     /// The moment of a number of seconds.
+    ///
+    /// ```rust
+    /// assert_eq!(rt; Moment::new(1000).map(|moment| moment.seconds()), Some(1000));
+    /// assert!(rt; Moment::new(1 << 40).is_none());
+    /// ```
     pub fn new(seconds: u64) -> Option<Moment>
         ensures { SomeIff result (seconds < end_of_moments) seconds }
     {
