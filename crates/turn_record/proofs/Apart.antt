@@ -41,7 +41,7 @@ pub all_more : {A : Type 0} (P Q : A → Type 0) → ((x : A) → P x → Q x) �
 all_more P Q h [] all = tt
 all_more P Q h (x ∷ xs) all = (h x all.0, all_more P Q h xs all.1)
 
-all_two : {A : Type 0} (P Q R : A → Type 0) → ((x : A) → P x → Q x → R x) → (xs : List A) → AllByRecursion P xs → AllByRecursion Q xs → AllByRecursion R xs
+pub all_two : {A : Type 0} (P Q R : A → Type 0) → ((x : A) → P x → Q x → R x) → (xs : List A) → AllByRecursion P xs → AllByRecursion Q xs → AllByRecursion R xs
 all_two P Q R h [] p q = tt
 all_two P Q R h (x ∷ xs) p q = (h x p.0 q.0, all_two P Q R h xs p.1 q.1)
 

@@ -1,6 +1,6 @@
 -- What the readers promise, in the words of histories.
-use Rattle.std.proofs.Common.{◌≡◌, ℕ, ◌≤◌, ◌-◌, true, leb, List, [], ◌∷◌, ◌++◌, length, Result, Ok, Err, refl, sym, ap, ◌∙◌, arith, Some, length-append}
-use Rattle.std.specs.Prelude.{IfOk, slice_get}
+use Rattle.std.proofs.Common.{◌≡◌, ℕ, ◌≤◌, true, leb, List, [], ◌∷◌, ◌++◌, Result, Ok, Err, refl, sym, ap, ◌∙◌, arith}
+use Rattle.std.specs.Prelude.{IfOk}
 use Rattle.std.specs.List.{AllByRecursion}
 use Rattle.std.proofs.lemmas.Bool.{leb-true, le-leb}
 use Rattle.turn_history.specs.Fitting.{IsInRange}
@@ -15,22 +15,14 @@ use Rattle.turn_record.specs.declared.version.Version.{Version}
 use Rattle.turn_record.specs.declared.version.Version.TheVariants.{V2}
 use Rattle.turn_types.specs.Limits.{AreInRange}
 use Rattle.turn_types.specs.declared.limits.Bounds.{Bounds}
-use Rattle.turn_record.proofs.Acts.{FitsAfter, FitsPayload, reads_event, reads_events}
-use Rattle.turn_record.proofs.Readers.{EachAfter, IsBytes, Reads, in_words, whole_takes, whole_again, one_spelling}
+use Rattle.turn_record.proofs.Acts.{FitsAfter, FitsPayload, codec_event, codec_events}
+use Rattle.turn_record.proofs.Rising.{last_of}
+use Rattle.turn_record.proofs.Readers.{EachAfter, IsBytes, Reads, reads_in_words, whole_takes, whole_again, one_spelling}
 
 -- ---- Moments
 
-at_end : (before : List Event) (e : Event) → slice_get (before ++ e ∷ []) (length before) ≡ Some e
-at_end [] e = refl
-at_end (x ∷ before) e = at_end before e
-
-last_is : (before : List Event) (e : Event) → slice_get (before ++ e ∷ []) (length (before ++ e ∷ []) - 1) ≡ Some e
-last_is before e =
-    let place : length (before ++ e ∷ []) - 1 ≡ length before = omega (arith, length-append before (e ∷ [])) in
-    ap (slice_get (before ++ e ∷ [])) place ∙ at_end before e
-
 last_test : (before : List Event) (e : Event) (m : ℕ) → last_passes (λ last. leb last.moment m) (before ++ e ∷ []) ≡ leb e.moment m
-last_test before e m = ap (passes (λ last. leb last.moment m)) (last_is before e)
+last_test before e m = ap (passes (λ last. leb last.moment m)) (last_of before e)
 
 from_weaker : (s t : ℕ) (es : List Event) → s ≤ t → AllFrom t es → AllFrom s es
 from_weaker s t [] le h = tt
@@ -80,10 +72,10 @@ IsRead v b e = IsInRange b e × Writes v e.act
 
 reads_act : (v : Version) (b : Bounds) → AreInRange b → Reads (event_at v b []) act_entry (IsRead v b)
 reads_act v b range =
-    in_words (event_at v b []) act_entry act_entry (FitsAfter v b []) (IsRead v b) (reads_event v b range []) (λ e. refl) (λ e h. (h.fits, h.writes)) (λ e h. record { writes = h.1; fits = h.0; later = refl })
+    reads_in_words (event_at v b []) act_entry act_entry (FitsAfter v b []) (IsRead v b) ((codec_event {U = Unit {0}} v b (λ under. range) []).reads tt) (λ e. refl) (λ e h. (h.fits, h.writes)) (λ e h. record { writes = h.1; fits = h.0; later = refl })
 
 reads_payload : (v : Version) (b : Bounds) → AreInRange b → Reads (events_at v b) payload (IsBatch v b)
-reads_payload v b range = in_words (events_at v b) payload payload (FitsPayload v b) (IsBatch v b) (reads_events v b range) (λ es. refl) (batch_of v b) (of_batch v b)
+reads_payload v b range = reads_in_words (events_at v b) payload payload (FitsPayload v b) (IsBatch v b) ((codec_events {U = Unit {0}} v b (λ under. range)).reads tt) (λ es. refl) (batch_of v b) (of_batch v b)
 
 -- from what reading gives to what a function returned
 pub found : {X Y : Type 0} (view : X → Y) (r : Result X ReadError) (read : Result Y DecodeError) (P : Y → Type 0) → ((y : Y) → read ≡ Ok y → P y) → Gives view r read → IfOk r (λ x. P (view x))

@@ -12,7 +12,6 @@ pub mod Onward
 pub mod Readers
 pub mod Reserves
 pub mod Rising
-pub mod Shorts
 pub mod Sizes
 pub mod SnapshotSizes
 pub mod Snapshots

@@ -1,21 +1,19 @@
 -- What a step of a reader in pieces keeps.
 use Rattle.std.proofs.Common.{◌≡◌, ◌⊎◌, ℕ, zero, suc, ◌+◌, ◌-◌, ◌<◌, ◌≤◌, Bool, true, false, eqb, List, [], ◌∷◌, ◌++◌, append_assoc, length, Option, Some, None, Result, Ok, Err, refl, sym, ap, subst, ◌∙◌, arith, inl, inr}
-use Rattle.std.proofs.lemmas.Bool.{eqb-false, eqb-true, leb-true, ne_eqb}
+use Rattle.std.proofs.lemmas.Bool.{eqb-false, eqb-true, ne_eqb}
 use Rattle.std.proofs.lemmas.List.{append-nil, length-append, nil_from_length}
 use Rattle.turn_record.specs.declared.error.DecodeError.{DecodeError}
 use Rattle.turn_record.specs.declared.error.DecodeError.TheVariants.{Short, BadTag, BadValue, OutOfOrder, TrailingBytes}
 use Rattle.turn_record.specs.declared.error.ReadError.{ReadError}
 use Rattle.turn_record.specs.declared.error.ReadError.TheVariants as errors
 use Rattle.std.specs.Prelude.{IfOk, IfSome, if◌then◌else◌}
-use Rattle.std.specs.Ordering.{is_lt}
+use Rattle.std.specs.Ordering.{is_lt, nat_cmp}
 use Rattle.std.specs.declared.cmp.Ordering.{Ordering}
 use Rattle.std.specs.declared.cmp.Ordering.TheVariants.{Less, Equal, Greater}
-use Rattle.std.specs.Int.{w32}
 use Rattle.std.specs.FinMap as fin
 use Rattle.std.specs.FinMap.{len-empty, len-entries}
 use Rattle.turn_history.specs.Table.{Contents, Entry, Reservations, no_contents}
 use Rattle.turn_history.specs.declared.reservation.Reservation.{Reservation}
-use Rattle.std.specs.Ordering.{nat_cmp}
 use Rattle.turn_record.specs.Pieces.{Expects}
 use Rattle.turn_record.specs.Places.{HasRoom, IsCut, Place, IsWaiting, IsWaitingAt, Next, ends_with_entries, gives, if_whole, is_done, is_short, more_at}
 use Rattle.turn_record.specs.Snapshots.{Head, entry_at, total_at, reservation_at, reserving_at, reserved_at, head_at, snapshot_at, snapshot_in, table_at}
@@ -23,28 +21,23 @@ use Rattle.turn_record.specs.declared.restored.Remaining.{Remaining}
 use Rattle.turn_record.specs.declared.restored.Remaining.TheVariants.{Entries, Reserved}
 use Rattle.turn_record.specs.declared.version.Version.{Version}
 use Rattle.turn_record.specs.declared.version.Version.TheVariants.{V1, V2}
-use Rattle.turn_record.proofs.Snapshots.{nothing_there}
-use Rattle.turn_record.proofs.Readers.{bind_ok, judged_ok, ok_is}
-use Rattle.turn_record.proofs.Tables.{map_again}
+use Rattle.turn_record.proofs.Many.{many_err, many_more, many_none}
+use Rattle.turn_record.proofs.Reserves.{codec_reservation}
+use Rattle.turn_record.proofs.Snapshots.{codec_head, nothing_there}
+use Rattle.turn_record.proofs.Tables.{codec_entry, codec_total, map_again, total_passes}
+use Rattle.turn_record.specs.Records.{entry_size, max_entry}
 use Rattle.turn_table.specs.State.{State}
 use Rattle.turn_types.specs.FiveTuple.{tuple_cmp}
 use Rattle.turn_types.specs.declared.address.FiveTuple.{FiveTuple}
 use Rattle.turn_types.specs.declared.limits.Bounds.{Bounds}
-use Rattle.turn_record.specs.Reading.{Field, Fails, Gives, many, moment_at, number_at, passes, whole}
-use Rattle.turn_record.proofs.Fronts.{Front, Grows, Stays}
+use Rattle.turn_record.specs.Reading.{Field, Fails, Gives, moment_at, passes, whole}
+use Rattle.turn_record.proofs.Fronts.{Front, Grows, bind_ok, ok_is}
 
-pub next_ok : {A : Type 0} {P : A → Type 0} {n : ℕ} (read : List ℕ → Field A) → Front read P n → (bytes : List ℕ) (x : A) (rest : List ℕ) → read bytes ≡ Ok (x, rest) → (more : List ℕ) → read (bytes ++ more) ≡ Ok (x, rest ++ more)
+pub next_ok : {A : Type 0} {n : ℕ} (read : List ℕ → Field A) → Front read n → (bytes : List ℕ) (x : A) (rest : List ℕ) → read bytes ≡ Ok (x, rest) → (more : List ℕ) → read (bytes ++ more) ≡ Ok (x, rest ++ more)
 next_ok {A} read front bytes x rest e more = subst (λ (r : Field A). Grows r more (read (bytes ++ more))) e (front.grows bytes more)
 
-stays_err : {A : Type 0} (f : DecodeError) (s : Result A DecodeError) → is_short f ≡ false → Stays f s → s ≡ Err f
-stays_err Short s e h = absurd cc
-stays_err BadTag s e h = h
-stays_err BadValue s e h = h
-stays_err OutOfOrder s e h = h
-stays_err TrailingBytes s e h = h
-
-pub next_err : {A : Type 0} {P : A → Type 0} {n : ℕ} (read : List ℕ → Field A) → Front read P n → (bytes : List ℕ) (f : DecodeError) → read bytes ≡ Err f → is_short f ≡ false → (more : List ℕ) → read (bytes ++ more) ≡ Err f
-next_err {A} read front bytes f e s more = stays_err f (read (bytes ++ more)) s (subst (λ (r : Field A). Grows r more (read (bytes ++ more))) e (front.grows bytes more))
+pub next_err : {A : Type 0} {n : ℕ} (read : List ℕ → Field A) → Front read n → (bytes : List ℕ) (f : DecodeError) → read bytes ≡ Err f → is_short f ≡ false → (more : List ℕ) → read (bytes ++ more) ≡ Err f
+next_err {A} read front bytes f e long more = subst (λ (r : Field A). Grows r more (read (bytes ++ more))) e (front.grows bytes more) long
 
 pub next_none : {A : Type 0} (read : List ℕ → Field A) (bytes : List ℕ) (f : DecodeError) → read bytes ≡ Err f → is_short f ≡ true → read bytes ≡ Err Short
 next_none read bytes Short e s = e
@@ -54,7 +47,7 @@ next_none read bytes OutOfOrder e s = absurd cc
 next_none read bytes TrailingBytes e s = absurd cc
 
 -- what a field gives is what is next, where nothing is given yet while the bytes end inside it
-pub next_of : {X Y : Type 0} {P : Y → Type 0} {n : ℕ} (value : X → Y) (rest : X → List ℕ) (read : List ℕ → Field Y) → Front read P n → (bytes : List ℕ) (r : Result X ReadError) → Gives (λ x. (value x, rest x)) r (read bytes)
+pub next_of : {X Y : Type 0} {n : ℕ} (value : X → Y) (rest : X → List ℕ) (read : List ℕ → Field Y) → Front read n → (bytes : List ℕ) (r : Result X ReadError) → Gives (λ x. (value x, rest x)) r (read bytes)
     → Next value rest (if_whole r) read bytes
 next_of value rest read front bytes (Ok x) gives = next_ok read front bytes (value x) (rest x) gives
 next_of value rest read front bytes (Err errors.Memory) gives = λ more. tt
@@ -72,26 +65,6 @@ whole_keeps P (Err (errors.Malformed f)) is = by_fault (is_short f)
     by_fault : (b : Bool) → IfOk (if b then Ok None else Err (errors.Malformed f)) (λ o. IfSome o P)
     by_fault true = tt
     by_fault false = tt
-
--- one element more was read
-pub many_more : {A : Type 0} (item : List A → List ℕ → Field A) (left : ℕ) (before : List A) (bytes : List ℕ) (x : A) (after : List ℕ) → 0 < left → item before bytes ≡ Ok (x, after)
-    → many item left before bytes ≡ many item (left - 1) (before ++ x ∷ []) after
-unfolding many
-many_more item zero before bytes x after lt h = absurd (omega arith)
-many_more item (suc n) before bytes x after lt h =
-    let one : many item (suc n) before bytes ≡ many item n (before ++ x ∷ []) after = rw h refl in
-    let k : suc n - 1 ≡ n = omega arith in
-    rw k one
-
-pub many_err : {A : Type 0} (item : List A → List ℕ → Field A) (left : ℕ) (before : List A) (bytes : List ℕ) (f : DecodeError) → 0 < left → item before bytes ≡ Err f → many item left before bytes ≡ Err f
-unfolding many
-many_err item zero before bytes f lt h = absurd (omega arith)
-many_err item (suc n) before bytes f lt h = rw h refl
-
-pub many_none : {A : Type 0} (item : List A → List ℕ → Field A) (left : ℕ) (before : List A) (bytes : List ℕ) → left ≡ 0 → many item left before bytes ≡ Ok (before, bytes)
-unfolding many
-many_none item zero before bytes e = refl
-many_none item (suc n) before bytes e = absurd cc
 
 -- the test of whether bytes are left
 pub is_some : (n : ℕ) → false ≡ eqb n 0 → 0 < n
@@ -198,15 +171,11 @@ pub given_none : (v : Version) (b : Bounds) (bytes : List ℕ) → head_at b byt
 unfolding gives snapshot_in snapshot_at
 given_none v b bytes h = rw h refl
 
-some_left : (n : ℕ) → eqb n 0 ≡ false → 0 < n
-some_left zero e = absurd (eqb-false 0 0 e refl)
-some_left (suc n) e = omega arith
-
 cut_short : (v : Version) (s : State) (r : Remaining) (bytes : List ℕ) → is_done v r ≡ false → IsCut v s r bytes → more_at v (s, r) bytes ≡ Err Short
 cut_short V1 s (Entries zero) bytes more cut = absurd cc
 cut_short V2 s (Entries zero) bytes more cut = refused_total V2 s (errors.Malformed Short) bytes refl cut
 cut_short v s (Entries (suc n)) bytes more cut = refused_entry v s (suc n) (errors.Malformed Short) bytes (omega arith) cut
-cut_short v s (Reserved n) bytes more cut = refused_reserved v s n (errors.Malformed Short) bytes (some_left n more) cut
+cut_short v s (Reserved n) bytes more cut = refused_reserved v s n (errors.Malformed Short) bytes (is_some n (sym more)) cut
 
 -- no place is both
 not_both : (b : Bool) → b ≡ true → b ≡ false → ⊥
@@ -362,21 +331,13 @@ begun_at v b bytes rest more t n s is e =
     let one : gives v b None (bytes ++ more) ≡ whole (table_at v b t n [] (rest ++ more)) = begun v b (bytes ++ more) (record { moment = t; count = n }) (rest ++ more) e in
     one ∙ rw (is, no_entries) refl
 
-pub total_count : (b : Bounds) (bytes : List ℕ) (n : ℕ) (rest : List ℕ) → total_at b bytes ≡ Ok (n, rest) → n ≤ b.allocations
-unfolding total_at
-total_count b bytes n rest e =
-    let c = bind_ok (number_at w32 bytes) _ (n, rest) e in
-    let j = judged_ok _ _ _ _ c.2 in
-    let first : c.0.0 ≡ n = ap (λ (x : ℕ × List ℕ). x.0) j.1 in
-    omega (arith, leb-true _ _ j.0, first)
-
 pub head_count : (b : Bounds) (bytes : List ℕ) (h : Head) (rest : List ℕ) → head_at b bytes ≡ Ok (h, rest) → h.count ≤ b.allocations
 unfolding head_at
 head_count b bytes h rest e =
     let t = bind_ok (moment_at bytes) _ (h, rest) e in
     let n = bind_ok (total_at b t.0.1) _ (h, rest) t.2 in
     let same : n.0.0 ≡ h.count = ap (λ (x : Head × List ℕ). x.0.count) (ok_is _ (h, rest) n.2) in
-    omega (arith, total_count b t.0.1 n.0.0 n.0.1 n.1, same)
+    omega (arith, total_passes b t.0.1 n.0.0 n.0.1 n.1, same)
 
 pub room_begun : (b : Bounds) (t n : ℕ) (s : State) → s ≡ nothing b t → n ≤ b.allocations → HasRoom s (Entries n)
 room_begun b t n s is few = rw is (omega (arith, len-entries no_contents.entries, ap length no_entries, few), no_reserved)
@@ -388,3 +349,37 @@ ended v b place bytes rest goes = ap (snapshot_in v b) (sym (append-nil bytes)) 
 pub ended_in : (v : Version) (b : Bounds) (e : ReadError) (bytes : List ℕ) → ((more : List ℕ) → Fails e (gives v b None (bytes ++ more))) → Fails e (snapshot_in v b bytes)
 unfolding gives
 ended_in v b e bytes h = subst (λ (u : List ℕ). Fails e (snapshot_in v b u)) (append-nil bytes) (h [])
+
+-- ---- What fields answer of the front of bytes
+
+pub front_entry : (v : Version) (b : Bounds) (t : ℕ) (before : List (FiveTuple × Entry)) → Front (entry_at v b t before) (max_entry v b)
+front_entry v b t before = (codec_entry {U = ⊥} v b (λ none. absurd none) t (λ none. absurd none) before).front
+
+pub front_total : (b : Bounds) → Front (total_at b) 4
+front_total b = (codec_total {U = ⊥} b (λ none. absurd none)).front
+
+pub front_reservation : (t : ℕ) (entries : List (FiveTuple × Entry)) (before : List (ℕ × Reservation)) → Front (reservation_at t entries before) 18
+front_reservation t entries before = (codec_reservation {U = ⊥} t (λ none. absurd none) entries before).front
+
+pub front_head : (b : Bounds) → Front (head_at b) 12
+front_head b = (codec_head {U = ⊥} b (λ none. absurd none)).front
+
+-- ---- What a reader holds
+
+entry_size_some : (v : Version) → 42 ≤ entry_size v
+entry_size_some V1 = omega arith
+entry_size_some V2 = omega arith
+
+cut_at : (v : Version) (s : State) (r : Remaining) (held : List ℕ) → IsCut v s r held → length held < max_entry v s.bounds
+cut_at v s (Entries zero) held cut = let lt = (front_total s.bounds).short held cut in omega (arith, lt, entry_size_some v)
+cut_at v s (Entries (suc n)) held cut = (front_entry v s.bounds s.moment (fin.entries s.contents.entries)).short held cut
+cut_at v s (Reserved n) held cut = let lt = (front_reservation s.moment (fin.entries s.contents.entries) (fin.entries s.contents.reserved)).short held cut in omega (arith, lt, entry_size_some v)
+
+held_at : (v : Version) (b : Bounds) (p : Place) (held : List ℕ) → p.0.bounds ≡ b → IsWaitingAt v p held → length held < max_entry v b
+held_at v b p held under (inl none) = let empty = ap length none.1 in omega (arith, empty, entry_size_some v)
+held_at v b p held under (inr h) = subst (λ c. length held < max_entry v c) under (cut_at v p.0 p.1 held h.1)
+
+pub held_is_short : (v : Version) (b : Bounds) (refused : Option ReadError) (place : Option Place) (held fed : List ℕ) → refused ≡ None → IfSome place (λ p. p.0.bounds ≡ b) → Expects v b refused place held fed → length held < max_entry v b
+held_is_short v b (Some e) place held fed is under h = absurd cc
+held_is_short v b None None held fed is under h = let lt = (front_head b).short held h.1 in omega (arith, lt, entry_size_some v)
+held_is_short v b None (Some p) held fed is under h = held_at v b p held under h.1

@@ -1,14 +1,16 @@
 -- The readers of reserved ports read what the spellings spell.
-use Rattle.std.proofs.Common.{◌≡◌, ℕ, ◌+◌, ◌^◌, ◌<◌, ◌≤◌, true, not, ◌&&◌, ltb, T, List, [], ◌∷◌, ◌++◌, length, Ok, refl, sym, ap, subst, ◌∙◌, arith}
+use Rattle.std.proofs.Math.Nat.{mul-le-mul_right}
+use Rattle.turn_record.specs.Records.{max_reserved}
+use Rattle.std.proofs.Common.{◌≡◌, ℕ, ◌*◌, ◌+◌, ◌^◌, ◌<◌, ◌≤◌, true, not, ◌&&◌, ltb, T, List, [], ◌∷◌, ◌++◌, length, Ok, refl, sym, ap, subst, ◌∙◌, append_assoc, append-nil, arith}
 use Rattle.std.specs.Prelude.{◌%◌}
 use Rattle.std.specs.Int.{w16, w32, w64, to_be_bytes}
 use Rattle.std.specs.List.{AllByRecursion}
-use Rattle.std.specs.Ordering.{nat_cmp}
+use Rattle.std.specs.Ordering.{is_lt, nat_cmp}
 use Rattle.std.specs.FinMap as fin
 use Rattle.std.specs.FinMap.{entries-from_sorted, entries_sorted, len-entries, nat_cmp-IsAntisymmetric}
 use Rattle.std.proofs.lemmas.Bool.{eqb-false, ltb-true, ne_eqb}
 use Rattle.std.proofs.lemmas.Cmp.{nat_cmp_total}
-use Rattle.turn_history.specs.Fitting.{IsReservationInRange, IsTokenOf}
+use Rattle.turn_history.specs.Fitting.{IsReservationInRange}
 use Rattle.turn_history.specs.Table.{Contents, Entry, Reservations}
 use Rattle.turn_history.specs.declared.reservation.Reservation.{Reservation}
 use Rattle.turn_record.specs.Bytes.{each, reservation, reserved}
@@ -17,15 +19,13 @@ use Rattle.turn_record.specs.Snapshots.{expiry_at, is_free_after, total_at, odd_
 use Rattle.turn_record.specs.declared.error.DecodeError.TheVariants.{BadValue, OutOfOrder}
 use Rattle.turn_record.specs.declared.version.Version.{Version}
 use Rattle.turn_record.specs.declared.version.Version.TheVariants.{V1, V2}
-use Rattle.turn_record.proofs.Acts.{and_is, and_from, not_is, not_from, reads_token}
-use Rattle.turn_record.proofs.Apart.{each_more, each_both, each_alone, alone_each}
-use Rattle.turn_record.proofs.Readers.{EachAfter, Reads, reads16, reads_judged, chain, made, in_words, reads_as, reads_many}
-use Rattle.turn_record.proofs.Rising.{Rises, all_below, sorted_rising, rising_sorted}
-use Rattle.turn_record.proofs.Tables.{IsAhead, above_is, less_is, map_again, reads_expiry, reads_nothing, reads_total, true_of}
+use Rattle.turn_record.proofs.Acts.{FitsTokenOf, and_is, and_from, not_is, not_from, codec_token}
+use Rattle.turn_record.proofs.Apart.{each_more, each_alone}
+use Rattle.turn_record.proofs.Readers.{Codec, EachAfter, at_most, chain, chain_by, codec16, codec_as, codec_judged, codec_many, in_words, made}
+use Rattle.turn_record.proofs.Rising.{Rises, all_below, sorted_rising, rising_sorted, true_of}
+use Rattle.turn_record.proofs.Tables.{IsAhead, Rising, above_is, less_is, list_rises, map_again, codec_expiry, codec_total, total_passes}
 use Rattle.turn_history.proofs.Entries.{of_entries}
 use Rattle.turn_table.specs.Table.{IsAboveReserved}
-use Rattle.std.proofs.Common.{append_assoc, append-nil}
-use Rattle.std.specs.Ordering.{is_lt}
 use Rattle.turn_types.specs.FiveTuple.{tuple_cmp}
 use Rattle.turn_types.specs.Limits.{AreInRange}
 use Rattle.turn_types.specs.Profile.{reservation_lifetime}
@@ -37,7 +37,7 @@ abbrev pub IsReserved : ℕ → List (FiveTuple × Entry) → ℕ × Reservation
 IsReserved t entries r = IsReservationInRange t r.0 r.1 × (is_free_after entries r.0 ≡ true)
 
 abbrev pub FitsReserved : ℕ → List (FiveTuple × Entry) → List (ℕ × Reservation) → ℕ × Reservation → Type 0
-FitsReserved t entries before r = (last_passes (λ last. ltb last.0 r.0) before ≡ true) × IsReserved t entries r
+FitsReserved t entries = Rising (λ before. IsReserved t entries)
 
 abbrev IsOdd : List (FiveTuple × Entry) → ℕ → Type 0
 IsOdd entries q = (q < 2 ^ 16) × ((q % 2 ≡ 1) × (is_free_after entries q ≡ true))
@@ -48,33 +48,30 @@ odd_is q e = let ne = eqb-false (q % 2) 0 (not_is _ e) in omega (arith, ne)
 is_odd : (q : ℕ) → q % 2 ≡ 1 → not (is_even q) ≡ true
 is_odd q e = not_from _ (ne_eqb (q % 2) 0 (λ none. omega (arith, e, none)))
 
-reads_odd_port : (entries : List (FiveTuple × Entry)) → Reads (odd_port_at entries) (to_be_bytes w16) (IsOdd entries)
+codec_odd_port : {U : Type 0} (entries : List (FiveTuple × Entry)) → Codec U (odd_port_at entries) (to_be_bytes w16) (IsOdd entries) 2
 unfolding odd_port_at
-reads_odd_port entries =
-    in_words _ _ _ _ _ (reads_judged (number_at w16) (to_be_bytes w16) (λ n. n < 2 ^ 16) (λ q. not (is_even q) && is_free_after entries q) BadValue reads16)
+codec_odd_port entries =
+    in_words _ _ _ _ _ (codec_judged (number_at w16) (to_be_bytes w16) (λ n. n < 2 ^ 16) (λ q. not (is_even q) && is_free_after entries q) BadValue refl codec16)
     (λ q. refl) (λ q h. let p = and_is _ _ h.1 in (h.0, (odd_is q p.0, p.1))) (λ q h. (h.0, and_from _ _ (is_odd q h.1.0) h.1.1))
 
 abbrev IsNextPort : List (FiveTuple × Entry) → List (ℕ × Reservation) → ℕ → Type 0
 IsNextPort entries before q = IsOdd entries q × (last_passes (λ last. ltb last.0 q) before ≡ true)
 
-reads_port_after : (entries : List (FiveTuple × Entry)) (before : List (ℕ × Reservation)) → Reads (reserved_port_after entries before) (to_be_bytes w16) (IsNextPort entries before)
+codec_port_after : {U : Type 0} (entries : List (FiveTuple × Entry)) (before : List (ℕ × Reservation)) → Codec U (reserved_port_after entries before) (to_be_bytes w16) (IsNextPort entries before) 2
 unfolding reserved_port_after
-reads_port_after entries before = reads_judged (odd_port_at entries) (to_be_bytes w16) (IsOdd entries) (λ q. last_passes (λ last. ltb last.0 q) before) OutOfOrder (reads_odd_port entries)
+codec_port_after entries before = codec_judged (odd_port_at entries) (to_be_bytes w16) (IsOdd entries) (λ q. last_passes (λ last. ltb last.0 q) before) OutOfOrder refl (codec_odd_port entries)
 
-reads_reservation : (t : ℕ) → t + reservation_lifetime < 2 ^ 64 → (entries : List (FiveTuple × Entry)) (before : List (ℕ × Reservation)) → Reads (reservation_at t entries before) reservation (FitsReserved t entries before)
+pub codec_reservation : {U : Type 0} (t : ℕ) → (U → t + reservation_lifetime < 2 ^ 64) → (entries : List (FiveTuple × Entry)) (before : List (ℕ × Reservation)) → Codec U (reservation_at t entries before) reservation (FitsReserved t entries before) 18
 unfolding reservation_at
-reads_reservation t room entries before =
+codec_reservation t room entries before =
     in_words (reservation_at t entries before) _ reservation _ (FitsReserved t entries before)
-    (chain (reserved_port_after entries before) (to_be_bytes w16) (IsNextPort entries before) (λ q bytes. token_at q bytes >>= λ k. expiry_at t reservation_lifetime k.1 >>= λ x. Ok ((q, record { token = k.0; expiry = x.0 }), x.1)) _ (λ (r : ℕ × Reservation). r.0) (λ r. Unit {0}) _ (reads_port_after entries before)
-    (λ q h0. chain (token_at q) (λ k. k.0) (IsTokenOf q) (λ k bytes. expiry_at t reservation_lifetime bytes >>= λ x. Ok ((q, record { token = k; expiry = x.0 }), x.1)) _ (λ (r : ℕ × Reservation). r.1.token) (λ r. Unit {0} × (r.0 ≡ q)) _ (reads_token q h0.0.0)
-    (λ k h1. chain (expiry_at t reservation_lifetime) (to_be_bytes w64) (IsAhead t reservation_lifetime) (λ x bytes. Ok ((q, record { token = k; expiry = x }), bytes)) _ (λ (r : ℕ × Reservation). r.1.expiry) (λ r. (Unit {0} × (r.0 ≡ q)) × (r.1.token ≡ k)) _ (reads_expiry t 30 room)
-    (λ x h2. made ((q, record { token = k; expiry = x })) (λ r. ((Unit {0} × (r.0 ≡ q)) × (r.1.token ≡ k)) × (r.1.expiry ≡ x)) (((tt, refl), refl), refl) (λ r e. rw (← e.0.0.1, ← e.0.1, ← e.1) refl)))))
+    (chain (reserved_port_after entries before) (to_be_bytes w16) (IsNextPort entries before) (λ q bytes. token_at q bytes >>= λ k. expiry_at t reservation_lifetime k.1 >>= λ x. Ok ((q, record { token = k.0; expiry = x.0 }), x.1)) _ (λ (r : ℕ × Reservation). r.0) (λ r. Unit {0}) _ (codec_port_after entries before)
+    (λ q. chain (token_at q) (λ k. k.0) (FitsTokenOf q) (λ k bytes. expiry_at t reservation_lifetime bytes >>= λ x. Ok ((q, record { token = k; expiry = x.0 }), x.1)) _ (λ (r : ℕ × Reservation). r.1.token) (λ r. Unit {0} × (r.0 ≡ q)) _ (codec_token q)
+    (λ k. chain (expiry_at t reservation_lifetime) (to_be_bytes w64) (IsAhead t reservation_lifetime) (λ x bytes. Ok ((q, record { token = k; expiry = x }), bytes)) _ (λ (r : ℕ × Reservation). r.1.expiry) (λ r. (Unit {0} × (r.0 ≡ q)) × (r.1.token ≡ k)) _ (codec_expiry t 30 room)
+    (λ x. made ((q, record { token = k; expiry = x })) (λ r. ((Unit {0} × (r.0 ≡ q)) × (r.1.token ≡ k)) × (r.1.expiry ≡ x)) (((tt, refl), refl), refl) (λ r e. rw (← e.0.0.1, ← e.0.1, ← e.1) refl)))))
     (λ r. refl)
-    (λ r h. (h.1.0.1, (record { port = (h.1.0.0.0, h.1.0.0.1.0); token = h.1.1.0; expiry = h.1.1.1.0 }, h.1.0.0.1.1)))
-    (λ r h. (tt, (((h.1.0.port.0, (h.1.0.port.1, h.1.1)), h.0), (h.1.0.token, (h.1.0.expiry, tt)))))
-
-pub reserved_rise : (t : ℕ) (entries : List (FiveTuple × Entry)) (rs : List (ℕ × Reservation)) → EachAfter (FitsReserved t entries) [] rs → T (fin.is_sorted nat_cmp rs)
-reserved_rise t entries rs h = sorted_rising nat_cmp nat_cmp_total rs (each_more _ _ (λ before r fits. sym (above_is before r.0) ∙ fits.0) [] rs h)
+    (λ r h. (h.1.0.1, (record { port = (h.1.0.0.0, h.1.0.0.1.0); token = h.1.1.0.1; expiry = h.1.1.1.0 }, h.1.0.0.1.1)))
+    (λ r h. (tt, (((h.1.0.port.0, (h.1.0.port.1, h.1.1)), h.0), ((h.1.0.port.0, h.1.0.token), (h.1.0.expiry, tt)))))
 
 -- the reserved ports of a table beside its entries, as a version can hold them
 abbrev pub FitsReservations : Version → Bounds → ℕ → List (FiveTuple × Entry) → Reservations → Type 0
@@ -88,10 +85,6 @@ all_reserved V2 b t entries m h = each_alone (IsReserved t entries) [] (fin.entr
 pub few_reserved : (v : Version) (b : Bounds) (t : ℕ) (entries : List (FiveTuple × Entry)) (m : Reservations) → FitsReservations v b t entries m → fin.len m ≤ b.allocations
 few_reserved V1 b t entries m h = omega (arith, len-entries m, ap length h)
 few_reserved V2 b t entries m h = h.0
-
-pub rising_reserved : (t : ℕ) (entries : List (FiveTuple × Entry)) (m : Reservations) → AllByRecursion (IsReserved t entries) (fin.entries m) → EachAfter (FitsReserved t entries) [] (fin.entries m)
-rising_reserved t entries m all =
-    each_both _ _ _ (λ before r up one. (above_is before r.0 ∙ up, one)) [] (fin.entries m) (rising_sorted nat_cmp nat_cmp_total (fin.entries m) (entries_sorted m)) (alone_each (IsReserved t entries) [] (fin.entries m) all)
 
 -- a table of these entries and reserved ports
 abbrev table_of : List (FiveTuple × Entry) → List (ℕ × Reservation) → Contents
@@ -114,25 +107,26 @@ module _ (t : ℕ) (entries : List (FiveTuple × Entry)) (sorted : T (fin.is_sor
   entries_are : fin.entries (fin.from_sorted {R = tuple_cmp} entries) ≡ entries
   entries_are = entries-from_sorted tuple_cmp entries sorted
 
-  reads_reserving : t + reservation_lifetime < 2 ^ 64 → (n : ℕ) → Reads (reserving_at t n entries []) (λ y. each reservation (fin.entries y.1.reserved)) (λ y. (HasEntries t entries y × (fin.len y.1.reserved ≡ n)) × EachAfter (FitsReserved t entries) [] (fin.entries y.1.reserved))
+  codec_reserving : {U : Type 0} → (U → t + reservation_lifetime < 2 ^ 64) → (n : ℕ) → Codec U (reserving_at t n entries []) (λ y. each reservation (fin.entries y.1.reserved)) (λ y. (HasEntries t entries y × (fin.len y.1.reserved ≡ n)) × EachAfter (FitsReserved t entries) [] (fin.entries y.1.reserved)) (n * 18)
   unfolding reserving_at
-  reads_reserving room n =
-      let are = λ (rs : List (ℕ × Reservation)) (h : (length rs ≡ n) × EachAfter (FitsReserved t entries) [] rs). entries-from_sorted nat_cmp rs (reserved_rise t entries rs h.1) in
+  codec_reserving room n =
+      let are = λ (rs : List (ℕ × Reservation)) (h : (length rs ≡ n) × EachAfter (FitsReserved t entries) [] rs). entries-from_sorted nat_cmp rs (list_rises _ rs h.1) in
       let size = λ (rs : List (ℕ × Reservation)) (h : (length rs ≡ n) × EachAfter (FitsReserved t entries) [] rs). len-entries (fin.from_sorted {R = nat_cmp} rs) ∙ ap length (are rs h) ∙ h.0 in
-      reads_as (many (reservation_at t entries) n []) (each reservation) (λ rs. (length rs ≡ n) × EachAfter (FitsReserved t entries) [] rs) (λ rs. (t, table_of entries rs)) (λ y. each reservation (fin.entries y.1.reserved))
-      (λ y. (HasEntries t entries y × (fin.len y.1.reserved ≡ n)) × EachAfter (FitsReserved t entries) [] (fin.entries y.1.reserved))
-      (reads_many (reservation_at t entries) reservation (FitsReserved t entries) (reads_reservation t room entries) n)
+      codec_as (many (reservation_at t entries) n []) (each reservation) (λ rs. (length rs ≡ n) × EachAfter (FitsReserved t entries) [] rs) (λ rs. (t, table_of entries rs)) _ _
+      (codec_many (reservation_at t entries) reservation (FitsReserved t entries) (codec_reservation t room entries) n)
       (λ rs h. ap (each reservation) (are rs h)) (λ rs h. (((refl, entries_are), size rs h), rw (are rs h) h.1))
       (λ y h. (fin.entries y.1.reserved, table_again t entries (fin.entries y.1.reserved) y h.0.0 refl, (sym (len-entries y.1.reserved) ∙ h.0.1, h.1)))
 
-  pub reads_reserved : (v : Version) (b : Bounds) → AreInRange b → t + reservation_lifetime < 2 ^ 64 → Reads (reserved_at v b t entries) (λ y. reserved v y.1.reserved) (λ y. HasEntries t entries y × FitsReservations v b t entries y.1.reserved)
+  pub codec_reserved : {U : Type 0} (v : Version) (b : Bounds) → (U → AreInRange b) → (U → t + reservation_lifetime < 2 ^ 64) → Codec U (reserved_at v b t entries) (λ y. reserved v y.1.reserved) (λ y. HasEntries t entries y × FitsReservations v b t entries y.1.reserved) (max_reserved v b)
   unfolding reserved_at reserved
-  reads_reserved V1 b range room =
-      reads_as (λ bytes. Ok (tt, bytes)) (λ x. []) (λ x. Unit {0}) (λ x. (t, table_of entries [])) (λ y. []) (λ y. HasEntries t entries y × (fin.entries y.1.reserved ≡ [])) reads_nothing
-      (λ x h. refl) (λ x h. ((refl, entries_are), entries-from_sorted nat_cmp [] tt)) (λ y h. (tt, table_again t entries [] y h.0 h.1, tt))
-  reads_reserved V2 b range room =
-      chain (total_at b) (to_be_bytes w32) (λ n. n ≤ b.allocations) (λ n bytes. reserving_at t n entries [] bytes) (λ n y. each reservation (fin.entries y.1.reserved)) (λ (y : ℕ × Contents). fin.len y.1.reserved) (HasEntries t entries) (λ n y. EachAfter (FitsReserved t entries) [] (fin.entries y.1.reserved)) (reads_total b range)
-      (λ n h. reads_reserving room n)
+  codec_reserved V1 b range room =
+      in_words _ _ _ _ _ (made (t, table_of entries []) (λ y. HasEntries t entries y × (fin.entries y.1.reserved ≡ [])) ((refl, entries_are), entries-from_sorted nat_cmp [] tt) (λ y h. table_again t entries [] y h.0 h.1))
+      (λ y. refl) (λ y h. h.0) (λ y h. (h, tt))
+  codec_reserved V2 b range room =
+      at_most _ _ _ _
+      (chain_by (total_at b) (to_be_bytes w32) (λ n. n ≤ b.allocations) (λ n bytes. reserving_at t n entries [] bytes) (λ n y. each reservation (fin.entries y.1.reserved)) (λ (y : ℕ × Contents). fin.len y.1.reserved) (HasEntries t entries) (λ n y. EachAfter (FitsReserved t entries) [] (fin.entries y.1.reserved)) (codec_total b range) (total_passes b)
+      (λ n few. at_most _ _ _ (b.allocations * 18) (codec_reserving room n) (mul-le-mul_right 18 few)))
+      (omega arith)
 
 -- ---- A port above the last one
 

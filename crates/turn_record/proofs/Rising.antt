@@ -14,14 +14,14 @@ get_last : {A : Type 0} (before : List A) (x : A) → slice_get (before ++ x ∷
 get_last [] x = refl
 get_last (y ∷ before) x = get_last before x
 
-last_of : {A : Type 0} (before : List A) (x : A) → slice_get (before ++ x ∷ []) (length (before ++ x ∷ []) - 1) ≡ Some x
+pub last_of : {A : Type 0} (before : List A) (x : A) → slice_get (before ++ x ∷ []) (length (before ++ x ∷ []) - 1) ≡ Some x
 last_of before x =
     let n : length (before ++ x ∷ []) - 1 ≡ length before = omega (arith, length-append before (x ∷ [])) in
     rw n (get_last before x)
 
-is : (b : Bool) → T b → b ≡ true
-is true p = refl
-is false p = absurd p
+pub true_of : (b : Bool) → T b → b ≡ true
+true_of true p = refl
+true_of false p = absurd p
 
 goes_over : {K : Type 0} (R : K → K → Ordering) → IsTotalOrder R → (a b c : K) → T (is_lt (R a b)) → T (is_lt (R b c)) → T (is_lt (R a c))
 goes_over R o a b c p q = subst (λ r. T (is_lt r)) (sym (o.trans a b c (less _ p) (less _ q))) tt
@@ -50,7 +50,7 @@ module _ {K X : Type 0} (R : K → K → Ordering) (o : IsTotalOrder R) where
   after_sorted : (before : List (K × X)) (x : K × X) (es : List (K × X)) → T (is_sorted R (x ∷ es)) → EachAfter Rises (before ++ x ∷ []) es
   after_sorted before x [] h = tt
   after_sorted before x (e ∷ es) h =
-      let below : is_lt (R x.0 e.0) ≡ true = is _ (first _ _ (first _ _ h)) in
+      let below : is_lt (R x.0 e.0) ≡ true = true_of _ (first _ _ (first _ _ h)) in
       (ap (passes (λ (b : K × X). is_lt (R b.0 e.0))) (last_of before x) ∙ below, after_sorted (before ++ x ∷ []) e es (second _ _ h))
 
   pub rising_sorted : (es : List (K × X)) → T (is_sorted R es) → EachAfter Rises [] es

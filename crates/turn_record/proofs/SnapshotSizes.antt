@@ -15,7 +15,8 @@ use Rattle.turn_history.specs.Laws.{allocation_of}
 use Rattle.turn_history.specs.Table.{Contents, Entry}
 use Rattle.turn_history.specs.declared.channel.Channel.{Channel}
 use Rattle.turn_history.specs.declared.reservation.Reservation.{Reservation}
-use Rattle.turn_record.proofs.Sizes.{size_each}
+use Rattle.turn_record.proofs.Apart.{all_more}
+use Rattle.turn_record.proofs.Sizes.{each_at_most, size_each}
 use Rattle.turn_record.specs.Bytes.{joined, each, five_tuple, allocation, mark, permission, permissions, channel, channels, entry, head, reservation, reserved, snapshot}
 use Rattle.turn_record.specs.Records.{IsSnapshot, entry_size, max_entry, max_reserved, max_snapshot, max_reserved_bytes, max_snapshot_bytes}
 use Rattle.turn_record.specs.declared.version.Version.{Version}
@@ -90,10 +91,6 @@ entry_size_most V2 = omega arith
 entry_at_most : (v : Version) (b : Bounds) (p : FiveTuple × Entry) → IsShort b p.1 → length (entry v p) ≤ max_entry v b
 entry_at_most v b p s = omega (arith, size_entry v p.0 p.1 s.tx, mark_at_most v p.1.token s.token, s.user, s.permissions, s.channels)
 
-each_at_most : {A : Type 0} (s : A → List ℕ) (P : A → Type 0) (k : ℕ) → ((x : A) → P x → length (s x) ≤ k) → (xs : List A) → AllByRecursion P xs → length (each s xs) ≤ length xs * k
-each_at_most s P k h [] all = omega arith
-each_at_most s P k h (x ∷ xs) all = omega (arith, length-append (s x) (each s xs), h x all.0, each_at_most s P k h xs all.1)
-
 token_sized : (port : ℕ) (o : Option Token) → IfSome o (IsTokenAfter port) → IfSome o (λ k. length k.0 ≡ 8)
 token_sized port None h = tt
 token_sized port (Some k) h = h.1.size
@@ -150,10 +147,6 @@ snapshot_small v b t c range s =
     omega (arith, one, snapshot_at_most v b t c s, range.name_bytes.1, range.permissions.1, range.channels.1, entry_size_most v, max_reserved_small v b range)
 
 -- under the max limits too
-all_more : {A : Type 0} (P Q : A → Type 0) → ((x : A) → P x → Q x) → (xs : List A) → AllByRecursion P xs → AllByRecursion Q xs
-all_more P Q h [] all = tt
-all_more P Q h (x ∷ xs) all = (h x all.0, all_more P Q h xs all.1)
-
 pub are_short : (v : Version) (b : Bounds) (t : ℕ) (c : Contents) → AreInRange b → IsSnapshot v b t c → AreShort (fin.entries c.entries)
 are_short v b t c range s =
     all_more (λ (p : FiveTuple × Entry). IsShort b p.1) (λ p. IsShort max_bounds p.1)

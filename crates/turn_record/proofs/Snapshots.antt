@@ -19,12 +19,12 @@ use Rattle.turn_record.specs.Records.{Holds, IsSnapshot, SpellsSnapshot}
 use Rattle.turn_record.specs.Snapshots.{Head, entry_at, total_at, reserved_at, head_at, table_at, snapshot_at, snapshot_in}
 use Rattle.turn_record.specs.declared.version.Version.{Version}
 use Rattle.turn_record.specs.declared.version.Version.TheVariants.{V1, V2}
-use Rattle.turn_record.proofs.Acts.{not_is, not_from, reads_moment}
+use Rattle.turn_record.proofs.Acts.{not_is, not_from, codec_moment}
 use Rattle.turn_record.proofs.Apart.{each_more, each_both, each_alone, alone_each, Apart, apart_new, new_apart}
-use Rattle.turn_record.proofs.Readers.{EachAfter, IsBytes, Reads, chain, made, in_words, one_spelling, reads_many, whole_again, whole_takes}
-use Rattle.turn_record.proofs.Reserves.{FitsReservations, IsReserved, all_reserved, few_reserved, reads_reserved, rising_reserved}
+use Rattle.turn_record.proofs.Readers.{Codec, EachAfter, IsBytes, Reads, chain, codec_many, made, in_words, one_spelling, reads_chain, reads_in_words, whole_again, whole_takes}
+use Rattle.turn_record.proofs.Reserves.{FitsReservations, IsReserved, all_reserved, few_reserved, codec_reserved}
 use Rattle.turn_record.proofs.Rising.{rising_sorted}
-use Rattle.turn_record.proofs.Tables.{ArePermissions, AreChannels, FitsEntry, HoldsToken, IsOne, by_keys, entries_rise, from_keys, reads_entry, reads_total, same_port, same_ports}
+use Rattle.turn_record.proofs.Tables.{ArePermissions, AreChannels, FitsEntry, HoldsToken, IsOne, by_keys, entries_rise, tuples_rise, from_keys, codec_entry, codec_total, same_port, same_ports}
 use Rattle.turn_types.specs.FiveTuple.{tuple_cmp}
 use Rattle.turn_types.specs.Limits.{AreInRange}
 use Rattle.turn_types.specs.Profile.{max_lifetime, end_of_moments}
@@ -84,8 +84,9 @@ reservations_are : (v : Version) (b : Bounds) (t : ℕ) (c : Contents) → IsSna
 reservations_are V1 b t c s = no_entries c.reserved s.holds.reserved
 reservations_are V2 b t c s = (
   s.within.reserved,
-  rising_reserved t (fin.entries c.entries) c.reserved
-      (all_entries nat_cmp_total nat_cmp-IsAntisymmetric (IsReserved t (fin.entries c.entries)) c.reserved (λ q r is. (s.reserved q r is, not_from _ (free_port_is c q (s.reserved_apart q r is))))),
+  entries_rise _ c.reserved
+      (alone_each (IsReserved t (fin.entries c.entries)) [] (fin.entries c.reserved)
+      (all_entries nat_cmp_total nat_cmp-IsAntisymmetric (IsReserved t (fin.entries c.entries)) c.reserved (λ q r is. (s.reserved q r is, not_from _ (free_port_is c q (s.reserved_apart q r is)))))),
 )
 
 entries_are : (v : Version) (b : Bounds) (t : ℕ) (c : Contents) → IsSnapshot v b t c → EachAfter (FitsEntry v b t) [] (fin.entries c.entries)
@@ -112,20 +113,20 @@ FitsTable v b t n y = (y.0 ≡ t) × (((length (fin.entries y.1.entries) ≡ n) 
 reads_table : (v : Version) (b : Bounds) → AreInRange b → (t : ℕ) → t + max_lifetime < 2 ^ 64 → (n : ℕ) → Reads (table_at v b t n []) (tail v) (FitsTable v b t n)
 unfolding table_at
 reads_table v b range t room n =
-    chain (many (entry_at v b t) n []) (each (entry v)) (λ es. (length es ≡ n) × EachAfter (FitsEntry v b t) [] es) (λ es bytes. reserved_at v b t es bytes) (λ es y. reserved v y.1.reserved) (λ (y : ℕ × Contents). fin.entries y.1.entries) (λ y. y.0 ≡ t) (λ es y. FitsReservations v b t es y.1.reserved)
-    (reads_many (entry_at v b t) (entry v) (FitsEntry v b t) (reads_entry v b range t room) n)
-    (λ es h. reads_reserved t es (entries_rise v b t es h.1) v b range (omega (arith, room)))
+    reads_chain (many (entry_at v b t) n []) (each (entry v)) (λ es. (length es ≡ n) × EachAfter (FitsEntry v b t) [] es) (λ es bytes. reserved_at v b t es bytes) (λ es y. reserved v y.1.reserved) (λ (y : ℕ × Contents). fin.entries y.1.entries) (λ y. y.0 ≡ t) (λ es y. FitsReservations v b t es y.1.reserved)
+    ((codec_many (entry_at v b t) (entry v) (FitsEntry v b t) (codec_entry {U = Unit {0}} v b (λ under. range) t (λ under. room)) n).reads tt)
+    (λ es h. (codec_reserved t es (tuples_rise v b t es h.1) {U = Unit {0}} v b (λ under. range) (λ under. omega (arith, room))).reads tt)
 
 abbrev FitsHead : Bounds → Head → Type 0
 FitsHead b h = (h.moment < end_of_moments) × (h.count ≤ b.allocations)
 
-reads_head : (b : Bounds) → AreInRange b → Reads (head_at b) (λ h. head h.moment h.count) (FitsHead b)
+pub codec_head : {U : Type 0} (b : Bounds) → (U → AreInRange b) → Codec U (head_at b) (λ h. head h.moment h.count) (FitsHead b) 12
 unfolding head_at
-reads_head b range =
+codec_head b range =
     in_words (head_at b) _ (λ h. head h.moment h.count) _ (FitsHead b)
-    (chain moment_at (to_be_bytes w64) (λ t. t < end_of_moments) (λ t bytes. total_at b bytes >>= λ n. Ok (record { moment = t; count = n.0 }, n.1)) _ (λ (h : Head). h.moment) (λ h. Unit {0}) _ reads_moment
-    (λ t h0. chain (total_at b) (to_be_bytes w32) (λ n. n ≤ b.allocations) (λ n bytes. Ok (record { moment = t; count = n }, bytes)) _ (λ (h : Head). h.count) (λ h. Unit {0} × (h.moment ≡ t)) _ (reads_total b range)
-    (λ n h1. made (record { moment = t; count = n }) (λ h. (Unit {0} × (h.moment ≡ t)) × (h.count ≡ n)) ((tt, refl), refl) (λ h q. rw (← q.0.1, ← q.1) refl))))
+    (chain moment_at (to_be_bytes w64) (λ t. t < end_of_moments) (λ t bytes. total_at b bytes >>= λ n. Ok (record { moment = t; count = n.0 }, n.1)) _ (λ (h : Head). h.moment) (λ h. Unit {0}) _ codec_moment
+    (λ t. chain (total_at b) (to_be_bytes w32) (λ n. n ≤ b.allocations) (λ n bytes. Ok (record { moment = t; count = n }, bytes)) _ (λ (h : Head). h.count) (λ h. Unit {0} × (h.moment ≡ t)) _ (codec_total b range)
+    (λ n. made (record { moment = t; count = n }) (λ h. (Unit {0} × (h.moment ≡ t)) × (h.count ≡ n)) ((tt, refl), refl) (λ h q. rw (← q.0.1, ← q.1) refl))))
     (λ h. refl) (λ h p. (p.1.0, p.1.1.0)) (λ h p. (tt, (p.0, (p.1, tt))))
 
 -- the head of a table at a moment
@@ -135,9 +136,9 @@ head_of y = record { moment = y.0; count = fin.len y.1.entries }
 pub reads_snapshot : (v : Version) (b : Bounds) → AreInRange b → Reads (snapshot_at v b) (λ y. snapshot v y.0 y.1) (λ y. IsSnapshot v b y.0 y.1)
 unfolding snapshot_at snapshot
 reads_snapshot v b range =
-    in_words (snapshot_at v b) _ (λ y. snapshot v y.0 y.1) _ (λ y. IsSnapshot v b y.0 y.1)
-    (chain (head_at b) (λ h. head h.moment h.count) (FitsHead b) (λ h bytes. table_at v b h.moment h.count [] bytes) (λ h y. tail v y) head_of (λ y. Unit {0}) (λ h y. FitsContents v b h.moment y.1) (reads_head b range)
-    (λ h fits. in_words _ _ _ _ (λ y. (Unit {0} × (head_of y ≡ h)) × FitsContents v b h.moment y.1) (reads_table v b range h.moment (omega (arith, fits.0)) h.count)
+    reads_in_words (snapshot_at v b) _ (λ y. snapshot v y.0 y.1) _ (λ y. IsSnapshot v b y.0 y.1)
+    (reads_chain (head_at b) (λ h. head h.moment h.count) (FitsHead b) (λ h bytes. table_at v b h.moment h.count [] bytes) (λ h y. tail v y) head_of (λ y. Unit {0}) (λ h y. FitsContents v b h.moment y.1) ((codec_head {U = Unit {0}} b (λ under. range)).reads tt)
+    (λ h fits. reads_in_words _ _ _ _ (λ y. (Unit {0} × (head_of y ≡ h)) × FitsContents v b h.moment y.1) (reads_table v b range h.moment (omega (arith, fits.0)) h.count)
     (λ y. refl) (λ y p. let moment = p.0 in let count = len-entries y.1.entries ∙ p.1.0.0 in ((tt, λ i. record { moment = moment i; count = count i }), (p.1.0.1, p.1.1)))
     (λ y p. (ap (λ (k : Head). k.moment) p.0.1, ((sym (len-entries y.1.entries) ∙ ap (λ (k : Head). k.count) p.0.1, p.1.0), p.1.1)))))
     (λ y. refl)

@@ -97,15 +97,18 @@ max_reserved V2 b = 4 + 18 * b.allocations
 abbrev pub max_snapshot : Version → Bounds → ℕ
 max_snapshot v b = 12 + b.allocations * max_entry v b + max_reserved v b
 
--- Under the max limits, in bytes: the max size of an act entry, of an entry of a snapshot, of the reserved ports, and of a snapshot
+-- the max size of an act entry under the max limits, in bytes
 abbrev pub max_act_bytes : ℕ
 max_act_bytes = 557
 
+-- the max size of an entry of a snapshot under the max limits, in bytes
 abbrev pub max_entry_bytes : ℕ
 max_entry_bytes = 1455
 
+-- the max size of the reserved ports under the max limits, in bytes
 abbrev pub max_reserved_bytes : ℕ
 max_reserved_bytes = 18436
 
+-- the max size of a snapshot under the max limits, in bytes
 abbrev pub max_snapshot_bytes : ℕ
 max_snapshot_bytes = 1508368

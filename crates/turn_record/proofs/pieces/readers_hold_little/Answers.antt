@@ -1,4 +1,4 @@
-use Rattle.turn_record.proofs.Fronts.{held_is_short}
+use Rattle.turn_record.proofs.Onward.{held_is_short}
 use Rattle.turn_record.proofs.pieces.readers_hold_little.Goals as goal
 
 pub returns : goal.returns

@@ -1,7 +1,6 @@
 use Rattle.std.proofs.Common.{sym}
 use Rattle.turn_record.specs.Snapshots.{head_at}
-use Rattle.turn_record.proofs.Fronts.{front_head}
-use Rattle.turn_record.proofs.Onward.{next_ok, next_err}
+use Rattle.turn_record.proofs.Onward.{front_head, next_ok, next_err}
 use Rattle.turn_record.proofs.restored.next_head.Goals as goal
 
 pub returns-in-Ok : goal.returns-in-Ok

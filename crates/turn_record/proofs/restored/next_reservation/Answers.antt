@@ -1,8 +1,7 @@
 use Rattle.std.specs.FinMap as fin
 use Rattle.turn_history.specs.Fitting.{PortIsFree}
 use Rattle.turn_record.specs.Snapshots.{reservation_at}
-use Rattle.turn_record.proofs.Fronts.{front_reservation}
-use Rattle.turn_record.proofs.Onward.{next_of, whole_keeps}
+use Rattle.turn_record.proofs.Onward.{front_reservation, next_of, whole_keeps}
 use Rattle.turn_record.proofs.restored.next_reservation.Goals as goal
 use Rattle.turn_table.specs.Table.{IsAboveReserved}
 

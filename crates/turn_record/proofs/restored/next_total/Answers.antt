@@ -1,6 +1,5 @@
 use Rattle.turn_record.specs.Snapshots.{total_at}
-use Rattle.turn_record.proofs.Fronts.{front_total}
-use Rattle.turn_record.proofs.Onward.{next_of}
+use Rattle.turn_record.proofs.Onward.{front_total, next_of}
 use Rattle.turn_record.proofs.restored.next_total.Goals as goal
 
 pub returns : goal.returns

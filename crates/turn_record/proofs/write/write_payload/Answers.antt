@@ -3,8 +3,7 @@ use Rattle.turn_history.specs.Act.{event_of}
 use Rattle.turn_record.specs.Bytes.{act_entry, each}
 use Rattle.turn_record.specs.Views.{events_of}
 use Rattle.turn_record.proofs.Last.{length-map}
-use Rattle.turn_record.proofs.Shorts.{all_short}
-use Rattle.turn_record.proofs.Sizes.{acts_at_most, batch_at_most, product_at_most}
+use Rattle.turn_record.proofs.Sizes.{all_short, acts_at_most, batch_at_most, product_at_most}
 use Rattle.turn_record.proofs.write.write_payload.Goals as goal
 
 pub put_all-requires-clause-short : goal.put_all-requires-clause-short

@@ -1,13 +1,15 @@
-use Rattle.std.proofs.Common.{◌≡◌, ℕ, ◌∷◌, [], ◌++◌, List, length, refl, ap, ◌∙◌, arith}
+use Rattle.std.proofs.Common.{◌≡◌, ℕ, ◌+◌, ◌∷◌, [], ◌++◌, List, length, refl, ap, ◌∙◌, arith}
 use Rattle.std.specs.FinMap.{len-entries}
 use Rattle.std.specs.Int.{w64, to_be_bytes}
 use Rattle.turn_history.specs.Laws.{allocation_of}
+use Rattle.turn_history.specs.Table.{Entry}
 use Rattle.turn_history.specs.declared.channel.Channel.{Channel}
 use Rattle.turn_record.specs.Bytes.{each, five_tuple, allocation, mark, permission, permissions, channel, channels, entry}
 use Rattle.turn_record.proofs.Appended.{appended, no_more}
 use Rattle.turn_record.proofs.SnapshotSizes.{entry_size_most, grown, mark_at_most, permissions_are, channels_are, size_allocation, size_permission_list}
 use Rattle.std.specs.Prelude.{Option}
 use Rattle.turn_record.specs.declared.version.Version.{Version}
+use Rattle.turn_types.specs.declared.address.FiveTuple.{FiveTuple}
 use Rattle.turn_types.specs.declared.message.Token.{Token}
 use Rattle.turn_record.proofs.entry_bytes.EntryBytes.hold.Goals as goal
 
@@ -15,32 +17,35 @@ use Rattle.turn_record.proofs.entry_bytes.EntryBytes.hold.Goals as goal
 marked_by : (before now : List ℕ) (v : Version) (token has : Option Token) → now ≡ before ++ mark v token → token ≡ has → now ≡ before ++ mark v has
 marked_by before now v token has p same = p ∙ ap (λ (o : Option Token). before ++ mark v o) same
 
+-- the size of what is held before the permissions
+before_permissions : (v : Version) (f : FiveTuple) (e : Entry) (s0 s1 s2 s3 s4 expiry : List ℕ) (has : Option Token) → s0 ≡ [] → s1 ≡ s0 ++ five_tuple f → s2 ≡ s1 ++ allocation (allocation_of e) → s3 ≡ s2 ++ mark v has → has ≡ e.token
+    → s4 ≡ s3 ++ expiry → length expiry ≡ 8 → length e.tx.0 ≡ 12 → length s4 ≡ 40 + length e.user + length (mark v e.token)
+before_permissions v f e s0 s1 s2 s3 s4 expiry has start tuple made marked same put long tx =
+    let one = grown s0 s1 _ 0 12 tuple (ap length start) refl in
+    let two = grown s1 s2 _ _ _ made one (size_allocation e tx) in
+    let three = grown s2 s3 _ _ _ (marked_by s2 s3 v has e.token marked same) two refl in
+    omega (arith, grown s3 s4 expiry _ 8 put three long)
+
 pub put_permissions-requires-clause-few : goal.put_permissions-requires-clause-few
 put_permissions-requires-clause-few g c = omega (arith, ap length c.permissions.ensures, len-entries c.args.kept.now.entry.permissions, c.requires.permissions)
 
 pub put_permissions-requires-clause-room : goal.put_permissions-requires-clause-room
 put_permissions-requires-clause-room g c =
-    let one = grown _ c.put_tuple.new.self _ 0 12 c.put_tuple.ensures (ap length c.clear.ensures) refl in
-    let two = grown _ c.put_allocation.new.self _ _ _ c.put_allocation.ensures one (size_allocation c.args.kept.now.entry c.requires.tx) in
-    let marked = marked_by _ c.put_mark.new.self c.args.version _ c.args.kept.now.entry.token c.put_mark.ensures c.token.ensures in
-    let token = grown _ c.put_mark.new.self _ _ _ marked two refl in
-    let most = mark_at_most c.args.version c.args.kept.now.entry.token c.requires.token in
-    let three = grown _ c.put.new.self _ _ 8 c.put.ensures token (ap length c.to_be_bytes.ensures) in
-    omega (arith, three, most, entry_size_most c.args.version, ap length c.permissions.ensures, len-entries c.args.kept.now.entry.permissions, c.requires.permissions, c.requires.user)
+    let e = c.args.kept.now.entry in
+    let held = before_permissions c.args.version c.args.tuple e _ c.put_tuple.new.self c.put_allocation.new.self c.put_mark.new.self c.put.new.self _ _ c.clear.ensures c.put_tuple.ensures c.put_allocation.ensures c.put_mark.ensures c.token.ensures
+        c.put.ensures (ap length c.to_be_bytes.ensures) c.requires.tx in
+    omega (arith, held, mark_at_most c.args.version e.token c.requires.token, entry_size_most c.args.version, ap length c.permissions.ensures, len-entries e.permissions, c.requires.permissions, c.requires.user)
 
 pub put_channels-requires-clause-few : goal.put_channels-requires-clause-few
 put_channels-requires-clause-few g c = omega (arith, ap length c.channels.ensures, len-entries c.args.kept.now.entry.channels, c.requires.channels)
 
 pub put_channels-requires-clause-room : goal.put_channels-requires-clause-room
 put_channels-requires-clause-room g c =
-    let one = grown _ c.put_tuple.new.self _ 0 12 c.put_tuple.ensures (ap length c.clear.ensures) refl in
-    let two = grown _ c.put_allocation.new.self _ _ _ c.put_allocation.ensures one (size_allocation c.args.kept.now.entry c.requires.tx) in
-    let marked = marked_by _ c.put_mark.new.self c.args.version _ c.args.kept.now.entry.token c.put_mark.ensures c.token.ensures in
-    let token = grown _ c.put_mark.new.self _ _ _ marked two refl in
-    let most = mark_at_most c.args.version c.args.kept.now.entry.token c.requires.token in
-    let three = grown _ c.put.new.self _ _ 8 c.put.ensures token (ap length c.to_be_bytes.ensures) in
-    let four = grown _ c.put_permissions.new.self _ _ _ c.put_permissions.ensures three (size_permission_list c.permissions.result.now) in
-    omega (arith, four, most, entry_size_most c.args.version, ap length c.permissions.ensures, len-entries c.args.kept.now.entry.permissions, c.requires.permissions, c.requires.user, ap length c.channels.ensures, len-entries c.args.kept.now.entry.channels, c.requires.channels)
+    let e = c.args.kept.now.entry in
+    let held = before_permissions c.args.version c.args.tuple e _ c.put_tuple.new.self c.put_allocation.new.self c.put_mark.new.self c.put.new.self _ _ c.clear.ensures c.put_tuple.ensures c.put_allocation.ensures c.put_mark.ensures c.token.ensures
+        c.put.ensures (ap length c.to_be_bytes.ensures) c.requires.tx in
+    let next = grown _ c.put_permissions.new.self _ _ _ c.put_permissions.ensures held (size_permission_list c.permissions.result.now) in
+    omega (arith, next, mark_at_most c.args.version e.token c.requires.token, entry_size_most c.args.version, ap length c.permissions.ensures, len-entries e.permissions, c.requires.permissions, c.requires.user, ap length c.channels.ensures, len-entries e.channels, c.requires.channels)
 
 -- the field under another name
 read_as : (before now field is : List ℕ) → now ≡ before ++ field → field ≡ is → now ≡ before ++ is
