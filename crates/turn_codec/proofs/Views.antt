@@ -1,6 +1,6 @@
 -- From the bytes of a message to what its contracts say.
-use Rattle.std.proofs.Common.{◌≡◌, ℕ, ◌+◌, ◌-◌, ◌^◌, ◌<◌, ◌≤◌, Bool, true, false, cond, eqb, List, [], ◌∷◌, length, take, drop, Option, Some, None, refl, sym, ap, subst, ◌∙◌, arith}
-use Rattle.std.specs.Prelude.{IsSome, SomeIff, sum_by}
+use Rattle.std.proofs.Common.{◌≡◌, ℕ, ◌+◌, ◌-◌, ◌^◌, ◌<◌, ◌≤◌, Bool, List, [], ◌∷◌, length, take, drop, Option, Some, refl, sym, ap, subst, ◌∙◌, arith}
+use Rattle.std.specs.Prelude.{sum_by}
 use Rattle.std.proofs.lemmas.List.{drop_at, take_all, length-drop}
 use Rattle.turn_codec.specs.Grammar.{Attribute, Content, Datagram, Spells, SpellsAttributes, size_of, before, from, offset_of, FirstHas}
 use Rattle.turn_codec.specs.Reading.{attributes_in, attributes_of, content_of, datagram_of, IsDatagram}
@@ -35,15 +35,7 @@ attributes_view bytes d e = ap attributes_of (body_is bytes) ∙ ap (λ (x : Dat
 
 pub before_le : (kind : ℕ) (attributes : List Attribute) → length (before kind attributes) ≤ length attributes
 before_le kind [] = omega arith
-before_le kind (a ∷ others) = one (eqb a.kind kind) (before_le kind others)
-  where
-    one : (b : Bool) → length (before kind others) ≤ length others → length (cond b [] (a ∷ before kind others)) ≤ length (a ∷ others)
-    one true le = omega arith
-    one false le = omega arith
-
-pub some_iff : {X : Type 0} (o : Option X) (P : Type 0) (x : X) → SomeIff o P x → P → IsSome o
-some_iff (Some y) P x h p = refl
-some_iff None P x h p = absurd (h p)
+before_le kind (a ∷ others) = grind (arith, before_le kind others)
 
 pub record IsLocated (d : Datagram) (kind size : ℕ) (value : List ℕ) (is_last : Bool) : Type 0 where
   pub front : take (20 + size) d.bytes ≡ take (offset_of kind d.content.attributes) d.bytes
@@ -78,9 +70,6 @@ seen_view bytes d kind size e h size-is =
     ∙ ap (λ (body : List ℕ). take (sum_by size_of (before kind (attributes_of body))) body) (body_is bytes))
     ∙ seen_in bytes kind h
     ∙ ap (λ (x : Datagram). let o : Option (List Attribute) = Some (before kind x.content.attributes) in o) e
-
-pub is_some_from : (o : Option (List Attribute)) (x : List Attribute) → o ≡ Some x → IsSome o
-is_some_from o x e = rw e refl
 
 pub attributes_of-in : (bytes : List ℕ) (x : List Attribute) → attributes_in bytes ≡ Some x → attributes_of bytes ≡ x
 unfolding attributes_of

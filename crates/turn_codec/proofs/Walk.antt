@@ -1,13 +1,13 @@
 -- What the walk over the attributes finds is what the grammar says.
-use Rattle.std.proofs.Common.{◌≡◌, ℕ, zero, suc, ◌+◌, ◌-◌, ◌*◌, ◌%◌, ◌^◌, ◌<◌, ◌≤◌, Bool, true, false, cond, ltb, eqb, List, [], ◌∷◌, ◌++◌, length, get_or, take, drop, Option, Some, None, refl, sym, ap, subst, ◌∙◌, append_assoc, arith, inl, inr}
+use Rattle.std.proofs.Common.{◌≡◌, ℕ, zero, suc, ◌+◌, ◌-◌, ◌*◌, ◌^◌, ◌<◌, ◌≤◌, Bool, true, false, cond, ltb, eqb, List, [], ◌∷◌, ◌++◌, length, get_or, take, drop, Option, Some, None, refl, sym, ap, subst, ◌∙◌, append_assoc, arith, inl, inr}
 use Rattle.std.specs.Prelude.{option_map, option_and_then, unwrap_or, is_some, IsSome, ◌⊎◌}
 use Rattle.std.specs.Int.{w16, from_be_bytes, to_be_bytes}
 use Rattle.std.proofs.lemmas.Bool.{ltb-false, le-ltb, eqb-true}
-use Rattle.std.proofs.lemmas.List.{take_at, drop_at, take-append-drop, length-append, length-take, length-drop, get_or-drop, nil_from_length}
+use Rattle.std.proofs.lemmas.List.{take_at, drop_at, take-append-drop, length-append, length-take, length-drop, get_or-drop, get_or-take, get_or_past, nil_from_length}
 use Rattle.std.proofs.Math.Seq.{take-add}
-use Rattle.std.proofs.lemmas.Option.{option_and_then_some}
+use Rattle.std.proofs.lemmas.Option.{option_and_then_some, same_Some}
 use Rattle.std.proofs.lemmas.Nat.{be_bytes_2, from_be_bytes-to_be_bytes_2}
-use Rattle.turn_codec.specs.Grammar.{Attribute, SpellsAttribute, SpellsAttributes}
+use Rattle.turn_codec.specs.Grammar.{Attribute, SpellsAttribute, SpellsAttributes, size_of}
 use Rattle.turn_codec.specs.Reading.{padded, value_at, first_attribute, attributes_within, attributes_in, attributes_of}
 
 abbrev pub IsBytes : List ℕ → Type 0
@@ -16,32 +16,36 @@ IsBytes bytes = (i : ℕ) → get_or bytes i 0 < 256
 pub IsBytes-drop : (n : ℕ) (bytes : List ℕ) → IsBytes bytes → IsBytes (drop n bytes)
 IsBytes-drop n bytes h i = rw get_or-drop (h (n + i))
 
-pub number_fits : (m n : ℕ) → m < 256 → n < 256 → from_be_bytes w16 (m ∷ n ∷ []) < 2 ^ 16
-number_fits m n h k = omega (arith, h, k)
+pub IsBytes-take : (n : ℕ) (bytes : List ℕ) → IsBytes bytes → IsBytes (take n bytes)
+IsBytes-take n bytes h i = let here = h i in grind (arith, get_or-take, get_or_past, length-take)
 
-pair_is : (m n i : ℕ) → m < 256 → n < 256 → get_or (m ∷ n ∷ []) i 0 < 256
-pair_is m n zero h k = h
-pair_is m n (suc zero) h k = k
-pair_is m n (suc (suc i)) h k = omega arith
+pub pairs : (k l m n : ℕ) (rest : List ℕ) → IsBytes (k ∷ l ∷ m ∷ n ∷ rest) → IsBytes (k ∷ l ∷ []) × IsBytes (m ∷ n ∷ [])
+pairs k l m n rest h = (IsBytes-take 2 (k ∷ l ∷ m ∷ n ∷ rest) h, IsBytes-take 2 (m ∷ n ∷ rest) (IsBytes-drop 2 (k ∷ l ∷ m ∷ n ∷ rest) h))
 
-pub pair_back : (m n : ℕ) → m < 256 → n < 256 → to_be_bytes w16 (from_be_bytes w16 (m ∷ n ∷ [])) ≡ m ∷ n ∷ []
-pair_back m n h k = be_bytes_2 (m ∷ n ∷ []) _ refl (λ i. pair_is m n i h k) refl
+pub number_fits : (m n : ℕ) → IsBytes (m ∷ n ∷ []) → from_be_bytes w16 (m ∷ n ∷ []) < 2 ^ 16
+number_fits m n h = omega (arith, h 0, h 1)
 
-pub chosen : {A : Type 0} (b : Bool) (x : Option A) (y : A) → cond b None x ≡ Some y → (b ≡ false) × (x ≡ Some y)
-chosen true x y e = absurd cc
-chosen false x y e = (refl, e)
-
-abbrev pub some : {A : Type 0} → A → Option A
-some x = Some x
-
-pub some_is : {A : Type 0} (x y : A) → some x ≡ some y → x ≡ y
-some_is x y e = cc
+pub pair_back : (m n : ℕ) → IsBytes (m ∷ n ∷ []) → to_be_bytes w16 (from_be_bytes w16 (m ∷ n ∷ [])) ≡ m ∷ n ∷ []
+pair_back m n h = be_bytes_2 (m ∷ n ∷ []) _ refl h refl
 
 pub take_both : (m n : ℕ) (xs : List ℕ) → m ≤ n → take n xs ≡ take m xs ++ take (n - m) (drop m xs)
 take_both m n xs h = ap (λ k. take k xs) (let e : n ≡ m + (n - m) = omega arith in e) ∙ take-add m (n - m) xs
 
-padded_is : (n : ℕ) → (n ≤ padded n) × (padded n < n + 4) × (padded n % 4 ≡ 0)
-padded_is n = (omega arith, omega arith, omega arith)
+-- the attribute at the front, where there is one, has its type, its length, and its value with padding
+first_found : (P : List ℕ → Attribute × List ℕ → Type 0)
+    → ((k l m n : ℕ) (rest : List ℕ) → (let size = from_be_bytes w16 (m ∷ n ∷ []) in
+    padded size ≤ length rest → P (k ∷ l ∷ m ∷ n ∷ rest) (record { kind = from_be_bytes w16 (k ∷ l ∷ []); value = take size rest }, drop (padded size) rest)))
+    → (bytes : List ℕ) (x : Attribute × List ℕ) → first_attribute bytes ≡ Some x → P bytes x
+unfolding first_attribute
+first_found P each [] x e = absurd cc
+first_found P each (k ∷ []) x e = absurd cc
+first_found P each (k ∷ l ∷ []) x e = absurd cc
+first_found P each (k ∷ l ∷ m ∷ []) x e = absurd cc
+first_found P each (k ∷ l ∷ m ∷ n ∷ rest) x e = by_test (ltb (length rest) (padded (from_be_bytes w16 (m ∷ n ∷ [])))) (λ h. each k l m n rest (ltb-false _ _ h)) e
+  where
+    by_test : (t : Bool) {y : Attribute × List ℕ} → (t ≡ false → P (k ∷ l ∷ m ∷ n ∷ rest) y) → cond t None (Some y) ≡ Some x → P (k ∷ l ∷ m ∷ n ∷ rest) x
+    by_test true h e = absurd cc
+    by_test false {y} h e = subst (P (k ∷ l ∷ m ∷ n ∷ rest)) (same_Some y x e) (h refl)
 
 -- what the walk takes off the front is an attribute
 pub record Takes (bytes : List ℕ) (a : Attribute) (rest : List ℕ) : Type 0 where
@@ -49,42 +53,31 @@ pub record Takes (bytes : List ℕ) (a : Attribute) (rest : List ℕ) : Type 0 w
   pub is : bytes ≡ front ++ rest
   pub spells : SpellsAttribute front a
 
-pub first_sound : (bytes : List ℕ) (x : Attribute × List ℕ) → IsBytes bytes → first_attribute bytes ≡ Some x → Takes bytes x.0 x.1
-unfolding first_attribute
-first_sound [] x fits e = absurd cc
-first_sound (k ∷ []) x fits e = absurd cc
-first_sound (k ∷ l ∷ []) x fits e = absurd cc
-first_sound (k ∷ l ∷ m ∷ []) x fits e = absurd cc
-first_sound (k ∷ l ∷ m ∷ n ∷ rest) x fits e =
-    let kind = from_be_bytes w16 (k ∷ l ∷ []) in
+pub first_sound : (bytes : List ℕ) (x : Attribute × List ℕ) → first_attribute bytes ≡ Some x → IsBytes bytes → Takes bytes x.0 x.1
+first_sound = first_found (λ bytes x. IsBytes bytes → Takes bytes x.0 x.1) (λ k l m n rest long fits.
     let size = from_be_bytes w16 (m ∷ n ∷ []) in
-    let found : Attribute × List ℕ = (record { kind = kind; value = take size rest }, drop (padded size) rest) in
-    let g = chosen (ltb (length rest) (padded size)) (Some found) x e in
-    let long : padded size ≤ length rest = ltb-false _ _ g.0 in
-    let p = padded_is size in
     let size-is : length (take size rest) ≡ size = omega (arith, length-take size rest) in
-    let kind-back : to_be_bytes w16 kind ≡ k ∷ l ∷ [] = pair_back k l (fits 0) (fits 1) in
-    let size-back : to_be_bytes w16 (length (take size rest)) ≡ m ∷ n ∷ [] = ap (to_be_bytes w16) size-is ∙ pair_back m n (fits 2) (fits 3) in
-    let padding = take (padded size - size) (drop size rest) in
-    let front : List ℕ = k ∷ l ∷ m ∷ n ∷ take (padded size) rest in
-    let is : front ≡ to_be_bytes w16 kind ++ to_be_bytes w16 (length (take size rest)) ++ take size rest ++ padding =
-    ap (λ (t : List ℕ). k ∷ l ∷ m ∷ n ∷ t) (take_both size (padded size) rest p.0)
-    ∙ sym (ap (λ (t : List ℕ). t ++ to_be_bytes w16 (length (take size rest)) ++ take size rest ++ padding) kind-back
-    ∙ ap (λ (t : List ℕ). (k ∷ l ∷ []) ++ t ++ take size rest ++ padding) size-back) in
-    let spelled : SpellsAttribute front found.0 = record {
-      padding = padding;
-      is = is;
-      short = omega (arith, length-take (padded size - size) (drop size rest), p.1);
-      aligned = omega (arith, length-take (padded size) rest, p.2);
-      kind_fits = number_fits k l (fits 0) (fits 1);
-      value_fits = omega (arith, size-is, number_fits m n (fits 2) (fits 3));
-    } in
-    let done : Takes (k ∷ l ∷ m ∷ n ∷ rest) found.0 found.1 = record {
-      front = front;
+    let two = pairs k l m n rest fits in
+    let kind-back = pair_back k l two.0 in
+    let size-back = pair_back m n two.1 in
+    let both = take_both size (padded size) rest (omega arith) in
+    record {
+      front = k ∷ l ∷ m ∷ n ∷ take (padded size) rest;
       is = ap (λ (t : List ℕ). k ∷ l ∷ m ∷ n ∷ t) (sym (take-append-drop (padded size) rest));
-      spells = spelled;
-    } in
-    subst (λ (y : Attribute × List ℕ). Takes (k ∷ l ∷ m ∷ n ∷ rest) y.0 y.1) (some_is found x g.1) done
+      spells = record {
+        padding = take (padded size - size) (drop size rest);
+        is = cc;
+        short = omega (arith, length-take (padded size - size) (drop size rest));
+        aligned = omega (arith, length-take (padded size) rest);
+        kind_fits = number_fits k l two.0;
+        value_fits = omega (arith, size-is, number_fits m n two.1);
+      };
+    })
+
+pub first_size : (bytes : List ℕ) (x : Attribute × List ℕ) → first_attribute bytes ≡ Some x → length bytes ≡ length x.1 + size_of x.0
+first_size = first_found (λ bytes x. length bytes ≡ length x.1 + size_of x.0) (λ k l m n rest long.
+    let size = from_be_bytes w16 (m ∷ n ∷ []) in
+    omega (arith, length-take size rest, length-drop (padded size) rest))
 
 pub first_complete : (front rest : List ℕ) (a : Attribute) → SpellsAttribute front a → first_attribute (front ++ rest) ≡ Some (a, rest)
 unfolding first_attribute
@@ -108,8 +101,8 @@ first_complete front rest a s =
     ∙ ap (λ (k : ℕ). value_at a.kind k bytes) size-again
     ∙ read
 
-pub attribute_size : (front : List ℕ) (a : Attribute) → SpellsAttribute front a → 4 ≤ length front
-attribute_size front a s = let e : length front ≡ 4 + length a.value + length s.padding = ap length s.is ∙ omega (arith, length-append a.value s.padding) in omega arith
+pub attribute_size : (front : List ℕ) (a : Attribute) → SpellsAttribute front a → length front ≡ size_of a
+attribute_size front a s = let e : length front ≡ 4 + length a.value + length s.padding = ap length s.is ∙ omega (arith, length-append a.value s.padding) in omega (arith, s.short, s.aligned)
 
 -- ---- the whole walk
 
@@ -121,13 +114,11 @@ within_complete (a ∷ others) zero bytes s h = absurd (omega arith)
 within_complete (a ∷ others) (suc n) bytes s h =
     let front = s.0 in
     let rest = s.1 in
-    let some-bytes : eqb (length bytes) 0 ≡ false = eqb-no (length bytes) (omega (arith, ap length s.2, length-append front rest, attribute_size front a s.3)) in
+    let long : 0 < length bytes = omega (arith, ap length s.2, length-append front rest, attribute_size front a s.3) in
+    let some-bytes : eqb (length bytes) 0 ≡ false = grind arith in
     let first : first_attribute bytes ≡ Some (a, rest) = ap first_attribute s.2 ∙ first_complete front rest a s.3 in
     let others-is : attributes_within n rest ≡ Some others = within_complete others n rest s.4 (omega arith) in
     rw (some-bytes, first, others-is) refl
-  where
-    eqb-no : (n : ℕ) → 0 < n → eqb n 0 ≡ false
-    eqb-no n h = grind arith
 
 ended : {A : Type 0} (b : Bool) (x : A) (y : Option A) (z : A) → cond b (Some x) y ≡ Some z → ((b ≡ true) × (x ≡ z)) ⊎ ((b ≡ false) × (y ≡ Some z))
 ended true x y z e = inl (refl, cc)
@@ -151,7 +142,7 @@ within_sound (suc n) bytes attributes fits e =
     elim (ended (eqb (length bytes) 0) [] _ attributes e) [
       | inl w ↦ nothing_spells bytes attributes w.0 w.1
       | inr w ↦ option_and_then_some _ (first_attribute bytes) attributes w.1 (λ x first more.
-          let t = first_sound bytes x fits first in
+          let t = first_sound bytes x first fits in
           let m = mapped (λ others. x.0 ∷ others) (attributes_within n x.1) attributes more in
           let rest-fits : IsBytes x.1 = rest_bytes bytes t.front x.1 t.is fits in
           subst (SpellsAttributes bytes) m.2 (t.front, x.1, t.is, t.spells, within_sound n x.1 m.0 rest-fits m.1))
@@ -159,18 +150,6 @@ within_sound (suc n) bytes attributes fits e =
   where
     rest_bytes : (bytes front rest : List ℕ) → bytes ≡ front ++ rest → IsBytes bytes → IsBytes rest
     rest_bytes bytes front rest e fits = rw (← drop_at front rest (length front) refl, ← e) (IsBytes-drop (length front) bytes fits)
-
-first_shorter : (bytes : List ℕ) (x : Attribute × List ℕ) → first_attribute bytes ≡ Some x → length x.1 < length bytes
-unfolding first_attribute
-first_shorter [] x e = absurd cc
-first_shorter (k ∷ []) x e = absurd cc
-first_shorter (k ∷ l ∷ []) x e = absurd cc
-first_shorter (k ∷ l ∷ m ∷ []) x e = absurd cc
-first_shorter (k ∷ l ∷ m ∷ n ∷ rest) x e =
-    let size = from_be_bytes w16 (m ∷ n ∷ []) in
-    let g = chosen (ltb (length rest) (padded size)) _ x e in
-    let rest-is : drop (padded size) rest ≡ x.1 = ap (λ (y : Attribute × List ℕ). y.1) (some_is _ x g.1) in
-    omega (arith, ap length rest-is, length-drop (padded size) rest)
 
 same_step : (n m : ℕ) (o : Option (Attribute × List ℕ)) → ((x : Attribute × List ℕ) → o ≡ Some x → attributes_within n x.1 ≡ attributes_within m x.1)
     → option_and_then (λ x. option_map (λ others. x.0 ∷ others) (attributes_within n x.1)) o ≡ option_and_then (λ x. option_map (λ others. x.0 ∷ others) (attributes_within m x.1)) o
@@ -184,7 +163,7 @@ fuel zero (suc m) bytes h k = let e : length bytes ≡ 0 = omega arith in rw e r
 fuel (suc n) zero bytes h k = let e : length bytes ≡ 0 = omega arith in rw e refl
 fuel (suc n) (suc m) bytes h k =
     ap (cond (eqb (length bytes) 0) (Some [])) (same_step n m (first_attribute bytes) (λ x e.
-    let shorter = first_shorter bytes x e in
+    let shorter = first_size bytes x e in
     fuel n m x.1 (omega arith) (omega arith)))
 
 -- ---- what the code's loops use
@@ -196,7 +175,7 @@ in_nil = refl
 pub in_some : (bytes : List ℕ) (x : Attribute × List ℕ) → first_attribute bytes ≡ Some x → attributes_in bytes ≡ option_map (λ others. x.0 ∷ others) (attributes_in x.1)
 unfolding attributes_in attributes_within
 in_some bytes x e =
-    let shorter = first_shorter bytes x e in
+    let shorter = first_size bytes x e in
     let one : attributes_within (length bytes) bytes ≡ attributes_within (suc (length bytes)) bytes = fuel (length bytes) (suc (length bytes)) bytes (omega arith) (omega arith) in
     let some-bytes : eqb (length bytes) 0 ≡ false = grind arith in
     let rest : attributes_within (length bytes) x.1 ≡ attributes_within (length x.1) x.1 = fuel (length bytes) (length x.1) x.1 (omega arith) (omega arith) in
@@ -224,12 +203,15 @@ in_complete bytes attributes s = within_complete attributes (length bytes) bytes
 
 -- ---- one step of the walk
 
-is_some_mapped : {A B : Type 0} (f : A → B) (o : Option A) → IsSome (option_map f o) → IsSome o
-is_some_mapped f (Some x) h = refl
-is_some_mapped f None h = absurd cc
+pub is_some_step : (bytes : List ℕ) (a : Attribute) (rest : List ℕ) → first_attribute bytes ≡ Some (a, rest) → is_some (attributes_in rest) ≡ is_some (attributes_in bytes)
+is_some_step bytes a rest e = rw (in_some bytes (a, rest) e) (sym (mapped_same (attributes_in rest)))
+  where
+    mapped_same : (o : Option (List Attribute)) → is_some (option_map (λ others. a ∷ others) o) ≡ is_some o
+    mapped_same None = refl
+    mapped_same (Some x) = refl
 
 pub rest_whole : (bytes : List ℕ) (a : Attribute) (rest : List ℕ) → first_attribute bytes ≡ Some (a, rest) → IsSome (attributes_in bytes) → IsSome (attributes_in rest)
-rest_whole bytes a rest e h = is_some_mapped (λ others. a ∷ others) (attributes_in rest) (subst IsSome (in_some bytes (a, rest) e) h)
+rest_whole bytes a rest e h = is_some_step bytes a rest e ∙ h
 
 unwrap_mapped : (a : Attribute) (o : Option (List Attribute)) → IsSome o → unwrap_or (option_map (λ others. a ∷ others) o) [] ≡ a ∷ unwrap_or o []
 unwrap_mapped a (Some x) h = refl
@@ -245,14 +227,7 @@ of_end [] e = rw in_nil refl
 of_end (b ∷ bytes) e = rw (in_none (b ∷ bytes) e (omega arith)) refl
 
 pub rest_shorter : (bytes : List ℕ) (a : Attribute) (rest : List ℕ) → first_attribute bytes ≡ Some (a, rest) → length rest < length bytes
-rest_shorter bytes a rest e = first_shorter bytes (a, rest) e
-
-pub is_some_step : (bytes : List ℕ) (a : Attribute) (rest : List ℕ) → first_attribute bytes ≡ Some (a, rest) → is_some (attributes_in rest) ≡ is_some (attributes_in bytes)
-is_some_step bytes a rest e = rw (in_some bytes (a, rest) e) (sym (mapped_same (attributes_in rest)))
-  where
-    mapped_same : (o : Option (List Attribute)) → is_some (option_map (λ others. a ∷ others) o) ≡ is_some o
-    mapped_same None = refl
-    mapped_same (Some x) = refl
+rest_shorter bytes a rest e = let size = first_size bytes (a, rest) e in omega arith
 
 pub is_some_end : (bytes : List ℕ) → first_attribute bytes ≡ None → 0 < length bytes → is_some (attributes_in bytes) ≡ false
 is_some_end bytes e h = rw (in_none bytes e h) refl

@@ -74,7 +74,7 @@ changes_widen at count from n a b changes low high = record {
 
 module _ (at : ℕ) (payloads : List (List ℕ)) (gate limit : ℕ) (old : List ℕ) (is : HoldsFramesTo at payloads gate limit old) where
   was_closed : IsClosed gate old
-  was_closed = subst (λ (g : ℕ). IsClosed g old) is.ends (last_is_closed at payloads limit old is.frames)
+  was_closed = rw (← is.ends) (last_is_closed at payloads limit old is.frames)
 
   -- a content with the gate closed, and the same before it
   without : (image : List ℕ) → ((i : ℕ) → i < gate → slice_index image i ≡ slice_index old i) → IsClosed gate image → HoldsFrames at payloads limit image
@@ -133,10 +133,8 @@ module _ (payload bytes : List ℕ) (bytes_are : bytes ≡ framed payload ++ 0 �
     next : slice_index content (gate_after gate payload) ≡ 0
     next =
         let long = length-framed payload in
-        let place : gate + 1 + length (framed payload) ≡ gate_after gate payload = omega arith in
-        ap (λ (i : ℕ). slice_index content i) (sym place)
-        ∙ there (length (framed payload)) (omega (arith, length-append (framed payload) (0 ∷ [])))
-        ∙ get_or_at (framed payload) 0 [] 0 (length (framed payload)) refl
+        let place : gate_after gate payload ≡ gate + 1 + length (framed payload) = omega arith in
+        rw place (there (length (framed payload)) (omega (arith, length-append (framed payload) (0 ∷ [])))) ∙ get_or_at (framed payload) 0 [] 0 (length (framed payload)) refl
 
     pub waits_there : IsWaiting gate payload limit content
     waits_there = record {
@@ -155,7 +153,7 @@ module _ (at : ℕ) (payloads : List (List ℕ)) (payload : List ℕ) (gate coun
   }
 
   pub in_stage : (image : List ℕ) → HoldsWithout at payloads gate count limit old image → HoldsWithout at payloads gate (5 + length payload) limit old image
-  in_stage image holds = subst (λ (n : ℕ). HoldsWithout at payloads gate n limit old image) size holds
+  in_stage image holds = rw (← size) holds
 
   module _ (mid : List ℕ) (staged : ChangesOnly (gate + 1) count old mid) where
     both : (new : List ℕ) → ChangesOnly gate 1 mid new → ChangesOnly gate (6 + length payload) old new
@@ -168,16 +166,13 @@ module _ (at : ℕ) (payloads : List (List ℕ)) (payload : List ℕ) (gate coun
     after_second new holds = record { others = both new holds.others; frames = holds.frames }
 
 -- no step
+unchanged : (at count : ℕ) (old : List ℕ) → ChangesOnly at count old old
+unchanged at count old = record { size = refl; before = λ i below. refl; after = λ i above. refl }
+
 pub untouched : (at : ℕ) (payloads : List (List ℕ)) (payload : List ℕ) (gate count limit : ℕ) (old : List ℕ) → HoldsFramesTo at payloads gate limit old
     → (image : List ℕ) → image ≡ old → HoldsWithOrWithout at payloads payload gate count limit old image
-untouched at payloads payload gate count limit old is image same = record {
-  others = subst (λ (l : List ℕ). ChangesOnly gate count old l) (sym same) (record { size = refl; before = λ i below. refl; after = λ i above. refl });
-  frames = inl (subst (HoldsFrames at payloads limit) (sym same) is.frames);
-}
+untouched at payloads payload gate count limit old is image same = rw same (record { others = unchanged gate count old; frames = inl is.frames })
 
 pub untouched_alone : (at : ℕ) (payloads : List (List ℕ)) (gate count limit : ℕ) (old : List ℕ) → HoldsFramesTo at payloads gate limit old
     → (image : List ℕ) → image ≡ old → HoldsWithout at payloads gate count limit old image
-untouched_alone at payloads gate count limit old is image same = record {
-  others = subst (λ (l : List ℕ). ChangesOnly (gate + 1) count old l) (sym same) (record { size = refl; before = λ i below. refl; after = λ i above. refl });
-  frames = subst (HoldsFrames at payloads limit) (sym same) is.frames;
-}
+untouched_alone at payloads gate count limit old is image same = rw same (record { others = unchanged (gate + 1) count old; frames = is.frames })

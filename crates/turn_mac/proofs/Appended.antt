@@ -1,12 +1,14 @@
 -- What an attribute that is added at the end leaves of the fronts of a message.
-use Rattle.std.proofs.Common.{◌≡◌, ℕ, suc, ◌+◌, ◌-◌, ◌≤◌, Bool, true, false, cond, eqb, List, [], ◌∷◌, ◌++◌, length, take, Option, Some, refl, sym, ap, subst, ◌∙◌, append_assoc, arith}
+use Rattle.std.proofs.Common.{◌≡◌, ℕ, suc, ◌+◌, ◌-◌, ◌≤◌, true, List, [], ◌∷◌, ◌++◌, length, take, Option, Some, refl, sym, ap, subst, ◌∙◌, append_assoc, arith}
 use Rattle.std.specs.Prelude.{bit_xor, sum_by}
 use Rattle.std.specs.Int.{w16, w32, to_be_bytes}
-use Rattle.std.proofs.lemmas.List.{append-nil, take_all, take-append-le}
-use Rattle.std.proofs.lemmas.List.Concat.{flat_map-append}
+use Rattle.std.proofs.lemmas.Bool.{eq-eqb}
+use Rattle.std.proofs.lemmas.List.{take_all, take-append-le}
 use Rattle.std.proofs.lemmas.List.Sums.{sum_by-cons}
 use Rattle.turn_codec.specs.Grammar.{Attribute, Content, cookie, type_number, size_of, before, from, value_of, FirstHas, canonical_attribute, canonical_attributes, canonical, with_attribute, body_size}
 use Rattle.turn_codec.specs.AttributeTypes.{message_integrity, fingerprint}
+use Rattle.turn_codec.proofs.Building.{one_more}
+use Rattle.turn_codec.proofs.Finding.{value_of-some}
 use Rattle.sha1.specs.Sha1.{sha1}
 use Rattle.turn_mac.specs.Hmac.{hmac}
 use Rattle.turn_mac.specs.Crc.{crc}
@@ -14,58 +16,27 @@ use Rattle.turn_mac.specs.Integrity.{with_length, front_of, canonical_datagram, 
 
 -- ---- the first attribute of a type, where there was none before
 
-same_kind : (kind : ℕ) → eqb kind kind ≡ true
-same_kind kind = grind arith
-
 from-append : (kind : ℕ) (value : List ℕ) (attributes : List Attribute) → from kind attributes ≡ [] → from kind (attributes ++ record { kind = kind; value = value } ∷ []) ≡ record { kind = kind; value = value } ∷ []
-from-append kind value [] e = rw (same_kind kind) refl
-from-append kind value (a ∷ others) e = by_test (eqb a.kind kind) (λ h. from-append kind value others h) e
-  where
-    by_test : (t : Bool) → (from kind others ≡ [] → from kind (others ++ record { kind = kind; value = value } ∷ []) ≡ record { kind = kind; value = value } ∷ []) → cond t (a ∷ others) (from kind others) ≡ [] → cond t (a ∷ (others ++ record { kind = kind; value = value } ∷ [])) (from kind (others ++ record { kind = kind; value = value } ∷ [])) ≡ record { kind = kind; value = value } ∷ []
-    by_test true again e = absurd cc
-    by_test false again e = again e
+from-append kind value [] e = rw (eq-eqb kind kind refl) refl
+from-append kind value (a ∷ others) e = grind (arith, from-append kind value others)
 
 before-append : (kind : ℕ) (value : List ℕ) (attributes : List Attribute) → from kind attributes ≡ [] → before kind (attributes ++ record { kind = kind; value = value } ∷ []) ≡ attributes
-before-append kind value [] e = rw (same_kind kind) refl
-before-append kind value (a ∷ others) e = by_test (eqb a.kind kind) (λ h. before-append kind value others h) e
-  where
-    by_test : (t : Bool) → (from kind others ≡ [] → before kind (others ++ record { kind = kind; value = value } ∷ []) ≡ others) → cond t (a ∷ others) (from kind others) ≡ [] → cond t [] (a ∷ before kind (others ++ record { kind = kind; value = value } ∷ [])) ≡ a ∷ others
-    by_test true again e = absurd cc
-    by_test false again e = ap (λ (t : List Attribute). a ∷ t) (again e)
-
-value_of-append : (kind : ℕ) (value : List ℕ) (attributes : List Attribute) → from kind attributes ≡ [] → value_of kind (attributes ++ record { kind = kind; value = value } ∷ []) ≡ Some value
-value_of-append kind value [] e = rw (same_kind kind) refl
-value_of-append kind value (a ∷ others) e = by_test (eqb a.kind kind) (λ h. value_of-append kind value others h) e
-  where
-    by_test : (t : Bool) → (from kind others ≡ [] → value_of kind (others ++ record { kind = kind; value = value } ∷ []) ≡ Some value) → cond t (a ∷ others) (from kind others) ≡ [] → cond t (Some a.value) (value_of kind (others ++ record { kind = kind; value = value } ∷ [])) ≡ Some value
-    by_test true again e = absurd cc
-    by_test false again e = again e
+before-append kind value [] e = rw (eq-eqb kind kind refl) refl
+before-append kind value (a ∷ others) e = grind (arith, before-append kind value others)
 
 -- ---- the first attribute of a type, where there was one before
 
 value_of-kept : (kind : ℕ) (value : List ℕ) (attributes more : List Attribute) → value_of kind attributes ≡ Some value → value_of kind (attributes ++ more) ≡ Some value
 value_of-kept kind value [] more e = absurd cc
-value_of-kept kind value (a ∷ others) more e = by_test (eqb a.kind kind) (λ h. value_of-kept kind value others more h) e
-  where
-    by_test : (t : Bool) → (value_of kind others ≡ Some value → value_of kind (others ++ more) ≡ Some value) → cond t (Some a.value) (value_of kind others) ≡ Some value → cond t (Some a.value) (value_of kind (others ++ more)) ≡ Some value
-    by_test true again e = e
-    by_test false again e = again e
+value_of-kept kind value (a ∷ others) more e = grind (arith, value_of-kept kind value others more)
 
 before-kept : (kind : ℕ) (value : List ℕ) (attributes more : List Attribute) → value_of kind attributes ≡ Some value → before kind (attributes ++ more) ≡ before kind attributes
 before-kept kind value [] more e = absurd cc
-before-kept kind value (a ∷ others) more e = by_test (eqb a.kind kind) (λ h. before-kept kind value others more h) e
-  where
-    by_test : (t : Bool) → (value_of kind others ≡ Some value → before kind (others ++ more) ≡ before kind others) → cond t (Some a.value) (value_of kind others) ≡ Some value → cond t [] (a ∷ before kind (others ++ more)) ≡ cond t [] (a ∷ before kind others)
-    by_test true again e = refl
-    by_test false again e = ap (λ (t : List Attribute). a ∷ t) (again e)
+before-kept kind value (a ∷ others) more e = grind (arith, before-kept kind value others more)
 
 before_size : (kind : ℕ) (attributes : List Attribute) → sum_by size_of (before kind attributes) ≤ sum_by size_of attributes
 before_size kind [] = omega arith
-before_size kind (a ∷ others) = by_test (eqb a.kind kind) (before_size kind others)
-  where
-    by_test : (t : Bool) → sum_by size_of (before kind others) ≤ sum_by size_of others → sum_by size_of (cond t [] (a ∷ before kind others)) ≤ sum_by size_of (a ∷ others)
-    by_test true h = omega arith
-    by_test false h = omega (arith, h, sum_by-cons size_of a (before kind others), sum_by-cons size_of a others)
+before_size kind (a ∷ others) = grind (arith, before_size kind others, sum_by-cons size_of a (before kind others), sum_by-cons size_of a others)
 
 -- ---- the fronts of a message with one attribute more
 
@@ -77,9 +48,7 @@ same_rest : (m : Content) (a : Attribute) (k : ℕ) → after_cookie k ≤ lengt
 unfolding canonical after_cookie
 same_rest m a k fits =
     let body = canonical_attributes m.attributes in
-    let more : canonical_attributes (m.attributes ++ a ∷ []) ≡ body ++ canonical_attribute a =
-    flat_map-append canonical_attribute m.attributes (a ∷ []) ∙ ap (λ (t : List ℕ). body ++ t) (append-nil (canonical_attribute a)) in
-    ap (λ (t : List ℕ). take k (m.tx ++ t)) more
+    ap (λ (t : List ℕ). take k (m.tx ++ t)) (one_more m.attributes a)
     ∙ ap (take k) (sym (append_assoc m.tx body (canonical_attribute a)))
     ∙ take-append-le k (m.tx ++ body) (canonical_attribute a) (omega arith)
 
@@ -120,7 +89,7 @@ pub integrity_appended : (key : List ℕ) (m : Content) (v : List ℕ) → lengt
     → IntegrityHolds key (canonical_datagram (with_attribute m message_integrity v))
 unfolding some_list sized
 integrity_appended key m v length-is none v-is =
-    value_of-append message_integrity v m.attributes none
+    value_of-some message_integrity (with_attribute m message_integrity v).attributes v true (rw (from-append message_integrity v m.attributes none) (refl, refl))
     ∙ ap some_list (v-is ∙ ap (hmac sha1 key) (sym (front_as_it_was (λ k. k + 4) m message_integrity v length-is none)))
 
 pub integrity_kept : (key : List ℕ) (m : Content) (kind : ℕ) (v : List ℕ) → length (canonical m) ≡ 20 + body_size m → IntegrityHolds key (canonical_datagram m)

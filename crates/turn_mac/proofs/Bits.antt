@@ -1,77 +1,35 @@
 -- Exclusive or, on numbers and on lists of bits.
-use Rattle.std.proofs.Common.{◌≡◌, ℕ, zero, suc, ◌+◌, ◌-◌, ◌*◌, ◌/◌, ◌%◌, ◌^◌, ◌<◌, ◌≤◌, Bool, true, false, eqb, List, [], ◌∷◌, ◌++◌, length, refl, sym, ap, ◌∙◌, arith, inl, inr}
-use Rattle.std.specs.Prelude.{bit_xor, replicate, ◌⊎◌}
-use Rattle.std.specs.Int.{bit_at}
+use Rattle.std.proofs.Common.{◌≡◌, ℕ, zero, suc, ◌+◌, ◌*◌, ◌/◌, ◌%◌, ◌^◌, ◌<◌, Bool, true, false, eqb, List, [], ◌∷◌, ◌++◌, length, refl, sym, ap, ◌∙◌, arith}
+use Rattle.std.specs.Prelude.{bit_xor, replicate}
 use Rattle.std.proofs.Math.Nat.{pow-suc}
-use Rattle.std.proofs.lemmas.Bool.{cases_lt}
-use Rattle.std.proofs.lemmas.Nat.Bits.{bit_at_xor, bit_at-suc, bit_at_lowest, same_from_bits, bit_at_cat_low, bit_at_cat_high, bit_at_above, bit_at-zero, bit_at-lt}
+use Rattle.std.proofs.lemmas.Bool.Decides.{nat_tests}
+use Rattle.std.proofs.lemmas.Nat.{xor_block, xor_comm, xor_shr}
+use lib.Bits.{xor_add_and, xor_assoc, xor_zero_r}
 use Rattle.turn_mac.specs.Crc.{bits_of, bool_xor, aligned_sum}
-
-pub xor_assoc : (a b c : ℕ) → bit_xor (bit_xor a b) c ≡ bit_xor a (bit_xor b c)
-xor_assoc a b c = same_from_bits _ _ (λ i.
-    let ab = bit_at_xor a b i in
-    let bc = bit_at_xor b c i in
-    let l = bit_at_xor (bit_xor a b) c i in
-    let r = bit_at_xor a (bit_xor b c) i in
-    let ha = bit_at-lt a i in
-    let hb = bit_at-lt b i in
-    let hc = bit_at-lt c i in
-    omega arith)
-
-pub xor_comm : (a b : ℕ) → bit_xor a b ≡ bit_xor b a
-xor_comm a b = same_from_bits _ _ (λ i. let l = bit_at_xor a b i in let r = bit_at_xor b a i in omega arith)
 
 -- a and c change places
 pub xor_swap : (a b c : ℕ) → bit_xor (bit_xor a b) c ≡ bit_xor (bit_xor a c) b
 xor_swap a b c = xor_assoc a b c ∙ ap (bit_xor a) (xor_comm b c) ∙ sym (xor_assoc a c b)
 
-pub xor_zero : (a : ℕ) → bit_xor a 0 ≡ a
-xor_zero a = same_from_bits _ _ (λ i. let l = bit_at_xor a 0 i in let z = bit_at-zero i in let h = bit_at-lt a i in omega arith)
-
 pub xor_half : (a b : ℕ) → bit_xor a b / 2 ≡ bit_xor (a / 2) (b / 2)
-xor_half a b = same_from_bits _ _ (λ i.
-    let l = bit_at_xor a b (suc i) in
-    let r = bit_at_xor (a / 2) (b / 2) i in
-    let x = bit_at-suc (bit_xor a b) i in
-    let ya = bit_at-suc a i in
-    let yb = bit_at-suc b i in
-    sym x ∙ l ∙ ap (λ (k : ℕ). (k + bit_at b (suc i)) % 2) ya ∙ ap (λ (k : ℕ). (bit_at (a / 2) i + k) % 2) yb ∙ sym r)
+xor_half a b = xor_shr a b 1
 
-pub xor_low : (a b : ℕ) → bit_xor a b % 2 ≡ (a % 2 + b % 2) % 2
-xor_low a b = sym (bit_at_lowest (bit_xor a b)) ∙ bit_at_xor a b 0 ∙ ap (λ (k : ℕ). (k + bit_at b 0) % 2) (bit_at_lowest a) ∙ ap (λ (k : ℕ). (a % 2 + k) % 2) (bit_at_lowest b)
-
-odd_sum : (a b : ℕ) → a < 2 → b < 2 → eqb ((a + b) % 2) 1 ≡ bool_xor (eqb a 1) (eqb b 1)
-odd_sum zero zero h k = refl
-odd_sum zero (suc zero) h k = refl
-odd_sum (suc zero) zero h k = refl
-odd_sum (suc zero) (suc zero) h k = refl
-odd_sum (suc (suc a)) b h k = absurd (omega arith)
-odd_sum zero (suc (suc b)) h k = absurd (omega arith)
-odd_sum (suc zero) (suc (suc b)) h k = absurd (omega arith)
+odd_sum : (x a b : ℕ) → x ≡ (a + b) % 2 → eqb x 1 ≡ bool_xor (eqb (a % 2) 1) (eqb (b % 2) 1)
+odd_sum x a b e = grind (arith, nat_tests)
 
 pub xor_odd : (a b : ℕ) → eqb (bit_xor a b % 2) 1 ≡ bool_xor (eqb (a % 2) 1) (eqb (b % 2) 1)
-xor_odd a b = ap (λ (k : ℕ). eqb k 1) (xor_low a b) ∙ odd_sum (a % 2) (b % 2) (omega arith) (omega arith)
+xor_odd a b = odd_sum (bit_xor a b % 2) a b (let both = xor_add_and a b in omega arith)
 
 -- the two parts of a number
 pub split_at_byte : (x : ℕ) → x ≡ bit_xor (x % 256) (x / 256 * 2 ^ 8)
-split_at_byte x = same_from_bits _ _ (λ i. one x i (cases_lt i 8))
-  where
-    one : (x i : ℕ) → (i < 8) ⊎ (8 ≤ i) → bit_at x i ≡ bit_at (bit_xor (x % 256) (x / 256 * 2 ^ 8)) i
-    one x i w =
-        let whole : x ≡ x / 256 * 2 ^ 8 + x % 256 = omega arith in
-        let both = bit_at_xor (x % 256) (x / 256 * 2 ^ 8) i in
-        let low = bit_at-lt (x % 256) i in
-        let high = bit_at-lt (x / 256) (i - 8) in
-        let none : x / 256 * 2 ^ 8 + 0 ≡ x / 256 * 2 ^ 8 = omega arith in
-        elim w [
-          | inl lt ↦ let a = ap (λ (k : ℕ). bit_at k i) whole ∙ bit_at_cat_low (x / 256) 8 (x % 256) i lt in
-              let b = ap (λ (k : ℕ). bit_at k i) (sym none) ∙ bit_at_cat_low (x / 256) 8 0 i lt ∙ bit_at-zero i in
-              a ∙ sym (both ∙ (let e : (bit_at (x % 256) i + bit_at (x / 256 * 2 ^ 8) i) % 2 ≡ bit_at (x % 256) i = omega (arith, b, low) in e))
-          | inr le ↦ let a = ap (λ (k : ℕ). bit_at k i) whole ∙ bit_at_cat_high (x / 256) 8 (x % 256) i (omega arith) le in
-              let b = ap (λ (k : ℕ). bit_at k i) (sym none) ∙ bit_at_cat_high (x / 256) 8 0 i (omega arith) le in
-              let z = bit_at_above (x % 256) 8 i (omega arith) le in
-              a ∙ sym (both ∙ (let e : (bit_at (x % 256) i + bit_at (x / 256 * 2 ^ 8) i) % 2 ≡ bit_at (x / 256) (i - 8) = omega (arith, b, z, high) in e))
-        ]
+split_at_byte x =
+    let parts = xor_block 8 0 (x / 256) (x % 256) 0 (omega arith) (omega arith) in
+    let low = xor_zero_r (x % 256) in
+    let high = xor_comm 0 (x / 256) ∙ xor_zero_r (x / 256) in
+    let front : 0 * 2 ^ 8 + x % 256 ≡ x % 256 = omega arith in
+    let back : x / 256 * 2 ^ 8 + 0 ≡ x / 256 * 2 ^ 8 = omega arith in
+    let both = ap (λ (k : ℕ). bit_xor k (x / 256 * 2 ^ 8 + 0)) front ∙ ap (bit_xor (x % 256)) back in
+    omega arith
 
 -- ---- lists of bits
 
@@ -91,21 +49,15 @@ bits_more (suc n) x h = ap (λ (bits : List Bool). eqb (x % 2) 1 ∷ bits) (bits
 
 -- ---- sums of polynomials
 
-bool_xor_false : (a : Bool) → bool_xor a false ≡ a
+pub bool_xor_false : (a : Bool) → bool_xor a false ≡ a
 bool_xor_false true = refl
 bool_xor_false false = refl
 
 bool_xor_assoc : (a b c : Bool) → bool_xor (bool_xor a b) c ≡ bool_xor a (bool_xor b c)
-bool_xor_assoc true true true = refl
-bool_xor_assoc true true false = refl
-bool_xor_assoc true false c = refl
-bool_xor_assoc false b c = refl
+bool_xor_assoc a b c = grind arith
 
 pub bool_xor_comm : (a b : Bool) → bool_xor a b ≡ bool_xor b a
-bool_xor_comm true true = refl
-bool_xor_comm true false = refl
-bool_xor_comm false true = refl
-bool_xor_comm false false = refl
+bool_xor_comm a b = grind arith
 
 pub aligned_sum_nil : (p : List Bool) → aligned_sum p [] ≡ p
 aligned_sum_nil [] = refl

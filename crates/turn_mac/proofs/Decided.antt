@@ -1,10 +1,10 @@
 -- The tests of MESSAGE-INTEGRITY and FINGERPRINT as Booleans are the facts.
-use Rattle.std.proofs.Common.{◌≡◌, ℕ, Bool, true, false, ◌&&◌, eqb, List, [], ◌∷◌, length, Option, Some, None, refl, sym, ap}
+use Rattle.std.proofs.Common.{◌≡◌, ℕ, Bool, true, false, List, [], ◌∷◌, Option, Some, None, sym, ap}
 use Rattle.std.specs.Bool.{Decides}
 use Rattle.std.specs.Prelude.{IsTrue, ◌↔◌}
 use Rattle.std.specs.Str.{bytes_eq}
 use Rattle.std.specs.Option.{option_map_or}
-use Rattle.std.proofs.lemmas.Bool.Decides.{same_from_decides}
+use Rattle.std.proofs.lemmas.Bool.Decides.{Decides-and, same_from_decides}
 use Rattle.std.proofs.lemmas.Slice.Eq.{bytes_eq-Decides}
 use Rattle.turn_codec.specs.AttributeTypes.{fingerprint, message_integrity}
 use Rattle.turn_codec.specs.Grammar.{Attribute, Datagram, FirstHas, from, value_of}
@@ -13,12 +13,7 @@ use Rattle.turn_mac.specs.Fingerprint.{is_last_with, is_fingerprint_right}
 
 is_last_with-Decides : (attributes : List Attribute) (value : List ℕ) → Decides (is_last_with attributes value) (FirstHas attributes value true)
 is_last_with-Decides [] value = (λ e. absurd cc, λ h. absurd h)
-is_last_with-Decides (a ∷ others) value = both (bytes_eq a.value value) (eqb (length others) 0) (bytes_eq-Decides a.value value)
-  where
-    both : (b last : Bool) → Decides b (a.value ≡ value) → Decides (b && last) ((a.value ≡ value) × (true ≡ last))
-    both true true h = (λ e. (h.0 refl, refl), λ f. refl)
-    both true false h = (λ e. absurd cc, λ f. sym f.1)
-    both false last h = (λ e. absurd cc, λ f. h.1 f.0)
+is_last_with-Decides (a ∷ others) value = Decides-and _ _ (bytes_eq-Decides a.value value) (λ e. sym e, λ e. sym e)
 
 pub fingerprint_Decides : (d : Datagram) → Decides (is_fingerprint_right d) (FingerprintHolds d)
 unfolding is_fingerprint_right

@@ -2,11 +2,13 @@
 use Rattle.std.proofs.Common.{◌≡◌, ℕ, zero, suc, ◌+◌, ◌-◌, ◌*◌, ◌/◌, ◌%◌, ◌^◌, ◌<◌, Bool, true, false, not, cond, eqb, List, [], ◌∷◌, ◌++◌, length, refl, sym, ap, ◌∙◌, arith}
 use Rattle.std.specs.Prelude.{bit_xor, map, reverse, replicate}
 use Rattle.std.proofs.Math.Nat.{pow-suc}
-use Rattle.std.proofs.lemmas.Nat.{xor_of_32}
+use Rattle.std.proofs.lemmas.Bool.Decides.{nat_tests}
+use Rattle.std.proofs.lemmas.Nat.{xor_comm, xor_of_32}
+use lib.Bits.{xor_zero_r}
 use Rattle.std.proofs.lemmas.List.{length-append, reverse-append}
 use Rattle.turn_mac.specs.Crc.{bits_of, number_from, lower_terms, bool_xor, aligned_sum, remainder, message_bits, dividend, crc, byte_remainder}
 use Rattle.turn_mac.specs.Register.{shift, shifts, register_after, IsBytes}
-use Rattle.turn_mac.proofs.Bits.{xor_swap, xor_comm, xor_zero, xor_half, xor_odd, length-bits_of, bits_of-xor, bits_more, bool_xor_comm, aligned_sum_false, aligned_sum_twice, length-aligned_sum, zeros_plus, aligned_sum_zeros}
+use Rattle.turn_mac.proofs.Bits.{xor_swap, xor_half, xor_odd, length-bits_of, bits_of-xor, bits_more, bool_xor_comm, aligned_sum_false, aligned_sum_twice, length-aligned_sum, zeros_plus, aligned_sum_zeros}
 
 -- ---- on lists of bits
 
@@ -43,23 +45,8 @@ divides (b ∷ m) (h ∷ u) len =
 
 -- ---- on numbers
 
-lower_terms_bits : lower_terms ≡ bits_of 32 0xEDB88320
-lower_terms_bits = refl
-
-pub shift_fits : (c : ℕ) → c < 2 ^ 32 → shift c < 2 ^ 32
-shift_fits c h = by_test (eqb (c % 2) 1)
-  where
-    by_test : (t : Bool) → cond t (bit_xor (c / 2) 0xEDB88320) (c / 2) < 2 ^ 32
-    by_test true = xor_of_32 (c / 2) 0xEDB88320 (omega arith) (omega arith)
-    by_test false = omega arith
-
-pub shifts_fit : (n c : ℕ) → c < 2 ^ 32 → shifts n c < 2 ^ 32
-unfolding shifts
-shifts_fit zero c h = h
-shifts_fit (suc n) c h = shifts_fit n (shift c) (shift_fits c h)
-
 -- the generator taken off a number
-next : Bool → ℕ → ℕ
+unfoldable pub next : Bool → ℕ → ℕ
 next t x = cond t (bit_xor x 0xEDB88320) x
 
 next_fits : (t : Bool) (x : ℕ) → x < 2 ^ 31 → next t x < 2 ^ 32
@@ -67,20 +54,29 @@ unfolding next
 next_fits true x h = xor_of_32 x 0xEDB88320 (omega arith) (omega arith)
 next_fits false x h = omega arith
 
-shifted_bits : (t : Bool) (x : ℕ) → x < 2 ^ 31 → shifted t (bits_of 31 x) ≡ bits_of 32 (next t x)
-unfolding shifted next
-shifted_bits true x h = ap (λ (u : List Bool). aligned_sum u lower_terms) (bits_more 31 x h) ∙ ap (aligned_sum (bits_of 32 x)) lower_terms_bits ∙ sym (bits_of-xor 32 x 0xEDB88320)
-shifted_bits false x h = bits_more 31 x h
-
-next_xor : (t : Bool) (x y : ℕ) → next t (bit_xor x y) ≡ bit_xor (next t x) y
+pub next_xor : (t : Bool) (x y : ℕ) → next t (bit_xor x y) ≡ bit_xor (next t x) y
 unfolding next
 next_xor true x y = xor_swap x y 0xEDB88320
 next_xor false x y = refl
 
+pub shift_fits : (c : ℕ) → c < 2 ^ 32 → shift c < 2 ^ 32
+unfolding next
+shift_fits c h = next_fits (eqb (c % 2) 1) (c / 2) (omega arith)
+
+pub shifts_fit : (n c : ℕ) → c < 2 ^ 32 → shifts n c < 2 ^ 32
+unfolding shifts
+shifts_fit zero c h = h
+shifts_fit (suc n) c h = shifts_fit n (shift c) (shift_fits c h)
+
+shifted_bits : (t : Bool) (x : ℕ) → x < 2 ^ 31 → shifted t (bits_of 31 x) ≡ bits_of 32 (next t x)
+unfolding shifted next
+shifted_bits true x h = ap (λ (u : List Bool). aligned_sum u lower_terms) (bits_more 31 x h) ∙ sym (bits_of-xor 32 x 0xEDB88320)
+shifted_bits false x h = bits_more 31 x h
+
 -- n bits of a number, fed into the register
 fed : (n c y : ℕ) (m : List Bool) → c < 2 ^ 32 → y < 2 ^ n → bits_after (bits_of 32 c) (bits_of n y ++ m) ≡ bits_after (bits_of 32 (shifts n (bit_xor c y))) m
 unfolding shifts bits_after next
-fed zero c y m h k = let e : y ≡ 0 = omega arith in ap (λ (x : ℕ). bits_after (bits_of 32 x) m) (sym (xor_zero c) ∙ ap (bit_xor c) (sym e))
+fed zero c y m h k = let e : y ≡ 0 = omega arith in ap (λ (x : ℕ). bits_after (bits_of 32 x) m) (sym (xor_zero_r c) ∙ ap (bit_xor c) (sym e))
 fed (suc n) c y m h k =
     let t = bool_xor (eqb (y % 2) 1) (eqb (c % 2) 1) in
     let t-is : t ≡ eqb (bit_xor c y % 2) 1 = bool_xor_comm (eqb (y % 2) 1) (eqb (c % 2) 1) ∙ sym (xor_odd c y) in
@@ -128,20 +124,11 @@ unfolding low_first
 complement zero x h = let e : x ≡ 0 = omega arith in rw e refl
 complement (suc n) x h =
     let half = complement n (x / 2) (omega (arith, pow-suc 2 n)) in
-    let bit = low_bit (x % 2) (omega arith) in
-    omega (arith, half, bit, pow-suc 2 n)
-  where
-    low_bit : (r : ℕ) → r < 2 → cond (not (eqb r 1)) 1 0 + r ≡ 1
-    low_bit zero h = refl
-    low_bit (suc zero) h = refl
-    low_bit (suc (suc r)) h = absurd (omega arith)
+    grind (arith, half, pow-suc 2 n, nat_tests)
 
 message_size : (bytes : List ℕ) → length (message_bits bytes) ≡ 8 * length bytes
 message_size [] = refl
 message_size (b ∷ bytes) = let e = message_size bytes in length-append (bits_of 8 b) (message_bits bytes) ∙ omega (arith, length-bits_of 8 b)
-
-ones : replicate 32 true ≡ bits_of 32 0xFFFF_FFFF
-ones = refl
 
 -- CRC-32 is the register's complement
 pub crc_is : (bytes : List ℕ) → IsBytes bytes → crc bytes ≡ 0xFFFF_FFFF - register_after 0xFFFF_FFFF bytes
@@ -150,7 +137,6 @@ crc_is bytes fits =
     let divided : remainder (8 * length bytes) (dividend bytes) ≡ bits_of 32 (register_after 0xFFFF_FFFF bytes) =
     ap (λ (n : ℕ). remainder n (dividend bytes)) (sym (message_size bytes))
     ∙ divides (message_bits bytes) (replicate 32 true) refl
-    ∙ ap (λ (u : List Bool). bits_after u (message_bits bytes)) ones
     ∙ register_bits bytes 0xFFFF_FFFF (omega arith) fits in
     let whole = complement 32 (register_after 0xFFFF_FFFF bytes) (register_fits bytes 0xFFFF_FFFF (omega arith) fits) in
     ap (λ (r : List Bool). number_from 0 (reverse (map not r))) divided
@@ -164,34 +150,18 @@ unfolding low_first
 number_of_bits zero x h = omega arith
 number_of_bits (suc n) x h =
     let half = number_of_bits n (x / 2) (omega (arith, pow-suc 2 n)) in
-    let bit = low_bit (x % 2) (omega arith) in
-    omega (arith, half, bit)
-  where
-    low_bit : (r : ℕ) → r < 2 → cond (eqb r 1) 1 0 ≡ r
-    low_bit zero h = refl
-    low_bit (suc zero) h = refl
-    low_bit (suc (suc r)) h = absurd (omega arith)
-
-zeros : replicate 32 false ≡ bits_of 32 0
-zeros = refl
-
-bits_after_none : (u : List Bool) → bits_after u [] ≡ u
-unfolding bits_after
-bits_after_none u = refl
+    grind (arith, half, nat_tests)
 
 -- the remainder of a byte is its register after eight steps
 pub byte_remainder_is : (byte : ℕ) → byte < 256 → byte_remainder byte ≡ shifts 8 byte
-unfolding byte_remainder
+unfolding byte_remainder bits_after
 byte_remainder_is byte fits =
     let bits = bits_of 8 byte in
-    let none : List Bool = [] in
     let divided : remainder 8 (bits ++ replicate 32 false) ≡ bits_of 32 (shifts 8 (bit_xor 0 byte)) =
     ap (remainder 8) (sym (aligned_sum_zeros 32 (bits ++ replicate 32 false)))
     ∙ divides bits (replicate 32 false) refl
-    ∙ ap (λ (u : List Bool). bits_after u bits) zeros
-    ∙ fed 8 0 byte none (omega arith) fits
-    ∙ bits_after_none (bits_of 32 (shifts 8 (bit_xor 0 byte))) in
-    let alone : bit_xor 0 byte ≡ byte = xor_comm 0 byte ∙ xor_zero byte in
+    ∙ fed 8 0 byte [] (omega arith) fits in
+    let alone : bit_xor 0 byte ≡ byte = xor_comm 0 byte ∙ xor_zero_r byte in
     ap (λ (r : List Bool). number_from 0 (reverse r)) divided
     ∙ reversed (bits_of 32 (shifts 8 (bit_xor 0 byte)))
     ∙ number_of_bits 32 (shifts 8 (bit_xor 0 byte)) (shifts_fit 8 (bit_xor 0 byte) (xor_of_32 0 byte (omega arith) (omega arith)))

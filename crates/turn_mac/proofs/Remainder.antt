@@ -5,20 +5,10 @@ use Rattle.turn_mac.specs.Crc.{lower_terms, generator, bool_xor, aligned_sum, re
 use Rattle.turn_mac.proofs.Bits.{length-aligned_sum, zeros_plus}
 
 bool_xor_swap : (a b c : Bool) → bool_xor (bool_xor a b) c ≡ bool_xor (bool_xor a c) b
-bool_xor_swap true true true = refl
-bool_xor_swap true true false = refl
-bool_xor_swap true false true = refl
-bool_xor_swap true false false = refl
-bool_xor_swap false true true = refl
-bool_xor_swap false true false = refl
-bool_xor_swap false false true = refl
-bool_xor_swap false false false = refl
+bool_xor_swap a b c = grind arith
 
 bool_xor_twice : (a b : Bool) → bool_xor (bool_xor a b) b ≡ a
-bool_xor_twice true true = refl
-bool_xor_twice true false = refl
-bool_xor_twice false true = refl
-bool_xor_twice false false = refl
+bool_xor_twice a b = grind arith
 
 plus_swap : (p u v : List Bool) → aligned_sum (aligned_sum p u) v ≡ aligned_sum (aligned_sum p v) u
 plus_swap [] u v = refl

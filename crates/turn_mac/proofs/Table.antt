@@ -1,14 +1,15 @@
 -- The table's entries are the remainders of the bytes.
-use Rattle.std.proofs.Common.{◌≡◌, ℕ, zero, suc, ◌+◌, ◌*◌, ◌/◌, ◌%◌, ◌^◌, ◌<◌, Bool, true, false, cond, eqb, List, [], ◌∷◌, ◌++◌, length, get_or, take, refl, sym, ap, ◌∙◌, arith}
+use Rattle.std.proofs.Common.{◌≡◌, ℕ, zero, suc, ◌+◌, ◌*◌, ◌/◌, ◌%◌, ◌^◌, ◌<◌, Bool, false, eqb, List, [], ◌∷◌, ◌++◌, length, get_or, take, refl, sym, ap, ◌∙◌, arith}
 use Rattle.std.specs.Prelude.{bit_xor}
 use Rattle.turn_mac.specs.Register.{shift, shifts, register_after}
 use Rattle.turn_mac.specs.declared.crc_table.TheConstants.{REMAINDERS}
 use Rattle.std.proofs.Math.Nat.{pow-suc}
 use Rattle.std.proofs.lemmas.Nat.{xor_shr}
+use lib.Bits.{xor_zero_r}
 use Rattle.std.proofs.lemmas.List.{take_more}
-use Rattle.turn_mac.specs.Crc.{bool_xor, byte_remainder, remainder}
-use Rattle.turn_mac.proofs.Division.{byte_remainder_is}
-use Rattle.turn_mac.proofs.Bits.{xor_zero, xor_swap, xor_half, xor_odd, split_at_byte}
+use Rattle.turn_mac.specs.Crc.{byte_remainder, remainder}
+use Rattle.turn_mac.proofs.Division.{byte_remainder_is, next, next_xor}
+use Rattle.turn_mac.proofs.Bits.{xor_half, xor_odd, bool_xor_false, split_at_byte}
 
 -- the remainders of n bytes from i on
 remainders : ℕ → ℕ → List ℕ
@@ -31,24 +32,13 @@ table_at byte h = ap (λ (t : List ℕ). get_or t byte 0) table ∙ remainders_a
 
 -- ---- eight bits at once
 
-even_odd : (w : ℕ) → eqb (2 * w % 2) 1 ≡ false
-even_odd w = let e : 2 * w % 2 ≡ 0 = omega arith in rw e refl
-
 shift_xor : (a w : ℕ) → shift (bit_xor a (2 * w)) ≡ bit_xor (shift a) w
+unfolding next
 shift_xor a w =
     let half : bit_xor a (2 * w) / 2 ≡ bit_xor (a / 2) w = xor_half a (2 * w) ∙ ap (bit_xor (a / 2)) (let e : 2 * w / 2 ≡ w = omega arith in e) in
-    let odd : eqb (bit_xor a (2 * w) % 2) 1 ≡ eqb (a % 2) 1 = xor_odd a (2 * w) ∙ rw even_odd (bool_xor_false (eqb (a % 2) 1)) in
-    ap (λ (t : Bool). cond t (bit_xor (bit_xor a (2 * w) / 2) 0xEDB88320) (bit_xor a (2 * w) / 2)) odd
-    ∙ ap (λ (x : ℕ). cond (eqb (a % 2) 1) (bit_xor x 0xEDB88320) x) half
-    ∙ by_test (eqb (a % 2) 1)
-  where
-    bool_xor_false : (t : Bool) → bool_xor t false ≡ t
-    bool_xor_false true = refl
-    bool_xor_false false = refl
-
-    by_test : (t : Bool) → cond t (bit_xor (bit_xor (a / 2) w) 0xEDB88320) (bit_xor (a / 2) w) ≡ bit_xor (cond t (bit_xor (a / 2) 0xEDB88320) (a / 2)) w
-    by_test true = xor_swap (a / 2) w 0xEDB88320
-    by_test false = refl
+    let even : eqb (2 * w % 2) 1 ≡ false = let e : 2 * w % 2 ≡ 0 = omega arith in rw e refl in
+    let odd : eqb (bit_xor a (2 * w) % 2) 1 ≡ eqb (a % 2) 1 = xor_odd a (2 * w) ∙ rw even (bool_xor_false (eqb (a % 2) 1)) in
+    ap (λ (t : Bool). next t (bit_xor a (2 * w) / 2)) odd ∙ ap (next (eqb (a % 2) 1)) half ∙ next_xor (eqb (a % 2) 1) (a / 2) w
 
 shifts_xor : (n a z : ℕ) → shifts n (bit_xor a (z * 2 ^ n)) ≡ bit_xor (shifts n a) z
 unfolding shifts
@@ -64,7 +54,7 @@ eight x = ap (shifts 8) (split_at_byte x) ∙ shifts_xor 8 (x % 256) (x / 256)
 -- one byte, by the table
 pub by_table : (c b : ℕ) → b < 256 → bit_xor (byte_remainder (bit_xor c b % 256)) (c / 256) ≡ shifts 8 (bit_xor c b)
 by_table c b h =
-    let high : bit_xor c b / 256 ≡ c / 256 = xor_shr c b 8 ∙ ap (bit_xor (c / 256)) (let e : b / 256 ≡ 0 = omega arith in e) ∙ xor_zero (c / 256) in
+    let high : bit_xor c b / 256 ≡ c / 256 = xor_shr c b 8 ∙ ap (bit_xor (c / 256)) (let e : b / 256 ≡ 0 = omega arith in e) ∙ xor_zero_r (c / 256) in
     ap (λ (x : ℕ). bit_xor x (c / 256)) (byte_remainder_is (bit_xor c b % 256) (omega arith))
     ∙ ap (bit_xor (shifts 8 (bit_xor c b % 256))) (sym high)
     ∙ sym (eight (bit_xor c b))

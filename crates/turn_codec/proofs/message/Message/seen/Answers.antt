@@ -1,9 +1,9 @@
-use Rattle.std.proofs.Common.{◌∙◌, ap, length, arith}
-use Rattle.turn_codec.proofs.Views.{few_view, before_le, seen_view, unseen_view, is_some_from, attributes_of-in}
+use Rattle.std.proofs.Common.{◌∙◌, ap, length, refl, arith}
+use Rattle.turn_codec.proofs.Views.{few_view, before_le, seen_view, unseen_view, attributes_of-in}
 use Rattle.turn_codec.proofs.message.Message.seen.Goals as goal
 
 pub new-requires : goal.new-requires
-new-requires c = is_some_from _ _ (seen_view c.self.inside.bytes.now c.args.self.now 8 c.in-Some.offset c.self.view_is c.self.invariant c.in-Some.ensures.0)
+new-requires c = rw (seen_view c.self.inside.bytes.now c.args.self.now 8 c.in-Some.offset c.self.view_is c.self.invariant c.in-Some.ensures.0) refl
 
 pub returns-in-Some-clause-value : goal.returns-in-Some-clause-value
 returns-in-Some-clause-value c = c.new.ensures ∙ attributes_of-in _ _ (seen_view c.self.inside.bytes.now c.args.self.now 8 c.in-Some.offset c.self.view_is c.self.invariant c.in-Some.ensures.0)
