@@ -1,12 +1,12 @@
 -- What the table of a history answers, after one more event and at a later moment.
-use Rattle.std.proofs.Common.{◌≡◌, ℕ, ◌+◌, ◌<◌, Bool, true, false, cond, ◌||◌, Option, Some, None, List, [], ◌∷◌, ◌++◌, map, reverse, refl, sym, ap, ◌∙◌, subst, arith, ltb, ltb-true, eqb, append_assoc}
+use Rattle.std.proofs.Common.{◌≡◌, ℕ, ◌+◌, ◌≤◌, ◌<◌, Bool, true, false, cond, Option, Some, None, List, [], ◌∷◌, ◌++◌, is_some, map, reverse, refl, sym, ap, ◌∙◌, subst, arith, ltb, lt-ltb, ltb-true, eqb}
 use Rattle.std.specs.Prelude.{nat_eq}
 use Rattle.std.specs.Option.{option_or, option_and_then, option_map}
 use Rattle.std.specs.Ordering.{nat_cmp, eq_by_cmp}
 use Rattle.std.proofs.lemmas.Cmp.{nat_cmp_total}
-use Rattle.std.specs.List.{flat_map, list_any, filter}
-use Rattle.std.proofs.lemmas.List.{reverse-append}
-use Rattle.std.proofs.lemmas.List.Elements.{filter-append}
+use Rattle.std.specs.List.{flat_map, list_any}
+use Rattle.std.proofs.lemmas.List.{append-nil, reverse-append}
+use Rattle.std.proofs.lemmas.List.Concat.{flat_map-append}
 use Rattle.std.proofs.lemmas.List.Folds.{list_any-append}
 use Rattle.std.proofs.lemmas.Bool.{or_from, or_parts, eqb-false}
 use Rattle.std.proofs.lemmas.Bool.Decides.{nat_tests}
@@ -17,11 +17,11 @@ use Rattle.turn_types.specs.declared.address.FiveTuple.{FiveTuple}
 use Rattle.turn_history.specs.declared.channel.Channel.{Channel}
 use Rattle.turn_history.specs.declared.reservation.Reservation.{Reservation}
 use Rattle.turn_types.specs.declared.message.Token.{Token}
-use Rattle.turn_types.specs.declared.message.TxId.{TxId}
 use Rattle.turn_types.specs.FiveTuple.{tuple_cmp, same_tuple}
 use Rattle.turn_history.specs.History.{PlainAct, Allocates, Renews, Permits, Binds, Event, History, first_some, own, addresses_of, numbers_of, permission_at, channel_at, channel_by, reserved_by, reservation_with, reservation_by, reservation_at, flat, reservation}
-use Rattle.turn_history.specs.Table.{ahead, channel_ahead, Entry, permissions_in, channels_in, entry_in, entry_of, Contents, table, still_permitted, still_bound, kept, purged, allocated, renewed, permitting, binding, applied_to, with_entry, applied, Reservations, reservation_ahead, reservations, still_reserved, with_reservation, reserving}
+use Rattle.turn_history.specs.Table.{ahead, channel_ahead, Entry, permissions_in, channels_in, entry_in, entry_of, Contents, table, still_permitted, still_bound, map_of, kept, purged, allocated, renewed, permitting, binding, applied_to, with_entry, applied, Reservations, reservation_ahead, reservations, still_reserved, with_reservation, reserving}
 use Rattle.turn_history.proofs.Maps.{tuple_total, tuple_exact, from_eq, get-map_of-all, outside_keys}
+use Rattle.turn_history.proofs.Places.{own-cons}
 use Rattle.turn_types.specs.Profile.{permission_lifetime, channel_lifetime, reservation_lifetime}
 
 -- ---- Tests
@@ -31,32 +31,74 @@ pub nat_same : (a k : ℕ) → eq_by_cmp nat_cmp a k ≡ nat_eq a k
 nat_same a k = grind (arith, nat_tests)
 
 any_same : (a : ℕ) (ks : List ℕ) → list_any (eq_by_cmp nat_cmp a) ks ≡ list_any (nat_eq a) ks
-any_same a [] = refl
-any_same a (k ∷ ks) = ap (λ b. b || list_any (eq_by_cmp nat_cmp a) ks) (nat_same a k) ∙ ap (λ b. nat_eq a k || b) (any_same a ks)
+any_same a ks = λ i. list_any (λ k. nat_same a k i) ks
+
+-- a test of what expires after a moment, as `ahead`, `channel_ahead` and `reservation_ahead` are
+pub record IsAhead {X : Type 0} (expiry : X → ℕ) (left : ℕ → Option X → Option X) : Type 0 where
+  pub none : (t : ℕ) → left t None ≡ None
+  pub some : (t : ℕ) (x : X) → left t (Some x) ≡ cond (ltb t (expiry x)) (Some x) None
+
+pub of_permissions : IsAhead (λ x. x) ahead
+of_permissions = record { none = λ t. refl; some = λ t x. refl }
+
+pub of_channels : IsAhead (λ c. c.expiry) channel_ahead
+of_channels = record { none = λ t. refl; some = λ t x. refl }
+
+pub of_reservations : IsAhead (λ r. r.expiry) reservation_ahead
+of_reservations = record { none = λ t. refl; some = λ t x. refl }
+
+module _ {X : Type 0} {expiry : X → ℕ} {left : ℕ → Option X → Option X} (test : IsAhead expiry left) where
+  -- what is left was there, and expires later
+  pub ahead_is : (t : ℕ) (o : Option X) (x : X) → left t o ≡ Some x → (o ≡ Some x) × (t < expiry x)
+  ahead_is t None x h = let no = test.none t in cc
+  ahead_is t (Some y) x h = let p = cond_some (ltb t (expiry y)) y x (sym (test.some t y) ∙ h) in (ap Some p.1, subst (λ z. t < expiry z) p.1 (ltb-true t (expiry y) p.0))
+
+  pub ahead_at : (t : ℕ) (o : Option X) (x : X) → o ≡ Some x → t < expiry x → left t o ≡ Some x
+  ahead_at t o x is h = ap (left t) is ∙ test.some t x ∙ ap (λ b. cond b (Some x) None) (lt-ltb t (expiry x) h)
+
+  pub some_ahead : (t : ℕ) (o : Option X) → is_some (left t o) ≡ true → is_some o ≡ true
+  some_ahead t None h = let no = ap is_some (test.none t) in cc
+  some_ahead t (Some x) h = refl
+
+  pub fresh : (t : ℕ) (x : X) → t < expiry x → (b : Bool) (o : Option X) → left t (option_or (cond b (Some x) None) o) ≡ cond b (Some x) (left t o)
+  fresh t x young true o = ahead_at t (Some x) x refl young
+  fresh t x young false o = refl
+
+  pub ahead-later : (t u : ℕ) → t ≤ u → (o : Option X) → left u (left t o) ≡ left u o
+  ahead-later t u le None = ap (left u) (test.none t)
+  ahead-later t u le (Some x) = ap (left u) (test.some t x) ∙ by_test (ltb t (expiry x)) refl
+    where
+      by_test : (b : Bool) → ltb t (expiry x) ≡ b → left u (cond b (Some x) None) ≡ left u (Some x)
+      by_test true e = refl
+      by_test false e = let past : ltb u (expiry x) ≡ false = grind (arith, nat_tests) in test.none u ∙ sym (test.some u x ∙ ap (λ b. cond b (Some x) None) past)
+
+  -- the map of what is left of each value
+  pub get-left : (t : ℕ) (m : FinMap nat_cmp X) (k : ℕ) → fin.get (map_of nat_cmp (fin.keys m) (λ j. left t (fin.get m j))) k ≡ left t (fin.get m k)
+  get-left t m k =
+      get-map_of-all nat_cmp_total nat_cmp-IsAntisymmetric (fin.keys m) (λ j. left t (fin.get m j)) k
+      (λ none. ap (left t) (outside_keys nat_cmp_total nat_cmp-IsAntisymmetric m k none) ∙ test.none t)
 
 -- ---- A five-tuple's own events
-
-pub own-push : (h : History) (e : Event) (f : FiveTuple) → own (h ++ e ∷ []) f ≡ cond (same_tuple f e.tuple) (e ∷ own h f) (own h f)
-unfolding own
-own-push h e f = ap (filter (λ x. same_tuple f x.tuple)) (reverse-append h (e ∷ []))
 
 pub own-none : (h : History) (f : FiveTuple) → list_any (eq_by_cmp tuple_cmp f) (map (λ e. e.tuple) h) ≡ false → own h f ≡ []
 unfolding own
 own-none [] f none = refl
-own-none (e ∷ h) f none =
-    let p : Event → Bool = λ x. same_tuple f x.tuple in
-    ap (filter p) (reverse-append (e ∷ []) h) ∙ filter-append p (reverse h) (e ∷ [])
-    ∙ (ap (λ xs. xs ++ filter p (e ∷ [])) (own-none h f (or_parts _ _ none).1)
-    ∙ ap (λ b. cond b (e ∷ []) []) (or_parts _ _ none).0)
+own-none (e ∷ h) f none = own-cons e h f ∙ ap (λ xs. xs ++ cond (same_tuple f e.tuple) (e ∷ []) []) (own-none h f (or_parts _ _ none).1) ∙ ap (λ b. cond b (e ∷ []) []) (or_parts _ _ none).0
 
 -- ---- What the maps answer
 
-pub permission-none : (es : List Event) (a : ℕ) → list_any (eq_by_cmp nat_cmp a) (flat_map (λ e. addresses_of e.act) es) ≡ false → first_some (permission_at a) es ≡ None
-permission-none [] a none = refl
-permission-none (e ∷ es) a none =
-    let split = sym (list_any-append (eq_by_cmp nat_cmp a) (addresses_of e.act) (flat_map (λ x. addresses_of x.act) es)) ∙ none in
-    let here : list_any (nat_eq a) (addresses_of e.act) ≡ false = sym (any_same a (addresses_of e.act)) ∙ (or_parts _ _ split).0 in
-    ap (λ b. option_or (cond b (Some (e.moment + permission_lifetime)) None) (first_some (permission_at a) es)) here ∙ permission-none es a (or_parts _ _ split).1
+-- P holds of the first answer of events that name no such key
+none_named : {X : Type 0} (P : Option X → Type 0) (keys : PlainAct → List ℕ) (g : Event → Option X) (a : ℕ) → P None
+    → ((e : Event) → list_any (eq_by_cmp nat_cmp a) (keys e.act) ≡ false → (o : Option X) → P o → P (option_or (g e) o)) → (es : List Event)
+    → list_any (eq_by_cmp nat_cmp a) (flat_map (λ e. keys e.act) es) ≡ false → P (first_some g es)
+none_named P keys g a none step [] outside = none
+none_named P keys g a none step (e ∷ es) outside =
+    let split = or_parts _ _ (sym (list_any-append (eq_by_cmp nat_cmp a) (keys e.act) (flat_map (λ x. keys x.act) es)) ∙ outside) in
+    step e split.0 (first_some g es) (none_named P keys g a none step es split.1)
+
+permission-none : (es : List Event) (a : ℕ) → list_any (eq_by_cmp nat_cmp a) (flat_map (λ e. addresses_of e.act) es) ≡ false → first_some (permission_at a) es ≡ None
+permission-none es a = none_named (λ o. o ≡ None) addresses_of (permission_at a) a refl
+    (λ e outside o rest. ap (λ b. option_or (cond b (Some (e.moment + permission_lifetime)) None) o) (sym (any_same a (addresses_of e.act)) ∙ outside) ∙ rest) es
 
 pub get-permissions_in : (t : ℕ) (es : List Event) (a : ℕ) → fin.get (permissions_in t es) a ≡ ahead t (first_some (permission_at a) es)
 unfolding permissions_in
@@ -64,11 +106,8 @@ get-permissions_in t es a =
     get-map_of-all nat_cmp_total nat_cmp-IsAntisymmetric (flat_map (λ e. addresses_of e.act) es) (λ k. ahead t (first_some (permission_at k) es)) a
     (λ none. ap (ahead t) (permission-none es a none))
 
-pub channel-none : (es : List Event) (n : ℕ) → list_any (eq_by_cmp nat_cmp n) (flat_map (λ e. numbers_of e.act) es) ≡ false → first_some (channel_at n) es ≡ None
-channel-none [] n none = refl
-channel-none (e ∷ es) n none =
-    let split = sym (list_any-append (eq_by_cmp nat_cmp n) (numbers_of e.act) (flat_map (λ x. numbers_of x.act) es)) ∙ none in
-    ap (λ o. option_or o (first_some (channel_at n) es)) (here e.moment e.act (or_parts _ _ split).0) ∙ channel-none es n (or_parts _ _ split).1
+channel-none : (es : List Event) (n : ℕ) → list_any (eq_by_cmp nat_cmp n) (flat_map (λ e. numbers_of e.act) es) ≡ false → first_some (channel_at n) es ≡ None
+channel-none es n = none_named (λ o. o ≡ None) numbers_of (channel_at n) n refl (λ e outside o rest. ap (λ c. option_or c o) (here e.moment e.act outside) ∙ rest) es
   where
     here : (m : ℕ) (d : PlainAct) → list_any (eq_by_cmp nat_cmp n) (numbers_of d) ≡ false → channel_by n m d ≡ None
     here m (Allocates user port granted tx token) none = refl
@@ -91,15 +130,11 @@ get-table h t f =
 
 pub get-still_permitted : (t : ℕ) (m : FinMap nat_cmp ℕ) (a : ℕ) → fin.get (still_permitted t m) a ≡ ahead t (fin.get m a)
 unfolding still_permitted
-get-still_permitted t m a =
-    get-map_of-all nat_cmp_total nat_cmp-IsAntisymmetric (fin.keys m) (λ k. ahead t (fin.get m k)) a
-    (λ none. ap (ahead t) (outside_keys nat_cmp_total nat_cmp-IsAntisymmetric m a none))
+get-still_permitted = get-left of_permissions
 
 pub get-still_bound : (t : ℕ) (m : FinMap nat_cmp Channel) (n : ℕ) → fin.get (still_bound t m) n ≡ channel_ahead t (fin.get m n)
 unfolding still_bound
-get-still_bound t m n =
-    get-map_of-all nat_cmp_total nat_cmp-IsAntisymmetric (fin.keys m) (λ k. channel_ahead t (fin.get m k)) n
-    (λ none. ap (channel_ahead t) (outside_keys nat_cmp_total nat_cmp-IsAntisymmetric m n none))
+get-still_bound = get-left of_channels
 
 pub get-purged : (t : ℕ) (c : Contents) (f : FiveTuple) → fin.get (purged t c).entries f ≡ option_and_then (kept t) (fin.get c.entries f)
 unfolding purged
@@ -155,62 +190,42 @@ all_applied P t f d c all makes q e is = by_test (same_tuple q f) refl (sym (get
 -- ---- Reservations
 
 reservation-none : (es : List Event) (q : ℕ) → list_any (eq_by_cmp nat_cmp q) (flat_map (λ e. reserved_by e.act) es) ≡ false → flat (first_some (reservation_at q) es) ≡ None
-reservation-none [] q none = refl
-reservation-none (e ∷ es) q none =
-    let split = sym (list_any-append (eq_by_cmp nat_cmp q) (reserved_by e.act) (flat_map (λ x. reserved_by x.act) es)) ∙ none in
-    by_answer e.act (or_parts _ _ split).0 (reservation-none es q (or_parts _ _ split).1)
+reservation-none es q = none_named (λ o. flat o ≡ None) reserved_by (reservation_at q) q refl (λ e. by_act e.moment e.act) es
   where
-    by_port : (m port : ℕ) (token : Option Token) (user : List ℕ) (granted : ℕ) (tx : TxId) → list_any (eq_by_cmp nat_cmp q) (reserved_by (Allocates user port granted tx token)) ≡ false → reservation_with q m port token ≡ None
-    by_port m port None user granted tx none = refl
-    by_port m port (Some token) user granted tx none = ap (λ b. cond b (Some (Some (record { token = token; expiry = m + reservation_lifetime }))) None) (sym (nat_same q (port + 1)) ∙ (or_parts _ _ none).0)
-
-    by_answer : (d : PlainAct) → list_any (eq_by_cmp nat_cmp q) (reserved_by d) ≡ false → flat (first_some (reservation_at q) es) ≡ None → flat (option_or (reservation_by q e.moment d) (first_some (reservation_at q) es)) ≡ None
-    by_answer (Allocates user port granted tx token) none rest = by_test (nat_eq q port)
+    by_act : (m : ℕ) (d : PlainAct) → list_any (eq_by_cmp nat_cmp q) (reserved_by d) ≡ false → (o : Option (Option Reservation)) → flat o ≡ None → flat (option_or (reservation_by q m d) o) ≡ None
+    by_act m (Allocates user port granted tx token) none o rest = by_test (nat_eq q port) token none
       where
-        by_test : (b : Bool) → flat (option_or (cond b (Some None) (reservation_with q e.moment port token)) (first_some (reservation_at q) es)) ≡ None
-        by_test true = refl
-        by_test false = ap (λ o. flat (option_or o (first_some (reservation_at q) es))) (by_port e.moment port token user granted tx none) ∙ rest
-    by_answer (Renews granted) none rest = rest
-    by_answer (Permits addresses) none rest = rest
-    by_answer (Binds number peer) none rest = rest
+        by_test : (b : Bool) (token : Option Token) → list_any (eq_by_cmp nat_cmp q) (reserved_by (Allocates user port granted tx token)) ≡ false
+            → flat (option_or (cond b (Some None) (reservation_with q m port token)) o) ≡ None
+        by_test true token none = refl
+        by_test false None none = rest
+        by_test false (Some token) none =
+            ap (λ b. flat (option_or (cond b (Some (Some (record { token = token; expiry = m + reservation_lifetime }))) None) o)) (sym (nat_same q (port + 1)) ∙ (or_parts _ _ none).0)
+            ∙ rest
+    by_act m (Renews granted) none o rest = rest
+    by_act m (Permits addresses) none o rest = rest
+    by_act m (Binds number peer) none o rest = rest
 
 reserved-rev : (h : History) (q : ℕ) → list_any (eq_by_cmp nat_cmp q) (flat_map (λ e. reserved_by e.act) h) ≡ false → list_any (eq_by_cmp nat_cmp q) (flat_map (λ e. reserved_by e.act) (reverse h)) ≡ false
 reserved-rev [] q none = refl
 reserved-rev (e ∷ h) q none =
-    let split = sym (list_any-append (eq_by_cmp nat_cmp q) (reserved_by e.act) (flat_map (λ x. reserved_by x.act) h)) ∙ none in
-    ap (λ l. list_any (eq_by_cmp nat_cmp q) (flat_map (λ x. reserved_by x.act) l)) (reverse-append (e ∷ []) h)
-    ∙ ap (list_any (eq_by_cmp nat_cmp q)) (flat_map-append (reverse h) (e ∷ []))
-    ∙ list_any-append (eq_by_cmp nat_cmp q) (flat_map (λ x. reserved_by x.act) (reverse h)) (flat_map (λ x. reserved_by x.act) (e ∷ []))
-    ∙ or_from _ _ (reserved-rev h q (or_parts _ _ split).1) (list_any-append (eq_by_cmp nat_cmp q) (reserved_by e.act) [] ∙ or_from _ _ (or_parts _ _ split).0 refl)
-  where
-    flat_map-append : (xs ys : List Event) → flat_map (λ x. reserved_by x.act) (xs ++ ys) ≡ flat_map (λ x. reserved_by x.act) xs ++ flat_map (λ x. reserved_by x.act) ys
-    flat_map-append [] ys = refl
-    flat_map-append (x ∷ xs) ys = ap (λ l. reserved_by x.act ++ l) (flat_map-append xs ys) ∙ sym (append_assoc (reserved_by x.act) (flat_map (λ x. reserved_by x.act) xs) (flat_map (λ x. reserved_by x.act) ys))
+    let split = or_parts _ _ (sym (list_any-append (eq_by_cmp nat_cmp q) (reserved_by e.act) (flat_map (λ x. reserved_by x.act) h)) ∙ none) in
+    rw (reverse-append (e ∷ []) h, flat_map-append, list_any-append, append-nil) (or_from _ _ (reserved-rev h q split.1) split.0)
 
 -- the table has the reservation of each reserved port, and no other
-pub get-reservations : (h : History) (t q : ℕ) → fin.get (reservations h t) q ≡ reservation_ahead t (reservation h q)
-unfolding reservations reservation
-get-reservations h t q =
+pub get-reserved : (h : History) (t q : ℕ) → fin.get (table h t).reserved q ≡ reservation_ahead t (reservation h q)
+unfolding table reservations reservation
+get-reserved h t q =
     get-map_of-all nat_cmp_total nat_cmp-IsAntisymmetric (flat_map (λ e. reserved_by e.act) h) (λ k. reservation_ahead t (reservation h k)) q
     (λ none. ap (reservation_ahead t) (reservation-none (reverse h) q (reserved-rev h q none)))
-
-pub get-reserved : (h : History) (t q : ℕ) → fin.get (table h t).reserved q ≡ reservation_ahead t (reservation h q)
-unfolding table
-get-reserved h t q = get-reservations h t q
 
 pub reservation-push : (h : History) (e : Event) (q : ℕ) → reservation (h ++ e ∷ []) q ≡ flat (option_or (reservation_at q e) (first_some (reservation_at q) (reverse h)))
 unfolding reservation
 reservation-push h e q = ap (λ l. flat (first_some (reservation_at q) l)) (reverse-append h (e ∷ []))
 
-pub get-still_reserved : (t : ℕ) (m : Reservations) (q : ℕ) → fin.get (still_reserved t m) q ≡ reservation_ahead t (fin.get m q)
-unfolding still_reserved
-get-still_reserved t m q =
-    get-map_of-all nat_cmp_total nat_cmp-IsAntisymmetric (fin.keys m) (λ k. reservation_ahead t (fin.get m k)) q
-    (λ none. ap (reservation_ahead t) (outside_keys nat_cmp_total nat_cmp-IsAntisymmetric m q none))
-
 pub get-purged_reserved : (t : ℕ) (c : Contents) (q : ℕ) → fin.get (purged t c).reserved q ≡ reservation_ahead t (fin.get c.reserved q)
-unfolding purged
-get-purged_reserved t c q = get-still_reserved t c.reserved q
+unfolding purged still_reserved
+get-purged_reserved t c q = get-left of_reservations t c.reserved q
 
 pub applied-reserved : (t : ℕ) (f : FiveTuple) (d : PlainAct) (c : Contents) → (applied t f d c).reserved ≡ reserving t d c.reserved
 unfolding applied

@@ -1,34 +1,26 @@
 -- Reserved ports: no entry has one, their ranges, and by which event each is reserved.
-use Rattle.std.proofs.Common.{◌≡◌, ℕ, ◌+◌, ◌≤◌, ◌<◌, Bool, true, false, cond, Option, Some, None, List, [], ◌∷◌, ◌++◌, reverse, refl, sym, ap, ◌∙◌, subst, arith, ltb, ltb-true, lt-ltb, append_assoc, max, inl, inr}
+use Rattle.std.proofs.Common.{◌≡◌, ℕ, ◌+◌, ◌≤◌, ◌<◌, Bool, true, false, cond, Option, Some, None, [], ◌∷◌, ◌++◌, reverse, refl, sym, ap, ◌∙◌, subst, arith, append_assoc, max, inl, inr}
 use Rattle.std.specs.Prelude.{nat_eq, ◌⊎◌}
 use Rattle.std.specs.Option.{option_or}
 use Rattle.std.specs.List.{AllByRecursion}
 use Rattle.std.proofs.lemmas.Bool.{eqb-true, eqb-false, eq-eqb, ne_eqb}
-use Rattle.std.proofs.lemmas.List.{append-nil, reverse-append, reverse-reverse}
+use Rattle.std.proofs.lemmas.List.{append-nil}
 use Rattle.std.proofs.lemmas.Option.{same_Some}
 use Rattle.std.specs.FinMap as fin
 use Rattle.turn_types.specs.declared.address.FiveTuple.{FiveTuple}
 use Rattle.turn_types.specs.declared.limits.Bounds.{Bounds}
 use Rattle.turn_types.specs.declared.message.Token.{Token}
 use Rattle.turn_history.specs.declared.reservation.Reservation.{Reservation}
-use Rattle.turn_history.specs.Fitting.{Fits, FitsReservation, Follows, FitsAfter, IsFitting, IsActInRange, IsTokenOf, IsReservationInRange, AreReservationsInRange, PortIsFree}
+use Rattle.turn_history.specs.Fitting.{Fits, FitsReservation, Follows, FitsAfter, IsFitting, IsInRange, IsActInRange, IsTokenOf, IsReservationInRange, AreReservationsInRange, PortIsFree}
 use Rattle.turn_history.specs.History.{PlainAct, Allocates, Renews, Permits, Binds, Event, History, clock, first_some, reservation_at, reservation_by, reservation_with, flat, reservation}
 use Rattle.turn_history.specs.Laws.{ReservedApart, IsAllocOf, Reserves, ReservedAt}
-use Rattle.turn_history.specs.Table.{Contents, applied, purged, reserving, reservation_ahead, table}
-use Rattle.turn_history.proofs.Histories.{NextFrom, next_fits, next_zero, below_first, below_rest, table-follows, fitting-split, clock-append}
-use Rattle.turn_history.proofs.Reading.{Makes, all_applied, applied-reserved, at_alloc, get-purged_reserved, get-reserved, get-with_reservation, purged_from, reservation-push}
-use Rattle.turn_history.proofs.Steps.{table-later}
+use Rattle.turn_history.specs.Table.{Contents, applied, purged, reserving, table}
+use Rattle.turn_history.proofs.Histories.{always, fits_in_range, below_first, below_rest, fitting-split, clock-append}
+use Rattle.turn_history.proofs.Reading.{of_reservations, ahead_is, ahead_at, Makes, all_applied, applied-reserved, at_alloc, get-purged_reserved, get-reserved, get-with_reservation, purged_from, reservation-push}
+use Rattle.turn_history.proofs.Places.{all-append, by_last}
 use Rattle.turn_types.specs.Profile.{reservation_lifetime}
 
 -- ---- What is left of a reservation
-
-pub reservation_ahead_is : (t : ℕ) (o : Option Reservation) (r : Reservation) → reservation_ahead t o ≡ Some r → (o ≡ Some r) × (t < r.expiry)
-reservation_ahead_is t None r h = cc
-reservation_ahead_is t (Some s) r h = by_test (ltb t s.expiry) refl h
-  where
-    by_test : (b : Bool) → ltb t s.expiry ≡ b → cond b (Some s) None ≡ Some r → (Some s ≡ Some r) × (t < r.expiry)
-    by_test true e h = (h, subst (λ z. t < z.expiry) (same_Some s r h) (ltb-true t s.expiry e))
-    by_test false e h = cc
 
 -- what an Alloc leaves of the reservation of a port: the new one of the port after its own, or an old one of another port
 module _ (t q port : ℕ) (r : Reservation) (old : Option Reservation) where
@@ -52,7 +44,7 @@ module _ (t q port : ℕ) (r : Reservation) (old : Option Reservation) where
 
 pub reserved-purged : (t : ℕ) (c : Contents) → ReservedApart c → ReservedApart (purged t c)
 reserved-purged t c apart q r is f e has same =
-    let was = reservation_ahead_is t (fin.get c.reserved q) r (sym (get-purged_reserved t c q) ∙ is) in
+    let was = ahead_is of_reservations t (fin.get c.reserved q) r (sym (get-purged_reserved t c q) ∙ is) in
     let x = purged_from t c f e has in
     apart q r was.0 f x.0 x.1 (ap (λ y. y.port) x.3 ∙ same)
 
@@ -82,33 +74,23 @@ module _ (b : Bounds) (t : ℕ) (f : FiveTuple) (c : Contents) (apart : Reserved
       by_act (Permits addresses) fits is = free_after (Permits addresses) q (apart q r is) (λ no. no)
       by_act (Binds number peer) fits is = free_after (Binds number peer) q (apart q r is) (λ no. no)
 
-reserved-later : (h : History) (s t : ℕ) → s ≤ t → ReservedApart (table h s) → ReservedApart (table h t)
-reserved-later h s t le apart = subst ReservedApart (table-later h s t le) (reserved-purged t (table h s) apart)
-
-reserved-after : (b : Bounds) (h : History) (es : List Event) (s t : ℕ) → ReservedApart (table h s) → NextFrom s es → FitsAfter b h es → s ≤ t → clock es ≤ t → ReservedApart (table (h ++ es) t)
-reserved-after b h [] s t apart from fits le below = subst (λ l. ReservedApart (table l t)) (sym (append-nil h)) (reserved-later h s t le apart)
-reserved-after b h (e ∷ es) s t apart from fits le below =
-    let here = reserved-later h s e.moment from apart in
-    let done = subst ReservedApart (sym (table-follows b h e fits.0)) (reserved-applied b e.moment e.tuple (table h e.moment) here e.act fits.0.fits) in
-    subst (λ l. ReservedApart (table l t)) (append_assoc h (e ∷ []) es)
-    (reserved-after b (h ++ e ∷ []) es e.moment t done (next_fits b h e es fits.1) fits.1 (below_first e es t below) (below_rest e es t below))
-
-none_reserved : (q : ℕ) → fin.get (table [] 0).reserved q ≡ None
+none_reserved : (q : ℕ) (r : Reservation) → fin.get (table [] 0).reserved q ≡ Some r → ⊥
 unfolding reservation
-none_reserved q = get-reserved [] 0 q
+none_reserved q r is = let none : None ≡ Some r = sym (get-reserved [] 0 q) ∙ is in cc
 
 -- the ports of live allocations and the reserved ports are all distinct
 pub reserved-apart : (b : Bounds) (h : History) (t : ℕ) → IsFitting b h → clock h ≤ t → ReservedApart (table h t)
-reserved-apart b h t fits below = reserved-after b [] h 0 t (λ q r is. let none : None ≡ Some r = sym (none_reserved q) ∙ is in cc) (next_zero h) fits (omega arith) below
+reserved-apart b h t fits below =
+    always b (IsInRange b) (λ t. ReservedApart) (λ s t c le. reserved-purged t c) (λ e c range fits apart. reserved-applied b e.moment e.tuple c apart e.act fits)
+    (λ q r is. absurd (none_reserved q r is)) h t fits (fits_in_range b [] h fits) below
 
 -- ---- Ranges
 
 pub reservations-purged : (t u : ℕ) (c : Contents) → t ≤ u → AreReservationsInRange t c → AreReservationsInRange u (purged u c)
 reservations-purged t u c le all q r is =
-    let was = reservation_ahead_is u (fin.get c.reserved q) r (sym (get-purged_reserved u c q) ∙ is) in
+    let was = ahead_is of_reservations u (fin.get c.reserved q) r (sym (get-purged_reserved u c q) ∙ is) in
     let range = all q r was.0 in
-    let last = range.expiry.1 in
-    record { port = range.port; token = range.token; expiry = (was.1, omega arith) }
+    record { port = range.port; token = range.token; expiry = (was.1, omega (arith, range.expiry.1)) }
 
 pub reservations-applied : (b : Bounds) (t : ℕ) (f : FiveTuple) (d : PlainAct) (c : Contents) → IsActInRange b d → AreReservationsInRange t c → AreReservationsInRange t (applied t f d c)
 reservations-applied b t f d c range all q r is = by_act d range (sym (ap (λ m. fin.get m q) (applied-reserved t f d c)) ∙ is)
@@ -119,13 +101,10 @@ reservations-applied b t f d c range all q r is = by_act d range (sym (ap (λ m.
         by_token : (token : Option Token) → IsActInRange b (Allocates user port granted tx token) → IsLeft t q port r (fin.get c.reserved q) token ⊎ ((q ≡ port → ⊥) × (fin.get c.reserved q ≡ Some r)) → IsReservationInRange t q r
         by_token None range (inl new) = let no = new.1 in cc
         by_token (Some k) range (inl new) =
-            let even = range.4.0 in
-            let small = range.1 in
-            let next = new.2 in
             let is : k ≡ new.0 = same_Some k new.0 new.1 in
             subst (IsReservationInRange t q) (sym new.3) (record {
-              port = (omega (arith, even), omega (arith, even));
-              token = subst (λ p. IsTokenOf p new.0) (sym next) (subst (IsTokenOf (port + 1)) is range.4.1);
+              port = (omega (arith, new.2, range.4.0, range.1), omega (arith, new.2, range.4.0));
+              token = subst (λ p. IsTokenOf p new.0) (sym new.2) (subst (IsTokenOf (port + 1)) is range.4.1);
               expiry = (omega arith, omega arith);
             })
         by_token token range (inr old) = all q r old.1
@@ -133,16 +112,10 @@ reservations-applied b t f d c range all q r is = by_act d range (sym (ap (λ m.
     by_act (Permits addresses) range is = all q r is
     by_act (Binds number peer) range is = all q r is
 
-ranges-after : (b : Bounds) (h : History) (es : List Event) (s t : ℕ) → AreReservationsInRange s (table h s) → NextFrom s es → FitsAfter b h es → s ≤ t → clock es ≤ t → AreReservationsInRange t (table (h ++ es) t)
-ranges-after b h [] s t all from fits le below = subst (λ l. AreReservationsInRange t (table l t)) (sym (append-nil h)) (subst (AreReservationsInRange t) (table-later h s t le) (reservations-purged s t (table h s) le all))
-ranges-after b h (e ∷ es) s t all from fits le below =
-    let here = subst (AreReservationsInRange e.moment) (table-later h s e.moment from) (reservations-purged s e.moment (table h s) from all) in
-    let done = subst (AreReservationsInRange e.moment) (sym (table-follows b h e fits.0)) (reservations-applied b e.moment e.tuple e.act (table h e.moment) fits.0.in_range.act here) in
-    subst (λ l. AreReservationsInRange t (table l t)) (append_assoc h (e ∷ []) es)
-    (ranges-after b (h ++ e ∷ []) es e.moment t done (next_fits b h e es fits.1) fits.1 (below_first e es t below) (below_rest e es t below))
-
 pub reservations_in_range : (b : Bounds) (h : History) (t : ℕ) → IsFitting b h → clock h ≤ t → AreReservationsInRange t (table h t)
-reservations_in_range b h t fits below = ranges-after b [] h 0 t (λ q r is. let none : None ≡ Some r = sym (none_reserved q) ∙ is in cc) (next_zero h) fits (omega arith) below
+reservations_in_range b h t fits below =
+    always b (IsInRange b) AreReservationsInRange reservations-purged (λ e c range fits. reservations-applied b e.moment e.tuple e.act c range.act)
+    (λ q r is. absurd (none_reserved q r is)) h t fits (fits_in_range b [] h fits) below
 
 -- ---- By which event
 
@@ -175,53 +148,47 @@ says_some q m (Permits addresses) r says = cc
 says_some q m (Binds number peer) r says = cc
 
 -- by places: the reservation is of an event after which there is no Alloc of the port
-pub record IsMadeBy (h : History) (q : ℕ) (r : Reservation) : Type 0 where
-  pub before : History
-  pub event : Event
-  pub after : History
-  pub place : h ≡ before ++ event ∷ after
-  pub reserves : Reserves q r.token event.act
-  pub expiry : r.expiry ≡ event.moment + reservation_lifetime
-  pub untaken : AllByRecursion (λ e. IsAllocOf q e.act → ⊥) after
+module _ (t q : ℕ) (r : Reservation) (young : t < r.expiry) where
+  abbrev pub IsMade : History → Type 0
+  IsMade h = (m : ℕ) × (r.expiry ≡ m + reservation_lifetime) × ReservedAt h t q r.token m
 
-push_made : (h : History) (e : Event) (q : ℕ) (r : Reservation) → (IsAllocOf q e.act → ⊥) → IsMadeBy h q r → IsMadeBy (h ++ e ∷ []) q r
-push_made h e q r none m = record {
-  before = m.before;
-  event = m.event;
-  after = m.after ++ e ∷ [];
-  place = ap (λ k. k ++ e ∷ []) m.place ∙ append_assoc m.before (m.event ∷ m.after) (e ∷ []);
-  reserves = m.reserves;
-  expiry = m.expiry;
-  untaken = one_more m.after m.untaken;
-}
-  where
-    one_more : (l : History) → AllByRecursion (λ x. IsAllocOf q x.act → ⊥) l → AllByRecursion (λ x. IsAllocOf q x.act → ⊥) (l ++ e ∷ [])
-    one_more [] all = (none, tt)
-    one_more (x ∷ l) all = (all.0, one_more l all.1)
+  push_made : (h : History) (e : Event) → (IsAllocOf q e.act → ⊥) → IsMade h → IsMade (h ++ e ∷ [])
+  push_made h e none made =
+      let a = made.2 in (
+        made.0,
+        made.1,
+        record {
+          before = a.before;
+          event = a.event;
+          after = a.after ++ e ∷ [];
+          place = ap (λ k. k ++ e ∷ []) a.place ∙ append_assoc a.before (a.event ∷ a.after) (e ∷ []);
+          reserves = a.reserves;
+          moment = a.moment;
+          untaken = all-append _ a.after (e ∷ []) a.untaken (none, tt);
+          ahead = a.ahead;
+        },
+      )
 
-made_in : (l : List Event) (q : ℕ) (r : Reservation) → flat (first_some (reservation_at q) l) ≡ Some r → IsMadeBy (reverse l) q r
-made_in [] q r is = cc
-made_in (e ∷ l) q r is = subst (λ h. IsMadeBy h q r) (sym (reverse-append (e ∷ []) l)) (by_answer (made_in l q r) (reservation_at q e) refl is)
-  where
-    by_answer : (flat (first_some (reservation_at q) l) ≡ Some r → IsMadeBy (reverse l) q r) → (o : Option (Option Reservation)) → reservation_at q e ≡ o → flat (option_or o (first_some (reservation_at q) l)) ≡ Some r → IsMadeBy (reverse l ++ e ∷ []) q r
-    by_answer ih None says is = push_made (reverse l) e q r (says_none q e.moment e.act says) (ih is)
-    by_answer ih (Some None) says is = cc
-    by_answer ih (Some (Some s)) says is =
-        let one = says_some q e.moment e.act r (says ∙ ap Some is) in
-        record { before = reverse l; event = e; after = []; place = refl; reserves = one.0; expiry = one.1; untaken = tt }
-
-pub made_by : (h : History) (q : ℕ) (r : Reservation) → reservation h q ≡ Some r → IsMadeBy h q r
-unfolding reservation
-made_by h q r is = subst (λ k. IsMadeBy k q r) (reverse-reverse h) (made_in (reverse h) q r is)
+  made_by : (h : History) → reservation h q ≡ Some r → IsMade h
+  unfolding reservation
+  made_by = by_last (λ h. reservation h q ≡ Some r → IsMade h) (λ is. cc) push
+    where
+      push : (h : History) (e : Event) → (reservation h q ≡ Some r → IsMade h) → reservation (h ++ e ∷ []) q ≡ Some r → IsMade (h ++ e ∷ [])
+      push h e ih is = by_answer (reservation_at q e) refl (sym (reservation-push h e q) ∙ is)
+        where
+          by_answer : (o : Option (Option Reservation)) → reservation_at q e ≡ o → flat (option_or o (first_some (reservation_at q) (reverse h))) ≡ Some r → IsMade (h ++ e ∷ [])
+          by_answer None says is = push_made h e (says_none q e.moment e.act says) (ih is)
+          by_answer (Some None) says is = cc
+          by_answer (Some (Some s)) says is =
+              let one = says_some q e.moment e.act r (says ∙ ap Some is) in
+              let last = one.1 in
+              (e.moment, last, record { before = h; event = e; after = []; place = refl; reserves = one.0; moment = refl; untaken = tt; ahead = omega arith })
 
 -- the table has a reservation: some event made it, which is young enough and after which the port wasn't allocated
 pub reserved-at : (h : History) (t q : ℕ) (token : Token) (x : ℕ) → fin.get (table h t).reserved q ≡ Some (record { token = token; expiry = x }) → (m : ℕ) × (x ≡ m + reservation_lifetime) × ReservedAt h t q token m
 reserved-at h t q token x is =
-    let was = reservation_ahead_is t (reservation h q) (record { token = token; expiry = x }) (sym (get-reserved h t q) ∙ is) in
-    let m = made_by h q (record { token = token; expiry = x }) was.0 in
-    let ahead = was.1 in
-    let last = m.expiry in
-    (m.event.moment, m.expiry, record { before = m.before; event = m.event; after = m.after; place = m.place; reserves = m.reserves; moment = refl; untaken = m.untaken; ahead = omega arith })
+    let was = ahead_is of_reservations t (reservation h q) (record { token = token; expiry = x }) (sym (get-reserved h t q) ∙ is) in
+    made_by t q (record { token = token; expiry = x }) was.1 h was.0
 
 -- what an event that reserves a port says of it
 reserves_says : (q m : ℕ) (token : Token) (d : PlainAct) → Reserves q token d → reservation_by q m d ≡ Some (Some (record { token = token; expiry = m + reservation_lifetime }))
@@ -245,7 +212,7 @@ module _ (b : Bounds) (h : History) (q : ℕ) (r : Reservation) (is : reservatio
       ap (λ c. cond c (Some None) (reservation_with q e.moment port token)) (ne_eqb q port (λ same. other (sym same))) ∙ by_token token fits.3
     where
       there : fin.get (table h e.moment).reserved q ≡ Some r
-      there = get-reserved h e.moment q ∙ ap (reservation_ahead e.moment) is ∙ ap (λ c. cond c (Some r) None) (lt-ltb e.moment r.expiry young)
+      there = get-reserved h e.moment q ∙ ahead_at of_reservations e.moment (reservation h q) r is young
 
       by_token : (token : Option Token) → FitsReservation b (table h e.moment) port token → reservation_with q e.moment port token ≡ None
       by_token None room = refl
@@ -269,7 +236,7 @@ stays_all b h (e ∷ es) q r is fits young none =
 -- and where some event made it, the table has it
 pub at-reserved : (b : Bounds) (h : History) (t q : ℕ) (token : Token) (m : ℕ) → IsFitting b h → clock h ≤ t → ReservedAt h t q token m → fin.get (table h t).reserved q ≡ Some (record { token = token; expiry = m + reservation_lifetime })
 at-reserved b h t q token m fits below a =
-    get-reserved h t q ∙ ap (reservation_ahead t) whole ∙ ap (λ c. cond c (Some r) None) (lt-ltb t (m + reservation_lifetime) a.ahead)
+    get-reserved h t q ∙ ahead_at of_reservations t (reservation h q) r whole a.ahead
   where
     r : Reservation
     r = record { token = token; expiry = m + reservation_lifetime }
@@ -281,8 +248,7 @@ at-reserved b h t q token m fits below a =
     young =
         let join : clock h ≡ max (clock a.before) (clock (a.event ∷ a.after)) = ap clock a.place ∙ clock-append a.before (a.event ∷ a.after) in
         let rest = below_rest a.event a.after (clock (a.event ∷ a.after)) (omega arith) in
-        let ahead = a.ahead in
-        omega arith
+        omega (arith, a.ahead)
 
     whole : reservation h q ≡ Some r
     whole =

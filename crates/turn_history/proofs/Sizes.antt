@@ -1,51 +1,35 @@
 -- The table of a fitting history is within the limits.
-use Rattle.std.proofs.Common.{◌≡◌, ℕ, zero, suc, T, ◌+◌, ◌-◌, ◌≤◌, Bool, true, false, cond, ◌&&◌, is_some, Option, Some, None, List, [], ◌∷◌, ◌++◌, length, refl, sym, ap, ◌∙◌, subst, arith, append_assoc}
+use Rattle.std.proofs.Common.{◌≡◌, ℕ, zero, suc, T, ◌+◌, ◌-◌, ◌≤◌, Bool, true, false, cond, is_some, Option, Some, None, List, [], ◌∷◌, length, refl, sym, ap, ◌∙◌, subst, arith}
 use Rattle.std.specs.Prelude.{IsSomeAnd, nat_eq, ◌==◌}
 use Rattle.std.specs.List.{list_any}
 use Rattle.std.specs.Option.{option_and_then, option_map}
-use Rattle.std.specs.Ordering.{nat_cmp, eq_by_cmp, is_eq, is_lt}
+use Rattle.std.specs.Ordering.{nat_cmp, eq_by_cmp, is_eq}
 use Rattle.std.specs.Cmp.{IsTotalOrder}
 use Rattle.std.specs.declared.cmp.Ordering.{Ordering}
-use Rattle.std.specs.declared.cmp.Ordering.TheVariants.{Less, Equal, Greater}
 use Rattle.std.proofs.lemmas.Cmp.{nat_cmp_total, tied_itself}
-use Rattle.std.proofs.lemmas.List.{append-nil}
 use Rattle.std.specs.FinMap as fin
 use Rattle.std.specs.FinMap.{FinMap, IsAntisymmetric, find, is_sorted, get-insert, get-remove, get-empty, len-insert, len-empty, len-remove, empty_of_len, len-entries, entries_sorted, get-entries, nat_cmp-IsAntisymmetric}
 use Rattle.std.specs.FinMap.Entries.{below_all}
 use Rattle.turn_types.specs.FiveTuple.{tuple_cmp, same_tuple}
 use Rattle.turn_types.specs.declared.limits.Bounds.{Bounds}
-use Rattle.turn_history.specs.History.{PlainAct, Allocates, Renews, Permits, Binds, Event, History, own, clock}
-use Rattle.turn_history.specs.Table.{Entry, Contents, ahead, channel_ahead, still_permitted, still_bound, kept, purged, install, renewed, permitting, binding, applied_to, allocated, map_of, entry_in, applied, table, reservation_ahead, reservations, with_reservation}
-use Rattle.turn_history.specs.Fitting.{Fits, FitsReservation, FitsChannel, IsChannelNumber, FitsAfter, IsFitting}
+use Rattle.turn_history.specs.History.{PlainAct, Allocates, Renews, Permits, Binds, History, clock}
+use Rattle.turn_history.specs.Table.{Entry, Contents, still_permitted, still_bound, kept, purged, install, renewed, permitting, binding, applied_to, allocated, map_of, applied, table, reservations, with_reservation}
+use Rattle.turn_history.specs.Fitting.{Fits, FitsReservation, FitsChannel, IsChannelNumber, IsInRange, IsFitting}
 use Rattle.turn_history.specs.Laws.{IsWithin}
 use Rattle.turn_types.specs.declared.address.FiveTuple.{FiveTuple}
 use Rattle.turn_history.specs.declared.channel.Channel.{Channel}
 use Rattle.turn_history.specs.declared.reservation.Reservation.{Reservation}
 use Rattle.turn_types.specs.declared.message.Token.{Token}
-use Rattle.turn_history.proofs.Histories.{NextFrom, next_fits, below_first, below_rest, next_zero, table-follows}
+use Rattle.turn_history.proofs.Histories.{always, fits_in_range, no_entries}
+use Rattle.turn_history.proofs.Entries.{first, second, unfound}
 use Rattle.turn_history.proofs.Maps.{tuple_total, tuple_exact, from_eq}
-use Rattle.turn_history.proofs.Reading.{get-still_permitted, get-still_bound, get-purged, get-purged_reserved, get-applied, get-table, purged_from, Makes, all_applied}
-use Rattle.turn_history.proofs.Steps.{get-install, table-later}
+use Rattle.turn_history.proofs.Reading.{of_permissions, of_channels, of_reservations, IsAhead, some_ahead, get-still_permitted, get-still_bound, get-purged, get-purged_reserved, get-applied, purged_from, Makes, all_applied}
+use Rattle.turn_history.proofs.Steps.{get-install}
 use Rattle.turn_types.specs.Profile.{permission_lifetime, channel_lifetime, reservation_lifetime}
 
 -- ---- A map without keys that another one lacks is no larger
 
 module _ {K : Type 0} {R : K → K → Ordering} (o : IsTotalOrder R) (exact : IsAntisymmetric R) where
-  less_first : (r : Ordering) (b : Bool) → (is_lt r && b) ≡ true → (is_eq r ≡ false) × (b ≡ true)
-  less_first Less b h = (refl, h)
-  less_first Equal b h = cc
-  less_first Greater b h = cc
-
-  none_below : {X : Type 0} (es : List (K × X)) (x : K) → below_all R x es ≡ true → find R x es ≡ None
-  none_below [] x below = refl
-  none_below (e ∷ es) x below =
-      let parts = less_first (R x e.0) (below_all R x es) below in
-      ap (λ b. cond b (Some e.1) (find R x es)) parts.0 ∙ none_below es x parts.1
-
-  both : (a b : Bool) → (a && b) ≡ true → (a ≡ true) × (b ≡ true)
-  both true b h = (refl, h)
-  both false b h = cc
-
   not_empty : {Y : Type 0} (m : FinMap R Y) (k : K) → is_some (fin.get m k) ≡ true → 1 ≤ fin.len m
   not_empty m k has = by_size (fin.len m) refl
     where
@@ -53,33 +37,28 @@ module _ {K : Type 0} {R : K → K → Ordering} (o : IsTotalOrder R) (exact : I
       by_size zero none = let no : false ≡ true = sym (ap is_some (ap (λ x. fin.get x k) (empty_of_len m none) ∙ get-empty R k)) ∙ has in cc
       by_size (suc n) some = omega arith
 
-  no_more : {X Y : Type 0} (es : List (K × X)) (m : FinMap R Y) → is_sorted R es ≡ true → ((q : K) → is_some (find R q es) ≡ true → is_some (fin.get m q) ≡ true) → length es ≤ fin.len m
+  no_more : {X Y : Type 0} (es : List (K × X)) (m : FinMap R Y) → T (is_sorted R es) → ((q : K) → is_some (find R q es) ≡ true → is_some (fin.get m q) ≡ true) → length es ≤ fin.len m
   no_more [] m sorted has = omega arith
   no_more (e ∷ es) m sorted has =
-      let parts = both (below_all R e.0 es) (is_sorted R es) sorted in
       let here = has e.0 (ap (λ b. is_some (cond b (Some e.1) (find R e.0 es))) (ap is_eq (tied_itself o e.0))) in
       let less : fin.len (fin.remove m e.0) ≡ fin.len m - 1 = len-remove o m e.0 ∙ ap (λ b. cond b (fin.len m - 1) (fin.len m)) here in
       let some = not_empty m e.0 here in
-      let rest = no_more es (fin.remove m e.0) parts.1 (λ q in_es. later parts.0 q (eq_by_cmp R q e.0) refl in_es (has q)) in
+      let rest = no_more es (fin.remove m e.0) (second (below_all R e.0 es) _ sorted) (λ q in_es. later q (eq_by_cmp R q e.0) refl in_es (has q)) in
       omega arith
     where
-      later : below_all R e.0 es ≡ true → (q : K) (b : Bool) → eq_by_cmp R q e.0 ≡ b → is_some (find R q es) ≡ true → (is_some (cond (eq_by_cmp R q e.0) (Some e.1) (find R q es)) ≡ true → is_some (fin.get m q) ≡ true) → is_some (fin.get (fin.remove m e.0) q) ≡ true
-      later below q true same in_es there =
-          let one = from_eq R exact q e.0 same in
-          let none : find R q es ≡ None = ap (λ k. find R k es) one ∙ none_below es e.0 below in
+      later : (q : K) (b : Bool) → eq_by_cmp R q e.0 ≡ b → is_some (find R q es) ≡ true
+          → (is_some (cond (eq_by_cmp R q e.0) (Some e.1) (find R q es)) ≡ true → is_some (fin.get m q) ≡ true) → is_some (fin.get (fin.remove m e.0) q) ≡ true
+      later q true same in_es there =
+          let none : find R q es ≡ None = ap (λ k. find R k es) (from_eq R exact q e.0 same) ∙ unfound o exact e.0 es (first _ (is_sorted R es) sorted) in
           let no : false ≡ true = sym (ap is_some none) ∙ in_es in cc
-      later below q false other in_es there =
+      later q false other in_es there =
           ap is_some (get-remove o m e.0 q ∙ ap (λ b. cond b None (fin.get m q)) other)
           ∙ there (ap (λ b. is_some (cond b (Some e.1) (find R q es))) other ∙ in_es)
-
-  is_true : (b : Bool) → T b → b ≡ true
-  is_true true h = refl
-  is_true false h = absurd h
 
   pub len-le : {X Y : Type 0} (n : FinMap R X) (m : FinMap R Y) → ((q : K) → is_some (fin.get n q) ≡ true → is_some (fin.get m q) ≡ true) → fin.len n ≤ fin.len m
   len-le n m has =
       let size = len-entries n in
-      let le = no_more (fin.entries n) m (is_true (is_sorted R (fin.entries n)) (entries_sorted n)) (λ q in_n. has q (ap is_some (get-entries n q) ∙ in_n)) in
+      let le = no_more (fin.entries n) m (entries_sorted n) (λ q in_n. has q (ap is_some (get-entries n q) ∙ in_n)) in
       omega arith
 
 nat_len-le : {X Y : Type 0} (n : FinMap nat_cmp X) (m : FinMap nat_cmp Y) → ((q : ℕ) → is_some (fin.get n q) ≡ true → is_some (fin.get m q) ≡ true) → fin.len n ≤ fin.len m
@@ -87,37 +66,26 @@ nat_len-le n m has = len-le nat_cmp_total nat_cmp-IsAntisymmetric n m has
 
 -- ---- Time that passes
 
-some_ahead : (t : ℕ) (o : Option ℕ) → is_some (ahead t o) ≡ true → is_some o ≡ true
-some_ahead t None h = cc
-some_ahead t (Some x) h = refl
-
-some_channel_ahead : (t : ℕ) (o : Option Channel) → is_some (channel_ahead t o) ≡ true → is_some o ≡ true
-some_channel_ahead t None h = cc
-some_channel_ahead t (Some c) h = refl
-
 some_kept : (t : ℕ) (o : Option Entry) → is_some (option_and_then (kept t) o) ≡ true → is_some o ≡ true
 some_kept t None h = cc
 some_kept t (Some e) h = refl
 
-some_reserved : (t : ℕ) (o : Option Reservation) → is_some (reservation_ahead t o) ≡ true → is_some o ≡ true
-some_reserved t None h = cc
-some_reserved t (Some r) h = refl
-
-reserved-purged : (t : ℕ) (c : Contents) → fin.len (purged t c).reserved ≤ fin.len c.reserved
-reserved-purged t c = nat_len-le (purged t c).reserved c.reserved (λ q has. some_reserved t (fin.get c.reserved q) (sym (ap is_some (get-purged_reserved t c q)) ∙ has))
+fewer_left : {X : Type 0} {expiry : X → ℕ} {left : ℕ → Option X → Option X} → IsAhead expiry left → (t : ℕ) (m n : FinMap nat_cmp X)
+    → ((k : ℕ) → fin.get n k ≡ left t (fin.get m k)) → fin.len n ≤ fin.len m
+fewer_left test t m n is = nat_len-le n m (λ k has. some_ahead test t (fin.get m k) (sym (ap is_some (is k)) ∙ has))
 
 pub within-purged : (b : Bounds) (t : ℕ) (c : Contents) → IsWithin b c → IsWithin b (purged t c)
 within-purged b t c w = record {
   allocations = (let le = len-le tuple_total tuple_exact (purged t c).entries c.entries (λ q has. some_kept t (fin.get c.entries q) (sym (ap is_some (get-purged t c q)) ∙ has)) in let all = w.allocations in omega arith);
-  reserved = (let le = reserved-purged t c in let all = w.reserved in omega arith);
+  reserved = (let le = fewer_left of_reservations t c.reserved (purged t c).reserved (get-purged_reserved t c) in let all = w.reserved in omega arith);
   permissions = (λ f e is.
       let x = purged_from t c f e is in
-      let le = nat_len-le (still_permitted t x.0.permissions) x.0.permissions (λ q has. some_ahead t (fin.get x.0.permissions q) (sym (ap is_some (get-still_permitted t x.0.permissions q)) ∙ has)) in
+      let le = fewer_left of_permissions t x.0.permissions (still_permitted t x.0.permissions) (get-still_permitted t x.0.permissions) in
       let same = ap (λ y. fin.len y.permissions) x.3 in
       let all = w.permissions f x.0 x.1 in omega arith);
   channels = (λ f e is.
       let x = purged_from t c f e is in
-      let le = nat_len-le (still_bound t x.0.channels) x.0.channels (λ q has. some_channel_ahead t (fin.get x.0.channels q) (sym (ap is_some (get-still_bound t x.0.channels q)) ∙ has)) in
+      let le = fewer_left of_channels t x.0.channels (still_bound t x.0.channels) (get-still_bound t x.0.channels) in
       let same = ap (λ y. fin.len y.channels) x.3 in
       let all = w.channels f x.0 x.1 in omega arith);
 }
@@ -199,9 +167,7 @@ module _ (b : Bounds) (t : ℕ) (f : FiveTuple) (c : Contents) (w : IsWithin b c
       let room = subst (λ o. IsSomeAnd o (λ e. FitsChannel b number peer e × IsChannelNumber number)) is fits in
       let ps = inserted_alike (t + permission_lifetime) 0 peer.ip x.permissions in
       let cs = inserted_alike (record { peer = peer; expiry = t + channel_lifetime }) (record { peer = peer; expiry = 0 }) number x.channels in
-      let permissions = room.0.0 in
-      let channels = room.0.1 in
-      (omega arith, omega arith)
+      (omega (arith, room.0.0), omega (arith, room.0.1))
 
   pub within-applied : (d : PlainAct) → Fits b c f d → IsWithin b (applied t f d c)
   within-applied d fits =
@@ -210,29 +176,16 @@ module _ (b : Bounds) (t : ℕ) (f : FiveTuple) (c : Contents) (w : IsWithin b c
 
 -- ---- A history
 
-within-later : (b : Bounds) (h : History) (s t : ℕ) → s ≤ t → IsWithin b (table h s) → IsWithin b (table h t)
-within-later b h s t le w = subst (IsWithin b) (table-later h s t le) (within-purged b t (table h s) w)
-
-within-after : (b : Bounds) (h : History) (es : List Event) (s t : ℕ) → IsWithin b (table h s) → NextFrom s es → FitsAfter b h es → s ≤ t → clock es ≤ t → IsWithin b (table (h ++ es) t)
-within-after b h [] s t w from fits le below = subst (λ l. IsWithin b (table l t)) (sym (append-nil h)) (within-later b h s t le w)
-within-after b h (e ∷ es) s t w from fits le below =
-    let here = within-later b h s e.moment from w in
-    let done = subst (IsWithin b) (sym (table-follows b h e fits.0)) (within-applied b e.moment e.tuple (table h e.moment) here e.act fits.0.fits) in
-    subst (λ l. IsWithin b (table l t)) (append_assoc h (e ∷ []) es)
-    (within-after b (h ++ e ∷ []) es e.moment t done (next_fits b h e es fits.1) fits.1 (below_first e es t below) (below_rest e es t below))
-
-none : (f : FiveTuple) → fin.get (table [] 0).entries f ≡ None
-unfolding own entry_in
-none f = get-table [] 0 f
-
 within-none : (b : Bounds) → IsWithin b (table [] 0)
 unfolding table map_of reservations
 within-none b = record {
   allocations = (let size = len-empty tuple_cmp Entry in omega arith);
   reserved = (let size = len-empty nat_cmp Reservation in omega arith);
-  permissions = (λ f e is. let no : None ≡ Some e = sym (none f) ∙ is in cc);
-  channels = (λ f e is. let no : None ≡ Some e = sym (none f) ∙ is in cc);
+  permissions = λ f e is. absurd (no_entries f e is);
+  channels = λ f e is. absurd (no_entries f e is);
 }
 
 pub tables-within : (b : Bounds) (h : History) (t : ℕ) → IsFitting b h → clock h ≤ t → IsWithin b (table h t)
-tables-within b h t fits below = within-after b [] h 0 t (within-none b) (next_zero h) fits (omega arith) below
+tables-within b h t fits below =
+    always b (IsInRange b) (λ t. IsWithin b) (λ s t c le. within-purged b t c) (λ e c range fits w. within-applied b e.moment e.tuple c w e.act fits)
+    (within-none b) h t fits (fits_in_range b [] h fits) below

@@ -1,6 +1,4 @@
 pub mod Growing
-pub mod Lasting
-pub mod Lists
 pub mod Lives
 pub mod Plays
 pub mod Repeats

@@ -1,6 +1,7 @@
 -- What a player does, put together from calls.
 use Rattle.std.proofs.Common.{◌≡◌, ◌≤◌, ◌<◌, ◌+◌, ◌++◌, ℕ, Bool, true, List, [], ◌∷◌, Option, Some, Result, Ok, Err, false, get_or, length, max, map, take, refl, sym, ap, ◌∙◌, subst, append_assoc, append-nil}
 use Rattle.std.proofs.lemmas.List.{map-append, take_more}
+use Rattle.std.proofs.lemmas.Option.{same_Some}
 use Rattle.std.specs.Prelude.{IfOk, OnOk}
 use Rattle.turn_cred.specs.declared.handler.AuthHandler as handlers
 use Rattle.turn_disk.specs.Crash.{left_by}
@@ -29,6 +30,10 @@ use Rattle.turn_player.specs.declared.step.Effect.{Effect}
 use Rattle.turn_player.specs.declared.step.Action.{Action}
 use Rattle.turn_player.specs.declared.step.Action.TheVariants as steps
 
+-- what was said is as it was, and does something else
+adds_map : (old new : List Said) (P Q : List Said → Type 0) → ((said : List Said) → P said → Q said) → Adds old new P → Adds old new Q
+adds_map old new P Q does adds = record { said = adds.said; is = adds.is; does = does adds.said adds.does }
+
 module _ {D H G : Type 0} (disk : disks.Ghosts D) (handler : handlers.Ghosts H) (ports : generators.Ghosts G) (s : Setting) where
   pub submitted : (old new : ServerState D H G) (t n : ℕ) (a : Arrives) (result : Result Unit SubmitError) → n ≡ max t (now_of old) → Submits disk handler ports old new n a result
       → Call disk handler ports s (Serving old) (Arrive t a) (said_by_submit result) (Serving new)
@@ -48,7 +53,7 @@ module _ {D H G : Type 0} (disk : disks.Ghosts D) (handler : handlers.Ghosts H) 
   at w u v input said is call = subst (λ (x : World D H G). Call disk handler ports s x input said v) (sym is) call
 
   pub adds_at : (w u v : World D H G) (input : Input) (old new : List Said) → w ≡ u → Adds old new (λ said. Call disk handler ports s u input said v) → Adds old new (λ said. Call disk handler ports s w input said v)
-  adds_at w u v input old new is adds = record { said = adds.said; is = adds.is; does = at w u v input adds.said is adds.does }
+  adds_at w u v input old new is = adds_map old new _ _ (λ said. at w u v input said is)
 
 -- events of one more step
 pub one_more : {A : Type 0} (old new : List (Effect A)) (event : Effect A) → new ≡ old ++ event ∷ [] → map said_of new ≡ map said_of old ++ said_of event ∷ []
@@ -63,12 +68,7 @@ pub plays_commit : {D H G : Type 0} (disk : disks.Ghosts D) (handler : handlers.
     → step ≡ steps.Commit → IfOk r (λ h. (s : Setting) → Adds old new (λ said. Call disk handler ports s w Commit said (world h)))
     → IfOk r (λ h. (s : Setting) → s.config ≡ config → Adds old new (λ said. Plays disk handler ports s w step said (world h)))
 plays_commit disk handler ports (Ok h) world w step config old new is does = λ s same.
-    let adds = does s in
-    record {
-      said = adds.said;
-      is = adds.is;
-      does = subst (λ (x : Action). Plays disk handler ports s w x adds.said (world h)) (sym is) (plays.commits adds.does);
-    }
+    adds_map old new _ _ (λ said call. subst (λ (x : Action). Plays disk handler ports s w x said (world h)) (sym is) (plays.commits call)) (does s)
 plays_commit disk handler ports (Err e) world w step config old new is does = tt
 
 module _ {D H G : Type 0} (disk : disks.Ghosts D) (handler : handlers.Ghosts H) (ports : generators.Ghosts G) (s : Setting) where
@@ -131,11 +131,7 @@ module _ {D H G : Type 0} (disk : disks.Ghosts D) (handler : handlers.Ghosts H) 
 
   pub all_played : (w u : World D H G) (all : List Action) (i : ℕ) (old new : List Said) → length all ≤ i → Adds old new (λ said. PlaysAll disk handler ports s w (take i all) said u)
       → Adds old new (λ said. PlaysAll disk handler ports s w all said u)
-  all_played w u all i old new past adds = record {
-    said = adds.said;
-    is = adds.is;
-    does = subst (λ (l : List Action). PlaysAll disk handler ports s w l adds.said u) (take_of_length-le i all past) adds.does;
-  }
+  all_played w u all i old new past = adds_map old new _ _ (λ said. subst (λ (l : List Action). PlaysAll disk handler ports s w l said u) (take_of_length-le i all past))
 
   pub ran : (old new : Option (World D H G)) (w v : World D H G) (all : List Action) (start said : List Said) → old ≡ Some w → new ≡ Some v → start ≡ []
       → Adds start said (λ l. PlaysAll disk handler ports s w all l v) → Ran disk handler ports s old all said new
@@ -175,12 +171,9 @@ module _ {D H G : Type 0} (disk : disks.Ghosts D) (handler : handlers.Ghosts H) 
   pub goes_on : (form : Form) (p : Point) (old new : Option (World D H G)) (all : List Action) (said : List Said) → NeverFails ports → ((x : D) → disk.follows_crash_model x) → form.bounds ≡ s.config.limits
       → Ran disk handler ports s old all said new → GoesOn disk handler ports form s p old (inputs_of_all all) said new
   goes_on form p old new all said never always same ran before is stands =
-      let one : before ≡ ran.before = same_world before ran.before (sym is ∙ ran.old_is) in (
+      let one : before ≡ ran.before = same_Some before ran.before (sym is ∙ ran.old_is) in (
         ran.after,
         ran.new_is,
         calls_make_lives disk handler ports form s false (λ no. never) same p ran.before ran.after (inputs_of_all all) said (calls_of ran.before ran.after all said ran.plays)
             (subst (λ (x : World D H G). Stands disk handler ports form s x p) one stands) (always (disk_of ran.after)),
       )
-    where
-      same_world : (x y : World D H G) → Some x ≡ Some y → x ≡ y
-      same_world x y e = cc

@@ -1,9 +1,11 @@
 -- An Allocate that comes again gets the same bytes.
-use Rattle.std.proofs.Common.{◌≡◌, inl, inr, ℕ, Bool, true, false, not, List, [], ◌∷◌, ◌++◌, map, refl, sym, ap, ◌∙◌, subst, append_assoc, Option, Some, None}
-use Rattle.std.specs.Prelude.{◌==◌, ◌||◌, if◌then◌else◌, option_map, unwrap_or}
+use Rattle.std.proofs.Common.{◌≡◌, inl, inr, ℕ, Bool, true, false, List, [], ◌∷◌, ◌++◌, map, sym, ap, ◌∙◌, subst, append_assoc, Option, Some, None}
+use Rattle.std.proofs.lemmas.List.{map-append}
+use Rattle.std.specs.Prelude.{◌==◌, ◌||◌, if◌then◌else◌, option_map}
 use Rattle.std.specs.FinMap as fin
 use Rattle.std.specs.Option.{option_or}
-use Rattle.std.proofs.lemmas.Bool.{and_parts, or_parts}
+use Rattle.std.proofs.lemmas.Bool.{and_parts, not-false, or_parts}
+use Rattle.std.proofs.lemmas.Option.{same_Some}
 use Rattle.turn_types.specs.declared.address.FiveTuple.{FiveTuple}
 use Rattle.turn_types.specs.Methods.{allocate, channel_bind, create_permission, refresh}
 use Rattle.turn_history.specs.History.{Allocates, Allocation, History, PlainAct}
@@ -29,24 +31,17 @@ use Rattle.turn_engine.specs.Runs.{IsRun, Taken, accepted}
 use Rattle.turn_engine.proofs.Answered.{answered_at}
 use Rattle.turn_player.specs.Lives.{Lasting, Point, arrivals_of, formatted, history_of, recent_of, taken_of}
 use Rattle.turn_player.specs.Repeats.{ComesAgain, LastsAfter, MadeBefore, Makes}
-use Rattle.turn_player.proofs.Lists.{by_option, taken-append}
+use Rattle.turn_player.proofs.Growing.{by_option}
 use Rattle.turn_player.proofs.Lives.{begins_life, one_run}
 
 -- ---- Requests
 
-not_false : (a : Bool) → not a ≡ false → a ≡ true
-not_false true is = refl
-not_false false is = cc
-
 taken_request : (d : Datagram) → is_dropped d ≡ false → is_request d.content.class ≡ true
-taken_request d taken = not_false (is_request d.content.class) (or_parts _ _ taken).0
+taken_request d taken = not-false (is_request d.content.class) (or_parts _ _ taken).0
 
 act_is : (f : FiveTuple) (o : Option PlainAct) (act : PlainAct) → option_map (change_of f) o ≡ Some (change_of f act) → o ≡ Some act
 act_is f None act is = cc
 act_is f (Some x) act is = ap (option_map (λ (c : Change). c.act)) is
-
-same_Some : {A : Type 0} (x y : A) → Some x ≡ Some y → x ≡ y
-same_Some x y is = ap (λ o. unwrap_or o x) is
 
 same_outcome : (o k : StepOutcome) → o.change ≡ k.change → o.sent ≡ k.sent → o ≡ k
 same_outcome o k change sent = ap (λ (c : Option Change). record { change = c; sent = o.sent }) change ∙ ap (λ (x : Option Sent). record { change = k.change; sent = x }) sent
@@ -150,7 +145,7 @@ answered s q before x f bytes lasts arrival =
     let others = map taken_of lasts.after ++ recent_of q in
     let one = one_run s lasts.may_fail formatted q lasts.inputs lasts.said [] lasts.life lasts.never_fall (begins_life s lasts.may_fail) in
     let whole : arrivals_of q ≡ map taken_of before ++ y ∷ others =
-    ap (λ (l : List Lasting). map taken_of l ++ recent_of q) lasts.sure ∙ ap (λ (l : List Taken). l ++ recent_of q) (taken-append before (x ∷ lasts.after))
+    ap (λ (l : List Lasting). map taken_of l ++ recent_of q) lasts.sure ∙ ap (λ (l : List Taken). l ++ recent_of q) (map-append taken_of before (x ∷ lasts.after))
     ∙ append_assoc (map taken_of before) (y ∷ map taken_of lasts.after) (recent_of q) in
     subst (λ (r : Arrives). AnswersArrival (record s { pairs = y.pairs }) (accepted (map taken_of before)) y.moment y.failed r y.outcome) arrival
     (answered_at s [] 0 (map taken_of before) y others (subst (IsRun s [] 0) whole one.is_run))

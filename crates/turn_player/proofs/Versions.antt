@@ -1,5 +1,5 @@
 -- A server that reserves ports is followed by such servers.
-use Rattle.std.proofs.Common.{◌≡◌, ℕ, Bool, true, false, List, [], ◌∷◌, ◌++◌, length, map, Result, Ok, Err, sym, ap, ◌∙◌, subst}
+use Rattle.std.proofs.Common.{◌≡◌, ℕ, Bool, true, List, [], ◌∷◌, ◌++◌, length, map, Result, Ok, Err, sym, ap, ◌∙◌, subst}
 use Rattle.turn_cred.specs.declared.handler.AuthHandler as handlers
 use Rattle.turn_disk.specs.Disk.{EachImageSince}
 use Rattle.turn_disk.specs.declared.disk.Disk as disks
@@ -100,8 +100,5 @@ module _ {D H G : Type 0} (disk : disks.Ghosts D) (handler : handlers.Ghosts H) 
   go_on_reserving same p w _ _ _ worlds.done stands crash_model r = r
   go_on_reserving same p w v _ _ (worlds.then {input = input} {inputs = inputs} {said = said} {later = more} u call rest) stands crash_model r =
       let before = earlier disk handler ports form s u v inputs more rest crash_model in
-      let one = calls_make_lives disk handler ports form s true (λ never. absurd (apart never)) same p w u (input ∷ []) (said ++ []) (worlds.then u call worlds.done) stands before in
+      let one = calls_make_lives disk handler ports form s true (λ never. absurd (let no : ⊥ = cc in no)) same p w u (input ∷ []) (said ++ []) (worlds.then u call worlds.done) stands before in
       go_on_reserving same one.end u v inputs more rest one.stands crash_model (next_reserves p w u input said call stands before r)
-    where
-      apart : true ≡ false → ⊥
-      apart is = cc

@@ -1,5 +1,4 @@
-use Rattle.turn_player.proofs.Lasting.{lasts, whole}
-use Rattle.turn_player.proofs.Worlds.{calls_make_lives, commit_since, formatted_stands, open_since}
+use Rattle.turn_player.proofs.Worlds.{calls_make_lives, commit_since, formatted_stands, lasts, open_since, whole}
 use Rattle.turn_player.proofs.laws.calls_make_lives.Goals as goal
 
 pub returns-clause-formatted : goal.returns-clause-formatted
