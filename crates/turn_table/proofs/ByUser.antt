@@ -1,27 +1,116 @@
 -- The list of five-tuples by their users, and the map of entries.
-use Rattle.std.proofs.Common.{◌≡◌, ℕ, zero, suc, ◌+◌, ◌<◌, ◌≤◌, Bool, true, false, cond, T, List, [], ◌∷◌, length, get_or, Option, Some, None, option_map, unwrap_or, slice_get, refl, sym, ap, ◌∙◌, subst, arith}
+use Rattle.std.proofs.Common.{◌≡◌, ℕ, zero, suc, ◌+◌, ◌-◌, ◌<◌, ◌≤◌, leb, ⊎_elim, Bool, true, false, cond, T, List, [], ◌∷◌, length, get_or, Option, Some, None, option_map, unwrap_or, slice_get, refl, sym, ap, ◌∙◌, subst, arith}
 use Rattle.std.specs.FinMap as fin
 use Rattle.std.specs.FinMap.{FinMap, is_sorted, entries-insert, entries_sorted, entries-from_sorted, get-entries, get-from_sorted, get-insert, get-remove, len-entries, len-empty, same_map}
 use Rattle.std.specs.FinMap.Entries.{put, by_order, find}
 use Rattle.std.specs.List.{AllByRecursion, AllWithin, Contains, count_by, fold, insert, remove}
 use Rattle.std.specs.Option.{option_map_or}
-use Rattle.std.specs.Ordering.{eq_by_cmp, is_eq, is_le, is_lt}
+use Rattle.std.specs.Cmp.{IsStrictWeakOrder}
+use Rattle.std.specs.List.Sorted.{IsPartitionedBy, IsSortedBy}
+use Rattle.std.specs.Ordering.{is_eq, is_le, is_lt, ordering_index, ordering_reverse}
 use Rattle.std.specs.Str.{bytes_eq}
 use Rattle.std.specs.Cmp.Lexicographic.{texts_ties}
 use Rattle.std.specs.declared.cmp.Ordering.{Ordering}
 use Rattle.std.specs.declared.cmp.Ordering.TheVariants.{Less, Equal, Greater}
-use Rattle.std.proofs.lemmas.Cmp.{eq_by_cmp_equiv}
-use Rattle.std.proofs.lemmas.List.Sorted.{IsPermutation-insert, IsPermutation-remove, sum_by-IsPermutation}
+use Rattle.std.proofs.lemmas.Bool.{cases_order}
+use Rattle.std.proofs.lemmas.Cmp.{eq_by_cmp_equiv, nat_list_cmp_total}
+use Rattle.std.proofs.lemmas.List.Edits.{length-insert, get_or-insert_below, get_or-insert_at, get_or-insert_above, length-remove, get_or-remove_below, get_or-remove_above}
+use Rattle.std.proofs.lemmas.List.Sorted.{IsPartitionedBy-leb, IsPermutation-insert, IsPermutation-remove, ranks_by, searchable_from_sorted, sorted_far, sum_by-IsPermutation}
 use Rattle.std.proofs.lemmas.List.Sums.{sum_by-cons, get_or-le-sum_by, count_by-le-length}
 use Rattle.std.proofs.lemmas.Option.{get_or_from_slice_get, slice_get_within}
-use Rattle.turn_history.proofs.Entries.{all_entries}
+use Rattle.std.proofs.lemmas.Map.Views.{Contains-from_any}
+use Rattle.turn_history.proofs.Entries.{all_entries, pass_none}
 use Rattle.turn_history.proofs.Maps.{tuple_total, tuple_exact, from_eq}
 use Rattle.turn_types.specs.FiveTuple.{tuple_cmp, same_tuple}
 use Rattle.turn_types.specs.declared.address.FiveTuple.{FiveTuple}
 use Rattle.turn_table.specs.ByUser.{NamesRise, IsFirstOf, IsEndOf, IsByUser, name_of, name_cmp}
-use Rattle.turn_table.proofs.Mapped.{values_by, sorted-values_by, find-values_by, entries-values_by}
-use Rattle.turn_table.proofs.Tuples.{itself}
-use Rattle.turn_table.proofs.Names.{rises-insert, rises-remove}
+use Rattle.turn_table.proofs.Options.{is_false, is_true, some_none}
+use Rattle.turn_table.proofs.Sorted.{get-removed, values_by, sorted-values_by, find-values_by, entries-values_by}
+use Rattle.turn_table.proofs.Tuples.{itself, same_tuple-is}
+
+-- ---- Places
+
+pub lt_is : (o : Ordering) → leb (ordering_index o) 0 ≡ is_lt o
+lt_is Less = refl
+lt_is Equal = refl
+lt_is Greater = refl
+
+pub le_is : (o : Ordering) → leb (ordering_index o) 1 ≡ is_le o
+le_is Less = refl
+le_is Equal = refl
+le_is Greater = refl
+
+-- a test of low answers passes no later name where it fails
+pub parted : (name : FiveTuple → List ℕ) (user : List ℕ) (tuples : List FiveTuple) (test : Ordering → Bool) (t : ℕ) → ((o : Ordering) → leb (ordering_index o) t ≡ test o) → NamesRise name tuples → IsPartitionedBy (λ f. test (name_cmp (name f) user)) tuples
+parted name user tuples test t is up =
+    subst (λ p. IsPartitionedBy p tuples) (λ i f. is (name_cmp (name f) user) i)
+    (IsPartitionedBy-leb (λ f. ordering_index (name_cmp (name f) user)) tuples t (searchable_from_sorted nat_list_cmp_total name tuples user up))
+
+-- ---- Edits of sorted lists
+
+module _ {X : Type 0} (before : X → X → Bool) (xs : List X) (up : IsSortedBy before xs) where
+  sorted-insert : (i : ℕ) (y : X) → i ≤ length xs → ((k : ℕ) (d : X) → k < i → before y (get_or xs k d) ≡ false) → ((k : ℕ) (d : X) → i ≤ k → k < length xs → before (get_or xs k d) y ≡ false) → IsSortedBy before (insert xs i y)
+  sorted-insert i y le low high k d from within = ⊎_elim last (⊎_elim below above) (cases_order (k + 1) i)
+    where
+      long : length (insert xs i y) ≡ length xs + 1
+      long = length-insert xs i y le
+
+      last : k + 1 ≡ i → before (get_or (insert xs i y) (k + 1) d) (get_or (insert xs i y) k d) ≡ false
+      last e = (λ j. before ((ap (λ n. get_or (insert xs i y) n d) e ∙ get_or-insert_at xs i y d le) j) (get_or-insert_below xs i y d k (omega arith) le j)) ∙ low k d (omega arith)
+
+      below : k + 1 < i → before (get_or (insert xs i y) (k + 1) d) (get_or (insert xs i y) k d) ≡ false
+      below h = (λ j. before (get_or-insert_below xs i y d (k + 1) h le j) (get_or-insert_below xs i y d k (omega arith) le j)) ∙ up k d (omega arith) (omega arith)
+
+      next : (h : i ≤ k) → get_or (insert xs i y) (k + 1) d ≡ get_or xs k d
+      next h = get_or-insert_above xs i y d k h le
+
+      above : i < k + 1 → before (get_or (insert xs i y) (k + 1) d) (get_or (insert xs i y) k d) ≡ false
+      above h = ⊎_elim
+          (λ e. (λ j. before (next (omega arith) j) ((ap (λ n. get_or (insert xs i y) n d) e ∙ get_or-insert_at xs i y d le) j)) ∙ high k d (omega arith) (omega (arith, long)))
+          (⊎_elim
+          (λ no. absurd (omega arith))
+          (λ far.
+          let e : k ≡ (k - 1) + 1 = omega arith in
+          (λ j. before ((next (omega arith) ∙ ap (λ n. get_or xs n d) e) j) ((ap (λ n. get_or (insert xs i y) n d) e ∙ get_or-insert_above xs i y d (k - 1) (omega arith) le) j))
+          ∙ up (k - 1) d (omega arith) (omega (arith, long))))
+          (cases_order k i)
+
+  -- what stands at a place of the rest stood there, or one further
+  stood : (i : ℕ) → i < length xs → (k : ℕ) (d : X) → (j : ℕ) × (k ≤ j) × (j ≤ k + 1) × (get_or (remove xs i) k d ≡ get_or xs j d)
+  stood i lt k d =
+      let further : i ≤ k → (j : ℕ) × (k ≤ j) × (j ≤ k + 1) × (get_or (remove xs i) k d ≡ get_or xs j d) = λ le. (k + 1, omega arith, omega arith, get_or-remove_above xs i d k le lt) in
+      ⊎_elim (λ same. further (omega arith)) (⊎_elim (λ below. (k, omega arith, omega arith, get_or-remove_below xs i d k below lt)) (λ above. further (omega arith))) (cases_order k i)
+
+  sorted-remove : IsStrictWeakOrder before → (i : ℕ) → i < length xs → IsSortedBy before (remove xs i)
+  sorted-remove o i lt k d from within =
+      let low = stood i lt k d in
+      let high = stood i lt (k + 1) d in
+      (λ j. before (high.3 j) (low.3 j)) ∙ sorted_far before o xs up low.0 high.0 d (omega (arith, low.2, high.1)) (omega (arith, high.2, length-remove xs i lt))
+
+-- ---- Names
+
+not_above : (a b : List ℕ) → is_le (name_cmp a b) ≡ true → is_lt (name_cmp b a) ≡ false
+not_above a b h = ap is_lt (nat_list_cmp_total.antisymm b a) ∙ turned (name_cmp a b) h
+  where
+    turned : (o : Ordering) → is_le o ≡ true → is_lt (ordering_reverse o) ≡ false
+    turned Less h = refl
+    turned Equal h = refl
+    turned Greater h = cc
+
+not_below : (o : Ordering) → is_le o ≡ false → is_lt o ≡ false
+not_below Less h = cc
+not_below Equal h = refl
+not_below Greater h = refl
+
+module _ (name : FiveTuple → List ℕ) (tuples : List FiveTuple) (up : NamesRise name tuples) where
+  pub rises-insert : (user : List ℕ) (tuple : FiveTuple) (end : ℕ) → name tuple ≡ user → IsEndOf name user tuples end → NamesRise name (insert tuples end tuple)
+  rises-insert user tuple end named place =
+      sorted-insert (λ f g. is_lt (name_cmp (name f) (name g))) tuples up end tuple place.within
+      (λ k d lt. ap (λ n. is_lt (name_cmp n (name (get_or tuples k d)))) named ∙ not_above (name (get_or tuples k d)) user (place.point.0 k d (omega arith) lt))
+      (λ k d le lt. ap (λ n. is_lt (name_cmp (name (get_or tuples k d)) n)) named ∙ not_below (name_cmp (name (get_or tuples k d)) user) (place.point.1 k d le lt))
+
+  pub rises-remove : (i : ℕ) → i < length tuples → NamesRise name (remove tuples i)
+  rises-remove i lt = sorted-remove (λ f g. is_lt (name_cmp (name f) (name g))) tuples up (ranks_by nat_list_cmp_total name) i lt
 
 -- ---- Counts
 
@@ -52,6 +141,10 @@ module _ {X : Type 0} where
   count-alike : (p q : X → Bool) (xs : List X) → AllByRecursion (λ x. p x ≡ q x) xs → count_by p xs ≡ count_by q xs
   count-alike p q [] h = refl
   count-alike p q (x ∷ xs) h = omega (arith, ap one h.0, count-alike p q xs h.1, count-cons p x xs, count-cons q x xs)
+
+  count-none : (p : X → Bool) (xs : List X) → AllByRecursion (λ x. p x ≡ false) xs → count_by p xs ≡ 0
+  count-none p [] h = refl
+  count-none p (x ∷ xs) h = omega (arith, ap one h.0, count-none p xs h.1, count-cons p x xs)
 
 -- ---- Those of one user
 
@@ -92,31 +185,12 @@ module _ {K X : Type 0} (R : K → K → Ordering) where
       by_place ih Equal none = cc
       by_place ih Greater none = omega (arith, ih none, count-cons (by_key p) e (put R k v es), count-cons (by_key p) e es)
 
-  count-missing : (q : K) (es : List (K × X)) → find R q es ≡ None → count_by (by_key (eq_by_cmp R q)) es ≡ 0
-  count-missing q [] none = refl
-  count-missing q (e ∷ es) none = by_test (count-missing q es) (eq_by_cmp R q e.0) refl none
-    where
-      by_test : (find R q es ≡ None → count_by (by_key (eq_by_cmp R q)) es ≡ 0) → (b : Bool) → eq_by_cmp R q e.0 ≡ b → cond b (Some e.1) (find R q es) ≡ None → count_by (by_key (eq_by_cmp R q)) (e ∷ es) ≡ 0
-      by_test ih true is none = cc
-      by_test ih false is none = omega (arith, ih none, ap one is, count-cons (by_key (eq_by_cmp R q)) e es)
-
-  count-found : (q : K) (v : X) (es : List (K × X)) → find R q es ≡ Some v → 1 ≤ count_by (by_key (eq_by_cmp R q)) es
-  count-found q v [] some = cc
-  count-found q v (e ∷ es) some = by_test (count-found q v es) (eq_by_cmp R q e.0) refl some
-    where
-      by_test : (find R q es ≡ Some v → 1 ≤ count_by (by_key (eq_by_cmp R q)) es) → (b : Bool) → eq_by_cmp R q e.0 ≡ b → cond b (Some e.1) (find R q es) ≡ Some v → 1 ≤ count_by (by_key (eq_by_cmp R q)) (e ∷ es)
-      by_test ih true is some = omega (arith, ap one is, count-cons (by_key (eq_by_cmp R q)) e es)
-      by_test ih false is some = omega (arith, ih some, count-cons (by_key (eq_by_cmp R q)) e es)
-
 abbrev keys-counted : {X : Type 0} → FinMap tuple_cmp X → (FiveTuple → Bool) → ℕ
 keys-counted m p = count_by (by_key p) (fin.entries m)
 
 module _ {X : Type 0} (m : FinMap tuple_cmp X) (tuple : FiveTuple) where
   counted-insert : (v : X) → fin.get m tuple ≡ None → (p : FiveTuple → Bool) → keys-counted (fin.insert m tuple v) p ≡ one (p tuple) + keys-counted m p
   counted-insert v none p = ap (count_by (by_key p)) (entries-insert tuple_total m tuple v) ∙ count-put tuple_cmp p tuple v (fin.entries m) (sym (get-entries m tuple) ∙ none)
-
-  gone : fin.get (fin.remove m tuple) tuple ≡ None
-  gone = get-remove tuple_total m tuple tuple ∙ ap (λ b. cond b None (fin.get m tuple)) (itself tuple)
 
   put_back : (v : X) → fin.get m tuple ≡ Some v → fin.insert (fin.remove m tuple) tuple v ≡ m
   put_back v some = same_map tuple_total tuple_exact _ _ (λ q. get-insert tuple_total (fin.remove m tuple) tuple v q ∙ ap (cond (same_tuple q tuple) (Some v)) (get-remove tuple_total m tuple q) ∙ by_test q (same_tuple q tuple) refl)
@@ -127,7 +201,7 @@ module _ {X : Type 0} (m : FinMap tuple_cmp X) (tuple : FiveTuple) where
 
 module _ {X : Type 0} (m : FinMap tuple_cmp X) (tuple : FiveTuple) (v : X) (some : fin.get m tuple ≡ Some v) where
   counted-remove : (p : FiveTuple → Bool) → one (p tuple) + keys-counted (fin.remove m tuple) p ≡ keys-counted m p
-  counted-remove p = sym (counted-insert (fin.remove m tuple) tuple v (gone m tuple) p) ∙ ap (λ n. keys-counted n p) (put_back m tuple v some)
+  counted-remove p = sym (counted-insert (fin.remove m tuple) tuple v (get-removed tuple_total m tuple) p) ∙ ap (λ n. keys-counted n p) (put_back m tuple v some)
 
 -- ---- Maps of the same values
 
@@ -151,28 +225,20 @@ abbrev Counted : {X : Type 0} → FinMap tuple_cmp X → List FiveTuple → Type
 Counted m tuples = (p : FiveTuple → Bool) → count_by p tuples ≡ keys-counted m p
 
 contained : (tuple : FiveTuple) (tuples : List FiveTuple) → 1 ≤ count_by (same_tuple tuple) tuples → Contains tuples tuple
-contained tuple [] some = absurd (omega arith)
-contained tuple (f ∷ fs) some = by_test (contained tuple fs) (same_tuple tuple f) refl
-  where
-    by_test : (1 ≤ count_by (same_tuple tuple) fs → Contains fs tuple) → (b : Bool) → same_tuple tuple f ≡ b → Contains (f ∷ fs) tuple
-    by_test ih true is = (0, omega arith, sym (from_eq tuple_cmp tuple_exact tuple f is))
-    by_test ih false is =
-        let more = ih (omega (arith, ap one is, count-cons (same_tuple tuple) f fs)) in
-        (suc more.0, omega (arith, more.1), more.2)
+contained tuple tuples some = Contains-from_any same_tuple-is tuple tuples (is_true _ (λ none.
+    let zero = count-none (same_tuple tuple) tuples (pass_none (same_tuple tuple) tuples none) in
+    absurd (omega (arith, some, zero))))
 
 module _ {X : Type 0} (m : FinMap tuple_cmp X) (tuples : List FiveTuple) (counted : Counted m tuples) (tuple : FiveTuple) where
   pub listed : (v : X) → fin.get m tuple ≡ Some v → Contains tuples tuple
-  listed v some = contained tuple tuples (let many = count-found tuple_cmp tuple v (fin.entries m) (sym (get-entries m tuple) ∙ some) in omega (arith, counted (same_tuple tuple)))
+  listed v some = contained tuple tuples (omega (arith, ap one (itself tuple), counted-remove m tuple v some (same_tuple tuple), counted (same_tuple tuple)))
 
   unlisted : fin.get m tuple ≡ None → (k : ℕ) (d : FiveTuple) → k < length tuples → same_tuple (get_or tuples k d) tuple ≡ false
   unlisted none k d lt =
+      let missing = count-none (by_key (same_tuple tuple)) (fin.entries m)
+      (all_entries tuple_total tuple_exact (λ e. same_tuple tuple e.0 ≡ false) m (λ q v is. is_false _ (λ same. some_none is (ap (fin.get m) (sym (same_tuple-is tuple q same)) ∙ none)))) in
       (eq_by_cmp_equiv tuple_total).symm (get_or tuples k d) tuple
-      ∙ zero_one (same_tuple tuple (get_or tuples k d))
-      (omega (arith, count-missing tuple_cmp tuple (fin.entries m) (sym (get-entries m tuple) ∙ none), counted (same_tuple tuple), get_or-le-sum_by (λ f. one (same_tuple tuple f)) tuples k d lt))
-    where
-      zero_one : (b : Bool) → one b ≤ 0 → b ≡ false
-      zero_one true h = absurd (omega arith)
-      zero_one false h = refl
+      ∙ is_false _ (λ same. absurd (omega (arith, ap one same, missing, counted (same_tuple tuple), get_or-le-sum_by (λ f. one (same_tuple tuple f)) tuples k d lt)))
 
 -- ---- Names that stay
 
@@ -233,7 +299,7 @@ module _ {X : Type 0} (user : X → List ℕ) where
       let all = sum_by-IsPermutation (λ f. one (p f)) tuples (tuple ∷ left) (IsPermutation-remove tuples place tuple lt (sym (get_or_from_slice_get tuples place tuple tuple at))) in
       let parts = count-cons p tuple left in
       omega (arith, by.counted p, counted-remove m tuple v there p) in
-      let alike : Alike old new left = λ k d within. named-remove m tuple (get_or left k d) (unlisted (fin.remove m tuple) left counted tuple (gone m tuple) k d within) in
+      let alike : Alike old new left = λ k d within. named-remove m tuple (get_or left k d) (unlisted (fin.remove m tuple) left counted tuple (get-removed tuple_total m tuple) k d within) in
       record {
         rises = rises-alike old new left alike (rises-remove old tuples by.rises place lt);
         counted = counted;

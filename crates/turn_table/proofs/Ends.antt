@@ -1,12 +1,11 @@
 -- The end of a list of entries.
-use Rattle.std.proofs.Common.{◌≡◌, ℕ, ◌<◌, cond, lt-ltb, ◌-◌, T, List, [], ◌∷◌, ◌++◌, length, refl, ap, ◌∙◌, subst, arith, slice_get, IfSome, Bool, true, false, Option, None, Some}
+use Rattle.std.proofs.Common.{◌≡◌, ℕ, ◌<◌, ◌-◌, T, List, [], ◌∷◌, ◌++◌, length, refl, sym, ap, ◌∙◌, subst, arith, slice_get, IfSome, Option}
 use Rattle.std.specs.declared.cmp.Ordering.{Ordering}
-use Rattle.std.specs.declared.cmp.Ordering.TheVariants.{Less, Equal, Greater}
-use Rattle.std.specs.Prelude.{◌==◌, nat_lt}
-use Rattle.std.proofs.lemmas.Bool.{ltb-true}
+use Rattle.std.specs.declared.cmp.Ordering.TheVariants.{Less, Greater}
 use Rattle.std.proofs.lemmas.Cmp.{nat_cmp_total}
+use Rattle.std.proofs.lemmas.Option.{IfSome_then}
 use Rattle.std.specs.Ordering.{nat_cmp, ordering_reverse}
-use Rattle.std.specs.Cmp.{IsTotalOrder}
+use Rattle.std.specs.Cmp.{IsTotalOrder, nat_cmp_is, ranked}
 use Rattle.std.specs.List.{AllByRecursion}
 use Rattle.std.specs.FinMap as fin
 use Rattle.std.specs.FinMap.{is_sorted, entries_sorted, entries-insert, nat_cmp-IsAntisymmetric}
@@ -42,42 +41,26 @@ module _ {K X : Type 0} {R : K → K → Ordering} (o : IsTotalOrder R) where
 
 -- ---- The contents of a table
 
--- a number below another one, by the order of numbers
-less_of : (a b : ℕ) → a < b → nat_cmp a b ≡ Less
-less_of a b lt = ap (λ t. cond t Less (cond (a == b) Equal Greater)) (lt-ltb a b lt)
-
-of_less : (a b : ℕ) → nat_cmp a b ≡ Less → a < b
-of_less a b less = by_tests (nat_lt a b) refl (a == b) less
-  where
-    by_tests : (l : Bool) → nat_lt a b ≡ l → (e : Bool) → cond l Less (cond e Equal Greater) ≡ Less → a < b
-    by_tests true at e is = ltb-true a b at
-    by_tests false at true is = cc
-    by_tests false at false is = cc
-
 weaker_last : (port : ℕ) (o : Option (ℕ × Reservation)) → IfSome o (λ p. p.0 < port) → IfSome o (λ p. nat_cmp p.0 port ≡ Less)
-weaker_last port None some = tt
-weaker_last port (Some p) some = less_of p.0 port some
+weaker_last port o some = IfSome_then o some (λ p lt. sym (nat_cmp_is p.0 port Less lt))
 
 pub above_all_reserved : (c : Contents) (port : ℕ) → IsAboveLastReserved c port → IsAboveReserved c port
 above_all_reserved c port last q r is =
-    of_less q port
-    (of_entries nat_cmp_total nat_cmp-IsAntisymmetric (λ p. nat_cmp p.0 port ≡ Less) c.reserved
-    (below_last nat_cmp_total port (fin.entries c.reserved) (entries_sorted c.reserved) (weaker_last port (slice_get (fin.entries c.reserved) (length (fin.entries c.reserved) - 1)) last)) q r is)
+    ranked q port Less (sym (of_entries nat_cmp_total nat_cmp-IsAntisymmetric (λ p. nat_cmp p.0 port ≡ Less) c.reserved
+    (below_last nat_cmp_total port (fin.entries c.reserved) (entries_sorted c.reserved) (weaker_last port (slice_get (fin.entries c.reserved) (length (fin.entries c.reserved) - 1)) last)) q r is))
 
 pub above_all : (c : Contents) (f : FiveTuple) → IsAboveLast c f → IsAbove c f
 above_all c f last g e is =
     of_entries tuple_total tuple_exact (λ p. tuple_cmp p.0 f ≡ Less) c.entries
     (below_last tuple_total f (fin.entries c.entries) (entries_sorted c.entries) last) g e is
 
-all_below : (c : Contents) (f : FiveTuple) → IsAbove c f → AllByRecursion (λ p. tuple_cmp p.0 f ≡ Less) (fin.entries c.entries)
-all_below c f above = all_entries tuple_total tuple_exact (λ p. tuple_cmp p.0 f ≡ Less) c.entries above
-
-ports_below : (c : Contents) (port : ℕ) → IsAboveReserved c port → AllByRecursion (λ p. nat_cmp p.0 port ≡ Less) (fin.entries c.reserved)
-ports_below c port above = all_entries nat_cmp_total nat_cmp-IsAntisymmetric (λ p. nat_cmp p.0 port ≡ Less) c.reserved (λ q r is. less_of q port (above q r is))
-
 -- a port above all comes last
 pub ports-above : (c : Contents) (port : ℕ) (r : Reservation) → IsAboveReserved c port → fin.entries (fin.insert c.reserved port r) ≡ fin.entries c.reserved ++ (port, r) ∷ []
-ports-above c port r above = entries-insert nat_cmp_total c.reserved port r ∙ put-end nat_cmp_total port r (fin.entries c.reserved) (ports_below c port above)
+ports-above c port r above =
+    entries-insert nat_cmp_total c.reserved port r
+    ∙ put-end nat_cmp_total port r (fin.entries c.reserved)
+    (all_entries nat_cmp_total nat_cmp-IsAntisymmetric (λ p. nat_cmp p.0 port ≡ Less) c.reserved (λ q v is. sym (nat_cmp_is q port Less (above q v is))))
 
 pub entries-above : (c : Contents) (f : FiveTuple) (e : Entry) → IsAbove c f → fin.entries (fin.insert c.entries f e) ≡ fin.entries c.entries ++ (f, e) ∷ []
-entries-above c f e above = entries-insert tuple_total c.entries f e ∙ put-end tuple_total f e (fin.entries c.entries) (all_below c f above)
+entries-above c f e above =
+    entries-insert tuple_total c.entries f e ∙ put-end tuple_total f e (fin.entries c.entries) (all_entries tuple_total tuple_exact (λ p. tuple_cmp p.0 f ≡ Less) c.entries above)

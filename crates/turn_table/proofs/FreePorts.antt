@@ -4,15 +4,16 @@ use Rattle.std.specs.Cmp.{nat_cmp_is, ranked}
 use Rattle.std.specs.declared.cmp.Ordering.TheVariants.{Less, Equal, Greater}
 use Rattle.std.specs.Ordering.{nat_cmp, is_eq}
 use Rattle.std.proofs.lemmas.Cmp.{nat_cmp_total}
-use Rattle.std.proofs.lemmas.List.{drop_all, length-drop}
-use Rattle.std.proofs.Math.Seq.{take-length}
+use Rattle.std.proofs.lemmas.List.{drop_all}
 use Rattle.std.specs.FinMap as fin
 use Rattle.std.specs.FinMap.{is_sorted, get-from_sorted, nat_cmp-IsAntisymmetric}
 use Rattle.std.specs.FinMap.Entries.{find}
 use Rattle.std.proofs.lemmas.Option.{get_or_from_slice_get, slice_get_within}
 use Rattle.turn_history.proofs.Entries.{first, less, second}
 use Rattle.turn_ports.specs.Ports.{IsFree}
-use Rattle.turn_table.proofs.Sorted.{holds, find_below}
+use Rattle.turn_table.proofs.Options.{mapped_then}
+use Rattle.turn_table.proofs.Places.{all_taken}
+use Rattle.turn_table.proofs.Sorted.{Place, past, find_below, holds, yes}
 
 module _ {V : Type 0} where
   -- whether a port is among those of a list
@@ -41,16 +42,6 @@ module _ {V : Type 0} where
       ∙ find_below nat_cmp_total nat_cmp-IsAntisymmetric port x.0 xs less (first _ _ s)
 
   module _ (range : ℕ × ℕ) (even : Bool) (ports : List (ℕ × V)) where
-    passed : (x : ℕ × V) (xs : List (ℕ × V)) (lowest : ℕ) → Reaches range even ports (x ∷ xs) lowest → x.0 < lowest → Reaches range even ports xs lowest
-    passed x xs lowest here lt =
-        record {
-          from_first = here.from_first;
-          parity = here.parity;
-          none_below = here.none_below;
-          rest = λ port le. sym (find-later port x xs (omega arith)) ∙ here.rest port le;
-          sorted = second _ _ here.sorted;
-        }
-
     step_on : (b : Bool) (lowest : ℕ) → (b ≡ true → lowest % 2 ≡ 0) → b ≡ true → (lowest + cond b 2 1) % 2 ≡ 0
     step_on true lowest parity e = let is = parity refl in omega arith
     step_on false lowest parity e = cc
@@ -61,25 +52,6 @@ module _ {V : Type 0} where
 
     is_among : is_sorted nat_cmp ports ≡ true → (port : ℕ) (o : Option V) → find nat_cmp port ports ≡ o → among ports port ≡ is_some o
     is_among s port o e = ap is_some (get-from_sorted nat_cmp ports port (holds _ s) ∙ e)
-
-    taken : is_sorted nat_cmp ports ≡ true → (x : ℕ × V) (xs : List (ℕ × V)) (lowest : ℕ) → Reaches range even ports (x ∷ xs) lowest → lowest ≡ x.0 → Reaches range even ports xs (lowest + cond even 2 1)
-    taken s x xs lowest here same =
-        let has : among ports lowest ≡ true = is_among s lowest (Some x.1) (sym (here.rest lowest (omega arith)) ∙ find-first lowest x xs same) in
-        let up : lowest < lowest + cond even 2 1 = by_step even in
-        record {
-          from_first = let from = here.from_first in omega arith;
-          parity = step_on even lowest here.parity;
-          none_below = λ other free. next_free even lowest other here.parity free.parity (above other has (here.none_below other free) free.untaken);
-          rest = λ port le. sym (find-later port x xs (omega arith)) ∙ here.rest port (omega arith);
-          sorted = second _ _ here.sorted;
-        }
-      where
-        by_step : (b : Bool) → lowest < lowest + cond b 2 1
-        by_step true = omega arith
-        by_step false = omega arith
-
-        above : (other : ℕ) → among ports lowest ≡ true → lowest ≤ other → among ports other ≡ false → lowest < other
-        above other has le free = grind (arith, λ (e : lowest ≡ other). ap (among ports) e)
 
     pub lowest_is : (left : List (ℕ × V)) (lowest : ℕ) → Reaches range even ports left lowest → among ports lowest ≡ false → lowest ≤ range.1 → range.1 < 2 ^ 16 → IsFree range (among ports) even lowest × ((other : ℕ) → IsFree range (among ports) even other → lowest ≤ other)
     lowest_is left lowest here free le few = (
@@ -99,14 +71,38 @@ module _ {V : Type 0} where
     -- past a port below the lowest
     pub pass : (i : ℕ) (x : ℕ × V) (lowest new : ℕ) → i < length walked → x ≡ get_or walked i x → Reaches range even ports (drop i walked) lowest → x.0 < lowest → new ≡ lowest → Reaches range even ports (drop (i + 1) walked) new
     pass i x lowest new lt is here below same =
+        let left = subst (λ ys. Reaches range even ports ys lowest) (parts i x lt is) here in
         subst (λ n. Reaches range even ports (drop (i + 1) walked) n) (sym same)
-        (passed range even ports x (drop (i + 1) walked) lowest (subst (λ left. Reaches range even ports left lowest) (parts i x lt is) here) below)
+        (record {
+          from_first = here.from_first;
+          parity = here.parity;
+          none_below = here.none_below;
+          rest = λ port le. sym (find-later port x (drop (i + 1) walked) (omega arith)) ∙ left.rest port le;
+          sorted = second _ _ left.sorted;
+        })
 
     -- past the lowest itself
     pub step : is_sorted nat_cmp ports ≡ true → (i : ℕ) (x : ℕ × V) (lowest by new : ℕ) → i < length walked → x ≡ get_or walked i x → Reaches range even ports (drop i walked) lowest → lowest ≡ x.0 → by ≡ cond even 2 1 → new ≡ lowest + by → Reaches range even ports (drop (i + 1) walked) new
     step s i x lowest by new lt is here there by_is same =
-        subst (λ n. Reaches range even ports (drop (i + 1) walked) n) (sym (same ∙ ap (λ n. lowest + n) by_is))
-        (taken range even ports s x (drop (i + 1) walked) lowest (subst (λ left. Reaches range even ports left lowest) (parts i x lt is) here) there)
+        let left = subst (λ ys. Reaches range even ports ys lowest) (parts i x lt is) here in
+        let rest = drop (i + 1) walked in
+        let has : among ports lowest ≡ true = is_among range even ports s lowest (Some x.1) (sym (left.rest lowest (omega arith)) ∙ find-first lowest x rest there) in
+        let up : lowest < lowest + cond even 2 1 = by_step even in
+        subst (λ n. Reaches range even ports rest n) (sym (same ∙ ap (λ n. lowest + n) by_is))
+        (record {
+          from_first = let from = here.from_first in omega arith;
+          parity = step_on range even ports even lowest here.parity;
+          none_below = λ other free. next_free range even ports even lowest other here.parity free.parity (above other has (here.none_below other free) free.untaken);
+          rest = λ port le. sym (find-later port x rest (omega arith)) ∙ left.rest port (omega arith);
+          sorted = second _ _ left.sorted;
+        })
+      where
+        by_step : (b : Bool) → lowest < lowest + cond b 2 1
+        by_step true = omega arith
+        by_step false = omega arith
+
+        above : (other : ℕ) → among ports lowest ≡ true → lowest ≤ other → among ports other ≡ false → lowest < other
+        above other has le free = grind (arith, λ (e : lowest ≡ other). ap (among ports) e)
 
     -- at a port above the lowest, and at the end, the lowest isn't among the ports
     pub gap : is_sorted nat_cmp ports ≡ true → (i : ℕ) (x : ℕ × V) (lowest : ℕ) → i < length walked → x ≡ get_or walked i x → Reaches range even ports (drop i walked) lowest → lowest < x.0 → among ports lowest ≡ false
@@ -139,23 +135,14 @@ module _ {V : Type 0} where
   rises : (x z : ℕ × V) (zs : List (ℕ × V)) → T (is_sorted nat_cmp (x ∷ z ∷ zs)) → x.0 < z.0
   rises x z zs s = ranked x.0 z.0 Less (sym (less _ (first _ _ (first _ _ s))))
 
-  -- the number of a port in a list
-  of_port : (o : Option (ℕ × V)) (p : ℕ) → option_map (λ x. x.0) o ≡ Some p → (x : ℕ × V) × (o ≡ Some x) × (x.0 ≡ p)
-  of_port None p e = absurd cc
-  of_port (Some x) p e = (x, refl, cc)
-
   -- after a run
   pub after_run : (range : ℕ × ℕ) (ports : List (ℕ × V)) (n : ℕ) → is_sorted nat_cmp ports ≡ true → IsRun range.0 ports n → Reaches range false ports (drop n ports) (range.0 + n)
   after_run range ports zero s run = starts range false ports (range.0 + 0) s (omega arith) (λ e. cc) (λ e. omega arith)
   after_run range ports (suc n) s run =
-      let at = of_port (slice_get ports n) (range.0 + n) (run n (omega arith)) in
-      let x = at.0 in
+      mapped_then (λ x. x.0) (slice_get ports n) (range.0 + n) (run n (omega arith)) (λ x at port_is.
       let next : n + 1 ≡ suc n = omega arith in
       subst (λ k. Reaches range false ports (drop k ports) (range.0 + suc n)) next
-      (step range false ports ports s n x (range.0 + n) 1 (range.0 + suc n) (slice_get_within ports n x at.1) (sym (get_or_from_slice_get ports n x x at.1)) (after_run range ports n s (λ i lt. run i (omega arith))) (sym at.2) refl (omega arith))
-
-  pub all_taken : (ports : List (ℕ × V)) (n : ℕ) → take (length ports - n) (drop n ports) ≡ drop n ports
-  all_taken ports n = ap (λ k. take k (drop n ports)) (sym (length-drop n ports)) ∙ take-length (drop n ports)
+      (step range false ports ports s n x (range.0 + n) 1 (range.0 + suc n) (slice_get_within ports n x at) (sym (get_or_from_slice_get ports n x x at)) (after_run range ports n s (λ i lt. run i (omega arith))) (sym port_is) refl (omega arith)))
 
   -- where the walk starts after the run that it passes over, which is none where an even port is asked for
   pub begins : (range : ℕ × ℕ) (even : Bool) (ports : List (ℕ × V)) (run lowest : ℕ) → is_sorted nat_cmp ports ≡ true → (even ≡ true → (run ≡ 0) × (lowest ≡ range.0 + range.0 % 2)) → (even ≡ false → IsRun range.0 ports run × (lowest ≡ range.0 + run)) → Reaches range even ports (take (length ports - run) (drop run ports)) lowest
@@ -194,3 +181,29 @@ module _ {V : Type 0} where
   run_to from (x ∷ xs) (suc m) v s head at is (suc i) lt =
       let same : from + 1 + i ≡ from + suc i = omega arith in
       run_to (from + 1) xs m v (second _ _ s) (λ y e. let up : x.0 + 0 + 1 ≤ y.0 = far x xs s 0 y e in let near : from ≤ x.0 = head x refl in omega arith) at (omega arith) i (omega arith) ∙ ap Some same
+
+  -- ---- The ports from one on
+
+  sorted_drop : (i : ℕ) (xs : List (ℕ × V)) → T (is_sorted nat_cmp xs) → T (is_sorted nat_cmp (drop i xs))
+  sorted_drop zero xs s = s
+  sorted_drop (suc i) [] s = s
+  sorted_drop (suc i) (x ∷ xs) s = sorted_drop i xs (second _ _ s)
+
+  above_place : (f port : ℕ) (xs : List (ℕ × V)) (b : Bool) (i : ℕ) → Place nat_cmp_total nat_cmp-IsAntisymmetric f xs b i → f ≤ port → find nat_cmp port (drop i xs) ≡ find nat_cmp port xs
+  above_place f port xs b zero at le = refl
+  above_place f port [] b (suc i) h le = elim h [ ]
+  above_place f port (x ∷ xs) b (suc i) (past c more) le =
+      let below : x.0 < f = ranked f x.0 Greater (sym c) in above_place f port xs b i more le ∙ sym (find-later port x xs (omega arith))
+
+  -- ports that rise, and those from a port on, as maps
+  pub record IsFrom (f : ℕ) (ports left : List (ℕ × V)) : Type 0 where
+    pub sorted : is_sorted nat_cmp left ≡ true
+    pub same : (port : ℕ) → f ≤ port → fin.get (fin.from_sorted {R = nat_cmp} left) port ≡ fin.get (fin.from_sorted {R = nat_cmp} ports) port
+
+  pub from_place : (f : ℕ) (xs : List (ℕ × V)) (b : Bool) (i : ℕ) → is_sorted nat_cmp xs ≡ true → Place nat_cmp_total nat_cmp-IsAntisymmetric f xs b i → IsFrom f xs (take (length xs - i) (drop i xs))
+  from_place f xs b i s at =
+      let left = sorted_drop i xs (holds _ s) in
+      subst (IsFrom f xs) (sym (all_taken xs i)) (record {
+        sorted = yes _ left;
+        same = λ port le. get-from_sorted nat_cmp (drop i xs) port left ∙ above_place f port xs b i at le ∙ sym (get-from_sorted nat_cmp xs port (holds _ s));
+      })

@@ -1,5 +1,5 @@
 -- What is held of the live five-tuples, as maps.
-use Rattle.std.proofs.Common.{◌≡◌, ℕ, Bool, true, false, cond, is_some, List, [], ◌∷◌, ◌++◌, map, refl, sym, ap, ◌∙◌, Option, Some, None}
+use Rattle.std.proofs.Common.{◌≡◌, ℕ, cond, is_some, List, [], ◌∷◌, ◌++◌, map, refl, sym, ap, ◌∙◌, Option, Some, None}
 use Rattle.std.specs.Prelude.{IsSome}
 use Rattle.std.specs.List.{AllByRecursion}
 use Rattle.std.specs.Map.{lookup}
@@ -15,7 +15,8 @@ use Rattle.turn_types.specs.declared.address.FiveTuple.{FiveTuple}
 use Rattle.turn_table.specs.Indexed.{held_in}
 use Rattle.turn_table.specs.Live.{Holdings, entries_of, placed, listed}
 use Rattle.turn_table.specs.State.{Held}
-use Rattle.turn_table.proofs.Mapped.{entries-values_by, len-values_by}
+use Rattle.turn_table.proofs.Sorted.{entries-values_by, len-values_by}
+use Rattle.turn_table.proofs.Options.{mapped_cond, mapped_then}
 use Rattle.turn_table.proofs.Tuples.{tuple_eq, tuple_same, tuple_same_back}
 
 -- ---- A list of entries, as the map of entries keeps it
@@ -49,23 +50,19 @@ get-entries_of m q =
     get-map_of-all tuple_total tuple_exact (fin.keys m) (λ f. option_map (λ h. h.entry) (fin.get m f)) q
     (λ none. ap (option_map (λ h. h.entry)) (outside_keys tuple_total tuple_exact m q none))
 
-mapped_cond : (b : Bool) (x y : Option Held) → option_map (λ h. h.entry) (cond b x y) ≡ cond b (option_map (λ h. h.entry) x) (option_map (λ h. h.entry) y)
-mapped_cond true x y = refl
-mapped_cond false x y = refl
-
 module _ (m : Holdings) (f : FiveTuple) where
   pub entries_of-insert : (h : Held) → entries_of (fin.insert m f h) ≡ fin.insert (entries_of m) f h.entry
   entries_of-insert h = same_map tuple_total tuple_exact _ _ (λ q.
       get-entries_of (fin.insert m f h) q
       ∙ ap (option_map (λ k. k.entry)) (get-insert tuple_total m f h q)
-      ∙ mapped_cond (eq_by_cmp tuple_cmp q f) (Some h) (fin.get m q)
+      ∙ mapped_cond (λ k. k.entry) (eq_by_cmp tuple_cmp q f) (Some h) (fin.get m q)
       ∙ sym (get-insert tuple_total (entries_of m) f h.entry q ∙ ap (cond (eq_by_cmp tuple_cmp q f) (Some h.entry)) (get-entries_of m q)))
 
   pub entries_of-remove : entries_of (fin.remove m f) ≡ fin.remove (entries_of m) f
   entries_of-remove = same_map tuple_total tuple_exact _ _ (λ q.
       get-entries_of (fin.remove m f) q
       ∙ ap (option_map (λ k. k.entry)) (get-remove tuple_total m f q)
-      ∙ mapped_cond (eq_by_cmp tuple_cmp q f) None (fin.get m q)
+      ∙ mapped_cond (λ k. k.entry) (eq_by_cmp tuple_cmp q f) None (fin.get m q)
       ∙ sym (get-remove tuple_total (entries_of m) f q ∙ ap (cond (eq_by_cmp tuple_cmp q f) None) (get-entries_of m q)))
 
 pub entries_of-empty : entries_of fin.empty ≡ fin.empty
@@ -77,11 +74,7 @@ len-entries_of m = len-values_by tuple_total tuple_exact (λ h. h.entry) m (entr
 
 -- what is held of each entry
 pub of_entry : (m : Holdings) (f : FiveTuple) (e : Entry) → fin.get (entries_of m) f ≡ Some e → (h : Held) × (fin.get m f ≡ Some h) × (h.entry ≡ e)
-of_entry m f e is = by_held (fin.get m f) refl (sym (get-entries_of m f) ∙ is)
-  where
-    by_held : (o : Option Held) → fin.get m f ≡ o → option_map (λ h. h.entry) o ≡ Some e → (h : Held) × (fin.get m f ≡ Some h) × (h.entry ≡ e)
-    by_held None at is = cc
-    by_held (Some h) at is = (h, at, cc)
+of_entry m f e is = mapped_then (λ h. h.entry) (fin.get m f) e (sym (get-entries_of m f) ∙ is) (λ h at same. (h, at, same))
 
 pub entry_at : (m : Holdings) (f : FiveTuple) (h : Held) → fin.get m f ≡ Some h → fin.get (entries_of m) f ≡ Some h.entry
 entry_at m f h is = get-entries_of m f ∙ ap (option_map (λ k. k.entry)) is

@@ -1,5 +1,5 @@
 -- Entries without what has expired in them.
-use Rattle.std.proofs.Common.{◌≡◌, ℕ, zero, suc, ◌+◌, ◌<◌, ◌≤◌, set, List, [], ◌∷◌, ◌++◌, map, take, drop, length, refl, sym, ap, ◌∙◌, arith, get_or, slice_get, Option, Some, None}
+use Rattle.std.proofs.Common.{◌≡◌, ℕ, zero, suc, ◌+◌, ◌<◌, ◌≤◌, set, List, [], ◌∷◌, ◌++◌, map, take, drop, length, sym, ap, ◌∙◌, arith, get_or, slice_get, Some}
 use Rattle.std.specs.Option.{option_map}
 use Rattle.std.specs.Map.{values_of}
 use Rattle.std.specs.FinMap as fin
@@ -13,13 +13,13 @@ use Rattle.turn_history.proofs.Maps.{tuple_total}
 use Rattle.turn_history.specs.Table.{Entry}
 use Rattle.turn_types.specs.FiveTuple.{tuple_cmp}
 use Rattle.turn_types.specs.declared.address.FiveTuple.{FiveTuple}
-use Rattle.turn_table.specs.Indexed.{IsIndexed, held_in}
+use Rattle.turn_table.specs.Indexed.{held_in}
 use Rattle.turn_table.specs.Kept.{still_entry, still_pair}
 use Rattle.turn_table.specs.Live.{entries_of}
 use Rattle.turn_table.specs.State.{Held, pair_of, pairs}
 use Rattle.turn_table.proofs.Held.{get-entries_of}
-use Rattle.turn_table.proofs.Index.{indexed_ports, port_of}
-use Rattle.turn_table.proofs.Mapped.{find-values_by}
+use Rattle.turn_table.proofs.Options.{mapped_twice}
+use Rattle.turn_table.proofs.Sorted.{find-values_by}
 
 -- ---- One after another
 
@@ -60,16 +60,11 @@ module _ (t : ℕ) (xs ys : List (FiveTuple × Held)) (are : pairs ys ≡ map (s
           get-entries_of (held_in zs) q ∙ ap (option_map (λ h. h.entry)) (get-from_entries tuple_total zs q)
           ∙ sym (find-values_by tuple_cmp (λ h. h.entry) q zs)
 
-  pub indexed_purged : {place : FiveTuple → Option ℕ} {holder : ℕ → Option FiveTuple} → IsIndexed (fin.get (held_in xs)) place holder → IsIndexed (fin.get (held_in ys)) place holder
-  indexed_purged ok = indexed_ports ok (fin.get (held_in ys)) (λ q.
-      by_entry (fin.get (held_in ys) q)
-      ∙ ap (option_map (λ e. e.port)) (sym (get-entries_of (held_in ys) q) ∙ get-purged_entries q ∙ ap (option_map (still_entry t)) (get-entries_of (held_in xs) q))
-      ∙ by_still (fin.get (held_in xs) q))
-    where
-      by_entry : (o : Option Held) → port_of o ≡ option_map (λ e. e.port) (option_map (λ h. h.entry) o)
-      by_entry None = refl
-      by_entry (Some h) = refl
-
-      by_still : (o : Option Held) → option_map (λ e. e.port) (option_map (still_entry t) (option_map (λ h. h.entry) o)) ≡ port_of o
-      by_still None = refl
-      by_still (Some h) = refl
+  -- what a purge leaves of an entry is the same at each five-tuple
+  pub same_purged : {Z : Type 0} (of : Entry → Z) → (λ e. of (still_entry t e)) ≡ of → (q : FiveTuple) → option_map (λ h. of h.entry) (fin.get (held_in ys) q) ≡ option_map (λ h. of h.entry) (fin.get (held_in xs) q)
+  same_purged of same q =
+      sym (mapped_twice of (λ h. h.entry) (fin.get (held_in ys) q))
+      ∙ ap (option_map of) (sym (get-entries_of (held_in ys) q) ∙ get-purged_entries q ∙ ap (option_map (still_entry t)) (get-entries_of (held_in xs) q))
+      ∙ mapped_twice of (still_entry t) (option_map (λ h. h.entry) (fin.get (held_in xs) q))
+      ∙ ap (λ g. option_map g (option_map (λ h. h.entry) (fin.get (held_in xs) q))) same
+      ∙ mapped_twice of (λ h. h.entry) (fin.get (held_in xs) q)

@@ -1,18 +1,20 @@
 -- Lists of entries whose keys rise, as maps.
-use Rattle.std.proofs.Common.{◌≡◌, ℕ, zero, suc, set, ◌<◌, ◌≤◌, Bool, true, false, cond, List, [], ◌∷◌, length, refl, sym, ap, ◌∙◌, subst, arith, T, Option, Some, None, Result, Ok, Err, get_or}
+use Rattle.std.proofs.Common.{◌≡◌, ℕ, zero, suc, set, ◌<◌, ◌≤◌, Bool, true, false, cond, not, ◌&&◌, List, map, [], ◌∷◌, length, refl, sym, ap, ◌∙◌, subst, arith, T, ltb, Option, Some, None, Result, Ok, Err, get_or}
 use Rattle.std.specs.declared.cmp.Ordering.{Ordering}
 use Rattle.std.specs.declared.cmp.Ordering.TheVariants.{Less, Equal, Greater}
-use Rattle.std.specs.Ordering.{ordering_reverse, ordering_index, is_eq, eq_by_cmp}
+use Rattle.std.specs.Ordering.{ordering_reverse, ordering_index, is_eq, is_lt, eq_by_cmp}
 use Rattle.std.specs.Cmp.{IsTotalOrder}
-use Rattle.std.specs.List.{insert, remove, filter, HoldsAt}
+use Rattle.std.specs.List.{AllByRecursion, insert, remove, filter, HoldsAt}
 use Rattle.std.specs.List.Sorted.{IsSearchInRange, IsBinarySearchResult, IsNonDecreasingBy, IsPartitionPoint}
-use Rattle.std.specs.Option.{option_and_then}
-use Rattle.std.proofs.lemmas.Cmp.{tied_itself}
+use Rattle.std.specs.Option.{option_and_then, option_map}
+use Rattle.std.proofs.lemmas.List.{length-map}
+use Rattle.std.proofs.lemmas.Cmp.{alike_right, eq_by_cmp_equiv, tied_itself}
 use Rattle.std.specs.FinMap as fin
-use Rattle.std.specs.FinMap.{FinMap, IsAntisymmetric, is_sorted, get-from_sorted, same_map, get-insert, get-remove}
-use Rattle.std.specs.FinMap.Entries.{put, by_order, find, below_all, is_sorted-put, find-put}
-use Rattle.turn_history.proofs.Entries.{both, first, less, second, unfound}
-use Rattle.turn_history.proofs.Maps.{from_eq}
+use Rattle.std.specs.FinMap.{FinMap, IsAntisymmetric, is_sorted, entries_sorted, entries-from_sorted, len-entries, get-empty, get-entries, get-from_sorted, same_map, get-insert, get-remove}
+use Rattle.std.specs.FinMap.Entries.{put, by_order, find, below_all, where_key, is_sorted-put, is_sorted-where_key, find-put, find-where_key}
+use Rattle.turn_history.proofs.Entries.{both, find-all, first, less, second, unfound}
+use Rattle.turn_history.proofs.Maps.{from_eq, get-map_of-all, outside_keys}
+use Rattle.turn_table.specs.Kept.{still, ahead_by}
 use Rattle.turn_table.specs.Sorted.{scan, scan_on, further}
 
 pub holds : (b : Bool) → b ≡ true → T b
@@ -21,6 +23,9 @@ holds b h = subst T (sym h) tt
 pub yes : (b : Bool) → T b → b ≡ true
 yes true h = refl
 yes false h = absurd h
+
+pub get-removed : {K X : Type 0} {R : K → K → Ordering} → IsTotalOrder R → (m : FinMap R X) (k : K) → fin.get (fin.remove m k) k ≡ None
+get-removed o m k = get-remove o m k k ∙ ap (λ r. cond (is_eq r) None (fin.get m k)) (tied_itself o k)
 
 module _ {K : Type 0} {R : K → K → Ordering} (o : IsTotalOrder R) where
   -- a comparison with a later key ranks no lower
@@ -32,52 +37,58 @@ module _ {K : Type 0} {R : K → K → Ordering} (o : IsTotalOrder R) where
       let after : R y f ≡ Greater = o.antisymm y f ∙ ap ordering_reverse (o.trans f x y (o.antisymm f x ∙ ap ordering_reverse e) lt) in omega (arith, ap ordering_index after)
 
 module _ {K X : Type 0} {R : K → K → Ordering} (o : IsTotalOrder R) (exact : IsAntisymmetric R) where
+  pub from_sorted-none : fin.from_sorted {R = R} [] ≡ fin.empty {X = X}
+  from_sorted-none = same_map o exact _ _ (λ q. get-from_sorted R [] q tt ∙ sym (get-empty R q))
+
+  pub get-still : (expiry : X → ℕ) (t : ℕ) (m : FinMap R X) (k : K) → fin.get (still expiry t m) k ≡ option_and_then (ahead_by expiry t) (fin.get m k)
+  unfolding still
+  get-still expiry t m k =
+      get-map_of-all o exact (fin.keys m) (λ q. option_and_then (ahead_by expiry t) (fin.get m q)) k
+      (λ none. ap (option_and_then (ahead_by expiry t)) (outside_keys o exact m k none))
+
   -- a key below all of a list is not found in it
   pub find_below : (f g : K) (xs : List (K × X)) → R f g ≡ Less → T (below_all R g xs) → find R f xs ≡ None
   find_below f g [] lt h = refl
   find_below f g (x ∷ xs) lt h =
       ap (λ r. cond (is_eq r) (Some x.1) (find R f xs)) (o.trans f g x.0 lt (less _ (first _ _ h))) ∙ find_below f g xs lt (second _ _ h)
 
-  -- where a key stands
-  pub data Found (f : K) : List (K × X) → ℕ → Type 0 where
-    here : {x : K × X} {xs : List (K × X)} → R f x.0 ≡ Equal → Found f (x ∷ xs) zero
-    there : {x : K × X} {xs : List (K × X)} {i : ℕ} → R f x.0 ≡ Greater → Found f xs i → Found f (x ∷ xs) (suc i)
+  -- where a key stands, or else would stand
+  pub data Place (f : K) : List (K × X) → Bool → ℕ → Type 0 where
+    here : {x : K × X} {xs : List (K × X)} → R f x.0 ≡ Equal → Place f (x ∷ xs) true zero
+    before : {x : K × X} {xs : List (K × X)} → R f x.0 ≡ Less → Place f (x ∷ xs) false zero
+    at_end : Place f [] false zero
+    past : {x : K × X} {xs : List (K × X)} {b : Bool} {i : ℕ} → R f x.0 ≡ Greater → Place f xs b i → Place f (x ∷ xs) b (suc i)
 
-  -- where a key would stand
-  pub data Gap (f : K) : List (K × X) → ℕ → Type 0 where
-    at_end : Gap f [] zero
-    before : {x : K × X} {xs : List (K × X)} → R f x.0 ≡ Less → Gap f (x ∷ xs) zero
-    past : {x : K × X} {xs : List (K × X)} {i : ℕ} → R f x.0 ≡ Greater → Gap f xs i → Gap f (x ∷ xs) (suc i)
+  -- by the answer of a walk
+  abbrev Answers : K → List (K × X) → Result ℕ ℕ → Type 0
+  Answers f xs (Ok i) = Place f xs true i
+  Answers f xs (Err i) = Place f xs false i
 
-  found_more : (f : K) (x : K × X) (xs : List (K × X)) → ((j : ℕ) → Ok j ≡ scan R f xs → Found f xs j) → (o : Ordering) → R f x.0 ≡ o → (r : Result ℕ ℕ) → r ≡ scan R f xs → (i : ℕ) → Ok i ≡ scan_on o r → Found f (x ∷ xs) i
-  found_more f x xs ih Less c r is i e = cc
-  found_more f x xs ih Equal c r is i e = let z : zero ≡ i = cc in subst (λ k. Found f (x ∷ xs) k) z (here c)
-  found_more f x xs ih Greater c (Err j) is i e = cc
-  found_more f x xs ih Greater c (Ok j) is i e = let z : suc j ≡ i = cc in subst (λ k. Found f (x ∷ xs) k) z (there c (ih j is))
+  answers-scan : (f : K) (xs : List (K × X)) → Answers f xs (scan R f xs)
+  answers-scan f [] = at_end
+  answers-scan f (x ∷ xs) = by_order_of (R f x.0) refl (scan R f xs) (answers-scan f xs)
+    where
+      by_order_of : (r : Ordering) → R f x.0 ≡ r → (rest : Result ℕ ℕ) → Answers f xs rest → Answers f (x ∷ xs) (scan_on r rest)
+      by_order_of Less c rest at = before c
+      by_order_of Equal c rest at = here c
+      by_order_of Greater c (Ok i) at = past c at
+      by_order_of Greater c (Err i) at = past c at
 
-  pub found-scan : (f : K) (xs : List (K × X)) (i : ℕ) → Ok i ≡ scan R f xs → Found f xs i
-  found-scan f [] i e = cc
-  found-scan f (x ∷ xs) i e = found_more f x xs (found-scan f xs) (R f x.0) refl (scan R f xs) refl i e
+  pub found-scan : (f : K) (xs : List (K × X)) (i : ℕ) → Ok i ≡ scan R f xs → Place f xs true i
+  found-scan f xs i e = subst (Answers f xs) (sym e) (answers-scan f xs)
 
-  gap_more : (f : K) (x : K × X) (xs : List (K × X)) → ((j : ℕ) → Err j ≡ scan R f xs → Gap f xs j) → (o : Ordering) → R f x.0 ≡ o → (r : Result ℕ ℕ) → r ≡ scan R f xs → (i : ℕ) → Err i ≡ scan_on o r → Gap f (x ∷ xs) i
-  gap_more f x xs ih Less c r is i e = let z : zero ≡ i = cc in subst (λ k. Gap f (x ∷ xs) k) z (before c)
-  gap_more f x xs ih Equal c r is i e = cc
-  gap_more f x xs ih Greater c (Ok j) is i e = cc
-  gap_more f x xs ih Greater c (Err j) is i e = let z : suc j ≡ i = cc in subst (λ k. Gap f (x ∷ xs) k) z (past c (ih j is))
-
-  pub gap-scan : (f : K) (xs : List (K × X)) (i : ℕ) → Err i ≡ scan R f xs → Gap f xs i
-  gap-scan f [] i e = let z : zero ≡ i = cc in subst (λ k. Gap f [] k) z at_end
-  gap-scan f (x ∷ xs) i e = gap_more f x xs (gap-scan f xs) (R f x.0) refl (scan R f xs) refl i e
+  pub gap-scan : (f : K) (xs : List (K × X)) (i : ℕ) → Err i ≡ scan R f xs → Place f xs false i
+  gap-scan f xs i e = subst (Answers f xs) (sym e) (answers-scan f xs)
 
   find_step : (f : K) (x : K × X) (xs : List (K × X)) (o : Ordering) → R f x.0 ≡ o → find R f (x ∷ xs) ≡ cond (is_eq o) (Some x.1) (find R f xs)
   find_step f x xs o e = ap (λ r. cond (is_eq r) (Some x.1) (find R f xs)) e
 
-  pub find-found : (f : K) (xs : List (K × X)) (i : ℕ) (d : K × X) → Found f xs i → find R f xs ≡ Some (get_or xs i d).1
+  pub find-found : (f : K) (xs : List (K × X)) (i : ℕ) (d : K × X) → Place f xs true i → find R f xs ≡ Some (get_or xs i d).1
   find-found f [] i d h = elim h [ ]
   find-found f (x ∷ xs) zero d (here c) = find_step f x xs Equal c
-  find-found f (x ∷ xs) (suc i) d (there c more) = find_step f x xs Greater c ∙ find-found f xs i d more
+  find-found f (x ∷ xs) (suc i) d (past c more) = find_step f x xs Greater c ∙ find-found f xs i d more
 
-  pub find-gap : (f : K) (xs : List (K × X)) (i : ℕ) → T (is_sorted R xs) → Gap f xs i → find R f xs ≡ None
+  pub find-gap : (f : K) (xs : List (K × X)) (i : ℕ) → T (is_sorted R xs) → Place f xs false i → find R f xs ≡ None
   find-gap f [] zero s at_end = refl
   find-gap f [] (suc i) s h = elim h [ ]
   find-gap f (x ∷ xs) zero s (before c) = find_step f x xs Less c ∙ find_below f x.0 xs c (first _ _ s)
@@ -85,45 +96,33 @@ module _ {K X : Type 0} {R : K → K → Ordering} (o : IsTotalOrder R) (exact :
 
   -- ---- What the list's edits do
 
-  pub insert-gap : (f : K) (v : X) (xs : List (K × X)) (i : ℕ) → Gap f xs i → insert xs i (f, v) ≡ put R f v xs
+  pub insert-gap : (f : K) (v : X) (xs : List (K × X)) (i : ℕ) → Place f xs false i → insert xs i (f, v) ≡ put R f v xs
   insert-gap f v [] zero at_end = refl
   insert-gap f v [] (suc i) h = elim h [ ]
   insert-gap f v (x ∷ xs) zero (before c) = ap (λ o. by_order o ((f, v) ∷ x ∷ xs) ((x.0, v) ∷ xs) (x ∷ put R f v xs)) (sym c)
   insert-gap f v (x ∷ xs) (suc i) (past c more) = ap (λ ys. x ∷ ys) (insert-gap f v xs i more) ∙ ap (λ o. by_order o ((f, v) ∷ x ∷ xs) ((x.0, v) ∷ xs) (x ∷ put R f v xs)) (sym c)
 
-  pub set-found : (f : K) (v : X) (xs : List (K × X)) (i : ℕ) → Found f xs i → set xs i (f, v) ≡ put R f v xs
+  pub set-found : (f : K) (v : X) (xs : List (K × X)) (i : ℕ) → Place f xs true i → set xs i (f, v) ≡ put R f v xs
   set-found f v [] i h = elim h [ ]
   set-found f v (x ∷ xs) zero (here c) = ap (λ k. (k, v) ∷ xs) (exact f x.0 c) ∙ ap (λ o. by_order o ((f, v) ∷ x ∷ xs) ((x.0, v) ∷ xs) (x ∷ put R f v xs)) (sym c)
-  set-found f v (x ∷ xs) (suc i) (there c more) = ap (λ ys. x ∷ ys) (set-found f v xs i more) ∙ ap (λ o. by_order o ((f, v) ∷ x ∷ xs) ((x.0, v) ∷ xs) (x ∷ put R f v xs)) (sym c)
+  set-found f v (x ∷ xs) (suc i) (past c more) = ap (λ ys. x ∷ ys) (set-found f v xs i more) ∙ ap (λ o. by_order o ((f, v) ∷ x ∷ xs) ((x.0, v) ∷ xs) (x ∷ put R f v xs)) (sym c)
 
-  below-remove : (g : K) (f : K) (xs : List (K × X)) (i : ℕ) → Found f xs i → T (below_all R g xs) → T (below_all R g (remove xs i))
-  below-remove g f [] i h b = elim h [ ]
-  below-remove g f (x ∷ xs) zero (here c) h = second _ _ h
-  below-remove g f (x ∷ xs) (suc i) (there c more) h = both _ _ (first _ _ h) (below-remove g f xs i more (second _ _ h))
+  -- a key below all of a list is none of its keys
+  others : (g : K) (xs : List (K × X)) → T (below_all R g xs) → where_key R (λ k. not (eq_by_cmp R g k)) xs ≡ xs
+  others g [] h = refl
+  others g (x ∷ xs) h =
+      let left = where_key R (λ k. not (eq_by_cmp R g k)) xs in
+      ap (λ r. cond (not (is_eq r)) (x ∷ left) left) (less _ (first _ _ h)) ∙ ap (λ ys. x ∷ ys) (others g xs (second _ _ h))
 
-  pub sorted-remove : (f : K) (xs : List (K × X)) (i : ℕ) → Found f xs i → T (is_sorted R xs) → T (is_sorted R (remove xs i))
-  sorted-remove f [] i h s = elim h [ ]
-  sorted-remove f (x ∷ xs) zero (here c) s = second _ _ s
-  sorted-remove f (x ∷ xs) (suc i) (there c more) s = both _ _ (below-remove x.0 f xs i more (first _ _ s)) (sorted-remove f xs i more (second _ _ s))
-
-  pub find-remove : (f q : K) (xs : List (K × X)) (i : ℕ) → Found f xs i → T (is_sorted R xs) → find R q (remove xs i) ≡ cond (eq_by_cmp R q f) None (find R q xs)
-  find-remove f q [] i h s = elim h [ ]
-  find-remove f q (x ∷ xs) zero (here c) s =
-      by_test (eq_by_cmp R q x.0) refl ∙ ap (λ k. cond (eq_by_cmp R q k) None (find R q (x ∷ xs))) (sym (exact f x.0 c))
-    where
-      by_test : (b : Bool) → eq_by_cmp R q x.0 ≡ b → find R q xs ≡ cond (eq_by_cmp R q x.0) None (find R q (x ∷ xs))
-      by_test true e = rw e (ap (λ k. find R k xs) (from_eq R exact q x.0 e) ∙ unfound o exact x.0 xs (first _ _ s))
-      by_test false e = rw e (refl)
-  find-remove f q (x ∷ xs) (suc i) (there c more) s =
-      ap (cond (eq_by_cmp R q x.0) (Some x.1)) (find-remove f q xs i more (second _ _ s))
-      ∙ by_tests (eq_by_cmp R q x.0) refl (eq_by_cmp R q f) refl
-    where
-      by_tests : (a : Bool) → eq_by_cmp R q x.0 ≡ a → (b : Bool) → eq_by_cmp R q f ≡ b → cond a (Some x.1) (cond b None (find R q xs)) ≡ cond b None (cond a (Some x.1) (find R q xs))
-      by_tests true ea true eb =
-          let one : f ≡ x.0 = sym (from_eq R exact q f eb) ∙ from_eq R exact q x.0 ea in
-          let no : Equal ≡ Greater = sym (tied_itself o f) ∙ ap (R f) one ∙ c in cc
-      by_tests true ea false eb = refl
-      by_tests false ea b eb = refl
+  -- without the entry at a key's place, the entries of the other keys are left
+  remove-found : (f : K) (xs : List (K × X)) (i : ℕ) → Place f xs true i → T (is_sorted R xs) → remove xs i ≡ where_key R (λ k. not (eq_by_cmp R f k)) xs
+  remove-found f [] i h s = elim h [ ]
+  remove-found f (x ∷ xs) zero (here c) s =
+      let left = where_key R (λ k. not (eq_by_cmp R f k)) xs in
+      sym ((λ j. cond (not (is_eq (c j))) (x ∷ left) left) ∙ subst (λ g. where_key R (λ k. not (eq_by_cmp R g k)) xs ≡ xs) (sym (exact f x.0 c)) (others x.0 xs (first _ _ s)))
+  remove-found f (x ∷ xs) (suc i) (past c more) s =
+      let left = where_key R (λ k. not (eq_by_cmp R f k)) xs in
+      ap (λ ys. x ∷ ys) (remove-found f xs i more (second _ _ s)) ∙ sym (λ j. cond (not (is_eq (c j))) (x ∷ left) left)
 
   pub from_sorted-put : (xs : List (K × X)) → is_sorted R xs ≡ true → (f : K) (v : X) → fin.from_sorted {R = R} (put R f v xs) ≡ fin.insert (fin.from_sorted xs) f v
   from_sorted-put xs s f v = same_map o exact _ _ (λ q.
@@ -131,31 +130,23 @@ module _ {K X : Type 0} {R : K → K → Ordering} (o : IsTotalOrder R) (exact :
       ∙ find-put R o q f v xs
       ∙ sym (get-insert o (fin.from_sorted xs) f v q ∙ ap (cond (eq_by_cmp R q f) (Some v)) (get-from_sorted R xs q (holds _ s))))
 
-  -- a list whose keys rise, and its map
-  pub record Shows (xs : List (K × X)) (m : FinMap R X) : Type 0 where
-    pub sorted : is_sorted R xs ≡ true
-    pub map_is : fin.from_sorted xs ≡ m
+  -- ---- The map of a list after an edit
 
-  pub shows_put : (xs ys : List (K × X)) (f : K) (v : X) → is_sorted R xs ≡ true → ys ≡ put R f v xs → Shows ys (fin.insert (fin.from_sorted xs) f v)
-  shows_put xs ys f v s is =
-      record {
-        sorted = ap (is_sorted R) is ∙ yes _ (is_sorted-put R o f v xs (holds _ s));
-        map_is = ap fin.from_sorted is ∙ from_sorted-put xs s f v;
-      }
+  put_is : (xs ys : List (K × X)) (f : K) (v : X) → is_sorted R xs ≡ true → ys ≡ put R f v xs → (is_sorted R ys ≡ true) × (fin.from_sorted {R = R} ys ≡ fin.insert (fin.from_sorted xs) f v)
+  put_is xs ys f v s is = (ap (is_sorted R) is ∙ yes _ (is_sorted-put R o f v xs (holds _ s)), ap fin.from_sorted is ∙ from_sorted-put xs s f v)
 
-  pub shows_inserted : (xs : List (K × X)) (f : K) (i : ℕ) (v : X) → is_sorted R xs ≡ true → Err i ≡ scan R f xs → Shows (insert xs i (f, v)) (fin.insert (fin.from_sorted xs) f v)
-  shows_inserted xs f i v s e = shows_put xs _ f v s (insert-gap f v xs i (gap-scan f xs i e))
+  pub inserted : (xs ys : List (K × X)) (k : K) (i : ℕ) (v : X) → is_sorted R xs ≡ true → Err i ≡ scan R k xs → ys ≡ insert xs i (k, v) → (is_sorted R ys ≡ true) × (fin.from_sorted {R = R} ys ≡ fin.insert (fin.from_sorted xs) k v)
+  inserted xs ys k i v s e is = put_is xs ys k v s (is ∙ insert-gap k v xs i (gap-scan k xs i e))
 
-  pub shows_set : (xs : List (K × X)) (f : K) (i : ℕ) (v : X) → is_sorted R xs ≡ true → Ok i ≡ scan R f xs → Shows (set xs i (f, v)) (fin.insert (fin.from_sorted xs) f v)
-  shows_set xs f i v s e = shows_put xs _ f v s (set-found f v xs i (found-scan f xs i e))
-
-  key-found : (f : K) (xs : List (K × X)) (i : ℕ) (d : K × X) → Found f xs i → (get_or xs i d).0 ≡ f
+  key-found : (f : K) (xs : List (K × X)) (i : ℕ) (d : K × X) → Place f xs true i → (get_or xs i d).0 ≡ f
   key-found f [] i d h = elim h [ ]
   key-found f (x ∷ xs) zero d (here c) = sym (exact f x.0 c)
-  key-found f (x ∷ xs) (suc i) d (there c more) = key-found f xs i d more
+  key-found f (x ∷ xs) (suc i) d (past c more) = key-found f xs i d more
 
-  pub key-at : (f : K) (xs : List (K × X)) (i : ℕ) (x : K × X) → Ok i ≡ scan R f xs → x ≡ get_or xs i x → f ≡ x.0
-  key-at f xs i x e is = sym (ap (λ y. y.0) is ∙ key-found f xs i x (found-scan f xs i e))
+  pub written : (xs ys : List (K × X)) (k : K) (i : ℕ) (x : K × X) (v : X) → is_sorted R xs ≡ true → Ok i ≡ scan R k xs → x ≡ get_or xs i x → ys ≡ set xs i (x.0, v) → (is_sorted R ys ≡ true) × (fin.from_sorted {R = R} ys ≡ fin.insert (fin.from_sorted xs) k v)
+  written xs ys k i x v s e at is =
+      let found = found-scan k xs i e in
+      put_is xs ys k v s (is ∙ ap (λ q. set xs i (q, v)) (ap (λ y. y.0) at ∙ key-found k xs i x found) ∙ set-found k v xs i found)
 
   pub get-ok : (xs : List (K × X)) → is_sorted R xs ≡ true → (f : K) (i : ℕ) (x : K × X) → Ok i ≡ scan R f xs → x ≡ get_or xs i x → fin.get (fin.from_sorted {R = R} xs) f ≡ Some x.1
   get-ok xs s f i x e is = get-from_sorted R xs f (holds _ s) ∙ find-found f xs i x (found-scan f xs i e) ∙ ap (λ y. Some y.1) (sym is)
@@ -163,15 +154,21 @@ module _ {K X : Type 0} {R : K → K → Ordering} (o : IsTotalOrder R) (exact :
   pub get-err : (xs : List (K × X)) → is_sorted R xs ≡ true → (f : K) (i : ℕ) → Err i ≡ scan R f xs → fin.get (fin.from_sorted {R = R} xs) f ≡ None
   get-err xs s f i e = get-from_sorted R xs f (holds _ s) ∙ find-gap f xs i (holds _ s) (gap-scan f xs i e)
 
-  pub shows_removed : (xs : List (K × X)) (f : K) (i : ℕ) → is_sorted R xs ≡ true → Found f xs i → Shows (remove xs i) (fin.remove (fin.from_sorted xs) f)
-  shows_removed xs f i s h =
-      record {
-        sorted = yes _ (sorted-remove f xs i h (holds _ s));
-        map_is = same_map o exact _ _ (λ q.
-            get-from_sorted R (remove xs i) q (sorted-remove f xs i h (holds _ s))
-            ∙ find-remove f q xs i h (holds _ s)
-            ∙ sym (get-remove o (fin.from_sorted xs) f q ∙ ap (cond (eq_by_cmp R q f) None) (get-from_sorted R xs q (holds _ s))));
-      }
+  pub removed : (xs ys : List (K × X)) (k : K) (i : ℕ) → is_sorted R xs ≡ true → Ok i ≡ scan R k xs → ys ≡ remove xs i → (is_sorted R ys ≡ true) × (fin.from_sorted {R = R} ys ≡ fin.remove (fin.from_sorted xs) k)
+  removed xs ys k i s e is =
+      let cut = remove-found k xs i (found-scan k xs i e) (holds _ s) in
+      let left : T (is_sorted R (remove xs i)) = subst (λ zs. T (is_sorted R zs)) (sym cut) (is_sorted-where_key R (λ x. not (eq_by_cmp R k x)) xs (holds _ s)) in (
+        ap (is_sorted R) is ∙ yes _ left,
+        ap fin.from_sorted is ∙ same_map o exact _ _ (λ q.
+            get-from_sorted R (remove xs i) q left ∙ ap (find R q) cut
+            ∙ find-where_key R (λ x. not (eq_by_cmp R k x)) q (λ x t. ap (λ r. not (is_eq r)) (sym (alike_right o q x k t))) xs
+            ∙ turned (eq_by_cmp R k q) (find R q xs) ∙ ap (λ b. cond b None (find R q xs)) ((eq_by_cmp_equiv o).symm k q)
+            ∙ sym (get-remove o (fin.from_sorted xs) k q ∙ ap (cond (eq_by_cmp R q k) None) (get-from_sorted R xs q (holds _ s)))),
+      )
+    where
+      turned : (b : Bool) (v : Option X) → cond (not b) v None ≡ cond b None v
+      turned true v = refl
+      turned false v = refl
 
   below-at : (g : K) (xs : List (K × X)) (i : ℕ) (d : K × X) → T (below_all R g xs) → i < length xs → R g (get_or xs i d).0 ≡ Less
   below-at g [] i d h lt = absurd (omega arith)
@@ -179,12 +176,12 @@ module _ {K X : Type 0} {R : K → K → Ordering} (o : IsTotalOrder R) (exact :
   below-at g (x ∷ xs) (suc i) d h lt = below-at g xs i d (second _ _ h) (omega arith)
 
   -- an entry stands at its key
-  pub found-at : (xs : List (K × X)) (i : ℕ) (d : K × X) → T (is_sorted R xs) → i < length xs → Found (get_or xs i d).0 xs i
+  pub found-at : (xs : List (K × X)) (i : ℕ) (d : K × X) → T (is_sorted R xs) → i < length xs → Place (get_or xs i d).0 xs true i
   found-at [] i d s lt = absurd (omega arith)
   found-at (x ∷ xs) zero d s lt = here (tied_itself o x.0)
   found-at (x ∷ xs) (suc i) d s lt =
       let in_rest : i < length xs = omega arith in
-      there (o.antisymm (get_or xs i d).0 x.0 ∙ ap ordering_reverse (below-at x.0 xs i d (first _ _ s) in_rest)) (found-at xs i d (second _ _ s) in_rest)
+      past (o.antisymm (get_or xs i d).0 x.0 ∙ ap ordering_reverse (below-at x.0 xs i d (first _ _ s) in_rest)) (found-at xs i d (second _ _ s) in_rest)
 
   -- ---- A search by halves
 
@@ -232,7 +229,7 @@ module _ {K X : Type 0} {R : K → K → Ordering} (o : IsTotalOrder R) (exact :
         let rest = sorted-filter xs (second _ _ h) in
         elim (test x.1) as (λ b. T (is_sorted R (cond b (x ∷ filter (λ e. test e.1) xs) (filter (λ e. test e.1) xs)))) [ true ↦ both _ _ (below-filter x.0 xs (first _ _ h)) rest | false ↦ rest ]
 
-    abbrev pub passing : X → Option X
+    abbrev passing : X → Option X
     passing v = cond (test v) (Some v) None
 
     find-filter : (q : K) (xs : List (K × X)) → T (is_sorted R xs) → find R q (filter (λ e. test e.1) xs) ≡ option_and_then passing (find R q xs)
@@ -245,10 +242,68 @@ module _ {K X : Type 0} {R : K → K → Ordering} (o : IsTotalOrder R) (exact :
         by_tests ih false ea true eb = ap (λ a. cond a (Some x.1) (find R q (filter (λ e. test e.1) xs))) ea ∙ ih
         by_tests ih false ea false eb = ih
 
-    pub shows_filter : (xs : List (K × X)) → is_sorted R xs ≡ true → (is_sorted R (filter (λ e. test e.1) xs) ≡ true) × ((q : K) → fin.get (fin.from_sorted {R = R} (filter (λ e. test e.1) xs)) q ≡ option_and_then passing (fin.get (fin.from_sorted {R = R} xs) q))
-    shows_filter xs s = (
-      yes _ (sorted-filter xs (holds _ s)),
-      λ q.
-          get-from_sorted R (filter (λ e. test e.1) xs) q (sorted-filter xs (holds _ s)) ∙ find-filter q xs (holds _ s)
-          ∙ ap (option_and_then passing) (sym (get-from_sorted R xs q (holds _ s))),
-    )
+  -- those that have not expired
+  pub still_is : (expiry : X → ℕ) (t : ℕ) (xs ys : List (K × X)) → is_sorted R xs ≡ true → ys ≡ filter (λ e. ltb t (expiry e.1)) xs → (is_sorted R ys ≡ true) × (fin.from_sorted {R = R} ys ≡ still expiry t (fin.from_sorted xs))
+  still_is expiry t xs ys s is =
+      let left = sorted-filter (λ v. ltb t (expiry v)) xs (holds _ s) in (
+        ap (is_sorted R) is ∙ yes _ left,
+        ap fin.from_sorted is ∙ same_map o exact _ _ (λ q.
+            get-from_sorted R (filter (λ e. ltb t (expiry e.1)) xs) q left ∙ find-filter (λ v. ltb t (expiry v)) q xs (holds _ s)
+            ∙ ap (option_and_then (ahead_by expiry t)) (sym (get-from_sorted R xs q (holds _ s))) ∙ sym (get-still expiry t (fin.from_sorted xs) q)),
+      )
+
+  -- ---- Other facts of the maps
+
+  -- without a key that isn't there, a map is the same
+  pub remove-absent : (m : FinMap R X) (k : K) → fin.get m k ≡ None → m ≡ fin.remove m k
+  remove-absent m k none = same_map o exact _ _ (λ q. by_test q (eq_by_cmp R q k) refl ∙ sym (get-remove o m k q))
+    where
+      by_test : (q : K) (b : Bool) → eq_by_cmp R q k ≡ b → fin.get m q ≡ cond (eq_by_cmp R q k) None (fin.get m q)
+      by_test q true same = ap (fin.get m) (from_eq R exact q k same) ∙ none ∙ ap (λ b. cond b None (fin.get m q)) (sym same)
+      by_test q false other = ap (λ b. cond b None (fin.get m q)) (sym other)
+
+  -- what holds of the values in a list holds of those of its map
+  pub of_items : (P : X → Type 0) (xs : List (K × X)) → is_sorted R xs ≡ true → AllByRecursion (λ e. P e.1) xs → (k : K) (v : X) → fin.get (fin.from_sorted {R = R} xs) k ≡ Some v → P v
+  of_items P xs s all k v is = find-all o exact (λ q x. P x) k xs v all (sym (get-from_sorted R xs k (holds _ s)) ∙ is)
+
+-- ---- Maps whose values come from those of another map
+
+module _ {K X Y : Type 0} (R : K → K → Ordering) (g : X → Y) where
+  abbrev pub values_by : List (K × X) → List (K × Y)
+  values_by xs = map (λ e. (e.0, g e.1)) xs
+
+  below-values_by : (k : K) (xs : List (K × X)) → below_all R k (values_by xs) ≡ below_all R k xs
+  below-values_by k [] = refl
+  below-values_by k (x ∷ xs) = ap (λ b. is_lt (R k x.0) && b) (below-values_by k xs)
+
+  pub sorted-values_by : (xs : List (K × X)) → is_sorted R (values_by xs) ≡ is_sorted R xs
+  sorted-values_by [] = refl
+  sorted-values_by (x ∷ xs) = λ j. below-values_by x.0 xs j && sorted-values_by xs j
+
+  pub find-values_by : (q : K) (xs : List (K × X)) → find R q (values_by xs) ≡ option_map g (find R q xs)
+  find-values_by q [] = refl
+  find-values_by q (x ∷ xs) = by_test (find-values_by q xs) (eq_by_cmp R q x.0)
+    where
+      by_test : find R q (values_by xs) ≡ option_map g (find R q xs) → (b : Bool) → cond b (Some (g x.1)) (find R q (values_by xs)) ≡ option_map g (cond b (Some x.1) (find R q xs))
+      by_test ih true = refl
+      by_test ih false = ih
+
+module _ {K X Y : Type 0} {R : K → K → Ordering} (o : IsTotalOrder R) (exact : IsAntisymmetric R) (g : X → Y) (m : FinMap R X) (n : FinMap R Y)
+    (maps : (q : K) → fin.get n q ≡ option_map g (fin.get m q)) where
+  pub entries-values_by : fin.entries n ≡ values_by R g (fin.entries m)
+  entries-values_by =
+      let sorted : T (is_sorted R (values_by R g (fin.entries m))) = subst T (sym (sorted-values_by R g (fin.entries m))) (entries_sorted m) in
+      let same : n ≡ fin.from_sorted (values_by R g (fin.entries m)) =
+      same_map o exact _ _ (λ q.
+      maps q ∙ ap (option_map g) (get-entries m q) ∙ sym (find-values_by R g q (fin.entries m))
+      ∙ sym (get-from_sorted R (values_by R g (fin.entries m)) q sorted)) in
+      ap fin.entries same ∙ entries-from_sorted R (values_by R g (fin.entries m)) sorted
+
+  pub len-values_by : fin.len n ≡ fin.len m
+  len-values_by =
+      len-entries n ∙ ap length entries-values_by ∙ length-map (fin.entries m) (λ e. (e.0, g e.1)) ∙ sym (len-entries m)
+
+-- what a write that succeeded left
+pub on_success : {X : Type 0} (b : Bool) (after ok earlier : List X) → after ≡ cond b ok earlier → b ≡ true → after ≡ ok
+on_success true after ok earlier is succeeded = is
+on_success false after ok earlier is succeeded = cc

@@ -1,7 +1,25 @@
-use Rattle.std.proofs.Common.{◌+◌, ap, sym, ◌∙◌}
+use Rattle.std.proofs.Common.{◌≡◌, ℕ, ◌+◌, ◌≤◌, true, false, cond, is_some, arith, ap, sym, ◌∙◌}
+use Rattle.std.specs.Prelude.{IsTrue, leb, ltb}
+use Rattle.std.proofs.lemmas.Bool.Decides.{nat_tests}
+use Rattle.std.specs.Ordering.{nat_cmp}
+use Rattle.std.proofs.lemmas.Cmp.{nat_cmp_total}
 use Rattle.std.specs.FinMap as fin
-use Rattle.turn_table.proofs.Counting.{number_there, number_new, le_limit, lt_limit}
+use Rattle.std.specs.FinMap.{FinMap, len-insert}
+use Rattle.turn_history.specs.declared.channel.Channel.{Channel}
 use Rattle.turn_table.proofs.fits.fits_number.Goals as goal
+
+-- a channel more, where the number has none
+number_there : (m : FinMap nat_cmp Channel) (n : ℕ) (c : Channel) → is_some (fin.get m n) ≡ true → fin.len (fin.insert m n c) ≡ fin.len m
+number_there m n c some = len-insert nat_cmp_total m n c ∙ ap (λ b. cond b (fin.len m) (fin.len m + 1)) some
+
+number_new : (m : FinMap nat_cmp Channel) (n : ℕ) (c : Channel) → is_some (fin.get m n) ≡ false → fin.len (fin.insert m n c) ≡ fin.len m + 1
+number_new m n c none = len-insert nat_cmp_total m n c ∙ ap (λ b. cond b (fin.len m) (fin.len m + 1)) none
+
+le_limit : (k l limit r : ℕ) → l ≡ k → r ≡ limit → (IsTrue (leb k r) → l ≤ limit) × (l ≤ limit → IsTrue (leb k r))
+le_limit k l limit r a b = (λ h. grind (arith, nat_tests), λ h. grind (arith, nat_tests))
+
+lt_limit : (k l limit r : ℕ) → l ≡ k + 1 → r ≡ limit → (IsTrue (ltb k r) → l ≤ limit) × (l ≤ limit → IsTrue (ltb k r))
+lt_limit k l limit r a b = (λ h. grind (arith, nat_tests), λ h. grind (arith, nat_tests))
 
 pub returns-then-has_channel : goal.returns-then-has_channel
 returns-then-has_channel g c x =

@@ -1,6 +1,7 @@
 use Rattle.std.proofs.Common.{arith}
 use Rattle.turn_table.specs.Live.{IsQuiet}
-use Rattle.turn_table.proofs.Quiet.{all_next, all_of, min_below, quiet_before}
+use Rattle.turn_table.proofs.Places.{all_next, all_of}
+use Rattle.turn_table.proofs.Ready.{min_below, quiet_before}
 use Rattle.turn_table.proofs.search.earliest_of.Goals as goal
 
 pub loop-entry-preserved : goal.loop-entry-preserved

@@ -1,5 +1,6 @@
 use Rattle.std.proofs.Common.{◌≤◌, arith}
-use Rattle.turn_table.proofs.Quiet.{all_next, all_of, min_below}
+use Rattle.turn_table.proofs.Places.{all_next, all_of}
+use Rattle.turn_table.proofs.Ready.{min_below}
 use Rattle.turn_table.proofs.sorted_map.earliest.Goals as goal
 
 pub loop-slot-preserved : goal.loop-slot-preserved

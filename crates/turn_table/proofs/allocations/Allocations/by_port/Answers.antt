@@ -1,6 +1,7 @@
 use Rattle.std.proofs.Common.{sym, ap, ◌∙◌, Some}
 use Rattle.std.specs.Option.{option_copied}
-use Rattle.turn_table.proofs.Changing.{get-view, some_none}
+use Rattle.turn_table.proofs.Changing.{get-view}
+use Rattle.turn_table.proofs.Options.{some_none}
 use Rattle.turn_table.proofs.Held.{get-held_in}
 use Rattle.turn_table.proofs.Index.{holder-found, port_at}
 use Rattle.turn_table.proofs.allocations.Allocations.by_port.Goals as goal

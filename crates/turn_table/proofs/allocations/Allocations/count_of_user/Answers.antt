@@ -3,7 +3,7 @@ use Rattle.std.specs.FinMap as fin
 use Rattle.std.specs.List.{count_by}
 use Rattle.std.specs.Str.{bytes_eq}
 use Rattle.turn_table.specs.Live.{entries_of}
-use Rattle.turn_table.proofs.Users.{users_counted}
+use Rattle.turn_table.proofs.Changing.{users_counted}
 use Rattle.turn_table.proofs.allocations.Allocations.count_of_user.Goals as goal
 
 pub returns : goal.returns

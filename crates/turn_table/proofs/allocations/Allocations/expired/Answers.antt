@@ -2,8 +2,9 @@ use Rattle.std.proofs.Common.{◌≤◌, ◌<◌, length, ap, sym, ◌∙◌, su
 use Rattle.std.specs.Prelude.{IsSomeAnd, nat_le}
 use Rattle.std.specs.FinMap as fin
 use Rattle.std.specs.List.{position_from}
-use Rattle.turn_table.proofs.Changing.{get-view, is_some_none}
-use Rattle.turn_table.proofs.Searches.{match_none, none_past, past, within}
+use Rattle.turn_table.proofs.Changing.{get-view}
+use Rattle.turn_table.proofs.Options.{is_some_none, match_none}
+use Rattle.turn_table.proofs.Places.{none_past, past, within}
 use Rattle.turn_table.proofs.allocations.Allocations.expired.Goals as goal
 
 pub returns-in_err-place : goal.returns-in_err-place

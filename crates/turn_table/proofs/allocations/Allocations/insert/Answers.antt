@@ -4,10 +4,9 @@ use Rattle.std.specs.Ordering.{nat_cmp}
 use Rattle.turn_types.specs.FiveTuple.{tuple_cmp}
 use Rattle.turn_table.specs.Indexed.{held_in}
 use Rattle.turn_table.specs.Kept.{map_in}
-use Rattle.turn_table.proofs.Changing.{ok_holds}
+use Rattle.turn_table.proofs.Changing.{ok_holds, users_inserted}
 use Rattle.turn_table.proofs.Held.{Updated, held-inserted}
 use Rattle.turn_table.proofs.Index.{inserted}
-use Rattle.turn_table.proofs.Users.{users_inserted}
 use Rattle.turn_table.proofs.allocations.Allocations.insert.Goals as goal
 
 pub returns : goal.returns

@@ -4,7 +4,7 @@ use Rattle.turn_history.proofs.Maps.{tuple_total, tuple_exact}
 use Rattle.turn_types.specs.FiveTuple.{tuple_cmp}
 use Rattle.turn_table.specs.Indexed.{held_in}
 use Rattle.turn_table.specs.Kept.{map_in}
-use Rattle.turn_table.proofs.Mapped.{len-values_by}
+use Rattle.turn_table.proofs.Sorted.{len-values_by}
 use Rattle.turn_table.proofs.allocations.Allocations.len.Goals as goal
 
 pub returns : goal.returns

@@ -1,10 +1,12 @@
 use Rattle.std.proofs.Common.{sym, ap, ◌∙◌}
+use Rattle.std.proofs.lemmas.Result.{on_ok_weaker}
 use Rattle.std.specs.FinMap as fin
 use Rattle.std.specs.Option.{option_copied_mut}
 use Rattle.turn_table.specs.Indexed.{held_in}
 use Rattle.turn_table.specs.Order.{room_of}
-use Rattle.turn_table.proofs.Changing.{entries_unchanged, get-changed, lists_changed, on_ok_both, on_ok_map, room_for_new, room_inside}
+use Rattle.turn_table.proofs.Changing.{entries_unchanged, get-changed, lists_changed, on_ok_both, room_inside}
 use Rattle.turn_table.proofs.Held.{get-held_in}
+use Rattle.turn_table.proofs.Options.{match_none}
 use Rattle.turn_table.proofs.allocations.Allocations.make_room.Goals as goal
 
 pub invariant_of-self : goal.invariant_of-self
@@ -31,8 +33,8 @@ returns-in-Some-clause-room g c =
 
 pub returns-in-None-clause-room : goal.returns-in-None-clause-room
 returns-in-None-clause-room g c =
-    on_ok_map c.reserve.result c.reserve.ensures.room
-    (room_for_new (room_of c.args.room) c.reserve.new.self
+    on_ok_weaker c.reserve.result
+    (match_none _ _ (fin.get c.reserve.new.self.held c.args.room.tuple)
     (ap (λ m. fin.get m c.args.room.tuple) c.reserve.ensures.same
     ∙ ap (λ m. fin.get (held_in m.entries) c.args.room.tuple) c.get_mut.follows.holds-at-none
-    ∙ get-held_in c.self.inside.entries.entries c.args.room.tuple ∙ sym c.get_mut.ensures.value ∙ ap option_copied_mut c.in-None.is))
+    ∙ get-held_in c.self.inside.entries.entries c.args.room.tuple ∙ sym c.get_mut.ensures.value ∙ ap option_copied_mut c.in-None.is)) c.reserve.ensures.room

@@ -4,7 +4,7 @@ use Rattle.turn_types.specs.FiveTuple.{tuple_cmp}
 use Rattle.turn_table.specs.Indexed.{held_in}
 use Rattle.turn_table.specs.Kept.{map_in}
 use Rattle.turn_table.specs.Live.{placed}
-use Rattle.turn_table.proofs.Mapped.{entries-values_by}
+use Rattle.turn_table.proofs.Sorted.{entries-values_by}
 use Rattle.turn_table.proofs.allocations.Allocations.order.Goals as goal
 
 pub returns : goal.returns

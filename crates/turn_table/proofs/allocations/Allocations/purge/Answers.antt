@@ -3,15 +3,12 @@ use Rattle.std.specs.FinMap as fin
 use Rattle.std.specs.Option.{option_map}
 use Rattle.turn_table.specs.Kept.{still_entry}
 use Rattle.turn_table.specs.Live.{entries_of}
-use Rattle.turn_table.proofs.Purged.{get-purged_entries, indexed_purged}
-use Rattle.turn_table.proofs.Users.{users_purged}
+use Rattle.turn_table.proofs.Changing.{lists_purged}
+use Rattle.turn_table.proofs.Purged.{get-purged_entries}
 use Rattle.turn_table.proofs.allocations.Allocations.purge.Goals as goal
 
 pub invariant_of-self : goal.invariant_of-self
-invariant_of-self g c = (
-  indexed_purged c.args.moment c.self.inside.entries.entries c.purge_entries.new.entries.entries c.purge_entries.ensures c.self.invariant.0,
-  users_purged c.args.moment c.self.inside.entries.entries c.purge_entries.new.entries.entries c.purge_entries.ensures c.self.inside.users.0 c.self.invariant.1,
-)
+invariant_of-self g c = lists_purged c.args.moment c.self.inside.entries.entries c.purge_entries.new.entries.entries c.purge_entries.ensures c.self.inside.users.0 c.self.invariant
 
 pub returns : goal.returns
 returns g c f =

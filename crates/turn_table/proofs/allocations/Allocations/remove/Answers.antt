@@ -8,11 +8,10 @@ use Rattle.turn_table.specs.ByUser.{user_of}
 use Rattle.turn_table.specs.Indexed.{held_in}
 use Rattle.turn_table.specs.Kept.{map_in}
 use Rattle.turn_table.proofs.ByUser.{listed}
-use Rattle.turn_table.proofs.Changing.{get-view}
+use Rattle.turn_table.proofs.Changing.{get-view, users_removed}
 use Rattle.turn_table.proofs.Held.{get-held_in, held-removed}
 use Rattle.turn_table.proofs.Index.{port_of, removed}
-use Rattle.turn_table.proofs.Keyed.{remove-absent}
-use Rattle.turn_table.proofs.Users.{users_removed}
+use Rattle.turn_table.proofs.Sorted.{remove-absent}
 use Rattle.turn_table.proofs.allocations.Allocations.remove.Goals as goal
 
 pub returns-in_err-entry-clause-held : goal.returns-in_err-entry-clause-held

@@ -2,7 +2,7 @@ use Rattle.std.proofs.Common.{◌≤◌, ap, ◌∙◌, subst}
 use Rattle.std.specs.FinMap as fin
 use Rattle.std.specs.List.{AllByRecursion}
 use Rattle.turn_table.specs.Kept.{map_in}
-use Rattle.turn_table.proofs.Keyed.{of_items}
+use Rattle.turn_table.proofs.Sorted.{of_items}
 use Rattle.turn_table.proofs.sorted_map.SortedMap.earliest.Goals as goal
 
 pub returns : goal.returns

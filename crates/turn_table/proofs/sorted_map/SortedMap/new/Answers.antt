@@ -1,6 +1,6 @@
 use Rattle.std.proofs.Common.{ap, ◌∙◌}
 use Rattle.std.specs.FinMap as fin
-use Rattle.turn_table.proofs.Keyed.{from_sorted-none}
+use Rattle.turn_table.proofs.Sorted.{from_sorted-none}
 use Rattle.turn_table.proofs.sorted_map.SortedMap.new.Goals as goal
 
 pub returns : goal.returns

@@ -1,6 +1,6 @@
 use Rattle.std.proofs.Common.{ap, ◌∙◌}
 use Rattle.turn_table.specs.Kept.{map_in, still}
-use Rattle.turn_table.proofs.Keyed.{still_is}
+use Rattle.turn_table.proofs.Sorted.{still_is}
 use Rattle.turn_table.proofs.sorted_map.SortedMap.purge.Goals as goal
 
 pub invariant_of-self : goal.invariant_of-self

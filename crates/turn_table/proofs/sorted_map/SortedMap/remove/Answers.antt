@@ -2,8 +2,7 @@ use Rattle.std.proofs.Common.{ap, sym, ◌∙◌}
 use Rattle.std.specs.FinMap as fin
 use Rattle.turn_table.specs.Kept.{map_in}
 use Rattle.turn_table.specs.Sorted.{scan}
-use Rattle.turn_table.proofs.Keyed.{removed, remove-absent}
-use Rattle.turn_table.proofs.Sorted.{get-err}
+use Rattle.turn_table.proofs.Sorted.{removed, remove-absent, get-err}
 use Rattle.turn_table.proofs.sorted_map.SortedMap.remove.Goals as goal
 
 pub invariant_of-self : goal.invariant_of-self

@@ -1,5 +1,6 @@
 use Rattle.std.proofs.Common.{inl, inr, ◌≡◌, ℕ, ap, sym, ◌∙◌, Option, Some, None}
-use Rattle.std.specs.Prelude.{IfNone, IfSome, MatchOption, OnSome}
+use Rattle.std.specs.Prelude.{IfNone, IfSome, MatchOption}
+use Rattle.std.proofs.lemmas.Option.{IfSome_then}
 use Rattle.turn_history.proofs.Steps.{table-later}
 use Rattle.turn_history.specs.History.{History}
 use Rattle.turn_history.specs.Table.{purged, table}
@@ -30,26 +31,17 @@ returns-in-Some-clause-agrees g c h same = returns-in-Some-clause-rest g c ∙ s
 
 -- ---- No entry has expired
 
--- what holds of a result holds of it as another fact
-some_as : {X : Type 0} {P Q : X → Type 0} (o : Option X) → ((x : X) → P x → Q x) → IfSome o P → IfSome o Q
-some_as None to some = tt
-some_as (Some x) to some = to x some
-
-on_some : {X : Type 0} {P : X → Type 0} {Q : Type 0} (o : Option X) → ((x : X) → P x → Q) → IfSome o P → OnSome o Q
-on_some None to some = tt
-on_some (Some x) to some = to x some
-
 pub returns-in-None-clause-one : goal.returns-in-None-clause-one
-returns-in-None-clause-one g c = some_as c.purge_reserved.result (λ port r. inr r) c.purge_reserved.ensures.one
+returns-in-None-clause-one g c = IfSome_then c.purge_reserved.result c.purge_reserved.ensures.one (λ port r. inr r)
 
 pub returns-in-None-clause-free : goal.returns-in-None-clause-free
-returns-in-None-clause-free g c = some_as c.purge_reserved.result (λ port r. free_of _ _ _ port (inr r)) c.purge_reserved.ensures.one
+returns-in-None-clause-free g c = IfSome_then c.purge_reserved.result c.purge_reserved.ensures.one (λ port r. free_of _ _ _ port (inr r))
 
 pub returns-in-None-clause-rest : goal.returns-in-None-clause-rest
-returns-in-None-clause-rest g c = on_some c.purge_reserved.result (λ port r. rest_of _ _ _ port (inr r)) c.purge_reserved.ensures.one
+returns-in-None-clause-rest g c = IfSome_then c.purge_reserved.result c.purge_reserved.ensures.one (λ port r. rest_of _ _ _ port (inr r))
 
 pub returns-in-None-clause-fewer : goal.returns-in-None-clause-fewer
-returns-in-None-clause-fewer g c = on_some c.purge_reserved.result (λ port r. fewer_of _ _ _ port (inr r)) c.purge_reserved.ensures.one
+returns-in-None-clause-fewer g c = IfSome_then c.purge_reserved.result c.purge_reserved.ensures.one (λ port r. fewer_of _ _ _ port (inr r))
 
 pub returns-in-None-clause-begins : goal.returns-in-None-clause-begins
 returns-in-None-clause-begins g c h same = ap (purged c.args.moment) same ∙ table-later h c.args.self.now.moment c.args.moment c.requires

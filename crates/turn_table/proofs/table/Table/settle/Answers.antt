@@ -1,49 +1,51 @@
-use Rattle.std.proofs.Common.{refl, ap, sym, ◌∙◌, arith, option_map}
+use Rattle.std.proofs.Common.{◌≡◌, ap, sym, ◌∙◌, arith, option_map, None}
 use Rattle.std.specs.FinMap as fin
-use Rattle.turn_history.specs.Table.{purged, reservation_ahead}
 use Rattle.std.specs.Ordering.{nat_cmp}
+use Rattle.turn_history.specs.Table.{Contents, purged}
 use Rattle.turn_table.specs.Kept.{map_in, still_entry}
 use Rattle.turn_table.specs.Live.{entries_of}
-use Rattle.turn_table.specs.Order.{room_of}
+use Rattle.turn_table.specs.State.{State}
+use Rattle.turn_table.proofs.Options.{mapped_then}
 use Rattle.turn_table.proofs.Purging.{purged_ahead, purged_quiet, stays}
-use Rattle.turn_table.proofs.Apart.{apart_kept}
-use Rattle.turn_table.proofs.Quiet.{min_below}
-use Rattle.turn_table.proofs.Ready.{quiet_earlier}
-use Rattle.turn_table.proofs.States.{no_room, settled-is}
+use Rattle.turn_table.proofs.Held.{entry_at}
+use Rattle.turn_table.proofs.Ready.{holds_of, min_below, quiet_before}
 use Rattle.turn_table.proofs.table.Table.settle.Goals as goal
 
 pub returns-then-self-seconds : goal.returns-then-self-seconds
 returns-then-self-seconds g c =
-    settled-is c.self.inside.limits c.self.inside.moment c.args.moment c.self.inside.allocations.held (option_map room_of c.self.inside.room) c.args.self.now c.self.view_is
-    c.purge.new.self.held (purged c.args.moment c.args.self.now.contents)
-    (purged_ahead c.args.moment c.args.self.now.contents (record { entries = entries_of c.purge.new.self.held; reserved = map_in nat_cmp c.self.inside.reserved }) c.requires.entries (λ f.
+    let contents : Contents = record { entries = entries_of c.purge.new.self.held; reserved = map_in nat_cmp c.self.inside.reserved } in
+    let left : contents ≡ purged c.args.moment c.args.self.now.contents =
+    purged_ahead c.args.moment c.args.self.now.contents contents c.requires.entries (λ f.
     c.purge.ensures f
     ∙ ap (λ t. option_map (still_entry t) (fin.get (entries_of c.self.inside.allocations.held) f)) c.seconds-then-self-seconds.ensures.value
     ∙ ap (λ s. option_map (still_entry c.args.moment) (fin.get s.contents.entries f)) c.self.view_is)
-    (λ q. stays c.args.moment (map_in nat_cmp c.self.inside.reserved) (λ port r is. c.requires.reserved port r (ap (λ s. fin.get s.contents.reserved port) (sym c.self.view_is) ∙ is)) q ∙ ap (λ s. reservation_ahead c.args.moment (fin.get s.contents.reserved q)) c.self.view_is))
+    (λ q. ap (λ s. fin.get s.contents.reserved q) c.self.view_is ∙ stays c.args.moment c.args.self.now.contents.reserved c.requires.reserved q) in
+    λ j. record { bounds = (c.self.view_is j).bounds; moment = c.args.moment; contents = left j; room = None }
 
 pub returns-else-self-seconds : goal.returns-else-self-seconds
 returns-else-self-seconds g c =
-    settled-is c.self.inside.limits c.self.inside.moment c.args.moment c.self.inside.allocations.held (option_map room_of c.self.inside.room) c.args.self.now c.self.view_is
-    c.self.inside.allocations.held (purged c.args.moment c.args.self.now.contents)
-    (purged_quiet c.args.moment c.self.inside.quiet_until c.self.inside.allocations.held (map_in nat_cmp c.self.inside.reserved) (omega (arith, c.if-self-seconds.false, c.seconds.ensures.value)) c.self.invariant.quiet
-    (stays c.args.moment (map_in nat_cmp c.self.inside.reserved) (λ port r is. c.requires.reserved port r (ap (λ s. fin.get s.contents.reserved port) (sym c.self.view_is) ∙ is)))
-    ∙ ap (λ s. purged c.args.moment s.contents) c.self.view_is)
+    ap (λ (s : State). record s { moment = c.args.moment; room = None }) c.self.view_is
+    ∙ ap (λ (k : Contents). record c.args.self.now { moment = c.args.moment; contents = k; room = None })
+    (purged_quiet c.args.moment c.self.inside.quiet_until c.args.self.now.contents (omega (arith, c.if-self-seconds.false, c.seconds.ensures.value)) (holds_of c.self.view_is c.self.invariant))
 
 pub invariant_of-self : goal.invariant_of-self
 invariant_of-self g c =
     let least = min_below c.quiet_until.result c.earliest.result c.min-self-inside.result c.min-self-inside.ensures in
     record {
-      quiet = quiet_earlier c.min-self-inside.result c.quiet_until.result c.purge.new.self.held least.0 c.quiet_until.ensures;
+      quiet = λ f h is. quiet_before c.min-self-inside.result c.quiet_until.result h.entry least.0 (c.quiet_until.ensures f h is);
       reserved_quiet = λ port r is. let later = c.earliest.ensures port r is in omega (arith, later, least.1);
-      spare = no_room c.purge.new.self c.self.inside.reserved.1;
-      apart = apart_kept c.self.inside.allocations.held (map_in nat_cmp c.self.inside.reserved) c.self.invariant.apart c.purge.new.self.held (still_entry c.seconds-then-self-seconds.result) (λ e. refl) c.purge.ensures;
+      spare = λ r is. cc;
+      apart = λ port r is. (
+        (c.self.invariant.apart port r is).0,
+        λ f h at same. mapped_then (still_entry c.seconds-then-self-seconds.result) (fin.get (entries_of c.self.inside.allocations.held) f) h.entry (sym (c.purge.ensures f) ∙ entry_at c.purge.new.self.held f h at)
+            (λ e was left. ((holds_of c.self.view_is c.self.invariant).apart port r (ap (λ s. fin.get s.contents.reserved port) (sym c.self.view_is) ∙ is)).1 f e (ap (λ s. fin.get s.contents.entries f) (sym c.self.view_is) ∙ was) (ap (λ x. x.port) left ∙ same)),
+      );
     }
 
 pub invariant_of-self-else-self-seconds : goal.invariant_of-self-else-self-seconds
 invariant_of-self-else-self-seconds g c = record {
   quiet = c.self.invariant.quiet;
   reserved_quiet = c.self.invariant.reserved_quiet;
-  spare = no_room c.self.inside.allocations c.self.inside.reserved.1;
+  spare = λ r is. cc;
   apart = c.self.invariant.apart;
 }
