@@ -1,11 +1,12 @@
 -- What is known where an outcome is reached: one walk over the rows of all requests, from which the laws follow.
-use Rattle.std.proofs.Common.{◌≡◌, ◌⊎◌, inl, inr, ℕ, ◌≤◌, ◌<◌, Bool, true, false, not, is_none, arith, List, [], ◌∷◌, take, is_some, ◌&&◌, ◌||◌, ap, refl, subst, sym, ◌∙◌, Option, Some, None}
-use Rattle.std.specs.Prelude.{◌==◌, if◌then◌else◌, nat_le, nat_lt, unwrap_or, IfSome}
+use Rattle.std.proofs.Common.{◌≡◌, ◌⊎◌, inl, inr, ℕ, ◌≤◌, ◌<◌, Bool, true, false, not, is_none, List, [], ◌∷◌, take, is_some, ◌&&◌, ◌||◌, ap, refl, subst, sym, ◌∙◌, Option, Some, None}
+use Rattle.std.specs.Prelude.{◌==◌, nat_le, unwrap_or, IfSome}
 use Rattle.std.specs.FinMap as fin
 use Rattle.std.specs.Int.{w16, from_be_bytes}
 use Rattle.std.specs.List.{list_any}
 use Rattle.std.specs.Option.{option_or}
-use Rattle.std.proofs.lemmas.Bool.Decides.{nat_tests}
+use Rattle.std.proofs.Math.Bool.{and-true}
+use Rattle.std.proofs.lemmas.Option.{IfSome_then}
 use Rattle.turn_types.specs.Config.{Config}
 use Rattle.turn_types.specs.Methods.{allocate, binding, refresh, create_permission}
 use Rattle.turn_types.specs.Rows.{first_row}
@@ -16,10 +17,11 @@ use Rattle.turn_types.specs.declared.address.Endpoint.{Endpoint}
 use Rattle.turn_types.specs.declared.address.FiveTuple.{FiveTuple}
 use Rattle.turn_types.specs.declared.address.PeerAddress.{PeerAddress}
 use Rattle.turn_types.specs.declared.message.Token.{Token}
-use Rattle.std.proofs.lemmas.Bool.{and_parts, or_parts}
+use Rattle.std.proofs.lemmas.Bool.{and_parts, cond_both, leb-false, leb-true, ltb-false, not-false, or_parts, true≢false}
 use Rattle.turn_history.proofs.Tests.{channel_fits}
 use Rattle.turn_history.specs.ChannelNumber.{IsChannelNumber, in_range, is_channel_number}
 use Rattle.turn_history.specs.Fitting.{FitsChannel}
+use Rattle.turn_history.specs.History.{PlainAct, Allocates, Renews, Permits, Binds}
 use Rattle.turn_history.specs.Table.{Contents, Entry, install}
 use Rattle.turn_codec.specs.AttributeTypes.{channel_number, even_port, requested_address_family, reservation_token, xor_peer_address}
 use Rattle.turn_codec.specs.Grammar.{Content, Datagram}
@@ -28,41 +30,24 @@ use Rattle.turn_cred.specs.Credential.{Verdict}
 use Rattle.turn_cred.specs.Credential.Verdict.{Challenge401, Bad400, Stale438, Passed}
 use Rattle.turn_cred.specs.declared.key.Key.{Key}
 use Rattle.turn_rules.specs.declared.outcome.Outcome.{Outcome}
-use Rattle.turn_rules.specs.declared.outcome.Outcome.TheVariants.{Drop, Refuse, RefuseUnknown, Challenge, MappedAddress, RepeatedAllocate, Allocate, Renew, Permit, Bind}
+use Rattle.turn_rules.specs.declared.outcome.Outcome.TheVariants.{Drop, RefuseUnknown, Challenge, MappedAddress, Renew, Permit, Bind}
 use Rattle.turn_rules.specs.Allocate.{allocate_outcome, asks_for_next_port, before_port, capacity_outcome, capacity_rows, named_port, own_outcome, own_rows, port_for, token_of, with_port}
-use Rattle.turn_rules.specs.Answer.{by_verdict, is_dropped, is_expired, is_protected, outcome_of, passed_outcome}
+use Rattle.turn_rules.specs.Answer.{by_verdict, decision, is_dropped, is_expired, is_protected, outcome_of, passed_outcome, user_of}
 use Rattle.turn_rules.specs.Binding.{binding_outcome}
 use Rattle.turn_rules.specs.Channel.{bind_outcome, bind_rows, channel_outcome, named_number, named_peer, number_at, to_address, to_peer}
 use Rattle.turn_rules.specs.Fields.{first_byte, four_bytes, granted, lifetime_of}
 use Rattle.turn_rules.specs.Owner.{entry_outcome, owner_outcome, owner_rows}
+use Rattle.turn_rules.specs.Outcome.{act_by}
 use Rattle.turn_rules.specs.Peers.{is_ipv6, named_peers}
 use Rattle.turn_rules.specs.Permission.{named_addresses, permission_outcome, permission_rows}
 use Rattle.turn_rules.specs.Refresh.{refresh_outcome, refresh_rows, renewed_for}
 
 -- ---- Tests
 
-not_false : (a : Bool) → not a ≡ false → a ≡ true
-not_false true h = refl
-not_false false h = cc
-
-not_over : (a b : ℕ) → nat_lt a b ≡ false → b ≤ a
-not_over a b h = grind (arith, nat_tests)
-
-under : (a b : ℕ) → nat_le a b ≡ false → b < a
-under a b h = grind (arith, nat_tests)
-
-at_most : (a b : ℕ) → nat_le a b ≡ true → a ≤ b
-at_most a b h = grind (arith, nat_tests)
-
 -- a number that a request names is a channel's
 in_range_is : (n : ℕ) → IfSome (in_range n) IsChannelNumber
-in_range_is n = by_test (is_channel_number n) refl
-  where
-    by_test : (b : Bool) → is_channel_number n ≡ b → IfSome (if b then Some n else None) IsChannelNumber
-    by_test true e =
-        let parts = and_parts (nat_le 0x4000 n) (nat_le n 0x4FFF) e in
-        (at_most 0x4000 n parts.0, at_most n 0x4FFF parts.1)
-    by_test false e = tt
+in_range_is n = cond_both (is_channel_number n) (Some n) None (λ o. IfSome o IsChannelNumber)
+    (λ is. let parts = and_parts (nat_le 0x4000 n) (nat_le n 0x4FFF) is in (leb-true 0x4000 n parts.0, leb-true n 0x4FFF parts.1)) (λ _. tt)
 
 number_is : (v : Option (List ℕ)) → IfSome (number_at v) IsChannelNumber
 number_is None = tt
@@ -74,22 +59,14 @@ number_in_range m = number_is (four_bytes (seen_value m channel_number))
 
 -- ---- Rows
 
--- a fact for each row that applies
-abbrev pub EachRow : {A : Type 0} → (A → Type 0) → List (Bool × A) → Type 0
-EachRow P [] = Unit {0}
-EachRow P (row ∷ rows) = (row.0 ≡ true → P row.1) × EachRow P rows
+-- a fact for each row that applies where those before it don't, and for where none applies
+abbrev pub EachRow : {A : Type 0} → (A → Type 0) → List (Bool × A) → A → Type 0
+EachRow P [] otherwise = P otherwise
+EachRow P (row ∷ rows) otherwise = (row.0 ≡ true → P row.1) × (row.0 ≡ false → EachRow P rows otherwise)
 
-abbrev pub NoneApplies : {A : Type 0} → List (Bool × A) → Type 0
-NoneApplies [] = Unit {0}
-NoneApplies (row ∷ rows) = (row.0 ≡ false) × NoneApplies rows
-
-pub by_rows : {A : Type 0} (P : A → Type 0) (rows : List (Bool × A)) (otherwise : A) → EachRow P rows → (NoneApplies rows → P otherwise) → P (first_row rows otherwise)
-by_rows P [] otherwise each last = last tt
-by_rows P (row ∷ rows) otherwise each last = by_test row.0 refl (λ no. by_rows P rows otherwise each.1 (λ none. last (no, none)))
-  where
-    by_test : (b : Bool) → row.0 ≡ b → (row.0 ≡ false → P (first_row rows otherwise)) → P (if b then row.1 else first_row rows otherwise)
-    by_test true is rest = each.0 is
-    by_test false is rest = rest is
+pub by_rows : {A : Type 0} (P : A → Type 0) (rows : List (Bool × A)) (otherwise : A) → EachRow P rows otherwise → P (first_row rows otherwise)
+by_rows P [] otherwise each = each
+by_rows P (row ∷ rows) otherwise each = cond_both row.0 row.1 (first_row rows otherwise) P each.0 (λ no. by_rows P rows otherwise (each.1 no))
 
 -- ---- What is known
 
@@ -135,31 +112,20 @@ pub record IsBound (s : Config) (c : Contents) (f : FiveTuple) (m : Content) (n 
   pub peer : named_peer m ≡ Some (record { ip = V4 p.ip; port = p.port })
   pub fits : FitsChannel s.limits n p entry
 
--- of an outcome, by its act
+-- of an act
+abbrev pub IsReached : Bool → Config → Contents → FiveTuple → ℕ → List ℕ → Content → Option ℕ → PlainAct → Type 0
+IsReached pairs s c f t user m port (Allocates name p seconds tx token) = (name ≡ user) × (tx.0 ≡ m.tx) × IsNew pairs s c f t user m port p seconds token
+IsReached pairs s c f t user m port (Renews seconds) = IsRenewed c f m seconds
+IsReached pairs s c f t user m port (Permits addresses) = ArePermitted s c f m addresses
+IsReached pairs s c f t user m port (Binds n p) = IsBound s c f m n p
+
+-- of the act of an outcome, if it has one
 abbrev pub Reached : Bool → Config → Contents → FiveTuple → ℕ → List ℕ → Content → Option ℕ → Outcome → Type 0
-Reached pairs s c f t user m port Drop = Unit {0}
-Reached pairs s c f t user m port (Refuse code) = Unit {0}
-Reached pairs s c f t user m port RefuseUnknown = Unit {0}
-Reached pairs s c f t user m port (Challenge code) = Unit {0}
-Reached pairs s c f t user m port MappedAddress = Unit {0}
-Reached pairs s c f t user m port (RepeatedAllocate p seconds token) = Unit {0}
-Reached pairs s c f t user m port (Allocate p seconds token) = IsNew pairs s c f t user m port p seconds token
-Reached pairs s c f t user m port (Renew seconds) = IsRenewed c f m seconds
-Reached pairs s c f t user m port (Permit addresses) = ArePermitted s c f m addresses
-Reached pairs s c f t user m port (Bind n p) = IsBound s c f m n p
+Reached pairs s c f t user m port o = IfSome (act_by user m o) (IsReached pairs s c f t user m port)
 
 -- an outcome that does nothing to the allocation
 abbrev pub IsQuiet : Outcome → Type 0
-IsQuiet Drop = Unit {0}
-IsQuiet (Refuse code) = Unit {0}
-IsQuiet RefuseUnknown = Unit {0}
-IsQuiet (Challenge code) = Unit {0}
-IsQuiet MappedAddress = Unit {0}
-IsQuiet (RepeatedAllocate p seconds token) = Unit {0}
-IsQuiet (Allocate p seconds token) = ⊥
-IsQuiet (Renew seconds) = ⊥
-IsQuiet (Permit addresses) = ⊥
-IsQuiet (Bind n p) = ⊥
+IsQuiet o = (user : List ℕ) (m : Content) → act_by user m o ≡ None
 
 -- the outcome of a datagram does nothing, or its credentials hold
 pub record IsOfUser (pairs : Bool) (s : Config) (c : Contents) (f : FiveTuple) (t : ℕ) (d : Datagram) (v : Option Verdict) (port : Option ℕ) (o : Outcome) : Type 0 where
@@ -168,7 +134,6 @@ pub record IsOfUser (pairs : Bool) (s : Config) (c : Contents) (f : FiveTuple) (
   pub verdict : v ≡ Some (Passed user key)
   pub in_time : is_expired c f t d.content key ≡ false
   pub taken : is_dropped d ≡ false
-  pub other_method : (d.content.method == binding) ≡ false
   pub protected : is_protected d.content.method ≡ true
   pub reached : Reached pairs s c f t user d.content port o
 
@@ -182,124 +147,96 @@ pub record IsUndecided (pairs valid : Bool) (o : Option Entry) (m : Content) : T
   pub may_name : is_seen m reservation_token && not (pairs && valid) ≡ false
   pub may_pair : asks_for_next_port m && not pairs ≡ false
 
-abbrev pub Own : Bool → Bool → Option Entry → Content → Option Outcome → Type 0
-Own pairs valid o m None = IsUndecided pairs valid o m
-Own pairs valid o m (Some outcome) = IsQuiet outcome
-
 record HasRoom (s : Config) (c : Contents) (m : Content) : Type 0 where
   room : fin.len c.entries < s.limits.allocations
   next : asks_for_next_port m && nat_le s.limits.allocations (fin.len c.reserved) ≡ false
 
-abbrev Capacity : Config → Contents → Content → Option Outcome → Type 0
-Capacity s c m None = HasRoom s c m
-Capacity s c m (Some outcome) = IsQuiet outcome
+-- an outcome that rows give is quiet, and where they give none, this is known
+abbrev pub QuietOr : Type 0 → Option Outcome → Type 0
+QuietOr P None = P
+QuietOr P (Some o) = IsQuiet o
 
-pub own_is : (pairs valid : Bool) (o : Option Entry) (user : List ℕ) (m : Content) → Own pairs valid o m (own_outcome pairs valid o user m)
+pub own_is : (pairs valid : Bool) (o : Option Entry) (user : List ℕ) (m : Content) → QuietOr (IsUndecided pairs valid o m) (own_outcome pairs valid o user m)
 unfolding own_outcome
-own_is pairs valid None user m = by_rows (Own pairs valid None m) (own_rows pairs valid None user m) None
-    (λ _. tt, (λ wrong. cc, (λ wrong. cc, (λ _. tt, (λ _. tt, (λ _. tt, (λ _. tt, (λ _. tt, (λ _. tt, tt)))))))))
-    (λ none. record { known = none.0; absent = refl; alone = none.1.1.1.1.1.0; may_name = none.1.1.1.1.1.1.0; may_pair = none.1.1.1.1.1.1.1.1.0 })
-own_is pairs valid (Some e) user m = by_rows (Own pairs valid (Some e) m) (own_rows pairs valid (Some e) user m) None
-    (λ _. tt, (λ _. tt, (λ _. tt, (λ _. tt, (λ _. tt, (λ _. tt, (λ _. tt, (λ _. tt, (λ _. tt, tt)))))))))
-    (λ none. let wrong : true ≡ false = none.1.1.0 in absurd (let no : ⊥ = cc in no))
+own_is pairs valid None user m = by_rows (QuietOr (IsUndecided pairs valid None m)) (own_rows pairs valid None user m) None
+    (λ _ _ _. refl, λ known. (λ wrong. cc, λ _. (λ wrong. cc, λ _. (λ _ _ _. refl, λ _. (λ _ _ _. refl, λ _. (λ _ _ _. refl, λ alone. (λ _ _ _. refl, λ may_name.
+    (λ _ _ _. refl, λ _. (λ _ _ _. refl, λ may_pair. record { known = known; absent = refl; alone = alone; may_name = may_name; may_pair = may_pair })))))))))
+own_is pairs valid (Some e) user m = by_rows (QuietOr (IsUndecided pairs valid (Some e) m)) (own_rows pairs valid (Some e) user m) None
+    (λ _ _ _. refl, λ _. (λ _ _ _. refl, λ _. (λ _ _ _. refl, λ wrong. absurd (true≢false wrong))))
 
-capacity_is : (s : Config) (c : Contents) (user : List ℕ) (m : Content) → Capacity s c m (capacity_outcome s c user m)
-capacity_is s c user m = by_rows (Capacity s c m) (capacity_rows s c user m) None (λ _. tt, (λ _. tt, (λ _. tt, tt)))
-    (λ none. record { room = under s.limits.allocations (fin.len c.entries) none.1.0; next = none.1.1.0 })
+capacity_is : (s : Config) (c : Contents) (user : List ℕ) (m : Content) → QuietOr (HasRoom s c m) (capacity_outcome s c user m)
+capacity_is s c user m = by_rows (QuietOr (HasRoom s c m)) (capacity_rows s c user m) None
+    (λ _ _ _. refl, λ _. (λ _ _ _. refl, λ room. (λ _ _ _. refl, λ next. record { room = leb-false s.limits.allocations (fin.len c.entries) room; next = next })))
+
+both_quiet : (P Q : Type 0) (o k : Option Outcome) → QuietOr P o → QuietOr Q k → QuietOr (P × Q) (option_or o k)
+both_quiet P Q None None p q = (p, q)
+both_quiet P Q None (Some k) p q = q
+both_quiet P Q (Some o) k p q = p
 
 -- a request for the next port has EVEN-PORT, so no token, and reaches the port only where there is room
 for_pair : (pairs valid : Bool) (s : Config) (c : Contents) (o : Option Entry) (m : Content) → IsUndecided pairs valid o m → HasRoom s c m → asks_for_next_port m ≡ true → IsForPair pairs s c m
-for_pair pairs valid s c o m own room asks = record {
-  may = may_pair pairs (sym (ap (λ b. b && not pairs) asks) ∙ own.may_pair);
-  no_token = no_token (is_seen m reservation_token) (is_seen m even_port) (and_parts (is_seen m even_port) (nat_le 128 (first_byte m even_port)) asks).0 own.alone;
-  room = under s.limits.allocations (fin.len c.reserved) (sym (ap (λ b. b && nat_le s.limits.allocations (fin.len c.reserved)) asks) ∙ room.next);
-}
-  where
-    may_pair : (b : Bool) → not b ≡ false → b ≡ true
-    may_pair true h = refl
-    may_pair false h = cc
-
-    no_token : (token even : Bool) → even ≡ true → token && (even || is_seen m requested_address_family) ≡ false → token ≡ false
-    no_token token true is h = by_token token h
-      where
-        by_token : (b : Bool) → b && true ≡ false → b ≡ false
-        by_token true h = cc
-        by_token false h = refl
-    no_token token false is h = cc
+for_pair pairs valid s c o m own room asks =
+    let even : is_seen m even_port ≡ true = (and_parts (is_seen m even_port) (nat_le 128 (first_byte m even_port)) asks).0 in
+    record {
+      may = not-false pairs (sym (ap (λ b. b && not pairs) asks) ∙ own.may_pair);
+      no_token = sym (and-true (is_seen m reservation_token)) ∙ sym (ap (λ b. is_seen m reservation_token && (b || is_seen m requested_address_family)) even) ∙ own.alone;
+      room = leb-false s.limits.allocations (fin.len c.reserved) (sym (ap (λ b. b && nat_le s.limits.allocations (fin.len c.reserved)) asks) ∙ room.next);
+    }
 
 module _ (pairs : Bool) (s : Config) (c : Contents) (f : FiveTuple) (t : ℕ) (m : Content) where
-  quiet : (user : List ℕ) (port : Option ℕ) (o : Outcome) → IsQuiet o → Reached pairs s c f t user m port o
-  quiet user port Drop is = tt
-  quiet user port (Refuse code) is = tt
-  quiet user port RefuseUnknown is = tt
-  quiet user port (Challenge code) is = tt
-  quiet user port MappedAddress is = tt
-  quiet user port (RepeatedAllocate p seconds token) is = tt
-  quiet user port (Allocate p seconds token) is = absurd is
-  quiet user port (Renew seconds) is = absurd is
-  quiet user port (Permit addresses) is = absurd is
-  quiet user port (Bind n p) is = absurd is
+  abbrev Undecided : Type 0
+  Undecided = IsUndecided pairs (is_some (named_port c m)) (fin.get c.entries f) m × HasRoom s c m
+
+  before_is : (user : List ℕ) → QuietOr Undecided (before_port pairs s c f user m)
+  unfolding before_port
+  before_is user = both_quiet _ _ (own_outcome pairs (is_some (named_port c m)) (fin.get c.entries f) user m) (capacity_outcome s c user m)
+      (own_is pairs (is_some (named_port c m)) (fin.get c.entries f) user m) (capacity_is s c user m)
 
   allocate_reached : (user : List ℕ) (port : Option ℕ) → (m.method == allocate) ≡ true → Reached pairs s c f t user m port (allocate_outcome pairs s c f t user m port)
-  unfolding before_port
-  allocate_reached user port method = by_own (own_outcome pairs valid (fin.get c.entries f) user m) refl (own_is pairs valid (fin.get c.entries f) user m) (capacity_outcome s c user m) refl (capacity_is s c user m)
+  allocate_reached user port method = by_before (before_port pairs s c f user m) refl (before_is user)
     where
-      valid : Bool
-      valid = is_some (named_port c m)
-
-      before_is : before_port pairs s c f user m ≡ option_or (own_outcome pairs valid (fin.get c.entries f) user m) (capacity_outcome s c user m)
-      before_is = refl
-
-      reach : (o k : Option Outcome) → own_outcome pairs valid (fin.get c.entries f) user m ≡ o → capacity_outcome s c user m ≡ k → before_port pairs s c f user m ≡ option_or o k
-      reach o k own_is capacity_is = before_is ∙ ap (λ x. option_or x (capacity_outcome s c user m)) own_is ∙ ap (λ x. option_or o x) capacity_is
-
-      by_port : IsUndecided pairs valid (fin.get c.entries f) m → HasRoom s c m → before_port pairs s c f user m ≡ None → (p : Option ℕ) → port_for c m port ≡ p → Reached pairs s c f t user m port (with_port s f t m p)
-      by_port own within undecided None is = tt
-      by_port own within undecided (Some p) is = record {
+      by_port : Undecided → before_port pairs s c f user m ≡ None → (p : Option ℕ) → port_for c m port ≡ p → Reached pairs s c f t user m port (with_port s f t m p)
+      by_port known undecided None is = tt
+      by_port known undecided (Some p) is = (refl, refl, record {
         method = method;
-        known = own.known;
-        absent = own.absent;
-        room = within.room;
+        known = known.0.known;
+        absent = known.0.absent;
+        room = known.1.room;
         undecided = undecided;
         port_is = is;
         granted_is = refl;
         token_is = refl;
-        next = for_pair pairs valid s c (fin.get c.entries f) m own within;
-      }
+        next = for_pair pairs (is_some (named_port c m)) s c (fin.get c.entries f) m known.0 known.1;
+      })
 
-      decided : (o : Outcome) → IsQuiet o → before_port pairs s c f user m ≡ Some o → Reached pairs s c f t user m port (allocate_outcome pairs s c f t user m port)
-      decided o is before = subst (λ b. Reached pairs s c f t user m port (unwrap_or b (with_port s f t m (port_for c m port)))) (sym before) (quiet user port o is)
-
-      by_own : (o : Option Outcome) → own_outcome pairs valid (fin.get c.entries f) user m ≡ o → Own pairs valid (fin.get c.entries f) m o
-          → (k : Option Outcome) → capacity_outcome s c user m ≡ k → Capacity s c m k → Reached pairs s c f t user m port (allocate_outcome pairs s c f t user m port)
-      by_own (Some o) own_is own k capacity_is within = decided o own (reach (Some o) k own_is capacity_is)
-      by_own None own_is own (Some k) capacity_is within = decided k within (reach None (Some k) own_is capacity_is)
-      by_own None own_is own None capacity_is within =
-          let undecided = reach None None own_is capacity_is in
-          subst (λ b. Reached pairs s c f t user m port (unwrap_or b (with_port s f t m (port_for c m port)))) (sym undecided) (by_port own within undecided (port_for c m port) refl)
+      by_before : (o : Option Outcome) → before_port pairs s c f user m ≡ o → QuietOr Undecided o → Reached pairs s c f t user m port (unwrap_or o (with_port s f t m (port_for c m port)))
+      by_before (Some o) at quiet = subst (λ a. IfSome a (IsReached pairs s c f t user m port)) (sym (quiet user m)) tt
+      by_before None at known = by_port known at (port_for c m port) refl
 
   -- ---- The requests of the owner
 
   module _ (user : List ℕ) (port : Option ℕ) (e : Entry) (at : fin.get c.entries f ≡ Some e) where
     refresh_reached : Reached pairs s c f t user m port (refresh_outcome m)
-    refresh_reached = by_rows (Reached pairs s c f t user m port) (refresh_rows m) (Renew (renewed_for (lifetime_of m))) (λ _. tt, (λ _. tt, tt)) (λ none. record { entry = e; at = at; granted_is = refl })
+    refresh_reached = by_rows (Reached pairs s c f t user m port) (refresh_rows m) (Renew (renewed_for (lifetime_of m)))
+        (λ _. tt, λ _. (λ _. tt, λ _. record { entry = e; at = at; granted_is = refl }))
 
     permission_reached : Reached pairs s c f t user m port (permission_outcome s e m)
-    permission_reached = by_rows (Reached pairs s c f t user m port) (permission_rows s e m) (Permit (named_addresses m)) (λ _. tt, (λ _. tt, (λ _. tt, (λ _. tt, tt)))) (λ none.
-        let first = or_parts (not (is_seen m xor_peer_address)) (list_any is_none (named_peers m)) none.0 in
+    permission_reached = by_rows (Reached pairs s c f t user m port) (permission_rows s e m) (Permit (named_addresses m))
+        (λ _. tt, λ named. (λ _. tt, λ of_ipv4. (λ _. tt, λ _. (λ _. tt, λ within.
+        let parts = or_parts (not (is_seen m xor_peer_address)) (list_any is_none (named_peers m)) named in
         record {
           entry = e;
           at = at;
           named = refl;
-          within = not_over s.limits.permissions (fin.len (install 0 (named_addresses m) e.permissions)) none.1.1.1.0;
-          present = not_false (is_seen m xor_peer_address) first.0;
-          well_formed = first.1;
-          of_ipv4 = none.1.0;
-        })
+          within = ltb-false s.limits.permissions (fin.len (install 0 (named_addresses m) e.permissions)) within;
+          present = not-false (is_seen m xor_peer_address) parts.0;
+          well_formed = parts.1;
+          of_ipv4 = of_ipv4;
+        }))))
 
     bind_reached : (n : ℕ) (p : Endpoint) → IsChannelNumber n → named_peer m ≡ Some (record { ip = V4 p.ip; port = p.port }) → Reached pairs s c f t user m port (bind_outcome s e n p)
-    bind_reached n p number peer = by_rows (Reached pairs s c f t user m port) (bind_rows s e n p) (Bind n p) (λ _. tt, (λ _. tt, (λ _. tt, tt))) (λ none.
-        record { entry = e; at = at; number = number; peer = peer; fits = channel_fits s.limits n p e none.1.0 none.1.1.0 })
+    bind_reached n p number peer = by_rows (Reached pairs s c f t user m port) (bind_rows s e n p) (Bind n p) (λ _. tt, λ _. (λ _. tt, λ elsewhere. (λ _. tt, λ exceeds.
+        record { entry = e; at = at; number = number; peer = peer; fits = channel_fits s.limits n p e elsewhere exceeds })))
 
     address_reached : (ip : Addr) (n p : ℕ) → IsChannelNumber n → named_peer m ≡ Some (record { ip = ip; port = p }) → Reached pairs s c f t user m port (to_address s e n ip p)
     address_reached (V6 ip) n p number peer = tt
@@ -315,18 +252,15 @@ module _ (pairs : Bool) (s : Config) (c : Contents) (f : FiveTuple) (t : ℕ) (m
 
     entry_reached : Reached pairs s c f t user m port (entry_outcome s m e)
     entry_reached = by_rows (Reached pairs s c f t user m port) ((m.method == refresh, refresh_outcome m) ∷ (m.method == create_permission, permission_outcome s e m) ∷ []) (channel_outcome s e m)
-        (λ _. refresh_reached, (λ _. permission_reached, tt)) (λ _. channel_reached)
+        (λ _. refresh_reached, λ _. (λ _. permission_reached, λ _. channel_reached))
 
   owner_reached : (port : Option ℕ) (user : List ℕ) (o : Option Entry) → fin.get c.entries f ≡ o → Reached pairs s c f t user m port (owner_outcome s o user m)
-  owner_reached port user None at = by_rows (Reached pairs s c f t user m port) (owner_rows None user m) Drop (λ _. tt, (λ _. tt, (λ _. tt, tt))) (λ _. tt)
-  owner_reached port user (Some e) at = by_rows (Reached pairs s c f t user m port) (owner_rows (Some e) user m) (entry_outcome s m e) (λ _. tt, (λ _. tt, (λ _. tt, tt))) (λ _. entry_reached user port e at)
+  owner_reached port user None at = by_rows (Reached pairs s c f t user m port) (owner_rows None user m) Drop (λ _. tt, λ _. (λ _. tt, λ _. (λ _. tt, λ _. tt)))
+  owner_reached port user (Some e) at = by_rows (Reached pairs s c f t user m port) (owner_rows (Some e) user m) (entry_outcome s m e) (λ _. tt, λ _. (λ _. tt, λ _. (λ _. tt, λ _. entry_reached user port e at)))
 
   passed_reached : (port : Option ℕ) (user : List ℕ) → Reached pairs s c f t user m port (passed_outcome pairs s c f t user m port)
-  passed_reached port user = by_method (m.method == allocate) refl
-    where
-      by_method : (b : Bool) → (m.method == allocate) ≡ b → Reached pairs s c f t user m port (if b then allocate_outcome pairs s c f t user m port else owner_outcome s (fin.get c.entries f) user m)
-      by_method true is = allocate_reached user port is
-      by_method false is = owner_reached port user (fin.get c.entries f) refl
+  passed_reached port user = cond_both (m.method == allocate) (allocate_outcome pairs s c f t user m port) (owner_outcome s (fin.get c.entries f) user m)
+      (Reached pairs s c f t user m port) (allocate_reached user port) (λ _. owner_reached port user (fin.get c.entries f) refl)
 
 -- ---- A datagram
 
@@ -335,35 +269,32 @@ abbrev pub Known : Bool → Config → Contents → FiveTuple → ℕ → Datagr
 Known pairs s c f t d v port o = IsQuiet o ⊎ IsOfUser pairs s c f t d v port o
 
 module _ (pairs : Bool) (s : Config) (c : Contents) (f : FiveTuple) (t : ℕ) (d : Datagram) (port : Option ℕ) where
-  binding_quiet : IsQuiet (binding_outcome d.content)
-  binding_quiet = by_rows IsQuiet ((has_unknown d.content, RefuseUnknown) ∷ []) MappedAddress (λ _. tt, tt) (λ _. tt)
-
-  verdict_known : (v : Option Verdict) → is_dropped d ≡ false → (d.content.method == binding) ≡ false → is_protected d.content.method ≡ true → Known pairs s c f t d v port (by_verdict pairs s c f t d.content v port)
-  verdict_known None taken other protected = inl tt
-  verdict_known (Some Challenge401) taken other protected = inl tt
-  verdict_known (Some Bad400) taken other protected = inl tt
-  verdict_known (Some Stale438) taken other protected = inl tt
-  verdict_known (Some (Passed user key)) taken other protected =
-      by_expired (is_expired c f t d.content key) refl
-    where
-      by_expired : (b : Bool) → is_expired c f t d.content key ≡ b
-          → Known pairs s c f t d (Some (Passed user key)) port (if b then Challenge Unauthenticated else passed_outcome pairs s c f t user d.content port)
-      by_expired true is = inl tt
-      by_expired false is =
-          inr (record { user = user; key = key; verdict = refl; in_time = is; taken = taken; other_method = other; protected = protected; reached = passed_reached pairs s c f t d.content port user })
+  verdict_known : (v : Option Verdict) → is_dropped d ≡ false → is_protected d.content.method ≡ true → Known pairs s c f t d v port (by_verdict pairs s c f t d.content v port)
+  verdict_known None taken protected = inl (λ _ _. refl)
+  verdict_known (Some Challenge401) taken protected = inl (λ _ _. refl)
+  verdict_known (Some Bad400) taken protected = inl (λ _ _. refl)
+  verdict_known (Some Stale438) taken protected = inl (λ _ _. refl)
+  verdict_known (Some (Passed user key)) taken protected = cond_both (is_expired c f t d.content key) (Challenge Unauthenticated) (passed_outcome pairs s c f t user d.content port)
+      (Known pairs s c f t d (Some (Passed user key)) port) (λ _. inl (λ _ _. refl))
+      (λ early. inr (record { user = user; key = key; verdict = refl; in_time = early; taken = taken; protected = protected; reached = passed_reached pairs s c f t d.content port user }))
 
   pub known : (v : Option Verdict) → Known pairs s c f t d v port (outcome_of pairs s c f t d v port)
   unfolding outcome_of
-  known v = by_dropped (is_dropped d) refl
+  known v = by_rows (Known pairs s c f t d v port)
+      ((is_dropped d, Drop) ∷ (d.content.method == binding, binding_outcome d.content) ∷ (is_protected d.content.method, by_verdict pairs s c f t d.content v port) ∷ []) Drop
+      (λ _. inl (λ _ _. refl), λ taken. (λ _. inl binding_quiet, λ _. (verdict_known v taken, λ _. inl (λ _ _. refl))))
     where
-      by_protected : (b : Bool) → is_protected d.content.method ≡ b → is_dropped d ≡ false → (d.content.method == binding) ≡ false → Known pairs s c f t d v port (if b then by_verdict pairs s c f t d.content v port else Drop)
-      by_protected true is taken other = verdict_known v taken other is
-      by_protected false is taken other = inl tt
+      binding_quiet : IsQuiet (binding_outcome d.content)
+      binding_quiet = by_rows IsQuiet ((has_unknown d.content, RefuseUnknown) ∷ []) MappedAddress (λ _ _ _. refl, λ _ _ _. refl)
 
-      by_method : (b : Bool) → (d.content.method == binding) ≡ b → is_dropped d ≡ false → Known pairs s c f t d v port (if b then binding_outcome d.content else (if is_protected d.content.method then by_verdict pairs s c f t d.content v port else Drop))
-      by_method true is taken = inl binding_quiet
-      by_method false is taken = by_protected (is_protected d.content.method) refl taken is
-
-      by_dropped : (b : Bool) → is_dropped d ≡ b → Known pairs s c f t d v port (if b then Drop else (if d.content.method == binding then binding_outcome d.content else (if is_protected d.content.method then by_verdict pairs s c f t d.content v port else Drop)))
-      by_dropped true is = inl tt
-      by_dropped false is = by_method (d.content.method == binding) refl is
+-- an act that is decided was reached for a user
+pub of_decided : (pairs : Bool) (s : Config) (c : Contents) (f : FiveTuple) (t : ℕ) (d : Datagram) (v : Option Verdict) (port : Option ℕ) (P : PlainAct → Type 0)
+    → ((is : IsOfUser pairs s c f t d v port (outcome_of pairs s c f t d v port)) (act : PlainAct) → IsReached pairs s c f t is.user d.content port act → P act)
+    → IfSome (decision pairs s c f t d v port).act P
+unfolding decision
+of_decided pairs s c f t d v port P holds = elim (known pairs s c f t d port v) [
+  | inl quiet ↦ subst (λ a. IfSome a P) (sym (quiet (user_of v) d.content)) tt
+  | inr is ↦
+      subst (λ w. IfSome (act_by (user_of w) d.content (outcome_of pairs s c f t d v port)) P) (sym is.verdict)
+      (IfSome_then (act_by is.user d.content (outcome_of pairs s c f t d v port)) is.reached (holds is))
+]

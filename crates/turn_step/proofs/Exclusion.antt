@@ -1,28 +1,126 @@
--- Replies and relayed data exclude each other.
-use Rattle.std.proofs.Common.{◌≡◌, ℕ, Bool, true, false, List, Option, Some, None, option_map, refl, sym, ap, ◌∙◌}
+-- What a client's bytes are answered: a reply or relayed data, and not both.
+use Rattle.std.proofs.Common.{◌≡◌, ◌<◌, ℕ, Bool, true, false, All, List, [], Option, Some, None, option_map, refl, sym, ap, subst, inl, inr, ◌∙◌}
+use Rattle.std.specs.FinMap as fin
 use Rattle.std.specs.Option.{option_or}
+use Rattle.std.proofs.lemmas.Bool.{false_from_ne_true}
+use Rattle.std.proofs.lemmas.Option.{cond_some}
+use Rattle.turn_types.specs.Config.{Config}
 use Rattle.turn_types.specs.declared.address.Endpoint.{Endpoint}
 use Rattle.turn_types.specs.declared.address.FiveTuple.{FiveTuple}
+use Rattle.turn_types.specs.declared.message.Class.{Class}
+use Rattle.turn_types.specs.declared.message.Class.TheVariants.{Request, Indication, Success, Error}
 use Rattle.turn_history.specs.History.{History}
-use Rattle.turn_history.specs.Table.{table}
+use Rattle.turn_history.specs.Table.{Contents, Entry, table}
 use Rattle.turn_codec.specs.Channel.{SpellsChannelData}
 use Rattle.turn_codec.specs.Grammar.{Content, Datagram, Spells}
-use Rattle.turn_rules.specs.Answer.{Answers, Decided, decision, is_dropped, is_request, judgement, outcome_of}
-use Rattle.turn_relay.specs.FromClient.{PeerData}
-use Rattle.turn_step.specs.Answer.{AnswersClient, Setting, to_client, to_peer, undecided}
+use Rattle.turn_codec.proofs.Header.{one_message}
+use Rattle.turn_codec.proofs.Values.{values_are_bytes}
+use Rattle.turn_cred.specs.Credential.{Keys, Verdict, policy_of, verdict}
+use Rattle.turn_cred.specs.Credential.Verdict.{Passed}
+use Rattle.turn_cred.proofs.Passes.{passed_in_range}
+use Rattle.turn_rules.specs.Answer.{Answers, Decided, MayAnswer, decision, is_protected, is_request, judgement, outcome_of, port_needed}
+use Rattle.turn_rules.specs.Laws.{IsMadeOfBytes, NamesInRange}
+use Rattle.turn_relay.specs.FromClient.{PeerData, SendsToPeer, sent_by_message}
+use Rattle.turn_relay.proofs.Datagrams.{of_message}
+use Rattle.turn_step.specs.Answer.{AnswersClient, IsDecided, Setting, to_client, to_peer, undecided}
+use Rattle.turn_step.specs.Data.{IsRequestOf}
 use Rattle.turn_step.specs.Laws.{HasNoReply}
-use Rattle.turn_step.specs.Outcome.{StepOutcome, change_of, nothing}
+use Rattle.turn_step.specs.Outcome.{StepOutcome, change_of, decided_for, nothing}
+use Rattle.turn_step.specs.Outcome.Arrives.{FromClient}
 use Rattle.turn_step.specs.Outcome.Sent.{ToClient, ToPeer}
-use Rattle.turn_step.proofs.Dropped.{request_sends_nothing}
 
--- a message that is no request is decided about in no other way
-decides_nothing : (s : Setting) (h : History) (t : ℕ) (failed : Bool) (f : FiveTuple) (d : Datagram) (x : Decided) → is_request d.content.class ≡ false
-    → Answers s.pairs s.config s.keys s.range h t failed f d x → x ≡ undecided
+-- ---- Messages
+
+-- messages in datagrams are made of bytes
+pub made_of_bytes : (bytes : List ℕ) (m : Content) → All (λ x. x < 256) bytes → Spells bytes m → IsMadeOfBytes m
+made_of_bytes bytes m all spells =
+    let made = values_are_bytes bytes m all spells in
+    record { tx_size = made.0; tx = made.1; values = made.2 }
+
+-- the user of credentials that were judged has a name of 1 to `name_bytes` bytes
+pub judged_in_range : (s : Config) (keys : Keys) (client : Endpoint) (t : ℕ) (d : Datagram) → IsMadeOfBytes d.content → NamesInRange s.limits (judgement s keys client t d)
+unfolding judgement
+judged_in_range s keys client t d made user key is =
+    passed_in_range (policy_of s) keys d client t user key made.values (cond_some (is_protected d.content.method) (verdict (policy_of s) keys d client t) (Passed user key) is).1
+
+-- nothing is decided about a message that is no request
+undecided_is : (pairs : Bool) (s : Config) (c : Contents) (f : FiveTuple) (t : ℕ) (d : Datagram) (v : Option Verdict) (port : Option ℕ) → is_request d.content.class ≡ false → decision pairs s c f t d v port ≡ undecided
 unfolding outcome_of decision
-decides_nothing s h t failed f d x other a =
-    let dropped : is_dropped d ≡ true = rw other refl in
-    let empty : decision s.pairs s.config (table h t) f t d (judgement s.config s.keys f.client t d) a.port ≡ undecided = rw dropped refl in
-    a.decided ∙ empty
+undecided_is pairs s c f t d v port other = rw other refl
+
+pub nothing_decided : (s : Setting) (h : History) (t : ℕ) (failed : Bool) (f : FiveTuple) (d : Datagram) → is_request d.content.class ≡ false
+    → Answers s.pairs s.config s.keys s.range h t failed f d undecided
+unfolding port_needed
+nothing_decided s h t failed f d other = record {
+  port = None;
+  picked = λ need needed. (let none = rw other at needed in cc);
+  decided = sym (undecided_is _ _ _ _ _ _ _ _ other);
+}
+
+-- a request sends nothing to a peer
+pub request_sends_nothing : (e : Option Entry) (d : Datagram) → is_request d.content.class ≡ true → sent_by_message e d ≡ None
+unfolding sent_by_message
+request_sends_nothing e d request = by_class d.content.class refl
+  where
+    by_class : (k : Class) → d.content.class ≡ k → sent_by_message e d ≡ None
+    by_class Request same = rw same refl
+    by_class Indication same = let no = rw same at request in cc
+    by_class Success same = let no = rw same at request in cc
+    by_class Error same = let no = rw same at request in cc
+
+-- ---- A client's bytes
+
+-- what is no request spells no message of its class
+pub no_request : (f : FiveTuple) (bytes : List ℕ) → ¬ IsRequestOf (FromClient f bytes) → (m : Content) → Spells bytes m → is_request m.class ≡ false
+no_request f bytes other m spells = false_from_ne_true (is_request m.class) (λ asks. other (m, spells, asks))
+
+-- the bytes spell no other message
+one_datagram : (bytes : List ℕ) (d : Datagram) → d.bytes ≡ bytes → Spells bytes d.content → (m : Content) → Spells bytes m → d ≡ record { bytes = bytes; content = m }
+one_datagram bytes d same found m spells = λ j. record { bytes = same j; content = (one_message bytes bytes [] [] d.content m found spells refl).1 j }
+
+module _ (s : Setting) (h : History) (t : ℕ) (failed : Bool) (f : FiveTuple) where
+  -- the credentials as they were judged
+  pub decided_as_judged : (d : Datagram) (v : Option Verdict) (o : StepOutcome) → v ≡ judgement s.config s.keys f.client t d
+      → ((x : Decided) × MayAnswer s.pairs s.config s.range h t failed f d v x × (o ≡ decided_for f x)) → IsDecided s h t failed f d o
+  decided_as_judged d v o judged found = record {
+    decided = found.0;
+    answers = subst (λ w. MayAnswer s.pairs s.config s.range h t failed f d w found.0) judged found.1;
+    is = found.2;
+  }
+
+  module _ (bytes : List ℕ) where
+    -- the bytes are no request, and send data or nothing
+    pub of_sent : (p : Option PeerData) (o : StepOutcome) → ((m : Content) → Spells bytes m → is_request m.class ≡ false) → SendsToPeer (table h t) f bytes p
+        → o ≡ record { change = None; sent = to_peer p } → AnswersClient s h t failed f bytes o
+    of_sent p o other sends is = record {
+      decided = undecided;
+      relayed = p;
+      decides = record {
+        message = λ m spells. nothing_decided s h t failed f (record { bytes = bytes; content = m }) (other m spells);
+        no_message = λ none. refl;
+      };
+      sends = sends;
+      one = inl refl;
+      sent = ap (λ (x : StepOutcome). x.sent) is ∙ elim p as (λ q. to_peer q ≡ option_or (to_peer q) (to_client f None)) [ | Some q ↦ refl | None ↦ refl ];
+      change = ap (λ (x : StepOutcome). x.change) is;
+    }
+
+    -- the bytes are a request
+    pub of_request : (d : Datagram) → d.bytes ≡ bytes → Spells bytes d.content → is_request d.content.class ≡ true → (o : StepOutcome) → IsDecided s h t failed f d o → AnswersClient s h t failed f bytes o
+    of_request d same found asks o x = record {
+      decided = x.decided;
+      relayed = None;
+      decides = record {
+        message = λ m spells. subst (λ e. Answers s.pairs s.config s.keys s.range h t failed f e x.decided) (one_datagram bytes d same found m spells) x.answers;
+        no_message = λ none. absurd (none d.content found);
+      };
+      sends = of_message (table h t) f bytes d.content None found (sym (request_sends_nothing (fin.get (table h t).entries f) (record { bytes = bytes; content = d.content }) asks));
+      one = inr refl;
+      sent = ap (λ (y : StepOutcome). y.sent) x.is;
+      change = ap (λ (y : StepOutcome). y.change) x.is;
+    }
+
+-- ---- Replies and relayed data exclude each other
 
 no_data : (f : FiveTuple) (reply : Option (List ℕ)) (port : ℕ) (peer : Endpoint) (payload : List ℕ) → to_client f reply ≡ Some (ToPeer port peer payload) → ⊥
 no_data f None port peer payload is = cc
@@ -47,7 +145,8 @@ module _ (s : Setting) (h : History) (t : ℕ) (failed : Bool) (f : FiveTuple) (
 
   pub other_no_reply : (m : Content) → Spells bytes m → is_request m.class ≡ false → AnswersClient s h t failed f bytes o → HasNoReply o
   other_no_reply m spells other a =
-      undecided_no_reply a (decides_nothing s h t failed f (record { bytes = bytes; content = m }) a.decided other (a.decides.message m spells))
+      let answers = a.decides.message m spells in
+      undecided_no_reply a (answers.decided ∙ undecided_is _ _ _ _ _ _ _ answers.port other)
 
   pub no_message_no_reply : ((m : Content) → ¬ Spells bytes m) → AnswersClient s h t failed f bytes o → HasNoReply o
   no_message_no_reply none a = undecided_no_reply a (a.decides.no_message none)

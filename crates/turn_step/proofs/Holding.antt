@@ -1,5 +1,5 @@
 -- Which ports a table has, as it changes, and which a generator holds then.
-use Rattle.std.proofs.Common.{◌≡◌, ◌≤◌, ◌<◌, ℕ, ◌+◌, Bool, true, false, cond, refl, sym, ap, subst, ◌∙◌, lt-ltb, Option, Some, None, is_some, List, Result, Ok, Err, inl, inr, Box}
+use Rattle.std.proofs.Common.{◌≡◌, ◌⊎◌, ◌≤◌, ◌<◌, ℕ, ◌+◌, Bool, true, false, cond, refl, sym, ap, subst, ◌∙◌, lt-ltb, Option, Some, None, is_some, List, Result, Ok, Err, inl, inr, Box}
 use Rattle.std.specs.Prelude.{◌%◌, ◌==◌, ◌&&◌, ◌||◌, not, IfOk, IfSome, IsSome, MatchOption, OnErr}
 use Rattle.std.specs.Option.{option_and_then, option_map}
 use Rattle.std.specs.Ordering.{eq_by_cmp, nat_cmp}
@@ -7,31 +7,34 @@ use Rattle.std.specs.FinMap as fin
 use Rattle.std.specs.FinMap.{get-remove}
 use Rattle.std.proofs.Math.Bool.{or-false, or-true}
 use Rattle.std.proofs.Math.Nat.{eq-or-lt_of_le}
-use Rattle.std.proofs.lemmas.Bool.{eq-eqb, eqb-false, eqb-true}
+use Rattle.std.proofs.lemmas.Bool.{cases_Bool, cond_both, eq-eqb, eqb-false, eqb-true, false_from_ne_true, or_left, or_right, true_from_ne_false}
 use Rattle.std.proofs.lemmas.Cmp.{nat_cmp_total}
-use Rattle.std.proofs.lemmas.Option.{same_Some}
+use Rattle.std.proofs.lemmas.Result.{IfOk-weaker}
+use Rattle.std.proofs.lemmas.Option.{none-some, same_Some}
 use Rattle.turn_types.specs.FiveTuple.{same_tuple, tuple_cmp}
 use Rattle.turn_types.specs.declared.address.FiveTuple.{FiveTuple}
 use Rattle.turn_types.specs.declared.limits.Bounds.{Bounds}
 use Rattle.turn_types.specs.declared.message.Token.{Token}
 use Rattle.turn_types.specs.declared.message.TxId.{TxId}
 use Rattle.turn_history.proofs.Histories.{ports-apart, ports-purged}
+use Rattle.turn_history.proofs.Live.{some_is}
 use Rattle.turn_history.proofs.Maps.{from_eq, tuple_exact, tuple_total}
 use Rattle.turn_history.proofs.Reading.{applied-reserved, at_alloc, get-applied, get-purged, get-purged_reserved, get-with_reservation, left, nat_same}
 use Rattle.turn_history.proofs.Reserved.{reservations-purged, reservations_in_range, reserved-apart, reserved-purged}
-use Rattle.turn_history.proofs.Tests.{free_port_is, port_is_free, untaken_port_is}
+use Rattle.turn_history.proofs.Tests.{free_port_is, port_is_free, port_is_untaken, untaken_port_is}
 use Rattle.turn_history.specs.Act.{act_of}
 use Rattle.turn_history.specs.Fitting.{AreReservationsInRange, Fits, IsActInRange, IsFitting, PortIsFree, has_port, is_taken}
 use Rattle.turn_history.specs.History.{History, PlainAct, clock, Allocates, Renews, Permits, Binds}
 use Rattle.turn_history.specs.Laws.{PortsApart, ReservedApart}
-use Rattle.turn_history.specs.Table.{Contents, Entry, applied, applied_to, binding, kept, permitting, purged, renewed}
+use Rattle.turn_history.specs.Table.{Contents, Entry, applied, applied_to, binding, kept, permitting, purged, renewed, table}
 use Rattle.turn_history.specs.declared.act.Act.{Act}
 use Rattle.turn_history.specs.declared.reservation.Reservation.{Reservation}
 use Rattle.turn_table.proofs.Purging.{stays}
 use Rattle.turn_table.proofs.Tuples.{itself}
 use Rattle.turn_table.specs.State.{State}
-use Rattle.turn_table.specs.Table.{Agrees, RemovesEntry, RemovesExpired, RemovesReservation, freed_by}
+use Rattle.turn_table.specs.Table.{Agrees, RemovesExpired, freed_by}
 use Rattle.turn_ports.specs.Ports.{with_pair, with_port, without_port}
+use Rattle.turn_rules.specs.Laws.{IsFreeFor, IsPicked}
 use Rattle.turn_rules.specs.Need.{MayHavePicked, MayPickFor}
 use Rattle.turn_rules.specs.Taking.{is_picked, picks, takes}
 use Rattle.turn_rules.specs.declared.need.Need.{Need}
@@ -56,28 +59,21 @@ has_at c d n to from =
     same_test (has_port c n) (has_port d n) (λ is. free_port_is d n (to (port_is_free c n is))) (λ is. free_port_is c n (from (port_is_free d n is)))
 
 is_there : (c : Contents) (f : FiveTuple) (e : Entry) → fin.get c.entries f ≡ Some e → has_port c e.port ≡ true
-is_there c f e is = by_test (has_port c e.port) refl
-  where
-    by_test : (b : Bool) → has_port c e.port ≡ b → has_port c e.port ≡ true
-    by_test true at = at
-    by_test false at = absurd (port_is_free c e.port at f e is refl)
+is_there c f e is = true_from_ne_false (has_port c e.port) (λ at. port_is_free c e.port at f e is refl)
 
-port_at : Option Entry → Option ℕ
-port_at o = option_map (λ e. e.port) o
-
-same_ports : (c d : Contents) → ((q : FiveTuple) → port_at (fin.get c.entries q) ≡ port_at (fin.get d.entries q)) → (n : ℕ) → has_port c n ≡ has_port d n
-unfolding port_at
+same_ports : (c d : Contents) → ((q : FiveTuple) → option_map (λ e. e.port) (fin.get c.entries q) ≡ option_map (λ e. e.port) (fin.get d.entries q)) → (n : ℕ) → has_port c n ≡ has_port d n
 same_ports c d same n = has_at c d n (along c d same) (along d c (λ q. sym (same q)))
   where
     along : (x y : Contents) → ((q : FiveTuple) → option_map (λ e. e.port) (fin.get x.entries q) ≡ option_map (λ e. e.port) (fin.get y.entries q)) → PortIsFree x n → PortIsFree y n
-    along x y same free f e is at = by_entry (fin.get x.entries f) refl
+    along x y same free f e is at = by_entry (fin.get x.entries f) refl (same f ∙ ap (option_map (λ e. e.port)) is)
       where
-        by_entry : (o : Option Entry) → fin.get x.entries f ≡ o → ⊥
-        by_entry None none =
-            let no : ◌≡◌ {A = Option ℕ} None (Some e.port) = sym (ap (option_map (λ e. e.port)) none) ∙ same f ∙ ap (option_map (λ e. e.port)) is in cc
-        by_entry (Some v) some =
-            let one : ◌≡◌ {A = Option ℕ} (Some v.port) (Some e.port) = sym (ap (option_map (λ e. e.port)) some) ∙ same f ∙ ap (option_map (λ e. e.port)) is in
-            free f v some (same_Some v.port e.port one ∙ at)
+        by_entry : (o : Option Entry) → fin.get x.entries f ≡ o → option_map (λ e. e.port) o ≡ Some e.port → ⊥
+        by_entry None at none = none-some e.port none
+        by_entry (Some v) there one = free f v there (same_Some v.port e.port one ∙ at)
+
+-- a five-tuple is f, or another
+by_tuple : (q f : FiveTuple) → (q ≡ f) ⊎ (same_tuple q f ≡ false)
+by_tuple q f = elim (cases_Bool (same_tuple q f)) [ | inl is ↦ inl (from_eq tuple_cmp tuple_exact q f is) | inr is ↦ inr is ]
 
 -- a table of which the entry of one five-tuple alone is another
 module _ (c d : Contents) (f : FiveTuple) (o : Option Entry) (gets : (q : FiveTuple) → fin.get d.entries q ≡ cond (same_tuple q f) o (fin.get c.entries q)) where
@@ -87,77 +83,55 @@ module _ (c d : Contents) (f : FiveTuple) (o : Option Entry) (gets : (q : FiveTu
   other : (q : FiveTuple) → same_tuple q f ≡ false → fin.get d.entries q ≡ fin.get c.entries q
   other q two = gets q ∙ ap (λ b. cond b o (fin.get c.entries q)) two
 
+  -- what the table has now, it was given or had, and what it had, it has or had at f
+  given_or_had : (q : FiveTuple) (v : Entry) → fin.get d.entries q ≡ Some v → (o ≡ Some v) ⊎ (fin.get c.entries q ≡ Some v)
+  given_or_had q v there = elim (by_tuple q f) [ | inl at ↦ inl (sym here ∙ rw at at there) | inr two ↦ inr (sym (other q two) ∙ there) ]
+
+  had_or_has : (q : FiveTuple) (v : Entry) → fin.get c.entries q ≡ Some v → (fin.get c.entries f ≡ Some v) ⊎ (fin.get d.entries q ≡ Some v)
+  had_or_has q v there = elim (by_tuple q f) [ | inl at ↦ inl (rw at at there) | inr two ↦ inr (other q two ∙ there) ]
+
   same_port : option_map (λ e. e.port) o ≡ option_map (λ e. e.port) (fin.get c.entries f) → (n : ℕ) → has_port d n ≡ has_port c n
-  unfolding port_at
-  same_port same = same_ports d c (λ q. by_test q (same_tuple q f) refl)
-    where
-      by_test : (q : FiveTuple) (b : Bool) → same_tuple q f ≡ b → option_map (λ e. e.port) (fin.get d.entries q) ≡ option_map (λ e. e.port) (fin.get c.entries q)
-      by_test q true is =
-          let at : q ≡ f = from_eq tuple_cmp tuple_exact q f is in
-          ap (λ k. option_map (λ e. e.port) (fin.get d.entries k)) at ∙ ap (option_map (λ e. e.port)) here ∙ same ∙ ap (λ k. option_map (λ e. e.port) (fin.get c.entries k)) (sym at)
-      by_test q false is = ap (option_map (λ e. e.port)) (other q is)
+  same_port same = same_ports d c (λ q. elim (by_tuple q f) [
+    | inl at ↦ rw at (ap (option_map (λ e. e.port)) here ∙ same)
+    | inr two ↦ ap (option_map (λ e. e.port)) (other q two)
+  ])
+
+  -- what the table has on other ports than that of an entry it had on them, and the other way round
+  module _ (e : Entry) (n : ℕ) (not_it : n ≡ e.port → ⊥) where
+    is_other : (v : Entry) → v.port ≡ n → ◌≡◌ {A = Option Entry} (Some e) (Some v) → ⊥
+    is_other v same it = not_it (sym same ∙ ap (λ x. x.port) (sym (same_Some e v it)))
+
+    free_still : (fin.get c.entries f ≡ None) ⊎ (fin.get c.entries f ≡ Some e) → PortIsFree d n → PortIsFree c n
+    free_still was free q v there same = elim (had_or_has q v there) [
+      | inl had ↦ elim was [ | inl none ↦ none-some v (sym none ∙ had) | inr some ↦ is_other v same (sym some ∙ had) ]
+      | inr has ↦ free q v has same
+    ]
+
+    free_then : (o ≡ None) ⊎ (o ≡ Some e) → PortIsFree c n → PortIsFree d n
+    free_then is free q v there same = elim (given_or_had q v there) [
+      | inl given ↦ elim is [ | inl none ↦ none-some v (sym none ∙ given) | inr some ↦ is_other v same (sym some ∙ given) ]
+      | inr had ↦ free q v had same
+    ]
 
   module _ (e : Entry) where
     added_port : o ≡ Some e → fin.get c.entries f ≡ None → (n : ℕ) → has_port d n ≡ (n == e.port) || has_port c n
-    added_port is none n = by_port (n == e.port) refl
-      where
-        to : PortIsFree d n → PortIsFree c n
-        to free q v there same = by_test (same_tuple q f) refl
-          where
-            by_test : (b : Bool) → same_tuple q f ≡ b → ⊥
-            by_test true one =
-                let no : ◌≡◌ {A = Option Entry} None (Some v) = sym none ∙ ap (fin.get c.entries) (sym (from_eq tuple_cmp tuple_exact q f one)) ∙ there in cc
-            by_test false two = free q v (other q two ∙ there) same
-
-        from : (n ≡ e.port → ⊥) → PortIsFree c n → PortIsFree d n
-        from not_it free q v there same = by_test (same_tuple q f) refl
-          where
-            by_test : (b : Bool) → same_tuple q f ≡ b → ⊥
-            by_test true one =
-                let it : ◌≡◌ {A = Option Entry} (Some e) (Some v) = sym (ap (fin.get d.entries) (from_eq tuple_cmp tuple_exact q f one) ∙ here ∙ is) ∙ there in
-                not_it (sym same ∙ ap (λ x. x.port) (sym (same_Some e v it)))
-            by_test false two = free q v (sym (other q two) ∙ there) same
-
-        by_port : (b : Bool) → (n == e.port) ≡ b → has_port d n ≡ (b || has_port c n)
-        by_port true it = ap (has_port d) (eqb-true n e.port it) ∙ is_there d f e (here ∙ is)
-        by_port false not_it = has_at d c n to (from (eqb-false n e.port not_it))
-
-    none_at : o ≡ None → (q : FiveTuple) (v : Entry) → same_tuple q f ≡ true → fin.get d.entries q ≡ Some v → ⊥
-    none_at is q v one there =
-        let no : ◌≡◌ {A = Option Entry} None (Some v) = sym (ap (fin.get d.entries) (from_eq tuple_cmp tuple_exact q f one) ∙ here ∙ is) ∙ there in cc
+    added_port is none n = elim (cases_Bool (n == e.port)) [
+      | inl it ↦ rw it (ap (has_port d) (eqb-true n e.port it) ∙ is_there d f e (here ∙ is))
+      | inr not_it ↦ rw not_it (has_at d c n (free_still e n (eqb-false n e.port not_it) (inl none)) (free_then e n (eqb-false n e.port not_it) (inr is)))
+    ]
 
     -- what the table without the entry has, the table has
     still : o ≡ None → (q : FiveTuple) (v : Entry) → fin.get d.entries q ≡ Some v → fin.get c.entries q ≡ Some v
-    still is q v at = by_test (same_tuple q f) refl
-      where
-        by_test : (b : Bool) → same_tuple q f ≡ b → fin.get c.entries q ≡ Some v
-        by_test true one = absurd (none_at is q v one at)
-        by_test false two = sym (other q two) ∙ at
+    still is q v at = elim (given_or_had q v at) [ | inl given ↦ absurd (none-some v (sym is ∙ given)) | inr had ↦ had ]
 
     removed_port : o ≡ None → PortsApart c → fin.get c.entries f ≡ Some e → (n : ℕ) → has_port d n ≡ not (n == e.port) && has_port c n
-    removed_port is apart was n = by_port (n == e.port) refl
+    removed_port is apart was n = elim (cases_Bool (n == e.port)) [
+      | inl it ↦ rw it (ap (has_port d) (eqb-true n e.port it) ∙ free_port_is d e.port freed)
+      | inr not_it ↦ rw not_it (has_at d c n (free_still e n (eqb-false n e.port not_it) (inr was)) (free_then e n (eqb-false n e.port not_it) (inl is)))
+    ]
       where
         freed : PortIsFree d e.port
-        freed q v there same = by_test (same_tuple q f) refl
-          where
-            by_test : (b : Bool) → same_tuple q f ≡ b → ⊥
-            by_test true one = none_at is q v one there
-            by_test false two =
-                let one : same_tuple q f ≡ true = ap (λ k. same_tuple k f) (apart q f v e (sym (other q two) ∙ there) was same) ∙ itself f in
-                let no : true ≡ false = sym one ∙ two in cc
-
-        to : (n ≡ e.port → ⊥) → PortIsFree d n → PortIsFree c n
-        to not_it free q v there same = by_test (same_tuple q f) refl
-          where
-            by_test : (b : Bool) → same_tuple q f ≡ b → ⊥
-            by_test true one =
-                let it : ◌≡◌ {A = Option Entry} (Some e) (Some v) = sym (ap (fin.get c.entries) (from_eq tuple_cmp tuple_exact q f one) ∙ was) ∙ there in
-                not_it (sym same ∙ ap (λ x. x.port) (sym (same_Some e v it)))
-            by_test false two = free q v (other q two ∙ there) same
-
-        by_port : (b : Bool) → (n == e.port) ≡ b → has_port d n ≡ (not b && has_port c n)
-        by_port true it = ap (has_port d) (eqb-true n e.port it) ∙ free_port_is d e.port freed
-        by_port false not_it = has_at d c n (to (eqb-false n e.port not_it)) (λ free q v there. free q v (still is q v there))
+        freed q v there same = none-some v (sym (here ∙ is) ∙ rw (apart q f v e (still is q v there) was same) at there)
 
     apart_without : o ≡ None → PortsApart c → PortsApart d
     apart_without is apart p q x y ex ey same = apart p q x y (still is p x ex) (still is q y ey) same
@@ -170,41 +144,23 @@ module _ (c d : Contents) (f : FiveTuple) (o : Option Entry) (gets : (q : FiveTu
 -- without an entry, whose port is not reserved
 without_entry : (c d : Contents) (p : ℕ) → ((n : ℕ) → has_port d n ≡ not (n == p) && has_port c n) → d.reserved ≡ c.reserved → is_some (fin.get c.reserved p) ≡ false
     → (n : ℕ) → is_taken d n ≡ not (n == p) && is_taken c n
-without_entry c d p has same unreserved n = by_port (n == p) refl
-  where
-    by_port : (b : Bool) → (n == p) ≡ b → is_taken d n ≡ not b && is_taken c n
-    by_port true it =
-        ap (λ b. b || is_some (fin.get d.reserved n)) (has n ∙ ap (λ b. not b && has_port c n) it)
-        ∙ ap (λ m. is_some (fin.get m n)) same ∙ ap (λ k. is_some (fin.get c.reserved k)) (eqb-true n p it) ∙ unreserved
-    by_port false not_it =
-        ap (λ b. b || is_some (fin.get d.reserved n)) (has n ∙ ap (λ b. not b && has_port c n) not_it)
-        ∙ ap (λ m. has_port c n || is_some (fin.get m n)) same
+without_entry c d p has same unreserved n = rw (has n, same) (elim (cases_Bool (n == p)) [
+  | inl it ↦ rw (it, eqb-true n p it) unreserved
+  | inr not_it ↦ rw not_it refl
+])
 
 -- without a reservation, whose port no entry has
 without_reservation : (c : Contents) (p : ℕ) → has_port c p ≡ false → (n : ℕ) → is_taken (record c { reserved = fin.remove c.reserved p }) n ≡ not (n == p) && is_taken c n
-without_reservation c p free n =
-    ap (λ o. has_port c n || is_some o) (get-remove nat_cmp_total c.reserved p n ∙ ap (λ b. cond b None (fin.get c.reserved n)) (nat_same n p)) ∙ by_port (n == p) refl
-  where
-    by_port : (b : Bool) → (n == p) ≡ b → has_port c n || is_some (cond (n == p) None (fin.get c.reserved n)) ≡ not (n == p) && is_taken c n
-    by_port true it =
-        ap (λ b. has_port c n || is_some (cond b None (fin.get c.reserved n))) it
-        ∙ ap (λ b. b || false) (ap (has_port c) (eqb-true n p it) ∙ free) ∙ ap (λ b. not b && is_taken c n) (sym it)
-    by_port false not_it =
-        ap (λ b. has_port c n || is_some (cond b None (fin.get c.reserved n))) not_it ∙ ap (λ b. not b && is_taken c n) (sym not_it)
+without_reservation c p free n = rw (get-remove nat_cmp_total c.reserved p n, nat_same n p) (elim (cases_Bool (n == p)) [
+  | inl it ↦ rw (it, eqb-true n p it, free) refl
+  | inr not_it ↦ rw not_it refl
+])
 
 -- a port that an entry has is not reserved
 entry_unreserved : (c : Contents) (f : FiveTuple) (e : Entry) → ReservedApart c → fin.get c.entries f ≡ Some e → is_some (fin.get c.reserved e.port) ≡ false
-entry_unreserved c f e apart is = by_reservation (fin.get c.reserved e.port) refl
-  where
-    by_reservation : (o : Option Reservation) → fin.get c.reserved e.port ≡ o → is_some (fin.get c.reserved e.port) ≡ false
-    by_reservation None at = ap is_some at
-    by_reservation (Some r) at = absurd (apart e.port r at f e is refl)
-
-has_taken : (c : Contents) (p : ℕ) → has_port c p ≡ true → is_taken c p ≡ true
-has_taken c p has = ap (λ b. b || is_some (fin.get c.reserved p)) has
-
-reserved_taken : (c : Contents) (p : ℕ) → is_some (fin.get c.reserved p) ≡ true → is_taken c p ≡ true
-reserved_taken c p is = ap (λ b. has_port c p || b) is ∙ or-true (has_port c p)
+entry_unreserved c f e apart is = false_from_ne_true (is_some (fin.get c.reserved e.port)) (λ reserved.
+    let found = some_is (fin.get c.reserved e.port) reserved in
+    apart e.port found.0 found.1 f e is refl)
 
 -- ---- Acts
 
@@ -215,11 +171,7 @@ LeavesPorts t f d c freed = MatchOption freed ((n : ℕ) → is_taken (applied t
 
 alloc_test : (t n port : ℕ) (token : Option Token) (has : Bool) (old : Option Reservation)
     → ((n == port) || has) || is_some (at_alloc t n port token old) ≡ ((n == port) || (is_some token && (n == port + 1))) || (has || is_some old)
-alloc_test t n port None has old = by_port (n == port)
-  where
-    by_port : (x : Bool) → (x || has) || is_some (cond x None old) ≡ (x || false) || (has || is_some old)
-    by_port true = refl
-    by_port false = refl
+alloc_test t n port None has old = elim (n == port) as (λ x. (x || has) || is_some (cond x None old) ≡ (x || false) || (has || is_some old)) [ | true ↦ refl | false ↦ refl ]
 alloc_test t n port (Some token) has old = by_ports (n == port) (n == port + 1)
   where
     by_ports : (x y : Bool) → (x || has) || is_some (cond y (Some (record { token = token; expiry = t + reservation_lifetime })) (cond x None old)) ≡ (x || y) || (has || is_some old)
@@ -255,7 +207,7 @@ module _ (b : Bounds) (t : ℕ) (f : FiveTuple) (c : Contents) (apart : PortsApa
       by_entry : (o : Option Entry) → fin.get c.entries f ≡ o → IsSome o → applied_to t (Renews granted) (fin.get c.entries f) ≡ None → LeavesPorts t f (Renews granted) c (option_map (λ e. e.port) o)
       by_entry None at some gone = cc
       by_entry (Some e) at some gone = (
-        has_taken c e.port (is_there c f e at),
+        or_left (has_port c e.port) (is_some (fin.get c.reserved e.port)) (is_there c f e at),
         λ n. refl,
         without_entry c (applied t f (Renews granted) c) e.port (removed_port c (applied t f (Renews granted) c) f _ (get-applied t f (Renews granted) c) e gone apart at)
             (applied-reserved t f (Renews granted) c) (entry_unreserved c f e reserved at),
@@ -292,43 +244,31 @@ pub record IsLeft (old new : Contents) (port : ℕ) : Type 0 where
   pub reserved : ReservedApart new
 
 module _ (t : ℕ) (old : Contents) (port : ℕ) (apart : PortsApart old) (reserved : ReservedApart old) where
-  entry_gone : (new : Contents) → RemovesEntry t old new port → IsLeft old new port
-  entry_gone new r =
+  pub expired_gone : (new : Contents) → RemovesExpired t old new port → IsLeft old new port
+  expired_gone new (inl r) =
       let rest : Contents = record old { entries = fin.remove old.entries r.tuple } in
       let gets = get-remove tuple_total old.entries r.tuple in
-      subst (λ c. IsLeft old c port) (sym r.gone)
-      (subst (IsLeft old rest) r.port_is
+      rw r.gone (subst (IsLeft old rest) r.port_is
       (record {
-        taken = has_taken old r.entry.port (is_there old r.tuple r.entry r.was);
+        taken = or_left (has_port old r.entry.port) (is_some (fin.get old.reserved r.entry.port)) (is_there old r.tuple r.entry r.was);
         ports = λ j n. without_entry old rest r.entry.port (removed_port old rest r.tuple None gets r.entry refl apart r.was) refl (entry_unreserved old r.tuple r.entry reserved r.was) n j;
         apart = apart_without old rest r.tuple None gets r.entry refl apart;
         reserved = reserved_without old rest r.tuple None gets r.entry refl refl reserved;
       }))
-
-  reservation_gone : (new : Contents) → RemovesReservation t old new port → IsLeft old new port
-  reservation_gone new r =
-      subst (λ c. IsLeft old c port) (sym r.gone)
-      (record {
-        taken = reserved_taken old port (ap is_some r.was);
+  expired_gone new (inr r) =
+      rw r.gone (record {
+        taken = or_right (has_port old port) (is_some (fin.get old.reserved port)) (ap is_some r.was);
         ports = λ j n. without_reservation old port (free_port_is old port (reserved port r.reservation r.was)) n j;
         apart = apart;
         reserved = λ q x at. reserved q x (there q x at);
       })
     where
       there : (q : ℕ) (x : Reservation) → fin.get (fin.remove old.reserved port) q ≡ Some x → fin.get old.reserved q ≡ Some x
-      there q x at = by_port (eq_by_cmp nat_cmp q port) (sym (get-remove nat_cmp_total old.reserved port q) ∙ at)
-        where
-          by_port : (b : Bool) → cond b None (fin.get old.reserved q) ≡ Some x → fin.get old.reserved q ≡ Some x
-          by_port true is = cc
-          by_port false is = is
-
-  pub expired_gone : (new : Contents) → RemovesExpired t old new port → IsLeft old new port
-  expired_gone new (inl r) = entry_gone new r
-  expired_gone new (inr r) = reservation_gone new r
+      there q x at = cond_both (eq_by_cmp nat_cmp q port) None (fin.get old.reserved q) (λ o. o ≡ Some x → fin.get old.reserved q ≡ Some x)
+          (λ _ is. absurd (none-some x is)) (λ _ is. is) (sym (get-remove nat_cmp_total old.reserved port q) ∙ at)
 
 pub purged_ports : (t : ℕ) (c : Contents) → ((f : FiveTuple) (e : Entry) → fin.get c.entries f ≡ Some e → t < e.expiry)
     → ((q : ℕ) (r : Reservation) → fin.get c.reserved q ≡ Some r → t < r.expiry) → is_taken (purged t c) ≡ is_taken c
-unfolding port_at
 purged_ports t c entries reservations = λ j n. at n j
   where
     by_entry : (q : FiveTuple) (o : Option Entry) → fin.get c.entries q ≡ o → option_map (λ e. e.port) (option_and_then (kept t) o) ≡ option_map (λ e. e.port) o
@@ -347,16 +287,34 @@ abbrev pub Releases : ((ℕ → Bool) → Type 0) → ((ℕ → Bool) → Type 0
 Releases old new p = (held : ℕ → Bool) → old held → held p ≡ true → new (without_port held p)
 
 one_undone : (held : ℕ → Bool) (p : ℕ) → held p ≡ false → (n : ℕ) → without_port (λ q. (q == p) || held q) p n ≡ held n
-one_undone held p free n = by_port (n == p) refl
-  where
-    by_port : (b : Bool) → (n == p) ≡ b → not b && (b || held n) ≡ held n
-    by_port true it = sym free ∙ ap held (sym (eqb-true n p it))
-    by_port false not_it = refl
+one_undone held p free n = elim (cases_Bool (n == p)) [
+  | inl it ↦ rw it (sym free ∙ ap held (sym (eqb-true n p it)))
+  | inr not_it ↦ rw not_it refl
+]
 
 -- what is held after a port that was picked is released
 one_released : (old new : (ℕ → Bool) → Type 0) (held : ℕ → Bool) (p : ℕ) → held p ≡ false → Releases old new p → old (λ q. (q == p) || held q) → new held
 one_released old new held p free releases h =
     subst new (λ j n. one_undone held p free n j) (releases (λ q. (q == p) || held q) h (ap (λ b. b || held p) (eq-eqb p p refl)))
+
+-- what was picked is free for what is needed
+picked_for : (c : Contents) (range : ℕ × ℕ) (failed : Bool) (need : Need) (port : ℕ) → MayPickFor range c failed need (Some port) → IsFreeFor c need port
+picked_for c range failed Any port may = record { is_port = may.is_port; free = (port_is_untaken c port may.untaken).0; next = λ is. absurd (let no : ⊥ = cc in no) }
+picked_for c range failed Even port may = record { is_port = may.is_port; free = (port_is_untaken c port may.untaken).0; next = λ is. absurd (let no : ⊥ = cc in no) }
+picked_for c range failed Pair port may = record {
+  is_port = may.first.is_port;
+  free = (port_is_untaken c port may.first.untaken).0;
+  next = λ is. record {
+    even = may.first.parity refl;
+    is_port = may.second.is_port;
+    free = (port_is_untaken c (port + 1) may.second.untaken).0;
+    unreserved = (port_is_untaken c (port + 1) may.second.untaken).1;
+  };
+}
+
+pub picked_is_free : (c : Contents) (range : ℕ × ℕ) (failed : Bool) (needed : Option Need) (port : Option ℕ) → MayHavePicked range failed c needed port → IsPicked c needed port
+picked_is_free c range failed needed None may need is = tt
+picked_is_free c range failed needed (Some port) may need is = picked_for c range failed need port (may need is)
 
 -- a port that was picked beside those of a table
 pub picked_beside : (c : Contents) (range : ℕ × ℕ) (failed : Bool) (need : Option Need) (port : Option ℕ) → (need ≡ None → port ≡ None) → MayHavePicked range failed c need port
@@ -374,21 +332,16 @@ module _ {E : Type 0} (P : (ℕ → Bool) → Type 0) (held : ℕ → Bool) (nee
   -- one port that was picked, if one was
   pub one_picked : (need : Need) → needed ≡ Some need → ((p q : ℕ) → picks need p q ≡ (q == p)) → (r : Result (Option ℕ) E)
       → IfOk r (λ port. P (with_port held port)) → IfOk r (λ port. P (λ q. is_picked needed port q || held q))
-  one_picked need is one r picked = subst (λ n. IfOk r (λ port. P (λ q. is_picked n port q || held q))) (sym is) (by_result r picked)
-    where
-      by_result : (r : Result (Option ℕ) E) → IfOk r (λ port. P (with_port held port)) → IfOk r (λ port. P (λ q. is_picked (Some need) port q || held q))
-      by_result (Err e) h = tt
-      by_result (Ok None) h = h
-      by_result (Ok (Some p)) h = subst P (λ j q. ap (λ b. b || held q) (sym (one p q)) j) h
+  one_picked need is one r picked = rw is (IfOk-weaker r (λ port. P (with_port held port)) (λ port. P (λ q. is_picked (Some need) port q || held q))
+      (λ port. elim port as (λ o. P (with_port held o) → P (λ q. is_picked (Some need) o q || held q)) [
+        | None ↦ λ h. h
+        | Some p ↦ λ h. subst P (λ j q. ap (λ b. b || held q) (sym (one p q)) j) h
+      ]) picked)
 
   -- and a pair
   pub pair_picked : needed ≡ Some Pair → (r : Result (Option ℕ) E) → IfOk r (λ port. P (with_pair held port)) → IfOk r (λ port. P (λ q. is_picked needed port q || held q))
-  pair_picked is r picked = subst (λ n. IfOk r (λ port. P (λ q. is_picked n port q || held q))) (sym is) (by_result r picked)
-    where
-      by_result : (r : Result (Option ℕ) E) → IfOk r (λ port. P (with_pair held port)) → IfOk r (λ port. P (λ q. is_picked (Some Pair) port q || held q))
-      by_result (Err e) h = tt
-      by_result (Ok None) h = h
-      by_result (Ok (Some p)) h = h
+  pair_picked is r picked = rw is (IfOk-weaker r (λ port. P (with_pair held port)) (λ port. P (λ q. is_picked (Some Pair) port q || held q))
+      (λ port. elim port as (λ o. P (with_pair held o) → P (λ q. is_picked (Some Pair) o q || held q)) [ | None ↦ λ h. h | Some p ↦ λ h. h ]) picked)
 
 -- ---- Steps that are abandoned
 
@@ -408,42 +361,27 @@ even_picked b t c f user port granted tx token odd fits in_range = record {
   next = λ is. (fits.3.0, untaken_port_is c (port + 1) fits.3.1 fits.3.2);
 }
   where
-    even : port % 2 ≡ 0
-    even = in_range.4.0
-
     unreserved : (o : Option Reservation) → fin.get c.reserved port ≡ o → fin.get c.reserved port ≡ None
     unreserved None at = at
-    unreserved (Some r) at = let no : ◌≡◌ {A = ℕ} 0 1 = sym even ∙ (odd port r at).port.1 in cc
+    unreserved (Some r) at = let no : ◌≡◌ {A = ℕ} 0 1 = sym in_range.4.0 ∙ (odd port r at).port.1 in cc
 
 -- ---- Machines
 
+apart_of : (s : State) (t : ℕ) (c : Contents) → s.moment ≡ t → s.contents ≡ c → PortsApart c → ReservedApart c → AreReservationsInRange t c → HasPortsApart s
+apart_of s t c moment contents ports reserved in_range = record { ports = rw contents ports; reserved = rw contents reserved; in_range = rw (moment, contents) in_range }
+
 -- a table that agrees with a history
 pub apart_after : (b : Bounds) (s : State) (h : History) → IsFitting b h → clock h ≤ s.moment → Agrees s h → HasPortsApart s
-apart_after b s h fitting late agrees = record {
-  ports = subst PortsApart (sym agrees) (ports-apart b h s.moment fitting late);
-  reserved = subst ReservedApart (sym agrees) (reserved-apart b h s.moment fitting late);
-  in_range = subst (AreReservationsInRange s.moment) (sym agrees) (reservations_in_range b h s.moment fitting late);
-}
+apart_after b s h fitting late agrees =
+    apart_of s s.moment (table h s.moment) refl agrees (ports-apart b h s.moment fitting late) (reserved-apart b h s.moment fitting late) (reservations_in_range b h s.moment fitting late)
 
 -- a table that was brought to a moment
 pub apart_later : (t : ℕ) (old new : State) → old.moment ≤ t → IsPurged t old new → HasPortsApart old → HasPortsApart new
 apart_later t old new le later apart = elim (eq-or-lt_of_le le) [
-  | inl e ↦
-      let same : new.contents ≡ old.contents = later.same e in
-      let moment : new.moment ≡ old.moment = later.moment ∙ sym e in
-      record {
-        ports = subst PortsApart (sym same) apart.ports;
-        reserved = subst ReservedApart (sym same) apart.reserved;
-        in_range = subst (λ (c : Contents). AreReservationsInRange new.moment c) (sym same) (subst (λ (m : ℕ). AreReservationsInRange m old.contents) (sym moment) apart.in_range);
-      }
+  | inl e ↦ apart_of new old.moment old.contents (later.moment ∙ sym e) (later.same e) apart.ports apart.reserved apart.in_range
   | inr lt ↦
-      let gone : new.contents ≡ purged t old.contents = later.later lt in
-      record {
-        ports = subst PortsApart (sym gone) (ports-purged t old.contents apart.ports);
-        reserved = subst ReservedApart (sym gone) (reserved-purged t old.contents apart.reserved);
-        in_range = subst (λ (c : Contents). AreReservationsInRange new.moment c) (sym gone)
-            (subst (λ (m : ℕ). AreReservationsInRange m (purged t old.contents)) (sym later.moment) (reservations-purged old.moment t old.contents le apart.in_range));
-      }
+      apart_of new t (purged t old.contents) later.moment (later.later lt) (ports-purged t old.contents apart.ports) (reserved-purged t old.contents apart.reserved)
+      (reservations-purged old.moment t old.contents le apart.in_range)
 ]
 
 -- the change of a step that was taken apart

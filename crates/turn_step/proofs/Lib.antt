@@ -1,9 +1,4 @@
-pub mod Alone
-pub mod Beginnings
-pub mod Clients
-pub mod Dropped
 pub mod Exclusion
+pub mod Beginnings
 pub mod Holding
 pub mod Machines
-pub mod Names
-pub mod Ports

@@ -2,6 +2,8 @@
 use Rattle.std.proofs.Common.{◌≡◌, ◌≤◌, ◌<◌, ◌-◌, ◌^◌, ◌++◌, ◌∷◌, [], ℕ, Bool, Option, option_map, Some, None, Result, Ok, Err, refl, sym, ap, subst, ◌∙◌, inl, inr, arith}
 use Rattle.std.proofs.Math.Nat.{eq-or-lt_of_le}
 use Rattle.std.specs.Prelude.{IfOk, IfSome}
+use Rattle.std.proofs.lemmas.Option.{IfSome_then}
+use Rattle.std.proofs.lemmas.Result.{IfOk-weaker}
 use Rattle.turn_types.specs.Config.{Config}
 use Rattle.turn_types.specs.declared.limits.Bounds.{Bounds}
 use Rattle.turn_history.specs.Fitting.{Fits, Follows, IsActInRange, IsFitting, IsTuple}
@@ -46,24 +48,13 @@ after_later m n h t le config later after = record {
 -- ---- A change
 
 pub follows_next : (s : State) (b : Bounds) (h : History) (t : ℕ) (c : Change) → s.bounds ≡ b → s.moment ≡ t → clock h ≤ t → Agrees s h → MayBeNext s c → Follows b h (event_at t c)
-follows_next s b h t c bounds moment late agrees next =
-    subst (λ x. Follows x h (event_at t c)) bounds
-    (subst (λ u. clock h ≤ u → Follows s.bounds h (event_at u c)) moment
-    (λ before. record {
-      later = before;
-      in_range = next.in_range;
-      fits = subst (λ x. Fits s.bounds x c.tuple c.act) agrees next.fits;
-    }) late)
+follows_next s b h t c bounds moment late agrees next = rw (← bounds, ← moment) (record { later = rw (← moment) at late; in_range = next.in_range; fits = rw agrees at next.fits })
 
 -- the change of an outcome that a machine is ready for follows the history
 pub follows_outcome : {H G E : Type 0} (m : MachineState H G) (b : Bounds) (h : History) (t : ℕ) (r : Result StepOutcome E) → m.table.bounds ≡ b → m.table.moment ≡ t
     → IsAfter m h → IfOk r (IsReady m) → IfOk r (λ o. IfSome o.change (λ c. Follows b h (event_at t c)))
-follows_outcome m b h t (Err e) bounds moment after ready = tt
-follows_outcome m b h t (Ok o) bounds moment after ready = by_change o.change ready.next
-  where
-    by_change : (change : Option Change) → IfSome change (MayBeNext m.table) → IfSome change (λ c. Follows b h (event_at t c))
-    by_change None next = tt
-    by_change (Some c) next = follows_next m.table b h t c bounds moment (subst (λ u. clock h ≤ u) moment after.late) after.agrees next
+follows_outcome m b h t r bounds moment after = IfOk-weaker r (IsReady m) (λ o. IfSome o.change (λ c. Follows b h (event_at t c))) (λ o ready.
+    IfSome_then o.change ready.next (λ c. follows_next m.table b h t c bounds moment (rw moment at after.late) after.agrees))
 
 pub after_change : {H G : Type 0} (m n : MachineState H G) (h : History) (change : Option Change) (c : Change) → change ≡ Some c → m.table.bounds ≡ m.config.limits
     → IfSome change (MayBeNext m.table) → n.config ≡ m.config → n.table.moment ≡ m.table.moment
@@ -90,10 +81,7 @@ setting_is keys range m config handler ports pairs same_config same_handler same
 
 pub answers_along : {E : Type 0} (s z : Setting) (h : History) (t x y n : ℕ) (a b : Arrives) (r : Result StepOutcome E) → s ≡ z → x ≡ y → a ≡ b
     → IfOk r (AnswersArrival s h t (has_failed x n) a) → IfOk r (AnswersArrival z h t (has_failed y n) b)
-answers_along s z h t x y n a b r same_s same_x same_a answers =
-    subst (λ w. IfOk r (AnswersArrival w h t (has_failed y n) b)) same_s
-    (subst (λ k. IfOk r (AnswersArrival s h t (has_failed k n) b)) same_x
-    (subst (λ v. IfOk r (AnswersArrival s h t (has_failed x n) v)) same_a answers))
+answers_along s z h t x y n a b r same_s same_x same_a answers = rw (← same_s, ← same_x, ← same_a) answers
 
 -- a change for which a table was made ready
 pub may_be_next : (b : Bounds) (s new : State) (f : FiveTuple) (act : Option PlainAct) → s.bounds ≡ b → s.moment < end_of_moments → IfSome act (Fits s.bounds s.contents f) → IfSome act (IsActInRange b) → ((a : PlainAct) → act ≡ Some a → (new ≡ record s { room = Some (room_for f a) }) × IsTuple f) → IfSome (option_map (change_of f) act) (MayBeNext new)

@@ -8,8 +8,7 @@ use Rattle.turn_rules.specs.Answer.{outcome_of, user_of, decision}
 use Rattle.turn_rules.specs.Decided.{verdict_in}
 use Rattle.turn_rules.specs.Laws.{IsPicked}
 use Rattle.turn_rules.specs.Outcome.{act_by}
-use Rattle.turn_rules.proofs.Acts.{decided_fits, none_reserved}
-use Rattle.turn_rules.proofs.InRange.{decided_in_range}
+use Rattle.turn_rules.proofs.Acts.{decided_fits, decided_in_range, none_reserved}
 use Rattle.turn_rules.proofs.decision.decide.Goals as goal
 
 -- what holds of the act of an outcome holds of the act that is made of an equal one

@@ -1,6 +1,6 @@
 use Rattle.std.proofs.Common.{◌∙◌, sym}
 use Rattle.turn_rules.proofs.Alone.{entry_same}
-use Rattle.turn_step.proofs.Alone.{allocate_same, allocates_too, client_same, peer_same}
+use Rattle.turn_step.proofs.Beginnings.{allocate_same, allocates_too, client_same, peer_same}
 use Rattle.turn_step.proofs.laws.clients_stand_alone.Goals as goal
 
 pub returns-clause-client : goal.returns-clause-client

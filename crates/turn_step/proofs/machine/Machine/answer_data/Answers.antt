@@ -7,7 +7,7 @@ use Rattle.turn_step.specs.Answer.{AnswersArrival, AnswersPeer}
 use Rattle.turn_step.specs.Outcome.{StepOutcome}
 use Rattle.turn_step.specs.State.{setting_of}
 use Rattle.turn_step.specs.Views.{arrival_of, sent_of}
-use Rattle.turn_step.proofs.Clients.{no_request, of_sent}
+use Rattle.turn_step.proofs.Exclusion.{no_request, of_sent}
 use Rattle.turn_step.proofs.machine.Machine.answer_data.Goals as goal
 
 pub returns-in_ok-to_peer-in-Data-clause-answers :

@@ -3,18 +3,15 @@ use Rattle.turn_cred.specs.Found.{verdict_of}
 use Rattle.turn_ports.specs.Ports.{has_failed}
 use Rattle.turn_table.specs.Table.{Agrees}
 use Rattle.turn_history.specs.Fitting.{is_taken}
-use Rattle.turn_rules.specs.Taking.{is_picked as is_picked_for}
+use Rattle.turn_rules.specs.Taking.{is_picked}
 use Rattle.turn_step.specs.Answer.{IsDecided, Setting}
 use Rattle.turn_step.specs.Holding.{ports_with}
 use Rattle.turn_step.specs.State.{setting_of}
 use Rattle.turn_table.specs.State.{State}
 use Rattle.turn_rules.specs.Assessed.{IsAssessed}
 use Rattle.turn_rules.specs.Laws.{NamesInRange}
-use Rattle.turn_rules.specs.Need.{MayHavePicked}
-use Rattle.turn_step.proofs.Names.{judged_in_range}
-use Rattle.turn_step.proofs.Clients.{decided_as_judged}
-use Rattle.turn_step.proofs.Holding.{picked_beside}
-use Rattle.turn_step.proofs.Ports.{is_picked}
+use Rattle.turn_step.proofs.Exclusion.{decided_as_judged, judged_in_range}
+use Rattle.turn_step.proofs.Holding.{picked_beside, picked_is_free}
 use Rattle.turn_step.proofs.machine.Machine.request_step.Goals as goal
 
 pub returns-clause-answers : goal.returns-clause-answers
@@ -32,9 +29,7 @@ returns-clause-answers g c h d agrees is =
     (subst (λ m. IsDecided (setting_of g.H.AuthHandler.key_of g.G.RelayAddressGenerator.range m) h c.args.moment (has_failed (failures m.ports) (failures c.pick.new.ports)) c.args.five_tuple c.args.message c.in-Ok.step) c.self.view_is
     (decided_as_judged s h c.args.moment failed c.args.five_tuple c.args.message (option_map verdict_of c.judge-verdict.result) c.in-Ok.step
     (c.judge-verdict.ensures.value c.self.inside.config c.self.invariant.0)
-    (c.in-Ok.ensures.answers c.self.inside.pairs h (g.G.RelayAddressGenerator.range c.self.inside.ports) failed c.assess-assessment.ensures.assessed here (subst (λ n. MayHavePicked (g.G.RelayAddressGenerator.range c.self.inside.ports)
-    (has_failed (g.G.RelayAddressGenerator.failures c.self.inside.ports) (g.G.RelayAddressGenerator.failures c.pick.new.ports)) c.self.inside.table.contents n c.in_ok-port.port)
-    c.needs_port-need.ensures c.in_ok-port.ensures.picked))))
+    (c.in-Ok.ensures.answers c.self.inside.pairs h (g.G.RelayAddressGenerator.range c.self.inside.ports) failed c.assess-assessment.ensures.assessed here (rw c.needs_port-need.ensures at c.in_ok-port.ensures.picked))))
 
 pub returns-clause-ready : goal.returns-clause-ready
 returns-clause-ready g c =
@@ -43,9 +38,7 @@ returns-clause-ready g c =
     record {
       next = c.in-Ok.ensures.ready c.self.inside.pairs c.assess-assessment.ensures.assessed c.self.invariant.1 c.requires.bytes
           (subst (NamesInRange s.limits) (sym judged) (judged_in_range s (g.H.AuthHandler.key_of c.self.inside.checker.handler) c.args.five_tuple.client c.args.moment c.args.message c.requires.bytes))
-          (is_picked c.self.inside.table.contents _ _ _ c.in_ok-port.port (subst (λ n. MayHavePicked (g.G.RelayAddressGenerator.range c.self.inside.ports)
-          (has_failed (g.G.RelayAddressGenerator.failures c.self.inside.ports) (g.G.RelayAddressGenerator.failures c.pick.new.ports)) c.self.inside.table.contents n c.in_ok-port.port)
-          c.needs_port-need.ensures c.in_ok-port.ensures.picked));
+          (picked_is_free c.self.inside.table.contents _ _ _ c.in_ok-port.port (rw c.needs_port-need.ensures at c.in_ok-port.ensures.picked));
       no_pairs = λ without. c.in-Ok.ensures.no_pairs (subst (λ b. IsAssessed b s c.self.inside.table.contents (record { message = c.args.message; five_tuple = c.args.five_tuple; verdict = c.judge-verdict.result }) c.args.moment c.assess-assessment.result) without c.assess-assessment.ensures.assessed);
     }
 
@@ -58,7 +51,7 @@ returns-clause-held g c held =
     let picked = c.in_ok-port.ensures.held (is_taken t) (subst (λ m. holds m.ports (is_taken m.table.contents)) (sym c.self.view_is) held) in
     let takes = c.in-Ok.ensures.takes c.self.inside.pairs c.assess-assessment.ensures.assessed (λ none. c.in_ok-port.ensures.only (c.needs_port-need.ensures ∙ none)) in
     subst (λ (s : State). holds c.pick.new.ports (ports_with s.contents c.in-Ok.step.change)) (sym c.settle-settled.ensures.table)
-    (subst (holds c.pick.new.ports) (λ j q. (ap (λ n. is_picked_for n c.in_ok-port.port q || is_taken t q) c.needs_port-need.ensures ∙ sym (takes q)) j) picked)
+    (subst (holds c.pick.new.ports) (λ j q. (ap (λ n. is_picked n c.in_ok-port.port q || is_taken t q) c.needs_port-need.ensures ∙ sym (takes q)) j) picked)
 
 pub returns-in_default-clause-held_err : goal.returns-in_default-clause-held_err
 returns-in_default-clause-held_err g c held =
