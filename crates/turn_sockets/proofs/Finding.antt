@@ -16,24 +16,6 @@ use Rattle.turn_sockets.specs.declared.ports.Wanted.{Wanted}
 use Rattle.turn_sockets.specs.declared.ports.Wanted.TheVariants.{Port, Pair}
 use Rattle.turn_sockets.specs.Ports.{AreLeftOut, Binds, Inserts, IsLeftOut, IsWanted, LeavesOutEach, NoneIsWanted, Searches, found_port}
 
-widened_port : (range wider : ℕ × ℕ) (taken : ℕ → Bool) (even : Bool) (port : ℕ) → wider.0 ≤ range.0 → range.1 ≤ wider.1
-    → IsFree range taken even port → IsFree wider taken even port
-widened_port range wider taken even port low high free = record {
-  is_port = free.is_port;
-  in_range = (omega (arith, free.in_range.0), omega (arith, free.in_range.1));
-  untaken = free.untaken;
-  parity = free.parity;
-}
-
--- what is wanted in a part of a range is wanted in the range
-pub widened : (range wider : ℕ × ℕ) (taken : ℕ → Bool) (wanted : Wanted) (port : ℕ) → wider.0 ≤ range.0 → range.1 ≤ wider.1
-    → IsWanted range taken wanted port → IsWanted wider taken wanted port
-widened range wider taken (Port even) port low high free = widened_port range wider taken even port low high free
-widened range wider taken Pair port low high free = record {
-  first = widened_port range wider taken _ port low high free.first;
-  second = widened_port range wider taken _ (port + 1) low high free.second;
-}
-
 free_in : (low high : ℕ) (range : ℕ × ℕ) (taken : ℕ → Bool) (even : Bool) (port : ℕ) → low ≤ port → port ≤ high
     → IsFree range taken even port → IsFree (low, high) taken even port
 free_in low high range taken even port above below free = record {
@@ -41,6 +23,16 @@ free_in low high range taken even port above below free = record {
   in_range = (above, below);
   untaken = free.untaken;
   parity = free.parity;
+}
+
+-- what is wanted in a part of a range is wanted in the range
+pub widened : (range wider : ℕ × ℕ) (taken : ℕ → Bool) (wanted : Wanted) (port : ℕ) → wider.0 ≤ range.0 → range.1 ≤ wider.1
+    → IsWanted range taken wanted port → IsWanted wider taken wanted port
+widened range wider taken (Port even) port low high free =
+    free_in wider.0 wider.1 range taken even port (omega (arith, free.in_range.0)) (omega (arith, free.in_range.1)) free
+widened range wider taken Pair port low high free = record {
+  first = free_in wider.0 wider.1 range taken _ port (omega (arith, free.first.in_range.0)) (omega (arith, free.first.in_range.1)) free.first;
+  second = free_in wider.0 wider.1 range taken _ (port + 1) (omega (arith, free.second.in_range.0)) (omega (arith, free.second.in_range.1)) free.second;
 }
 
 -- what is wanted in a range is wanted from one of its ports on, or up to it

@@ -78,23 +78,19 @@ flagged true n is = (refl, omega arith)
 flagged false n is = absurd (omega arith)
 
 module _ {flags : List Bool} {fresh clients peers : List ℕ} where
+  taken_but : (taken : ℕ) {f c p : List ℕ} → AreFlags flags fresh clients peers
+      → ((token : ℕ) → cond (nat_eq token taken) 1 0 + (count token f + (count token c + count token p)) ≡ count token fresh + (count token clients + count token peers))
+      → AreFlagsBut taken flags f c p
+  taken_but taken are one = record { size = are.size; each = λ token. one token ∙ are.each token }
+
   pub taken_fresh : (taken : ℕ) (rest : List ℕ) → AreFlags flags fresh clients peers → fresh ≡ taken ∷ rest → AreFlagsBut taken flags rest clients peers
-  taken_fresh taken rest are is = record {
-    size = are.size;
-    each = λ token. let each = are.each token in let same = ap (count token) is in let first = counted_first token taken rest in omega (arith, each) ∙ each;
-  }
+  taken_fresh taken rest are is = taken_but taken are (λ token. let same = ap (count token) is in omega (arith, counted_first token taken rest))
 
   pub taken_clients : (taken : ℕ) (rest : List ℕ) → AreFlags flags fresh clients peers → clients ≡ taken ∷ rest → AreFlagsBut taken flags fresh rest peers
-  taken_clients taken rest are is = record {
-    size = are.size;
-    each = λ token. let each = are.each token in let same = ap (count token) is in let first = counted_first token taken rest in omega (arith, each) ∙ each;
-  }
+  taken_clients taken rest are is = taken_but taken are (λ token. let same = ap (count token) is in omega (arith, counted_first token taken rest))
 
   pub taken_peers : (taken : ℕ) (rest : List ℕ) → AreFlags flags fresh clients peers → peers ≡ taken ∷ rest → AreFlagsBut taken flags fresh clients rest
-  taken_peers taken rest are is = record {
-    size = are.size;
-    each = λ token. let each = are.each token in let same = ap (count token) is in let first = counted_first token taken rest in omega (arith, each) ∙ each;
-  }
+  taken_peers taken rest are is = taken_but taken are (λ token. let same = ap (count token) is in omega (arith, counted_first token taken rest))
 
   -- it has a flag, which is set
   pub has_flag : (taken : ℕ) → AreFlagsBut taken flags fresh clients peers → taken < length flags

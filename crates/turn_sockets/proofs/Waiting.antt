@@ -3,6 +3,7 @@ use Rattle.std.proofs.Common.{arith, ◌&&◌, ◌||◌, inl, inr, ◌≡◌, �
 use Rattle.std.specs.List.{position_or_len}
 use Rattle.std.specs.Option.{option_map_or}
 use Rattle.std.proofs.lemmas.Bool.{and_parts, both_ways, cases_eq, cases_lt, le-leb, lt-leb, ltb-false, ne_eqb, or_from, or_parts, true≢false}
+use Rattle.std.proofs.lemmas.Bool.Decides.{nat_tests}
 use Rattle.std.proofs.lemmas.Option.{slice_get-get_or}
 use Rattle.std.proofs.lemmas.List.{length-map, map-append}
 use Rattle.std.proofs.lemmas.List.Elements.{filter-append}
@@ -29,20 +30,12 @@ same_tuple_is f g same =
 same_self : (a : Endpoint) → is_same a a ≡ true
 same_self a = test_both a.ip a.ip a.port a.port (refl, refl)
 
+swapped : (a b : Endpoint) → is_same a b ≡ false → is_same b a ≡ false
+swapped a b other = grind (arith, nat_tests)
+
 -- what is the same as one isn't the same as another
 other_same : (a b c : Endpoint) → is_same a b ≡ false → is_same a c ≡ true → is_same b c ≡ false
-other_same a b c apart same = by (is_same b c) refl
-  where
-    by : (r : Bool) → is_same b c ≡ r → is_same b c ≡ false
-    by false is = is
-    by true is = absurd (both_ways (is_same a b) apart (ap (λ (e : Endpoint). is_same a e) (same_is b c is) ∙ same))
-
-swapped : (a b : Endpoint) → is_same a b ≡ false → is_same b a ≡ false
-swapped a b other = by (is_same b a) refl
-  where
-    by : (r : Bool) → is_same b a ≡ r → is_same b a ≡ false
-    by false is = is
-    by true is = absurd (both_ways (is_same a b) other (ap (λ (e : Endpoint). is_same a e) (same_is b a is) ∙ same_self a))
+other_same a b c apart same = ap (λ (e : Endpoint). is_same b e) (sym (same_is a c same)) ∙ swapped a b apart
 
 -- ---- A queue and its place
 

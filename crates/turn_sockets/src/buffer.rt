@@ -122,8 +122,7 @@ impl<A: Allocator> Buffer<A> {
         };
         match (self.bytes.as_slice().get(..size), endpoint_of(from)) {
             (Some(bytes), Some(from)) => {
-                let at = socket.at();
-                wire.note(false, at.ip, at.port, from.ip, from.port, bytes);
+                wire.note(false, socket.at(), from, bytes);
                 Received::Datagram { bytes, from }
             }
             _ => Received::Failed,

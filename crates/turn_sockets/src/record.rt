@@ -1,21 +1,47 @@
 //! What sockets received and sent, which clauses alone read.
 
-ghost use Rattle.std.specs.Prelude.{◌≡◌, ◌++◌, ◌∷◌, [], List};
-ghost use Rattle.std.specs.Borrow.{ftrue};
-ghost use Rattle.turn_sockets.specs.Wire.{Passed};
+ghost use Rattle.std.specs.Prelude.{◌≡◌, ◌++◌, ◌∷◌, []};
 
-use std::marker::{Model, PhantomData};
+use std::marker::Model;
+use turn_ghost::{Ghost, Shows};
+use turn_types::Endpoint;
+
+/// No datagram. In a `Ghost` it stands for any number of them.
+#[derive(Drop)]
+struct Datagrams;
+
+impl Model for Datagrams {
+    ghost use Rattle.std.specs.Prelude.{[], List};
+    ghost use Rattle.turn_sockets.specs.Wire.{Passed};
+
+    ghost Value = { List Passed };
+
+    ghost view = { λ _. [] };
+}
+
+impl Shows<Datagrams> for Datagrams {
+    ghost shown = { λ none. none };
+}
+
+/// A datagram, and what passed before it.
+#[derive(Drop)]
+struct Noted<'a> {
+    before: &'a Ghost<Datagrams>,
+    is_sent: bool,
+    at: Endpoint,
+    other: Endpoint,
+    bytes: &'a [u8],
+}
+
+impl Shows<Datagrams> for Noted<'_> {
+    ghost shown = { λ noted. noted.before.now ++ record { is_sent = noted.is_sent; at = noted.at; other = noted.other; bytes = noted.bytes.now } ∷ [] };
+}
 
 /// The datagrams that sockets received and sent so far, in order. It takes no memory: it exists in proofs alone.
 #[derive(Drop)]
 pub struct SocketRecord {
-    marker: PhantomData<u8>,
     /// In order.
-    pub ghost passed: { List Passed },
-}
-
-impl Model for SocketRecord {
-    ghost also_owns = { λ _. ftrue };
+    passed: Ghost<Datagrams>,
 }
 
 impl SocketRecord {
@@ -24,20 +50,20 @@ impl SocketRecord {
         ensures { result.passed ≡ [] }
     {
         SocketRecord {
-            marker: PhantomData,
+            passed: Ghost::of(&Datagrams),
         }
     }
 
-    /// Notes a datagram: whether it was sent, the address and port of the socket, those at the other end, and its bytes.
-    pub(crate) fn note(
-        &mut self,
-        _is_sent: bool,
-        _ip: u32,
-        _port: u16,
-        _other_ip: u32,
-        _other_port: u16,
-        _bytes: &[u8],
-    )
-        ensures { self.new.passed ≡ self.old.passed ++ record { is_sent = _is_sent; at = record { ip = _ip; port = _port }; other = record { ip = _other_ip; port = _other_port }; bytes = _bytes.now } ∷ [] }
-    {}
+    /// Notes a datagram: whether it was sent, the address of the socket, the one at the other end, and its bytes.
+    pub(crate) fn note(&mut self, is_sent: bool, at: Endpoint, other: Endpoint, bytes: &[u8])
+        ensures { self.new.passed ≡ self.old.passed ++ record { is_sent = is_sent; at = at; other = other; bytes = bytes.now } ∷ [] }
+    {
+        self.passed = Ghost::of(&Noted {
+            before: &self.passed,
+            is_sent,
+            at,
+            other,
+            bytes,
+        });
+    }
 }

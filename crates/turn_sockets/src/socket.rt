@@ -80,7 +80,7 @@ impl BoundSocket {
     pub fn send(&self, wire: &mut SocketRecord, bytes: &[u8], to: Endpoint)
         ensures { wire.new.passed ≡ wire.old.passed ++ sent self.now to bytes.now ∷ [] }
     {
-        wire.note(true, self.at.ip, self.at.port, to.ip, to.port, bytes);
+        wire.note(true, self.at, to, bytes);
         let _ = self.socket.send_to(bytes, address_of(to));
     }
 

@@ -1,0 +1,6 @@
+//! Values that clauses alone read.
+#![tactic(auto)]
+
+mod value;
+
+pub use value::{Ghost, Shows};
