@@ -1,19 +1,19 @@
 -- What a commit makes of what a server recovers to, and of its disk.
-use Rattle.std.proofs.Common.{inl, ◌≡◌, ◌≢◌, ◌≤◌, ◌<◌, ◌-◌, ◌^◌, ⊎_elim, ℕ, true, false, List, [], ◌∷◌, ◌++◌, length, take, drop, Result, Ok, Err, refl, sym, ap, ◌∙◌, subst, arith, append-nil}
+use Rattle.std.proofs.Common.{inl, ◌≡◌, ◌≢◌, ◌≤◌, ◌<◌, ◌-◌, ⊎_elim, ℕ, true, false, List, [], ◌∷◌, ◌++◌, length, take, drop, Result, Ok, Err, refl, sym, ap, ◌∙◌, subst, arith, append-nil}
 use Rattle.std.proofs.lemmas.List.{take-append-drop}
 use Rattle.std.proofs.Math.Seq.{take-length, drop-length}
 use Rattle.std.specs.Prelude.{OnErr}
 use Rattle.std.specs.List.{AllByRecursion}
 use Rattle.turn_disk.specs.Disk.{State, Trace, IsImage, EachImageSince}
 use Rattle.turn_disk.specs.declared.disk.Disk as disks
-use Rattle.turn_disk.proofs.Since.{image_settled, since_same}
+use Rattle.turn_disk.proofs.Since.{since_same}
 use Rattle.turn_history.specs.Fitting.{IsFitting}
 use Rattle.turn_history.specs.History.{Event, History, clock}
 use Rattle.turn_history.specs.Table as tables
 use Rattle.turn_history.specs.Laws.{AllFrom}
 use Rattle.turn_record.specs.Bytes as bytes
 use Rattle.turn_record.specs.Records.{Writes}
-use Rattle.turn_store.specs.Areas.{Form, Holds}
+use Rattle.turn_store.specs.Areas.{Form}
 use Rattle.turn_store.specs.Images.{EachImage, EitherBy, IsInVersion, StandsBy, StandsForAt}
 use Rattle.turn_store.specs.Spells.{HasSize}
 use Rattle.turn_store.specs.Stages.{InStages}
@@ -21,6 +21,7 @@ use Rattle.turn_store.specs.State.{MayFollow, RecoversToAt, StoreState, form_of,
 use Rattle.turn_store.specs.declared.error.StoreError.{StoreError}
 use Rattle.turn_store.specs.declared.store.WrittenAs.{WrittenAs}
 use Rattle.turn_store.specs.declared.store.WrittenAs.TheVariants.{Frame, Snapshot}
+use Rattle.turn_store.proofs.Rows.{recovers_image}
 use Rattle.turn_store.proofs.Staged.{stages_all, stages_first, stages_weaken}
 use Rattle.turn_store.proofs.Versions.{shown_in}
 use Rattle.turn_types.specs.declared.limits.Bounds.{Bounds}
@@ -73,23 +74,11 @@ runs_on old new count size Snapshot one two runs = ap (λ s. s.stopped) (two ref
 pub stood : {D : Type 0} (store : StoreState D) (state : State) (c : ℕ) (h : History) → RecoversToAt store state c h → (image : List ℕ) → IsImage state image → StandsForAt (form_of store) h c image
 stood store state c h recovers image is =
     let on = recovers.shows.recovers in
-    let holds = on.holds in
-    let whole : Holds store.version (form_of store) recovers.snapshot recovers.payloads state.bytes = record {
-      is_form = holds.is_form;
-      front = holds.front;
-      whole = holds.whole;
-      start = store.area.start;
-      other = store.other;
-      places = holds.places;
-      generation = store.generation;
-      area = holds.area;
-      yields = on.yields;
-    } in
     record {
       version = store.version;
       snapshot = recovers.snapshot;
       payloads = recovers.payloads;
-      holds = subst (λ (l : List ℕ). Holds store.version (form_of store) recovers.snapshot recovers.payloads l) (sym (image_settled state holds.settled image is)) whole;
+      holds = recovers_image store.version (form_of store) store.area.start store.other store.generation store.area.end store.other_is_below recovers.snapshot recovers.payloads state on image is;
       spells = recovers.spells;
     }
 

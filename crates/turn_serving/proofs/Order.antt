@@ -1,5 +1,6 @@
 -- The order of the datagrams of each five-tuple.
 use Rattle.std.proofs.Common.{arith, ◌≡◌, ◌+◌, ◌≤◌, ℕ, Bool, true, false, cond, if◌then◌else◌, List, [], ◌∷◌, ◌++◌, Result, Ok, Err, filter, length, map, refl, sym, ap, ◌∙◌, subst, append_assoc, append-nil, length-append}
+use Rattle.std.proofs.lemmas.Grind.{flat_map-append}
 use Rattle.std.proofs.lemmas.List.{map-append}
 use Rattle.std.proofs.lemmas.List.Elements.{filter-append}
 use Rattle.turn_cred.specs.declared.handler.AuthHandler as handlers
@@ -17,7 +18,7 @@ use Rattle.turn_step.specs.Outcome.{Arrives}
 use Rattle.turn_step.specs.Outcome.Arrives.{FromClient, FromPeer}
 use Rattle.turn_types.specs.declared.address.Endpoint.{Endpoint}
 use Rattle.turn_types.specs.declared.address.FiveTuple.{FiveTuple}
-use Rattle.turn_serving.specs.Turns.{AreAt, At, IsSubmitted, KeepsOrder, Never, Served, TakesAtMost, TakesDatagram, datagrams_of, does_wait, is_dropped, is_submitted, of_tuple, submitted_by, submitted_in}
+use Rattle.turn_serving.specs.Turns.{AreAt, At, IsSubmitted, KeepsOrder, Never, Served, TakesAtMost, TakesDatagram, datagram_of, datagrams_of, does_wait, is_dropped, is_submitted, of_tuple, submitted_by, submitted_in, submitted_of}
 use Rattle.turn_serving.proofs.Turns.{at_told, in_row, no_call, none}
 
 -- ---- Lists of datagrams
@@ -35,22 +36,11 @@ of_one f g bytes = by (is_same_tuple f g)
     by true = refl
     by false = refl
 
-pub submitted-append : {D H G : Type 0} (xs ys : List (ServerCall D H G)) → submitted_in (xs ++ ys) ≡ submitted_in xs ++ submitted_in ys
-submitted-append [] ys = refl
-submitted-append (Submit moment arrival result after ∷ xs) ys = ap (λ l. submitted_by arrival result ++ l) (submitted-append xs ys) ∙ sym (append_assoc (submitted_by arrival result) (submitted_in xs) (submitted_in ys))
-submitted-append (Commit result after ∷ xs) ys = submitted-append xs ys
-submitted-append (Relay arrival sent after ∷ xs) ys = ap (λ l. arrival ∷ l) (submitted-append xs ys)
-
-datagrams-append : (xs ys : List Arrives) → datagrams_of (xs ++ ys) ≡ datagrams_of xs ++ datagrams_of ys
-datagrams-append [] ys = refl
-datagrams-append (FromClient f bytes ∷ xs) ys = ap (λ l. (f, bytes) ∷ l) (datagrams-append xs ys)
-datagrams-append (FromPeer port from bytes id ∷ xs) ys = datagrams-append xs ys
-
 -- what was submitted of a five-tuple by two rows of calls
 pub of_calls-append : {D H G : Type 0} (f : FiveTuple) (xs ys : List (ServerCall D H G)) → of_tuple f (datagrams_of (submitted_in (xs ++ ys))) ≡ of_tuple f (datagrams_of (submitted_in xs)) ++ of_tuple f (datagrams_of (submitted_in ys))
 of_calls-append f xs ys =
-    ap (λ l. of_tuple f (datagrams_of l)) (submitted-append xs ys)
-    ∙ ap (of_tuple f) (datagrams-append (submitted_in xs) (submitted_in ys))
+    ap (λ l. of_tuple f (datagrams_of l)) (flat_map-append submitted_of xs ys)
+    ∙ ap (of_tuple f) (flat_map-append datagram_of (submitted_in xs) (submitted_in ys))
     ∙ of_tuple-append f (datagrams_of (submitted_in xs)) (datagrams_of (submitted_in ys))
 
 pub none_submitted : {D H G : Type 0} (server : ServerState D H G) (steps : List (ServerCall D H G)) → AreAt Never server steps → submitted_in steps ≡ []
@@ -184,7 +174,7 @@ module _ {D H G : Type 0} {disk : disks.Ghosts D} {handler : handlers.Ghosts H} 
     served = in_row (once_served refused) (in_row (none flushed) (once_served taken));
     once =
         ap (λ r. submitted_by arrival r ++ submitted_in (flushed.steps ++ (Submit moment arrival second new ∷ []))) is
-        ∙ submitted-append flushed.steps (Submit moment arrival second new ∷ [])
+        ∙ flat_map-append submitted_of flushed.steps (Submit moment arrival second new ∷ [])
         ∙ ap (λ l. l ++ (submitted_by arrival second ++ [])) (none_submitted full flushed.steps flushed.moments)
         ∙ counted_once arrival second (has_room taken empty);
   }
@@ -233,7 +223,7 @@ module _ {D H G : Type 0} {disk : disks.Ghosts D} {handler : handlers.Ghosts H} 
         let second = after.received in
         omega arith;
     submitted =
-        let calls = ap length (submitted-append before.order.served.steps after.order.served.steps) in
+        let calls = ap length (flat_map-append submitted_of before.order.served.steps after.order.served.steps) in
         let both = length-append (submitted_in before.order.served.steps) (submitted_in after.order.served.steps) in
         let first = before.submitted in
         let second = after.submitted in

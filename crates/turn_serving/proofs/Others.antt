@@ -1,6 +1,6 @@
 -- Only requests of the methods that ask for credentials have an act.
 use Rattle.std.proofs.Common.{◌≡◌, ℕ, ◌==◌, ◌&&◌, ◌||◌, ◌⊎◌, inl, inr, Bool, true, false, not, Option, Some, None, List, ◌++◌, length, option_map, if◌then◌else◌, refl, sym, ap, ◌∙◌, subst}
-use Rattle.std.proofs.lemmas.Bool.{and_parts, both_ways, eqb-true}
+use Rattle.std.proofs.lemmas.Bool.{and_parts, eqb-true}
 use Rattle.std.proofs.lemmas.List.{append_assoc}
 use Rattle.std.specs.Int.{w16, w32, to_be_bytes}
 use Rattle.turn_history.specs.Table.{Contents, table}
@@ -65,11 +65,6 @@ begins_so bytes m spelled is =
     ap begins_as_request e ∙ of_class m.class m.method rest both.0 both.1
 
 -- ---- Which bytes may change the table
-
--- those that don't begin so don't
-pub other_start : (bytes : List ℕ) → begins_as_request bytes ≡ false → MayChange bytes → ⊥
-other_start bytes none may =
-    both_ways (begins_as_request bytes) none (begins_so bytes may.message may.encoded (and_parts (is_request may.message.class && is_protected may.message.method) _ may.asks).0)
 
 -- bytes that encode a message change it exactly if the message asks for it
 pub by_message : (bytes : List ℕ) (m : Content) (asks : Bool) → Spells bytes m → ((n : Content) → Spells bytes n → n ≡ m) → asks ≡ asks_for_change m → (asks ≡ true → MayChange bytes) × (MayChange bytes → asks ≡ true)

@@ -16,14 +16,13 @@ use Rattle.turn_step.specs.Answer.{Setting}
 use Rattle.turn_step.specs.State.{setting_of}
 use Rattle.turn_record.specs.declared.version.Version.{Version}
 use Rattle.turn_record.specs.declared.version.Version.TheVariants.{V1, V2}
-use Rattle.turn_store.specs.Areas.{AreAreas, AreaHolds, Form}
+use Rattle.turn_store.specs.Areas.{Form}
 use Rattle.turn_store.specs.Carrying.{Carries}
 use Rattle.turn_store.specs.Images.{EachImage}
 use Rattle.turn_store.specs.Refused.{WhyRefused}
 use Rattle.turn_store.specs.declared.error.OpenError.{OpenError}
 use Rattle.turn_store.specs.State.{StoreState}
 use Rattle.turn_store.proofs.Sound.{holds_once}
-use Rattle.turn_store.proofs.Superblocks.{superblock_once}
 use Rattle.turn_types.specs.Config.{Config}
 use Rattle.turn_types.specs.declared.limits.Bounds.{Bounds}
 use Rattle.turn_serving.specs.Starts.{BeginsRun, IfOfStore, IsKept, IsOfVersion, IsRefusedFor, KeepsImages, Started, is_first, of_bind}
@@ -95,14 +94,9 @@ one_version : (v w : Version) (content : List ℕ) → IsOfVersion v content →
 one_version v w content one two =
     let first = one.counts in
     let second = two.counts in
-    let same = (superblock_once two.size one.size two.bounds one.bounds content second.superblock first.superblock).0 in
-    (holds_once v w one.size first.start first.other one.generation second.start second.other two.generation first.snapshot second.snapshot first.payloads second.payloads content
-    (record { places = first.places; area = first.area; yields = first.yields })
-    (record {
-      places = subst (λ (size : ℕ). AreAreas size second.start second.other) same second.places;
-      area = subst (λ (size : ℕ). AreaHolds w second.start size two.generation second.snapshot second.payloads content) same second.area;
-      yields = second.yields;
-    })).0
+    (holds_once v w (record { bounds = one.bounds; area = one.size }) (record { bounds = two.bounds; area = two.size }) first.snapshot second.snapshot first.payloads second.payloads content
+    (record { start = first.start; other = first.other; generation = one.generation; active = first.active; yields = first.yields })
+    (record { start = second.start; other = second.other; generation = two.generation; active = second.active; yields = second.yields })).1
 
 -- a store that was opened without being carried over is of the version that counts
 pub version_read : {D : Type 0} (content : List ℕ) (store : StoreState D) → Carries false content store → IsOfVersion store.version content

@@ -1,5 +1,7 @@
 -- What sockets receive and send, in a row.
 use Rattle.std.proofs.Common.{arith, IsErrAnd, IsOk, Some, slice_get, zero, suc, ◌≡◌, inl, inr, ℕ, Bool, true, false, List, [], ◌∷◌, ◌++◌, Result, Ok, Err, Contains, refl, sym, ap, ◌∙◌, subst, append_assoc, append-nil}
+use Rattle.std.proofs.Permutation.{every_append}
+use Rattle.std.proofs.lemmas.Grind.{flat_map-append}
 use Rattle.turn_cred.specs.declared.handler.AuthHandler as handlers
 use Rattle.turn_disk.specs.declared.disk.Disk as disks
 use Rattle.turn_engine.specs.Calls.{Commits, Submits}
@@ -13,77 +15,22 @@ use Rattle.turn_sockets.specs.Backlog.{BacklogState, if_same, waiting_of}
 use Rattle.turn_sockets.specs.Moments.{IsMoment}
 use Rattle.turn_sockets.specs.Own.{come_from}
 use Rattle.turn_sockets.specs.Wire.{Passed, received}
-use Rattle.turn_sockets.specs.declared.own.OwnAddresses.{OwnAddresses}
 use Rattle.turn_step.specs.Outcome.{Arrives, Sent}
 use Rattle.turn_step.specs.Outcome.Arrives.{FromClient, FromPeer}
 use Rattle.turn_store.specs.declared.error.StoreError.{StoreError}
 use Rattle.turn_types.specs.declared.address.Endpoint.{Endpoint}
 use Rattle.turn_types.specs.declared.address.FiveTuple.{FiveTuple}
 use Rattle.turn_serving.specs.Serving.{ServingState, wire_of}
-use Rattle.turn_serving.specs.Turns.{At, Never, datagrams_of, of_tuple, submitted_by, submitted_in}
-use Rattle.turn_serving.specs.Wire.{Addresses, AreSent, Committed, Event, Flushes, IsPart, LostOfPeer, Moves, OfClient, OfPeer, OnWire, Passes, Relayed, RelaysOnWire, SendsEach, SendsOne, Submitted, SubmitsOnWire, calls_of, of_clients, of_peers, on_wire, passed_in, peer_at, peers_of}
-use Rattle.turn_serving.proofs.Order.{counted_once, has_room, kept_order, no_order, none_submitted, order_in_row, peer_order, pushed_order, submitted-append, submitted_order, told_order, waited_order}
+use Rattle.turn_serving.specs.Turns.{At, Never, datagrams_of, of_tuple, submitted_by, submitted_in, submitted_of}
+use Rattle.turn_serving.specs.Wire.{Addresses, AreSent, Committed, Event, Flushes, IsPart, LostOfPeer, Moves, OfClient, OfPeer, OnWire, Passes, Relayed, RelaysOnWire, Submitted, SubmitsOnWire, calls_of, of_clients, of_peers, on_wire, passed_in, peer_at, peers_of, IsSent, call_in, of_client, of_peer, passed_by, peer_of}
+use Rattle.turn_serving.proofs.Order.{counted_once, has_room, kept_order, no_order, none_submitted, order_in_row, peer_order, pushed_order, submitted_order, told_order, waited_order}
 use Rattle.turn_serving.proofs.Turns.{at_told, in_row, no_call, none}
 
 -- ---- Events in a row
 
-module _ {D H G : Type 0} where
-  pub calls-append : (xs ys : List (Event D H G)) → calls_of (xs ++ ys) ≡ calls_of xs ++ calls_of ys
-  calls-append [] ys = refl
-  calls-append (OfClient at from bytes ∷ xs) ys = calls-append xs ys
-  calls-append (OfPeer at from bytes ∷ xs) ys = calls-append xs ys
-  calls-append (LostOfPeer at from bytes ∷ xs) ys = calls-append xs ys
-  calls-append (Submitted moment a result new ∷ xs) ys = ap (λ l. Submit moment a result new ∷ l) (calls-append xs ys)
-  calls-append (Committed result new out ∷ xs) ys = ap (λ l. Commit result new ∷ l) (calls-append xs ys)
-  calls-append (Relayed a answer new out ∷ xs) ys = ap (λ l. Relay a answer new ∷ l) (calls-append xs ys)
-
-  pub passed-append : (xs ys : List (Event D H G)) → passed_in (xs ++ ys) ≡ passed_in xs ++ passed_in ys
-  passed-append [] ys = refl
-  passed-append (OfClient at from bytes ∷ xs) ys = ap (λ l. received at from bytes ∷ l) (passed-append xs ys)
-  passed-append (OfPeer at from bytes ∷ xs) ys = ap (λ l. received at from bytes ∷ l) (passed-append xs ys)
-  passed-append (LostOfPeer at from bytes ∷ xs) ys = ap (λ l. received at from bytes ∷ l) (passed-append xs ys)
-  passed-append (Submitted moment a result new ∷ xs) ys = passed-append xs ys
-  passed-append (Committed result new out ∷ xs) ys = ap (λ l. out ++ l) (passed-append xs ys) ∙ sym (append_assoc out (passed_in xs) (passed_in ys))
-  passed-append (Relayed a answer new out ∷ xs) ys = ap (λ l. out ++ l) (passed-append xs ys) ∙ sym (append_assoc out (passed_in xs) (passed_in ys))
-
-  pub clients-append : (xs ys : List (Event D H G)) → of_clients (xs ++ ys) ≡ of_clients xs ++ of_clients ys
-  clients-append [] ys = refl
-  clients-append (OfClient at from bytes ∷ xs) ys = ap (λ (l : List (FiveTuple × List ℕ)). (record { client = from; server = at }, bytes) ∷ l) (clients-append xs ys)
-  clients-append (OfPeer at from bytes ∷ xs) ys = clients-append xs ys
-  clients-append (LostOfPeer at from bytes ∷ xs) ys = clients-append xs ys
-  clients-append (Submitted moment a result new ∷ xs) ys = clients-append xs ys
-  clients-append (Committed result new out ∷ xs) ys = clients-append xs ys
-  clients-append (Relayed a answer new out ∷ xs) ys = clients-append xs ys
-
-  pub peers-append : (own : OwnAddresses) (xs ys : List (Event D H G)) → of_peers own (xs ++ ys) ≡ of_peers own xs ++ of_peers own ys
-  peers-append own [] ys = refl
-  peers-append own (OfClient at from bytes ∷ xs) ys = peers-append own xs ys
-  peers-append own (OfPeer at from bytes ∷ xs) ys =
-      let first = peer_at at.port (come_from own from) bytes in
-      ap (λ l. first ++ l) (peers-append own xs ys) ∙ sym (append_assoc first (of_peers own xs) (of_peers own ys))
-  peers-append own (LostOfPeer at from bytes ∷ xs) ys = peers-append own xs ys
-  peers-append own (Submitted moment a result new ∷ xs) ys = peers-append own xs ys
-  peers-append own (Committed result new out ∷ xs) ys = peers-append own xs ys
-  peers-append own (Relayed a answer new out ∷ xs) ys = peers-append own xs ys
-
-  pub sent-append : (has : G → ℕ → Bool) (here : Addresses) (xs ys : List (Event D H G)) → AreSent has here xs → AreSent has here ys → AreSent has here (xs ++ ys)
-  sent-append has here [] ys first second = second
-  sent-append has here (OfClient at from bytes ∷ xs) ys first second = (first.0, sent-append has here xs ys first.1 second)
-  sent-append has here (OfPeer at from bytes ∷ xs) ys first second = sent-append has here xs ys first second
-  sent-append has here (LostOfPeer at from bytes ∷ xs) ys first second = sent-append has here xs ys first second
-  sent-append has here (Submitted moment a result new ∷ xs) ys first second = sent-append has here xs ys first second
-  sent-append has here (Committed (Ok outs) new out ∷ xs) ys first second = (first.0, sent-append has here xs ys first.1 second)
-  sent-append has here (Committed (Err fault) new out ∷ xs) ys first second = (first.0, sent-append has here xs ys first.1 second)
-  sent-append has here (Relayed a answer new out ∷ xs) ys first second = (first.0, sent-append has here xs ys first.1 second)
-
-of_arrivals-append : (xs ys : List Arrives) → peers_of (xs ++ ys) ≡ peers_of xs ++ peers_of ys
-of_arrivals-append [] ys = refl
-of_arrivals-append (FromClient f bytes ∷ xs) ys = of_arrivals-append xs ys
-of_arrivals-append (FromPeer port from bytes id ∷ xs) ys = ap (λ l. peer_at port from bytes ++ l) (of_arrivals-append xs ys) ∙ sym (append_assoc (peer_at port from bytes) (peers_of xs) (peers_of ys))
-
 -- the peers of two rows of calls
 of_rows : {D H G : Type 0} (xs ys : List (ServerCall D H G)) → peers_of (submitted_in (xs ++ ys)) ≡ peers_of (submitted_in xs) ++ peers_of (submitted_in ys)
-of_rows xs ys = ap peers_of (submitted-append xs ys) ∙ of_arrivals-append (submitted_in xs) (submitted_in ys)
+of_rows xs ys = ap peers_of (flat_map-append submitted_of xs ys) ∙ flat_map-append peer_of (submitted_in xs) (submitted_in ys)
 
 part-longer : {X : Type 0} (xs first ys : List X) → IsPart xs ys → IsPart xs (first ++ ys)
 part-longer xs [] ys part = part
@@ -107,12 +54,6 @@ there_at [] place x is = absurd (cc)
 there_at (y ∷ ys) zero x is = let same : Some y ≡ Some x = is in (0, omega arith, (cc))
 there_at (y ∷ ys) (suc place) x is = let later = there_at ys place x is in (suc later.0, let inside = later.1 in omega arith, later.2)
 
--- ---- What is sent
-
--- what is sent of several: of the first, and of the rest
-pub sends_more : (here : Addresses) (has : ℕ → Bool) (o : Sent) (os : List Sent) (first rest : List Passed) → SendsOne here has o first → SendsEach here has os rest → SendsEach here has (o ∷ os) (first ++ rest)
-sends_more here has o os first rest one each = (first, rest, one, each, refl)
-
 -- ---- Calls in a row
 
 module _ {D H G : Type 0} {disk : disks.Ghosts D} {handler : handlers.Ghosts H} {ports : generators.Ghosts G} {has : G → ℕ → Bool} {here : Addresses} where
@@ -127,9 +68,9 @@ module _ {D H G : Type 0} {disk : disks.Ghosts D} {handler : handlers.Ghosts H} 
   moves_in_row {before = before} first second = record {
     events = first.events ++ second.events;
     served = in_row first.served second.served;
-    calls = ap (λ l. l ++ second.served.steps) first.calls ∙ ap (λ l. calls_of first.events ++ l) second.calls ∙ sym (calls-append first.events second.events);
-    passed = second.passed ∙ ap (λ l. l ++ passed_in second.events) first.passed ∙ append_assoc before (passed_in first.events) (passed_in second.events) ∙ ap (λ l. before ++ l) (sym (passed-append first.events second.events));
-    are_sent = sent-append has here first.events second.events first.are_sent second.are_sent;
+    calls = ap (λ l. l ++ second.served.steps) first.calls ∙ ap (λ l. calls_of first.events ++ l) second.calls ∙ sym (flat_map-append call_in first.events second.events);
+    passed = second.passed ∙ ap (λ l. l ++ passed_in second.events) first.passed ∙ append_assoc before (passed_in first.events) (passed_in second.events) ∙ ap (λ l. before ++ l) (sym (flat_map-append passed_by first.events second.events));
+    are_sent = every_append (IsSent has here) first.events second.events first.are_sent second.are_sent;
   }
 
   -- calls without a submit
@@ -160,7 +101,7 @@ module _ {D H G : Type 0} {disk : disks.Ghosts D} {handler : handlers.Ghosts H} 
     served = record { steps = Submit moment a result new ∷ []; serves = (call, tt); moments = (refl, tt); last = refl };
     calls = refl;
     passed = same ∙ sym (append-nil before);
-    are_sent = tt;
+    are_sent = (tt, tt);
   }
 
   -- an arrival that is submitted at once
@@ -191,12 +132,12 @@ module _ {D H G : Type 0} {disk : disks.Ghosts D} {handler : handlers.Ghosts H} 
       let last : Event D H G = Submitted moment a second new in record {
         moves = moves_in_row (submit_moves refused refl) (moves_in_row (moves_never flushed.moves) (submit_moves taken refl));
         nothing = record {
-          no_client = clients-append flushed.moves.events (last ∷ []) ∙ ap (λ l. l ++ []) flushed.nothing.no_client;
-          no_peer = λ own. peers-append own flushed.moves.events (last ∷ []) ∙ ap (λ l. l ++ []) (flushed.nothing.no_peer own);
+          no_client = flat_map-append of_client flushed.moves.events (last ∷ []) ∙ ap (λ l. l ++ []) flushed.nothing.no_client;
+          no_peer = λ own. flat_map-append (of_peer own) flushed.moves.events (last ∷ []) ∙ ap (λ l. l ++ []) (flushed.nothing.no_peer own);
         };
         once = λ d.
             ap (λ r. submitted_by a r ++ submitted_in (flushed.moves.served.steps ++ (Submit moment a second new ∷ []))) is
-            ∙ submitted-append flushed.moves.served.steps (Submit moment a second new ∷ [])
+            ∙ flat_map-append submitted_of flushed.moves.served.steps (Submit moment a second new ∷ [])
             ∙ ap (λ l. l ++ (submitted_by a second ++ [])) (none_submitted full flushed.moves.served.steps flushed.moves.served.moments)
             ∙ counted_once a second (has_room taken empty);
       }
@@ -236,15 +177,15 @@ module _ {D H G : Type 0} {disk : disks.Ghosts D} {handler : handlers.Ghosts H} 
             let a = first.clients ok in
             let b = second.clients d in (
               order_in_row a.0 b.0,
-              ap (λ l. l ++ b.0.served.steps) a.1 ∙ ap (λ l. calls_of before ++ l) b.1 ∙ sym (calls-append before after),
-              subst (IsPart (a.0.received ++ b.0.received)) (sym (clients-append before after)) (part-append a.0.received (of_clients before) b.0.received (of_clients after) a.2 b.2),
+              ap (λ l. l ++ b.0.served.steps) a.1 ∙ ap (λ l. calls_of before ++ l) b.1 ∙ sym (flat_map-append call_in before after),
+              subst (IsPart (a.0.received ++ b.0.received)) (sym (flat_map-append of_client before after)) (part-append a.0.received (of_clients before) b.0.received (of_clients after) a.2 b.2),
             );
         peers = λ d.
-            ap (λ l. peers_of (submitted_in l)) (calls-append before after)
+            ap (λ l. peers_of (submitted_in l)) (flat_map-append call_in before after)
             ∙ of_rows (calls_of before) (calls_of after)
             ∙ ap (λ l. l ++ peers_of (submitted_in (calls_of after))) (first.peers ok)
             ∙ ap (λ l. of_peers here.own before ++ l) (second.peers d)
-            ∙ sym (peers-append here.own before after);
+            ∙ sym (flat_map-append (of_peer here.own) before after);
       }
 
   -- what was not done to its end
@@ -310,7 +251,7 @@ module _ {D H G : Type 0} {disk : disks.Ghosts D} {handler : handlers.Ghosts H} 
       served = s.moves.served;
       calls = s.moves.calls;
       passed = s.moves.passed ∙ ap (λ l. l ++ passed_in s.moves.events) came ∙ append_assoc before (received at from bytes ∷ []) (passed_in s.moves.events);
-      are_sent = s.moves.are_sent;
+      are_sent = (tt, s.moves.are_sent);
     };
     clients = λ d. (peer_order b (record { served = s.moves.served; once = s.once d }), s.moves.calls, tt);
     peers = λ d.
@@ -371,7 +312,7 @@ module _ {D H G : Type 0} {disk : disks.Ghosts D} {handler : handlers.Ghosts H} 
       → Passes disk handler ports has here IsOne is_done (on_wire server b before) (on_wire server b after)
   unfolding no_order no_call
   lost_passes at from bytes server b came = record {
-    moves = record { events = LostOfPeer at from bytes ∷ []; served = no_call server; calls = refl; passed = came; are_sent = tt };
+    moves = record { events = LostOfPeer at from bytes ∷ []; served = no_call server; calls = refl; passed = came; are_sent = (tt, tt) };
     clients = λ d. (no_order server b, refl, tt);
     peers = λ d. refl;
   }

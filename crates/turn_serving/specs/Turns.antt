@@ -1,5 +1,5 @@
 -- What a turn does with the server.
-use Rattle.std.specs.Prelude.{◌≡◌, ◌≢◌, ◌⊎◌, ℕ, Bool, true, List, [], ◌∷◌, ◌++◌, Result, Ok, Err, filter, length, map, ◌≤◌}
+use Rattle.std.specs.Prelude.{◌≡◌, ◌≢◌, ◌⊎◌, ℕ, Bool, true, List, [], ◌∷◌, ◌++◌, Result, Ok, Err, filter, flat_map, length, map, ◌≤◌}
 use Rattle.turn_cred.specs.declared.handler.AuthHandler as handlers
 use Rattle.turn_disk.specs.declared.disk.Disk as disks
 use Rattle.turn_engine.specs.Runs.{Commit, Relay, Serves, ServerCall, Submit, last_of}
@@ -46,18 +46,24 @@ submitted_by arrival (Err Memory) = arrival ∷ []
 submitted_by arrival (Err BatchFull) = []
 submitted_by arrival (Err Stopped) = arrival ∷ []
 
--- the arrivals that were submitted by calls, in order; one that was answered beside what is staged counts as submitted
-abbrev pub submitted_in : {D H G : Type 0} → List (ServerCall D H G) → List Arrives
-submitted_in [] = []
-submitted_in (Submit moment arrival result after ∷ steps) = submitted_by arrival result ++ submitted_in steps
-submitted_in (Commit result after ∷ steps) = submitted_in steps
-submitted_in (Relay arrival sent after ∷ steps) = arrival ∷ submitted_in steps
+-- the arrival that a call submitted; one that was answered beside what is staged counts as submitted
+abbrev pub submitted_of : {D H G : Type 0} → ServerCall D H G → List Arrives
+submitted_of (Submit moment arrival result after) = submitted_by arrival result
+submitted_of (Commit result after) = []
+submitted_of (Relay arrival sent after) = arrival ∷ []
 
--- the datagrams of clients among arrivals, each with its five-tuple
+-- the arrivals that were submitted by calls, in order
+abbrev pub submitted_in : {D H G : Type 0} → List (ServerCall D H G) → List Arrives
+submitted_in steps = flat_map submitted_of steps
+
+-- the datagram of a client that arrived, with its five-tuple
+abbrev pub datagram_of : Arrives → List (FiveTuple × List ℕ)
+datagram_of (FromClient f bytes) = (f, bytes) ∷ []
+datagram_of (FromPeer port from bytes id) = []
+
+-- the datagrams of clients among arrivals
 abbrev pub datagrams_of : List Arrives → List (FiveTuple × List ℕ)
-datagrams_of [] = []
-datagrams_of (FromClient f bytes ∷ arrivals) = (f, bytes) ∷ datagrams_of arrivals
-datagrams_of (FromPeer port from bytes id ∷ arrivals) = datagrams_of arrivals
+datagrams_of arrivals = flat_map datagram_of arrivals
 
 -- those of one five-tuple
 abbrev pub of_tuple : FiveTuple → List (FiveTuple × List ℕ) → List (List ℕ)

@@ -1,5 +1,6 @@
 -- What the sockets of a server receive and send, beside the calls of the server.
-use Rattle.std.specs.Prelude.{◌≡◌, ◌≢◌, ◌⊎◌, ℕ, Bool, false, nat_eq, if◌then◌else◌, List, [], ◌∷◌, ◌++◌, Option, Result, Ok, Err, All, Contains}
+use Rattle.std.specs.Prelude.{◌≡◌, ◌≢◌, ◌⊎◌, ℕ, Bool, false, nat_eq, if◌then◌else◌, List, [], ◌∷◌, ◌++◌, Option, Result, Ok, Err, All, Contains, flat_map}
+use Rattle.std.specs.List.{AllByRecursion}
 use Rattle.std.specs.Option.{option_to_list}
 use Rattle.turn_cred.specs.Credential.{Keys}
 use Rattle.turn_cred.specs.declared.handler.AuthHandler as handlers
@@ -36,25 +37,31 @@ pub data Event (D H G : Type 0) : Type 0 where
   -- data that was answered beside what is staged, and what was sent then
   Relayed : (arrival : Arrives) (sent : Option Sent) (after : ServerState D H G) (out : List Passed) → Event D H G
 
+-- the call of the server in an event
+abbrev pub call_in : {D H G : Type 0} → Event D H G → List (ServerCall D H G)
+call_in (OfClient at from bytes) = []
+call_in (OfPeer at from bytes) = []
+call_in (LostOfPeer at from bytes) = []
+call_in (Submitted moment arrival result after) = Submit moment arrival result after ∷ []
+call_in (Committed result after out) = Commit result after ∷ []
+call_in (Relayed arrival answer after out) = Relay arrival answer after ∷ []
+
 -- the calls of the server among events
 abbrev pub calls_of : {D H G : Type 0} → List (Event D H G) → List (ServerCall D H G)
-calls_of [] = []
-calls_of (OfClient at from bytes ∷ events) = calls_of events
-calls_of (OfPeer at from bytes ∷ events) = calls_of events
-calls_of (LostOfPeer at from bytes ∷ events) = calls_of events
-calls_of (Submitted moment arrival result after ∷ events) = Submit moment arrival result after ∷ calls_of events
-calls_of (Committed result after out ∷ events) = Commit result after ∷ calls_of events
-calls_of (Relayed arrival answer after out ∷ events) = Relay arrival answer after ∷ calls_of events
+calls_of events = flat_map call_in events
+
+-- the datagrams that a socket received or sent in an event
+abbrev pub passed_by : {D H G : Type 0} → Event D H G → List Passed
+passed_by (OfClient at from bytes) = received at from bytes ∷ []
+passed_by (OfPeer at from bytes) = received at from bytes ∷ []
+passed_by (LostOfPeer at from bytes) = received at from bytes ∷ []
+passed_by (Submitted moment arrival result after) = []
+passed_by (Committed result after out) = out
+passed_by (Relayed arrival answer after out) = out
 
 -- the datagrams that sockets received and sent, in order
 abbrev pub passed_in : {D H G : Type 0} → List (Event D H G) → List Passed
-passed_in [] = []
-passed_in (OfClient at from bytes ∷ events) = received at from bytes ∷ passed_in events
-passed_in (OfPeer at from bytes ∷ events) = received at from bytes ∷ passed_in events
-passed_in (LostOfPeer at from bytes ∷ events) = received at from bytes ∷ passed_in events
-passed_in (Submitted moment arrival result after ∷ events) = passed_in events
-passed_in (Committed result after out ∷ events) = out ++ passed_in events
-passed_in (Relayed arrival answer after out ∷ events) = out ++ passed_in events
+passed_in events = flat_map passed_by events
 
 -- ---- What is sent
 
@@ -83,16 +90,19 @@ SendsEach here has [] out = out ≡ []
 SendsEach here has (o ∷ os) out =
     (first : List Passed) × (rest : List Passed) × SendsOne here has o first × SendsEach here has os rest × (out ≡ first ++ rest)
 
--- Clients' datagrams come by the listening sockets; what a call hands out is sent right after it, and nothing else is.
+-- A client's datagram comes by a listening socket; what a call hands out is sent right after it, and nothing else is.
+abbrev pub IsSent : {D H G : Type 0} → (G → ℕ → Bool) → Addresses → Event D H G → Type 0
+IsSent has here (OfClient at from bytes) = Contains here.sockets at
+IsSent has here (OfPeer at from bytes) = Unit {0}
+IsSent has here (LostOfPeer at from bytes) = Unit {0}
+IsSent has here (Submitted moment arrival result after) = Unit {0}
+IsSent has here (Committed (Ok outs) after out) = SendsEach here (has after.machine.ports) outs out
+IsSent has here (Committed (Err fault) after out) = out ≡ []
+IsSent has here (Relayed arrival answer after out) = SendsEach here (has after.machine.ports) (option_to_list answer) out
+
+-- so it is in each event
 abbrev pub AreSent : {D H G : Type 0} → (G → ℕ → Bool) → Addresses → List (Event D H G) → Type 0
-AreSent has here [] = Unit {0}
-AreSent has here (OfClient at from bytes ∷ events) = Contains here.sockets at × AreSent has here events
-AreSent has here (OfPeer at from bytes ∷ events) = AreSent has here events
-AreSent has here (LostOfPeer at from bytes ∷ events) = AreSent has here events
-AreSent has here (Submitted moment arrival result after ∷ events) = AreSent has here events
-AreSent has here (Committed (Ok outs) after out ∷ events) = SendsEach here (has after.machine.ports) outs out × AreSent has here events
-AreSent has here (Committed (Err fault) after out ∷ events) = (out ≡ []) × AreSent has here events
-AreSent has here (Relayed arrival answer after out ∷ events) = SendsEach here (has after.machine.ports) (option_to_list answer) out × AreSent has here events
+AreSent has here events = AllByRecursion (IsSent has here) events
 
 -- Calls of a server, as `Served` has them, and what its sockets received and sent meanwhile.
 pub record Moves {D H G : Type 0} (disk : disks.Ghosts D) (handler : handlers.Ghosts H) (ports : generators.Ghosts G) (has : G → ℕ → Bool) (here : Addresses) (IsOne : ℕ → ℕ → Type 0) (old new : ServerState D H G) (before after : List Passed) : Type 0 where
@@ -104,37 +114,46 @@ pub record Moves {D H G : Type 0} (disk : disks.Ghosts D) (handler : handlers.Gh
 
 -- ---- What is submitted
 
--- the datagrams of clients that were received, each with the five-tuple of its sender and of the socket that received it
+-- the datagram of a client that was received, with the five-tuple of its sender and of the socket that received it
+abbrev pub of_client : {D H G : Type 0} → Event D H G → List (FiveTuple × List ℕ)
+of_client (OfClient at from bytes) = (record { client = from; server = at }, bytes) ∷ []
+of_client (OfPeer at from bytes) = []
+of_client (LostOfPeer at from bytes) = []
+of_client (Submitted moment arrival result after) = []
+of_client (Committed result after out) = []
+of_client (Relayed arrival answer after out) = []
+
+-- the datagrams of clients that were received
 abbrev pub of_clients : {D H G : Type 0} → List (Event D H G) → List (FiveTuple × List ℕ)
-of_clients [] = []
-of_clients (OfClient at from bytes ∷ events) = (record { client = from; server = at }, bytes) ∷ of_clients events
-of_clients (OfPeer at from bytes ∷ events) = of_clients events
-of_clients (LostOfPeer at from bytes ∷ events) = of_clients events
-of_clients (Submitted moment arrival result after ∷ events) = of_clients events
-of_clients (Committed result after out ∷ events) = of_clients events
-of_clients (Relayed arrival answer after out ∷ events) = of_clients events
+of_clients events = flat_map of_client events
 
 -- A datagram of a peer: the port that it came to, who sent it, and the bytes. Port 0 is no port: by an arrival there a server brings its
 -- table to the moment.
 abbrev pub peer_at : ℕ → Endpoint → List ℕ → List (ℕ × (Endpoint × List ℕ))
 peer_at port from bytes = if nat_eq port 0 then [] else (port, (from, bytes)) ∷ []
 
--- the datagrams of peers that were received and not lost, each with the port of the socket that received it, and who sent it in the
--- addresses that clients are told
+-- the datagram of a peer that was received and not lost, with the port of the socket that received it, and who sent it in the addresses
+-- that clients are told
+abbrev pub of_peer : {D H G : Type 0} → OwnAddresses → Event D H G → List (ℕ × (Endpoint × List ℕ))
+of_peer own (OfClient at from bytes) = []
+of_peer own (OfPeer at from bytes) = peer_at at.port (come_from own from) bytes
+of_peer own (LostOfPeer at from bytes) = []
+of_peer own (Submitted moment arrival result after) = []
+of_peer own (Committed result after out) = []
+of_peer own (Relayed arrival answer after out) = []
+
+-- the datagrams of peers that were received and not lost
 abbrev pub of_peers : {D H G : Type 0} → OwnAddresses → List (Event D H G) → List (ℕ × (Endpoint × List ℕ))
-of_peers own [] = []
-of_peers own (OfClient at from bytes ∷ events) = of_peers own events
-of_peers own (OfPeer at from bytes ∷ events) = peer_at at.port (come_from own from) bytes ++ of_peers own events
-of_peers own (LostOfPeer at from bytes ∷ events) = of_peers own events
-of_peers own (Submitted moment arrival result after ∷ events) = of_peers own events
-of_peers own (Committed result after out ∷ events) = of_peers own events
-of_peers own (Relayed arrival answer after out ∷ events) = of_peers own events
+of_peers own events = flat_map (of_peer own) events
+
+-- the datagram of a peer that arrived
+abbrev pub peer_of : Arrives → List (ℕ × (Endpoint × List ℕ))
+peer_of (FromClient f bytes) = []
+peer_of (FromPeer port from bytes id) = peer_at port from bytes
 
 -- the datagrams of peers among arrivals
 abbrev pub peers_of : List Arrives → List (ℕ × (Endpoint × List ℕ))
-peers_of [] = []
-peers_of (FromClient f bytes ∷ arrivals) = peers_of arrivals
-peers_of (FromPeer port from bytes id ∷ arrivals) = peer_at port from bytes ++ peers_of arrivals
+peers_of arrivals = flat_map peer_of arrivals
 
 -- a list without some of its elements
 abbrev pub IsPart : {X : Type 0} → List X → List X → Type 0

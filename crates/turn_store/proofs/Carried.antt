@@ -1,5 +1,5 @@
 -- An opened store whose table is written as version 2 into the other area.
-use Rattle.std.proofs.Common.{◌≡◌, ℕ, ◌+◌, ◌≤◌, ◌<◌, ◌-◌, ◌^◌, ◌++◌, Bool, true, false, List, [], length, refl, sym, ap, ◌∙◌, subst, arith, append-nil, inl, inr}
+use Rattle.std.proofs.Common.{◌≡◌, ℕ, ◌+◌, ◌≤◌, ◌<◌, ◌-◌, ◌++◌, Bool, true, false, List, [], length, refl, sym, ap, ◌∙◌, subst, arith, append-nil, inl, inr}
 use Rattle.std.specs.Prelude.{◌⊎◌, Result, Ok, Err, IfOk, IfErr}
 use Rattle.turn_disk.proofs.Since.{since_join, since_weaken}
 use Rattle.turn_disk.specs.Disk.{State, Trace, EachImageSince, IsImage}
@@ -26,10 +26,9 @@ use Rattle.turn_store.specs.declared.error.OpenError.{OpenError}
 use Rattle.turn_store.specs.declared.error.OpenError.TheVariants.{Device, Memory, NotAStore, LimitsDiffer, Damaged}
 use Rattle.turn_types.specs.declared.limits.Bounds.{Bounds}
 use Rattle.turn_store.proofs.Appends.{alone_stages, rest_stages, snapshot_done, snapshot_stages}
-use Rattle.turn_store.proofs.NeverRefused.{has_superblock}
+use Rattle.turn_store.proofs.Sound.{holds_once}
 use Rattle.turn_store.proofs.Spelling.{clock_late}
 use Rattle.turn_store.proofs.Staged.{stages_all_at}
-use Rattle.turn_store.proofs.Superblocks.{superblock_once}
 use Rattle.turn_types.specs.Profile.{end_of_moments}
 
 module _ {D : Type 0} (form : Form) (h : History) (c : ℕ) (store : StoreState D) (state : State) (t : Snapshot) (o : OpensTo form h c store state t) where
@@ -128,29 +127,16 @@ pub is_active_as : {D : Type 0} (store : StoreState D) (state : State) (t : Snap
     → IsActiveAs store.area.size store.bounds store.version store.generation store.frames content
 is_active_as store state t content is same =
     let recovers = is.shows.recovers in
-    let whole = recovers.holds.whole in
-    let fits = recovers.holds.is_form.addressable in
-    subst (IsActiveAs store.area.size store.bounds store.version store.generation store.frames) same (record {
-      room = recovers.holds.is_form.room;
-      addressable = fits;
-      whole = whole;
-      superblock = record { long = omega arith; addressable = omega arith; in_range = recovers.holds.is_form.in_range; stands = recovers.holds.front };
-      start = store.area.start;
-      other = store.other;
-      places = recovers.holds.places;
-      snapshot = is.snapshot;
-      payloads = is.payloads;
-      area = recovers.holds.area;
-      yields = recovers.yields;
-      count = is.shows.frames;
-    })
+    subst (IsActiveAs store.area.size store.bounds store.version store.generation store.frames) same
+    (record { start = store.area.start; other = store.other; snapshot = is.snapshot; payloads = is.payloads; active = recovers.holds.active; yields = recovers.yields; count = is.shows.frames })
 
 -- the limits that were read are those of what the content stands for
 pub same_bounds : {D : Type 0} (store : StoreState D) (state : State) (t : Snapshot) (form : Form) (h : History) (clock : ℕ) (limits : Bounds) (content : List ℕ) → IsOpened store state t → state.bytes ≡ content
     → store.bounds ≡ limits → StandsForAt form h clock content → form.bounds ≡ limits
 same_bounds store state t form h clock limits content is same bounds stands =
     let read = is_active_as store state t content is same in
-    sym (superblock_once store.area.size form.area store.bounds form.bounds content read.superblock (has_superblock form h clock content stands)).1 ∙ bounds
+    let holds : Holds store.version (form_of store) read.snapshot read.payloads content = record { start = read.start; other = read.other; generation = store.generation; active = read.active; yields = read.yields } in
+    sym (ap (λ (f : Form). f.bounds) (holds_once store.version stands.version (form_of store) form read.snapshot stands.snapshot read.payloads stands.payloads content holds stands.holds).0) ∙ bounds
 
 pub kept_carries : {D : Type 0} (carry : Bool) (content : List ℕ) (store : StoreState D) → IsActiveAs store.area.size store.bounds store.version store.generation store.frames content
     → (IsCarried carry store.area.size store.bounds store.version store.generation → ⊥) → Carries carry content store

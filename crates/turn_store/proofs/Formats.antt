@@ -113,19 +113,21 @@ formatted v form laid named new is_form room is_laid names opens =
     record {
       holds = record {
         settled = opens.settled;
-        is_form = is_form;
-        front = λ i below. opens.content.before (0 + i) (omega (arith, below, long)) ∙ names.written i below;
-        whole = opens.content.size ∙ names.content.size ∙ is_laid.whole;
-        places = inl (refl, refl);
-        area = record {
-          in_range = omega arith;
-          short = omega (arith, fresh_long);
-          is_open = opens.written 0 (omega arith);
-          front = λ i below. later (65 + i) (omega arith) ∙ front i below;
-          frames = (
-            omega (arith, fresh_long, room),
-            closed_at (64 + 14 + length (fresh v)) new.bytes (later (64 + 14 + length (fresh v)) (omega arith) ∙ ap (λ (i : ℕ). slice_index laid.bytes i) last ∙ gate),
-          );
+        active = record {
+          is_form = is_form;
+          front = λ i below. opens.content.before (0 + i) (omega (arith, below, long)) ∙ names.written i below;
+          whole = opens.content.size ∙ names.content.size ∙ is_laid.whole;
+          places = inl (refl, refl);
+          area = record {
+            in_range = omega arith;
+            short = omega (arith, fresh_long);
+            is_open = opens.written 0 (omega arith);
+            front = λ i below. later (65 + i) (omega arith) ∙ front i below;
+            frames = (
+              omega (arith, fresh_long, room),
+              closed_at (64 + 14 + length (fresh v)) new.bytes (later (64 + 14 + length (fresh v)) (omega arith) ∙ ap (λ (i : ℕ). slice_index laid.bytes i) last ∙ gate),
+            );
+          };
         };
       };
       closed = λ is_open. is_laid.closed (sym (later (64 + form.area) (omega (arith, room))) ∙ is_open);
@@ -157,16 +159,6 @@ stands_for_nothing v form state is image left = record {
   version = v;
   snapshot = fresh v;
   payloads = [];
-  holds = subst (Holds v form (fresh v) []) (sym (image_settled state is.holds.settled image left)) (record {
-    is_form = is.holds.is_form;
-    front = is.holds.front;
-    whole = is.holds.whole;
-    start = 64;
-    other = 64 + form.area;
-    places = is.holds.places;
-    generation = 1;
-    area = is.holds.area;
-    yields = inl is.closed;
-  });
+  holds = subst (Holds v form (fresh v) []) (sym (image_settled state is.holds.settled image left)) (record { start = 64; other = 64 + form.area; generation = 1; active = is.holds.active; yields = inl is.closed });
   spells = nothing_spells v form.bounds;
 }

@@ -22,7 +22,7 @@ use Rattle.turn_store.specs.declared.error.OpenError.TheVariants.{Device, Memory
 use Rattle.turn_store.specs.declared.heads.Head.{Head}
 use Rattle.turn_store.proofs.Replayed.{at, same_at, batches_replay, no_break}
 use Rattle.turn_store.proofs.Fronts.{front_is, front_short, spelled_once}
-use Rattle.turn_store.proofs.Sound.{version_once, Counts, counts_is, front_size, none_no, none_turned, beats_no}
+use Rattle.turn_store.proofs.Sound.{version_once, Counts, counts_is, front_size, none_no, none_turned, beats_no, superblock_in}
 use Rattle.turn_store.proofs.Sizes.{smallest}
 use Rattle.turn_store.proofs.Spelling.{of_spelled, are_batches}
 use Rattle.turn_store.proofs.Superblocks.{superblock_once}
@@ -87,10 +87,7 @@ module _ (v : Version) (b : Bounds) (range : AreInRange b) (h : History) (clock_
 
 module _ (form : Form) (h : History) (clock_is : ℕ) (c : List ℕ) (stands : StandsForAt form h clock_is c) where
   pub has_superblock : HasSuperblock form.area form.bounds c
-  has_superblock =
-      let whole = stands.holds.whole in
-      let fits = stands.holds.is_form.addressable in
-      record { long = omega arith; addressable = omega arith; in_range = stands.holds.is_form.in_range; stands = stands.holds.front }
+  has_superblock = superblock_in stands.version form stands.holds.start stands.holds.other stands.holds.generation stands.snapshot stands.payloads c stands.holds.active
 
   -- it is refused for want of the device or of memory alone
   pub why_plain : (fault : OpenError) → WhyRefused form.bounds c fault → IsPlain fault
@@ -103,9 +100,9 @@ module _ (form : Form) (h : History) (clock_is : ℕ) (c : List ℕ) (stands : S
       let same : why.0 ≡ form.area = (superblock_once why.0 form.area form.bounds form.bounds c why.1 has_superblock).0 in
       ⊎_elim
       (λ (size : (place ≡ 8) × ((why.0 < least_area V1 form.bounds) ⊎ (length c ≢ 64 + 2 * why.0))).
-      ⊎_elim (λ (low : why.0 < least_area V1 form.bounds). absurd (omega (arith, low, same, holds.is_form.room, smallest stands.version form.bounds))) (λ (wrong : length c ≢ 64 + 2 * why.0). absurd (wrong (holds.whole ∙ ap (λ (n : ℕ). 64 + 2 * n) (sym same)))) size.1)
+      ⊎_elim (λ (low : why.0 < least_area V1 form.bounds). absurd (omega (arith, low, same, holds.active.is_form.room, smallest stands.version form.bounds))) (λ (wrong : length c ≢ 64 + 2 * why.0). absurd (wrong (holds.active.whole ∙ ap (λ (n : ℕ). 64 + 2 * n) (sym same)))) size.1)
       (λ (bad : (least_area V1 form.bounds ≤ why.0) × (length c ≡ 64 + 2 * why.0) × StoreIsBad form.bounds why.0 c place).
-      store_no stands.version form.bounds holds.is_form.in_range h clock_is stands.snapshot stands.payloads stands.spells form.area holds.start holds.other holds.generation c place holds.places holds.is_form.room holds.area holds.yields
+      store_no stands.version form.bounds holds.active.is_form.in_range h clock_is stands.snapshot stands.payloads stands.spells form.area holds.start holds.other holds.generation c place holds.active.places holds.active.is_form.room holds.active.area holds.yields
       (subst (λ (n : ℕ). StoreIsBad form.bounds n c place) same bad.2))
       why.2
 

@@ -14,12 +14,9 @@ use Rattle.turn_store.specs.Images.{StandsForAt}
 use Rattle.turn_store.specs.Replay.{Snapshot}
 use Rattle.turn_store.specs.Spells.{Spells, all_of}
 use Rattle.turn_store.proofs.Fronts.{front_is, spelled_once}
-use Rattle.turn_store.proofs.NeverRefused.{has_superblock}
-use Rattle.turn_store.proofs.Opens.{form_is}
 use Rattle.turn_store.proofs.Replayed.{at}
-use Rattle.turn_store.proofs.Sound.{HoldsHere, holds_once}
+use Rattle.turn_store.proofs.Sound.{holds_once}
 use Rattle.turn_store.proofs.Spelling.{are_batches, of_spelled}
-use Rattle.turn_store.proofs.Superblocks.{superblock_once}
 use Rattle.turn_types.specs.Limits.{AreInRange}
 use Rattle.turn_types.specs.declared.limits.Bounds.{Bounds}
 
@@ -70,16 +67,10 @@ one_table v b range g h c d s ps one two =
 pub image_once : (first second : Form) (g h : History) (c d : ℕ) (image : List ℕ) → StandsForAt first g c image → StandsForAt second h d image
     → (first ≡ second) × (c ≡ d) × ((t : ℕ) → c ≤ t → table g t ≡ table h t)
 image_once first second g h c d image one two =
-    let blocks = superblock_once first.area second.area first.bounds second.bounds image (has_superblock first g c image one) (has_superblock second h d image two) in
-    let a = one.holds in
-    let b = two.holds in
-    let here : HoldsHere one.version first.area a.start a.other a.generation one.snapshot one.payloads image = record { places = a.places; area = a.area; yields = a.yields } in
-    let there : HoldsHere two.version second.area b.start b.other b.generation two.snapshot two.payloads image = record { places = b.places; area = b.area; yields = b.yields } in
-    let once = holds_once one.version two.version first.area a.start a.other a.generation b.start b.other b.generation one.snapshot two.snapshot one.payloads two.payloads image here
-    (subst (λ (n : ℕ). HoldsHere two.version n b.start b.other b.generation two.snapshot two.payloads image) (sym blocks.0) there) in
-    let bounds_there = subst (λ (x : Bounds). Spells two.version x h d two.snapshot two.payloads) (sym blocks.1) two.spells in
-    let version_there = subst (λ (v : Version). Spells v first.bounds h d two.snapshot two.payloads) (sym once.0) bounds_there in
-    let snapshot_there = subst (λ (s : List ℕ). Spells one.version first.bounds h d s two.payloads) (sym once.1) version_there in
-    let spells = subst (λ (ps : List (List ℕ)). Spells one.version first.bounds h d one.snapshot ps) (sym once.2) snapshot_there in
-    let tables = one_table one.version first.bounds a.is_form.in_range g h c d one.snapshot one.payloads one.spells spells in
-    (form_is first.bounds second.bounds first.area second.area blocks.1 blocks.0, tables.0, tables.1)
+    let once = holds_once one.version two.version first second one.snapshot two.snapshot one.payloads two.payloads image one.holds two.holds in
+    let bounds_there = subst (λ (x : Form). Spells two.version x.bounds h d two.snapshot two.payloads) (sym once.0) two.spells in
+    let version_there = subst (λ (v : Version). Spells v first.bounds h d two.snapshot two.payloads) (sym once.1) bounds_there in
+    let snapshot_there = subst (λ (s : List ℕ). Spells one.version first.bounds h d s two.payloads) (sym once.2) version_there in
+    let spells = subst (λ (ps : List (List ℕ)). Spells one.version first.bounds h d one.snapshot ps) (sym once.3) snapshot_there in
+    let tables = one_table one.version first.bounds one.holds.active.is_form.in_range g h c d one.snapshot one.payloads one.spells spells in
+    (once.0, tables.0, tables.1)

@@ -28,7 +28,7 @@ first_byte area b = refl
 -- zeros stand where the superblock would
 pub no_superblock : (image : List ℕ) → slice_index image 0 ≡ 0 → HoldsNothing image
 no_superblock image is v form s ps holds =
-    let there = holds.front 0 (omega (arith, length-superblock form.area form.bounds)) ∙ first_byte form.area form.bounds in
+    let there = holds.active.front 0 (omega (arith, length-superblock form.area form.bounds)) ∙ first_byte form.area form.bounds in
     absurd (omega (arith, is, there))
 
 pub wiped_nothing : (count : ℕ) (bytes image : List ℕ) → slice_index bytes 0 ≡ 0 → ChangesOnly 64 count bytes image → HoldsNothing image
@@ -41,9 +41,9 @@ closed_both size start other image (inr places) first second opened = second (ap
 -- both gates are closed
 pub both_closed : (size : ℕ) (image : List ℕ) → length image ≡ 64 + 2 * size → IsClosed 64 image → IsClosed (64 + size) image → HoldsNothing image
 both_closed size image whole first second v form s ps holds =
-    let its = holds.whole in
+    let its = holds.active.whole in
     let same : form.area ≡ size = omega (arith, its, whole) in
-    closed_both size holds.start holds.other image (subst (λ (n : ℕ). AreAreas n holds.start holds.other) same holds.places) first second holds.area.is_open
+    closed_both size holds.start holds.other image (subst (λ (n : ℕ). AreAreas n holds.start holds.other) same holds.active.places) first second holds.active.area.is_open
 
 -- the bytes of the first area
 pub length-laid : (v : Version) → length (0 ∷ (area_front v 1 (fresh v) ++ 0 ∷ [])) ≤ 31

@@ -8,7 +8,7 @@ use Rattle.turn_journal.specs.Frames.{IsOpen, IsClosed, last_gate, HoldsFrames, 
 use Rattle.turn_journal.specs.Layout.{open_gate}
 use Rattle.turn_journal.proofs.Growing.{stands_keeps, stands_front, frames_keep, last_gate_above, last_is_closed}
 use Rattle.turn_record.specs.declared.version.Version.{Version}
-use Rattle.turn_store.specs.Areas.{Form, IsForm, version_byte, area_front, AreaHolds, IsBelow, Yields, AreAreas, Holds, HoldsAt, RecoversToParts}
+use Rattle.turn_store.specs.Areas.{Form, version_byte, area_front, AreaHolds, IsBelow, Yields, AreAreas, Holds, HoldsAt, HoldsIn, RecoversToParts}
 use Rattle.turn_store.specs.Superblock.{superblock, least_area}
 use Rattle.turn_store.proofs.Numbers.{stands_back, one_stands}
 use Rattle.turn_store.proofs.Superblocks.{length-superblock}
@@ -85,32 +85,37 @@ module _ (v : Version) (form : Form) (start other generation : ℕ) (snapshot : 
   above = last_gate_above first payloads
 
   below_end : last_gate first payloads < start + size
-  below_end = last_gate_below first payloads (start + size) state.bytes holds.area.frames
+  below_end = last_gate_below first payloads (start + size) state.bytes holds.active.area.frames
 
   long_enough : 14 < size
   long_enough = omega (arith, above, below_end)
 
-  -- bytes of the other area alone have changed, and it doesn't count
+  -- the superblock stays where bytes after it alone have changed
+  front_kept : (from count : ℕ) (image : List ℕ) → ChangesOnly from count state.bytes image → 64 ≤ from → StandsAt 0 sb image
+  front_kept from count image changes after =
+      let long = length-superblock form.area form.bounds in
+      stands_keeps 0 sb state.bytes image holds.active.front (λ i l h. changes.before i (omega (arith, long, after)))
+
+  -- bytes of the other area alone have changed
+  kept : (from count : ℕ) (image : List ℕ) → ChangesOnly from count state.bytes image → other ≤ from → from + count ≤ other + size → HoldsIn v form start other generation snapshot payloads image
+  kept from count image changes low high =
+      let after = after_superblock size start other holds.active.places in
+      record {
+        is_form = holds.active.is_form;
+        front = front_kept from count image changes (omega (arith, after.1));
+        whole = changes.size ∙ holds.active.whole;
+        places = holds.active.places;
+        area = area_keeps v start size generation snapshot payloads state.bytes image holds.active.area (apart size start other from count state.bytes image holds.active.places changes low high);
+      }
+
+  -- the same, where the other area yields
   other_changes : (from count : ℕ) (image : List ℕ) → ChangesOnly from count state.bytes image → other ≤ from → from + count ≤ other + size → Yields other generation image → Holds v form snapshot payloads image
   other_changes from count image changes low high yields =
-      let after = after_superblock size start other holds.places in
-      let long = length-superblock form.area form.bounds in
-      record {
-        is_form = holds.is_form;
-        front = stands_keeps 0 sb state.bytes image holds.front (λ i l h. changes.before i (omega (arith, long, after.1)));
-        whole = changes.size ∙ holds.whole;
-        start = start;
-        other = other;
-        places = holds.places;
-        generation = generation;
-        area = area_keeps v start size generation snapshot payloads state.bytes image holds.area (apart size start other from count state.bytes image holds.places changes low high);
-        yields = yields;
-      }
+      record { start = start; other = other; generation = generation; active = kept from count image changes low high; yields = yields }
 
   -- no call
   pub row_none : (image : List ℕ) → image ≡ state.bytes → Yields other generation state.bytes → Holds v form snapshot payloads image
-  row_none image same yields = subst (Holds v form snapshot payloads) (sym same)
-      (other_changes other 0 state.bytes (record { size = refl; before = λ i l. refl; after = λ i l. refl }) (omega arith) (omega arith) yields)
+  row_none image same yields = subst (Holds v form snapshot payloads) (sym same) (record { start = start; other = other; generation = generation; active = holds.active; yields = yields })
 
   -- close: the gate may be torn open, where the generation is below
   pub row_close : (image : List ℕ) → ChangesOnly other 1 state.bytes image → IsBelow other generation state.bytes → Holds v form snapshot payloads image
@@ -123,20 +128,6 @@ module _ (v : Version) (form : Form) (start other generation : ℕ) (snapshot : 
   row_fill count image changes fits closed =
       other_changes (other + 1) count image changes (omega arith) (omega arith) (inl (λ opened. closed (sym (changes.before other (omega arith)) ∙ opened)))
 
-  -- the same area after a change in the other one
-  holds_on : (from count : ℕ) (new : State) → ChangesOnly from count state.bytes new.bytes → other ≤ from → from + count ≤ other + size → IsSettled new → HoldsAt v form start other generation snapshot payloads new
-  holds_on from count new changes low high settled =
-      let after = after_superblock size start other holds.places in
-      let long = length-superblock form.area form.bounds in
-      record {
-        settled = settled;
-        is_form = holds.is_form;
-        front = stands_keeps 0 sb state.bytes new.bytes holds.front (λ i l h. changes.before i (omega (arith, long, after.1)));
-        whole = changes.size ∙ holds.whole;
-        places = holds.places;
-        area = area_keeps v start size generation snapshot payloads state.bytes new.bytes holds.area (apart size start other from count state.bytes new.bytes holds.places changes low high);
-      }
-
   -- bytes from the area's last gate on have changed alone
   module _ (end from count : ℕ) (image : List ℕ) (ends : last_gate (start + 14 + length snapshot) payloads ≡ start + end) (low : start + end ≤ from) (fits : from + count ≤ start + size) (changes : ChangesOnly from count state.bytes image) (now : List (List ℕ)) (frames : HoldsFrames (start + 14 + length snapshot) now (start + size) image) where
     area_with : AreaHolds v start size generation snapshot now image
@@ -144,35 +135,36 @@ module _ (v : Version) (form : Form) (start other generation : ℕ) (snapshot : 
         let ab = above in
         let long = length-area_front v generation snapshot in
         record {
-          in_range = holds.area.in_range;
-          short = holds.area.short;
-          is_open = changes.before start (omega (arith, ends)) ∙ holds.area.is_open;
-          front = stands_keeps (start + 1) (area_front v generation snapshot) state.bytes image holds.area.front (λ i l h. changes.before i (omega (arith, ends)));
+          in_range = holds.active.area.in_range;
+          short = holds.active.area.short;
+          is_open = changes.before start (omega (arith, ends)) ∙ holds.active.area.is_open;
+          front = stands_keeps (start + 1) (area_front v generation snapshot) state.bytes image holds.active.area.front (λ i l h. changes.before i (omega (arith, ends)));
           frames = frames;
         }
 
-    front_with : StandsAt 0 sb image
-    front_with =
-        let ab = above in
-        let after = after_superblock size start other holds.places in
-        let long = length-superblock form.area form.bounds in
-        stands_keeps 0 sb state.bytes image holds.front (λ i l h. changes.before i (omega (arith, long, after.0, ends)))
-
     other_same : (i : ℕ) → other ≤ i → i < other + size → slice_index image i ≡ slice_index state.bytes i
-    other_same = apart size other start from count state.bytes image (swapped size start other holds.places) changes (omega arith) fits
+    other_same = apart size other start from count state.bytes image (swapped size start other holds.active.places) changes (omega arith) fits
+
+    active_with : HoldsIn v form start other generation snapshot now image
+    active_with =
+        let ab = above in
+        let after = after_superblock size start other holds.active.places in
+        record {
+          is_form = holds.active.is_form;
+          front = front_kept from count image changes (omega (arith, after.0, ends));
+          whole = changes.size ∙ holds.active.whole;
+          places = holds.active.places;
+          area = area_with;
+        }
 
     holds_with : Yields other generation state.bytes → Holds v form snapshot now image
     holds_with yields =
         let enough = long_enough in
         record {
-          is_form = holds.is_form;
-          front = front_with;
-          whole = changes.size ∙ holds.whole;
           start = start;
           other = other;
-          places = holds.places;
           generation = generation;
-          area = area_with;
+          active = active_with;
           yields = yields_keeps other generation state.bytes image yields (λ i l h. other_same i l (omega arith));
         }
 
@@ -203,11 +195,7 @@ module _ (v : Version) (form : Form) (start other generation : ℕ) (snapshot : 
         record {
           holds = record {
             settled = settled;
-            is_form = holds.is_form;
-            front = front_with end (start + end) (6 + length payload) new.bytes recovers.ends (omega arith) (omega arith) is.others more is.frames.frames;
-            whole = is.others.size ∙ holds.whole;
-            places = holds.places;
-            area = area_with end (start + end) (6 + length payload) new.bytes recovers.ends (omega arith) (omega arith) is.others more is.frames.frames;
+            active = active_with end (start + end) (6 + length payload) new.bytes recovers.ends (omega arith) (omega arith) is.others more is.frames.frames;
           };
           ends = is.frames.ends ∙ omega arith;
           below = (
@@ -240,7 +228,7 @@ module _ (v : Version) (form : Form) (start other generation : ℕ) (snapshot : 
     }
 
     old_same : (i : ℕ) → start ≤ i → i < start + size → slice_index image i ≡ slice_index state.bytes i
-    old_same = let enough = long_enough in apart size start other other 1 state.bytes image holds.places changes (omega arith) (omega arith)
+    old_same = let enough = long_enough in apart size start other other 1 state.bytes image holds.active.places changes (omega arith) (omega arith)
 
     old_below : IsBelow start (generation + 1) image
     old_below =
@@ -248,36 +236,25 @@ module _ (v : Version) (form : Form) (start other generation : ℕ) (snapshot : 
         record {
           lower = generation;
           less = omega arith;
-          stands = stands_keeps (start + 2) (to_be_bytes w64 generation) state.bytes image (front_generation v start generation snapshot state.bytes holds.area.front) (λ i low high. old_same i (omega arith) (omega arith));
+          stands = stands_keeps (start + 2) (to_be_bytes w64 generation) state.bytes image (front_generation v start generation snapshot state.bytes holds.active.area.front) (λ i low high. old_same i (omega arith) (omega arith));
         }
 
-    front_same : StandsAt 0 sb image
-    front_same =
-        let after = after_superblock size start other holds.places in
-        let long = length-superblock form.area form.bounds in
-        stands_keeps 0 sb state.bytes image holds.front (λ i l h. changes.before i (omega (arith, long, after.1)))
-
-    next_form : IsForm w form
-    next_form = record { in_range = holds.is_form.in_range; room = next_room; addressable = holds.is_form.addressable }
-
-    next_image : IsOpen other image → Holds w form next [] image
-    next_image is_open = record {
-      is_form = next_form;
-      front = front_same;
-      whole = changes.size ∙ holds.whole;
-      start = other;
-      other = start;
-      places = swapped size start other holds.places;
-      generation = generation + 1;
-      area = next_holds is_open;
-      yields = inr old_below;
-    }
+    next_active : IsOpen other image → HoldsIn w form other start (generation + 1) next [] image
+    next_active is_open =
+        let after = after_superblock size start other holds.active.places in
+        record {
+          is_form = record { in_range = holds.active.is_form.in_range; room = next_room; addressable = holds.active.is_form.addressable };
+          front = front_kept other 1 image changes after.1;
+          whole = changes.size ∙ holds.active.whole;
+          places = swapped size start other holds.active.places;
+          area = next_holds is_open;
+        }
 
     pub row_switch : Holds v form snapshot payloads image ⊎ Holds w form next [] image
     row_switch =
         let enough = long_enough in
         elim (cases_eq (slice_index image other) open_gate) [
-          | inl is_open ↦ inr (next_image is_open)
+          | inl is_open ↦ inr (record { start = other; other = start; generation = generation + 1; active = next_active is_open; yields = inr old_below })
           | inr closed ↦ inl (other_changes other 1 image changes (omega arith) (omega arith) (inl closed))
         ]
 
@@ -288,14 +265,7 @@ module _ (v : Version) (form : Form) (start other generation : ℕ) (snapshot : 
       let is_open : IsOpen other new.bytes = one_stands other 165 new.bytes wrote.written in
       let below = old_below w next_room next next_fits next_short room new.bytes wrote.content filled in
       record {
-        holds = record {
-          settled = wrote.settled;
-          is_form = next_form w next_room next next_fits next_short room new.bytes wrote.content filled;
-          front = front_same w next_room next next_fits next_short room new.bytes wrote.content filled;
-          whole = wrote.content.size ∙ holds.whole;
-          places = swapped size start other holds.places;
-          area = next_holds w next_room next next_fits next_short room new.bytes wrote.content filled is_open;
-        };
+        holds = record { settled = wrote.settled; active = next_active w next_room next next_fits next_short room new.bytes wrote.content filled is_open };
         ends = omega arith;
         below = ((λ b. below), (λ b. refl));
         yields = inr below;
@@ -306,13 +276,13 @@ module _ (v : Version) (form : Form) (start other generation : ℕ) (snapshot : 
   closed_after new wrote =
       let enough = long_enough in
       let closed = one_stands other 0 new.bytes wrote.written in
-      (holds_on other 1 new wrote.content (omega arith) (omega arith) wrote.settled, λ is_open. absurd (omega (arith, sym closed ∙ is_open)))
+      (record { settled = wrote.settled; active = kept other 1 new.bytes wrote.content (omega arith) (omega arith) }, λ is_open. absurd (omega (arith, sym closed ∙ is_open)))
 
   -- the area after the closed gate is filled
   pub filled_after : (front : List ℕ) (new : State) → length front < size → IsClosed other state.bytes → WritesThrough (other + 1) front state new
       → HoldsAt v form start other generation snapshot payloads new × IsClosed other new.bytes × StandsAt (other + 1) front new.bytes
   filled_after front new fits closed wrote =
-      (holds_on (other + 1) (length front) new wrote.content (omega arith) (omega arith) wrote.settled, (λ is_open. closed (sym (wrote.content.before other (omega arith)) ∙ is_open)), wrote.written)
+      (record { settled = wrote.settled; active = kept (other + 1) (length front) new.bytes wrote.content (omega arith) (omega arith) }, (λ is_open. closed (sym (wrote.content.before other (omega arith)) ∙ is_open)), wrote.written)
 
 -- where the generation isn't below, the gate is closed
 pub closed_there : (v : Version) (form : Form) (start other generation end : ℕ) (is_below : Bool) (snapshot : List ℕ) (payloads : List (List ℕ)) (state : State) → RecoversToParts v form start other generation end is_below snapshot payloads state
@@ -328,4 +298,4 @@ recovers_image v form start other generation end is_below snapshot payloads stat
 
 pub recovers_frames : (v : Version) (form : Form) (start other generation end : ℕ) (is_below : Bool) (snapshot : List ℕ) (payloads : List (List ℕ)) (state : State) → RecoversToParts v form start other generation end is_below snapshot payloads state
     → HoldsFramesTo (start + 14 + length snapshot) payloads (start + end) (start + form.area) state.bytes
-recovers_frames v form start other generation end is_below snapshot payloads state recovers = record { frames = recovers.holds.area.frames; ends = recovers.ends }
+recovers_frames v form start other generation end is_below snapshot payloads state recovers = record { frames = recovers.holds.active.area.frames; ends = recovers.ends }

@@ -1,5 +1,5 @@
 -- A store that stands for a history is not refused, and what is read of it is that history's table.
-use Rattle.std.proofs.Common.{◌≡◌, ◌⊎◌, inl, inr, ⊎_elim, ℕ, ◌+◌, ◌^◌, ◌<◌, Bool, List, [], ◌∷◌, ◌++◌, true, false, length, slice_index, refl, sym, ◌∙◌, subst, arith}
+use Rattle.std.proofs.Common.{◌≡◌, ◌⊎◌, inl, inr, ⊎_elim, ℕ, ◌+◌, ◌^◌, ◌<◌, Bool, List, [], ◌∷◌, ◌++◌, true, false, length, slice_index, refl, sym, ap, ◌∙◌, subst, arith}
 use Rattle.std.specs.Int.{to_be_bytes, w32, w64}
 use Rattle.turn_disk.specs.Disk.{StandsAt}
 use Rattle.turn_journal.specs.Frames.{HoldsFrames}
@@ -7,11 +7,14 @@ use Rattle.turn_journal.proofs.Growing.{stands_front}
 use Rattle.turn_journal.proofs.Once.{frames_once, list_once}
 use Rattle.turn_record.specs.declared.version.Version.{Version}
 use Rattle.turn_record.specs.declared.version.Version.TheVariants.{V1, V2}
-use Rattle.turn_store.specs.Areas.{version_byte, area_front, AreAreas, AreaHolds, Yields}
+use Rattle.turn_store.specs.Areas.{Form, version_byte, area_front, AreAreas, AreaHolds, Holds, HoldsIn, Yields}
+use Rattle.turn_store.specs.Superblock.{HasSuperblock}
 use Rattle.turn_store.specs.Head.{IsHead, Beats, NoneIsActive}
 use Rattle.turn_store.specs.declared.heads.Head.{Head}
 use Rattle.turn_store.proofs.Numbers.{stands_back, one_stands, number_once_4, number_once_8}
 use Rattle.turn_store.proofs.Rows.{front_generation}
+use Rattle.turn_store.proofs.Superblocks.{superblock_once}
+use Rattle.turn_types.specs.declared.limits.Bounds.{Bounds}
 
 -- each version has a byte of its own
 pub version_once : (v w : Version) → version_byte v ≡ version_byte w → v ≡ w
@@ -65,21 +68,41 @@ places_once size a b x y (inl p) (inr q) = inr (p.0 ∙ sym q.1, p.1 ∙ sym q.0
 places_once size a b x y (inr p) (inl q) = inr (p.0 ∙ sym q.1, p.1 ∙ sym q.0)
 places_once size a b x y (inr p) (inr q) = inl (p.0 ∙ sym q.0, p.1 ∙ sym q.1)
 
--- what an image holds, apart from the form
-pub record HoldsHere (v : Version) (size start other generation : ℕ) (snapshot : List ℕ) (payloads : List (List ℕ)) (image : List ℕ) : Type 0 where
-  pub places : AreAreas size start other
-  pub area : AreaHolds v start size generation snapshot payloads image
-  pub yields : Yields other generation image
-
-pub holds_once : (v w : Version) (size a b g x y h : ℕ) (s t : List ℕ) (ps qs : List (List ℕ)) (c : List ℕ) → HoldsHere v size a b g s ps c → HoldsHere w size x y h t qs c → (v ≡ w) × (s ≡ t) × (ps ≡ qs)
-holds_once v w size a b g x y h s t ps qs c first second =
+areas_once : (v w : Version) (size a b g x y h : ℕ) (s t : List ℕ) (ps qs : List (List ℕ)) (c : List ℕ) → AreAreas size a b → AreaHolds v a size g s ps c → Yields b g c
+    → AreAreas size x y → AreaHolds w x size h t qs c → Yields y h c → (v ≡ w) × (s ≡ t) × (ps ≡ qs)
+areas_once v w size a b g x y h s t ps qs c places first yields other_places second other_yields =
     ⊎_elim
-    (λ (same : (a ≡ x) × (b ≡ y)). let one = area_once v w x size g h s t ps qs c (subst (λ (at : ℕ). AreaHolds v at size g s ps c) same.0 first.area) second.area in (one.0, one.2, one.3))
+    (λ (same : (a ≡ x) × (b ≡ y)). let one = area_once v w x size g h s t ps qs c (subst (λ (at : ℕ). AreaHolds v at size g s ps c) same.0 first) second in (one.0, one.2, one.3))
     (λ (crossed : (a ≡ y) × (b ≡ x)).
-    let one = below_it w x size g h t qs c first.area.in_range second.area (subst (λ (at : ℕ). Yields at g c) crossed.1 first.yields) in
-    let two = below_it v a size h g s ps c second.area.in_range first.area (subst (λ (at : ℕ). Yields at h c) (sym crossed.0) second.yields) in
+    let one = below_it w x size g h t qs c first.in_range second (subst (λ (at : ℕ). Yields at g c) crossed.1 yields) in
+    let two = below_it v a size h g s ps c second.in_range first (subst (λ (at : ℕ). Yields at h c) (sym crossed.0) other_yields) in
     absurd (omega (arith, one, two)))
-    (places_once size a b x y first.places second.places)
+    (places_once size a b x y places other_places)
+
+-- the superblock before an area that holds something
+pub superblock_in : (v : Version) (form : Form) (start other generation : ℕ) (snapshot : List ℕ) (payloads : List (List ℕ)) (c : List ℕ) → HoldsIn v form start other generation snapshot payloads c
+    → HasSuperblock form.area form.bounds c
+superblock_in v form start other generation snapshot payloads c holds =
+    let whole = holds.whole in
+    let fits = holds.is_form.addressable in
+    record { long = omega arith; addressable = omega arith; in_range = holds.is_form.in_range; stands = holds.front }
+
+abbrev form_by : Bounds → ℕ → Form
+form_by b n = record { bounds = b; area = n }
+
+form_is : (b d : Bounds) (m n : ℕ) → b ≡ d → m ≡ n → form_by b m ≡ form_by d n
+form_is b d m n one two = ap (λ (x : Bounds). form_by x m) one ∙ ap (λ (k : ℕ). form_by d k) two
+
+-- an image is of one form and version, and holds one snapshot and the same payloads
+pub holds_once : (v w : Version) (f g : Form) (s t : List ℕ) (ps qs : List (List ℕ)) (c : List ℕ) → Holds v f s ps c → Holds w g t qs c → (f ≡ g) × (v ≡ w) × (s ≡ t) × (ps ≡ qs)
+holds_once v w f g s t ps qs c one two =
+    let a = one.active in
+    let b = two.active in
+    let blocks = superblock_once f.area g.area f.bounds g.bounds c (superblock_in v f one.start one.other one.generation s ps c a) (superblock_in w g two.start two.other two.generation t qs c b) in
+    let there = subst (λ (n : ℕ). AreAreas n two.start two.other) (sym blocks.0) b.places in
+    let second = subst (λ (n : ℕ). AreaHolds w two.start n two.generation t qs c) (sym blocks.0) b.area in
+    let same = areas_once v w f.area one.start one.other one.generation two.start two.other two.generation s t ps qs c a.places a.area one.yields there second two.yields in
+    (form_is f.bounds g.bounds f.area g.area blocks.1 blocks.0, same.0, same.1, same.2)
 
 -- ---- Heads
 

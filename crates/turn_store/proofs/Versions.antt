@@ -1,5 +1,5 @@
 -- Which version an image is of.
-use Rattle.std.proofs.Common.{Bool, ◌≡◌, ◌⊎◌, inl, inr, ⊎_elim, ℕ, List, refl, sym, ◌∙◌, subst, arith}
+use Rattle.std.proofs.Common.{Bool, ◌≡◌, ◌⊎◌, inl, inr, ⊎_elim, ℕ, List, refl, sym, ◌∙◌, subst}
 use Rattle.turn_disk.specs.Disk.{State, Trace, EachImageSince, IsImage}
 use Rattle.turn_disk.proofs.Since.{since_join, since_same, since_weaken}
 use Rattle.turn_record.specs.declared.version.Version.{Version}
@@ -9,12 +9,9 @@ use Rattle.turn_store.specs.Carrying.{Carries}
 use Rattle.turn_store.specs.Images.{IsInVersion, IsInVersionOr2}
 use Rattle.turn_store.specs.Stages.{InStagesAt}
 use Rattle.turn_store.specs.State.{Shows, StoreState, form_of}
-use Rattle.turn_store.specs.Superblock.{HasSuperblock}
-use Rattle.turn_store.proofs.Opens.{form_is}
 use Rattle.turn_store.proofs.Rows.{recovers_image}
-use Rattle.turn_store.proofs.Sound.{HoldsHere, holds_once}
+use Rattle.turn_store.proofs.Sound.{holds_once}
 use Rattle.turn_store.proofs.Staged.{stages_all_at}
-use Rattle.turn_store.proofs.Superblocks.{superblock_once}
 
 in_version : (v : Version) (form : Form) (s : List ℕ) (ps : List (List ℕ)) (image : List ℕ) → Holds v form s ps image → IsInVersion v form image
 in_version v form s ps image holds = record { snapshot = s; payloads = ps; holds = holds }
@@ -48,22 +45,10 @@ stages_over v form gate since now s t ps qs stages =
     (λ image either. ⊎_elim (λ holds. inl (in_version v form s ps image holds)) (λ holds. inr (in_version V2 form t qs image holds)) either)
     (stages_all_at gate since now (Holds v form s ps) (λ (image : List ℕ). Holds v form s ps image ⊎ Holds V2 form t qs image) (λ image holds. inl holds) stages)
 
-superblock_of : (v : Version) (form : Form) (image : List ℕ) → IsInVersion v form image → HasSuperblock form.area form.bounds image
-superblock_of v form image is =
-    let holds = is.holds in
-    let whole = holds.whole in
-    let fits = holds.is_form.addressable in
-    record { long = omega arith; addressable = omega arith; in_range = holds.is_form.in_range; stands = holds.front }
-
-here_of : (v : Version) (form : Form) (image : List ℕ) (is : IsInVersion v form image) → HoldsHere v form.area is.holds.start is.holds.other is.holds.generation is.snapshot is.payloads image
-here_of v form image is = record { places = is.holds.places; area = is.holds.area; yields = is.holds.yields }
-
 pub version_once : (v w : Version) (first second : Form) (image : List ℕ) → IsInVersion v first image → IsInVersion w second image → (v ≡ w) × (first ≡ second)
 version_once v w first second image one two =
-    let blocks = superblock_once first.area second.area first.bounds second.bounds image (superblock_of v first image one) (superblock_of w second image two) in
-    let there = subst (λ (n : ℕ). HoldsHere w n two.holds.start two.holds.other two.holds.generation two.snapshot two.payloads image) (sym blocks.0) (here_of w second image two) in
-    let once = holds_once v w first.area one.holds.start one.holds.other one.holds.generation two.holds.start two.holds.other two.holds.generation one.snapshot two.snapshot one.payloads two.payloads image (here_of v first image one) there in
-    (once.0, form_is first.bounds second.bounds first.area second.area blocks.1 blocks.0)
+    let once = holds_once v w first second one.snapshot two.snapshot one.payloads two.payloads image one.holds two.holds in
+    (once.1, once.0)
 
 -- what counts in a content is of its version
 pub counts_in : {D : Type 0} (carry : Bool) (content : List ℕ) (store : StoreState D) (carries : Carries carry content store) → IsInVersion carries.version (record { bounds = store.bounds; area = store.area.size }) content
@@ -72,17 +57,7 @@ counts_in carry content store carries =
     record {
       snapshot = counts.snapshot;
       payloads = counts.payloads;
-      holds = record {
-        is_form = record { in_range = counts.superblock.in_range; room = counts.room; addressable = counts.addressable };
-        front = counts.superblock.stands;
-        whole = counts.whole;
-        start = counts.start;
-        other = counts.other;
-        places = counts.places;
-        generation = carries.generation;
-        area = counts.area;
-        yields = counts.yields;
-      };
+      holds = record { start = counts.start; other = counts.other; generation = carries.generation; active = counts.active; yields = counts.yields };
     }
 
 pub stays_second : {D : Type 0} (carry : Bool) (content : List ℕ) (store : StoreState D) (form : Form) → IsInVersion V2 form content → Carries carry content store → store.version ≡ V2

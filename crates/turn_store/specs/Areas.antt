@@ -57,31 +57,31 @@ pub record IsBelow (start generation : ℕ) (content : List ℕ) : Type 0 where
 abbrev pub Yields : ℕ → ℕ → List ℕ → Type 0
 Yields start generation content = IsClosed start content ⊎ IsBelow start generation content
 
--- The area at start is active: it holds this snapshot and these payloads in this version, and the other area, which may hold anything
--- in either version, yields.
-pub record Holds (v : Version) (form : Form) (snapshot : List ℕ) (payloads : List (List ℕ)) (image : List ℕ) : Type 0 where
+-- After the superblock of this form, the area at start holds this snapshot and these payloads in this version. The other area may
+-- hold anything in either version.
+pub record HoldsIn (v : Version) (form : Form) (start other generation : ℕ) (snapshot : List ℕ) (payloads : List (List ℕ)) (content : List ℕ) : Type 0 where
   pub is_form : IsForm v form
-  pub front : StandsAt 0 (superblock form.area form.bounds) image
-  -- the image has no other bytes
-  pub whole : length image ≡ store_size form.area
+  pub front : StandsAt 0 (superblock form.area form.bounds) content
+  -- the content has no other bytes
+  pub whole : length content ≡ store_size form.area
+  pub places : AreAreas form.area start other
+  pub area : AreaHolds v start form.area generation snapshot payloads content
+
+-- An area is active: it holds this snapshot and these payloads in this version, and the other area yields.
+pub record Holds (v : Version) (form : Form) (snapshot : List ℕ) (payloads : List (List ℕ)) (image : List ℕ) : Type 0 where
   -- where the active area begins
   pub start : ℕ
   -- where the other one begins
   pub other : ℕ
-  pub places : AreAreas form.area start other
   pub generation : ℕ
-  pub area : AreaHolds v start form.area generation snapshot payloads image
+  pub active : HoldsIn v form start other generation snapshot payloads image
   -- the other area isn't active
   pub yields : Yields other generation image
 
 -- Nothing is pending, and the area at start holds this snapshot and these payloads.
 pub record HoldsAt (v : Version) (form : Form) (start other generation : ℕ) (snapshot : List ℕ) (payloads : List (List ℕ)) (state : State) : Type 0 where
   pub settled : IsSettled state
-  pub is_form : IsForm v form
-  pub front : StandsAt 0 (superblock form.area form.bounds) state.bytes
-  pub whole : length state.bytes ≡ store_size form.area
-  pub places : AreAreas form.area start other
-  pub area : AreaHolds v start form.area generation snapshot payloads state.bytes
+  pub active : HoldsIn v form start other generation snapshot payloads state.bytes
 
 -- The area is active too, its log ends at this gate, counted from the area's first byte, and is_below says whether the other
 -- area's generation is below.

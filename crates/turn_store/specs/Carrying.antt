@@ -2,24 +2,18 @@
 use Rattle.std.specs.Prelude.{◌≡◌, ◌≤◌, ◌<◌, ◌^◌, ◌-◌, ◌+◌, ℕ, Bool, true, List, length}
 use Rattle.turn_record.specs.declared.version.Version.{Version}
 use Rattle.turn_record.specs.declared.version.Version.TheVariants.{V1, V2}
-use Rattle.turn_store.specs.Areas.{AreaHolds, AreAreas, Yields}
-use Rattle.turn_store.specs.Layout.{store_size}
+use Rattle.turn_store.specs.Areas.{HoldsIn, Yields}
 use Rattle.turn_store.specs.State.{StoreState}
-use Rattle.turn_store.specs.Superblock.{HasSuperblock, least_area}
+use Rattle.turn_store.specs.Superblock.{least_area}
 use Rattle.turn_types.specs.declared.limits.Bounds.{Bounds}
 
 -- an area of a store with areas of this size is active, and of this version and generation, with so many frames
 pub record IsActiveAs (size : ℕ) (b : Bounds) (v : Version) (generation frames : ℕ) (content : List ℕ) : Type 0 where
-  pub superblock : HasSuperblock size b content
-  pub room : least_area v b ≤ size
-  pub addressable : store_size size < 2 ^ 64
-  pub whole : length content ≡ store_size size
   pub start : ℕ
   pub other : ℕ
-  pub places : AreAreas size start other
   pub snapshot : List ℕ
   pub payloads : List (List ℕ)
-  pub area : AreaHolds v start size generation snapshot payloads content
+  pub active : HoldsIn v (record { bounds = b; area = size }) start other generation snapshot payloads content
   pub yields : Yields other generation content
   pub count : frames ≡ length payloads
 
