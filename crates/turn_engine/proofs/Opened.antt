@@ -1,9 +1,8 @@
 -- What an opening yields.
 use Rattle.std.proofs.Common.{◌≡◌, ◌≤◌, ◌⊎◌, ⊎_elim, ℕ, Bool, List, [], ◌∷◌, length, take, drop, Result, Ok, Err, refl, sym, ap, ◌∙◌, subst, arith}
-use Rattle.std.specs.Prelude.{IfOk, IfErr, IsErrAnd}
+use Rattle.std.specs.Prelude.{IfOk}
 use Rattle.std.proofs.Math.ListN.{drop_of_length-le}
 use Rattle.std.specs.List.{AllByRecursion}
-use Rattle.turn_disk.specs.Device.{Uses}
 use Rattle.turn_disk.specs.Disk.{State, Trace, IsImage, EachImageSince}
 use Rattle.turn_disk.specs.declared.disk.Disk as disks
 use Rattle.turn_disk.proofs.Device.{uses_as}
@@ -19,14 +18,21 @@ use Rattle.turn_record.specs.declared.version.Version.TheVariants.{V2}
 use Rattle.turn_store.specs.Areas.{Form}
 use Rattle.turn_store.specs.Images.{EachImage, IsInVersion, IsInVersionOr2, StandsBy, StandsForAt}
 use Rattle.turn_store.specs.Opened.{OpensTo}
+use Rattle.turn_store.specs.Opening as stores
+use Rattle.turn_store.specs.Opening.{disk_of}
+use Rattle.turn_store.specs.Refused.{IsPlain}
 use Rattle.turn_store.specs.Replay.{Snapshot}
 use Rattle.turn_store.specs.State.{RecoversToAt}
 use Rattle.turn_store.specs.Tables.{snapshot_of}
-use Rattle.turn_store.specs.declared.error.OpenError.TheVariants.{Device}
+use Rattle.turn_store.specs.declared.error.OpenError.TheVariants.{Memory}
+use Rattle.turn_store.specs.declared.store.Opened.{Opened}
+use Rattle.turn_store.specs.declared.store.StoreOpenError.{StoreOpenError}
 use Rattle.turn_store.proofs.Spelling.{clock_late}
+use Rattle.turn_store.proofs.Versions.{stays_second}
 use Rattle.turn_table.specs.State as tables_state
+use Rattle.turn_types.specs.Config.{Config}
 use Rattle.turn_types.specs.declared.limits.Bounds.{Bounds}
-use Rattle.turn_engine.specs.Calls.{disk_after}
+use Rattle.turn_engine.specs.Calls.{Opening}
 use Rattle.turn_engine.specs.Images.{AtLeast}
 use Rattle.turn_engine.specs.Recovering.{Opens, RecoversTo, tuples_of}
 use Rattle.turn_engine.specs.State.{IsSound, ServerState, has_pairs, limits_of, now_of}
@@ -51,24 +57,6 @@ fresh_sound b limits store batch v staged acts pairs table read same is store_is
 pub of_made : {X E : Type 0} (x : X) (P : X → Type 0) (r : Result X E) → IfOk r (λ y. y ≡ x) → P x → IfOk r P
 of_made x P (Ok y) is p = subst P (sym is) p
 of_made x P (Err e) is p = tt
-
-pub of_refused : {X E : Type 0} (e : E) (P : E → Type 0) (r : Result X E) → IfErr r (λ f. f ≡ e) → P e → IfErr r P
-of_refused e P (Ok x) is p = tt
-of_refused e P (Err f) is p = subst P (sym is) p
-
--- what holds of the disk of a server, which a refusal returns too, holds of the disk after an opening
-pub after_over : {D H G : Type 0} (P : D → Type 0) (server : ServerState D H G) (refused : ServerOpenError D H G) (r : Result (ServerState D H G) (ServerOpenError D H G))
-    → IfOk r (λ s. s ≡ server) → IfErr r (λ e. e ≡ refused) → refused.disk ≡ server.store.disk → P server.store.disk → P (disk_after r)
-after_over P server refused (Ok s) is not same p = subst (λ v. P v.store.disk) (sym is) p
-after_over P server refused (Err e) not is same p = subst (λ v. P v.disk) (sym is) (subst P (sym same) p)
-
--- an opening that returns a server, or refuses it for another reason than the device, uses the disk as the opening of the store did
-pub uses_over : {D H G : Type 0} (disk : disks.Ghosts D) (old : D) (server : ServerState D H G) (refused : ServerOpenError D H G) (r : Result (ServerState D H G) (ServerOpenError D H G))
-    → IfOk r (λ s. s ≡ server) → IfErr r (λ e. e ≡ refused) → refused.disk ≡ server.store.disk → (refused.fault ≡ Device → ⊥)
-    → Uses disk old server.store.disk ⊥ → Uses disk old (disk_after r) (IsErrAnd r (λ e. e.fault ≡ Device))
-uses_over disk old server refused (Ok s) is not same other uses = subst (λ v. Uses disk old v.store.disk ⊥) (sym is) uses
-uses_over disk old server refused (Err e) not is same other uses =
-    uses_as (λ device. other (sym (ap (λ v. v.fault) is) ∙ device)) (λ never. absurd never) (subst (λ v. Uses disk old v.disk ⊥) (sym is) (subst (λ d. Uses disk old d ⊥) (sym same) uses))
 
 -- the content is an image
 pub image_self : (state : State) → IsImage state state.bytes
@@ -135,3 +123,91 @@ module _ {D H G : Type 0} (form : Form) (h : History) (k m : ℕ) (content : Lis
         stands = subst (λ (c : ℕ). StandsForAt form first c content) (sym moment) at.stands.stands;
         bounded = omega arith;
       }
+
+-- ---- What an opening of a store is as that of a server
+
+module _ {D A : Type 0} (disk : disks.Ghosts D) (old : D) (limits : Bounds) (carry : Bool) (result : Result (Opened D A) (StoreOpenError D))
+    (is : stores.Opening disk old limits carry result) where
+  pub stop_of : disk.follows_crash_model (disk_of result) → (form : Form) (h : History) (k m : ℕ) → EachImage (disk.trace old).now (AtLeast form h k m)
+      → EachImageSince (disk.trace old) (disk.trace (disk_of result)) (AtLeast form h k m)
+  stop_of crash_model form h k m images =
+      let at = images _ (image_self (disk.trace old).now) in
+      since_opened _ _ form h k m _ images at (is.stop crash_model form (take at.count h) at.stands.clock at.stands.stands)
+
+  pub stop_version_of : disk.follows_crash_model (disk_of result) → (form : Form) → EachImage (disk.trace old).now (IsInVersion V2 form)
+      → EachImageSince (disk.trace old) (disk.trace (disk_of result)) (IsInVersion V2 form)
+  stop_version_of crash_model form images = since_second _ _ form images (is.version crash_model V2 form (images _ (image_self (disk.trace old).now)))
+
+pub sound_of : {D A : Type 0} (disk : disks.Ghosts D) (old : D) (limits : Bounds) (carry : Bool) (r : StoreOpenError D) → stores.Opening {A = A} disk old limits carry (Err r)
+    → disk.follows_crash_model r.disk → (form : Form) (h : History) (k m : ℕ) → form.bounds ≡ limits → EachImage (disk.trace old).now (AtLeast form h k m) → IsPlain r.fault
+sound_of disk old limits carry r is crash_model form h k m bounds images =
+    let at = images _ (image_self (disk.trace old).now) in
+    is.sound crash_model form (take at.count h) at.stands.clock bounds at.stands.stands
+
+module _ {D H G A : Type 0} (disk : disks.Ghosts D) (old : D) (config : Config) (handler : H) (ports : G) (carry : Bool) where
+  -- one that was refused
+  pub refused : (r : StoreOpenError D) → stores.Opening {A = A} disk old config.limits carry (Err r)
+      → Opening disk old config handler ports (Err (record { fault = r.fault; disk = r.disk; handler = handler; ports = ports }))
+  refused r is = record {
+    machine = tt;
+    pairs = tt;
+    nothing = tt;
+    runs = tt;
+    returned = (refl, refl);
+    uses = is.uses;
+    opened = tt;
+    why = is.why;
+    recovers = tt;
+    sound = sound_of disk old config.limits carry r is;
+    stop = stop_of disk old config.limits carry (Err r) is;
+    version = tt;
+    stop_version = stop_version_of disk old config.limits carry (Err r) is;
+  }
+
+  module _ (opened : Opened D A) (is : stores.Opening disk old config.limits carry (Ok opened)) where
+    -- one after which there was no memory for the server
+    pub spent : (r : ServerOpenError D H G) → r ≡ record { fault = Memory; disk = opened.store.disk; handler = handler; ports = ports } → Opening disk old config handler ports (Err r)
+    spent r same = subst (λ x. Opening disk old config handler ports (Err x)) (sym same) (record {
+      machine = tt;
+      pairs = tt;
+      nothing = tt;
+      runs = tt;
+      returned = (refl, refl);
+      uses = uses_as (λ e. cc) (λ never. absurd never) is.uses;
+      opened = tt;
+      why = λ crash_model. tt;
+      recovers = tt;
+      sound = λ crash_model form h k m bounds images. tt;
+      stop = stop_of disk old config.limits carry (Ok opened) is;
+      version = tt;
+      stop_version = stop_version_of disk old config.limits carry (Ok opened) is;
+    })
+
+    -- one that a server was made of
+    pub made : (server : ServerState D H G) → server ≡ record {
+      store = opened.store;
+      machine = record { config = config; handler = handler; ports = ports; table = opened.table; pairs = has_pairs opened.store.version };
+      payload = 0 ∷ [];
+      acts = 0;
+      tuples = [];
+      outs = [];
+      arrivals = 0;
+      since = opened.table.moment;
+    } → Opening disk old config handler ports (Ok server)
+    made server same = subst (λ s. Opening disk old config handler ports (Ok s)) (sym same) (record {
+      machine = refl;
+      pairs = refl;
+      nothing = refl;
+      runs = is.runs;
+      returned = tt;
+      uses = is.uses;
+      opened = is.opened;
+      why = tt;
+      recovers = λ crash_model form h k m bounds images.
+          let at = images _ (image_self (disk.trace old).now) in
+          opens form h k m _ _ _ at (is.recovers crash_model form (take at.count h) at.stands.clock bounds at.stands.stands) bounds refl refl refl (omega arith);
+      sound = tt;
+      stop = stop_of disk old config.limits carry (Ok opened) is;
+      version = λ crash_model form images. stays_second carry _ opened.store form (images _ (image_self (disk.trace old).now)) (is.carried crash_model);
+      stop_version = stop_version_of disk old config.limits carry (Ok opened) is;
+    })

@@ -1,6 +1,6 @@
 //! The server.
 
-ghost use Rattle.std.specs.Prelude.{◌≡◌, ◌≢◌, ◌+◌, ◌-◌, ◌^◌, ◌≤◌, ◌<◌, ◌↔◌, ◌++◌, ℕ, [], ◌∷◌, Ok, Err, Some, None, IsOk, IfOk, IfErr, IfSome, IfNone, OnOk, OnErr, true, false, length, map, take, drop, option_map, vec_len, vec_capacity, List};
+ghost use Rattle.std.specs.Prelude.{◌≡◌, ◌≢◌, ◌+◌, ◌-◌, ◌^◌, ◌≤◌, ◌<◌, ◌↔◌, ◌++◌, ℕ, Bool, [], ◌∷◌, Ok, Err, Some, None, IsOk, IfOk, IfErr, IfSome, IfNone, OnOk, OnErr, true, false, length, map, take, drop, option_map, vec_len, vec_capacity, List};
 ghost use Rattle.std.specs.Option.{option_to_list};
 ghost use Rattle.std.specs.Result.{result_map_both};
 ghost use Rattle.turn_disk.specs.Device.{Uses};
@@ -18,6 +18,7 @@ ghost use Rattle.turn_store.specs.Areas.{Form};
 ghost use Rattle.turn_store.specs.Carrying.{Carries};
 ghost use Rattle.turn_store.specs.Images.{EachImage, EitherBy, StandsBy};
 ghost use Rattle.turn_store.specs.Opened.{IsOpened};
+ghost use Rattle.turn_store.specs.Opening as stores;
 ghost use Rattle.turn_store.specs.Refused.{IsPlain, WhyRefused};
 ghost use Rattle.turn_store.specs.Stages.{InStages};
 ghost use Rattle.turn_store.specs.State.{form_of};
@@ -150,8 +151,9 @@ fn first_moment(arrivals: u16, since: Moment, moment: Moment) -> Moment
 }
 
 impl<D: Disk, H: AuthHandler, G: RelayAddressGenerator, A: Allocator + Copy> Server<D, H, G, A> {
-    // A server over a store that was opened, with nothing staged.
-    fn over(
+    /// A server over a store that was opened, with nothing staged. It reserves ports exactly where the store is of version 2. A refusal, for
+    /// memory, returns the disk, the handler and the generator.
+    pub fn over(
         alloc: A,
         opened: Opened<D, A>,
         config: ServerConfig<A>,
@@ -171,6 +173,12 @@ impl<D: Disk, H: AuthHandler, G: RelayAddressGenerator, A: Allocator + Copy> Ser
           since = opened.table.moment;
         }) }
         ensures err { IfErr result (λ r. r ≡ record { fault = OpenError.Memory; disk = opened.store.disk; handler = handler; ports = ports }) }
+
+        ensures disk { disk_after result ≡ opened.store.disk }
+
+        // It comes of a disk as the opening of the store did.
+        ensures call { (old : D) (carry : Bool) → stores.Opening D.Disk old config.limits carry (Ok opened)
+            → Opening D.Disk old config handler ports result }
     {
         let Opened { store, table } = opened;
         let version = store.info().version;
@@ -202,9 +210,8 @@ impl<D: Disk, H: AuthHandler, G: RelayAddressGenerator, A: Allocator + Copy> Ser
         }
     }
 
-    /// Opens the store of a disk, which was formatted with the limits of the configuration. Where `carry` is set, a store of version 1
-    /// is carried over to version 2 if it can be, as by `Store::open_as`. The server reserves ports exactly where its store is of
-    /// version 2. A refusal returns the disk, the handler and the generator.
+    /// Opens the store of a disk, which was formatted with the limits of the configuration, as `Store::open_as` does, and makes a server
+    /// over it. A refusal returns the disk, the handler and the generator.
     pub fn open_as(
         alloc: A,
         disk: D,

@@ -58,7 +58,7 @@ fn read_once<D: Disk, A: Allocator + Copy>(
         → StandsForAt form h clock (D.trace disk).now.bytes
         → MatchResult result.1 (λ r. snapshot_of r.table ≡ record { moment = clock; contents = table h clock }) IsPlain }
 {
-    match Store::open_as(alloc, disk, limits, false) {
+    match Store::open_unchanged(alloc, disk, limits) {
         Ok(opened) => {
             let Opened { store, table } = opened;
             let info = store.info();

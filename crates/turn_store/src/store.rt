@@ -7,7 +7,7 @@ ghost use Rattle.turn_history.specs.Table as tables;
 ghost use Rattle.turn_record.specs.Bytes as bytes;
 ghost use Rattle.turn_record.specs.Records.{IsSnapshot, max_payload};
 ghost use Rattle.turn_record.specs.declared.version.Version.{Version};
-ghost use Rattle.turn_record.specs.declared.version.Version.TheVariants.{V2};
+ghost use Rattle.turn_record.specs.declared.version.Version.TheVariants.{V1, V2};
 ghost use Rattle.turn_disk.specs.Disk.{EachImageSince, IsImage, IsSettled};
 ghost use Rattle.turn_disk.specs.Meanwhile.{Passes};
 ghost use Rattle.turn_journal.specs.Area.{end_of};
@@ -24,6 +24,7 @@ ghost use Rattle.turn_store.specs.Stages.{InStages, InStagesAt};
 ghost use Rattle.turn_store.specs.State.{CompactsFor, MayFollow, RecoversToAt, Shows, carried, carried_area, form_of, framed, swapped};
 ghost use Rattle.turn_store.specs.Superblock.{least_area};
 ghost use Rattle.turn_store.specs.Tables.{snapshot_of};
+ghost use Rattle.turn_types.specs.declared.limits.Bounds.{Bounds};
 
 use crate::areas::replace;
 use crate::error::{OpenError, StoreError};
@@ -492,12 +493,11 @@ pub struct StoreOpenError<D: Disk> {
 }
 
 impl<D: Disk, A: Allocator + Copy> Store<D, A> {
-    // Whether the store is to be carried over to version 2.
-    fn is_carried(&self, carry: bool) -> bool
-        ensures { IsTrue result ↔ IsCarried carry self.now.area.size self.now.bounds self.now.version self.now.generation }
+    // Whether the store can be carried over to version 2.
+    fn can_be_carried(&self) -> bool
+        ensures { IsTrue result ↔ IsCarried true self.now.area.size self.now.bounds self.now.version self.now.generation }
     {
-        carry
-            && self.version == Version::V1
+        self.version == Version::V1
             && least_area(self.limits) <= self.journal.size()
             && self.generation < u64::MAX
     }
@@ -580,7 +580,7 @@ impl<D: Disk, A: Allocator + Copy> Store<D, A> {
 
 // Writes the table of an opened store as a snapshot of version 2 into the other area, which then is active. What takes memory comes
 // before the first write.
-fn carry_over<D: Disk, A: Allocator + Copy>(
+fn carry_table<D: Disk, A: Allocator + Copy>(
     alloc: A,
     opened: Opened<D, A>,
 ) -> Result<Opened<D, A>, StoreOpenError<D>>
@@ -629,9 +629,38 @@ fn carry_over<D: Disk, A: Allocator + Copy>(
     }
 }
 
+impl<D: Disk, A: Allocator + Copy> Opened<D, A> {
+    /// Carries the store over to version 2 if it can be: the table of a store of version 1 is written as version 2 into the other area,
+    /// which then is active, if the areas are large enough and the store isn't worn. A refusal returns the disk, which can be opened again.
+    pub fn carry_over(self, alloc: A) -> Result<Opened<D, A>, StoreOpenError<D>>
+        requires limits { self.table.bounds ≡ self.store.bounds }
+        requires snapshot { IsSnapshot self.store.version self.store.bounds self.table.moment self.table.contents }
+        requires runs { self.store.stopped ≡ false }
+
+        // Of an opening that leaves the content it makes one that carries over.
+        ensures opens { (old : D) (limits : Bounds) → Opening D.Disk old limits false (Ok self) → Opening D.Disk old limits true result }
+
+        ensures table { IfOk result (λ o. o.table ≡ self.table) }
+        ensures crash_model { D.follows_crash_model (disk_of result) → D.follows_crash_model self.store.disk }
+
+        // A store that isn't of version 1 stays as it is.
+        ensures kept { (self.store.version ≡ V1 → ⊥) → result ≡ Ok self }
+    {
+        if !self.store.can_be_carried() {
+            return Ok(self);
+        }
+        carry_table(alloc, self)
+    }
+}
+
 impl<D: Disk, A: Allocator + Copy> Store<D, A> {
-    // Opens the store of a disk, whose content stays.
-    fn open_unchanged(alloc: A, disk: D, limits: Limits) -> Result<Opened<D, A>, StoreOpenError<D>>
+    /// Opens the store of a disk, which was formatted with these limits, and changes none of its bytes. It syncs, and reads in device
+    /// calls of at most 4,096 bytes. A refusal returns the disk, which can be opened again.
+    pub fn open_unchanged(
+        alloc: A,
+        disk: D,
+        limits: Limits,
+    ) -> Result<Opened<D, A>, StoreOpenError<D>>
         ensures { Opening D.Disk disk limits false result }
     {
         let mut disk = disk;
@@ -666,9 +695,7 @@ impl<D: Disk, A: Allocator + Copy> Store<D, A> {
         }
     }
 
-    /// Opens the store of a disk, which was formatted with these limits. It syncs, and reads in device calls of at most 4,096
-    /// bytes. Where `carry` is set and the store is of version 1, its table is written as version 2 into the other area, which then
-    /// is active, if the areas are large enough and the store isn't worn. A refusal returns the disk, which can be opened again.
+    /// Opens the store of a disk as `open_unchanged` does, and where `carry` is set carries it over as `Opened::carry_over` does.
     pub fn open_as(
         alloc: A,
         disk: D,
@@ -678,14 +705,13 @@ impl<D: Disk, A: Allocator + Copy> Store<D, A> {
         ensures { Opening D.Disk disk limits carry result }
     {
         let opened = Store::open_unchanged(alloc, disk, limits)?;
-        if !opened.store.is_carried(carry) {
+        if !carry {
             return Ok(opened);
         }
-        carry_over(alloc, opened)
+        opened.carry_over(alloc)
     }
 
-    /// Opens the store of a disk, which was formatted with these limits, and carries it over to version 2 if it can be, as
-    /// `open_as` does.
+    /// Opens the store of a disk, which was formatted with these limits, and carries it over to version 2 if it can be.
     pub fn open(alloc: A, disk: D, limits: Limits) -> Result<Opened<D, A>, StoreOpenError<D>>
         ensures { Opening D.Disk disk limits true result }
     {

@@ -2,9 +2,10 @@ use Rattle.std.proofs.Common.{◌∷◌, [], ℕ, Bool, List, map, ap, ◌∙◌
 use Rattle.turn_step.specs.Outcome.{Sent}
 use Rattle.turn_step.specs.State.{MachineState}
 use Rattle.turn_step.specs.Views.{is_reserved, sent_of}
+use Rattle.turn_store.specs.declared.error.OpenError.TheVariants.{Memory}
 use Rattle.turn_engine.specs.Staged.{Staged}
 use Rattle.turn_engine.specs.State.{ServerState, has_pairs}
-use Rattle.turn_engine.proofs.Opened.{fresh_sound}
+use Rattle.turn_engine.proofs.Opened.{fresh_sound, made, spent}
 use Rattle.turn_engine.proofs.server.Server.over.Goals as goal
 
 pub invariant_of-result : goal.invariant_of-result
@@ -38,3 +39,17 @@ returns-in-Ok-new-clause-ok g c =
     ∙ ap (λ (l : List _). made (with (is_reserved c.pairs_of.result)) (map sent_of l) empty c.moment-since.result) c.new-in-Ok-new.ensures.items
     ∙ ap (λ (pairs : Bool). made (with pairs) [] empty c.moment-since.result) (c.pairs_of.ensures ∙ ap has_pairs c.info-version.ensures.version)
     ∙ ap (λ (t : ℕ). made (with (has_pairs c.args.opened.store.version)) [] empty t) c.moment-since.ensures
+
+pub returns-in-Ok-new-clause-call : goal.returns-in-Ok-new-clause-call
+returns-in-Ok-new-clause-call g c old carry is = made g.D.Disk old c.args.config c.args.handler c.args.ports carry c.args.opened is _ (returns-in-Ok-new-clause-ok g c)
+
+pub returns-in_default-clause-call : goal.returns-in_default-clause-call
+returns-in_default-clause-call g c old carry is =
+    spent g.D.Disk old c.args.config c.args.handler c.args.ports carry c.args.opened is _
+    (λ j. record { fault = Memory; disk = c.into_disk.ensures j; handler = c.args.handler; ports = c.args.ports })
+
+pub returns-in-Err-clause-call : goal.returns-in-Err-clause-call
+returns-in-Err-clause-call g c old carry is =
+    let same = c.in-Err.ensures.err in
+    spent g.D.Disk old c.args.config c.args.handler c.args.ports carry c.args.opened is _
+    (λ j. record { fault = Memory; disk = c.into_disk-in-Err.ensures j; handler = (same j).handler; ports = (same j).ports })

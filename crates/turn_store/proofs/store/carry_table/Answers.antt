@@ -9,7 +9,7 @@ use Rattle.turn_store.specs.Tables.{snapshot_of}
 use Rattle.turn_store.specs.declared.error.OpenError.TheVariants.{Device}
 use Rattle.turn_store.proofs.Carried.{next, over_rests, over_since, stays_since}
 use Rattle.turn_store.proofs.Versions.{rest_in_or_2, stages_over}
-use Rattle.turn_store.proofs.store.carry_over.Goals as goal
+use Rattle.turn_store.proofs.store.carry_table.Goals as goal
 
 pub returns-in-Ok-carry-clause-store : goal.returns-in-Ok-carry-clause-store
 returns-in-Ok-carry-clause-store g c =
