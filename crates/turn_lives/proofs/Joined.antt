@@ -114,22 +114,18 @@ module _ {D N H G T : Type 0} (disk : disks.Ghosts D) (following : disks.Ghosts 
     lives_on : (old : D) (new : N) (inputs : List Input) (said : List Said) (sure : List Lasting) (recent : List Taken) (m : ℕ) → Process disk following handler ports time s old inputs said new
         → Leaves disk form old sure recent m → following.follows_crash_model new → LifeOn following form s may_fail sure recent m inputs said new
     lives_on old new _ _ sure recent m (processes.serves {server = server} {after = after} users system stop keys begun turns stopping next) l crash_model =
-        let again = begun.reopened in
-        let h = accepted (arrivals sure recent) in
-        let k = length (accepted (map taken_of sure)) in
         let ended = before_stop disk handler ports s after stop stopping (next.crash_model crash_model) in
-        let kept = again.opening.uses.crash_model (before_turns disk handler ports s server turns.steps after turns.serves turns.last ended) in
-        let w : World D H G = Down again.middle users again.generator in
-        let stands : IsDown disk handler ports form s again.middle users again.generator sure recent m = record {
+        let w : World D H G = Down old users begun.generator in
+        let stands : IsDown disk handler ports form s old users begun.generator sure recent m = record {
           keys = keys;
-          range = again.in_range;
-          leaves = record { crash_model = kept; images = (again.kept.images.stop kept form h k m l.images).after };
+          range = begun.in_range;
+          leaves = l;
         } in
         let turned = subst (λ (x : ServerState D H G). Calls disk handler ports s (Serving server) (inputs_of turns.steps) (said_of turns.steps) (Serving x)) turns.last
         (calls_of disk handler ports s server turns.steps turns.serves) in
         let inputs = lives.Open ∷ inputs_of turns.steps in
         let said = lives.Opened (now_of server) ∷ said_of turns.steps in
-        let calls : Calls disk handler ports s w inputs said (Serving after) = worlds.then (Serving server) (worlds.opens {w = w} (Ok server) again.opening) turned in
+        let calls : Calls disk handler ports s w inputs said (Serving after) = worlds.then (Serving server) (worlds.opens {w = w} (Ok server) begun.opening) turned in
         let all = calls_make_lives disk handler ports form s may_fail never same (Shut sure recent m) w (Serving after) inputs said calls stands ended in
         let at = stops_at disk handler ports s form may_fail all.end after stop all.stands stopping (next.crash_model crash_model) in
         record {

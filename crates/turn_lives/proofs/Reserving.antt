@@ -1,14 +1,14 @@
 -- A process whose server reserves ports is followed by such processes.
-use Rattle.std.proofs.Common.{◌≡◌, ◌⊎◌, inl, inr, ⊎_elim, ℕ, true, false, List, [], ◌∷◌, Ok, length, map, refl, sym, ◌∙◌, subst}
+use Rattle.std.proofs.Common.{◌≡◌, ◌⊎◌, inl, inr, ⊎_elim, ℕ, true, false, List, [], ◌∷◌, Ok, refl, sym, ◌∙◌, subst}
 use Rattle.turn_cred.specs.declared.handler.AuthHandler as handlers
 use Rattle.turn_disk.specs.declared.disk.Disk as disks
 use Rattle.turn_engine.proofs.Stops.{left_has}
-use Rattle.turn_engine.specs.Runs.{Taken, accepted}
+use Rattle.turn_engine.specs.Runs.{Taken}
 use Rattle.turn_engine.specs.State.{ServerState, has_pairs, now_of}
 use Rattle.turn_player.proofs.Versions.{commit_in, go_on_reserving, opened_reserves, running_in}
 use Rattle.turn_player.proofs.Worlds.{calls_make_lives}
 use Rattle.turn_player.specs.Lives as lives
-use Rattle.turn_player.specs.Lives.{Halted, Input, Lasting, Point, Running, Said, Shut, arrivals, taken_of}
+use Rattle.turn_player.specs.Lives.{Halted, Input, Lasting, Point, Running, Said, Shut}
 use Rattle.turn_player.specs.Versions.{ReservesPorts}
 use Rattle.turn_player.specs.Worlds as worlds
 use Rattle.turn_player.specs.Worlds.{Calls, Down, IsDown, Leaves, Lives, Serving, Stands, World}
@@ -56,23 +56,19 @@ module _ {D N H G T : Type 0} (disk : disks.Ghosts D) (following : disks.Ghosts 
   reserving : (inputs : List Input) (said : List Said) (one : Process disk following handler ports time s old inputs said new) → IsReserving one ⊎ EachImage (disk.trace old).now IsSecond
       → ReservesIfServing one × EachImage (following.trace new).now IsSecond
   reserving _ _ (processes.serves {server = server} {after = after} users system stop keys begun turns stopping next) either =
-      let again = begun.reopened in
-      let h = accepted (arrivals sure recent) in
-      let k = length (accepted (map taken_of sure)) in
       let ended = before_stop disk handler ports s after stop stopping (next.crash_model crash_model) in
       let opened = before_turns disk handler ports s server turns.steps after turns.serves turns.last ended in
-      let kept = again.opening.uses.crash_model opened in
-      let w : World D H G = Down again.middle users again.generator in
-      let stands : IsDown disk handler ports form s again.middle users again.generator sure recent m = record {
+      let w : World D H G = Down old users begun.generator in
+      let stands : IsDown disk handler ports form s old users begun.generator sure recent m = record {
         keys = keys;
-        range = again.in_range;
-        leaves = record { crash_model = kept; images = (again.kept.images.stop kept form h k m l.images).after };
+        range = begun.in_range;
+        leaves = l;
       } in
-      let opens : Calls disk handler ports s w (lives.Open ∷ []) (lives.Opened (now_of server) ∷ []) (Serving server) = worlds.then (Serving server) (worlds.opens {w = w} (Ok server) again.opening) worlds.done in
+      let opens : Calls disk handler ports s w (lives.Open ∷ []) (lives.Opened (now_of server) ∷ []) (Serving server) = worlds.then (Serving server) (worlds.opens {w = w} (Ok server) begun.opening) worlds.done in
       let first = calls_make_lives disk handler ports form s true (λ never. absurd (true_is_not_false never)) same (Shut sure recent m) w (Serving server) _ _ opens stands opened in
       let r : ReservesPorts disk form server = ⊎_elim
       (λ reserves. opened_so disk handler ports form s first.end server first.stands begun.runs begun.pairs reserves)
-      (λ images. opened_reserves disk handler ports form s w (Ok server) again.opening opened (again.kept.images.stop_version kept form images).after) either in
+      (λ images. opened_reserves disk handler ports form s w (Ok server) begun.opening opened images) either in
       let turned = subst (λ (x : ServerState D H G). Calls disk handler ports s (Serving server) (inputs_of turns.steps) (said_of turns.steps) (Serving x)) turns.last
       (calls_of disk handler ports s server turns.steps turns.serves) in
       let all = calls_make_lives disk handler ports form s true (λ never. absurd (true_is_not_false never)) same first.end (Serving server) (Serving after) _ _ turned first.stands ended in

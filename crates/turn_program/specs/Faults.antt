@@ -79,8 +79,7 @@ abbrev pub of_start : StartError → ProgramError
 of_start (start_faults.Store fault) = of_open fault
 of_start start_faults.Socket = Socket
 of_start start_faults.Memory = Memory
-of_start (start_faults.Reopen fault) = of_open fault
-of_start start_faults.Changed = Device
+of_start (start_faults.Carry fault) = of_open fault
 
 -- the fault of a turn
 abbrev pub of_turn : TurnError → ProgramError

@@ -208,8 +208,7 @@ impl From<StartError> for ProgramError {
             StartError::Store(fault) => ProgramError::from(fault),
             StartError::Socket => ProgramError::Socket,
             StartError::Memory => ProgramError::Memory,
-            StartError::Reopen(fault) => ProgramError::from(fault),
-            StartError::Changed => ProgramError::Device,
+            StartError::Carry(fault) => ProgramError::from(fault),
         }
     }
 }

@@ -214,9 +214,7 @@ fn tell_start<R: Files<File = File> + Net + AllocGlobal, C: Clock, L: Write + Dr
     fault: StartError,
 ) {
     match fault {
-        StartError::Store(_) | StartError::Reopen(_) | StartError::Changed => {
-            tell_place(rt, clock, log, store)
-        }
+        StartError::Store(_) | StartError::Carry(_) => { tell_place(rt, clock, log, store) }
         StartError::Socket => tell_sockets(rt, clock, log, addresses),
         StartError::Memory => {}
     }

@@ -1,7 +1,9 @@
 -- What a start makes of a disk.
-use Rattle.std.specs.Prelude.{◌≡◌, ◌≤◌, ◌&&◌, ℕ, Bool, List, Ok, true, false, length, take}
+use Rattle.std.specs.Prelude.{◌≡◌, ◌≤◌, ◌&&◌, ◌||◌, ℕ, Bool, List, Ok, false, true, is_some, length, take}
+use Rattle.std.specs.BTreeMap.{BTreeMap, get}
 use Rattle.std.specs.FinMap as fin
 use Rattle.std.specs.List.{list_all}
+use Rattle.std.specs.Ordering.{nat_cmp}
 use Rattle.turn_cred.specs.declared.handler.AuthHandler as handlers
 use Rattle.turn_disk.specs.Disk.{EachImageSince}
 use Rattle.turn_disk.specs.declared.disk.Disk as disks
@@ -14,7 +16,7 @@ use Rattle.turn_history.specs.History.{History}
 use Rattle.turn_history.specs.Table.{Contents}
 use Rattle.turn_ports.specs.declared.generator.RelayAddressGenerator as generators
 use Rattle.turn_record.specs.declared.version.Version.{Version}
-use Rattle.turn_record.specs.declared.version.Version.TheVariants.{V1, V2}
+use Rattle.turn_record.specs.declared.version.Version.TheVariants.{V2}
 use Rattle.turn_step.specs.Answer.{Setting}
 use Rattle.turn_step.specs.State.{setting_of}
 use Rattle.turn_store.specs.Areas.{Form}
@@ -23,6 +25,7 @@ use Rattle.turn_store.specs.Images.{EachImage, IsInVersion}
 use Rattle.turn_store.specs.Refused.{IsPlain, WhyRefused}
 use Rattle.turn_store.specs.declared.error.OpenError.{OpenError}
 use Rattle.turn_types.specs.Config.{Config}
+use Rattle.turn_types.specs.declared.address.Endpoint.{Endpoint}
 use Rattle.turn_types.specs.declared.limits.Bounds.{Bounds}
 use Rattle.turn_serving.specs.declared.error.BindError.{BindError}
 use Rattle.turn_serving.specs.declared.error.BindError.TheVariants as binds
@@ -52,31 +55,24 @@ pub record IsOfVersion (v : Version) (content : List ℕ) : Type 0 where
   pub frames : ℕ
   pub counts : IsActiveAs size bounds v generation frames content
 
--- a version is version 1
-abbrev pub is_first : Version → Bool
-is_first V1 = true
-is_first V2 = false
-
--- a start with this fault didn't open its store a second time
-abbrev pub IsBeforeReopening : StartError → Type 0
-IsBeforeReopening (faults.Store fault) = Unit {0}
-IsBeforeReopening faults.Socket = Unit {0}
-IsBeforeReopening faults.Memory = Unit {0}
-IsBeforeReopening (faults.Reopen fault) = ⊥
-IsBeforeReopening faults.Changed = ⊥
+-- a start with this fault didn't come to where it carries its store over
+abbrev pub IsBeforeCarrying : StartError → Type 0
+IsBeforeCarrying (faults.Store fault) = Unit {0}
+IsBeforeCarrying faults.Socket = Unit {0}
+IsBeforeCarrying faults.Memory = Unit {0}
+IsBeforeCarrying (faults.Carry fault) = ⊥
 
 -- what a start tells where it has not its sockets
 abbrev pub of_bind : BindError → StartError
 of_bind binds.Socket = faults.Socket
 of_bind binds.Memory = faults.Memory
 
--- a start was refused by an opening of its store, for a fault that has P
+-- a start was refused by its store, for a fault that has P
 abbrev pub IfOfStore : StartError → (OpenError → Type 0) → Type 0
 IfOfStore (faults.Store fault) P = P fault
-IfOfStore (faults.Reopen fault) P = P fault
+IfOfStore (faults.Carry fault) P = P fault
 IfOfStore faults.Socket P = Unit {0}
 IfOfStore faults.Memory P = Unit {0}
-IfOfStore faults.Changed P = Unit {0}
 
 -- An opening was refused for this fault. It is the first reason that applies to the content; where each image stands for the first events
 -- of a history, at least k of them, it is of the device or of memory.
@@ -84,14 +80,6 @@ pub record IsRefusedFor {D : Type 0} (disk : disks.Ghosts D) (old new : D) (limi
   pub why : disk.follows_crash_model new → WhyRefused limits (disk.trace old).now.bytes fault
   pub sound : disk.follows_crash_model new → (form : Form) (h : History) (k m : ℕ) → form.bounds ≡ limits → EachImage (disk.trace old).now (AtLeast form h k m)
       → IsPlain fault
-
--- A store was opened a second time, over a disk that the first opening left as it was, with these users and a generator of this range.
-pub record Reopened {D H G : Type 0} (disk : disks.Ghosts D) (ports : generators.Ghosts G) (old : D) (config : Config) (users : H) (range : ℕ × ℕ) (server : ServerState D H G) : Type 0 where
-  pub middle : D
-  pub generator : G
-  pub kept : IsKept disk old middle
-  pub in_range : ports.range generator ≡ range
-  pub opening : Opening disk middle config users generator (Ok server)
 
 -- A server was started over a disk: it has this configuration, these keys and this range, and reserves ports where its store's version
 -- holds them; the store was carried over to version 2 where it could be, and else is what it was; nothing is staged; and where each
@@ -105,7 +93,14 @@ pub record Started {D H G : Type 0} (disk : disks.Ghosts D) (handler : handlers.
   pub crash_model : disk.follows_crash_model server.store.disk → disk.follows_crash_model old
   pub recovers : disk.follows_crash_model server.store.disk → (form : Form) (h : History) (k m : ℕ) → form.bounds ≡ config.limits → EachImage (disk.trace old).now (AtLeast form h k m)
       → Opens form h k m (disk.trace old).now.bytes (disk.trace server.store.disk).now server
-  pub reopened : Reopened disk ports old config users range server
+  -- with the generator that it started with
+  pub generator : G
+  pub in_range : ports.range generator ≡ range
+  pub opening : Opening disk old config users generator (Ok server)
+
+-- exactly those ports have a socket that had one before, and those that pass a test
+abbrev pub AreBoundToo : BTreeMap ℕ Endpoint → BTreeMap ℕ Endpoint → (ℕ → Bool) → Type 0
+AreBoundToo old new test = (port : ℕ) → is_some (get nat_cmp new port) ≡ is_some (get nat_cmp old port) || test port
 
 -- the port of each allocation in a table passes a test, and each reserved port
 abbrev pub have_ports : (ℕ → Bool) → Contents → Bool

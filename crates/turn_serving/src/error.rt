@@ -24,12 +24,9 @@ pub enum StartError {
     /// An allocation failed.
     #[error("out of memory")]
     Memory,
-    /// The store was not opened again over its sockets.
+    /// The store was not carried over, or there was no memory for the server over it.
     #[error("{0}")]
-    Reopen(OpenError),
-    /// A disk that failed had other allocations, or other reserved ports, when the store was opened again.
-    #[error("the store changed")]
-    Changed,
+    Carry(OpenError),
 }
 
 /// A server that was not started: why, and its disk.

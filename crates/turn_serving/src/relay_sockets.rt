@@ -1,12 +1,12 @@
 //! Relay ports with sockets.
 
-ghost use Rattle.std.specs.Prelude.{◌≡◌, ◌↔◌, ℕ, Bool, IfSome, IsTrue, is_some, true};
+ghost use Rattle.std.specs.Prelude.{◌≡◌, ℕ, Bool, IfSome, is_some};
 ghost use Rattle.std.specs.BTreeMap.{get};
 ghost use Rattle.std.specs.Ordering.{nat_cmp};
 
 use std::alloc::Allocator;
 use std::net::Net;
-use turn_ports::{PortSet, RelayAddressGenerator};
+use turn_ports::RelayAddressGenerator;
 use turn_sockets::{BoundSocket, SocketPorts};
 
 /// Relay ports with sockets.
@@ -22,10 +22,6 @@ pub trait RelaySockets: RelayAddressGenerator {
         ensures found { is_some result ≡ has_socket self.now port }
         ensures at { IfSome result (λ s. s.now.port ≡ port) };
 
-    /// Whether each port that has a socket is in a set.
-    fn are_all_in<S: PortSet>(&self, ports: &S) -> bool
-        ensures { IsTrue result ↔ ((port : ℕ) → has_socket self.now port ≡ true → S.has ports.now port ≡ true) };
-
     /// Whether an address is one of this machine.
     fn is_local(&self, ip: u32) -> bool
         ensures { has_said self.now ip result };
@@ -39,10 +35,6 @@ impl<'a, R: Net, A: Allocator + Copy> RelaySockets for SocketPorts<'a, R, A> {
 
     fn socket(&self, port: u16) -> Option<&BoundSocket> {
         self.socket(port)
-    }
-
-    fn are_all_in<S: PortSet>(&self, ports: &S) -> bool {
-        self.are_all_in(ports)
     }
 
     fn is_local(&self, ip: u32) -> bool {

@@ -1,16 +1,15 @@
 //! How a server over sockets is started.
 
-ghost use Rattle.std.specs.Prelude.{◌≡◌, ◌↔◌, ℕ, [], None, Ok, IfErr, IfOk, IsTrue, true, false, unwrap_or};
-ghost use Rattle.std.specs.List.{list_all};
-ghost use Rattle.turn_engine.specs.Calls.{Opening};
-ghost use Rattle.turn_history.specs.Fitting.{is_taken};
+ghost use Rattle.std.specs.Prelude.{◌≡◌, ◌==◌, ℕ, [], None, Ok, IfErr, IfOk, OnOk, true, false, unwrap_or};
+ghost use Rattle.std.specs.List.{list_any};
+ghost use Rattle.turn_history.specs.Fitting.{has_port, is_taken};
 ghost use Rattle.turn_sockets.specs.Backlog.{waiting_of};
-ghost use Rattle.turn_sockets.specs.Ports.{draws_of};
+ghost use Rattle.turn_sockets.specs.Ports.{HaveSockets, draws_of};
 ghost use Rattle.turn_step.specs.State.{HoldsPorts};
-ghost use Rattle.turn_store.specs.Carrying.{Carries};
+ghost use Rattle.turn_store.specs.Opening as stores;
 ghost use Rattle.turn_types.specs.declared.address.FiveTuple.{FiveTuple};
 ghost use Rattle.turn_serving.specs.Listening.{HasSockets};
-ghost use Rattle.turn_serving.specs.Starts.{IfOfStore, IsBeforeReopening, IsKept, IsOfVersion, IsRefusedFor, KeepsImages, Started, have_ports, is_first};
+ghost use Rattle.turn_serving.specs.Starts.{AreBoundToo, IfOfStore, IsBeforeCarrying, IsKept, IsOfVersion, IsRefusedFor, KeepsImages, Started, have_ports};
 
 use crate::error::{BindError, SetupError, StartError};
 use crate::listening::{ATTEMPTS, Listening, ListeningSockets, Waiting, pause};
@@ -34,7 +33,7 @@ use turn_sockets::{
     Backlog, Bound, Buffer, DataIds, ListeningAddresses, OwnAddresses, Room, Schedule, SocketPorts,
     SocketRecord,
 };
-use turn_store::StoreOpenError;
+use turn_store::{OpenError, Opened, Store, StoreOpenError};
 use turn_table::Table;
 use turn_types::{Endpoint, ServerConfig};
 
@@ -108,34 +107,6 @@ fn no_traffic<A: Allocator + Copy>(
     })
 }
 
-/// Whether a store of this version may have to be carried over.
-fn is_first(version: Version) -> bool
-    ensures { result ≡ is_first version }
-{
-    version == Version::V1
-}
-
-/// Adds the ports that a table reserves.
-fn put_reserved<A: Allocator + Copy>(
-    ports: &mut Vec<u16, A>,
-    table: &Table<A>,
-) -> Result<(), AllocError> {
-    for (port, _) in table.reserved_ports() {
-        ports.push(*port)?;
-    }
-    Ok(())
-}
-
-/// The ports of the allocations of a table, and those that it reserves.
-fn ports_of<A: Allocator + Copy>(alloc: A, table: &Table<A>) -> Result<Vec<u16, A>, AllocError> {
-    let mut ports = Vec::new(alloc);
-    for (_, entry) in table.entries() {
-        ports.push(entry.port())?;
-    }
-    put_reserved(&mut ports, table)?;
-    Ok(ports)
-}
-
 /// Binds a port, if it has no socket yet. While it is in use it tries again, up to two seconds.
 fn bind<R: Net, A: Allocator + Copy, C: Clock>(
     sockets: &mut SocketPorts<'_, R, A>,
@@ -145,6 +116,7 @@ fn bind<R: Net, A: Allocator + Copy, C: Clock>(
     ensures first { sockets.new.first ≡ sockets.old.first }
     ensures last { sockets.new.last ≡ sockets.old.last }
     ensures draws { sockets.new.draws ≡ sockets.old.draws }
+    ensures bound { OnOk result (AreBoundToo sockets.old.sockets sockets.new.sockets (λ p. port == p)) }
 {
     for _attempt in 0..ATTEMPTS {
         if sockets.socket(port).is_some() {
@@ -159,51 +131,38 @@ fn bind<R: Net, A: Allocator + Copy, C: Clock>(
     Err(BindError::Socket)
 }
 
-/// Binds each of these ports.
-fn bind_all<R: Net, A: Allocator + Copy, C: Clock>(
+/// Binds the port of each allocation of a table.
+fn bind_allocated<R: Net, A: Allocator + Copy, C: Clock>(
     sockets: &mut SocketPorts<'_, R, A>,
     system: &C,
-    ports: &[u16],
+    table: &Table<A>,
 ) -> Result<(), BindError>
     ensures first { sockets.new.first ≡ sockets.old.first }
     ensures last { sockets.new.last ≡ sockets.old.last }
     ensures draws { sockets.new.draws ≡ sockets.old.draws }
+    ensures bound { OnOk result (AreBoundToo sockets.old.sockets sockets.new.sockets (has_port table.now.contents)) }
 {
-    for port in ports {
-        bind(sockets, system, *port)?;
+    for (_, entry) in table.entries() {
+        bind(sockets, system, entry.port())?;
     }
     Ok(())
 }
 
-/// Whether each of these reserved ports has a socket.
-fn have_reserved<G: RelaySockets>(ports: &G, reserved: &[(u16, Reservation)]) -> bool
-    ensures { result ≡ list_all (λ p. G.has_socket ports.now p.0) reserved.now }
+/// Binds each of these reserved ports.
+fn bind_reserved<R: Net, A: Allocator + Copy, C: Clock>(
+    sockets: &mut SocketPorts<'_, R, A>,
+    system: &C,
+    reserved: &[(u16, Reservation)],
+) -> Result<(), BindError>
+    ensures first { sockets.new.first ≡ sockets.old.first }
+    ensures last { sockets.new.last ≡ sockets.old.last }
+    ensures draws { sockets.new.draws ≡ sockets.old.draws }
+    ensures bound { OnOk result (AreBoundToo sockets.old.sockets sockets.new.sockets (λ p. list_any (λ s. s.0 == p) reserved.now)) }
 {
-    reserved.iter().all(|slot| ports.socket(slot.0).is_some())
-}
-
-/// Whether the port of each allocation has a socket, and each reserved port.
-fn have_sockets<D: Disk, H: AuthHandler, G: RelaySockets, A: Allocator + Copy>(
-    server: &Server<D, H, G, A>,
-) -> bool
-    ensures { result ≡ have_ports (G.has_socket server.now.machine.ports) server.now.machine.table.contents }
-{
-    for (_, entry) in server.table().entries() {
-        if server.ports().socket(entry.port()).is_none() {
-            return false;
-        }
+    for (port, _) in reserved {
+        bind(sockets, system, *port)?;
     }
-    have_reserved(server.ports(), server.table().reserved_ports())
-}
-
-/// Whether the ports that have a socket are those of the table, of its allocations and those that it reserves.
-fn holds_ports<D: Disk, H: AuthHandler, G: RelaySockets, A: Allocator + Copy>(
-    server: &Server<D, H, G, A>,
-) -> bool
-    ensures { IsTrue result
-        ↔ ((port : ℕ) → G.has_socket server.now.machine.ports port ≡ is_taken server.now.machine.table.contents port) }
-{
-    have_sockets(server) && server.ports().are_all_in(server.table())
+    Ok(())
 }
 
 impl<'c, A: Allocator + Copy> Setup<'c, A> {
@@ -229,78 +188,42 @@ impl<'c, A: Allocator + Copy> Setup<'c, A> {
         }
     }
 
-    /// Opens the store of a disk, and carries it over to version 2 if that is asked for and it can be. A refusal returns the disk.
-    fn open<D: Disk + Drop, H: AuthHandler + Drop, G: RelayAddressGenerator + Drop>(
+    /// Opens the store of a disk, whose content stays, with a copy of the configuration. A refusal returns the disk.
+    fn open<D: Disk + Drop>(
         &self,
         alloc: A,
         disk: D,
-        handler: H,
-        ports: G,
-        carry: bool,
-    ) -> Result<Server<D, H, G, A>, StoreOpenError<D>>
-        ensures opens { IfOk result (λ server. Opening D.Disk disk self.now.config.now handler ports (Ok server)) }
-        ensures carried { IfOk result (λ server. D.follows_crash_model server.store.disk
-            → Carries carry (D.trace disk).now.bytes server.store) }
-        ensures kept { carry ≡ false → IfOk result (λ server. IsKept D.Disk disk server.store.disk) }
-        ensures kept_err { carry ≡ false → IfErr result (λ r. IsKept D.Disk disk r.disk) }
-        ensures images_err { IfErr result (λ r. KeepsImages D.Disk disk r.disk) }
+    ) -> Result<(Opened<D, A>, ServerConfig<A>), StoreOpenError<D>>
+        ensures opens { IfOk result (λ r. stores.Opening D.Disk disk self.now.config.now.limits false (Ok r.0)) }
+        ensures config { IfOk result (λ r. r.1 ≡ self.now.config.now) }
+        ensures kept_err { IfErr result (λ r. IsKept D.Disk disk r.disk) }
         ensures refused { IfErr result (λ r. IsRefusedFor D.Disk disk r.disk self.now.config.now.limits r.fault) }
     {
-        match Server::open_as(alloc, disk, self.config, handler, ports, carry) {
-            Ok(server) => Ok(server),
-            Err(refused) => Err(StoreOpenError {
-                fault: refused.fault,
-                disk: refused.disk,
-            }),
-        }
-    }
-
-    /// Opens the store of a disk, which keeps its version, and closes it. Returns the ports of its allocations too, and those that are
-    /// reserved; and its version.
-    fn look_into<D: Disk + Drop, H: AuthHandler + Drop>(
-        &self,
-        alloc: A,
-        disk: D,
-        handler: H,
-    ) -> Result<(D, H, Vec<u16, A>, Version), SetupError<D>>
-        ensures kept { IfOk result (λ looked. IsKept D.Disk disk looked.0) }
-        ensures handler { IfOk result (λ looked. looked.1 ≡ handler) }
-        ensures version { IfOk result (λ looked. D.follows_crash_model looked.0 → IsOfVersion looked.3 (D.trace disk).now.bytes) }
-        ensures kept_err { IfErr result (λ r. IsKept D.Disk disk r.disk) }
-        ensures refused { IfErr result (λ r. IfOfStore r.fault (IsRefusedFor D.Disk disk r.disk self.now.config.now.limits)) }
-    {
-        let server = match self.open(alloc, disk, handler, self.ports, false) {
-            Ok(server) => server,
-            Err(StoreOpenError { fault, disk }) => {
-                return Err(SetupError {
-                    fault: StartError::Store(fault),
-                    disk,
-                });
-            }
-        };
-        let version = server.info().version;
-        let ports = ports_of(alloc, server.table());
-        let (disk, handler, _) = server.close();
-        match ports {
-            Ok(ports) => Ok((disk, handler, ports, version)),
-            Err(_) => Err(SetupError {
-                fault: StartError::Memory,
+        let limits = self.config.limits();
+        let Ok(config) = self.config.try_clone(alloc) else {
+            return Err(StoreOpenError {
+                fault: OpenError::Memory,
                 disk,
-            }),
+            });
+        };
+        match Store::open_unchanged(alloc, disk, limits) {
+            Ok(opened) => Ok((opened, config)),
+            Err(refused) => Err(refused),
         }
     }
 
-    /// The relay ports, with a socket for each of these.
+    /// The relay ports, with a socket for each port that a table has, and for no other.
     fn bind_ports<'a, R: Net, C: Clock>(
         &self,
         alloc: A,
         net: &'a R,
         system: &C,
         poll: &Poll,
-        ports: &[u16],
+        table: &Table<A>,
     ) -> Result<SocketPorts<'a, R, A>, BindError>
         ensures range { IfOk result (λ sockets. ⟦<SocketPorts<'a, R, A> as RelayAddressGenerator>⟧.range sockets ≡ self.now.ports) }
         ensures draws { IfOk result (λ sockets. sockets.draws ≡ draws_of self.now.seed) }
+        ensures held { IfOk result (λ sockets. HaveSockets sockets.sockets (is_taken table.now.contents)) }
     {
         let registry = poll.registry().try_clone().map_err(|_| BindError::Socket)?;
         let ip = self.bound();
@@ -308,28 +231,30 @@ impl<'c, A: Allocator + Copy> Setup<'c, A> {
         if !sockets.has_address() {
             return Err(BindError::Socket);
         }
-        bind_all(&mut sockets, system, ports)?;
+        bind_allocated(&mut sockets, system, table)?;
+        bind_reserved(&mut sockets, system, table.reserved_ports())?;
         Ok(sockets)
     }
 
-    /// All that a server needs beside its store, with a socket for each of these ports.
+    /// All that a server needs beside its store, with a socket for each port that a table has, and for no other.
     fn bind_beside<'a, R: Net + Drop, C: Clock, W: Watch + Drop>(
         &self,
         alloc: A,
         net: &'a R,
         system: &C,
-        ports: &[u16],
+        table: &Table<A>,
         sockets: ListeningSockets<A>,
         watch: W,
     ) -> Result<Beside<'a, R, W, A>, BindError>
         ensures range { IfOk result (λ beside. ⟦<SocketPorts<'a, R, A> as RelayAddressGenerator>⟧.range beside.ports ≡ self.now.ports) }
         ensures draws { IfOk result (λ beside. beside.ports.draws ≡ draws_of self.now.seed) }
+        ensures held { IfOk result (λ beside. HaveSockets beside.ports.sockets (is_taken table.now.contents)) }
         ensures waits { IfOk result (λ beside. (f : FiveTuple) → waiting_of beside.traffic.work.backlog f ≡ []) }
         ensures passed { IfOk result (λ beside. beside.traffic.work.wire.passed ≡ []) }
         ensures own { IfOk result (λ beside. HasSockets beside.listening.sockets.items beside.listening.own.listening) }
     {
         let poll = Poll::new(net).map_err(|_| BindError::Socket)?;
-        let ports = self.bind_ports(alloc, net, system, &poll, ports)?;
+        let ports = self.bind_ports(alloc, net, system, &poll, table)?;
         let listening = Listening::open(alloc, net, system, &poll, self.own(), sockets, watch)?;
         let addresses = listening.own.listening.as_slice();
         let traffic = no_traffic(alloc, addresses)?;
@@ -343,10 +268,10 @@ impl<'c, A: Allocator + Copy> Setup<'c, A> {
         })
     }
 
-    /// Opens the store of a disk, binds the relay ports of its allocations and those that it reserves, binds or takes the
-    /// listening sockets, and opens the store again over these: so a fault of the store comes before one of a socket. A port that is in use is tried again
-    /// for two seconds, in pauses by the system's clock. The second opening alone carries the store over to version 2, if it can
-    /// be, so that a start which finds a socket at fault leaves the store as it was. A refusal returns the disk.
+    /// Opens the store of a disk, binds the relay ports of its allocations and those that it reserves, and binds or takes the listening
+    /// sockets: so a fault of the store comes before one of a socket. A port that is in use is tried again for two seconds, in pauses by the
+    /// system's clock. Then the store is carried over to version 2, if it can be, so that a start which finds a socket at fault leaves the
+    /// store as it was. A refusal returns the disk.
     /// `watch` sees what the server sends.
     ///
     /// ```rust
@@ -391,13 +316,13 @@ impl<'c, A: Allocator + Copy> Setup<'c, A> {
         ensures own { IfOk result (λ serving. HasSockets serving.addresses.sockets serving.addresses.own.listening) }
         ensures manner { IfOk result (λ serving. serving.manner
             ≡ record { commits = self.now.commits; burst = self.now.burst; batch = self.now.config.now.limits.acts }) }
-        // A store that isn't of version 1 keeps its content, and each one does at a refusal before the second opening.
+        // A store that isn't of version 1 keeps its content, and each one does at a refusal before it may be carried over.
         ensures same { IfOk result (λ serving. D.follows_crash_model serving.server.store.disk
             → (IsOfVersion Version.V1 (D.trace disk).now.bytes → ⊥)
             → (D.trace serving.server.store.disk).now.bytes ≡ (D.trace disk).now.bytes) }
         ensures same_err { IfErr result (λ r. D.follows_crash_model r.disk → (IsOfVersion Version.V1 (D.trace disk).now.bytes → ⊥)
             → (D.trace r.disk).now.bytes ≡ (D.trace disk).now.bytes) }
-        ensures before_err { IfErr result (λ r. D.follows_crash_model r.disk → IsBeforeReopening r.fault
+        ensures before_err { IfErr result (λ r. D.follows_crash_model r.disk → IsBeforeCarrying r.fault
             → (D.trace r.disk).now.bytes ≡ (D.trace disk).now.bytes) }
 
         // A stop at any moment of the start leaves images of the same history, and of version 2 if all were, and so does a refusal.
@@ -407,16 +332,22 @@ impl<'c, A: Allocator + Copy> Setup<'c, A> {
         // A fault of the store is the first one of its content, and none but of the device or of memory if that is sound.
         ensures refused { IfErr result (λ r. IfOfStore r.fault (IsRefusedFor D.Disk disk r.disk self.now.config.now.limits)) }
     {
-        let (disk, handler, ports, version) = match self.look_into(alloc, disk, handler) {
-            Ok(looked) => looked,
-            Err(refused) => return Err(refused),
+        let (opened, config) = match self.open(alloc, disk) {
+            Ok(opened) => opened,
+            Err(StoreOpenError { fault, disk }) => {
+                return Err(SetupError {
+                    fault: StartError::Store(fault),
+                    disk,
+                });
+            }
         };
-        let beside = match self.bind_beside(alloc, net, system, &ports, sockets, watch) {
+        let beside = match self.bind_beside(alloc, net, system, &opened.table, sockets, watch) {
             Ok(beside) => beside,
             Err(fault) => {
+                let Opened { store, table: _ } = opened;
                 return Err(SetupError {
                     fault: StartError::from(fault),
-                    disk,
+                    disk: store.into_disk(),
                 });
             }
         };
@@ -427,25 +358,25 @@ impl<'c, A: Allocator + Copy> Setup<'c, A> {
             traffic,
             stand_in,
         } = beside;
-        // This opening may write, so it comes behind all else that may be refused.
-        let carry = is_first(version);
-        let server = match self.open(alloc, disk, handler, ports, carry) {
-            Ok(server) => server,
+        // This may write, so it comes behind all that a socket may refuse.
+        let opened = match opened.carry_over(alloc) {
+            Ok(opened) => opened,
             Err(StoreOpenError { fault, disk }) => {
                 return Err(SetupError {
-                    fault: StartError::Reopen(fault),
+                    fault: StartError::Carry(fault),
                     disk,
                 });
             }
         };
-        // A disk that failed between the two openings may have said something else.
-        if !holds_ports(&server) {
-            let (disk, _, _) = server.close();
-            return Err(SetupError {
-                fault: StartError::Changed,
-                disk,
-            });
-        }
+        let server = match Server::over(alloc, opened, config, handler, ports) {
+            Ok(server) => server,
+            Err(refused) => {
+                return Err(SetupError {
+                    fault: StartError::Carry(refused.fault),
+                    disk: refused.disk,
+                });
+            }
+        };
         let manner = Manner {
             commits: self.commits,
             burst: self.burst,

@@ -1,4 +1,4 @@
-//! A start over a disk that has other allocations when it is opened again, and the receive buffers of relay sockets.
+//! A start opens its store once, and the receive buffers of relay sockets.
 
 use super::started::start;
 use super::stores::{FRAME, allocated, formatted, fresh, put};
@@ -12,7 +12,7 @@ use turn_config::values::{number_32, split_once};
 use turn_cred::AuthHandler;
 use turn_disk::{Disk, FileDisk};
 use turn_engine::Server;
-use turn_serving::{Commits, RelaySockets, Silent, StartError};
+use turn_serving::{Commits, RelaySockets, Silent};
 use turn_sockets::BoundSocket;
 
 const CONFIG: &[u8] = b"realm example.org
@@ -45,14 +45,6 @@ fn pair(alloc: Global) -> Result<Vec<u8>, Fail> {
     Ok(bytes)
 }
 
-/// What a start comes to.
-#[derive(Clone, Copy, PartialEq, Eq)]
-struct Came {
-    fault: Option<StartError>,
-    /// The receive buffer of the socket of port 63,019, if there is one.
-    buffer: Option<u32>,
-}
-
 /// The receive buffer of a port's socket, if it has one.
 fn buffer_at<D: Disk, H: AuthHandler, G: RelaySockets>(
     server: &Server<D, H, G>,
@@ -61,35 +53,24 @@ fn buffer_at<D: Disk, H: AuthHandler, G: RelaySockets>(
     server.ports().socket(port).map(BoundSocket::receive_buffer)
 }
 
-/// What a start over a file comes to.
-fn start_over(rt: &HostRuntime, file: Changing<'_>) -> Result<Came, Fail> {
+/// The receive buffer of the socket of port 63,019, if it has one after a start over a file, which has the other content at a second
+/// opening. The store is opened once.
+fn found_buffer(rt: &HostRuntime, store: &[u8], other: &[u8]) -> Result<Option<u32>, Fail> {
     let configured = read_config(rt.alloc(), CONFIG).map_err(|_| "a configuration")?;
-    let size = file.first.len();
-    let disk = FileDisk::new(TestFile(file), size);
-    let (fault, buffer) = match start(rt, configured, Commits::EachTurn, rt, disk, Silent) {
-        Ok(serving) => {
-            let buffer = buffer_at(serving.server(), 63_019);
-            serving.close();
-            (None, buffer)
-        }
-        Err(fault) => (Some(fault), None),
-    };
-    Ok(Came { fault, buffer })
-}
-
-/// What a start comes to over a file that has these contents at its two openings, if both are made.
-fn outcome(rt: &HostRuntime, first: &[u8], second: &[u8]) -> Result<Came, Fail> {
     let syncs = Cell::new(0);
-    let came = start_over(
-        rt,
-        Changing {
-            first,
-            second,
-            syncs: &syncs,
-        },
+    let file = Changing {
+        first: store,
+        second: other,
+        syncs: &syncs,
+    };
+    let disk = FileDisk::new(TestFile(file), store.len());
+    let serving = start(rt, configured, Commits::EachTurn, rt, disk, Silent).map_err(
+        |_| "a start",
     )?;
-    if syncs.get() == 2 {
-        Ok(came)
+    let buffer = buffer_at(serving.server(), 63_019);
+    serving.close();
+    if syncs.get() == 1 {
+        Ok(buffer)
     } else {
         Err(Fail::new("another number of openings"))
     }
@@ -103,36 +84,21 @@ fn given_buffer(rt: &HostRuntime) -> Result<u32, Fail> {
     Ok(limit.min(8 << 20).wrapping_mul(2))
 }
 
-fn started(buffer: Option<u32>) -> Came {
-    Came {
-        fault: None,
-        buffer,
-    }
-}
-
 #[test]
-fn a_start_needs_a_socket_for_each_port_of_its_second_opening(rt: HostRuntime) -> Result<(), Fail> {
+fn a_start_has_a_socket_for_each_port_of_its_store(rt: HostRuntime) -> Result<(), Fail> {
     let (empty, allocated) = (fresh(rt.alloc())?, allocated(rt.alloc(), 63_019)?);
     let buffer = Some(given_buffer(&rt)?);
-    assert!(rt; outcome(&rt, &allocated, &allocated)? == started(buffer));
-    let refused = Came {
-        fault: Some(StartError::Changed),
-        ..started(None)
-    };
-    assert!(rt; outcome(&rt, &empty, &allocated)? == refused);
+    assert!(rt; found_buffer(&rt, &allocated, &empty)? == buffer);
     // Nor has another port one.
-    assert!(rt; outcome(&rt, &allocated, &empty)? == refused);
+    assert!(rt; found_buffer(&rt, &empty, &allocated)?.is_none());
     Ok(())
 }
 
 #[test]
-fn a_start_needs_a_socket_for_each_reserved_port(rt: HostRuntime) -> Result<(), Fail> {
+fn a_start_has_a_socket_for_each_reserved_port(rt: HostRuntime) -> Result<(), Fail> {
     let (even, pair) = (even(rt.alloc())?, pair(rt.alloc())?);
-    assert!(rt; outcome(&rt, &pair, &pair)? == started(Some(given_buffer(&rt)?)));
-    let refused = Came {
-        fault: Some(StartError::Changed),
-        ..started(None)
-    };
-    assert!(rt; outcome(&rt, &even, &pair)? == refused);
+    let buffer = Some(given_buffer(&rt)?);
+    assert!(rt; found_buffer(&rt, &pair, &even)? == buffer);
+    assert!(rt; found_buffer(&rt, &even, &pair)?.is_none());
     Ok(())
 }

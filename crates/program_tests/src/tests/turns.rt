@@ -26,25 +26,21 @@ fn begin_failing(
 #[derive(Clone, Copy, PartialEq, Eq)]
 enum Place {
     Start,
-    /// In the second opening of a start.
-    Reopening,
     /// In the commit of the first Allocate.
     Commit,
     Later,
 }
 
-/// A start opens the empty store twice, by 12 calls each: a sync, the superblock, four reads of each area's head, the snapshot
-/// and the gate after it. The commit of an Allocate makes four.
-const CALLS: [(u64, Place); 9] = [
+/// A start opens the empty store by 12 calls: a sync, the superblock, four reads of each area's head, the snapshot and the gate after it.
+/// The commit of an Allocate makes four.
+const CALLS: [(u64, Place); 7] = [
     (1, Place::Start),
     (12, Place::Start),
-    (13, Place::Reopening),
-    (24, Place::Reopening),
-    (25, Place::Commit),
-    (26, Place::Commit),
-    (27, Place::Commit),
-    (28, Place::Commit),
-    (29, Place::Later),
+    (13, Place::Commit),
+    (14, Place::Commit),
+    (15, Place::Commit),
+    (16, Place::Commit),
+    (17, Place::Later),
 ];
 
 /// Where a turn fails, of a challenge and an Allocate. If it is in the commit, the Allocate gets no answer, and there is no
@@ -73,7 +69,6 @@ fn expect_place(rt: &HostRuntime, call: u64, place: Place) -> Result<(), Fail> {
             found?
         }
         Err(ClientError::Start(StartError::Store(OpenError::Device))) => Place::Start,
-        Err(ClientError::Start(StartError::Reopen(OpenError::Device))) => Place::Reopening,
         Err(_) => return Err(Fail::new("another fault")),
     };
     if found == place {
@@ -91,9 +86,9 @@ fn a_turn_whose_commit_fails_answers_nothing(rt: HostRuntime) -> Result<(), Fail
     Ok(())
 }
 
-/// A burst, and a device call from the commits of two Refreshes on, the first one after an Allocate being 29: whether a turn fails
+/// A burst, and a device call from the commits of two Refreshes on, the first one after an Allocate being 17: whether a turn fails
 /// of two after the Refreshes were sent. With a burst of 2 one commit of four calls has both.
-const REFRESHES: [(u8, u64, bool); 3] = [(1, 33, true), (2, 32, true), (2, 33, false)];
+const REFRESHES: [(u8, u64, bool); 3] = [(1, 21, true), (2, 20, true), (2, 21, false)];
 
 /// Whether a turn fails of two after two Refreshes.
 fn fails(rt: &HostRuntime, talk: &mut Talk<'_>) -> Result<bool, Fail> {

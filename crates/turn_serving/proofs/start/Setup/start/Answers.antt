@@ -1,51 +1,83 @@
-use Rattle.std.proofs.Common.{sym, ap, ◌∙◌, subst}
-use Rattle.turn_serving.specs.Starts.{KeepsImages}
+use Rattle.std.proofs.Common.{true, Err, Ok, sym, ap, ◌∙◌, refl, subst}
+use Rattle.turn_record.specs.Records.{IsSnapshot}
+use Rattle.turn_store.specs.Carrying.{Carries}
+use Rattle.turn_types.specs.Config.{Config}
+use Rattle.turn_types.specs.declared.limits.Bounds.{Bounds}
+use Rattle.turn_engine.specs.Calls.{Opening}
+use Rattle.turn_serving.specs.Starts.{IsRefusedFor, KeepsImages}
 use Rattle.turn_serving.proofs.Held.{all_pass}
-use Rattle.turn_serving.proofs.Starts.{both_kept, joined, not_first, opened_images, refused_again, started, started_as, told_by_sockets}
+use Rattle.turn_serving.proofs.Starts.{not_carried, refused_for, refused_images, started, started_as, store_images, store_refused, told_by_sockets}
 use Rattle.turn_serving.proofs.start.Setup.start.Goals as goal
 
-pub returns-in-Err-open-clause-stop_err : goal.returns-in-Err-open-clause-stop_err
-returns-in-Err-open-clause-stop_err g c = joined g.D.Disk c.in-Ok.ensures.kept.images c.in-Err-open.ensures.images_err
+pub returns-in-Err-bind_beside-clause-stop_err : goal.returns-in-Err-bind_beside-clause-stop_err
+returns-in-Err-bind_beside-clause-stop_err g c = subst (λ d. KeepsImages g.D.Disk c.args.disk d) (sym c.into_disk.ensures) (store_images g.D.Disk c.in-Ok.ensures.opens)
 
-pub returns-in-Err-open-clause-same_err : goal.returns-in-Err-open-clause-same_err
-returns-in-Err-open-clause-same_err g c crash_model later =
-    let unasked = c.is_first-carry.ensures ∙ not_first _ _ (c.in-Ok.ensures.version (c.in-Err-open.ensures.images_err.crash_model crash_model)) later in
-    (both_kept g.D.Disk c.in-Ok.ensures.kept (c.in-Err-open.ensures.kept_err unasked)).content crash_model
+pub returns-in-Err-bind_beside-clause-same_err : goal.returns-in-Err-bind_beside-clause-same_err
+returns-in-Err-bind_beside-clause-same_err g c = rw c.into_disk.ensures (λ crash_model later. c.in-Ok.ensures.opens.same refl crash_model)
 
-pub returns-then-not-holds_ports-clause-same_err : goal.returns-then-not-holds_ports-clause-same_err
-returns-then-not-holds_ports-clause-same_err g c crash_model later =
-    let now = subst (λ d. g.D.Disk.follows_crash_model d) c.close-disk.ensures.disk crash_model in
-    let unasked = c.is_first-carry.ensures ∙ not_first _ _ (c.in-Ok.ensures.version (c.in-Ok-open.ensures.opens.uses.crash_model now)) later in
-    ap (λ d. (g.D.Disk.trace d).now.bytes) c.close-disk.ensures.disk ∙ (both_kept g.D.Disk c.in-Ok.ensures.kept (c.in-Ok-open.ensures.kept unasked)).content now
-
-pub returns-then-not-holds_ports-clause-stop_err : goal.returns-then-not-holds_ports-clause-stop_err
-returns-then-not-holds_ports-clause-stop_err g c =
-    subst (λ d. KeepsImages g.D.Disk c.args.disk d) (sym c.close-disk.ensures.disk) (joined g.D.Disk c.in-Ok.ensures.kept.images (opened_images g.D.Disk c.in-Ok-open.ensures.opens))
-
-pub returns-clause-started : goal.returns-clause-started
-returns-clause-started g c =
-    started_as c.new.ensures.server
-    (started g.D.Disk g.H.AuthHandler _ _ _ _ _ _ _ _ _ c.in-Ok.ensures.kept c.in-Ok.ensures.handler c.in-Ok-bind_beside.ensures.range c.in-Ok-open.ensures.opens _ c.in-Ok.ensures.version _ c.is_first-carry.ensures
-    c.in-Ok-open.ensures.carried)
-
-pub returns-clause-sockets : goal.returns-clause-sockets
-returns-clause-sockets g c = rw c.new.ensures.server (all_pass _ c.in-Ok-open.server.machine.table.contents (c.holds_ports.ensures.0 search))
-
-pub returns-clause-held : goal.returns-clause-held
-returns-clause-held g c = rw c.new.ensures.server (c.holds_ports.ensures.0 search)
-
-pub returns-clause-same : goal.returns-clause-same
-returns-clause-same g c crash_model later =
-    let now = subst (λ s. g.D.Disk.follows_crash_model s.store.disk) c.new.ensures.server crash_model in
-    let unasked = c.is_first-carry.ensures ∙ not_first _ _ (c.in-Ok.ensures.version (c.in-Ok-open.ensures.opens.uses.crash_model now)) later in
-    ap (λ s. (g.D.Disk.trace s.store.disk).now.bytes) c.new.ensures.server ∙ (both_kept g.D.Disk c.in-Ok.ensures.kept (c.in-Ok-open.ensures.kept unasked)).content now
-
-pub returns-clause-stop : goal.returns-clause-stop
-returns-clause-stop g c =
-    subst (λ s. KeepsImages g.D.Disk c.args.disk s.store.disk) (sym c.new.ensures.server) (joined g.D.Disk c.in-Ok.ensures.kept.images (opened_images g.D.Disk c.in-Ok-open.ensures.opens))
-
-pub returns-in-Err-open-clause-refused : goal.returns-in-Err-open-clause-refused
-returns-in-Err-open-clause-refused g c = refused_again g.D.Disk _ _ c.in-Ok.ensures.kept c.in-Err-open.ensures.images_err c.in-Err-open.ensures.refused
+pub returns-in-Err-bind_beside-clause-before_err : goal.returns-in-Err-bind_beside-clause-before_err
+returns-in-Err-bind_beside-clause-before_err g c = rw c.into_disk.ensures (λ crash_model before. c.in-Ok.ensures.opens.same refl crash_model)
 
 pub returns-in-Err-bind_beside-clause-refused : goal.returns-in-Err-bind_beside-clause-refused
 returns-in-Err-bind_beside-clause-refused g c = told_by_sockets _ _ c.from.ensures
+
+pub carry_over-requires-clause-limits : goal.carry_over-requires-clause-limits
+carry_over-requires-clause-limits g c = c.in-Ok.ensures.opens.bounds.1 ∙ sym c.in-Ok.ensures.opens.bounds.0
+
+pub carry_over-requires-clause-snapshot : goal.carry_over-requires-clause-snapshot
+carry_over-requires-clause-snapshot g c =
+    let o = c.in-Ok.opened.0 in
+    subst (λ (b : Bounds). IsSnapshot o.store.version b o.table.moment o.table.contents) (sym c.in-Ok.ensures.opens.bounds.0) c.in-Ok.ensures.opens.snapshot
+
+pub returns-in-Err-carry_over-clause-stop_err : goal.returns-in-Err-carry_over-clause-stop_err
+returns-in-Err-carry_over-clause-stop_err g c = store_images g.D.Disk (c.in-Err-carry_over.ensures.opens c.args.disk _ c.in-Ok.ensures.opens)
+
+pub returns-in-Err-carry_over-clause-same_err : goal.returns-in-Err-carry_over-clause-same_err
+returns-in-Err-carry_over-clause-same_err g c =
+    not_carried g.D.Disk c.in-Ok.opened.0 c.in-Ok.ensures.opens (Err c.in-Err-carry_over.field-0) c.in-Err-carry_over.ensures.kept c.in-Err-carry_over.ensures.crash_model
+
+pub returns-in-Err-carry_over-clause-refused : goal.returns-in-Err-carry_over-clause-refused
+returns-in-Err-carry_over-clause-refused g c = store_refused g.D.Disk (c.in-Err-carry_over.ensures.opens c.args.disk _ c.in-Ok.ensures.opens)
+
+pub over-requires-clause-bounds : goal.over-requires-clause-bounds
+over-requires-clause-bounds g c = rw c.in-Ok.ensures.config (c.in-Ok-carry_over.ensures.opens c.args.disk _ c.in-Ok.ensures.opens).bounds
+
+pub over-requires-clause-snapshot : goal.over-requires-clause-snapshot
+over-requires-clause-snapshot g c = rw c.in-Ok.ensures.config (c.in-Ok-carry_over.ensures.opens c.args.disk _ c.in-Ok.ensures.opens).snapshot
+
+pub returns-in-Err-over-clause-stop_err : goal.returns-in-Err-over-clause-stop_err
+returns-in-Err-over-clause-stop_err g c =
+    refused_images g.D.Disk (c.in-Err-over.ensures.call c.args.disk true (rw c.in-Ok.ensures.config (c.in-Ok-carry_over.ensures.opens c.args.disk _ c.in-Ok.ensures.opens)))
+
+pub returns-in-Err-over-clause-refused : goal.returns-in-Err-over-clause-refused
+returns-in-Err-over-clause-refused g c =
+    subst (λ (x : Config). IsRefusedFor g.D.Disk c.args.disk c.in-Err-over.refused.disk x.limits c.in-Err-over.refused.fault) c.in-Ok.ensures.config
+    (refused_for g.D.Disk (c.in-Err-over.ensures.call c.args.disk true (rw c.in-Ok.ensures.config (c.in-Ok-carry_over.ensures.opens c.args.disk _ c.in-Ok.ensures.opens))))
+
+pub returns-in-Err-over-clause-same_err : goal.returns-in-Err-over-clause-same_err
+returns-in-Err-over-clause-same_err g c =
+    rw c.in-Err-over.ensures.disk (not_carried g.D.Disk c.in-Ok.opened.0 c.in-Ok.ensures.opens (Ok c.in-Ok-carry_over.opened) c.in-Ok-carry_over.ensures.kept c.in-Ok-carry_over.ensures.crash_model)
+
+pub returns-clause-started : goal.returns-clause-started
+returns-clause-started g c =
+    let opens = c.in-Ok-carry_over.ensures.opens c.args.disk _ c.in-Ok.ensures.opens in
+    let call = c.in-Ok-over.ensures.call c.args.disk true (rw c.in-Ok.ensures.config opens) in
+    started_as c.new.ensures.server
+    (started g.D.Disk g.H.AuthHandler _ c.args.disk _ _ _ _ _ c.in-Ok-bind_beside.ensures.range
+    (subst (λ (x : Config). Opening g.D.Disk c.args.disk x c.args.handler c.in-Ok-bind_beside.beside.ports (Ok c.in-Ok-over.server)) c.in-Ok.ensures.config call)
+    (subst (λ st. g.D.Disk.follows_crash_model st.disk → Carries true (g.D.Disk.trace c.args.disk).now.bytes st) (sym (ap (λ s. s.store) c.in-Ok-over.ensures.ok)) opens.carried))
+
+pub returns-clause-sockets : goal.returns-clause-sockets
+returns-clause-sockets g c = rw (c.new.ensures.server, c.in-Ok-over.ensures.ok, c.in-Ok-carry_over.ensures.table) (all_pass _ c.in-Ok.opened.0.table.contents c.in-Ok-bind_beside.ensures.held)
+
+pub returns-clause-held : goal.returns-clause-held
+returns-clause-held g c = rw (c.new.ensures.server, c.in-Ok-over.ensures.ok, c.in-Ok-carry_over.ensures.table) c.in-Ok-bind_beside.ensures.held
+
+pub returns-clause-same : goal.returns-clause-same
+returns-clause-same g c =
+    rw (c.new.ensures.server, c.in-Ok-over.ensures.ok)
+    (not_carried g.D.Disk c.in-Ok.opened.0 c.in-Ok.ensures.opens (Ok c.in-Ok-carry_over.opened) c.in-Ok-carry_over.ensures.kept c.in-Ok-carry_over.ensures.crash_model)
+
+pub returns-clause-stop : goal.returns-clause-stop
+returns-clause-stop g c =
+    rw (c.new.ensures.server, c.in-Ok-over.ensures.ok) (store_images g.D.Disk (c.in-Ok-carry_over.ensures.opens c.args.disk _ c.in-Ok.ensures.opens))
