@@ -16,7 +16,7 @@ mod measured;
 mod records;
 mod requests;
 mod server;
-mod spelled;
+mod encoded;
 mod store;
 
 use std::{env, io};

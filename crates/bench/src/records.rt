@@ -4,7 +4,7 @@ mod calls;
 mod kept;
 
 use crate::measured::best_of;
-use crate::spelled::{ENTRIES, Shape, spell};
+use crate::encoded::{ENTRIES, Shape, encode};
 use calls::{is_right, read_pieces, read_whole, write_pieces, write_whole};
 use kept::Kept;
 use std::io;
@@ -53,7 +53,7 @@ fn measure_calls(rt: &HostRuntime, kept: &Kept, bytes: &[u8], count: usize) -> i
 /// Measures snapshots of entries without permissions and channels, and with a few of each.
 pub fn measure_all(rt: &HostRuntime, count: usize) -> io::Result<()> {
     for shape in [Shape::PLAIN, Shape::WITH_PEERS] {
-        let bytes = spell(rt.alloc(), Version::V1, shape)?;
+        let bytes = encode(rt.alloc(), Version::V1, shape)?;
         println!(rt;
             "{ENTRIES} entries of {} permissions and {} channels, {} bytes",
             shape.permissions,

@@ -3,7 +3,7 @@
 mod stored;
 
 use crate::measured::{ROUNDS, Timing, best_of, time};
-use crate::spelled::{Shape, renewals, spell};
+use crate::encoded::{Shape, renewals, encode};
 use std::alloc::Global;
 use std::{fs, io};
 use stored::Stored;
@@ -142,7 +142,7 @@ fn measure_store(
     count: usize,
 ) -> io::Result<bool> {
     let alloc = rt.alloc();
-    let bytes = spell(alloc, version, shape)?;
+    let bytes = encode(alloc, version, shape)?;
     println!(rt; "version {version:?}, snapshot: {} bytes", bytes.len())?;
     let Some(mut stored) = make_compacted(rt, path, version, &bytes)? else {
         return Ok(false);
@@ -165,7 +165,7 @@ fn measure_store(
 /// Makes a store of version 1 with a table of this shape in each round, and opens it, which carries it over. Prints the microseconds of
 /// the opening in the best round, and then of an opening of the carried store. Returns false if it was not made, or not carried over.
 fn measure_carrying(rt: &HostRuntime, path: &str, shape: Shape, count: usize) -> io::Result<bool> {
-    let bytes = spell(rt.alloc(), Version::V1, shape)?;
+    let bytes = encode(rt.alloc(), Version::V1, shape)?;
     let mut best: Option<Timing> = None;
     let mut carried = None;
     for _ in 0..ROUNDS {

@@ -1,4 +1,4 @@
-//! Values as texts spell them.
+//! Values as texts encode them.
 
 use std::alloc::Global;
 use std::collections::BTreeMap;
@@ -31,7 +31,7 @@ impl Values {
         }
     }
 
-    /// Gives the bytes that a word spells a name.
+    /// Gives the bytes that a word encodes a name.
     pub fn name(&mut self, name: &str, word: &str) -> Option<()> {
         let value = self.bytes(word)?;
         let name = Vec::from_slice(self.alloc, name.as_bytes()).ok()?;

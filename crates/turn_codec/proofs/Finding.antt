@@ -5,7 +5,7 @@ use Rattle.std.proofs.lemmas.Bool.{eq-eqb, ne_eqb}
 use Rattle.std.proofs.lemmas.Bool.Decides.{eqb_tells}
 use Rattle.std.proofs.lemmas.List.Sums.{sum_by-cons}
 use Rattle.std.proofs.Math.Seq.{take-append-add}
-use Rattle.turn_codec.specs.Grammar.{Attribute, SpellsAttributes, size_of, before, from, value_of, FirstHas}
+use Rattle.turn_codec.specs.Grammar.{Attribute, EncodesAttributes, size_of, before, from, value_of, FirstHas}
 use Rattle.turn_codec.specs.Reading.{first_attribute, attributes_in, attributes_of}
 use Rattle.turn_codec.proofs.Walk.{attribute_size, first_size, is_some_end, of_cons, of_end, rest_whole}
 
@@ -81,9 +81,9 @@ pub before_all : (kind : ℕ) (attributes : List Attribute) → from kind attrib
 before_all kind [] e = refl
 before_all kind (a ∷ others) e = grind (arith, before_all kind others)
 
-pub before_spelled : (kind : ℕ) (attributes : List Attribute) (bytes : List ℕ) → SpellsAttributes bytes attributes → SpellsAttributes (take (sum_by size_of (before kind attributes)) bytes) (before kind attributes)
-before_spelled kind [] bytes s = refl
-before_spelled kind (a ∷ others) bytes s =
+pub before_encoded : (kind : ℕ) (attributes : List Attribute) (bytes : List ℕ) → EncodesAttributes bytes attributes → EncodesAttributes (take (sum_by size_of (before kind attributes)) bytes) (before kind attributes)
+before_encoded kind [] bytes s = refl
+before_encoded kind (a ∷ others) bytes s =
     elim (eqb_tells a.kind kind) [
       | inl h ↦ rw h.0 refl
       | inr h ↦ rw h.0 (
@@ -93,7 +93,7 @@ before_spelled kind (a ∷ others) bytes s =
             ∙ ap (λ (k : ℕ). take k (s.0 ++ s.1)) (sum_by-cons size_of a (before kind others) ∙ ap (λ (k : ℕ). k + sum_by size_of (before kind others)) (sym (attribute_size s.0 a s.3)))
             ∙ take-append-add s.0 s.1 (sum_by size_of (before kind others)),
         s.3,
-        before_spelled kind others s.1 s.4,
+        before_encoded kind others s.1 s.4,
       )
     ]
 

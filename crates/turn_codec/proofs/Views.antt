@@ -2,30 +2,30 @@
 use Rattle.std.proofs.Common.{◌≡◌, ℕ, ◌+◌, ◌-◌, ◌^◌, ◌<◌, ◌≤◌, Bool, List, [], ◌∷◌, length, take, drop, Option, Some, refl, sym, ap, subst, ◌∙◌, arith}
 use Rattle.std.specs.Prelude.{sum_by}
 use Rattle.std.proofs.lemmas.List.{drop_at, take_all, length-drop}
-use Rattle.turn_codec.specs.Grammar.{Attribute, Content, Datagram, Spells, SpellsAttributes, size_of, before, from, offset_of, FirstHas}
+use Rattle.turn_codec.specs.Grammar.{Attribute, Content, Datagram, Encodes, EncodesAttributes, size_of, before, from, offset_of, FirstHas}
 use Rattle.turn_codec.specs.Reading.{attributes_in, attributes_of, content_of, datagram_of, IsDatagram}
 use Rattle.turn_codec.proofs.Walk.{count_le, in_complete}
-use Rattle.turn_codec.proofs.Finding.{before_spelled, before_all}
+use Rattle.turn_codec.proofs.Finding.{before_encoded, before_all}
 
 -- the end of a slice, as the code takes it
 pub body_is : (bytes : List ℕ) → take (length bytes - 20) (drop 20 bytes) ≡ drop 20 bytes
 body_is bytes = take_all (length bytes - 20) (drop 20 bytes) (omega (arith, length-drop 20 bytes))
 
-pub body_spelled : (bytes : List ℕ) (m : Content) → Spells bytes m → SpellsAttributes (drop 20 bytes) m.attributes
-body_spelled bytes m s = subst (λ (b : List ℕ). SpellsAttributes b m.attributes) (sym (ap (drop 20) s.is ∙ drop_at m.tx s.body 12 s.tx_size)) s.attributes
+pub body_encoded : (bytes : List ℕ) (m : Content) → Encodes bytes m → EncodesAttributes (drop 20 bytes) m.attributes
+body_encoded bytes m s = subst (λ (b : List ℕ). EncodesAttributes b m.attributes) (sym (ap (drop 20) s.is ∙ drop_at m.tx s.body 12 s.tx_size)) s.attributes
 
-pub spells_view : (bytes : List ℕ) (d : Datagram) → datagram_of bytes ≡ d → IsDatagram bytes → Spells d.bytes d.content
+pub encodes_view : (bytes : List ℕ) (d : Datagram) → datagram_of bytes ≡ d → IsDatagram bytes → Encodes d.bytes d.content
 unfolding datagram_of
-spells_view bytes d e h = subst (λ (x : Datagram). Spells x.bytes x.content) e h.spells
+encodes_view bytes d e h = subst (λ (x : Datagram). Encodes x.bytes x.content) e h.encodes
 
 -- a message has fewer than 2^14 attributes
 pub few_view : (bytes : List ℕ) (d : Datagram) → datagram_of bytes ≡ d → IsDatagram bytes → length d.content.attributes < 2 ^ 14
 unfolding datagram_of
 few_view bytes d e h =
     let m = content_of bytes in
-    let body-size : length (drop 20 bytes) ≡ length h.spells.body = ap length (ap (drop 20) h.spells.is ∙ drop_at m.tx h.spells.body 12 h.spells.tx_size) in
-    let fits = h.spells.size_fits in
-    let count = count_le m.attributes (drop 20 bytes) (body_spelled bytes m h.spells) in
+    let body-size : length (drop 20 bytes) ≡ length h.encodes.body = ap length (ap (drop 20) h.encodes.is ∙ drop_at m.tx h.encodes.body 12 h.encodes.tx_size) in
+    let fits = h.encodes.size_fits in
+    let count = count_le m.attributes (drop 20 bytes) (body_encoded bytes m h.encodes) in
     let small : length m.attributes < 2 ^ 14 = omega arith in
     subst (λ (x : Datagram). length x.content.attributes < 2 ^ 14) e small
 
@@ -59,7 +59,7 @@ located_view bytes d kind size value is_last e long found =
 
 pub seen_in : (bytes : List ℕ) (kind : ℕ) → IsDatagram bytes → attributes_in (take (sum_by size_of (before kind (attributes_of (drop 20 bytes)))) (drop 20 bytes)) ≡ Some (before kind (attributes_of (drop 20 bytes)))
 unfolding content_of
-seen_in bytes kind h = in_complete _ _ (before_spelled kind (attributes_of (drop 20 bytes)) (drop 20 bytes) (body_spelled bytes (content_of bytes) h.spells))
+seen_in bytes kind h = in_complete _ _ (before_encoded kind (attributes_of (drop 20 bytes)) (drop 20 bytes) (body_encoded bytes (content_of bytes) h.encodes))
 
 pub seen_view : (bytes : List ℕ) (d : Datagram) (kind size : ℕ) → datagram_of bytes ≡ d → IsDatagram bytes
     → (let body = take (length bytes - 20) (drop 20 bytes) in (size ≡ sum_by size_of (before kind (attributes_of body))) →

@@ -7,7 +7,7 @@ use Rattle.std.proofs.lemmas.List.{take_at, drop_at, take-append-drop, length-ap
 use Rattle.std.proofs.Math.Seq.{take-add}
 use Rattle.std.proofs.lemmas.Option.{option_and_then_some, same_Some}
 use Rattle.std.proofs.lemmas.Nat.{be_bytes_2, from_be_bytes-to_be_bytes_2}
-use Rattle.turn_codec.specs.Grammar.{Attribute, SpellsAttribute, SpellsAttributes, size_of}
+use Rattle.turn_codec.specs.Grammar.{Attribute, EncodesAttribute, EncodesAttributes, size_of}
 use Rattle.turn_codec.specs.Reading.{padded, value_at, first_attribute, attributes_within, attributes_in, attributes_of}
 
 abbrev pub IsBytes : List ℕ → Type 0
@@ -51,7 +51,7 @@ first_found P each (k ∷ l ∷ m ∷ n ∷ rest) x e = by_test (ltb (length res
 pub record Takes (bytes : List ℕ) (a : Attribute) (rest : List ℕ) : Type 0 where
   pub front : List ℕ
   pub is : bytes ≡ front ++ rest
-  pub spells : SpellsAttribute front a
+  pub encodes : EncodesAttribute front a
 
 pub first_sound : (bytes : List ℕ) (x : Attribute × List ℕ) → first_attribute bytes ≡ Some x → IsBytes bytes → Takes bytes x.0 x.1
 first_sound = first_found (λ bytes x. IsBytes bytes → Takes bytes x.0 x.1) (λ k l m n rest long fits.
@@ -64,7 +64,7 @@ first_sound = first_found (λ bytes x. IsBytes bytes → Takes bytes x.0 x.1) (�
     record {
       front = k ∷ l ∷ m ∷ n ∷ take (padded size) rest;
       is = ap (λ (t : List ℕ). k ∷ l ∷ m ∷ n ∷ t) (sym (take-append-drop (padded size) rest));
-      spells = record {
+      encodes = record {
         padding = take (padded size - size) (drop size rest);
         is = cc;
         short = omega (arith, length-take (padded size - size) (drop size rest));
@@ -79,7 +79,7 @@ first_size = first_found (λ bytes x. length bytes ≡ length x.1 + size_of x.0)
     let size = from_be_bytes w16 (m ∷ n ∷ []) in
     omega (arith, length-take size rest, length-drop (padded size) rest))
 
-pub first_complete : (front rest : List ℕ) (a : Attribute) → SpellsAttribute front a → first_attribute (front ++ rest) ≡ Some (a, rest)
+pub first_complete : (front rest : List ℕ) (a : Attribute) → EncodesAttribute front a → first_attribute (front ++ rest) ≡ Some (a, rest)
 unfolding first_attribute
 first_complete front rest a s =
     let v = a.value in
@@ -101,12 +101,12 @@ first_complete front rest a s =
     ∙ ap (λ (k : ℕ). value_at a.kind k bytes) size-again
     ∙ read
 
-pub attribute_size : (front : List ℕ) (a : Attribute) → SpellsAttribute front a → length front ≡ size_of a
+pub attribute_size : (front : List ℕ) (a : Attribute) → EncodesAttribute front a → length front ≡ size_of a
 attribute_size front a s = let e : length front ≡ 4 + length a.value + length s.padding = ap length s.is ∙ omega (arith, length-append a.value s.padding) in omega (arith, s.short, s.aligned)
 
 -- ---- the whole walk
 
-pub within_complete : (attributes : List Attribute) (n : ℕ) (bytes : List ℕ) → SpellsAttributes bytes attributes → length attributes ≤ n → attributes_within n bytes ≡ Some attributes
+pub within_complete : (attributes : List Attribute) (n : ℕ) (bytes : List ℕ) → EncodesAttributes bytes attributes → length attributes ≤ n → attributes_within n bytes ≡ Some attributes
 unfolding attributes_within
 within_complete [] zero bytes s h = rw s refl
 within_complete [] (suc n) bytes s h = rw s refl
@@ -128,24 +128,24 @@ mapped : {A B : Type 0} (f : A → B) (o : Option A) (y : B) → option_map f o 
 mapped f None y e = absurd cc
 mapped f (Some x) y e = (x, refl, cc)
 
-nothing_spells : (bytes : List ℕ) (attributes : List Attribute) → eqb (length bytes) 0 ≡ true → [] ≡ attributes → SpellsAttributes bytes attributes
-nothing_spells bytes attributes b e = subst (SpellsAttributes bytes) e (nil_from_length bytes (eqb-true _ _ b))
+nothing_encodes : (bytes : List ℕ) (attributes : List Attribute) → eqb (length bytes) 0 ≡ true → [] ≡ attributes → EncodesAttributes bytes attributes
+nothing_encodes bytes attributes b e = subst (EncodesAttributes bytes) e (nil_from_length bytes (eqb-true _ _ b))
 
-pub within_sound : (n : ℕ) (bytes : List ℕ) (attributes : List Attribute) → IsBytes bytes → attributes_within n bytes ≡ Some attributes → SpellsAttributes bytes attributes
+pub within_sound : (n : ℕ) (bytes : List ℕ) (attributes : List Attribute) → IsBytes bytes → attributes_within n bytes ≡ Some attributes → EncodesAttributes bytes attributes
 unfolding attributes_within
 within_sound zero bytes attributes fits e =
     elim (ended (eqb (length bytes) 0) [] None attributes e) [
-      | inl w ↦ nothing_spells bytes attributes w.0 w.1
+      | inl w ↦ nothing_encodes bytes attributes w.0 w.1
       | inr w ↦ absurd (let h : None ≡ Some attributes = w.1 in cc)
     ]
 within_sound (suc n) bytes attributes fits e =
     elim (ended (eqb (length bytes) 0) [] _ attributes e) [
-      | inl w ↦ nothing_spells bytes attributes w.0 w.1
+      | inl w ↦ nothing_encodes bytes attributes w.0 w.1
       | inr w ↦ option_and_then_some _ (first_attribute bytes) attributes w.1 (λ x first more.
           let t = first_sound bytes x first fits in
           let m = mapped (λ others. x.0 ∷ others) (attributes_within n x.1) attributes more in
           let rest-fits : IsBytes x.1 = rest_bytes bytes t.front x.1 t.is fits in
-          subst (SpellsAttributes bytes) m.2 (t.front, x.1, t.is, t.spells, within_sound n x.1 m.0 rest-fits m.1))
+          subst (EncodesAttributes bytes) m.2 (t.front, x.1, t.is, t.encodes, within_sound n x.1 m.0 rest-fits m.1))
     ]
   where
     rest_bytes : (bytes front rest : List ℕ) → bytes ≡ front ++ rest → IsBytes bytes → IsBytes rest
@@ -188,16 +188,16 @@ in_none bytes e h =
     let some-bytes : eqb (length bytes) 0 ≡ false = grind arith in
     one ∙ rw (some-bytes, e) refl
 
-pub in_sound : (bytes : List ℕ) (attributes : List Attribute) → IsBytes bytes → attributes_in bytes ≡ Some attributes → SpellsAttributes bytes attributes
+pub in_sound : (bytes : List ℕ) (attributes : List Attribute) → IsBytes bytes → attributes_in bytes ≡ Some attributes → EncodesAttributes bytes attributes
 unfolding attributes_in
 in_sound bytes attributes fits e = within_sound (length bytes) bytes attributes fits e
 
 -- an attribute has at least 4 bytes
-pub count_le : (attributes : List Attribute) (bytes : List ℕ) → SpellsAttributes bytes attributes → 4 * length attributes ≤ length bytes
+pub count_le : (attributes : List Attribute) (bytes : List ℕ) → EncodesAttributes bytes attributes → 4 * length attributes ≤ length bytes
 count_le [] bytes s = omega arith
 count_le (a ∷ others) bytes s = omega (arith, ap length s.2, length-append s.0 s.1, attribute_size s.0 a s.3, count_le others s.1 s.4)
 
-pub in_complete : (bytes : List ℕ) (attributes : List Attribute) → SpellsAttributes bytes attributes → attributes_in bytes ≡ Some attributes
+pub in_complete : (bytes : List ℕ) (attributes : List Attribute) → EncodesAttributes bytes attributes → attributes_in bytes ≡ Some attributes
 unfolding attributes_in
 in_complete bytes attributes s = within_complete attributes (length bytes) bytes s (omega (arith, count_le attributes bytes s))
 

@@ -7,13 +7,13 @@ abbrev pub IsChannel : ℕ → Type 0
 IsChannel number = (0x4000 ≤ number) × (number < 0x8000)
 
 -- a number, the length of the payload, and the payload
-abbrev pub channel_spelling : ℕ → List ℕ → List ℕ
-channel_spelling number payload = to_be_bytes w16 number ++ to_be_bytes w16 (length payload) ++ payload
+abbrev pub channel_encoding : ℕ → List ℕ → List ℕ
+channel_encoding number payload = to_be_bytes w16 number ++ to_be_bytes w16 (length payload) ++ payload
 
 -- a datagram begins with channel data; any bytes follow
-pub record SpellsChannelData (bytes : List ℕ) (number : ℕ) (payload : List ℕ) : Type 0 where
+pub record EncodesChannelData (bytes : List ℕ) (number : ℕ) (payload : List ℕ) : Type 0 where
   -- padding, or anything else
   pub rest : List ℕ
-  pub is : bytes ≡ channel_spelling number payload ++ rest
+  pub is : bytes ≡ channel_encoding number payload ++ rest
   pub is_channel : IsChannel number
   pub fits : length payload < 2 ^ 16

@@ -37,7 +37,7 @@ abbrev pub cookie : ℕ
 cookie = 0x2112A442
 
 -- bytes encode an attribute: type, length, value, and any padding up to a multiple of 4
-pub record SpellsAttribute (bytes : List ℕ) (a : Attribute) : Type 0 where
+pub record EncodesAttribute (bytes : List ℕ) (a : Attribute) : Type 0 where
   pub padding : List ℕ
   pub is : bytes ≡ to_be_bytes w16 a.kind ++ to_be_bytes w16 (length a.value) ++ a.value ++ padding
   pub short : length padding < 4
@@ -46,13 +46,13 @@ pub record SpellsAttribute (bytes : List ℕ) (a : Attribute) : Type 0 where
   pub value_fits : length a.value < 2 ^ 16
 
 -- bytes encode attributes, one after the other
-abbrev pub SpellsAttributes : List ℕ → List Attribute → Type 0
-SpellsAttributes bytes [] = bytes ≡ []
-SpellsAttributes bytes (a ∷ others) =
-    (front : List ℕ) × (rest : List ℕ) × (bytes ≡ front ++ rest) × SpellsAttribute front a × SpellsAttributes rest others
+abbrev pub EncodesAttributes : List ℕ → List Attribute → Type 0
+EncodesAttributes bytes [] = bytes ≡ []
+EncodesAttributes bytes (a ∷ others) =
+    (front : List ℕ) × (rest : List ℕ) × (bytes ≡ front ++ rest) × EncodesAttribute front a × EncodesAttributes rest others
 
 -- bytes encode a message: the header, and the attributes, whose size is the header's length
-pub record Spells (bytes : List ℕ) (m : Content) : Type 0 where
+pub record Encodes (bytes : List ℕ) (m : Content) : Type 0 where
   -- the bytes of the attributes
   pub body : List ℕ
   pub is : bytes ≡ to_be_bytes w16 (type_number m.class m.method) ++ to_be_bytes w16 (length body)
@@ -60,7 +60,7 @@ pub record Spells (bytes : List ℕ) (m : Content) : Type 0 where
   pub method_fits : m.method < 2 ^ 12
   pub tx_size : length m.tx ≡ 12
   pub size_fits : length body < 2 ^ 16
-  pub attributes : SpellsAttributes body m.attributes
+  pub attributes : EncodesAttributes body m.attributes
 
 -- a datagram and what it says
 pub record Datagram : Type 0 where

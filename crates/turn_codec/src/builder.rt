@@ -2,7 +2,7 @@
 
 ghost use Rattle.std.specs.Prelude.{◌≡◌, ◌≤◌, ◌<◌, ◌^◌, ◌↔◌, ◌++◌, [], take, drop, length, vec_len, ◌+◌, IfOk, OnOk, OnErr};
 ghost use Rattle.std.specs.Int.{w16, to_be_bytes};
-ghost use Rattle.turn_codec.specs.Grammar.{Content, Spells, type_number, canonical, canonical_attribute, with_attribute, body_size, size_of};
+ghost use Rattle.turn_codec.specs.Grammar.{Content, Encodes, type_number, canonical, canonical_attribute, with_attribute, body_size, size_of};
 ghost use Rattle.turn_codec.specs.Reading.{grown};
 ghost use Rattle.turn_codec.specs.declared.builder.PushError.TheVariants.{Memory};
 
@@ -64,7 +64,7 @@ fn type_number_of(class: Class, method: Method) -> u16
 }
 
 fn header(class: Class, method: Method, tx: TxId) -> [u8; 20]
-    ensures spelling { result ≡ canonical (record { class = class; method = method; tx = tx.0; attributes = [] }) }
+    ensures encoding { result ≡ canonical (record { class = class; method = method; tx = tx.0; attributes = [] }) }
     ensures tx_size { length tx.0 ≡ 12 }
 {
     let mut header = [0; 20];
@@ -179,7 +179,7 @@ impl<A: Allocator + Copy> Builder<A> {
     /// The canonical encoding of the message so far: padding is zeros.
     pub fn as_bytes(&self) -> &[u8]
         ensures canonical { result.now ≡ canonical self.now }
-        ensures spells { Spells result.now self.now }
+        ensures encodes { Encodes result.now self.now }
         ensures size { length result.now ≡ 20 + body_size self.now }
         ensures small { body_size self.now ≤ 65532 }
     {
@@ -189,7 +189,7 @@ impl<A: Allocator + Copy> Builder<A> {
     /// The canonical encoding of the message: padding is zeros.
     pub fn finish(self) -> Vec<u8, A>
         ensures canonical { result.items ≡ canonical self }
-        ensures spells { Spells result.items self }
+        ensures encodes { Encodes result.items self }
     {
         self.bytes
     }

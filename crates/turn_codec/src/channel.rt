@@ -1,7 +1,7 @@
 //! ChannelData (RFC 8656, section 12.4).
 
 ghost use Rattle.std.specs.Prelude.{◌≡◌, ◌<◌, ◌^◌, ◌↔◌, ℕ, List, IsTrue, IsSomeAnd, length, IfSome, IfOk};
-ghost use Rattle.turn_codec.specs.Channel.{IsChannel, channel_spelling, SpellsChannelData};
+ghost use Rattle.turn_codec.specs.Channel.{IsChannel, channel_encoding, EncodesChannelData};
 
 use std::alloc::{AllocError, Allocator};
 
@@ -28,9 +28,9 @@ impl<'a> ChannelData<'a> {
     /// its end.
     pub fn parse(bytes: &'a [u8]) -> Option<ChannelData<'a>>
         // What is read is there.
-        ensures found { IfSome result (λ d. SpellsChannelData bytes.now d.number d.payload.now) }
+        ensures found { IfSome result (λ d. EncodesChannelData bytes.now d.number d.payload.now) }
         // What is there is read.
-        ensures only { (number : ℕ) (payload : List ℕ) → SpellsChannelData bytes.now number payload →
+        ensures only { (number : ℕ) (payload : List ℕ) → EncodesChannelData bytes.now number payload →
             IsSomeAnd result (λ d. (d.number ≡ number) × (d.payload.now ≡ payload)) }
     {
         let [k, l, m, n, rest @ ..] = bytes else {
@@ -51,7 +51,7 @@ impl<'a> ChannelData<'a> {
     pub fn write<A: Allocator>(&self, alloc: A) -> Result<Vec<u8, A>, AllocError>
         requires number { IsChannel self.now.number }
         requires size { length self.now.payload.now < 2 ^ 16 }
-        ensures { IfOk result (λ v. v.items ≡ channel_spelling self.now.number self.now.payload.now) }
+        ensures { IfOk result (λ v. v.items ≡ channel_encoding self.now.number self.now.payload.now) }
     {
         let size = self.payload.len();
         let mut bytes = Vec::with_capacity(alloc, 4 + size)?;

@@ -1,7 +1,7 @@
 //! A message in a datagram.
 
 ghost use Rattle.std.specs.Prelude.{◌≡◌, ◌≤◌, ◌<◌, ◌^◌, ◌+◌, [], take, length, IfOk, IfErr, MatchOption, option_copied, option_map};
-ghost use Rattle.turn_codec.specs.Grammar.{Content, Spells, before, from, value_of, IsFirstOf};
+ghost use Rattle.turn_codec.specs.Grammar.{Content, Encodes, before, from, value_of, IsFirstOf};
 ghost use Rattle.turn_codec.specs.Reading.{class_of, method_of};
 ghost use Rattle.turn_codec.specs.Fault.{fault_of, has_right_length};
 ghost use Rattle.turn_codec.specs.AttributeTypes.{message_integrity};
@@ -72,9 +72,9 @@ impl<'a> Message<'a> {
     /// ```
     pub fn parse(bytes: &'a [u8]) -> Result<Message<'a>, MessageError>
         // What is read is what the datagram encodes.
-        ensures found { IfOk result (λ m. (m.bytes ≡ bytes.now) × Spells bytes.now m.content) }
+        ensures found { IfOk result (λ m. (m.bytes ≡ bytes.now) × Encodes bytes.now m.content) }
         // What a datagram encodes is read.
-        ensures only { (m : Content) → Spells bytes.now m → result ≡ Ok (record { bytes = bytes.now; content = m }) }
+        ensures only { (m : Content) → Encodes bytes.now m → result ≡ Ok (record { bytes = bytes.now; content = m }) }
         ensures refused { IfErr result (λ e. e ≡ fault_of bytes.now) }
     {
         if bytes.len() < 20 {
@@ -99,7 +99,7 @@ impl<'a> Message<'a> {
     #[tactic(auto, unfolding(crate::specs::Reading::datagram_of))]
     pub fn as_bytes(&self) -> &'a [u8]
         ensures bytes { result.now ≡ self.now.bytes }
-        ensures spelled { Spells self.now.bytes self.now.content }
+        ensures encoded { Encodes self.now.bytes self.now.content }
         ensures size { (20 ≤ length self.now.bytes) × (length self.now.bytes < 2 ^ 16 + 20) }
     {
         self.bytes

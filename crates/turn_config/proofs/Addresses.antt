@@ -13,7 +13,7 @@ octet_without text n = number_without 256 46 text (λ h. omega arith) n
 
 pub one_dot : (text f r : List ℕ) (address : ℕ) (n : IsIp text address) → text ≡ f ++ 46 ∷ r → Without 46 f
     → (f ≡ n.a) × (r ≡ n.b ++ 46 ∷ (n.c ++ 46 ∷ n.d))
-one_dot text f r address n e w = same_split 46 text f r n.a (n.b ++ 46 ∷ (n.c ++ 46 ∷ n.d)) e n.spelled w (octet_without n.a n.numbers.0)
+one_dot text f r address n e w = same_split 46 text f r n.a (n.b ++ 46 ∷ (n.c ++ 46 ∷ n.d)) e n.encoded w (octet_without n.a n.numbers.0)
 
 pub two_dots : (text f r g s : List ℕ) (address : ℕ) (n : IsIp text address) → text ≡ f ++ 46 ∷ r → Without 46 f
     → r ≡ g ++ 46 ∷ s → Without 46 g → (g ≡ n.b) × (s ≡ n.c ++ 46 ∷ n.d)
@@ -42,12 +42,12 @@ ip_without mark text address none other n =
     = λ part m. number_without 256 mark part none m in
     let dot : (part rest : List ℕ) → Without mark part → Without mark rest → Without mark (part ++ 46 ∷ rest)
     = λ part rest f g. All-append (λ byte. byte ≢ mark) part (46 ∷ rest) f (cons_without mark 46 rest other g) in
-    rw n.spelled (dot n.a _ (free n.a n.numbers.0) (dot n.b _ (free n.b n.numbers.1)
+    rw n.encoded (dot n.a _ (free n.a n.numbers.0) (dot n.b _ (free n.b n.numbers.1)
     (dot n.c n.d (free n.c n.numbers.2) (free n.d n.numbers.3))))
 
 pub colon : (text f r : List ℕ) (endpoint : Endpoint) (n : IsEndpoint text endpoint) → text ≡ f ++ 58 ∷ r → Without 58 f
     → (f ≡ n.ip) × (r ≡ n.port)
-colon text f r endpoint n e w = same_split 58 text f r n.ip n.port e n.spelled w (ip_without 58 n.ip endpoint.ip (λ h. omega arith) (λ h. omega arith) n.address)
+colon text f r endpoint n e w = same_split 58 text f r n.ip n.port e n.encoded w (ip_without 58 n.ip endpoint.ip (λ h. omega arith) (λ h. omega arith) n.address)
 
 pub same_endpoint : (ip port : ℕ) (endpoint : Endpoint) → Some ip ≡ Some endpoint.ip → port ≡ endpoint.port
     → let read : Endpoint = record { ip = ip; port = port } in Some read ≡ Some endpoint

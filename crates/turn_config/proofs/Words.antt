@@ -24,11 +24,11 @@ number_of_line bound text n = number_without bound 32 text (λ h. omega arith) n
 
 pub range_words : (text f r : List ℕ) (range : IpRange) (n : IsRange text range) → text ≡ f ++ 32 ∷ r → Without 32 f
     → (f ≡ n.first) × (r ≡ n.last)
-range_words text f r range n e w = same_split 32 text f r n.first n.last e n.spelled w (ip_of_line n.first range.first n.from)
+range_words text f r range n e w = same_split 32 text f r n.first n.last e n.encoded w (ip_of_line n.first range.first n.from)
 
 pub relay_words : (text f r : List ℕ) (relay : Relay) (n : IsRelay text relay) → text ≡ f ++ 32 ∷ r → Without 32 f
     → (f ≡ n.ip) × (r ≡ n.low ++ 32 ∷ n.high)
-relay_words text f r relay n e w = same_split 32 text f r n.ip (n.low ++ 32 ∷ n.high) e n.spelled w (ip_of_line n.ip relay.ip n.address)
+relay_words text f r relay n e w = same_split 32 text f r n.ip (n.low ++ 32 ∷ n.high) e n.encoded w (ip_of_line n.ip relay.ip n.address)
 
 pub port_words : (text f r g s : List ℕ) (relay : Relay) (n : IsRelay text relay) → text ≡ f ++ 32 ∷ r → Without 32 f
     → r ≡ g ++ 32 ∷ s → Without 32 g → (g ≡ n.low) × (s ≡ n.high)
@@ -54,7 +54,7 @@ name_of_line text h = visible_without text (both _ _ (both _ _ h).0).1
 
 pub user_words : (text f r name password : List ℕ) (n : IsUser text name password) → text ≡ f ++ 32 ∷ r → Without 32 f
     → (f ≡ name) × (r ≡ password)
-user_words text f r name password n e w = same_split 32 text f r name password e n.spelled w (name_of_line name n.named)
+user_words text f r name password n e w = same_split 32 text f r name password e n.encoded w (name_of_line name n.named)
 
 pub same_range : (first last : ℕ) (range : IpRange) → Some first ≡ Some range.first → Some last ≡ Some range.last
     → let read : IpRange = record { first = first; last = last } in Some read ≡ Some range
@@ -67,7 +67,7 @@ same_relay ip ports relay e f = let same : ip ≡ relay.ip = cc in rw (same, f) 
 pub limits_words : (text f r : List ℕ) (bounds : Bounds) (n : IsLimits text bounds) → text ≡ f ++ 32 ∷ r → Without 32 f
     → (f ≡ n.a) × (r ≡ n.p ++ 32 ∷ (n.c ++ 32 ∷ (n.f ++ 32 ∷ n.n)))
 limits_words text f r bounds n e w =
-    same_split 32 text f r n.a (n.p ++ 32 ∷ (n.c ++ 32 ∷ (n.f ++ 32 ∷ n.n))) e n.spelled w (number_of_line (2 ^ 32) n.a n.first)
+    same_split 32 text f r n.a (n.p ++ 32 ∷ (n.c ++ 32 ∷ (n.f ++ 32 ∷ n.n))) e n.encoded w (number_of_line (2 ^ 32) n.a n.first)
 
 -- one more word, below 2^16
 pub next_word : (text f r a b : List ℕ) → IsNumberBelow (2 ^ 16) a → text ≡ a ++ 32 ∷ b → text ≡ f ++ 32 ∷ r → Without 32 f → (f ≡ a) × (r ≡ b)
@@ -86,9 +86,9 @@ pub same_bounds : (a p c f n : ℕ) (text : List ℕ) (b : Bounds) (is : IsLimit
     → let read : Bounds = record { allocations = a; permissions = p; channels = c; acts = f; name_bytes = n } in read ≡ b
 same_bounds a p c f n text b is e1 e2 e3 e4 e5 = rw (e1, e2, e3, e4, e5) (sym is.bounds_are)
 
-pub spelled : (text a r p s c t f n : List ℕ) → text ≡ a ++ 32 ∷ r → r ≡ p ++ 32 ∷ s → s ≡ c ++ 32 ∷ t → t ≡ f ++ 32 ∷ n
+pub encoded : (text a r p s c t f n : List ℕ) → text ≡ a ++ 32 ∷ r → r ≡ p ++ 32 ∷ s → s ≡ c ++ 32 ∷ t → t ≡ f ++ 32 ∷ n
     → text ≡ a ++ 32 ∷ (p ++ 32 ∷ (c ++ 32 ∷ (f ++ 32 ∷ n)))
-spelled text a r p s c t f n e1 e2 e3 e4 = rw (e1, e2, e3, e4) refl
+encoded text a r p s c t f n e1 e2 e3 e4 = rw (e1, e2, e3, e4) refl
 
 pub name_of_setting : (setting : Setting) → Without 32 (name_of setting)
 name_of_setting Realm = visible_without (name_of Realm) refl
@@ -105,7 +105,7 @@ name_of_setting AuthSecret = visible_without (name_of AuthSecret) refl
 -- the first word of a line that says something, and the rest of the line
 pub setting_words : (line f r : List ℕ) (old new : Lines) (n : Says line old new) → line ≡ f ++ 32 ∷ r → Without 32 f
     → (f ≡ name_of n.setting) × (r ≡ n.text)
-setting_words line f r old new n e w = same_split 32 line f r (name_of n.setting) n.text e n.spelled w (name_of_setting n.setting)
+setting_words line f r old new n e w = same_split 32 line f r (name_of n.setting) n.text e n.encoded w (name_of_setting n.setting)
 
 -- what is set where nothing was, is set
 pub is_put : {T : Type 0} (place value : Option T) (x : T) (result : Bool) → result ≡ (is_none place && is_some value) → place ≡ None

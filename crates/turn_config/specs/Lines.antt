@@ -61,7 +61,7 @@ pub record IsRange (text : List ℕ) (range : IpRange) : Type 0 where
   pub from : IsIp first range.first
   pub to : IsIp last range.last
   pub ordered : range.first ≤ range.last
-  pub spelled : text ≡ first ++ 32 ∷ last
+  pub encoded : text ≡ first ++ 32 ∷ last
 
 -- an address that one machine can have: not 0.0.0.0, no group's from 224.0.0.0 to 239.255.255.255, not 255.255.255.255
 abbrev pub is_unicast : ℕ → Bool
@@ -76,7 +76,7 @@ pub record IsRelay (text : List ℕ) (relay : Relay) : Type 0 where
   pub unicast : is_unicast relay.ip ≡ true
   pub numbers : IsNumberBelow (2 ^ 16) low × IsNumberBelow (2 ^ 16) high
   pub ordered : number_of low ≤ number_of high
-  pub spelled : text ≡ ip ++ 32 ∷ (low ++ 32 ∷ high)
+  pub encoded : text ≡ ip ++ 32 ∷ (low ++ 32 ∷ high)
   pub ports : relay.ports ≡ (number_of low, number_of high)
 
 -- numbers of allocations, of permissions and channels of each, of acts of a frame, and of bytes of a name, with blanks between
@@ -88,7 +88,7 @@ pub record IsLimits (text : List ℕ) (bounds : Bounds) : Type 0 where
   pub n : List ℕ
   pub first : IsNumberBelow (2 ^ 32) a
   pub others : IsNumberBelow (2 ^ 16) p × IsNumberBelow (2 ^ 16) c × IsNumberBelow (2 ^ 16) f × IsNumberBelow (2 ^ 16) n
-  pub spelled : text ≡ a ++ 32 ∷ (p ++ 32 ∷ (c ++ 32 ∷ (f ++ 32 ∷ n)))
+  pub encoded : text ≡ a ++ 32 ∷ (p ++ 32 ∷ (c ++ 32 ∷ (f ++ 32 ∷ n)))
   pub bounds_are : bounds ≡ record {
     allocations = number_of a;
     permissions = number_of p;
@@ -102,7 +102,7 @@ pub record IsLimits (text : List ℕ) (bounds : Bounds) : Type 0 where
 pub record IsUser (text name password : List ℕ) : Type 0 where
   pub named : is_name name ≡ true
   pub visible : is_text password ≡ true
-  pub spelled : text ≡ name ++ 32 ∷ password
+  pub encoded : text ≡ name ++ 32 ∷ password
 
 -- what lines say so far
 pub record Lines : Type 0 where
@@ -150,7 +150,7 @@ Sets settings.AuthSecret text old new = IsAuthSecret text × (old.auth_secret �
 pub record Says (line : List ℕ) (old new : Lines) : Type 0 where
   pub setting : Setting
   pub text : List ℕ
-  pub spelled : line ≡ name_of setting ++ 32 ∷ text
+  pub encoded : line ≡ name_of setting ++ 32 ∷ text
   pub sets : Sets setting text old new
 
 -- these settings are in range, so that no configuration with them is refused

@@ -22,7 +22,7 @@ pub record IsIp (text : List ℕ) (ip : ℕ) : Type 0 where
   pub c : List ℕ
   pub d : List ℕ
   pub numbers : IsNumberBelow 256 a × IsNumberBelow 256 b × IsNumberBelow 256 c × IsNumberBelow 256 d
-  pub spelled : text ≡ join_with_byte 46 (a ∷ b ∷ c ∷ d ∷ [])
+  pub encoded : text ≡ join_with_byte 46 (a ∷ b ∷ c ∷ d ∷ [])
   pub bytes : ip ≡ from_be_bytes w32 (map number_of (a ∷ b ∷ c ∷ d ∷ []))
 
 -- an address, a colon, and a port below 2^16
@@ -31,5 +31,5 @@ pub record IsEndpoint (text : List ℕ) (endpoint : Endpoint) : Type 0 where
   pub port : List ℕ
   pub address : IsIp ip endpoint.ip
   pub number : IsNumberBelow (2 ^ 16) port
-  pub spelled : text ≡ ip ++ 58 ∷ port
+  pub encoded : text ≡ ip ++ 58 ∷ port
   pub value : endpoint.port ≡ number_of port

@@ -46,7 +46,7 @@ grows n (b ∷ bs) = let more = grows (n * 10 + digit_value b) bs in omega (arit
 record Reads (n : ℕ) (bytes : List ℕ) (e : ℕ) : Type 0 where
   digits : List ℕ
   rest : Option (List ℕ)
-  spelled : bytes ≡ digits ++ colon_and rest
+  encoded : bytes ≡ digits ++ colon_and rest
   all : AllDigits 10 digits
   value : e ≡ digits_value_after 10 n digits
   below : e < end_of_moments
@@ -57,13 +57,13 @@ moment_is n e h = (grind (arith, nat_tests), grind (arith, nat_tests))
 ends : (n : ℕ) (rest : Option (List ℕ)) (e : ℕ) → as_moment n ≡ Some e → Reads n (colon_and rest) e
 ends n rest e h =
     let is = moment_is n e h in
-    record { digits = []; rest = rest; spelled = refl; all = tt; value = is.0; below = subst (λ k. k < end_of_moments) (sym is.0) is.1 }
+    record { digits = []; rest = rest; encoded = refl; all = tt; value = is.0; below = subst (λ k. k < end_of_moments) (sym is.0) is.1 }
 
 more : (n b : ℕ) (bs : List ℕ) (e : ℕ) → 48 ≤ b → b ≤ 57 → Reads (n * 10 + (b - 48)) bs e → Reads n (b ∷ bs) e
 more n b bs e low high is = record {
   digits = b ∷ is.digits;
   rest = is.rest;
-  spelled = ap (λ xs. b ∷ xs) is.spelled;
+  encoded = ap (λ xs. b ∷ xs) is.encoded;
   all = (is_digit b low high, is.all);
   value = is.value ∙ ap (λ k. digits_value_after 10 (n * 10 + k) is.digits) (sym (digit b low high));
   below = is.below;
@@ -108,7 +108,7 @@ first b bs e low high is =
     record {
       digits = b ∷ is.digits;
       rest = is.rest;
-      spelled = ap (λ xs. b ∷ xs) is.spelled;
+      encoded = ap (λ xs. b ∷ xs) is.encoded;
       numeral = (omega arith, (is_digit b (omega (arith, low)) high, is.all));
       no_leading_zero = λ zero. omega (arith, zero, low);
       value = is.value ∙ from_zero;
@@ -133,7 +133,7 @@ read_first (b ∷ bs) rest numeral other below =
 
 pub expiry_read : (name : List ℕ) (e : ℕ) → HasExpiry name e → expiry_of name ≡ Some e
 expiry_read name e is =
-    ap expiry_of is.spelled ∙ read_first is.digits is.rest is.numeral is.no_leading_zero (subst (λ k. k < end_of_moments) is.value is.range.1) ∙ ap (λ k. Some k) (sym is.value)
+    ap expiry_of is.encoded ∙ read_first is.digits is.rest is.numeral is.no_leading_zero (subst (λ k. k < end_of_moments) is.value is.range.1) ∙ ap (λ k. Some k) (sym is.value)
 
 -- ---- Keys
 

@@ -16,7 +16,7 @@ pub record HasExpiry (name : List ℕ) (expiry : ℕ) : Type 0 where
   pub digits : List ℕ
   -- what comes after the colon, if there is one
   pub rest : Option (List ℕ)
-  pub spelled : name ≡ digits ++ colon_and rest
+  pub encoded : name ≡ digits ++ colon_and rest
   pub numeral : IsNumeral 10 digits
   pub no_leading_zero : slice_index digits 0 ≢ 48
   pub value : expiry ≡ digits_value 10 digits

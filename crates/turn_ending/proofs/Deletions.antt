@@ -117,7 +117,7 @@ module _ (tuples : List FiveTuple) where
       → AllByRecursion (IsDeletion tuples) (added t o.change)
   one_deletes s h t failed (FromClient f bytes) o answers end =
       let is = end.1 in
-      let says = answers.decides.message is.content is.spells in
+      let says = answers.decides.message is.content is.encodes in
       let found = by_decision s.pairs s.config (table h t) f t (record { bytes = bytes; content = is.content }) _ says.port is.method is.lifetime in
       deleted t f answers.decided.act o.change end.0 (subst (λ (d : Decided). Deletes d.act) (sym says.decided) found) answers.change
   one_deletes s h t failed (FromPeer port from bytes id) o answers end = absurd end

@@ -2,7 +2,7 @@
 use Rattle.std.specs.Prelude.{ℕ, ◌≡◌, List, Contains, Some, true, is_none}
 use Rattle.std.specs.FinMap as fin
 use Rattle.std.specs.List.{AllByRecursion, list_all}
-use Rattle.turn_codec.specs.Grammar.{Content, Spells}
+use Rattle.turn_codec.specs.Grammar.{Content, Encodes}
 use Rattle.turn_cred.specs.declared.handler.AuthHandler as handlers
 use Rattle.turn_disk.specs.declared.disk.Disk as disks
 use Rattle.turn_engine.specs.Runs.{Commit, Relay, Serves, ServerCall, Submit, last_of}
@@ -20,7 +20,7 @@ use Rattle.turn_ending.specs.declared.chosen.Chosen.{Chosen}
 -- a message of the method Refresh with a LIFETIME of 0
 pub record IsEnd (bytes : List ℕ) : Type 0 where
   pub content : Content
-  pub spells : Spells bytes content
+  pub encodes : Encodes bytes content
   pub method : content.method ≡ refresh
   pub lifetime : lifetime_of content ≡ Some 0
 

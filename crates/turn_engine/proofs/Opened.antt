@@ -27,7 +27,7 @@ use Rattle.turn_store.specs.Tables.{snapshot_of}
 use Rattle.turn_store.specs.declared.error.OpenError.TheVariants.{Memory}
 use Rattle.turn_store.specs.declared.store.Opened.{Opened}
 use Rattle.turn_store.specs.declared.store.StoreOpenError.{StoreOpenError}
-use Rattle.turn_store.proofs.Spelling.{clock_late}
+use Rattle.turn_store.proofs.Encoding.{clock_late}
 use Rattle.turn_store.proofs.Versions.{stays_second}
 use Rattle.turn_table.specs.State as tables_state
 use Rattle.turn_types.specs.Config.{Config}
@@ -90,10 +90,10 @@ module _ {D H G : Type 0} (form : Form) (h : History) (k m : ℕ) (content : Lis
       let same : take at.count first ≡ first = take_of_length-le at.count first (omega arith) in
       let none : drop at.count first ≡ [] = drop_of_length-le first (omega arith) in
       let moment : now_of server ≡ c = ap (λ (s : Snapshot). s.moment) is.table_is in
-      let late : clock first ≤ c = clock_late stands.version form.bounds first c stands.snapshot stands.payloads stands.spells in
+      let late : clock first ≤ c = clock_late stands.version form.bounds first c stands.snapshot stands.payloads stands.encodes in
       record {
         after = record {
-          fitting = subst (λ (b : Bounds). IsFitting b first) bounds stands.spells.fitting;
+          fitting = subst (λ (b : Bounds). IsFitting b first) bounds stands.encodes.fitting;
           late = omega arith;
           agrees = ap (λ (s : Snapshot). s.contents) is.table_is ∙ ap (tables.table first) (sym moment);
         };

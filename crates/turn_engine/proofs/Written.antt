@@ -15,7 +15,7 @@ use Rattle.turn_record.specs.Bytes as bytes
 use Rattle.turn_record.specs.Records.{Writes}
 use Rattle.turn_store.specs.Areas.{Form}
 use Rattle.turn_store.specs.Images.{EachImage, EitherBy, IsInVersion, StandsBy, StandsForAt}
-use Rattle.turn_store.specs.Spells.{HasSize}
+use Rattle.turn_store.specs.Encodes.{HasSize}
 use Rattle.turn_store.specs.Stages.{InStages}
 use Rattle.turn_store.specs.State.{MayFollow, RecoversToAt, StoreState, form_of, framed, swapped}
 use Rattle.turn_store.specs.declared.error.StoreError.{StoreError}
@@ -79,7 +79,7 @@ stood store state c h recovers image is =
       snapshot = recovers.snapshot;
       payloads = recovers.payloads;
       holds = recovers_image store.version (form_of store) store.area.start store.other store.generation store.area.end store.other_is_below recovers.snapshot recovers.payloads state on image is;
-      spells = recovers.spells;
+      encodes = recovers.encodes;
     }
 
 least_first : (form : Form) (h : History) (k m : ℕ) (image : List ℕ) → k ≤ length h → StandsBy form (take k h) m image → AtLeast form h k m image

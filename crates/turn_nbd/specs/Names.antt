@@ -24,7 +24,7 @@ IsPlain byte = (byte ≢ 0) × (byte ≢ 35) × (byte ≢ 37) × (byte ≢ 63)
 
 -- "nbd+unix:///NAME?socket=/PATH"
 pub record IsUnix (text name path : List ℕ) : Type 0 where
-  pub spelled : text ≡ codes "nbd+unix:///" ++ (name ++ (codes "?socket=" ++ path))
+  pub encoded : text ≡ codes "nbd+unix:///" ++ (name ++ (codes "?socket=" ++ path))
   pub name_plain : All IsPlain name
   pub path_plain : All IsPlain path
   pub absolute : Begins (codes "/") path
@@ -41,7 +41,7 @@ IsHost host at =
 -- "nbd://IP:PORT/NAME" or "nbd://IP/NAME"
 pub record IsTcp (text name : List ℕ) (at : Endpoint) : Type 0 where
   pub host : List ℕ
-  pub spelled : text ≡ codes "nbd://" ++ (host ++ 47 ∷ name)
+  pub encoded : text ≡ codes "nbd://" ++ (host ++ 47 ∷ name)
   pub server : IsHost host at
   pub name_plain : All IsPlain name
 

@@ -12,7 +12,7 @@ use Rattle.turn_history.specs.History.{Allocates, Allocation, History, PlainAct}
 use Rattle.turn_history.specs.Laws.{allocation_of}
 use Rattle.turn_history.specs.Table.{Entry, table}
 use Rattle.turn_history.proofs.Live.{entry_of_live}
-use Rattle.turn_codec.specs.Grammar.{Datagram, Spells}
+use Rattle.turn_codec.specs.Grammar.{Datagram, Encodes}
 use Rattle.turn_cred.specs.Credential.{Verdict, policy_of, verdict}
 use Rattle.turn_cred.specs.Credential.Verdict.{Passed}
 use Rattle.turn_cred.specs.Passed.{IsSentBy, NonceHolds}
@@ -50,7 +50,7 @@ same_outcome o k change sent = ap (λ (c : Option Change). record { change = c; 
 outcome_by : FiveTuple → Decided → StepOutcome
 outcome_by f x = record { change = option_map (change_of f) x.act; sent = to_client f x.reply }
 
-module _ (s : Setting) (f : FiveTuple) (d : Datagram) (spells : Spells d.bytes d.content) where
+module _ (s : Setting) (f : FiveTuple) (d : Datagram) (encodes : Encodes d.bytes d.content) where
   judged : ℕ → Option Verdict
   judged t = judgement s.config s.keys f.client t d
 
@@ -68,7 +68,7 @@ module _ (s : Setting) (f : FiveTuple) (d : Datagram) (spells : Spells d.bytes d
   unfolding outcome_by
   outcome_is z h t failed o request a =
       let none : a.relayed ≡ None = by_option a.relayed (λ none. none)
-      (λ p is. absurd (request_relays_nothing z h t failed f d.bytes o d.content spells request a p.port p.peer p.payload
+      (λ p is. absurd (request_relays_nothing z h t failed f d.bytes o d.content encodes request a p.port p.peer p.payload
       (a.sent ∙ ap (λ r. option_or (to_peer r) (to_client f a.decided.reply)) is))) in
       same_outcome o (outcome_by f a.decided) a.change (a.sent ∙ ap (λ r. option_or (to_peer r) (to_client f a.decided.reply)) none)
 
@@ -76,11 +76,11 @@ module _ (s : Setting) (f : FiveTuple) (d : Datagram) (spells : Spells d.bytes d
 
   module _ (h : History) (t : ℕ) (failed : Bool) (o : StepOutcome) (a : AnswersClient s h t failed f d.bytes o) (e : Entry) (change : o.change ≡ Some (change_of f (Allocates e.user e.port e.granted e.tx e.token))) where
     first_port : Option ℕ
-    first_port = (a.decides.message d.content spells).port
+    first_port = (a.decides.message d.content encodes).port
 
     first_is : a.decided ≡ decision s.pairs s.config (table h t) f t d (judged t) first_port
     unfolding judged first_port
-    first_is = (a.decides.message d.content spells).decided
+    first_is = (a.decides.message d.content encodes).decided
 
     first_act : (decision s.pairs s.config (table h t) f t d (judged t) first_port).act ≡ Some (Allocates e.user e.port e.granted e.tx e.token)
     first_act = sym (ap (λ (x : Decided). x.act) first_is) ∙ act_is f a.decided.act _ (sym a.change ∙ change)
@@ -103,7 +103,7 @@ module _ (s : Setting) (f : FiveTuple) (d : Datagram) (spells : Spells d.bytes d
     again_is later g u failed_again k at nonce b =
         let request = taken_request d of_user.taken in
         let alike : judged u ≡ judged t = judged_again t u of_user.user of_user.key of_user.protected of_user.verdict nonce ∙ sym of_user.verdict in
-        let m = b.decides.message d.content spells in
+        let m = b.decides.message d.content encodes in
         let decided : b.decided ≡ record { reply = a.decided.reply; act = None } =
         m.decided ∙ ap (λ v. decision later s.config (table g u) f u d v m.port) alike
         ∙ repeat_same s.pairs later s.config (table h t) (table g u) f d (judged t) t u first_port m.port e first_act at
@@ -127,8 +127,8 @@ module _ (s : Setting) (f : FiveTuple) (d : Datagram) (spells : Spells d.bytes d
         let request = (and_parts (is_request d.content.class) (d.content.method == allocate) allocates).0 in
         let held : judged t ≡ Some (Passed user key) = judged_is t protects ∙ ap (λ v. Some v) (sent_by (policy_of s.config) s.keys d f.client t user key sent) in
         let holds : judged u ≡ Some (Passed user key) = judged_again t u user key protects held nonce in
-        let m = a.decides.message d.content spells in
-        let n = b.decides.message d.content spells in
+        let m = a.decides.message d.content encodes in
+        let n = b.decides.message d.content encodes in
         let decided : b.decided ≡ a.decided =
         n.decided ∙ ap (λ v. decision later s.config (table g u) f u d v n.port) holds
         ∙ later_same s.pairs later s.config (table h t) (table g u) f d user key t u m.port n.port x e allocates had has same
@@ -164,7 +164,7 @@ first_again s q before x f d a t again lasts makes comes =
     let e = entry.0 in
     let same : a ≡ allocation_of e = same_Some _ _ (sym comes.has.made ∙ entry.2.made) in
     let change : y.outcome.change ≡ Some (change_of f (Allocates e.user e.port e.granted e.tx e.token)) = makes.change ∙ ap (λ (b : Allocation). Some (change_of f (as_allocates b))) same in
-    again_is (record s { pairs = y.pairs }) f d makes.spells h y.moment y.failed y.outcome (answered s q before x f d.bytes lasts makes.arrival) e change
+    again_is (record s { pairs = y.pairs }) f d makes.encodes h y.moment y.failed y.outcome (answered s q before x f d.bytes lasts makes.arrival) e change
     comes.pairs (history_of q) t comes.failed again entry.1 comes.nonce comes.answers
 
 pub later_again : (s : Setting) (q : Point) (before : List Lasting) (x : Lasting) (f : FiveTuple) (d : Datagram) (a : Allocation) (t : ℕ) (again : StepOutcome)
@@ -176,5 +176,5 @@ later_again s q before x f d a t again lasts old comes =
     let had = entry_of_live h y.moment f old.had.live in
     let has = entry_of_live (history_of q) t f comes.has.live in
     let same : allocation_of had.0 ≡ allocation_of has.0 = same_Some _ _ (sym had.2.made ∙ old.had.made) ∙ same_Some _ _ (sym comes.has.made ∙ has.2.made) in
-    later_is (record s { pairs = y.pairs }) f d old.spells old.is_allocate comes.pairs h (history_of q) y.moment t y.failed comes.failed y.outcome again old.user old.key had.0 has.0 had.1 has.1
+    later_is (record s { pairs = y.pairs }) f d old.encodes old.is_allocate comes.pairs h (history_of q) y.moment t y.failed comes.failed y.outcome again old.user old.key had.0 has.0 had.1 has.1
     same old.sent_by comes.nonce (answered s q before x f d.bytes lasts old.arrival) comes.answers

@@ -2,7 +2,7 @@
 use Rattle.std.specs.Prelude.{◌≡◌, ◌++◌, ◌∷◌, ℕ, Bool, true, List, Some}
 use Rattle.turn_types.specs.declared.address.FiveTuple.{FiveTuple}
 use Rattle.turn_history.specs.History.{Allocates, Allocation, History, IsLive, made}
-use Rattle.turn_codec.specs.Grammar.{Datagram, Spells}
+use Rattle.turn_codec.specs.Grammar.{Datagram, Encodes}
 use Rattle.turn_cred.specs.Credential.{policy_of}
 use Rattle.turn_cred.specs.Passed.{IsSentBy, NonceHolds}
 use Rattle.turn_cred.specs.declared.key.Key.{Key}
@@ -32,13 +32,13 @@ pub record Has (h : History) (t : ℕ) (f : FiveTuple) (a : Allocation) : Type 0
 -- the arrival was a message of the five-tuple, and was answered by making this allocation
 pub record Makes (x : Taken) (f : FiveTuple) (d : Datagram) (a : Allocation) : Type 0 where
   pub arrival : x.arrival ≡ FromClient f d.bytes
-  pub spells : Spells d.bytes d.content
+  pub encodes : Encodes d.bytes d.content
   pub change : x.outcome.change ≡ Some (change_of f (Allocates a.user a.port a.granted a.tx a.token))
 
 -- the arrival was an Allocate of a user after the history h, when the five-tuple had this allocation already
 pub record MadeBefore (s : Setting) (h : History) (x : Taken) (f : FiveTuple) (d : Datagram) (a : Allocation) : Type 0 where
   pub arrival : x.arrival ≡ FromClient f d.bytes
-  pub spells : Spells d.bytes d.content
+  pub encodes : Encodes d.bytes d.content
   pub is_allocate : is_allocate d ≡ true
   pub user : List ℕ
   pub key : Key

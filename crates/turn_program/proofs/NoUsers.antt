@@ -9,8 +9,8 @@ use Rattle.turn_types.specs.Rows.{first_row}
 use Rattle.turn_types.specs.declared.address.Endpoint.{Endpoint}
 use Rattle.turn_types.specs.declared.address.FiveTuple.{FiveTuple}
 use Rattle.turn_history.specs.Table.{Contents, no_contents, table}
-use Rattle.turn_codec.specs.Channel.{SpellsChannelData}
-use Rattle.turn_codec.specs.Grammar.{Content, Datagram, Spells}
+use Rattle.turn_codec.specs.Channel.{EncodesChannelData}
+use Rattle.turn_codec.specs.Grammar.{Content, Datagram, Encodes}
 use Rattle.turn_codec.specs.AttributeTypes.{username, realm, nonce}
 use Rattle.turn_codec.specs.Seen.{has_unknown, is_seen, seen_value}
 use Rattle.turn_mac.specs.Fingerprint.{has_wrong_fingerprint}
@@ -108,16 +108,16 @@ unfolding table no_contents tables.map_of tables.reservations
 empty_table t = refl
 
 -- what is relayed of a message, and of no message
-relays_no_message : (f : FiveTuple) (bytes : List ℕ) (m : Content) (o : Option PeerData) → Spells bytes m → SendsToPeer no_contents f bytes o → o ≡ None
-relays_no_message f bytes m o spelled sends =
+relays_no_message : (f : FiveTuple) (bytes : List ℕ) (m : Content) (o : Option PeerData) → Encodes bytes m → SendsToPeer no_contents f bytes o → o ≡ None
+relays_no_message f bytes m o encoded sends =
     let d : Datagram = record { bytes = bytes; content = m } in
-    sends.message m spelled ∙ ap (λ e. sent_by_message e d) (nothing_is_there f) ∙ no_message_sends d
+    sends.message m encoded ∙ ap (λ e. sent_by_message e d) (nothing_is_there f) ∙ no_message_sends d
 
-relays_nothing : (f : FiveTuple) (bytes : List ℕ) (o : Option PeerData) → ((m : Content) → ¬ (Spells bytes m)) → SendsToPeer no_contents f bytes o → o ≡ None
+relays_nothing : (f : FiveTuple) (bytes : List ℕ) (o : Option PeerData) → ((m : Content) → ¬ (Encodes bytes m)) → SendsToPeer no_contents f bytes o → o ≡ None
 relays_nothing f bytes None none sends = refl
 relays_nothing f bytes (Some x) none sends =
-    let no_channel : (number : ℕ) (payload : List ℕ) → ¬ (SpellsChannelData bytes number payload) = λ number payload spelled.
-    none-some x (sym (sends.channel_data number payload spelled ∙ ap (λ e. sent_by_channel_data e number payload) (nothing_is_there f) ∙ no_channel_sends number payload)) in
+    let no_channel : (number : ℕ) (payload : List ℕ) → ¬ (EncodesChannelData bytes number payload) = λ number payload encoded.
+    none-some x (sym (sends.channel_data number payload encoded ∙ ap (λ e. sent_by_channel_data e number payload) (nothing_is_there f) ∙ no_channel_sends number payload)) in
     absurd (none-some x (sym (sends.neither none no_channel)))
 
 -- ---- The reply
@@ -127,32 +127,32 @@ replied f None = refl
 replied f (Some bytes) = refl
 
 replied_to : (pairs : Bool) (s : Config) (range : ℕ × ℕ) (t : ℕ) (failed : Bool) (f : FiveTuple) (bytes : List ℕ) (m : Content) (o : StepOutcome) →
-    AnswersClient (record { config = s; keys = no_keys; range = range; pairs = pairs }) [] t failed f bytes o → Spells bytes m → s ≡ profile →
+    AnswersClient (record { config = s; keys = no_keys; range = range; pairs = pairs }) [] t failed f bytes o → Encodes bytes m → s ≡ profile →
     reply_in o.sent ≡ answer f t (record { bytes = bytes; content = m })
 unfolding answer
-replied_to pairs s range t failed f bytes m o a spelled same =
+replied_to pairs s range t failed f bytes m o a encoded same =
     let d : Datagram = record { bytes = bytes; content = m } in
     let v : Option Verdict = judgement s no_keys f.client t d in
-    let none = relays_no_message f bytes m a.relayed spelled (subst (λ c. SendsToPeer c f bytes a.relayed) (empty_table t) a.sends) in
-    let may = a.decides.message m spelled in
+    let none = relays_no_message f bytes m a.relayed encoded (subst (λ c. SendsToPeer c f bytes a.relayed) (empty_table t) a.sends) in
+    let may = a.decides.message m encoded in
     let decided = may.decided ∙ ap (λ c. decision pairs s c f t d v may.port) (empty_table t) ∙ any_port pairs s no_contents f t d v may.port (nobody s f.client t d) in
     let by_profile = decided ∙ ap (λ s. decision false s no_contents f t d (judgement s no_keys f.client t d) None) same in
     ap reply_in (a.sent ∙ ap (λ r. option_or (to_peer r) (to_client f a.decided.reply)) none) ∙ replied f a.decided.reply ∙ ap (λ x. x.reply) by_profile
 
 replied_nothing : (pairs : Bool) (s : Config) (range : ℕ × ℕ) (t : ℕ) (failed : Bool) (f : FiveTuple) (bytes : List ℕ) (o : StepOutcome) →
-    AnswersClient (record { config = s; keys = no_keys; range = range; pairs = pairs }) [] t failed f bytes o → ((m : Content) → ¬ (Spells bytes m)) → reply_in o.sent ≡ None
+    AnswersClient (record { config = s; keys = no_keys; range = range; pairs = pairs }) [] t failed f bytes o → ((m : Content) → ¬ (Encodes bytes m)) → reply_in o.sent ≡ None
 replied_nothing pairs s range t failed f bytes o a no_message =
     let none = relays_nothing f bytes a.relayed no_message (subst (λ c. SendsToPeer c f bytes a.relayed) (empty_table t) a.sends) in
     let decided = a.decides.no_message no_message in
     ap reply_in (a.sent ∙ ap (λ r. option_or (to_peer r) (to_client f a.decided.reply)) none ∙ ap (λ x. to_client f x.reply) decided)
 
 pub sends_reply : {H G : Type 0} (pairs : Bool) (s : Config) (range : ℕ × ℕ) (new : MachineState H G) (t : ℕ) (failed : Bool) (f : FiveTuple) (bytes : List ℕ) (m : Content) (sent : Option Sent) →
-    Answered (record { config = s; keys = no_keys; range = range; pairs = pairs }) new [] t failed (Arrives.FromClient f bytes) sent → Spells bytes m → s ≡ profile →
+    Answered (record { config = s; keys = no_keys; range = range; pairs = pairs }) new [] t failed (Arrives.FromClient f bytes) sent → Encodes bytes m → s ≡ profile →
     reply_in sent ≡ answer f t (record { bytes = bytes; content = m })
-sends_reply pairs s range new t failed f bytes m sent a spelled same = ap reply_in (sym a.sent_is) ∙ replied_to pairs s range t failed f bytes m a.outcome a.answers spelled same
+sends_reply pairs s range new t failed f bytes m sent a encoded same = ap reply_in (sym a.sent_is) ∙ replied_to pairs s range t failed f bytes m a.outcome a.answers encoded same
 
 pub sends_no_reply : {H G : Type 0} (pairs : Bool) (s : Config) (range : ℕ × ℕ) (new : MachineState H G) (t : ℕ) (failed : Bool) (f : FiveTuple) (bytes : List ℕ) (sent : Option Sent) →
-    Answered (record { config = s; keys = no_keys; range = range; pairs = pairs }) new [] t failed (Arrives.FromClient f bytes) sent → ((m : Content) → ¬ (Spells bytes m)) → reply_in sent ≡ None
+    Answered (record { config = s; keys = no_keys; range = range; pairs = pairs }) new [] t failed (Arrives.FromClient f bytes) sent → ((m : Content) → ¬ (Encodes bytes m)) → reply_in sent ≡ None
 sends_no_reply pairs s range new t failed f bytes sent a no_message = ap reply_in (sym a.sent_is) ∙ replied_nothing pairs s range t failed f bytes a.outcome a.answers no_message
 
 -- ---- The machine

@@ -1,7 +1,7 @@
 //! The reply of the server to one datagram of a client, over an empty table.
 
 ghost use Rattle.std.specs.Prelude.{◌≡◌, IfOk, None, option_map};
-ghost use Rattle.turn_codec.specs.Grammar.{Content, Spells};
+ghost use Rattle.turn_codec.specs.Grammar.{Content, Encodes};
 ghost use Rattle.turn_history.specs.Table.{no_contents};
 ghost use Rattle.turn_program.specs.Profile.{answer, profile, reply_in};
 ghost use Rattle.turn_step.specs.Views.{sent_of};
@@ -79,9 +79,9 @@ pub fn reply_to<A: Allocator + Copy>(
     moment: Moment,
     datagram: &[u8],
 ) -> Result<Option<Vec<u8, A>>, AllocError>
-    ensures message { (m : Content) → Spells datagram.now m → IfOk result (λ r. option_map (λ v. v.items) r
+    ensures message { (m : Content) → Encodes datagram.now m → IfOk result (λ r. option_map (λ v. v.items) r
         ≡ answer five_tuple moment (record { bytes = datagram.now; content = m })) }
-    ensures malformed { ((m : Content) → ¬ (Spells datagram.now m)) → IfOk result (λ r. r ≡ None) }
+    ensures malformed { ((m : Content) → ¬ (Encodes datagram.now m)) → IfOk result (λ r. r ≡ None) }
 {
     let mut machine = make_machine(alloc, moment)?;
     let arrival = Arrival::Client {

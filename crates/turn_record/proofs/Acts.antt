@@ -1,4 +1,4 @@
--- The readers of act entries and payloads read what the spellings spell.
+-- The readers of act entries and payloads read what the encodings encode.
 use Rattle.std.proofs.Common.{◌≡◌, ℕ, zero, suc, ap, ◌∙◌, ◌*◌, ◌^◌, ◌<◌, ◌≤◌, ◌⊎◌, Bool, true, false, not, ◌&&◌, ◌||◌, leb, ltb, eqb, List, [], ◌∷◌, ◌++◌, length, Ok, refl, sym, subst, arith, rules, inl, inr}
 use Rattle.std.specs.Prelude.{IfSome, IsSomeAnd, None, Option, Some, ◌+◌, ◌%◌}
 use Rattle.std.specs.Int.{w16, w32, w64, from_be_bytes, to_be_bytes}
@@ -245,7 +245,7 @@ codec_binding =
 abbrev pub plain : List ℕ → ℕ → ℕ → TxId → Allocation
 plain user port granted tx = record { user = user; port = port; granted = granted; tx = tx; token = None }
 
--- an allocation whose values are in range has a spelling
+-- an allocation whose values are in range has an encoding
 pub fits_allocation : (b : Bounds) (free : ℕ → Bool) (user : List ℕ) (port granted : ℕ) (tx : TxId) (token : Option Token) → IsActInRange b (Allocates user port granted tx token) → free port ≡ true → FitsAllocation b free (plain user port granted tx)
 fits_allocation b free user port granted tx token h is_free =
     record { user = (h.0.0, h.0.1, bytes_of_all user h.0.2); port = h.1; free = is_free; low = h.2.0; high = h.2.1; tx = (h.3.0, bytes_of_all tx.0 h.3.1); token = refl }

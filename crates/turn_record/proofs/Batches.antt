@@ -8,7 +8,7 @@ use Rattle.turn_history.specs.History.{Event}
 use Rattle.turn_history.specs.Laws.{AllFrom, NeverFall}
 use Rattle.turn_record.specs.Bytes.{act_entry, payload}
 use Rattle.turn_record.specs.Reading.{Gives, last_passes, passes, event_at, events_at, act_in, payload_in}
-use Rattle.turn_record.specs.Records.{IsBatch, SpellsAct, SpellsPayload, Writes}
+use Rattle.turn_record.specs.Records.{IsBatch, EncodesAct, EncodesPayload, Writes}
 use Rattle.turn_record.specs.declared.error.DecodeError.{DecodeError}
 use Rattle.turn_record.specs.declared.error.ReadError.{ReadError}
 use Rattle.turn_record.specs.declared.version.Version.{Version}
@@ -17,7 +17,7 @@ use Rattle.turn_types.specs.Limits.{AreInRange}
 use Rattle.turn_types.specs.declared.limits.Bounds.{Bounds}
 use Rattle.turn_record.proofs.Acts.{FitsAfter, FitsPayload, codec_event, codec_events}
 use Rattle.turn_record.proofs.Rising.{last_of}
-use Rattle.turn_record.proofs.Readers.{EachAfter, IsBytes, Reads, reads_in_words, whole_takes, whole_again, one_spelling}
+use Rattle.turn_record.proofs.Readers.{EachAfter, IsBytes, Reads, reads_in_words, whole_takes, whole_again, one_encoding}
 
 -- ---- Moments
 
@@ -82,25 +82,25 @@ pub found : {X Y : Type 0} (view : X → Y) (r : Result X ReadError) (read : Res
 found view (Ok x) read P h given = h (view x) given
 found view (Err e) read P h given = tt
 
-pub act_found : (v : Version) (b : Bounds) → AreInRange b → (bytes : List ℕ) → IsBytes bytes → (e : Event) → act_in v b bytes ≡ Ok e → SpellsAct v b e bytes
+pub act_found : (v : Version) (b : Bounds) → AreInRange b → (bytes : List ℕ) → IsBytes bytes → (e : Event) → act_in v b bytes ≡ Ok e → EncodesAct v b e bytes
 unfolding act_in
 act_found v b range bytes fits e h = let p = whole_takes (event_at v b []) act_entry (IsRead v b) (reads_act v b range) bytes e fits h in record { writes = p.0.1; in_range = p.0.0; is = p.1 }
 
-pub act_again : (v : Version) (b : Bounds) → AreInRange b → (bytes : List ℕ) (e : Event) → SpellsAct v b e bytes → act_in v b bytes ≡ Ok e
+pub act_again : (v : Version) (b : Bounds) → AreInRange b → (bytes : List ℕ) (e : Event) → EncodesAct v b e bytes → act_in v b bytes ≡ Ok e
 unfolding act_in
 act_again v b range bytes e h = ap (act_in v b) h.is ∙ whole_again (event_at v b []) act_entry (IsRead v b) (reads_act v b range) e (h.in_range, h.writes)
 
-pub payload_found : (v : Version) (b : Bounds) → AreInRange b → (bytes : List ℕ) → IsBytes bytes → (es : List Event) → payload_in v b bytes ≡ Ok es → SpellsPayload v b es bytes
+pub payload_found : (v : Version) (b : Bounds) → AreInRange b → (bytes : List ℕ) → IsBytes bytes → (es : List Event) → payload_in v b bytes ≡ Ok es → EncodesPayload v b es bytes
 unfolding payload_in
 payload_found v b range bytes fits es h = let p = whole_takes (events_at v b) payload (IsBatch v b) (reads_payload v b range) bytes es fits h in record { batch = p.0; is = p.1 }
 
-pub payload_again : (v : Version) (b : Bounds) → AreInRange b → (bytes : List ℕ) (es : List Event) → SpellsPayload v b es bytes → payload_in v b bytes ≡ Ok es
+pub payload_again : (v : Version) (b : Bounds) → AreInRange b → (bytes : List ℕ) (es : List Event) → EncodesPayload v b es bytes → payload_in v b bytes ≡ Ok es
 unfolding payload_in
 payload_again v b range bytes es h = ap (payload_in v b) h.is ∙ whole_again (events_at v b) payload (IsBatch v b) (reads_payload v b range) es h.batch
 
--- no spelling begins another's, whatever the version
+-- no encoding begins another's, whatever the version
 pub one_act : (b : Bounds) → AreInRange b → (x y : Event) (u v : List ℕ) → IsInRange b x → IsInRange b y → act_entry x ++ u ≡ act_entry y ++ v → (x ≡ y) × (u ≡ v)
-one_act b range x y u v p q = one_spelling (event_at V2 b []) act_entry (IsRead V2 b) (reads_act V2 b range) x y u v (p, tt) (q, tt)
+one_act b range x y u v p q = one_encoding (event_at V2 b []) act_entry (IsRead V2 b) (reads_act V2 b range) x y u v (p, tt) (q, tt)
 
 all_written : (es : List Event) → AllByRecursion (λ e. Writes V2 e.act) es
 all_written [] = tt
@@ -110,4 +110,4 @@ batch_carries_over : (v : Version) (b : Bounds) (es : List Event) → IsBatch v 
 batch_carries_over v b es h = record { some = h.some; few = h.few; in_range = h.in_range; later = h.later; writes = all_written es }
 
 pub one_payload : (b : Bounds) → AreInRange b → (v w : Version) (x y : List Event) (s t : List ℕ) → IsBatch v b x → IsBatch w b y → payload x ++ s ≡ payload y ++ t → (x ≡ y) × (s ≡ t)
-one_payload b range v w x y s t p q = one_spelling (events_at V2 b) payload (IsBatch V2 b) (reads_payload V2 b range) x y s t (batch_carries_over v b x p) (batch_carries_over w b y q)
+one_payload b range v w x y s t p q = one_encoding (events_at V2 b) payload (IsBatch V2 b) (reads_payload V2 b range) x y s t (batch_carries_over v b x p) (batch_carries_over w b y q)

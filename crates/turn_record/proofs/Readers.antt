@@ -36,10 +36,10 @@ pub record Taken (bytes text rest : List ℕ) (F : Type 0) : Type 0 where
   pub left : IsBytes rest
   pub fits : F
 
--- a reader takes what the spelling of what it gives, and reads each spelling again, whatever follows it
-pub record Reads {A : Type 0} (read : List ℕ → Field A) (spell : A → List ℕ) (fits : A → Type 0) : Type 0 where
-  pub takes : (bytes : List ℕ) (x : A) (rest : List ℕ) → IsBytes bytes → read bytes ≡ Ok (x, rest) → Taken bytes (spell x) rest (fits x)
-  pub again : (x : A) (rest : List ℕ) → fits x → read (spell x ++ rest) ≡ Ok (x, rest)
+-- a reader takes what the encoding of what it gives, and reads each encoding again, whatever follows it
+pub record Reads {A : Type 0} (read : List ℕ → Field A) (encode : A → List ℕ) (fits : A → Type 0) : Type 0 where
+  pub takes : (bytes : List ℕ) (x : A) (rest : List ℕ) → IsBytes bytes → read bytes ≡ Ok (x, rest) → Taken bytes (encode x) rest (fits x)
+  pub again : (x : A) (rest : List ℕ) → fits x → read (encode x ++ rest) ≡ Ok (x, rest)
 
 -- what is known of a format: where U holds, as that the limits are in range, its reader and its encoding agree; and, wherever, what its reader answers of the front
 -- of bytes, of which it takes n at most
@@ -286,8 +286,8 @@ whole_again {A} r s f reads x h =
     let one : r (s x) ≡ Ok (x, []) = ap r (sym (append-nil (s x))) ∙ reads.again x [] h in
     ap (λ (u : Field A). whole u) one
 
--- no spelling begins another's
-pub one_spelling : {A : Type 0} (r : List ℕ → Field A) (s : A → List ℕ) (f : A → Type 0) → Reads r s f → (x y : A) (u v : List ℕ) → f x → f y → s x ++ u ≡ s y ++ v → (x ≡ y) × (u ≡ v)
-one_spelling {A} r s f reads x y u v p q e =
+-- no encoding begins another's
+pub one_encoding : {A : Type 0} (r : List ℕ → Field A) (s : A → List ℕ) (f : A → Type 0) → Reads r s f → (x y : A) (u v : List ℕ) → f x → f y → s x ++ u ≡ s y ++ v → (x ≡ y) × (u ≡ v)
+one_encoding {A} r s f reads x y u v p q e =
     let same = ok_is (x, u) (y, v) (sym (reads.again x u p) ∙ ap r e ∙ reads.again y v q) in
     (ap (λ (z : A × List ℕ). z.0) same, ap (λ (z : A × List ℕ). z.1) same)

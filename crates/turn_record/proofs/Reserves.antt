@@ -1,4 +1,4 @@
--- The readers of reserved ports read what the spellings spell.
+-- The readers of reserved ports read what the encodings encode.
 use Rattle.std.proofs.Math.Nat.{mul-le-mul_right}
 use Rattle.turn_record.specs.Records.{max_reserved}
 use Rattle.std.proofs.Common.{◌≡◌, ℕ, ◌*◌, ◌+◌, ◌^◌, ◌<◌, ◌≤◌, true, not, ◌&&◌, ltb, T, List, [], ◌∷◌, ◌++◌, length, Ok, refl, sym, ap, subst, ◌∙◌, append_assoc, append-nil, arith}

@@ -1,4 +1,4 @@
--- How many bytes spellings have, and that lengths fit the bytes that they are written in.
+-- How many bytes encodings have, and that lengths fit the bytes that they are written in.
 use Rattle.std.proofs.Common.{◌≡◌, ℕ, ◌+◌, ◌*◌, ◌≤◌, List, [], ◌∷◌, All, length, refl, arith, length-append}
 use Rattle.std.proofs.Math.Nat.{mul-le-mul_right}
 use Rattle.std.specs.Prelude.{None, Some}

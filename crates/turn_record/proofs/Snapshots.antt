@@ -1,4 +1,4 @@
--- The readers of snapshots read what the spellings spell, and what they read is a table in its ranges.
+-- The readers of snapshots read what the encodings encode, and what they read is a table in its ranges.
 use Rattle.std.proofs.Common.{◌≡◌, ℕ, ◌+◌, ◌^◌, ◌<◌, ◌≤◌, false, Option, Some, None, List, [], ◌++◌, length, Ok, refl, sym, ap, subst, ◌∙◌, arith}
 use Rattle.std.specs.Int.{w32, w64, to_be_bytes}
 use Rattle.std.specs.List.{AllByRecursion, list_any}
@@ -15,13 +15,13 @@ use Rattle.turn_history.proofs.Maps.{tuple_total, tuple_exact}
 use Rattle.turn_history.proofs.Tests.{free_port_is, port_is_free}
 use Rattle.turn_record.specs.Bytes.{each, entry, head, reserved, snapshot}
 use Rattle.turn_record.specs.Reading.{◌>>=◌, many, moment_at}
-use Rattle.turn_record.specs.Records.{Holds, IsSnapshot, SpellsSnapshot}
+use Rattle.turn_record.specs.Records.{Holds, IsSnapshot, EncodesSnapshot}
 use Rattle.turn_record.specs.Snapshots.{Head, entry_at, total_at, reserved_at, head_at, table_at, snapshot_at, snapshot_in}
 use Rattle.turn_record.specs.declared.version.Version.{Version}
 use Rattle.turn_record.specs.declared.version.Version.TheVariants.{V1, V2}
 use Rattle.turn_record.proofs.Acts.{not_is, not_from, codec_moment}
 use Rattle.turn_record.proofs.Apart.{each_more, each_both, each_alone, alone_each, Apart, apart_new, new_apart}
-use Rattle.turn_record.proofs.Readers.{Codec, EachAfter, IsBytes, Reads, chain, codec_many, made, in_words, one_spelling, reads_chain, reads_in_words, whole_again, whole_takes}
+use Rattle.turn_record.proofs.Readers.{Codec, EachAfter, IsBytes, Reads, chain, codec_many, made, in_words, one_encoding, reads_chain, reads_in_words, whole_again, whole_takes}
 use Rattle.turn_record.proofs.Reserves.{FitsReservations, IsReserved, all_reserved, few_reserved, codec_reserved}
 use Rattle.turn_record.proofs.Rising.{rising_sorted}
 use Rattle.turn_record.proofs.Tables.{ArePermissions, AreChannels, FitsEntry, HoldsToken, IsOne, by_keys, entries_rise, tuples_rise, from_keys, codec_entry, codec_total, same_port, same_ports}
@@ -145,16 +145,16 @@ reads_snapshot v b range =
     (λ y p. is_snapshot v b y.0 y.1 p.1.0.0 p.1.0.1 p.1.1)
     (λ y s. (tt, ((s.moment, s.within.allocations), (entries_are v b y.0 y.1 s, reservations_are v b y.0 y.1 s))))
 
-pub snapshot_found : (v : Version) (b : Bounds) → AreInRange b → (bytes : List ℕ) → IsBytes bytes → (y : ℕ × Contents) → snapshot_in v b bytes ≡ Ok y → SpellsSnapshot v b y.0 y.1 bytes
+pub snapshot_found : (v : Version) (b : Bounds) → AreInRange b → (bytes : List ℕ) → IsBytes bytes → (y : ℕ × Contents) → snapshot_in v b bytes ≡ Ok y → EncodesSnapshot v b y.0 y.1 bytes
 unfolding snapshot_in
 snapshot_found v b range bytes fits y h = let p = whole_takes (snapshot_at v b) (λ y. snapshot v y.0 y.1) (λ y. IsSnapshot v b y.0 y.1) (reads_snapshot v b range) bytes y fits h in record { fits = p.0; is = p.1 }
 
-pub snapshot_again : (v : Version) (b : Bounds) → AreInRange b → (bytes : List ℕ) (t : ℕ) (c : Contents) → SpellsSnapshot v b t c bytes → snapshot_in v b bytes ≡ Ok (t, c)
+pub snapshot_again : (v : Version) (b : Bounds) → AreInRange b → (bytes : List ℕ) (t : ℕ) (c : Contents) → EncodesSnapshot v b t c bytes → snapshot_in v b bytes ≡ Ok (t, c)
 unfolding snapshot_in
 snapshot_again v b range bytes t c h = ap (snapshot_in v b) h.is ∙ whole_again (snapshot_at v b) (λ y. snapshot v y.0 y.1) (λ y. IsSnapshot v b y.0 y.1) (reads_snapshot v b range) (t, c) h.fits
 
--- no spelling begins another's
+-- no encoding begins another's
 pub one_snapshot : (v : Version) (b : Bounds) → AreInRange b → (t u : ℕ) (c d : Contents) (x y : List ℕ) → IsSnapshot v b t c → IsSnapshot v b u d → snapshot v t c ++ x ≡ snapshot v u d ++ y → (t ≡ u) × (c ≡ d) × (x ≡ y)
 one_snapshot v b range t u c d x y p q e =
-    let both = one_spelling (snapshot_at v b) (λ y. snapshot v y.0 y.1) (λ y. IsSnapshot v b y.0 y.1) (reads_snapshot v b range) (t, c) (u, d) x y p q e in
+    let both = one_encoding (snapshot_at v b) (λ y. snapshot v y.0 y.1) (λ y. IsSnapshot v b y.0 y.1) (reads_snapshot v b range) (t, c) (u, d) x y p q e in
     (ap (λ (z : ℕ × Contents). z.0) both.0, ap (λ (z : ℕ × Contents). z.1) both.0, both.1)

@@ -1,4 +1,4 @@
--- The readers of snapshots read what the spellings spell, and what they read is a table in its ranges.
+-- The readers of snapshots read what the encodings encode, and what they read is a table in its ranges.
 use Rattle.std.proofs.Common.{◌≡◌, ℕ, ◌+◌, ◌-◌, ◌^◌, ◌<◌, ◌≤◌, Bool, true, false, cond, not, ◌&&◌, ◌||◌, eqb, leb, ltb, T, Some, None, List, [], ◌++◌, length, Ok, refl, sym, ap, subst, ◌∙◌, arith, inl, inr}
 use Rattle.std.specs.Prelude.{◌*◌, ◌==◌, ◌%◌, ◌⊎◌, IfSome, Option, slice_get}
 use Rattle.std.specs.Int.{w16, w32, w64, to_be_bytes}

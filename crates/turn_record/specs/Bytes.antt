@@ -22,8 +22,8 @@ joined (field ∷ fields) = field ++ joined fields
 
 -- the encodings of the elements, one after the other
 abbrev pub each : {A : Type 0} → (A → List ℕ) → List A → List ℕ
-each spell [] = []
-each spell (x ∷ xs) = spell x ++ each spell xs
+each encode [] = []
+each encode (x ∷ xs) = encode x ++ each encode xs
 
 -- six bytes: the address, then the port
 abbrev pub endpoint : Endpoint → List ℕ

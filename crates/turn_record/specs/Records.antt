@@ -1,4 +1,4 @@
--- What bytes spell. The ranges of values are those of fitting histories, so what such a history holds has a spelling.
+-- What bytes encode. The ranges of values are those of fitting histories, so what such a history holds has an encoding.
 use Rattle.std.specs.Prelude.{◌≡◌, ℕ, ◌+◌, ◌*◌, ◌^◌, ◌<◌, ◌≤◌, List, length, max}
 use Rattle.std.specs.List.{AllByRecursion}
 use Rattle.turn_history.specs.Fitting.{IsInRange, AreEntriesInRange, AreReservationsInRange}
@@ -22,7 +22,7 @@ Holds V1 c = HasNoTokens c
 Holds V2 c = Unit {0}
 
 -- bytes encode an act entry, all of them
-pub record SpellsAct (v : Version) (b : Bounds) (e : Event) (bytes : List ℕ) : Type 0 where
+pub record EncodesAct (v : Version) (b : Bounds) (e : Event) (bytes : List ℕ) : Type 0 where
   pub writes : Writes v e.act
   pub in_range : IsInRange b e
   pub is : bytes ≡ act_entry e
@@ -43,7 +43,7 @@ pub record IsBatch (v : Version) (b : Bounds) (es : List Event) : Type 0 where
   pub writes : AllByRecursion (λ e. Writes v e.act) es
 
 -- bytes encode a payload, all of them
-pub record SpellsPayload (v : Version) (b : Bounds) (es : List Event) (bytes : List ℕ) : Type 0 where
+pub record EncodesPayload (v : Version) (b : Bounds) (es : List Event) (bytes : List ℕ) : Type 0 where
   pub batch : IsBatch v b es
   pub is : bytes ≡ payload es
 
@@ -60,7 +60,7 @@ pub record IsSnapshot (v : Version) (b : Bounds) (t : ℕ) (c : Contents) : Type
   pub peers : PeersApart c
 
 -- bytes encode a snapshot, all of them
-pub record SpellsSnapshot (v : Version) (b : Bounds) (t : ℕ) (c : Contents) (bytes : List ℕ) : Type 0 where
+pub record EncodesSnapshot (v : Version) (b : Bounds) (t : ℕ) (c : Contents) (bytes : List ℕ) : Type 0 where
   pub fits : IsSnapshot v b t c
   pub is : bytes ≡ snapshot v t c
 

@@ -15,7 +15,7 @@ ghost use Rattle.turn_types.specs.declared.limits.Bounds.{Bounds};
 
 /// Bytes encode one event, one batch, or in a version one table at one moment, at most, and no encoding of one is a
 /// proper prefix of another's.
-pub fn spellings_are_one()
+pub fn encodings_are_one()
     ensures acts { (b : Bounds) → AreInRange b → (x y : Event) (u v : List ℕ) → IsInRange b x → IsInRange b y →
         act_entry x ++ u ≡ act_entry y ++ v → (x ≡ y) × (u ≡ v) }
     ensures payloads { (b : Bounds) → AreInRange b → (v w : Version) (x y : List Event) (s t : List ℕ) → IsBatch v b x → IsBatch w b y →
@@ -47,7 +47,7 @@ pub fn snapshots_carry_over()
 {}
 
 /// How many bytes act entries, payloads and snapshots have at most.
-pub fn spellings_are_short()
+pub fn encodings_are_short()
     ensures acts { (v : Version) (b : Bounds) (e : Event) → Writes v e.act → IsInRange b e → length (act_entry e) ≤ max_act v b }
     ensures payloads { (v : Version) (b : Bounds) (es : List Event) → IsBatch v b es → length (payload es) ≤ max_payload v b }
     ensures snapshots { (v : Version) (b : Bounds) (t : ℕ) (c : Contents) → IsSnapshot v b t c → length (snapshot v t c) ≤ max_snapshot v b }

@@ -18,7 +18,7 @@ mod write;
 
 pub use error::{DecodeError, ReadError};
 pub use laws::{
-    snapshots_carry_over, snapshots_go_on, spellings_are_one, spellings_are_short,
+    snapshots_carry_over, snapshots_go_on, encodings_are_one, encodings_are_short,
     tables_have_snapshots,
 };
 pub use pieces::{SnapshotReader, read_snapshot, readers_hold_little};

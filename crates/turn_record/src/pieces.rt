@@ -4,7 +4,7 @@ ghost use Rattle.std.specs.Prelude.{◌≡◌, ◌<◌, ◌++◌, [], List, ℕ,
 ghost use Rattle.turn_history.specs.Table.{Contents};
 ghost use Rattle.turn_record.specs.Pieces.{WasFed, held, refusal};
 ghost use Rattle.turn_record.specs.Reading.{Gives};
-ghost use Rattle.turn_record.specs.Records.{SpellsSnapshot, max_entry};
+ghost use Rattle.turn_record.specs.Records.{EncodesSnapshot, max_entry};
 ghost use Rattle.turn_record.specs.declared.pieces.SnapshotReader.{SnapshotReader};
 ghost use Rattle.turn_record.specs.Snapshots.{snapshot_in};
 ghost use Rattle.turn_record.specs.declared.error.ReadError.{ReadError};
@@ -136,9 +136,9 @@ pub fn read_snapshot<A: Allocator + Copy>(
     limits: Limits,
     bytes: &[u8],
 ) -> Result<Table<A>, ReadError>
-    ensures spelled { IfOk result (λ t. SpellsSnapshot version limits t.moment t.contents bytes.now) }
+    ensures encoded { IfOk result (λ t. EncodesSnapshot version limits t.moment t.contents bytes.now) }
     ensures limits { IfOk result (λ t. t.bounds ≡ limits) }
-    ensures read { (t : ℕ) (c : Contents) → SpellsSnapshot version limits t c bytes.now → Gives {Y = ℕ × Contents} (λ x. (x.moment, x.contents)) result (Ok (t, c)) }
+    ensures read { (t : ℕ) (c : Contents) → EncodesSnapshot version limits t c bytes.now → Gives {Y = ℕ × Contents} (λ x. (x.moment, x.contents)) result (Ok (t, c)) }
     ensures fault { Gives (λ t. (t.moment, t.contents)) result (snapshot_in version limits bytes.now) }
 {
     let _bounds = limits.bounds();

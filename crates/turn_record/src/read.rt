@@ -4,7 +4,7 @@ ghost use Rattle.std.specs.Prelude.{◌≡◌, ◌%◌, [], List, IfOk, Ok};
 ghost use Rattle.turn_history.specs.Act.{act_of, event_of};
 ghost use Rattle.turn_history.specs.History as histories;
 ghost use Rattle.turn_record.specs.Reading.{Gives, act_in, address_at, addresses_at, allocated_at, allocated_even_at, body_at, bound_at, event_at, is_even, many, max_tag, moment_after, payload_in, port_at, tag_at};
-ghost use Rattle.turn_record.specs.Records.{SpellsAct, SpellsPayload};
+ghost use Rattle.turn_record.specs.Records.{EncodesAct, EncodesPayload};
 ghost use Rattle.turn_record.specs.Views.{events_of};
 
 use crate::error::{DecodeError, ReadError};
@@ -275,9 +275,9 @@ pub fn read_act<A: Allocator + Copy>(
     bytes: &[u8],
 ) -> Result<Event<A>, ReadError>
     // What is read is what the bytes encode.
-    ensures spelled { IfOk result (λ e. SpellsAct version limits (event_of e) bytes.now) }
+    ensures encoded { IfOk result (λ e. EncodesAct version limits (event_of e) bytes.now) }
     // What the bytes encode is read.
-    ensures read { (e : histories.Event) → SpellsAct version limits e bytes.now → Gives event_of result (Ok e) }
+    ensures read { (e : histories.Event) → EncodesAct version limits e bytes.now → Gives event_of result (Ok e) }
     // Else it is the first fault.
     ensures fault { Gives event_of result (act_in version limits bytes.now) }
 {
@@ -292,9 +292,9 @@ pub fn read_payload<A: Allocator + Copy>(
     bytes: &[u8],
 ) -> Result<Vec<Event<A>, A>, ReadError>
     // What is read is what the bytes encode.
-    ensures spelled { IfOk result (λ v. SpellsPayload version limits (events_of v.items) bytes.now) }
+    ensures encoded { IfOk result (λ v. EncodesPayload version limits (events_of v.items) bytes.now) }
     // What the bytes encode is read.
-    ensures read { (es : List histories.Event) → SpellsPayload version limits es bytes.now → Gives (λ v. events_of v.items) result (Ok es) }
+    ensures read { (es : List histories.Event) → EncodesPayload version limits es bytes.now → Gives (λ v. events_of v.items) result (Ok es) }
     // Else it is the first fault.
     ensures fault { Gives (λ v. events_of v.items) result (payload_in version limits bytes.now) }
 {

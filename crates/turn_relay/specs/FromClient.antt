@@ -14,8 +14,8 @@ use Rattle.turn_types.specs.Rows.{first_row}
 use Rattle.turn_history.specs.Table.{Entry, Contents}
 use Rattle.turn_codec.specs.Address.{address_of}
 use Rattle.turn_codec.specs.AttributeTypes as types
-use Rattle.turn_codec.specs.Channel.{SpellsChannelData}
-use Rattle.turn_codec.specs.Grammar.{Content, Datagram, Spells}
+use Rattle.turn_codec.specs.Channel.{EncodesChannelData}
+use Rattle.turn_codec.specs.Grammar.{Content, Datagram, Encodes}
 use Rattle.turn_codec.specs.Seen.{has_unknown, seen_value}
 use Rattle.turn_mac.specs.Fingerprint.{has_wrong_fingerprint}
 use Rattle.turn_relay.specs.Udp.{max_payload}
@@ -89,6 +89,6 @@ sent_by_channel_data entry number payload =
 -- what a datagram of a five-tuple sends, where these are the live allocations: it is a message, or channel data, or
 -- it is dropped
 pub record SendsToPeer (c : Contents) (f : FiveTuple) (bytes : List ℕ) (o : Option PeerData) : Type 0 where
-  pub message : (m : Content) → Spells bytes m → o ≡ sent_by_message (fin.get c.entries f) (record { bytes = bytes; content = m })
-  pub channel_data : (number : ℕ) (payload : List ℕ) → SpellsChannelData bytes number payload → o ≡ sent_by_channel_data (fin.get c.entries f) number payload
-  pub neither : ((m : Content) → ¬ Spells bytes m) → ((number : ℕ) (payload : List ℕ) → ¬ SpellsChannelData bytes number payload) → o ≡ None
+  pub message : (m : Content) → Encodes bytes m → o ≡ sent_by_message (fin.get c.entries f) (record { bytes = bytes; content = m })
+  pub channel_data : (number : ℕ) (payload : List ℕ) → EncodesChannelData bytes number payload → o ≡ sent_by_channel_data (fin.get c.entries f) number payload
+  pub neither : ((m : Content) → ¬ Encodes bytes m) → ((number : ℕ) (payload : List ℕ) → ¬ EncodesChannelData bytes number payload) → o ≡ None

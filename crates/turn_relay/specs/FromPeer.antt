@@ -9,8 +9,8 @@ use Rattle.turn_types.specs.Methods.{data_method}
 use Rattle.turn_history.specs.Table.{Entry, Contents}
 use Rattle.turn_codec.specs.Address.{xor_value}
 use Rattle.turn_codec.specs.AttributeTypes as types
-use Rattle.turn_codec.specs.Channel.{SpellsChannelData, channel_spelling}
-use Rattle.turn_codec.specs.Grammar.{Content, Spells, canonical, padding_size}
+use Rattle.turn_codec.specs.Channel.{EncodesChannelData, channel_encoding}
+use Rattle.turn_codec.specs.Grammar.{Content, Encodes, canonical, padding_size}
 use Rattle.turn_table.specs.Table.{IsChannelTo}
 use Rattle.turn_relay.specs.FromClient.{is_permitted}
 use Rattle.turn_relay.specs.Udp.{max_payload}
@@ -38,7 +38,7 @@ data_indication tx peer payload = record {
 -- the bytes for a client, by the number of the channel, if there is one
 abbrev pub written : Option ℕ → List ℕ → Endpoint → List ℕ → List ℕ
 written None tx peer payload = canonical (data_indication tx peer payload)
-written (Some number) tx peer payload = channel_spelling number payload
+written (Some number) tx peer payload = channel_encoding number payload
 
 -- ChannelData on the channel, without padding, or a Data indication with a transaction id
 unfoldable pub client_datagram : ClientData → List ℕ → List ℕ
@@ -46,8 +46,8 @@ client_datagram d tx = written d.channel tx d.peer d.payload
 
 -- bytes that say this to a client: they are channel data, or a Data indication with the transaction id
 abbrev pub Says : Option ℕ → List ℕ → List ℕ → Endpoint → List ℕ → Type 0
-Says None bytes tx peer payload = Spells bytes (data_indication tx peer payload)
-Says (Some number) bytes tx peer payload = SpellsChannelData bytes number payload
+Says None bytes tx peer payload = Encodes bytes (data_indication tx peer payload)
+Says (Some number) bytes tx peer payload = EncodesChannelData bytes number payload
 
 -- bytes are the client's datagram of this data, with the transaction id if it is a Data indication
 abbrev pub IsForClient : List ℕ → List ℕ → ClientData → Type 0

@@ -2,7 +2,7 @@
 
 ghost use Rattle.std.specs.Prelude.{◌≡◌, ◌≤◌, ℕ, List, length, option_map, IfSome};
 ghost use Rattle.std.specs.FinMap as fin;
-ghost use Rattle.turn_codec.specs.Channel.{SpellsChannelData};
+ghost use Rattle.turn_codec.specs.Channel.{EncodesChannelData};
 ghost use Rattle.turn_relay.specs.FromClient.{SendsToPeer, is_send_indication, peer_of, sent, sent_by_channel_data, sent_by_message};
 ghost use Rattle.turn_relay.specs.Udp.{max_payload};
 ghost use Rattle.turn_relay.specs.Views.{peer_data};
@@ -115,9 +115,9 @@ pub fn from_channel_data<'a, A: Allocator + Copy>(
     moment: Moment,
 ) -> Option<ToPeer<'a>>
     requires purged { table.now.moment ≡ moment }
-    ensures sends { (bytes : List ℕ) → SpellsChannelData bytes channel_data.now.number channel_data.now.payload.now →
+    ensures sends { (bytes : List ℕ) → EncodesChannelData bytes channel_data.now.number channel_data.now.payload.now →
         SendsToPeer table.now.contents five_tuple bytes (option_map peer_data result) }
-    ensures history { (h : History) (bytes : List ℕ) → Agrees table.now h → SpellsChannelData bytes channel_data.now.number channel_data.now.payload.now →
+    ensures history { (h : History) (bytes : List ℕ) → Agrees table.now h → EncodesChannelData bytes channel_data.now.number channel_data.now.payload.now →
         SendsToPeer (tables.table h moment) five_tuple bytes (option_map peer_data result) }
     ensures size { IfSome result (λ x. length x.bytes.now ≤ max_payload) }
 {

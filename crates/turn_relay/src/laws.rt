@@ -2,8 +2,8 @@
 
 ghost use Rattle.std.specs.Prelude.{◌≡◌, ◌≤◌, ◌↔◌, ℕ, List, Option, Some};
 ghost use Rattle.std.specs.FinMap as fin;
-ghost use Rattle.turn_codec.specs.Channel.{SpellsChannelData};
-ghost use Rattle.turn_codec.specs.Grammar.{Content, Spells};
+ghost use Rattle.turn_codec.specs.Channel.{EncodesChannelData};
+ghost use Rattle.turn_codec.specs.Grammar.{Content, Encodes};
 ghost use Rattle.turn_relay.specs.FromClient.{PeerData, SendsToPeer};
 ghost use Rattle.turn_relay.specs.FromPeer.{ClientData, SendsToClient};
 ghost use Rattle.turn_relay.specs.Laws.{IsRelayed, IsSentBy, IsSentOver};
@@ -39,9 +39,9 @@ pub fn relayed_in_one_way()
 /// relayed port it came to, where the peer's address has a permission.
 pub fn sends_as_permitted()
     ensures message { (b : Bounds) (h : History) (t : ℕ) (f : FiveTuple) (bytes : List ℕ) (m : Content) (d : PeerData) →
-        IsFitting b h → Spells bytes m → SendsToPeer (table h t) f bytes (Some d) → IsSentBy h t f m d }
+        IsFitting b h → Encodes bytes m → SendsToPeer (table h t) f bytes (Some d) → IsSentBy h t f m d }
     ensures channel_data { (b : Bounds) (h : History) (t : ℕ) (f : FiveTuple) (bytes : List ℕ) (number : ℕ) (payload : List ℕ) (d : PeerData) →
-        IsFitting b h → clock h ≤ t → SpellsChannelData bytes number payload →
+        IsFitting b h → clock h ≤ t → EncodesChannelData bytes number payload →
         SendsToPeer (table h t) f bytes (Some d) → IsSentOver h t f number payload d }
     ensures peer { (b : Bounds) (h : History) (t port : ℕ) (from : Endpoint) (payload : List ℕ) (d : ClientData) →
         IsFitting b h → clock h ≤ t → SendsToClient (table h t) port from payload (Some d) → IsRelayed h t port from payload d }

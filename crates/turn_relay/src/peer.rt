@@ -1,7 +1,7 @@
 //! What a peer's datagram sends.
 
 ghost use Rattle.std.specs.Prelude.{◌≡◌, ◌≤◌, nat_le, length, None, option_map, IfOk, IfSome};
-ghost use Rattle.turn_codec.specs.Grammar.{Spells, canonical};
+ghost use Rattle.turn_codec.specs.Grammar.{Encodes, canonical};
 ghost use Rattle.turn_relay.specs.FromPeer.{IsForClient, SendsToClient, client_datagram, data_indication, size_for_client};
 ghost use Rattle.turn_relay.specs.Udp.{max_payload};
 ghost use Rattle.turn_relay.specs.Views.{client_data};
@@ -44,7 +44,7 @@ fn data_indication<A: Allocator + Copy>(
 ) -> Result<Vec<u8, A>, AllocError>
     requires { length payload.now ≤ 65468 }
     ensures bytes { IfOk result (λ v. v.items ≡ canonical (data_indication tx.0 peer payload.now)) }
-    ensures spells { IfOk result (λ v. Spells v.items (data_indication tx.0 peer payload.now)) }
+    ensures encodes { IfOk result (λ v. Encodes v.items (data_indication tx.0 peer payload.now)) }
     ensures size { IfOk result (λ v. length v.items ≡ size_for_client None (length payload.now)) }
 {
     // XOR-PEER-ADDRESS, and DATA with its padding.
@@ -68,7 +68,7 @@ impl<'a> ToClient<'a> {
     pub fn write<A: Allocator + Copy>(&self, alloc: A, tx: TxId) -> Result<Vec<u8, A>, AllocError>
         requires size { size_for_client self.now.channel (length self.now.bytes.now) ≤ max_payload }
         ensures bytes { IfOk result (λ v. v.items ≡ client_datagram (client_data self.now) tx.0) }
-        ensures spells { IfOk result (λ v. IsForClient v.items tx.0 (client_data self.now)) }
+        ensures encodes { IfOk result (λ v. IsForClient v.items tx.0 (client_data self.now)) }
         ensures size { IfOk result (λ v. length v.items ≡ size_for_client self.now.channel (length self.now.bytes.now)) }
     {
         match self.channel {

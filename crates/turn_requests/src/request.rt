@@ -4,7 +4,7 @@ ghost use Rattle.std.specs.Prelude.{◌≡◌, ◌≢◌, ◌≤◌, ◌<◌, �
 ghost use Rattle.std.specs.List.{list_any};
 ghost use Rattle.turn_codec.specs.AttributeTypes.{message_integrity};
 ghost use Rattle.turn_codec.specs.Channel.{IsChannel};
-ghost use Rattle.turn_codec.specs.Grammar.{Content, Spells, body_size, from, with_attribute};
+ghost use Rattle.turn_codec.specs.Grammar.{Content, Encodes, body_size, from, with_attribute};
 ghost use Rattle.turn_mac.specs.Integrity.{IntegrityHolds};
 ghost use Rattle.turn_requests.specs.Sending.{identified, is_transport, named, send_of, signed, with_one};
 
@@ -145,7 +145,7 @@ impl<A: Allocator + Copy> Unsigned<A> {
     /// Signs the message, and returns its bytes.
     #[tactic(auto, unfolding(crate::specs::Sending::signed))]
     fn sign(self, key: &[u8; 16]) -> Result<Vec<u8, A>, PushError>
-        ensures content { IfOk result (λ v. Spells v.items (signed key.now self.builder)) }
+        ensures content { IfOk result (λ v. Encodes v.items (signed key.now self.builder)) }
         ensures holds { IfOk result (λ v. IntegrityHolds key.now (record { bytes = v.items; content = signed key.now self.builder })) }
         ensures too_long { result ≡ Err PushError.TooLong → 65532 < body_size self.builder + 24 }
     {
@@ -258,7 +258,7 @@ pub fn build_request<A: Allocator + Copy>(
     key: &[u8; 16],
     nonce: &[u8],
 ) -> Result<Vec<u8, A>, PushError>
-    ensures content { IfOk result (λ v. Spells v.items (signed key.now (named request.now nonce.now))) }
+    ensures content { IfOk result (λ v. Encodes v.items (signed key.now (named request.now nonce.now))) }
     ensures holds { IfOk result (λ v. IntegrityHolds key.now
         (record { bytes = v.items; content = signed key.now (named request.now nonce.now) })) }
     // Whether it is too long is judged before memory is asked for.
@@ -290,7 +290,7 @@ pub fn build_send<A: Allocator + Copy>(
     peer: Endpoint,
     payload: &[u8],
 ) -> Result<Vec<u8, A>, PushError>
-    ensures content { IfOk result (λ v. Spells v.items (send_of peer payload.now)) }
+    ensures content { IfOk result (λ v. Encodes v.items (send_of peer payload.now)) }
     // Whether it is too long is judged before memory is asked for.
     ensures too_long { (result ≡ Err PushError.TooLong) ↔ (65532 < body_size (send_of peer payload.now)) }
 {

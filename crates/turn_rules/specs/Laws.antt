@@ -22,7 +22,7 @@ use Rattle.turn_rules.specs.declared.need.Need.TheVariants.{Any, Even, Pair}
 use Rattle.turn_rules.specs.declared.outcome.Outcome.{Outcome}
 use Rattle.turn_rules.specs.declared.outcome.Outcome.TheVariants.{Allocate, Refuse, RefuseUnknown}
 
--- the transaction id has 12 bytes, and all values are bytes, as of each message that a datagram spells
+-- the transaction id has 12 bytes, and all values are bytes, as of each message that a datagram encodes
 pub record IsMadeOfBytes (m : Content) : Type 0 where
   pub tx_size : length m.tx ≡ 12
   pub tx : All (λ x. x < 256) m.tx

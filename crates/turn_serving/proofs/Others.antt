@@ -9,7 +9,7 @@ use Rattle.turn_types.specs.Methods.{binding}
 use Rattle.turn_types.specs.declared.address.FiveTuple.{FiveTuple}
 use Rattle.turn_types.specs.declared.message.Class.{Class}
 use Rattle.turn_types.specs.declared.message.Class.TheVariants.{Request, Indication, Success, Error}
-use Rattle.turn_codec.specs.Grammar.{Content, Datagram, Spells, cookie, type_number}
+use Rattle.turn_codec.specs.Grammar.{Content, Datagram, Encodes, cookie, type_number}
 use Rattle.turn_codec.specs.Seen.{has_unknown}
 use Rattle.turn_cred.specs.Credential.{Challenge401, Keys, has_integrity, verdict}
 use Rattle.turn_types.specs.declared.address.Endpoint.{Endpoint}
@@ -57,19 +57,19 @@ regroup : (a b c d e : List ℕ) → (((a ++ b) ++ c) ++ d) ++ e ≡ a ++ (b ++ 
 regroup a b c d e = simp append_assoc
 
 -- bytes that encode such a request begin as one
-pub begins_so : (bytes : List ℕ) (m : Content) → Spells bytes m → (is_request m.class && is_protected m.method) ≡ true → begins_as_request bytes ≡ true
-begins_so bytes m spelled is =
-    let rest : List ℕ = to_be_bytes w16 (length spelled.body) ++ (to_be_bytes w32 cookie ++ (m.tx ++ spelled.body)) in
-    let e : bytes ≡ to_be_bytes w16 (type_number m.class m.method) ++ rest = spelled.is ∙ regroup (to_be_bytes w16 (type_number m.class m.method)) (to_be_bytes w16 (length spelled.body)) (to_be_bytes w32 cookie) m.tx spelled.body in
+pub begins_so : (bytes : List ℕ) (m : Content) → Encodes bytes m → (is_request m.class && is_protected m.method) ≡ true → begins_as_request bytes ≡ true
+begins_so bytes m encoded is =
+    let rest : List ℕ = to_be_bytes w16 (length encoded.body) ++ (to_be_bytes w32 cookie ++ (m.tx ++ encoded.body)) in
+    let e : bytes ≡ to_be_bytes w16 (type_number m.class m.method) ++ rest = encoded.is ∙ regroup (to_be_bytes w16 (type_number m.class m.method)) (to_be_bytes w16 (length encoded.body)) (to_be_bytes w32 cookie) m.tx encoded.body in
     let both = and_parts (is_request m.class) (is_protected m.method) is in
     ap begins_as_request e ∙ of_class m.class m.method rest both.0 both.1
 
 -- ---- Which bytes may change the table
 
 -- bytes that encode a message change it exactly if the message asks for it
-pub by_message : (bytes : List ℕ) (m : Content) (asks : Bool) → Spells bytes m → ((n : Content) → Spells bytes n → n ≡ m) → asks ≡ asks_for_change m → (asks ≡ true → MayChange bytes) × (MayChange bytes → asks ≡ true)
-by_message bytes m asks spelled one is = (
-  λ yes. record { message = m; encoded = spelled; asks = sym is ∙ yes },
+pub by_message : (bytes : List ℕ) (m : Content) (asks : Bool) → Encodes bytes m → ((n : Content) → Encodes bytes n → n ≡ m) → asks ≡ asks_for_change m → (asks ≡ true → MayChange bytes) × (MayChange bytes → asks ≡ true)
+by_message bytes m asks encoded one is = (
+  λ yes. record { message = m; encoded = encoded; asks = sym is ∙ yes },
   λ may. is ∙ ap asks_for_change (sym (one may.message may.encoded)) ∙ may.asks,
 )
 
@@ -119,8 +119,8 @@ others s h t failed (FromPeer port from bytes id) o other answers = answers.chan
 others s h t failed (FromClient f bytes) o other answers =
     none_unless o.change (λ c is.
     let some : answers.decided.act ≡ None → ⊥ = λ none. (let e = sym is ∙ answers.change ∙ ap (option_map (change_of f)) none in absurd (cc)) in
-    let unread : (m : Content) → Spells bytes m → ⊥ = λ m spelled. (
-    let a = answers.decides.message m spelled in
-    let asks : asks_for_change m ≡ false = not_true (asks_for_change m) (λ yes. other (record { message = m; encoded = spelled; asks = yes })) in
+    let unread : (m : Content) → Encodes bytes m → ⊥ = λ m encoded. (
+    let a = answers.decides.message m encoded in
+    let asks : asks_for_change m ≡ false = not_true (asks_for_change m) (λ yes. other (record { message = m; encoded = encoded; asks = yes })) in
     some (ap (λ (d : Decided). d.act) a.decided ∙ no_act s.pairs s.config s.keys f.client (table h t) f t (record { bytes = bytes; content = m }) a.port asks)) in
     some (ap (λ (d : Decided). d.act) (answers.decides.no_message unread)))

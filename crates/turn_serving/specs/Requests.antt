@@ -1,7 +1,7 @@
 -- Which datagrams of clients may change the table.
 use Rattle.std.specs.Prelude.{◌≡◌, ℕ, ◌&&◌, ◌==◌, ◌||◌, Bool, true, false, is_some, List, [], ◌∷◌, None}
 use Rattle.turn_codec.specs.AttributeTypes.{message_integrity}
-use Rattle.turn_codec.specs.Grammar.{Content, Spells, value_of}
+use Rattle.turn_codec.specs.Grammar.{Content, Encodes, value_of}
 use Rattle.turn_history.specs.History.{History}
 use Rattle.turn_rules.specs.Answer.{is_protected, is_request}
 use Rattle.turn_step.specs.Answer.{AnswersArrival, Setting}
@@ -15,7 +15,7 @@ asks_for_change m = (is_request m.class && is_protected m.method) && is_some (va
 -- Bytes encode such a request.
 pub record MayChange (bytes : List ℕ) : Type 0 where
   pub message : Content
-  pub encoded : Spells bytes message
+  pub encoded : Encodes bytes message
   pub asks : asks_for_change message ≡ true
 
 -- a client's bytes encode such a request; a peer's bytes never change the table

@@ -11,7 +11,7 @@ use Rattle.turn_types.specs.FiveTuple.{same_tuple, tuple_cmp}
 use Rattle.turn_types.specs.declared.address.Endpoint.{Endpoint}
 use Rattle.turn_types.specs.declared.address.FiveTuple.{FiveTuple}
 use Rattle.turn_types.specs.declared.limits.Bounds.{Bounds}
-use Rattle.turn_codec.specs.Grammar.{Content, Spells}
+use Rattle.turn_codec.specs.Grammar.{Content, Encodes}
 use Rattle.turn_history.proofs.Histories.{clock-append, fitting-split, ports-apart}
 use Rattle.turn_history.proofs.Maps.{from_eq, tuple_exact}
 use Rattle.turn_history.specs.Fitting.{IsFitting}
@@ -24,7 +24,7 @@ use Rattle.turn_rules.proofs.Alone.{allocates_same, answers_same, entry_same, ot
 use Rattle.turn_rules.specs.Answer.{Answers, judgement}
 use Rattle.turn_step.specs.Answer.{AnswersArrival, AnswersClient, AnswersPeer, Setting}
 use Rattle.turn_step.specs.Data.{IsOwner, IsRequestOf}
-use Rattle.turn_step.specs.Laws.{SameForAllocates, SpellsNoAllocate}
+use Rattle.turn_step.specs.Laws.{SameForAllocates, EncodesNoAllocate}
 use Rattle.turn_step.specs.Outcome.{Arrives, StepOutcome}
 use Rattle.turn_step.specs.Outcome.Arrives.{FromClient, FromPeer}
 use Rattle.turn_step.proofs.Exclusion.{no_request}
@@ -32,13 +32,13 @@ use Rattle.turn_step.proofs.Exclusion.{no_request}
 module _ (s : Setting) (h g : History) (t : ℕ) (failed : Bool) (f : FiveTuple) (bytes : List ℕ) (o : StepOutcome) (events : events_of f h ≡ events_of f g) where
   -- the answers go on where those to a message do
   client_goes_on :
-      ((m : Content) (d : _) → Spells bytes m → Answers s.pairs s.config s.keys s.range h t failed f (record { bytes = bytes; content = m }) d → Answers s.pairs s.config s.keys s.range g t failed f (record { bytes = bytes; content = m }) d)
+      ((m : Content) (d : _) → Encodes bytes m → Answers s.pairs s.config s.keys s.range h t failed f (record { bytes = bytes; content = m }) d → Answers s.pairs s.config s.keys s.range g t failed f (record { bytes = bytes; content = m }) d)
       → AnswersClient s h t failed f bytes o → AnswersClient s g t failed f bytes o
   client_goes_on goes_on answer = record {
     decided = answer.decided;
     relayed = answer.relayed;
     decides = record {
-      message = λ m spelt. goes_on m answer.decided spelt (answer.decides.message m spelt);
+      message = λ m encoded. goes_on m answer.decided encoded (answer.decides.message m encoded);
       no_message = answer.decides.no_message;
     };
     sends = same_entry (table h t) (table g t) f bytes answer.relayed (entry_same h g t f events) answer.sends;
@@ -47,14 +47,14 @@ module _ (s : Setting) (h g : History) (t : ℕ) (failed : Bool) (f : FiveTuple)
     change = answer.change;
   }
 
-  pub client_same : SpellsNoAllocate bytes → AnswersClient s h t failed f bytes o → AnswersClient s g t failed f bytes o
-  client_same other = client_goes_on (λ m d spelt. answers_same s.pairs s.config s.range h g t failed f (record { bytes = bytes; content = m }) (judgement s.config s.keys f.client t (record { bytes = bytes; content = m })) d events (other m spelt))
+  pub client_same : EncodesNoAllocate bytes → AnswersClient s h t failed f bytes o → AnswersClient s g t failed f bytes o
+  client_same other = client_goes_on (λ m d encoded. answers_same s.pairs s.config s.range h g t failed f (record { bytes = bytes; content = m }) (judgement s.config s.keys f.client t (record { bytes = bytes; content = m })) d events (other m encoded))
 
   pub allocate_same : SameForAllocates s f t bytes (table h t) (table g t) → AnswersClient s h t failed f bytes o → AnswersClient s g t failed f bytes o
-  allocate_same others = client_goes_on (λ m d spelt. allocates_same s.pairs s.config s.range h g t failed f (record { bytes = bytes; content = m }) (judgement s.config s.keys f.client t (record { bytes = bytes; content = m })) d events (others m spelt))
+  allocate_same others = client_goes_on (λ m d encoded. allocates_same s.pairs s.config s.range h g t failed f (record { bytes = bytes; content = m }) (judgement s.config s.keys f.client t (record { bytes = bytes; content = m })) d events (others m encoded))
 
 pub allocates_too : (s : Setting) (h g : History) (t : ℕ) (f : FiveTuple) (bytes : List ℕ) → SameForAllocates s f t bytes (table h t) (table g t) → SameForAllocates s f t bytes (table g t) (table h t)
-allocates_too s h g t f bytes others = λ m spelt. others_too s.range _ (table h t) (table g t) (others m spelt)
+allocates_too s h g t f bytes others = λ m encoded. others_too s.range _ (table h t) (table g t) (others m encoded)
 
 pub peer_same :
     (b : Bounds) (h g : History) (t : ℕ) (f : FiveTuple) (e : Entry) (peer : Endpoint) (bytes id : List ℕ) (o : StepOutcome)
@@ -69,9 +69,9 @@ peer_same b h g t f e peer bytes id o fits-h fits-g now-h now-g here there answe
 
 -- ---- Data
 
--- what is no request spells no Allocate
-no_allocate : (f : FiveTuple) (bytes : List ℕ) → ¬ IsRequestOf (FromClient f bytes) → SpellsNoAllocate bytes
-no_allocate f bytes other = λ m spells. (let asks = no_request f bytes other m spells in rw asks refl)
+-- what is no request encodes no Allocate
+no_allocate : (f : FiveTuple) (bytes : List ℕ) → ¬ IsRequestOf (FromClient f bytes) → EncodesNoAllocate bytes
+no_allocate f bytes other = λ m encodes. (let asks = no_request f bytes other m encodes in rw asks refl)
 
 -- events of others are none of f
 none_of : (f : FiveTuple) (es : History) → AllByRecursion (λ g. g ≢ f) (map (λ (e : Event). e.tuple) es) → events_of f es ≡ []

@@ -11,8 +11,8 @@ use Rattle.turn_types.specs.declared.message.Class.{Class}
 use Rattle.turn_types.specs.declared.message.Class.TheVariants.{Request, Indication, Success, Error}
 use Rattle.turn_history.specs.History.{History}
 use Rattle.turn_history.specs.Table.{Contents, Entry, table}
-use Rattle.turn_codec.specs.Channel.{SpellsChannelData}
-use Rattle.turn_codec.specs.Grammar.{Content, Datagram, Spells}
+use Rattle.turn_codec.specs.Channel.{EncodesChannelData}
+use Rattle.turn_codec.specs.Grammar.{Content, Datagram, Encodes}
 use Rattle.turn_codec.proofs.Header.{one_message}
 use Rattle.turn_codec.proofs.Values.{values_are_bytes}
 use Rattle.turn_cred.specs.Credential.{Keys, Verdict, policy_of, verdict}
@@ -32,9 +32,9 @@ use Rattle.turn_step.specs.Outcome.Sent.{ToClient, ToPeer}
 -- ---- Messages
 
 -- messages in datagrams are made of bytes
-pub made_of_bytes : (bytes : List ℕ) (m : Content) → All (λ x. x < 256) bytes → Spells bytes m → IsMadeOfBytes m
-made_of_bytes bytes m all spells =
-    let made = values_are_bytes bytes m all spells in
+pub made_of_bytes : (bytes : List ℕ) (m : Content) → All (λ x. x < 256) bytes → Encodes bytes m → IsMadeOfBytes m
+made_of_bytes bytes m all encodes =
+    let made = values_are_bytes bytes m all encodes in
     record { tx_size = made.0; tx = made.1; values = made.2 }
 
 -- the user of credentials that were judged has a name of 1 to `name_bytes` bytes
@@ -70,13 +70,13 @@ request_sends_nothing e d request = by_class d.content.class refl
 
 -- ---- A client's bytes
 
--- what is no request spells no message of its class
-pub no_request : (f : FiveTuple) (bytes : List ℕ) → ¬ IsRequestOf (FromClient f bytes) → (m : Content) → Spells bytes m → is_request m.class ≡ false
-no_request f bytes other m spells = false_from_ne_true (is_request m.class) (λ asks. other (m, spells, asks))
+-- what is no request encodes no message of its class
+pub no_request : (f : FiveTuple) (bytes : List ℕ) → ¬ IsRequestOf (FromClient f bytes) → (m : Content) → Encodes bytes m → is_request m.class ≡ false
+no_request f bytes other m encodes = false_from_ne_true (is_request m.class) (λ asks. other (m, encodes, asks))
 
--- the bytes spell no other message
-one_datagram : (bytes : List ℕ) (d : Datagram) → d.bytes ≡ bytes → Spells bytes d.content → (m : Content) → Spells bytes m → d ≡ record { bytes = bytes; content = m }
-one_datagram bytes d same found m spells = λ j. record { bytes = same j; content = (one_message bytes bytes [] [] d.content m found spells refl).1 j }
+-- the bytes encode no other message
+one_datagram : (bytes : List ℕ) (d : Datagram) → d.bytes ≡ bytes → Encodes bytes d.content → (m : Content) → Encodes bytes m → d ≡ record { bytes = bytes; content = m }
+one_datagram bytes d same found m encodes = λ j. record { bytes = same j; content = (one_message bytes bytes [] [] d.content m found encodes refl).1 j }
 
 module _ (s : Setting) (h : History) (t : ℕ) (failed : Bool) (f : FiveTuple) where
   -- the credentials as they were judged
@@ -90,13 +90,13 @@ module _ (s : Setting) (h : History) (t : ℕ) (failed : Bool) (f : FiveTuple) w
 
   module _ (bytes : List ℕ) where
     -- the bytes are no request, and send data or nothing
-    pub of_sent : (p : Option PeerData) (o : StepOutcome) → ((m : Content) → Spells bytes m → is_request m.class ≡ false) → SendsToPeer (table h t) f bytes p
+    pub of_sent : (p : Option PeerData) (o : StepOutcome) → ((m : Content) → Encodes bytes m → is_request m.class ≡ false) → SendsToPeer (table h t) f bytes p
         → o ≡ record { change = None; sent = to_peer p } → AnswersClient s h t failed f bytes o
     of_sent p o other sends is = record {
       decided = undecided;
       relayed = p;
       decides = record {
-        message = λ m spells. nothing_decided s h t failed f (record { bytes = bytes; content = m }) (other m spells);
+        message = λ m encodes. nothing_decided s h t failed f (record { bytes = bytes; content = m }) (other m encodes);
         no_message = λ none. refl;
       };
       sends = sends;
@@ -106,12 +106,12 @@ module _ (s : Setting) (h : History) (t : ℕ) (failed : Bool) (f : FiveTuple) w
     }
 
     -- the bytes are a request
-    pub of_request : (d : Datagram) → d.bytes ≡ bytes → Spells bytes d.content → is_request d.content.class ≡ true → (o : StepOutcome) → IsDecided s h t failed f d o → AnswersClient s h t failed f bytes o
+    pub of_request : (d : Datagram) → d.bytes ≡ bytes → Encodes bytes d.content → is_request d.content.class ≡ true → (o : StepOutcome) → IsDecided s h t failed f d o → AnswersClient s h t failed f bytes o
     of_request d same found asks o x = record {
       decided = x.decided;
       relayed = None;
       decides = record {
-        message = λ m spells. subst (λ e. Answers s.pairs s.config s.keys s.range h t failed f e x.decided) (one_datagram bytes d same found m spells) x.answers;
+        message = λ m encodes. subst (λ e. Answers s.pairs s.config s.keys s.range h t failed f e x.decided) (one_datagram bytes d same found m encodes) x.answers;
         no_message = λ none. absurd (none d.content found);
       };
       sends = of_message (table h t) f bytes d.content None found (sym (request_sends_nothing (fin.get (table h t).entries f) (record { bytes = bytes; content = d.content }) asks));
@@ -131,10 +131,10 @@ no_reply None f bytes is = cc
 no_reply (Some p) f bytes is = cc
 
 module _ (s : Setting) (h : History) (t : ℕ) (failed : Bool) (f : FiveTuple) (bytes : List ℕ) (o : StepOutcome) where
-  pub request_relays_nothing : (m : Content) → Spells bytes m → is_request m.class ≡ true → AnswersClient s h t failed f bytes o
+  pub request_relays_nothing : (m : Content) → Encodes bytes m → is_request m.class ≡ true → AnswersClient s h t failed f bytes o
       → (port : ℕ) (peer : Endpoint) (payload : List ℕ) → o.sent ≡ Some (ToPeer port peer payload) → ⊥
-  request_relays_nothing m spells request a port peer payload is =
-      let none : a.relayed ≡ None = a.sends.message m spells ∙ request_sends_nothing _ (record { bytes = bytes; content = m }) request in
+  request_relays_nothing m encodes request a port peer payload is =
+      let none : a.relayed ≡ None = a.sends.message m encodes ∙ request_sends_nothing _ (record { bytes = bytes; content = m }) request in
       no_data f a.decided.reply port peer payload (sym (ap (λ r. option_or (to_peer r) (to_client f a.decided.reply)) none) ∙ sym a.sent ∙ is)
 
   undecided_no_reply : (a : AnswersClient s h t failed f bytes o) → a.decided ≡ undecided → HasNoReply o
@@ -143,15 +143,15 @@ module _ (s : Setting) (h : History) (t : ℕ) (failed : Bool) (f : FiveTuple) (
     sent = λ g reply is. no_reply a.relayed g reply (sym (ap (λ (d : Decided). option_or (to_peer a.relayed) (to_client f d.reply)) none) ∙ sym a.sent ∙ is);
   }
 
-  pub other_no_reply : (m : Content) → Spells bytes m → is_request m.class ≡ false → AnswersClient s h t failed f bytes o → HasNoReply o
-  other_no_reply m spells other a =
-      let answers = a.decides.message m spells in
+  pub other_no_reply : (m : Content) → Encodes bytes m → is_request m.class ≡ false → AnswersClient s h t failed f bytes o → HasNoReply o
+  other_no_reply m encodes other a =
+      let answers = a.decides.message m encodes in
       undecided_no_reply a (answers.decided ∙ undecided_is _ _ _ _ _ _ _ answers.port other)
 
-  pub no_message_no_reply : ((m : Content) → ¬ Spells bytes m) → AnswersClient s h t failed f bytes o → HasNoReply o
+  pub no_message_no_reply : ((m : Content) → ¬ Encodes bytes m) → AnswersClient s h t failed f bytes o → HasNoReply o
   no_message_no_reply none a = undecided_no_reply a (a.decides.no_message none)
 
-  pub unreadable_nothing : ((m : Content) → ¬ Spells bytes m) → ((number : ℕ) (payload : List ℕ) → ¬ SpellsChannelData bytes number payload)
+  pub unreadable_nothing : ((m : Content) → ¬ Encodes bytes m) → ((number : ℕ) (payload : List ℕ) → ¬ EncodesChannelData bytes number payload)
       → AnswersClient s h t failed f bytes o → o ≡ nothing
   unreadable_nothing none no_channel a =
       let undone = (no_message_no_reply none a).change in

@@ -6,7 +6,7 @@ use Rattle.turn_types.specs.declared.address.Endpoint.{Endpoint}
 use Rattle.turn_types.specs.declared.address.FiveTuple.{FiveTuple}
 use Rattle.turn_history.specs.History.{History}
 use Rattle.turn_history.specs.Table.{table}
-use Rattle.turn_codec.specs.Grammar.{Content, Datagram, Spells}
+use Rattle.turn_codec.specs.Grammar.{Content, Datagram, Encodes}
 use Rattle.turn_cred.specs.Credential.{Keys}
 use Rattle.turn_rules.specs.Answer.{Answers, Decided}
 use Rattle.turn_relay.specs.FromClient.{PeerData, SendsToPeer}
@@ -38,10 +38,10 @@ to_client f reply = option_map (ToClient f) reply
 abbrev pub to_peer : Option PeerData → Option Sent
 to_peer relayed = option_map (λ d. ToPeer d.port d.peer d.payload) relayed
 
--- what is decided about a message, if the bytes spell one: a reply and an act
+-- what is decided about a message, if the bytes encode one: a reply and an act
 pub record Decides (s : Setting) (h : History) (t : ℕ) (failed : Bool) (f : FiveTuple) (bytes : List ℕ) (d : Decided) : Type 0 where
-  pub message : (m : Content) → Spells bytes m → Answers s.pairs s.config s.keys s.range h t failed f (record { bytes = bytes; content = m }) d
-  pub no_message : ((m : Content) → ¬ Spells bytes m) → d ≡ undecided
+  pub message : (m : Content) → Encodes bytes m → Answers s.pairs s.config s.keys s.range h t failed f (record { bytes = bytes; content = m }) d
+  pub no_message : ((m : Content) → ¬ Encodes bytes m) → d ≡ undecided
 
 -- an outcome is what is decided about a message
 pub record IsDecided (s : Setting) (h : History) (t : ℕ) (failed : Bool) (f : FiveTuple) (d : Datagram) (o : StepOutcome) : Type 0 where

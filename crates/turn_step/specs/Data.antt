@@ -3,7 +3,7 @@ use Rattle.std.specs.Prelude.{◌≡◌, ℕ, true, Some, option_map, List}
 use Rattle.std.specs.FinMap as fin
 use Rattle.turn_types.specs.declared.address.FiveTuple.{FiveTuple}
 use Rattle.turn_history.specs.Table.{Contents, Entry}
-use Rattle.turn_codec.specs.Grammar.{Content, Spells}
+use Rattle.turn_codec.specs.Grammar.{Content, Encodes}
 use Rattle.turn_relay.specs.FromClient.{SendsToPeer}
 use Rattle.turn_relay.specs.Views.{peer_data}
 use Rattle.turn_rules.specs.Answer.{is_request}
@@ -14,7 +14,7 @@ use Rattle.turn_step.specs.Outcome.Arrives.{FromClient, FromPeer}
 
 -- a client's datagram that is a request
 abbrev pub IsRequestOf : Arrives → Type 0
-IsRequestOf (FromClient f bytes) = (m : Content) × Spells bytes m × (is_request m.class ≡ true)
+IsRequestOf (FromClient f bytes) = (m : Content) × Encodes bytes m × (is_request m.class ≡ true)
 IsRequestOf (FromPeer port from bytes id) = ⊥
 
 -- the arrival is a client's, or a peer's at the relayed port of its allocation
@@ -22,7 +22,7 @@ abbrev pub IsOwner : Contents → Arrives → FiveTuple → Type 0
 IsOwner c (FromClient g bytes) f = g ≡ f
 IsOwner c (FromPeer port from bytes id) f = (e : Entry) × (fin.get c.entries f ≡ Some e) × (e.port ≡ port)
 
--- a client's bytes are read as the request that they spell, or, where they spell none, as what they send to a peer
+-- a client's bytes are read as the request that they encode, or, where they encode none, as what they send to a peer
 abbrev pub IsReadAs : Contents → FiveTuple → List ℕ → ClientDatagram → Type 0
-IsReadAs c f bytes (Request d) = (d.bytes ≡ bytes) × Spells bytes d.content × (is_request d.content.class ≡ true)
+IsReadAs c f bytes (Request d) = (d.bytes ≡ bytes) × Encodes bytes d.content × (is_request d.content.class ≡ true)
 IsReadAs c f bytes (Data payload) = (¬ IsRequestOf (FromClient f bytes)) × SendsToPeer c f bytes (option_map peer_data payload)

@@ -1,7 +1,7 @@
 -- Words of the laws.
 use Rattle.std.specs.Prelude.{◌≡◌, ◌≢◌, ℕ, List, Some, None, false}
 use Rattle.turn_types.specs.declared.address.FiveTuple.{FiveTuple}
-use Rattle.turn_codec.specs.Grammar.{Content, Spells}
+use Rattle.turn_codec.specs.Grammar.{Content, Encodes}
 use Rattle.turn_history.specs.Table.{Contents}
 use Rattle.turn_rules.specs.Answer.{is_allocate, judgement, user_of}
 use Rattle.turn_rules.specs.Laws.{SameForOthers}
@@ -14,12 +14,12 @@ pub record HasNoReply (o : StepOutcome) : Type 0 where
   pub change : o.change ≡ None
   pub sent : (f : FiveTuple) (bytes : List ℕ) → o.sent ≢ Some (ToClient f bytes)
 
--- the bytes spell no Allocate request
-abbrev pub SpellsNoAllocate : List ℕ → Type 0
-SpellsNoAllocate bytes = (m : Content) → Spells bytes m → is_allocate (record { bytes = bytes; content = m }) ≡ false
+-- the bytes encode no Allocate request
+abbrev pub EncodesNoAllocate : List ℕ → Type 0
+EncodesNoAllocate bytes = (m : Content) → Encodes bytes m → is_allocate (record { bytes = bytes; content = m }) ≡ false
 
--- if the bytes spell a message, two tables have as many allocations of its user, as many of all, the same taken ports, and the same reserved
+-- if the bytes encode a message, two tables have as many allocations of its user, as many of all, the same taken ports, and the same reserved
 -- ports
 abbrev pub SameForAllocates : Setting → FiveTuple → ℕ → List ℕ → Contents → Contents → Type 0
 SameForAllocates s f t bytes c k =
-    (m : Content) → Spells bytes m → SameForOthers s.range (user_of (judgement s.config s.keys f.client t (record { bytes = bytes; content = m }))) c k
+    (m : Content) → Encodes bytes m → SameForOthers s.range (user_of (judgement s.config s.keys f.client t (record { bytes = bytes; content = m }))) c k

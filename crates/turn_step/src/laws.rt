@@ -3,8 +3,8 @@
 ghost use Rattle.std.specs.Prelude.{◌≡◌, ◌≢◌, ◌≤◌, ◌↔◌, ℕ, Bool, List, None, Some, drop, map, take, true, false};
 ghost use Rattle.std.specs.FinMap as fin;
 ghost use Rattle.std.specs.List.{AllByRecursion};
-ghost use Rattle.turn_codec.specs.Channel.{SpellsChannelData};
-ghost use Rattle.turn_codec.specs.Grammar.{Content, Spells};
+ghost use Rattle.turn_codec.specs.Channel.{EncodesChannelData};
+ghost use Rattle.turn_codec.specs.Grammar.{Content, Encodes};
 ghost use Rattle.turn_history.specs.Fitting.{IsFitting};
 ghost use Rattle.turn_history.specs.History.{Event, History, clock};
 ghost use Rattle.turn_history.specs.Laws.{events_of};
@@ -12,7 +12,7 @@ ghost use Rattle.turn_history.specs.Table.{Entry, table};
 ghost use Rattle.turn_rules.specs.Answer.{is_request};
 ghost use Rattle.turn_step.specs.Answer.{AnswersArrival, AnswersClient, Setting};
 ghost use Rattle.turn_step.specs.Data.{IsOwner, IsRequestOf};
-ghost use Rattle.turn_step.specs.Laws.{HasNoReply, SpellsNoAllocate, SameForAllocates};
+ghost use Rattle.turn_step.specs.Laws.{HasNoReply, EncodesNoAllocate, SameForAllocates};
 ghost use Rattle.turn_step.specs.Outcome.{Arrives, StepOutcome, nothing};
 ghost use Rattle.turn_step.specs.Outcome.Arrives.{FromClient, FromPeer};
 ghost use Rattle.turn_step.specs.Outcome.Sent.{ToPeer};
@@ -28,14 +28,14 @@ ghost use Rattle.turn_types.specs.declared.limits.Bounds.{Bounds};
 /// data gets nothing at all.
 pub fn replies_answer_requests()
     ensures requests { (s : Setting) (h : History) (t : ℕ) (failed : Bool) (f : FiveTuple) (bytes : List ℕ) (o : StepOutcome) (m : Content) →
-        Spells bytes m → is_request m.class ≡ true → AnswersClient s h t failed f bytes o →
+        Encodes bytes m → is_request m.class ≡ true → AnswersClient s h t failed f bytes o →
         (port : ℕ) (peer : Endpoint) (payload : List ℕ) → o.sent ≢ Some (ToPeer port peer payload) }
     ensures others { (s : Setting) (h : History) (t : ℕ) (failed : Bool) (f : FiveTuple) (bytes : List ℕ) (o : StepOutcome) (m : Content) →
-        Spells bytes m → is_request m.class ≡ false → AnswersClient s h t failed f bytes o → HasNoReply o }
+        Encodes bytes m → is_request m.class ≡ false → AnswersClient s h t failed f bytes o → HasNoReply o }
     ensures no_message { (s : Setting) (h : History) (t : ℕ) (failed : Bool) (f : FiveTuple) (bytes : List ℕ) (o : StepOutcome) →
-        ((m : Content) → ¬ Spells bytes m) → AnswersClient s h t failed f bytes o → HasNoReply o }
+        ((m : Content) → ¬ Encodes bytes m) → AnswersClient s h t failed f bytes o → HasNoReply o }
     ensures unreadable { (s : Setting) (h : History) (t : ℕ) (failed : Bool) (f : FiveTuple) (bytes : List ℕ) (o : StepOutcome) →
-        ((m : Content) → ¬ Spells bytes m) → ((number : ℕ) (payload : List ℕ) → ¬ SpellsChannelData bytes number payload) →
+        ((m : Content) → ¬ Encodes bytes m) → ((number : ℕ) (payload : List ℕ) → ¬ EncodesChannelData bytes number payload) →
         AnswersClient s h t failed f bytes o → o ≡ nothing }
 {}
 
@@ -44,7 +44,7 @@ pub fn replies_answer_requests()
 /// and the same taken ports too. So is what a peer's datagram at the relayed port of a live allocation sends.
 pub fn clients_stand_alone()
     ensures client { (s : Setting) (h g : History) (t : ℕ) (failed : Bool) (f : FiveTuple) (bytes : List ℕ) (o : StepOutcome) →
-        events_of f h ≡ events_of f g → SpellsNoAllocate bytes →
+        events_of f h ≡ events_of f g → EncodesNoAllocate bytes →
         (AnswersArrival s h t failed (FromClient f bytes) o ↔ AnswersArrival s g t failed (FromClient f bytes) o) }
     ensures allocate { (s : Setting) (h g : History) (t : ℕ) (failed : Bool) (f : FiveTuple) (bytes : List ℕ) (o : StepOutcome) →
         events_of f h ≡ events_of f g → SameForAllocates s f t bytes (table h t) (table g t) →

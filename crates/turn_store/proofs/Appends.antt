@@ -8,12 +8,12 @@ use Rattle.turn_record.specs.Records as records
 use Rattle.turn_record.specs.declared.version.Version.{Version}
 use Rattle.turn_store.specs.Areas.{Form, Holds}
 use Rattle.turn_store.specs.Images.{EitherBy, StandsBy, StandsForAt}
-use Rattle.turn_store.specs.Spells.{HasSize, Spells}
+use Rattle.turn_store.specs.Encodes.{HasSize, Encodes}
 use Rattle.turn_store.specs.Stages.{InStagesAt}
 use Rattle.turn_store.specs.State.{MayFollow, RecoversToAt, Shows, StoreState, form_of}
 use Rattle.turn_disk.proofs.Since.{since_same}
 use Rattle.turn_store.proofs.Rows.{recovers_image}
-use Rattle.turn_store.proofs.Spelling.{frames_go_on, snapshots_go_on}
+use Rattle.turn_store.proofs.Encoding.{frames_go_on, snapshots_go_on}
 use Rattle.turn_store.proofs.Staged.{stages_first_at, stages_weaken_at}
 
 module _ {D : Type 0} (old : StoreState D) (before : State) (c : ℕ) (h : History) (es : List Event) (m : ℕ) (recovers : RecoversToAt old before c h) (follows : MayFollow old.bounds c h es m) where
@@ -24,19 +24,19 @@ module _ {D : Type 0} (old : StoreState D) (before : State) (c : ℕ) (h : Histo
   v = old.version
 
   stood : (image : List ℕ) → Holds v form recovers.snapshot recovers.payloads image → StandsForAt form h c image
-  stood image holds = record { version = v; snapshot = recovers.snapshot; payloads = recovers.payloads; holds = holds; spells = recovers.spells }
+  stood image holds = record { version = v; snapshot = recovers.snapshot; payloads = recovers.payloads; holds = holds; encodes = recovers.encodes }
 
   stood_by : (image : List ℕ) → Holds v form recovers.snapshot recovers.payloads image → StandsBy form h m image
   stood_by image holds = record { clock = c; bounded = follows.clock_late; stands = stood image holds }
 
   module _ (size : HasSize old.version old.bounds es) (payload : List ℕ) (is : payload ≡ bytes.payload es) where
-    more : (d : ℕ) × (d ≤ m) × Spells v old.bounds (h ++ es) d recovers.snapshot (recovers.payloads ++ payload ∷ [])
+    more : (d : ℕ) × (d ≤ m) × Encodes v old.bounds (h ++ es) d recovers.snapshot (recovers.payloads ++ payload ∷ [])
     more =
-        subst (λ (p : List ℕ). (d : ℕ) × (d ≤ m) × Spells v old.bounds (h ++ es) d recovers.snapshot (recovers.payloads ++ p ∷ [])) (sym is)
-        (frames_go_on v old.bounds h c recovers.snapshot recovers.payloads es m recovers.spells follows.fitting follows.from size follows.clock_late follows.late)
+        subst (λ (p : List ℕ). (d : ℕ) × (d ≤ m) × Encodes v old.bounds (h ++ es) d recovers.snapshot (recovers.payloads ++ p ∷ [])) (sym is)
+        (frames_go_on v old.bounds h c recovers.snapshot recovers.payloads es m recovers.encodes follows.fitting follows.from size follows.clock_late follows.late)
 
     framed_by : (image : List ℕ) → Holds v form recovers.snapshot (recovers.payloads ++ payload ∷ []) image → StandsBy form (h ++ es) m image
-    framed_by image holds = record { clock = more.0; bounded = more.1; stands = record { version = v; snapshot = recovers.snapshot; payloads = recovers.payloads ++ payload ∷ []; holds = holds; spells = more.2 } }
+    framed_by image holds = record { clock = more.0; bounded = more.1; stands = record { version = v; snapshot = recovers.snapshot; payloads = recovers.payloads ++ payload ∷ []; holds = holds; encodes = more.2 } }
 
     pub frame_stages : (gate : ℕ) (since now : Trace) → InStagesAt gate since now (Holds v form recovers.snapshot recovers.payloads) (λ image. Holds v form recovers.snapshot recovers.payloads image ⊎ Holds v form recovers.snapshot (recovers.payloads ++ payload ∷ []) image)
         → InStagesAt gate since now (StandsForAt form h c) (EitherBy form h es m)
@@ -54,8 +54,8 @@ module _ {D : Type 0} (old : StoreState D) (before : State) (c : ℕ) (h : Histo
         snapshot = recovers.snapshot;
         payloads = recovers.payloads ++ payload ∷ [];
         shows = shows;
-        spells = subst (λ b. Spells new.version b (h ++ es) more.0 recovers.snapshot (recovers.payloads ++ payload ∷ [])) (sym same)
-            (subst (λ (w : Version). Spells w old.bounds (h ++ es) more.0 recovers.snapshot (recovers.payloads ++ payload ∷ [])) (sym version) more.2);
+        encodes = subst (λ b. Encodes new.version b (h ++ es) more.0 recovers.snapshot (recovers.payloads ++ payload ∷ [])) (sym same)
+            (subst (λ (w : Version). Encodes w old.bounds (h ++ es) more.0 recovers.snapshot (recovers.payloads ++ payload ∷ [])) (sym version) more.2);
         runs = runs;
       },
     )
@@ -65,11 +65,11 @@ module _ {D : Type 0} (old : StoreState D) (before : State) (c : ℕ) (h : Histo
     abbrev next : List ℕ
     next = bytes.snapshot w m contents
 
-    spelled : Spells w old.bounds (h ++ es) m next []
-    spelled = subst (λ (t : Contents). Spells w old.bounds (h ++ es) m (bytes.snapshot w m t) []) (sym is) (snapshots_go_on w old.bounds (h ++ es) m follows.fitting follows.late follows.in_range (subst (records.Holds w) is can))
+    encoded : Encodes w old.bounds (h ++ es) m next []
+    encoded = subst (λ (t : Contents). Encodes w old.bounds (h ++ es) m (bytes.snapshot w m t) []) (sym is) (snapshots_go_on w old.bounds (h ++ es) m follows.fitting follows.late follows.in_range (subst (records.Holds w) is can))
 
     next_by : (image : List ℕ) → Holds w form next [] image → StandsBy form (h ++ es) m image
-    next_by image holds = record { clock = m; bounded = omega arith; stands = record { version = w; snapshot = next; payloads = []; holds = holds; spells = spelled } }
+    next_by image holds = record { clock = m; bounded = omega arith; stands = record { version = w; snapshot = next; payloads = []; holds = holds; encodes = encoded } }
 
     pub snapshot_stages : (gate : ℕ) (since now : Trace) → InStagesAt gate since now (Holds v form recovers.snapshot recovers.payloads) (λ image. Holds v form recovers.snapshot recovers.payloads image ⊎ Holds w form next [] image)
         → InStagesAt gate since now (StandsForAt form h c) (EitherBy form h es m)
@@ -83,7 +83,7 @@ module _ {D : Type 0} (old : StoreState D) (before : State) (c : ℕ) (h : Histo
       snapshot = next;
       payloads = [];
       shows = shows;
-      spells = subst (λ b. Spells new.version b (h ++ es) m next []) (sym same) (subst (λ (x : Version). Spells x old.bounds (h ++ es) m next []) (sym version) spelled);
+      encodes = subst (λ b. Encodes new.version b (h ++ es) m next []) (sym same) (subst (λ (x : Version). Encodes x old.bounds (h ++ es) m next []) (sym version) encoded);
       runs = runs;
     }
 

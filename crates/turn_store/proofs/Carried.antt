@@ -8,7 +8,7 @@ use Rattle.turn_history.specs.History.{History, clock}
 use Rattle.turn_history.specs.Table as tables
 use Rattle.turn_journal.specs.declared.area.Area.{Area}
 use Rattle.turn_record.specs.Bytes as bytes
-use Rattle.turn_record.specs.Records.{IsSnapshot, SpellsSnapshot}
+use Rattle.turn_record.specs.Records.{IsSnapshot, EncodesSnapshot}
 use Rattle.turn_record.specs.declared.version.Version.{Version}
 use Rattle.turn_record.specs.declared.version.Version.TheVariants.{V2}
 use Rattle.turn_store.specs.Areas.{Form, Holds, RecoversToParts}
@@ -27,7 +27,7 @@ use Rattle.turn_store.specs.declared.error.OpenError.TheVariants.{Device, Memory
 use Rattle.turn_types.specs.declared.limits.Bounds.{Bounds}
 use Rattle.turn_store.proofs.Appends.{alone_stages, rest_stages, snapshot_done, snapshot_stages}
 use Rattle.turn_store.proofs.Sound.{holds_once}
-use Rattle.turn_store.proofs.Spelling.{clock_late}
+use Rattle.turn_store.proofs.Encoding.{clock_late}
 use Rattle.turn_store.proofs.Staged.{stages_all_at}
 use Rattle.turn_types.specs.Profile.{end_of_moments}
 
@@ -40,7 +40,7 @@ module _ {D : Type 0} (form : Form) (h : History) (c : ℕ) (store : StoreState 
 
   pub nothing_follows : t.moment < end_of_moments → MayFollow store.bounds c h [] t.moment
   nothing_follows small =
-      let s = o.recovers.spells in
+      let s = o.recovers.encodes in
       let late = clock_late store.version store.bounds h c o.recovers.snapshot o.recovers.payloads s in
       let now = now_is in
       record {
@@ -100,7 +100,7 @@ opened_anew new after t version can shows = record {
   first = t;
   payloads = [];
   shows = shows;
-  spells = subst (λ (v : Version). SpellsSnapshot v new.bounds t.moment t.contents (bytes.snapshot V2 t.moment t.contents)) (sym version) (record { fits = can; is = refl });
+  encodes = subst (λ (v : Version). EncodesSnapshot v new.bounds t.moment t.contents (bytes.snapshot V2 t.moment t.contents)) (sym version) (record { fits = can; is = refl });
   replays = refl;
 }
 

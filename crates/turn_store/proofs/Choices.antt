@@ -48,7 +48,7 @@ area_is_read v b start size head first t end frames c range short version good l
         front = front_stands v start head.generation head.snapshot good.bytes c (is_head.version ∙ version) is_head.generation is_head.snapshot good.has.stands long;
         frames = subst (λ (at : ℕ). HoldsFrames at log.payloads (start + size) c) place log.holds.frames;
       };
-      spells = good.spells;
+      encodes = good.encodes;
       ends = ap (λ (at : ℕ). last_gate at log.payloads) (sym place) ∙ log.holds.ends;
       replays = log.replays;
       count = log.count;
@@ -79,7 +79,7 @@ chosen_is v b size start other head rival end frames t c places read beats is_he
           (λ (closed : rival.is_open ≡ false). inl (λ opened. not_true rival.is_open (is_rival.gate.1 opened) closed))
           (λ (less : rival.generation < head.generation). inr (below less))
           beats.yields;
-      spells = read.spells;
+      encodes = read.encodes;
       replays = read.replays;
       count = read.count;
     }

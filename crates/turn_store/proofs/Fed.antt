@@ -42,12 +42,12 @@ pub good_snapshot : (v : Version) (b : Bounds) → AreInRange b → (at count : 
 good_snapshot v b range at count c s le bytes is = record {
   bytes = take count (drop at c);
   has = has_bytes at count c le;
-  spells = snapshot_found v b range (take count (drop at c)) bytes (s.moment, s.contents) is;
+  encodes = snapshot_found v b range (take count (drop at c)) bytes (s.moment, s.contents) is;
 }
 
 pub bad_snapshot : (v : Version) (b : Bounds) → AreInRange b → (at count : ℕ) (c : List ℕ) (f : DecodeError) → at + count ≤ length c → snapshot_in v b (take count (drop at c)) ≡ Err f → IsBadSnapshot v b at count c
 bad_snapshot v b range at count c f le is = record {
   bytes = take count (drop at c);
   has = has_bytes at count c le;
-  none = λ t contents spelled. let other = sym is ∙ snapshot_again v b range (take count (drop at c)) t contents spelled in absurd (cc);
+  none = λ t contents encoded. let other = sym is ∙ snapshot_again v b range (take count (drop at c)) t contents encoded in absurd (cc);
 }

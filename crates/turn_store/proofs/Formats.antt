@@ -20,7 +20,7 @@ use Rattle.turn_record.specs.declared.version.Version.TheVariants.{V1, V2}
 use Rattle.turn_store.specs.Areas.{Form, IsForm, Holds, area_front}
 use Rattle.turn_store.specs.Format.{IsFormatted, IsLaid, fresh}
 use Rattle.turn_store.specs.Images.{EachImage, StandsForAt}
-use Rattle.turn_store.specs.Spells.{Spells}
+use Rattle.turn_store.specs.Encodes.{Encodes}
 use Rattle.turn_store.specs.Superblock.{superblock}
 use Rattle.turn_store.proofs.Numbers.{stands_back, one_stands}
 use Rattle.turn_store.proofs.Superblocks.{length-superblock}
@@ -137,8 +137,8 @@ holds_nothing : (v : Version) → records.Holds v (table [] 0)
 holds_nothing V1 = nothing
 holds_nothing V2 = tt
 
-nothing_spells : (v : Version) (b : Bounds) → Spells v b [] 0 (fresh v) []
-nothing_spells v b = record {
+nothing_encodes : (v : Version) (b : Bounds) → Encodes v b [] 0 (fresh v) []
+nothing_encodes v b = record {
   fitting = tt;
   before = [];
   batches = [];
@@ -160,5 +160,5 @@ stands_for_nothing v form state is image left = record {
   snapshot = fresh v;
   payloads = [];
   holds = subst (Holds v form (fresh v) []) (sym (image_settled state is.holds.settled image left)) (record { start = 64; other = 64 + form.area; generation = 1; active = is.holds.active; yields = inl is.closed });
-  spells = nothing_spells v form.bounds;
+  encodes = nothing_encodes v form.bounds;
 }

@@ -21,4 +21,4 @@ all_kept v b s [] ranges writes goes is = is
 all_kept v b s (e ∷ es) ranges writes goes is = all_kept v b (after s e) es ranges.1 writes.1 goes.1 (next_kept v b s e ranges.0 writes.0 goes.0 is)
 
 pub goes_kept : (v : Version) (b : Bounds) (s t : Snapshot) (p : List ℕ) → GoesOn v b s p t → CanBeHeld v b s → CanBeHeld v b t
-goes_kept v b s t p goes is = subst (CanBeHeld v b) (sym goes.ends) (all_kept v b s goes.events goes.spells.batch.in_range goes.spells.batch.writes goes.goes is)
+goes_kept v b s t p goes is = subst (CanBeHeld v b) (sym goes.ends) (all_kept v b s goes.events goes.encodes.batch.in_range goes.encodes.batch.writes goes.goes is)

@@ -16,7 +16,7 @@ pub mod Rows
 pub mod Sizes
 pub mod Fronts
 pub mod Sound
-pub mod Spelling
+pub mod Encoding
 pub mod Staged
 pub mod Steps
 pub mod Superblocks

@@ -8,7 +8,7 @@ use Rattle.turn_journal.proofs.Growing.{last_gate-push}
 use Rattle.turn_store.specs.Opened.{LogIsRead}
 use Rattle.turn_history.specs.History.{Event}
 use Rattle.turn_journal.specs.Scan.{IsBadFrame}
-use Rattle.turn_record.specs.Records.{SpellsPayload, max_payload}
+use Rattle.turn_record.specs.Records.{EncodesPayload, max_payload}
 use Rattle.turn_record.specs.declared.version.Version.{Version}
 use Rattle.turn_store.specs.Refused.{BreaksAt, FaultWith}
 use Rattle.turn_store.specs.Replay.{Snapshot, GoOn, GoesOn, Replays, HasFrames, ReplaysTo}
@@ -94,9 +94,9 @@ broken_frame v b from limit s gate frames max t content so_far max_is place is =
   bad = inl (subst (λ (n : ℕ). IsBadFrame place limit n content) max_is is.1);
 }
 
--- a payload that spells no batch that goes on
+-- a payload that encodes no batch that goes on
 pub broken_payload : (v : Version) (b : Bounds) (from limit : ℕ) (s : Snapshot) (gate frames : ℕ) (t : Snapshot) (p content : List ℕ) → SoFar v b from s gate frames t content → IsFrame gate p content
-    → ((es : List Event) → SpellsPayload v b es p → GoOn b t es → ⊥) → (place : ℕ) → place ≡ gate → BreaksAt v b from limit s content place
+    → ((es : List Event) → EncodesPayload v b es p → GoOn b t es → ⊥) → (place : ℕ) → place ≡ gate → BreaksAt v b from limit s content place
 broken_payload v b from limit s gate frames t p content so_far frame bad place is = record {
   reached = t;
   before = subst (λ (g : ℕ). ReplaysTo v b from s g t content) (sym is) so_far.to;

@@ -7,7 +7,7 @@ use Rattle.turn_history.specs.Table.{table}
 use Rattle.turn_journal.specs.Frames.{HoldsFrames}
 use Rattle.turn_journal.proofs.Once.{list_once}
 use Rattle.turn_record.specs.Bytes.{payload}
-use Rattle.turn_record.specs.Records.{SpellsSnapshot}
+use Rattle.turn_record.specs.Records.{EncodesSnapshot}
 use Rattle.turn_record.specs.declared.version.Version.{Version}
 use Rattle.turn_record.specs.declared.version.Version.TheVariants.{V1}
 use Rattle.turn_store.specs.Areas.{Form, AreAreas, AreaHolds, Yields}
@@ -15,26 +15,26 @@ use Rattle.turn_store.specs.Head.{Beats, NoneIsActive}
 use Rattle.turn_store.specs.Images.{StandsForAt}
 use Rattle.turn_store.specs.Refused.{IsPlain, IsBadLog, IsBadSnapshot, AreaIsBad, StoreIsBad, WhyRefused}
 use Rattle.turn_store.specs.Replay.{Snapshot, Replays}
-use Rattle.turn_store.specs.Spells.{Spells, all_of}
+use Rattle.turn_store.specs.Encodes.{Encodes, all_of}
 use Rattle.turn_store.specs.Superblock.{HasSuperblock, least_area}
 use Rattle.turn_store.specs.declared.error.OpenError.{OpenError}
 use Rattle.turn_store.specs.declared.error.OpenError.TheVariants.{Device, Memory, NotAStore, LimitsDiffer, Damaged}
 use Rattle.turn_store.specs.declared.heads.Head.{Head}
 use Rattle.turn_store.proofs.Replayed.{at, same_at, batches_replay, no_break}
-use Rattle.turn_store.proofs.Fronts.{front_is, front_short, spelled_once}
+use Rattle.turn_store.proofs.Fronts.{front_is, front_short, encoded_once}
 use Rattle.turn_store.proofs.Sound.{version_once, Counts, counts_is, front_size, none_no, none_turned, beats_no, superblock_in}
 use Rattle.turn_store.proofs.Sizes.{smallest}
-use Rattle.turn_store.proofs.Spelling.{of_spelled, are_batches}
+use Rattle.turn_store.proofs.Encoding.{of_encoded, are_batches}
 use Rattle.turn_store.proofs.Superblocks.{superblock_once}
 use Rattle.turn_types.specs.Limits.{AreInRange}
 use Rattle.turn_types.specs.declared.limits.Bounds.{Bounds}
 
-module _ (v : Version) (b : Bounds) (range : AreInRange b) (h : History) (clock_is : ℕ) (snapshot : List ℕ) (payloads : List (List ℕ)) (s : Spells v b h clock_is snapshot payloads) where
+module _ (v : Version) (b : Bounds) (range : AreInRange b) (h : History) (clock_is : ℕ) (snapshot : List ℕ) (payloads : List (List ℕ)) (s : Encodes v b h clock_is snapshot payloads) where
   -- what the payloads of a history make of the table of its snapshot
-  pub replayed : (first t : Snapshot) → SpellsSnapshot v b first.moment first.contents snapshot → Replays v b first payloads t → t ≡ at h clock_is
-  replayed first t spells replays =
-      let parts = of_spelled v b h clock_is snapshot payloads s in
-      let start : first ≡ at s.before s.moment = spelled_once v b range first (at s.before s.moment) snapshot spells (front_is v b h clock_is snapshot payloads s) in
+  pub replayed : (first t : Snapshot) → EncodesSnapshot v b first.moment first.contents snapshot → Replays v b first payloads t → t ≡ at h clock_is
+  replayed first t encodes replays =
+      let parts = of_encoded v b h clock_is snapshot payloads s in
+      let start : first ≡ at s.before s.moment = encoded_once v b range first (at s.before s.moment) snapshot encodes (front_is v b h clock_is snapshot payloads s) in
       let there = subst (λ (ps : List (List ℕ)). Replays v b (at s.before s.moment) ps t) s.are_payloads (subst (λ (x : Snapshot). Replays v b x payloads t) start replays) in
       batches_replay v b range s.before s.moment s.batches t parts.1 s.from s.late (are_batches v b s.before s.batches parts.1 s.sizes) there
       ∙ same_at (s.before ++ all_of s.batches) h (max s.moment (clock (all_of s.batches))) clock_is (sym s.whole) (sym s.clock_is)
@@ -44,11 +44,11 @@ module _ (v : Version) (b : Bounds) (range : AreInRange b) (h : History) (clock_
       → ((place ≡ start + 14) × IsBadSnapshot v b (start + 14) head.snapshot c) ⊎ IsBadLog v b start size head c place → ⊥
   after_no start size generation head rival c place holds counts (inl (there, bad)) =
       let same : bad.bytes ≡ snapshot = list_once (start + 14) bad.bytes snapshot c (bad.has.long ∙ counts.size) bad.has.stands (front_size v start generation snapshot c holds.front).1 in
-      bad.none s.moment (table s.before s.moment) (subst (SpellsSnapshot v b s.moment (table s.before s.moment)) (sym same) (front_is v b h clock_is snapshot payloads s))
+      bad.none s.moment (table s.before s.moment) (subst (EncodesSnapshot v b s.moment (table s.before s.moment)) (sym same) (front_is v b h clock_is snapshot payloads s))
   after_no start size generation head rival c place holds counts (inr (first, good, breaks)) =
       let same : good.bytes ≡ snapshot = list_once (start + 14) good.bytes snapshot c (good.has.long ∙ counts.size) good.has.stands (front_size v start generation snapshot c holds.front).1 in
-      let parts = of_spelled v b h clock_is snapshot payloads s in
-      let begin : first ≡ at s.before s.moment = spelled_once v b range first (at s.before s.moment) snapshot (subst (SpellsSnapshot v b first.moment first.contents) same good.spells) (front_is v b h clock_is snapshot payloads s) in
+      let parts = of_encoded v b h clock_is snapshot payloads s in
+      let begin : first ≡ at s.before s.moment = encoded_once v b range first (at s.before s.moment) snapshot (subst (EncodesSnapshot v b first.moment first.contents) same good.encodes) (front_is v b h clock_is snapshot payloads s) in
       let frames : HoldsFrames (start + 14 + head.snapshot) (map payload s.batches) (start + size) c =
       subst (λ (n : ℕ). HoldsFrames (start + 14 + n) (map payload s.batches) (start + size) c) (sym counts.size) (subst (λ (ps : List (List ℕ)). HoldsFrames (start + 14 + length snapshot) ps (start + size) c) s.are_payloads holds.frames) in
       let before = breaks.before in
@@ -102,7 +102,7 @@ module _ (form : Form) (h : History) (clock_is : ℕ) (c : List ℕ) (stands : S
       (λ (size : (place ≡ 8) × ((why.0 < least_area V1 form.bounds) ⊎ (length c ≢ 64 + 2 * why.0))).
       ⊎_elim (λ (low : why.0 < least_area V1 form.bounds). absurd (omega (arith, low, same, holds.active.is_form.room, smallest stands.version form.bounds))) (λ (wrong : length c ≢ 64 + 2 * why.0). absurd (wrong (holds.active.whole ∙ ap (λ (n : ℕ). 64 + 2 * n) (sym same)))) size.1)
       (λ (bad : (least_area V1 form.bounds ≤ why.0) × (length c ≡ 64 + 2 * why.0) × StoreIsBad form.bounds why.0 c place).
-      store_no stands.version form.bounds holds.active.is_form.in_range h clock_is stands.snapshot stands.payloads stands.spells form.area holds.start holds.other holds.generation c place holds.active.places holds.active.is_form.room holds.active.area holds.yields
+      store_no stands.version form.bounds holds.active.is_form.in_range h clock_is stands.snapshot stands.payloads stands.encodes form.area holds.start holds.other holds.generation c place holds.active.places holds.active.is_form.room holds.active.area holds.yields
       (subst (λ (n : ℕ). StoreIsBad form.bounds n c place) same bad.2))
       why.2
 

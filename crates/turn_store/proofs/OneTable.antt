@@ -12,11 +12,11 @@ use Rattle.turn_record.specs.declared.version.Version.{Version}
 use Rattle.turn_store.specs.Areas.{Form}
 use Rattle.turn_store.specs.Images.{StandsForAt}
 use Rattle.turn_store.specs.Replay.{Snapshot}
-use Rattle.turn_store.specs.Spells.{Spells, all_of}
-use Rattle.turn_store.proofs.Fronts.{front_is, spelled_once}
+use Rattle.turn_store.specs.Encodes.{Encodes, all_of}
+use Rattle.turn_store.proofs.Fronts.{front_is, encoded_once}
 use Rattle.turn_store.proofs.Replayed.{at}
 use Rattle.turn_store.proofs.Sound.{holds_once}
-use Rattle.turn_store.proofs.Spelling.{are_batches, of_spelled}
+use Rattle.turn_store.proofs.Encoding.{are_batches, of_encoded}
 use Rattle.turn_types.specs.Limits.{AreInRange}
 use Rattle.turn_types.specs.declared.limits.Bounds.{Bounds}
 
@@ -38,14 +38,14 @@ batches_once v b range (x ∷ xs) (y ∷ ys) one two same =
     tail_of [] = []
     tail_of (l ∷ ls) = ls
 
--- bytes spell one table
-pub one_table : (v : Version) (b : Bounds) → AreInRange b → (g h : History) (c d : ℕ) (s : List ℕ) (ps : List (List ℕ)) → Spells v b g c s ps → Spells v b h d s ps
+-- bytes encode one table
+pub one_table : (v : Version) (b : Bounds) → AreInRange b → (g h : History) (c d : ℕ) (s : List ℕ) (ps : List (List ℕ)) → Encodes v b g c s ps → Encodes v b h d s ps
     → (c ≡ d) × ((t : ℕ) → c ≤ t → table g t ≡ table h t)
 one_table v b range g h c d s ps one two =
-    let parts = of_spelled v b g c s ps one in
-    let others = of_spelled v b h d s ps two in
+    let parts = of_encoded v b g c s ps one in
+    let others = of_encoded v b h d s ps two in
     let first : at one.before one.moment ≡ at two.before two.moment =
-    spelled_once v b range (at one.before one.moment) (at two.before two.moment) s (front_is v b g c s ps one) (front_is v b h d s ps two) in
+    encoded_once v b range (at one.before one.moment) (at two.before two.moment) s (front_is v b g c s ps one) (front_is v b h d s ps two) in
     let moments : one.moment ≡ two.moment = ap (λ (x : Snapshot). x.moment) first in
     let tables : table one.before one.moment ≡ table two.before two.moment = ap (λ (x : Snapshot). x.contents) first in
     let batches : one.batches ≡ two.batches = batches_once v b range one.batches two.batches (are_batches v b one.before one.batches parts.1 one.sizes) (are_batches v b two.before two.batches others.1 two.sizes)
@@ -68,9 +68,9 @@ pub image_once : (first second : Form) (g h : History) (c d : ℕ) (image : List
     → (first ≡ second) × (c ≡ d) × ((t : ℕ) → c ≤ t → table g t ≡ table h t)
 image_once first second g h c d image one two =
     let once = holds_once one.version two.version first second one.snapshot two.snapshot one.payloads two.payloads image one.holds two.holds in
-    let bounds_there = subst (λ (x : Form). Spells two.version x.bounds h d two.snapshot two.payloads) (sym once.0) two.spells in
-    let version_there = subst (λ (v : Version). Spells v first.bounds h d two.snapshot two.payloads) (sym once.1) bounds_there in
-    let snapshot_there = subst (λ (s : List ℕ). Spells one.version first.bounds h d s two.payloads) (sym once.2) version_there in
-    let spells = subst (λ (ps : List (List ℕ)). Spells one.version first.bounds h d one.snapshot ps) (sym once.3) snapshot_there in
-    let tables = one_table one.version first.bounds one.holds.active.is_form.in_range g h c d one.snapshot one.payloads one.spells spells in
+    let bounds_there = subst (λ (x : Form). Encodes two.version x.bounds h d two.snapshot two.payloads) (sym once.0) two.encodes in
+    let version_there = subst (λ (v : Version). Encodes v first.bounds h d two.snapshot two.payloads) (sym once.1) bounds_there in
+    let snapshot_there = subst (λ (s : List ℕ). Encodes one.version first.bounds h d s two.payloads) (sym once.2) version_there in
+    let encodes = subst (λ (ps : List (List ℕ)). Encodes one.version first.bounds h d one.snapshot ps) (sym once.3) snapshot_there in
+    let tables = one_table one.version first.bounds one.holds.active.is_form.in_range g h c d one.snapshot one.payloads one.encodes encodes in
     (once.0, tables.0, tables.1)

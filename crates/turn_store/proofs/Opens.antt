@@ -7,7 +7,7 @@ use Rattle.turn_store.specs.Areas.{Form, Holds}
 use Rattle.turn_store.specs.Images.{StandsForAt}
 use Rattle.turn_store.specs.Opened.{IsChosen, IsOpened, OpensTo}
 use Rattle.turn_store.specs.Replay.{Snapshot}
-use Rattle.turn_store.specs.Spells.{Spells}
+use Rattle.turn_store.specs.Encodes.{Encodes}
 use Rattle.turn_store.specs.State.{StoreState, form_of}
 use Rattle.turn_store.specs.Superblock.{HasSuperblock, least_area}
 use Rattle.turn_store.proofs.NeverRefused.{replayed}
@@ -33,7 +33,7 @@ opened store state t settled has room whole addressable chosen = record {
     };
     frames = chosen.count;
   };
-  spells = chosen.spells;
+  encodes = chosen.encodes;
   replays = chosen.replays;
 }
 
@@ -44,12 +44,12 @@ opens_to form h clock store state t is same runs stands =
     let recovers = is.shows.recovers in
     let here : Holds store.version (form_of store) is.snapshot is.payloads state.bytes = record { start = store.area.start; other = store.other; generation = store.generation; active = recovers.holds.active; yields = recovers.yields } in
     let once = holds_once store.version stands.version (form_of store) form is.snapshot stands.snapshot is.payloads stands.payloads state.bytes here stands.holds in
-    let bounds_there = subst (λ (b : Bounds). Spells stands.version b h clock stands.snapshot stands.payloads) (sym same) stands.spells in
-    let version_there = subst (λ (v : Version). Spells v store.bounds h clock stands.snapshot stands.payloads) (sym once.1) bounds_there in
-    let snapshot_there = subst (λ (s : List ℕ). Spells store.version store.bounds h clock s stands.payloads) (sym once.2) version_there in
-    let spells = subst (λ (ps : List (List ℕ)). Spells store.version store.bounds h clock is.snapshot ps) (sym once.3) snapshot_there in
+    let bounds_there = subst (λ (b : Bounds). Encodes stands.version b h clock stands.snapshot stands.payloads) (sym same) stands.encodes in
+    let version_there = subst (λ (v : Version). Encodes v store.bounds h clock stands.snapshot stands.payloads) (sym once.1) bounds_there in
+    let snapshot_there = subst (λ (s : List ℕ). Encodes store.version store.bounds h clock s stands.payloads) (sym once.2) version_there in
+    let encodes = subst (λ (ps : List (List ℕ)). Encodes store.version store.bounds h clock is.snapshot ps) (sym once.3) snapshot_there in
     record {
       same_form = once.0;
-      recovers = record { snapshot = is.snapshot; payloads = is.payloads; shows = is.shows; spells = spells; runs = runs };
-      table_is = replayed store.version store.bounds recovers.holds.active.is_form.in_range h clock is.snapshot is.payloads spells is.first t is.spells is.replays;
+      recovers = record { snapshot = is.snapshot; payloads = is.payloads; shows = is.shows; encodes = encodes; runs = runs };
+      table_is = replayed store.version store.bounds recovers.holds.active.is_form.in_range h clock is.snapshot is.payloads encodes is.first t is.encodes is.replays;
     }

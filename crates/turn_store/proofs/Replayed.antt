@@ -14,16 +14,16 @@ use Rattle.turn_journal.specs.declared.found.Found.TheVariants.{Frame}
 use Rattle.turn_journal.proofs.Once.{frame_once, found_is_good}
 use Rattle.turn_journal.proofs.Growing.{last_gate_above}
 use Rattle.turn_record.specs.Bytes.{payload}
-use Rattle.turn_record.specs.Records.{IsBatch, SpellsPayload, max_payload}
+use Rattle.turn_record.specs.Records.{IsBatch, EncodesPayload, max_payload}
 use Rattle.turn_record.proofs.Batches.{one_payload}
 use Rattle.turn_record.proofs.Sizes.{payload_at_most}
 use Rattle.turn_record.specs.declared.version.Version.{Version}
 use Rattle.turn_store.specs.Refused.{IsBadAt}
 use Rattle.turn_store.specs.Replay.{Snapshot, IsNext, GoOn, GoesOn, Replays, HasFrames, after, after_all}
-use Rattle.turn_store.specs.Spells.{all_of}
+use Rattle.turn_store.specs.Encodes.{all_of}
 use Rattle.turn_store.proofs.Rows.{last_gate_below}
 use Rattle.turn_store.proofs.Numbers.{frame_length}
-use Rattle.turn_store.proofs.Spelling.{fits_rest, from_both, from_less}
+use Rattle.turn_store.proofs.Encoding.{fits_rest, from_both, from_less}
 use Rattle.turn_types.specs.Limits.{AreInRange}
 use Rattle.turn_types.specs.declared.limits.Bounds.{Bounds}
 
@@ -57,10 +57,10 @@ events_replay b g m (e ∷ es) fits from =
       ap (λ (s : Snapshot). after_all s es) one.1 ∙ rest.1 ∙ same_at ((g ++ e ∷ []) ++ es) (g ++ e ∷ es) (max e.moment (clock es)) (max m (clock (e ∷ es))) (append_assoc g (e ∷ []) es) (omega arith),
     )
 
--- what a payload of a batch spells is that batch
+-- what a payload of a batch encodes is that batch
 batch_of : (v : Version) (b : Bounds) → AreInRange b → (es : List Event) → IsBatch v b es → (s t : Snapshot) → GoesOn v b s (payload es) t → (t ≡ after_all s es) × GoOn b s es
 batch_of v b range es is s t goes =
-    let same : goes.events ≡ es = (one_payload b range v v goes.events es [] [] goes.spells.batch is (ap (λ (l : List ℕ). l ++ []) (sym goes.spells.is))).0 in
+    let same : goes.events ≡ es = (one_payload b range v v goes.events es [] [] goes.encodes.batch is (ap (λ (l : List ℕ). l ++ []) (sym goes.encodes.is))).0 in
     (goes.ends ∙ ap (after_all s) same, subst (GoOn b s) same goes.goes)
 
 from_rest : (m : ℕ) (es more : List Event) → AllFrom m (es ++ more) → AllFrom m more
@@ -120,14 +120,14 @@ pub no_break : (v : Version) (b : Bounds) → AreInRange b → (g : History) (m 
     → HasFrames gate qs c → last_gate gate qs ≡ bad → Replays v b (at g m) qs t → IsBadAt v b bad limit t c → ⊥
 no_break v b range g m [] gate limit c [] bad t fits from le are holds frames ends replays is =
     let closed : slice_index c bad ≡ 165 → ⊥ = λ opened. holds.1 (ap (λ (i : ℕ). slice_index c i) ends ∙ opened) in
-    ⊎_elim (λ broken. closed broken.0) (λ (other : (p : List ℕ) × IsFrame bad p c × ((es : List Event) → SpellsPayload v b es p → GoOn b t es → ⊥)). closed other.1.is_open) is
+    ⊎_elim (λ broken. closed broken.0) (λ (other : (p : List ℕ) × IsFrame bad p c × ((es : List Event) → EncodesPayload v b es p → GoOn b t es → ⊥)). closed other.1.is_open) is
 no_break v b range g m [] gate limit c (q ∷ qs) bad t fits from le are holds frames ends replays is = holds.1 frames.0.is_open
 no_break v b range g m (es ∷ bs) gate limit c [] bad t fits from le are holds frames ends replays is =
     let on = onwards b g m es (all_of bs) fits from le in
     let here : IsBadAt v b gate limit (at g m) c = subst (λ (s : Snapshot). IsBadAt v b gate limit s c) replays (subst (λ (n : ℕ). IsBadAt v b n limit t c) (sym ends) is) in
     ⊎_elim
     (λ broken. found_is_good gate limit (max_payload v b) c (Frame (length (payload es))) (found_there v b gate limit (payload es) (map payload bs) c holds (payload_at_most v b es are.0)) broken)
-    (λ (other : (p : List ℕ) × IsFrame gate p c × ((fs : List Event) → SpellsPayload v b fs p → GoOn b (at g m) fs → ⊥)).
+    (λ (other : (p : List ℕ) × IsFrame gate p c × ((fs : List Event) → EncodesPayload v b fs p → GoOn b (at g m) fs → ⊥)).
     other.2 es (record { batch = are.0; is = frame_once gate other.0 (payload es) c other.1 holds.0 }) on.goes)
     here
 no_break v b range g m (es ∷ bs) gate limit c (q ∷ qs) bad t fits from le are holds frames ends replays is =

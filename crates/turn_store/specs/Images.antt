@@ -5,15 +5,15 @@ use Rattle.turn_history.specs.History.{Event, History}
 use Rattle.turn_record.specs.declared.version.Version.{Version}
 use Rattle.turn_record.specs.declared.version.Version.TheVariants.{V2}
 use Rattle.turn_store.specs.Areas.{Form, Holds}
-use Rattle.turn_store.specs.Spells.{Spells}
+use Rattle.turn_store.specs.Encodes.{Encodes}
 
--- What the image holds, in one of the versions, spells the history, and the latest moment that is written is the clock.
+-- What the image holds, in one of the versions, encodes the history, and the latest moment that is written is the clock.
 pub record StandsForAt (form : Form) (h : History) (clock : ℕ) (image : List ℕ) : Type 0 where
   pub version : Version
   pub snapshot : List ℕ
   pub payloads : List (List ℕ)
   pub holds : Holds version form snapshot payloads image
-  pub spells : Spells version form.bounds h clock snapshot payloads
+  pub encodes : Encodes version form.bounds h clock snapshot payloads
 
 -- the image stands for the history, at a clock that is not later than a moment
 pub record StandsBy (form : Form) (h : History) (moment : ℕ) (image : List ℕ) : Type 0 where

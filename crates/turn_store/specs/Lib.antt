@@ -11,7 +11,7 @@ pub mod Opened
 pub mod Opening
 pub mod Refused
 pub mod Replay
-pub mod Spells
+pub mod Encodes
 pub mod Stages
 pub mod State
 pub mod Superblock

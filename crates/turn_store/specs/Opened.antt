@@ -2,7 +2,7 @@
 use Rattle.std.specs.Prelude.{◌≡◌, ◌+◌, ◌↔◌, ℕ, List, Bool, length, true}
 use Rattle.turn_disk.specs.Disk.{State}
 use Rattle.turn_journal.specs.Frames.{HoldsFramesTo, last_gate}
-use Rattle.turn_record.specs.Records.{SpellsSnapshot}
+use Rattle.turn_record.specs.Records.{EncodesSnapshot}
 use Rattle.turn_record.specs.declared.version.Version.{Version}
 use Rattle.turn_history.specs.History.{History}
 use Rattle.turn_history.specs.Table.{table}
@@ -27,7 +27,7 @@ pub record AreaIsRead (v : Version) (b : Bounds) (start size : ℕ) (head : Head
   pub first : Snapshot
   pub payloads : List (List ℕ)
   pub holds : head.is_open ≡ true → IsHead start head content → AreaHolds v start size head.generation snapshot payloads content
-  pub spells : SpellsSnapshot v b first.moment first.contents snapshot
+  pub encodes : EncodesSnapshot v b first.moment first.contents snapshot
   pub ends : last_gate (start + head_size + length snapshot) payloads ≡ start + end
   pub replays : Replays v b first payloads t
   pub count : frames ≡ length payloads
@@ -42,18 +42,18 @@ pub record IsChosen (v : Version) (b : Bounds) (size start other generation end 
   pub ends : last_gate (start + head_size + length snapshot) payloads ≡ start + end
   pub below : (is_below ≡ true) ↔ IsBelow other generation content
   pub yields : Yields other generation content
-  pub spells : SpellsSnapshot v b first.moment first.contents snapshot
+  pub encodes : EncodesSnapshot v b first.moment first.contents snapshot
   pub replays : Replays v b first payloads t
   pub count : frames ≡ length payloads
 
--- The store shows a snapshot and payloads, which spell a table and batches that go on from it, one after another, to the table
+-- The store shows a snapshot and payloads, which encode a table and batches that go on from it, one after another, to the table
 -- that was returned.
 pub record IsOpened {D : Type 0} (store : StoreState D) (state : State) (t : Snapshot) : Type 0 where
   pub snapshot : List ℕ
   pub first : Snapshot
   pub payloads : List (List ℕ)
   pub shows : Shows store state snapshot payloads
-  pub spells : SpellsSnapshot store.version store.bounds first.moment first.contents snapshot
+  pub encodes : EncodesSnapshot store.version store.bounds first.moment first.contents snapshot
   pub replays : Replays store.version store.bounds first payloads t
 
 -- The store was opened to a history at a clock: it recovers to it, and the table that was returned is the history's.

@@ -5,7 +5,7 @@ use Rattle.turn_history.specs.History.{Event}
 use Rattle.turn_history.specs.Table.{Contents}
 use Rattle.turn_journal.specs.Frames.{IsFrame}
 use Rattle.turn_journal.specs.Scan.{IsBadFrame}
-use Rattle.turn_record.specs.Records.{SpellsPayload, SpellsSnapshot, max_payload, max_snapshot}
+use Rattle.turn_record.specs.Records.{EncodesPayload, EncodesSnapshot, max_payload, max_snapshot}
 use Rattle.turn_record.specs.declared.version.Version.{Version}
 use Rattle.turn_record.specs.declared.version.Version.TheVariants.{V1}
 use Rattle.turn_store.specs.Areas.{version_byte}
@@ -37,23 +37,23 @@ pub record HasBytes (at count : ℕ) (bytes content : List ℕ) : Type 0 where
   pub long : length bytes ≡ count
   pub stands : StandsAt at bytes content
 
--- at this gate there is no frame that an area may have, or one whose payload spells no batch that goes on
+-- at this gate there is no frame that an area may have, or one whose payload encodes no batch that goes on
 abbrev pub IsBadAt : Version → Bounds → ℕ → ℕ → Snapshot → List ℕ → Type 0
 IsBadAt v b gate limit s content =
     IsBadFrame gate limit (max_payload v b) content
-    ⊎ ((payload : List ℕ) × IsFrame gate payload content × ((es : List Event) → SpellsPayload v b es payload → GoOn b s es → ⊥))
+    ⊎ ((payload : List ℕ) × IsFrame gate payload content × ((es : List Event) → EncodesPayload v b es payload → GoOn b s es → ⊥))
 
--- these bytes are a payload that spells a batch that goes on
+-- these bytes are a payload that encodes a batch that goes on
 pub record ReadsOn (v : Version) (b : Bounds) (s : Snapshot) (at count : ℕ) (t : Snapshot) (content : List ℕ) : Type 0 where
   pub bytes : List ℕ
   pub has : HasBytes at count bytes content
   pub goes : GoesOn v b s bytes t
 
--- these bytes are no payload that spells a batch that goes on
+-- these bytes are no payload that encodes a batch that goes on
 pub record ReadsBad (v : Version) (b : Bounds) (s : Snapshot) (at count : ℕ) (content : List ℕ) : Type 0 where
   pub bytes : List ℕ
   pub has : HasBytes at count bytes content
-  pub none : (es : List Event) → SpellsPayload v b es bytes → GoOn b s es → ⊥
+  pub none : (es : List Event) → EncodesPayload v b es bytes → GoOn b s es → ⊥
 
 -- after good frames there is a bad one, at this gate
 pub record BreaksAt (v : Version) (b : Bounds) (from limit : ℕ) (s : Snapshot) (content : List ℕ) (gate : ℕ) : Type 0 where
@@ -68,17 +68,17 @@ pub record IsHeadOf (v : Version) (b : Bounds) (size : ℕ) (head : Head) : Type
   pub room : least_area v b ≤ size
   pub short : head.snapshot ≤ max_snapshot v b
 
--- these bytes spell a table at a moment
+-- these bytes encode a table at a moment
 pub record IsGoodSnapshot (v : Version) (b : Bounds) (at count : ℕ) (s : Snapshot) (content : List ℕ) : Type 0 where
   pub bytes : List ℕ
   pub has : HasBytes at count bytes content
-  pub spells : SpellsSnapshot v b s.moment s.contents bytes
+  pub encodes : EncodesSnapshot v b s.moment s.contents bytes
 
--- these bytes spell no table
+-- these bytes encode no table
 pub record IsBadSnapshot (v : Version) (b : Bounds) (at count : ℕ) (content : List ℕ) : Type 0 where
   pub bytes : List ℕ
   pub has : HasBytes at count bytes content
-  pub none : (t : ℕ) (c : Contents) → SpellsSnapshot v b t c bytes → ⊥
+  pub none : (t : ℕ) (c : Contents) → EncodesSnapshot v b t c bytes → ⊥
 
 -- a bad frame after a good snapshot
 abbrev pub IsBadLog : Version → Bounds → ℕ → ℕ → Head → List ℕ → ℕ → Type 0

@@ -4,7 +4,7 @@ use Rattle.turn_history.specs.Fitting.{Fits}
 use Rattle.turn_history.specs.History.{Event}
 use Rattle.turn_history.specs.Table.{Contents, applied, purged}
 use Rattle.turn_journal.specs.Frames.{IsFrame, gate_after, last_gate}
-use Rattle.turn_record.specs.Records.{SpellsPayload}
+use Rattle.turn_record.specs.Records.{EncodesPayload}
 use Rattle.turn_record.specs.declared.version.Version.{Version}
 use Rattle.turn_types.specs.declared.limits.Bounds.{Bounds}
 
@@ -32,14 +32,14 @@ abbrev pub after_all : Snapshot → List Event → Snapshot
 after_all s [] = s
 after_all s (e ∷ es) = after_all (after s e) es
 
--- the payload spells a batch that goes on from the first snapshot to the second one
+-- the payload encodes a batch that goes on from the first snapshot to the second one
 pub record GoesOn (v : Version) (b : Bounds) (s : Snapshot) (payload : List ℕ) (t : Snapshot) : Type 0 where
   pub events : List Event
-  pub spells : SpellsPayload v b events payload
+  pub encodes : EncodesPayload v b events payload
   pub goes : GoOn b s events
   pub ends : t ≡ after_all s events
 
--- The payloads spell batches that go on from the first snapshot, one after another, and end in the second one.
+-- The payloads encode batches that go on from the first snapshot, one after another, and end in the second one.
 abbrev pub Replays : Version → Bounds → Snapshot → List (List ℕ) → Snapshot → Type 0
 Replays v b s [] t = t ≡ s
 Replays v b s (p ∷ ps) u = (t : Snapshot) × GoesOn v b s p t × Replays v b t ps u

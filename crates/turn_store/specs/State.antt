@@ -12,7 +12,7 @@ use Rattle.turn_record.specs.Records.{max_payload}
 use Rattle.turn_record.specs.declared.version.Version.{Version}
 use Rattle.turn_record.specs.declared.version.Version.TheVariants.{V2}
 use Rattle.turn_store.specs.Layout.{head_size, second_area, store_size}
-use Rattle.turn_store.specs.Spells.{Spells}
+use Rattle.turn_store.specs.Encodes.{Encodes}
 use Rattle.turn_store.specs.Superblock.{least_area}
 use Rattle.turn_types.specs.Profile.{end_of_moments}
 use Rattle.turn_types.specs.declared.limits.Bounds.{Bounds}
@@ -46,12 +46,12 @@ pub record Shows {D : Type 0} (store : StoreState D) (state : State) (snapshot :
   pub recovers : RecoversToParts store.version (form_of store) store.area.start store.other store.generation store.area.end store.other_is_below snapshot payloads state
   pub frames : store.frames ≡ length payloads
 
--- A store that isn't stopped recovers to a history at a clock: what its disk holds spells it.
+-- A store that isn't stopped recovers to a history at a clock: what its disk holds encodes it.
 pub record RecoversToAt {D : Type 0} (store : StoreState D) (state : State) (c : ℕ) (h : History) : Type 0 where
   pub snapshot : List ℕ
   pub payloads : List (List ℕ)
   pub shows : Shows store state snapshot payloads
-  pub spells : Spells store.version store.bounds h c snapshot payloads
+  pub encodes : Encodes store.version store.bounds h c snapshot payloads
   pub runs : store.stopped ≡ false
 
 -- Events may be added to a history on which a store rests at a clock: they fit after it, and none is before the clock or later

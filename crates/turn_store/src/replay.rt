@@ -6,7 +6,7 @@ ghost use Rattle.turn_disk.specs.Disk.{StandsAt};
 ghost use Rattle.turn_history.specs.Act.{event_of};
 ghost use Rattle.turn_history.specs.History as histories;
 ghost use Rattle.turn_history.specs.Table.{purged};
-ghost use Rattle.turn_record.specs.Records.{IsSnapshot, SpellsPayload};
+ghost use Rattle.turn_record.specs.Records.{IsSnapshot, EncodesPayload};
 ghost use Rattle.turn_record.specs.Views.{events_of};
 ghost use Rattle.turn_store.specs.Refused.{ReadsBad, ReadsOn};
 ghost use Rattle.turn_store.specs.Replay.{IsNext, GoOn, GoesOn, after, after_all};
@@ -104,10 +104,10 @@ fn read_events<A: Allocator + Copy>(
     payload: &[u8],
 ) -> Result<Vec<Event<A>, A>, FrameError>
     ensures no_device { IfErr result (λ fault. fault ≢ FrameError.Device) }
-    ensures spelled { IfOk result (λ v. SpellsPayload version limits (events_of v.items) payload.now) }
-    ensures once { IfOk result (λ v. (es : List histories.Event) → SpellsPayload version limits es payload.now → es ≡ events_of v.items) }
+    ensures encoded { IfOk result (λ v. EncodesPayload version limits (events_of v.items) payload.now) }
+    ensures once { IfOk result (λ v. (es : List histories.Event) → EncodesPayload version limits es payload.now → es ≡ events_of v.items) }
     ensures bad { IfErr result (λ fault. fault ≡ FrameError.Bad
-        → (es : List histories.Event) → SpellsPayload version limits es payload.now → ⊥) }
+        → (es : List histories.Event) → EncodesPayload version limits es payload.now → ⊥) }
 {
     match read_payload(alloc, version, limits, payload) {
         Ok(events) => Ok(events),
@@ -129,7 +129,7 @@ fn apply_payload<A: Allocator + Copy>(
     ensures no_device { IfErr result (λ fault. fault ≢ FrameError.Device) }
     ensures goes { OnOk result (GoesOn version limits (snapshot_of table.old) payload.now (snapshot_of table.new)) }
     ensures bad { IfErr result (λ fault. fault ≡ FrameError.Bad
-        → (es : List histories.Event) → SpellsPayload version limits es payload.now → GoOn limits (snapshot_of table.old) es → ⊥) }
+        → (es : List histories.Event) → EncodesPayload version limits es payload.now → GoOn limits (snapshot_of table.old) es → ⊥) }
 {
     let events = read_events(alloc, version, limits, payload)?;
     apply_all(table, events)?;
@@ -157,7 +157,7 @@ fn replay_payload<D: Disk, A: Allocator + Copy>(
     ensures stands_ok { D.follows_crash_model disk.new → OnOk result (StandsAt at buffer.new (D.trace disk.old).now.bytes) }
     ensures goes { OnOk result (GoesOn version limits (snapshot_of table.old) buffer.new (snapshot_of table.new)) }
     ensures bad { IfErr result (λ fault. fault ≡ FrameError.Bad
-        → (es : List histories.Event) → SpellsPayload version limits es buffer.new → GoOn limits (snapshot_of table.old) es → ⊥) }
+        → (es : List histories.Event) → EncodesPayload version limits es buffer.new → GoOn limits (snapshot_of table.old) es → ⊥) }
 {
     read_pieces(disk, at, buffer)?;
     apply_payload(alloc, version, limits, table, buffer)?;

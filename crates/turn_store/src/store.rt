@@ -19,7 +19,7 @@ ghost use Rattle.turn_store.specs.Layout.{head_size};
 ghost use Rattle.turn_store.specs.Opened.{OpensTo};
 ghost use Rattle.turn_store.specs.Opening.{Opening, disk_of};
 ghost use Rattle.turn_store.specs.Refused.{IsPlain, WhyRefused};
-ghost use Rattle.turn_store.specs.Spells.{HasSize};
+ghost use Rattle.turn_store.specs.Encodes.{HasSize};
 ghost use Rattle.turn_store.specs.Stages.{InStages, InStagesAt};
 ghost use Rattle.turn_store.specs.State.{CompactsFor, MayFollow, RecoversToAt, Shows, carried, carried_area, form_of, framed, swapped};
 ghost use Rattle.turn_store.specs.Superblock.{least_area};

@@ -3,7 +3,7 @@
 ghost use Rattle.std.specs.Prelude.{◌≤◌};
 
 use super::kept::Kept;
-use crate::spelled::ENTRIES;
+use crate::encoded::ENTRIES;
 use std::alloc::{AllocError, Global};
 use turn_disk::{PIECE, Producer};
 use turn_record::{SnapshotReader, Version, read_snapshot};

@@ -1,11 +1,11 @@
 use Rattle.std.proofs.Common.{ℕ, List, ap, refl, ◌∙◌}
 use Rattle.turn_config.specs.Values.{number_of}
 use Rattle.turn_config.proofs.Splits.{no_split}
-use Rattle.turn_config.proofs.Words.{limits_words, next_word, limits_found, limits_only, same_bounds, spelled}
+use Rattle.turn_config.proofs.Words.{limits_words, next_word, limits_found, limits_only, same_bounds, encoded}
 use Rattle.turn_config.proofs.settings.limits_of.Goals as goal
 
 pub returns-in_err-allocations-clause-only : goal.returns-in_err-allocations-clause-only
-returns-in_err-allocations-clause-only c bounds n = absurd (no_split 32 _ _ _ n.spelled c.in_err-allocations.ensures.none)
+returns-in_err-allocations-clause-only c bounds n = absurd (no_split 32 _ _ _ n.encoded c.in_err-allocations.ensures.none)
 
 pub returns-in_err-permissions-clause-only : goal.returns-in_err-permissions-clause-only
 returns-in_err-permissions-clause-only c bounds n =
@@ -68,7 +68,7 @@ returns-clause-found c = limits_found _ _ _ c.new.ensures (λ in_range. record {
   n = c.in_ok-acts.name_bytes.now;
   first = c.in_ok-number_32.ensures.0;
   others = (c.in_ok-port.ensures.0, c.in_ok-port-2.ensures.0, c.in_ok-port-3.ensures.0, c.in_ok-port-4.ensures.0);
-  spelled = spelled _ _ _ _ _ _ _ _ _ c.in_ok-allocations.ensures.parts c.in_ok-permissions.ensures.parts c.in_ok-channels.ensures.parts c.in_ok-acts.ensures.parts;
+  encoded = encoded _ _ _ _ _ _ _ _ _ c.in_ok-allocations.ensures.parts c.in_ok-permissions.ensures.parts c.in_ok-channels.ensures.parts c.in_ok-acts.ensures.parts;
   bounds_are = rw (c.in_ok-number_32.ensures.1, c.in_ok-port.ensures.1, c.in_ok-port-2.ensures.1, c.in_ok-port-3.ensures.1, c.in_ok-port-4.ensures.1) refl;
   in_range = in_range;
 })

@@ -4,7 +4,7 @@ use Rattle.turn_config.proofs.Words.{range_words, same_range}
 use Rattle.turn_config.proofs.settings.range_of.Goals as goal
 
 pub returns-in_err-first-clause-only : goal.returns-in_err-first-clause-only
-returns-in_err-first-clause-only c range n = absurd (no_split 32 _ _ _ n.spelled c.in_err-first.ensures.none)
+returns-in_err-first-clause-only c range n = absurd (no_split 32 _ _ _ n.encoded c.in_err-first.ensures.none)
 
 pub returns-in_err-first-2-clause-only : goal.returns-in_err-first-2-clause-only
 returns-in_err-first-2-clause-only c range n =

@@ -5,7 +5,7 @@ use Rattle.turn_config.proofs.Words.{relay_words, port_words, same_relay}
 use Rattle.turn_config.proofs.settings.relay_of.Goals as goal
 
 pub returns-in_err-address-clause-only : goal.returns-in_err-address-clause-only
-returns-in_err-address-clause-only c relay n = absurd (no_split 32 _ _ _ n.spelled c.in_err-address.ensures.none)
+returns-in_err-address-clause-only c relay n = absurd (no_split 32 _ _ _ n.encoded c.in_err-address.ensures.none)
 
 pub returns-in_err-low-clause-only : goal.returns-in_err-low-clause-only
 returns-in_err-low-clause-only c relay n =

@@ -5,7 +5,7 @@ use Rattle.turn_config.proofs.settings.user_of.Goals as goal
 use Rattle.turn_config.proofs.settings.user_of.Goals.{else-is_name-via-then-is_name+else-is_text, else-is_name-via-else-is_name}
 
 pub returns-in_err-name-clause-only : goal.returns-in_err-name-clause-only
-returns-in_err-name-clause-only c name password n = absurd (no_split 32 _ _ _ n.spelled c.in_err-name.ensures.none)
+returns-in_err-name-clause-only c name password n = absurd (no_split 32 _ _ _ n.encoded c.in_err-name.ensures.none)
 
 pub returns-else-is_name-clause-only : goal.returns-else-is_name-clause-only
 returns-else-is_name-clause-only c name password n =

@@ -5,7 +5,7 @@ use Rattle.turn_config.proofs.Addresses.{colon, same_endpoint}
 use Rattle.turn_config.proofs.values.endpoint.Goals as goal
 
 pub returns-in_err-address-clause-only : goal.returns-in_err-address-clause-only
-returns-in_err-address-clause-only c endpoint n = absurd (no_split 58 _ _ _ n.spelled c.in_err-address.ensures.none)
+returns-in_err-address-clause-only c endpoint n = absurd (no_split 58 _ _ _ n.encoded c.in_err-address.ensures.none)
 
 pub returns-in_err-ip-clause-only : goal.returns-in_err-ip-clause-only
 returns-in_err-ip-clause-only c endpoint n =

@@ -5,7 +5,7 @@ use Rattle.turn_config.proofs.Addresses.{one_dot, two_dots, three_dots, joined, 
 use Rattle.turn_config.proofs.values.ip.Goals as goal
 
 pub returns-in_err-first-clause-only : goal.returns-in_err-first-clause-only
-returns-in_err-first-clause-only c address n = absurd (no_split 46 _ _ _ n.spelled c.in_err-first.ensures.none)
+returns-in_err-first-clause-only c address n = absurd (no_split 46 _ _ _ n.encoded c.in_err-first.ensures.none)
 
 pub returns-in_err-second-clause-only : goal.returns-in_err-second-clause-only
 returns-in_err-second-clause-only c address n =
@@ -50,7 +50,7 @@ returns-clause-found c = record {
   c = c.in_ok-third.third.now;
   d = c.in_ok-third.fourth.now;
   numbers = (c.in_ok-octet.ensures.0, c.in_ok-octet-2.ensures.0, c.in_ok-octet-3.ensures.0, c.in_ok-octet-4.ensures.0);
-  spelled = joined _ _ _ _ _ _ _ c.in_ok-first.ensures.parts c.in_ok-second.ensures.parts c.in_ok-third.ensures.parts;
+  encoded = joined _ _ _ _ _ _ _ c.in_ok-first.ensures.parts c.in_ok-second.ensures.parts c.in_ok-third.ensures.parts;
   bytes = c.from_be_bytes.ensures ∙ same_bytes _ _ _ _ c.in_ok-first.first.now c.in_ok-second.second.now c.in_ok-third.third.now c.in_ok-third.fourth.now
       c.in_ok-octet.ensures.1 c.in_ok-octet-2.ensures.1 c.in_ok-octet-3.ensures.1 c.in_ok-octet-4.ensures.1;
 }

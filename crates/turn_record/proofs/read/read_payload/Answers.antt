@@ -3,13 +3,13 @@ use Rattle.turn_history.specs.History as histories
 use Rattle.turn_record.proofs.Batches.{found, payload_again, payload_found}
 use Rattle.turn_record.proofs.read.read_payload.Goals as goal
 use Rattle.turn_record.specs.Reading.{Gives, payload_in}
-use Rattle.turn_record.specs.Records.{SpellsPayload}
+use Rattle.turn_record.specs.Records.{EncodesPayload}
 use Rattle.turn_record.specs.Views.{events_of}
 
-pub returns-clause-spelled : goal.returns-clause-spelled
-returns-clause-spelled g c =
-    found (λ v. events_of v.items) c.whole_payload.result (payload_in c.args.version c.args.limits c.args.bytes.now) (λ (es : List histories.Event). SpellsPayload c.args.version c.args.limits es c.args.bytes.now)
+pub returns-clause-encoded : goal.returns-clause-encoded
+returns-clause-encoded g c =
+    found (λ v. events_of v.items) c.whole_payload.result (payload_in c.args.version c.args.limits c.args.bytes.now) (λ (es : List histories.Event). EncodesPayload c.args.version c.args.limits es c.args.bytes.now)
     (payload_found c.args.version c.args.limits (rw c.bounds.ensures.value at c.bounds.ensures.range) c.args.bytes.now (λ i. omega (arith, c.type_inv.bytes i))) (rw c.bounds.ensures.value at c.whole_payload.ensures)
 
 pub returns-clause-read : goal.returns-clause-read
-returns-clause-read g c = λ es spelled. subst (λ f. Gives (λ v. events_of v.items) c.whole_payload.result f) (payload_again c.args.version c.args.limits (rw c.bounds.ensures.value at c.bounds.ensures.range) c.args.bytes.now es spelled) (rw c.bounds.ensures.value at c.whole_payload.ensures)
+returns-clause-read g c = λ es encoded. subst (λ f. Gives (λ v. events_of v.items) c.whole_payload.result f) (payload_again c.args.version c.args.limits (rw c.bounds.ensures.value at c.bounds.ensures.range) c.args.bytes.now es encoded) (rw c.bounds.ensures.value at c.whole_payload.ensures)

@@ -1,5 +1,5 @@
 use Rattle.std.proofs.Common.{◌≡◌, ap, subst, sym, ◌∙◌, option_map}
-use Rattle.turn_codec.specs.Grammar.{Content, Datagram, Spells}
+use Rattle.turn_codec.specs.Grammar.{Content, Datagram, Encodes}
 use Rattle.turn_relay.specs.FromClient.{SendsToPeer}
 use Rattle.turn_relay.specs.Views.{peer_data}
 use Rattle.turn_relay.proofs.Datagrams.{not_both, of_neither}
@@ -14,7 +14,7 @@ returns-in-Some g c = (
 
 pub returns-in_default-parse : goal.returns-in_default-parse
 returns-in_default-parse g c =
-    let none : (m : Content) → ¬ Spells c.args.bytes.now m = λ m spells. (let is = c.in_default-parse.ensures.only m spells in cc) in (
+    let none : (m : Content) → ¬ Encodes c.args.bytes.now m = λ m encodes. (let is = c.in_default-parse.ensures.only m encodes in cc) in (
       λ asks. none asks.0 asks.1,
       of_neither c.args.table.now.contents c.args.five_tuple c.args.bytes.now none (λ n p s. c.in_default.ensures.only n p s),
     )

@@ -9,7 +9,7 @@ returns-clause-stands g c = λ store state at h recovers image is. record {
   snapshot = recovers.snapshot;
   payloads = recovers.payloads;
   holds = recovers_image store.version (form_of store) store.area.start store.other store.generation store.area.end store.other_is_below recovers.snapshot recovers.payloads state recovers.shows.recovers image is;
-  spells = recovers.spells;
+  encodes = recovers.encodes;
 }
 
 pub returns-clause-version : goal.returns-clause-version

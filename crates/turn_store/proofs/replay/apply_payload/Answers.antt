@@ -9,7 +9,7 @@ use Rattle.turn_store.proofs.replay.apply_payload.Goals as goal
 pub returns-in_err-apply_all-clause-bad : goal.returns-in_err-apply_all-clause-bad
 returns-in_err-apply_all-clause-bad g c =
     let p = err_from_is_err_and c.from_residual-in_err-apply_all.result c.from_residual-in_err-apply_all.ensures.1 in
-    rw (p.1, p.2) (λ is es spells goes.
+    rw (p.1, p.2) (λ is es encodes goes.
     let s = snapshot_of c.args.table.now in
     let there = subst (λ (b : Bounds). GoOn b s es) (sym c.requires) goes in
-    c.in_err-apply_all.ensures.bad is (subst (λ (l : List histories.Event). GoOn c.args.table.now.bounds s l) (c.in_ok-events.ensures.once es spells) there))
+    c.in_err-apply_all.ensures.bad is (subst (λ (l : List histories.Event). GoOn c.args.table.now.bounds s l) (c.in_ok-events.ensures.once es encodes) there))

@@ -7,6 +7,6 @@ use Rattle.texts.proofs.questions.messages.sign.Goals as goal
 pub append_integrity-requires : goal.append_integrity-requires
 append_integrity-requires c =
     let written : Datagram = record { bytes = c.as_bytes.result.now; content = c.args.builder.now } in
-    let read = c.in-Ok.ensures.only c.args.builder.now c.as_bytes.ensures.spells in
+    let read = c.in-Ok.ensures.only c.args.builder.now c.as_bytes.ensures.encodes in
     let same = ap (λ r. result_unwrap_or r written) read in
     subst (λ (d : Datagram). from message_integrity d.content.attributes ≡ []) same c.in-None.ensures.found

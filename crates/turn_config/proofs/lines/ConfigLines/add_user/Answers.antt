@@ -9,7 +9,7 @@ use Rattle.turn_config.proofs.lines.ConfigLines.add_user.Goals as goal
 pub returns-then-contains_key-clause-only : goal.returns-then-contains_key-clause-only
 returns-then-contains_key-clause-only g c new sets bad =
     let user = c.in-Some.ensures.found in
-    let words = user_words _ _ _ _ _ sets.2 user.spelled (name_of_line _ user.named) in
+    let words = user_words _ _ _ _ _ sets.2 user.encoded (name_of_line _ user.named) in
     let none : map.get (passwords_of c.self.inside.passwords.entries) c.in-Some.name.now ≡ None
     = ap (λ (l : Lines). map.get l.passwords c.in-Some.name.now) c.self.view_is ∙ rw words.0 sets.3 in
     let found = sym (has_password c.in-Some.name.now c.self.inside.passwords.entries) ∙ sym c.contains_key.ensures ∙ c.if-contains_key.true in

@@ -1,4 +1,4 @@
--- What snapshots and payloads spell.
+-- What snapshots and payloads encode.
 use Rattle.std.proofs.Common.{◌≡◌, ◌≤◌, ◌<◌, ◌-◌, ℕ, List, [], ◌∷◌, ◌++◌, map, max, refl, sym, ap, ◌∙◌, subst, arith, append_assoc, append-nil}
 use Rattle.std.specs.List.{AllByRecursion}
 use Rattle.turn_history.specs.Fitting.{IsFitting, FitsAfter}
@@ -9,7 +9,7 @@ use Rattle.turn_history.proofs.Histories.{clock-append, fitting-split, fits_in_r
 use Rattle.turn_record.specs.Bytes.{payload, snapshot}
 use Rattle.turn_record.specs.Records.{Holds, IsBatch}
 use Rattle.turn_record.specs.declared.version.Version.{Version}
-use Rattle.turn_store.specs.Spells.{all_of, HasSize, Spells}
+use Rattle.turn_store.specs.Encodes.{all_of, HasSize, Encodes}
 use Rattle.turn_types.specs.Profile.{end_of_moments}
 use Rattle.turn_types.specs.declared.limits.Bounds.{Bounds}
 
@@ -37,18 +37,18 @@ are_batches v b h (es ∷ more) fits sized =
     let parts = fits_rest b h es (all_of more) fits in
     (is_batch v b h es parts.0 sized.0, are_batches v b (h ++ es) more parts.1 sized.1)
 
-pub of_spelled : (v : Version) (b : Bounds) (h : History) (c : ℕ) (bytes : List ℕ) (payloads : List (List ℕ)) (s : Spells v b h c bytes payloads) → IsFitting b s.before × FitsAfter b s.before (all_of s.batches)
-of_spelled v b h c bytes payloads s = fitting-split b s.before (all_of s.batches) (subst (IsFitting b) s.whole s.fitting)
+pub of_encoded : (v : Version) (b : Bounds) (h : History) (c : ℕ) (bytes : List ℕ) (payloads : List (List ℕ)) (s : Encodes v b h c bytes payloads) → IsFitting b s.before × FitsAfter b s.before (all_of s.batches)
+of_encoded v b h c bytes payloads s = fitting-split b s.before (all_of s.batches) (subst (IsFitting b) s.whole s.fitting)
 
 -- no event is later than the clock
-pub clock_late : (v : Version) (b : Bounds) (h : History) (c : ℕ) (bytes : List ℕ) (payloads : List (List ℕ)) → Spells v b h c bytes payloads → clock h ≤ c
+pub clock_late : (v : Version) (b : Bounds) (h : History) (c : ℕ) (bytes : List ℕ) (payloads : List (List ℕ)) → Encodes v b h c bytes payloads → clock h ≤ c
 clock_late v b h c bytes payloads s =
     let is = s.clock_is in
     let late = s.late in
     let joined = ap clock s.whole ∙ clock-append s.before (all_of s.batches) in
     omega arith
 
-pub snapshots_go_on : (v : Version) (b : Bounds) (h : History) (m : ℕ) → IsFitting b h → clock h ≤ m → m < end_of_moments → Holds v (table h m) → Spells v b h m (snapshot v m (table h m)) []
+pub snapshots_go_on : (v : Version) (b : Bounds) (h : History) (m : ℕ) → IsFitting b h → clock h ≤ m → m < end_of_moments → Holds v (table h m) → Encodes v b h m (snapshot v m (table h m)) []
 snapshots_go_on v b h m fits le range none = record {
   fitting = fits;
   before = h;
@@ -79,8 +79,8 @@ all-append P (x ∷ xs) ys a b = (a.0, all-append P xs ys a.1 b)
 
 -- one frame more; its clock isn't later than a moment that the old clock and the events aren't later than
 pub frames_go_on : (v : Version) (b : Bounds) (h : History) (c : ℕ) (bytes : List ℕ) (payloads : List (List ℕ)) (es : List Event) (m : ℕ)
-    → Spells v b h c bytes payloads → IsFitting b (h ++ es) → AllFrom c es → HasSize v b es → c ≤ m → clock (h ++ es) ≤ m
-    → (d : ℕ) × (d ≤ m) × Spells v b (h ++ es) d bytes (payloads ++ payload es ∷ [])
+    → Encodes v b h c bytes payloads → IsFitting b (h ++ es) → AllFrom c es → HasSize v b es → c ≤ m → clock (h ++ es) ≤ m
+    → (d : ℕ) × (d ≤ m) × Encodes v b (h ++ es) d bytes (payloads ++ payload es ∷ [])
 frames_go_on v b h c bytes payloads es m s fits from size cm hm =
     let is = s.clock_is in
     let more = s.batches ++ es ∷ [] in

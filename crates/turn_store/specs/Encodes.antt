@@ -1,4 +1,4 @@
--- Which histories a snapshot and payloads spell.
+-- Which histories a snapshot and payloads encode.
 use Rattle.std.specs.Prelude.{◌≡◌, ◌<◌, ◌≤◌, ◌^◌, ◌-◌, ℕ, List, [], ◌∷◌, ◌++◌, length, map, max}
 use Rattle.std.specs.List.{AllByRecursion}
 use Rattle.turn_history.specs.Fitting.{IsFitting}
@@ -22,10 +22,10 @@ pub record HasSize (v : Version) (b : Bounds) (es : List Event) : Type 0 where
   pub few : length es ≤ b.acts
   pub writes : AllByRecursion (λ e. Writes v e.act) es
 
--- A history is some events, whose table the version can hold and the snapshot spells, and then batches, each of which a payload
--- spells. No event before the batches is later than the snapshot's moment, and none in them earlier. c is the latest moment
+-- A history is some events, whose table the version can hold and the snapshot encodes, and then batches, each of which a payload
+-- encodes. No event before the batches is later than the snapshot's moment, and none in them earlier. c is the latest moment
 -- that is written.
-pub record Spells (v : Version) (b : Bounds) (h : History) (c : ℕ) (bytes : List ℕ) (payloads : List (List ℕ)) : Type 0 where
+pub record Encodes (v : Version) (b : Bounds) (h : History) (c : ℕ) (bytes : List ℕ) (payloads : List (List ℕ)) : Type 0 where
   pub fitting : IsFitting b h
   -- the events that are in the snapshot alone
   pub before : History

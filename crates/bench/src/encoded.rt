@@ -106,7 +106,7 @@ fn put_channels(out: &mut Vec<u8>, count: u8) -> Result<(), AllocError> {
 }
 
 /// The bytes of a snapshot of this shape, with names of 8 bytes, and in version 2 without tokens and reserved ports.
-pub fn spell(alloc: Global, version: Version, shape: Shape) -> Result<Vec<u8>, AllocError> {
+pub fn encode(alloc: Global, version: Version, shape: Shape) -> Result<Vec<u8>, AllocError> {
     let entries = shape.entries.min(ENTRIES);
     let mut out = Vec::new(alloc);
     out.extend_from_slice(&MOMENT.to_be_bytes())?;
