@@ -5,7 +5,7 @@ use Rattle.turn_history.specs.History.{History}
 use Rattle.turn_step.specs.Answer.{Setting}
 use Rattle.turn_step.specs.Outcome.{Sent, added}
 use Rattle.turn_store.specs.Areas.{Form}
-use Rattle.turn_store.specs.Images.{StandsBy}
+use Rattle.turn_store.specs.Images.{RepresentsBy}
 use Rattle.turn_engine.specs.Images.{AtLeast}
 use Rattle.turn_engine.specs.Runs.{BeginsWith, IsAnswered, IsRun, Taken, accepted, last_moment, sent_about}
 
@@ -72,5 +72,5 @@ begins form h first rest k m image is le at =
     let taken : take at.count h ≡ first ++ take (at.count - length first) rest = ap (λ (l : History). take at.count l) is ∙ take_past first rest at.count long in
     record {
       rest = take (at.count - length first) rest;
-      stands = subst (λ (l : History). StandsBy form l m image) taken at.stands;
+      stands = subst (λ (l : History). RepresentsBy form l m image) taken at.stands;
     }

@@ -16,7 +16,7 @@ use Rattle.turn_record.specs.Records.{IsSnapshot, Writes}
 use Rattle.turn_record.specs.declared.version.Version.{Version}
 use Rattle.turn_record.specs.declared.version.Version.TheVariants.{V2}
 use Rattle.turn_store.specs.Areas.{Form}
-use Rattle.turn_store.specs.Images.{EachImage, IsInVersion, IsInVersionOr2, StandsBy, StandsForAt}
+use Rattle.turn_store.specs.Images.{EachImage, IsInVersion, IsInVersionOr2, RepresentsBy, RepresentsAt}
 use Rattle.turn_store.specs.Opened.{OpensTo}
 use Rattle.turn_store.specs.Opening as stores
 use Rattle.turn_store.specs.Opening.{disk_of}
@@ -62,13 +62,13 @@ of_made x P (Err e) is p = tt
 pub image_self : (state : State) → IsImage state state.bytes
 image_self state = record { size = refl; same = λ i outside. refl }
 
--- what a stop may have left before a call, or what stands for all that the content does, has at least what each image had
+-- what a stop may have left before a call, or what represents all that the content does, has at least what each image had
 pub since_opened : (old new : Trace) (form : Form) (h : History) (k m : ℕ) (content : List ℕ) → EachImage old.now (AtLeast form h k m) → (at : AtLeast form h k m content)
-    → EachImageSince old new (λ image. IsImage old.now image ⊎ StandsBy form (take at.count h) at.stands.clock image) → EachImageSince old new (AtLeast form h k m)
+    → EachImageSince old new (λ image. IsImage old.now image ⊎ RepresentsBy form (take at.count h) at.stands.clock image) → EachImageSince old new (AtLeast form h k m)
 since_opened old new form h k m content each at since =
     let bounded = at.stands.bounded in
-    since_weaken old new (λ image. IsImage old.now image ⊎ StandsBy form (take at.count h) at.stands.clock image) (AtLeast form h k m)
-    (λ image either. ⊎_elim (λ (was : IsImage old.now image). each image was) (λ (stands : StandsBy form (take at.count h) at.stands.clock image).
+    since_weaken old new (λ image. IsImage old.now image ⊎ RepresentsBy form (take at.count h) at.stands.clock image) (AtLeast form h k m)
+    (λ image either. ⊎_elim (λ (was : IsImage old.now image). each image was) (λ (stands : RepresentsBy form (take at.count h) at.stands.clock image).
     let early = stands.bounded in
     record { count = at.count; no_less = at.no_less; no_more = at.no_more; stands = record { clock = stands.clock; bounded = omega (arith, bounded, early); stands = stands.stands } }) either)
     since
@@ -83,7 +83,7 @@ module _ {D H G : Type 0} (form : Form) (h : History) (k m : ℕ) (content : Lis
   abbrev first : History
   first = take at.count h
 
-  recovers_to_it : (c : ℕ) → StandsForAt form first c content → OpensTo form first c server.store state (snapshot_of server.machine.table) → form.bounds ≡ limits_of server
+  recovers_to_it : (c : ℕ) → RepresentsAt form first c content → OpensTo form first c server.store state (snapshot_of server.machine.table) → form.bounds ≡ limits_of server
       → server.payload ≡ 0 ∷ [] → server.acts ≡ 0 → server.tuples ≡ [] → server.since ≤ now_of server → RecoversTo state server first at.count
   recovers_to_it c stands is bounds payload acts tuples since =
       let long : length first ≡ at.count = length-take-le at.count h at.no_more in
@@ -120,7 +120,7 @@ module _ {D H G : Type 0} (form : Form) (h : History) (k m : ℕ) (content : Lis
         no_more = at.no_more;
         same_form = is.same_form;
         recovers = recovers_to_it at.stands.clock at.stands.stands is bounds payload acts tuples since;
-        stands = subst (λ (c : ℕ). StandsForAt form first c content) (sym moment) at.stands.stands;
+        stands = subst (λ (c : ℕ). RepresentsAt form first c content) (sym moment) at.stands.stands;
         bounded = omega arith;
       }
 

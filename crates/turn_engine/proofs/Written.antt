@@ -14,7 +14,7 @@ use Rattle.turn_history.specs.Laws.{AllFrom}
 use Rattle.turn_record.specs.Bytes as bytes
 use Rattle.turn_record.specs.Records.{Writes}
 use Rattle.turn_store.specs.Areas.{Form}
-use Rattle.turn_store.specs.Images.{EachImage, EitherBy, IsInVersion, StandsBy, StandsForAt}
+use Rattle.turn_store.specs.Images.{EachImage, EitherBy, IsInVersion, RepresentsBy, RepresentsAt}
 use Rattle.turn_store.specs.Encodes.{HasSize}
 use Rattle.turn_store.specs.Stages.{InStages}
 use Rattle.turn_store.specs.State.{MayFollow, RecoversToAt, StoreState, form_of, framed, swapped}
@@ -71,7 +71,7 @@ runs_on old new count size Snapshot one two runs = ap (λ s. s.stopped) (two ref
 -- ---- Images
 
 -- what a store that recovers to a history leaves
-pub stood : {D : Type 0} (store : StoreState D) (state : State) (c : ℕ) (h : History) → RecoversToAt store state c h → (image : List ℕ) → IsImage state image → StandsForAt (form_of store) h c image
+pub stood : {D : Type 0} (store : StoreState D) (state : State) (c : ℕ) (h : History) → RecoversToAt store state c h → (image : List ℕ) → IsImage state image → RepresentsAt (form_of store) h c image
 stood store state c h recovers image is =
     let on = recovers.shows.recovers in
     record {
@@ -82,15 +82,15 @@ stood store state c h recovers image is =
       encodes = recovers.encodes;
     }
 
-least_first : (form : Form) (h : History) (k m : ℕ) (image : List ℕ) → k ≤ length h → StandsBy form (take k h) m image → AtLeast form h k m image
+least_first : (form : Form) (h : History) (k m : ℕ) (image : List ℕ) → k ≤ length h → RepresentsBy form (take k h) m image → AtLeast form h k m image
 least_first form h k m image le stands = record { count = k; no_less = omega arith; no_more = le; stands = stands }
 
-least_all : (form : Form) (h : History) (k m : ℕ) (image : List ℕ) → k ≤ length h → StandsBy form h m image → AtLeast form h k m image
+least_all : (form : Form) (h : History) (k m : ℕ) (image : List ℕ) → k ≤ length h → RepresentsBy form h m image → AtLeast form h k m image
 least_all form h k m image le stands = record {
   count = length h;
   no_less = le;
   no_more = omega arith;
-  stands = subst (λ (l : History). StandsBy form l m image) (sym (take-length h)) stands;
+  stands = subst (λ (l : History). RepresentsBy form l m image) (sym (take-length h)) stands;
 }
 
 -- each image of a server's disk has what is stored
@@ -113,35 +113,35 @@ not_written_in old new server h k same recovers =
 
 -- what an append leaves
 pub written : {D H G : Type 0} (old new : Trace) (server : ServerState D H G) (h : History) (k : ℕ) → (recovers : RecoversTo old.now server h k)
-    → InStages old new (StandsForAt (form_of server.store) (take k h) recovers.at) (EitherBy (form_of server.store) (take k h) (drop k h) (now_of server))
+    → InStages old new (RepresentsAt (form_of server.store) (take k h) recovers.at) (EitherBy (form_of server.store) (take k h) (drop k h) (now_of server))
     → EachImageSince old new (AtLeast (form_of server.store) h k (now_of server))
 written old new server h k recovers stages =
     let form = form_of server.store in
     let m = now_of server in
     stages_all old new (AtLeast form h k m) (AtLeast form h k m) (λ image is. is)
-    (stages_weaken old new (StandsForAt form (take k h) recovers.at) (EitherBy form (take k h) (drop k h) m) (AtLeast form h k m) (AtLeast form h k m)
+    (stages_weaken old new (RepresentsAt form (take k h) recovers.at) (EitherBy form (take k h) (drop k h) m) (AtLeast form h k m) (AtLeast form h k m)
     (λ image stands. least_first form h k m image recovers.within (record { clock = recovers.at; bounded = recovers.at_late; stands = stands }))
-    (λ image either. ⊎_elim (λ (first : StandsBy form (take k h) m image). least_first form h k m image recovers.within first)
-    (λ (all : StandsBy form (take k h ++ drop k h) m image). least_all form h k m image recovers.within (subst (λ (l : History). StandsBy form l m image) (take-append-drop k h) all)) either)
+    (λ image either. ⊎_elim (λ (first : RepresentsBy form (take k h) m image). least_first form h k m image recovers.within first)
+    (λ (all : RepresentsBy form (take k h ++ drop k h) m image). least_all form h k m image recovers.within (subst (λ (l : History). RepresentsBy form l m image) (take-append-drop k h) all)) either)
     stages)
 
 -- the same, moment by moment
 pub stages_written : {D H G : Type 0} (old new : Trace) (server : ServerState D H G) (h : History) (k : ℕ) → (recovers : RecoversTo old.now server h k)
-    → InStages old new (StandsForAt (form_of server.store) (take k h) recovers.at) (EitherBy (form_of server.store) (take k h) (drop k h) (now_of server))
-    → InStages old new (StandsBy (form_of server.store) (take k h) (now_of server)) (EitherBy (form_of server.store) (take k h) (drop k h) (now_of server))
+    → InStages old new (RepresentsAt (form_of server.store) (take k h) recovers.at) (EitherBy (form_of server.store) (take k h) (drop k h) (now_of server))
+    → InStages old new (RepresentsBy (form_of server.store) (take k h) (now_of server)) (EitherBy (form_of server.store) (take k h) (drop k h) (now_of server))
 stages_written old new server h k recovers stages =
     let form = form_of server.store in
     let m = now_of server in
-    stages_weaken old new (StandsForAt form (take k h) recovers.at) (EitherBy form (take k h) (drop k h) m) (StandsBy form (take k h) m) (EitherBy form (take k h) (drop k h) m)
+    stages_weaken old new (RepresentsAt form (take k h) recovers.at) (EitherBy form (take k h) (drop k h) m) (RepresentsBy form (take k h) m) (EitherBy form (take k h) (drop k h) m)
     (λ image stands. record { clock = recovers.at; bounded = recovers.at_late; stands = stands }) (λ image either. either) stages
 
 pub stages_none : {D H G : Type 0} (old new : Trace) (server : ServerState D H G) (h : History) (k : ℕ) → new ≡ old → RecoversTo old.now server h k
-    → InStages old new (StandsBy (form_of server.store) (take k h) (now_of server)) (EitherBy (form_of server.store) (take k h) (drop k h) (now_of server))
+    → InStages old new (RepresentsBy (form_of server.store) (take k h) (now_of server)) (EitherBy (form_of server.store) (take k h) (drop k h) (now_of server))
 stages_none old new server h k same recovers =
     let form = form_of server.store in
     let m = now_of server in
-    stages_first old new (StandsBy form (take k h) m) (EitherBy form (take k h) (drop k h) m) (λ image stands. inl stands)
-    (since_same old new (StandsBy form (take k h) m) same
+    stages_first old new (RepresentsBy form (take k h) m) (EitherBy form (take k h) (drop k h) m) (λ image stands. inl stands)
+    (since_same old new (RepresentsBy form (take k h) m) same
     (λ image is. record { clock = recovers.at; bounded = recovers.at_late; stands = stood server.store old.now recovers.at (take k h) recovers.stored image is }))
 
 -- ---- What an append asks
@@ -217,10 +217,10 @@ module _ {D H G : Type 0} (disk : disks.Ghosts D) (server : ServerState D H G) (
       all recovers.at (take k h) (drop k h) recovers.stored (may_follow _ server h k recovers same range) (has_size _ server h k recovers some few) recovers.staged (contents_are _ server h k recovers)
 
   abbrev Stages : ℕ → History → List Event → Type 0
-  Stages c h es = InStages (disk.trace server.store.disk) (disk.trace store.disk) (StandsForAt (form_of server.store) h c) (EitherBy (form_of server.store) h es (now_of server))
+  Stages c h es = InStages (disk.trace server.store.disk) (disk.trace store.disk) (RepresentsAt (form_of server.store) h c) (EitherBy (form_of server.store) h es (now_of server))
 
   pub batch_stages : Appends Stages → (h : History) (k : ℕ) → RecoversTo (disk.trace server.store.disk).now server h k
-      → InStages (disk.trace server.store.disk) (disk.trace store.disk) (StandsBy (form_of server.store) (take k h) (now_of server)) (EitherBy (form_of server.store) (take k h) (drop k h) (now_of server))
+      → InStages (disk.trace server.store.disk) (disk.trace store.disk) (RepresentsBy (form_of server.store) (take k h) (now_of server)) (EitherBy (form_of server.store) (take k h) (drop k h) (now_of server))
   batch_stages all h k recovers = stages_written (disk.trace server.store.disk) (disk.trace store.disk) server h k recovers (of_batch Stages all h k recovers)
 
   pub batch_stop : Appends Stages → (h : History) (k : ℕ) → RecoversTo (disk.trace server.store.disk).now server h k

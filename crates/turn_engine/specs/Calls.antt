@@ -12,7 +12,7 @@ use Rattle.turn_step.specs.Outcome.{Arrives, Sent}
 use Rattle.turn_step.specs.State.{CountsOne, HoldsPorts, IsPurged, KeepsSetting, setting_of}
 use Rattle.turn_types.specs.Config.{Config}
 use Rattle.turn_store.specs.Areas.{Form}
-use Rattle.turn_store.specs.Images.{EachImage, EitherBy, IsInVersion, StandsBy}
+use Rattle.turn_store.specs.Images.{EachImage, EitherBy, IsInVersion, RepresentsBy}
 use Rattle.turn_store.specs.Opened.{IsOpened}
 use Rattle.turn_store.specs.Refused.{IsPlain, WhyRefused}
 use Rattle.turn_store.specs.Stages.{InStages}
@@ -86,7 +86,7 @@ pub record Commits {D H G : Type 0} (disk : disks.Ghosts D) (old new : ServerSta
   -- for each history on which the server rests: up to some moment of the call a stop leaves what is stored of it, from then on that or
   -- all of it
   pub stages : disk.follows_crash_model new.store.disk → (h : History) (k : ℕ) → RecoversTo (disk.trace old.store.disk).now old h k
-      → InStages (disk.trace old.store.disk) (disk.trace new.store.disk) (StandsBy (form_of old.store) (take k h) (now_of old))
+      → InStages (disk.trace old.store.disk) (disk.trace new.store.disk) (RepresentsBy (form_of old.store) (take k h) (now_of old))
       (EitherBy (form_of old.store) (take k h) (drop k h) (now_of old))
   -- so it always leaves what is stored, or more
   pub stop : disk.follows_crash_model new.store.disk → (h : History) (k : ℕ) → RecoversTo (disk.trace old.store.disk).now old h k
@@ -123,7 +123,7 @@ pub record Opening {D H G : Type 0} (disk : disks.Ghosts D) (old : D) (config : 
   -- what the store holds, and the reason of each refusal: the first that applies
   pub opened : IfOk result (λ s. disk.follows_crash_model s.store.disk → IsOpened s.store (disk.trace s.store.disk).now (snapshot_of s.machine.table))
   pub why : IfErr result (λ r. disk.follows_crash_model r.disk → WhyRefused config.limits (disk.trace old).now.bytes r.fault)
-  -- where each image of the disk stands for the first events of a history, at least k of them, the server recovers to such a part of it
+  -- where each image of the disk represents the first events of a history, at least k of them, the server recovers to such a part of it
   pub recovers : IfOk result (λ s. disk.follows_crash_model s.store.disk → (form : Form) (h : History) (k m : ℕ) → form.bounds ≡ config.limits
       → EachImage (disk.trace old).now (AtLeast form h k m) → Opens form h k m (disk.trace old).now.bytes (disk.trace s.store.disk).now s)
   -- a refusal is then of the device or of memory

@@ -2,12 +2,12 @@
 use Rattle.std.specs.Prelude.{◌≤◌, ℕ, List, length, take}
 use Rattle.turn_history.specs.History.{History}
 use Rattle.turn_store.specs.Areas.{Form}
-use Rattle.turn_store.specs.Images.{StandsBy}
+use Rattle.turn_store.specs.Images.{RepresentsBy}
 
--- the image stands for the first events of a history, at least k of them, at a clock that is not later than a moment
+-- the image represents the first events of a history, at least k of them, at a clock that is not later than a moment
 pub record AtLeast (form : Form) (h : History) (k moment : ℕ) (image : List ℕ) : Type 0 where
-  -- how many events the image stands for
+  -- how many events the image represents
   pub count : ℕ
   pub no_less : k ≤ count
   pub no_more : count ≤ length h
-  pub stands : StandsBy form (take count h) moment image
+  pub stands : RepresentsBy form (take count h) moment image

@@ -11,7 +11,7 @@ use Rattle.turn_step.specs.Answer.{AnswersArrival, Setting}
 use Rattle.turn_step.specs.Outcome.{Arrives, StepOutcome, added}
 use Rattle.turn_step.specs.State.{IsAfter}
 use Rattle.turn_store.specs.Areas.{Form}
-use Rattle.turn_store.specs.Images.{StandsForAt}
+use Rattle.turn_store.specs.Images.{RepresentsAt}
 use Rattle.turn_store.specs.State.{RecoversToAt, form_of}
 use Rattle.turn_types.specs.declared.address.FiveTuple.{FiveTuple}
 use Rattle.turn_engine.specs.State.{ServerState, now_of}
@@ -47,14 +47,14 @@ pub record Takes {D H G : Type 0} (setting : Setting) (state : State) (old new :
   -- and so is its act
   pub recovers : RecoversTo state new (h ++ added moment outcome.change) k
 
--- A server was opened from a content that stands for the first events of a history, at least k of them: it recovers to these,
+-- A server was opened from a content that represents the first events of a history, at least k of them: it recovers to these,
 -- all of them stored, at the moment of the content, which is not later than a moment.
 pub record Opens {D H G : Type 0} (form : Form) (h : History) (k moment : ℕ) (content : List ℕ) (state : State) (server : ServerState D H G) : Type 0 where
-  -- how many events the content stands for
+  -- how many events the content represents
   pub count : ℕ
   pub no_less : k ≤ count
   pub no_more : count ≤ length h
   pub same_form : form_of server.store ≡ form
   pub recovers : RecoversTo state server (take count h) count
-  pub stands : StandsForAt form (take count h) (now_of server) content
+  pub stands : RepresentsAt form (take count h) (now_of server) content
   pub bounded : now_of server ≤ moment

@@ -12,7 +12,7 @@ use Rattle.turn_step.specs.Answer.{AnswersArrival, Setting}
 use Rattle.turn_step.specs.Outcome.{Arrives, StepOutcome, Sent, added}
 use Rattle.turn_step.specs.State.{setting_of}
 use Rattle.turn_store.specs.Areas.{Form}
-use Rattle.turn_store.specs.Images.{EachImage, StandsBy}
+use Rattle.turn_store.specs.Images.{EachImage, RepresentsBy}
 use Rattle.turn_store.specs.State.{form_of}
 use Rattle.turn_store.specs.declared.error.StoreError.{StoreError}
 use Rattle.turn_engine.specs.Calls.{Submits, Commits}
@@ -202,13 +202,13 @@ pub record IsSilent {D H G : Type 0} (server : ServerState D H G) (steps : List 
   pub none : handed_out steps ≡ []
   pub same : last_of server steps ≡ server
 
--- the image stands for a history that begins with this one
+-- the image represents a history that begins with this one
 pub record BeginsWith (form : Form) (h : History) (moment : ℕ) (image : List ℕ) : Type 0 where
   -- the events after it
   pub rest : History
-  pub stands : StandsBy form (h ++ rest) moment image
+  pub stands : RepresentsBy form (h ++ rest) moment image
 
--- An arrival was answered from the history h, and each image at a moment since old stands for a history that begins with h
+-- An arrival was answered from the history h, and each image at a moment since old represents a history that begins with h
 -- and what the arrival added.
 pub record Lasts {D H G : Type 0} (disk : disks.Ghosts D) (s : Setting) (h : History) (x : Taken) (old new : ServerState D H G) : Type 0 where
   pub answered : IsAnswered s h x

@@ -45,7 +45,7 @@ pub fn servers_make_runs<D: Disk, H: AuthHandler, G: RelayAddressGenerator>()
         → Commits D.Disk old new (Err fault) → Serves D.Disk H.AuthHandler G.RelayAddressGenerator new steps → IsSilent new steps }
 {}
 
-/// At every moment of every call each image of the disk stands for the first events of the run's history, and for no fewer
+/// At every moment of every call each image of the disk represents the first events of the run's history, and no fewer
 /// than belong to what was handed out.
 pub fn stops_keep_what_was_handed_out<D: Disk, H: AuthHandler, G: RelayAddressGenerator>()
     ensures calls { (s : Setting) (h : History) (t : ℕ) (server : ServerState D H G) (p : Place) (x : ServerCall D H G)
@@ -54,7 +54,7 @@ pub fn stops_keep_what_was_handed_out<D: Disk, H: AuthHandler, G: RelayAddressGe
         (AtLeast (form_of server.store) (history_at h p) (count_at h p) (now_of server)) }
 
     // Of each datagram that was handed out, relayed data too: whatever calls follow, each image at each moment of the call
-    // after them stands for a history that begins with the one that it was answered from.
+    // after them represents a history that begins with the one that it was answered from.
     ensures datagrams { (s : Setting) (h : History) (t : ℕ) (server : ServerState D H G) (p : Place) (before : List Taken) (x : Taken) (after : List Taken)
         (steps : List (ServerCall D H G)) (call : ServerCall D H G)
         → IsAtPlace D.Disk H.AuthHandler G.RelayAddressGenerator s h t server p → p.handed ≡ before ++ x ∷ after
@@ -62,8 +62,8 @@ pub fn stops_keep_what_was_handed_out<D: Disk, H: AuthHandler, G: RelayAddressGe
         → D.follows_crash_model (after_of call).store.disk → Lasts D.Disk s (h ++ accepted before) x (last_of server steps) (after_of call) }
 {}
 
-/// A stop at any moment of a `submit` or a `commit` leaves a disk of which each image stands for the first events of the run's
-/// history, and for no fewer than belong to what was handed out: what `Server::open` asks for.
+/// A stop at any moment of a `submit` or a `commit` leaves a disk of which each image represents the first events of the run's
+/// history, and no fewer than belong to what was handed out: what `Server::open` asks for.
 pub fn stopped_servers_open_again<D: Disk, H: AuthHandler, G: RelayAddressGenerator>()
     ensures { (s : Setting) (h : History) (t : ℕ) (server : ServerState D H G) (p : Place) (x : ServerCall D H G) (image : List ℕ) (state : State)
         → IsAtPlace D.Disk H.AuthHandler G.RelayAddressGenerator s h t server p → IsCall D.Disk H.AuthHandler G.RelayAddressGenerator server x

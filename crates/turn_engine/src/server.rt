@@ -16,7 +16,7 @@ ghost use Rattle.turn_step.specs.State.{CountsOne, HasPortsApart, HoldsPorts, Is
 ghost use Rattle.turn_step.specs.Views.{arrival_of, is_reserved, sent_of};
 ghost use Rattle.turn_store.specs.Areas.{Form};
 ghost use Rattle.turn_store.specs.Carrying.{Carries};
-ghost use Rattle.turn_store.specs.Images.{EachImage, EitherBy, StandsBy};
+ghost use Rattle.turn_store.specs.Images.{EachImage, EitherBy, RepresentsBy};
 ghost use Rattle.turn_store.specs.Opened.{IsOpened};
 ghost use Rattle.turn_store.specs.Opening as stores;
 ghost use Rattle.turn_store.specs.Refused.{IsPlain, WhyRefused};

@@ -21,7 +21,7 @@ use Rattle.turn_sockets.specs.declared.moment.Time as times
 use Rattle.turn_step.specs.Answer.{Setting}
 use Rattle.turn_step.specs.Outcome.{Sent}
 use Rattle.turn_store.specs.Areas.{Form}
-use Rattle.turn_store.specs.Images.{EachImage, StandsForAt}
+use Rattle.turn_store.specs.Images.{EachImage, RepresentsAt}
 use Rattle.turn_lives.specs.Processes as processes
 use Rattle.turn_lives.specs.Processes.{AreLives, AreOneRunOn, Follows, HaveLimits, IsStopping, LiveOn, MayLeave, Part, Process, Processes, Stopping, inputs_of, inputs_of_all, last_disk, said_of, said_of_all, settings_of}
 
@@ -249,7 +249,7 @@ module _ {I D H G T : Type 0} (disk_of : I → disks.Ghosts D) (handler : handle
           leaves = more.leaves;
         }
 
-    formatted_leaves : (i : I) (d : D) → (disk_of i).follows_crash_model d → EachImage ((disk_of i).trace d).now (StandsForAt form [] 0) → Leaves (disk_of i) form d [] [] 0
+    formatted_leaves : (i : I) (d : D) → (disk_of i).follows_crash_model d → EachImage ((disk_of i).trace d).now (RepresentsAt form [] 0) → Leaves (disk_of i) form d [] [] 0
     formatted_leaves i d crash_model images = record {
       crash_model = crash_model;
       images = λ image is. record {
@@ -261,12 +261,12 @@ module _ {I D H G T : Type 0} (disk_of : I → disks.Ghosts D) (handler : handle
     }
 
     pub lasts : (i k : I) (old new : D) (parts : List Part) → HaveLimits form parts → Processes disk_of handler ports time i old parts k new
-        → EachImage ((disk_of i).trace old).now (StandsForAt form [] 0) → (disk_of k).follows_crash_model new → LiveOn (disk_of k) form may_fail [] [] 0 parts new
+        → EachImage ((disk_of i).trace old).now (RepresentsAt form [] 0) → (disk_of k).follows_crash_model new → LiveOn (disk_of k) form may_fail [] [] 0 parts new
     lasts i k old new parts same all images crash_model =
         all_live_on i k old new parts [] [] 0 same all (formatted_leaves i old (all_earlier i k old new parts all crash_model) images) crash_model
 
     pub are_one_run : (i k : I) (old new : D) (parts : List Part) → HaveLimits form parts → Processes disk_of handler ports time i old parts k new
-        → EachImage ((disk_of i).trace old).now (StandsForAt form [] 0) → NeverFall 0 (inputs_of_all parts) → (disk_of k).follows_crash_model new → AreOneRunOn (disk_of k) form may_fail parts new
+        → EachImage ((disk_of i).trace old).now (RepresentsAt form [] 0) → NeverFall 0 (inputs_of_all parts) → (disk_of k).follows_crash_model new → AreOneRunOn (disk_of k) form may_fail parts new
     are_one_run i k old new parts same all images rising crash_model =
         let on = lasts i k old new parts same all images crash_model in
         record {

@@ -8,7 +8,7 @@ ghost use Rattle.turn_engine.specs.Runs.{NeverFails, Taken};
 ghost use Rattle.turn_player.specs.Lives.{Lasting, NeverFall};
 ghost use Rattle.turn_player.specs.Worlds.{Leaves};
 ghost use Rattle.turn_store.specs.Areas.{Form};
-ghost use Rattle.turn_store.specs.Images.{EachImage, StandsForAt};
+ghost use Rattle.turn_store.specs.Images.{EachImage, RepresentsAt};
 ghost use Rattle.turn_lives.specs.Files.{file_of};
 ghost use Rattle.turn_lives.specs.Processes.{AllReserve, AreOneRunOn, HaveLimits, IsReserving, LiveOn, Part, Process, Processes, inputs_of_all};
 
@@ -39,14 +39,14 @@ pub fn processes_make_lives<D: Disk, N: Disk, H: AuthHandler, G: RelayAddressGen
     ensures lasts { (form : Form) (may_fail : Bool) (old new : D) (parts : List Part)
         → HaveLimits form parts → (may_fail ≡ false → NeverFails G.RelayAddressGenerator)
         → Processes (λ (name : Unit {0}). D.Disk) H.AuthHandler G.RelayAddressGenerator T.Time tt old parts tt new
-        → EachImage (D.trace old).now (StandsForAt form [] 0) → D.follows_crash_model new → LiveOn D.Disk form may_fail [] [] 0 parts new }
+        → EachImage (D.trace old).now (RepresentsAt form [] 0) → D.follows_crash_model new → LiveOn D.Disk form may_fail [] [] 0 parts new }
 
     // Where no moment is before one that any process submitted earlier, all of it is one run, too: what was handed out is what its
     // arrivals were answered, each by the setting of its process, and the disk keeps it.
     ensures whole { (form : Form) (may_fail : Bool) (old new : D) (parts : List Part)
         → HaveLimits form parts → (may_fail ≡ false → NeverFails G.RelayAddressGenerator)
         → Processes (λ (name : Unit {0}). D.Disk) H.AuthHandler G.RelayAddressGenerator T.Time tt old parts tt new
-        → EachImage (D.trace old).now (StandsForAt form [] 0) → NeverFall 0 (inputs_of_all parts) → D.follows_crash_model new
+        → EachImage (D.trace old).now (RepresentsAt form [] 0) → NeverFall 0 (inputs_of_all parts) → D.follows_crash_model new
         → AreOneRunOn D.Disk form may_fail parts new }
 
     // A process whose server reserves ports is followed by such processes.
@@ -85,13 +85,13 @@ pub fn files_make_lives<
     ensures lasts { (form : Form) (may_fail : Bool) (first last : State) (old new : InFile) (parts : List Part)
         → HaveLimits form parts → (may_fail ≡ false → NeverFails G.RelayAddressGenerator)
         → Processes file_of H.AuthHandler G.RelayAddressGenerator T.Time first old parts last new
-        → EachImage ((file_of first).trace old).now (StandsForAt form [] 0) → (file_of last).follows_crash_model new
+        → EachImage ((file_of first).trace old).now (RepresentsAt form [] 0) → (file_of last).follows_crash_model new
         → LiveOn (file_of last) form may_fail [] [] 0 parts new }
 
     ensures whole { (form : Form) (may_fail : Bool) (first last : State) (old new : InFile) (parts : List Part)
         → HaveLimits form parts → (may_fail ≡ false → NeverFails G.RelayAddressGenerator)
         → Processes file_of H.AuthHandler G.RelayAddressGenerator T.Time first old parts last new
-        → EachImage ((file_of first).trace old).now (StandsForAt form [] 0) → NeverFall 0 (inputs_of_all parts)
+        → EachImage ((file_of first).trace old).now (RepresentsAt form [] 0) → NeverFall 0 (inputs_of_all parts)
         → (file_of last).follows_crash_model new → AreOneRunOn (file_of last) form may_fail parts new }
 
     ensures reserves { (form : Form) (first mid last : State) (old next new : InFile) (part : Part) (parts : List Part) (sure : List Lasting)

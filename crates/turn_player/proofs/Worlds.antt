@@ -30,7 +30,7 @@ use Rattle.turn_step.specs.Answer.{AnswersArrival, Setting}
 use Rattle.turn_step.specs.Outcome.{Arrives, Sent, added}
 use Rattle.turn_step.specs.State.{MachineState, setting_of}
 use Rattle.turn_store.specs.Areas.{Form}
-use Rattle.turn_store.specs.Images.{EachImage, StandsForAt}
+use Rattle.turn_store.specs.Images.{EachImage, RepresentsAt}
 use Rattle.turn_store.specs.State.{form_of}
 use Rattle.turn_store.specs.declared.error.StoreError.{StoreError}
 use Rattle.turn_store.specs.declared.error.StoreError.TheVariants as faults
@@ -86,8 +86,8 @@ module _ {D H G : Type 0} (disk : disks.Ghosts D) (handler : handlers.Ghosts H) 
           stands = record {
             clock = runs.recovers.at;
             bounded = omega (arith, runs.clock, runs.bounded, runs.recovers.at_late);
-            stands = subst (λ (l : History). StandsForAt form l runs.recovers.at image) first
-                (subst (λ (f : Form). StandsForAt f (take k (accepted (mine ++ recent))) runs.recovers.at image) runs.same_form
+            stands = subst (λ (l : History). RepresentsAt form l runs.recovers.at image) first
+                (subst (λ (f : Form). RepresentsAt f (take k (accepted (mine ++ recent))) runs.recovers.at image) runs.same_form
                 (stood server.store (disk.trace server.store.disk).now runs.recovers.at (take k (accepted (mine ++ recent))) runs.recovers.stored image is));
           };
         };
@@ -508,9 +508,9 @@ module _ {D H G : Type 0} (disk : disks.Ghosts D) (handler : handlers.Ghosts H) 
         let last = calls_make_lives same one.end u v inputs more rest one.stands crash_model in
         record { end = last.end; life = lives.goes_on one.end one.goes last.life; stands = last.stands }
 
-pub formatted_stands : {D H G : Type 0} (disk : disks.Ghosts D) (handler : handlers.Ghosts H) (ports : generators.Ghosts G) (form : Form) (s : Setting) (d : D) (h : H) (g : G) → disk.follows_crash_model d
-    → EachImage (disk.trace d).now (StandsForAt form [] 0) → handler.key_of h ≡ s.keys → ports.range g ≡ s.range → Stands disk handler ports form s (Down d h g) lives.formatted
-formatted_stands disk handler ports form s d h g crash_model images keys range = record {
+pub formatted_represents : {D H G : Type 0} (disk : disks.Ghosts D) (handler : handlers.Ghosts H) (ports : generators.Ghosts G) (form : Form) (s : Setting) (d : D) (h : H) (g : G) → disk.follows_crash_model d
+    → EachImage (disk.trace d).now (RepresentsAt form [] 0) → handler.key_of h ≡ s.keys → ports.range g ≡ s.range → Stands disk handler ports form s (Down d h g) lives.formatted
+formatted_represents disk handler ports form s d h g crash_model images keys range = record {
   keys = keys;
   range = range;
   leaves = record {

@@ -66,7 +66,7 @@ pub record IsWhole {D H G : Type 0} (disk : disks.Ghosts D) (handler : handlers.
   pub stands : Stands disk handler ports form s w end
   pub one : IsOneRun s may_fail (sent_in said) end
 
--- An arrival was answered from the history of the arrivals before it, and each image of a disk stands for a history that begins
+-- An arrival was answered from the history of the arrivals before it, and each image of a disk represents a history that begins
 -- with that and what the arrival added.
 pub record LastsOnDisk {D : Type 0} (disk : disks.Ghosts D) (form : Form) (s : Setting) (before : List Lasting) (x : Taken) (d : D) : Type 0 where
   pub answered : IsAnswered s (accepted (map taken_of before)) x

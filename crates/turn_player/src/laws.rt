@@ -15,7 +15,7 @@ ghost use Rattle.turn_record.specs.declared.version.Version.TheVariants.{V2};
 ghost use Rattle.turn_step.specs.Answer.{Setting};
 ghost use Rattle.turn_step.specs.Outcome.{StepOutcome, Sent};
 ghost use Rattle.turn_store.specs.Areas.{Form};
-ghost use Rattle.turn_store.specs.Images.{EachImage, StandsForAt};
+ghost use Rattle.turn_store.specs.Images.{EachImage, RepresentsAt};
 ghost use Rattle.turn_store.specs.declared.error.StoreError.{StoreError};
 ghost use Rattle.turn_player.specs.Laws.{IsOneRun, IsWhole, Keeps, LastsOnDisk};
 ghost use Rattle.turn_player.specs.Lives.{Input, Lasting, Life, NeverFall, Point, Said, bound_of, count_of, formatted, history_of, sent_by_all, sent_in, settled_history_of, sure_of, taken_of};
@@ -59,14 +59,14 @@ pub fn repeats_get_the_same()
 /// Arrivals, commits, stops at any moment of any call, and openings, in any order, from a formatted disk on, make a life.
 pub fn calls_make_lives<D: Disk, H: AuthHandler, G: RelayAddressGenerator>()
     ensures formatted { (form : Form) (s : Setting) (d : D) (h : H) (g : G)
-        → D.follows_crash_model d → EachImage (D.trace d).now (StandsForAt form [] 0) → H.key_of h ≡ s.keys → G.range g ≡ s.range
+        → D.follows_crash_model d → EachImage (D.trace d).now (RepresentsAt form [] 0) → H.key_of h ≡ s.keys → G.range g ≡ s.range
         → Stands D.Disk H.AuthHandler G.RelayAddressGenerator form s (Down d h g) formatted }
     ensures goes_on { (form : Form) (s : Setting) (may_fail : Bool) (p : Point) (w v : World D H G) (inputs : List Input) (said : List Said)
         → form.bounds ≡ s.config.limits → (may_fail ≡ false → NeverFails G.RelayAddressGenerator)
         → Calls D.Disk H.AuthHandler G.RelayAddressGenerator s w inputs said v → Stands D.Disk H.AuthHandler G.RelayAddressGenerator form s w p
         → D.follows_crash_model (disk_of v) → Lives D.Disk H.AuthHandler G.RelayAddressGenerator form s may_fail p inputs said v }
 
-    // At each moment of a commit or an opening each image stands for the first events of the history, and for no fewer than last.
+    // At each moment of a commit or an opening each image represents the first events of the history, and no fewer than last.
     ensures commits { (form : Form) (s : Setting) (p : Point) (old new : ServerState D H G) (result : Result (List Sent) StoreError)
         → Stands D.Disk H.AuthHandler G.RelayAddressGenerator form s (Serving old) p → Commits D.Disk old new result
         → D.follows_crash_model new.store.disk → EachImageSince (D.trace old.store.disk) (D.trace new.store.disk) (AtLeast form (history_of p) (count_of p) (bound_of p)) }
@@ -80,7 +80,7 @@ pub fn calls_make_lives<D: Disk, H: AuthHandler, G: RelayAddressGenerator>()
         → Calls D.Disk H.AuthHandler G.RelayAddressGenerator s w inputs said v → Stands D.Disk H.AuthHandler G.RelayAddressGenerator form s w formatted
         → NeverFall 0 inputs → D.follows_crash_model (disk_of v) → IsWhole D.Disk H.AuthHandler G.RelayAddressGenerator form s may_fail inputs said v }
 
-    // Of each datagram that was handed out, relayed data too: whatever calls and stops follow, each image of the disk stands for
+    // Of each datagram that was handed out, relayed data too: whatever calls and stops follow, each image of the disk represents
     // a history that begins with the one that it was answered from.
     ensures lasts { (form : Form) (s : Setting) (may_fail : Bool) (p : Point) (w v : World D H G) (inputs : List Input) (said : List Said)
         (sent : List Sent) (before : List Lasting) (x : Lasting) (after : List Lasting)

@@ -5,7 +5,7 @@ ghost use Rattle.turn_disk.specs.Counts.{CountOutcome, Rises};
 ghost use Rattle.turn_program.specs.declared.error.ProgramError.TheVariants as faults;
 ghost use Rattle.turn_record.specs.declared.version.Version.TheVariants.{V2};
 ghost use Rattle.turn_store.specs.Format.{IsFormatted};
-ghost use Rattle.turn_store.specs.Images.{EachImage, StandsForAt};
+ghost use Rattle.turn_store.specs.Images.{EachImage, RepresentsAt};
 ghost use Rattle.turn_store.specs.Superblock.{least_area};
 
 use crate::about::{second_now, tell_config, tell_made_store};
@@ -70,11 +70,11 @@ pub fn format_disk<D: Disk>(
     ensures crash_model { D.follows_crash_model disk.new → D.follows_crash_model disk.old }
     ensures count { OnOk result (D.failed disk.new ≡ D.failed disk.old) }
 
-    // The first area is active, of version 2 and with generation 1, and each image stands for the empty history.
+    // The first area is active, of version 2 and with generation 1, and each image represents the empty history.
     ensures formatted { D.follows_crash_model disk.new
         → OnOk result (IsFormatted V2 (record { bounds = limits; area = area }) (D.trace disk.new).now) }
     ensures done { D.follows_crash_model disk.new
-        → OnOk result (EachImage (D.trace disk.new).now (StandsForAt (record { bounds = limits; area = area }) [] 0)) }
+        → OnOk result (EachImage (D.trace disk.new).now (RepresentsAt (record { bounds = limits; area = area }) [] 0)) }
 {
     write_zeros(alloc, disk)?;
     format(disk, limits, area)?;

@@ -1,4 +1,4 @@
--- What is read of content, and what is told if it stands for a history.
+-- What is read of content, and what is told if it represents a history.
 use Rattle.std.proofs.Common.{◌≡◌, ◌⊎◌, ◌∙◌, ℕ, List, Option, None, Some, Result, Ok, Err, refl, subst, sym, inl, inr}
 use Rattle.turn_disk.specs.declared.disk.Disk as disks
 use Rattle.turn_history.specs.History.{History}
@@ -10,7 +10,7 @@ use Rattle.turn_reading.specs.declared.error.ReadingError.TheVariants.{Changing}
 use Rattle.turn_store.proofs.NeverRefused.{has_superblock}
 use Rattle.turn_store.proofs.Superblocks.{superblock_once}
 use Rattle.turn_store.specs.Areas.{Form}
-use Rattle.turn_store.specs.Images.{StandsForAt}
+use Rattle.turn_store.specs.Images.{RepresentsAt}
 use Rattle.turn_store.specs.Refused.{IsPlain, WhyRefused}
 use Rattle.turn_store.specs.Replay.{Snapshot}
 use Rattle.turn_store.specs.Superblock.{HasSuperblock}
@@ -72,23 +72,23 @@ pub why_last : (limits : Option Bounds) (content : List ℕ) (last : Option Read
 why_last limits content None why = tt
 why_last limits content (Some fault) why = why
 
--- ---- Content that stands for a history
+-- ---- Content that represents a history
 
 -- it has limits
-pub unread_limits : (form : Form) (h : History) (clock : ℕ) (content : List ℕ) → StandsForAt form h clock content → (refused : LimitsError)
+pub unread_limits : (form : Form) (h : History) (clock : ℕ) (content : List ℕ) → RepresentsAt form h clock content → (refused : LimitsError)
     → (refused ≡ limits_faults.NotAStore → (area : ℕ) (b : Bounds) → HasSuperblock area b content → ⊥) → IsUnread (of_limits refused)
 unread_limits form h clock content stands limits_faults.Device none = tt
 unread_limits form h clock content stands limits_faults.NotAStore none = absurd (none refl form.area form.bounds (has_superblock form h clock content stands))
 
 -- which are those of its form
-pub own_limits : (form : Form) (h : History) (clock : ℕ) (content : List ℕ) → StandsForAt form h clock content → (limits : Bounds)
+pub own_limits : (form : Form) (h : History) (clock : ℕ) (content : List ℕ) → RepresentsAt form h clock content → (limits : Bounds)
     → (area : ℕ) × HasSuperblock area limits content → form.bounds ≡ limits
 own_limits form h clock content stands limits found =
     (superblock_once form.area found.0 form.bounds limits content (has_superblock form h clock content stands) found.1).1
 
 -- the given limits, or else its own, are those of its form
 pub form_is_under : (limits : Option Bounds) (form : Form) (h : History) (clock : ℕ) (content : List ℕ) (under : Bounds)
-    → IsUnder limits under → (limits ≡ None → (area : ℕ) × HasSuperblock area under content) → IsUnder limits form.bounds → StandsForAt form h clock content
+    → IsUnder limits under → (limits ≡ None → (area : ℕ) × HasSuperblock area under content) → IsUnder limits form.bounds → RepresentsAt form h clock content
     → form.bounds ≡ under
 form_is_under None form h clock content under given own is stands = own_limits form h clock content stands under (own refl)
 form_is_under (Some limits) form h clock content under given own is stands = is ∙ sym given

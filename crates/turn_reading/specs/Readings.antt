@@ -8,7 +8,7 @@ use Rattle.turn_reading.specs.declared.error.ReadingError.{ReadingError}
 use Rattle.turn_reading.specs.declared.error.ReadingError.TheVariants.{Device, Memory, NotAStore, LimitsDiffer, Damaged, Changing}
 use Rattle.turn_reading.specs.declared.reading.Reading.{Reading}
 use Rattle.turn_store.specs.Areas.{Form}
-use Rattle.turn_store.specs.Images.{StandsForAt}
+use Rattle.turn_store.specs.Images.{RepresentsAt}
 use Rattle.turn_store.specs.Opened.{IsOpened}
 use Rattle.turn_store.specs.Refused.{WhyRefused}
 use Rattle.turn_store.specs.Replay.{Snapshot}
@@ -72,7 +72,7 @@ WhyUnread None content LimitsDiffer = ⊥
 WhyUnread (Some limits) content LimitsDiffer = WhyRefused limits content open_faults.LimitsDiffer
 WhyUnread limits content (Damaged place) = (b : Bounds) × IsUnder limits b × WhyRefused b content (open_faults.Damaged place)
 
--- ---- Content that stands for a history
+-- ---- Content that represents a history
 
 -- a fault that says nothing of what the store holds
 abbrev pub IsUnread : ReadingError → Type 0
@@ -83,10 +83,10 @@ IsUnread LimitsDiffer = ⊥
 IsUnread (Damaged place) = ⊥
 IsUnread Changing = Unit {0}
 
--- Of content that stands for a history at a clock, and has the given limits, the history's table at that clock is told, or
+-- Of content that represents a history at a clock, and has the given limits, the history's table at that clock is told, or
 -- nothing of what is held.
 abbrev pub Tells : {Reading : Type 0} → Option Bounds → (Reading → tables.State) → List ℕ → Result Reading ReadingError → Type 0
-Tells limits table_of content outcome = (form : Form) (h : History) (clock : ℕ) → IsUnder limits form.bounds → StandsForAt form h clock content
+Tells limits table_of content outcome = (form : Form) (h : History) (clock : ℕ) → IsUnder limits form.bounds → RepresentsAt form h clock content
     → MatchResult outcome (λ reading. snapshot_of (table_of reading) ≡ record { moment = clock; contents = table h clock }) IsUnread
 
 -- ---- Calls
@@ -100,5 +100,5 @@ pub record ReadsStore {D A : Type 0} (disk : disks.Ghosts D) (limits : Option Bo
   -- what was read, and the reason of each refusal: the first that applies
   pub read : disk.follows_crash_model new → IfOk outcome (λ r. IsRead D limits (disk.trace old).now.bytes (snapshot_of r.table))
   pub why : disk.follows_crash_model new → IfErr outcome (WhyUnread limits (disk.trace old).now.bytes)
-  -- if the content stands for a history, what is told of it
+  -- if the content represents a history, what is told of it
   pub tells : disk.follows_crash_model new → Tells limits (λ r. r.table) (disk.trace old).now.bytes outcome

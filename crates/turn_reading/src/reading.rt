@@ -5,7 +5,7 @@ ghost use Rattle.turn_history.specs.History.{History};
 ghost use Rattle.turn_history.specs.Table.{table};
 ghost use Rattle.turn_reading.specs.Readings.{IsRead, IsUnder, MayPass, ReadsStore};
 ghost use Rattle.turn_store.specs.Areas.{Form};
-ghost use Rattle.turn_store.specs.Images.{StandsForAt};
+ghost use Rattle.turn_store.specs.Images.{RepresentsAt};
 ghost use Rattle.turn_store.specs.Refused.{IsPlain, WhyRefused};
 ghost use Rattle.turn_store.specs.Superblock.{HasSuperblock};
 ghost use Rattle.turn_store.specs.Tables.{snapshot_of};
@@ -53,9 +53,9 @@ fn read_once<D: Disk, A: Allocator + Copy>(
         → IfOk result.1 (λ r. IsRead D (Some limits) (D.trace disk).now.bytes (snapshot_of r.table)) }
     ensures why { D.follows_crash_model result.0 → IfErr result.1 (WhyRefused limits (D.trace disk).now.bytes) }
 
-    // If the content stands for a history, the table is the history's, and a refusal is of the device or of memory.
+    // If the content represents a history, the table is the history's, and a refusal is of the device or of memory.
     ensures tells { D.follows_crash_model result.0 → (form : Form) (h : History) (clock : ℕ) → form.bounds ≡ limits
-        → StandsForAt form h clock (D.trace disk).now.bytes
+        → RepresentsAt form h clock (D.trace disk).now.bytes
         → MatchResult result.1 (λ r. snapshot_of r.table ≡ record { moment = clock; contents = table h clock }) IsPlain }
 {
     match Store::open_unchanged(alloc, disk, limits) {

@@ -10,10 +10,10 @@ use Rattle.turn_record.specs.declared.version.Version.{Version}
 use Rattle.turn_step.specs.Answer.{Setting}
 use Rattle.turn_disk.specs.Counts.{Rises}
 use Rattle.turn_store.specs.Areas.{Form}
-use Rattle.turn_store.specs.Images.{EachImage, StandsForAt}
+use Rattle.turn_store.specs.Images.{EachImage, RepresentsAt}
 use Rattle.turn_store.specs.Superblock.{least_area}
 use Rattle.turn_types.specs.Config.{Config}
-use Rattle.turn_player.proofs.Worlds.{formatted_stands}
+use Rattle.turn_player.proofs.Worlds.{formatted_represents}
 use Rattle.turn_player.specs.Worlds.{Down}
 use Rattle.turn_player.specs.Lives.{Input, Life, Point, Said, ends, formatted, goes_on}
 use Rattle.turn_player.specs.Plays as plays
@@ -58,7 +58,7 @@ lives_on disk handler ports old new inputs said same runs l =
 -- a player over a formatted disk stands at the start of a life
 pub starts : (disk : disks.Ghosts InMemory) (handler : handlers.Ghosts Sources) (ports : generators.Ghosts (ℕ × ℕ)) (form : Form) (p : PlayerState)
     (config : Config) (d : InMemory) (h : Sources) (g : ℕ × ℕ) → p ≡ record { config = config; world = Some (Down d h g) } → form.bounds ≡ config.limits
-    → disk.follows_crash_model d → EachImage (disk.trace d).now (StandsForAt form [] 0) → Lived disk handler ports p
+    → disk.follows_crash_model d → EachImage (disk.trace d).now (RepresentsAt form [] 0) → Lived disk handler ports p
 starts disk handler ports form p config d h g is bounds crash_model images =
     let setting : Setting = record { config = config; keys = handler.key_of h; range = ports.range g; pairs = false } in
     record {
@@ -72,7 +72,7 @@ starts disk handler ports form p config d h g is bounds crash_model images =
       life = ends;
       world = Down d h g;
       is = ap (λ (q : PlayerState). q.world) is;
-      stands = formatted_stands disk handler ports form setting d h g crash_model images refl refl;
+      stands = formatted_represents disk handler ports form setting d h g crash_model images refl refl;
     }
 
 pub refused : (version : Version) (area : ℕ) (p q : PlayerState) (config : Config) (d : InMemory) (h : Sources) (g : ℕ × ℕ) → p ≡ record { config = config; world = Some (Down d h g) }

@@ -3,7 +3,7 @@
 ghost use Rattle.std.specs.Prelude.{◌≡◌, ◌≤◌, ◌<◌, ◌+◌, ◌*◌, ◌⊎◌, [], Ok, IfOk, IsErr, OnOk, OnErr};
 ghost use Rattle.turn_disk.specs.Counts.{Rises};
 ghost use Rattle.turn_store.specs.Superblock.{least_area};
-ghost use Rattle.turn_store.specs.Images.{EachImage, StandsForAt};
+ghost use Rattle.turn_store.specs.Images.{EachImage, RepresentsAt};
 ghost use Rattle.turn_scenario.specs.Lived.{IsRefused, Lived, LivesOn};
 
 use crate::error::LineError;
@@ -58,7 +58,7 @@ fn format_as<D: Disk>(
 ) -> Result<(), FormatError>
     requires { 64 + 2 * area ≡ D.capacity disk.old }
     ensures done { D.follows_crash_model disk.new
-        → OnOk result (EachImage (D.trace disk.new).now (StandsForAt (record { bounds = limits; area = area }) [] 0)) }
+        → OnOk result (EachImage (D.trace disk.new).now (RepresentsAt (record { bounds = limits; area = area }) [] 0)) }
     ensures refused { IsErr result → (area < least_area version limits) ⊎ Rises (D.failed disk.old) (D.failed disk.new) }
 {
     match version {
@@ -75,7 +75,7 @@ fn format_disk<A: Allocator + Copy>(
     area: u32,
 ) -> Result<(MemoryDisk<A>, Result<(), FormatError>), AllocError>
     ensures done { IfOk result (λ made. made.1 ≡ Ok tt
-        → EachImage made.0.trace.now (StandsForAt (record { bounds = limits; area = area }) [] 0)) }
+        → EachImage made.0.trace.now (RepresentsAt (record { bounds = limits; area = area }) [] 0)) }
     ensures refused { IfOk result (λ made. IsErr made.1 → (area < least_area version limits) ⊎ Rises 0 made.0.failures) }
 {
     let area = area as usize;

@@ -20,7 +20,7 @@ use Rattle.turn_step.specs.Answer.{Setting}
 use Rattle.turn_step.specs.Outcome.{Arrives, Sent}
 use Rattle.turn_step.specs.State.{HoldsPorts}
 use Rattle.turn_store.specs.Areas.{Form}
-use Rattle.turn_store.specs.Images.{StandsForAt}
+use Rattle.turn_store.specs.Images.{RepresentsAt}
 use Rattle.turn_store.specs.State.{form_of}
 use Rattle.turn_store.specs.declared.error.StoreError.{StoreError}
 use Rattle.turn_serving.specs.Turns.{AreAt, At, Never, Served}
@@ -153,7 +153,7 @@ begins_less form h first second m n image is less begun = record {
   stands = record {
     clock = begun.stands.clock;
     bounded = let bounded = begun.stands.bounded in omega arith;
-    stands = subst (λ (l : History). StandsForAt form l begun.stands.clock image) (ap (λ (l : History). l ++ begun.rest) is ∙ append_assoc first second begun.rest) begun.stands.stands;
+    stands = subst (λ (l : History). RepresentsAt form l begun.stands.clock image) (ap (λ (l : History). l ++ begun.rest) is ∙ append_assoc first second begun.rest) begun.stands.stands;
   };
 }
 

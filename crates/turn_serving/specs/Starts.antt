@@ -32,7 +32,7 @@ use Rattle.turn_serving.specs.declared.error.BindError.TheVariants as binds
 use Rattle.turn_serving.specs.declared.error.StartError.{StartError}
 use Rattle.turn_serving.specs.declared.error.StartError.TheVariants as faults
 
--- Calls led from one state of a disk to another: where each image at first stood for the first events of a history, at least k of
+-- Calls led from one state of a disk to another: where each image at first represented the first events of a history, at least k of
 -- them, each image at each moment since does.
 pub record KeepsImages {D : Type 0} (disk : disks.Ghosts D) (old new : D) : Type 0 where
   pub crash_model : disk.follows_crash_model new → disk.follows_crash_model old
@@ -74,7 +74,7 @@ IfOfStore (faults.Carry fault) P = P fault
 IfOfStore faults.Socket P = Unit {0}
 IfOfStore faults.Memory P = Unit {0}
 
--- An opening was refused for this fault. It is the first reason that applies to the content; where each image stands for the first events
+-- An opening was refused for this fault. It is the first reason that applies to the content; where each image represents the first events
 -- of a history, at least k of them, it is of the device or of memory.
 pub record IsRefusedFor {D : Type 0} (disk : disks.Ghosts D) (old new : D) (limits : Bounds) (fault : OpenError) : Type 0 where
   pub why : disk.follows_crash_model new → WhyRefused limits (disk.trace old).now.bytes fault
@@ -83,7 +83,7 @@ pub record IsRefusedFor {D : Type 0} (disk : disks.Ghosts D) (old new : D) (limi
 
 -- A server was started over a disk: it has this configuration, these keys and this range, and reserves ports where its store's version
 -- holds them; the store was carried over to version 2 where it could be, and else is what it was; nothing is staged; and where each
--- image of the disk stands for the first events of a history, at least k of them, it recovers to such a part of it.
+-- image of the disk represents the first events of a history, at least k of them, it recovers to such a part of it.
 pub record Started {D H G : Type 0} (disk : disks.Ghosts D) (handler : handlers.Ghosts H) (ports : generators.Ghosts G) (old : D) (config : Config) (users : H) (range : ℕ × ℕ) (server : ServerState D H G) : Type 0 where
   pub setting : setting_of handler.key_of ports.range server.machine ≡ record { config = config; keys = handler.key_of users; range = range; pairs = server.machine.pairs }
   pub pairs : server.machine.pairs ≡ has_pairs server.store.version

@@ -508,7 +508,7 @@ impl<
             (IsOk result) (wire_of self.old) (wire_of self.new) }
         ensures addresses { self.new.addresses ≡ self.old.addresses }
         ensures manner { self.new.manner ≡ self.old.manner }
-        // Whatever run the server is in, at every moment of the turn each image stands for a history that begins with what was
+        // Whatever run the server is in, at every moment of the turn each image represents a history that begins with what was
         // handed out before.
         ensures stop { (s : Setting) (h : History) (t : ℕ) (p : Place) → IsAtPlace D.Disk H.AuthHandler G.RelayAddressGenerator s h t self.old.server p
             → D.follows_crash_model self.new.server.store.disk → EachImageSince (D.trace self.old.server.store.disk) (D.trace self.new.server.store.disk)
@@ -550,7 +550,7 @@ impl<
             (IsOk result) (wire_of self.old) (wire_of self.new) }
         ensures addresses { self.new.addresses ≡ self.old.addresses }
         ensures manner { self.new.manner ≡ self.old.manner }
-        // Whatever run the server is in, at every moment of the turns each image stands for a history that begins with what was
+        // Whatever run the server is in, at every moment of the turns each image represents a history that begins with what was
         // handed out before.
         ensures stop { (s : Setting) (h : History) (t : ℕ) (p : Place) → IsAtPlace D.Disk H.AuthHandler G.RelayAddressGenerator s h t self.old.server p
             → D.follows_crash_model self.new.server.store.disk → EachImageSince (D.trace self.old.server.store.disk) (D.trace self.new.server.store.disk)

@@ -1,4 +1,4 @@
--- What a batch more makes of what a store stands for.
+-- What a batch more makes of what a store represents.
 use Rattle.std.proofs.Common.{◌≡◌, ◌⊎◌, inl, inr, ⊎_elim, ◌≤◌, ℕ, List, [], ◌∷◌, ◌++◌, refl, false, sym, subst, arith, append-nil}
 use Rattle.turn_disk.specs.Disk.{State, Trace}
 use Rattle.turn_history.specs.History.{Event, History}
@@ -7,7 +7,7 @@ use Rattle.turn_record.specs.Bytes as bytes
 use Rattle.turn_record.specs.Records as records
 use Rattle.turn_record.specs.declared.version.Version.{Version}
 use Rattle.turn_store.specs.Areas.{Form, Holds}
-use Rattle.turn_store.specs.Images.{EitherBy, StandsBy, StandsForAt}
+use Rattle.turn_store.specs.Images.{EitherBy, RepresentsBy, RepresentsAt}
 use Rattle.turn_store.specs.Encodes.{HasSize, Encodes}
 use Rattle.turn_store.specs.Stages.{InStagesAt}
 use Rattle.turn_store.specs.State.{MayFollow, RecoversToAt, Shows, StoreState, form_of}
@@ -23,10 +23,10 @@ module _ {D : Type 0} (old : StoreState D) (before : State) (c : ℕ) (h : Histo
   abbrev v : Version
   v = old.version
 
-  stood : (image : List ℕ) → Holds v form recovers.snapshot recovers.payloads image → StandsForAt form h c image
+  stood : (image : List ℕ) → Holds v form recovers.snapshot recovers.payloads image → RepresentsAt form h c image
   stood image holds = record { version = v; snapshot = recovers.snapshot; payloads = recovers.payloads; holds = holds; encodes = recovers.encodes }
 
-  stood_by : (image : List ℕ) → Holds v form recovers.snapshot recovers.payloads image → StandsBy form h m image
+  stood_by : (image : List ℕ) → Holds v form recovers.snapshot recovers.payloads image → RepresentsBy form h m image
   stood_by image holds = record { clock = c; bounded = follows.clock_late; stands = stood image holds }
 
   module _ (size : HasSize old.version old.bounds es) (payload : List ℕ) (is : payload ≡ bytes.payload es) where
@@ -35,14 +35,14 @@ module _ {D : Type 0} (old : StoreState D) (before : State) (c : ℕ) (h : Histo
         subst (λ (p : List ℕ). (d : ℕ) × (d ≤ m) × Encodes v old.bounds (h ++ es) d recovers.snapshot (recovers.payloads ++ p ∷ [])) (sym is)
         (frames_go_on v old.bounds h c recovers.snapshot recovers.payloads es m recovers.encodes follows.fitting follows.from size follows.clock_late follows.late)
 
-    framed_by : (image : List ℕ) → Holds v form recovers.snapshot (recovers.payloads ++ payload ∷ []) image → StandsBy form (h ++ es) m image
+    framed_by : (image : List ℕ) → Holds v form recovers.snapshot (recovers.payloads ++ payload ∷ []) image → RepresentsBy form (h ++ es) m image
     framed_by image holds = record { clock = more.0; bounded = more.1; stands = record { version = v; snapshot = recovers.snapshot; payloads = recovers.payloads ++ payload ∷ []; holds = holds; encodes = more.2 } }
 
     pub frame_stages : (gate : ℕ) (since now : Trace) → InStagesAt gate since now (Holds v form recovers.snapshot recovers.payloads) (λ image. Holds v form recovers.snapshot recovers.payloads image ⊎ Holds v form recovers.snapshot (recovers.payloads ++ payload ∷ []) image)
-        → InStagesAt gate since now (StandsForAt form h c) (EitherBy form h es m)
+        → InStagesAt gate since now (RepresentsAt form h c) (EitherBy form h es m)
     frame_stages gate since now stages =
         stages_weaken_at gate since now (Holds v form recovers.snapshot recovers.payloads) (λ (image : List ℕ). Holds v form recovers.snapshot recovers.payloads image ⊎ Holds v form recovers.snapshot (recovers.payloads ++ payload ∷ []) image)
-        (StandsForAt form h c) (EitherBy form h es m) stood
+        (RepresentsAt form h c) (EitherBy form h es m) stood
         (λ image either. ⊎_elim (λ holds. inl (stood_by image holds)) (λ holds. inr (framed_by image holds)) either) stages
 
     pub frame_done : (new : StoreState D) (after : State) → new.version ≡ old.version → new.bounds ≡ old.bounds → new.stopped ≡ false → Shows new after recovers.snapshot (recovers.payloads ++ payload ∷ [])
@@ -68,14 +68,14 @@ module _ {D : Type 0} (old : StoreState D) (before : State) (c : ℕ) (h : Histo
     encoded : Encodes w old.bounds (h ++ es) m next []
     encoded = subst (λ (t : Contents). Encodes w old.bounds (h ++ es) m (bytes.snapshot w m t) []) (sym is) (snapshots_go_on w old.bounds (h ++ es) m follows.fitting follows.late follows.in_range (subst (records.Holds w) is can))
 
-    next_by : (image : List ℕ) → Holds w form next [] image → StandsBy form (h ++ es) m image
+    next_by : (image : List ℕ) → Holds w form next [] image → RepresentsBy form (h ++ es) m image
     next_by image holds = record { clock = m; bounded = omega arith; stands = record { version = w; snapshot = next; payloads = []; holds = holds; encodes = encoded } }
 
     pub snapshot_stages : (gate : ℕ) (since now : Trace) → InStagesAt gate since now (Holds v form recovers.snapshot recovers.payloads) (λ image. Holds v form recovers.snapshot recovers.payloads image ⊎ Holds w form next [] image)
-        → InStagesAt gate since now (StandsForAt form h c) (EitherBy form h es m)
+        → InStagesAt gate since now (RepresentsAt form h c) (EitherBy form h es m)
     snapshot_stages gate since now stages =
         stages_weaken_at gate since now (Holds v form recovers.snapshot recovers.payloads) (λ (image : List ℕ). Holds v form recovers.snapshot recovers.payloads image ⊎ Holds w form next [] image)
-        (StandsForAt form h c) (EitherBy form h es m) stood
+        (RepresentsAt form h c) (EitherBy form h es m) stood
         (λ image either. ⊎_elim (λ holds. inl (stood_by image holds)) (λ holds. inr (next_by image holds)) either) stages
 
     pub snapshot_done : (new : StoreState D) (after : State) → new.version ≡ w → new.bounds ≡ old.bounds → new.stopped ≡ false → Shows new after next [] → RecoversToAt new after m (h ++ es)
@@ -89,15 +89,15 @@ module _ {D : Type 0} (old : StoreState D) (before : State) (c : ℕ) (h : Histo
 
 module _ {D : Type 0} (old : StoreState D) (since : Trace) (c : ℕ) (h : History) (es : List Event) (m : ℕ) (recovers : RecoversToAt old since.now c h) (follows : MayFollow old.bounds c h es m) where
   -- no call
-  pub rest_stages : (gate : ℕ) → InStagesAt gate since since (StandsForAt (form_of old) h c) (EitherBy (form_of old) h es m)
+  pub rest_stages : (gate : ℕ) → InStagesAt gate since since (RepresentsAt (form_of old) h c) (EitherBy (form_of old) h es m)
   rest_stages gate =
       let shows = recovers.shows.recovers in
-      stages_first_at gate since since (StandsForAt (form_of old) h c) (EitherBy (form_of old) h es m) (λ image stands. inl (record { clock = c; bounded = follows.clock_late; stands = stands }))
-      (since_same since since (StandsForAt (form_of old) h c) refl
+      stages_first_at gate since since (RepresentsAt (form_of old) h c) (EitherBy (form_of old) h es m) (λ image stands. inl (record { clock = c; bounded = follows.clock_late; stands = stands }))
+      (since_same since since (RepresentsAt (form_of old) h c) refl
       (λ image is. stood old since.now c h es m recovers follows image (recovers_image old.version (form_of old) old.area.start old.other old.generation old.area.end old.other_is_below recovers.snapshot recovers.payloads since.now shows image is)))
 
 -- without a batch
-pub alone_stages : (gate : ℕ) (form : Form) (c : ℕ) (h : History) (m : ℕ) (since now : Trace) → InStagesAt gate since now (StandsForAt form h c) (EitherBy form h [] m) → InStagesAt gate since now (StandsForAt form h c) (StandsBy form h m)
+pub alone_stages : (gate : ℕ) (form : Form) (c : ℕ) (h : History) (m : ℕ) (since now : Trace) → InStagesAt gate since now (RepresentsAt form h c) (EitherBy form h [] m) → InStagesAt gate since now (RepresentsAt form h c) (RepresentsBy form h m)
 alone_stages gate form c h m since now stages =
-    stages_weaken_at gate since now (StandsForAt form h c) (EitherBy form h [] m) (StandsForAt form h c) (StandsBy form h m) (λ image stands. stands)
-    (λ image either. ⊎_elim (λ stands. stands) (λ stands. subst (λ (g : History). StandsBy form g m image) (append-nil h) stands) either) stages
+    stages_weaken_at gate since now (RepresentsAt form h c) (EitherBy form h [] m) (RepresentsAt form h c) (RepresentsBy form h m) (λ image stands. stands)
+    (λ image either. ⊎_elim (λ stands. stands) (λ stands. subst (λ (g : History). RepresentsBy form g m image) (append-nil h) stands) either) stages

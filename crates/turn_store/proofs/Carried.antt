@@ -13,7 +13,7 @@ use Rattle.turn_record.specs.declared.version.Version.{Version}
 use Rattle.turn_record.specs.declared.version.Version.TheVariants.{V2}
 use Rattle.turn_store.specs.Areas.{Form, Holds, RecoversToParts}
 use Rattle.turn_store.specs.Carrying.{Carries, IsActiveAs, IsCarried}
-use Rattle.turn_store.specs.Images.{StandsBy, StandsForAt}
+use Rattle.turn_store.specs.Images.{RepresentsBy, RepresentsAt}
 use Rattle.turn_store.specs.Opened.{IsOpened, OpensTo}
 use Rattle.turn_store.specs.Opening.{disk_of}
 use Rattle.turn_store.specs.Refused.{IsPlain, WhyRefused}
@@ -51,12 +51,12 @@ module _ {D : Type 0} (form : Form) (h : History) (c : ℕ) (store : StoreState 
         in_range = small;
       }
 
-  -- both stages stand for the history by the clock
-  pub stands_throughout : (gate : ℕ) (old new : Trace) → InStagesAt gate old new (StandsForAt (form_of store) h c) (StandsBy (form_of store) h t.moment) → EachImageSince old new (StandsBy form h c)
-  stands_throughout gate old new stages =
-      subst (λ (f : Form). EachImageSince old new (StandsBy f h c)) o.same_form
-      (subst (λ (m : ℕ). EachImageSince old new (StandsBy (form_of store) h m)) now_is
-      (stages_all_at gate old new (StandsForAt (form_of store) h c) (StandsBy (form_of store) h t.moment) (λ image stands. record { clock = c; bounded = (let now = now_is in omega arith); stands = stands }) stages))
+  -- both stages represent the history by the clock
+  pub represents_throughout : (gate : ℕ) (old new : Trace) → InStagesAt gate old new (RepresentsAt (form_of store) h c) (RepresentsBy (form_of store) h t.moment) → EachImageSince old new (RepresentsBy form h c)
+  represents_throughout gate old new stages =
+      subst (λ (f : Form). EachImageSince old new (RepresentsBy f h c)) o.same_form
+      (subst (λ (m : ℕ). EachImageSince old new (RepresentsBy (form_of store) h m)) now_is
+      (stages_all_at gate old new (RepresentsAt (form_of store) h c) (RepresentsBy (form_of store) h t.moment) (λ image stands. record { clock = c; bounded = (let now = now_is in omega arith); stands = stands }) stages))
 
 -- the store after its table is written as version 2 into the other area
 module _ {D : Type 0} (old : StoreState D) (t : Snapshot) where
@@ -86,9 +86,9 @@ module _ {D : Type 0} (old : StoreState D) (t : Snapshot) where
 
     pub over_since : (gate : ℕ) (since now : Trace)
         → InStagesAt gate since now (Holds old.version (form_of old) o.recovers.snapshot o.recovers.payloads) (λ image. Holds old.version (form_of old) o.recovers.snapshot o.recovers.payloads image ⊎ Holds V2 (form_of old) next [] image)
-        → EachImageSince since now (StandsBy form h c)
+        → EachImageSince since now (RepresentsBy form h c)
     over_since gate since now stages =
-        stands_throughout form h c old before t o gate since now
+        represents_throughout form h c old before t o gate since now
         (alone_stages gate (form_of old) c h t.moment since now
         (snapshot_stages old before c h [] t.moment o.recovers (nothing_follows form h c old before t o small) V2 t.contents (contents_are form h c old before t o) tt gate since now stages))
 
@@ -105,22 +105,22 @@ opened_anew new after t version can shows = record {
 }
 
 -- no call
-pub stays_since : {D : Type 0} (form : Form) (h : History) (c : ℕ) (old : StoreState D) (since : Trace) (t : Snapshot) → OpensTo form h c old since.now t → t.moment < end_of_moments → EachImageSince since since (StandsBy form h c)
+pub stays_since : {D : Type 0} (form : Form) (h : History) (c : ℕ) (old : StoreState D) (since : Trace) (t : Snapshot) → OpensTo form h c old since.now t → t.moment < end_of_moments → EachImageSince since since (RepresentsBy form h c)
 stays_since form h c old since t o small =
-    stands_throughout form h c old since.now t o 0 since since
+    represents_throughout form h c old since.now t o 0 since since
     (alone_stages 0 (form_of old) c h t.moment since since (rest_stages old since c h [] t.moment o.recovers (nothing_follows form h c old since.now t o small) 0))
 
--- an image that a stop might have left before, or one that stands for the history
-abbrev pub IsOldOrStands : State → Form → History → ℕ → List ℕ → Type 0
-IsOldOrStands old form h c image = IsImage old image ⊎ StandsBy form h c image
+-- an image that a stop might have left before, or one that represents the history
+abbrev pub IsOldOrRepresents : State → Form → History → ℕ → List ℕ → Type 0
+IsOldOrRepresents old form h c image = IsImage old image ⊎ RepresentsBy form h c image
 
-pub kept_since : (form : Form) (h : History) (c : ℕ) (old new : Trace) → EachImageSince old new (IsImage old.now) → EachImageSince old new (IsOldOrStands old.now form h c)
-kept_since form h c old new kept = since_weaken old new (IsImage old.now) (IsOldOrStands old.now form h c) (λ image is. inl is) kept
+pub kept_since : (form : Form) (h : History) (c : ℕ) (old new : Trace) → EachImageSince old new (IsImage old.now) → EachImageSince old new (IsOldOrRepresents old.now form h c)
+kept_since form h c old new kept = since_weaken old new (IsImage old.now) (IsOldOrRepresents old.now form h c) (λ image is. inl is) kept
 
-pub carried_since : (form : Form) (h : History) (c : ℕ) (old mid new : Trace) → EachImageSince old mid (IsImage old.now) → EachImageSince mid new (StandsBy form h c) → EachImageSince old new (IsOldOrStands old.now form h c)
+pub carried_since : (form : Form) (h : History) (c : ℕ) (old mid new : Trace) → EachImageSince old mid (IsImage old.now) → EachImageSince mid new (RepresentsBy form h c) → EachImageSince old new (IsOldOrRepresents old.now form h c)
 carried_since form h c old mid new kept carried =
-    since_join old mid new (IsOldOrStands old.now form h c) (kept_since form h c old mid kept)
-    (since_weaken mid new (StandsBy form h c) (IsOldOrStands old.now form h c) (λ image stands. inr stands) carried)
+    since_join old mid new (IsOldOrRepresents old.now form h c) (kept_since form h c old mid kept)
+    (since_weaken mid new (RepresentsBy form h c) (IsOldOrRepresents old.now form h c) (λ image stands. inr stands) carried)
 
 -- what counts in the content of a store that was opened
 pub is_active_as : {D : Type 0} (store : StoreState D) (state : State) (t : Snapshot) (content : List ℕ) → IsOpened store state t → state.bytes ≡ content
@@ -130,9 +130,9 @@ is_active_as store state t content is same =
     subst (IsActiveAs store.area.size store.bounds store.version store.generation store.frames) same
     (record { start = store.area.start; other = store.other; snapshot = is.snapshot; payloads = is.payloads; active = recovers.holds.active; yields = recovers.yields; count = is.shows.frames })
 
--- the limits that were read are those of what the content stands for
+-- the limits that were read are those of what the content represents
 pub same_bounds : {D : Type 0} (store : StoreState D) (state : State) (t : Snapshot) (form : Form) (h : History) (clock : ℕ) (limits : Bounds) (content : List ℕ) → IsOpened store state t → state.bytes ≡ content
-    → store.bounds ≡ limits → StandsForAt form h clock content → form.bounds ≡ limits
+    → store.bounds ≡ limits → RepresentsAt form h clock content → form.bounds ≡ limits
 same_bounds store state t form h clock limits content is same bounds stands =
     let read = is_active_as store state t content is same in
     let holds : Holds store.version (form_of store) read.snapshot read.payloads content = record { start = read.start; other = read.other; generation = store.generation; active = read.active; yields = read.yields } in

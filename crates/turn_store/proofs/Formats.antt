@@ -19,7 +19,7 @@ use Rattle.turn_record.specs.declared.version.Version.{Version}
 use Rattle.turn_record.specs.declared.version.Version.TheVariants.{V1, V2}
 use Rattle.turn_store.specs.Areas.{Form, IsForm, Holds, area_front}
 use Rattle.turn_store.specs.Format.{IsFormatted, IsLaid, fresh}
-use Rattle.turn_store.specs.Images.{EachImage, StandsForAt}
+use Rattle.turn_store.specs.Images.{EachImage, RepresentsAt}
 use Rattle.turn_store.specs.Encodes.{Encodes}
 use Rattle.turn_store.specs.Superblock.{superblock}
 use Rattle.turn_store.proofs.Numbers.{stands_back, one_stands}
@@ -154,8 +154,8 @@ nothing_encodes v b = record {
   clock_is = omega arith;
 }
 
-pub stands_for_nothing : (v : Version) (form : Form) (state : State) → IsFormatted v form state → EachImage state (StandsForAt form [] 0)
-stands_for_nothing v form state is image left = record {
+pub represents_nothing : (v : Version) (form : Form) (state : State) → IsFormatted v form state → EachImage state (RepresentsAt form [] 0)
+represents_nothing v form state is image left = record {
   version = v;
   snapshot = fresh v;
   payloads = [];

@@ -1,4 +1,4 @@
--- What stands for a history is not refused, and its table is read.
+-- What represents a history is not refused, and its table is read.
 use Rattle.std.proofs.Common.{◌≡◌, ◌≢◌, ◌⊎◌, inl, inr, ⊎_elim, ℕ, ◌*◌, ◌+◌, ◌<◌, ◌≤◌, ◌++◌, List, length, map, max, sym, ◌∙◌, ap, subst, arith}
 use Rattle.std.specs.Prelude.{Result, IfErr}
 use Rattle.std.proofs.lemmas.Result.{IfErr-weaker}
@@ -12,7 +12,7 @@ use Rattle.turn_record.specs.declared.version.Version.{Version}
 use Rattle.turn_record.specs.declared.version.Version.TheVariants.{V1}
 use Rattle.turn_store.specs.Areas.{Form, AreAreas, AreaHolds, Yields}
 use Rattle.turn_store.specs.Head.{Beats, NoneIsActive}
-use Rattle.turn_store.specs.Images.{StandsForAt}
+use Rattle.turn_store.specs.Images.{RepresentsAt}
 use Rattle.turn_store.specs.Refused.{IsPlain, IsBadLog, IsBadSnapshot, AreaIsBad, StoreIsBad, WhyRefused}
 use Rattle.turn_store.specs.Replay.{Snapshot, Replays}
 use Rattle.turn_store.specs.Encodes.{Encodes, all_of}
@@ -85,7 +85,7 @@ module _ (v : Version) (b : Bounds) (range : AreInRange b) (h : History) (clock_
       (λ (second : Beats bad.second bad.first × AreaIsBad b (64 + size) size bad.second c place). area_no (64 + size) size generation bad.second bad.first c place room holds_far counts second.1) one)
       bad.why
 
-module _ (form : Form) (h : History) (clock_is : ℕ) (c : List ℕ) (stands : StandsForAt form h clock_is c) where
+module _ (form : Form) (h : History) (clock_is : ℕ) (c : List ℕ) (stands : RepresentsAt form h clock_is c) where
   pub has_superblock : HasSuperblock form.area form.bounds c
   has_superblock = superblock_in stands.version form stands.holds.start stands.holds.other stands.holds.generation stands.snapshot stands.payloads c stands.holds.active
 
@@ -107,6 +107,6 @@ module _ (form : Form) (h : History) (clock_is : ℕ) (c : List ℕ) (stands : S
       why.2
 
 -- so is every call whose refusals have their reasons
-pub plain_of : {T : Type 0} (result : Result T OpenError) (form : Form) (h : History) (clock : ℕ) (c : List ℕ) (b : Bounds) → form.bounds ≡ b → StandsForAt form h clock c → IfErr result (WhyRefused b c) → IfErr result IsPlain
+pub plain_of : {T : Type 0} (result : Result T OpenError) (form : Form) (h : History) (clock : ℕ) (c : List ℕ) (b : Bounds) → form.bounds ≡ b → RepresentsAt form h clock c → IfErr result (WhyRefused b c) → IfErr result IsPlain
 plain_of result form h clock c b same stands =
     IfErr-weaker result (WhyRefused b c) IsPlain (λ fault why. why_plain form h clock c stands fault (subst (λ (b : Bounds). WhyRefused b c fault) (sym same) why))

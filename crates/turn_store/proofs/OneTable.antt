@@ -1,4 +1,4 @@
--- What an image stands for is one table.
+-- What an image represents is one table.
 use Rattle.std.proofs.Common.{◌≡◌, ℕ, ◌≤◌, List, [], ◌∷◌, ◌++◌, map, max, refl, sym, ◌∙◌, ap, subst, arith}
 use Rattle.std.specs.List.{AllByRecursion}
 use Rattle.turn_history.specs.Fitting.{FitsAfter}
@@ -10,7 +10,7 @@ use Rattle.turn_record.specs.Records.{IsBatch}
 use Rattle.turn_record.proofs.Batches.{one_payload}
 use Rattle.turn_record.specs.declared.version.Version.{Version}
 use Rattle.turn_store.specs.Areas.{Form}
-use Rattle.turn_store.specs.Images.{StandsForAt}
+use Rattle.turn_store.specs.Images.{RepresentsAt}
 use Rattle.turn_store.specs.Replay.{Snapshot}
 use Rattle.turn_store.specs.Encodes.{Encodes, all_of}
 use Rattle.turn_store.proofs.Fronts.{front_is, encoded_once}
@@ -64,7 +64,7 @@ one_table v b range g h c d s ps one two =
           ∙ ap (λ (l : History). table l t) (sym two.whole),
     )
 
-pub image_once : (first second : Form) (g h : History) (c d : ℕ) (image : List ℕ) → StandsForAt first g c image → StandsForAt second h d image
+pub image_once : (first second : Form) (g h : History) (c d : ℕ) (image : List ℕ) → RepresentsAt first g c image → RepresentsAt second h d image
     → (first ≡ second) × (c ≡ d) × ((t : ℕ) → c ≤ t → table g t ≡ table h t)
 image_once first second g h c d image one two =
     let once = holds_once one.version two.version first second one.snapshot two.snapshot one.payloads two.payloads image one.holds two.holds in

@@ -4,7 +4,7 @@ use Rattle.turn_disk.specs.Disk.{State, IsSettled}
 use Rattle.turn_history.specs.History.{History}
 use Rattle.turn_record.specs.declared.version.Version.{Version}
 use Rattle.turn_store.specs.Areas.{Form, Holds}
-use Rattle.turn_store.specs.Images.{StandsForAt}
+use Rattle.turn_store.specs.Images.{RepresentsAt}
 use Rattle.turn_store.specs.Opened.{IsChosen, IsOpened, OpensTo}
 use Rattle.turn_store.specs.Replay.{Snapshot}
 use Rattle.turn_store.specs.Encodes.{Encodes}
@@ -37,9 +37,9 @@ opened store state t settled has room whole addressable chosen = record {
   replays = chosen.replays;
 }
 
--- of what stands for a history, it is that history's
+-- of what represents a history, it is that history's
 pub opens_to : {D : Type 0} (form : Form) (h : History) (clock : ℕ) (store : StoreState D) (state : State) (t : Snapshot) → IsOpened store state t → store.bounds ≡ form.bounds → store.stopped ≡ false
-    → StandsForAt form h clock state.bytes → OpensTo form h clock store state t
+    → RepresentsAt form h clock state.bytes → OpensTo form h clock store state t
 opens_to form h clock store state t is same runs stands =
     let recovers = is.shows.recovers in
     let here : Holds store.version (form_of store) is.snapshot is.payloads state.bytes = record { start = store.area.start; other = store.other; generation = store.generation; active = recovers.holds.active; yields = recovers.yields } in

@@ -11,11 +11,11 @@ use Rattle.turn_journal.specs.Frames.{IsClosed}
 use Rattle.turn_journal.specs.Layout.{open_gate}
 use Rattle.turn_record.specs.declared.version.Version.{Version}
 use Rattle.turn_store.specs.Areas.{Form, IsForm, AreAreas, area_front}
-use Rattle.turn_store.specs.Format.{FormatsInOrder, HoldsNothing, HoldsNothingOrStands, IsLaid, fresh}
+use Rattle.turn_store.specs.Format.{FormatsInOrder, HoldsNothing, HoldsNothingOrRepresents, IsLaid, fresh}
 use Rattle.turn_store.specs.Formatting.{Formats}
 use Rattle.turn_store.specs.Superblock.{least_area, superblock}
 use Rattle.turn_store.specs.declared.formatting.FormatError.TheVariants.{Device}
-use Rattle.turn_store.proofs.Formats.{closed_at, formatted, length-fresh, stands_for_nothing}
+use Rattle.turn_store.proofs.Formats.{closed_at, formatted, length-fresh, represents_nothing}
 use Rattle.turn_store.proofs.Numbers.{stands_one}
 use Rattle.turn_store.proofs.Rows.{length-area_front}
 use Rattle.turn_store.proofs.Superblocks.{length-superblock}
@@ -61,12 +61,12 @@ module _ (v : Version) (form : Form) (laid : State) (room : 31 < form.area) (is_
       (λ opened. is_laid.closed (sym (changes.after (64 + form.area) (omega arith)) ∙ opened))
 
   -- while the first gate is opened
-  pub opened_or_nothing : (named : State) → IsForm v form → WritesThrough 0 (superblock form.area form.bounds) laid named → (image : List ℕ) → ChangesOnly 64 1 named.bytes image → HoldsNothingOrStands form image
+  pub opened_or_nothing : (named : State) → IsForm v form → WritesThrough 0 (superblock form.area form.bounds) laid named → (image : List ℕ) → ChangesOnly 64 1 named.bytes image → HoldsNothingOrRepresents form image
   opened_or_nothing named is_form names image changes = elim (cases_eq (slice_index image 64) open_gate) [
     | inl opened ↦
         let after : State = record { bytes = image; pending = [] } in
         let made = formatted v form laid named after is_form room is_laid names (record { content = changes; written = stands_one 64 open_gate image opened; settled = refl }) in
-        inr (stands_for_nothing v form after made image (record { size = refl; same = λ i outside. refl }))
+        inr (represents_nothing v form after made image (record { size = refl; same = λ i outside. refl }))
     | inr closed ↦
         let long = length-superblock form.area form.bounds in
         inl (both_closed form.area image (changes.size ∙ names.content.size ∙ is_laid.whole) closed
@@ -74,22 +74,22 @@ module _ (v : Version) (form : Form) (laid : State) (room : 31 < form.area) (is_
   ]
 
   -- the superblock was written, or a part of it
-  pub named_since : (old named : Trace) (bytes : List ℕ) → bytes ≡ superblock form.area form.bounds → EachImageSince old named (ChangesOnly 0 (length bytes) laid.bytes) → EachImageSince old named (HoldsNothingOrStands form)
+  pub named_since : (old named : Trace) (bytes : List ℕ) → bytes ≡ superblock form.area form.bounds → EachImageSince old named (ChangesOnly 0 (length bytes) laid.bytes) → EachImageSince old named (HoldsNothingOrRepresents form)
   named_since old named bytes is since =
       let short : length bytes ≤ 64 = omega (arith, ap length is, length-superblock form.area form.bounds) in
-      since_weaken old named (ChangesOnly 0 (length bytes) laid.bytes) (HoldsNothingOrStands form) (λ image changes. inl (named_nothing (length bytes) short image changes)) since
+      since_weaken old named (ChangesOnly 0 (length bytes) laid.bytes) (HoldsNothingOrRepresents form) (λ image changes. inl (named_nothing (length bytes) short image changes)) since
 
   -- and then the first gate was opened, or not
   pub opened_since : (old named new : Trace) (bytes : List ℕ) → bytes ≡ superblock form.area form.bounds → IsForm v form → EachImageSince old named (ChangesOnly 0 (length bytes) laid.bytes)
-      → WritesThrough 0 bytes laid named.now → EachImageSince named new (ChangesOnly 64 1 named.now.bytes) → EachImageSince old new (HoldsNothingOrStands form)
+      → WritesThrough 0 bytes laid named.now → EachImageSince named new (ChangesOnly 64 1 named.now.bytes) → EachImageSince old new (HoldsNothingOrRepresents form)
   opened_since old named new bytes is is_form since wrote opens =
       let names = subst (λ (l : List ℕ). WritesThrough 0 l laid named.now) is wrote in
-      since_join old named new (HoldsNothingOrStands form) (named_since old named bytes is since)
-      (since_weaken named new (ChangesOnly 64 1 named.now.bytes) (HoldsNothingOrStands form) (opened_or_nothing named.now is_form names) opens)
+      since_join old named new (HoldsNothingOrRepresents form) (named_since old named bytes is since)
+      (since_weaken named new (ChangesOnly 64 1 named.now.bytes) (HoldsNothingOrRepresents form) (opened_or_nothing named.now is_form names) opens)
 
 -- Since the superblock holds zeros, the areas alone were written.
-pub wiped_since : (form : Form) (count : ℕ) (wiped laid : Trace) → slice_index wiped.now.bytes 0 ≡ 0 → EachImageSince wiped laid (ChangesOnly 64 count wiped.now.bytes) → EachImageSince wiped laid (HoldsNothingOrStands form)
-wiped_since form count wiped laid zero = since_weaken wiped laid (ChangesOnly 64 count wiped.now.bytes) (HoldsNothingOrStands form) (λ image changes. inl (wiped_nothing count wiped.now.bytes image zero changes))
+pub wiped_since : (form : Form) (count : ℕ) (wiped laid : Trace) → slice_index wiped.now.bytes 0 ≡ 0 → EachImageSince wiped laid (ChangesOnly 64 count wiped.now.bytes) → EachImageSince wiped laid (HoldsNothingOrRepresents form)
+wiped_since form count wiped laid zero = since_weaken wiped laid (ChangesOnly 64 count wiped.now.bytes) (HoldsNothingOrRepresents form) (λ image changes. inl (wiped_nothing count wiped.now.bytes image zero changes))
 
 -- The second area's gate is written: a stop changes nothing before the areas.
 module _ {E : Type 0} (area : ℕ) (room : 31 < area) (old mid : Trace) (settled : IsSettled old.now) (at : ℕ) (second : at ≡ 64 + area) (result : Result Unit E) (closes : WriteOutcome at (0 ∷ []) old mid result) where
@@ -107,7 +107,7 @@ module _ {E : Type 0} (area : ℕ) (room : 31 < area) (old mid : Trace) (settled
       (since_through_but 64 (2 * area) old.now.bytes mid new closed_second.1 64 (0 ∷ (area_front v 1 (fresh v) ++ 0 ∷ [])) (omega arith) (omega (arith, length-laid v, room)) last lays)
 
 -- the first sync was made
-pub in_order : (form : Form) (old wiped new : Trace) {zeros : List ℕ} → length zeros ≡ 64 → (written : Trace) × Writes 0 zeros old written × Syncs written wiped → EachImageSince wiped new (HoldsNothingOrStands form) → FormatsInOrder form old new
+pub in_order : (form : Form) (old wiped new : Trace) {zeros : List ℕ} → length zeros ≡ 64 → (written : Trace) × Writes 0 zeros old written × Syncs written wiped → EachImageSince wiped new (HoldsNothingOrRepresents form) → FormatsInOrder form old new
 in_order form old wiped new long through since = inr (inr (through.0, wiped, subst (λ (n : ℕ). Overwrites 0 n old through.0) long through.1.range, through.2, since))
 
 -- A formatting whose areas are large enough, and in which a device call failed.

@@ -1,4 +1,4 @@
--- A store that stands for a history is not refused, and what is read of it is that history's table.
+-- A store that represents a history is not refused, and what is read of it is that history's table.
 use Rattle.std.proofs.Common.{◌≡◌, ◌⊎◌, inl, inr, ⊎_elim, ℕ, ◌+◌, ◌^◌, ◌<◌, Bool, List, [], ◌∷◌, ◌++◌, true, false, length, slice_index, refl, sym, ap, ◌∙◌, subst, arith}
 use Rattle.std.specs.Int.{to_be_bytes, w32, w64}
 use Rattle.turn_disk.specs.Disk.{StandsAt}

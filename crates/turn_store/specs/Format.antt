@@ -7,7 +7,7 @@ use Rattle.turn_journal.specs.Layout.{closed_gate}
 use Rattle.turn_record.specs.Bytes.{snapshot}
 use Rattle.turn_record.specs.declared.version.Version.{Version}
 use Rattle.turn_store.specs.Areas.{Form, Holds, HoldsAt, area_front}
-use Rattle.turn_store.specs.Images.{StandsForAt}
+use Rattle.turn_store.specs.Images.{RepresentsAt}
 use Rattle.turn_store.specs.Layout.{first_area, second_area, store_size, superblock_size}
 
 -- the snapshot of a table without entries at the moment 0
@@ -35,14 +35,14 @@ abbrev pub HoldsNothing : List ℕ → Type 0
 HoldsNothing image =
     (v : Version) (form : Form) (snapshot : List ℕ) (payloads : List (List ℕ)) → Holds v form snapshot payloads image → ⊥
 
--- an image holds nothing, or stands for the empty history at the clock 0
-abbrev pub HoldsNothingOrStands : Form → List ℕ → Type 0
-HoldsNothingOrStands form image = HoldsNothing image ⊎ StandsForAt form [] 0 image
+-- an image holds nothing, or represents the empty history at the clock 0
+abbrev pub HoldsNothingOrRepresents : Form → List ℕ → Type 0
+HoldsNothingOrRepresents form image = HoldsNothing image ⊎ RepresentsAt form [] 0 image
 
 -- How a disk becomes a store of this form. Nothing was written; or the superblock's bytes alone, and they were not synced; or they
--- were, and from then on a stop leaves an image that holds nothing, or one that stands for the empty history.
+-- were, and from then on a stop leaves an image that holds nothing, or one that represents the empty history.
 abbrev pub FormatsInOrder : Form → Trace → Trace → Type 0
 FormatsInOrder form old new =
     (new ≡ old) ⊎ Overwrites 0 superblock_size old new
     ⊎ ((written synced : Trace) × Overwrites 0 superblock_size old written × Syncs written synced
-    × EachImageSince synced new (HoldsNothingOrStands form))
+    × EachImageSince synced new (HoldsNothingOrRepresents form))

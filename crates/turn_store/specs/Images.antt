@@ -1,4 +1,4 @@
--- What an image of a store stands for.
+-- What an image of a store represents.
 use Rattle.std.specs.Prelude.{◌⊎◌, ◌≤◌, ◌++◌, ℕ, List}
 use Rattle.turn_disk.specs.Disk.{State, IsImage}
 use Rattle.turn_history.specs.History.{Event, History}
@@ -8,23 +8,23 @@ use Rattle.turn_store.specs.Areas.{Form, Holds}
 use Rattle.turn_store.specs.Encodes.{Encodes}
 
 -- What the image holds, in one of the versions, encodes the history, and the latest moment that is written is the clock.
-pub record StandsForAt (form : Form) (h : History) (clock : ℕ) (image : List ℕ) : Type 0 where
+pub record RepresentsAt (form : Form) (h : History) (clock : ℕ) (image : List ℕ) : Type 0 where
   pub version : Version
   pub snapshot : List ℕ
   pub payloads : List (List ℕ)
   pub holds : Holds version form snapshot payloads image
   pub encodes : Encodes version form.bounds h clock snapshot payloads
 
--- the image stands for the history, at a clock that is not later than a moment
-pub record StandsBy (form : Form) (h : History) (moment : ℕ) (image : List ℕ) : Type 0 where
+-- the image represents the history, at a clock that is not later than a moment
+pub record RepresentsBy (form : Form) (h : History) (moment : ℕ) (image : List ℕ) : Type 0 where
   -- the latest moment that is written in the image
   pub clock : ℕ
   pub bounded : clock ≤ moment
-  pub stands : StandsForAt form h clock image
+  pub stands : RepresentsAt form h clock image
 
--- the image stands for the history before some events, or with them, at a clock that is not later than a moment
+-- the image represents the history before some events, or with them, at a clock that is not later than a moment
 abbrev pub EitherBy : Form → History → List Event → ℕ → List ℕ → Type 0
-EitherBy form h es moment image = StandsBy form h moment image ⊎ StandsBy form (h ++ es) moment image
+EitherBy form h es moment image = RepresentsBy form h moment image ⊎ RepresentsBy form (h ++ es) moment image
 
 -- the image is of this version: it holds a snapshot and payloads in it
 pub record IsInVersion (v : Version) (form : Form) (image : List ℕ) : Type 0 where

@@ -4,12 +4,12 @@ use Rattle.turn_history.specs.History.{History}
 use Rattle.turn_history.specs.Table.{table}
 use Rattle.turn_record.specs.declared.version.Version.{Version}
 use Rattle.turn_store.specs.Areas.{Form}
-use Rattle.turn_store.specs.Images.{IsInVersion, StandsForAt}
+use Rattle.turn_store.specs.Images.{IsInVersion, RepresentsAt}
 
--- two histories for which one image stands have the same clock, and one table at every moment from it on
+-- two histories that one image represents have the same clock, and one table at every moment from it on
 abbrev pub AnImageHasOneTable : Type 0
 AnImageHasOneTable = (first second : Form) (g h : History) (c d : ℕ) (image : List ℕ)
-    → StandsForAt first g c image → StandsForAt second h d image
+    → RepresentsAt first g c image → RepresentsAt second h d image
     → (first ≡ second) × (c ≡ d) × ((t : ℕ) → c ≤ t → table g t ≡ table h t)
 
 -- an image is of one version and of one form

@@ -8,7 +8,7 @@ use Rattle.turn_record.specs.Records.{IsSnapshot}
 use Rattle.turn_record.specs.declared.version.Version.{Version}
 use Rattle.turn_store.specs.Areas.{Form}
 use Rattle.turn_store.specs.Carrying.{Carries}
-use Rattle.turn_store.specs.Images.{IsInVersion, IsInVersionOr2, StandsBy, StandsForAt}
+use Rattle.turn_store.specs.Images.{IsInVersion, IsInVersionOr2, RepresentsBy, RepresentsAt}
 use Rattle.turn_store.specs.Opened.{IsOpened, OpensTo}
 use Rattle.turn_store.specs.Refused.{IsPlain, WhyRefused}
 use Rattle.turn_store.specs.Tables.{snapshot_of}
@@ -30,9 +30,9 @@ pub record Opening {D A : Type 0} (disk : disks.Ghosts D) (old : D) (limits : Bo
   pub bounds : IfOk result (λ o. (o.store.bounds ≡ limits) × (o.table.bounds ≡ limits))
   pub runs : IfOk result (λ o. o.store.stopped ≡ false)
   pub snapshot : IfOk result (λ o. IsSnapshot o.store.version limits o.table.moment o.table.contents)
-  -- a stop at any moment leaves what it might have left before, or an image that stands for the same history
-  pub stop : disk.follows_crash_model (disk_of result) → (form : Form) (h : History) (clock : ℕ) → StandsForAt form h clock (disk.trace old).now.bytes
-      → EachImageSince (disk.trace old) (disk.trace (disk_of result)) (λ image. IsImage (disk.trace old).now image ⊎ StandsBy form h clock image)
+  -- a stop at any moment leaves what it might have left before, or an image that represents the same history
+  pub stop : disk.follows_crash_model (disk_of result) → (form : Form) (h : History) (clock : ℕ) → RepresentsAt form h clock (disk.trace old).now.bytes
+      → EachImageSince (disk.trace old) (disk.trace (disk_of result)) (λ image. IsImage (disk.trace old).now image ⊎ RepresentsBy form h clock image)
   -- and which is of the version of the content, or carried over to version 2
   pub version : disk.follows_crash_model (disk_of result) → (v : Version) (form : Form) → IsInVersion v form (disk.trace old).now.bytes
       → EachImageSince (disk.trace old) (disk.trace (disk_of result)) (λ image. IsImage (disk.trace old).now image ⊎ IsInVersionOr2 v form image)
@@ -46,9 +46,9 @@ pub record Opening {D A : Type 0} (disk : disks.Ghosts D) (old : D) (limits : Bo
   pub why : IfErr result (λ r. disk.follows_crash_model r.disk → WhyRefused limits (disk.trace old).now.bytes r.fault)
   -- exactly a store of version 1 is carried over whose areas have room for version 2, and which isn't worn
   pub carried : IfOk result (λ o. disk.follows_crash_model o.store.disk → Carries carry (disk.trace old).now.bytes o.store)
-  -- if the content stands for a history, the store recovers to it and the table is the history's
+  -- if the content represents a history, the store recovers to it and the table is the history's
   pub recovers : IfOk result (λ o. disk.follows_crash_model o.store.disk → (form : Form) (h : History) (clock : ℕ) → form.bounds ≡ limits
-      → StandsForAt form h clock (disk.trace old).now.bytes → OpensTo form h clock o.store (disk.trace o.store.disk).now (snapshot_of o.table))
+      → RepresentsAt form h clock (disk.trace old).now.bytes → OpensTo form h clock o.store (disk.trace o.store.disk).now (snapshot_of o.table))
   -- and a refusal is then of the device or of memory
   pub sound : IfErr result (λ r. disk.follows_crash_model r.disk → (form : Form) (h : History) (clock : ℕ) → form.bounds ≡ limits
-      → StandsForAt form h clock (disk.trace old).now.bytes → IsPlain r.fault)
+      → RepresentsAt form h clock (disk.trace old).now.bytes → IsPlain r.fault)

@@ -6,7 +6,7 @@ ghost use Rattle.turn_disk.specs.Device.{Uses};
 ghost use Rattle.turn_disk.specs.Disk.{ChangesOnly, EachImageSince, IsSettled, ThroughOutcome, WritesThrough};
 ghost use Rattle.turn_record.specs.declared.version.Version.{Version};
 ghost use Rattle.turn_record.specs.declared.version.Version.TheVariants.{V1, V2};
-ghost use Rattle.turn_store.specs.Format.{HoldsNothingOrStands, IsFormatted, IsLaid, fresh_area};
+ghost use Rattle.turn_store.specs.Format.{HoldsNothingOrRepresents, IsFormatted, IsLaid, fresh_area};
 ghost use Rattle.turn_store.specs.Formatting.{Formats};
 ghost use Rattle.turn_store.specs.Layout.{first_area, fresh_size, store_size, superblock_size};
 ghost use Rattle.turn_store.specs.Superblock.{least_area};
@@ -95,7 +95,7 @@ fn open_first<D: Disk>(disk: &mut D, limits: Limits, area: usize) -> Result<(), 
 
     // A stop at any moment leaves what holds nothing, or the empty store.
     ensures stop { D.follows_crash_model disk.new → (v : Version) → least_area v limits ≤ area → IsLaid v area (D.trace disk.old).now
-        → EachImageSince (D.trace disk.old) (D.trace disk.new) (HoldsNothingOrStands (record { bounds = limits; area = area })) }
+        → EachImageSince (D.trace disk.old) (D.trace disk.new) (HoldsNothingOrRepresents (record { bounds = limits; area = area })) }
 {
     let superblock = superblock_bytes(area, limits);
     write_through(disk, 0, &superblock, &mut Idle)?;

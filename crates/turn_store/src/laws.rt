@@ -7,13 +7,13 @@ ghost use Rattle.turn_store.specs.Carrying.{Carries};
 ghost use Rattle.turn_store.specs.Format.{HoldsNothing};
 ghost use Rattle.turn_record.specs.declared.version.Version.TheVariants.{V2};
 ghost use Rattle.turn_store.specs.Areas.{Form};
-ghost use Rattle.turn_store.specs.Images.{EachImage, IsInVersion, StandsForAt};
+ghost use Rattle.turn_store.specs.Images.{EachImage, IsInVersion, RepresentsAt};
 ghost use Rattle.turn_store.specs.Laws.{AnImageHasOneTable, AnImageHasOneVersion};
 ghost use Rattle.turn_store.specs.State.{RecoversToAt, StoreState, form_of};
 
 use turn_disk::Disk;
 
-/// What an image stands for is one table, whatever history it is told by.
+/// What an image represents is one table, whatever history it is told by.
 pub fn an_image_has_one_table()
     ensures { AnImageHasOneTable }
 {}
@@ -23,10 +23,10 @@ pub fn an_image_has_one_version()
     ensures { AnImageHasOneVersion }
 {}
 
-/// Each image of the disk of a store that recovers to a history stands for it, in the store's version.
-pub fn a_store_at_rest_stands<D: Disk>()
+/// Each image of the disk of a store that recovers to a history represents it, in the store's version.
+pub fn a_store_at_rest_represents<D: Disk>()
     ensures stands { (store : StoreState D) (state : State) (c : ℕ) (h : History)
-        → RecoversToAt store state c h → EachImage state (StandsForAt (form_of store) h c) }
+        → RecoversToAt store state c h → EachImage state (RepresentsAt (form_of store) h c) }
     ensures version { (store : StoreState D) (state : State) (c : ℕ) (h : History)
         → RecoversToAt store state c h → EachImage state (IsInVersion store.version (form_of store)) }
 {}

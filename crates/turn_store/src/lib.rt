@@ -19,7 +19,7 @@ mod superblock;
 pub use error::{OpenError, StoreError};
 pub use formatting::{FormatError, format, format_version1};
 pub use laws::{
-    a_store_at_rest_stands, an_image_has_one_table, an_image_has_one_version,
+    a_store_at_rest_represents, an_image_has_one_table, an_image_has_one_version,
     version_2_is_opened_as_version_2, what_holds_nothing_is_not_opened,
 };
 pub use store::{Info, Opened, Store, StoreOpenError, WrittenAs};

@@ -8,7 +8,7 @@ ghost use Rattle.turn_record.specs.declared.version.Version.{Version};
 ghost use Rattle.turn_record.specs.declared.version.Version.TheVariants.{V1};
 ghost use Rattle.turn_history.specs.History.{History};
 ghost use Rattle.turn_store.specs.Areas.{Form};
-ghost use Rattle.turn_store.specs.Images.{StandsForAt};
+ghost use Rattle.turn_store.specs.Images.{RepresentsAt};
 ghost use Rattle.turn_store.specs.Layout.{head_size, second_area, store_size};
 ghost use Rattle.turn_store.specs.Opened.{AreaIsRead, IsChosen};
 ghost use Rattle.turn_store.specs.Refused.{AreaIsBad, FaultWith, IsHeadOf, IsPlain, StoreIsBad, WhyRefused};
@@ -260,7 +260,7 @@ pub fn load<D: Disk, A: Allocator + Copy>(
         (snapshot_of r.loaded.table) (D.trace disk.old).now.bytes) }
     ensures why { D.follows_crash_model disk.new → IfErr result (WhyRefused limits (D.trace disk.old).now.bytes) }
     ensures sound { D.follows_crash_model disk.new → (form : Form) (h : History) (clock : ℕ) → form.bounds ≡ limits
-        → StandsForAt form h clock (D.trace disk.old).now.bytes → IfErr result IsPlain }
+        → RepresentsAt form h clock (D.trace disk.old).now.bytes → IfErr result IsPlain }
 {
     settle(disk)?;
     let size = read_area_size(disk, limits)?;

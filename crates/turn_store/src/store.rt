@@ -14,7 +14,7 @@ ghost use Rattle.turn_journal.specs.Area.{end_of};
 ghost use Rattle.turn_journal.specs.Layout.{frame_room, gate_size};
 ghost use Rattle.turn_store.specs.Areas.{Form, Holds, RecoversToParts};
 ghost use Rattle.turn_store.specs.Carrying.{Carries, IsCarried};
-ghost use Rattle.turn_store.specs.Images.{EitherBy, IsInVersion, IsInVersionOr2, StandsBy, StandsForAt};
+ghost use Rattle.turn_store.specs.Images.{EitherBy, IsInVersion, IsInVersionOr2, RepresentsBy, RepresentsAt};
 ghost use Rattle.turn_store.specs.Layout.{head_size};
 ghost use Rattle.turn_store.specs.Opened.{OpensTo};
 ghost use Rattle.turn_store.specs.Opening.{Opening, disk_of};
@@ -385,7 +385,7 @@ impl<D: Disk, A: Allocator + Copy> Store<D, A> {
             → HasSize self.old.version self.old.bounds es → payload.now ≡ bytes.payload es
             → table.now.contents ≡ tables.table (h ++ es) table.now.moment
             → InStages (D.trace self.old.disk) (D.trace self.new.disk)
-            (StandsForAt (form_of self.old) h c) (EitherBy (form_of self.old) h es table.now.moment) }
+            (RepresentsAt (form_of self.old) h c) (EitherBy (form_of self.old) h es table.now.moment) }
 
         // And it leaves the store's version, as Ok does.
         ensures version { D.follows_crash_model self.new.disk → (s : List ℕ) (ps : List (List ℕ))
@@ -447,7 +447,7 @@ impl<D: Disk, A: Allocator + Copy> Store<D, A> {
             → RecoversToAt self.old (D.trace self.old.disk).now c h → MayFollow self.old.bounds c h [] table.now.moment
             → table.now.contents ≡ tables.table h table.now.moment
             → InStagesAt self.old.other (D.trace self.old.disk) (D.trace self.new.disk)
-            (StandsForAt (form_of self.old) h c) (StandsBy (form_of self.old) h table.now.moment) }
+            (RepresentsAt (form_of self.old) h c) (RepresentsBy (form_of self.old) h table.now.moment) }
 
         // And it leaves the store's version, as Ok does.
         ensures version { D.follows_crash_model self.new.disk → (s : List ℕ) (ps : List (List ℕ))
@@ -603,7 +603,7 @@ fn carry_table<D: Disk, A: Allocator + Copy>(
     // A stop at any moment leaves the history that was opened.
     ensures stop { D.follows_crash_model (disk_of result) → (form : Form) (h : History) (clock : ℕ)
         → OpensTo form h clock opened.store (D.trace opened.store.disk).now (snapshot_of opened.table)
-        → EachImageSince (D.trace opened.store.disk) (D.trace (disk_of result)) (StandsBy form h clock) }
+        → EachImageSince (D.trace opened.store.disk) (D.trace (disk_of result)) (RepresentsBy form h clock) }
     ensures version { D.follows_crash_model (disk_of result) → (s : List ℕ) (ps : List (List ℕ))
         → Shows opened.store (D.trace opened.store.disk).now s ps
         → EachImageSince (D.trace opened.store.disk) (D.trace (disk_of result))

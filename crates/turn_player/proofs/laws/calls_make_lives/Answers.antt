@@ -1,8 +1,8 @@
-use Rattle.turn_player.proofs.Worlds.{calls_make_lives, commit_since, formatted_stands, lasts, open_since, whole}
+use Rattle.turn_player.proofs.Worlds.{calls_make_lives, commit_since, formatted_represents, lasts, open_since, whole}
 use Rattle.turn_player.proofs.laws.calls_make_lives.Goals as goal
 
 pub returns-clause-formatted : goal.returns-clause-formatted
-returns-clause-formatted g c = λ form s d h g'. formatted_stands g.D.Disk g.H.AuthHandler g.G.RelayAddressGenerator form s d h g'
+returns-clause-formatted g c = λ form s d h g'. formatted_represents g.D.Disk g.H.AuthHandler g.G.RelayAddressGenerator form s d h g'
 
 pub returns-clause-goes_on : goal.returns-clause-goes_on
 returns-clause-goes_on g c = λ form s may_fail p w v inputs said same never. calls_make_lives g.D.Disk g.H.AuthHandler g.G.RelayAddressGenerator form s may_fail never same p w v inputs said

@@ -2,7 +2,7 @@ use Rattle.std.proofs.Common.{◌∙◌, List, ℕ, sym, subst}
 use Rattle.turn_reading.specs.Readings.{IsUnread, WhyUnread}
 use Rattle.turn_reading.proofs.Told.{reads_after, unread_joined, unread_last, why_joined, why_last}
 use Rattle.turn_reading.proofs.reading.read_often.Goals as goal
-use Rattle.turn_store.specs.Images.{StandsForAt}
+use Rattle.turn_store.specs.Images.{RepresentsAt}
 
 pub returns-in-Ok : goal.returns-in-Ok
 returns-in-Ok g c = let before = c.loop.invariant in reads_after before.crash_model before.same (rw c.in-Ok.is at c.read_steadily-again.ensures)
@@ -21,7 +21,7 @@ loop-preserved g c =
           let same = subst (λ (content : List ℕ). WhyUnread c.args.limits.now content c.in-Err-2.fault) (c.loop.invariant.same (tried.crash_model crash_model)) why in
           why_joined _ _ c.in-Err-2.fault c.joined.result c.joined.ensures.either same;
       unread = λ crash_model form h clock is stands.
-          let still = subst (StandsForAt form h clock) (sym (c.loop.invariant.same (tried.crash_model crash_model))) stands in
+          let still = subst (RepresentsAt form h clock) (sym (c.loop.invariant.same (tried.crash_model crash_model))) stands in
           let unread = rw c.in-Err-2.is at (tried.tells crash_model form h clock is still) in
           unread_joined c.in-Err-2.fault c.joined.result c.joined.ensures.either unread;
     }

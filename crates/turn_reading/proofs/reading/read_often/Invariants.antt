@@ -4,7 +4,7 @@ use Rattle.turn_history.specs.History.{History}
 use Rattle.turn_reading.specs.Readings.{IsUnder, IsUnread, WhyUnread}
 use Rattle.turn_reading.proofs.reading.read_often.Given as goal
 use Rattle.turn_store.specs.Areas.{Form}
-use Rattle.turn_store.specs.Images.{StandsForAt}
+use Rattle.turn_store.specs.Images.{RepresentsAt}
 
 abbrev pub invariant-loop : goal.invariant-loop
 invariant-loop g l = record {
@@ -12,5 +12,5 @@ invariant-loop g l = record {
   same : g.D.Disk.follows_crash_model l.disk → (g.D.Disk.trace l.disk).now.bytes ≡ (g.D.Disk.trace l.initial.disk).now.bytes;
   why : g.D.Disk.follows_crash_model l.disk → IfSome l.last (WhyUnread l.limits (g.D.Disk.trace l.initial.disk).now.bytes);
   unread : g.D.Disk.follows_crash_model l.disk → (form : Form) (h : History) (clock : ℕ) → IsUnder l.limits form.bounds
-      → StandsForAt form h clock (g.D.Disk.trace l.initial.disk).now.bytes → IfSome l.last IsUnread;
+      → RepresentsAt form h clock (g.D.Disk.trace l.initial.disk).now.bytes → IfSome l.last IsUnread;
 }

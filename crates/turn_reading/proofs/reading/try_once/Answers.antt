@@ -3,7 +3,7 @@ use Rattle.turn_disk.specs.Disk.{Trace}
 use Rattle.turn_reading.specs.Readings.{IsUnread, WhyUnread}
 use Rattle.turn_reading.proofs.Told.{form_is_under, read_under, unread_limits, unread_open, why_limits, why_open}
 use Rattle.turn_reading.proofs.reading.try_once.Goals as goal
-use Rattle.turn_store.specs.Images.{StandsForAt}
+use Rattle.turn_store.specs.Images.{RepresentsAt}
 use Rattle.turn_store.specs.Refused.{WhyRefused}
 
 pub returns-in-Err : goal.returns-in-Err
@@ -27,7 +27,7 @@ returns-in-Ok-outcome g c =
       tells = λ now form h clock is stands.
           let before = once.crash_model now in
           let limits = form_is_under _ form h clock _ c.in-Ok.under found.given (found.own before) is stands in
-          let still = subst (λ (t : Trace). StandsForAt form h clock t.now.bytes) (sym (found.same before)) stands in
+          let still = subst (λ (t : Trace). RepresentsAt form h clock t.now.bytes) (sym (found.same before)) stands in
           rw c.in-Ok-outcome.is at (once.tells now form h clock limits still);
     }
 
@@ -45,6 +45,6 @@ returns-in-Err-outcome g c =
       tells = λ now form h clock is stands.
           let before = once.crash_model now in
           let limits = form_is_under _ form h clock _ c.in-Ok.under found.given (found.own before) is stands in
-          let still = subst (λ (t : Trace). StandsForAt form h clock t.now.bytes) (sym (found.same before)) stands in
+          let still = subst (λ (t : Trace). RepresentsAt form h clock t.now.bytes) (sym (found.same before)) stands in
           subst IsUnread (sym c.fault_of.ensures) (unread_open _ c.in-Err-outcome.fault (rw c.in-Err-outcome.is at (once.tells now form h clock limits still)));
     }

@@ -3,7 +3,7 @@ use Rattle.std.proofs.lemmas.Result.{err_from_is_err_and}
 use Rattle.turn_disk.proofs.Device.{uses_as, uses_then}
 use Rattle.turn_disk.proofs.Since.{since_join}
 use Rattle.turn_store.specs.Superblock.{least_area}
-use Rattle.turn_store.proofs.Formats.{stands_for_nothing}
+use Rattle.turn_store.proofs.Formats.{represents_nothing}
 use Rattle.turn_store.proofs.Ordered.{format_failed, in_order, wiped_since}
 use Rattle.turn_store.proofs.formatting.format_as.Goals as goal
 
@@ -53,7 +53,7 @@ returns g c =
       too_small = λ needed. (λ e. cc, λ both. absurd (omega (arith, both.0, c.if-area-needed.false, c.least_area_of-needed.ensures.value)));
       untouched = λ small. absurd (omega (arith, small, c.if-area-needed.false, c.least_area_of-needed.ensures.value));
       formatted = formatted;
-      done = λ crash_model. stands_for_nothing c.args.version _ _ (formatted crash_model);
+      done = λ crash_model. represents_nothing c.args.version _ _ (formatted crash_model);
       order = λ crash_model.
           let laying = c.open_first.ensures.uses.crash_model crash_model in
           let before = c.lay_areas.ensures.uses.crash_model laying in

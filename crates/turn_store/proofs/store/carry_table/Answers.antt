@@ -2,7 +2,7 @@ use Rattle.std.proofs.Common.{◌≡◌, ℕ, ◌∙◌, [], ap, refl, sym, subs
 use Rattle.turn_disk.proofs.Device.{uses_as}
 use Rattle.turn_disk.specs.Device.{Uses}
 use Rattle.turn_disk.specs.Disk.{EachImageSince}
-use Rattle.turn_store.specs.Images.{IsInVersionOr2, StandsBy}
+use Rattle.turn_store.specs.Images.{IsInVersionOr2, RepresentsBy}
 use Rattle.turn_store.specs.Opened.{OpensTo}
 use Rattle.turn_store.specs.State.{Shows, carried, carried_area, form_of}
 use Rattle.turn_store.specs.Tables.{snapshot_of}
@@ -32,13 +32,13 @@ returns-in-Ok-carry-clause-recovers g c = λ crash_model form h clock o.
 pub returns-in-Err-clause-stop : goal.returns-in-Err-clause-stop
 returns-in-Err-clause-stop g c = λ crash_model form h clock o.
     let old = c.args.opened.store in
-    subst (λ d. EachImageSince (g.D.Disk.trace old.disk) (g.D.Disk.trace d) (StandsBy form h clock)) (sym c.into_disk-in-Err.ensures)
+    subst (λ d. EachImageSince (g.D.Disk.trace old.disk) (g.D.Disk.trace d) (RepresentsBy form h clock)) (sym c.into_disk-in-Err.ensures)
     (over_since old (snapshot_of c.args.opened.table) _ form h clock o c.requires.snapshot.moment _ _ _ (c.carry.ensures.stages (subst (λ d. g.D.Disk.follows_crash_model d) c.into_disk-in-Err.ensures crash_model) o.recovers.snapshot o.recovers.payloads o.recovers.shows))
 
 pub returns-in_default-clause-stop : goal.returns-in_default-clause-stop
 returns-in_default-clause-stop g c = λ crash_model form h clock o.
     let old = c.args.opened.store in
-    subst (λ d. EachImageSince (g.D.Disk.trace old.disk) (g.D.Disk.trace d) (StandsBy form h clock)) (sym c.into_disk.ensures)
+    subst (λ d. EachImageSince (g.D.Disk.trace old.disk) (g.D.Disk.trace d) (RepresentsBy form h clock)) (sym c.into_disk.ensures)
     (stays_since form h clock old (g.D.Disk.trace old.disk) (snapshot_of c.args.opened.table) o c.requires.snapshot.moment)
 
 pub returns-in_default-clause-uses : goal.returns-in_default-clause-uses

@@ -1,6 +1,6 @@
 use Rattle.std.proofs.Common.{◌∙◌, ℕ, List, Err, false, ap, refl, sym, subst}
 use Rattle.turn_disk.proofs.Device.{uses_as}
-use Rattle.turn_store.specs.Images.{StandsForAt}
+use Rattle.turn_store.specs.Images.{RepresentsAt}
 use Rattle.turn_store.specs.Opened.{IsChosen}
 use Rattle.turn_store.specs.Superblock.{HasSuperblock}
 use Rattle.turn_store.specs.Tables.{snapshot_of}
@@ -34,7 +34,7 @@ returns-in-Ok g c =
       why = tt;
       carried = λ crash_model. kept_carries false _ _ (is_active_as _ _ _ _ (opened_now crash_model) (is.same crash_model)) (λ over. let asked = over.asked in cc);
       recovers = λ crash_model form h clock same stands.
-          opens_to form h clock _ _ (snapshot_of r.loaded.table) (opened_now crash_model) (sym same) refl (subst (λ (l : List ℕ). StandsForAt form h clock l) (sym (is.same crash_model)) stands);
+          opens_to form h clock _ _ (snapshot_of r.loaded.table) (opened_now crash_model) (sym same) refl (subst (λ (l : List ℕ). RepresentsAt form h clock l) (sym (is.same crash_model)) stands);
       sound = tt;
     }
 

@@ -1,7 +1,7 @@
 use Rattle.turn_store.proofs.Rows.{recovers_image}
 use Rattle.turn_store.specs.State.{form_of}
 use Rattle.turn_store.proofs.Versions.{shown_in}
-use Rattle.turn_store.proofs.laws.a_store_at_rest_stands.Goals as goal
+use Rattle.turn_store.proofs.laws.a_store_at_rest_represents.Goals as goal
 
 pub returns-clause-stands : goal.returns-clause-stands
 returns-clause-stands g c = λ store state at h recovers image is. record {
