@@ -153,7 +153,7 @@ impl<A: Allocator + Copy> Builder<A> {
     /// ```
     pub fn push(&mut self, kind: AttributeType, value: &[u8]) -> Result<(), PushError>
         ensures ok { OnOk result (self.new ≡ with_attribute self.old kind value.now) }
-        // Whether it is too long is judged before memory is asked for.
+        // Whether it is too long is checked before memory is asked for.
         ensures too_long { (result ≡ Err PushError.TooLong) ↔ (65532 < body_size (with_attribute self.old kind value.now)) }
         ensures err { OnErr result (self.new ≡ self.old) }
     {

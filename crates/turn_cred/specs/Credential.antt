@@ -12,7 +12,7 @@ use Rattle.turn_cred.specs.Nonce.{is_fresh}
 use Rattle.turn_types.specs.Rows.{first_row}
 use Rattle.turn_cred.specs.declared.key.Key.{Key}
 
--- what credentials are judged by: the realm, the secret of the nonces, and how long a user's name may be
+-- what credentials are checked by: the realm, the secret of the nonces, and how long a user's name may be
 pub record Policy : Type 0 where
   pub realm : List ℕ
   -- the 32 bytes that nonces are made with

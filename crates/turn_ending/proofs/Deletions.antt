@@ -81,13 +81,13 @@ module _ (user : List ℕ) (m : Content) where
       subst (λ (b : Bool). EndsOnly user m (if b then allocate_outcome pairs s c f t asker m port else owner_outcome s (fin.get c.entries f) asker m))
       (sym (ap (λ n. n == allocate) method)) (by_owner s (fin.get c.entries f) asker method zero)
 
-  by_judgement : (pairs : Bool) (s : Config) (c : Contents) (f : FiveTuple) (t : ℕ) (v : Option Verdict) (port : Option ℕ) → m.method ≡ refresh → lifetime_of m ≡ Some 0
+  by_credentials : (pairs : Bool) (s : Config) (c : Contents) (f : FiveTuple) (t : ℕ) (v : Option Verdict) (port : Option ℕ) → m.method ≡ refresh → lifetime_of m ≡ Some 0
       → EndsOnly user m (by_verdict pairs s c f t m v port)
-  by_judgement pairs s c f t None port method zero = idle refl
-  by_judgement pairs s c f t (Some Challenge401) port method zero = idle refl
-  by_judgement pairs s c f t (Some Bad400) port method zero = idle refl
-  by_judgement pairs s c f t (Some Stale438) port method zero = idle refl
-  by_judgement pairs s c f t (Some (Passed asker key)) port method zero =
+  by_credentials pairs s c f t None port method zero = idle refl
+  by_credentials pairs s c f t (Some Challenge401) port method zero = idle refl
+  by_credentials pairs s c f t (Some Bad400) port method zero = idle refl
+  by_credentials pairs s c f t (Some Stale438) port method zero = idle refl
+  by_credentials pairs s c f t (Some (Passed asker key)) port method zero =
       either (is_expired c f t m key) (Challenge Unauthenticated) (passed_outcome pairs s c f t asker m port) (idle refl) (by_passed pairs s c f t asker port method zero)
 
 by_outcome : (user : List ℕ) (pairs : Bool) (s : Config) (c : Contents) (f : FiveTuple) (t : ℕ) (d : Datagram) (v : Option Verdict) (port : Option ℕ) → d.content.method ≡ refresh
@@ -96,7 +96,7 @@ unfolding outcome_of
 by_outcome user pairs s c f t d v port method zero =
     let m = d.content in
     by_rows user m ((is_dropped d, Drop) ∷ (m.method == binding, binding_outcome m) ∷ (is_protected m.method, by_verdict pairs s c f t m v port) ∷ []) Drop
-    (idle refl, (by_binding user m, (by_judgement user m pairs s c f t v port method zero, tt))) (idle refl)
+    (idle refl, (by_binding user m, (by_credentials user m pairs s c f t v port method zero, tt))) (idle refl)
 
 by_decision : (pairs : Bool) (s : Config) (c : Contents) (f : FiveTuple) (t : ℕ) (d : Datagram) (v : Option Verdict) (port : Option ℕ) → d.content.method ≡ refresh
     → lifetime_of d.content ≡ Some 0 → Deletes (decision pairs s c f t d v port).act

@@ -121,7 +121,7 @@ pub fn append_integrity<A: Allocator + Copy>(
         (integrity_of key.now (canonical builder.old))) }
     ensures holds { OnOk result (IntegrityHolds key.now (canonical_datagram builder.new)) }
     ensures size { OnOk result (body_size builder.new ≡ body_size builder.old + 24) }
-    // Whether it is too long is judged before memory is asked for.
+    // Whether it is too long is checked before memory is asked for.
     ensures too_long { (result ≡ Err PushError.TooLong) ↔ (65532 < body_size builder.old + 24) }
     ensures err { OnErr result (builder.new ≡ builder.old) }
 {
@@ -163,7 +163,7 @@ pub fn append_fingerprint<A: Allocator + Copy>(builder: &mut Builder<A>) -> Resu
     // A MESSAGE-INTEGRITY that held still holds.
     ensures integrity { (key : List ℕ) → IntegrityHolds key (canonical_datagram builder.old) →
         OnOk result (IntegrityHolds key (canonical_datagram builder.new)) }
-    // Whether it is too long is judged before memory is asked for.
+    // Whether it is too long is checked before memory is asked for.
     ensures too_long { (result ≡ Err PushError.TooLong) ↔ (65532 < body_size builder.old + 8) }
     ensures err { OnErr result (builder.new ≡ builder.old) }
 {

@@ -18,7 +18,7 @@ use Rattle.turn_cred.specs.Credential.Verdict.{Passed}
 use Rattle.turn_cred.specs.Passed.{IsSentBy, NonceHolds}
 use Rattle.turn_cred.specs.declared.key.Key.{Key}
 use Rattle.turn_cred.proofs.Passes.{passed_again, sent_by}
-use Rattle.turn_rules.specs.Answer.{Decided, decision, is_allocate, is_dropped, is_protected, is_request, judgement, outcome_of, user_of}
+use Rattle.turn_rules.specs.Answer.{Decided, decision, is_allocate, is_dropped, is_protected, is_request, credential_outcome, outcome_of, user_of}
 use Rattle.turn_rules.specs.Outcome.{act_by}
 use Rattle.turn_rules.proofs.Acts.{quiet_act}
 use Rattle.turn_rules.proofs.Reached.{IsOfUser, Known, known}
@@ -51,18 +51,18 @@ outcome_by : FiveTuple → Decided → StepOutcome
 outcome_by f x = record { change = option_map (change_of f) x.act; sent = to_client f x.reply }
 
 module _ (s : Setting) (f : FiveTuple) (d : Datagram) (encodes : Encodes d.bytes d.content) where
-  judged : ℕ → Option Verdict
-  judged t = judgement s.config s.keys f.client t d
+  checked : ℕ → Option Verdict
+  checked t = credential_outcome s.config s.keys f.client t d
 
-  judged_is : (t : ℕ) → is_protected d.content.method ≡ true → judged t ≡ Some (verdict (policy_of s.config) s.keys d f.client t)
-  unfolding judged judgement
-  judged_is t protected = ap (λ b. if b then Some (verdict (policy_of s.config) s.keys d f.client t) else None) protected
+  checked_is : (t : ℕ) → is_protected d.content.method ≡ true → checked t ≡ Some (verdict (policy_of s.config) s.keys d f.client t)
+  unfolding checked credential_outcome
+  checked_is t protected = ap (λ b. if b then Some (verdict (policy_of s.config) s.keys d f.client t) else None) protected
 
   -- credentials that held hold as long as the nonce does
-  judged_again : (t u : ℕ) (user : List ℕ) (key : Key) → is_protected d.content.method ≡ true → judged t ≡ Some (Passed user key) → NonceHolds (policy_of s.config) d f.client u → judged u ≡ Some (Passed user key)
-  judged_again t u user key protected held nonce =
-      let passed = same_Some _ _ (sym (judged_is t protected) ∙ held) in
-      judged_is u protected ∙ ap (λ v. Some v) (passed_again (policy_of s.config) s.keys d f.client t u user key passed nonce)
+  checked_again : (t u : ℕ) (user : List ℕ) (key : Key) → is_protected d.content.method ≡ true → checked t ≡ Some (Passed user key) → NonceHolds (policy_of s.config) d f.client u → checked u ≡ Some (Passed user key)
+  checked_again t u user key protected held nonce =
+      let passed = same_Some _ _ (sym (checked_is t protected) ∙ held) in
+      checked_is u protected ∙ ap (λ v. Some v) (passed_again (policy_of s.config) s.keys d f.client t u user key passed nonce)
 
   outcome_is : (z : Setting) (h : History) (t : ℕ) (failed : Bool) (o : StepOutcome) → is_request d.content.class ≡ true → (a : AnswersClient z h t failed f d.bytes o) → o ≡ outcome_by f a.decided
   unfolding outcome_by
@@ -78,35 +78,35 @@ module _ (s : Setting) (f : FiveTuple) (d : Datagram) (encodes : Encodes d.bytes
     first_port : Option ℕ
     first_port = (a.decides.message d.content encodes).port
 
-    first_is : a.decided ≡ decision s.pairs s.config (table h t) f t d (judged t) first_port
-    unfolding judged first_port
+    first_is : a.decided ≡ decision s.pairs s.config (table h t) f t d (checked t) first_port
+    unfolding checked first_port
     first_is = (a.decides.message d.content encodes).decided
 
-    first_act : (decision s.pairs s.config (table h t) f t d (judged t) first_port).act ≡ Some (Allocates e.user e.port e.granted e.tx e.token)
+    first_act : (decision s.pairs s.config (table h t) f t d (checked t) first_port).act ≡ Some (Allocates e.user e.port e.granted e.tx e.token)
     first_act = sym (ap (λ (x : Decided). x.act) first_is) ∙ act_is f a.decided.act _ (sym a.change ∙ change)
 
-    of_user : IsOfUser s.pairs s.config (table h t) f t d (judged t) first_port (outcome_of s.pairs s.config (table h t) f t d (judged t) first_port)
+    of_user : IsOfUser s.pairs s.config (table h t) f t d (checked t) first_port (outcome_of s.pairs s.config (table h t) f t d (checked t) first_port)
     unfolding decision
-    of_user = by_known (outcome_of s.pairs s.config (table h t) f t d (judged t) first_port) (known s.pairs s.config (table h t) f t d first_port (judged t)) acts
+    of_user = by_known (outcome_of s.pairs s.config (table h t) f t d (checked t) first_port) (known s.pairs s.config (table h t) f t d first_port (checked t)) acts
       where
-        acts : act_by (user_of (judged t)) d.content (outcome_of s.pairs s.config (table h t) f t d (judged t) first_port) ≡ Some (Allocates e.user e.port e.granted e.tx e.token)
+        acts : act_by (user_of (checked t)) d.content (outcome_of s.pairs s.config (table h t) f t d (checked t) first_port) ≡ Some (Allocates e.user e.port e.granted e.tx e.token)
         acts = first_act
 
-        by_known : (k : _) → Known s.pairs s.config (table h t) f t d (judged t) first_port k → act_by (user_of (judged t)) d.content k ≡ Some (Allocates e.user e.port e.granted e.tx e.token)
-            → IsOfUser s.pairs s.config (table h t) f t d (judged t) first_port k
-        by_known k (inl quiet) is = absurd (let wrong : ◌≡◌ {A = Option PlainAct} None (Some (Allocates e.user e.port e.granted e.tx e.token)) = sym (quiet_act (user_of (judged t)) d.content k quiet) ∙ is in let no : ⊥ = cc in no)
+        by_known : (k : _) → Known s.pairs s.config (table h t) f t d (checked t) first_port k → act_by (user_of (checked t)) d.content k ≡ Some (Allocates e.user e.port e.granted e.tx e.token)
+            → IsOfUser s.pairs s.config (table h t) f t d (checked t) first_port k
+        by_known k (inl quiet) is = absurd (let wrong : ◌≡◌ {A = Option PlainAct} None (Some (Allocates e.user e.port e.granted e.tx e.token)) = sym (quiet_act (user_of (checked t)) d.content k quiet) ∙ is in let no : ⊥ = cc in no)
         by_known k (inr of_user) is = of_user
 
     again_is : (later : Bool) (g : History) (u : ℕ) (failed_again : Bool) (k : StepOutcome) → fin.get (table g u).entries f ≡ Some e → NonceHolds (policy_of s.config) d f.client u
         → AnswersClient (record s { pairs = later }) g u failed_again f d.bytes k → k ≡ record { change = None; sent = o.sent }
-    unfolding outcome_by judged
+    unfolding outcome_by checked
     again_is later g u failed_again k at nonce b =
         let request = taken_request d of_user.taken in
-        let alike : judged u ≡ judged t = judged_again t u of_user.user of_user.key of_user.protected of_user.verdict nonce ∙ sym of_user.verdict in
+        let alike : checked u ≡ checked t = checked_again t u of_user.user of_user.key of_user.protected of_user.verdict nonce ∙ sym of_user.verdict in
         let m = b.decides.message d.content encodes in
         let decided : b.decided ≡ record { reply = a.decided.reply; act = None } =
         m.decided ∙ ap (λ v. decision later s.config (table g u) f u d v m.port) alike
-        ∙ repeat_same s.pairs later s.config (table h t) (table g u) f d (judged t) t u first_port m.port e first_act at
+        ∙ repeat_same s.pairs later s.config (table h t) (table g u) f d (checked t) t u first_port m.port e first_act at
         ∙ ap (λ (x : Decided). record { reply = x.reply; act = None }) (sym first_is) in
         outcome_is (record s { pairs = later }) g u failed_again k request b ∙ ap (outcome_by f) decided
         ∙ ap (λ (x : StepOutcome). record { change = None; sent = x.sent }) (sym (outcome_is s h t failed o request a))
@@ -122,11 +122,11 @@ module _ (s : Setting) (f : FiveTuple) (d : Datagram) (encodes : Encodes d.bytes
     later_is : (later : Bool) (h g : History) (t u : ℕ) (failed failed_again : Bool) (o k : StepOutcome) (user : List ℕ) (key : Key) (x e : Entry) → fin.get (table h t).entries f ≡ Some x → fin.get (table g u).entries f ≡ Some e
         → allocation_of x ≡ allocation_of e → IsSentBy (policy_of s.config) s.keys d f.client t user key → NonceHolds (policy_of s.config) d f.client u
         → AnswersClient s h t failed f d.bytes o → AnswersClient (record s { pairs = later }) g u failed_again f d.bytes k → k ≡ o
-    unfolding judged
+    unfolding checked
     later_is later h g t u failed failed_again o k user key x e had has same sent nonce a b =
         let request = (and_parts (is_request d.content.class) (d.content.method == allocate) allocates).0 in
-        let held : judged t ≡ Some (Passed user key) = judged_is t protects ∙ ap (λ v. Some v) (sent_by (policy_of s.config) s.keys d f.client t user key sent) in
-        let holds : judged u ≡ Some (Passed user key) = judged_again t u user key protects held nonce in
+        let held : checked t ≡ Some (Passed user key) = checked_is t protects ∙ ap (λ v. Some v) (sent_by (policy_of s.config) s.keys d f.client t user key sent) in
+        let holds : checked u ≡ Some (Passed user key) = checked_again t u user key protects held nonce in
         let m = a.decides.message d.content encodes in
         let n = b.decides.message d.content encodes in
         let decided : b.decided ≡ a.decided =

@@ -20,7 +20,7 @@ use Rattle.turn_cred.specs.Credential.{Policy, Verdict, has_integrity, no_key, p
 use Rattle.turn_cred.specs.Credential.Verdict.{Challenge401, Bad400, Stale438, Passed}
 use Rattle.turn_cred.specs.declared.key.Key.{Key}
 use Rattle.turn_relay.specs.FromClient.{PeerData, SendsToPeer, is_send_indication, sent_by_channel_data, sent_by_message}
-use Rattle.turn_rules.specs.Answer.{decision, is_protected, judgement, outcome_of}
+use Rattle.turn_rules.specs.Answer.{decision, is_protected, credential_outcome, outcome_of}
 use Rattle.std.specs.Option.{option_or, option_map_or}
 use Rattle.turn_step.specs.Answer.{AnswersClient, to_client, to_peer}
 use Rattle.turn_step.specs.State.{Answered, IsAfter, MachineState}
@@ -70,8 +70,8 @@ either : (b : Bool) (v : Verdict) → IsNotPassed (Some v) → IsNotPassed (if b
 either true v h = h
 either false v h = tt
 
-nobody : (s : Config) (client : Endpoint) (t : ℕ) (d : Datagram) → IsNotPassed (judgement s no_keys client t d)
-unfolding judgement
+nobody : (s : Config) (client : Endpoint) (t : ℕ) (d : Datagram) → IsNotPassed (credential_outcome s no_keys client t d)
+unfolding credential_outcome
 nobody s client t d = either (is_protected d.content.method) (verdict (policy_of s) no_keys d client t) (by_key (policy_of s) d client t)
 
 any_port : (pairs : Bool) (s : Config) (c : Contents) (f : FiveTuple) (t : ℕ) (d : Datagram) (v : Option Verdict) (port : Option ℕ) →
@@ -132,11 +132,11 @@ replied_to : (pairs : Bool) (s : Config) (range : ℕ × ℕ) (t : ℕ) (failed 
 unfolding answer
 replied_to pairs s range t failed f bytes m o a encoded same =
     let d : Datagram = record { bytes = bytes; content = m } in
-    let v : Option Verdict = judgement s no_keys f.client t d in
+    let v : Option Verdict = credential_outcome s no_keys f.client t d in
     let none = relays_no_message f bytes m a.relayed encoded (subst (λ c. SendsToPeer c f bytes a.relayed) (empty_table t) a.sends) in
     let may = a.decides.message m encoded in
     let decided = may.decided ∙ ap (λ c. decision pairs s c f t d v may.port) (empty_table t) ∙ any_port pairs s no_contents f t d v may.port (nobody s f.client t d) in
-    let by_profile = decided ∙ ap (λ s. decision false s no_contents f t d (judgement s no_keys f.client t d) None) same in
+    let by_profile = decided ∙ ap (λ s. decision false s no_contents f t d (credential_outcome s no_keys f.client t d) None) same in
     ap reply_in (a.sent ∙ ap (λ r. option_or (to_peer r) (to_client f a.decided.reply)) none) ∙ replied f a.decided.reply ∙ ap (λ x. x.reply) by_profile
 
 replied_nothing : (pairs : Bool) (s : Config) (range : ℕ × ℕ) (t : ℕ) (failed : Bool) (f : FiveTuple) (bytes : List ℕ) (o : StepOutcome) →

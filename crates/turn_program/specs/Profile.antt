@@ -6,7 +6,7 @@ use Rattle.turn_history.specs.Table.{no_contents}
 use Rattle.turn_types.specs.declared.address.FiveTuple.{FiveTuple}
 use Rattle.turn_codec.specs.Grammar.{Datagram}
 use Rattle.turn_cred.specs.Credential.{Keys}
-use Rattle.turn_rules.specs.Answer.{decision, judgement}
+use Rattle.turn_rules.specs.Answer.{decision, credential_outcome}
 use Rattle.turn_step.specs.Outcome.{Sent}
 use Rattle.turn_step.specs.Outcome.Sent.{ToClient, ToPeer}
 
@@ -29,7 +29,7 @@ no_keys user realm = None
 -- the reply to a client's message at a moment, over an empty table: no user is known, so none passes, and no port is needed
 -- or reserved
 unfoldable pub answer : FiveTuple → ℕ → Datagram → Option (List ℕ)
-answer f t d = (decision false profile no_contents f t d (judgement profile no_keys f.client t d) None).reply
+answer f t d = (decision false profile no_contents f t d (credential_outcome profile no_keys f.client t d) None).reply
 
 -- the bytes that are sent to the client, if any are
 abbrev pub reply_in : Option Sent → Option (List ℕ)

@@ -89,7 +89,7 @@ fn limits_in<R: Files + AllocGlobal>(rt: &R, config: &str) -> Result<Limits, Pro
 }
 
 /// Refuses an area that is below the min size under the limits.
-fn judge_area(limits: Limits, area: usize) -> Result<(), ProgramError>
+fn check_area(limits: Limits, area: usize) -> Result<(), ProgramError>
     ensures ok { OnOk result (least_area V2 limits ≤ area) }
     ensures refused { OnErr result (area < least_area V2 limits) }
     ensures fault { IfErr result (λ fault. fault ≡ faults.AreaTooSmall (least_area V2 limits)) }
@@ -194,7 +194,7 @@ fn make_at<R: Files<File = File> + Net + AllocGlobal, C: Clock, L: Write + Drop>
     }
 }
 
-/// Makes a file a store with the limits of a configuration, or an export. The file is not touched before the area was judged, nor if it is
+/// Makes a file a store with the limits of a configuration, or an export. The file is not touched before the area was checked, nor if it is
 /// in use, and is locked until it has printed. At a fault the log says which file it is about.
 pub fn run_format<R: Files<File = File> + Net + AllocGlobal, C: Clock, W: Write, L: Write + Drop>(
     rt: &R,
@@ -209,7 +209,7 @@ pub fn run_format<R: Files<File = File> + Net + AllocGlobal, C: Clock, W: Write,
         rt, clock, log, config, *fault,
     ))?;
     let area = area as usize;
-    judge_area(limits, area)?;
+    check_area(limits, area)?;
     let _disk = make_at(rt, clock, log, store, limits, area)?;
     print_line("formatted", out)
 }

@@ -64,7 +64,7 @@ fn store_word(command: &Command) -> Option<&str> {
 }
 
 /// Refuses a command whose store is a URI that names no export, before anything is done.
-pub fn judge_store(command: &Command) -> Result<(), ProgramError>
+pub fn check_place(command: &Command) -> Result<(), ProgramError>
     ensures { IfErr result (λ fault. fault ≡ ProgramError.Usage) }
 {
     if let Some(word) = store_word(command) {

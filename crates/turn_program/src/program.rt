@@ -13,7 +13,7 @@ use crate::format::run_format;
 use crate::help::run_help;
 use crate::inspect::run_inspect;
 use crate::log::Log;
-use crate::place::judge_store;
+use crate::place::check_place;
 use crate::probe::run_probe;
 use crate::replay::run_replay;
 use crate::serve::{Service, run_service};
@@ -135,7 +135,7 @@ fn try_words<
     log: L,
 ) -> Result<(), ProgramError> {
     let command = command_of(rt.alloc(), words)?;
-    judge_store(&command)?;
+    check_place(&command)?;
     run_command(rt, clock, release, &command, out, log)
 }
 

@@ -4,7 +4,7 @@ use Rattle.std.proofs.Common.{◌≡◌, ℕ, zero, suc, ◌+◌, ◌*◌, ◌�
 use Rattle.std.proofs.lemmas.Bool.{le-ltb, ltb-false, ltb-true}
 use Rattle.std.proofs.lemmas.List.{drop-append-le, length-append, length-drop, take-append-le}
 use Rattle.turn_record.specs.Places.{is_short}
-use Rattle.turn_record.specs.Reading.{◌>>=◌, Field, judged, many}
+use Rattle.turn_record.specs.Reading.{◌>>=◌, Field, checked, many}
 use Rattle.turn_record.specs.declared.error.DecodeError.{DecodeError}
 use Rattle.turn_record.specs.declared.error.DecodeError.TheVariants.{Short}
 
@@ -31,9 +31,9 @@ pub guard_ok : {A : Type 0} (b : Bool) (d : DecodeError) (x y : A) → cond b (E
 guard_ok true d x y e = absurd cc
 guard_ok false d x y e = (refl, cc)
 
-pub judged_ok : {A : Type 0} (b : Bool) (d : DecodeError) (x y : A) → judged b d x ≡ Ok y → (b ≡ true) × (x ≡ y)
-judged_ok true d x y e = (refl, cc)
-judged_ok false d x y e = absurd cc
+pub checked_ok : {A : Type 0} (b : Bool) (d : DecodeError) (x y : A) → checked b d x ≡ Ok y → (b ≡ true) × (x ≡ y)
+checked_ok true d x y e = (refl, cc)
+checked_ok false d x y e = absurd cc
 
 abbrev pub done : {A : Type 0} → A → Result A DecodeError
 done x = Ok x
@@ -110,7 +110,7 @@ within r m h le = record {
   most = λ bytes x rest e. omega (arith, h.most bytes x rest e, le);
 }
 
-front_test : {A : Type 0} (good : Bool) (d : DecodeError) (x : A) → is_short d ≡ false → Front (λ bytes. judged good d (x, bytes)) 0
+front_test : {A : Type 0} (good : Bool) (d : DecodeError) (x : A) → is_short d ≡ false → Front (λ bytes. checked good d (x, bytes)) 0
 front_test true d x long = front_end x
 front_test {A} false d x long = record {
   grows = λ bytes more. λ fault. refl;
@@ -118,15 +118,15 @@ front_test {A} false d x long = record {
   most = λ bytes y rest e. absurd cc;
 }
 
--- a field that is judged
-pub front_judged : {A : Type 0} {n : ℕ} (r : List ℕ → Field A) (good : A → Bool) (d : DecodeError) → is_short d ≡ false → Front r n → Front (λ bytes. r bytes >>= λ x. judged (good x.0) d x) n
-front_judged r good d long first = within _ _ (bind {P = Any} r (λ x. judged (good x.0) d x) first (λ bytes x rest e. tt) (λ a p. front_test (good a) d a long)) (omega arith)
+-- a field that is checked
+pub front_checked : {A : Type 0} {n : ℕ} (r : List ℕ → Field A) (good : A → Bool) (d : DecodeError) → is_short d ≡ false → Front r n → Front (λ bytes. r bytes >>= λ x. checked (good x.0) d x) n
+front_checked r good d long first = within _ _ (bind {P = Any} r (λ x. checked (good x.0) d x) first (λ bytes x rest e. tt) (λ a p. front_test (good a) d a long)) (omega arith)
 
--- what is judged is good
-pub good_passes : {A : Type 0} (r : List ℕ → Field A) (good : A → Bool) (d : DecodeError) → Passes (λ bytes. r bytes >>= λ x. judged (good x.0) d x) (λ x. good x ≡ true)
+-- what is checked is good
+pub good_passes : {A : Type 0} (r : List ℕ → Field A) (good : A → Bool) (d : DecodeError) → Passes (λ bytes. r bytes >>= λ x. checked (good x.0) d x) (λ x. good x ≡ true)
 good_passes {A} r good d bytes y rest e =
-    let a = bind_ok (r bytes) (λ (x : A × List ℕ). judged (good x.0) d x) (y, rest) e in
-    let j = judged_ok (good a.0.0) d a.0 (y, rest) a.2 in
+    let a = bind_ok (r bytes) (λ (x : A × List ℕ). checked (good x.0) d x) (y, rest) e in
+    let j = checked_ok (good a.0.0) d a.0 (y, rest) a.2 in
     ap (λ (p : A × List ℕ). good p.0) (sym j.1) ∙ j.0
 
 -- what is known of the value at the end

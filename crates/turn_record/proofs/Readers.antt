@@ -9,8 +9,8 @@ use Rattle.turn_record.specs.declared.error.DecodeError.{DecodeError}
 use Rattle.turn_record.specs.declared.error.DecodeError.TheVariants.{Short, TrailingBytes}
 use Rattle.turn_record.specs.Bytes.{each}
 use Rattle.turn_record.specs.Places.{is_short}
-use Rattle.turn_record.specs.Reading.{◌>>=◌, Field, judged, byte_at, number_at, bytes_at, many, whole}
-use Rattle.turn_record.proofs.Fronts.{Any, Front, Passes, bind, bind_ok, done, front_end, front_judged, front_many, front_needs, guard_ok, judged_ok, ok_is, within}
+use Rattle.turn_record.specs.Reading.{◌>>=◌, Field, checked, byte_at, number_at, bytes_at, many, whole}
+use Rattle.turn_record.proofs.Fronts.{Any, Front, Passes, bind, bind_ok, done, front_end, front_checked, front_many, front_needs, guard_ok, checked_ok, ok_is, within}
 
 -- each element meets what is asked of it after those before it
 abbrev pub EachAfter : {A : Type 0} → (List A → A → Type 0) → List A → List A → Type 0
@@ -106,19 +106,19 @@ codec_byte {U} =
 
 -- ---- Readers put together
 
--- a field that is judged
+-- a field that is checked
 pub codec_judged : {A U : Type 0} {n : ℕ} (r : List ℕ → Field A) (s : A → List ℕ) (f : A → Type 0) (good : A → Bool) (d : DecodeError) → is_short d ≡ false → Codec U r s f n
-    → Codec U (λ bytes. r bytes >>= λ x. judged (good x.0) d x) s (λ x. f x × (good x ≡ true)) n
+    → Codec U (λ bytes. r bytes >>= λ x. checked (good x.0) d x) s (λ x. f x × (good x ≡ true)) n
 codec_judged {A} r s f good d long codec = record {
   reads = λ under. record {
     takes = λ bytes x rest fits e.
-        let a = bind_ok (r bytes) (λ (y : A × List ℕ). judged (good y.0) d y) (x, rest) e in
-        let g = judged_ok (good a.0.0) d a.0 (x, rest) a.2 in
+        let a = bind_ok (r bytes) (λ (y : A × List ℕ). checked (good y.0) d y) (x, rest) e in
+        let g = checked_ok (good a.0.0) d a.0 (x, rest) a.2 in
         let t = (codec.reads under).takes bytes a.0.0 a.0.1 fits a.1 in
         subst (λ (y : A × List ℕ). Taken bytes (s y.0) y.1 (f y.0 × (good y.0 ≡ true))) g.1 (record { parts = t.parts; left = t.left; fits = (t.fits, g.0) });
     again = λ x rest h. rw ((codec.reads under).again x rest h.0, h.1) refl;
   };
-  front = front_judged r good d long codec.front;
+  front = front_checked r good d long codec.front;
 }
 
 -- the first field, and then what it is followed by; what is known of the value so far is C

@@ -48,8 +48,8 @@ abbrev pub last_passes : {A : Type 0} → (A → Bool) → List A → Bool
 last_passes test xs = passes test (slice_get xs (length xs - 1))
 
 -- the field, where it is good, else this fault
-abbrev pub judged : {A : Type 0} → Bool → DecodeError → A → Result A DecodeError
-judged good fault x = if good then Ok x else Err fault
+abbrev pub checked : {A : Type 0} → Bool → DecodeError → A → Result A DecodeError
+checked good fault x = if good then Ok x else Err fault
 
 -- one byte
 abbrev pub byte_at : List ℕ → Field ℕ
@@ -77,7 +77,7 @@ many item (suc n) before bytes = do
 unfoldable pub moment_at : List ℕ → Field ℕ
 moment_at bytes = do
   m ← number_at w64 bytes
-  judged (nat_lt m.0 end_of_moments) BadValue m
+  checked (nat_lt m.0 end_of_moments) BadValue m
 
 -- an address and a port
 unfoldable pub endpoint_at : List ℕ → Field Endpoint
@@ -97,7 +97,7 @@ tuple_at bytes = do
 unfoldable pub name_len_at : Bounds → List ℕ → Field ℕ
 name_len_at b bytes = do
   n ← number_at w16 bytes
-  judged (nat_lt 0 n.0 && nat_le n.0 b.name_bytes) BadValue n
+  checked (nat_lt 0 n.0 && nat_le n.0 b.name_bytes) BadValue n
 
 -- a name, after its length
 unfoldable pub name_at : Bounds → List ℕ → Field (List ℕ)
@@ -109,13 +109,13 @@ name_at b bytes = do
 unfoldable pub granted_at : List ℕ → Field ℕ
 granted_at bytes = do
   g ← number_at w32 bytes
-  judged (nat_le default_lifetime g.0 && nat_le g.0 max_lifetime) BadValue g
+  checked (nat_le default_lifetime g.0 && nat_le g.0 max_lifetime) BadValue g
 
 -- the seconds of a Renew: 0, or 600 to 3600
 unfoldable pub renewed_at : List ℕ → Field ℕ
 renewed_at bytes = do
   g ← number_at w32 bytes
-  judged (nat_eq g.0 0 || (nat_le default_lifetime g.0 && nat_le g.0 max_lifetime)) BadValue g
+  checked (nat_eq g.0 0 || (nat_le default_lifetime g.0 && nat_le g.0 max_lifetime)) BadValue g
 
 -- a transaction id: twelve bytes
 unfoldable pub tx_at : List ℕ → Field TxId
@@ -137,19 +137,19 @@ begins_with port token = from_be_bytes w16 (take 2 token.0) == port
 unfoldable pub token_at : ℕ → List ℕ → Field Token
 token_at port bytes = do
   k ← token_bytes_at bytes
-  judged (begins_with port k.0) BadValue k
+  checked (begins_with port k.0) BadValue k
 
 -- a channel number: 0x4000 to 0x4FFF
 unfoldable pub channel_number_at : List ℕ → Field ℕ
 channel_number_at bytes = do
   n ← number_at w16 bytes
-  judged (is_channel_number n.0) BadValue n
+  checked (is_channel_number n.0) BadValue n
 
 -- a count in one byte, from low up to high
 unfoldable pub count_at : ℕ → ℕ → List ℕ → Field ℕ
 count_at low high bytes = do
   n ← byte_at bytes
-  judged (nat_le low n.0 && nat_le n.0 high) BadValue n
+  checked (nat_le low n.0 && nat_le n.0 high) BadValue n
 
 -- ---- Acts
 
@@ -157,7 +157,7 @@ count_at low high bytes = do
 unfoldable pub port_at : (ℕ → Bool) → List ℕ → Field ℕ
 port_at free bytes = do
   port ← number_at w16 bytes
-  judged (free port.0) BadValue port
+  checked (free port.0) BadValue port
 
 -- what an Alloc gave, without its token, with a port that passes a test
 unfoldable pub allocation_at : Bounds → (ℕ → Bool) → List ℕ → Field Allocation
@@ -195,7 +195,7 @@ allocated_even_at b bytes = do
 unfoldable pub address_at : List ℕ → List ℕ → Field ℕ
 address_at before bytes = do
   a ← number_at w32 bytes
-  judged (not (list_any (λ y. nat_eq y a.0) before)) BadValue a
+  checked (not (list_any (λ y. nat_eq y a.0) before)) BadValue a
 
 -- 1 to `permissions` addresses, each once
 unfoldable pub addresses_at : Bounds → List ℕ → Field (List ℕ)
@@ -251,13 +251,13 @@ max_tag V2 = 5
 unfoldable pub tag_at : Version → List ℕ → Field ℕ
 tag_at v bytes = do
   t ← byte_at bytes
-  judged (nat_le 1 t.0 && nat_le t.0 (max_tag v)) BadTag t
+  checked (nat_le 1 t.0 && nat_le t.0 (max_tag v)) BadTag t
 
 -- a moment that is not below those before
 unfoldable pub moment_after : List Event → List ℕ → Field ℕ
 moment_after before bytes = do
   m ← moment_at bytes
-  judged (last_passes (λ last. nat_le last.moment m.0) before) OutOfOrder m
+  checked (last_passes (λ last. nat_le last.moment m.0) before) OutOfOrder m
 
 -- an act entry, after events none of which is later
 unfoldable pub event_at : Version → Bounds → List Event → List ℕ → Field Event

@@ -12,7 +12,7 @@ use Rattle.turn_history.specs.declared.channel.Channel.{Channel}
 use Rattle.turn_history.specs.declared.reservation.Reservation.{Reservation}
 use Rattle.turn_record.specs.declared.error.DecodeError.{DecodeError}
 use Rattle.turn_record.specs.declared.error.DecodeError.TheVariants.{BadValue, OutOfOrder}
-use Rattle.turn_record.specs.Reading.{◌>>=◌, Field, last_passes, judged, byte_at, number_at, many, moment_at, endpoint_at, tuple_at, allocation_at, is_even, token_at, channel_number_at, count_at, whole}
+use Rattle.turn_record.specs.Reading.{◌>>=◌, Field, last_passes, checked, byte_at, number_at, many, moment_at, endpoint_at, tuple_at, allocation_at, is_even, token_at, channel_number_at, count_at, whole}
 use Rattle.turn_record.specs.declared.version.Version.{Version}
 use Rattle.turn_record.specs.declared.version.Version.TheVariants.{V1, V2}
 use Rattle.turn_types.specs.FiveTuple.{tuple_cmp}
@@ -26,7 +26,7 @@ use Rattle.turn_types.specs.declared.message.Token.{Token}
 unfoldable pub expiry_at : ℕ → ℕ → List ℕ → Field ℕ
 expiry_at t most bytes = do
   x ← number_at w64 bytes
-  judged (nat_lt t x.0 && nat_le x.0 (t + most)) BadValue x
+  checked (nat_lt t x.0 && nat_le x.0 (t + most)) BadValue x
 
 -- a count up to a limit, and as many items
 abbrev pub list_at : {A : Type 0} → (List A → List ℕ → Field A) → ℕ → List ℕ → Field (List A)
@@ -40,7 +40,7 @@ list_at item limit bytes = do
 unfoldable pub address_after : List (ℕ × ℕ) → List ℕ → Field ℕ
 address_after before bytes = do
   a ← number_at w32 bytes
-  judged (last_passes (λ last. nat_lt last.0 a.0) before) OutOfOrder a
+  checked (last_passes (λ last. nat_lt last.0 a.0) before) OutOfOrder a
 
 -- an address, and when its permission expires: within 300 seconds
 unfoldable pub permission_at : ℕ → List (ℕ × ℕ) → List ℕ → Field (ℕ × ℕ)
@@ -65,13 +65,13 @@ permissions_at b t bytes = do
 unfoldable pub number_after : List (ℕ × Channel) → List ℕ → Field ℕ
 number_after before bytes = do
   n ← channel_number_at bytes
-  judged (last_passes (λ last. nat_lt last.0 n.0) before) OutOfOrder n
+  checked (last_passes (λ last. nat_lt last.0 n.0) before) OutOfOrder n
 
 -- a peer of none of the channels before
 unfoldable pub other_peer_at : List (ℕ × Channel) → List ℕ → Field Endpoint
 other_peer_at before bytes = do
   p ← endpoint_at bytes
-  judged (not (list_any (λ c. is_peer p.0 c.1) before)) BadValue p
+  checked (not (list_any (λ c. is_peer p.0 c.1) before)) BadValue p
 
 -- a channel: its number, its peer, and when it expires: within 600 seconds
 unfoldable pub channel_at : ℕ → List (ℕ × Channel) → List ℕ → Field (ℕ × Channel)
@@ -97,7 +97,7 @@ channels_at b t bytes = do
 unfoldable pub tuple_after : List (FiveTuple × Entry) → List ℕ → Field FiveTuple
 tuple_after before bytes = do
   f ← tuple_at bytes
-  judged (last_passes (λ last. is_lt (tuple_cmp last.0 f.0)) before) OutOfOrder f
+  checked (last_passes (λ last. is_lt (tuple_cmp last.0 f.0)) before) OutOfOrder f
 
 -- no entry before has the port
 abbrev pub is_free_after : List (FiveTuple × Entry) → ℕ → Bool
@@ -107,7 +107,7 @@ is_free_after before port = not (list_any (λ e. e.1.port == port) before)
 unfoldable pub mark_byte_at : ℕ → List ℕ → Field ℕ
 mark_byte_at port bytes = do
   m ← byte_at bytes
-  judged (nat_eq m.0 0 || (nat_eq m.0 1 && is_even port)) BadValue m
+  checked (nat_eq m.0 0 || (nat_eq m.0 1 && is_even port)) BadValue m
 
 -- the token of a port
 abbrev pub some_token_at : ℕ → List ℕ → Field (Option Token)
@@ -147,7 +147,7 @@ entry_at v b t before bytes = do
 unfoldable pub total_at : Bounds → List ℕ → Field ℕ
 total_at b bytes = do
   n ← number_at w32 bytes
-  judged (nat_le n.0 b.allocations) BadValue n
+  checked (nat_le n.0 b.allocations) BadValue n
 
 -- ---- Reserved ports
 
@@ -155,13 +155,13 @@ total_at b bytes = do
 unfoldable pub odd_port_at : List (FiveTuple × Entry) → List ℕ → Field ℕ
 odd_port_at entries bytes = do
   q ← number_at w16 bytes
-  judged (not (is_even q.0) && is_free_after entries q.0) BadValue q
+  checked (not (is_even q.0) && is_free_after entries q.0) BadValue q
 
 -- a reserved port above the one before, if it is odd and no entry has it
 unfoldable pub reserved_port_after : List (FiveTuple × Entry) → List (ℕ × Reservation) → List ℕ → Field ℕ
 reserved_port_after entries before bytes = do
   q ← odd_port_at entries bytes
-  judged (last_passes (λ last. nat_lt last.0 q.0) before) OutOfOrder q
+  checked (last_passes (λ last. nat_lt last.0 q.0) before) OutOfOrder q
 
 -- a reserved port, its token, and when the reservation expires: within 30 seconds
 unfoldable pub reservation_at : ℕ → List (FiveTuple × Entry) → List (ℕ × Reservation) → List ℕ → Field (ℕ × Reservation)

@@ -4,7 +4,7 @@ ghost use Rattle.std.specs.Prelude.{◌≡◌};
 ghost use Rattle.std.specs.Int.{w16, w32, w64};
 ghost use Rattle.turn_history.specs.ChannelNumber.{is_channel_number};
 ghost use Rattle.turn_record.specs.declared.error.DecodeError.TheVariants.{BadValue};
-ghost use Rattle.turn_record.specs.Reading.{Gives, byte_at, bytes_at, count_at, endpoint_at, granted_at, judged, moment_at, name_at, name_len_at, number_at, renewed_at, token_at, token_bytes_at, tuple_at, tx_at, begins_with};
+ghost use Rattle.turn_record.specs.Reading.{Gives, byte_at, bytes_at, count_at, endpoint_at, granted_at, checked, moment_at, name_at, name_len_at, number_at, renewed_at, token_at, token_bytes_at, tuple_at, tx_at, begins_with};
 
 use crate::error::{DecodeError, ReadError};
 use std::alloc::Allocator;
@@ -183,7 +183,7 @@ pub(crate) fn token_of(port: u16, bytes: &[u8]) -> Result<(Token, &[u8]), ReadEr
 
 /// The channel number of a number that was read.
 pub(crate) fn channel_number(number: u16) -> Result<ChannelNumber, ReadError>
-    ensures { Gives (λ n. n) result (judged (is_channel_number number) BadValue number) }
+    ensures { Gives (λ n. n) result (checked (is_channel_number number) BadValue number) }
 {
     match ChannelNumber::new(number) {
         Some(number) => Ok(number),

@@ -6,7 +6,7 @@ ghost use Rattle.std.specs.List.{list_any};
 ghost use Rattle.std.specs.Ordering.{nat_cmp};
 ghost use Rattle.turn_history.specs.ChannelNumber.{is_channel_number};
 ghost use Rattle.turn_history.specs.Fitting.{is_peer};
-ghost use Rattle.turn_record.specs.Reading.{Field, Gives, judged, last_passes, many};
+ghost use Rattle.turn_record.specs.Reading.{Field, Gives, checked, last_passes, many};
 ghost use Rattle.turn_record.specs.Snapshots.{address_after, channel_at, channel_list_at, expiry_at, list_at, other_peer_at, permission_at, permission_list_at};
 ghost use Rattle.turn_record.specs.declared.error.DecodeError.TheVariants.{BadValue};
 ghost use Rattle.turn_types.specs.Profile.{max_lifetime};

@@ -261,7 +261,7 @@ pub fn build_request<A: Allocator + Copy>(
     ensures content { IfOk result (λ v. Encodes v.items (signed key.now (named request.now nonce.now))) }
     ensures holds { IfOk result (λ v. IntegrityHolds key.now
         (record { bytes = v.items; content = signed key.now (named request.now nonce.now) })) }
-    // Whether it is too long is judged before memory is asked for.
+    // Whether it is too long is checked before memory is asked for.
     ensures too_long { (result ≡ Err PushError.TooLong) ↔ (65532 < body_size (named request.now nonce.now) + 24) }
 {
     if !has_room(request, nonce) {
@@ -291,7 +291,7 @@ pub fn build_send<A: Allocator + Copy>(
     payload: &[u8],
 ) -> Result<Vec<u8, A>, PushError>
     ensures content { IfOk result (λ v. Encodes v.items (send_of peer payload.now)) }
-    // Whether it is too long is judged before memory is asked for.
+    // Whether it is too long is checked before memory is asked for.
     ensures too_long { (result ≡ Err PushError.TooLong) ↔ (65532 < body_size (send_of peer payload.now)) }
 {
     if MAX_SEND_DATA < payload.len() {

@@ -139,9 +139,9 @@ pub record MayAnswer (pairs : Bool) (s : Config) (range : ℕ × ℕ) (h : Histo
   pub decided : o ≡ decision pairs s (table h t) f t d v port
 
 -- the outcome of the credential check of a datagram, for the four methods that need credentials
-unfoldable pub judgement : Config → Keys → Endpoint → ℕ → Datagram → Option Verdict
-judgement s keys client t d = if is_protected d.content.method then Some (verdict (policy_of s) keys d client t) else None
+unfoldable pub credential_outcome : Config → Keys → Endpoint → ℕ → Datagram → Option Verdict
+credential_outcome s keys client t d = if is_protected d.content.method then Some (verdict (policy_of s) keys d client t) else None
 
 -- what may be answered to a datagram after a history, with the credentials checked
 abbrev pub Answers : Bool → Config → Keys → ℕ × ℕ → History → ℕ → Bool → FiveTuple → Datagram → Decided → Type 0
-Answers pairs s keys range h t failed f d o = MayAnswer pairs s range h t failed f d (judgement s keys f.client t d) o
+Answers pairs s keys range h t failed f d o = MayAnswer pairs s range h t failed f d (credential_outcome s keys f.client t d) o

@@ -23,7 +23,7 @@ use turn_mac::has_wrong_fingerprint;
 use turn_table::Table;
 use turn_types::{Class, ErrorCode, Method, Moment, ServerConfig};
 
-/// How far a message is judged.
+/// How far a message is assessed.
 #[derive(Drop)]
 pub(crate) enum Stage {
     /// Its outcome is known, whatever is picked.
@@ -162,7 +162,7 @@ fn stage_of<C: Allocator, T: Allocator + Copy>(
     }
 }
 
-/// Judges a client's message at a moment, up to the port that is picked for it. `pairs` says whether ports may be reserved:
+/// Assesses a client's message at a moment, up to the port that is picked for it. `pairs` says whether ports may be reserved:
 /// then EVEN-PORT with the R bit needs a pair. It takes no memory.
 pub fn assess<C: Allocator, T: Allocator + Copy>(
     table: &Table<T>,

@@ -64,7 +64,7 @@ pub fn picked_ports_are_taken()
         (q : ℕ) → takes_if_any (decision pairs s c f t d v port).act q || is_taken c q ≡ is_picked (port_needed pairs s c f t d v) port q || is_taken c q }
 {}
 
-/// A key without an expiry time is judged by the rows alone, and so are all requests but those for a new allocation, and all at which the
+/// A key without an expiry time is checked by the rows alone, and so are all requests but those for a new allocation, and all at which the
 /// key has not expired.
 pub fn expiry_counts_for_new_allocations()
     ensures lasting { (c : Contents) (f : FiveTuple) (t : ℕ) (m : Content) (key : Key) → key.expiry ≡ None → is_expired c f t m key ≡ false }

@@ -83,7 +83,7 @@ impl<'a, A: Allocator + Copy> Scenario<'a, A> {
     }
 }
 
-/// Runs a scenario over a disk in memory and returns its report. Lines are judged and done one after the other, so those
+/// Runs a scenario over a disk in memory and returns its report. Lines are checked and done one after the other, so those
 /// after a fault are not read.
 ///
 /// ```rust

@@ -13,7 +13,7 @@ use Rattle.turn_codec.specs.Grammar.{Content, Datagram, Encodes, cookie, type_nu
 use Rattle.turn_codec.specs.Seen.{has_unknown}
 use Rattle.turn_cred.specs.Credential.{Challenge401, Keys, has_integrity, verdict}
 use Rattle.turn_types.specs.declared.address.Endpoint.{Endpoint}
-use Rattle.turn_rules.specs.Answer.{Decided, decision, is_dropped, is_protected, is_request, judgement, outcome_of, user_of}
+use Rattle.turn_rules.specs.Answer.{Decided, decision, is_dropped, is_protected, is_request, credential_outcome, outcome_of, user_of}
 use Rattle.turn_rules.specs.Outcome.{act_by}
 use Rattle.turn_step.specs.Outcome.{change_of}
 use Rattle.turn_step.specs.Outcome.Arrives.{FromClient, FromPeer}
@@ -76,8 +76,8 @@ by_message bytes m asks encoded one is = (
 -- ---- The credentials
 
 -- without MESSAGE-INTEGRITY a request of these methods is challenged
-challenged : (s : Config) (keys : Keys) (client : Endpoint) (t : ℕ) (d : Datagram) → is_protected d.content.method ≡ true → has_integrity d ≡ false → judgement s keys client t d ≡ Some Challenge401
-unfolding judgement verdict
+challenged : (s : Config) (keys : Keys) (client : Endpoint) (t : ℕ) (d : Datagram) → is_protected d.content.method ≡ true → has_integrity d ≡ false → credential_outcome s keys client t d ≡ Some Challenge401
+unfolding credential_outcome verdict
 challenged s keys client t d protected none = rw (protected, none) refl
 
 -- ---- The act
@@ -106,11 +106,11 @@ no_integrity false protected integrity is request given = absurd (cc)
 no_integrity true false integrity is request given = absurd (cc)
 
 no_act : (pairs : Bool) (s : Config) (keys : Keys) (client : Endpoint) (c : Contents) (f : FiveTuple) (t : ℕ) (d : Datagram) (port : Option ℕ) → asks_for_change d.content ≡ false
-    → (decision pairs s c f t d (judgement s keys client t d) port).act ≡ None
+    → (decision pairs s c f t d (credential_outcome s keys client t d) port).act ≡ None
 unfolding decision outcome_of
 no_act pairs s keys client c f t d port other =
-    by_row (act_by (user_of (judgement s keys client t d)) d.content) (is_dropped d) (d.content.method == binding) (is_protected d.content.method) _ _ _ refl
-    (either_way (act_by (user_of (judgement s keys client t d)) d.content) (has_unknown d.content) _ _ refl refl)
+    by_row (act_by (user_of (credential_outcome s keys client t d)) d.content) (is_dropped d) (d.content.method == binding) (is_protected d.content.method) _ _ _ refl
+    (either_way (act_by (user_of (credential_outcome s keys client t d)) d.content) (has_unknown d.content) _ _ refl refl)
     (λ kept protected.
     let none = no_integrity (is_request d.content.class) (is_protected d.content.method) (has_integrity d) other (kept_is_request (is_request d.content.class) _ kept) protected in rw (challenged s keys client t d protected none) refl)
 

@@ -21,7 +21,7 @@ use Rattle.turn_history.specs.Table.{Entry, table}
 use Rattle.turn_relay.proofs.Datagrams.{same_entry}
 use Rattle.turn_relay.proofs.Holders.{same_holder}
 use Rattle.turn_rules.proofs.Alone.{allocates_same, answers_same, entry_same, others_too}
-use Rattle.turn_rules.specs.Answer.{Answers, judgement}
+use Rattle.turn_rules.specs.Answer.{Answers, credential_outcome}
 use Rattle.turn_step.specs.Answer.{AnswersArrival, AnswersClient, AnswersPeer, Setting}
 use Rattle.turn_step.specs.Data.{IsOwner, IsRequestOf}
 use Rattle.turn_step.specs.Laws.{SameForAllocates, EncodesNoAllocate}
@@ -48,10 +48,10 @@ module _ (s : Setting) (h g : History) (t : ℕ) (failed : Bool) (f : FiveTuple)
   }
 
   pub client_same : EncodesNoAllocate bytes → AnswersClient s h t failed f bytes o → AnswersClient s g t failed f bytes o
-  client_same other = client_goes_on (λ m d encoded. answers_same s.pairs s.config s.range h g t failed f (record { bytes = bytes; content = m }) (judgement s.config s.keys f.client t (record { bytes = bytes; content = m })) d events (other m encoded))
+  client_same other = client_goes_on (λ m d encoded. answers_same s.pairs s.config s.range h g t failed f (record { bytes = bytes; content = m }) (credential_outcome s.config s.keys f.client t (record { bytes = bytes; content = m })) d events (other m encoded))
 
   pub allocate_same : SameForAllocates s f t bytes (table h t) (table g t) → AnswersClient s h t failed f bytes o → AnswersClient s g t failed f bytes o
-  allocate_same others = client_goes_on (λ m d encoded. allocates_same s.pairs s.config s.range h g t failed f (record { bytes = bytes; content = m }) (judgement s.config s.keys f.client t (record { bytes = bytes; content = m })) d events (others m encoded))
+  allocate_same others = client_goes_on (λ m d encoded. allocates_same s.pairs s.config s.range h g t failed f (record { bytes = bytes; content = m }) (credential_outcome s.config s.keys f.client t (record { bytes = bytes; content = m })) d events (others m encoded))
 
 pub allocates_too : (s : Setting) (h g : History) (t : ℕ) (f : FiveTuple) (bytes : List ℕ) → SameForAllocates s f t bytes (table h t) (table g t) → SameForAllocates s f t bytes (table g t) (table h t)
 allocates_too s h g t f bytes others = λ m encoded. others_too s.range _ (table h t) (table g t) (others m encoded)

@@ -18,7 +18,7 @@ use Rattle.turn_codec.proofs.Values.{values_are_bytes}
 use Rattle.turn_cred.specs.Credential.{Keys, Verdict, policy_of, verdict}
 use Rattle.turn_cred.specs.Credential.Verdict.{Passed}
 use Rattle.turn_cred.proofs.Passes.{passed_in_range}
-use Rattle.turn_rules.specs.Answer.{Answers, Decided, MayAnswer, decision, is_protected, is_request, judgement, outcome_of, port_needed}
+use Rattle.turn_rules.specs.Answer.{Answers, Decided, MayAnswer, decision, is_protected, is_request, credential_outcome, outcome_of, port_needed}
 use Rattle.turn_rules.specs.Laws.{IsMadeOfBytes, NamesInRange}
 use Rattle.turn_relay.specs.FromClient.{PeerData, SendsToPeer, sent_by_message}
 use Rattle.turn_relay.proofs.Datagrams.{of_message}
@@ -37,10 +37,10 @@ made_of_bytes bytes m all encodes =
     let made = values_are_bytes bytes m all encodes in
     record { tx_size = made.0; tx = made.1; values = made.2 }
 
--- the user of credentials that were judged has a name of 1 to `name_bytes` bytes
-pub judged_in_range : (s : Config) (keys : Keys) (client : Endpoint) (t : ℕ) (d : Datagram) → IsMadeOfBytes d.content → NamesInRange s.limits (judgement s keys client t d)
-unfolding judgement
-judged_in_range s keys client t d made user key is =
+-- the user of credentials that were checked has a name of 1 to `name_bytes` bytes
+pub checked_in_range : (s : Config) (keys : Keys) (client : Endpoint) (t : ℕ) (d : Datagram) → IsMadeOfBytes d.content → NamesInRange s.limits (credential_outcome s keys client t d)
+unfolding credential_outcome
+checked_in_range s keys client t d made user key is =
     passed_in_range (policy_of s) keys d client t user key made.values (cond_some (is_protected d.content.method) (verdict (policy_of s) keys d client t) (Passed user key) is).1
 
 -- nothing is decided about a message that is no request
@@ -79,12 +79,12 @@ one_datagram : (bytes : List ℕ) (d : Datagram) → d.bytes ≡ bytes → Encod
 one_datagram bytes d same found m encodes = λ j. record { bytes = same j; content = (one_message bytes bytes [] [] d.content m found encodes refl).1 j }
 
 module _ (s : Setting) (h : History) (t : ℕ) (failed : Bool) (f : FiveTuple) where
-  -- the credentials as they were judged
-  pub decided_as_judged : (d : Datagram) (v : Option Verdict) (o : StepOutcome) → v ≡ judgement s.config s.keys f.client t d
+  -- the credentials as they were checked
+  pub decided_as_checked : (d : Datagram) (v : Option Verdict) (o : StepOutcome) → v ≡ credential_outcome s.config s.keys f.client t d
       → ((x : Decided) × MayAnswer s.pairs s.config s.range h t failed f d v x × (o ≡ decided_for f x)) → IsDecided s h t failed f d o
-  decided_as_judged d v o judged found = record {
+  decided_as_checked d v o checked found = record {
     decided = found.0;
-    answers = subst (λ w. MayAnswer s.pairs s.config s.range h t failed f d w found.0) judged found.1;
+    answers = subst (λ w. MayAnswer s.pairs s.config s.range h t failed f d w found.0) checked found.1;
     is = found.2;
   }
 

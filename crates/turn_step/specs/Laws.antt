@@ -3,7 +3,7 @@ use Rattle.std.specs.Prelude.{◌≡◌, ◌≢◌, ℕ, List, Some, None, false
 use Rattle.turn_types.specs.declared.address.FiveTuple.{FiveTuple}
 use Rattle.turn_codec.specs.Grammar.{Content, Encodes}
 use Rattle.turn_history.specs.Table.{Contents}
-use Rattle.turn_rules.specs.Answer.{is_allocate, judgement, user_of}
+use Rattle.turn_rules.specs.Answer.{is_allocate, credential_outcome, user_of}
 use Rattle.turn_rules.specs.Laws.{SameForOthers}
 use Rattle.turn_step.specs.Answer.{Setting}
 use Rattle.turn_step.specs.Outcome.{StepOutcome}
@@ -22,4 +22,4 @@ EncodesNoAllocate bytes = (m : Content) → Encodes bytes m → is_allocate (rec
 -- ports
 abbrev pub SameForAllocates : Setting → FiveTuple → ℕ → List ℕ → Contents → Contents → Type 0
 SameForAllocates s f t bytes c k =
-    (m : Content) → Encodes bytes m → SameForOthers s.range (user_of (judgement s.config s.keys f.client t (record { bytes = bytes; content = m }))) c k
+    (m : Content) → Encodes bytes m → SameForOthers s.range (user_of (credential_outcome s.config s.keys f.client t (record { bytes = bytes; content = m }))) c k

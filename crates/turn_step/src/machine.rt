@@ -20,7 +20,7 @@ use crate::error::MachineError;
 use crate::pairs::Pairs;
 use crate::peer::{peer_step, to_client};
 use crate::purge::{advance, release, release_for};
-use crate::request::{judge, pick, settle};
+use crate::request::{check_credentials, pick, settle};
 use crate::step::Step;
 use std::alloc::{AllocError, AllocFailed, Allocator, Global};
 use std::marker::Model;
@@ -177,7 +177,7 @@ impl<H: AuthHandler, G: RelayAddressGenerator, A: Allocator + Copy> Machine<H, G
         ensures held { HoldsPorts G.holds self.old None → IfOk result (λ s. HoldsPorts G.holds self.new s.change) }
         ensures held_err { HoldsPorts G.holds self.old None → OnErr result (HoldsPorts G.holds self.new None) }
     {
-        let verdict = judge(&mut self.checker, &message, five_tuple.client, moment);
+        let verdict = check_credentials(&mut self.checker, &message, five_tuple.client, moment);
         let request = ClientMessage {
             message,
             five_tuple,

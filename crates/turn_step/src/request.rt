@@ -8,7 +8,7 @@ ghost use Rattle.turn_history.specs.History.{History};
 ghost use Rattle.turn_cred.specs.Credential.{policy_of};
 ghost use Rattle.turn_cred.specs.Found.{verdict_of};
 ghost use Rattle.turn_ports.specs.Ports.{Failed, has_failed};
-ghost use Rattle.turn_rules.specs.Answer.{Decided, MayAnswer, judgement};
+ghost use Rattle.turn_rules.specs.Answer.{Decided, MayAnswer, credential_outcome};
 ghost use Rattle.turn_rules.specs.Assessed.{IsAssessed, needed_by};
 ghost use Rattle.turn_rules.specs.Decided.{verdict_in};
 ghost use Rattle.turn_rules.specs.Laws.{IsMadeOfBytes, IsPicked, NamesInRange};
@@ -31,15 +31,15 @@ use turn_table::Table;
 use turn_types::{Endpoint, FiveTuple, Moment, ServerConfig};
 
 /// The outcome of the credential check, for the methods that ask for credentials.
-#[tactic(auto, unfolding(turn_rules::specs::Answer::judgement))]
-pub(crate) fn judge<'a, H: AuthHandler, A: Allocator + Copy>(
+#[tactic(auto, unfolding(turn_rules::specs::Answer::credential_outcome))]
+pub(crate) fn check_credentials<'a, H: AuthHandler, A: Allocator + Copy>(
     checker: &mut Checker<H, A>,
     message: &Message<'a>,
     client: Endpoint,
     moment: Moment,
 ) -> Option<Verdict<'a>>
     ensures value { (s : Config) → checker.old.policy ≡ policy_of s →
-        option_map verdict_of result ≡ judgement s (H.key_of checker.old.handler) client moment message.now }
+        option_map verdict_of result ≡ credential_outcome s (H.key_of checker.old.handler) client moment message.now }
     ensures same { checker.new ≡ checker.old }
 {
     if !is_protected(message.method()) {

@@ -80,7 +80,7 @@ fn growths_with(
 }
 
 /// The outcome of the credential check of a message of the first client at a moment, and what it is of.
-fn judged<'a>(
+fn checked<'a>(
     rt: &impl Abort,
     alloc: Global,
     configured: Configured<'_>,
@@ -116,7 +116,7 @@ fn growths(
     let datagram = scenario.datagram(line).expect(rt, "a datagram");
     let table = scenario.server().expect(rt, "a server").table();
     let message = Message::parse(&datagram.bytes).expect(rt, "a message");
-    let (config, request) = judged(rt, alloc, configured, message, table.moment());
+    let (config, request) = checked(rt, alloc, configured, message, table.moment());
     growths_with(rt, alloc, table, &config, &request, port)
 }
 
@@ -225,7 +225,7 @@ fn written<'a>(
     }
 }
 
-/// A peer's "hello" is judged without memory, and written as these bytes with one growth, after which all memory is
+/// A peer's "hello" is checked without memory, and written as these bytes with one growth, after which all memory is
 /// served. Data of a client takes none.
 fn write_at_once(
     rt: &impl Abort,

@@ -140,7 +140,7 @@ fn read(values: &Values, bytes: &[u8]) -> Option<String> {
     }
 }
 
-fn judged(values: &Values, key: &[u8], bytes: &[u8]) -> Option<String> {
+fn checked(values: &Values, key: &[u8], bytes: &[u8]) -> Option<String> {
     let message = Message::parse(bytes).ok()?;
     values.text(
         match (integrity_holds(&message, key), fingerprint_holds(&message)) {
@@ -152,10 +152,10 @@ fn judged(values: &Values, key: &[u8], bytes: &[u8]) -> Option<String> {
     )
 }
 
-fn judged_with(values: &Values, key: &str, id: &str, attributes: &[&str]) -> Option<String> {
+fn checked_with(values: &Values, key: &str, id: &str, attributes: &[&str]) -> Option<String> {
     let header = header_of(values, "request", "0001", id)?;
     let bytes = message(values, header, attributes)?.ok()?;
-    judged(values, &values.bytes(key)?, &bytes)
+    checked(values, &values.bytes(key)?, &bytes)
 }
 
 fn address(values: &Values, value: &str, id: &str) -> Option<String> {
@@ -194,8 +194,8 @@ pub fn answer(values: &Values, words: &[&str]) -> Option<String> {
             written(values, header_of(values, class, method, id)?, attributes)
         }
         ["read", bytes] => read(values, &values.bytes(bytes)?),
-        ["judge", key, bytes] => judged(values, &values.bytes(key)?, &values.bytes(bytes)?),
-        ["judge", key, id, attributes @ ..] => judged_with(values, key, id, attributes),
+        ["judge", key, bytes] => checked(values, &values.bytes(key)?, &values.bytes(bytes)?),
+        ["judge", key, id, attributes @ ..] => checked_with(values, key, id, attributes),
         ["xor", place] => values.hex(&xor_address(endpoint(place)?)),
         ["address", value, id] => address(values, value, id),
         ["unknown", kind] => values.truth(AttributeType::new(values.number(kind)?).is_unknown()),

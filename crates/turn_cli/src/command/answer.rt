@@ -30,7 +30,7 @@ fn moment_at(text: Option<&[u8]>) -> Option<Moment>
     }
 }
 
-/// The command `answer`, by the texts of its values. A datagram that is not hex is judged last.
+/// The command `answer`, by the texts of its values. A datagram that is not hex is checked last.
 fn answer(alloc: Global, from: &[u8], at: Option<&[u8]>, hex: &[u8]) -> Result<Command, CliError>
     ensures taken { IfOk result (λ command. IsAnswer from.now (option_copied at.entry) hex.now command) }
     ensures refused { IfErr result (λ fault. IsAnswerError from.now (option_copied at.entry) hex.now fault) }

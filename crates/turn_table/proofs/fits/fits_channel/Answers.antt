@@ -7,8 +7,8 @@ use Rattle.turn_table.proofs.fits.fits_channel.Goals as goal
 use Rattle.turn_table.proofs.fits.fits_channel.Goals.{After-go_together}
 use Rattle.turn_table.proofs.fits.fits_channel.Given.{Over}
 
-judged : (g : Over) (c : After-go_together g) → c.go_together.result ≡ list_all (goes_with c.args.number c.args.peer) (fin.entries c.args.entry.now.entry.channels)
-judged g c =
+checked : (g : Over) (c : After-go_together g) → c.go_together.result ≡ list_all (goes_with c.args.number c.args.peer) (fin.entries c.args.entry.now.entry.channels)
+checked g c =
     c.go_together.ensures
     ∙ ap (list_all (goes_with c.args.number c.args.peer)) (c.items.ensures ∙ ap (λ h. fin.entries h.entry.channels) c.entry.view_is)
 
@@ -17,7 +17,7 @@ returns-clause-fits g c = (
   λ yes. (
     subst (λ k. fin.len (fin.insert c.args.entry.now.entry.permissions c.args.peer.ip 0) ≤ k) c.permissions.ensures.value (c.fits_permissions.ensures.0 c.if-not-fits_permissions.false),
     subst (λ k. fin.len (fin.insert c.args.entry.now.entry.channels c.args.number (record { peer = c.args.peer; expiry = 0 })) ≤ k) c.channels.ensures.value ((c.fits_number.ensures (record { peer = c.args.peer; expiry = 0 })).0 c.if-not-fits_number.false),
-    together c.args.number c.args.peer c.args.entry.now.entry.channels (sym (judged g c) ∙ yes),
+    together c.args.number c.args.peer c.args.entry.now.entry.channels (sym (checked g c) ∙ yes),
   ),
-  λ fits. judged g c ∙ all_together c.args.number c.args.peer c.args.entry.now.entry.channels fits.2,
+  λ fits. checked g c ∙ all_together c.args.number c.args.peer c.args.entry.now.entry.channels fits.2,
 )
