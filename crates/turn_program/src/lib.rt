@@ -24,7 +24,6 @@ mod program;
 mod replay;
 mod reply;
 mod serve;
-mod started;
 mod status;
 mod streams;
 mod version;

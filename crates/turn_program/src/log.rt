@@ -3,11 +3,13 @@
 mod asked;
 mod fields;
 mod lines;
+mod start;
 mod store;
 mod usage;
 
 pub use fields::Known;
 use lines::Lines;
+pub use start::{Started, live_at, tell_notes, tell_started};
 use std::alloc::{AllocError, Allocator, Global};
 use std::cell::RefCell;
 use std::io::Write;

@@ -12,12 +12,11 @@ use crate::about::{
 use crate::error::ProgramError;
 use crate::files::read_whole;
 use crate::held::sockets_of;
-use crate::log::{Known, Log, StoreWatch};
+use crate::log::{Known, Log, Started, StoreWatch, live_at, tell_notes, tell_started};
 use crate::notes::Noted;
 use crate::place::{NamedExport, StorePlace, open_export_to_serve, tell_export};
 use crate::prepare::{Prepared, prepare};
 use crate::print::print_line;
-use crate::started::{Started, live_at, tell_notes, tell_started};
 use std::alloc::Global;
 use std::env::Env;
 use std::fs::File;

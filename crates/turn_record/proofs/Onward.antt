@@ -17,8 +17,8 @@ use Rattle.turn_history.specs.declared.reservation.Reservation.{Reservation}
 use Rattle.turn_record.specs.Pieces.{Expects}
 use Rattle.turn_record.specs.Places.{HasRoom, IsCut, Place, IsWaiting, IsWaitingAt, Next, ends_with_entries, gives, if_whole, is_done, is_short, more_at}
 use Rattle.turn_record.specs.Snapshots.{Head, entry_at, total_at, reservation_at, reserving_at, reserved_at, head_at, snapshot_at, snapshot_in, table_at}
-use Rattle.turn_record.specs.declared.restored.Remaining.{Remaining}
-use Rattle.turn_record.specs.declared.restored.Remaining.TheVariants.{Entries, Reserved}
+use Rattle.turn_record.specs.declared.snapshot_progress.Remaining.{Remaining}
+use Rattle.turn_record.specs.declared.snapshot_progress.Remaining.TheVariants.{Entries, Reserved}
 use Rattle.turn_record.specs.declared.version.Version.{Version}
 use Rattle.turn_record.specs.declared.version.Version.TheVariants.{V1, V2}
 use Rattle.turn_record.proofs.Many.{many_err, many_more, many_none}

@@ -1,7 +1,7 @@
 -- A snapshot that comes in pieces: what a reader was fed, and what it is to give.
 use Rattle.std.specs.Prelude.{◌≡◌, ℕ, List, ◌++◌, Option, Some, None, IfSome}
 use Rattle.turn_record.specs.declared.error.ReadError.{ReadError}
-use Rattle.turn_record.specs.declared.pieces.SnapshotReader.{SnapshotReader}
+use Rattle.turn_record.specs.declared.snapshot_reader.SnapshotReader.{SnapshotReader}
 use Rattle.turn_record.specs.declared.version.Version.{Version}
 use Rattle.turn_record.specs.Places.{Place, IsWaiting, gives}
 use Rattle.turn_record.specs.Reading.{Fails}

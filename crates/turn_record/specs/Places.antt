@@ -8,8 +8,8 @@ use Rattle.turn_record.specs.declared.error.DecodeError.{DecodeError}
 use Rattle.turn_record.specs.declared.error.DecodeError.TheVariants.{Short, BadTag, BadValue, OutOfOrder, TrailingBytes}
 use Rattle.turn_record.specs.declared.error.ReadError.{ReadError}
 use Rattle.turn_record.specs.declared.error.ReadError.TheVariants as errors
-use Rattle.turn_record.specs.declared.restored.Remaining.{Remaining}
-use Rattle.turn_record.specs.declared.restored.Remaining.TheVariants.{Entries, Reserved}
+use Rattle.turn_record.specs.declared.snapshot_progress.Remaining.{Remaining}
+use Rattle.turn_record.specs.declared.snapshot_progress.Remaining.TheVariants.{Entries, Reserved}
 use Rattle.turn_record.specs.declared.version.Version.{Version}
 use Rattle.turn_record.specs.declared.version.Version.TheVariants.{V1, V2}
 use Rattle.turn_record.specs.Reading.{Field, Fails, whole}

@@ -8,7 +8,7 @@ ghost use Rattle.turn_types.specs.Limits.{max_bounds};
 ghost use Rattle.turn_types.specs.declared.address.FiveTuple.{FiveTuple};
 
 use crate::entry_bytes::{ENTRY_BYTES, EntryBytes};
-use crate::unwritten::Unwritten;
+use crate::snapshot_items::Unwritten;
 use crate::version::Version;
 use std::alloc::{AllocError, Allocator, Global};
 use std::marker::Model;

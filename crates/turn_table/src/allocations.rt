@@ -16,7 +16,7 @@ ghost use Rattle.turn_table.specs.State.{Held};
 
 use crate::edit::{EntryMap, Reserved, bind, make_room, permit, purge_entries, set_expiry};
 use crate::entry::Entry;
-use crate::search::{earliest_of, expired_of};
+use crate::search::{earliest_of, expired_entry_of};
 use crate::sorted_map::SortedMap;
 use crate::user_order::UserOrder;
 use indexmap::IndexMap;
@@ -126,7 +126,7 @@ impl<A: Allocator + Copy> Allocations<A> {
         ensures { MatchOption result ((f : FiveTuple) (h : Held) → fin.get self.now.held f ≡ Some h → seconds < h.entry.expiry)
             (λ f. IsSomeAnd (fin.get self.now.held f) (λ h. h.entry.expiry ≤ seconds)) }
     {
-        let place = expired_of(self.entries.values().as_slice(), seconds)?;
+        let place = expired_entry_of(self.entries.values().as_slice(), seconds)?;
         let (tuple, _) = self.entries.get_index(place)?;
         Some(*tuple)
     }

@@ -100,7 +100,7 @@ pub(crate) fn lowest_free<V>(ports: &[(u16, V)], first: u16, last: u16, even: bo
 }
 
 /// The place of an entry that has expired.
-pub(crate) fn expired_of<A: Allocator>(entries: &[Entry<A>], seconds: u64) -> Option<usize>
+pub(crate) fn expired_entry_of<A: Allocator>(entries: &[Entry<A>], seconds: u64) -> Option<usize>
     ensures { result ≡ position_from (λ h. nat_le h.entry.expiry seconds) 0 entries.now }
 {
     for (i, entry) in entries.iter().enumerate() {
@@ -112,7 +112,7 @@ pub(crate) fn expired_of<A: Allocator>(entries: &[Entry<A>], seconds: u64) -> Op
 }
 
 /// The place of a reservation that has expired.
-pub(crate) fn expired_port_of(ports: &[(u16, Reservation)], seconds: u64) -> Option<usize>
+pub(crate) fn expired_reservation_of(ports: &[(u16, Reservation)], seconds: u64) -> Option<usize>
     ensures value { result ≡ position_from (λ p. nat_le p.1.expiry seconds) 0 ports.now }
     ensures found { IfSome result (λ i. i < length ports.now) }
 {

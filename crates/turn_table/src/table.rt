@@ -24,7 +24,7 @@ use crate::allocations::Allocations;
 use crate::edit::Reserved;
 use crate::entry::Entry;
 use crate::fits::{fits_channel, fits_permissions};
-use crate::search::{expired_port_of, named_port_of};
+use crate::search::{expired_reservation_of, named_port_of};
 use crate::sorted_map::SortedMap;
 use std::alloc::{AllocError, Allocator, Global};
 use std::marker::Model;
@@ -620,7 +620,7 @@ impl<A: Allocator + Copy> Table<A> {
             return None;
         }
         let ports = self.reserved.items();
-        match expired_port_of(ports, moment.seconds()) {
+        match expired_reservation_of(ports, moment.seconds()) {
             Some(i) => Some(ports[i].0),
             None => None,
         }

@@ -196,7 +196,7 @@ impl<'n, R: Net> Talk<'n, R> {
         Client::open(self.alloc, self.net, ANY, self.server, credentials)
     }
 
-    fn bind_peer(&mut self) -> Result<(), ClientError> {
+    fn learn_mapped_address(&mut self) -> Result<(), ClientError> {
         let nobody = ClientCredentials {
             user: &[],
             realm: &[],
@@ -212,7 +212,7 @@ impl<'n, R: Net> Talk<'n, R> {
     /// A Binding: the milliseconds until it is answered.
     pub(crate) fn binding<C: Clock>(&mut self, clock: &C) -> Result<u64, ProgramError> {
         let began = now(clock);
-        self.bind_peer()
+        self.learn_mapped_address()
             .map_err(|error| failed_by(ProbeStep::Binding, error))?;
         Ok(millis_since(clock, began))
     }
