@@ -10,13 +10,13 @@
 //! COUNT is how often each call is made in a round. FILE is made anew, and removed.
 #![tactic(auto)]
 
+mod encoded;
 mod journal;
 mod mac;
 mod measured;
 mod records;
 mod requests;
 mod server;
-mod encoded;
 mod store;
 
 use std::{env, io};

@@ -3,8 +3,8 @@
 mod calls;
 mod kept;
 
-use crate::measured::best_of;
 use crate::encoded::{ENTRIES, Shape, encode};
+use crate::measured::best_of;
 use calls::{is_right, read_pieces, read_whole, write_pieces, write_whole};
 use kept::Kept;
 use std::io;

@@ -2,8 +2,8 @@
 
 mod stored;
 
+use crate::encoded::{Shape, encode, renewals};
 use crate::measured::{ROUNDS, Timing, best_of, time};
-use crate::encoded::{Shape, renewals, encode};
 use std::alloc::Global;
 use std::{fs, io};
 use stored::Stored;

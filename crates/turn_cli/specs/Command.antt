@@ -7,7 +7,7 @@ use Rattle.turn_cli.specs.declared.command.Command.TheVariants.{Answer, Replay, 
 use Rattle.turn_cli.specs.declared.error.CliError.{CliError}
 use Rattle.turn_cli.specs.declared.error.CliError.TheVariants.{Usage, BadDatagram, Memory}
 use Rattle.turn_config.specs.Values.{number_of, IsNumberBelow, IsIp, IsEndpoint}
-use Rattle.turn_types.specs.Profile.{end_of_moments}
+use Rattle.turn_types.specs.Prelude.{end_of_moments}
 
 -- the option is not there, or its text is a number below the bound
 abbrev pub IsBelowIfGiven : ℕ → Option (List ℕ) → Type 0

@@ -1,12 +1,10 @@
 -- A masked address is read again.
-use Rattle.std.proofs.Common.{◌≡◌, ℕ, ◌^◌, ◌<◌, List, Some, refl, arith}
-use Rattle.std.specs.Prelude.{bit_xor}
+use Rattle.std.proofs.Common.{◌≡◌, ℕ, ◌^◌, ◌<◌, List, Some, refl, arith, bit_xor}
 use Rattle.std.proofs.lemmas.Nat.{xor_lt, from_be_bytes-to_be_bytes_2, from_be_bytes-to_be_bytes_4}
 use lib.Bits.{xor_assoc, xor_self, xor_zero_r}
 use Rattle.turn_types.specs.declared.address.Addr.TheVariants.{V4}
 use Rattle.turn_types.specs.declared.address.Endpoint.{Endpoint}
-use Rattle.turn_codec.specs.Grammar.{cookie}
-use Rattle.turn_codec.specs.Address.{xor_value, address_of}
+use Rattle.turn_codec.specs.Prelude.{cookie, xor_value, address_of}
 
 unmasked : (a m : ℕ) → bit_xor (bit_xor a m) m ≡ a
 unmasked a m = rw (xor_assoc, xor_self, xor_zero_r) refl

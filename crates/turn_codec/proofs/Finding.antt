@@ -1,12 +1,9 @@
 -- Looking for the first attribute of a type.
-use Rattle.std.proofs.Common.{◌≡◌, ◌≢◌, ℕ, suc, ◌+◌, ◌-◌, ◌≤◌, Bool, false, eqb, List, [], ◌∷◌, ◌++◌, length, take, Option, Some, None, refl, sym, ap, subst, ◌∙◌, arith, inl, inr}
-use Rattle.std.specs.Prelude.{IsSome, sum_by}
-use Rattle.std.proofs.lemmas.Bool.{eq-eqb, ne_eqb}
+use Rattle.std.proofs.Common.{◌≡◌, ◌≢◌, ℕ, suc, ◌+◌, ◌-◌, ◌≤◌, Bool, false, eqb, List, [], ◌∷◌, ◌++◌, length, take, Option, Some, None, refl, sym, ap, subst, ◌∙◌, arith, inl, inr, IsSome, sum_by, eq-eqb, ne_eqb}
 use Rattle.std.proofs.lemmas.Bool.Decides.{eqb_tells}
 use Rattle.std.proofs.lemmas.List.Sums.{sum_by-cons}
 use Rattle.std.proofs.Math.Seq.{take-append-add}
-use Rattle.turn_codec.specs.Grammar.{Attribute, EncodesAttributes, size_of, before, from, value_of, FirstHas}
-use Rattle.turn_codec.specs.Reading.{first_attribute, attributes_in, attributes_of}
+use Rattle.turn_codec.specs.Prelude.{Attribute, EncodesAttributes, size_of, before, from, value_of, FirstHas, first_attribute, attributes_in, attributes_of}
 use Rattle.turn_codec.proofs.Walk.{attribute_size, first_size, is_some_end, of_cons, of_end, rest_whole}
 
 -- where there is no attribute of a type, there is none after one of another type is added

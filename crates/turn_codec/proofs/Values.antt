@@ -1,10 +1,8 @@
 -- The values that bytes encode are bytes.
-use Rattle.std.proofs.Common.{ℕ, ◌<◌, ◌≡◌, List, [], ◌∷◌, ◌++◌, length, refl, subst}
-use Rattle.std.specs.List.{All}
+use Rattle.std.proofs.Common.{ℕ, ◌<◌, ◌≡◌, List, [], ◌∷◌, ◌++◌, length, refl, subst, All, take_at, drop_at}
 use Rattle.std.specs.Int.{w16, w32, to_be_bytes}
-use Rattle.std.proofs.lemmas.List.{take_at, drop_at}
 use Rattle.std.proofs.lemmas.List.Elements.{All-nil, All-cons, All-take, All-drop}
-use Rattle.turn_codec.specs.Grammar.{Attribute, Content, Encodes, EncodesAttribute, EncodesAttributes, cookie, type_number}
+use Rattle.turn_codec.specs.Prelude.{Attribute, Content, Encodes, EncodesAttribute, EncodesAttributes, cookie, type_number}
 
 abbrev pub AreBytes : List ℕ → Type 0
 AreBytes bytes = All (λ x. x < 256) bytes

@@ -1,9 +1,6 @@
 -- From the bytes of a message to what its contracts say.
-use Rattle.std.proofs.Common.{◌≡◌, ℕ, ◌+◌, ◌-◌, ◌^◌, ◌<◌, ◌≤◌, Bool, List, [], ◌∷◌, length, take, drop, Option, Some, refl, sym, ap, subst, ◌∙◌, arith}
-use Rattle.std.specs.Prelude.{sum_by}
-use Rattle.std.proofs.lemmas.List.{drop_at, take_all, length-drop}
-use Rattle.turn_codec.specs.Grammar.{Attribute, Content, Datagram, Encodes, EncodesAttributes, size_of, before, from, offset_of, FirstHas}
-use Rattle.turn_codec.specs.Reading.{attributes_in, attributes_of, content_of, datagram_of, IsDatagram}
+use Rattle.std.proofs.Common.{◌≡◌, ℕ, ◌+◌, ◌-◌, ◌^◌, ◌<◌, ◌≤◌, Bool, List, [], ◌∷◌, length, take, drop, Option, Some, refl, sym, ap, subst, ◌∙◌, arith, sum_by, drop_at, take_all, length-drop}
+use Rattle.turn_codec.specs.Prelude.{Attribute, Content, Datagram, Encodes, EncodesAttributes, size_of, before, from, offset_of, FirstHas, attributes_in, attributes_of, content_of, datagram_of, IsDatagram}
 use Rattle.turn_codec.proofs.Walk.{count_le, in_complete}
 use Rattle.turn_codec.proofs.Finding.{before_encoded, before_all}
 

@@ -1,7 +1,6 @@
 -- The keys that are made of the passwords, one name after the other.
-use Rattle.std.proofs.Common.{◌≡◌, ℕ, Bool, true, false, cond, List, [], ◌∷◌, ◌++◌, Option, Some, None, refl, sym, ap, ◌∙◌}
+use Rattle.std.proofs.Common.{◌≡◌, ℕ, Bool, true, false, cond, List, [], ◌∷◌, ◌++◌, Option, Some, None, refl, sym, ap, ◌∙◌, Vec, map, option_map, Ordering, Less, Equal, Greater}
 use Rattle.std.proofs.lemmas.Map.Keys.{sorted_head, sorted_tail}
-use Rattle.std.specs.Prelude.{Vec, map, option_map}
 use Rattle.std.specs.Cmp.Lexicographic.{slice_cmp, nat_list_cmp_total}
 use Rattle.std.specs.FinMap as maps
 use Rattle.std.specs.FinMap.{find, from_entries, get-empty, get-insert, from_entries_push, nat_cmp-IsAntisymmetric, slice_cmp-IsAntisymmetric}
@@ -10,10 +9,8 @@ use Rattle.std.specs.List.Sorted.{IsStrictlySortedBy}
 use Rattle.std.specs.Map.{keys_of}
 use Rattle.std.specs.Map.Iter.{deref_pair}
 use Rattle.std.specs.Ordering.{nat_cmp, is_eq, eq_by_cmp, ordering_reverse}
-use Rattle.std.specs.declared.cmp.Ordering.{Ordering}
-use Rattle.std.specs.declared.cmp.Ordering.TheVariants.{Less, Equal, Greater}
 use denote.Bor.{Bor}
-use Rattle.turn_cred.specs.Users.{KeyMap}
+use Rattle.turn_cred.specs.Prelude.{KeyMap}
 use Rattle.turn_mac.specs.Hmac.{auth_key}
 use Rattle.turn_config.specs.Lines.{AreUsers, passwords_of}
 

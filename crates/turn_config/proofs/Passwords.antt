@@ -1,16 +1,13 @@
 -- The passwords of a tree of names.
-use Rattle.std.proofs.Common.{◌≡◌, ℕ, Bool, true, false, cond, List, [], ◌∷◌, Option, Some, None, refl, sym, ap, ◌∙◌}
-use Rattle.std.specs.Prelude.{◌&&◌, Vec, map, is_some, not}
+use Rattle.std.proofs.Common.{◌≡◌, ℕ, Bool, true, false, cond, List, [], ◌∷◌, Option, Some, None, refl, sym, ap, ◌∙◌, ◌&&◌, Vec, map, is_some, not, Ordering, Less, Equal, Greater}
 use Rattle.std.specs.BTreeMap.{is_at, insert_entry}
 use Rattle.std.specs.Cmp.Lexicographic.{slice_cmp}
 use Rattle.std.specs.FinMap as maps
 use Rattle.std.specs.Map.{lookup}
 use Rattle.std.specs.Ordering.{nat_cmp, match_ordering}
-use Rattle.std.specs.declared.cmp.Ordering.{Ordering}
-use Rattle.std.specs.declared.cmp.Ordering.TheVariants.{Less, Equal, Greater}
 use denote.Bor.{Bor}
 use Rattle.turn_cred.proofs.KeyMaps.{lookup-key_map, key_map-insert_entry}
-use Rattle.turn_cred.specs.Users.{key_map}
+use Rattle.turn_cred.specs.Prelude.{key_map}
 use Rattle.turn_config.specs.Lines.{passwords_of}
 
 is_some_cond : {X Y : Type 0} (b : Bool) (x : X) (y : Y) (m : Option X) (n : Option Y) → is_some m ≡ is_some n

@@ -1,8 +1,7 @@
 -- The words of a line are those that the splits at its blanks give.
-use Rattle.std.proofs.Common.{◌≡◌, ◌≢◌, ◌^◌, ℕ, Bool, true, false, Option, Some, None, SomeIff, IfSome, List, [], ◌∷◌, ◌++◌, refl, sym, subst, ◌∙◌, arith}
+use Rattle.std.proofs.Common.{◌≡◌, ◌≢◌, ◌^◌, ℕ, Bool, true, false, Option, Some, None, SomeIff, IfSome, List, [], ◌∷◌, ◌++◌, refl, sym, subst, ◌∙◌, arith, ◌&&◌, is_none, is_some}
 use Rattle.std.specs.List.{list_all}
-use Rattle.std.specs.Prelude.{◌&&◌, is_none, is_some}
-use Rattle.turn_types.specs.Limits.{AreInRange}
+use Rattle.turn_types.specs.Prelude.{AreInRange}
 use Rattle.turn_types.specs.declared.config.IpRange.{IpRange}
 use Rattle.turn_types.specs.declared.limits.Bounds.{Bounds}
 use Rattle.turn_config.specs.Lines.{is_visible, is_name, Lines, Says, IsLimits, IsRange, IsRelay, IsUser}

@@ -1,15 +1,12 @@
 -- What the lines of a configuration say after their first words.
-use Rattle.std.specs.Prelude.{ℕ, ◌≡◌, ◌≤◌, ◌<◌, ◌^◌, ◌&&◌, if◌then◌else◌, Bool, true, not, nat_eq, nat_le, nat_lt, Option, Some, None, option_map, is_some, IfSome, Ok, ◌⊎◌, List, [], ◌∷◌, ◌++◌, length, Vec, map as each}
+use Rattle.std.specs.Prelude.{ℕ, ◌≡◌, ◌≤◌, ◌<◌, ◌^◌, ◌&&◌, if◌then◌else◌, Bool, true, not, nat_eq, nat_le, nat_lt, Option, Some, None, option_map, is_some, IfSome, Ok, ◌⊎◌, List, [], ◌∷◌, ◌++◌, length, Vec, map as each, unwrap_or}
 use Rattle.std.specs.List.{list_all, list_any}
 use Rattle.std.specs.FinMap as map
-use Rattle.std.specs.Option.{unwrap_or}
 use denote.Bor.{Bor}
 use Rattle.hex.specs.Hex.{decode_sized}
-use Rattle.turn_cred.specs.Shared.{password_of}
-use Rattle.turn_cred.specs.Users.{KeyMap, key_map}
+use Rattle.turn_cred.specs.Prelude.{password_of, KeyMap, key_map}
 use Rattle.turn_mac.specs.Hmac.{auth_key}
-use Rattle.turn_types.specs.Config.{is_between, is_ordered}
-use Rattle.turn_types.specs.Limits.{AreInRange, max_bounds}
+use Rattle.turn_types.specs.Prelude.{is_between, is_ordered, AreInRange, max_bounds, max_allocations}
 use Rattle.turn_types.specs.declared.address.Endpoint.{Endpoint}
 use Rattle.turn_types.specs.declared.config.IpRange.{IpRange}
 use Rattle.turn_types.specs.declared.limits.Bounds.{Bounds}
@@ -19,7 +16,6 @@ use Rattle.turn_config.specs.declared.lines.Configured.{Configured}
 use Rattle.turn_config.specs.declared.settings.Relay.{Relay}
 use Rattle.turn_config.specs.declared.settings.Setting.{Setting}
 use Rattle.turn_config.specs.declared.settings.Setting.TheVariants as settings
-use Rattle.turn_types.specs.Profile.{max_allocations}
 
 -- an empty line, or a comment, which begins with #
 abbrev pub skipped : List ℕ → Bool

@@ -1,16 +1,14 @@
 -- Which names have an expiry time: what the definition reads, digit by digit.
-use Rattle.std.proofs.Common.{◌≡◌, ◌≢◌, ℕ, ◌+◌, ◌-◌, ◌*◌, ◌≤◌, ◌<◌, ◌&&◌, List, [], ◌∷◌, ◌++◌, get_or, Option, Some, None, refl, sym, ap, ◌∙◌, subst, arith, inl, inr}
-use Rattle.std.specs.Prelude.{◌==◌, nat_le, nat_lt, if◌then◌else◌, option_map}
+use Rattle.std.proofs.Common.{◌≡◌, ◌≢◌, ℕ, ◌+◌, ◌-◌, ◌*◌, ◌≤◌, ◌<◌, ◌&&◌, List, [], ◌∷◌, ◌++◌, get_or, Option, Some, None, refl, sym, ap, ◌∙◌, subst, arith, inl, inr, ◌==◌, nat_le, nat_lt, if◌then◌else◌, option_map}
 use Rattle.std.specs.Char.{digit_value}
 use Rattle.std.specs.Str.Parse.{AllDigits, IsNumeral, digits_value, digits_value_after}
 use Rattle.std.proofs.lemmas.Bool.Decides.{eqb_tells, nat_tests}
 use Rattle.std.proofs.lemmas.Option.{same_Some}
 use Rattle.std.proofs.lemmas.Str.{digit_value_digit}
 use Rattle.std.proofs.lemmas.Str.Parse.{digit_from_value}
-use Rattle.turn_cred.specs.Names.{HasExpiry, IsSharedKey, colon_and}
-use Rattle.turn_cred.specs.Shared.{as_moment, expiring_key, expiry_of, moment_from, shared_key}
+use Rattle.turn_cred.specs.Prelude.{HasExpiry, IsSharedKey, colon_and, as_moment, expiring_key, expiry_of, moment_from, shared_key}
 use Rattle.turn_cred.specs.declared.key.Key.{Key}
-use Rattle.turn_types.specs.Profile.{end_of_moments}
+use Rattle.turn_types.specs.Prelude.{end_of_moments}
 
 -- ---- Tests
 

@@ -1,15 +1,11 @@
 -- Long-term credentials (RFC 8489, section 9.2.4, in this project's profile).
-use Rattle.std.specs.Prelude.{ℕ, ◌==◌, nat_le, nat_lt, not, ◌&&◌, Bool, false, List, [], ◌∷◌, length, Option, None, is_some, is_none, unwrap_or, if◌then◌else◌}
-use Rattle.std.specs.Str.{bytes_eq}
+use Rattle.std.specs.Prelude.{ℕ, ◌==◌, nat_le, nat_lt, not, ◌&&◌, Bool, false, List, [], ◌∷◌, length, Option, None, is_some, is_none, unwrap_or, if◌then◌else◌, bytes_eq}
 use Rattle.std.specs.Option.{option_map_or}
 use Rattle.turn_types.specs.declared.address.Endpoint.{Endpoint}
-use Rattle.turn_types.specs.Config.{Config}
-use Rattle.turn_codec.specs.AttributeTypes.{username, message_integrity, realm, nonce}
-use Rattle.turn_codec.specs.Grammar.{Datagram, value_of}
-use Rattle.turn_codec.specs.Seen.{seen_value, is_seen}
+use Rattle.turn_types.specs.Prelude.{Config, first_row}
+use Rattle.turn_codec.specs.Prelude.{username, message_integrity, realm, nonce, Datagram, value_of, seen_value, is_seen}
 use Rattle.turn_mac.specs.Integrity.{has_right_integrity}
 use Rattle.turn_cred.specs.Nonce.{is_fresh}
-use Rattle.turn_types.specs.Rows.{first_row}
 use Rattle.turn_cred.specs.declared.key.Key.{Key}
 
 -- what credentials are checked by: the realm, the secret of the nonces, and how long a user's name may be

@@ -5,5 +5,6 @@ pub mod Memo
 pub mod Names
 pub mod Nonce
 pub mod Passed
+pub mod Prelude
 pub mod Shared
 pub mod Users

@@ -4,7 +4,7 @@ use Rattle.std.specs.Str.Parse.{IsNumeral, digits_value}
 use Rattle.turn_mac.specs.Hmac.{auth_key}
 use Rattle.turn_cred.specs.Shared.{password_of}
 use Rattle.turn_cred.specs.declared.key.Key.{Key}
-use Rattle.turn_types.specs.Profile.{end_of_moments}
+use Rattle.turn_types.specs.Prelude.{end_of_moments}
 
 -- nothing, or a colon and what comes after it
 abbrev pub colon_and : Option (List ℕ) → List ℕ

@@ -1,9 +1,7 @@
 -- A crash, one write after the other.
 use Rattle.std.proofs.Common.{◌≡◌, ⊎_elim, ℕ, ◌+◌, ◌-◌, ◌/◌, ◌<◌, ◌≤◌, List, [], ◌∷◌, ◌++◌, length, take, drop, reverse, refl, sym, ◌∙◌, ap, subst, arith}
 use Rattle.std.proofs.lemmas.List.{length-take, length-drop, length-replicate, take_at, take-take, drop-take, drop-drop}
-use Rattle.turn_disk.specs.Disk.{IsImage}
-use Rattle.turn_disk.specs.Crash.{replaced_at, part_of, left_of, left_by}
-use Rattle.turn_disk.specs.Record.{pending_of, past_of, trace_of, IsRecord}
+use Rattle.turn_disk.specs.Prelude.{IsImage, replaced_at, part_of, left_of, left_by, pending_of, past_of, trace_of, IsRecord}
 use Rattle.turn_disk.proofs.Replaced.{size_is, front_is, back_is, take_front, drop_front, drop_back}
 use Rattle.turn_disk.proofs.Recorded.{reverse_push}
 use Rattle.turn_disk.specs.declared.call.Call.{Call}

@@ -1,7 +1,6 @@
 -- What calls say of the disks that they use.
 use Rattle.std.proofs.Common.{◌≡◌, ◌∙◌, ℕ, subst}
-use Rattle.turn_disk.specs.Counts.{Rises}
-use Rattle.turn_disk.specs.Device.{Reads, Uses}
+use Rattle.turn_disk.specs.Prelude.{Rises, Reads, Uses}
 use Rattle.turn_disk.specs.declared.disk.Disk as disks
 
 -- that a device call failed may be said in another way

@@ -1,5 +1,5 @@
 -- How pieces of work that are done meanwhile go together.
-use Rattle.turn_disk.specs.Meanwhile.{Passes, none, more}
+use Rattle.turn_disk.specs.Prelude.{Passes, none, more}
 
 -- no piece
 pub passes_none : {M : Type 0} {passes : M → M → Type 0} {m : M} → Passes passes m m

@@ -1,9 +1,7 @@
 -- What a recorded write is in the trace.
 use Rattle.std.proofs.Common.{◌≡◌, ℕ, ◌+◌, ◌-◌, ◌≤◌, List, [], ◌∷◌, ◌++◌, length, take, drop, reverse, sym, ◌∙◌, ap, subst, arith}
 use Rattle.std.proofs.lemmas.List.{length-take, length-drop, length-append, take_at, drop_at, reverse-append}
-use Rattle.turn_disk.specs.Disk.{Range, State, Writes}
-use Rattle.turn_disk.specs.Crash.{replaced_at}
-use Rattle.turn_disk.specs.Record.{pending_of, past_of, trace_of}
+use Rattle.turn_disk.specs.Prelude.{Range, State, Writes, replaced_at, pending_of, past_of, trace_of}
 use Rattle.turn_disk.proofs.Replaced.{middle_is, undone, changes}
 use Rattle.turn_disk.specs.declared.call.Call.{Call}
 use Rattle.turn_disk.specs.declared.call.Call.TheVariants.{Wrote}

@@ -1,8 +1,7 @@
 -- Bytes put in place of others.
 use Rattle.std.proofs.Common.{◌≡◌, ℕ, ◌+◌, ◌≤◌, ◌<◌, List, ◌++◌, length, take, drop, get_or, sym, ◌∙◌, ap, arith}
 use Rattle.std.proofs.lemmas.List.{places, length-take, length-drop, length-append, take_at, drop_at, take-append-drop, drop-drop, append_assoc}
-use Rattle.turn_disk.specs.Disk.{ChangesOnly}
-use Rattle.turn_disk.specs.Crash.{replaced_at}
+use Rattle.turn_disk.specs.Prelude.{ChangesOnly, replaced_at}
 
 module _ (at : ℕ) (bytes content : List ℕ) (fits : at + length bytes ≤ length content) where
   size_front : length (take at content) ≡ at

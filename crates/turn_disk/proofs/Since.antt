@@ -1,7 +1,6 @@
 -- How a run of device calls goes on.
-use Rattle.std.proofs.Common.{Result, Ok, Err, ◌+◌, ◌<◌, ◌≤◌, arith, ◌≡◌, ◌⊎◌, inl, inr, ℕ, List, [], ◌∷◌, ◌++◌, refl, sym, ◌∙◌, ap, subst, ⊎_elim, length, slice_index}
-use Rattle.std.proofs.lemmas.List.{append_assoc, ext_get_or}
-use Rattle.turn_disk.specs.Disk.{Range, State, Trace, IsImage, IsOutside, ChangesOnly, EachImageOf, EachImageSince, Overwrites, Syncs, inside_write, AllWithin, IsSettled, IsSettledBut, ThroughOutcome, WritesOnce, WriteOutcome, SyncOutcome}
+use Rattle.std.proofs.Common.{Result, Ok, Err, ◌+◌, ◌<◌, ◌≤◌, arith, ◌≡◌, ◌⊎◌, inl, inr, ℕ, List, [], ◌∷◌, ◌++◌, refl, sym, ◌∙◌, ap, subst, ⊎_elim, length, slice_index, append_assoc, ext_get_or}
+use Rattle.turn_disk.specs.Prelude.{Range, State, Trace, IsImage, IsOutside, ChangesOnly, EachImageOf, EachImageSince, Overwrites, Syncs, inside_write, AllWithin, IsSettled, IsSettledBut, ThroughOutcome, WritesOnce, WriteOutcome, SyncOutcome}
 
 -- what a stop may leave after a write is what it may leave inside it
 pub image_during : (at count : ℕ) (old new : Trace) → Overwrites at count old new → (image : List ℕ) → IsImage new.now image → IsImage (inside_write at count old.now) image

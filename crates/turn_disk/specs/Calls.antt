@@ -1,7 +1,5 @@
 -- The calls on a file with their answers, and the trace that they amount to.
-use Rattle.std.specs.Prelude.{◌≡◌, ◌≤◌, ◌+◌, ℕ, zero, suc, Bool, true, false, List, [], ◌∷◌, length, take, drop}
-use Rattle.std.proofs.Common.{◌++◌, ◌∙◌, refl, arith}
-use Rattle.std.proofs.lemmas.List.{length-take, length-drop, length-append}
+use Rattle.std.proofs.Common.{◌≡◌, ◌≤◌, ◌+◌, ℕ, zero, suc, Bool, true, false, List, [], ◌∷◌, length, take, drop, ◌++◌, ◌∙◌, refl, arith, length-take, length-drop, length-append}
 use Rattle.turn_disk.specs.Disk.{State, Trace, inside_write}
 use Rattle.turn_disk.specs.Crash.{replaced_at}
 

@@ -1,9 +1,10 @@
-pub mod Disk
-pub mod Counts
-pub mod Device
 pub mod Calls
+pub mod Counts
 pub mod Crash
+pub mod Device
+pub mod Disk
 pub mod Laws
 pub mod Meanwhile
+pub mod Prelude
 pub mod Record
 pub mod Views

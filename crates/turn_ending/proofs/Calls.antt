@@ -4,12 +4,10 @@ use Rattle.std.specs.List.{AllByRecursion}
 use Rattle.turn_cred.specs.declared.handler.AuthHandler as handlers
 use Rattle.turn_disk.specs.declared.disk.Disk as disks
 use Rattle.turn_engine.proofs.Lists.{all-append}
-use Rattle.turn_engine.specs.Calls.{Commits, Submits}
-use Rattle.turn_engine.specs.Runs.{Commit, Relay, Serves, ServerCall, Submit, after_of, last_of}
-use Rattle.turn_engine.specs.State.{ServerState}
+use Rattle.turn_engine.specs.Prelude.{Commits, Submits, Commit, Relay, Serves, ServerCall, Submit, after_of, last_of, ServerState}
 use Rattle.turn_engine.specs.declared.error.SubmitError.{SubmitError}
 use Rattle.turn_ports.specs.declared.generator.RelayAddressGenerator as generators
-use Rattle.turn_step.specs.Outcome.{Arrives, Sent}
+use Rattle.turn_step.specs.Prelude.{Arrives, Sent}
 use Rattle.turn_store.specs.declared.error.StoreError.{StoreError}
 use Rattle.turn_types.specs.declared.address.FiveTuple.{FiveTuple}
 use Rattle.turn_ending.specs.Ends.{Ends, IsEndCall, IsEndOf}

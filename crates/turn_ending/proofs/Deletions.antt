@@ -1,36 +1,18 @@
 -- What a Refresh of 0 may do: delete the allocation of its five-tuple, or nothing.
-use Rattle.std.proofs.Common.{◌≡◌, ◌⊎◌, inl, inr, ℕ, Bool, true, false, List, [], ◌∷◌, ◌++◌, Contains, Option, Some, None, refl, sym, ap, ◌∙◌, subst}
+use Rattle.std.proofs.Common.{◌≡◌, ◌⊎◌, inl, inr, ℕ, Bool, true, false, List, [], ◌∷◌, ◌++◌, Contains, Option, Some, None, refl, sym, ap, ◌∙◌, subst, ◌==◌, ◌&&◌, option_map, if◌then◌else◌}
 use Rattle.std.specs.FinMap as fin
 use Rattle.std.specs.List.{AllByRecursion}
-use Rattle.std.specs.Prelude.{◌==◌, ◌&&◌, option_map, if◌then◌else◌}
-use Rattle.turn_codec.specs.Grammar.{Content, Datagram}
-use Rattle.turn_codec.specs.AttributeTypes.{lifetime}
-use Rattle.turn_codec.specs.Seen.{has_unknown, seen_value}
-use Rattle.turn_cred.specs.Credential.{Keys, Verdict, has_expired}
-use Rattle.turn_cred.specs.Credential.Verdict.{Challenge401, Bad400, Stale438, Passed}
+use Rattle.turn_codec.specs.Prelude.{Content, Datagram, lifetime, has_unknown, seen_value}
+use Rattle.turn_cred.specs.Prelude.{Keys, Verdict, has_expired, Bad400, Stale438, Passed}
+use Rattle.turn_cred.specs.Credential.Verdict.{Challenge401}
 use Rattle.turn_engine.proofs.Lists.{all-append}
-use Rattle.turn_engine.specs.Runs.{IsRun, Taken, accepted}
-use Rattle.turn_history.specs.History.{Event, History, PlainAct, Renews}
-use Rattle.turn_history.specs.Table.{Contents, Entry, table}
-use Rattle.turn_rules.specs.Allocate.{allocate_outcome}
-use Rattle.turn_rules.specs.Channel.{channel_outcome}
-use Rattle.turn_rules.specs.Permission.{permission_outcome}
-use Rattle.turn_rules.specs.Answer.{Decided, by_verdict, decision, is_dropped, is_expired, is_protected, outcome_of, passed_outcome, user_of}
-use Rattle.turn_rules.specs.Binding.{binding_outcome}
-use Rattle.turn_rules.specs.Fields.{four_bytes, lifetime_of, number_in}
-use Rattle.turn_rules.specs.Outcome.{act_by}
-use Rattle.turn_rules.specs.Owner.{entry_outcome, owner_outcome, owner_rows}
-use Rattle.turn_rules.specs.Refresh.{refresh_outcome, refresh_rows, renewed_for}
+use Rattle.turn_engine.specs.Prelude.{IsRun, Taken, accepted}
+use Rattle.turn_history.specs.Prelude.{Event, History, PlainAct, Renews, Contents, Entry, table, Unauthenticated, FiveTuple}
+use Rattle.turn_rules.specs.Prelude.{allocate_outcome, channel_outcome, permission_outcome, Decided, by_verdict, decision, is_dropped, is_expired, is_protected, outcome_of, passed_outcome, user_of, binding_outcome, four_bytes, lifetime_of, number_in, act_by, entry_outcome, owner_outcome, owner_rows, refresh_outcome, refresh_rows, renewed_for}
 use Rattle.turn_rules.specs.declared.outcome.Outcome.{Outcome}
 use Rattle.turn_rules.specs.declared.outcome.Outcome.TheVariants.{Challenge, Drop, MappedAddress, RefuseUnknown, Renew}
-use Rattle.turn_types.specs.Rows.{first_row}
-use Rattle.turn_types.specs.declared.error.ErrorCode.TheVariants.{Unauthenticated}
-use Rattle.turn_step.specs.Answer.{AnswersArrival, AnswersClient, Setting}
-use Rattle.turn_step.specs.Outcome.{Arrives, Change, StepOutcome, added, change_of}
-use Rattle.turn_step.specs.Outcome.Arrives.{FromClient, FromPeer}
-use Rattle.turn_types.specs.Config.{Config}
-use Rattle.turn_types.specs.Methods.{allocate, binding, create_permission, refresh}
-use Rattle.turn_types.specs.declared.address.FiveTuple.{FiveTuple}
+use Rattle.turn_types.specs.Prelude.{first_row, Config, allocate, binding, create_permission, refresh}
+use Rattle.turn_step.specs.Prelude.{AnswersArrival, AnswersClient, Setting, Arrives, Change, StepOutcome, added, change_of, FromClient, FromPeer}
 use Rattle.turn_ending.specs.Ends.{IsDeletion, IsEnd, IsEndOf}
 
 -- what a LIFETIME of four zeros asks for

@@ -1,8 +1,6 @@
 -- Which allocations of a table end.
-use Rattle.std.specs.Prelude.{ℕ, ◌&&◌, Bool, List, Vec, nat_eq, nat_lt}
-use Rattle.std.specs.Str.{bytes_eq}
-use Rattle.turn_history.specs.Table.{Entry}
-use Rattle.turn_types.specs.declared.address.FiveTuple.{FiveTuple}
+use Rattle.std.specs.Prelude.{ℕ, ◌&&◌, Bool, List, Vec, nat_eq, nat_lt, bytes_eq}
+use Rattle.turn_history.specs.Prelude.{Entry, FiveTuple}
 use Rattle.turn_ending.specs.declared.chosen.Chosen.{Chosen}
 use Rattle.turn_ending.specs.declared.chosen.Whose.{Whose}
 use Rattle.turn_ending.specs.declared.chosen.Whose.TheVariants.{Client, User}

@@ -2,19 +2,15 @@
 use Rattle.std.specs.Prelude.{ℕ, ◌≡◌, List, Contains, Some, true, is_none}
 use Rattle.std.specs.FinMap as fin
 use Rattle.std.specs.List.{AllByRecursion, list_all}
-use Rattle.turn_codec.specs.Grammar.{Content, Encodes}
+use Rattle.turn_codec.specs.Prelude.{Content, Encodes}
 use Rattle.turn_cred.specs.declared.handler.AuthHandler as handlers
 use Rattle.turn_disk.specs.declared.disk.Disk as disks
-use Rattle.turn_engine.specs.Runs.{Commit, Relay, Serves, ServerCall, Submit, last_of}
-use Rattle.turn_engine.specs.State.{ServerState}
-use Rattle.turn_history.specs.History.{Event, Renews}
-use Rattle.turn_history.specs.Table.{Contents}
+use Rattle.turn_engine.specs.Prelude.{Commit, Relay, Serves, ServerCall, Submit, last_of, ServerState}
+use Rattle.turn_history.specs.Prelude.{Event, Renews, Contents, FiveTuple}
 use Rattle.turn_ports.specs.declared.generator.RelayAddressGenerator as generators
-use Rattle.turn_rules.specs.Fields.{lifetime_of}
-use Rattle.turn_step.specs.Outcome.{Arrives}
-use Rattle.turn_step.specs.Outcome.Arrives.{FromClient, FromPeer}
-use Rattle.turn_types.specs.Methods.{refresh}
-use Rattle.turn_types.specs.declared.address.FiveTuple.{FiveTuple}
+use Rattle.turn_rules.specs.Prelude.{lifetime_of}
+use Rattle.turn_step.specs.Prelude.{Arrives, FromClient, FromPeer}
+use Rattle.turn_types.specs.Prelude.{refresh}
 use Rattle.turn_ending.specs.declared.chosen.Chosen.{Chosen}
 
 -- a message of the method Refresh with a LIFETIME of 0

@@ -1,13 +1,9 @@
 -- Arrivals that were answered, one after another.
-use Rattle.std.proofs.Common.{◌≡◌, ◌≤◌, ◌-◌, ℕ, zero, suc, List, [], ◌∷◌, ◌++◌, length, take, refl, sym, ap, ◌∙◌, subst, arith, append_assoc, append-nil}
-use Rattle.std.specs.Option.{option_to_list}
-use Rattle.turn_history.specs.History.{History}
-use Rattle.turn_step.specs.Answer.{Setting}
-use Rattle.turn_step.specs.Outcome.{Sent, added}
-use Rattle.turn_store.specs.Areas.{Form}
-use Rattle.turn_store.specs.Images.{RepresentsBy}
-use Rattle.turn_engine.specs.Images.{AtLeast}
-use Rattle.turn_engine.specs.Runs.{BeginsWith, IsAnswered, IsRun, Taken, accepted, last_moment, sent_about}
+use Rattle.std.proofs.Common.{◌≡◌, ◌≤◌, ◌-◌, ℕ, zero, suc, List, [], ◌∷◌, ◌++◌, length, take, refl, sym, ap, ◌∙◌, subst, arith, append_assoc, append-nil, option_to_list}
+use Rattle.turn_history.specs.Prelude.{History}
+use Rattle.turn_step.specs.Prelude.{Setting, Sent, added}
+use Rattle.turn_store.specs.Prelude.{Form, RepresentsBy}
+use Rattle.turn_engine.specs.Prelude.{AtLeast, BeginsWith, IsAnswered, IsRun, Taken, accepted, last_moment, sent_about}
 
 pub accepted-append : (xs ys : List Taken) → accepted (xs ++ ys) ≡ accepted xs ++ accepted ys
 accepted-append [] ys = refl

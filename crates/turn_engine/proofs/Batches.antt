@@ -1,12 +1,9 @@
 -- A payload with one act more.
 use Rattle.std.proofs.Common.{◌≡◌, ◌≤◌, ◌<◌, ◌+◌, ℕ, List, [], ◌∷◌, ◌++◌, length, slice_index, slice_set, refl, sym, ap, ◌∙◌, arith, append_assoc, append-nil, length-append}
-use Rattle.turn_history.specs.History.{Event}
-use Rattle.turn_record.specs.Bytes.{act_entry, each, payload}
-use Rattle.turn_record.specs.Records.{max_act}
+use Rattle.turn_history.specs.Prelude.{Event, FiveTuple, Bounds}
+use Rattle.turn_record.specs.Prelude.{act_entry, each, payload, max_act}
 use Rattle.turn_record.specs.declared.version.Version.{Version}
 use Rattle.turn_engine.specs.Staged.{IsSound}
-use Rattle.turn_types.specs.declared.address.FiveTuple.{FiveTuple}
-use Rattle.turn_types.specs.declared.limits.Bounds.{Bounds}
 
 pub pushed-sound : (v : Version) (b : Bounds) (acts : ℕ) (bytes entry : List ℕ) (capacity more : ℕ) (tuples : List FiveTuple) (places wider : ℕ) (f : FiveTuple) → IsSound v b acts bytes capacity tuples places → acts < b.acts
     → length entry ≤ max_act v b → capacity ≤ more → places ≤ wider → IsSound v b (acts + 1) (slice_set (bytes ++ entry) 0 (acts + 1)) more (tuples ++ f ∷ []) wider

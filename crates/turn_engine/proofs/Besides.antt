@@ -5,24 +5,15 @@ use Rattle.std.proofs.lemmas.Bool.{and_from, and_parts, both_ways, eq-eqb, eqb-t
 use Rattle.std.proofs.lemmas.List.{take-append-le}
 use Rattle.std.specs.List.{AllByRecursion, list_any}
 use Rattle.turn_disk.specs.Meanwhile as meanwhile
-use Rattle.turn_disk.specs.Meanwhile.{Passes}
-use Rattle.turn_history.specs.History.{History}
-use Rattle.turn_history.specs.Laws.{PortsApart}
-use Rattle.turn_history.specs.Table.{Contents}
-use Rattle.turn_cred.specs.Credential.{Keys}
+use Rattle.turn_disk.specs.Prelude.{Passes}
+use Rattle.turn_history.specs.Prelude.{History, PortsApart, Contents, Endpoint, FiveTuple}
+use Rattle.turn_cred.specs.Prelude.{Keys}
 use Rattle.turn_step.proofs.Beginnings.{data_same}
-use Rattle.turn_step.specs.Answer.{AnswersArrival, Setting}
+use Rattle.turn_step.specs.Prelude.{AnswersArrival, Setting, IsOwner, IsRequestOf, IsAfter, setting_of, Arrives, Sent, added, FromPeer}
 use Rattle.turn_step.specs.declared.arrival.Outgoing.{Outgoing}
 use Rattle.turn_step.specs.declared.data.DataAnswer.{DataAnswer}
 use Rattle.turn_step.specs.declared.data.DataAnswer.TheVariants.{Data, Request}
-use Rattle.turn_step.specs.Data.{IsOwner, IsRequestOf}
-use Rattle.turn_step.specs.State.{IsAfter, setting_of}
-use Rattle.turn_engine.specs.Relaying.{BesideState, HasToWait, IsApart, IsAtClock, IsBehind, Relays, has_no_owner, is_behind, is_later, is_request, is_staged}
-use Rattle.turn_step.specs.Outcome.{Arrives, Sent, added}
-use Rattle.turn_step.specs.Outcome.Arrives.{FromPeer}
-use Rattle.turn_types.specs.declared.address.Endpoint.{Endpoint}
-use Rattle.turn_types.specs.declared.address.FiveTuple.{FiveTuple}
-use Rattle.turn_engine.specs.Runs.{IsAnswered, IsRun, Taken, accepted, beside_at, last_moment}
+use Rattle.turn_engine.specs.Prelude.{BesideState, HasToWait, IsApart, IsAtClock, IsBehind, Relays, has_no_owner, is_behind, is_later, is_request, is_staged, IsAnswered, IsRun, Taken, accepted, beside_at, last_moment}
 use Rattle.turn_engine.proofs.Answered.{accepted-append}
 use Rattle.turn_engine.proofs.Lists.{all-append, none_left}
 

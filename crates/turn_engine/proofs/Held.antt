@@ -3,13 +3,12 @@ use Rattle.std.proofs.Common.{List, [], ◌∷◌, Ok, Err, None, sym, ap, subst
 use Rattle.turn_cred.specs.declared.handler.AuthHandler as handlers
 use Rattle.turn_disk.specs.declared.disk.Disk as disks
 use Rattle.turn_ports.specs.declared.generator.RelayAddressGenerator as generators
-use Rattle.turn_record.specs.Records.{IsSnapshot}
+use Rattle.turn_record.specs.Prelude.{IsSnapshot}
 use Rattle.turn_record.specs.declared.version.Version.{Version}
-use Rattle.turn_step.specs.State.{HasPortsApart, HoldsPorts, MachineState}
-use Rattle.turn_table.specs.State.{State}
+use Rattle.turn_step.specs.Prelude.{HasPortsApart, HoldsPorts, MachineState}
+use Rattle.turn_table.specs.Prelude.{State}
 use Rattle.turn_types.specs.declared.limits.Bounds.{Bounds}
-use Rattle.turn_engine.specs.Runs.{Commit, IsCall, Relay, Serves, ServerCall, Submit, after_of, last_of}
-use Rattle.turn_engine.specs.State.{ServerState}
+use Rattle.turn_engine.specs.Prelude.{Commit, IsCall, Relay, Serves, ServerCall, Submit, after_of, last_of, ServerState}
 
 -- a table of which there is a snapshot
 pub apart_in : (v : Version) (b : Bounds) (s : State) → IsSnapshot v b s.moment s.contents → HasPortsApart s

@@ -1,11 +1,9 @@
 -- Histories, cut and made longer.
-use Rattle.std.proofs.Common.{◌≡◌, ◌≤◌, ◌<◌, ◌+◌, ◌-◌, ℕ, List, [], ◌∷◌, ◌++◌, length, take, Option, Some, None, Result, Ok, Err, false, refl, sym, ap, ◌∙◌, arith, append-nil, rules}
+use Rattle.std.proofs.Common.{◌≡◌, ◌≤◌, ◌<◌, ◌+◌, ◌-◌, ℕ, List, [], ◌∷◌, ◌++◌, length, take, Option, Some, None, Result, Ok, Err, false, refl, sym, ap, ◌∙◌, arith, append-nil, rules, OnErr, OnOk, is_err, take-append-drop}
 use Rattle.std.specs.List.{AllByRecursion}
-use Rattle.std.specs.Prelude.{OnErr, OnOk, is_err}
-use Rattle.std.proofs.lemmas.List.{take-append-drop}
 use Rattle.std.proofs.Math.ListN.{drop_of_length-le}
-use Rattle.turn_history.specs.Laws.{AllFrom}
-use Rattle.turn_step.specs.Outcome.{Change, added}
+use Rattle.turn_history.specs.Prelude.{AllFrom}
+use Rattle.turn_step.specs.Prelude.{Change, added}
 
 pub all-append : {A : Type 0} (P : A → Type 0) (xs ys : List A) → AllByRecursion P xs → AllByRecursion P ys → AllByRecursion P (xs ++ ys)
 all-append P [] ys a b = b

@@ -1,41 +1,26 @@
 -- What an opening yields.
-use Rattle.std.proofs.Common.{◌≡◌, ◌≤◌, ◌⊎◌, ⊎_elim, ℕ, Bool, List, [], ◌∷◌, length, take, drop, Result, Ok, Err, refl, sym, ap, ◌∙◌, subst, arith}
-use Rattle.std.specs.Prelude.{IfOk}
+use Rattle.std.proofs.Common.{◌≡◌, ◌≤◌, ◌⊎◌, ⊎_elim, ℕ, Bool, List, [], ◌∷◌, length, take, drop, Result, Ok, Err, refl, sym, ap, ◌∙◌, subst, arith, IfOk}
 use Rattle.std.proofs.Math.ListN.{drop_of_length-le}
 use Rattle.std.specs.List.{AllByRecursion}
-use Rattle.turn_disk.specs.Disk.{State, Trace, IsImage, EachImageSince}
+use Rattle.turn_disk.specs.Prelude.{State, Trace, IsImage, EachImageSince}
 use Rattle.turn_disk.specs.declared.disk.Disk as disks
 use Rattle.turn_disk.proofs.Device.{uses_as}
 use Rattle.turn_disk.proofs.Since.{since_weaken}
-use Rattle.turn_history.specs.Fitting.{IsFitting}
-use Rattle.turn_history.specs.History.{Event, History, clock}
-use Rattle.turn_history.specs.Laws.{AllFrom}
+use Rattle.turn_history.specs.Prelude.{IsFitting, Event, History, clock, AllFrom, Bounds}
 use Rattle.turn_history.specs.Table as tables
 use Rattle.turn_record.specs.Bytes as bytes
-use Rattle.turn_record.specs.Records.{IsSnapshot, Writes}
-use Rattle.turn_record.specs.declared.version.Version.{Version}
-use Rattle.turn_record.specs.declared.version.Version.TheVariants.{V2}
-use Rattle.turn_store.specs.Areas.{Form}
-use Rattle.turn_store.specs.Images.{EachImage, IsInVersion, IsInVersionOr2, RepresentsBy, RepresentsAt}
-use Rattle.turn_store.specs.Opened.{OpensTo}
+use Rattle.turn_record.specs.Prelude.{IsSnapshot, Writes}
+use Rattle.turn_store.specs.Prelude.{Version, V2, Form, EachImage, IsInVersion, IsInVersionOr2, RepresentsBy, RepresentsAt, OpensTo, disk_of, IsPlain, Snapshot, RecoversToAt, snapshot_of}
 use Rattle.turn_store.specs.Opening as stores
-use Rattle.turn_store.specs.Opening.{disk_of}
-use Rattle.turn_store.specs.Refused.{IsPlain}
-use Rattle.turn_store.specs.Replay.{Snapshot}
-use Rattle.turn_store.specs.State.{RecoversToAt}
-use Rattle.turn_store.specs.Tables.{snapshot_of}
 use Rattle.turn_store.specs.declared.error.OpenError.TheVariants.{Memory}
 use Rattle.turn_store.specs.declared.store.Opened.{Opened}
 use Rattle.turn_store.specs.declared.store.StoreOpenError.{StoreOpenError}
 use Rattle.turn_store.proofs.Encoding.{clock_late}
 use Rattle.turn_store.proofs.Versions.{stays_second}
 use Rattle.turn_table.specs.State as tables_state
-use Rattle.turn_types.specs.Config.{Config}
-use Rattle.turn_types.specs.declared.limits.Bounds.{Bounds}
-use Rattle.turn_engine.specs.Calls.{Opening}
-use Rattle.turn_engine.specs.Images.{AtLeast}
-use Rattle.turn_engine.specs.Recovering.{Opens, RecoversTo, tuples_of}
-use Rattle.turn_engine.specs.State.{IsSound, ServerState, has_pairs, limits_of, now_of}
+use Rattle.turn_types.specs.Prelude.{Config}
+use Rattle.turn_engine.specs.Prelude.{Opening, AtLeast, Opens, RecoversTo, tuples_of, ServerState, has_pairs, limits_of, now_of}
+use Rattle.turn_engine.specs.State.{IsSound}
 use Rattle.turn_engine.specs.declared.error.ServerOpenError.{ServerOpenError}
 use Rattle.turn_engine.proofs.Lists.{length-take-le, take_of_length-le}
 

@@ -1,30 +1,21 @@
 -- Runs go on, call after call.
-use Rattle.std.proofs.Common.{rules, tests, ◌≡◌, ◌≤◌, ◌+◌, ◌⊎◌, inl, inr, ℕ, Bool, true, false, List, [], ◌∷◌, ◌++◌, length, map, take, drop, Option, None, Result, Ok, Err, refl, sym, ap, ◌∙◌, subst, arith, append_assoc, append-nil, length-append}
+use Rattle.std.proofs.Common.{rules, tests, ◌≡◌, ◌≤◌, ◌+◌, ◌⊎◌, inl, inr, ℕ, Bool, true, false, List, [], ◌∷◌, ◌++◌, length, map, take, drop, Option, None, Result, Ok, Err, refl, sym, ap, ◌∙◌, subst, arith, append_assoc, append-nil, length-append, option_to_list}
 use Rattle.std.proofs.lemmas.List.{map-append}
 use Rattle.std.specs.List.{AllByRecursion}
-use Rattle.std.specs.Option.{option_to_list}
-use Rattle.turn_cred.specs.Credential.{Keys}
+use Rattle.turn_cred.specs.Prelude.{Keys}
 use Rattle.turn_cred.specs.declared.handler.AuthHandler as handlers
-use Rattle.turn_disk.specs.Disk.{EachImageSince}
+use Rattle.turn_disk.specs.Prelude.{EachImageSince}
 use Rattle.turn_disk.specs.declared.disk.Disk as disks
 use Rattle.turn_disk.proofs.Since.{since_same, since_weaken}
-use Rattle.turn_history.specs.History.{History}
+use Rattle.turn_history.specs.Prelude.{History}
 use Rattle.turn_ports.specs.Ports.{has_failed}
 use Rattle.turn_ports.specs.declared.generator.RelayAddressGenerator as generators
-use Rattle.turn_step.specs.Answer.{AnswersArrival, Setting}
-use Rattle.turn_step.specs.Outcome.{Arrives, Sent, added}
-use Rattle.turn_step.specs.State.{KeepsSetting, MachineState, setting_of}
-use Rattle.turn_store.specs.Areas.{Form}
-use Rattle.turn_store.specs.State.{form_of}
+use Rattle.turn_step.specs.Prelude.{AnswersArrival, Setting, Arrives, Sent, added, KeepsSetting, MachineState, setting_of}
+use Rattle.turn_store.specs.Prelude.{Form, form_of}
 use Rattle.turn_store.specs.declared.error.StoreError.{StoreError}
 use Rattle.turn_store.specs.declared.error.StoreError.TheVariants as faults
-use Rattle.turn_types.specs.Config.{Config}
-use Rattle.turn_engine.specs.Calls.{Commits, Submits}
-use Rattle.turn_engine.specs.Images.{AtLeast}
-use Rattle.turn_engine.specs.Recovering.{Opens, RecoversTo}
-use Rattle.turn_engine.specs.Relaying.{IsAtClock, beside}
-use Rattle.turn_engine.specs.Runs.{Asked, Commit, IsAnswered, IsAtPlace, IsCall, IsRun, IsSilent, Lasts, Leads, NeverFails, Place, Relay, Serves, ServerCall, Submit, Taken, accepted, after_of, all_asked, asked, asked_after, asked_at, beside_at, count_at, datagrams_of, handed_by, handed_out, history_at, last_moment, last_of, sent_about, start}
-use Rattle.turn_engine.specs.State.{ServerState, now_of}
+use Rattle.turn_types.specs.Prelude.{Config}
+use Rattle.turn_engine.specs.Prelude.{Commits, Submits, AtLeast, Opens, RecoversTo, IsAtClock, beside, Asked, Commit, IsAnswered, IsAtPlace, IsCall, IsRun, IsSilent, Lasts, Leads, NeverFails, Place, Relay, Serves, ServerCall, Submit, Taken, accepted, after_of, all_asked, asked, asked_after, asked_at, beside_at, count_at, datagrams_of, handed_by, handed_out, history_at, last_moment, last_of, sent_about, start, ServerState, now_of}
 use Rattle.turn_engine.specs.declared.error.SubmitError.{SubmitError}
 use Rattle.turn_engine.specs.declared.error.SubmitError.TheVariants.{BatchFull, Memory, Stopped}
 use Rattle.turn_engine.proofs.Answered.{accepted-append, answered_at, begins, history-cut, history-push, last_moment-push, run-push, sent_about-append}

@@ -1,10 +1,10 @@
 -- What a stop leaves has what each image since the call began has.
 use Rattle.std.proofs.Common.{◌≡◌, ◌⊎◌, ⊎_elim, inl, inr, List, [], ◌∷◌, ℕ, sym, ◌∙◌, subst}
 use Rattle.std.proofs.lemmas.List.{append_cancel_right}
-use Rattle.turn_disk.specs.Disk.{State, Trace, IsImage, EachImageOf, EachImageSince, IsSettled}
+use Rattle.turn_disk.specs.Prelude.{State, Trace, IsImage, EachImageOf, EachImageSince, IsSettled}
 use Rattle.turn_disk.proofs.Since.{image_settled}
-use Rattle.turn_store.specs.Images.{EachImage}
-use Rattle.turn_engine.specs.Stops.{IsImageOfOne, IsLeft}
+use Rattle.turn_store.specs.Prelude.{EachImage}
+use Rattle.turn_engine.specs.Prelude.{IsImageOfOne, IsLeft}
 
 inside_has : (states : List State) (P : List ℕ → Type 0) (image : List ℕ) → EachImageOf states P → IsImageOfOne states image → P image
 inside_has [] P image each one = absurd one

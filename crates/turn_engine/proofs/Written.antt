@@ -1,37 +1,25 @@
 -- What a commit makes of what a server recovers to, and of its disk.
-use Rattle.std.proofs.Common.{inl, ◌≡◌, ◌≢◌, ◌≤◌, ◌<◌, ◌-◌, ⊎_elim, ℕ, true, false, List, [], ◌∷◌, ◌++◌, length, take, drop, Result, Ok, Err, refl, sym, ap, ◌∙◌, subst, arith, append-nil}
-use Rattle.std.proofs.lemmas.List.{take-append-drop}
+use Rattle.std.proofs.Common.{inl, ◌≡◌, ◌≢◌, ◌≤◌, ◌<◌, ◌-◌, ⊎_elim, ℕ, true, false, List, [], ◌∷◌, ◌++◌, length, take, drop, Result, Ok, Err, refl, sym, ap, ◌∙◌, subst, arith, append-nil, take-append-drop, OnErr}
 use Rattle.std.proofs.Math.Seq.{take-length, drop-length}
-use Rattle.std.specs.Prelude.{OnErr}
 use Rattle.std.specs.List.{AllByRecursion}
-use Rattle.turn_disk.specs.Disk.{State, Trace, IsImage, EachImageSince}
+use Rattle.turn_disk.specs.Prelude.{State, Trace, IsImage, EachImageSince}
 use Rattle.turn_disk.specs.declared.disk.Disk as disks
 use Rattle.turn_disk.proofs.Since.{since_same}
-use Rattle.turn_history.specs.Fitting.{IsFitting}
-use Rattle.turn_history.specs.History.{Event, History, clock}
+use Rattle.turn_history.specs.Prelude.{IsFitting, Event, History, clock, AllFrom, Bounds}
 use Rattle.turn_history.specs.Table as tables
-use Rattle.turn_history.specs.Laws.{AllFrom}
 use Rattle.turn_record.specs.Bytes as bytes
-use Rattle.turn_record.specs.Records.{Writes}
-use Rattle.turn_store.specs.Areas.{Form}
-use Rattle.turn_store.specs.Images.{EachImage, EitherBy, IsInVersion, RepresentsBy, RepresentsAt}
-use Rattle.turn_store.specs.Encodes.{HasSize}
-use Rattle.turn_store.specs.Stages.{InStages}
-use Rattle.turn_store.specs.State.{MayFollow, RecoversToAt, StoreState, form_of, framed, swapped}
+use Rattle.turn_record.specs.Prelude.{Writes}
+use Rattle.turn_store.specs.Prelude.{Form, EachImage, EitherBy, IsInVersion, RepresentsBy, RepresentsAt, HasSize, InStages, MayFollow, RecoversToAt, StoreState, form_of, framed, swapped}
 use Rattle.turn_store.specs.declared.error.StoreError.{StoreError}
 use Rattle.turn_store.specs.declared.store.WrittenAs.{WrittenAs}
 use Rattle.turn_store.specs.declared.store.WrittenAs.TheVariants.{Frame, Snapshot}
 use Rattle.turn_store.proofs.Rows.{recovers_image}
 use Rattle.turn_store.proofs.Staged.{stages_all, stages_first, stages_weaken}
 use Rattle.turn_store.proofs.Versions.{shown_in}
-use Rattle.turn_types.specs.declared.limits.Bounds.{Bounds}
-use Rattle.turn_step.specs.Outcome.{Sent}
-use Rattle.turn_engine.specs.Calls.{Commits}
-use Rattle.turn_engine.specs.Images.{AtLeast}
-use Rattle.turn_engine.specs.Recovering.{RecoversTo, tuples_of}
-use Rattle.turn_engine.specs.State.{ServerState, emptied, limits_of, now_of}
+use Rattle.turn_step.specs.Prelude.{Sent}
+use Rattle.turn_engine.specs.Prelude.{Commits, AtLeast, RecoversTo, tuples_of, ServerState, emptied, limits_of, now_of}
 use Rattle.turn_engine.proofs.Lists.{none_left}
-use Rattle.turn_types.specs.Profile.{end_of_moments}
+use Rattle.turn_types.specs.Prelude.{end_of_moments}
 
 -- the form of a store is kept, whatever an append answers
 pub form_kept : {D : Type 0} (old new : StoreState D) (count size : ℕ) (result : Result WrittenAs StoreError) → (result ≡ Ok Frame → new ≡ framed old count new.disk)

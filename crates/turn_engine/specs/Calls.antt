@@ -1,23 +1,14 @@
 -- What the calls of a server do, as records over what contracts see.
 use Rattle.std.specs.Prelude.{◌≡◌, ◌≤◌, ◌↔◌, ◌+◌, ◌-◌, ◌^◌, ℕ, List, Result, Ok, Err, None, IsOk, IfOk, IfErr, IsErrAnd, OnOk, OnErr, true, false, length, take, drop}
 use Rattle.turn_cred.specs.declared.handler.AuthHandler as handlers
-use Rattle.turn_disk.specs.Device.{Uses}
-use Rattle.turn_disk.specs.Disk.{EachImageSince}
+use Rattle.turn_disk.specs.Prelude.{Uses, EachImageSince}
 use Rattle.turn_disk.specs.declared.disk.Disk as disks
-use Rattle.turn_history.specs.History.{History}
+use Rattle.turn_history.specs.Prelude.{History}
 use Rattle.turn_ports.specs.Ports.{has_failed}
 use Rattle.turn_ports.specs.declared.generator.RelayAddressGenerator as generators
-use Rattle.turn_record.specs.declared.version.Version.TheVariants.{V2}
-use Rattle.turn_step.specs.Outcome.{Arrives, Sent}
-use Rattle.turn_step.specs.State.{CountsOne, HoldsPorts, IsPurged, KeepsSetting, setting_of}
-use Rattle.turn_types.specs.Config.{Config}
-use Rattle.turn_store.specs.Areas.{Form}
-use Rattle.turn_store.specs.Images.{EachImage, EitherBy, IsInVersion, RepresentsBy}
-use Rattle.turn_store.specs.Opened.{IsOpened}
-use Rattle.turn_store.specs.Refused.{IsPlain, WhyRefused}
-use Rattle.turn_store.specs.Stages.{InStages}
-use Rattle.turn_store.specs.State.{CompactsFor, StoreState, form_of}
-use Rattle.turn_store.specs.Tables.{snapshot_of}
+use Rattle.turn_store.specs.Prelude.{V2, Form, EachImage, EitherBy, IsInVersion, RepresentsBy, IsOpened, IsPlain, WhyRefused, InStages, CompactsFor, StoreState, form_of, snapshot_of}
+use Rattle.turn_step.specs.Prelude.{Arrives, Sent, CountsOne, HoldsPorts, IsPurged, KeepsSetting, setting_of}
+use Rattle.turn_types.specs.Prelude.{Config}
 use Rattle.turn_store.specs.declared.error.OpenError.TheVariants.{Device}
 use Rattle.turn_store.specs.declared.error.StoreError.{StoreError}
 use Rattle.turn_store.specs.declared.error.StoreError.TheVariants as faults

@@ -1,5 +1,6 @@
 pub mod Calls
 pub mod Images
+pub mod Prelude
 pub mod Recovering
 pub mod Relaying
 pub mod Runs

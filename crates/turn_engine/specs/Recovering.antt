@@ -1,19 +1,12 @@
 -- What a server recovers to.
-use Rattle.std.specs.Prelude.{◌≡◌, ◌≤◌, ◌++◌, ℕ, Bool, List, length, map, take, drop}
+use Rattle.std.specs.Prelude.{◌≡◌, ◌≤◌, ◌++◌, ℕ, Bool, List, length, map, take, drop, option_to_list}
 use Rattle.std.specs.List.{AllByRecursion}
-use Rattle.std.specs.Option.{option_to_list}
-use Rattle.turn_disk.specs.Disk.{State}
-use Rattle.turn_history.specs.History.{Event, History}
-use Rattle.turn_history.specs.Laws.{AllFrom}
+use Rattle.turn_disk.specs.Prelude.{State}
+use Rattle.turn_history.specs.Prelude.{Event, History, AllFrom, FiveTuple}
 use Rattle.turn_record.specs.Bytes as bytes
-use Rattle.turn_record.specs.Records.{Writes}
-use Rattle.turn_step.specs.Answer.{AnswersArrival, Setting}
-use Rattle.turn_step.specs.Outcome.{Arrives, StepOutcome, added}
-use Rattle.turn_step.specs.State.{IsAfter}
-use Rattle.turn_store.specs.Areas.{Form}
-use Rattle.turn_store.specs.Images.{RepresentsAt}
-use Rattle.turn_store.specs.State.{RecoversToAt, form_of}
-use Rattle.turn_types.specs.declared.address.FiveTuple.{FiveTuple}
+use Rattle.turn_record.specs.Prelude.{Writes}
+use Rattle.turn_step.specs.Prelude.{AnswersArrival, Setting, Arrives, StepOutcome, added, IsAfter}
+use Rattle.turn_store.specs.Prelude.{Form, RepresentsAt, RecoversToAt, form_of}
 use Rattle.turn_engine.specs.State.{ServerState, now_of}
 
 -- the five-tuples of events, in their order

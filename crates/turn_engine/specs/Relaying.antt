@@ -1,14 +1,9 @@
 -- Data that is answered beside what is staged.
 use Rattle.std.specs.Prelude.{◌≡◌, ◌≢◌, ◌⊎◌, ℕ, List, None, Option, drop, false, take}
 use Rattle.std.specs.List.{AllByRecursion}
-use Rattle.turn_cred.specs.Credential.{Keys}
-use Rattle.turn_history.specs.History.{History}
-use Rattle.turn_history.specs.Table.{Contents}
-use Rattle.turn_step.specs.Answer.{AnswersArrival}
-use Rattle.turn_step.specs.Data.{IsOwner, IsRequestOf}
-use Rattle.turn_step.specs.Outcome.{Arrives, Sent}
-use Rattle.turn_step.specs.State.{IsAfter, MachineState, setting_of}
-use Rattle.turn_types.specs.declared.address.FiveTuple.{FiveTuple}
+use Rattle.turn_cred.specs.Prelude.{Keys}
+use Rattle.turn_history.specs.Prelude.{History, Contents, FiveTuple}
+use Rattle.turn_step.specs.Prelude.{AnswersArrival, IsOwner, IsRequestOf, Arrives, Sent, IsAfter, MachineState, setting_of}
 use Rattle.turn_engine.specs.Recovering.{tuples_of}
 use Rattle.turn_engine.specs.State.{ServerState}
 

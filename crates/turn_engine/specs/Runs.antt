@@ -1,19 +1,14 @@
 -- Runs: what a server answers from an opening on, call after call.
-use Rattle.std.specs.Prelude.{◌≡◌, ◌≤◌, ◌++◌, ℕ, Bool, List, [], ◌∷◌, None, Option, Result, Ok, Err, false, length, map}
+use Rattle.std.specs.Prelude.{◌≡◌, ◌≤◌, ◌++◌, ℕ, Bool, List, [], ◌∷◌, None, Option, Result, Ok, Err, false, length, map, option_to_list}
 use Rattle.std.specs.List.{AllByRecursion}
-use Rattle.std.specs.Option.{option_to_list}
 use Rattle.turn_cred.specs.declared.handler.AuthHandler as handlers
-use Rattle.turn_disk.specs.Disk.{EachImageSince}
+use Rattle.turn_disk.specs.Prelude.{EachImageSince}
 use Rattle.turn_disk.specs.declared.disk.Disk as disks
-use Rattle.turn_history.specs.History.{History}
+use Rattle.turn_history.specs.Prelude.{History}
 use Rattle.turn_ports.specs.Ports.{has_failed}
 use Rattle.turn_ports.specs.declared.generator.RelayAddressGenerator as generators
-use Rattle.turn_step.specs.Answer.{AnswersArrival, Setting}
-use Rattle.turn_step.specs.Outcome.{Arrives, StepOutcome, Sent, added}
-use Rattle.turn_step.specs.State.{setting_of}
-use Rattle.turn_store.specs.Areas.{Form}
-use Rattle.turn_store.specs.Images.{EachImage, RepresentsBy}
-use Rattle.turn_store.specs.State.{form_of}
+use Rattle.turn_step.specs.Prelude.{AnswersArrival, Setting, Arrives, StepOutcome, Sent, added, setting_of}
+use Rattle.turn_store.specs.Prelude.{Form, EachImage, RepresentsBy, form_of}
 use Rattle.turn_store.specs.declared.error.StoreError.{StoreError}
 use Rattle.turn_engine.specs.Calls.{Submits, Commits}
 use Rattle.turn_engine.specs.Images.{AtLeast}

@@ -1,8 +1,8 @@
 -- What contracts see of a batch.
 use Rattle.std.specs.Prelude.{◌≡◌, ◌≤◌, ◌+◌, ◌*◌, ℕ, List, length, slice_index}
-use Rattle.turn_record.specs.Records.{max_act, max_payload}
+use Rattle.turn_record.specs.Prelude.{max_act, max_payload}
 use Rattle.turn_record.specs.declared.version.Version.{Version}
-use Rattle.turn_types.specs.Limits.{AreInRange}
+use Rattle.turn_types.specs.Prelude.{AreInRange}
 use Rattle.turn_types.specs.declared.address.FiveTuple.{FiveTuple}
 use Rattle.turn_types.specs.declared.limits.Bounds.{Bounds}
 

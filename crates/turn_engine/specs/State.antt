@@ -1,12 +1,9 @@
 -- What contracts see of a server.
 use Rattle.std.specs.Prelude.{◌≡◌, ◌≤◌, ℕ, Bool, true, false, List, [], ◌∷◌}
-use Rattle.turn_record.specs.Records.{IsSnapshot}
-use Rattle.turn_record.specs.declared.version.Version.{Version}
-use Rattle.turn_record.specs.declared.version.Version.TheVariants.{V1, V2}
-use Rattle.turn_step.specs.Outcome.{Sent}
-use Rattle.turn_step.specs.State.{MachineState}
-use Rattle.turn_store.specs.State.{StoreState}
-use Rattle.turn_table.specs.State.{State}
+use Rattle.turn_record.specs.Prelude.{IsSnapshot}
+use Rattle.turn_store.specs.Prelude.{Version, V1, V2, StoreState}
+use Rattle.turn_step.specs.Prelude.{Sent, MachineState}
+use Rattle.turn_table.specs.Prelude.{State}
 use Rattle.turn_types.specs.declared.address.FiveTuple.{FiveTuple}
 use Rattle.turn_types.specs.declared.limits.Bounds.{Bounds}
 

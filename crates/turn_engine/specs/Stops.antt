@@ -1,6 +1,6 @@
 -- What a stop leaves of a call.
 use Rattle.std.specs.Prelude.{◌≡◌, ◌⊎◌, ◌++◌, List, [], ◌∷◌, ℕ}
-use Rattle.turn_disk.specs.Disk.{State, Trace, IsImage}
+use Rattle.turn_disk.specs.Prelude.{State, Trace, IsImage}
 
 -- an image of one of these states
 abbrev pub IsImageOfOne : List State → List ℕ → Type 0

@@ -1,6 +1,5 @@
 -- What the table of a history answers, after one more event and at a later moment.
-use Rattle.std.proofs.Common.{◌≡◌, ℕ, ◌+◌, ◌≤◌, ◌<◌, Bool, true, false, cond, Option, Some, None, List, [], ◌∷◌, ◌++◌, is_some, map, reverse, refl, sym, ap, ◌∙◌, subst, arith, ltb, lt-ltb, ltb-true, eqb}
-use Rattle.std.specs.Prelude.{nat_eq}
+use Rattle.std.proofs.Common.{◌≡◌, ℕ, ◌+◌, ◌≤◌, ◌<◌, Bool, true, false, cond, Option, Some, None, List, [], ◌∷◌, ◌++◌, is_some, map, reverse, refl, sym, ap, ◌∙◌, subst, arith, ltb, lt-ltb, ltb-true, eqb, nat_eq}
 use Rattle.std.specs.Option.{option_or, option_and_then, option_map}
 use Rattle.std.specs.Ordering.{nat_cmp, eq_by_cmp}
 use Rattle.std.proofs.lemmas.Cmp.{nat_cmp_total}
@@ -13,16 +12,12 @@ use Rattle.std.proofs.lemmas.Bool.Decides.{nat_tests}
 use Rattle.std.proofs.lemmas.Option.{cond_some, option_and_then_some, same_Some}
 use Rattle.std.specs.FinMap as fin
 use Rattle.std.specs.FinMap.{FinMap, get-insert, get-remove, same_map, nat_cmp-IsAntisymmetric}
-use Rattle.turn_types.specs.declared.address.FiveTuple.{FiveTuple}
+use Rattle.turn_history.specs.Prelude.{FiveTuple, Token, PlainAct, Allocates, Renews, Permits, Binds, Event, History, first_some, own, addresses_of, numbers_of, permission_at, channel_at, channel_by, reserved_by, reservation_with, reservation_by, reservation_at, flat, reservation, ahead, channel_ahead, Entry, permissions_in, channels_in, entry_in, entry_of, Contents, table, still_permitted, still_bound, map_of, kept, purged, allocated, renewed, permitting, binding, applied_to, with_entry, applied, Reservations, reservation_ahead, reservations, still_reserved, with_reservation, reserving}
 use Rattle.turn_history.specs.declared.channel.Channel.{Channel}
 use Rattle.turn_history.specs.declared.reservation.Reservation.{Reservation}
-use Rattle.turn_types.specs.declared.message.Token.{Token}
-use Rattle.turn_types.specs.FiveTuple.{tuple_cmp, same_tuple}
-use Rattle.turn_history.specs.History.{PlainAct, Allocates, Renews, Permits, Binds, Event, History, first_some, own, addresses_of, numbers_of, permission_at, channel_at, channel_by, reserved_by, reservation_with, reservation_by, reservation_at, flat, reservation}
-use Rattle.turn_history.specs.Table.{ahead, channel_ahead, Entry, permissions_in, channels_in, entry_in, entry_of, Contents, table, still_permitted, still_bound, map_of, kept, purged, allocated, renewed, permitting, binding, applied_to, with_entry, applied, Reservations, reservation_ahead, reservations, still_reserved, with_reservation, reserving}
+use Rattle.turn_types.specs.Prelude.{tuple_cmp, same_tuple, permission_lifetime, channel_lifetime, reservation_lifetime}
 use Rattle.turn_history.proofs.Maps.{tuple_total, tuple_exact, from_eq, get-map_of-all, outside_keys}
 use Rattle.turn_history.proofs.Places.{own-cons}
-use Rattle.turn_types.specs.Profile.{permission_lifetime, channel_lifetime, reservation_lifetime}
 
 -- ---- Tests
 

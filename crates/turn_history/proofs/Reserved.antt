@@ -1,24 +1,16 @@
 -- Reserved ports: no entry has one, their ranges, and by which event each is reserved.
-use Rattle.std.proofs.Common.{◌≡◌, ℕ, ◌+◌, ◌≤◌, ◌<◌, Bool, true, false, cond, Option, Some, None, [], ◌∷◌, ◌++◌, reverse, refl, sym, ap, ◌∙◌, subst, arith, append_assoc, max, inl, inr}
-use Rattle.std.specs.Prelude.{nat_eq, ◌⊎◌}
+use Rattle.std.proofs.Common.{◌≡◌, ℕ, ◌+◌, ◌≤◌, ◌<◌, Bool, true, false, cond, Option, Some, None, [], ◌∷◌, ◌++◌, reverse, refl, sym, ap, ◌∙◌, subst, arith, append_assoc, max, inl, inr, nat_eq, ◌⊎◌, append-nil}
 use Rattle.std.specs.Option.{option_or}
 use Rattle.std.specs.List.{AllByRecursion}
 use Rattle.std.proofs.lemmas.Bool.{eqb-true, eqb-false, eq-eqb, ne_eqb}
-use Rattle.std.proofs.lemmas.List.{append-nil}
 use Rattle.std.proofs.lemmas.Option.{same_Some}
 use Rattle.std.specs.FinMap as fin
-use Rattle.turn_types.specs.declared.address.FiveTuple.{FiveTuple}
-use Rattle.turn_types.specs.declared.limits.Bounds.{Bounds}
-use Rattle.turn_types.specs.declared.message.Token.{Token}
+use Rattle.turn_history.specs.Prelude.{FiveTuple, Bounds, Token, Fits, FitsReservation, Follows, FitsAfter, IsFitting, IsInRange, IsActInRange, IsTokenOf, IsReservationInRange, AreReservationsInRange, PortIsFree, PlainAct, Allocates, Renews, Permits, Binds, Event, History, clock, first_some, reservation_at, reservation_by, reservation_with, flat, reservation, ReservedApart, IsAllocOf, Reserves, ReservedAt, Contents, applied, purged, reserving, table}
 use Rattle.turn_history.specs.declared.reservation.Reservation.{Reservation}
-use Rattle.turn_history.specs.Fitting.{Fits, FitsReservation, Follows, FitsAfter, IsFitting, IsInRange, IsActInRange, IsTokenOf, IsReservationInRange, AreReservationsInRange, PortIsFree}
-use Rattle.turn_history.specs.History.{PlainAct, Allocates, Renews, Permits, Binds, Event, History, clock, first_some, reservation_at, reservation_by, reservation_with, flat, reservation}
-use Rattle.turn_history.specs.Laws.{ReservedApart, IsAllocOf, Reserves, ReservedAt}
-use Rattle.turn_history.specs.Table.{Contents, applied, purged, reserving, table}
 use Rattle.turn_history.proofs.Histories.{always, fits_in_range, below_first, below_rest, fitting-split, clock-append}
 use Rattle.turn_history.proofs.Reading.{of_reservations, ahead_is, ahead_at, Makes, all_applied, applied-reserved, at_alloc, get-purged_reserved, get-reserved, get-with_reservation, purged_from, reservation-push}
 use Rattle.turn_history.proofs.Places.{all-append, by_last}
-use Rattle.turn_types.specs.Profile.{reservation_lifetime}
+use Rattle.turn_types.specs.Prelude.{reservation_lifetime}
 
 -- ---- What is left of a reservation
 

@@ -1,31 +1,22 @@
 -- The table of a fitting history is within the limits.
-use Rattle.std.proofs.Common.{◌≡◌, ℕ, zero, suc, T, ◌+◌, ◌-◌, ◌≤◌, Bool, true, false, cond, is_some, Option, Some, None, List, [], ◌∷◌, length, refl, sym, ap, ◌∙◌, subst, arith}
-use Rattle.std.specs.Prelude.{IsSomeAnd, nat_eq, ◌==◌}
+use Rattle.std.proofs.Common.{◌≡◌, ℕ, zero, suc, T, ◌+◌, ◌-◌, ◌≤◌, Bool, true, false, cond, is_some, Option, Some, None, List, [], ◌∷◌, length, refl, sym, ap, ◌∙◌, subst, arith, IsSomeAnd, nat_eq, ◌==◌, option_and_then, option_map, Ordering}
 use Rattle.std.specs.List.{list_any}
-use Rattle.std.specs.Option.{option_and_then, option_map}
 use Rattle.std.specs.Ordering.{nat_cmp, eq_by_cmp, is_eq}
 use Rattle.std.specs.Cmp.{IsTotalOrder}
-use Rattle.std.specs.declared.cmp.Ordering.{Ordering}
 use Rattle.std.proofs.lemmas.Cmp.{nat_cmp_total, tied_itself}
 use Rattle.std.specs.FinMap as fin
 use Rattle.std.specs.FinMap.{FinMap, IsAntisymmetric, find, is_sorted, get-insert, get-remove, get-empty, len-insert, len-empty, len-remove, empty_of_len, len-entries, entries_sorted, get-entries, nat_cmp-IsAntisymmetric}
 use Rattle.std.specs.FinMap.Entries.{below_all}
-use Rattle.turn_types.specs.FiveTuple.{tuple_cmp, same_tuple}
-use Rattle.turn_types.specs.declared.limits.Bounds.{Bounds}
-use Rattle.turn_history.specs.History.{PlainAct, Allocates, Renews, Permits, Binds, History, clock}
-use Rattle.turn_history.specs.Table.{Entry, Contents, still_permitted, still_bound, kept, purged, install, renewed, permitting, binding, applied_to, allocated, map_of, applied, table, reservations, with_reservation}
-use Rattle.turn_history.specs.Fitting.{Fits, FitsReservation, FitsChannel, IsChannelNumber, IsInRange, IsFitting}
-use Rattle.turn_history.specs.Laws.{IsWithin}
-use Rattle.turn_types.specs.declared.address.FiveTuple.{FiveTuple}
+use Rattle.turn_types.specs.Prelude.{tuple_cmp, same_tuple, permission_lifetime, channel_lifetime, reservation_lifetime}
+use Rattle.turn_history.specs.Prelude.{Bounds, PlainAct, Allocates, Renews, Permits, Binds, History, clock, Entry, Contents, still_permitted, still_bound, kept, purged, install, renewed, permitting, binding, applied_to, allocated, map_of, applied, table, reservations, with_reservation, Fits, FitsReservation, FitsChannel, IsInRange, IsFitting, IsWithin, FiveTuple, Token}
+use Rattle.turn_history.specs.Fitting.{IsChannelNumber}
 use Rattle.turn_history.specs.declared.channel.Channel.{Channel}
 use Rattle.turn_history.specs.declared.reservation.Reservation.{Reservation}
-use Rattle.turn_types.specs.declared.message.Token.{Token}
 use Rattle.turn_history.proofs.Histories.{always, fits_in_range, no_entries}
 use Rattle.turn_history.proofs.Entries.{first, second, unfound}
 use Rattle.turn_history.proofs.Maps.{tuple_total, tuple_exact, from_eq}
 use Rattle.turn_history.proofs.Reading.{of_permissions, of_channels, of_reservations, IsAhead, some_ahead, get-still_permitted, get-still_bound, get-purged, get-purged_reserved, get-applied, purged_from, Makes, all_applied}
 use Rattle.turn_history.proofs.Steps.{get-install}
-use Rattle.turn_types.specs.Profile.{permission_lifetime, channel_lifetime, reservation_lifetime}
 
 -- ---- A map without keys that another one lacks is no larger
 

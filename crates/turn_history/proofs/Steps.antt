@@ -1,28 +1,18 @@
 -- The table of a history after one more event, and at a later moment.
-use Rattle.std.proofs.Common.{◌≡◌, ℕ, ◌+◌, ◌≤◌, Bool, true, false, cond, ◌||◌, is_some, not, Option, Some, None, List, [], ◌∷◌, ◌++◌, refl, sym, ap, ◌∙◌, subst, arith, ltb, eqb, lt-ltb, reverse}
-use Rattle.std.specs.Prelude.{nat_eq, IsSome}
+use Rattle.std.proofs.Common.{◌≡◌, ℕ, ◌+◌, ◌≤◌, Bool, true, false, cond, ◌||◌, is_some, not, Option, Some, None, List, [], ◌∷◌, ◌++◌, refl, sym, ap, ◌∙◌, subst, arith, ltb, eqb, lt-ltb, reverse, nat_eq, IsSome, nat_cmp, eqb-true}
 use Rattle.std.specs.Option.{option_or, option_and_then, option_map}
-use Rattle.std.specs.Ordering.{nat_cmp}
 use Rattle.std.proofs.lemmas.Cmp.{nat_cmp_total}
 use Rattle.std.specs.List.{list_any}
-use Rattle.std.proofs.lemmas.Bool.{eqb-true}
 use Rattle.std.proofs.lemmas.Bool.Decides.{nat_tests}
 use Rattle.std.specs.FinMap as fin
 use Rattle.std.specs.FinMap.{FinMap, get-insert, same_map, nat_cmp-IsAntisymmetric}
-use Rattle.turn_types.specs.declared.address.Endpoint.{Endpoint}
-use Rattle.turn_types.specs.declared.address.FiveTuple.{FiveTuple}
+use Rattle.turn_history.specs.Prelude.{Endpoint, FiveTuple, Token, Bounds, Fits, IsActInRange, PlainAct, Allocates, Renews, Permits, Binds, Event, History, first_some, own, Allocation, allocation_at, span_at, until_first, addresses_of, permission_at, channel_at, reservation_with, reservation_by, reservation_at, flat, reservation, Contents, ahead, channel_ahead, map_of, permissions_in, channels_in, entry_with, entry_in, entry_of, table, install, still_permitted, still_bound, kept, purged, renewed, permitting, binding, applied_to, applied, reservation_ahead, reserving}
 use Rattle.turn_history.specs.declared.channel.Channel.{Channel}
 use Rattle.turn_history.specs.declared.reservation.Reservation.{Reservation}
-use Rattle.turn_types.specs.declared.message.Token.{Token}
-use Rattle.turn_types.specs.declared.limits.Bounds.{Bounds}
-use Rattle.turn_history.specs.Fitting.{Fits, IsActInRange}
-use Rattle.turn_types.specs.FiveTuple.{tuple_cmp, same_tuple}
-use Rattle.turn_history.specs.History.{PlainAct, Allocates, Renews, Permits, Binds, Event, History, first_some, own, Allocation, allocation_at, span_at, until_first, addresses_of, permission_at, channel_at, reservation_with, reservation_by, reservation_at, flat, reservation}
-use Rattle.turn_history.specs.Table.{Contents, ahead, channel_ahead, map_of, permissions_in, channels_in, entry_with, entry_in, entry_of, table, install, still_permitted, still_bound, kept, purged, renewed, permitting, binding, applied_to, applied, reservation_ahead, reserving}
+use Rattle.turn_types.specs.Prelude.{tuple_cmp, same_tuple, permission_lifetime, channel_lifetime, reservation_lifetime}
 use Rattle.turn_history.proofs.Reading.{of_permissions, of_channels, of_reservations, ahead_at, ahead-later, fresh, nat_same, get-permissions_in, get-channels_in, get-table, get-still_permitted, get-still_bound, get-purged, get-applied, same_contents, get-reserved, get-purged_reserved, applied-reserved, reservation-push, at_alloc, get-with_reservation}
 use Rattle.turn_history.proofs.Maps.{tuple_exact, from_eq}
 use Rattle.turn_history.proofs.Places.{own-push}
-use Rattle.turn_types.specs.Profile.{permission_lifetime, channel_lifetime, reservation_lifetime}
 
 -- ---- At a later moment
 

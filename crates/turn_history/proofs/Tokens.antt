@@ -1,15 +1,8 @@
 -- Tables without tokens.
-use Rattle.std.proofs.Common.{◌≡◌, ℕ, ◌≤◌, Bool, true, false, cond, Option, None, [], refl, sym, ap, ◌∙◌}
-use Rattle.std.specs.Prelude.{nat_eq}
+use Rattle.std.proofs.Common.{◌≡◌, ℕ, ◌≤◌, Bool, true, false, cond, Option, None, [], refl, sym, ap, ◌∙◌, nat_eq}
 use Rattle.std.specs.List.{AllByRecursion}
 use Rattle.std.specs.FinMap as fin
-use Rattle.turn_types.specs.declared.address.FiveTuple.{FiveTuple}
-use Rattle.turn_types.specs.declared.limits.Bounds.{Bounds}
-use Rattle.turn_types.specs.declared.message.Token.{Token}
-use Rattle.turn_history.specs.Fitting.{IsFitting}
-use Rattle.turn_history.specs.History.{PlainAct, Allocates, Renews, Permits, Binds, History, clock, reservation}
-use Rattle.turn_history.specs.Laws.{HasNoTokens, ReservesNone}
-use Rattle.turn_history.specs.Table.{Contents, applied, purged, reservation_ahead, reserving, table}
+use Rattle.turn_history.specs.Prelude.{FiveTuple, Bounds, Token, IsFitting, PlainAct, Allocates, Renews, Permits, Binds, History, clock, reservation, HasNoTokens, ReservesNone, Contents, applied, purged, reservation_ahead, reserving, table}
 use Rattle.turn_history.proofs.Histories.{always, no_entries}
 use Rattle.turn_history.proofs.Reading.{Makes, all_applied, applied-reserved, at_alloc, get-purged_reserved, get-reserved, get-with_reservation, purged_from}
 

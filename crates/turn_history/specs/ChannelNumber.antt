@@ -1,6 +1,6 @@
 -- The numbers by which a channel may be bound.
 use Rattle.std.specs.Prelude.{ℕ, ◌≤◌, Bool, Option, None, Some, if◌then◌else◌}
-use Rattle.turn_types.specs.Config.{is_between}
+use Rattle.turn_types.specs.Prelude.{is_between}
 
 -- a channel number: 0x4000 to 0x4FFF (RFC 8656, section 12)
 abbrev pub IsChannelNumber : ℕ → Type 0

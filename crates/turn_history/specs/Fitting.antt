@@ -12,7 +12,7 @@ use Rattle.turn_types.specs.declared.address.Endpoint.{Endpoint}
 use Rattle.turn_types.specs.declared.address.FiveTuple.{FiveTuple}
 use Rattle.turn_history.specs.declared.channel.Channel.{Channel}
 use Rattle.turn_history.specs.declared.reservation.Reservation.{Reservation}
-use Rattle.turn_types.specs.Profile.{permission_lifetime, channel_lifetime, default_lifetime, max_lifetime, reservation_lifetime, end_of_moments}
+use Rattle.turn_types.specs.Prelude.{permission_lifetime, channel_lifetime, default_lifetime, max_lifetime, reservation_lifetime, end_of_moments}
 use Rattle.turn_types.specs.declared.message.Token.{Token}
 
 -- ---- The ranges of an event's values

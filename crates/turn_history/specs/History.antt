@@ -3,14 +3,13 @@
 use Rattle.std.specs.Prelude.{ℕ, ◌+◌, ◌<◌, Bool, if◌then◌else◌, nat_lt, nat_eq, ◌==◌, Option, Some, None, List, [], ◌∷◌, reverse, IsSome, IsSomeAnd, is_some}
 use Rattle.std.specs.Option.{option_or, option_map}
 use Rattle.std.specs.List.{list_any, filter}
-use Rattle.turn_types.specs.FiveTuple.{same_tuple}
+use Rattle.turn_types.specs.Prelude.{same_tuple, permission_lifetime, channel_lifetime, reservation_lifetime}
 use Rattle.turn_types.specs.declared.address.Endpoint.{Endpoint}
 use Rattle.turn_types.specs.declared.address.FiveTuple.{FiveTuple}
 use Rattle.turn_history.specs.declared.channel.Channel.{Channel}
 use Rattle.turn_types.specs.declared.message.TxId.{TxId}
 use Rattle.turn_types.specs.declared.message.Token.{Token}
 use Rattle.turn_history.specs.declared.reservation.Reservation.{Reservation}
-use Rattle.turn_types.specs.Profile.{permission_lifetime, channel_lifetime, reservation_lifetime}
 
 -- ---- Acts and histories
 

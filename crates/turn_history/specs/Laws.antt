@@ -2,7 +2,7 @@
 use Rattle.std.specs.Prelude.{◌≡◌, ℕ, ◌+◌, ◌≤◌, ◌<◌, Option, Some, None, List, ◌∷◌, [], ◌++◌, IsSome, IsSomeAnd, nat_eq, true}
 use Rattle.std.specs.List.{list_any, filter, AllByRecursion}
 use Rattle.std.specs.FinMap as fin
-use Rattle.turn_types.specs.FiveTuple.{same_tuple}
+use Rattle.turn_types.specs.Prelude.{same_tuple, permission_lifetime, channel_lifetime, reservation_lifetime}
 use Rattle.turn_history.specs.Fitting.{PortIsFree}
 use Rattle.turn_history.specs.declared.reservation.Reservation.{Reservation}
 use Rattle.turn_types.specs.declared.message.Token.{Token}
@@ -12,7 +12,6 @@ use Rattle.turn_history.specs.Table.{Entry, Contents}
 use Rattle.turn_types.specs.declared.address.Endpoint.{Endpoint}
 use Rattle.turn_types.specs.declared.address.FiveTuple.{FiveTuple}
 use Rattle.turn_history.specs.declared.channel.Channel.{Channel}
-use Rattle.turn_types.specs.Profile.{permission_lifetime, channel_lifetime, reservation_lifetime}
 
 -- no event is older than a moment
 abbrev pub AllFrom : ℕ → List Event → Type 0

@@ -1,12 +1,10 @@
 -- The table of a history at a moment, and what the time that passes and one more act do to it.
-use Rattle.std.specs.Prelude.{ℕ, ◌+◌, if◌then◌else◌, nat_lt, ◌==◌, Option, Some, None, List, [], ◌∷◌, map, is_some}
-use Rattle.std.specs.Option.{option_and_then, option_map}
+use Rattle.std.specs.Prelude.{ℕ, ◌+◌, if◌then◌else◌, nat_lt, ◌==◌, Option, Some, None, List, [], ◌∷◌, map, is_some, option_and_then, option_map, flat_map}
 use Rattle.std.specs.declared.cmp.Ordering.{Ordering}
 use Rattle.std.specs.Ordering.{nat_cmp}
-use Rattle.std.specs.List.{flat_map}
 use Rattle.std.specs.FinMap as fin
 use Rattle.std.specs.FinMap.{FinMap}
-use Rattle.turn_types.specs.FiveTuple.{tuple_cmp}
+use Rattle.turn_types.specs.Prelude.{tuple_cmp, permission_lifetime, channel_lifetime, reservation_lifetime}
 use Rattle.turn_history.specs.History.{PlainAct, Allocates, Renews, Permits, Binds, Event, History, own, first_some, until_first, Allocation, allocation_at, span_at, addresses_of, numbers_of, permission_at, channel_at, reserved_by, reservation}
 use Rattle.turn_types.specs.declared.address.Endpoint.{Endpoint}
 use Rattle.turn_types.specs.declared.address.FiveTuple.{FiveTuple}
@@ -14,7 +12,6 @@ use Rattle.turn_history.specs.declared.channel.Channel.{Channel}
 use Rattle.turn_types.specs.declared.message.TxId.{TxId}
 use Rattle.turn_types.specs.declared.message.Token.{Token}
 use Rattle.turn_history.specs.declared.reservation.Reservation.{Reservation}
-use Rattle.turn_types.specs.Profile.{permission_lifetime, channel_lifetime, reservation_lifetime}
 
 -- ---- What a table holds
 

@@ -1,7 +1,7 @@
 -- How a frame is added, step by step.
 use Rattle.std.proofs.Common.{◌≡◌, inl, inr, ℕ, ◌+◌, ◌<◌, ◌≤◌, ◌^◌, List, [], ◌∷◌, ◌++◌, length, take, refl, ap, ◌∙◌}
 use Rattle.turn_disk.proofs.Since.{since_same, since_join, since_weaken, image_settled}
-use Rattle.turn_disk.specs.Disk.{EachImageSince, IsSettled, Trace, WritesOnce, WritesThrough}
+use Rattle.turn_disk.specs.Prelude.{EachImageSince, IsSettled, Trace, WritesOnce, WritesThrough}
 use Rattle.turn_journal.specs.Frames.{framed, AddsFrame, HoldsFramesTo, IsWaiting, HoldsWithout, HoldsWithOrWithout, HoldsWith}
 use Rattle.turn_journal.proofs.Growing.{staged_size, waits_there, still_holds, in_first, in_stage, in_second, after_second, untouched, untouched_alone}
 

@@ -3,7 +3,7 @@ use Rattle.std.proofs.Common.{◌≡◌, inl, inr, ℕ, ◌+◌, ◌<◌, ◌≤
 use Rattle.std.specs.Int.{to_be_bytes, w32}
 use Rattle.std.proofs.lemmas.Bool.{cases_eq}
 use Rattle.std.proofs.lemmas.List.{get_or_append_left, get_or_at}
-use Rattle.turn_disk.specs.Disk.{ChangesOnly, StandsAt}
+use Rattle.turn_disk.specs.Prelude.{ChangesOnly, StandsAt}
 use Rattle.turn_journal.specs.Layout.{open_gate}
 use Rattle.turn_journal.specs.Frames.{framed, IsOpen, IsClosed, IsFrame, gate_after, last_gate, HoldsFrames, HoldsFramesTo, IsWaiting, HoldsWithout, HoldsWithOrWithout, HoldsWith}
 

@@ -1,9 +1,8 @@
 -- An area has one reading.
-use Rattle.std.proofs.Common.{◌≡◌, ⊎_elim, ℕ, ◌+◌, ◌<◌, List, [], ◌∷◌, ◌++◌, length, slice_index, refl, sym, ◌∙◌, ap, subst, arith, ◌⊎◌}
+use Rattle.std.proofs.Common.{◌≡◌, ⊎_elim, ℕ, ◌+◌, ◌<◌, List, [], ◌∷◌, ◌++◌, length, slice_index, refl, sym, ◌∙◌, ap, subst, arith, ◌⊎◌, ext_get_or, length-append, get_or-append-add}
 use Rattle.std.specs.Int.{to_be_bytes, from_be_bytes, w32}
 use Rattle.std.proofs.lemmas.Nat.{from_be_bytes-to_be_bytes_4}
-use Rattle.std.proofs.lemmas.List.{ext_get_or, length-append, get_or-append-add}
-use Rattle.turn_disk.specs.Disk.{StandsAt}
+use Rattle.turn_disk.specs.Prelude.{StandsAt}
 use Rattle.turn_journal.specs.Frames.{framed, IsFrame, gate_after, HoldsFrames}
 use Rattle.turn_journal.specs.Scan.{HasLength, IsFound, IsBadFrame}
 use Rattle.turn_journal.specs.declared.found.Found.{Found}

@@ -1,7 +1,7 @@
 -- An area that holds frames.
 use Rattle.std.specs.Prelude.{◌≡◌, ◌≢◌, ◌⊎◌, ◌∷◌, ◌++◌, ◌<◌, ◌+◌, ◌^◌, [], List, ℕ, length, slice_index}
 use Rattle.std.specs.Int.{to_be_bytes, w32}
-use Rattle.turn_disk.specs.Disk.{ChangesOnly, EachImageSince, IsSettled, StandsAt, Trace, WritesOnce}
+use Rattle.turn_disk.specs.Prelude.{ChangesOnly, EachImageSince, IsSettled, StandsAt, Trace, WritesOnce}
 use Rattle.turn_journal.specs.Layout.{frame_head, frame_room, gate_size, open_gate}
 
 -- there is an open gate at this position

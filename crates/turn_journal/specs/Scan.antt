@@ -1,7 +1,7 @@
 -- What a scan finds at a gate.
 use Rattle.std.specs.Prelude.{◌^◌, ◌⊎◌, ◌<◌, ◌≤◌, ◌+◌, List, ℕ}
 use Rattle.std.specs.Int.{to_be_bytes, w32}
-use Rattle.turn_disk.specs.Disk.{StandsAt}
+use Rattle.turn_disk.specs.Prelude.{StandsAt}
 use Rattle.turn_journal.specs.Frames.{IsOpen, IsClosed}
 use Rattle.turn_journal.specs.Layout.{frame_room, gate_size}
 use Rattle.turn_journal.specs.declared.found.Found.{Found}

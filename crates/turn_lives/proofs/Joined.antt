@@ -4,10 +4,7 @@ use Rattle.turn_cred.specs.declared.handler.AuthHandler as handlers
 use Rattle.turn_disk.specs.declared.disk.Disk as disks
 use Rattle.turn_engine.proofs.Runs as runs
 use Rattle.turn_engine.proofs.Stops.{left_has}
-use Rattle.turn_engine.specs.Calls.{Submits}
-use Rattle.turn_engine.specs.Images.{AtLeast}
-use Rattle.turn_engine.specs.Runs.{Commit, NeverFails, Relay, Serves, ServerCall, Submit, Taken, accepted, last_of}
-use Rattle.turn_engine.specs.State.{ServerState, now_of}
+use Rattle.turn_engine.specs.Prelude.{Submits, AtLeast, Commit, NeverFails, Relay, Serves, ServerCall, Submit, Taken, accepted, last_of, ServerState, now_of}
 use Rattle.turn_player.proofs.Growing.{grows_by_last, longer_by}
 use Rattle.turn_player.proofs.Lives.{behind_life, keeps, one_run_by, sent_in-append, sent_lasts}
 use Rattle.turn_player.proofs.Worlds.{calls_make_lives, commit_since, leaves}
@@ -18,10 +15,8 @@ use Rattle.turn_player.specs.Worlds as worlds
 use Rattle.turn_player.specs.Worlds.{Calls, Down, IsDown, Leaves, Serving, Stands, World}
 use Rattle.turn_ports.specs.declared.generator.RelayAddressGenerator as generators
 use Rattle.turn_sockets.specs.declared.moment.Time as times
-use Rattle.turn_step.specs.Answer.{Setting}
-use Rattle.turn_step.specs.Outcome.{Sent}
-use Rattle.turn_store.specs.Areas.{Form}
-use Rattle.turn_store.specs.Images.{EachImage, RepresentsAt}
+use Rattle.turn_step.specs.Prelude.{Setting, Sent}
+use Rattle.turn_store.specs.Prelude.{Form, EachImage, RepresentsAt}
 use Rattle.turn_lives.specs.Processes as processes
 use Rattle.turn_lives.specs.Processes.{AreLives, AreOneRunOn, Follows, HaveLimits, IsStopping, LiveOn, MayLeave, Part, Process, Processes, Stopping, inputs_of, inputs_of_all, last_disk, said_of, said_of_all, settings_of}
 

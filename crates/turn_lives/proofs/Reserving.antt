@@ -3,8 +3,7 @@ use Rattle.std.proofs.Common.{◌≡◌, ◌⊎◌, inl, inr, ⊎_elim, ℕ, tru
 use Rattle.turn_cred.specs.declared.handler.AuthHandler as handlers
 use Rattle.turn_disk.specs.declared.disk.Disk as disks
 use Rattle.turn_engine.proofs.Stops.{left_has}
-use Rattle.turn_engine.specs.Runs.{Taken}
-use Rattle.turn_engine.specs.State.{ServerState, has_pairs, now_of}
+use Rattle.turn_engine.specs.Prelude.{Taken, ServerState, has_pairs, now_of}
 use Rattle.turn_player.proofs.Versions.{commit_in, go_on_reserving, opened_reserves, running_in}
 use Rattle.turn_player.proofs.Worlds.{calls_make_lives}
 use Rattle.turn_player.specs.Lives as lives
@@ -13,12 +12,9 @@ use Rattle.turn_player.specs.Versions.{ReservesPorts}
 use Rattle.turn_player.specs.Worlds as worlds
 use Rattle.turn_player.specs.Worlds.{Calls, Down, IsDown, Leaves, Lives, Serving, Stands, World}
 use Rattle.turn_ports.specs.declared.generator.RelayAddressGenerator as generators
-use Rattle.turn_record.specs.declared.version.Version.{Version}
-use Rattle.turn_record.specs.declared.version.Version.TheVariants.{V1, V2}
+use Rattle.turn_store.specs.Prelude.{Version, V1, V2, Form, EachImage, IsInVersion}
 use Rattle.turn_sockets.specs.declared.moment.Time as times
-use Rattle.turn_step.specs.Answer.{Setting}
-use Rattle.turn_store.specs.Areas.{Form}
-use Rattle.turn_store.specs.Images.{EachImage, IsInVersion}
+use Rattle.turn_step.specs.Prelude.{Setting}
 use Rattle.turn_lives.specs.Processes as processes
 use Rattle.turn_lives.specs.Processes.{AllReserve, HaveLimits, IsReserving, IsStopping, MayLeave, Part, Process, Processes, ReservesIfServing, Stopping, inputs_of, last_disk, said_of}
 use Rattle.turn_lives.proofs.Joined.{all_earlier, before_stop, before_turns, calls_of, one_lives_on}

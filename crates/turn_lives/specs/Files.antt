@@ -1,8 +1,6 @@
 -- Disks over files, by the state in which each file was found when it was opened.
 use Rattle.std.specs.Prelude.{◌≡◌, length}
-use Rattle.turn_disk.specs.Calls.{FollowCrashModel, replay}
-use Rattle.turn_disk.specs.Disk.{State}
-use Rattle.turn_disk.specs.Views.{InFile}
+use Rattle.turn_disk.specs.Prelude.{FollowCrashModel, replay, State, InFile}
 use Rattle.turn_disk.specs.declared.disk.Disk as disks
 
 -- what contracts say of a disk over a file that was found in this state when it was opened

@@ -2,12 +2,9 @@
 use Rattle.std.specs.Prelude.{◌≡◌, ◌++◌, ℕ, Bool, true, List, [], ◌∷◌, Result, map}
 use Rattle.std.specs.List.{AllByRecursion}
 use Rattle.turn_cred.specs.declared.handler.AuthHandler as handlers
-use Rattle.turn_disk.specs.Disk.{IsImage}
+use Rattle.turn_disk.specs.Prelude.{IsImage}
 use Rattle.turn_disk.specs.declared.disk.Disk as disks
-use Rattle.turn_engine.specs.Calls.{Commits}
-use Rattle.turn_engine.specs.Runs.{Commit, Relay, ServerCall, Submit, Taken}
-use Rattle.turn_engine.specs.State.{ServerState, now_of}
-use Rattle.turn_engine.specs.Stops.{IsLeft}
+use Rattle.turn_engine.specs.Prelude.{Commits, Commit, Relay, ServerCall, Submit, Taken, ServerState, now_of, IsLeft}
 use Rattle.turn_player.specs.Laws.{AreOneRun, IsRunBy, Keeps}
 use Rattle.turn_player.specs.Lives as lives
 use Rattle.turn_player.specs.Lives.{Input, Lasting, Life, Opened, Point, Said, Shut, sent_by_all, sent_in}
@@ -17,10 +14,8 @@ use Rattle.turn_serving.specs.Starts.{KeepsImages, Started}
 use Rattle.turn_serving.specs.Turns.{Served}
 use Rattle.turn_sockets.specs.Moments.{IsMoment}
 use Rattle.turn_sockets.specs.declared.moment.Time as times
-use Rattle.turn_step.specs.Answer.{Setting}
-use Rattle.turn_step.specs.Outcome.{Sent}
-use Rattle.turn_store.specs.Areas.{Form}
-use Rattle.turn_store.specs.Images.{EachImage}
+use Rattle.turn_step.specs.Prelude.{Setting, Sent}
+use Rattle.turn_store.specs.Prelude.{Form, EachImage}
 use Rattle.turn_store.specs.declared.error.StoreError.{StoreError}
 
 -- the inputs of calls; data that was answered beside what is staged is of the clock's moment

@@ -1,13 +1,10 @@
 -- Why the credentials of a request didn't pass (RFC 8489, section 9.2.4), where they are all there.
-use Rattle.std.specs.Prelude.{ℕ, not, ◌&&◌, Bool, false, List, [], ◌∷◌, Option, Some, None, is_none, unwrap_or, if◌then◌else◌}
-use Rattle.std.specs.Str.{bytes_eq}
+use Rattle.std.specs.Prelude.{ℕ, not, ◌&&◌, Bool, false, List, [], ◌∷◌, Option, Some, None, is_none, unwrap_or, if◌then◌else◌, bytes_eq}
 use Rattle.std.specs.Option.{option_map_or}
-use Rattle.turn_codec.specs.AttributeTypes.{username, realm, nonce}
-use Rattle.turn_codec.specs.Grammar.{Datagram}
-use Rattle.turn_codec.specs.Seen.{seen_value, is_seen}
-use Rattle.turn_cred.specs.Credential.{Keys, has_integrity}
+use Rattle.turn_codec.specs.Prelude.{username, realm, nonce, Datagram, seen_value, is_seen}
+use Rattle.turn_cred.specs.Prelude.{Keys, has_integrity}
 use Rattle.turn_mac.specs.Integrity.{has_right_integrity}
-use Rattle.turn_types.specs.Rows.{first_row}
+use Rattle.turn_types.specs.Prelude.{first_row}
 use Rattle.turn_log.specs.declared.cause.Cause.{Cause}
 use Rattle.turn_log.specs.declared.cause.Cause.TheVariants.{Realm, Unknown, Integrity, Expired}
 

@@ -1,12 +1,9 @@
 -- What an attribute that is added at the end leaves of the fronts of a message.
-use Rattle.std.proofs.Common.{◌≡◌, ℕ, suc, ◌+◌, ◌-◌, ◌≤◌, true, List, [], ◌∷◌, ◌++◌, length, take, Option, Some, refl, sym, ap, subst, ◌∙◌, append_assoc, arith}
-use Rattle.std.specs.Prelude.{bit_xor, sum_by}
+use Rattle.std.proofs.Common.{◌≡◌, ℕ, suc, ◌+◌, ◌-◌, ◌≤◌, true, List, [], ◌∷◌, ◌++◌, length, take, Option, Some, refl, sym, ap, subst, ◌∙◌, append_assoc, arith, bit_xor, sum_by, eq-eqb}
 use Rattle.std.specs.Int.{w16, w32, to_be_bytes}
-use Rattle.std.proofs.lemmas.Bool.{eq-eqb}
 use Rattle.std.proofs.lemmas.List.{take_all, take-append-le}
 use Rattle.std.proofs.lemmas.List.Sums.{sum_by-cons}
-use Rattle.turn_codec.specs.Grammar.{Attribute, Content, cookie, type_number, size_of, before, from, value_of, FirstHas, canonical_attribute, canonical_attributes, canonical, with_attribute, body_size}
-use Rattle.turn_codec.specs.AttributeTypes.{message_integrity, fingerprint}
+use Rattle.turn_codec.specs.Prelude.{Attribute, Content, cookie, type_number, size_of, before, from, value_of, FirstHas, canonical_attribute, canonical_attributes, canonical, with_attribute, body_size, message_integrity, fingerprint}
 use Rattle.turn_codec.proofs.Building.{one_more}
 use Rattle.turn_codec.proofs.Finding.{value_of-some}
 use Rattle.sha1.specs.Sha1.{sha1}

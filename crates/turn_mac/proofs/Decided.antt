@@ -1,13 +1,9 @@
 -- The tests of MESSAGE-INTEGRITY and FINGERPRINT as Booleans are the facts.
-use Rattle.std.proofs.Common.{◌≡◌, ℕ, Bool, true, false, List, [], ◌∷◌, Option, Some, None, sym, ap}
-use Rattle.std.specs.Bool.{Decides}
-use Rattle.std.specs.Prelude.{IsTrue, ◌↔◌}
-use Rattle.std.specs.Str.{bytes_eq}
+use Rattle.std.proofs.Common.{◌≡◌, ℕ, Bool, true, false, List, [], ◌∷◌, Option, Some, None, sym, ap, Decides, IsTrue, ◌↔◌, bytes_eq}
 use Rattle.std.specs.Option.{option_map_or}
 use Rattle.std.proofs.lemmas.Bool.Decides.{Decides-and, same_from_decides}
 use Rattle.std.proofs.lemmas.Slice.Eq.{bytes_eq-Decides}
-use Rattle.turn_codec.specs.AttributeTypes.{fingerprint, message_integrity}
-use Rattle.turn_codec.specs.Grammar.{Attribute, Datagram, FirstHas, from, value_of}
+use Rattle.turn_codec.specs.Prelude.{fingerprint, message_integrity, Attribute, Datagram, FirstHas, from, value_of}
 use Rattle.turn_mac.specs.Integrity.{IntegrityHolds, has_right_integrity, integrity_of, FingerprintHolds, fingerprint_of, front_of}
 use Rattle.turn_mac.specs.Fingerprint.{is_last_with, is_fingerprint_right}
 

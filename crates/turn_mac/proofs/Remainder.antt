@@ -1,6 +1,5 @@
 -- The result of long division is a remainder.
-use Rattle.std.proofs.Common.{◌≡◌, ℕ, zero, suc, ◌+◌, ◌-◌, Bool, true, false, List, [], ◌∷◌, ◌++◌, length, refl, sym, ap, ◌∙◌, arith}
-use Rattle.std.specs.Prelude.{replicate}
+use Rattle.std.proofs.Common.{◌≡◌, ℕ, zero, suc, ◌+◌, ◌-◌, Bool, true, false, List, [], ◌∷◌, ◌++◌, length, refl, sym, ap, ◌∙◌, arith, replicate}
 use Rattle.turn_mac.specs.Crc.{lower_terms, generator, bool_xor, aligned_sum, remainder, generator_times, IsRemainder}
 use Rattle.turn_mac.proofs.Bits.{length-aligned_sum, zeros_plus}
 

@@ -1,6 +1,5 @@
 -- The table's entries are the remainders of the bytes.
-use Rattle.std.proofs.Common.{◌≡◌, ℕ, zero, suc, ◌+◌, ◌*◌, ◌/◌, ◌%◌, ◌^◌, ◌<◌, Bool, false, eqb, List, [], ◌∷◌, ◌++◌, length, get_or, take, refl, sym, ap, ◌∙◌, arith}
-use Rattle.std.specs.Prelude.{bit_xor}
+use Rattle.std.proofs.Common.{◌≡◌, ℕ, zero, suc, ◌+◌, ◌*◌, ◌/◌, ◌%◌, ◌^◌, ◌<◌, Bool, false, eqb, List, [], ◌∷◌, ◌++◌, length, get_or, take, refl, sym, ap, ◌∙◌, arith, bit_xor}
 use Rattle.turn_mac.specs.Register.{shift, shifts, register_after}
 use Rattle.turn_mac.specs.declared.crc_table.TheConstants.{REMAINDERS}
 use Rattle.std.proofs.Math.Nat.{pow-suc}

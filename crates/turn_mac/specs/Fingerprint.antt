@@ -1,8 +1,6 @@
 -- FINGERPRINT as a test (RFC 8489, section 14.7).
-use Rattle.std.specs.Prelude.{◌==◌, ◌&&◌, ℕ, Bool, false, not, is_some, List, [], ◌∷◌, length}
-use Rattle.std.specs.Str.{bytes_eq}
-use Rattle.turn_codec.specs.AttributeTypes.{fingerprint}
-use Rattle.turn_codec.specs.Grammar.{Attribute, Content, Datagram, from, value_of}
+use Rattle.std.specs.Prelude.{◌==◌, ◌&&◌, ℕ, Bool, false, not, is_some, List, [], ◌∷◌, length, bytes_eq}
+use Rattle.turn_codec.specs.Prelude.{fingerprint, Attribute, Content, Datagram, from, value_of}
 use Rattle.turn_mac.specs.Integrity.{fingerprint_of, front_of}
 
 -- a message has a FINGERPRINT

@@ -1,11 +1,9 @@
 -- MESSAGE-INTEGRITY and FINGERPRINT (RFC 8489, sections 14.5 and 14.7).
-use Rattle.std.specs.Prelude.{◌≡◌, ℕ, ◌+◌, ◌-◌, Bool, true, false, bit_xor, Some, List, ◌++◌, length, take, drop}
-use Rattle.std.specs.Str.{bytes_eq}
+use Rattle.std.specs.Prelude.{◌≡◌, ℕ, ◌+◌, ◌-◌, Bool, true, false, bit_xor, Some, List, ◌++◌, length, take, drop, bytes_eq}
 use Rattle.std.specs.Option.{option_map_or}
 use Rattle.std.specs.Int.{w16, w32, to_be_bytes}
 use Rattle.sha1.specs.Sha1.{sha1}
-use Rattle.turn_codec.specs.AttributeTypes.{message_integrity, fingerprint}
-use Rattle.turn_codec.specs.Grammar.{Content, Datagram, offset_of, value_of, from, FirstHas, canonical}
+use Rattle.turn_codec.specs.Prelude.{message_integrity, fingerprint, Content, Datagram, offset_of, value_of, from, FirstHas, canonical}
 use Rattle.turn_mac.specs.Hmac.{hmac}
 use Rattle.turn_mac.specs.Crc.{crc}
 

@@ -1,8 +1,7 @@
 -- A write with FUA, which is noted as a write and a sync.
 use Rattle.std.proofs.Common.{◌≡◌, ◌⊎◌, ◌≤◌, ◌+◌, inl, inr, ℕ, true, false, List, [], ◌∷◌, Result, Ok, Err, MatchResult, length, refl, sym, subst, ap}
 use Rattle.turn_disk.proofs.Replaced.{changes, middle_is}
-use Rattle.turn_disk.specs.Calls.{FollowCrashModel, LoggedCall, after_call, replay}
-use Rattle.turn_disk.specs.Disk.{State, Trace, Overwrites, Syncs, ThroughOutcome, Writes}
+use Rattle.turn_disk.specs.Prelude.{FollowCrashModel, LoggedCall, after_call, replay, State, Trace, Overwrites, Syncs, ThroughOutcome, Writes}
 
 wrote : (at : ℕ) (bytes : List ℕ) (t : Trace) → at + length bytes ≤ length t.now.bytes → Writes at bytes t (after_call 1 at true bytes t)
 wrote at bytes t fits = record {

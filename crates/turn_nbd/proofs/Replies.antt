@@ -1,6 +1,5 @@
 -- A reply from its parts.
-use Rattle.std.proofs.Common.{◌≡◌, ◌++◌, ℕ, List, length, take, drop, ap, sym, ◌∙◌, arith}
-use Rattle.std.proofs.lemmas.List.{drop-drop, length-drop, take-append-drop, take_all}
+use Rattle.std.proofs.Common.{◌≡◌, ◌++◌, ℕ, List, length, take, drop, ap, sym, ◌∙◌, arith, drop-drop, length-drop, take-append-drop, take_all}
 use Rattle.std.specs.Int.{w64, to_be_bytes}
 use Rattle.turn_nbd.specs.Requests.{success, reply_magic, no_error}
 

@@ -1,6 +1,6 @@
 -- What contracts see of a connection and of a disk over an export.
 use Rattle.std.specs.Prelude.{ℕ, Bool, List}
-use Rattle.turn_disk.specs.Calls.{LoggedCall}
+use Rattle.turn_disk.specs.Prelude.{LoggedCall}
 
 -- a connection on which the export was agreed
 pub record InConnection : Type 0 where

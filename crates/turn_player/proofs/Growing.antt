@@ -1,12 +1,9 @@
 -- Arrivals that last, and runs that grow by arrivals and shrink at openings: by one setting, and by settings in a row.
-use Rattle.std.proofs.Common.{if◌then◌else◌, ◌≡◌, ◌≤◌, ℕ, suc, zero, Bool, true, false, List, Option, Some, None, [], ◌∷◌, ◌++◌, map, take, refl, sym, ap, ◌∙◌, subst, arith, append_assoc, append-nil, length, length-append}
+use Rattle.std.proofs.Common.{if◌then◌else◌, ◌≡◌, ◌≤◌, ℕ, suc, zero, Bool, true, false, List, Option, Some, None, [], ◌∷◌, ◌++◌, map, take, refl, sym, ap, ◌∙◌, subst, arith, append_assoc, append-nil, length, length-append, option_to_list, is_some}
 use Rattle.std.specs.List.{AllByRecursion}
-use Rattle.std.specs.Option.{option_to_list}
-use Rattle.std.specs.Prelude.{is_some}
-use Rattle.turn_history.specs.History.{History}
-use Rattle.turn_step.specs.Answer.{Setting}
-use Rattle.turn_step.specs.Outcome.{Change, Sent, added, event_at}
-use Rattle.turn_engine.specs.Runs.{IsRun, Taken, accepted, last_moment, sent_about, IsAnswered}
+use Rattle.turn_history.specs.Prelude.{History}
+use Rattle.turn_step.specs.Prelude.{Setting, Change, Sent, added, event_at}
+use Rattle.turn_engine.specs.Prelude.{IsRun, Taken, accepted, last_moment, sent_about, IsAnswered}
 use Rattle.turn_player.specs.Laws.{HasAct, IsRunBy}
 use Rattle.turn_player.specs.Lives.{Found, HandedOut, Lasting, found, sent_by, sent_by_all, taken_of}
 use Rattle.turn_engine.proofs.Answered.{accepted-append, last_moment-push, run-push}

@@ -1,15 +1,13 @@
 -- Every life is one run.
-use Rattle.std.proofs.Common.{◌≡◌, ◌≤◌, ℕ, List, Bool, true, false, [], ◌∷◌, ◌++◌, Option, Some, None, length, map, max, refl, sym, ap, ◌∙◌, subst, arith, append_assoc, append-nil}
+use Rattle.std.proofs.Common.{◌≡◌, ◌≤◌, ℕ, List, Bool, true, false, [], ◌∷◌, ◌++◌, Option, Some, None, length, map, max, refl, sym, ap, ◌∙◌, subst, arith, append_assoc, append-nil, option_to_list}
 use Rattle.std.proofs.lemmas.List.{map-append}
 use Rattle.std.specs.List.{AllByRecursion}
-use Rattle.std.specs.Option.{option_to_list}
-use Rattle.turn_step.specs.Answer.{Setting}
-use Rattle.turn_step.specs.Outcome.{Arrives, Sent}
-use Rattle.turn_engine.specs.Runs.{IsAnswered, IsRun, Taken, accepted, beside_at, last_moment, sent_about}
+use Rattle.turn_step.specs.Prelude.{Setting, Arrives, Sent}
+use Rattle.turn_engine.specs.Prelude.{IsAnswered, IsRun, Taken, accepted, beside_at, last_moment, sent_about}
 use Rattle.turn_engine.proofs.Answered.{accepted-append, last_moment-push, run-push}
 use Rattle.turn_engine.proofs.Besides.{all-beside, last-beside}
 use Rattle.turn_engine.proofs.Lists.{all-append}
-use Rattle.turn_history.specs.History.{History}
+use Rattle.turn_history.specs.Prelude.{History}
 use Rattle.turn_player.proofs.Growing.{GrowsBy, grows_by_one, push_all, acts-found, acts-handed, all-back, all-found, all-front, at_one, last_moment-append, run-split, sent_by_all-append, sent_by_all-found, sent_by_all-handed, taken-handed}
 use Rattle.turn_player.specs.Laws.{AreOneRun, HasAct, IsInTime, IsOneRun, Keeps}
 use Rattle.turn_player.specs.Lives.{Closed, Committed, Failed, Goes, Halted, HandedOut, Input, Lasting, Life, NeverFall, NotOpened, Opened, Point, Refused, Running, Said, Sends, Shut, arrivals, arrivals_of, bound_of, commit_stops, ends, fails, formatted, found, goes_on, handing_beside, handing_out, hands_out, is_full, is_halted, is_shut, no_memory, not_opened, opens, recent_of, relays, sent_by_all, sent_in, shut, stays_halted, stays_shut, stops, sure_of, taken_of, takes, unsettled_of}

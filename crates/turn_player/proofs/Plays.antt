@@ -1,24 +1,19 @@
 -- What a player does, put together from calls.
-use Rattle.std.proofs.Common.{◌≡◌, ◌≤◌, ◌<◌, ◌+◌, ◌++◌, ℕ, Bool, true, List, [], ◌∷◌, Option, Some, Result, Ok, Err, false, get_or, length, max, map, take, refl, sym, ap, ◌∙◌, subst, append_assoc, append-nil}
+use Rattle.std.proofs.Common.{◌≡◌, ◌≤◌, ◌<◌, ◌+◌, ◌++◌, ℕ, Bool, true, List, [], ◌∷◌, Option, Some, Result, Ok, Err, false, get_or, length, max, map, take, refl, sym, ap, ◌∙◌, subst, append_assoc, append-nil, IfOk, OnOk}
 use Rattle.std.proofs.lemmas.List.{map-append, take_more}
 use Rattle.std.proofs.lemmas.Option.{same_Some}
-use Rattle.std.specs.Prelude.{IfOk, OnOk}
 use Rattle.turn_cred.specs.declared.handler.AuthHandler as handlers
-use Rattle.turn_disk.specs.Crash.{left_by}
-use Rattle.turn_disk.specs.Disk.{IsImage, State}
+use Rattle.turn_disk.specs.Prelude.{left_by, IsImage, State}
 use Rattle.turn_disk.specs.declared.disk.Disk as disks
 use Rattle.turn_disk.specs.declared.outcome.CrashOutcome.{CrashOutcome}
-use Rattle.turn_engine.specs.Calls.{Commits, Opening, Submits}
-use Rattle.turn_engine.specs.Runs.{NeverFails}
-use Rattle.turn_engine.specs.State.{ServerState, now_of}
+use Rattle.turn_engine.specs.Prelude.{Commits, Opening, Submits, NeverFails, ServerState, now_of}
 use Rattle.turn_engine.specs.declared.error.ServerOpenError.{ServerOpenError}
 use Rattle.turn_engine.specs.declared.error.SubmitError.{SubmitError}
 use Rattle.turn_engine.proofs.Lists.{take_of_length-le}
 use Rattle.turn_ports.specs.declared.generator.RelayAddressGenerator as generators
-use Rattle.turn_step.specs.Answer.{Setting}
-use Rattle.turn_step.specs.Outcome.{Arrives, Sent}
-use Rattle.turn_store.specs.Areas.{Form}
-use Rattle.turn_types.specs.Config.{Config}
+use Rattle.turn_step.specs.Prelude.{Setting, Arrives, Sent}
+use Rattle.turn_store.specs.Prelude.{Form}
+use Rattle.turn_types.specs.Prelude.{Config}
 use Rattle.turn_player.specs.Held.{Adds}
 use Rattle.turn_player.specs.Lives.{Arrive, Commit, Input, NotOpened, Open, Opened, Point, Said, handing_out}
 use Rattle.turn_player.specs.Plays.{Crashes, GoesOn, IsCarriedOver, Plays, PlaysAll, Ran, inputs_of, inputs_of_all, said_if, said_of}

@@ -1,33 +1,24 @@
 -- An Allocate that comes again gets the same bytes.
-use Rattle.std.proofs.Common.{◌≡◌, inl, inr, ℕ, Bool, true, false, List, [], ◌∷◌, ◌++◌, map, sym, ap, ◌∙◌, subst, append_assoc, Option, Some, None}
+use Rattle.std.proofs.Common.{◌≡◌, inl, inr, ℕ, Bool, true, false, List, [], ◌∷◌, ◌++◌, map, sym, ap, ◌∙◌, subst, append_assoc, Option, Some, None, ◌==◌, ◌||◌, if◌then◌else◌, option_map}
 use Rattle.std.proofs.lemmas.List.{map-append}
-use Rattle.std.specs.Prelude.{◌==◌, ◌||◌, if◌then◌else◌, option_map}
 use Rattle.std.specs.FinMap as fin
 use Rattle.std.specs.Option.{option_or}
 use Rattle.std.proofs.lemmas.Bool.{and_parts, not-false, or_parts}
 use Rattle.std.proofs.lemmas.Option.{same_Some}
-use Rattle.turn_types.specs.declared.address.FiveTuple.{FiveTuple}
-use Rattle.turn_types.specs.Methods.{allocate, channel_bind, create_permission, refresh}
-use Rattle.turn_history.specs.History.{Allocates, Allocation, History, PlainAct}
-use Rattle.turn_history.specs.Laws.{allocation_of}
-use Rattle.turn_history.specs.Table.{Entry, table}
+use Rattle.turn_history.specs.Prelude.{FiveTuple, Allocates, Allocation, History, PlainAct, allocation_of, Entry, table}
+use Rattle.turn_types.specs.Prelude.{allocate, channel_bind, create_permission, refresh}
 use Rattle.turn_history.proofs.Live.{entry_of_live}
-use Rattle.turn_codec.specs.Grammar.{Datagram, Encodes}
-use Rattle.turn_cred.specs.Credential.{Verdict, policy_of, verdict}
-use Rattle.turn_cred.specs.Credential.Verdict.{Passed}
-use Rattle.turn_cred.specs.Passed.{IsSentBy, NonceHolds}
+use Rattle.turn_codec.specs.Prelude.{Datagram, Encodes}
+use Rattle.turn_cred.specs.Prelude.{Verdict, policy_of, verdict, Passed, IsSentBy, NonceHolds}
 use Rattle.turn_cred.specs.declared.key.Key.{Key}
 use Rattle.turn_cred.proofs.Passes.{passed_again, sent_by}
-use Rattle.turn_rules.specs.Answer.{Decided, decision, is_allocate, is_dropped, is_protected, is_request, credential_outcome, outcome_of, user_of}
-use Rattle.turn_rules.specs.Outcome.{act_by}
+use Rattle.turn_rules.specs.Prelude.{Decided, decision, is_allocate, is_dropped, is_protected, is_request, credential_outcome, outcome_of, user_of, act_by}
 use Rattle.turn_rules.proofs.Acts.{quiet_act}
 use Rattle.turn_rules.proofs.Reached.{IsOfUser, Known, known}
 use Rattle.turn_rules.proofs.Repeats.{later_same, repeat_same}
-use Rattle.turn_step.specs.Answer.{AnswersArrival, AnswersClient, Setting, to_client, to_peer}
-use Rattle.turn_step.specs.Outcome.{Arrives, Change, StepOutcome, Sent, change_of}
-use Rattle.turn_step.specs.Outcome.Arrives.{FromClient}
+use Rattle.turn_step.specs.Prelude.{AnswersArrival, AnswersClient, Setting, to_client, to_peer, Arrives, Change, StepOutcome, Sent, change_of, FromClient}
 use Rattle.turn_step.proofs.Exclusion.{request_relays_nothing}
-use Rattle.turn_engine.specs.Runs.{IsRun, Taken, accepted}
+use Rattle.turn_engine.specs.Prelude.{IsRun, Taken, accepted}
 use Rattle.turn_engine.proofs.Answered.{answered_at}
 use Rattle.turn_player.specs.Lives.{Lasting, Point, arrivals_of, formatted, history_of, recent_of, taken_of}
 use Rattle.turn_player.specs.Repeats.{ComesAgain, LastsAfter, MadeBefore, Makes}

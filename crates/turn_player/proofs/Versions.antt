@@ -1,22 +1,15 @@
 -- A server that reserves ports is followed by such servers.
 use Rattle.std.proofs.Common.{◌≡◌, ℕ, Bool, true, List, [], ◌∷◌, ◌++◌, length, map, Result, Ok, Err, sym, ap, ◌∙◌, subst}
 use Rattle.turn_cred.specs.declared.handler.AuthHandler as handlers
-use Rattle.turn_disk.specs.Disk.{EachImageSince}
+use Rattle.turn_disk.specs.Prelude.{EachImageSince}
 use Rattle.turn_disk.specs.declared.disk.Disk as disks
 use Rattle.turn_disk.proofs.Since.{since_same}
-use Rattle.turn_engine.specs.Calls.{Commits, Opening}
-use Rattle.turn_engine.specs.Runs.{Taken, accepted}
-use Rattle.turn_engine.specs.State.{ServerState, has_pairs}
+use Rattle.turn_engine.specs.Prelude.{Commits, Opening, Taken, accepted, ServerState, has_pairs}
 use Rattle.turn_engine.specs.declared.error.ServerOpenError.{ServerOpenError}
 use Rattle.turn_engine.proofs.Stops.{left_alone, left_has}
 use Rattle.turn_ports.specs.declared.generator.RelayAddressGenerator as generators
-use Rattle.turn_record.specs.declared.version.Version.{Version}
-use Rattle.turn_record.specs.declared.version.Version.TheVariants.{V2}
-use Rattle.turn_step.specs.Answer.{Setting}
-use Rattle.turn_step.specs.Outcome.{Sent}
-use Rattle.turn_store.specs.Areas.{Form}
-use Rattle.turn_store.specs.Images.{EachImage, IsInVersion}
-use Rattle.turn_store.specs.State.{StoreState, form_of}
+use Rattle.turn_store.specs.Prelude.{Version, V2, Form, EachImage, IsInVersion, StoreState, form_of}
+use Rattle.turn_step.specs.Prelude.{Setting, Sent}
 use Rattle.turn_store.specs.declared.error.StoreError.{StoreError}
 use Rattle.turn_store.proofs.Versions.{shown_in}
 use Rattle.turn_player.specs.Lives.{Halted, Input, Lasting, Point, Running, Said, Shut, arrivals, taken_of}

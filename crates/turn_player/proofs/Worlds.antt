@@ -1,19 +1,13 @@
 -- Calls that do what their contracts say make a life, in which what lasts stays on the disk.
-use Rattle.std.proofs.Common.{◌≡◌, ◌≤◌, ◌<◌, ◌+◌, ◌-◌, ◌⊎◌, inl, inr, ℕ, Bool, true, false, List, [], ◌∷◌, ◌++◌, Option, length, map, max, take, Result, Ok, Err, refl, sym, ap, ◌∙◌, subst, arith, append_assoc, append-nil, length-append}
+use Rattle.std.proofs.Common.{◌≡◌, ◌≤◌, ◌<◌, ◌+◌, ◌-◌, ◌⊎◌, inl, inr, ℕ, Bool, true, false, List, [], ◌∷◌, ◌++◌, Option, length, map, max, take, Result, Ok, Err, refl, sym, ap, ◌∙◌, subst, arith, append_assoc, append-nil, length-append, option_to_list}
 use Rattle.std.proofs.lemmas.List.{map-append, length-drop}
 use Rattle.std.proofs.Math.Seq.{take-length, take-append-add, take-append_seam}
 use Rattle.std.specs.List.{AllByRecursion}
-use Rattle.std.specs.Option.{option_to_list}
 use Rattle.turn_cred.specs.declared.handler.AuthHandler as handlers
-use Rattle.turn_disk.specs.Disk.{EachImageSince}
+use Rattle.turn_disk.specs.Prelude.{EachImageSince}
 use Rattle.turn_disk.specs.declared.disk.Disk as disks
 use Rattle.turn_disk.proofs.Since.{since_same, since_weaken}
-use Rattle.turn_engine.specs.Calls.{Commits, Opening, Submits}
-use Rattle.turn_engine.specs.Images.{AtLeast}
-use Rattle.turn_engine.specs.Recovering.{Opens, RecoversTo}
-use Rattle.turn_engine.specs.Relaying.{Relays, beside}
-use Rattle.turn_engine.specs.Runs.{IsAnswered, NeverFails, Taken, accepted, beside_at, sent_about, IsRun}
-use Rattle.turn_engine.specs.State.{ServerState, limits_of, now_of}
+use Rattle.turn_engine.specs.Prelude.{Commits, Opening, Submits, AtLeast, Opens, RecoversTo, Relays, beside, IsAnswered, NeverFails, Taken, accepted, beside_at, sent_about, IsRun, ServerState, limits_of, now_of}
 use Rattle.turn_engine.specs.declared.error.ServerOpenError.{ServerOpenError}
 use Rattle.turn_engine.specs.declared.error.SubmitError.{SubmitError}
 use Rattle.turn_engine.specs.declared.error.SubmitError.TheVariants.{BatchFull, Memory, Stopped}
@@ -23,15 +17,11 @@ use Rattle.turn_engine.proofs.Lists.{all-append, length-take-le}
 use Rattle.turn_engine.proofs.Runs.{memory_is_not_stopped, none_failed, not_both, ok_is_no_error, setting_kept}
 use Rattle.turn_engine.proofs.Stops.{left_alone, left_has}
 use Rattle.turn_engine.proofs.Written.{stood}
-use Rattle.turn_history.specs.History.{History, clock}
+use Rattle.turn_history.specs.Prelude.{History, clock}
 use Rattle.turn_ports.specs.Ports.{has_failed}
 use Rattle.turn_ports.specs.declared.generator.RelayAddressGenerator as generators
-use Rattle.turn_step.specs.Answer.{AnswersArrival, Setting}
-use Rattle.turn_step.specs.Outcome.{Arrives, Sent, added}
-use Rattle.turn_step.specs.State.{MachineState, setting_of}
-use Rattle.turn_store.specs.Areas.{Form}
-use Rattle.turn_store.specs.Images.{EachImage, RepresentsAt}
-use Rattle.turn_store.specs.State.{form_of}
+use Rattle.turn_step.specs.Prelude.{AnswersArrival, Setting, Arrives, Sent, added, MachineState, setting_of}
+use Rattle.turn_store.specs.Prelude.{Form, EachImage, RepresentsAt, form_of}
 use Rattle.turn_store.specs.declared.error.StoreError.{StoreError}
 use Rattle.turn_store.specs.declared.error.StoreError.TheVariants as faults
 use Rattle.turn_player.specs.Lives.{Arrive, Closed, Commit, Failed, Goes, Halted, HandedOut, Input, Lasting, Open, Opened, Point, Refused, Relay, Running, Said, Shut, Stop, arrivals, bound_of, count_of, found, handing_beside, handing_out, history_of, settled_history_of, sure_of, taken_of, unsettled_of, NeverFall, formatted, recent_of}

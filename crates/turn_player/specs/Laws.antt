@@ -3,13 +3,11 @@ use Rattle.std.specs.Prelude.{◌≡◌, ◌≤◌, ◌++◌, ℕ, Bool, false, 
 use Rattle.std.specs.List.{AllByRecursion}
 use Rattle.turn_cred.specs.declared.handler.AuthHandler as handlers
 use Rattle.turn_disk.specs.declared.disk.Disk as disks
-use Rattle.turn_engine.specs.Runs.{BeginsWith, IsAnswered, IsRun, Taken, accepted, last_moment}
-use Rattle.turn_history.specs.History.{History}
+use Rattle.turn_engine.specs.Prelude.{BeginsWith, IsAnswered, IsRun, Taken, accepted, last_moment}
+use Rattle.turn_history.specs.Prelude.{History}
 use Rattle.turn_ports.specs.declared.generator.RelayAddressGenerator as generators
-use Rattle.turn_step.specs.Answer.{Setting}
-use Rattle.turn_step.specs.Outcome.{Sent, added}
-use Rattle.turn_store.specs.Areas.{Form}
-use Rattle.turn_store.specs.Images.{EachImage}
+use Rattle.turn_step.specs.Prelude.{Setting, Sent, added}
+use Rattle.turn_store.specs.Prelude.{Form, EachImage}
 use Rattle.turn_player.specs.Lives.{Found, Halted, HandedOut, Input, Lasting, Life, Point, Running, Said, Shut, arrivals_of, bound_of, formatted, sent_by_all, sent_in, sure_of, taken_of}
 use Rattle.turn_player.specs.Worlds.{Stands, World}
 

@@ -1,14 +1,12 @@
 -- Lives: arrivals, commits, stops and openings, one after another, from a formatted disk on.
-use Rattle.std.specs.Prelude.{◌≡◌, ◌≤◌, ◌<◌, ◌⊎◌, ◌++◌, ℕ, Bool, List, [], ◌∷◌, None, Option, false, true, zero, suc, is_some, if◌then◌else◌, length, map, max}
+use Rattle.std.specs.Prelude.{◌≡◌, ◌≤◌, ◌<◌, ◌⊎◌, ◌++◌, ℕ, Bool, List, [], ◌∷◌, None, Option, false, true, zero, suc, is_some, if◌then◌else◌, length, map, max, option_to_list}
 use Rattle.std.specs.List.{AllByRecursion}
-use Rattle.std.specs.Option.{option_to_list}
-use Rattle.turn_engine.specs.Runs.{Taken, accepted, beside_at, sent_about}
+use Rattle.turn_engine.specs.Prelude.{Taken, accepted, beside_at, sent_about}
 use Rattle.turn_engine.specs.declared.error.SubmitError.{SubmitError}
 use Rattle.turn_engine.specs.declared.error.SubmitError.TheVariants as refusals
-use Rattle.turn_history.specs.History.{History, clock}
-use Rattle.turn_step.specs.Answer.{AnswersArrival, Setting}
-use Rattle.turn_step.specs.Outcome.{Arrives, StepOutcome, Sent}
-use Rattle.turn_store.specs.Refused.{IsPlain}
+use Rattle.turn_history.specs.Prelude.{History, clock}
+use Rattle.turn_step.specs.Prelude.{AnswersArrival, Setting, Arrives, StepOutcome, Sent}
+use Rattle.turn_store.specs.Prelude.{IsPlain}
 use Rattle.turn_store.specs.declared.error.OpenError.{OpenError}
 use Rattle.turn_store.specs.declared.error.StoreError.{StoreError}
 use Rattle.turn_store.specs.declared.error.StoreError.TheVariants as faults

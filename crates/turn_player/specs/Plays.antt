@@ -1,20 +1,15 @@
 -- What a player does: its steps, one after another.
-use Rattle.std.specs.Prelude.{◌≡◌, ◌++◌, ℕ, Bool, List, [], ◌∷◌, Option, Some, None, option_map, false, true}
-use Rattle.std.specs.Option.{option_to_list}
-use Rattle.turn_cred.specs.Shared.{Sources}
+use Rattle.std.specs.Prelude.{◌≡◌, ◌++◌, ℕ, Bool, List, [], ◌∷◌, Option, Some, None, option_map, false, true, option_to_list}
+use Rattle.turn_cred.specs.Prelude.{Sources}
 use Rattle.turn_cred.specs.declared.handler.AuthHandler as handlers
-use Rattle.turn_disk.specs.Crash.{left_by}
-use Rattle.turn_disk.specs.Disk.{IsImage}
-use Rattle.turn_disk.specs.Views.{InMemory}
+use Rattle.turn_disk.specs.Prelude.{left_by, IsImage, InMemory}
 use Rattle.turn_disk.specs.declared.disk.Disk as disks
 use Rattle.turn_disk.specs.declared.outcome.CrashOutcome.{CrashOutcome}
 use Rattle.turn_ports.specs.declared.generator.RelayAddressGenerator as generators
-use Rattle.turn_step.specs.Answer.{Setting}
-use Rattle.turn_step.specs.Views.{arrival_of, sent_of}
-use Rattle.turn_store.specs.Areas.{Form}
-use Rattle.turn_store.specs.Carrying.{Carries}
+use Rattle.turn_step.specs.Prelude.{Setting, arrival_of, sent_of}
+use Rattle.turn_store.specs.Prelude.{Form, Carries}
 use Rattle.turn_store.specs.declared.error.StoreError.TheVariants as faults
-use Rattle.turn_types.specs.Config.{Config}
+use Rattle.turn_types.specs.Prelude.{Config}
 use Rattle.turn_player.specs.Lives.{Closed, Committed, Failed, Input, NotOpened, Opened, Point, Refused, Said, Sends}
 use Rattle.turn_player.specs.Lives as lives
 use Rattle.turn_player.specs.Worlds.{Call, Down, Lives, Serving, Stands, World, disk_of, handler_of, ports_of}

@@ -1,16 +1,12 @@
 -- Allocate requests that come again.
 use Rattle.std.specs.Prelude.{◌≡◌, ◌++◌, ◌∷◌, ℕ, Bool, true, List, Some}
-use Rattle.turn_types.specs.declared.address.FiveTuple.{FiveTuple}
-use Rattle.turn_history.specs.History.{Allocates, Allocation, History, IsLive, made}
-use Rattle.turn_codec.specs.Grammar.{Datagram, Encodes}
-use Rattle.turn_cred.specs.Credential.{policy_of}
-use Rattle.turn_cred.specs.Passed.{IsSentBy, NonceHolds}
+use Rattle.turn_history.specs.Prelude.{FiveTuple, Allocates, Allocation, History, IsLive, made}
+use Rattle.turn_codec.specs.Prelude.{Datagram, Encodes}
+use Rattle.turn_cred.specs.Prelude.{policy_of, IsSentBy, NonceHolds}
 use Rattle.turn_cred.specs.declared.key.Key.{Key}
-use Rattle.turn_rules.specs.Answer.{is_allocate}
-use Rattle.turn_step.specs.Answer.{AnswersArrival, Setting}
-use Rattle.turn_step.specs.Outcome.{StepOutcome, change_of}
-use Rattle.turn_step.specs.Outcome.Arrives.{FromClient}
-use Rattle.turn_engine.specs.Runs.{Taken}
+use Rattle.turn_rules.specs.Prelude.{is_allocate}
+use Rattle.turn_step.specs.Prelude.{AnswersArrival, Setting, StepOutcome, change_of, FromClient}
+use Rattle.turn_engine.specs.Prelude.{Taken}
 use Rattle.turn_player.specs.Lives.{Input, Lasting, Life, NeverFall, Point, Said, formatted, sure_of}
 
 -- a life from a formatted disk on leads to the point q, where x lasts, after the arrivals before it

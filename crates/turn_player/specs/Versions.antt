@@ -1,10 +1,8 @@
 -- Servers that reserve ports, which are those over stores of version 2.
 use Rattle.std.specs.Prelude.{◌≡◌, true}
 use Rattle.turn_disk.specs.declared.disk.Disk as disks
-use Rattle.turn_engine.specs.State.{ServerState}
-use Rattle.turn_record.specs.declared.version.Version.TheVariants.{V2}
-use Rattle.turn_store.specs.Areas.{Form}
-use Rattle.turn_store.specs.Images.{EachImage, IsInVersion}
+use Rattle.turn_engine.specs.Prelude.{ServerState}
+use Rattle.turn_store.specs.Prelude.{V2, Form, EachImage, IsInVersion}
 use Rattle.turn_player.specs.Worlds.{Down, Serving, World}
 
 -- the server reserves ports, its store is of version 2, and so is each image of its disk

@@ -3,24 +3,14 @@
 use Rattle.std.specs.Prelude.{◌≡◌, ◌≤◌, ◌++◌, ℕ, Bool, List, [], ◌∷◌, Option, Result, Ok, Err, false, true, length, map, max}
 use Rattle.std.specs.List.{AllByRecursion}
 use Rattle.turn_cred.specs.declared.handler.AuthHandler as handlers
-use Rattle.turn_disk.specs.Disk.{IsImage, IsSettled}
+use Rattle.turn_disk.specs.Prelude.{IsImage, IsSettled}
 use Rattle.turn_disk.specs.declared.disk.Disk as disks
-use Rattle.turn_engine.specs.Calls.{Commits, Opening, Submits}
-use Rattle.turn_engine.specs.Images.{AtLeast}
-use Rattle.turn_engine.specs.Recovering.{RecoversTo}
-use Rattle.turn_engine.specs.Relaying.{Relays, beside}
-use Rattle.turn_engine.specs.Runs.{Taken, accepted, sent_about}
-use Rattle.turn_engine.specs.State.{ServerState, now_of}
-use Rattle.turn_engine.specs.Stops.{IsLeft}
+use Rattle.turn_engine.specs.Prelude.{Commits, Opening, Submits, AtLeast, RecoversTo, Relays, beside, Taken, accepted, sent_about, ServerState, now_of, IsLeft}
 use Rattle.turn_engine.specs.declared.error.ServerOpenError.{ServerOpenError}
 use Rattle.turn_engine.specs.declared.error.SubmitError.{SubmitError}
 use Rattle.turn_ports.specs.declared.generator.RelayAddressGenerator as generators
-use Rattle.turn_step.specs.Answer.{Setting}
-use Rattle.turn_step.specs.Outcome.{Arrives, Sent}
-use Rattle.turn_step.specs.State.{setting_of}
-use Rattle.turn_store.specs.Areas.{Form}
-use Rattle.turn_store.specs.Images.{EachImage}
-use Rattle.turn_store.specs.State.{form_of}
+use Rattle.turn_step.specs.Prelude.{Setting, Arrives, Sent, setting_of}
+use Rattle.turn_store.specs.Prelude.{Form, EachImage, form_of}
 use Rattle.turn_store.specs.declared.error.StoreError.{StoreError}
 use Rattle.turn_player.specs.Lives.{Arrive, Closed, Commit, Failed, Halted, Input, Lasting, Life, NotOpened, Open, Opened, Point, Refused, Relay, Running, Said, Shut, Stop, arrivals, handing_beside, handing_out, taken_of}
 

@@ -4,28 +4,18 @@ use Rattle.std.specs.Prelude.{⊤, ◌&&◌, Option, Some, None, option_map, is_
 use Rattle.std.specs.FinMap as fin
 use Rattle.std.proofs.lemmas.Option.{none-some}
 use Rattle.turn_history.specs.Table as tables
-use Rattle.turn_types.specs.Config.{Config}
-use Rattle.turn_types.specs.Rows.{first_row}
-use Rattle.turn_types.specs.declared.address.Endpoint.{Endpoint}
-use Rattle.turn_types.specs.declared.address.FiveTuple.{FiveTuple}
-use Rattle.turn_history.specs.Table.{Contents, no_contents, table}
-use Rattle.turn_codec.specs.Channel.{EncodesChannelData}
-use Rattle.turn_codec.specs.Grammar.{Content, Datagram, Encodes}
-use Rattle.turn_codec.specs.AttributeTypes.{username, realm, nonce}
-use Rattle.turn_codec.specs.Seen.{has_unknown, is_seen, seen_value}
+use Rattle.turn_types.specs.Prelude.{Config, first_row}
+use Rattle.turn_history.specs.Prelude.{Endpoint, FiveTuple, Contents, no_contents, table}
+use Rattle.turn_codec.specs.Prelude.{EncodesChannelData, Content, Datagram, Encodes, username, realm, nonce, has_unknown, is_seen, seen_value}
 use Rattle.turn_mac.specs.Fingerprint.{has_wrong_fingerprint}
 use Rattle.turn_mac.specs.Integrity.{has_right_integrity}
-use Rattle.turn_cred.specs.Nonce.{is_fresh}
-use Rattle.turn_cred.specs.Credential.{Policy, Verdict, has_integrity, no_key, policy_of, user_key, verdict}
-use Rattle.turn_cred.specs.Credential.Verdict.{Challenge401, Bad400, Stale438, Passed}
+use Rattle.turn_cred.specs.Prelude.{is_fresh, Policy, Verdict, has_integrity, no_key, policy_of, user_key, verdict, Bad400, Stale438, Passed}
+use Rattle.turn_cred.specs.Credential.Verdict.{Challenge401}
 use Rattle.turn_cred.specs.declared.key.Key.{Key}
 use Rattle.turn_relay.specs.FromClient.{PeerData, SendsToPeer, is_send_indication, sent_by_channel_data, sent_by_message}
-use Rattle.turn_rules.specs.Answer.{decision, is_protected, credential_outcome, outcome_of}
+use Rattle.turn_rules.specs.Prelude.{decision, is_protected, credential_outcome, outcome_of}
 use Rattle.std.specs.Option.{option_or, option_map_or}
-use Rattle.turn_step.specs.Answer.{AnswersClient, to_client, to_peer}
-use Rattle.turn_step.specs.State.{Answered, IsAfter, MachineState}
-use Rattle.turn_step.specs.Outcome.{Arrives, StepOutcome, Sent}
-use Rattle.turn_step.specs.Outcome.Sent.{ToClient}
+use Rattle.turn_step.specs.Prelude.{AnswersClient, to_client, to_peer, Answered, IsAfter, MachineState, Arrives, StepOutcome, Sent, ToClient}
 use Rattle.turn_program.specs.Profile.{answer, no_keys, profile, reply_in}
 
 -- ---- No user

@@ -1,12 +1,11 @@
 -- What a service makes of a disk.
-use Rattle.std.proofs.Common.{ℕ, Option, Some, None}
-use Rattle.std.specs.Prelude.{IfSome}
+use Rattle.std.proofs.Common.{ℕ, Option, Some, None, IfSome}
 use Rattle.turn_cred.specs.declared.handler.AuthHandler as handlers
 use Rattle.turn_disk.specs.declared.disk.Disk as disks
-use Rattle.turn_engine.specs.State.{ServerState}
+use Rattle.turn_engine.specs.Prelude.{ServerState}
 use Rattle.turn_ports.specs.declared.generator.RelayAddressGenerator as generators
 use Rattle.turn_serving.specs.Starts.{Started}
-use Rattle.turn_types.specs.Config.{Config}
+use Rattle.turn_types.specs.Prelude.{Config}
 use Rattle.turn_program.specs.Serving.{Serves, ServesOpened, StartedOver}
 
 pub started_over : {D H G : Type 0} (disk : disks.Ghosts D) (handler : handlers.Ghosts H) (ports : generators.Ghosts G) (opened : D) (config : Config) (users : H) (range : ℕ × ℕ) (server : ServerState D H G) →

@@ -5,7 +5,7 @@ use Rattle.turn_program.specs.Faults.{of_reading}
 use Rattle.turn_reading.specs.Readings.{WhyUnread}
 use Rattle.turn_reading.specs.declared.error.ReadingError.{ReadingError}
 use Rattle.turn_reading.specs.declared.error.ReadingError.TheVariants as reading_faults
-use Rattle.turn_store.specs.Refused.{WhyRefused}
+use Rattle.turn_store.specs.Prelude.{WhyRefused}
 use Rattle.turn_store.specs.declared.error.OpenError.TheVariants as open_faults
 use Rattle.turn_types.specs.declared.limits.Bounds.{Bounds}
 

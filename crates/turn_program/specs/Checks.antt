@@ -4,7 +4,7 @@ use Rattle.turn_config.specs.declared.config.ConfigTextError.{ConfigTextError}
 use Rattle.turn_program.specs.Faults.{of_config, of_open}
 use Rattle.turn_program.specs.declared.error.ProgramError.{ProgramError}
 use Rattle.turn_program.specs.declared.error.ProgramError.TheVariants.{Device, StoreInUse, Usage}
-use Rattle.turn_store.specs.Refused.{WhyRefused}
+use Rattle.turn_store.specs.Prelude.{WhyRefused}
 use Rattle.turn_store.specs.declared.error.OpenError.{OpenError}
 use Rattle.turn_sockets.specs.Own.{AreListened}
 use Rattle.turn_types.specs.declared.address.Endpoint.{Endpoint}

@@ -1,14 +1,11 @@
 -- What `turn answer` answers by: the realm example.org, no users, a secret of 32 zero bytes, no denied addresses.
 use Rattle.std.specs.Prelude.{ℕ, false, List, [], Option, Some, None, replicate, codes}
-use Rattle.turn_types.specs.Config.{Config}
-use Rattle.turn_types.specs.Profile.{max_allocations}
-use Rattle.turn_history.specs.Table.{no_contents}
-use Rattle.turn_types.specs.declared.address.FiveTuple.{FiveTuple}
-use Rattle.turn_codec.specs.Grammar.{Datagram}
-use Rattle.turn_cred.specs.Credential.{Keys}
-use Rattle.turn_rules.specs.Answer.{decision, credential_outcome}
-use Rattle.turn_step.specs.Outcome.{Sent}
-use Rattle.turn_step.specs.Outcome.Sent.{ToClient, ToPeer}
+use Rattle.turn_types.specs.Prelude.{Config, max_allocations}
+use Rattle.turn_history.specs.Prelude.{no_contents, FiveTuple}
+use Rattle.turn_codec.specs.Prelude.{Datagram}
+use Rattle.turn_cred.specs.Prelude.{Keys}
+use Rattle.turn_rules.specs.Prelude.{decision, credential_outcome}
+use Rattle.turn_step.specs.Prelude.{Sent, ToClient, ToPeer}
 
 -- the configuration of `turn answer`: the realm example.org, a secret of 32 zero bytes, the relay address 198.51.100.1, a
 -- quota of 10, nothing denied, and the max limits

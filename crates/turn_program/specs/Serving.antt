@@ -1,15 +1,15 @@
 -- What the words of `turn serve` say of its turns, and what it makes of its store.
 use Rattle.std.specs.Prelude.{◌≡◌, ℕ, Option, Some, None, [], true}
 use Rattle.turn_cred.specs.declared.handler.AuthHandler as handlers
-use Rattle.turn_disk.specs.Views.{InFile}
+use Rattle.turn_disk.specs.Prelude.{InFile}
 use Rattle.turn_disk.specs.declared.disk.Disk as disks
-use Rattle.turn_engine.specs.State.{ServerState}
+use Rattle.turn_engine.specs.Prelude.{ServerState}
 use Rattle.turn_nbd.specs.Views.{InExport}
 use Rattle.turn_ports.specs.declared.generator.RelayAddressGenerator as generators
 use Rattle.turn_serving.specs.Starts.{KeepsImages, Started}
 use Rattle.turn_serving.specs.Turns.{Served}
 use Rattle.turn_sockets.specs.Moments.{IsMoment}
-use Rattle.turn_types.specs.Config.{Config}
+use Rattle.turn_types.specs.Prelude.{Config}
 use Rattle.turn_serving.specs.declared.manner.Commits.{Commits}
 use Rattle.turn_serving.specs.declared.manner.Commits.TheVariants.{EachTurn, Paced}
 

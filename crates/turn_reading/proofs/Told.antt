@@ -1,25 +1,18 @@
 -- What is read of content, and what is told if it represents a history.
-use Rattle.std.proofs.Common.{◌≡◌, ◌⊎◌, ◌∙◌, ℕ, List, Option, None, Some, Result, Ok, Err, refl, subst, sym, inl, inr}
+use Rattle.std.proofs.Common.{◌≡◌, ◌⊎◌, ◌∙◌, ℕ, List, Option, None, Some, Result, Ok, Err, refl, subst, sym, inl, inr, IfErr, IfOk, IfSome, MatchResult, unwrap_or}
 use Rattle.turn_disk.specs.declared.disk.Disk as disks
-use Rattle.turn_history.specs.History.{History}
-use Rattle.std.specs.Prelude.{IfErr, IfOk, IfSome, MatchResult, unwrap_or}
+use Rattle.turn_history.specs.Prelude.{History, Bounds}
 use Rattle.turn_reading.specs.Readings.{IsRead, IsUnder, IsUnread, ReadsStore, Tells, WhyUnread, of_limits, of_open}
 use Rattle.turn_reading.specs.declared.reading.Reading.{Reading}
 use Rattle.turn_reading.specs.declared.error.ReadingError.{ReadingError}
 use Rattle.turn_reading.specs.declared.error.ReadingError.TheVariants.{Changing}
 use Rattle.turn_store.proofs.NeverRefused.{has_superblock}
 use Rattle.turn_store.proofs.Superblocks.{superblock_once}
-use Rattle.turn_store.specs.Areas.{Form}
-use Rattle.turn_store.specs.Images.{RepresentsAt}
-use Rattle.turn_store.specs.Refused.{IsPlain, WhyRefused}
-use Rattle.turn_store.specs.Replay.{Snapshot}
-use Rattle.turn_store.specs.Superblock.{HasSuperblock}
-use Rattle.turn_store.specs.Tables.{snapshot_of}
+use Rattle.turn_store.specs.Prelude.{Form, RepresentsAt, IsPlain, WhyRefused, Snapshot, HasSuperblock, snapshot_of}
 use Rattle.turn_store.specs.declared.error.OpenError.{OpenError}
 use Rattle.turn_store.specs.declared.error.OpenError.TheVariants as open_faults
 use Rattle.turn_store.specs.declared.superblock.LimitsError.{LimitsError}
 use Rattle.turn_store.specs.declared.superblock.LimitsError.TheVariants as limits_faults
-use Rattle.turn_types.specs.declared.limits.Bounds.{Bounds}
 
 -- ---- Any content
 

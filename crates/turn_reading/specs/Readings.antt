@@ -1,26 +1,17 @@
 -- What a reading of a store tells.
 use Rattle.std.specs.Prelude.{◌≡◌, ℕ, List, Option, None, Some, Result, IfErr, IfOk, MatchResult}
-use Rattle.turn_disk.specs.Disk.{State}
+use Rattle.turn_disk.specs.Prelude.{State}
 use Rattle.turn_disk.specs.declared.disk.Disk as disks
-use Rattle.turn_history.specs.History.{History}
-use Rattle.turn_history.specs.Table.{table}
+use Rattle.turn_history.specs.Prelude.{History, table, Bounds}
 use Rattle.turn_reading.specs.declared.error.ReadingError.{ReadingError}
 use Rattle.turn_reading.specs.declared.error.ReadingError.TheVariants.{Device, Memory, NotAStore, LimitsDiffer, Damaged, Changing}
 use Rattle.turn_reading.specs.declared.reading.Reading.{Reading}
-use Rattle.turn_store.specs.Areas.{Form}
-use Rattle.turn_store.specs.Images.{RepresentsAt}
-use Rattle.turn_store.specs.Opened.{IsOpened}
-use Rattle.turn_store.specs.Refused.{WhyRefused}
-use Rattle.turn_store.specs.Replay.{Snapshot}
-use Rattle.turn_store.specs.State.{StoreState}
-use Rattle.turn_store.specs.Superblock.{HasSuperblock}
-use Rattle.turn_store.specs.Tables.{snapshot_of}
+use Rattle.turn_store.specs.Prelude.{Form, RepresentsAt, IsOpened, WhyRefused, Snapshot, StoreState, HasSuperblock, snapshot_of}
 use Rattle.turn_store.specs.declared.error.OpenError.{OpenError}
 use Rattle.turn_store.specs.declared.error.OpenError.TheVariants as open_faults
 use Rattle.turn_store.specs.declared.superblock.LimitsError.{LimitsError}
 use Rattle.turn_store.specs.declared.superblock.LimitsError.TheVariants as limits_faults
 use Rattle.turn_table.specs.State as tables
-use Rattle.turn_types.specs.declared.limits.Bounds.{Bounds}
 
 -- the fault of limits that weren't read
 abbrev pub of_limits : LimitsError → ReadingError

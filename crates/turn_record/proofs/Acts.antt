@@ -1,29 +1,18 @@
 -- The readers of act entries and payloads read what the encodings encode.
-use Rattle.std.proofs.Common.{◌≡◌, ℕ, zero, suc, ap, ◌∙◌, ◌*◌, ◌^◌, ◌<◌, ◌≤◌, ◌⊎◌, Bool, true, false, not, ◌&&◌, ◌||◌, leb, ltb, eqb, List, [], ◌∷◌, ◌++◌, length, Ok, refl, sym, subst, arith, rules, inl, inr}
-use Rattle.std.specs.Prelude.{IfSome, IsSomeAnd, None, Option, Some, ◌+◌, ◌%◌}
+use Rattle.std.proofs.Common.{◌≡◌, ℕ, zero, suc, ap, ◌∙◌, ◌*◌, ◌^◌, ◌<◌, ◌≤◌, ◌⊎◌, Bool, true, false, not, ◌&&◌, ◌||◌, leb, ltb, eqb, List, [], ◌∷◌, ◌++◌, length, Ok, refl, sym, subst, arith, rules, inl, inr, IfSome, IsSomeAnd, None, Option, Some, ◌+◌, ◌%◌, ltb-true, leb-true, le-leb, eq-eqb, eqb-true}
 use Rattle.std.specs.Int.{w16, w32, w64, from_be_bytes, to_be_bytes}
 use Rattle.std.proofs.lemmas.Nat.{from_be_bytes-to_be_bytes_2}
 use Rattle.std.specs.List.{list_any}
-use Rattle.std.proofs.lemmas.Bool.{ltb-true, leb-true, le-leb, eq-eqb, eqb-true}
-use Rattle.turn_history.specs.Fitting.{IsEndpoint, IsTuple, IsActInRange, IsInRange, IsTokenAfter, IsTokenOf}
-use Rattle.turn_history.specs.History.{PlainAct, Allocates, Renews, Permits, Binds, Allocation, Event}
-use Rattle.turn_record.specs.Bytes.{joined, endpoint, five_tuple, name, tag, allocation, addresses, body, act_entry, payload}
-use Rattle.turn_record.specs.Reading.{◌>>=◌, last_passes, Binding, byte_at, number_at, bytes_at, moment_at, endpoint_at, tuple_at, name_len_at, name_at, granted_at, renewed_at, tx_at, begins_with, token_bytes_at, token_at, channel_number_at, count_at, port_at, allocation_at, is_even, pair_at, address_at, addresses_at, binding_at, body_at, max_tag, tag_at, moment_after, event_at, events_at}
-use Rattle.turn_record.specs.Records.{Writes}
+use Rattle.turn_history.specs.Prelude.{IsEndpoint, IsTuple, IsActInRange, IsInRange, IsTokenAfter, IsTokenOf, PlainAct, Allocates, Renews, Permits, Binds, Allocation, Event, Endpoint, FiveTuple, Bounds, Token, TxId}
+use Rattle.turn_record.specs.Prelude.{joined, endpoint, five_tuple, name, tag, allocation, addresses, body, act_entry, payload, ◌>>=◌, last_passes, Binding, byte_at, number_at, bytes_at, moment_at, endpoint_at, tuple_at, name_len_at, name_at, granted_at, renewed_at, tx_at, begins_with, token_bytes_at, token_at, channel_number_at, count_at, port_at, allocation_at, is_even, pair_at, address_at, addresses_at, binding_at, body_at, max_tag, tag_at, moment_after, event_at, events_at, Writes}
 use Rattle.turn_record.specs.declared.error.DecodeError.TheVariants.{BadTag, BadValue, OutOfOrder}
 use Rattle.turn_record.specs.declared.version.Version.{Version}
 use Rattle.turn_record.specs.declared.version.Version.TheVariants.{V1, V2}
-use Rattle.turn_types.specs.Limits.{AreInRange}
-use Rattle.turn_types.specs.declared.address.Endpoint.{Endpoint}
-use Rattle.turn_types.specs.declared.address.FiveTuple.{FiveTuple}
-use Rattle.turn_types.specs.declared.limits.Bounds.{Bounds}
-use Rattle.turn_types.specs.declared.message.Token.{Token}
-use Rattle.turn_types.specs.declared.message.TxId.{TxId}
+use Rattle.turn_types.specs.Prelude.{AreInRange, default_lifetime, max_lifetime, end_of_moments}
 use Rattle.turn_record.proofs.Once.{bytes_of_all, all_of_bytes, FitsAddress, none_before, after_distinct, distinct_after}
 use Rattle.std.proofs.lemmas.List.Elements.{All-from_recursion, recursion_from_All}
 use Rattle.turn_record.proofs.Fronts.{Passes, end_passes, good_passes, ok_is}
 use Rattle.turn_record.proofs.Readers.{Codec, EachAfter, IsBytes, at_most, chain, chain_by, codec16, codec32, codec64, codec_as, codec_byte, codec_bytes, codec_counted, codec_judged, in_words, in_words_under, made, one, two_bytes}
-use Rattle.turn_types.specs.Profile.{default_lifetime, max_lifetime, end_of_moments}
 
 -- ---- What a reader asks, before it is said in the words of histories
 

@@ -1,8 +1,7 @@
 -- What several appends leave.
-use Rattle.std.proofs.Common.{◌≡◌, ℕ, ◌+◌, ◌<◌, suc, List, [], ◌∷◌, ◌++◌, length, map, get_or, drop, add-one, sym, ap, ◌∙◌, append_assoc, length-append}
+use Rattle.std.proofs.Common.{◌≡◌, ℕ, ◌+◌, ◌<◌, suc, List, [], ◌∷◌, ◌++◌, length, map, get_or, drop, add-one, sym, ap, ◌∙◌, append_assoc, length-append, append-nil}
 use Rattle.std.proofs.Math.Seq.{drop-cons}
-use Rattle.std.proofs.lemmas.List.{append-nil}
-use Rattle.turn_record.specs.Bytes.{joined, each}
+use Rattle.turn_record.specs.Prelude.{joined, each}
 
 -- one more field
 pub appended : (before now after field : List ℕ) (fields : List (List ℕ)) → now ≡ before ++ field → after ≡ now ++ joined fields → after ≡ before ++ joined (field ∷ fields)

@@ -1,20 +1,13 @@
 -- What the readers promise, in the words of histories.
-use Rattle.std.proofs.Common.{◌≡◌, ℕ, ◌≤◌, true, leb, List, [], ◌∷◌, ◌++◌, Result, Ok, Err, refl, sym, ap, ◌∙◌, arith}
-use Rattle.std.specs.Prelude.{IfOk}
+use Rattle.std.proofs.Common.{◌≡◌, ℕ, ◌≤◌, true, leb, List, [], ◌∷◌, ◌++◌, Result, Ok, Err, refl, sym, ap, ◌∙◌, arith, IfOk, leb-true, le-leb}
 use Rattle.std.specs.List.{AllByRecursion}
-use Rattle.std.proofs.lemmas.Bool.{leb-true, le-leb}
-use Rattle.turn_history.specs.Fitting.{IsInRange}
-use Rattle.turn_history.specs.History.{Event}
-use Rattle.turn_history.specs.Laws.{AllFrom, NeverFall}
-use Rattle.turn_record.specs.Bytes.{act_entry, payload}
-use Rattle.turn_record.specs.Reading.{Gives, last_passes, passes, event_at, events_at, act_in, payload_in}
-use Rattle.turn_record.specs.Records.{IsBatch, EncodesAct, EncodesPayload, Writes}
+use Rattle.turn_history.specs.Prelude.{IsInRange, Event, AllFrom, NeverFall, Bounds}
+use Rattle.turn_record.specs.Prelude.{act_entry, payload, Gives, last_passes, passes, event_at, events_at, act_in, payload_in, IsBatch, EncodesAct, EncodesPayload, Writes}
 use Rattle.turn_record.specs.declared.error.DecodeError.{DecodeError}
 use Rattle.turn_record.specs.declared.error.ReadError.{ReadError}
 use Rattle.turn_record.specs.declared.version.Version.{Version}
 use Rattle.turn_record.specs.declared.version.Version.TheVariants.{V2}
-use Rattle.turn_types.specs.Limits.{AreInRange}
-use Rattle.turn_types.specs.declared.limits.Bounds.{Bounds}
+use Rattle.turn_types.specs.Prelude.{AreInRange}
 use Rattle.turn_record.proofs.Acts.{FitsAfter, FitsPayload, codec_event, codec_events}
 use Rattle.turn_record.proofs.Rising.{last_of}
 use Rattle.turn_record.proofs.Readers.{EachAfter, IsBytes, Reads, reads_in_words, whole_takes, whole_again, one_encoding}

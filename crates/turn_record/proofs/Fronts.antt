@@ -1,10 +1,8 @@
 -- What a reader answers of the front of bytes: it stays when bytes are added, a value with these after it, and a fault other than Short; only fewer bytes than it
 -- takes at most can be too short for it.
-use Rattle.std.proofs.Common.{◌≡◌, ℕ, zero, suc, ◌+◌, ◌*◌, ◌≤◌, ◌<◌, Bool, true, false, cond, ltb, List, [], ◌∷◌, ◌++◌, length, take, drop, Result, Ok, Err, refl, sym, ap, ◌∙◌, arith}
-use Rattle.std.proofs.lemmas.Bool.{le-ltb, ltb-false, ltb-true}
+use Rattle.std.proofs.Common.{◌≡◌, ℕ, zero, suc, ◌+◌, ◌*◌, ◌≤◌, ◌<◌, Bool, true, false, cond, ltb, List, [], ◌∷◌, ◌++◌, length, take, drop, Result, Ok, Err, refl, sym, ap, ◌∙◌, arith, le-ltb, ltb-false, ltb-true}
 use Rattle.std.proofs.lemmas.List.{drop-append-le, length-append, length-drop, take-append-le}
-use Rattle.turn_record.specs.Places.{is_short}
-use Rattle.turn_record.specs.Reading.{◌>>=◌, Field, checked, many}
+use Rattle.turn_record.specs.Prelude.{is_short, ◌>>=◌, Field, checked, many}
 use Rattle.turn_record.specs.declared.error.DecodeError.{DecodeError}
 use Rattle.turn_record.specs.declared.error.DecodeError.TheVariants.{Short}
 

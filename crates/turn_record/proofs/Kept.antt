@@ -1,19 +1,15 @@
 -- What has a snapshot goes on having one, as time passes and by an event that fits, and in a later version.
 use Rattle.std.specs.Prelude.{ℕ, ◌<◌, ◌≤◌}
-use Rattle.turn_history.specs.Fitting.{Fits, IsInRange}
-use Rattle.turn_history.specs.History.{Event, PlainAct}
-use Rattle.turn_history.specs.Table.{Contents, purged, applied}
+use Rattle.turn_history.specs.Prelude.{Fits, IsInRange, Event, PlainAct, Contents, purged, applied, FiveTuple, Bounds}
 use Rattle.turn_history.proofs.Histories.{ports-purged, ports-applied}
 use Rattle.turn_history.proofs.Kept.{ranges-purged, ranges-applied, peers-purged, peers-applied}
 use Rattle.turn_history.proofs.Reserved.{reservations-purged, reservations-applied, reserved-purged, reserved-applied}
 use Rattle.turn_history.proofs.Sizes.{within-purged, within-applied}
 use Rattle.turn_history.proofs.Tokens.{acts, later}
-use Rattle.turn_record.specs.Records.{Holds, IsSnapshot, Writes}
+use Rattle.turn_record.specs.Prelude.{Holds, IsSnapshot, Writes}
 use Rattle.turn_record.specs.declared.version.Version.{Version}
 use Rattle.turn_record.specs.declared.version.Version.TheVariants.{V1, V2}
-use Rattle.turn_types.specs.Profile.{end_of_moments}
-use Rattle.turn_types.specs.declared.address.FiveTuple.{FiveTuple}
-use Rattle.turn_types.specs.declared.limits.Bounds.{Bounds}
+use Rattle.turn_types.specs.Prelude.{end_of_moments}
 
 holds-purged : (v : Version) (u : ℕ) (c : Contents) → Holds v c → Holds v (purged u c)
 holds-purged V1 u c h = later u c h

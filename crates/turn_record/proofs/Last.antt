@@ -1,12 +1,9 @@
 -- The last element, seen through a view.
-use Rattle.std.proofs.Common.{◌≡◌, ℕ, zero, suc, ◌-◌, ◌<◌, List, [], ◌∷◌, length, map, Some, None, Ok, Err, leb, true, false, ◌≤◌, refl, ap, rules}
-use Rattle.std.specs.Prelude.{slice_get}
-use Rattle.std.specs.Option.{option_map}
+use Rattle.std.proofs.Common.{◌≡◌, ℕ, zero, suc, ◌-◌, ◌<◌, List, [], ◌∷◌, length, map, Some, None, Ok, Err, leb, true, false, ◌≤◌, refl, ap, rules, slice_get, option_map}
 use Rattle.std.proofs.lemmas.Bool.{lt-leb, le-leb}
 use Rattle.turn_history.specs.declared.event.Event.{Event}
-use Rattle.turn_history.specs.Act.{event_of}
-use Rattle.turn_record.specs.Reading.{moment_at, moment_after}
-use Rattle.turn_record.specs.Views.{events_of}
+use Rattle.turn_history.specs.Prelude.{event_of}
+use Rattle.turn_record.specs.Prelude.{moment_at, moment_after, events_of}
 use Rattle.turn_record.specs.declared.error.DecodeError.TheVariants.{OutOfOrder}
 
 slice_get-map : {A B : Type 0} (f : A → B) (xs : List A) (i : ℕ) → slice_get (map f xs) i ≡ option_map f (slice_get xs i)

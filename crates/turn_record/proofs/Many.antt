@@ -3,7 +3,7 @@ use Rattle.std.proofs.Common.{◌≡◌, ℕ, zero, suc, ◌-◌, ◌+◌, ◌�
 use Rattle.turn_record.specs.declared.error.DecodeError.{DecodeError}
 use Rattle.turn_record.specs.declared.error.ReadError.{ReadError}
 use Rattle.turn_record.specs.declared.error.ReadError.TheVariants as errors
-use Rattle.turn_record.specs.Reading.{Field, Fails, many}
+use Rattle.turn_record.specs.Prelude.{Field, Fails, many}
 
 -- one element more was read
 pub many_more : {A : Type 0} (item : List A → List ℕ → Field A) (left : ℕ) (before : List A) (bytes : List ℕ) (x : A) (after : List ℕ) → 0 < left → item before bytes ≡ Ok (x, after)

@@ -1,22 +1,16 @@
 -- What a step of a reader in pieces keeps.
-use Rattle.std.proofs.Common.{◌≡◌, ◌⊎◌, ℕ, zero, suc, ◌+◌, ◌-◌, ◌<◌, ◌≤◌, Bool, true, false, eqb, List, [], ◌∷◌, ◌++◌, append_assoc, length, Option, Some, None, Result, Ok, Err, refl, sym, ap, subst, ◌∙◌, arith, inl, inr}
+use Rattle.std.proofs.Common.{◌≡◌, ◌⊎◌, ℕ, zero, suc, ◌+◌, ◌-◌, ◌<◌, ◌≤◌, Bool, true, false, eqb, List, [], ◌∷◌, ◌++◌, append_assoc, length, Option, Some, None, Result, Ok, Err, refl, sym, ap, subst, ◌∙◌, arith, inl, inr, IfOk, IfSome, if◌then◌else◌, is_lt, nat_cmp, Ordering, Less, Equal, Greater}
 use Rattle.std.proofs.lemmas.Bool.{eqb-false, eqb-true, ne_eqb}
 use Rattle.std.proofs.lemmas.List.{append-nil, length-append, nil_from_length}
 use Rattle.turn_record.specs.declared.error.DecodeError.{DecodeError}
 use Rattle.turn_record.specs.declared.error.DecodeError.TheVariants.{Short, BadTag, BadValue, OutOfOrder, TrailingBytes}
 use Rattle.turn_record.specs.declared.error.ReadError.{ReadError}
 use Rattle.turn_record.specs.declared.error.ReadError.TheVariants as errors
-use Rattle.std.specs.Prelude.{IfOk, IfSome, if◌then◌else◌}
-use Rattle.std.specs.Ordering.{is_lt, nat_cmp}
-use Rattle.std.specs.declared.cmp.Ordering.{Ordering}
-use Rattle.std.specs.declared.cmp.Ordering.TheVariants.{Less, Equal, Greater}
 use Rattle.std.specs.FinMap as fin
 use Rattle.std.specs.FinMap.{len-empty, len-entries}
-use Rattle.turn_history.specs.Table.{Contents, Entry, Reservations, no_contents}
+use Rattle.turn_history.specs.Prelude.{Contents, Entry, Reservations, no_contents, FiveTuple, Bounds}
 use Rattle.turn_history.specs.declared.reservation.Reservation.{Reservation}
-use Rattle.turn_record.specs.Pieces.{Expects}
-use Rattle.turn_record.specs.Places.{HasRoom, IsCut, Place, IsWaiting, IsWaitingAt, Next, ends_with_entries, gives, if_whole, is_done, is_short, more_at}
-use Rattle.turn_record.specs.Snapshots.{Head, entry_at, total_at, reservation_at, reserving_at, reserved_at, head_at, snapshot_at, snapshot_in, table_at}
+use Rattle.turn_record.specs.Prelude.{Expects, HasRoom, IsCut, Place, IsWaiting, IsWaitingAt, Next, ends_with_entries, gives, if_whole, is_done, is_short, more_at, Head, entry_at, total_at, reservation_at, reserving_at, reserved_at, head_at, snapshot_at, snapshot_in, table_at, entry_size, max_entry, Field, Fails, Gives, moment_at, passes, whole}
 use Rattle.turn_record.specs.declared.snapshot_progress.Remaining.{Remaining}
 use Rattle.turn_record.specs.declared.snapshot_progress.Remaining.TheVariants.{Entries, Reserved}
 use Rattle.turn_record.specs.declared.version.Version.{Version}
@@ -25,12 +19,8 @@ use Rattle.turn_record.proofs.Many.{many_err, many_more, many_none}
 use Rattle.turn_record.proofs.Reserves.{codec_reservation}
 use Rattle.turn_record.proofs.Snapshots.{codec_head, nothing_there}
 use Rattle.turn_record.proofs.Tables.{codec_entry, codec_total, map_again, total_passes}
-use Rattle.turn_record.specs.Records.{entry_size, max_entry}
-use Rattle.turn_table.specs.State.{State}
-use Rattle.turn_types.specs.FiveTuple.{tuple_cmp}
-use Rattle.turn_types.specs.declared.address.FiveTuple.{FiveTuple}
-use Rattle.turn_types.specs.declared.limits.Bounds.{Bounds}
-use Rattle.turn_record.specs.Reading.{Field, Fails, Gives, moment_at, passes, whole}
+use Rattle.turn_table.specs.Prelude.{State}
+use Rattle.turn_types.specs.Prelude.{tuple_cmp}
 use Rattle.turn_record.proofs.Fronts.{Front, Grows, bind_ok, ok_is}
 
 pub next_ok : {A : Type 0} {n : ℕ} (read : List ℕ → Field A) → Front read n → (bytes : List ℕ) (x : A) (rest : List ℕ) → read bytes ≡ Ok (x, rest) → (more : List ℕ) → read (bytes ++ more) ≡ Ok (x, rest ++ more)

@@ -7,9 +7,7 @@ use Rattle.std.proofs.lemmas.List.{take_at, drop_at, take-append-drop, length-ap
 use Rattle.std.proofs.lemmas.Nat.{be_bytes_2, be_bytes_4, be_bytes_8, from_be_bytes-to_be_bytes_2, from_be_bytes-to_be_bytes_4, from_be_bytes-to_be_bytes_8}
 use Rattle.turn_record.specs.declared.error.DecodeError.{DecodeError}
 use Rattle.turn_record.specs.declared.error.DecodeError.TheVariants.{Short, TrailingBytes}
-use Rattle.turn_record.specs.Bytes.{each}
-use Rattle.turn_record.specs.Places.{is_short}
-use Rattle.turn_record.specs.Reading.{◌>>=◌, Field, checked, byte_at, number_at, bytes_at, many, whole}
+use Rattle.turn_record.specs.Prelude.{each, is_short, ◌>>=◌, Field, checked, byte_at, number_at, bytes_at, many, whole}
 use Rattle.turn_record.proofs.Fronts.{Any, Front, Passes, bind, bind_ok, done, front_end, front_checked, front_many, front_needs, guard_ok, checked_ok, ok_is, within}
 
 -- each element meets what is asked of it after those before it

@@ -1,21 +1,15 @@
 -- The readers of reserved ports read what the encodings encode.
 use Rattle.std.proofs.Math.Nat.{mul-le-mul_right}
-use Rattle.turn_record.specs.Records.{max_reserved}
-use Rattle.std.proofs.Common.{◌≡◌, ℕ, ◌*◌, ◌+◌, ◌^◌, ◌<◌, ◌≤◌, true, not, ◌&&◌, ltb, T, List, [], ◌∷◌, ◌++◌, length, Ok, refl, sym, ap, subst, ◌∙◌, append_assoc, append-nil, arith}
-use Rattle.std.specs.Prelude.{◌%◌}
+use Rattle.turn_record.specs.Prelude.{max_reserved, each, reservation, reserved, ◌>>=◌, last_passes, number_at, many, is_even, token_at, expiry_at, is_free_after, total_at, odd_port_at, reserved_port_after, reservation_at, reserving_at, reserved_at}
+use Rattle.std.proofs.Common.{◌≡◌, ℕ, ◌*◌, ◌+◌, ◌^◌, ◌<◌, ◌≤◌, true, not, ◌&&◌, ltb, T, List, [], ◌∷◌, ◌++◌, length, Ok, refl, sym, ap, subst, ◌∙◌, append_assoc, append-nil, arith, ◌%◌, is_lt, nat_cmp}
 use Rattle.std.specs.Int.{w16, w32, w64, to_be_bytes}
 use Rattle.std.specs.List.{AllByRecursion}
-use Rattle.std.specs.Ordering.{is_lt, nat_cmp}
 use Rattle.std.specs.FinMap as fin
 use Rattle.std.specs.FinMap.{entries-from_sorted, entries_sorted, len-entries, nat_cmp-IsAntisymmetric}
 use Rattle.std.proofs.lemmas.Bool.{eqb-false, ltb-true, ne_eqb}
 use Rattle.std.proofs.lemmas.Cmp.{nat_cmp_total}
-use Rattle.turn_history.specs.Fitting.{IsReservationInRange}
-use Rattle.turn_history.specs.Table.{Contents, Entry, Reservations}
+use Rattle.turn_history.specs.Prelude.{IsReservationInRange, Contents, Entry, Reservations, FiveTuple, Bounds}
 use Rattle.turn_history.specs.declared.reservation.Reservation.{Reservation}
-use Rattle.turn_record.specs.Bytes.{each, reservation, reserved}
-use Rattle.turn_record.specs.Reading.{◌>>=◌, last_passes, number_at, many, is_even, token_at}
-use Rattle.turn_record.specs.Snapshots.{expiry_at, is_free_after, total_at, odd_port_at, reserved_port_after, reservation_at, reserving_at, reserved_at}
 use Rattle.turn_record.specs.declared.error.DecodeError.TheVariants.{BadValue, OutOfOrder}
 use Rattle.turn_record.specs.declared.version.Version.{Version}
 use Rattle.turn_record.specs.declared.version.Version.TheVariants.{V1, V2}
@@ -25,12 +19,8 @@ use Rattle.turn_record.proofs.Readers.{Codec, EachAfter, at_most, chain, chain_b
 use Rattle.turn_record.proofs.Rising.{Rises, all_below, sorted_rising, rising_sorted, true_of}
 use Rattle.turn_record.proofs.Tables.{IsAhead, Rising, above_is, less_is, list_rises, map_again, codec_expiry, codec_total, total_passes}
 use Rattle.turn_history.proofs.Entries.{of_entries}
-use Rattle.turn_table.specs.Table.{IsAboveReserved}
-use Rattle.turn_types.specs.FiveTuple.{tuple_cmp}
-use Rattle.turn_types.specs.Limits.{AreInRange}
-use Rattle.turn_types.specs.Profile.{reservation_lifetime}
-use Rattle.turn_types.specs.declared.address.FiveTuple.{FiveTuple}
-use Rattle.turn_types.specs.declared.limits.Bounds.{Bounds}
+use Rattle.turn_table.specs.Prelude.{IsAboveReserved}
+use Rattle.turn_types.specs.Prelude.{tuple_cmp, AreInRange, reservation_lifetime}
 
 -- a reserved port in its range, which none of the entries has
 abbrev pub IsReserved : ℕ → List (FiveTuple × Entry) → ℕ × Reservation → Type 0

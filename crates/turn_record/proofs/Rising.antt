@@ -1,13 +1,10 @@
 -- Keys that each rise above the one before make a sorted list, and the other way round.
-use Rattle.std.proofs.Common.{◌≡◌, ◌-◌, Bool, true, false, T, List, [], ◌∷◌, ◌++◌, length, Some, refl, sym, ap, subst, ◌∙◌, arith, length-append}
-use Rattle.std.specs.Prelude.{slice_get}
-use Rattle.std.specs.declared.cmp.Ordering.{Ordering}
-use Rattle.std.specs.Ordering.{is_lt}
+use Rattle.std.proofs.Common.{◌≡◌, ◌-◌, Bool, true, false, T, List, [], ◌∷◌, ◌++◌, length, Some, refl, sym, ap, subst, ◌∙◌, arith, length-append, slice_get, Ordering, is_lt}
 use Rattle.std.specs.Cmp.{IsTotalOrder}
 use Rattle.std.specs.FinMap.Entries.{is_sorted, below_all}
 use Rattle.std.specs.List.{AllByRecursion}
 use Rattle.turn_history.proofs.Entries.{first, second, both, less}
-use Rattle.turn_record.specs.Reading.{passes, last_passes}
+use Rattle.turn_record.specs.Prelude.{passes, last_passes}
 use Rattle.turn_record.proofs.Readers.{EachAfter}
 
 get_last : {A : Type 0} (before : List A) (x : A) → slice_get (before ++ x ∷ []) (length before) ≡ Some x

@@ -1,23 +1,17 @@
 -- How many bytes encodings have, and that lengths fit the bytes that they are written in.
-use Rattle.std.proofs.Common.{◌≡◌, ℕ, ◌+◌, ◌*◌, ◌≤◌, List, [], ◌∷◌, All, length, refl, arith, length-append}
+use Rattle.std.proofs.Common.{◌≡◌, ℕ, ◌+◌, ◌*◌, ◌≤◌, List, [], ◌∷◌, All, length, refl, arith, length-append, None, Some}
 use Rattle.std.proofs.Math.Nat.{mul-le-mul_right}
-use Rattle.std.specs.Prelude.{None, Some}
 use Rattle.std.specs.Int.{w32, to_be_bytes}
 use Rattle.std.specs.List.{AllByRecursion}
 use Rattle.std.proofs.lemmas.List.Elements.{All-from_recursion}
-use Rattle.turn_history.specs.Fitting.{IsActInRange, IsInRange}
-use Rattle.turn_history.specs.History.{PlainAct, Allocates, Renews, Permits, Binds, Event}
-use Rattle.turn_record.specs.Bytes.{each, addresses, body, act_entry, payload}
-use Rattle.turn_history.specs.Act.{act_of, event_of}
+use Rattle.turn_history.specs.Prelude.{IsActInRange, IsInRange, PlainAct, Allocates, Renews, Permits, Binds, Event, act_of, event_of, Bounds}
+use Rattle.turn_record.specs.Prelude.{each, addresses, body, act_entry, payload, events_of, HasShortParts, IsBatch, Writes, max_act, max_payload, max_act_bytes}
 use Rattle.turn_history.specs.declared.event.Event as accepted
-use Rattle.turn_record.specs.Views.{events_of}
 use Rattle.turn_record.proofs.Apart.{all_two}
 use Rattle.turn_record.proofs.Last.{length-map}
-use Rattle.turn_record.specs.Records.{HasShortParts, IsBatch, Writes, max_act, max_payload, max_act_bytes}
 use Rattle.turn_record.specs.declared.version.Version.{Version}
 use Rattle.turn_record.specs.declared.version.Version.TheVariants.{V1, V2}
-use Rattle.turn_types.specs.Limits.{AreInRange}
-use Rattle.turn_types.specs.declared.limits.Bounds.{Bounds}
+use Rattle.turn_types.specs.Prelude.{AreInRange}
 
 pub size_each : {A : Type 0} (s : A → List ℕ) (k : ℕ) → ((x : A) → length (s x) ≡ k) → (xs : List A) → length (each s xs) ≡ k * length xs
 size_each s k h [] = omega arith

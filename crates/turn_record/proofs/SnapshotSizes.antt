@@ -1,32 +1,22 @@
 -- How many bytes snapshots have.
-use Rattle.std.proofs.Common.{◌≡◌, ℕ, ◌+◌, ◌*◌, ◌≤◌, List, [], ◌∷◌, ◌++◌, length, refl, sym, ap, ◌∙◌, arith, length-append}
+use Rattle.std.proofs.Common.{◌≡◌, ℕ, ◌+◌, ◌*◌, ◌≤◌, List, [], ◌∷◌, ◌++◌, length, refl, sym, ap, ◌∙◌, arith, length-append, IfSome, None, Option, Some, nat_cmp}
 use Rattle.std.proofs.Math.Nat.{mul-le-mul_right}
 use Rattle.std.specs.FinMap as fin
 use Rattle.std.specs.FinMap.{FinMap, len-entries, nat_cmp-IsAntisymmetric}
-use Rattle.std.specs.Prelude.{IfSome, None, Option, Some}
 use Rattle.std.proofs.lemmas.Cmp.{nat_cmp_total}
 use Rattle.std.specs.Int.{w32, w64, to_be_bytes}
 use Rattle.std.specs.List.{AllByRecursion}
-use Rattle.std.specs.Ordering.{nat_cmp}
 use Rattle.turn_history.proofs.Entries.{all_entries}
 use Rattle.turn_history.proofs.Maps.{tuple_total, tuple_exact}
-use Rattle.turn_history.specs.Fitting.{AreReservationsInRange, IsTokenAfter}
-use Rattle.turn_history.specs.Laws.{allocation_of}
-use Rattle.turn_history.specs.Table.{Contents, Entry}
+use Rattle.turn_history.specs.Prelude.{AreReservationsInRange, IsTokenAfter, allocation_of, Contents, Entry, FiveTuple, Bounds, Token}
 use Rattle.turn_history.specs.declared.channel.Channel.{Channel}
 use Rattle.turn_history.specs.declared.reservation.Reservation.{Reservation}
 use Rattle.turn_record.proofs.Apart.{all_more}
 use Rattle.turn_record.proofs.Sizes.{each_at_most, size_each}
-use Rattle.turn_record.specs.Bytes.{joined, each, five_tuple, allocation, mark, permission, permissions, channel, channels, entry, head, reservation, reserved, snapshot}
-use Rattle.turn_record.specs.Records.{IsSnapshot, entry_size, max_entry, max_reserved, max_snapshot, max_reserved_bytes, max_snapshot_bytes}
+use Rattle.turn_record.specs.Prelude.{joined, each, five_tuple, allocation, mark, permission, permissions, channel, channels, entry, head, reservation, reserved, snapshot, IsSnapshot, entry_size, max_entry, max_reserved, max_snapshot, max_reserved_bytes, max_snapshot_bytes, IsShort, AreShort}
 use Rattle.turn_record.specs.declared.version.Version.{Version}
 use Rattle.turn_record.specs.declared.version.Version.TheVariants.{V1, V2}
-use Rattle.turn_record.specs.Written.{IsShort, AreShort}
-use Rattle.turn_types.specs.Limits.{AreInRange, max_bounds}
-use Rattle.turn_types.specs.Profile.{max_allocations}
-use Rattle.turn_types.specs.declared.address.FiveTuple.{FiveTuple}
-use Rattle.turn_types.specs.declared.limits.Bounds.{Bounds}
-use Rattle.turn_types.specs.declared.message.Token.{Token}
+use Rattle.turn_types.specs.Prelude.{AreInRange, max_bounds, max_allocations}
 
 -- ---- A list of permissions or channels, as a map has it
 

@@ -1,22 +1,17 @@
 -- The readers of snapshots read what the encodings encode, and what they read is a table in its ranges.
-use Rattle.std.proofs.Common.{◌≡◌, ℕ, ◌+◌, ◌^◌, ◌<◌, ◌≤◌, false, Option, Some, None, List, [], ◌++◌, length, Ok, refl, sym, ap, subst, ◌∙◌, arith}
+use Rattle.std.proofs.Common.{◌≡◌, ℕ, ◌+◌, ◌^◌, ◌<◌, ◌≤◌, false, Option, Some, None, List, [], ◌++◌, length, Ok, refl, sym, ap, subst, ◌∙◌, arith, nat_cmp, eq-eqb, eqb-true}
 use Rattle.std.specs.Int.{w32, w64, to_be_bytes}
 use Rattle.std.specs.List.{AllByRecursion, list_any}
-use Rattle.std.specs.Ordering.{nat_cmp}
 use Rattle.std.specs.FinMap as fin
 use Rattle.std.specs.FinMap.{entries_sorted, get-empty, len-empty, len-entries, nat_cmp-IsAntisymmetric, same_map}
-use Rattle.std.proofs.lemmas.Bool.{eq-eqb, eqb-true}
 use Rattle.std.proofs.lemmas.Cmp.{nat_cmp_total}
 use Rattle.std.proofs.lemmas.List.{nil_from_length}
-use Rattle.turn_history.specs.Table.{Contents, Entry, Reservations}
+use Rattle.turn_history.specs.Prelude.{Contents, Entry, Reservations, FiveTuple, Bounds}
 use Rattle.turn_history.specs.declared.reservation.Reservation.{Reservation}
 use Rattle.turn_history.proofs.Entries.{all_entries, of_entries}
 use Rattle.turn_history.proofs.Maps.{tuple_total, tuple_exact}
 use Rattle.turn_history.proofs.Tests.{free_port_is, port_is_free}
-use Rattle.turn_record.specs.Bytes.{each, entry, head, reserved, snapshot}
-use Rattle.turn_record.specs.Reading.{◌>>=◌, many, moment_at}
-use Rattle.turn_record.specs.Records.{Holds, IsSnapshot, EncodesSnapshot}
-use Rattle.turn_record.specs.Snapshots.{Head, entry_at, total_at, reserved_at, head_at, table_at, snapshot_at, snapshot_in}
+use Rattle.turn_record.specs.Prelude.{each, entry, head, reserved, snapshot, ◌>>=◌, many, moment_at, Holds, IsSnapshot, EncodesSnapshot, Head, entry_at, total_at, reserved_at, head_at, table_at, snapshot_at, snapshot_in}
 use Rattle.turn_record.specs.declared.version.Version.{Version}
 use Rattle.turn_record.specs.declared.version.Version.TheVariants.{V1, V2}
 use Rattle.turn_record.proofs.Acts.{not_is, not_from, codec_moment}
@@ -25,11 +20,7 @@ use Rattle.turn_record.proofs.Readers.{Codec, EachAfter, IsBytes, Reads, chain, 
 use Rattle.turn_record.proofs.Reserves.{FitsReservations, IsReserved, all_reserved, few_reserved, codec_reserved}
 use Rattle.turn_record.proofs.Rising.{rising_sorted}
 use Rattle.turn_record.proofs.Tables.{ArePermissions, AreChannels, FitsEntry, HoldsToken, IsOne, by_keys, entries_rise, tuples_rise, from_keys, codec_entry, codec_total, same_port, same_ports}
-use Rattle.turn_types.specs.FiveTuple.{tuple_cmp}
-use Rattle.turn_types.specs.Limits.{AreInRange}
-use Rattle.turn_types.specs.Profile.{max_lifetime, end_of_moments}
-use Rattle.turn_types.specs.declared.address.FiveTuple.{FiveTuple}
-use Rattle.turn_types.specs.declared.limits.Bounds.{Bounds}
+use Rattle.turn_types.specs.Prelude.{tuple_cmp, AreInRange, max_lifetime, end_of_moments}
 
 -- ---- Maps without reserved ports
 

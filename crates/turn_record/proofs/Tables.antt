@@ -1,41 +1,27 @@
 -- The readers of snapshots read what the encodings encode, and what they read is a table in its ranges.
-use Rattle.std.proofs.Common.{◌≡◌, ℕ, ◌+◌, ◌-◌, ◌^◌, ◌<◌, ◌≤◌, Bool, true, false, cond, not, ◌&&◌, ◌||◌, eqb, leb, ltb, T, Some, None, List, [], ◌++◌, length, Ok, refl, sym, ap, subst, ◌∙◌, arith, inl, inr}
-use Rattle.std.specs.Prelude.{◌*◌, ◌==◌, ◌%◌, ◌⊎◌, IfSome, Option, slice_get}
+use Rattle.std.proofs.Common.{◌≡◌, ℕ, ◌+◌, ◌-◌, ◌^◌, ◌<◌, ◌≤◌, Bool, true, false, cond, not, ◌&&◌, ◌||◌, eqb, leb, ltb, T, Some, None, List, [], ◌++◌, length, Ok, refl, sym, ap, subst, ◌∙◌, arith, inl, inr, ◌*◌, ◌==◌, ◌%◌, ◌⊎◌, IfSome, Option, slice_get, nat_cmp, is_lt, Ordering, Less, Equal, Greater, eq-eqb, eqb-true, leb-true, le-leb, ltb-true}
 use Rattle.std.specs.Int.{w16, w32, w64, to_be_bytes}
 use Rattle.std.specs.List.{AllByRecursion, list_any}
-use Rattle.std.specs.Ordering.{nat_cmp, is_lt}
 use Rattle.std.specs.Cmp.{IsTotalOrder}
-use Rattle.std.specs.declared.cmp.Ordering.{Ordering}
-use Rattle.std.specs.declared.cmp.Ordering.TheVariants.{Less, Equal, Greater}
 use Rattle.std.specs.FinMap as fin
 use Rattle.std.specs.FinMap.{FinMap, IsAntisymmetric, entries-from_sorted, entries_sorted, len-entries, nat_cmp-IsAntisymmetric, same_entries_map}
-use Rattle.std.proofs.lemmas.Bool.{eq-eqb, eqb-true, leb-true, le-leb, ltb-true}
 use Rattle.std.proofs.lemmas.Cmp.{nat_cmp_total}
-use Rattle.turn_history.specs.Fitting.{IsEndpoint, IsTuple, IsChannelNumber, IsEntryInRange, IsTokenAfter, is_peer}
-use Rattle.turn_history.specs.History.{Allocation}
-use Rattle.turn_history.specs.Table.{Entry}
+use Rattle.turn_history.specs.Prelude.{IsEndpoint, IsTuple, IsEntryInRange, IsTokenAfter, is_peer, Allocation, Entry, FiveTuple, Bounds, Token}
+use Rattle.turn_history.specs.Fitting.{IsChannelNumber}
 use Rattle.turn_history.specs.declared.channel.Channel.{Channel}
 use Rattle.turn_history.proofs.Entries.{all_entries, of_entries}
 use Rattle.turn_history.proofs.Maps.{tuple_total}
 use Rattle.turn_history.proofs.Tests.{peer_is, is_peer-same}
-use Rattle.turn_record.specs.Bytes.{each, endpoint, five_tuple, allocation, mark, permission, permissions, channel, channels, entry}
-use Rattle.turn_record.specs.Records.{entry_size, max_entry}
-use Rattle.turn_record.specs.Reading.{◌>>=◌, Field, last_passes, passes, byte_at, number_at, is_even, token_at, endpoint_at, tuple_at, channel_number_at, count_at, allocation_at}
-use Rattle.turn_record.specs.Snapshots.{list_at, expiry_at, address_after, permission_at, permission_list_at, permissions_at, number_after, other_peer_at, channel_at, channel_list_at, channels_at, tuple_after, is_free_after, mark_byte_at, token_if_at, mark_at, entry_with, entry_at, total_at}
+use Rattle.turn_record.specs.Prelude.{each, endpoint, five_tuple, allocation, mark, permission, permissions, channel, channels, entry, entry_size, max_entry, ◌>>=◌, Field, last_passes, passes, byte_at, number_at, is_even, token_at, endpoint_at, tuple_at, channel_number_at, count_at, allocation_at, list_at, expiry_at, address_after, permission_at, permission_list_at, permissions_at, number_after, other_peer_at, channel_at, channel_list_at, channels_at, tuple_after, is_free_after, mark_byte_at, token_if_at, mark_at, entry_with, entry_at, total_at}
 use Rattle.turn_record.specs.declared.error.DecodeError.TheVariants.{BadValue, OutOfOrder}
 use Rattle.turn_record.proofs.Acts.{FitsAllocation, FitsTokenOf, allocation_fits, fits_allocation, allocation_passes, plain, token_if, next_small, even_is, any_or, and_is, and_from, or_is, not_is, not_from, lt_from, codec_token, codec_endpoint, codec_tuple, codec_channel_number, codec_count, count_passes, codec_allocation}
 use Rattle.turn_record.proofs.Apart.{each_more, each_both, each_alone, alone_each, Apart, AreOne, apart_new, new_apart}
 use Rattle.turn_record.proofs.Fronts.{Passes, good_passes}
 use Rattle.turn_record.proofs.Readers.{Codec, EachAfter, IsBytes, Reads, at_most, chain, chain_by, codec32, codec64, codec_as, codec_byte, codec_counted, codec_judged, in_words, in_words_under, made, one}
 use Rattle.turn_record.proofs.Rising.{sorted_rising, rising_sorted, true_of}
-use Rattle.turn_types.specs.FiveTuple.{tuple_cmp}
-use Rattle.turn_types.specs.Limits.{AreInRange}
-use Rattle.turn_types.specs.declared.address.FiveTuple.{FiveTuple}
-use Rattle.turn_types.specs.declared.limits.Bounds.{Bounds}
-use Rattle.turn_types.specs.declared.message.Token.{Token}
+use Rattle.turn_types.specs.Prelude.{tuple_cmp, AreInRange, permission_lifetime, channel_lifetime, max_lifetime}
 use Rattle.turn_record.specs.declared.version.Version.{Version}
 use Rattle.turn_record.specs.declared.version.Version.TheVariants.{V1, V2}
-use Rattle.turn_types.specs.Profile.{permission_lifetime, channel_lifetime, max_lifetime}
 
 -- a moment after another, and not by more than so many seconds
 abbrev pub IsAhead : ℕ → ℕ → ℕ → Type 0

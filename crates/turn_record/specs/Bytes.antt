@@ -4,16 +4,11 @@ use Rattle.std.specs.Int.{to_be_bytes, w16, w32, w64}
 use Rattle.std.specs.Ordering.{nat_cmp}
 use Rattle.std.specs.FinMap as fin
 use Rattle.std.specs.FinMap.{FinMap}
-use Rattle.turn_history.specs.History.{PlainAct, Allocates, Renews, Permits, Binds, Allocation, Event}
-use Rattle.turn_history.specs.Laws.{allocation_of}
-use Rattle.turn_history.specs.Table.{Entry, Contents}
+use Rattle.turn_history.specs.Prelude.{PlainAct, Allocates, Renews, Permits, Binds, Allocation, Event, allocation_of, Entry, Contents, Endpoint, FiveTuple, Token}
 use Rattle.turn_history.specs.declared.channel.Channel.{Channel}
 use Rattle.turn_history.specs.declared.reservation.Reservation.{Reservation}
 use Rattle.turn_record.specs.declared.version.Version.{Version}
 use Rattle.turn_record.specs.declared.version.Version.TheVariants.{V1, V2}
-use Rattle.turn_types.specs.declared.address.Endpoint.{Endpoint}
-use Rattle.turn_types.specs.declared.address.FiveTuple.{FiveTuple}
-use Rattle.turn_types.specs.declared.message.Token.{Token}
 
 -- the fields, one after the other
 abbrev pub joined : List (List ℕ) → List ℕ

@@ -1,6 +1,7 @@
 pub mod Bytes
 pub mod Pieces
 pub mod Places
+pub mod Prelude
 pub mod Reading
 pub mod Records
 pub mod Snapshots

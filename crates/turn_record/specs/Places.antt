@@ -1,9 +1,8 @@
 -- A snapshot that is read as far as a place: what the bytes give that follow.
-use Rattle.std.specs.Prelude.{◌≡◌, ◌⊎◌, ℕ, zero, suc, ◌+◌, ◌<◌, ◌≤◌, ◌==◌, ◌&&◌, List, [], ◌++◌, Bool, true, false, if◌then◌else◌, Option, Some, None, Result, Ok, Err, refl}
-use Rattle.std.proofs.Common.{inl, inr}
+use Rattle.std.proofs.Common.{◌≡◌, ◌⊎◌, ℕ, zero, suc, ◌+◌, ◌<◌, ◌≤◌, ◌==◌, ◌&&◌, List, [], ◌++◌, Bool, true, false, if◌then◌else◌, Option, Some, None, Result, Ok, Err, refl, inl, inr}
 use Rattle.std.specs.Coded.{Coded, code_by, coded⊎, coded_ℕ}
 use Rattle.std.specs.FinMap as fin
-use Rattle.turn_history.specs.Table.{Contents}
+use Rattle.turn_history.specs.Prelude.{Contents, Bounds}
 use Rattle.turn_record.specs.declared.error.DecodeError.{DecodeError}
 use Rattle.turn_record.specs.declared.error.DecodeError.TheVariants.{Short, BadTag, BadValue, OutOfOrder, TrailingBytes}
 use Rattle.turn_record.specs.declared.error.ReadError.{ReadError}
@@ -14,8 +13,7 @@ use Rattle.turn_record.specs.declared.version.Version.{Version}
 use Rattle.turn_record.specs.declared.version.Version.TheVariants.{V1, V2}
 use Rattle.turn_record.specs.Reading.{Field, Fails, whole}
 use Rattle.turn_record.specs.Snapshots.{entry_at, total_at, reservation_at, head_at, table_at, reserving_at, snapshot_in}
-use Rattle.turn_table.specs.State.{State}
-use Rattle.turn_types.specs.declared.limits.Bounds.{Bounds}
+use Rattle.turn_table.specs.Prelude.{State}
 
 -- what is still to come, as a number on one of two sides
 abbrev pub remaining_cases : Remaining → ℕ ⊎ ℕ

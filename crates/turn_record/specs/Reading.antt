@@ -4,19 +4,14 @@ use Rattle.std.specs.Prelude.{◌≡◌, ℕ, zero, suc, ◌-◌, Bool, true, no
 use Rattle.std.specs.List.{list_any}
 use Rattle.std.specs.Int.{Width, w16, w32, w64, byte_len, from_be_bytes}
 use Rattle.turn_history.specs.Fitting.{is_channel_number}
-use Rattle.turn_history.specs.History.{PlainAct, Allocates, Renews, Permits, Binds, Allocation, Event}
+use Rattle.turn_history.specs.Prelude.{PlainAct, Allocates, Renews, Permits, Binds, Allocation, Event, Endpoint, FiveTuple, Bounds, Token, TxId}
 use Rattle.turn_record.specs.declared.error.DecodeError.{DecodeError}
 use Rattle.turn_record.specs.declared.error.DecodeError.TheVariants.{Short, BadTag, BadValue, OutOfOrder, TrailingBytes}
 use Rattle.turn_record.specs.declared.error.ReadError.{ReadError}
 use Rattle.turn_record.specs.declared.error.ReadError.TheVariants as errors
 use Rattle.turn_record.specs.declared.version.Version.{Version}
 use Rattle.turn_record.specs.declared.version.Version.TheVariants.{V1, V2}
-use Rattle.turn_types.specs.Profile.{default_lifetime, max_lifetime, end_of_moments}
-use Rattle.turn_types.specs.declared.address.Endpoint.{Endpoint}
-use Rattle.turn_types.specs.declared.address.FiveTuple.{FiveTuple}
-use Rattle.turn_types.specs.declared.limits.Bounds.{Bounds}
-use Rattle.turn_types.specs.declared.message.Token.{Token}
-use Rattle.turn_types.specs.declared.message.TxId.{TxId}
+use Rattle.turn_types.specs.Prelude.{default_lifetime, max_lifetime, end_of_moments}
 
 infixl 10 ◌>>=◌
 -- a reading, and then another one by what it gave; the first fault counts

@@ -1,15 +1,11 @@
 -- What bytes encode. The ranges of values are those of fitting histories, so what such a history holds has an encoding.
 use Rattle.std.specs.Prelude.{◌≡◌, ℕ, ◌+◌, ◌*◌, ◌^◌, ◌<◌, ◌≤◌, List, length, max}
 use Rattle.std.specs.List.{AllByRecursion}
-use Rattle.turn_history.specs.Fitting.{IsInRange, AreEntriesInRange, AreReservationsInRange}
-use Rattle.turn_history.specs.History.{PlainAct, Allocates, Renews, Permits, Binds, Event}
-use Rattle.turn_history.specs.Laws.{HasNoTokens, NeverFall, PortsApart, ReservedApart, PeersApart, IsWithin, ReservesNone}
-use Rattle.turn_history.specs.Table.{Contents}
-use Rattle.turn_types.specs.declared.limits.Bounds.{Bounds}
+use Rattle.turn_history.specs.Prelude.{IsInRange, AreEntriesInRange, AreReservationsInRange, PlainAct, Allocates, Renews, Permits, Binds, Event, HasNoTokens, NeverFall, PortsApart, ReservedApart, PeersApart, IsWithin, ReservesNone, Contents, Bounds}
 use Rattle.turn_record.specs.Bytes.{act_entry, payload, snapshot}
 use Rattle.turn_record.specs.declared.version.Version.{Version}
 use Rattle.turn_record.specs.declared.version.Version.TheVariants.{V1, V2}
-use Rattle.turn_types.specs.Profile.{end_of_moments}
+use Rattle.turn_types.specs.Prelude.{end_of_moments}
 
 -- the acts that a version can hold: version 1 those that reserve no port
 abbrev pub Writes : Version → PlainAct → Type 0

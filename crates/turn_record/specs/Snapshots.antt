@@ -5,9 +5,7 @@ use Rattle.std.specs.Int.{w16, w32, w64}
 use Rattle.std.specs.Ordering.{nat_cmp, is_lt}
 use Rattle.std.specs.FinMap as fin
 use Rattle.std.specs.FinMap.{FinMap}
-use Rattle.turn_history.specs.Fitting.{is_peer}
-use Rattle.turn_history.specs.History.{Allocation}
-use Rattle.turn_history.specs.Table.{Entry, Contents}
+use Rattle.turn_history.specs.Prelude.{is_peer, Allocation, Entry, Contents, Endpoint, FiveTuple, Bounds, Token}
 use Rattle.turn_history.specs.declared.channel.Channel.{Channel}
 use Rattle.turn_history.specs.declared.reservation.Reservation.{Reservation}
 use Rattle.turn_record.specs.declared.error.DecodeError.{DecodeError}
@@ -15,12 +13,7 @@ use Rattle.turn_record.specs.declared.error.DecodeError.TheVariants.{BadValue, O
 use Rattle.turn_record.specs.Reading.{◌>>=◌, Field, last_passes, checked, byte_at, number_at, many, moment_at, endpoint_at, tuple_at, allocation_at, is_even, token_at, channel_number_at, count_at, whole}
 use Rattle.turn_record.specs.declared.version.Version.{Version}
 use Rattle.turn_record.specs.declared.version.Version.TheVariants.{V1, V2}
-use Rattle.turn_types.specs.FiveTuple.{tuple_cmp}
-use Rattle.turn_types.specs.Profile.{permission_lifetime, channel_lifetime, max_lifetime, reservation_lifetime}
-use Rattle.turn_types.specs.declared.address.Endpoint.{Endpoint}
-use Rattle.turn_types.specs.declared.address.FiveTuple.{FiveTuple}
-use Rattle.turn_types.specs.declared.limits.Bounds.{Bounds}
-use Rattle.turn_types.specs.declared.message.Token.{Token}
+use Rattle.turn_types.specs.Prelude.{tuple_cmp, permission_lifetime, channel_lifetime, max_lifetime, reservation_lifetime}
 
 -- when something expires, in eight bytes: after the moment t, and by at most so many seconds
 unfoldable pub expiry_at : ℕ → ℕ → List ℕ → Field ℕ

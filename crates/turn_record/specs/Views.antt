@@ -1,6 +1,6 @@
 -- What contracts see of the code's events and allocations.
 use Rattle.std.specs.Prelude.{List, None, map}
-use Rattle.turn_history.specs.Act.{event_of}
+use Rattle.turn_history.specs.Prelude.{event_of}
 use Rattle.turn_history.specs.History as histories
 use Rattle.turn_history.specs.declared.event.Event.{Event}
 use Rattle.turn_record.specs.declared.entries.Allocation.{Allocation}

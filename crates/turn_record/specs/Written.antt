@@ -3,10 +3,8 @@ use Rattle.std.specs.Prelude.{◌≡◌, ◌≤◌, [], ℕ, List, length, Optio
 use Rattle.std.specs.FinMap as fin
 use Rattle.std.specs.Int.{to_be_bytes, w32}
 use Rattle.std.specs.List.{AllByRecursion}
-use Rattle.turn_history.specs.Table.{Entry}
-use Rattle.turn_types.specs.Limits.{max_bounds}
-use Rattle.turn_types.specs.declared.address.FiveTuple.{FiveTuple}
-use Rattle.turn_types.specs.declared.limits.Bounds.{Bounds}
+use Rattle.turn_history.specs.Prelude.{Entry, FiveTuple, Bounds}
+use Rattle.turn_types.specs.Prelude.{max_bounds}
 
 -- the parts of an entry are no longer than the limits allow
 pub record IsShort (b : Bounds) (e : Entry) : Type 0 where

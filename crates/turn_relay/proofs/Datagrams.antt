@@ -1,13 +1,10 @@
 -- A client's datagram is a message, or channel data, or neither.
-use Rattle.std.proofs.Common.{◌≡◌, ℕ, List, [], ◌++◌, length, take, drop, Option, None, refl, sym, ap, ◌∙◌, arith}
+use Rattle.std.proofs.Common.{◌≡◌, ℕ, List, [], ◌++◌, length, take, drop, Option, None, refl, sym, ap, ◌∙◌, arith, take_at}
 use Rattle.std.specs.FinMap as fin
 use Rattle.std.specs.Int.{w16, to_be_bytes, from_be_bytes}
-use Rattle.std.proofs.lemmas.List.{take_at}
 use Rattle.std.proofs.lemmas.Nat.{from_be_bytes-to_be_bytes_2}
-use Rattle.turn_types.specs.declared.address.FiveTuple.{FiveTuple}
-use Rattle.turn_history.specs.Table.{Contents}
-use Rattle.turn_codec.specs.Channel.{EncodesChannelData}
-use Rattle.turn_codec.specs.Grammar.{Content, Encodes, type_number}
+use Rattle.turn_history.specs.Prelude.{FiveTuple, Contents}
+use Rattle.turn_codec.specs.Prelude.{EncodesChannelData, Content, Encodes, type_number}
 use Rattle.turn_codec.proofs.Header.{one_message}
 use Rattle.turn_codec.proofs.TypeNumber.{type_number_fits}
 use Rattle.turn_relay.specs.FromClient.{PeerData, SendsToPeer, sent_by_channel_data, sent_by_message}

@@ -1,14 +1,10 @@
 -- Whose a relayed port is, and which channel is bound to a peer.
-use Rattle.std.proofs.Common.{◌≡◌, ℕ, List, Bool, length, Option, Some, None, true, false, refl, sym, ap, subst, ◌∙◌}
-use Rattle.std.specs.Prelude.{nat_le, MatchOption, IsSomeAnd}
+use Rattle.std.proofs.Common.{◌≡◌, ℕ, List, Bool, length, Option, Some, None, true, false, refl, sym, ap, subst, ◌∙◌, nat_le, MatchOption, IsSomeAnd}
 use Rattle.std.proofs.lemmas.Option.{same_Some}
 use Rattle.std.specs.FinMap as fin
-use Rattle.turn_types.specs.declared.address.Endpoint.{Endpoint}
-use Rattle.turn_types.specs.declared.address.FiveTuple.{FiveTuple}
+use Rattle.turn_history.specs.Prelude.{Endpoint, FiveTuple, PortsApart, PeersApart, Contents, Entry}
 use Rattle.turn_history.specs.declared.channel.Channel.{Channel}
-use Rattle.turn_history.specs.Laws.{PortsApart, PeersApart}
-use Rattle.turn_history.specs.Table.{Contents, Entry}
-use Rattle.turn_table.specs.Table.{IsChannelTo}
+use Rattle.turn_table.specs.Prelude.{IsChannelTo}
 use Rattle.turn_relay.specs.FromClient.{is_permitted}
 use Rattle.turn_relay.specs.FromPeer.{ClientData, HasRelayedPort, IsChannelFor, SendsToClient, relayed, size_for_client}
 use Rattle.turn_relay.specs.Udp.{max_payload}

@@ -1,25 +1,16 @@
 -- What is sent is sent under permissions and over channels.
-use Rattle.std.proofs.Common.{◌≡◌, ℕ, ◌≤◌, Bool, true, false, cond, List, length, Option, Some, None, refl, sym, subst, ◌∙◌}
-use Rattle.std.specs.Prelude.{IsSomeAnd, nat_le}
+use Rattle.std.proofs.Common.{◌≡◌, ℕ, ◌≤◌, Bool, true, false, cond, List, length, Option, Some, None, refl, sym, subst, ◌∙◌, IsSomeAnd, nat_le, option_and_then}
 use Rattle.std.proofs.lemmas.Option.{same_Some}
-use Rattle.std.specs.Option.{option_and_then}
 use Rattle.std.specs.FinMap as fin
-use Rattle.turn_types.specs.declared.address.Endpoint.{Endpoint}
-use Rattle.turn_types.specs.declared.address.FiveTuple.{FiveTuple}
+use Rattle.turn_history.specs.Prelude.{Endpoint, FiveTuple, IsFitting, History, clock, IsPermitted, IsBound, Bounds, Entry, table}
 use Rattle.turn_history.specs.declared.channel.Channel.{Channel}
-use Rattle.turn_history.specs.Fitting.{IsFitting}
-use Rattle.turn_history.specs.History.{History, clock}
-use Rattle.turn_history.specs.Laws.{IsPermitted, IsBound}
-use Rattle.turn_types.specs.declared.limits.Bounds.{Bounds}
-use Rattle.turn_history.specs.Table.{Entry, table}
 use Rattle.turn_history.proofs.Channels.{has-bound, bound-has}
 use Rattle.turn_history.proofs.Live.{is_entry, with_entry, of_entry}
 use Rattle.turn_history.proofs.Permissions.{has-permitted}
 use Rattle.turn_codec.specs.AttributeTypes as types
-use Rattle.turn_codec.specs.Grammar.{Content, Datagram}
-use Rattle.turn_codec.specs.Seen.{has_unknown, seen_value}
+use Rattle.turn_codec.specs.Prelude.{Content, Datagram, has_unknown, seen_value}
 use Rattle.turn_mac.specs.Fingerprint.{has_wrong_fingerprint}
-use Rattle.turn_table.specs.Table.{IsChannelTo}
+use Rattle.turn_table.specs.Prelude.{IsChannelTo}
 use Rattle.turn_relay.specs.FromClient.{PeerData, is_permitted, peer_of, sent, sent_by_channel_data, sent_by_indication, sent_by_message, sent_to_permitted}
 use Rattle.turn_relay.specs.FromPeer.{ClientData, IsChannelFor, SendsToClient, size_for_client}
 use Rattle.turn_relay.specs.Laws.{HasPort, IsRelayed, IsSentBy, IsSentOver, IsTheChannel}

@@ -1,22 +1,10 @@
 -- What a client's datagram sends to a peer (RFC 8656, sections 11.2 and 12.6).
-use Rattle.std.specs.Prelude.{◌≡◌, ℕ, ◌==◌, ◌&&◌, Bool, true, false, not, nat_le, is_some, Option, Some, None, if◌then◌else◌, List, [], ◌∷◌, length}
-use Rattle.std.specs.Option.{option_and_then}
+use Rattle.std.specs.Prelude.{◌≡◌, ℕ, ◌==◌, ◌&&◌, Bool, true, false, not, nat_le, is_some, Option, Some, None, if◌then◌else◌, List, [], ◌∷◌, length, option_and_then}
 use Rattle.std.specs.FinMap as fin
-use Rattle.turn_types.specs.declared.address.Addr.{Addr}
-use Rattle.turn_types.specs.declared.address.Addr.TheVariants.{V4, V6}
-use Rattle.turn_types.specs.declared.address.Endpoint.{Endpoint}
-use Rattle.turn_types.specs.declared.address.FiveTuple.{FiveTuple}
-use Rattle.turn_types.specs.declared.address.PeerAddress.{PeerAddress}
-use Rattle.turn_types.specs.declared.message.Class.{Class}
-use Rattle.turn_types.specs.declared.message.Class.TheVariants.{Request, Indication, Success, Error}
-use Rattle.turn_types.specs.Methods.{send}
-use Rattle.turn_types.specs.Rows.{first_row}
-use Rattle.turn_history.specs.Table.{Entry, Contents}
-use Rattle.turn_codec.specs.Address.{address_of}
+use Rattle.turn_history.specs.Prelude.{Addr, V4, V6, Endpoint, FiveTuple, PeerAddress, Class, Request, Indication, Success, Error, Entry, Contents}
+use Rattle.turn_types.specs.Prelude.{send, first_row}
+use Rattle.turn_codec.specs.Prelude.{address_of, EncodesChannelData, Content, Datagram, Encodes, has_unknown, seen_value}
 use Rattle.turn_codec.specs.AttributeTypes as types
-use Rattle.turn_codec.specs.Channel.{EncodesChannelData}
-use Rattle.turn_codec.specs.Grammar.{Content, Datagram, Encodes}
-use Rattle.turn_codec.specs.Seen.{has_unknown, seen_value}
 use Rattle.turn_mac.specs.Fingerprint.{has_wrong_fingerprint}
 use Rattle.turn_relay.specs.Udp.{max_payload}
 

@@ -1,17 +1,11 @@
 -- What a peer's datagram sends to a client (RFC 8656, sections 11.3 and 12.7).
 use Rattle.std.specs.Prelude.{◌≡◌, ℕ, ◌+◌, true, false, nat_le, Option, Some, None, if◌then◌else◌, List, [], ◌∷◌, length}
 use Rattle.std.specs.FinMap as fin
-use Rattle.turn_types.specs.declared.address.Endpoint.{Endpoint}
-use Rattle.turn_types.specs.declared.address.FiveTuple.{FiveTuple}
-use Rattle.turn_types.specs.declared.message.Class.TheVariants.{Indication}
-use Rattle.turn_history.specs.Fitting.{PortIsFree}
-use Rattle.turn_types.specs.Methods.{data_method}
-use Rattle.turn_history.specs.Table.{Entry, Contents}
-use Rattle.turn_codec.specs.Address.{xor_value}
+use Rattle.turn_history.specs.Prelude.{Endpoint, FiveTuple, Indication, PortIsFree, Entry, Contents}
+use Rattle.turn_types.specs.Prelude.{data_method}
+use Rattle.turn_codec.specs.Prelude.{xor_value, EncodesChannelData, channel_encoding, Content, Encodes, canonical, padding_size}
 use Rattle.turn_codec.specs.AttributeTypes as types
-use Rattle.turn_codec.specs.Channel.{EncodesChannelData, channel_encoding}
-use Rattle.turn_codec.specs.Grammar.{Content, Encodes, canonical, padding_size}
-use Rattle.turn_table.specs.Table.{IsChannelTo}
+use Rattle.turn_table.specs.Prelude.{IsChannelTo}
 use Rattle.turn_relay.specs.FromClient.{is_permitted}
 use Rattle.turn_relay.specs.Udp.{max_payload}
 

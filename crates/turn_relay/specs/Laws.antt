@@ -1,12 +1,8 @@
 -- Words of the laws: what is sent, by the events of a history.
 use Rattle.std.specs.Prelude.{◌≡◌, ℕ, Option, Some, None, List, IsSomeAnd}
-use Rattle.turn_types.specs.declared.address.Endpoint.{Endpoint}
-use Rattle.turn_types.specs.declared.address.FiveTuple.{FiveTuple}
-use Rattle.turn_history.specs.History.{History, made}
-use Rattle.turn_history.specs.Laws.{IsPermitted, IsBound}
+use Rattle.turn_history.specs.Prelude.{Endpoint, FiveTuple, History, made, IsPermitted, IsBound}
 use Rattle.turn_codec.specs.AttributeTypes as types
-use Rattle.turn_codec.specs.Grammar.{Content}
-use Rattle.turn_codec.specs.Seen.{seen_value}
+use Rattle.turn_codec.specs.Prelude.{Content, seen_value}
 use Rattle.turn_relay.specs.FromClient.{PeerData, peer_of}
 use Rattle.turn_relay.specs.FromPeer.{ClientData}
 

@@ -1,7 +1,6 @@
 -- A message without attributes of a type has none after an attribute of another type is added, or not.
-use Rattle.std.proofs.Common.{◌≡◌, ◌≢◌, ℕ, List, [], ap, ◌∙◌}
-use Rattle.std.specs.Prelude.{Result, Ok, Err, OnOk, OnErr}
-use Rattle.turn_codec.specs.Grammar.{Content, from, with_attribute}
+use Rattle.std.proofs.Common.{◌≡◌, ◌≢◌, ℕ, List, [], ap, ◌∙◌, Result, Ok, Err, OnOk, OnErr}
+use Rattle.turn_codec.specs.Prelude.{Content, from, with_attribute}
 use Rattle.turn_codec.proofs.Finding.{none_added}
 
 pub none_after : {X Y : Type 0} (kind other : ℕ) (value : List ℕ) (old new : Content) (result : Result X Y) → other ≢ kind

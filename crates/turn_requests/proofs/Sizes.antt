@@ -1,9 +1,7 @@
 -- Each attribute makes a message longer.
-use Rattle.std.proofs.Common.{◌≡◌, ◌≤◌, ◌<◌, ◌+◌, ◌*◌, ◌/◌, ℕ, refl, List, [], ◌∷◌, take, drop, take-append-drop, length, get_or, ap, sym, ◌∙◌, arith}
-use Rattle.std.specs.Prelude.{fold}
+use Rattle.std.proofs.Common.{◌≡◌, ◌≤◌, ◌<◌, ◌+◌, ◌*◌, ◌/◌, ℕ, refl, List, [], ◌∷◌, take, drop, take-append-drop, length, get_or, ap, sym, ◌∙◌, arith, fold}
 use Rattle.std.proofs.lemmas.List.Sums.{sum_by_push, fold-append, fold_more}
-use Rattle.turn_codec.specs.Address.{xor_value}
-use Rattle.turn_codec.specs.Grammar.{Content, body_size, size_of, with_attribute}
+use Rattle.turn_codec.specs.Prelude.{xor_value, Content, body_size, size_of, with_attribute}
 use Rattle.turn_requests.specs.declared.request.Attribute.{Attribute}
 use Rattle.turn_requests.specs.declared.request.Attribute.TheVariants.{Lifetime, Peer, Channel, Transport, NoTransport, EvenPort, DontFragment, ReservationToken}
 use Rattle.turn_requests.specs.Sending.{send_of, with_one}

@@ -7,9 +7,7 @@ use Rattle.turn_types.specs.declared.address.Endpoint.{Endpoint}
 use Rattle.turn_types.specs.declared.address.PeerAddress.{PeerAddress}
 use Rattle.turn_types.specs.declared.message.Class.TheVariants as classes
 use Rattle.turn_types.specs.declared.message.Token.{Token}
-use Rattle.turn_codec.specs.Address.{address_of}
-use Rattle.turn_codec.specs.AttributeTypes.{error_code, lifetime, payload, reservation_token, xor_peer_address, xor_relayed_address}
-use Rattle.turn_codec.specs.Grammar.{Content, value_of}
+use Rattle.turn_codec.specs.Prelude.{address_of, error_code, lifetime, payload, reservation_token, xor_peer_address, xor_relayed_address, Content, value_of}
 use Rattle.turn_requests.specs.declared.received.ServerMessage.{ServerMessage}
 use Rattle.turn_requests.specs.declared.received.ServerMessage.TheVariants.{Allocated, Refreshed, Success, Error, Data}
 

@@ -4,9 +4,8 @@ use Rattle.std.specs.List.{list_any}
 use Rattle.std.specs.Int.{w16, w32, to_be_bytes}
 use Rattle.turn_types.specs.declared.address.Endpoint.{Endpoint}
 use Rattle.turn_types.specs.declared.message.Class.TheVariants as classes
-use Rattle.turn_codec.specs.Address.{xor_value}
+use Rattle.turn_codec.specs.Prelude.{xor_value, Content, canonical, with_attribute}
 use Rattle.turn_codec.specs.AttributeTypes as types
-use Rattle.turn_codec.specs.Grammar.{Content, canonical, with_attribute}
 use Rattle.turn_mac.specs.Integrity.{integrity_of}
 use Rattle.turn_requests.specs.declared.request.Attribute.{Attribute}
 use Rattle.turn_requests.specs.declared.request.Attribute.TheVariants.{Lifetime, Peer, Channel, Transport, NoTransport, EvenPort, DontFragment, ReservationToken}

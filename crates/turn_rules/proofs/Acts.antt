@@ -1,23 +1,15 @@
 -- The acts that are decided fit the table, and are in range.
-use Rattle.std.proofs.Common.{◌≡◌, ◌⊎◌, ◌≤◌, ◌+◌, arith, ℕ, Bool, false, List, is_some, refl, sym, ap, subst, Option, None}
-use Rattle.std.specs.Prelude.{IfSome}
+use Rattle.std.proofs.Common.{◌≡◌, ◌⊎◌, ◌≤◌, ◌+◌, arith, ℕ, Bool, false, List, is_some, refl, sym, ap, subst, Option, None, IfSome}
 use Rattle.std.specs.FinMap as fin
 use Rattle.std.proofs.lemmas.Bool.{false≢true}
-use Rattle.turn_types.specs.Config.{Config}
-use Rattle.turn_types.specs.declared.address.FiveTuple.{FiveTuple}
+use Rattle.turn_types.specs.Prelude.{Config}
+use Rattle.turn_history.specs.Prelude.{FiveTuple, Fits, FitsChannel, FitsReservation, IsActInRange, IsLifetime, IsTokenAfter, PlainAct, Allocates, Renews, Permits, Binds, ReservedApart, ReservesNone, Contents, install}
 use Rattle.turn_history.proofs.Live.{of_entry}
-use Rattle.turn_history.specs.Fitting.{Fits, FitsChannel, FitsReservation, IsActInRange, IsChannelNumber, IsLifetime, IsTokenAfter}
-use Rattle.turn_history.specs.History.{PlainAct, Allocates, Renews, Permits, Binds}
-use Rattle.turn_history.specs.Laws.{ReservedApart, ReservesNone}
-use Rattle.turn_history.specs.Table.{Contents, install}
-use Rattle.turn_codec.specs.Grammar.{Content, Datagram}
-use Rattle.turn_cred.specs.Credential.{Verdict}
+use Rattle.turn_history.specs.Fitting.{IsChannelNumber}
+use Rattle.turn_codec.specs.Prelude.{Content, Datagram}
+use Rattle.turn_cred.specs.Prelude.{Verdict}
 use Rattle.turn_rules.specs.declared.outcome.Outcome.{Outcome}
-use Rattle.turn_rules.specs.Answer.{decision, outcome_of, port_needed}
-use Rattle.turn_rules.specs.Fields.{lifetime_of}
-use Rattle.turn_rules.specs.Laws.{AreReservedPorts, IsMadeOfBytes, IsPicked, NamesInRange}
-use Rattle.turn_rules.specs.Outcome.{act_by}
-use Rattle.turn_rules.specs.Permission.{named_addresses}
+use Rattle.turn_rules.specs.Prelude.{decision, outcome_of, port_needed, lifetime_of, AreReservedPorts, IsMadeOfBytes, IsPicked, NamesInRange, act_by, named_addresses}
 use Rattle.turn_rules.proofs.Chosen.{next_free, of_token, port_free, port_is_port}
 use Rattle.turn_rules.proofs.EachOnce.{many}
 use Rattle.turn_rules.proofs.InRange.{lifetime, named_addresses_in_range, named_distinct, peer_in_range, renewed, some_named}
@@ -41,7 +33,7 @@ module _ (pairs : Bool) (s : Config) (c : Contents) (f : FiveTuple) (t : ℕ) (d
         port_free is known.2 picked apart,
         known.2.room,
         of_token known.2 (FitsReservation s.limits c p)
-        (λ asks. let next = next_free is known.2 picked asks in (next.is_port, next.free, next.unreserved, (known.2.next asks).room)) tt,
+            (λ asks. let next = next_free is known.2 picked asks in (next.is_port, next.free, next.unreserved, (known.2.next asks).room)) tt,
       )
       fits is (Renews seconds) known = ap is_some known.at
       fits is (Permits addresses) known =
@@ -60,7 +52,7 @@ module _ (pairs : Bool) (s : Config) (c : Contents) (f : FiveTuple) (t : ℕ) (d
         subst IsLifetime (sym known.2.granted_is) (lifetime (lifetime_of d.content)),
         (bytes.tx_size, bytes.tx),
         of_token known.2 (λ o. IfSome o (IsTokenAfter p))
-        (λ asks. let next = next_free is known.2 picked asks in (next.even, token_is_of s.secret t f d.content.tx (p + 1) next.is_port)) tt,
+            (λ asks. let next = next_free is known.2 picked asks in (next.even, token_is_of s.secret t f d.content.tx (p + 1) next.is_port)) tt,
       )
       in_range is (Renews seconds) known = subst (λ n. (n ≡ 0) ⊎ IsLifetime n) (sym known.granted_is) (renewed (lifetime_of d.content))
       in_range is (Permits addresses) known = subst (λ xs. IsActInRange s.limits (Permits xs)) (sym known.named) (

@@ -1,31 +1,21 @@
 -- What an answer needs of a history: the events of the five-tuple, and for an Allocate what others have.
-use Rattle.std.proofs.Common.{◌≡◌, ℕ, ◌+◌, ◌≤◌, Bool, true, false, cond, is_none, is_some, refl, sym, ap, ◌∙◌, subst, Option, Some, None, List}
-use Rattle.std.specs.Prelude.{◌==◌, unwrap_or, IsSome}
+use Rattle.std.proofs.Common.{◌≡◌, ℕ, ◌+◌, ◌≤◌, Bool, true, false, cond, is_none, is_some, refl, sym, ap, ◌∙◌, subst, Option, Some, None, List, ◌==◌, unwrap_or, IsSome, true≢false}
 use Rattle.std.specs.FinMap as fin
 use Rattle.std.specs.Option.{option_or}
 use Rattle.std.proofs.Math.Bool.{and-true}
-use Rattle.std.proofs.lemmas.Bool.{true≢false}
 use Rattle.turn_history.proofs.Histories.{table-events_of}
 use Rattle.turn_history.proofs.Live.{some_is}
-use Rattle.turn_types.specs.Config.{Config}
-use Rattle.turn_history.specs.Fitting.{is_taken}
-use Rattle.turn_history.specs.History.{History}
-use Rattle.turn_history.specs.Laws.{events_of}
-use Rattle.turn_types.specs.Methods.{allocate, binding}
-use Rattle.turn_history.specs.Table.{Contents, table}
-use Rattle.turn_types.specs.declared.address.FiveTuple.{FiveTuple}
-use Rattle.turn_codec.specs.Grammar.{Content, Datagram}
-use Rattle.turn_cred.specs.Credential.{Verdict}
-use Rattle.turn_cred.specs.Credential.Verdict.{Challenge401, Bad400, Stale438, Passed}
+use Rattle.turn_types.specs.Prelude.{Config, allocate, binding}
+use Rattle.turn_history.specs.Prelude.{is_taken, History, events_of, Contents, table, FiveTuple}
+use Rattle.turn_codec.specs.Prelude.{Content, Datagram}
+use Rattle.turn_cred.specs.Prelude.{Verdict, Bad400, Stale438, Passed}
+use Rattle.turn_cred.specs.Credential.Verdict.{Challenge401}
 use Rattle.turn_cred.specs.declared.key.Key.{Key}
 use Rattle.turn_ports.specs.Ports.{IsFree, IsFreePair}
 use Rattle.turn_rules.specs.declared.outcome.Outcome.{Outcome}
 use Rattle.turn_rules.specs.declared.need.Need.{Need}
 use Rattle.turn_rules.specs.declared.need.Need.TheVariants.{Any, Even, Pair}
-use Rattle.turn_rules.specs.Allocate.{allocate_outcome, before_port, capacity_outcome, count_of_user, named_port, own_outcome, port_for, with_port}
-use Rattle.turn_rules.specs.Answer.{Decided, MayAnswer, by_verdict, decision, is_allocate, is_dropped, is_expired, is_protected, is_request, needed_if_passed, outcome_of, port_needed, user_of}
-use Rattle.turn_rules.specs.Laws.{SameForOthers}
-use Rattle.turn_rules.specs.Need.{MayPickFor}
+use Rattle.turn_rules.specs.Prelude.{allocate_outcome, before_port, capacity_outcome, count_of_user, named_port, own_outcome, port_for, with_port, Decided, MayAnswer, by_verdict, decision, is_allocate, is_dropped, is_expired, is_protected, is_request, needed_if_passed, outcome_of, port_needed, user_of, SameForOthers, MayPickFor}
 use Rattle.turn_rules.proofs.Chosen.{needed_of}
 
 -- an Allocate whose credentials hold has a fact of its user

@@ -1,38 +1,26 @@
 -- The port of a new allocation: one that was picked, or that a token names.
-use Rattle.std.proofs.Common.{◌≡◌, ℕ, ◌+◌, ◌^◌, ◌<◌, Bool, true, false, is_some, is_none, List, [], ◌∷◌, refl, sym, ap, ◌∙◌, subst, Option, Some, None}
-use Rattle.std.specs.Prelude.{◌==◌, if◌then◌else◌, option_map, IfSome}
+use Rattle.std.proofs.Common.{◌≡◌, ℕ, ◌+◌, ◌^◌, ◌<◌, Bool, true, false, is_some, is_none, List, [], ◌∷◌, refl, sym, ap, ◌∙◌, subst, Option, Some, None, ◌==◌, if◌then◌else◌, option_map, IfSome, bytes_eq}
 use Rattle.std.specs.FinMap as fin
 use Rattle.std.specs.FinMap.{nat_cmp-IsAntisymmetric}
 use Rattle.std.proofs.lemmas.Cmp.{nat_cmp_total}
 use Rattle.std.specs.List.{AllByRecursion, find}
 use Rattle.std.specs.Option.{option_and_then, option_or}
-use Rattle.std.specs.Str.{bytes_eq}
 use Rattle.std.proofs.lemmas.Bool.{cond_both}
 use Rattle.std.proofs.lemmas.Option.{none-some, option_and_then_some, same_Some}
 use Rattle.turn_history.proofs.Entries.{all_entries}
-use Rattle.turn_types.specs.Config.{Config}
-use Rattle.turn_types.specs.Methods.{allocate}
-use Rattle.turn_types.specs.declared.address.FiveTuple.{FiveTuple}
-use Rattle.turn_types.specs.declared.message.Token.{Token}
-use Rattle.turn_history.specs.Fitting.{PortIsFree}
-use Rattle.turn_history.specs.Laws.{ReservedApart}
-use Rattle.turn_history.specs.Table.{Contents}
+use Rattle.turn_types.specs.Prelude.{Config, allocate}
+use Rattle.turn_history.specs.Prelude.{FiveTuple, Token, PortIsFree, ReservedApart, Contents}
 use Rattle.turn_history.specs.declared.reservation.Reservation.{Reservation}
-use Rattle.turn_codec.specs.AttributeTypes.{even_port, reservation_token}
-use Rattle.turn_codec.specs.Grammar.{Content, Datagram}
-use Rattle.turn_codec.specs.Seen.{is_seen, seen_value}
-use Rattle.turn_cred.specs.Credential.{Verdict}
-use Rattle.turn_cred.specs.Credential.Verdict.{Challenge401, Bad400, Stale438, Passed}
+use Rattle.turn_codec.specs.Prelude.{even_port, reservation_token, Content, Datagram, is_seen, seen_value}
+use Rattle.turn_cred.specs.Prelude.{Verdict, Bad400, Stale438, Passed}
+use Rattle.turn_cred.specs.Credential.Verdict.{Challenge401}
 use Rattle.turn_cred.specs.declared.key.Key.{Key}
 use Rattle.turn_rules.specs.declared.need.Need.{Need}
 use Rattle.turn_rules.specs.declared.need.Need.TheVariants.{Any, Even, Pair}
 use Rattle.turn_rules.specs.declared.outcome.Outcome.{Outcome}
-use Rattle.turn_rules.specs.Allocate.{asks_for_next_port, before_port, named_port, need_of, needed_for, token_in, token_of}
-use Rattle.turn_rules.specs.Answer.{is_dropped, is_expired, needed_if_passed, port_needed}
-use Rattle.turn_rules.specs.Laws.{AreReservedPorts, IsFreeFor, IsNextFree, IsPicked}
-use Rattle.turn_rules.specs.Token.{token_for}
+use Rattle.turn_rules.specs.Prelude.{asks_for_next_port, before_port, named_port, need_of, needed_for, token_in, token_of, is_dropped, is_expired, needed_if_passed, port_needed, AreReservedPorts, IsFreeFor, IsNextFree, IsPicked, token_for}
 use Rattle.turn_rules.proofs.Reached.{IsNew, IsOfUser}
-use Rattle.turn_table.specs.Table.{port_of_token}
+use Rattle.turn_table.specs.Prelude.{port_of_token}
 
 -- what is found has what all have
 found_has : {X : Type 0} (P : X → Type 0) (test : X → Bool) (xs : List X) (x : X) → AllByRecursion P xs → find test xs ≡ Some x → P x

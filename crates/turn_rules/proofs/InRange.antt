@@ -1,31 +1,15 @@
 -- The values that a request names are in range.
-use Rattle.std.proofs.Common.{◌≡◌, ◌⊎◌, inl, inr, ℕ, ◌^◌, ◌≤◌, ◌<◌, true, false, not, ◌&&◌, is_some, is_none, arith, List, [], ◌∷◌, ◌++◌, length, length-take, length-drop, take, drop, get_or, refl, subst, Option, Some, None}
-use Rattle.std.specs.Prelude.{◌==◌, if◌then◌else◌, filter, map, nat_eq, nat_lt, slice_index, All, IfSome, bit_xor}
+use Rattle.std.proofs.Common.{◌≡◌, ◌⊎◌, inl, inr, ℕ, ◌^◌, ◌≤◌, ◌<◌, true, false, not, ◌&&◌, is_some, is_none, arith, List, [], ◌∷◌, ◌++◌, length, length-take, length-drop, take, drop, get_or, refl, subst, Option, Some, None, ◌==◌, if◌then◌else◌, filter, map, nat_eq, nat_lt, slice_index, All, IfSome, bit_xor, option_and_then}
 use Rattle.std.specs.Int.{w16, w32, w128, from_be_bytes, to_be_bytes}
 use Rattle.std.specs.List.{IsDistinct, flat_map, list_any}
-use Rattle.std.specs.Option.{option_and_then}
 use Rattle.std.proofs.lemmas.Bool.{and_parts, cases_Bool, cond_both, eqb-true, ltb-false, ltb-true}
 use Rattle.std.proofs.lemmas.List.{length-map}
 use Rattle.std.proofs.lemmas.List.Elements.{All-nil, All-cons, All-head, All-tail, All-append, All-filter, All-take, All-drop, All-get_or}
 use Rattle.std.proofs.lemmas.Nat.{xor_lt}
-use Rattle.turn_types.specs.FiveTuple.{IsEndpoint}
-use Rattle.turn_types.specs.Profile.{default_lifetime, max_lifetime}
-use Rattle.turn_types.specs.declared.address.Addr.{Addr}
-use Rattle.turn_types.specs.declared.address.Addr.TheVariants.{V4, V6}
-use Rattle.turn_types.specs.declared.address.Endpoint.{Endpoint}
-use Rattle.turn_types.specs.declared.address.PeerAddress.{PeerAddress}
-use Rattle.turn_history.specs.Fitting.{IsLifetime}
-use Rattle.turn_codec.specs.Address.{address_of, port_mask}
-use Rattle.turn_codec.specs.AttributeTypes.{message_integrity, xor_peer_address}
-use Rattle.turn_codec.specs.Grammar.{Attribute, Content, before, cookie, value_of}
-use Rattle.turn_codec.specs.Seen.{is_seen, seen, seen_value, values_of}
-use Rattle.turn_rules.specs.Channel.{named_peer}
-use Rattle.turn_rules.specs.Distinct.{each_once}
-use Rattle.turn_rules.specs.Fields.{granted}
-use Rattle.turn_rules.specs.Laws.{IsMadeOfBytes}
-use Rattle.turn_rules.specs.Peers.{ipv4_in, ipv4_of, is_ipv6, named_in, named_peers}
-use Rattle.turn_rules.specs.Permission.{named_addresses}
-use Rattle.turn_rules.specs.Refresh.{renewed_for}
+use Rattle.turn_types.specs.Prelude.{IsEndpoint, default_lifetime, max_lifetime}
+use Rattle.turn_history.specs.Prelude.{Addr, V4, V6, Endpoint, PeerAddress, IsLifetime}
+use Rattle.turn_codec.specs.Prelude.{address_of, port_mask, message_integrity, xor_peer_address, Attribute, Content, before, cookie, value_of, is_seen, seen, seen_value, values_of}
+use Rattle.turn_rules.specs.Prelude.{named_peer, each_once, granted, IsMadeOfBytes, ipv4_in, ipv4_of, is_ipv6, named_in, named_peers, named_addresses, renewed_for}
 use Rattle.turn_rules.proofs.EachOnce.{once_distinct}
 
 -- ---- Lifetimes

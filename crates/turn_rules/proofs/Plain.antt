@@ -1,20 +1,14 @@
 -- A server without pairs answers an Allocate by the rows of one that reserves no ports.
-use Rattle.std.proofs.Common.{◌≡◌, ℕ, Bool, false, is_some, List, refl, sym, ap, ◌∙◌, Option, Some, None}
-use Rattle.std.specs.Prelude.{if◌then◌else◌}
+use Rattle.std.proofs.Common.{◌≡◌, ℕ, Bool, false, is_some, List, refl, sym, ap, ◌∙◌, Option, Some, None, if◌then◌else◌}
 use Rattle.std.specs.FinMap as fin
 use Rattle.std.specs.Option.{option_or}
 use Rattle.std.proofs.Math.Bool.{and-true}
-use Rattle.turn_types.specs.Config.{Config}
-use Rattle.turn_types.specs.Rows.{first_row}
-use Rattle.turn_types.specs.declared.address.FiveTuple.{FiveTuple}
-use Rattle.turn_history.specs.Table.{Contents, Entry}
-use Rattle.turn_codec.specs.AttributeTypes.{even_port, reservation_token}
-use Rattle.turn_codec.specs.Grammar.{Content}
-use Rattle.turn_codec.specs.Seen.{is_seen}
+use Rattle.turn_types.specs.Prelude.{Config, first_row}
+use Rattle.turn_history.specs.Prelude.{FiveTuple, Contents, Entry}
+use Rattle.turn_codec.specs.Prelude.{even_port, reservation_token, Content, is_seen}
 use Rattle.turn_rules.specs.declared.need.Need.TheVariants.{Any, Even}
 use Rattle.turn_rules.specs.declared.outcome.Outcome.{Outcome}
-use Rattle.turn_rules.specs.Allocate.{asks_for_next_port, before_port, capacity_outcome, named_port, needed_for, own_outcome, port_for, token_of, with_port}
-use Rattle.turn_rules.specs.Laws.{IsPlain, plain_before_port, plain_capacity_rows, plain_rows, plain_with_port}
+use Rattle.turn_rules.specs.Prelude.{asks_for_next_port, before_port, capacity_outcome, named_port, needed_for, own_outcome, port_for, token_of, with_port, IsPlain, plain_before_port, plain_capacity_rows, plain_rows, plain_with_port}
 use Rattle.turn_rules.proofs.Chosen.{none_named}
 use Rattle.turn_rules.proofs.Reached.{IsUndecided, QuietOr, own_is}
 

@@ -1,46 +1,23 @@
 -- What is known where an outcome is reached: one walk over the rows of all requests, from which the laws follow.
-use Rattle.std.proofs.Common.{◌≡◌, ◌⊎◌, inl, inr, ℕ, ◌≤◌, ◌<◌, Bool, true, false, not, is_none, List, [], ◌∷◌, take, is_some, ◌&&◌, ◌||◌, ap, refl, subst, sym, ◌∙◌, Option, Some, None}
-use Rattle.std.specs.Prelude.{◌==◌, nat_le, unwrap_or, IfSome}
+use Rattle.std.proofs.Common.{◌≡◌, ◌⊎◌, inl, inr, ℕ, ◌≤◌, ◌<◌, Bool, true, false, not, is_none, List, [], ◌∷◌, take, is_some, ◌&&◌, ◌||◌, ap, refl, subst, sym, ◌∙◌, Option, Some, None, ◌==◌, nat_le, unwrap_or, IfSome}
 use Rattle.std.specs.FinMap as fin
 use Rattle.std.specs.Int.{w16, from_be_bytes}
 use Rattle.std.specs.List.{list_any}
 use Rattle.std.specs.Option.{option_or}
 use Rattle.std.proofs.Math.Bool.{and-true}
 use Rattle.std.proofs.lemmas.Option.{IfSome_then}
-use Rattle.turn_types.specs.Config.{Config}
-use Rattle.turn_types.specs.Methods.{allocate, binding, refresh, create_permission}
-use Rattle.turn_types.specs.Rows.{first_row}
-use Rattle.turn_types.specs.declared.error.ErrorCode.TheVariants.{Unauthenticated}
-use Rattle.turn_types.specs.declared.address.Addr.{Addr}
-use Rattle.turn_types.specs.declared.address.Addr.TheVariants.{V4, V6}
-use Rattle.turn_types.specs.declared.address.Endpoint.{Endpoint}
-use Rattle.turn_types.specs.declared.address.FiveTuple.{FiveTuple}
-use Rattle.turn_types.specs.declared.address.PeerAddress.{PeerAddress}
-use Rattle.turn_types.specs.declared.message.Token.{Token}
+use Rattle.turn_types.specs.Prelude.{Config, allocate, binding, refresh, create_permission, first_row}
+use Rattle.turn_history.specs.Prelude.{Unauthenticated, Addr, V4, V6, Endpoint, FiveTuple, PeerAddress, Token, in_range, FitsChannel, PlainAct, Allocates, Renews, Permits, Binds, Contents, Entry, install}
 use Rattle.std.proofs.lemmas.Bool.{and_parts, cond_both, leb-false, leb-true, ltb-false, not-false, or_parts, true≢false}
 use Rattle.turn_history.proofs.Tests.{channel_fits}
-use Rattle.turn_history.specs.ChannelNumber.{IsChannelNumber, in_range, is_channel_number}
-use Rattle.turn_history.specs.Fitting.{FitsChannel}
-use Rattle.turn_history.specs.History.{PlainAct, Allocates, Renews, Permits, Binds}
-use Rattle.turn_history.specs.Table.{Contents, Entry, install}
-use Rattle.turn_codec.specs.AttributeTypes.{channel_number, even_port, requested_address_family, reservation_token, xor_peer_address}
-use Rattle.turn_codec.specs.Grammar.{Content, Datagram}
-use Rattle.turn_codec.specs.Seen.{has_unknown, is_seen, seen_value}
-use Rattle.turn_cred.specs.Credential.{Verdict}
-use Rattle.turn_cred.specs.Credential.Verdict.{Challenge401, Bad400, Stale438, Passed}
+use Rattle.turn_history.specs.ChannelNumber.{IsChannelNumber, is_channel_number}
+use Rattle.turn_codec.specs.Prelude.{channel_number, even_port, requested_address_family, reservation_token, xor_peer_address, Content, Datagram, has_unknown, is_seen, seen_value}
+use Rattle.turn_cred.specs.Prelude.{Verdict, Bad400, Stale438, Passed}
+use Rattle.turn_cred.specs.Credential.Verdict.{Challenge401}
 use Rattle.turn_cred.specs.declared.key.Key.{Key}
 use Rattle.turn_rules.specs.declared.outcome.Outcome.{Outcome}
 use Rattle.turn_rules.specs.declared.outcome.Outcome.TheVariants.{Drop, RefuseUnknown, Challenge, MappedAddress, Renew, Permit, Bind}
-use Rattle.turn_rules.specs.Allocate.{allocate_outcome, asks_for_next_port, before_port, capacity_outcome, capacity_rows, named_port, own_outcome, own_rows, port_for, token_of, with_port}
-use Rattle.turn_rules.specs.Answer.{by_verdict, decision, is_dropped, is_expired, is_protected, outcome_of, passed_outcome, user_of}
-use Rattle.turn_rules.specs.Binding.{binding_outcome}
-use Rattle.turn_rules.specs.Channel.{bind_outcome, bind_rows, channel_outcome, named_number, named_peer, number_at, to_address, to_peer}
-use Rattle.turn_rules.specs.Fields.{first_byte, four_bytes, granted, lifetime_of}
-use Rattle.turn_rules.specs.Owner.{entry_outcome, owner_outcome, owner_rows}
-use Rattle.turn_rules.specs.Outcome.{act_by}
-use Rattle.turn_rules.specs.Peers.{is_ipv6, named_peers}
-use Rattle.turn_rules.specs.Permission.{named_addresses, permission_outcome, permission_rows}
-use Rattle.turn_rules.specs.Refresh.{refresh_outcome, refresh_rows, renewed_for}
+use Rattle.turn_rules.specs.Prelude.{allocate_outcome, asks_for_next_port, before_port, capacity_outcome, capacity_rows, named_port, own_outcome, own_rows, port_for, token_of, with_port, by_verdict, decision, is_dropped, is_expired, is_protected, outcome_of, passed_outcome, user_of, binding_outcome, bind_outcome, bind_rows, channel_outcome, named_number, named_peer, number_at, to_address, to_peer, first_byte, four_bytes, granted, lifetime_of, entry_outcome, owner_outcome, owner_rows, act_by, is_ipv6, named_peers, named_addresses, permission_outcome, permission_rows, refresh_outcome, refresh_rows, renewed_for}
 
 -- ---- Tests
 
@@ -158,9 +135,29 @@ QuietOr P (Some o) = IsQuiet o
 
 pub own_is : (pairs valid : Bool) (o : Option Entry) (user : List ℕ) (m : Content) → QuietOr (IsUndecided pairs valid o m) (own_outcome pairs valid o user m)
 unfolding own_outcome
-own_is pairs valid None user m = by_rows (QuietOr (IsUndecided pairs valid None m)) (own_rows pairs valid None user m) None
-    (λ _ _ _. refl, λ known. (λ wrong. cc, λ _. (λ wrong. cc, λ _. (λ _ _ _. refl, λ _. (λ _ _ _. refl, λ _. (λ _ _ _. refl, λ alone. (λ _ _ _. refl, λ may_name.
-    (λ _ _ _. refl, λ _. (λ _ _ _. refl, λ may_pair. record { known = known; absent = refl; alone = alone; may_name = may_name; may_pair = may_pair })))))))))
+own_is pairs valid None user m = by_rows (QuietOr (IsUndecided pairs valid None m)) (own_rows pairs valid None user m) None (
+  λ _ _ _. refl,
+  λ known. (
+    λ wrong. cc,
+    λ _. (
+      λ wrong. cc,
+      λ _. (
+        λ _ _ _. refl,
+        λ _. (
+          λ _ _ _. refl,
+          λ _. (
+            λ _ _ _. refl,
+            λ alone. (
+              λ _ _ _. refl,
+              λ may_name.
+                  (λ _ _ _. refl, λ _. (λ _ _ _. refl, λ may_pair. record { known = known; absent = refl; alone = alone; may_name = may_name; may_pair = may_pair })),
+            ),
+          ),
+        ),
+      ),
+    ),
+  ),
+)
 own_is pairs valid (Some e) user m = by_rows (QuietOr (IsUndecided pairs valid (Some e) m)) (own_rows pairs valid (Some e) user m) None
     (λ _ _ _. refl, λ _. (λ _ _ _. refl, λ _. (λ _ _ _. refl, λ wrong. absurd (true≢false wrong))))
 
@@ -197,17 +194,21 @@ module _ (pairs : Bool) (s : Config) (c : Contents) (f : FiveTuple) (t : ℕ) (m
     where
       by_port : Undecided → before_port pairs s c f user m ≡ None → (p : Option ℕ) → port_for c m port ≡ p → Reached pairs s c f t user m port (with_port s f t m p)
       by_port known undecided None is = tt
-      by_port known undecided (Some p) is = (refl, refl, record {
-        method = method;
-        known = known.0.known;
-        absent = known.0.absent;
-        room = known.1.room;
-        undecided = undecided;
-        port_is = is;
-        granted_is = refl;
-        token_is = refl;
-        next = for_pair pairs (is_some (named_port c m)) s c (fin.get c.entries f) m known.0 known.1;
-      })
+      by_port known undecided (Some p) is = (
+        refl,
+        refl,
+        record {
+          method = method;
+          known = known.0.known;
+          absent = known.0.absent;
+          room = known.1.room;
+          undecided = undecided;
+          port_is = is;
+          granted_is = refl;
+          token_is = refl;
+          next = for_pair pairs (is_some (named_port c m)) s c (fin.get c.entries f) m known.0 known.1;
+        },
+      )
 
       by_before : (o : Option Outcome) → before_port pairs s c f user m ≡ o → QuietOr Undecided o → Reached pairs s c f t user m port (unwrap_or o (with_port s f t m (port_for c m port)))
       by_before (Some o) at quiet = subst (λ a. IfSome a (IsReached pairs s c f t user m port)) (sym (quiet user m)) tt
@@ -221,22 +222,42 @@ module _ (pairs : Bool) (s : Config) (c : Contents) (f : FiveTuple) (t : ℕ) (m
         (λ _. tt, λ _. (λ _. tt, λ _. record { entry = e; at = at; granted_is = refl }))
 
     permission_reached : Reached pairs s c f t user m port (permission_outcome s e m)
-    permission_reached = by_rows (Reached pairs s c f t user m port) (permission_rows s e m) (Permit (named_addresses m))
-        (λ _. tt, λ named. (λ _. tt, λ of_ipv4. (λ _. tt, λ _. (λ _. tt, λ within.
-        let parts = or_parts (not (is_seen m xor_peer_address)) (list_any is_none (named_peers m)) named in
-        record {
-          entry = e;
-          at = at;
-          named = refl;
-          within = ltb-false s.limits.permissions (fin.len (install 0 (named_addresses m) e.permissions)) within;
-          present = not-false (is_seen m xor_peer_address) parts.0;
-          well_formed = parts.1;
-          of_ipv4 = of_ipv4;
-        }))))
+    permission_reached = by_rows (Reached pairs s c f t user m port) (permission_rows s e m) (Permit (named_addresses m)) (
+      λ _. tt,
+      λ named. (
+        λ _. tt,
+        λ of_ipv4. (
+          λ _. tt,
+          λ _. (
+            λ _. tt,
+            λ within.
+                let parts = or_parts (not (is_seen m xor_peer_address)) (list_any is_none (named_peers m)) named in
+                record {
+                  entry = e;
+                  at = at;
+                  named = refl;
+                  within = ltb-false s.limits.permissions (fin.len (install 0 (named_addresses m) e.permissions)) within;
+                  present = not-false (is_seen m xor_peer_address) parts.0;
+                  well_formed = parts.1;
+                  of_ipv4 = of_ipv4;
+                },
+          ),
+        ),
+      ),
+    )
 
     bind_reached : (n : ℕ) (p : Endpoint) → IsChannelNumber n → named_peer m ≡ Some (record { ip = V4 p.ip; port = p.port }) → Reached pairs s c f t user m port (bind_outcome s e n p)
-    bind_reached n p number peer = by_rows (Reached pairs s c f t user m port) (bind_rows s e n p) (Bind n p) (λ _. tt, λ _. (λ _. tt, λ elsewhere. (λ _. tt, λ exceeds.
-        record { entry = e; at = at; number = number; peer = peer; fits = channel_fits s.limits n p e elsewhere exceeds })))
+    bind_reached n p number peer = by_rows (Reached pairs s c f t user m port) (bind_rows s e n p) (Bind n p) (
+      λ _. tt,
+      λ _. (
+        λ _. tt,
+        λ elsewhere. (
+          λ _. tt,
+          λ exceeds.
+              record { entry = e; at = at; number = number; peer = peer; fits = channel_fits s.limits n p e elsewhere exceeds },
+        ),
+      ),
+    )
 
     address_reached : (ip : Addr) (n p : ℕ) → IsChannelNumber n → named_peer m ≡ Some (record { ip = ip; port = p }) → Reached pairs s c f t user m port (to_address s e n ip p)
     address_reached (V6 ip) n p number peer = tt

@@ -1,30 +1,18 @@
 -- A repeated Allocate gets the same bytes.
-use Rattle.std.proofs.Common.{◌≡◌, inl, inr, arith, subst, ℕ, Bool, true, false, ◌&&◌, List, refl, sym, ap, ◌∙◌, Option, Some, None}
-use Rattle.std.specs.Prelude.{◌==◌, if◌then◌else◌, is_some, option_map, IfSome}
+use Rattle.std.proofs.Common.{◌≡◌, inl, inr, arith, subst, ℕ, Bool, true, false, ◌&&◌, List, refl, sym, ap, ◌∙◌, Option, Some, None, ◌==◌, if◌then◌else◌, is_some, option_map, IfSome, bytes_eq}
 use Rattle.std.specs.FinMap as fin
-use Rattle.std.specs.Str.{bytes_eq}
 use Rattle.std.proofs.Math.Bool.{and-false}
 use Rattle.std.proofs.lemmas.Bool.{and_from, and_parts, cases_Bool}
 use Rattle.std.proofs.lemmas.Bool.Decides.{nat_tests}
 use Rattle.std.proofs.lemmas.Slice.Eq.{bytes_eq-Decides}
-use Rattle.turn_types.specs.Config.{Config}
-use Rattle.turn_types.specs.Methods.{allocate, binding}
-use Rattle.turn_types.specs.declared.address.FiveTuple.{FiveTuple}
-use Rattle.turn_types.specs.declared.error.ErrorCode.TheVariants.{AllocationMismatch}
-use Rattle.turn_types.specs.declared.message.Token.{Token}
-use Rattle.turn_history.specs.History.{Allocates, Allocation, PlainAct}
-use Rattle.turn_history.specs.Laws.{allocation_of}
-use Rattle.turn_history.specs.Table.{Contents, Entry}
-use Rattle.turn_codec.specs.Grammar.{Content, Datagram, canonical}
-use Rattle.turn_codec.specs.Seen.{has_unknown}
-use Rattle.turn_cred.specs.Credential.{Verdict}
-use Rattle.turn_cred.specs.Credential.Verdict.{Passed}
+use Rattle.turn_types.specs.Prelude.{Config, allocate, binding}
+use Rattle.turn_history.specs.Prelude.{FiveTuple, AllocationMismatch, Token, Allocates, Allocation, PlainAct, allocation_of, Contents, Entry}
+use Rattle.turn_codec.specs.Prelude.{Content, Datagram, canonical, has_unknown}
+use Rattle.turn_cred.specs.Prelude.{Verdict, Passed}
 use Rattle.turn_cred.specs.declared.key.Key.{Key}
 use Rattle.turn_rules.specs.declared.outcome.Outcome.{Outcome}
 use Rattle.turn_rules.specs.declared.outcome.Outcome.TheVariants.{Drop, Refuse, RefuseUnknown, RepeatedAllocate, Allocate}
-use Rattle.turn_rules.specs.Allocate.{allocate_outcome, before_port, is_repeat, named_port, own_outcome}
-use Rattle.turn_rules.specs.Answer.{Decided, decision, is_allocate, is_dropped, is_expired, is_protected, is_request, key_of, outcome_of, user_of}
-use Rattle.turn_rules.specs.Outcome.{act_by, response_of}
+use Rattle.turn_rules.specs.Prelude.{allocate_outcome, before_port, is_repeat, named_port, own_outcome, Decided, decision, is_allocate, is_dropped, is_expired, is_protected, is_request, key_of, outcome_of, user_of, act_by, response_of}
 use Rattle.turn_rules.proofs.Reached.{IsNew, IsOfUser, IsReached, of_decided}
 
 -- ---- What an Allocate gets where the five-tuple has an allocation

@@ -1,26 +1,16 @@
 -- What is decided takes what was picked.
-use Rattle.std.proofs.Common.{◌≡◌, ℕ, ◌+◌, Bool, true, false, ◌||◌, ◌&&◌, is_some, List, refl, sym, ap, ◌∙◌, Option, Some, None, inl, inr}
-use Rattle.std.specs.Prelude.{◌==◌, if◌then◌else◌, unwrap_or, IfSome}
+use Rattle.std.proofs.Common.{◌≡◌, ℕ, ◌+◌, Bool, true, false, ◌||◌, ◌&&◌, is_some, List, refl, sym, ap, ◌∙◌, Option, Some, None, inl, inr, ◌==◌, if◌then◌else◌, unwrap_or, IfSome}
 use Rattle.std.proofs.Math.Bool.{or-false, or-true}
 use Rattle.std.proofs.lemmas.Bool.{cases_Bool, eqb-true}
 use Rattle.std.proofs.lemmas.Option.{none-some}
 use Rattle.std.specs.Option.{option_or}
-use Rattle.turn_types.specs.Config.{Config}
-use Rattle.turn_types.specs.declared.address.FiveTuple.{FiveTuple}
-use Rattle.turn_history.specs.Fitting.{has_port, is_taken}
-use Rattle.turn_history.specs.History.{PlainAct, Allocates, Renews, Permits, Binds}
-use Rattle.turn_history.specs.Table.{Contents}
-use Rattle.turn_codec.specs.AttributeTypes.{even_port}
-use Rattle.turn_codec.specs.Grammar.{Content, Datagram}
-use Rattle.turn_codec.specs.Seen.{is_seen}
-use Rattle.turn_cred.specs.Credential.{Verdict}
+use Rattle.turn_types.specs.Prelude.{Config}
+use Rattle.turn_history.specs.Prelude.{FiveTuple, has_port, is_taken, PlainAct, Allocates, Renews, Permits, Binds, Contents}
+use Rattle.turn_codec.specs.Prelude.{even_port, Content, Datagram, is_seen}
+use Rattle.turn_cred.specs.Prelude.{Verdict}
 use Rattle.turn_rules.specs.declared.need.Need.{Need}
 use Rattle.turn_rules.specs.declared.need.Need.TheVariants.{Any, Even, Pair}
-use Rattle.turn_rules.specs.Allocate.{asks_for_next_port, named_port, need_of, port_for, token_of, with_port}
-use Rattle.turn_rules.specs.Answer.{decision, outcome_of, port_needed, user_of}
-use Rattle.turn_rules.specs.Outcome.{act_by}
-use Rattle.turn_rules.specs.Taking.{is_picked, picks, takes, takes_if_any}
-use Rattle.turn_rules.specs.Token.{token_for}
+use Rattle.turn_rules.specs.Prelude.{asks_for_next_port, named_port, need_of, port_for, token_of, with_port, decision, outcome_of, port_needed, user_of, act_by, is_picked, picks, takes, takes_if_any, token_for}
 use Rattle.turn_rules.proofs.Chosen.{IsNeeded, by_choice, named_is_reserved, needed_of, not_named, of_token}
 use Rattle.turn_rules.proofs.Reached.{IsOfUser, IsReached, of_decided}
 use Rattle.turn_rules.proofs.Repeats.{outcome_is}

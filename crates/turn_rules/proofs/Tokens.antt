@@ -1,15 +1,13 @@
 -- A token is of its port.
-use Rattle.std.proofs.Common.{◌≡◌, ℕ, zero, suc, ◌+◌, ◌^◌, ◌%◌, ◌<◌, arith, List, length, length-append, length-take-le, take, ap, ◌∙◌}
-use Rattle.std.specs.Prelude.{All}
+use Rattle.std.proofs.Common.{◌≡◌, ℕ, zero, suc, ◌+◌, ◌^◌, ◌%◌, ◌<◌, arith, List, length, length-append, length-take-le, take, ap, ◌∙◌, All}
 use Rattle.std.specs.Int.{w16, to_be_bytes, byte_at, bytes_high_first}
 use Rattle.std.proofs.Math.Seq.{take-append_seam}
 use Rattle.std.proofs.lemmas.List.Elements.{All-nil, All-cons, All-append, All-take}
 use Rattle.sha2.specs.Sha256.{digest_bytes, sha256}
 use Rattle.sha2.proofs.Facts256.{length-sha256}
-use Rattle.turn_history.specs.Fitting.{IsTokenOf}
+use Rattle.turn_history.specs.Prelude.{IsTokenOf, FiveTuple}
 use Rattle.turn_mac.specs.Hmac.{hmac}
-use Rattle.turn_types.specs.declared.address.FiveTuple.{FiveTuple}
-use Rattle.turn_rules.specs.Token.{token_for, token_input}
+use Rattle.turn_rules.specs.Prelude.{token_for, token_input}
 
 abbrev AreBytes : List ℕ → Type 0
 AreBytes xs = All (λ x. x < 256) xs

@@ -1,21 +1,12 @@
 -- What the server answers to a client's message, and what it does to the table.
 use Rattle.std.specs.Prelude.{◌≡◌, ℕ, ◌==◌, ◌&&◌, ◌||◌, Bool, true, false, not, Option, Some, None, is_none, option_map, if◌then◌else◌, List, [], ◌∷◌}
 use Rattle.std.specs.FinMap as fin
-use Rattle.turn_types.specs.declared.address.Endpoint.{Endpoint}
-use Rattle.turn_types.specs.declared.address.FiveTuple.{FiveTuple}
-use Rattle.turn_types.specs.declared.error.ErrorCode.TheVariants.{BadRequest, Unauthenticated, StaleNonce}
-use Rattle.turn_types.specs.declared.message.Class.{Class}
-use Rattle.turn_types.specs.declared.message.Class.TheVariants.{Request, Indication, Success, Error}
-use Rattle.turn_types.specs.Config.{Config}
-use Rattle.turn_history.specs.History.{PlainAct, History}
-use Rattle.turn_types.specs.Methods.{binding, allocate, refresh, create_permission, channel_bind}
-use Rattle.turn_types.specs.Rows.{first_row}
-use Rattle.turn_history.specs.Table.{Contents, table}
-use Rattle.turn_codec.specs.Grammar.{Content, Datagram, canonical}
-use Rattle.turn_codec.specs.Seen.{has_unknown}
+use Rattle.turn_history.specs.Prelude.{Endpoint, FiveTuple, BadRequest, Unauthenticated, StaleNonce, Class, Request, Indication, Success, Error, PlainAct, History, Contents, table}
+use Rattle.turn_types.specs.Prelude.{Config, binding, allocate, refresh, create_permission, channel_bind, first_row}
+use Rattle.turn_codec.specs.Prelude.{Content, Datagram, canonical, has_unknown}
 use Rattle.turn_mac.specs.Fingerprint.{has_wrong_fingerprint}
-use Rattle.turn_cred.specs.Credential.{Keys, Verdict, has_expired, policy_of, verdict}
-use Rattle.turn_cred.specs.Credential.Verdict.{Challenge401, Bad400, Stale438, Passed}
+use Rattle.turn_cred.specs.Prelude.{Keys, Verdict, has_expired, policy_of, verdict, Bad400, Stale438, Passed}
+use Rattle.turn_cred.specs.Credential.Verdict.{Challenge401}
 use Rattle.turn_cred.specs.declared.key.Key.{Key}
 use Rattle.turn_rules.specs.declared.need.Need.{Need}
 use Rattle.turn_rules.specs.declared.outcome.Outcome.{Outcome}

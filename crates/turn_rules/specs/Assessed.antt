@@ -1,9 +1,8 @@
 -- What is known of a client's message before a port is picked for it.
 use Rattle.std.specs.Prelude.{◌≡◌, ℕ, Bool, Option, Some, None}
-use Rattle.turn_types.specs.Config.{Config}
-use Rattle.turn_types.specs.declared.address.FiveTuple.{FiveTuple}
-use Rattle.turn_codec.specs.Grammar.{Content}
-use Rattle.turn_history.specs.Table.{Contents}
+use Rattle.turn_types.specs.Prelude.{Config}
+use Rattle.turn_history.specs.Prelude.{FiveTuple, Contents}
+use Rattle.turn_codec.specs.Prelude.{Content}
 use Rattle.turn_rules.specs.Allocate.{with_port}
 use Rattle.turn_rules.specs.Answer.{outcome_of, port_needed}
 use Rattle.turn_rules.specs.Decided.{verdict_in}

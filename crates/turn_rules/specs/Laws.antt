@@ -2,19 +2,11 @@
 use Rattle.std.specs.Prelude.{◌≡◌, ℕ, ◌+◌, ◌%◌, ◌^◌, ◌<◌, ◌≤◌, ◌==◌, nat_le, not, ◌&&◌, ◌||◌, Bool, false, if◌then◌else◌, List, [], ◌∷◌, length, All, Option, None, Some, IfSome, IsSome, is_none, is_some, option_map, unwrap_or}
 use Rattle.std.specs.FinMap as fin
 use Rattle.std.specs.Option.{option_map_or, option_or}
-use Rattle.turn_types.specs.declared.limits.Bounds.{Bounds}
-use Rattle.turn_codec.specs.Grammar.{Content}
-use Rattle.turn_cred.specs.Credential.{Verdict}
-use Rattle.turn_cred.specs.Credential.Verdict.{Passed}
+use Rattle.turn_history.specs.Prelude.{Bounds, IsUnreserved, PortIsFree, is_taken, Contents, Entry, FiveTuple, BadRequest, AllocationMismatch, AddressFamilyNotSupported, UnsupportedTransportProtocol, AllocationQuotaReached, InsufficientCapacity}
+use Rattle.turn_codec.specs.Prelude.{Content, even_port, requested_address_family, requested_transport, reservation_token, has_unknown, is_seen}
+use Rattle.turn_cred.specs.Prelude.{Verdict, Passed}
 use Rattle.turn_cred.specs.declared.key.Key.{Key}
-use Rattle.turn_history.specs.Fitting.{IsUnreserved, PortIsFree, is_taken}
-use Rattle.turn_history.specs.Table.{Contents, Entry}
-use Rattle.turn_codec.specs.AttributeTypes.{even_port, requested_address_family, requested_transport, reservation_token}
-use Rattle.turn_codec.specs.Seen.{has_unknown, is_seen}
-use Rattle.turn_types.specs.Config.{Config}
-use Rattle.turn_types.specs.Rows.{first_row}
-use Rattle.turn_types.specs.declared.address.FiveTuple.{FiveTuple}
-use Rattle.turn_types.specs.declared.error.ErrorCode.TheVariants.{BadRequest, AllocationMismatch, AddressFamilyNotSupported, UnsupportedTransportProtocol, AllocationQuotaReached, InsufficientCapacity}
+use Rattle.turn_types.specs.Prelude.{Config, first_row}
 use Rattle.turn_rules.specs.Allocate.{allocate_outcome, asks_for_next_port, before_port, count_of_user, is_malformed_allocate, is_repeat, needed_for, refused, repeated}
 use Rattle.turn_rules.specs.Fields.{first_byte, granted, is_other_family, lifetime_of}
 use Rattle.turn_rules.specs.declared.need.Need.{Need}

@@ -1,7 +1,6 @@
 -- The relayed ports that an Allocate may need, and what may have been picked for each.
 use Rattle.std.specs.Prelude.{◌≡◌, ℕ, Bool, true, false, Option, Some}
-use Rattle.turn_history.specs.Fitting.{is_taken}
-use Rattle.turn_history.specs.Table.{Contents}
+use Rattle.turn_history.specs.Prelude.{is_taken, Contents}
 use Rattle.turn_ports.specs.Ports.{MayPick, MayPickPair}
 use Rattle.turn_rules.specs.declared.need.Need.{Need}
 use Rattle.turn_rules.specs.declared.need.Need.TheVariants.{Any, Even, Pair}

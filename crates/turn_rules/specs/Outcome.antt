@@ -1,19 +1,10 @@
 -- What the response of each outcome has, and what the outcome does to the allocation of the five-tuple.
-use Rattle.std.specs.Prelude.{ℕ, List, [], ◌∷◌, Option, Some, None, option_map}
-use Rattle.std.specs.List.{flat_map}
+use Rattle.std.specs.Prelude.{ℕ, List, [], ◌∷◌, Option, Some, None, option_map, flat_map}
 use Rattle.std.specs.Int.{w16, w32, to_be_bytes}
-use Rattle.turn_types.specs.Config.{Config}
-use Rattle.turn_types.specs.declared.address.Endpoint.{Endpoint}
-use Rattle.turn_types.specs.declared.error.ErrorCode.{ErrorCode}
-use Rattle.turn_types.specs.declared.error.ErrorCode.TheVariants.{UnknownAttribute}
-use Rattle.turn_types.specs.declared.message.Class.{Class}
-use Rattle.turn_types.specs.declared.message.Token.{Token}
-use Rattle.turn_types.specs.declared.message.Class.TheVariants.{Success, Error}
-use Rattle.turn_history.specs.History.{PlainAct, Allocates, Renews, Permits, Binds}
-use Rattle.turn_codec.specs.Address.{xor_value}
-use Rattle.turn_codec.specs.AttributeTypes.{lifetime, nonce, realm, reservation_token, unknown_attributes, xor_mapped_address, xor_relayed_address}
-use Rattle.turn_codec.specs.Grammar.{Attribute, Content}
-use Rattle.turn_cred.specs.Nonce.{nonce_of}
+use Rattle.turn_types.specs.Prelude.{Config}
+use Rattle.turn_history.specs.Prelude.{Endpoint, ErrorCode, UnknownAttribute, Class, Token, Success, Error, PlainAct, Allocates, Renews, Permits, Binds}
+use Rattle.turn_codec.specs.Prelude.{xor_value, lifetime, nonce, realm, reservation_token, unknown_attributes, xor_mapped_address, xor_relayed_address, Attribute, Content}
+use Rattle.turn_cred.specs.Prelude.{nonce_of}
 use Rattle.turn_rules.specs.declared.outcome.Outcome.{Outcome}
 use Rattle.turn_rules.specs.declared.outcome.Outcome.TheVariants.{Drop, Refuse, RefuseUnknown, Challenge, MappedAddress, RepeatedAllocate, Allocate, Renew, Permit, Bind}
 use Rattle.turn_rules.specs.Response.{attribute, error_attribute, response}

@@ -1,6 +1,6 @@
 -- Which ports are picked, and which an act takes.
 use Rattle.std.specs.Prelude.{ℕ, ◌+◌, ◌==◌, ◌&&◌, ◌||◌, Bool, false, Option, Some, None, is_some}
-use Rattle.turn_history.specs.History.{PlainAct, Allocates, Renews, Permits, Binds}
+use Rattle.turn_history.specs.Prelude.{PlainAct, Allocates, Renews, Permits, Binds}
 use Rattle.turn_rules.specs.declared.need.Need.{Need}
 use Rattle.turn_rules.specs.declared.need.Need.TheVariants.{Any, Even, Pair}
 

@@ -3,7 +3,7 @@ use Rattle.std.specs.Prelude.{ℕ, ◌%◌, ◌^◌, List, ◌++◌, take}
 use Rattle.std.specs.Int.{w16, w64, to_be_bytes}
 use Rattle.sha2.specs.Sha256.{sha256}
 use Rattle.turn_mac.specs.Hmac.{hmac}
-use Rattle.turn_types.specs.FiveTuple.{tuple_bytes}
+use Rattle.turn_types.specs.Prelude.{tuple_bytes}
 use Rattle.turn_types.specs.declared.address.FiveTuple.{FiveTuple}
 use Rattle.turn_types.specs.declared.message.Token.{Token}
 

@@ -1,18 +1,13 @@
 -- Lives one after another.
-use Rattle.std.proofs.Common.{◌≡◌, ◌++◌, ℕ, Bool, false, List, [], ◌∷◌, Some, refl, sym, ap, ◌∙◌, ◌<◌}
-use Rattle.std.specs.Prelude.{◌⊎◌}
-use Rattle.turn_cred.specs.Shared.{Sources}
+use Rattle.std.proofs.Common.{◌≡◌, ◌++◌, ℕ, Bool, false, List, [], ◌∷◌, Some, refl, sym, ap, ◌∙◌, ◌<◌, ◌⊎◌}
+use Rattle.turn_cred.specs.Prelude.{Sources}
 use Rattle.turn_cred.specs.declared.handler.AuthHandler as handlers
-use Rattle.turn_disk.specs.Views.{InMemory}
+use Rattle.turn_disk.specs.Prelude.{InMemory, Rises}
 use Rattle.turn_disk.specs.declared.disk.Disk as disks
 use Rattle.turn_ports.specs.declared.generator.RelayAddressGenerator as generators
-use Rattle.turn_record.specs.declared.version.Version.{Version}
-use Rattle.turn_step.specs.Answer.{Setting}
-use Rattle.turn_disk.specs.Counts.{Rises}
-use Rattle.turn_store.specs.Areas.{Form}
-use Rattle.turn_store.specs.Images.{EachImage, RepresentsAt}
-use Rattle.turn_store.specs.Superblock.{least_area}
-use Rattle.turn_types.specs.Config.{Config}
+use Rattle.turn_store.specs.Prelude.{Version, Form, EachImage, RepresentsAt, least_area}
+use Rattle.turn_step.specs.Prelude.{Setting}
+use Rattle.turn_types.specs.Prelude.{Config}
 use Rattle.turn_player.proofs.Worlds.{formatted_represents}
 use Rattle.turn_player.specs.Worlds.{Down}
 use Rattle.turn_player.specs.Lives.{Input, Life, Point, Said, ends, formatted, goes_on}

@@ -1,7 +1,6 @@
 -- Why a disk is not made a store.
-use Rattle.std.proofs.Common.{◌≡◌, ◌<◌, ℕ, Result, Ok, Err, IfErr, IsErr, refl, inl, inr}
-use Rattle.std.specs.Prelude.{◌⊎◌, ◌↔◌}
-use Rattle.turn_disk.specs.Counts.{Rises}
+use Rattle.std.proofs.Common.{◌≡◌, ◌<◌, ℕ, Result, Ok, Err, IfErr, IsErr, refl, inl, inr, ◌⊎◌, ◌↔◌}
+use Rattle.turn_disk.specs.Prelude.{Rises}
 use Rattle.turn_store.specs.declared.formatting.FormatError.{FormatError}
 use Rattle.turn_store.specs.declared.formatting.FormatError.TheVariants.{AreaTooSmall, Device}
 

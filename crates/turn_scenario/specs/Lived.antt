@@ -1,15 +1,12 @@
 -- Where the player of a scenario stands.
 use Rattle.std.specs.Prelude.{◌≡◌, ◌<◌, ◌⊎◌, ℕ, false, List, Some}
-use Rattle.turn_cred.specs.Shared.{Sources}
+use Rattle.turn_cred.specs.Prelude.{Sources}
 use Rattle.turn_cred.specs.declared.handler.AuthHandler as handlers
-use Rattle.turn_disk.specs.Counts.{Rises}
-use Rattle.turn_disk.specs.Views.{InMemory}
+use Rattle.turn_disk.specs.Prelude.{Rises, InMemory}
 use Rattle.turn_disk.specs.declared.disk.Disk as disks
 use Rattle.turn_ports.specs.declared.generator.RelayAddressGenerator as generators
-use Rattle.turn_record.specs.declared.version.Version.{Version}
-use Rattle.turn_step.specs.Answer.{Setting}
-use Rattle.turn_store.specs.Areas.{Form}
-use Rattle.turn_store.specs.Superblock.{least_area}
+use Rattle.turn_store.specs.Prelude.{Version, Form, least_area}
+use Rattle.turn_step.specs.Prelude.{Setting}
 use Rattle.turn_player.specs.Lives.{Input, Life, Point, Said, formatted}
 use Rattle.turn_player.specs.Plays.{PlayerState}
 use Rattle.turn_player.specs.Worlds.{Down, Stands, World}

@@ -3,17 +3,14 @@ use Rattle.std.proofs.Common.{◌≡◌, ◌⊎◌, inl, inr, ℕ, Bool, None, R
 use Rattle.turn_cred.specs.declared.handler.AuthHandler as handlers
 use Rattle.turn_disk.specs.Meanwhile as meanwhile
 use Rattle.turn_disk.specs.declared.disk.Disk as disks
-use Rattle.turn_engine.specs.Calls.{Commits}
-use Rattle.turn_engine.specs.Relaying.{BesideState, beside}
-use Rattle.turn_engine.specs.State.{ServerState, now_of}
+use Rattle.turn_engine.specs.Prelude.{Commits, BesideState, beside, ServerState, now_of}
 use Rattle.turn_ports.specs.declared.generator.RelayAddressGenerator as generators
 use Rattle.turn_sockets.specs.Backlog.{BacklogState, if_same, waiting_of}
 use Rattle.turn_sockets.specs.Moments.{IsMoment}
 use Rattle.turn_sockets.specs.Own.{come_from}
 use Rattle.turn_sockets.specs.Schedule.{Agenda}
 use Rattle.turn_sockets.specs.Wire.{Passed, received}
-use Rattle.turn_step.specs.Outcome.{Sent}
-use Rattle.turn_step.specs.Outcome.Arrives.{FromClient, FromPeer}
+use Rattle.turn_step.specs.Prelude.{Sent, FromClient, FromPeer}
 use Rattle.turn_store.specs.declared.error.StoreError.{StoreError}
 use Rattle.turn_types.specs.declared.address.Endpoint.{Endpoint}
 use Rattle.turn_types.specs.declared.address.FiveTuple.{FiveTuple}

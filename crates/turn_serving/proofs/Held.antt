@@ -1,13 +1,11 @@
 -- The ports of a table, and those that have a socket.
-use Rattle.std.proofs.Common.{◌≡◌, ℕ, Bool, true, false, cond, List, [], ◌∷◌, Option, Some, None, is_some, drop, get_or, length, refl, sym, ap, ◌∙◌, arith, subst}
+use Rattle.std.proofs.Common.{◌≡◌, ℕ, Bool, true, false, cond, List, [], ◌∷◌, Option, Some, None, is_some, drop, get_or, length, refl, sym, ap, ◌∙◌, arith, subst, ◌+◌, ◌<◌, ◌||◌, ◌==◌, option_map}
 use Rattle.std.specs.BTreeMap.{BTreeMap, get, is_at}
 use Rattle.std.specs.Map.{lookup}
-use Rattle.std.specs.Prelude.{◌+◌, ◌<◌, ◌||◌, ◌==◌}
 use Rattle.std.specs.FinMap as fin
 use Rattle.std.specs.FinMap.{get-entries, nat_cmp-IsAntisymmetric}
 use Rattle.std.specs.FinMap.Entries.{find}
 use Rattle.std.specs.List.{list_any}
-use Rattle.std.specs.Option.{option_map}
 use Rattle.std.specs.Ordering.{eq_by_cmp, nat_cmp}
 use Rattle.std.proofs.Math.Bool.{or-false, or-true}
 use Rattle.std.proofs.lemmas.Bool.{and_from, eqb-false, eqb-true}
@@ -17,12 +15,9 @@ use Rattle.std.proofs.lemmas.List.{drop_more}
 use Rattle.turn_history.proofs.Entries.{list_all-entries}
 use Rattle.turn_history.proofs.Maps.{tuple_exact, tuple_total}
 use Rattle.turn_history.proofs.Tests.{port_is_free}
-use Rattle.turn_history.specs.Fitting.{has_port, is_taken}
-use Rattle.turn_history.specs.Table.{Contents, Entry}
+use Rattle.turn_history.specs.Prelude.{has_port, is_taken, Contents, Entry, Endpoint, FiveTuple}
 use Rattle.turn_history.specs.declared.reservation.Reservation.{Reservation}
 use Rattle.turn_sockets.specs.Ports.{HaveSockets, IsBound}
-use Rattle.turn_types.specs.declared.address.Endpoint.{Endpoint}
-use Rattle.turn_types.specs.declared.address.FiveTuple.{FiveTuple}
 use Rattle.turn_serving.specs.Starts.{AreBoundToo, have_ports}
 
 module _ (c : Contents) where

@@ -2,17 +2,15 @@
 use Rattle.std.proofs.Common.{arith, ◌≡◌, ◌<◌, ◌≤◌, ◌⊎◌, inl, inr, ℕ, Bool, true, false, List, [], ◌∷◌, Result, Ok, Err, refl, sym, ap, ◌∙◌, subst, ⊎_elim}
 use Rattle.turn_cred.specs.declared.handler.AuthHandler as handlers
 use Rattle.turn_disk.specs.declared.disk.Disk as disks
-use Rattle.turn_engine.specs.Calls.{Submits}
-use Rattle.turn_engine.specs.Runs.{Commit, IsCall, Relay, Serves, ServerCall, Submit, after_of, last_of}
-use Rattle.turn_engine.specs.State.{ServerState, now_of}
+use Rattle.turn_engine.specs.Prelude.{Submits, Commit, IsCall, Relay, Serves, ServerCall, Submit, after_of, last_of, ServerState, now_of}
 use Rattle.turn_engine.specs.declared.error.SubmitError.{SubmitError}
 use Rattle.turn_engine.specs.declared.error.SubmitError.TheVariants.{BatchFull, Memory, Stopped}
 use Rattle.turn_ports.specs.declared.generator.RelayAddressGenerator as generators
 use Rattle.turn_sockets.specs.Moments.{IsMoment}
-use Rattle.turn_step.specs.Outcome.{Arrives}
+use Rattle.turn_step.specs.Prelude.{Arrives}
 use Rattle.turn_serving.specs.Turns.{AreAt, Served}
 use Rattle.turn_serving.proofs.Turns.{still}
-use Rattle.turn_types.specs.Profile.{end_of_moments}
+use Rattle.turn_types.specs.Prelude.{end_of_moments}
 
 -- of two moments in a row the second is one by the first clock
 pub moments_in_row : {told : ℕ → Type 0} {clock middle moment : ℕ} → IsMoment told clock middle → IsMoment told middle moment → IsMoment told clock moment

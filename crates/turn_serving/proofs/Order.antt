@@ -5,17 +5,14 @@ use Rattle.std.proofs.lemmas.List.{map-append}
 use Rattle.std.proofs.lemmas.List.Elements.{filter-append}
 use Rattle.turn_cred.specs.declared.handler.AuthHandler as handlers
 use Rattle.turn_disk.specs.declared.disk.Disk as disks
-use Rattle.turn_engine.specs.Calls.{Submits}
-use Rattle.turn_engine.specs.Runs.{Commit, Relay, ServerCall, Submit}
-use Rattle.turn_engine.specs.State.{ServerState, now_of}
+use Rattle.turn_engine.specs.Prelude.{Submits, Commit, Relay, ServerCall, Submit, ServerState, now_of}
 use Rattle.turn_engine.specs.declared.error.SubmitError.{SubmitError}
 use Rattle.turn_engine.specs.declared.error.SubmitError.TheVariants.{BatchFull, Memory, Stopped}
 use Rattle.turn_ports.specs.declared.generator.RelayAddressGenerator as generators
 use Rattle.turn_sockets.specs.Backlog.{BacklogState, if_same, is_same_tuple, waiting_of}
 use Rattle.turn_sockets.proofs.Waiting.{same_tuple_is}
 use Rattle.turn_sockets.specs.Moments.{IsMoment}
-use Rattle.turn_step.specs.Outcome.{Arrives}
-use Rattle.turn_step.specs.Outcome.Arrives.{FromClient, FromPeer}
+use Rattle.turn_step.specs.Prelude.{Arrives, FromClient, FromPeer}
 use Rattle.turn_types.specs.declared.address.Endpoint.{Endpoint}
 use Rattle.turn_types.specs.declared.address.FiveTuple.{FiveTuple}
 use Rattle.turn_serving.specs.Turns.{AreAt, At, IsSubmitted, KeepsOrder, Never, Served, TakesAtMost, TakesDatagram, datagram_of, datagrams_of, does_wait, is_dropped, is_submitted, of_tuple, submitted_by, submitted_in, submitted_of}

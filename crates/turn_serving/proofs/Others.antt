@@ -1,22 +1,14 @@
 -- Only requests of the methods that ask for credentials have an act.
-use Rattle.std.proofs.Common.{◌≡◌, ℕ, ◌==◌, ◌&&◌, ◌||◌, ◌⊎◌, inl, inr, Bool, true, false, not, Option, Some, None, List, ◌++◌, length, option_map, if◌then◌else◌, refl, sym, ap, ◌∙◌, subst}
+use Rattle.std.proofs.Common.{◌≡◌, ℕ, ◌==◌, ◌&&◌, ◌||◌, ◌⊎◌, inl, inr, Bool, true, false, not, Option, Some, None, List, ◌++◌, length, option_map, if◌then◌else◌, refl, sym, ap, ◌∙◌, subst, append_assoc}
 use Rattle.std.proofs.lemmas.Bool.{and_parts, eqb-true}
-use Rattle.std.proofs.lemmas.List.{append_assoc}
 use Rattle.std.specs.Int.{w16, w32, to_be_bytes}
-use Rattle.turn_history.specs.Table.{Contents, table}
-use Rattle.turn_types.specs.Config.{Config}
-use Rattle.turn_types.specs.Methods.{binding}
-use Rattle.turn_types.specs.declared.address.FiveTuple.{FiveTuple}
-use Rattle.turn_types.specs.declared.message.Class.{Class}
-use Rattle.turn_types.specs.declared.message.Class.TheVariants.{Request, Indication, Success, Error}
-use Rattle.turn_codec.specs.Grammar.{Content, Datagram, Encodes, cookie, type_number}
-use Rattle.turn_codec.specs.Seen.{has_unknown}
-use Rattle.turn_cred.specs.Credential.{Challenge401, Keys, has_integrity, verdict}
-use Rattle.turn_types.specs.declared.address.Endpoint.{Endpoint}
-use Rattle.turn_rules.specs.Answer.{Decided, decision, is_dropped, is_protected, is_request, credential_outcome, outcome_of, user_of}
-use Rattle.turn_rules.specs.Outcome.{act_by}
-use Rattle.turn_step.specs.Outcome.{change_of}
-use Rattle.turn_step.specs.Outcome.Arrives.{FromClient, FromPeer}
+use Rattle.turn_history.specs.Prelude.{Contents, table, FiveTuple, Class, Request, Indication, Success, Error, Endpoint}
+use Rattle.turn_types.specs.Prelude.{Config, binding}
+use Rattle.turn_codec.specs.Prelude.{Content, Datagram, Encodes, cookie, type_number, has_unknown}
+use Rattle.turn_cred.specs.Prelude.{Keys, has_integrity, verdict}
+use Rattle.turn_cred.specs.Credential.{Challenge401}
+use Rattle.turn_rules.specs.Prelude.{Decided, decision, is_dropped, is_protected, is_request, credential_outcome, outcome_of, user_of, act_by}
+use Rattle.turn_step.specs.Prelude.{change_of, FromClient, FromPeer}
 use Rattle.turn_serving.specs.Requests.{MayChange, OthersChangeNothing, asks_for_change, begins_as_request}
 
 or_cases : (a b : Bool) → (a || b) ≡ true → (a ≡ true) ⊎ (b ≡ true)

@@ -3,30 +3,19 @@ use Rattle.std.proofs.Common.{◌≡◌, ℕ, Bool, true, false, List, Result, O
 use Rattle.turn_cred.specs.declared.handler.AuthHandler as handlers
 use Rattle.turn_disk.specs.declared.disk.Disk as disks
 use Rattle.turn_disk.proofs.Since.{since_same}
-use Rattle.turn_engine.specs.Calls.{Opening}
-use Rattle.turn_engine.specs.Images.{AtLeast}
-use Rattle.turn_engine.specs.Runs.{IsAtPlace, start}
-use Rattle.turn_engine.specs.State.{ServerState, now_of}
+use Rattle.turn_engine.specs.Prelude.{Opening, AtLeast, IsAtPlace, start, ServerState, now_of}
 use Rattle.turn_engine.specs.declared.error.ServerOpenError.{ServerOpenError}
 use Rattle.turn_engine.proofs.Opened.{sound_of, stop_of, stop_version_of}
 use Rattle.turn_engine.proofs.Runs.{opened}
-use Rattle.turn_history.specs.History.{History}
+use Rattle.turn_history.specs.Prelude.{History, Bounds}
 use Rattle.turn_ports.specs.declared.generator.RelayAddressGenerator as generators
-use Rattle.turn_record.specs.declared.version.Version.{Version}
-use Rattle.turn_record.specs.declared.version.Version.TheVariants.{V1}
-use Rattle.turn_step.specs.Answer.{Setting}
-use Rattle.turn_step.specs.State.{setting_of}
-use Rattle.turn_store.specs.Areas.{Form}
-use Rattle.turn_store.specs.Carrying.{Carries}
-use Rattle.turn_store.specs.Images.{EachImage}
+use Rattle.turn_store.specs.Prelude.{Version, V1, Form, Carries, EachImage, disk_of, StoreState}
+use Rattle.turn_step.specs.Prelude.{Setting, setting_of}
 use Rattle.turn_store.specs.Opening as stores
-use Rattle.turn_store.specs.Opening.{disk_of}
-use Rattle.turn_store.specs.State.{StoreState}
 use Rattle.turn_store.specs.declared.error.OpenError.{OpenError}
 use Rattle.turn_store.specs.declared.store.Opened.{Opened}
 use Rattle.turn_store.specs.declared.store.StoreOpenError.{StoreOpenError}
-use Rattle.turn_types.specs.Config.{Config}
-use Rattle.turn_types.specs.declared.limits.Bounds.{Bounds}
+use Rattle.turn_types.specs.Prelude.{Config}
 use Rattle.turn_serving.specs.Starts.{BeginsRun, IfOfStore, IsKept, IsOfVersion, IsRefusedFor, KeepsImages, Started, of_bind}
 use Rattle.turn_serving.specs.declared.error.BindError.{BindError}
 use Rattle.turn_serving.specs.declared.error.BindError.TheVariants as binds

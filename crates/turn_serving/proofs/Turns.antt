@@ -2,26 +2,19 @@
 use Rattle.std.proofs.Common.{arith, ◌≡◌, ◌≤◌, ℕ, List, [], ◌∷◌, ◌++◌, Result, Ok, Err, None, length, refl, sym, ap, ◌∙◌, subst, append_assoc, append-nil}
 use Rattle.turn_cred.specs.declared.handler.AuthHandler as handlers
 use Rattle.turn_disk.proofs.Since.{since_join, since_same, since_weaken}
-use Rattle.turn_disk.specs.Disk.{EachImageSince}
+use Rattle.turn_disk.specs.Prelude.{EachImageSince}
 use Rattle.turn_disk.specs.declared.disk.Disk as disks
 use Rattle.turn_engine.proofs.Answered.{accepted-append, begins}
 use Rattle.turn_engine.proofs.Runs.{earlier, goes_on, stops}
-use Rattle.turn_engine.specs.Calls.{Commits, Submits}
-use Rattle.turn_engine.specs.Images.{AtLeast}
-use Rattle.turn_engine.specs.Runs.{BeginsWith, Commit, IsAtPlace, IsCall, Place, Relay, Serves, ServerCall, Submit, Taken, accepted, after_of, count_at, history_at, last_of}
-use Rattle.turn_engine.specs.State.{ServerState, now_of}
+use Rattle.turn_engine.specs.Prelude.{Commits, Submits, AtLeast, BeginsWith, Commit, IsAtPlace, IsCall, Place, Relay, Serves, ServerCall, Submit, Taken, accepted, after_of, count_at, history_at, last_of, ServerState, now_of}
 use Rattle.turn_engine.proofs.Held.{stay_held}
 use Rattle.turn_engine.specs.declared.error.SubmitError.{SubmitError}
 use Rattle.turn_engine.specs.declared.error.SubmitError.TheVariants.{BatchFull, Memory, Stopped}
 use Rattle.turn_ports.specs.declared.generator.RelayAddressGenerator as generators
-use Rattle.turn_history.specs.History.{History}
+use Rattle.turn_history.specs.Prelude.{History}
 use Rattle.turn_sockets.specs.Moments.{IsMoment}
-use Rattle.turn_step.specs.Answer.{Setting}
-use Rattle.turn_step.specs.Outcome.{Arrives, Sent}
-use Rattle.turn_step.specs.State.{HoldsPorts}
-use Rattle.turn_store.specs.Areas.{Form}
-use Rattle.turn_store.specs.Images.{RepresentsAt}
-use Rattle.turn_store.specs.State.{form_of}
+use Rattle.turn_step.specs.Prelude.{Setting, Arrives, Sent, HoldsPorts}
+use Rattle.turn_store.specs.Prelude.{Form, RepresentsAt, form_of}
 use Rattle.turn_store.specs.declared.error.StoreError.{StoreError}
 use Rattle.turn_serving.specs.Turns.{AreAt, At, Never, Served}
 

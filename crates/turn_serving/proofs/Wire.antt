@@ -4,10 +4,7 @@ use Rattle.std.proofs.Permutation.{every_append}
 use Rattle.std.proofs.lemmas.Grind.{flat_map-append}
 use Rattle.turn_cred.specs.declared.handler.AuthHandler as handlers
 use Rattle.turn_disk.specs.declared.disk.Disk as disks
-use Rattle.turn_engine.specs.Calls.{Commits, Submits}
-use Rattle.turn_engine.specs.Relaying.{beside}
-use Rattle.turn_engine.specs.Runs.{Commit, Relay, ServerCall, Submit}
-use Rattle.turn_engine.specs.State.{ServerState, now_of}
+use Rattle.turn_engine.specs.Prelude.{Commits, Submits, beside, Commit, Relay, ServerCall, Submit, ServerState, now_of}
 use Rattle.turn_engine.specs.declared.error.SubmitError.{SubmitError}
 use Rattle.turn_engine.specs.declared.error.SubmitError.TheVariants.{BatchFull}
 use Rattle.turn_ports.specs.declared.generator.RelayAddressGenerator as generators
@@ -15,8 +12,7 @@ use Rattle.turn_sockets.specs.Backlog.{BacklogState, if_same, waiting_of}
 use Rattle.turn_sockets.specs.Moments.{IsMoment}
 use Rattle.turn_sockets.specs.Own.{come_from}
 use Rattle.turn_sockets.specs.Wire.{Passed, received}
-use Rattle.turn_step.specs.Outcome.{Arrives, Sent}
-use Rattle.turn_step.specs.Outcome.Arrives.{FromClient, FromPeer}
+use Rattle.turn_step.specs.Prelude.{Arrives, Sent, FromClient, FromPeer}
 use Rattle.turn_store.specs.declared.error.StoreError.{StoreError}
 use Rattle.turn_types.specs.declared.address.Endpoint.{Endpoint}
 use Rattle.turn_types.specs.declared.address.FiveTuple.{FiveTuple}

@@ -1,12 +1,9 @@
 -- Which datagrams of clients may change the table.
 use Rattle.std.specs.Prelude.{◌≡◌, ℕ, ◌&&◌, ◌==◌, ◌||◌, Bool, true, false, is_some, List, [], ◌∷◌, None}
-use Rattle.turn_codec.specs.AttributeTypes.{message_integrity}
-use Rattle.turn_codec.specs.Grammar.{Content, Encodes, value_of}
-use Rattle.turn_history.specs.History.{History}
-use Rattle.turn_rules.specs.Answer.{is_protected, is_request}
-use Rattle.turn_step.specs.Answer.{AnswersArrival, Setting}
-use Rattle.turn_step.specs.Outcome.{Arrives, StepOutcome}
-use Rattle.turn_step.specs.Outcome.Arrives.{FromClient, FromPeer}
+use Rattle.turn_codec.specs.Prelude.{message_integrity, Content, Encodes, value_of}
+use Rattle.turn_history.specs.Prelude.{History}
+use Rattle.turn_rules.specs.Prelude.{is_protected, is_request}
+use Rattle.turn_step.specs.Prelude.{AnswersArrival, Setting, Arrives, StepOutcome, FromClient, FromPeer}
 
 -- a request of a method that asks for credentials (Allocate, Refresh, CreatePermission, ChannelBind), with MESSAGE-INTEGRITY
 abbrev pub asks_for_change : Content → Bool

@@ -1,6 +1,6 @@
 -- What contracts see of a server that serves.
 use Rattle.std.specs.Prelude.{◌≤◌, ℕ, List, length}
-use Rattle.turn_engine.specs.State.{ServerState}
+use Rattle.turn_engine.specs.Prelude.{ServerState}
 use Rattle.turn_sockets.specs.Backlog.{BacklogState}
 use Rattle.turn_sockets.specs.Fairness.{AreRounds, Round}
 use Rattle.turn_sockets.specs.Schedule.{Agenda}

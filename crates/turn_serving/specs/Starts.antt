@@ -5,28 +5,15 @@ use Rattle.std.specs.FinMap as fin
 use Rattle.std.specs.List.{list_all}
 use Rattle.std.specs.Ordering.{nat_cmp}
 use Rattle.turn_cred.specs.declared.handler.AuthHandler as handlers
-use Rattle.turn_disk.specs.Disk.{EachImageSince}
+use Rattle.turn_disk.specs.Prelude.{EachImageSince}
 use Rattle.turn_disk.specs.declared.disk.Disk as disks
-use Rattle.turn_engine.specs.Calls.{Opening}
-use Rattle.turn_engine.specs.Images.{AtLeast}
-use Rattle.turn_engine.specs.Recovering.{Opens}
-use Rattle.turn_engine.specs.Runs.{IsAtPlace, start}
-use Rattle.turn_engine.specs.State.{ServerState, emptied, has_pairs, now_of}
-use Rattle.turn_history.specs.History.{History}
-use Rattle.turn_history.specs.Table.{Contents}
+use Rattle.turn_engine.specs.Prelude.{Opening, AtLeast, Opens, IsAtPlace, start, ServerState, emptied, has_pairs, now_of}
+use Rattle.turn_history.specs.Prelude.{History, Contents, Endpoint, Bounds}
 use Rattle.turn_ports.specs.declared.generator.RelayAddressGenerator as generators
-use Rattle.turn_record.specs.declared.version.Version.{Version}
-use Rattle.turn_record.specs.declared.version.Version.TheVariants.{V2}
-use Rattle.turn_step.specs.Answer.{Setting}
-use Rattle.turn_step.specs.State.{setting_of}
-use Rattle.turn_store.specs.Areas.{Form}
-use Rattle.turn_store.specs.Carrying.{Carries, IsActiveAs}
-use Rattle.turn_store.specs.Images.{EachImage, IsInVersion}
-use Rattle.turn_store.specs.Refused.{IsPlain, WhyRefused}
+use Rattle.turn_store.specs.Prelude.{Version, V2, Form, Carries, IsActiveAs, EachImage, IsInVersion, IsPlain, WhyRefused}
+use Rattle.turn_step.specs.Prelude.{Setting, setting_of}
 use Rattle.turn_store.specs.declared.error.OpenError.{OpenError}
-use Rattle.turn_types.specs.Config.{Config}
-use Rattle.turn_types.specs.declared.address.Endpoint.{Endpoint}
-use Rattle.turn_types.specs.declared.limits.Bounds.{Bounds}
+use Rattle.turn_types.specs.Prelude.{Config}
 use Rattle.turn_serving.specs.declared.error.BindError.{BindError}
 use Rattle.turn_serving.specs.declared.error.BindError.TheVariants as binds
 use Rattle.turn_serving.specs.declared.error.StartError.{StartError}

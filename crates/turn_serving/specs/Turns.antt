@@ -2,14 +2,12 @@
 use Rattle.std.specs.Prelude.{◌≡◌, ◌≢◌, ◌⊎◌, ℕ, Bool, true, List, [], ◌∷◌, ◌++◌, Result, Ok, Err, filter, flat_map, length, map, ◌≤◌}
 use Rattle.turn_cred.specs.declared.handler.AuthHandler as handlers
 use Rattle.turn_disk.specs.declared.disk.Disk as disks
-use Rattle.turn_engine.specs.Runs.{Commit, Relay, Serves, ServerCall, Submit, last_of}
-use Rattle.turn_engine.specs.State.{ServerState, now_of}
+use Rattle.turn_engine.specs.Prelude.{Commit, Relay, Serves, ServerCall, Submit, last_of, ServerState, now_of}
 use Rattle.turn_engine.specs.declared.error.SubmitError.{SubmitError}
 use Rattle.turn_engine.specs.declared.error.SubmitError.TheVariants.{BatchFull, Memory, Stopped}
 use Rattle.turn_ports.specs.declared.generator.RelayAddressGenerator as generators
 use Rattle.turn_sockets.specs.Backlog.{BacklogState, is_same_tuple, waiting_of}
-use Rattle.turn_step.specs.Outcome.{Arrives}
-use Rattle.turn_step.specs.Outcome.Arrives.{FromClient, FromPeer}
+use Rattle.turn_step.specs.Prelude.{Arrives, FromClient, FromPeer}
 use Rattle.turn_types.specs.declared.address.FiveTuple.{FiveTuple}
 use Rattle.turn_serving.specs.Requests.{MayChange}
 

@@ -1,22 +1,17 @@
 -- What the sockets of a server receive and send, beside the calls of the server.
-use Rattle.std.specs.Prelude.{◌≡◌, ◌≢◌, ◌⊎◌, ℕ, Bool, false, nat_eq, if◌then◌else◌, List, [], ◌∷◌, ◌++◌, Option, Result, Ok, Err, All, Contains, flat_map}
+use Rattle.std.specs.Prelude.{◌≡◌, ◌≢◌, ◌⊎◌, ℕ, Bool, false, nat_eq, if◌then◌else◌, List, [], ◌∷◌, ◌++◌, Option, Result, Ok, Err, All, Contains, flat_map, option_to_list}
 use Rattle.std.specs.List.{AllByRecursion}
-use Rattle.std.specs.Option.{option_to_list}
-use Rattle.turn_cred.specs.Credential.{Keys}
+use Rattle.turn_cred.specs.Prelude.{Keys}
 use Rattle.turn_cred.specs.declared.handler.AuthHandler as handlers
 use Rattle.turn_disk.specs.declared.disk.Disk as disks
-use Rattle.turn_engine.specs.Relaying.{BesideState, Relays, beside}
-use Rattle.turn_engine.specs.Runs.{Commit, Relay, ServerCall, Submit}
-use Rattle.turn_engine.specs.State.{ServerState, now_of}
+use Rattle.turn_engine.specs.Prelude.{BesideState, Relays, beside, Commit, Relay, ServerCall, Submit, ServerState, now_of}
 use Rattle.turn_engine.specs.declared.error.SubmitError.{SubmitError}
 use Rattle.turn_ports.specs.declared.generator.RelayAddressGenerator as generators
 use Rattle.turn_sockets.specs.Backlog.{BacklogState}
 use Rattle.turn_sockets.specs.Own.{IsListening, come_from, sent_to}
 use Rattle.turn_sockets.specs.Wire.{Passed, received, sent}
 use Rattle.turn_sockets.specs.declared.own.OwnAddresses.{OwnAddresses}
-use Rattle.turn_step.specs.Outcome.{Arrives, Sent}
-use Rattle.turn_step.specs.Outcome.Arrives.{FromClient, FromPeer}
-use Rattle.turn_step.specs.Outcome.Sent.{ToClient, ToPeer}
+use Rattle.turn_step.specs.Prelude.{Arrives, Sent, FromClient, FromPeer, ToClient, ToPeer}
 use Rattle.turn_store.specs.declared.error.StoreError.{StoreError}
 use Rattle.turn_types.specs.declared.address.Endpoint.{Endpoint}
 use Rattle.turn_types.specs.declared.address.FiveTuple.{FiveTuple}

@@ -1,7 +1,7 @@
 -- The addresses of a server itself.
 use Rattle.std.specs.Prelude.{ℕ, ◌≡◌, ◌≢◌, ◌≤◌, ◌⊎◌, ◌&&◌, Bool, true, not, nat_eq, if◌then◌else◌, List, AllPairs, Any, length}
 use Rattle.std.specs.List.{list_all, list_any}
-use Rattle.turn_types.specs.Config.{is_between}
+use Rattle.turn_types.specs.Prelude.{is_between}
 use Rattle.turn_types.specs.declared.address.Endpoint.{Endpoint}
 use Rattle.turn_sockets.specs.declared.own.OwnAddresses.{OwnAddresses}
 

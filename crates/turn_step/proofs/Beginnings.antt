@@ -1,32 +1,20 @@
 -- What an answer needs of a history: the events of one five-tuple, for an Allocate what others have, and for data a beginning, after
 -- which there are no events of its five-tuple.
-use Rattle.std.proofs.Common.{◌≡◌, ◌≤◌, ℕ, Bool, true, false, List, [], ◌∷◌, ◌++◌, Some, take, drop, map, refl, sym, ap, subst, ◌∙◌, arith}
+use Rattle.std.proofs.Common.{◌≡◌, ◌≤◌, ℕ, Bool, true, false, List, [], ◌∷◌, ◌++◌, Some, take, drop, map, refl, sym, ap, subst, ◌∙◌, arith, ◌↔◌, ◌≢◌, append-nil, take-append-drop}
 use Rattle.std.specs.FinMap as fin
-use Rattle.std.specs.Prelude.{◌↔◌, ◌≢◌}
 use Rattle.std.specs.List.{AllByRecursion}
 use Rattle.std.proofs.lemmas.Bool.{cond_both}
-use Rattle.std.proofs.lemmas.List.{append-nil, take-append-drop}
 use Rattle.std.proofs.lemmas.List.Elements.{filter-append}
-use Rattle.turn_types.specs.FiveTuple.{same_tuple, tuple_cmp}
-use Rattle.turn_types.specs.declared.address.Endpoint.{Endpoint}
-use Rattle.turn_types.specs.declared.address.FiveTuple.{FiveTuple}
-use Rattle.turn_types.specs.declared.limits.Bounds.{Bounds}
-use Rattle.turn_codec.specs.Grammar.{Content, Encodes}
+use Rattle.turn_types.specs.Prelude.{same_tuple, tuple_cmp}
+use Rattle.turn_history.specs.Prelude.{Endpoint, FiveTuple, Bounds, IsFitting, Event, History, clock, events_of, Entry, table}
+use Rattle.turn_codec.specs.Prelude.{Content, Encodes}
 use Rattle.turn_history.proofs.Histories.{clock-append, fitting-split, ports-apart}
 use Rattle.turn_history.proofs.Maps.{from_eq, tuple_exact}
-use Rattle.turn_history.specs.Fitting.{IsFitting}
-use Rattle.turn_history.specs.History.{Event, History, clock}
-use Rattle.turn_history.specs.Laws.{events_of}
-use Rattle.turn_history.specs.Table.{Entry, table}
 use Rattle.turn_relay.proofs.Datagrams.{same_entry}
 use Rattle.turn_relay.proofs.Holders.{same_holder}
 use Rattle.turn_rules.proofs.Alone.{allocates_same, answers_same, entry_same, others_too}
-use Rattle.turn_rules.specs.Answer.{Answers, credential_outcome}
-use Rattle.turn_step.specs.Answer.{AnswersArrival, AnswersClient, AnswersPeer, Setting}
-use Rattle.turn_step.specs.Data.{IsOwner, IsRequestOf}
-use Rattle.turn_step.specs.Laws.{SameForAllocates, EncodesNoAllocate}
-use Rattle.turn_step.specs.Outcome.{Arrives, StepOutcome}
-use Rattle.turn_step.specs.Outcome.Arrives.{FromClient, FromPeer}
+use Rattle.turn_rules.specs.Prelude.{Answers, credential_outcome}
+use Rattle.turn_step.specs.Prelude.{AnswersArrival, AnswersClient, AnswersPeer, Setting, IsOwner, IsRequestOf, SameForAllocates, EncodesNoAllocate, Arrives, StepOutcome, FromClient, FromPeer}
 use Rattle.turn_step.proofs.Exclusion.{no_request}
 
 module _ (s : Setting) (h g : History) (t : ℕ) (failed : Bool) (f : FiveTuple) (bytes : List ℕ) (o : StepOutcome) (events : events_of f h ≡ events_of f g) where

@@ -4,30 +4,17 @@ use Rattle.std.specs.FinMap as fin
 use Rattle.std.specs.Option.{option_or}
 use Rattle.std.proofs.lemmas.Bool.{false_from_ne_true}
 use Rattle.std.proofs.lemmas.Option.{cond_some}
-use Rattle.turn_types.specs.Config.{Config}
-use Rattle.turn_types.specs.declared.address.Endpoint.{Endpoint}
-use Rattle.turn_types.specs.declared.address.FiveTuple.{FiveTuple}
-use Rattle.turn_types.specs.declared.message.Class.{Class}
-use Rattle.turn_types.specs.declared.message.Class.TheVariants.{Request, Indication, Success, Error}
-use Rattle.turn_history.specs.History.{History}
-use Rattle.turn_history.specs.Table.{Contents, Entry, table}
-use Rattle.turn_codec.specs.Channel.{EncodesChannelData}
-use Rattle.turn_codec.specs.Grammar.{Content, Datagram, Encodes}
+use Rattle.turn_types.specs.Prelude.{Config}
+use Rattle.turn_history.specs.Prelude.{Endpoint, FiveTuple, Class, Request, Indication, Success, Error, History, Contents, Entry, table}
+use Rattle.turn_codec.specs.Prelude.{EncodesChannelData, Content, Datagram, Encodes}
 use Rattle.turn_codec.proofs.Header.{one_message}
 use Rattle.turn_codec.proofs.Values.{values_are_bytes}
-use Rattle.turn_cred.specs.Credential.{Keys, Verdict, policy_of, verdict}
-use Rattle.turn_cred.specs.Credential.Verdict.{Passed}
+use Rattle.turn_cred.specs.Prelude.{Keys, Verdict, policy_of, verdict, Passed}
 use Rattle.turn_cred.proofs.Passes.{passed_in_range}
-use Rattle.turn_rules.specs.Answer.{Answers, Decided, MayAnswer, decision, is_protected, is_request, credential_outcome, outcome_of, port_needed}
-use Rattle.turn_rules.specs.Laws.{IsMadeOfBytes, NamesInRange}
+use Rattle.turn_rules.specs.Prelude.{Answers, Decided, MayAnswer, decision, is_protected, is_request, credential_outcome, outcome_of, port_needed, IsMadeOfBytes, NamesInRange}
 use Rattle.turn_relay.specs.FromClient.{PeerData, SendsToPeer, sent_by_message}
 use Rattle.turn_relay.proofs.Datagrams.{of_message}
-use Rattle.turn_step.specs.Answer.{AnswersClient, IsDecided, Setting, to_client, to_peer, undecided}
-use Rattle.turn_step.specs.Data.{IsRequestOf}
-use Rattle.turn_step.specs.Laws.{HasNoReply}
-use Rattle.turn_step.specs.Outcome.{StepOutcome, change_of, decided_for, nothing}
-use Rattle.turn_step.specs.Outcome.Arrives.{FromClient}
-use Rattle.turn_step.specs.Outcome.Sent.{ToClient, ToPeer}
+use Rattle.turn_step.specs.Prelude.{AnswersClient, IsDecided, Setting, to_client, to_peer, undecided, IsRequestOf, HasNoReply, StepOutcome, change_of, decided_for, nothing, FromClient, ToClient, ToPeer}
 
 -- ---- Messages
 
@@ -101,7 +88,7 @@ module _ (s : Setting) (h : History) (t : ℕ) (failed : Bool) (f : FiveTuple) w
       };
       sends = sends;
       one = inl refl;
-      sent = ap (λ (x : StepOutcome). x.sent) is ∙ elim p as (λ q. to_peer q ≡ option_or (to_peer q) (to_client f None)) [ | Some q ↦ refl | None ↦ refl ];
+      sent = ap (λ (x : StepOutcome). x.sent) is ∙ elim p as (λ q. to_peer q ≡ option_or (to_peer q) (to_client f None)) [ Some q ↦ refl | None ↦ refl ];
       change = ap (λ (x : StepOutcome). x.change) is;
     }
 

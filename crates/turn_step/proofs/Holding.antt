@@ -1,7 +1,5 @@
 -- Which ports a table has, as it changes, and which a generator holds then.
-use Rattle.std.proofs.Common.{◌≡◌, ◌⊎◌, ◌≤◌, ◌<◌, ℕ, ◌+◌, Bool, true, false, cond, refl, sym, ap, subst, ◌∙◌, lt-ltb, Option, Some, None, is_some, List, Result, Ok, Err, inl, inr, Box}
-use Rattle.std.specs.Prelude.{◌%◌, ◌==◌, ◌&&◌, ◌||◌, not, IfOk, IfSome, IsSome, MatchOption, OnErr}
-use Rattle.std.specs.Option.{option_and_then, option_map}
+use Rattle.std.proofs.Common.{◌≡◌, ◌⊎◌, ◌≤◌, ◌<◌, ℕ, ◌+◌, Bool, true, false, cond, refl, sym, ap, subst, ◌∙◌, lt-ltb, Option, Some, None, is_some, List, Result, Ok, Err, inl, inr, Box, ◌%◌, ◌==◌, ◌&&◌, ◌||◌, not, IfOk, IfSome, IsSome, MatchOption, OnErr, option_and_then, option_map}
 use Rattle.std.specs.Ordering.{eq_by_cmp, nat_cmp}
 use Rattle.std.specs.FinMap as fin
 use Rattle.std.specs.FinMap.{get-remove}
@@ -11,38 +9,24 @@ use Rattle.std.proofs.lemmas.Bool.{cases_Bool, cond_both, eq-eqb, eqb-false, eqb
 use Rattle.std.proofs.lemmas.Cmp.{nat_cmp_total}
 use Rattle.std.proofs.lemmas.Result.{IfOk-weaker}
 use Rattle.std.proofs.lemmas.Option.{none-some, same_Some}
-use Rattle.turn_types.specs.FiveTuple.{same_tuple, tuple_cmp}
-use Rattle.turn_types.specs.declared.address.FiveTuple.{FiveTuple}
-use Rattle.turn_types.specs.declared.limits.Bounds.{Bounds}
-use Rattle.turn_types.specs.declared.message.Token.{Token}
-use Rattle.turn_types.specs.declared.message.TxId.{TxId}
+use Rattle.turn_types.specs.Prelude.{same_tuple, tuple_cmp, permission_lifetime, reservation_lifetime}
+use Rattle.turn_history.specs.Prelude.{FiveTuple, Bounds, Token, TxId, act_of, AreReservationsInRange, Fits, IsActInRange, IsFitting, PortIsFree, has_port, is_taken, History, PlainAct, clock, Allocates, Renews, Permits, Binds, PortsApart, ReservedApart, Contents, Entry, applied, applied_to, binding, kept, permitting, purged, renewed, table}
 use Rattle.turn_history.proofs.Histories.{ports-apart, ports-purged}
 use Rattle.turn_history.proofs.Live.{some_is}
 use Rattle.turn_history.proofs.Maps.{from_eq, tuple_exact, tuple_total}
 use Rattle.turn_history.proofs.Reading.{applied-reserved, at_alloc, get-applied, get-purged, get-purged_reserved, get-with_reservation, left, nat_same}
 use Rattle.turn_history.proofs.Reserved.{reservations-purged, reservations_in_range, reserved-apart, reserved-purged}
 use Rattle.turn_history.proofs.Tests.{free_port_is, port_is_free, port_is_untaken, untaken_port_is}
-use Rattle.turn_history.specs.Act.{act_of}
-use Rattle.turn_history.specs.Fitting.{AreReservationsInRange, Fits, IsActInRange, IsFitting, PortIsFree, has_port, is_taken}
-use Rattle.turn_history.specs.History.{History, PlainAct, clock, Allocates, Renews, Permits, Binds}
-use Rattle.turn_history.specs.Laws.{PortsApart, ReservedApart}
-use Rattle.turn_history.specs.Table.{Contents, Entry, applied, applied_to, binding, kept, permitting, purged, renewed, table}
 use Rattle.turn_history.specs.declared.act.Act.{Act}
 use Rattle.turn_history.specs.declared.reservation.Reservation.{Reservation}
 use Rattle.turn_table.proofs.Purging.{stays}
 use Rattle.turn_table.proofs.Tuples.{itself}
-use Rattle.turn_table.specs.State.{State}
-use Rattle.turn_table.specs.Table.{Agrees, RemovesExpired, freed_by}
+use Rattle.turn_table.specs.Prelude.{State, Agrees, RemovesExpired, freed_by}
 use Rattle.turn_ports.specs.Ports.{with_pair, with_port, without_port}
-use Rattle.turn_rules.specs.Laws.{IsFreeFor, IsPicked}
-use Rattle.turn_rules.specs.Need.{MayHavePicked, MayPickFor}
-use Rattle.turn_rules.specs.Taking.{is_picked, picks, takes}
+use Rattle.turn_rules.specs.Prelude.{IsFreeFor, IsPicked, MayHavePicked, MayPickFor, is_picked, picks, takes}
 use Rattle.turn_rules.specs.declared.need.Need.{Need}
 use Rattle.turn_rules.specs.declared.need.Need.TheVariants.{Any, Even, Pair}
-use Rattle.turn_step.specs.Holding.{ArePicked}
-use Rattle.turn_step.specs.Outcome.{Change, StepOutcome, Sent, change_of}
-use Rattle.turn_step.specs.State.{HasPortsApart, HoldsPorts, IsPurged, MachineState, MayBeNext}
-use Rattle.turn_types.specs.Profile.{permission_lifetime, reservation_lifetime}
+use Rattle.turn_step.specs.Prelude.{ArePicked, Change, StepOutcome, Sent, change_of, HasPortsApart, HoldsPorts, IsPurged, MachineState, MayBeNext}
 
 -- ---- Tests
 
@@ -73,7 +57,7 @@ same_ports c d same n = has_at c d n (along c d same) (along d c (λ q. sym (sam
 
 -- a five-tuple is f, or another
 by_tuple : (q f : FiveTuple) → (q ≡ f) ⊎ (same_tuple q f ≡ false)
-by_tuple q f = elim (cases_Bool (same_tuple q f)) [ | inl is ↦ inl (from_eq tuple_cmp tuple_exact q f is) | inr is ↦ inr is ]
+by_tuple q f = elim (cases_Bool (same_tuple q f)) [ inl is ↦ inl (from_eq tuple_cmp tuple_exact q f is) | inr is ↦ inr is ]
 
 -- a table of which the entry of one five-tuple alone is another
 module _ (c d : Contents) (f : FiveTuple) (o : Option Entry) (gets : (q : FiveTuple) → fin.get d.entries q ≡ cond (same_tuple q f) o (fin.get c.entries q)) where
@@ -85,10 +69,10 @@ module _ (c d : Contents) (f : FiveTuple) (o : Option Entry) (gets : (q : FiveTu
 
   -- what the table has now, it was given or had, and what it had, it has or had at f
   given_or_had : (q : FiveTuple) (v : Entry) → fin.get d.entries q ≡ Some v → (o ≡ Some v) ⊎ (fin.get c.entries q ≡ Some v)
-  given_or_had q v there = elim (by_tuple q f) [ | inl at ↦ inl (sym here ∙ rw at at there) | inr two ↦ inr (sym (other q two) ∙ there) ]
+  given_or_had q v there = elim (by_tuple q f) [ inl at ↦ inl (sym here ∙ rw at at there) | inr two ↦ inr (sym (other q two) ∙ there) ]
 
   had_or_has : (q : FiveTuple) (v : Entry) → fin.get c.entries q ≡ Some v → (fin.get c.entries f ≡ Some v) ⊎ (fin.get d.entries q ≡ Some v)
-  had_or_has q v there = elim (by_tuple q f) [ | inl at ↦ inl (rw at at there) | inr two ↦ inr (other q two ∙ there) ]
+  had_or_has q v there = elim (by_tuple q f) [ inl at ↦ inl (rw at at there) | inr two ↦ inr (other q two ∙ there) ]
 
   same_port : option_map (λ e. e.port) o ≡ option_map (λ e. e.port) (fin.get c.entries f) → (n : ℕ) → has_port d n ≡ has_port c n
   same_port same = same_ports d c (λ q. elim (by_tuple q f) [
@@ -103,13 +87,13 @@ module _ (c d : Contents) (f : FiveTuple) (o : Option Entry) (gets : (q : FiveTu
 
     free_still : (fin.get c.entries f ≡ None) ⊎ (fin.get c.entries f ≡ Some e) → PortIsFree d n → PortIsFree c n
     free_still was free q v there same = elim (had_or_has q v there) [
-      | inl had ↦ elim was [ | inl none ↦ none-some v (sym none ∙ had) | inr some ↦ is_other v same (sym some ∙ had) ]
+      | inl had ↦ elim was [ inl none ↦ none-some v (sym none ∙ had) | inr some ↦ is_other v same (sym some ∙ had) ]
       | inr has ↦ free q v has same
     ]
 
     free_then : (o ≡ None) ⊎ (o ≡ Some e) → PortIsFree c n → PortIsFree d n
     free_then is free q v there same = elim (given_or_had q v there) [
-      | inl given ↦ elim is [ | inl none ↦ none-some v (sym none ∙ given) | inr some ↦ is_other v same (sym some ∙ given) ]
+      | inl given ↦ elim is [ inl none ↦ none-some v (sym none ∙ given) | inr some ↦ is_other v same (sym some ∙ given) ]
       | inr had ↦ free q v had same
     ]
 
@@ -122,7 +106,7 @@ module _ (c d : Contents) (f : FiveTuple) (o : Option Entry) (gets : (q : FiveTu
 
     -- what the table without the entry has, the table has
     still : o ≡ None → (q : FiveTuple) (v : Entry) → fin.get d.entries q ≡ Some v → fin.get c.entries q ≡ Some v
-    still is q v at = elim (given_or_had q v at) [ | inl given ↦ absurd (none-some v (sym is ∙ given)) | inr had ↦ had ]
+    still is q v at = elim (given_or_had q v at) [ inl given ↦ absurd (none-some v (sym is ∙ given)) | inr had ↦ had ]
 
     removed_port : o ≡ None → PortsApart c → fin.get c.entries f ≡ Some e → (n : ℕ) → has_port d n ≡ not (n == e.port) && has_port c n
     removed_port is apart was n = elim (cases_Bool (n == e.port)) [
@@ -171,7 +155,7 @@ LeavesPorts t f d c freed = MatchOption freed ((n : ℕ) → is_taken (applied t
 
 alloc_test : (t n port : ℕ) (token : Option Token) (has : Bool) (old : Option Reservation)
     → ((n == port) || has) || is_some (at_alloc t n port token old) ≡ ((n == port) || (is_some token && (n == port + 1))) || (has || is_some old)
-alloc_test t n port None has old = elim (n == port) as (λ x. (x || has) || is_some (cond x None old) ≡ (x || false) || (has || is_some old)) [ | true ↦ refl | false ↦ refl ]
+alloc_test t n port None has old = elim (n == port) as (λ x. (x || has) || is_some (cond x None old) ≡ (x || false) || (has || is_some old)) [ true ↦ refl | false ↦ refl ]
 alloc_test t n port (Some token) has old = by_ports (n == port) (n == port + 1)
   where
     by_ports : (x y : Bool) → (x || has) || is_some (cond y (Some (record { token = token; expiry = t + reservation_lifetime })) (cond x None old)) ≡ (x || y) || (has || is_some old)
@@ -341,7 +325,7 @@ module _ {E : Type 0} (P : (ℕ → Bool) → Type 0) (held : ℕ → Bool) (nee
   -- and a pair
   pub pair_picked : needed ≡ Some Pair → (r : Result (Option ℕ) E) → IfOk r (λ port. P (with_pair held port)) → IfOk r (λ port. P (λ q. is_picked needed port q || held q))
   pair_picked is r picked = rw is (IfOk-weaker r (λ port. P (with_pair held port)) (λ port. P (λ q. is_picked (Some Pair) port q || held q))
-      (λ port. elim port as (λ o. P (with_pair held o) → P (λ q. is_picked (Some Pair) o q || held q)) [ | None ↦ λ h. h | Some p ↦ λ h. h ]) picked)
+      (λ port. elim port as (λ o. P (with_pair held o) → P (λ q. is_picked (Some Pair) o q || held q)) [ None ↦ λ h. h | Some p ↦ λ h. h ]) picked)
 
 -- ---- Steps that are abandoned
 

@@ -1,25 +1,16 @@
 -- Machines after histories.
-use Rattle.std.proofs.Common.{◌≡◌, ◌≤◌, ◌<◌, ◌-◌, ◌^◌, ◌++◌, ◌∷◌, [], ℕ, Bool, Option, option_map, Some, None, Result, Ok, Err, refl, sym, ap, subst, ◌∙◌, inl, inr, arith}
+use Rattle.std.proofs.Common.{◌≡◌, ◌≤◌, ◌<◌, ◌-◌, ◌^◌, ◌++◌, ◌∷◌, [], ℕ, Bool, Option, option_map, Some, None, Result, Ok, Err, refl, sym, ap, subst, ◌∙◌, inl, inr, arith, IfOk, IfSome}
 use Rattle.std.proofs.Math.Nat.{eq-or-lt_of_le}
-use Rattle.std.specs.Prelude.{IfOk, IfSome}
 use Rattle.std.proofs.lemmas.Option.{IfSome_then}
 use Rattle.std.proofs.lemmas.Result.{IfOk-weaker}
-use Rattle.turn_types.specs.Config.{Config}
-use Rattle.turn_types.specs.declared.limits.Bounds.{Bounds}
-use Rattle.turn_history.specs.Fitting.{Fits, Follows, IsActInRange, IsFitting, IsTuple}
-use Rattle.turn_history.specs.History.{History, PlainAct, clock}
-use Rattle.turn_history.specs.Table.{purged, table}
+use Rattle.turn_types.specs.Prelude.{Config, end_of_moments}
+use Rattle.turn_history.specs.Prelude.{Bounds, Fits, Follows, IsActInRange, IsFitting, IsTuple, History, PlainAct, clock, purged, table, FiveTuple}
 use Rattle.turn_history.proofs.Histories.{clock-push, fitting-join}
 use Rattle.turn_history.proofs.Steps.{table-later}
-use Rattle.turn_cred.specs.Credential.{Keys}
+use Rattle.turn_cred.specs.Prelude.{Keys}
 use Rattle.turn_ports.specs.Ports.{has_failed}
-use Rattle.turn_table.specs.State.{State}
-use Rattle.turn_table.specs.Table.{Agrees, room_for}
-use Rattle.turn_types.specs.declared.address.FiveTuple.{FiveTuple}
-use Rattle.turn_step.specs.Answer.{AnswersArrival, Setting}
-use Rattle.turn_step.specs.Outcome.{Arrives, Change, StepOutcome, added, change_of, event_at}
-use Rattle.turn_step.specs.State.{IsAfter, IsPurged, IsReady, IsSameTable, MachineState, MayBeNext, setting_of}
-use Rattle.turn_types.specs.Profile.{end_of_moments}
+use Rattle.turn_table.specs.Prelude.{State, Agrees, room_for}
+use Rattle.turn_step.specs.Prelude.{AnswersArrival, Setting, Arrives, Change, StepOutcome, added, change_of, event_at, IsAfter, IsPurged, IsReady, IsSameTable, MachineState, MayBeNext, setting_of}
 
 -- ---- A later moment
 

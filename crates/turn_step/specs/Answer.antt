@@ -1,14 +1,11 @@
 -- What may be sent and done about an arrival.
 use Rattle.std.specs.Prelude.{◌≡◌, ◌⊎◌, ℕ, Bool, Option, Some, None, option_map, List}
 use Rattle.std.specs.Option.{option_or}
-use Rattle.turn_types.specs.Config.{Config}
-use Rattle.turn_types.specs.declared.address.Endpoint.{Endpoint}
-use Rattle.turn_types.specs.declared.address.FiveTuple.{FiveTuple}
-use Rattle.turn_history.specs.History.{History}
-use Rattle.turn_history.specs.Table.{table}
-use Rattle.turn_codec.specs.Grammar.{Content, Datagram, Encodes}
-use Rattle.turn_cred.specs.Credential.{Keys}
-use Rattle.turn_rules.specs.Answer.{Answers, Decided}
+use Rattle.turn_types.specs.Prelude.{Config}
+use Rattle.turn_history.specs.Prelude.{Endpoint, FiveTuple, History, table}
+use Rattle.turn_codec.specs.Prelude.{Content, Datagram, Encodes}
+use Rattle.turn_cred.specs.Prelude.{Keys}
+use Rattle.turn_rules.specs.Prelude.{Answers, Decided}
 use Rattle.turn_relay.specs.FromClient.{PeerData, SendsToPeer}
 use Rattle.turn_relay.specs.FromPeer.{ClientData, IsForClient, SendsToClient, client_datagram}
 use Rattle.turn_step.specs.Outcome.{Arrives, StepOutcome, Sent, change_of, decided_for}

@@ -1,12 +1,11 @@
 -- Data, which is what arrives and is no request, and whose it is.
 use Rattle.std.specs.Prelude.{◌≡◌, ℕ, true, Some, option_map, List}
 use Rattle.std.specs.FinMap as fin
-use Rattle.turn_types.specs.declared.address.FiveTuple.{FiveTuple}
-use Rattle.turn_history.specs.Table.{Contents, Entry}
-use Rattle.turn_codec.specs.Grammar.{Content, Encodes}
+use Rattle.turn_history.specs.Prelude.{FiveTuple, Contents, Entry}
+use Rattle.turn_codec.specs.Prelude.{Content, Encodes}
 use Rattle.turn_relay.specs.FromClient.{SendsToPeer}
 use Rattle.turn_relay.specs.Views.{peer_data}
-use Rattle.turn_rules.specs.Answer.{is_request}
+use Rattle.turn_rules.specs.Prelude.{is_request}
 use Rattle.turn_step.specs.declared.client.ClientDatagram.{ClientDatagram}
 use Rattle.turn_step.specs.declared.client.ClientDatagram.TheVariants.{Request, Data}
 use Rattle.turn_step.specs.Outcome.{Arrives}

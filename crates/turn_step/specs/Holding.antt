@@ -1,8 +1,7 @@
 -- Which ports a generator holds for a table.
 use Rattle.std.specs.Prelude.{◌≡◌, ℕ, ◌+◌, ◌<◌, ◌^◌, ◌||◌, Bool, false, Option, Some, None, IsSome}
-use Rattle.turn_history.specs.Fitting.{is_taken}
-use Rattle.turn_history.specs.Table.{Contents}
-use Rattle.turn_rules.specs.Taking.{takes}
+use Rattle.turn_history.specs.Prelude.{is_taken, Contents}
+use Rattle.turn_rules.specs.Prelude.{takes}
 use Rattle.turn_rules.specs.declared.need.Need.{Need}
 use Rattle.turn_rules.specs.declared.need.Need.TheVariants.{Pair}
 use Rattle.turn_step.specs.Outcome.{Change}

@@ -1,10 +1,8 @@
 -- Words of the laws.
 use Rattle.std.specs.Prelude.{◌≡◌, ◌≢◌, ℕ, List, Some, None, false}
-use Rattle.turn_types.specs.declared.address.FiveTuple.{FiveTuple}
-use Rattle.turn_codec.specs.Grammar.{Content, Encodes}
-use Rattle.turn_history.specs.Table.{Contents}
-use Rattle.turn_rules.specs.Answer.{is_allocate, credential_outcome, user_of}
-use Rattle.turn_rules.specs.Laws.{SameForOthers}
+use Rattle.turn_history.specs.Prelude.{FiveTuple, Contents}
+use Rattle.turn_codec.specs.Prelude.{Content, Encodes}
+use Rattle.turn_rules.specs.Prelude.{is_allocate, credential_outcome, user_of, SameForOthers}
 use Rattle.turn_step.specs.Answer.{Setting}
 use Rattle.turn_step.specs.Outcome.{StepOutcome}
 use Rattle.turn_step.specs.Outcome.Sent.{ToClient}

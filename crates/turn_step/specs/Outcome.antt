@@ -1,9 +1,7 @@
 -- What arrives, what is sent, and what is done.
 use Rattle.std.specs.Prelude.{ℕ, Option, Some, None, option_map, List, [], ◌∷◌}
-use Rattle.turn_types.specs.declared.address.Endpoint.{Endpoint}
-use Rattle.turn_types.specs.declared.address.FiveTuple.{FiveTuple}
-use Rattle.turn_history.specs.History.{Event, History, PlainAct}
-use Rattle.turn_rules.specs.Answer.{Decided}
+use Rattle.turn_history.specs.Prelude.{Endpoint, FiveTuple, Event, History, PlainAct}
+use Rattle.turn_rules.specs.Prelude.{Decided}
 
 -- a datagram of a client, or of a peer at a relayed port, with the transaction id of the Data indication that the
 -- client may get

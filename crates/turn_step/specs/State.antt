@@ -1,14 +1,10 @@
 -- What contracts see of a machine.
 use Rattle.std.specs.Prelude.{◌≡◌, ◌⊎◌, ◌≤◌, ◌<◌, ℕ, Bool, false, Option, Some, None, IfSome, ◌++◌}
-use Rattle.turn_types.specs.Config.{Config}
-use Rattle.turn_history.specs.Fitting.{AreReservationsInRange, Fits, IsFitting, IsInRange}
-use Rattle.turn_history.specs.History.{History, clock}
-use Rattle.turn_history.specs.Laws.{PortsApart, ReservedApart, ReservesNone}
-use Rattle.turn_history.specs.Table.{applied, purged}
-use Rattle.turn_cred.specs.Credential.{Keys}
+use Rattle.turn_types.specs.Prelude.{Config}
+use Rattle.turn_history.specs.Prelude.{AreReservationsInRange, Fits, IsFitting, IsInRange, History, clock, PortsApart, ReservedApart, ReservesNone, applied, purged}
+use Rattle.turn_cred.specs.Prelude.{Keys}
 use Rattle.turn_ports.specs.Ports.{Failed}
-use Rattle.turn_table.specs.State.{State}
-use Rattle.turn_table.specs.Table.{Agrees, room_for}
+use Rattle.turn_table.specs.Prelude.{State, Agrees, room_for}
 use Rattle.turn_step.specs.Answer.{AnswersArrival, Setting}
 use Rattle.turn_step.specs.Holding.{ports_with}
 use Rattle.turn_step.specs.Outcome.{Arrives, Change, StepOutcome, Sent, added, event_at}

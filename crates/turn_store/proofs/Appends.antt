@@ -1,16 +1,10 @@
 -- What a batch more makes of what a store represents.
 use Rattle.std.proofs.Common.{◌≡◌, ◌⊎◌, inl, inr, ⊎_elim, ◌≤◌, ℕ, List, [], ◌∷◌, ◌++◌, refl, false, sym, subst, arith, append-nil}
-use Rattle.turn_disk.specs.Disk.{State, Trace}
-use Rattle.turn_history.specs.History.{Event, History}
-use Rattle.turn_history.specs.Table.{Contents, table}
+use Rattle.turn_disk.specs.Prelude.{State, Trace}
+use Rattle.turn_history.specs.Prelude.{Event, History, Contents, table}
 use Rattle.turn_record.specs.Bytes as bytes
 use Rattle.turn_record.specs.Records as records
-use Rattle.turn_record.specs.declared.version.Version.{Version}
-use Rattle.turn_store.specs.Areas.{Form, Holds}
-use Rattle.turn_store.specs.Images.{EitherBy, RepresentsBy, RepresentsAt}
-use Rattle.turn_store.specs.Encodes.{HasSize, Encodes}
-use Rattle.turn_store.specs.Stages.{InStagesAt}
-use Rattle.turn_store.specs.State.{MayFollow, RecoversToAt, Shows, StoreState, form_of}
+use Rattle.turn_store.specs.Prelude.{Version, Form, Holds, EitherBy, RepresentsBy, RepresentsAt, HasSize, Encodes, InStagesAt, MayFollow, RecoversToAt, Shows, StoreState, form_of}
 use Rattle.turn_disk.proofs.Since.{since_same}
 use Rattle.turn_store.proofs.Rows.{recovers_image}
 use Rattle.turn_store.proofs.Encoding.{frames_go_on, snapshots_go_on}

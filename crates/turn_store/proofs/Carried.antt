@@ -1,35 +1,22 @@
 -- An opened store whose table is written as version 2 into the other area.
-use Rattle.std.proofs.Common.{◌≡◌, ℕ, ◌+◌, ◌≤◌, ◌<◌, ◌-◌, ◌++◌, Bool, true, false, List, [], length, refl, sym, ap, ◌∙◌, subst, arith, append-nil, inl, inr}
-use Rattle.std.specs.Prelude.{◌⊎◌, Result, Ok, Err, IfOk, IfErr}
+use Rattle.std.proofs.Common.{◌≡◌, ℕ, ◌+◌, ◌≤◌, ◌<◌, ◌-◌, ◌++◌, Bool, true, false, List, [], length, refl, sym, ap, ◌∙◌, subst, arith, append-nil, inl, inr, ◌⊎◌, Result, Ok, Err, IfOk, IfErr}
 use Rattle.turn_disk.proofs.Since.{since_join, since_weaken}
-use Rattle.turn_disk.specs.Disk.{State, Trace, EachImageSince, IsImage}
-use Rattle.turn_history.specs.Fitting.{IsFitting}
-use Rattle.turn_history.specs.History.{History, clock}
+use Rattle.turn_disk.specs.Prelude.{State, Trace, EachImageSince, IsImage}
+use Rattle.turn_history.specs.Prelude.{IsFitting, History, clock, Bounds}
 use Rattle.turn_history.specs.Table as tables
 use Rattle.turn_journal.specs.declared.area.Area.{Area}
 use Rattle.turn_record.specs.Bytes as bytes
-use Rattle.turn_record.specs.Records.{IsSnapshot, EncodesSnapshot}
-use Rattle.turn_record.specs.declared.version.Version.{Version}
-use Rattle.turn_record.specs.declared.version.Version.TheVariants.{V2}
-use Rattle.turn_store.specs.Areas.{Form, Holds, RecoversToParts}
-use Rattle.turn_store.specs.Carrying.{Carries, IsActiveAs, IsCarried}
-use Rattle.turn_store.specs.Images.{RepresentsBy, RepresentsAt}
-use Rattle.turn_store.specs.Opened.{IsOpened, OpensTo}
-use Rattle.turn_store.specs.Opening.{disk_of}
-use Rattle.turn_store.specs.Refused.{IsPlain, WhyRefused}
-use Rattle.turn_store.specs.Replay.{Snapshot}
-use Rattle.turn_store.specs.Stages.{InStagesAt}
-use Rattle.turn_store.specs.State.{MayFollow, RecoversToAt, Shows, StoreState, carried, carried_area, form_of}
+use Rattle.turn_record.specs.Prelude.{IsSnapshot, EncodesSnapshot}
+use Rattle.turn_store.specs.Prelude.{Version, V2, Form, Holds, RecoversToParts, Carries, IsActiveAs, IsCarried, RepresentsBy, RepresentsAt, IsOpened, OpensTo, disk_of, IsPlain, WhyRefused, Snapshot, InStagesAt, MayFollow, RecoversToAt, Shows, StoreState, carried, carried_area, form_of}
 use Rattle.turn_store.specs.declared.store.Opened.{Opened}
 use Rattle.turn_store.specs.declared.store.StoreOpenError.{StoreOpenError}
 use Rattle.turn_store.specs.declared.error.OpenError.{OpenError}
 use Rattle.turn_store.specs.declared.error.OpenError.TheVariants.{Device, Memory, NotAStore, LimitsDiffer, Damaged}
-use Rattle.turn_types.specs.declared.limits.Bounds.{Bounds}
 use Rattle.turn_store.proofs.Appends.{alone_stages, rest_stages, snapshot_done, snapshot_stages}
 use Rattle.turn_store.proofs.Sound.{holds_once}
 use Rattle.turn_store.proofs.Encoding.{clock_late}
 use Rattle.turn_store.proofs.Staged.{stages_all_at}
-use Rattle.turn_types.specs.Profile.{end_of_moments}
+use Rattle.turn_types.specs.Prelude.{end_of_moments}
 
 module _ {D : Type 0} (form : Form) (h : History) (c : ℕ) (store : StoreState D) (state : State) (t : Snapshot) (o : OpensTo form h c store state t) where
   pub now_is : t.moment ≡ c

@@ -2,16 +2,9 @@
 use Rattle.std.proofs.Common.{◌≡◌, ◌⊎◌, inl, inr, ⊎_elim, ◌^◌, ℕ, ◌+◌, ◌*◌, ◌<◌, ◌≤◌, Bool, true, false, nat_lt, List, [], ◌∷◌, ◌++◌, length, slice_index, sym, ◌∙◌, ap, subst, arith}
 use Rattle.std.proofs.lemmas.Bool.Decides.{nat_tests}
 use Rattle.std.specs.Int.{to_be_bytes, w32, w64}
-use Rattle.turn_disk.specs.Disk.{StandsAt, Trace}
+use Rattle.turn_disk.specs.Prelude.{StandsAt, Trace}
 use Rattle.turn_journal.specs.Frames.{HoldsFrames, last_gate}
-use Rattle.turn_record.specs.declared.version.Version.{Version}
-use Rattle.turn_record.specs.declared.version.Version.TheVariants.{V1}
-use Rattle.turn_store.specs.Areas.{version_byte, area_front, AreAreas, IsBelow}
-use Rattle.turn_store.specs.Head.{IsHead, Beats}
-use Rattle.turn_store.specs.Opened.{AreaIsRead, IsChosen, LogIsRead}
-use Rattle.turn_store.specs.Refused.{AreaIsBad, FaultWith, IsGoodSnapshot, StoreIsBad, WhyRefused}
-use Rattle.turn_store.specs.Replay.{Snapshot}
-use Rattle.turn_store.specs.Superblock.{HasSuperblock, least_area}
+use Rattle.turn_store.specs.Prelude.{Version, V1, version_byte, area_front, AreAreas, IsBelow, IsHead, Beats, AreaIsRead, IsChosen, LogIsRead, AreaIsBad, FaultWith, IsGoodSnapshot, StoreIsBad, WhyRefused, Snapshot, HasSuperblock, least_area}
 use Rattle.turn_store.specs.declared.error.OpenError.{OpenError}
 use Rattle.turn_store.specs.declared.error.OpenError.TheVariants.{Device, Memory, NotAStore, LimitsDiffer, Damaged}
 use Rattle.turn_store.specs.declared.heads.Head.{Head}

@@ -1,17 +1,11 @@
 -- What snapshots and payloads encode.
 use Rattle.std.proofs.Common.{◌≡◌, ◌≤◌, ◌<◌, ◌-◌, ℕ, List, [], ◌∷◌, ◌++◌, map, max, refl, sym, ap, ◌∙◌, subst, arith, append_assoc, append-nil}
 use Rattle.std.specs.List.{AllByRecursion}
-use Rattle.turn_history.specs.Fitting.{IsFitting, FitsAfter}
-use Rattle.turn_history.specs.History.{Event, History, clock}
-use Rattle.turn_history.specs.Laws.{AllFrom}
-use Rattle.turn_history.specs.Table.{table}
+use Rattle.turn_history.specs.Prelude.{IsFitting, FitsAfter, Event, History, clock, AllFrom, table, Bounds}
 use Rattle.turn_history.proofs.Histories.{clock-append, fitting-split, fits_in_range, fits_never_fall}
-use Rattle.turn_record.specs.Bytes.{payload, snapshot}
-use Rattle.turn_record.specs.Records.{Holds, IsBatch}
-use Rattle.turn_record.specs.declared.version.Version.{Version}
-use Rattle.turn_store.specs.Encodes.{all_of, HasSize, Encodes}
-use Rattle.turn_types.specs.Profile.{end_of_moments}
-use Rattle.turn_types.specs.declared.limits.Bounds.{Bounds}
+use Rattle.turn_record.specs.Prelude.{payload, snapshot, Holds, IsBatch}
+use Rattle.turn_store.specs.Prelude.{Version, all_of, HasSize, Encodes}
+use Rattle.turn_types.specs.Prelude.{end_of_moments}
 
 pub from_less : (c d : ℕ) (es : List Event) → c ≤ d → AllFrom d es → AllFrom c es
 from_less c d [] le from = tt

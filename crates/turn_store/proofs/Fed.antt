@@ -4,15 +4,10 @@ use Rattle.std.proofs.lemmas.Bool.{cases_lt}
 use Rattle.std.proofs.lemmas.List.{length-take, length-drop, take-append-drop, drop-drop, get_or_append_left, get_or-append_right}
 use Rattle.std.proofs.Math.Seq.{take-append-add}
 use Rattle.turn_disk.proofs.Standing.{stands_read}
-use Rattle.turn_record.specs.Records.{IsSnapshot}
-use Rattle.turn_record.specs.Snapshots.{snapshot_in}
-use Rattle.turn_record.specs.declared.error.DecodeError.{DecodeError}
+use Rattle.turn_record.specs.Prelude.{IsSnapshot, snapshot_in}
+use Rattle.turn_store.specs.Prelude.{DecodeError, Version, AreBytes, HasBytes, IsBadSnapshot, IsGoodSnapshot, Snapshot}
 use Rattle.turn_record.proofs.Snapshots.{snapshot_found, snapshot_again}
-use Rattle.turn_record.specs.declared.version.Version.{Version}
-use Rattle.turn_store.specs.Bytes.{AreBytes}
-use Rattle.turn_store.specs.Refused.{HasBytes, IsBadSnapshot, IsGoodSnapshot}
-use Rattle.turn_store.specs.Replay.{Snapshot}
-use Rattle.turn_types.specs.Limits.{AreInRange}
+use Rattle.turn_types.specs.Prelude.{AreInRange}
 use Rattle.turn_types.specs.declared.limits.Bounds.{Bounds}
 
 take_plus : (m n : ℕ) (xs : List ℕ) → m ≤ length xs → take (m + n) xs ≡ take m xs ++ take n (drop m xs)

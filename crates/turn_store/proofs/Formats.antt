@@ -1,32 +1,23 @@
 -- What a disk that is being formatted holds.
-use Rattle.std.proofs.Common.{length-append, ◌≡◌, inl, ℕ, ◌*◌, ◌+◌, ◌<◌, ◌≤◌, List, [], ◌∷◌, ◌++◌, length, slice_index, refl, sym, ◌∙◌, ap, subst, arith}
+use Rattle.std.proofs.Common.{length-append, ◌≡◌, inl, ℕ, ◌*◌, ◌+◌, ◌<◌, ◌≤◌, List, [], ◌∷◌, ◌++◌, length, slice_index, refl, sym, ◌∙◌, ap, subst, arith, nat_cmp}
 use Rattle.turn_history.proofs.Tokens.{nothing}
-use Rattle.turn_disk.specs.Disk.{State, ChangesOnly, StandsAt, WritesThrough}
+use Rattle.turn_disk.specs.Prelude.{State, ChangesOnly, StandsAt, WritesThrough}
 use Rattle.turn_disk.proofs.Since.{image_settled}
 use Rattle.std.specs.FinMap as fin
 use Rattle.std.specs.FinMap.{len-empty, len-entries}
-use Rattle.turn_history.specs.Table.{Entry, table, no_contents, map_of, reservations}
+use Rattle.turn_history.specs.Prelude.{Entry, table, no_contents, map_of, reservations, FiveTuple, Bounds}
 use Rattle.turn_journal.specs.Frames.{IsClosed}
 use Rattle.turn_journal.specs.Layout.{open_gate}
 use Rattle.turn_journal.proofs.Growing.{stands_front}
 use Rattle.std.specs.Int.{to_be_bytes, w32}
-use Rattle.std.specs.Ordering.{nat_cmp}
 use Rattle.turn_history.specs.declared.reservation.Reservation.{Reservation}
-use Rattle.turn_record.specs.Bytes.{each, entry, head, reservation, reserved, snapshot}
+use Rattle.turn_record.specs.Prelude.{each, entry, head, reservation, reserved, snapshot}
 use Rattle.turn_record.specs.Records as records
 use Rattle.turn_store.proofs.Rows.{length-area_front}
-use Rattle.turn_record.specs.declared.version.Version.{Version}
-use Rattle.turn_record.specs.declared.version.Version.TheVariants.{V1, V2}
-use Rattle.turn_store.specs.Areas.{Form, IsForm, Holds, area_front}
-use Rattle.turn_store.specs.Format.{IsFormatted, IsLaid, fresh}
-use Rattle.turn_store.specs.Images.{EachImage, RepresentsAt}
-use Rattle.turn_store.specs.Encodes.{Encodes}
-use Rattle.turn_store.specs.Superblock.{superblock}
+use Rattle.turn_store.specs.Prelude.{Version, V1, V2, Form, IsForm, Holds, area_front, IsFormatted, IsLaid, fresh, EachImage, RepresentsAt, Encodes, superblock}
 use Rattle.turn_store.proofs.Numbers.{stands_back, one_stands}
 use Rattle.turn_store.proofs.Superblocks.{length-superblock}
-use Rattle.turn_types.specs.FiveTuple.{tuple_cmp}
-use Rattle.turn_types.specs.declared.address.FiveTuple.{FiveTuple}
-use Rattle.turn_types.specs.declared.limits.Bounds.{Bounds}
+use Rattle.turn_types.specs.Prelude.{tuple_cmp}
 
 abbrev blank : Version → List ℕ
 blank V1 = 0 ∷ 0 ∷ 0 ∷ 0 ∷ 0 ∷ 0 ∷ 0 ∷ 0 ∷ 0 ∷ 0 ∷ 0 ∷ 0 ∷ []

@@ -1,17 +1,13 @@
 -- Snapshots of fitting histories.
 use Rattle.std.proofs.Common.{◌≡◌, ◌≤◌, ℕ, List, [], ◌++◌, length, sym, ap, ◌∙◌, subst}
-use Rattle.turn_history.specs.History.{History}
-use Rattle.turn_history.specs.Table.{Contents, table}
-use Rattle.turn_record.specs.Records.{EncodesSnapshot, max_snapshot}
-use Rattle.turn_store.specs.Replay.{Snapshot}
-use Rattle.turn_store.specs.Encodes.{Encodes}
+use Rattle.turn_history.specs.Prelude.{History, Contents, table, Bounds}
+use Rattle.turn_record.specs.Prelude.{EncodesSnapshot, max_snapshot}
+use Rattle.turn_store.specs.Prelude.{Snapshot, Encodes, Version}
 use Rattle.turn_store.proofs.Encoding.{of_encoded}
-use Rattle.turn_types.specs.Limits.{AreInRange}
-use Rattle.turn_types.specs.declared.limits.Bounds.{Bounds}
+use Rattle.turn_types.specs.Prelude.{AreInRange}
 use Rattle.turn_record.proofs.Snapshots.{one_snapshot}
 use Rattle.turn_record.proofs.Histories.{table_has_snapshot}
 use Rattle.turn_record.proofs.SnapshotSizes.{snapshot_at_most}
-use Rattle.turn_record.specs.declared.version.Version.{Version}
 
 -- the snapshot of what is encoded
 pub front_is : (v : Version) (b : Bounds) (h : History) (c : ℕ) (bytes : List ℕ) (payloads : List (List ℕ)) (s : Encodes v b h c bytes payloads) → EncodesSnapshot v b s.moment (table s.before s.moment) bytes

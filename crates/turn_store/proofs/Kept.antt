@@ -1,14 +1,10 @@
 -- A table that a snapshot can hold stays one as events go on.
 use Rattle.std.proofs.Common.{ℕ, List, [], ◌∷◌, sym, subst}
 use Rattle.std.specs.List.{AllByRecursion}
-use Rattle.turn_history.specs.Fitting.{IsInRange}
-use Rattle.turn_history.specs.History.{Event}
-use Rattle.turn_history.specs.Table.{purged}
-use Rattle.turn_record.specs.Records.{IsSnapshot, Writes}
+use Rattle.turn_history.specs.Prelude.{IsInRange, Event, purged, Bounds}
+use Rattle.turn_record.specs.Prelude.{IsSnapshot, Writes}
 use Rattle.turn_record.proofs.Kept.{snapshot-purged, snapshot-applied}
-use Rattle.turn_record.specs.declared.version.Version.{Version}
-use Rattle.turn_store.specs.Replay.{Snapshot, IsNext, GoOn, GoesOn, after, after_all}
-use Rattle.turn_types.specs.declared.limits.Bounds.{Bounds}
+use Rattle.turn_store.specs.Prelude.{Version, Snapshot, IsNext, GoOn, GoesOn, after, after_all}
 
 abbrev CanBeHeld : Version → Bounds → Snapshot → Type 0
 CanBeHeld v b s = IsSnapshot v b s.moment s.contents

@@ -1,21 +1,17 @@
 -- A log, as far as it was replayed.
 use Rattle.std.proofs.Common.{◌≡◌, inl, inr, ℕ, ◌+◌, ◌<◌, ◌^◌, List, [], ◌∷◌, ◌++◌, length, refl, sym, ◌∙◌, ap, subst, arith, length-append}
 use Rattle.std.specs.Int.{to_be_bytes, w32}
-use Rattle.turn_disk.specs.Disk.{StandsAt}
+use Rattle.turn_disk.specs.Prelude.{StandsAt}
 use Rattle.turn_journal.specs.Frames.{framed, IsFrame, IsOpen, IsClosed, HoldsFrames, gate_after, last_gate}
 use Rattle.turn_journal.specs.Scan.{HasLength}
 use Rattle.turn_journal.proofs.Growing.{last_gate-push}
-use Rattle.turn_store.specs.Opened.{LogIsRead}
-use Rattle.turn_history.specs.History.{Event}
+use Rattle.turn_store.specs.Prelude.{LogIsRead, Version, BreaksAt, FaultWith, Snapshot, GoOn, GoesOn, Replays, HasFrames, ReplaysTo}
+use Rattle.turn_history.specs.Prelude.{Event, Bounds}
 use Rattle.turn_journal.specs.Scan.{IsBadFrame}
-use Rattle.turn_record.specs.Records.{EncodesPayload, max_payload}
-use Rattle.turn_record.specs.declared.version.Version.{Version}
-use Rattle.turn_store.specs.Refused.{BreaksAt, FaultWith}
-use Rattle.turn_store.specs.Replay.{Snapshot, GoOn, GoesOn, Replays, HasFrames, ReplaysTo}
+use Rattle.turn_record.specs.Prelude.{EncodesPayload, max_payload}
 use Rattle.turn_store.specs.declared.error.OpenError.{OpenError}
 use Rattle.turn_store.specs.declared.error.OpenError.TheVariants.{Device, Memory, NotAStore, LimitsDiffer, Damaged}
 use Rattle.turn_store.proofs.Numbers.{stands_join}
-use Rattle.turn_types.specs.declared.limits.Bounds.{Bounds}
 
 pub faults_weaken : (P Q : ℕ → Type 0) → ((place : ℕ) → P place → Q place) → (fault : OpenError) → FaultWith P fault → FaultWith Q fault
 faults_weaken P Q to Device why = tt

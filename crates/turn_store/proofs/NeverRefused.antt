@@ -1,22 +1,11 @@
 -- What represents a history is not refused, and its table is read.
-use Rattle.std.proofs.Common.{◌≡◌, ◌≢◌, ◌⊎◌, inl, inr, ⊎_elim, ℕ, ◌*◌, ◌+◌, ◌<◌, ◌≤◌, ◌++◌, List, length, map, max, sym, ◌∙◌, ap, subst, arith}
-use Rattle.std.specs.Prelude.{Result, IfErr}
+use Rattle.std.proofs.Common.{◌≡◌, ◌≢◌, ◌⊎◌, inl, inr, ⊎_elim, ℕ, ◌*◌, ◌+◌, ◌<◌, ◌≤◌, ◌++◌, List, length, map, max, sym, ◌∙◌, ap, subst, arith, Result, IfErr}
 use Rattle.std.proofs.lemmas.Result.{IfErr-weaker}
-use Rattle.turn_history.specs.History.{History, clock}
-use Rattle.turn_history.specs.Table.{table}
+use Rattle.turn_history.specs.Prelude.{History, clock, table, Bounds}
 use Rattle.turn_journal.specs.Frames.{HoldsFrames}
 use Rattle.turn_journal.proofs.Once.{list_once}
-use Rattle.turn_record.specs.Bytes.{payload}
-use Rattle.turn_record.specs.Records.{EncodesSnapshot}
-use Rattle.turn_record.specs.declared.version.Version.{Version}
-use Rattle.turn_record.specs.declared.version.Version.TheVariants.{V1}
-use Rattle.turn_store.specs.Areas.{Form, AreAreas, AreaHolds, Yields}
-use Rattle.turn_store.specs.Head.{Beats, NoneIsActive}
-use Rattle.turn_store.specs.Images.{RepresentsAt}
-use Rattle.turn_store.specs.Refused.{IsPlain, IsBadLog, IsBadSnapshot, AreaIsBad, StoreIsBad, WhyRefused}
-use Rattle.turn_store.specs.Replay.{Snapshot, Replays}
-use Rattle.turn_store.specs.Encodes.{Encodes, all_of}
-use Rattle.turn_store.specs.Superblock.{HasSuperblock, least_area}
+use Rattle.turn_record.specs.Prelude.{payload, EncodesSnapshot}
+use Rattle.turn_store.specs.Prelude.{Version, V1, Form, AreAreas, AreaHolds, Yields, Beats, NoneIsActive, RepresentsAt, IsPlain, IsBadLog, IsBadSnapshot, AreaIsBad, StoreIsBad, WhyRefused, Snapshot, Replays, Encodes, all_of, HasSuperblock, least_area}
 use Rattle.turn_store.specs.declared.error.OpenError.{OpenError}
 use Rattle.turn_store.specs.declared.error.OpenError.TheVariants.{Device, Memory, NotAStore, LimitsDiffer, Damaged}
 use Rattle.turn_store.specs.declared.heads.Head.{Head}
@@ -26,8 +15,7 @@ use Rattle.turn_store.proofs.Sound.{version_once, Counts, counts_is, front_size,
 use Rattle.turn_store.proofs.Sizes.{smallest}
 use Rattle.turn_store.proofs.Encoding.{of_encoded, are_batches}
 use Rattle.turn_store.proofs.Superblocks.{superblock_once}
-use Rattle.turn_types.specs.Limits.{AreInRange}
-use Rattle.turn_types.specs.declared.limits.Bounds.{Bounds}
+use Rattle.turn_types.specs.Prelude.{AreInRange}
 
 module _ (v : Version) (b : Bounds) (range : AreInRange b) (h : History) (clock_is : ℕ) (snapshot : List ℕ) (payloads : List (List ℕ)) (s : Encodes v b h clock_is snapshot payloads) where
   -- what the payloads of a history make of the table of its snapshot

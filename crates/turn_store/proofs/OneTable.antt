@@ -1,24 +1,16 @@
 -- What an image represents is one table.
 use Rattle.std.proofs.Common.{◌≡◌, ℕ, ◌≤◌, List, [], ◌∷◌, ◌++◌, map, max, refl, sym, ◌∙◌, ap, subst, arith}
 use Rattle.std.specs.List.{AllByRecursion}
-use Rattle.turn_history.specs.Fitting.{FitsAfter}
-use Rattle.turn_history.specs.History.{Event, History, clock}
-use Rattle.turn_history.specs.Table.{table}
+use Rattle.turn_history.specs.Prelude.{FitsAfter, Event, History, clock, table, Bounds}
 use Rattle.turn_history.proofs.Histories.{same_table}
-use Rattle.turn_record.specs.Bytes.{payload}
-use Rattle.turn_record.specs.Records.{IsBatch}
+use Rattle.turn_record.specs.Prelude.{payload, IsBatch}
 use Rattle.turn_record.proofs.Batches.{one_payload}
-use Rattle.turn_record.specs.declared.version.Version.{Version}
-use Rattle.turn_store.specs.Areas.{Form}
-use Rattle.turn_store.specs.Images.{RepresentsAt}
-use Rattle.turn_store.specs.Replay.{Snapshot}
-use Rattle.turn_store.specs.Encodes.{Encodes, all_of}
+use Rattle.turn_store.specs.Prelude.{Version, Form, RepresentsAt, Snapshot, Encodes, all_of}
 use Rattle.turn_store.proofs.Fronts.{front_is, encoded_once}
 use Rattle.turn_store.proofs.Replayed.{at}
 use Rattle.turn_store.proofs.Sound.{holds_once}
 use Rattle.turn_store.proofs.Encoding.{are_batches, of_encoded}
-use Rattle.turn_types.specs.Limits.{AreInRange}
-use Rattle.turn_types.specs.declared.limits.Bounds.{Bounds}
+use Rattle.turn_types.specs.Prelude.{AreInRange}
 
 batches_once : (v : Version) (b : Bounds) → AreInRange b → (xs ys : List (List Event)) → AllByRecursion (IsBatch v b) xs → AllByRecursion (IsBatch v b) ys → map payload xs ≡ map payload ys → xs ≡ ys
 batches_once v b range [] [] one two same = refl

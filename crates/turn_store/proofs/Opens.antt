@@ -1,18 +1,10 @@
 -- A store that was opened.
 use Rattle.std.proofs.Common.{◌≡◌, ◌*◌, ◌+◌, ◌^◌, ◌<◌, ◌≤◌, ℕ, List, length, false, sym, subst}
-use Rattle.turn_disk.specs.Disk.{State, IsSettled}
-use Rattle.turn_history.specs.History.{History}
-use Rattle.turn_record.specs.declared.version.Version.{Version}
-use Rattle.turn_store.specs.Areas.{Form, Holds}
-use Rattle.turn_store.specs.Images.{RepresentsAt}
-use Rattle.turn_store.specs.Opened.{IsChosen, IsOpened, OpensTo}
-use Rattle.turn_store.specs.Replay.{Snapshot}
-use Rattle.turn_store.specs.Encodes.{Encodes}
-use Rattle.turn_store.specs.State.{StoreState, form_of}
-use Rattle.turn_store.specs.Superblock.{HasSuperblock, least_area}
+use Rattle.turn_disk.specs.Prelude.{State, IsSettled}
+use Rattle.turn_history.specs.Prelude.{History, Bounds}
+use Rattle.turn_store.specs.Prelude.{Version, Form, Holds, RepresentsAt, IsChosen, IsOpened, OpensTo, Snapshot, Encodes, StoreState, form_of, HasSuperblock, least_area}
 use Rattle.turn_store.proofs.NeverRefused.{replayed}
 use Rattle.turn_store.proofs.Sound.{holds_once}
-use Rattle.turn_types.specs.declared.limits.Bounds.{Bounds}
 
 pub opened : {D : Type 0} (store : StoreState D) (state : State) (t : Snapshot) → IsSettled state → HasSuperblock store.area.size store.bounds state.bytes → least_area store.version store.bounds ≤ store.area.size
     → length state.bytes ≡ 64 + 2 * store.area.size → 64 + 2 * store.area.size < 2 ^ 64

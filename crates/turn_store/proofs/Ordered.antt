@@ -1,19 +1,13 @@
 -- What a stop leaves of a disk that is being formatted.
-use Rattle.std.proofs.Common.{length-append, ◌≡◌, inl, inr, ℕ, ◌*◌, ◌+◌, ◌<◌, ◌≤◌, List, [], ◌∷◌, ◌++◌, length, slice_index, refl, sym, ◌∙◌, ap, subst, arith}
+use Rattle.std.proofs.Common.{length-append, ◌≡◌, inl, inr, ℕ, ◌*◌, ◌+◌, ◌<◌, ◌≤◌, List, [], ◌∷◌, ◌++◌, length, slice_index, refl, sym, ◌∙◌, ap, subst, arith, Err, Result}
 use Rattle.std.proofs.lemmas.Bool.{cases_eq}
-use Rattle.std.specs.Prelude.{Err, Result}
-use Rattle.turn_disk.specs.Device.{Uses}
+use Rattle.turn_disk.specs.Prelude.{Uses, State, Trace, ChangesOnly, EachImageSince, IsSettled, IsSettledBut, Overwrites, Syncs, ThroughOutcome, WriteOutcome, Writes, WritesThrough}
 use Rattle.turn_disk.specs.declared.disk.Disk as disks
 use Rattle.turn_disk.proofs.Device.{uses_as}
-use Rattle.turn_disk.specs.Disk.{State, Trace, ChangesOnly, EachImageSince, IsSettled, IsSettledBut, Overwrites, Syncs, ThroughOutcome, WriteOutcome, Writes, WritesThrough}
 use Rattle.turn_disk.proofs.Since.{outcome_range, settled_but, since_join, since_through_but, since_weaken, since_within}
 use Rattle.turn_journal.specs.Frames.{IsClosed}
 use Rattle.turn_journal.specs.Layout.{open_gate}
-use Rattle.turn_record.specs.declared.version.Version.{Version}
-use Rattle.turn_store.specs.Areas.{Form, IsForm, AreAreas, area_front}
-use Rattle.turn_store.specs.Format.{FormatsInOrder, HoldsNothing, HoldsNothingOrRepresents, IsLaid, fresh}
-use Rattle.turn_store.specs.Formatting.{Formats}
-use Rattle.turn_store.specs.Superblock.{least_area, superblock}
+use Rattle.turn_store.specs.Prelude.{Version, Form, IsForm, AreAreas, area_front, FormatsInOrder, HoldsNothing, HoldsNothingOrRepresents, IsLaid, fresh, Formats, least_area, superblock}
 use Rattle.turn_store.specs.declared.formatting.FormatError.TheVariants.{Device}
 use Rattle.turn_store.proofs.Formats.{closed_at, formatted, length-fresh, represents_nothing}
 use Rattle.turn_store.proofs.Numbers.{stands_one}

@@ -1,11 +1,9 @@
 -- How a snapshot is put into the other area, step by step.
 use Rattle.std.proofs.Common.{◌≡◌, ◌⊎◌, inl, inr, ℕ, ◌+◌, ◌<◌, List, [], ◌∷◌, ◌++◌, length, subst, arith}
-use Rattle.turn_disk.specs.Disk.{EachImageSince, StandsAt, State, Trace, WritesOnce}
+use Rattle.turn_disk.specs.Prelude.{EachImageSince, StandsAt, State, Trace, WritesOnce}
 use Rattle.turn_disk.proofs.Since.{since_join}
 use Rattle.turn_journal.specs.Frames.{IsClosed}
-use Rattle.turn_record.specs.declared.version.Version.{Version}
-use Rattle.turn_store.specs.Areas.{Form, Holds, HoldsAt, area_front}
-use Rattle.turn_store.specs.Stages.{InStagesAt}
+use Rattle.turn_store.specs.Prelude.{Version, Form, Holds, HoldsAt, area_front, InStagesAt}
 use Rattle.turn_store.proofs.Staged.{stages_first_at, stages_join}
 use Rattle.turn_store.proofs.Steps.{length-front}
 

@@ -2,10 +2,7 @@
 use Rattle.std.proofs.Common.{◌≡◌, ⊎_elim, ◌≤◌, ℕ, List, [], ◌∷◌, ◌++◌, map, max, length, slice_index, sym, ap, ◌∙◌, subst, arith, append_assoc, append-nil}
 use Rattle.std.proofs.lemmas.Bool.Decides.{nat_tests}
 use Rattle.std.specs.List.{AllByRecursion}
-use Rattle.turn_history.specs.Fitting.{Fits, FitsAfter, Follows}
-use Rattle.turn_history.specs.History.{Event, History, clock}
-use Rattle.turn_history.specs.Laws.{AllFrom}
-use Rattle.turn_history.specs.Table.{Contents, applied, purged, table}
+use Rattle.turn_history.specs.Prelude.{Fits, FitsAfter, Follows, Event, History, clock, AllFrom, Contents, applied, purged, table, Bounds}
 use Rattle.turn_history.proofs.Histories.{clock-append, clock-push, fits_from, table-follows}
 use Rattle.turn_history.proofs.Steps.{table-later}
 use Rattle.turn_journal.specs.Frames.{IsFrame, HoldsFrames, gate_after, last_gate}
@@ -13,19 +10,14 @@ use Rattle.turn_journal.specs.Scan.{IsFound}
 use Rattle.turn_journal.specs.declared.found.Found.TheVariants.{Frame}
 use Rattle.turn_journal.proofs.Once.{frame_once, found_is_good}
 use Rattle.turn_journal.proofs.Growing.{last_gate_above}
-use Rattle.turn_record.specs.Bytes.{payload}
-use Rattle.turn_record.specs.Records.{IsBatch, EncodesPayload, max_payload}
+use Rattle.turn_record.specs.Prelude.{payload, IsBatch, EncodesPayload, max_payload}
 use Rattle.turn_record.proofs.Batches.{one_payload}
 use Rattle.turn_record.proofs.Sizes.{payload_at_most}
-use Rattle.turn_record.specs.declared.version.Version.{Version}
-use Rattle.turn_store.specs.Refused.{IsBadAt}
-use Rattle.turn_store.specs.Replay.{Snapshot, IsNext, GoOn, GoesOn, Replays, HasFrames, after, after_all}
-use Rattle.turn_store.specs.Encodes.{all_of}
+use Rattle.turn_store.specs.Prelude.{Version, IsBadAt, Snapshot, IsNext, GoOn, GoesOn, Replays, HasFrames, after, after_all, all_of}
 use Rattle.turn_store.proofs.Rows.{last_gate_below}
 use Rattle.turn_store.proofs.Numbers.{frame_length}
 use Rattle.turn_store.proofs.Encoding.{fits_rest, from_both, from_less}
-use Rattle.turn_types.specs.Limits.{AreInRange}
-use Rattle.turn_types.specs.declared.limits.Bounds.{Bounds}
+use Rattle.turn_types.specs.Prelude.{AreInRange}
 
 -- the table of a history
 abbrev pub at : History → ℕ → Snapshot

@@ -3,13 +3,11 @@ use Rattle.std.proofs.Common.{◌^◌, ◌≡◌, ◌⊎◌, inl, inr, ⊎_elim,
 use Rattle.std.specs.Int.{to_be_bytes, w32, w64}
 use Rattle.std.proofs.lemmas.Bool.{cases_eq}
 use Rattle.turn_disk.proofs.Since.{image_settled}
-use Rattle.turn_disk.specs.Disk.{IsImage, ChangesOnly, StandsAt, State, WritesThrough, IsSettled}
+use Rattle.turn_disk.specs.Prelude.{IsImage, ChangesOnly, StandsAt, State, WritesThrough, IsSettled}
 use Rattle.turn_journal.specs.Frames.{IsOpen, IsClosed, last_gate, HoldsFrames, HoldsFramesTo, HoldsWithout, HoldsWithOrWithout, HoldsWith}
 use Rattle.turn_journal.specs.Layout.{open_gate}
 use Rattle.turn_journal.proofs.Growing.{stands_keeps, stands_front, frames_keep, last_gate_above, last_is_closed}
-use Rattle.turn_record.specs.declared.version.Version.{Version}
-use Rattle.turn_store.specs.Areas.{Form, version_byte, area_front, AreaHolds, IsBelow, Yields, AreAreas, Holds, HoldsAt, HoldsIn, RecoversToParts}
-use Rattle.turn_store.specs.Superblock.{superblock, least_area}
+use Rattle.turn_store.specs.Prelude.{Version, Form, version_byte, area_front, AreaHolds, IsBelow, Yields, AreAreas, Holds, HoldsAt, HoldsIn, RecoversToParts, superblock, least_area}
 use Rattle.turn_store.proofs.Numbers.{stands_back, one_stands}
 use Rattle.turn_store.proofs.Superblocks.{length-superblock}
 

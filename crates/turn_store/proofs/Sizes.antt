@@ -1,10 +1,8 @@
 -- The min sizes of areas.
 use Rattle.std.proofs.Common.{◌*◌, ◌<◌, ◌≤◌, ◌^◌, arith}
 use Rattle.std.proofs.Math.Nat.{mul-le-mul_left}
-use Rattle.turn_record.specs.Records.{max_act, max_entry}
-use Rattle.turn_record.specs.declared.version.Version.{Version}
-use Rattle.turn_record.specs.declared.version.Version.TheVariants.{V1, V2}
-use Rattle.turn_store.specs.Superblock.{least_area}
+use Rattle.turn_record.specs.Prelude.{max_act, max_entry}
+use Rattle.turn_store.specs.Prelude.{Version, V1, V2, least_area}
 use Rattle.turn_types.specs.declared.limits.Bounds.{Bounds}
 
 -- that of version 1 is the smallest

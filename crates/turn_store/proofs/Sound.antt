@@ -1,15 +1,11 @@
 -- A store that represents a history is not refused, and what is read of it is that history's table.
 use Rattle.std.proofs.Common.{◌≡◌, ◌⊎◌, inl, inr, ⊎_elim, ℕ, ◌+◌, ◌^◌, ◌<◌, Bool, List, [], ◌∷◌, ◌++◌, true, false, length, slice_index, refl, sym, ap, ◌∙◌, subst, arith}
 use Rattle.std.specs.Int.{to_be_bytes, w32, w64}
-use Rattle.turn_disk.specs.Disk.{StandsAt}
+use Rattle.turn_disk.specs.Prelude.{StandsAt}
 use Rattle.turn_journal.specs.Frames.{HoldsFrames}
 use Rattle.turn_journal.proofs.Growing.{stands_front}
 use Rattle.turn_journal.proofs.Once.{frames_once, list_once}
-use Rattle.turn_record.specs.declared.version.Version.{Version}
-use Rattle.turn_record.specs.declared.version.Version.TheVariants.{V1, V2}
-use Rattle.turn_store.specs.Areas.{Form, version_byte, area_front, AreAreas, AreaHolds, Holds, HoldsIn, Yields}
-use Rattle.turn_store.specs.Superblock.{HasSuperblock}
-use Rattle.turn_store.specs.Head.{IsHead, Beats, NoneIsActive}
+use Rattle.turn_store.specs.Prelude.{Version, V1, V2, Form, version_byte, area_front, AreAreas, AreaHolds, Holds, HoldsIn, Yields, HasSuperblock, IsHead, Beats, NoneIsActive}
 use Rattle.turn_store.specs.declared.heads.Head.{Head}
 use Rattle.turn_store.proofs.Numbers.{stands_back, one_stands, number_once_4, number_once_8}
 use Rattle.turn_store.proofs.Rows.{front_generation}

@@ -1,8 +1,8 @@
 -- How calls in two stages go on.
 use Rattle.std.proofs.Common.{◌≡◌, ◌⊎◌, inl, ℕ, List, refl}
-use Rattle.turn_disk.specs.Disk.{Trace, EachImageSince, IsSettled, WritesOnce}
+use Rattle.turn_disk.specs.Prelude.{Trace, EachImageSince, IsSettled, WritesOnce}
 use Rattle.turn_disk.proofs.Since.{since_same, since_join, since_weaken}
-use Rattle.turn_store.specs.Stages.{InStages, InStagesAt}
+use Rattle.turn_store.specs.Prelude.{InStages, InStagesAt}
 
 -- a call that never comes to its second stage
 pub stages_first_at : (gate : ℕ) (old new : Trace) (P Q : List ℕ → Type 0) → ((image : List ℕ) → P image → Q image) → EachImageSince old new P → InStagesAt gate old new P Q

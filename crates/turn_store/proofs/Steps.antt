@@ -1,15 +1,12 @@
 -- What the steps of a commit make of what a store shows.
 use Rattle.std.proofs.Common.{◌≡◌, ◌⊎◌, inl, inr, ⊎_elim, ℕ, ◌+◌, ◌≤◌, false, true, List, [], ◌∷◌, ◌++◌, length, refl, sym, ◌∙◌, ap, subst, arith, append_assoc, length-append}
 use Rattle.std.specs.Int.{to_be_bytes, w32, w64}
-use Rattle.turn_disk.specs.Disk.{State, Trace, IsSettled}
+use Rattle.turn_disk.specs.Prelude.{State, Trace, IsSettled}
 use Rattle.turn_disk.proofs.Since.{since_weaken}
 use Rattle.turn_journal.specs.Area.{end_of, limit_of}
 use Rattle.turn_journal.specs.Frames.{gate_after, AddsFrame, HoldsWith}
 use Rattle.turn_journal.specs.declared.area.Area.{Area}
-use Rattle.turn_record.specs.declared.version.Version.{Version}
-use Rattle.turn_store.specs.Areas.{Form, version_byte, area_front, Holds, RecoversToParts}
-use Rattle.turn_store.specs.Stages.{InStagesAt}
-use Rattle.turn_store.specs.State.{Shows, StoreState, form_of}
+use Rattle.turn_store.specs.Prelude.{Version, Form, version_byte, area_front, Holds, RecoversToParts, InStagesAt, Shows, StoreState, form_of}
 use Rattle.turn_store.proofs.Rows.{length-area_front, row_staged, row_frame, after_frame}
 use Rattle.turn_store.proofs.Staged.{stages_join}
 

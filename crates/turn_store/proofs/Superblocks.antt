@@ -2,10 +2,10 @@
 use Rattle.std.proofs.Common.{◌≡◌, ◌+◌, ◌<◌, ◌^◌, ℕ, List, [], ◌∷◌, length, slice_index, refl, sym, ◌∙◌, ap, subst, arith}
 use Rattle.std.specs.Int.{to_be_bytes, from_be_bytes, w16, w32, w64}
 use Rattle.std.proofs.lemmas.Nat.{from_be_bytes-to_be_bytes_2, from_be_bytes-to_be_bytes_4, from_be_bytes-to_be_bytes_8}
-use Rattle.turn_disk.specs.Disk.{StandsAt}
+use Rattle.turn_disk.specs.Prelude.{StandsAt}
 use Rattle.turn_journal.proofs.Once.{list_once}
-use Rattle.turn_store.specs.Superblock.{superblock, zeros, HasSuperblock}
-use Rattle.turn_types.specs.Limits.{AreInRange}
+use Rattle.turn_store.specs.Prelude.{superblock, zeros, HasSuperblock}
+use Rattle.turn_types.specs.Prelude.{AreInRange}
 use Rattle.turn_types.specs.declared.limits.Bounds.{Bounds}
 
 pub length-superblock : (area : ℕ) (b : Bounds) → length (superblock area b) ≡ 64

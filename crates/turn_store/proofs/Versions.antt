@@ -1,14 +1,8 @@
 -- Which version an image is of.
 use Rattle.std.proofs.Common.{Bool, ◌≡◌, ◌⊎◌, inl, inr, ⊎_elim, ℕ, List, refl, sym, ◌∙◌, subst}
-use Rattle.turn_disk.specs.Disk.{State, Trace, EachImageSince, IsImage}
+use Rattle.turn_disk.specs.Prelude.{State, Trace, EachImageSince, IsImage}
 use Rattle.turn_disk.proofs.Since.{since_join, since_same, since_weaken}
-use Rattle.turn_record.specs.declared.version.Version.{Version}
-use Rattle.turn_record.specs.declared.version.Version.TheVariants.{V2}
-use Rattle.turn_store.specs.Areas.{Form, Holds}
-use Rattle.turn_store.specs.Carrying.{Carries}
-use Rattle.turn_store.specs.Images.{IsInVersion, IsInVersionOr2}
-use Rattle.turn_store.specs.Stages.{InStagesAt}
-use Rattle.turn_store.specs.State.{Shows, StoreState, form_of}
+use Rattle.turn_store.specs.Prelude.{Version, V2, Form, Holds, Carries, IsInVersion, IsInVersionOr2, InStagesAt, Shows, StoreState, form_of}
 use Rattle.turn_store.proofs.Rows.{recovers_image}
 use Rattle.turn_store.proofs.Sound.{holds_once}
 use Rattle.turn_store.proofs.Staged.{stages_all_at}

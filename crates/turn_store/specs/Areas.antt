@@ -1,13 +1,13 @@
 -- What the bytes of a store hold.
 use Rattle.std.specs.Prelude.{◌^◌, ◌≡◌, ◌⊎◌, ◌↔◌, ◌∷◌, ◌++◌, ◌<◌, ◌≤◌, ◌+◌, [], List, ℕ, Bool, true, length}
 use Rattle.std.specs.Int.{to_be_bytes, w32, w64}
-use Rattle.turn_disk.specs.Disk.{State, StandsAt, IsSettled}
+use Rattle.turn_disk.specs.Prelude.{State, StandsAt, IsSettled}
 use Rattle.turn_journal.specs.Frames.{IsOpen, IsClosed, HoldsFrames, last_gate}
 use Rattle.turn_record.specs.declared.version.Version.{Version}
 use Rattle.turn_record.specs.declared.version.Version.TheVariants.{V1, V2}
 use Rattle.turn_store.specs.Layout.{first_area, generation_at, head_size, second_area, store_size, version_at}
 use Rattle.turn_store.specs.Superblock.{superblock, least_area}
-use Rattle.turn_types.specs.Limits.{AreInRange}
+use Rattle.turn_types.specs.Prelude.{AreInRange}
 use Rattle.turn_types.specs.declared.limits.Bounds.{Bounds}
 
 -- what never changes of a store: its limits, and the size of an area

@@ -1,15 +1,10 @@
 -- Which histories a snapshot and payloads encode.
 use Rattle.std.specs.Prelude.{◌≡◌, ◌<◌, ◌≤◌, ◌^◌, ◌-◌, ℕ, List, [], ◌∷◌, ◌++◌, length, map, max}
 use Rattle.std.specs.List.{AllByRecursion}
-use Rattle.turn_history.specs.Fitting.{IsFitting}
-use Rattle.turn_history.specs.History.{Event, History, clock}
-use Rattle.turn_history.specs.Laws.{AllFrom}
-use Rattle.turn_history.specs.Table.{table}
-use Rattle.turn_record.specs.Bytes.{payload, snapshot}
-use Rattle.turn_record.specs.Records.{Holds, Writes}
+use Rattle.turn_history.specs.Prelude.{IsFitting, Event, History, clock, AllFrom, table, Bounds}
+use Rattle.turn_record.specs.Prelude.{payload, snapshot, Holds, Writes}
 use Rattle.turn_record.specs.declared.version.Version.{Version}
-use Rattle.turn_types.specs.Profile.{end_of_moments}
-use Rattle.turn_types.specs.declared.limits.Bounds.{Bounds}
+use Rattle.turn_types.specs.Prelude.{end_of_moments}
 
 -- the events of all batches, in order
 abbrev pub all_of : List (List Event) → History

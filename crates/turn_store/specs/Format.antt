@@ -1,10 +1,10 @@
 -- A disk that is being formatted.
 use Rattle.std.specs.Prelude.{◌≡◌, ◌⊎◌, ◌∷◌, ◌++◌, [], List, ℕ, length}
-use Rattle.turn_disk.specs.Disk.{State, Trace, EachImageSince, IsSettled, Overwrites, StandsAt, Syncs}
-use Rattle.turn_history.specs.Table.{no_contents}
+use Rattle.turn_disk.specs.Prelude.{State, Trace, EachImageSince, IsSettled, Overwrites, StandsAt, Syncs}
+use Rattle.turn_history.specs.Prelude.{no_contents}
 use Rattle.turn_journal.specs.Frames.{IsClosed}
 use Rattle.turn_journal.specs.Layout.{closed_gate}
-use Rattle.turn_record.specs.Bytes.{snapshot}
+use Rattle.turn_record.specs.Prelude.{snapshot}
 use Rattle.turn_record.specs.declared.version.Version.{Version}
 use Rattle.turn_store.specs.Areas.{Form, Holds, HoldsAt, area_front}
 use Rattle.turn_store.specs.Images.{RepresentsAt}

@@ -1,6 +1,6 @@
 -- What a formatting of a disk says.
 use Rattle.std.specs.Prelude.{◌≡◌, ◌<◌, ◌↔◌, [], ℕ, Result, Err, OnOk}
-use Rattle.turn_disk.specs.Device.{Uses}
+use Rattle.turn_disk.specs.Prelude.{Uses}
 use Rattle.turn_disk.specs.declared.disk.Disk as disks
 use Rattle.turn_record.specs.declared.version.Version.{Version}
 use Rattle.turn_store.specs.Areas.{Form}

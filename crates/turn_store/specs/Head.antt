@@ -1,7 +1,7 @@
 -- The first bytes of an area: its gate, its version, its generation and the length of its snapshot.
 use Rattle.std.specs.Prelude.{◌^◌, ◌<◌, ◌≡◌, ◌⊎◌, ◌+◌, ◌↔◌, ℕ, List, slice_index, IsTrue, true, false}
 use Rattle.std.specs.Int.{to_be_bytes, w32, w64}
-use Rattle.turn_disk.specs.Disk.{StandsAt}
+use Rattle.turn_disk.specs.Prelude.{StandsAt}
 use Rattle.turn_journal.specs.Frames.{IsOpen}
 use Rattle.turn_store.specs.Layout.{generation_at, length_at, version_at}
 use Rattle.turn_store.specs.declared.heads.Head.{Head}

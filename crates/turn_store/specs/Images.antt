@@ -1,7 +1,7 @@
 -- What an image of a store represents.
 use Rattle.std.specs.Prelude.{◌⊎◌, ◌≤◌, ◌++◌, ℕ, List}
-use Rattle.turn_disk.specs.Disk.{State, IsImage}
-use Rattle.turn_history.specs.History.{Event, History}
+use Rattle.turn_disk.specs.Prelude.{State, IsImage}
+use Rattle.turn_history.specs.Prelude.{Event, History}
 use Rattle.turn_record.specs.declared.version.Version.{Version}
 use Rattle.turn_record.specs.declared.version.Version.TheVariants.{V2}
 use Rattle.turn_store.specs.Areas.{Form, Holds}

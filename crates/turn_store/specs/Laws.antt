@@ -1,7 +1,6 @@
 -- Laws of the definitions.
 use Rattle.std.specs.Prelude.{◌≡◌, ◌≤◌, ℕ, List}
-use Rattle.turn_history.specs.History.{History}
-use Rattle.turn_history.specs.Table.{table}
+use Rattle.turn_history.specs.Prelude.{History, table}
 use Rattle.turn_record.specs.declared.version.Version.{Version}
 use Rattle.turn_store.specs.Areas.{Form}
 use Rattle.turn_store.specs.Images.{IsInVersion, RepresentsAt}

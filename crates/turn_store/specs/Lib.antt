@@ -1,6 +1,7 @@
 pub mod Areas
 pub mod Bytes
 pub mod Carrying
+pub mod Encodes
 pub mod Format
 pub mod Formatting
 pub mod Head
@@ -9,9 +10,9 @@ pub mod Laws
 pub mod Layout
 pub mod Opened
 pub mod Opening
+pub mod Prelude
 pub mod Refused
 pub mod Replay
-pub mod Encodes
 pub mod Stages
 pub mod State
 pub mod Superblock

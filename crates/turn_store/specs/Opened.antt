@@ -1,18 +1,16 @@
 -- What is read of a store.
 use Rattle.std.specs.Prelude.{◌≡◌, ◌+◌, ◌↔◌, ℕ, List, Bool, length, true}
-use Rattle.turn_disk.specs.Disk.{State}
+use Rattle.turn_disk.specs.Prelude.{State}
 use Rattle.turn_journal.specs.Frames.{HoldsFramesTo, last_gate}
-use Rattle.turn_record.specs.Records.{EncodesSnapshot}
+use Rattle.turn_record.specs.Prelude.{EncodesSnapshot}
 use Rattle.turn_record.specs.declared.version.Version.{Version}
-use Rattle.turn_history.specs.History.{History}
-use Rattle.turn_history.specs.Table.{table}
+use Rattle.turn_history.specs.Prelude.{History, table, Bounds}
 use Rattle.turn_store.specs.Areas.{Form, AreaHolds, AreAreas, IsBelow, Yields}
 use Rattle.turn_store.specs.Head.{IsHead}
 use Rattle.turn_store.specs.Layout.{head_size}
 use Rattle.turn_store.specs.Replay.{Snapshot, Replays}
 use Rattle.turn_store.specs.State.{StoreState, RecoversToAt, Shows, form_of}
 use Rattle.turn_store.specs.declared.heads.Head.{Head}
-use Rattle.turn_types.specs.declared.limits.Bounds.{Bounds}
 
 -- frames are there from the first gate up to the closed one, and their payloads go on from the first snapshot to the second
 pub record LogIsRead (v : Version) (b : Bounds) (from : ℕ) (s : Snapshot) (gate limit frames : ℕ) (t : Snapshot) (content : List ℕ) : Type 0 where

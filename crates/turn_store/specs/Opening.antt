@@ -1,10 +1,9 @@
 -- What an opening of a store says.
 use Rattle.std.specs.Prelude.{◌≡◌, ◌≢◌, ◌⊎◌, ℕ, Bool, false, Result, Ok, Err, IfOk, IfErr, IsErrAnd}
-use Rattle.turn_disk.specs.Device.{Uses}
-use Rattle.turn_disk.specs.Disk.{EachImageSince, IsImage, IsSettled}
+use Rattle.turn_disk.specs.Prelude.{Uses, EachImageSince, IsImage, IsSettled}
 use Rattle.turn_disk.specs.declared.disk.Disk as disks
-use Rattle.turn_history.specs.History.{History}
-use Rattle.turn_record.specs.Records.{IsSnapshot}
+use Rattle.turn_history.specs.Prelude.{History, Bounds}
+use Rattle.turn_record.specs.Prelude.{IsSnapshot}
 use Rattle.turn_record.specs.declared.version.Version.{Version}
 use Rattle.turn_store.specs.Areas.{Form}
 use Rattle.turn_store.specs.Carrying.{Carries}
@@ -15,7 +14,6 @@ use Rattle.turn_store.specs.Tables.{snapshot_of}
 use Rattle.turn_store.specs.declared.error.OpenError.TheVariants.{Device}
 use Rattle.turn_store.specs.declared.store.Opened.{Opened}
 use Rattle.turn_store.specs.declared.store.StoreOpenError.{StoreOpenError}
-use Rattle.turn_types.specs.declared.limits.Bounds.{Bounds}
 
 -- the disk after an opening: the store's, or the one that was returned
 abbrev pub disk_of : {D A : Type 0} → Result (Opened D A) (StoreOpenError D) → D

@@ -1,11 +1,10 @@
 -- Why a store is refused, and where.
 use Rattle.std.specs.Prelude.{◌≡◌, ◌≢◌, ◌⊎◌, ◌<◌, ◌≤◌, ◌+◌, List, ℕ, length}
-use Rattle.turn_disk.specs.Disk.{StandsAt}
-use Rattle.turn_history.specs.History.{Event}
-use Rattle.turn_history.specs.Table.{Contents}
+use Rattle.turn_disk.specs.Prelude.{StandsAt}
+use Rattle.turn_history.specs.Prelude.{Event, Contents, Bounds}
 use Rattle.turn_journal.specs.Frames.{IsFrame}
 use Rattle.turn_journal.specs.Scan.{IsBadFrame}
-use Rattle.turn_record.specs.Records.{EncodesPayload, EncodesSnapshot, max_payload, max_snapshot}
+use Rattle.turn_record.specs.Prelude.{EncodesPayload, EncodesSnapshot, max_payload, max_snapshot}
 use Rattle.turn_record.specs.declared.version.Version.{Version}
 use Rattle.turn_record.specs.declared.version.Version.TheVariants.{V1}
 use Rattle.turn_store.specs.Areas.{version_byte}
@@ -16,7 +15,6 @@ use Rattle.turn_store.specs.Superblock.{HasSuperblock, least_area}
 use Rattle.turn_store.specs.declared.error.OpenError.{OpenError}
 use Rattle.turn_store.specs.declared.error.OpenError.TheVariants.{Device, Memory, NotAStore, LimitsDiffer, Damaged}
 use Rattle.turn_store.specs.declared.heads.Head.{Head}
-use Rattle.turn_types.specs.declared.limits.Bounds.{Bounds}
 
 -- a failed device call, or a failed allocation, or damage at a place of which this holds
 abbrev pub FaultWith : (ℕ → Type 0) → OpenError → Type 0

@@ -1,12 +1,9 @@
 -- What the events of a log make of a table.
 use Rattle.std.specs.Prelude.{◌≡◌, ◌≤◌, ℕ, List, [], ◌∷◌}
-use Rattle.turn_history.specs.Fitting.{Fits}
-use Rattle.turn_history.specs.History.{Event}
-use Rattle.turn_history.specs.Table.{Contents, applied, purged}
+use Rattle.turn_history.specs.Prelude.{Fits, Event, Contents, applied, purged, Bounds}
 use Rattle.turn_journal.specs.Frames.{IsFrame, gate_after, last_gate}
-use Rattle.turn_record.specs.Records.{EncodesPayload}
+use Rattle.turn_record.specs.Prelude.{EncodesPayload}
 use Rattle.turn_record.specs.declared.version.Version.{Version}
-use Rattle.turn_types.specs.declared.limits.Bounds.{Bounds}
 
 -- a table at a moment
 pub record Snapshot : Type 0 where

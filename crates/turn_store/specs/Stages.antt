@@ -1,6 +1,6 @@
 -- A call in two stages.
 use Rattle.std.specs.Prelude.{◌≡◌, ◌⊎◌, ℕ, List}
-use Rattle.turn_disk.specs.Disk.{Trace, EachImageSince, IsSettled, WritesOnce}
+use Rattle.turn_disk.specs.Prelude.{Trace, EachImageSince, IsSettled, WritesOnce}
 
 -- Up to some moment of the call a stop leaves an image that has P. There the call ended, or nothing is pending. From then on a stop
 -- leaves an image that has Q, and one byte, the gate, is written, at most once.

@@ -1,21 +1,18 @@
 -- What contracts see of a store.
 use Rattle.std.specs.Prelude.{◌≡◌, ◌≤◌, ◌<◌, ◌^◌, ◌-◌, ◌+◌, ◌++◌, ℕ, Bool, List, true, false, length}
-use Rattle.turn_disk.specs.Disk.{State}
-use Rattle.turn_history.specs.Fitting.{IsFitting}
-use Rattle.turn_history.specs.History.{Event, History, clock}
-use Rattle.turn_history.specs.Laws.{AllFrom}
+use Rattle.turn_disk.specs.Prelude.{State}
+use Rattle.turn_history.specs.Prelude.{IsFitting, Event, History, clock, AllFrom, Bounds}
 use Rattle.turn_journal.specs.Area.{IsFullFor}
 use Rattle.turn_journal.specs.Layout.{frame_head}
 use Rattle.turn_journal.specs.declared.area.Area.{Area}
 use Rattle.turn_store.specs.Areas.{Form, RecoversToParts}
-use Rattle.turn_record.specs.Records.{max_payload}
+use Rattle.turn_record.specs.Prelude.{max_payload}
 use Rattle.turn_record.specs.declared.version.Version.{Version}
 use Rattle.turn_record.specs.declared.version.Version.TheVariants.{V2}
 use Rattle.turn_store.specs.Layout.{head_size, second_area, store_size}
 use Rattle.turn_store.specs.Encodes.{Encodes}
 use Rattle.turn_store.specs.Superblock.{least_area}
-use Rattle.turn_types.specs.Profile.{end_of_moments}
-use Rattle.turn_types.specs.declared.limits.Bounds.{Bounds}
+use Rattle.turn_types.specs.Prelude.{end_of_moments}
 
 -- the disk, the limits, the version and the place of the active area, where the other one begins, the generation, how many
 -- frames the area has, whether the other area's generation is below, and whether the store is stopped

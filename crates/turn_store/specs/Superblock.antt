@@ -1,12 +1,12 @@
 -- The first bytes of a store.
 use Rattle.std.specs.Prelude.{◌∷◌, ◌++◌, ◌≤◌, ◌<◌, ◌^◌, ◌+◌, [], List, ℕ, length}
 use Rattle.std.specs.Int.{to_be_bytes, w16, w32, w64}
-use Rattle.turn_disk.specs.Disk.{StandsAt}
+use Rattle.turn_disk.specs.Prelude.{StandsAt}
 use Rattle.turn_journal.specs.Layout.{frame_room}
-use Rattle.turn_record.specs.Records.{max_snapshot, max_payload}
+use Rattle.turn_record.specs.Prelude.{max_snapshot, max_payload}
 use Rattle.turn_record.specs.declared.version.Version.{Version}
 use Rattle.turn_store.specs.Layout.{head_size, superblock_size}
-use Rattle.turn_types.specs.Limits.{AreInRange}
+use Rattle.turn_types.specs.Prelude.{AreInRange}
 use Rattle.turn_types.specs.declared.limits.Bounds.{Bounds}
 
 -- the letters RTURNST1

@@ -1,5 +1,5 @@
 -- The list of five-tuples by their users, and the map of entries.
-use Rattle.std.proofs.Common.{◌≡◌, ℕ, zero, suc, ◌+◌, ◌-◌, ◌<◌, ◌≤◌, leb, ⊎_elim, Bool, true, false, cond, T, List, [], ◌∷◌, length, get_or, Option, Some, None, option_map, unwrap_or, slice_get, refl, sym, ap, ◌∙◌, subst, arith}
+use Rattle.std.proofs.Common.{◌≡◌, ℕ, zero, suc, ◌+◌, ◌-◌, ◌<◌, ◌≤◌, leb, ⊎_elim, Bool, true, false, cond, T, List, [], ◌∷◌, length, get_or, Option, Some, None, option_map, unwrap_or, slice_get, refl, sym, ap, ◌∙◌, subst, arith, bytes_eq, Ordering, Less, Equal, Greater}
 use Rattle.std.specs.FinMap as fin
 use Rattle.std.specs.FinMap.{FinMap, is_sorted, entries-insert, entries_sorted, entries-from_sorted, get-entries, get-from_sorted, get-insert, get-remove, len-entries, len-empty, same_map}
 use Rattle.std.specs.FinMap.Entries.{put, by_order, find}
@@ -8,10 +8,7 @@ use Rattle.std.specs.Option.{option_map_or}
 use Rattle.std.specs.Cmp.{IsStrictWeakOrder}
 use Rattle.std.specs.List.Sorted.{IsPartitionedBy, IsSortedBy}
 use Rattle.std.specs.Ordering.{is_eq, is_le, is_lt, ordering_index, ordering_reverse}
-use Rattle.std.specs.Str.{bytes_eq}
 use Rattle.std.specs.Cmp.Lexicographic.{texts_ties}
-use Rattle.std.specs.declared.cmp.Ordering.{Ordering}
-use Rattle.std.specs.declared.cmp.Ordering.TheVariants.{Less, Equal, Greater}
 use Rattle.std.proofs.lemmas.Bool.{cases_order}
 use Rattle.std.proofs.lemmas.Cmp.{eq_by_cmp_equiv, nat_list_cmp_total}
 use Rattle.std.proofs.lemmas.List.Edits.{length-insert, get_or-insert_below, get_or-insert_at, get_or-insert_above, length-remove, get_or-remove_below, get_or-remove_above}
@@ -21,9 +18,9 @@ use Rattle.std.proofs.lemmas.Option.{get_or_from_slice_get, slice_get_within}
 use Rattle.std.proofs.lemmas.Map.Views.{Contains-from_any}
 use Rattle.turn_history.proofs.Entries.{all_entries, pass_none}
 use Rattle.turn_history.proofs.Maps.{tuple_total, tuple_exact, from_eq}
-use Rattle.turn_types.specs.FiveTuple.{tuple_cmp, same_tuple}
+use Rattle.turn_types.specs.Prelude.{tuple_cmp, same_tuple}
 use Rattle.turn_types.specs.declared.address.FiveTuple.{FiveTuple}
-use Rattle.turn_table.specs.ByUser.{NamesRise, IsFirstOf, IsEndOf, IsByUser, name_of, name_cmp}
+use Rattle.turn_table.specs.Prelude.{NamesRise, IsFirstOf, IsEndOf, IsByUser, name_of, name_cmp}
 use Rattle.turn_table.proofs.Options.{is_false, is_true, some_none}
 use Rattle.turn_table.proofs.Sorted.{get-removed, values_by, sorted-values_by, find-values_by, entries-values_by}
 use Rattle.turn_table.proofs.Tuples.{itself, same_tuple-is}

@@ -1,21 +1,12 @@
 -- What is held, and its orders, after a change.
-use Rattle.std.proofs.Common.{◌≡◌, ℕ, ◌≤◌, ◌<◌, Bool, true, false, cond, is_some, List, [], map, slice_get, refl, sym, ap, ◌∙◌, subst, Option, Some, None}
-use Rattle.std.specs.Prelude.{IsSome, IsSomeAnd, MatchOption, OnOk, Result, Ok, Err}
-use Rattle.std.specs.List.{count_by, insert, remove}
+use Rattle.std.proofs.Common.{◌≡◌, ℕ, ◌≤◌, ◌<◌, Bool, true, false, cond, is_some, List, [], map, slice_get, refl, sym, ap, ◌∙◌, subst, Option, Some, None, IsSome, IsSomeAnd, MatchOption, OnOk, Result, Ok, Err, count_by, insert, remove, option_map, bytes_eq}
 use Rattle.std.specs.Map.{lookup}
-use Rattle.std.specs.Option.{option_map}
-use Rattle.std.specs.Str.{bytes_eq}
 use Rattle.std.specs.FinMap as fin
 use Rattle.std.specs.FinMap.{same_map}
 use Rattle.turn_history.proofs.Maps.{tuple_total, tuple_exact}
-use Rattle.turn_history.specs.Table.{Entry}
-use Rattle.turn_types.specs.FiveTuple.{same_tuple}
-use Rattle.turn_types.specs.declared.address.FiveTuple.{FiveTuple}
-use Rattle.turn_table.specs.ByUser.{IsByUser, IsEndOf, names_in, user_of}
-use Rattle.turn_table.specs.Indexed.{IsIndexed, held_in}
-use Rattle.turn_table.specs.Kept.{still_pair}
-use Rattle.turn_table.specs.Live.{Changes, HasRoom, Holdings, Live, entries_of}
-use Rattle.turn_table.specs.State.{Held, Room, pairs}
+use Rattle.turn_history.specs.Prelude.{Entry, FiveTuple}
+use Rattle.turn_types.specs.Prelude.{same_tuple}
+use Rattle.turn_table.specs.Prelude.{IsByUser, IsEndOf, names_in, user_of, IsIndexed, held_in, still_pair, Changes, HasRoom, Holdings, Live, entries_of, Held, Room, pairs}
 use Rattle.turn_table.proofs.ByUser.{counted-in, inserted, kept, none, removed}
 use Rattle.turn_table.proofs.Held.{Updated, get-entries_of, get-held_in, get-updated, held-inserted, held-removed}
 use Rattle.turn_table.proofs.Options.{mapped_twice}

@@ -1,7 +1,5 @@
 -- The end of a list of entries.
-use Rattle.std.proofs.Common.{◌≡◌, ℕ, ◌<◌, ◌-◌, T, List, [], ◌∷◌, ◌++◌, length, refl, sym, ap, ◌∙◌, subst, arith, slice_get, IfSome, Option}
-use Rattle.std.specs.declared.cmp.Ordering.{Ordering}
-use Rattle.std.specs.declared.cmp.Ordering.TheVariants.{Less, Greater}
+use Rattle.std.proofs.Common.{◌≡◌, ℕ, ◌<◌, ◌-◌, T, List, [], ◌∷◌, ◌++◌, length, refl, sym, ap, ◌∙◌, subst, arith, slice_get, IfSome, Option, Ordering, Less, Greater}
 use Rattle.std.proofs.lemmas.Cmp.{nat_cmp_total}
 use Rattle.std.proofs.lemmas.Option.{IfSome_then}
 use Rattle.std.specs.Ordering.{nat_cmp, ordering_reverse}
@@ -12,11 +10,10 @@ use Rattle.std.specs.FinMap.{is_sorted, entries_sorted, entries-insert, nat_cmp-
 use Rattle.std.specs.FinMap.Entries.{put, by_order}
 use Rattle.turn_history.proofs.Entries.{first, second, less, all_entries, of_entries}
 use Rattle.turn_history.proofs.Maps.{tuple_total, tuple_exact}
-use Rattle.turn_types.specs.FiveTuple.{tuple_cmp}
-use Rattle.turn_history.specs.Table.{Entry, Contents}
-use Rattle.turn_types.specs.declared.address.FiveTuple.{FiveTuple}
+use Rattle.turn_types.specs.Prelude.{tuple_cmp}
+use Rattle.turn_history.specs.Prelude.{Entry, Contents, FiveTuple}
 use Rattle.turn_history.specs.declared.reservation.Reservation.{Reservation}
-use Rattle.turn_table.specs.Table.{IsAbove, IsAboveLast, IsAboveLastReserved, IsAboveReserved}
+use Rattle.turn_table.specs.Prelude.{IsAbove, IsAboveLast, IsAboveLastReserved, IsAboveReserved}
 
 module _ {K X : Type 0} {R : K → K → Ordering} (o : IsTotalOrder R) where
   below_from : (f : K) (x : K × X) (xs : List (K × X)) → T (is_sorted R (x ∷ xs)) → IfSome (slice_get (x ∷ xs) (length xs)) (λ y. R y.0 f ≡ Less) → AllByRecursion (λ y. R y.0 f ≡ Less) (x ∷ xs)

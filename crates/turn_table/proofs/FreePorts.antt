@@ -1,8 +1,6 @@
 -- A walk over ports that rise, to the lowest that isn't among them.
-use Rattle.std.proofs.Common.{◌≡◌, ℕ, zero, suc, ◌+◌, ◌-◌, ◌%◌, ◌<◌, ◌≤◌, ◌^◌, Bool, true, false, cond, is_some, arith, T, Option, Some, None, option_map, slice_get, List, [], ◌∷◌, length, take, drop, get_or, drop-cons, add-one, refl, sym, ap, ◌∙◌, subst}
+use Rattle.std.proofs.Common.{◌≡◌, ℕ, zero, suc, ◌+◌, ◌-◌, ◌%◌, ◌<◌, ◌≤◌, ◌^◌, Bool, true, false, cond, is_some, arith, T, Option, Some, None, option_map, slice_get, List, [], ◌∷◌, length, take, drop, get_or, drop-cons, add-one, refl, sym, ap, ◌∙◌, subst, Less, Equal, Greater, nat_cmp, is_eq}
 use Rattle.std.specs.Cmp.{nat_cmp_is, ranked}
-use Rattle.std.specs.declared.cmp.Ordering.TheVariants.{Less, Equal, Greater}
-use Rattle.std.specs.Ordering.{nat_cmp, is_eq}
 use Rattle.std.proofs.lemmas.Cmp.{nat_cmp_total}
 use Rattle.std.proofs.lemmas.List.{drop_all}
 use Rattle.std.specs.FinMap as fin

@@ -1,20 +1,15 @@
 -- What is held of the live five-tuples, as maps.
-use Rattle.std.proofs.Common.{◌≡◌, ℕ, cond, is_some, List, [], ◌∷◌, ◌++◌, map, refl, sym, ap, ◌∙◌, Option, Some, None}
-use Rattle.std.specs.Prelude.{IsSome}
+use Rattle.std.proofs.Common.{◌≡◌, ℕ, cond, is_some, List, [], ◌∷◌, ◌++◌, map, refl, sym, ap, ◌∙◌, Option, Some, None, IsSome, option_map, option_to_list}
 use Rattle.std.specs.List.{AllByRecursion}
 use Rattle.std.specs.Map.{lookup}
-use Rattle.std.specs.Option.{option_map, option_to_list}
 use Rattle.std.specs.Ordering.{eq_by_cmp}
 use Rattle.std.specs.FinMap as fin
 use Rattle.std.specs.FinMap.{find, same_map, get-empty, get-from_entries, get-insert, get-remove}
 use Rattle.turn_history.proofs.Entries.{all_entries}
 use Rattle.turn_history.proofs.Maps.{tuple_total, tuple_exact, get-map_of-all, outside_keys}
-use Rattle.turn_history.specs.Table.{Entry}
-use Rattle.turn_types.specs.FiveTuple.{tuple_cmp, same_tuple}
-use Rattle.turn_types.specs.declared.address.FiveTuple.{FiveTuple}
-use Rattle.turn_table.specs.Indexed.{held_in}
-use Rattle.turn_table.specs.Live.{Holdings, entries_of, placed, listed}
-use Rattle.turn_table.specs.State.{Held}
+use Rattle.turn_history.specs.Prelude.{Entry, FiveTuple}
+use Rattle.turn_types.specs.Prelude.{tuple_cmp, same_tuple}
+use Rattle.turn_table.specs.Prelude.{held_in, Holdings, entries_of, placed, listed, Held}
 use Rattle.turn_table.proofs.Sorted.{entries-values_by, len-values_by}
 use Rattle.turn_table.proofs.Options.{mapped_cond, mapped_then}
 use Rattle.turn_table.proofs.Tuples.{tuple_eq, tuple_same, tuple_same_back}

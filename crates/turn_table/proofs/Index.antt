@@ -1,21 +1,15 @@
 -- How entries are found, after a change.
-use Rattle.std.proofs.Common.{◌≡◌, ℕ, true, false, cond, eqb, is_some, List, [], refl, sym, ap, ◌∙◌, subst, Option, Some, None}
-use Rattle.std.proofs.lemmas.Bool.{eq-eqb, eqb-true}
-use Rattle.std.specs.Option.{option_map}
-use Rattle.std.specs.Ordering.{nat_cmp}
+use Rattle.std.proofs.Common.{◌≡◌, ℕ, true, false, cond, eqb, is_some, List, [], refl, sym, ap, ◌∙◌, subst, Option, Some, None, eq-eqb, eqb-true, option_map, nat_cmp}
 use Rattle.std.proofs.lemmas.Cmp.{nat_cmp_total}
 use Rattle.std.proofs.lemmas.Option.{same_Some}
 use Rattle.std.specs.FinMap as fin
 use Rattle.std.specs.FinMap.{FinMap, get-empty, get-insert, get-remove}
 use Rattle.turn_history.proofs.Maps.{tuple_total}
-use Rattle.turn_types.specs.FiveTuple.{tuple_cmp, same_tuple}
-use Rattle.turn_types.specs.declared.address.FiveTuple.{FiveTuple}
+use Rattle.turn_types.specs.Prelude.{tuple_cmp, same_tuple}
+use Rattle.turn_history.specs.Prelude.{FiveTuple, has_port}
 use Rattle.turn_history.proofs.Reading.{nat_same}
 use Rattle.turn_history.proofs.Tests.{free_port_is, port_is_free}
-use Rattle.turn_history.specs.Fitting.{has_port}
-use Rattle.turn_table.specs.Live.{Holdings, entries_of}
-use Rattle.turn_table.specs.Indexed.{IsIndexed, held_in}
-use Rattle.turn_table.specs.State.{Held}
+use Rattle.turn_table.specs.Prelude.{Holdings, entries_of, IsIndexed, held_in, Held}
 use Rattle.turn_table.proofs.Options.{is_false, is_true, mapped_cond, mapped_then, or_new, some_none}
 use Rattle.turn_table.proofs.Tuples.{itself, same_tuple-is}
 use Rattle.turn_table.proofs.Held.{Updated, entry_at, get-updated, of_entry}

@@ -1,6 +1,5 @@
 -- Options that hold a value and those that don't, and tests.
-use Rattle.std.proofs.Common.{◌≡◌, refl, ap, subst, is_some, Bool, true, false, cond, Option, Some, None, option_map}
-use Rattle.std.specs.Prelude.{IsSome, IsSomeAnd, MatchOption}
+use Rattle.std.proofs.Common.{◌≡◌, refl, ap, subst, is_some, Bool, true, false, cond, Option, Some, None, option_map, IsSome, IsSomeAnd, MatchOption}
 
 module _ {X : Type 0} where
   -- what follows from the value that an option holds

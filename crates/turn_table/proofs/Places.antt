@@ -1,10 +1,7 @@
 -- Places in lists, by tests of what stands there.
-use Rattle.std.proofs.Common.{◌≡◌, ℕ, zero, suc, ◌+◌, ◌<◌, ◌≤◌, Bool, true, false, cond, List, [], ◌∷◌, length, refl, sym, ap, ◌∙◌, subst, arith, Some, None, get_or, slice_get, take, drop, ◌-◌, add-one}
-use Rattle.std.specs.Prelude.{find, nat_le}
+use Rattle.std.proofs.Common.{◌≡◌, ℕ, zero, suc, ◌+◌, ◌<◌, ◌≤◌, Bool, true, false, cond, List, [], ◌∷◌, length, refl, sym, ap, ◌∙◌, subst, arith, Some, None, get_or, slice_get, take, drop, ◌-◌, add-one, find, nat_le, nat_cmp, leb-false, leb-true}
 use Rattle.std.specs.List.{AllByRecursion, position_from}
 use Rattle.std.specs.Map.{values_of}
-use Rattle.std.specs.Ordering.{nat_cmp}
-use Rattle.std.proofs.lemmas.Bool.{leb-false, leb-true}
 use Rattle.std.proofs.lemmas.Cmp.{nat_cmp_total}
 use Rattle.std.proofs.lemmas.List.{length-drop, length-map, take_all}
 use Rattle.std.proofs.lemmas.Option.{same_Some}
@@ -13,9 +10,8 @@ use Rattle.std.specs.FinMap.{FinMap, entries_sorted, get-entries, get-from_entri
 use Rattle.turn_history.proofs.Entries.{find-all, of_entries}
 use Rattle.turn_history.proofs.Maps.{tuple_total, tuple_exact}
 use Rattle.turn_history.specs.declared.reservation.Reservation.{Reservation}
-use Rattle.turn_types.specs.declared.address.FiveTuple.{FiveTuple}
-use Rattle.turn_table.specs.Indexed.{held_in}
-use Rattle.turn_table.specs.State.{Held}
+use Rattle.turn_history.specs.Prelude.{FiveTuple}
+use Rattle.turn_table.specs.Prelude.{held_in, Held}
 use Rattle.turn_table.proofs.Sorted.{find-found, found-at}
 
 -- ---- A list

@@ -1,6 +1,5 @@
 -- Entries without what has expired in them.
-use Rattle.std.proofs.Common.{◌≡◌, ℕ, zero, suc, ◌+◌, ◌<◌, ◌≤◌, set, List, [], ◌∷◌, ◌++◌, map, take, drop, length, sym, ap, ◌∙◌, arith, get_or, slice_get, Some}
-use Rattle.std.specs.Option.{option_map}
+use Rattle.std.proofs.Common.{◌≡◌, ℕ, zero, suc, ◌+◌, ◌<◌, ◌≤◌, set, List, [], ◌∷◌, ◌++◌, map, take, drop, length, sym, ap, ◌∙◌, arith, get_or, slice_get, Some, option_map}
 use Rattle.std.specs.Map.{values_of}
 use Rattle.std.specs.FinMap as fin
 use Rattle.std.specs.FinMap.{find, get-from_entries}
@@ -10,13 +9,9 @@ use Rattle.std.proofs.lemmas.List.Edits.{map_over_more}
 use Rattle.std.proofs.lemmas.Option.{same_Some}
 use Rattle.indexmap.specs.IndexMap.{set_value_at}
 use Rattle.turn_history.proofs.Maps.{tuple_total}
-use Rattle.turn_history.specs.Table.{Entry}
-use Rattle.turn_types.specs.FiveTuple.{tuple_cmp}
-use Rattle.turn_types.specs.declared.address.FiveTuple.{FiveTuple}
-use Rattle.turn_table.specs.Indexed.{held_in}
-use Rattle.turn_table.specs.Kept.{still_entry, still_pair}
-use Rattle.turn_table.specs.Live.{entries_of}
-use Rattle.turn_table.specs.State.{Held, pair_of, pairs}
+use Rattle.turn_history.specs.Prelude.{Entry, FiveTuple}
+use Rattle.turn_types.specs.Prelude.{tuple_cmp}
+use Rattle.turn_table.specs.Prelude.{held_in, still_entry, still_pair, entries_of, Held, pair_of, pairs}
 use Rattle.turn_table.proofs.Held.{get-entries_of}
 use Rattle.turn_table.proofs.Options.{mapped_twice}
 use Rattle.turn_table.proofs.Sorted.{find-values_by}

@@ -1,24 +1,17 @@
 -- What purging removes, and what it leaves.
-use Rattle.std.proofs.Common.{inl, inr, ◌≡◌, ℕ, zero, suc, ◌+◌, ◌-◌, ◌<◌, ◌≤◌, Bool, true, false, cond, refl, sym, ap, ◌∙◌, subst, arith, is_some, Option, Some, None, lt-ltb}
-use Rattle.std.specs.Prelude.{IsSomeAnd}
-use Rattle.std.specs.Option.{option_and_then, option_map}
+use Rattle.std.proofs.Common.{inl, inr, ◌≡◌, ℕ, zero, suc, ◌+◌, ◌-◌, ◌<◌, ◌≤◌, Bool, true, false, cond, refl, sym, ap, ◌∙◌, subst, arith, is_some, Option, Some, None, lt-ltb, IsSomeAnd, option_and_then, option_map, Ordering, le-ltb}
 use Rattle.std.specs.Ordering.{eq_by_cmp, nat_cmp}
 use Rattle.std.specs.Cmp.{IsTotalOrder}
-use Rattle.std.specs.declared.cmp.Ordering.{Ordering}
-use Rattle.std.proofs.lemmas.Bool.{le-ltb}
 use Rattle.std.proofs.lemmas.Cmp.{nat_cmp_total}
 use Rattle.std.specs.FinMap as fin
 use Rattle.std.specs.FinMap.{FinMap, IsAntisymmetric, same_map, get-remove, get-empty, nat_cmp-IsAntisymmetric}
 use Rattle.turn_history.proofs.Maps.{tuple_total, tuple_exact, from_eq}
 use Rattle.turn_history.proofs.Reading.{get-purged, get-purged_reserved, get-still_bound, get-still_permitted, same_contents}
-use Rattle.turn_types.specs.FiveTuple.{tuple_cmp}
-use Rattle.turn_history.specs.Table.{Entry, Contents, Reservations, ahead, channel_ahead, reservation_ahead, purged, kept, still_permitted, still_bound}
+use Rattle.turn_types.specs.Prelude.{tuple_cmp}
+use Rattle.turn_history.specs.Prelude.{Entry, Contents, Reservations, ahead, channel_ahead, reservation_ahead, purged, kept, still_permitted, still_bound, FiveTuple}
 use Rattle.turn_history.specs.declared.channel.Channel.{Channel}
 use Rattle.turn_history.specs.declared.reservation.Reservation.{Reservation}
-use Rattle.turn_types.specs.declared.address.FiveTuple.{FiveTuple}
-use Rattle.turn_table.specs.Kept.{ahead_by, still, still_entry}
-use Rattle.turn_table.specs.State.{State}
-use Rattle.turn_table.specs.Table.{BecomesFree, RemovesEntry, RemovesExpired, without_entry}
+use Rattle.turn_table.specs.Prelude.{ahead_by, still, still_entry, State, BecomesFree, RemovesEntry, RemovesExpired, without_entry}
 use Rattle.turn_table.proofs.Sorted.{get-removed, get-still}
 use Rattle.turn_table.proofs.Options.{none_of, or_new, some_at, some_none, some_then}
 use Rattle.turn_table.proofs.Ready.{Holds}
@@ -75,12 +68,12 @@ module _ (t : ℕ) (old new : Contents) (port : ℕ) where
 -- the entry of a five-tuple that has expired is gone
 pub removes : (t : ℕ) (old new : State) (f : FiveTuple) (port : ℕ) → IsSomeAnd (fin.get old.contents.entries f) (λ e. e.expiry ≤ t) → IsSomeAnd (fin.get old.contents.entries f) (λ e. e.port ≡ port) → new ≡ without_entry old f → RemovesEntry t old.contents new.contents port
 removes t old new f port past port_is is = some_then _ (fin.get old.contents.entries f) past (λ e at before. record {
-    tuple = f;
-    entry = e;
-    was = at;
-    past = before;
-    port_is = some_at (λ x. x.port ≡ port) (fin.get old.contents.entries f) e port_is at;
-    gone = ap (λ s. s.contents) is;
+  tuple = f;
+  entry = e;
+  was = at;
+  past = before;
+  port_is = some_at (λ x. x.port ≡ port) (fin.get old.contents.entries f) e port_is at;
+  gone = ap (λ s. s.contents) is;
 })
 
 -- ---- What has not expired

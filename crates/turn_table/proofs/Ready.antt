@@ -1,28 +1,18 @@
 -- What holds of a table between its calls: until when nothing expires, and that no entry has a reserved port.
-use Rattle.std.proofs.Common.{◌≡◌, ℕ, ◌+◌, ◌^◌, ◌<◌, ◌≤◌, true, List, refl, sym, ap, ◌∙◌, subst, arith, Option, Some, None}
-use Rattle.std.specs.Prelude.{IsSomeAnd, min, nat_eq}
+use Rattle.std.proofs.Common.{◌≡◌, ℕ, ◌+◌, ◌^◌, ◌<◌, ◌≤◌, true, List, refl, sym, ap, ◌∙◌, subst, arith, Option, Some, None, IsSomeAnd, min, nat_eq, Ordering}
 use Rattle.std.specs.Cmp.{IsTotalOrder}
 use Rattle.std.specs.List.{list_any}
 use Rattle.std.specs.Ordering.{eq_by_cmp, nat_cmp}
-use Rattle.std.specs.declared.cmp.Ordering.{Ordering}
 use Rattle.std.proofs.lemmas.Cmp.{nat_cmp_total}
 use Rattle.std.proofs.lemmas.Option.{same_Some}
 use Rattle.std.specs.FinMap as fin
 use Rattle.std.specs.FinMap.{FinMap, get-empty, get-insert, get-remove, nat_cmp-IsAntisymmetric}
 use Rattle.turn_history.proofs.Maps.{from_eq, tuple_total}
 use Rattle.turn_history.proofs.Steps.{get-install}
-use Rattle.turn_history.specs.Fitting.{FitsReservation, IsUnreserved, PortIsFree}
-use Rattle.turn_history.specs.Table.{Contents, Entry, Reservations, renewed, permitting, binding, with_reservation}
+use Rattle.turn_history.specs.Prelude.{FitsReservation, IsUnreserved, PortIsFree, Contents, Entry, Reservations, renewed, permitting, binding, with_reservation, Token, Endpoint, FiveTuple, Bounds}
 use Rattle.turn_history.specs.declared.reservation.Reservation.{Reservation}
-use Rattle.turn_types.specs.Profile.{permission_lifetime, channel_lifetime, reservation_lifetime}
-use Rattle.turn_types.specs.declared.message.Token.{Token}
-use Rattle.turn_types.specs.declared.address.Endpoint.{Endpoint}
-use Rattle.turn_types.specs.declared.address.FiveTuple.{FiveTuple}
-use Rattle.turn_types.specs.declared.limits.Bounds.{Bounds}
-use Rattle.turn_table.specs.Live.{HasRoom, IsQuiet, Live}
-use Rattle.turn_table.specs.Order.{AreReservationsQuiet, IsReady, state_of}
-use Rattle.turn_table.specs.State.{Room, State}
-use Rattle.turn_table.specs.Table.{with_entry}
+use Rattle.turn_types.specs.Prelude.{permission_lifetime, channel_lifetime, reservation_lifetime}
+use Rattle.turn_table.specs.Prelude.{HasRoom, IsQuiet, Live, AreReservationsQuiet, IsReady, state_of, Room, State, with_entry}
 use Rattle.turn_table.proofs.Held.{entry_at, of_entry}
 use Rattle.turn_table.proofs.Sorted.{get-removed}
 use Rattle.turn_table.proofs.Options.{none_of, or_new, some_none, some_then}

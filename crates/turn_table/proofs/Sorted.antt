@@ -1,12 +1,9 @@
 -- Lists of entries whose keys rise, as maps.
-use Rattle.std.proofs.Common.{◌≡◌, ℕ, zero, suc, set, ◌<◌, ◌≤◌, Bool, true, false, cond, not, ◌&&◌, List, map, [], ◌∷◌, length, refl, sym, ap, ◌∙◌, subst, arith, T, ltb, Option, Some, None, Result, Ok, Err, get_or}
-use Rattle.std.specs.declared.cmp.Ordering.{Ordering}
-use Rattle.std.specs.declared.cmp.Ordering.TheVariants.{Less, Equal, Greater}
+use Rattle.std.proofs.Common.{◌≡◌, ℕ, zero, suc, set, ◌<◌, ◌≤◌, Bool, true, false, cond, not, ◌&&◌, List, map, [], ◌∷◌, length, refl, sym, ap, ◌∙◌, subst, arith, T, ltb, Option, Some, None, Result, Ok, Err, get_or, Ordering, Less, Equal, Greater, option_and_then, option_map}
 use Rattle.std.specs.Ordering.{ordering_reverse, ordering_index, is_eq, is_lt, eq_by_cmp}
 use Rattle.std.specs.Cmp.{IsTotalOrder}
 use Rattle.std.specs.List.{AllByRecursion, insert, remove, filter, HoldsAt}
 use Rattle.std.specs.List.Sorted.{IsSearchInRange, IsBinarySearchResult, IsNonDecreasingBy, IsPartitionPoint}
-use Rattle.std.specs.Option.{option_and_then, option_map}
 use Rattle.std.proofs.lemmas.List.{length-map}
 use Rattle.std.proofs.lemmas.Cmp.{alike_right, eq_by_cmp_equiv, tied_itself}
 use Rattle.std.specs.FinMap as fin
@@ -14,8 +11,7 @@ use Rattle.std.specs.FinMap.{FinMap, IsAntisymmetric, is_sorted, entries_sorted,
 use Rattle.std.specs.FinMap.Entries.{put, by_order, find, below_all, where_key, is_sorted-put, is_sorted-where_key, find-put, find-where_key}
 use Rattle.turn_history.proofs.Entries.{both, find-all, first, less, second, unfound}
 use Rattle.turn_history.proofs.Maps.{from_eq, get-map_of-all, outside_keys}
-use Rattle.turn_table.specs.Kept.{still, ahead_by}
-use Rattle.turn_table.specs.Sorted.{scan, scan_on, further}
+use Rattle.turn_table.specs.Prelude.{still, ahead_by, scan, scan_on, further}
 
 pub holds : (b : Bool) → b ≡ true → T b
 holds b h = subst T (sym h) tt

@@ -1,21 +1,13 @@
 -- A table after a change.
-use Rattle.std.proofs.Common.{◌≡◌, ℕ, ◌≤◌, ◌<◌, is_some, List, length, ◌-◌, slice_get, sym, ap, ◌∙◌, subst, Option, Some, None}
-use Rattle.std.specs.Prelude.{IsSome, IsSomeAnd, MatchOption}
-use Rattle.std.specs.Option.{option_map}
+use Rattle.std.proofs.Common.{◌≡◌, ℕ, ◌≤◌, ◌<◌, is_some, List, length, ◌-◌, slice_get, sym, ap, ◌∙◌, subst, Option, Some, None, IsSome, IsSomeAnd, MatchOption, option_map}
 use Rattle.std.proofs.lemmas.List.{length-map}
 use Rattle.std.proofs.lemmas.Option.{MatchOption-at_none, MatchOption-at_some, slice_get-map}
 use Rattle.std.specs.FinMap as fin
 use Rattle.turn_history.proofs.Maps.{tuple_total, tuple_exact}
 use Rattle.turn_history.proofs.Tests.{free_port_is, port_is_free}
-use Rattle.turn_history.specs.Fitting.{PortIsFree, has_port}
-use Rattle.turn_history.specs.Table.{Contents, Entry, Reservations, with_reservation}
-use Rattle.turn_types.specs.FiveTuple.{tuple_cmp}
-use Rattle.turn_types.specs.declared.limits.Bounds.{Bounds}
-use Rattle.turn_types.specs.declared.address.FiveTuple.{FiveTuple}
-use Rattle.turn_table.specs.Live.{Changes, HasRoom, Holdings, Live, entries_of, placed}
-use Rattle.turn_table.specs.Order.{state_of}
-use Rattle.turn_table.specs.State.{Held, Room, State}
-use Rattle.turn_table.specs.Table.{with_allocation, with_entry, without_entry}
+use Rattle.turn_history.specs.Prelude.{PortIsFree, has_port, Contents, Entry, Reservations, with_reservation, Bounds, FiveTuple}
+use Rattle.turn_types.specs.Prelude.{tuple_cmp}
+use Rattle.turn_table.specs.Prelude.{Changes, HasRoom, Holdings, Live, entries_of, placed, state_of, Held, Room, State, with_allocation, with_entry, without_entry}
 use Rattle.turn_table.proofs.Held.{entries_of-insert, entries_of-remove, entry_at, get-entries_of, of_entry}
 use Rattle.turn_table.proofs.Sorted.{entries-values_by, values_by}
 use Rattle.turn_table.proofs.Options.{is_some_then, is_true, mapped_twice, none_of, some_none, some_then}

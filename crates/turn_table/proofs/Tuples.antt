@@ -1,13 +1,11 @@
 -- Five-tuples that are equal.
-use Rattle.std.proofs.Common.{◌≡◌, Bool, ◌&&◌, eqb, true, refl, sym, ap, ◌∙◌}
-use Rattle.std.specs.declared.cmp.Ordering.{Ordering}
-use Rattle.std.specs.declared.cmp.Ordering.TheVariants.{Less, Equal, Greater}
+use Rattle.std.proofs.Common.{◌≡◌, Bool, ◌&&◌, eqb, true, refl, sym, ap, ◌∙◌, Ordering, Less, Equal, Greater}
 use Rattle.std.specs.Ordering.{is_eq, nat_cmp, ordering_then}
 use Rattle.std.specs.Cmp.{eq_by_cmp_equiv}
 use Rattle.std.proofs.lemmas.Cmp.{tied_itself}
 use Rattle.turn_history.proofs.Maps.{from_eq, tuple_exact, tuple_total}
 use Rattle.turn_history.proofs.Reading.{nat_same}
-use Rattle.turn_types.specs.FiveTuple.{endpoint_cmp, tuple_cmp, same_tuple}
+use Rattle.turn_types.specs.Prelude.{endpoint_cmp, tuple_cmp, same_tuple}
 use Rattle.turn_types.specs.declared.address.Endpoint.{Endpoint}
 use Rattle.turn_types.specs.declared.address.FiveTuple.{FiveTuple}
 

@@ -1,13 +1,12 @@
 -- The five-tuples of a table in the order of their users' names.
-use Rattle.std.specs.Prelude.{ℕ, ◌≡◌, ◌≤◌, Bool, true, false, List, [], Option, length}
+use Rattle.std.specs.Prelude.{ℕ, ◌≡◌, ◌≤◌, Bool, true, false, List, [], Option, length, count_by}
 use Rattle.std.specs.Cmp.Lexicographic.{slice_cmp}
 use Rattle.std.specs.FinMap as fin
-use Rattle.std.specs.List.{count_by}
 use Rattle.std.specs.List.Sorted.{IsSortedByKey, IsPartitionPoint}
 use Rattle.std.specs.Option.{option_map_or}
 use Rattle.std.specs.Ordering.{nat_cmp, is_lt, is_le}
 use Rattle.std.specs.declared.cmp.Ordering.{Ordering}
-use Rattle.turn_types.specs.FiveTuple.{tuple_cmp}
+use Rattle.turn_types.specs.Prelude.{tuple_cmp}
 use Rattle.turn_types.specs.declared.address.FiveTuple.{FiveTuple}
 use Rattle.turn_table.specs.Indexed.{held_in}
 use Rattle.turn_table.specs.State.{Held}

@@ -1,7 +1,6 @@
 -- How entries are found.
-use Rattle.std.specs.Prelude.{ℕ, ◌≡◌, Option, Some, List}
+use Rattle.std.specs.Prelude.{ℕ, ◌≡◌, Option, Some, List, option_map}
 use Rattle.std.specs.FinMap as fin
-use Rattle.std.specs.Option.{option_map}
 use Rattle.turn_types.specs.declared.address.FiveTuple.{FiveTuple}
 use Rattle.turn_table.specs.Live.{Holdings}
 use Rattle.turn_table.specs.State.{Held}

@@ -1,10 +1,8 @@
 -- What of an entry has not expired.
-use Rattle.std.specs.Prelude.{ℕ, Option, None, Some, List, if◌then◌else◌, nat_lt}
-use Rattle.std.specs.Option.{option_and_then}
+use Rattle.std.specs.Prelude.{ℕ, Option, None, Some, List, if◌then◌else◌, nat_lt, option_and_then}
 use Rattle.std.specs.declared.cmp.Ordering.{Ordering}
 use Rattle.std.specs.FinMap as fin
-use Rattle.turn_history.specs.Table.{map_of, Entry, still_permitted, still_bound}
-use Rattle.turn_types.specs.declared.address.FiveTuple.{FiveTuple}
+use Rattle.turn_history.specs.Prelude.{map_of, Entry, still_permitted, still_bound, FiveTuple}
 
 -- a value that is still ahead of a moment
 abbrev pub ahead_by : {V : Type 0} → (V → ℕ) → ℕ → V → Option V

@@ -3,6 +3,7 @@ pub mod Indexed
 pub mod Kept
 pub mod Live
 pub mod Order
+pub mod Prelude
 pub mod Sorted
 pub mod State
 pub mod Table

@@ -1,14 +1,10 @@
 -- What is held of the live five-tuples.
-use Rattle.std.specs.Prelude.{ℕ, ◌≡◌, ◌≢◌, ◌≤◌, ◌<◌, Some, List, map, refl, MatchOption, IsSomeAnd}
+use Rattle.std.specs.Prelude.{ℕ, ◌≡◌, ◌≢◌, ◌≤◌, ◌<◌, Some, List, map, refl, MatchOption, IsSomeAnd, flat_map, option_map, option_to_list}
 use Rattle.std.specs.Coded.{Coded, code_by, coded×, coded_ℕ}
 use Rattle.std.specs.FinMap as fin
-use Rattle.std.specs.List.{flat_map}
-use Rattle.std.specs.Option.{option_map, option_to_list}
-use Rattle.turn_history.specs.Codes.{tuple_code}
-use Rattle.turn_history.specs.Table.{Entry, Entries, map_of}
+use Rattle.turn_history.specs.Prelude.{tuple_code, Entry, Entries, map_of, FiveTuple}
 use Rattle.turn_history.specs.declared.channel.Channel.{Channel}
-use Rattle.turn_types.specs.FiveTuple.{tuple_cmp}
-use Rattle.turn_types.specs.declared.address.FiveTuple.{FiveTuple}
+use Rattle.turn_types.specs.Prelude.{tuple_cmp}
 use Rattle.turn_table.specs.State.{Held, Room, held_code}
 
 -- five-tuples with what is held of each

@@ -2,10 +2,9 @@
 use Rattle.std.specs.Prelude.{ℕ, ◌≡◌, ◌≤◌, ◌<◌, ◌^◌, Some, Option}
 use Rattle.std.specs.FinMap as fin
 use Rattle.turn_history.specs.declared.reservation.Reservation.{Reservation}
-use Rattle.turn_types.specs.declared.limits.Bounds.{Bounds}
+use Rattle.turn_history.specs.Prelude.{Bounds, Reservations}
 use Rattle.turn_table.specs.declared.edit.Reserved.{Reserved}
 use Rattle.turn_table.specs.Live.{AreQuiet, HasRoom, Holdings, Live, PortIsUnused, entries_of}
-use Rattle.turn_history.specs.Table.{Reservations}
 use Rattle.turn_table.specs.State.{Room, State}
 
 -- the room that was made, as the definitions have it

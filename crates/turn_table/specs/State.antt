@@ -1,10 +1,7 @@
 -- What contracts see of a table.
 use Rattle.std.specs.Prelude.{ℕ, Option, List, map, refl}
 use Rattle.std.specs.Coded.{Coded, code_by, coded×, coded_ℕ, coded_option}
-use Rattle.turn_history.specs.Codes.{tuple_code, bounds_code, entry_code, contents_code}
-use Rattle.turn_types.specs.declared.limits.Bounds.{Bounds}
-use Rattle.turn_history.specs.Table.{Entry, Contents}
-use Rattle.turn_types.specs.declared.address.FiveTuple.{FiveTuple}
+use Rattle.turn_history.specs.Prelude.{tuple_code, bounds_code, entry_code, contents_code, Bounds, Entry, Contents, FiveTuple}
 
 -- an entry, and for how many more permissions and channels it has room
 pub record Held : Type 0 where

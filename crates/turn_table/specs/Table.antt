@@ -1,16 +1,10 @@
 -- What the calls of a table do.
-use Rattle.std.specs.Prelude.{ℕ, ◌≡◌, ◌⊎◌, ◌<◌, ◌≤◌, ◌-◌, Option, Some, None, List, length, find, if◌then◌else◌, ◌==◌, option_map, slice_get, IfSome, IsSomeAnd}
+use Rattle.std.specs.Prelude.{ℕ, ◌≡◌, ◌⊎◌, ◌<◌, ◌≤◌, ◌-◌, Option, Some, None, List, length, find, if◌then◌else◌, ◌==◌, option_map, slice_get, IfSome, IsSomeAnd, bytes_eq}
 use Rattle.std.specs.declared.cmp.Ordering.TheVariants.{Less}
 use Rattle.std.specs.FinMap as fin
-use Rattle.std.specs.Str.{bytes_eq}
-use Rattle.turn_history.specs.Fitting.{IsUnreserved, PortIsFree}
-use Rattle.turn_history.specs.History.{PlainAct, Allocates, Renews, Permits, Binds, History, addresses_of, numbers_of, reserved_by}
-use Rattle.turn_history.specs.Laws.{PortsApart, ReservedApart}
-use Rattle.turn_history.specs.Table.{Entry, Contents, table, purged, with_reservation}
+use Rattle.turn_history.specs.Prelude.{IsUnreserved, PortIsFree, PlainAct, Allocates, Renews, Permits, Binds, History, addresses_of, numbers_of, reserved_by, PortsApart, ReservedApart, Entry, Contents, table, purged, with_reservation, Endpoint, FiveTuple}
 use Rattle.turn_history.specs.declared.reservation.Reservation.{Reservation}
-use Rattle.turn_types.specs.declared.address.Endpoint.{Endpoint}
-use Rattle.turn_types.specs.FiveTuple.{tuple_cmp}
-use Rattle.turn_types.specs.declared.address.FiveTuple.{FiveTuple}
+use Rattle.turn_types.specs.Prelude.{tuple_cmp}
 use Rattle.turn_table.specs.State.{Room, State}
 
 -- a table agrees with a history: it holds the table of the history at its moment

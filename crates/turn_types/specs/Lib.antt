@@ -3,6 +3,7 @@ pub mod ErrorCode
 pub mod FiveTuple
 pub mod Limits
 pub mod Methods
+pub mod Prelude
 pub mod Profile
 pub mod Rows
 pub mod Settings

@@ -1,10 +1,8 @@
 use Rattle.std.proofs.Common.{sym, subst}
-use Rattle.turn_history.specs.Act.{event_of}
-use Rattle.turn_history.specs.History.{Event}
-use Rattle.turn_history.specs.Table.{applied}
-use Rattle.turn_record.specs.Records.{IsSnapshot}
+use Rattle.turn_history.specs.Prelude.{event_of, Event, applied}
+use Rattle.turn_record.specs.Prelude.{IsSnapshot}
 use Rattle.turn_record.specs.declared.version.Version.{Version}
-use Rattle.turn_table.specs.State.{State}
+use Rattle.turn_table.specs.Prelude.{State}
 use Rattle.test_stores.proofs.store.apply.Goals as goal
 
 pub returns : goal.returns

@@ -1,6 +1,5 @@
 use Rattle.std.proofs.Common.{Bool, sym, subst, ◌∙◌}
-use Rattle.turn_codec.specs.Grammar.{FirstHas, from}
-use Rattle.turn_codec.specs.Reading.{attributes_of}
+use Rattle.turn_codec.specs.Prelude.{FirstHas, from, attributes_of}
 use Rattle.turn_codec.proofs.Walk.{rest_shorter}
 use Rattle.turn_codec.proofs.Finding.{looks_more, looks_here, looks_none}
 use Rattle.turn_codec.proofs.attribute.find_attribute.Goals as goal

@@ -1,6 +1,6 @@
 use Rattle.std.proofs.Common.{ap}
 use Rattle.std.specs.Option.{option_and_then, option_or}
-use Rattle.turn_cred.specs.Shared.{key_in, lasting, shared_key}
+use Rattle.turn_cred.specs.Prelude.{key_in, lasting, shared_key}
 use Rattle.turn_cred.proofs.Names.{shared_is, shared_read}
 use Rattle.turn_cred.proofs.laws.keys_are_of_their_names.Goals as goal
 

@@ -1,8 +1,7 @@
 use Rattle.std.proofs.Common.{◌≡◌, ℕ, List, refl, ap, ◌∙◌, false, Option, Some, None}
 use Rattle.std.specs.FinMap as map
 use Rattle.std.specs.Option.{option_map_or, option_or}
-use Rattle.turn_cred.specs.Credential.{has_expired}
-use Rattle.turn_cred.specs.Shared.{key_in, lasting}
+use Rattle.turn_cred.specs.Prelude.{has_expired, key_in, lasting}
 use Rattle.turn_cred.specs.declared.key.Key.{Key}
 use Rattle.turn_cred.proofs.laws.no_secret_no_change.Goals as goal
 

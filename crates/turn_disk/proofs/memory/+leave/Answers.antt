@@ -1,6 +1,6 @@
 use Rattle.std.proofs.Common.{◌≡◌, ◌-◌, ◌++◌, [], ◌∷◌, ap, ◌∙◌, rules, drop, take, List, ℕ}
 use Rattle.turn_disk.proofs.Crashes.{one_left, rest_of_older}
-use Rattle.turn_disk.specs.Crash.{replaced_at, part_of}
+use Rattle.turn_disk.specs.Prelude.{replaced_at, part_of}
 use Rattle.turn_disk.specs.declared.call.Call.TheVariants.{Wrote}
 use Rattle.turn_disk.proofs.memory.+leave.Goals as goal
 

@@ -1,5 +1,4 @@
-use Rattle.std.proofs.Common.{rules, ◌+◌, arith, refl, ◌∙◌}
-use Rattle.std.proofs.lemmas.List.{length-take}
+use Rattle.std.proofs.Common.{rules, ◌+◌, arith, refl, ◌∙◌, length-take}
 use Rattle.turn_disk.proofs.Passing.{passes_join, passes_none}
 use Rattle.turn_disk.proofs.Pieces.{next_given, next_is, none_so_far, more_so_far, stopped_so_far, synced_so_far, whole_so_far}
 use Rattle.turn_disk.proofs.Since.{outcome_sync}

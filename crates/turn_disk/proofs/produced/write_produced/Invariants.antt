@@ -1,6 +1,5 @@
 use Rattle.std.proofs.Common.{length, drop, ◌-◌, ◌≡◌, ◌≤◌}
-use Rattle.turn_disk.specs.Disk.{IsSettled}
-use Rattle.turn_disk.specs.Meanwhile.{Passes}
+use Rattle.turn_disk.specs.Prelude.{IsSettled, Passes}
 use Rattle.turn_disk.proofs.Pieces.{SoFar}
 use Rattle.turn_disk.proofs.produced.write_produced.Given as goal
 

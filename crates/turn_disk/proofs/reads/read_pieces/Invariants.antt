@@ -1,5 +1,5 @@
 use Rattle.std.proofs.Common.{length, take, ◌-◌, ◌≡◌, ◌≤◌}
-use Rattle.turn_disk.specs.Disk.{StandsAt}
+use Rattle.turn_disk.specs.Prelude.{StandsAt}
 use Rattle.turn_disk.proofs.reads.read_pieces.Given as goal
 
 abbrev pub invariant-loop-done : goal.invariant-loop-done

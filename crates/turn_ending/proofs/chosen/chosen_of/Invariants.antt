@@ -1,6 +1,5 @@
-use Rattle.std.proofs.Common.{◌≡◌, ◌++◌, map}
+use Rattle.std.proofs.Common.{◌≡◌, ◌++◌, map, filter}
 use Rattle.std.specs.FinMap as fin
-use Rattle.std.specs.Prelude.{filter}
 use Rattle.turn_ending.specs.Chosen.{is_chosen, shown, shown_entry}
 use Rattle.turn_ending.proofs.chosen.chosen_of.Given as goal
 

@@ -1,5 +1,5 @@
 use Rattle.std.proofs.Common.{◌≡◌, ◌≤◌, map}
-use Rattle.turn_engine.specs.State.{now_of}
+use Rattle.turn_engine.specs.Prelude.{now_of}
 use Rattle.turn_ending.specs.Ends.{Ends}
 use Rattle.turn_ending.specs.contracts.operator.OperatorAuthHandler.TheImpl as operator
 use Rattle.turn_ending.proofs.ending.end_all.Given as goal

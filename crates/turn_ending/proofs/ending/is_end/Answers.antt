@@ -1,5 +1,4 @@
-use Rattle.std.proofs.Common.{◌∙◌, sym}
-use Rattle.std.proofs.lemmas.Bool.{eqb-true}
+use Rattle.std.proofs.Common.{◌∙◌, sym, eqb-true}
 use Rattle.turn_ending.proofs.Deletions.{asks_for_zero}
 use Rattle.turn_ending.proofs.ending.is_end.Goals as goal
 

@@ -1,6 +1,6 @@
 use Rattle.std.proofs.Common.{rules, map, ap, ◌∙◌, ◌∷◌, []}
 use Rattle.std.proofs.lemmas.List.{map-append}
-use Rattle.turn_step.specs.Views.{sent_of}
+use Rattle.turn_step.specs.Prelude.{sent_of}
 use Rattle.turn_engine.proofs.server.stage_datagram.Goals as goal
 
 pub returns-in-Ok : goal.returns-in-Ok

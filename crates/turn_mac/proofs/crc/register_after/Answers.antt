@@ -1,5 +1,4 @@
-use Rattle.std.proofs.Common.{◌∙◌, ◌%◌, ◌/◌, ℕ, ap, refl, arith}
-use Rattle.std.specs.Prelude.{bit_xor}
+use Rattle.std.proofs.Common.{◌∙◌, ◌%◌, ◌/◌, ℕ, ap, refl, arith, bit_xor}
 use Rattle.turn_mac.specs.Crc.{byte_remainder}
 use Rattle.turn_mac.specs.Register.{register_after}
 use Rattle.turn_mac.proofs.Table.{one_more}

@@ -1,8 +1,7 @@
 use Rattle.std.proofs.Common.{sym, subst}
 use Rattle.std.proofs.lemmas.Result.{on_ok_weaker}
-use Rattle.turn_codec.specs.Grammar.{Content}
+use Rattle.turn_codec.specs.Prelude.{Content, fingerprint}
 use Rattle.turn_mac.specs.Integrity.{canonical_datagram, IntegrityHolds, FingerprintHolds}
-use Rattle.turn_codec.specs.AttributeTypes.{fingerprint}
 use Rattle.turn_mac.proofs.Appended.{fingerprint_appended, integrity_kept}
 use Rattle.turn_mac.proofs.integrity.append_fingerprint_fitting.Goals as goal
 

@@ -1,6 +1,6 @@
 use Rattle.std.proofs.Common.{◌≡◌, ◌∙◌, length, ap, sym, subst}
 use Rattle.std.proofs.lemmas.Result.{on_ok_weaker}
-use Rattle.turn_codec.specs.Grammar.{Content, body_size}
+use Rattle.turn_codec.specs.Prelude.{Content, body_size}
 use Rattle.turn_mac.specs.Integrity.{canonical_datagram, IntegrityHolds}
 use Rattle.turn_mac.proofs.Appended.{integrity_appended}
 use Rattle.turn_mac.proofs.Values.{length-hmac, pushed_size}

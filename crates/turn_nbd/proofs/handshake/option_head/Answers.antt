@@ -1,5 +1,4 @@
-use Rattle.std.proofs.Common.{[], codes, refl, sym, ◌∙◌, arith}
-use Rattle.std.proofs.lemmas.List.{take_all}
+use Rattle.std.proofs.Common.{[], codes, refl, sym, ◌∙◌, arith, take_all}
 use Rattle.turn_nbd.specs.Handshake.{option_head}
 use Rattle.turn_nbd.proofs.Filled.{filled}
 use Rattle.turn_nbd.proofs.handshake.option_head.Goals as goal

@@ -1,5 +1,4 @@
-use Rattle.std.proofs.Common.{ℕ, [], w16, refl, ap, sym, ◌∙◌, arith}
-use Rattle.std.proofs.lemmas.List.{take_all}
+use Rattle.std.proofs.Common.{ℕ, [], w16, refl, ap, sym, ◌∙◌, arith, take_all}
 use Rattle.std.specs.Int.{to_be_bytes}
 use Rattle.turn_nbd.specs.Requests.{request}
 use Rattle.turn_nbd.proofs.Filled.{filled}

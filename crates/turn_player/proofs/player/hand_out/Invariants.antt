@@ -1,5 +1,5 @@
 use Rattle.std.proofs.Common.{◌≡◌, ◌++◌, length, map}
-use Rattle.turn_step.specs.Views.{sent_of}
+use Rattle.turn_step.specs.Prelude.{sent_of}
 use Rattle.turn_player.specs.Lives.{Sends}
 use Rattle.turn_player.specs.Plays.{said_of}
 use Rattle.turn_player.proofs.player.hand_out.Given as goal

@@ -1,5 +1,5 @@
 use Rattle.std.proofs.Common.{◌≡◌, map, take}
-use Rattle.turn_step.specs.Answer.{Setting}
+use Rattle.turn_step.specs.Prelude.{Setting}
 use Rattle.turn_player.specs.Held.{Adds, world_of}
 use Rattle.turn_player.specs.Plays.{PlaysAll, said_of}
 use Rattle.turn_player.proofs.player.play_all.Given as goal

@@ -2,7 +2,7 @@ use Rattle.std.proofs.Common.{subst, sym}
 use Rattle.turn_program.proofs.StoreErrors.{store_fault}
 use Rattle.turn_program.specs.Checks.{IsStoreError}
 use Rattle.turn_program.proofs.check.check_store.Goals as goal
-use Rattle.turn_store.specs.Tables.{snapshot_of}
+use Rattle.turn_store.specs.Prelude.{snapshot_of}
 
 pub returns-in-Ok-clause-read : goal.returns-in-Ok-clause-read
 returns-in-Ok-clause-read g c crash_model = (snapshot_of c.in-Ok.reading.table, rw c.in-Ok.is at (c.read_store-disk.ensures.read crash_model))

@@ -2,7 +2,7 @@ use Rattle.std.proofs.Common.{◌∙◌, List, ℕ, sym, subst}
 use Rattle.turn_reading.specs.Readings.{IsUnread, WhyUnread}
 use Rattle.turn_reading.proofs.Told.{reads_after, unread_joined, unread_last, why_joined, why_last}
 use Rattle.turn_reading.proofs.reading.read_often.Goals as goal
-use Rattle.turn_store.specs.Images.{RepresentsAt}
+use Rattle.turn_store.specs.Prelude.{RepresentsAt}
 
 pub returns-in-Ok : goal.returns-in-Ok
 returns-in-Ok g c = let before = c.loop.invariant in reads_after before.crash_model before.same (rw c.in-Ok.is at c.read_steadily-again.ensures)

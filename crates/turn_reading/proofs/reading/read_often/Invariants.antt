@@ -1,10 +1,8 @@
-use Rattle.std.proofs.Common.{◌≡◌, ℕ}
-use Rattle.std.specs.Prelude.{IfSome}
-use Rattle.turn_history.specs.History.{History}
+use Rattle.std.proofs.Common.{◌≡◌, ℕ, IfSome}
+use Rattle.turn_history.specs.Prelude.{History}
 use Rattle.turn_reading.specs.Readings.{IsUnder, IsUnread, WhyUnread}
 use Rattle.turn_reading.proofs.reading.read_often.Given as goal
-use Rattle.turn_store.specs.Areas.{Form}
-use Rattle.turn_store.specs.Images.{RepresentsAt}
+use Rattle.turn_store.specs.Prelude.{Form, RepresentsAt}
 
 abbrev pub invariant-loop : goal.invariant-loop
 invariant-loop g l = record {

@@ -1,10 +1,9 @@
 use Rattle.std.proofs.Common.{◌∙◌, ap, sym, subst}
-use Rattle.turn_disk.specs.Disk.{Trace}
+use Rattle.turn_disk.specs.Prelude.{Trace}
 use Rattle.turn_reading.specs.Readings.{IsUnread, WhyUnread}
 use Rattle.turn_reading.proofs.Told.{form_is_under, read_under, unread_limits, unread_open, why_limits, why_open}
 use Rattle.turn_reading.proofs.reading.try_once.Goals as goal
-use Rattle.turn_store.specs.Images.{RepresentsAt}
-use Rattle.turn_store.specs.Refused.{WhyRefused}
+use Rattle.turn_store.specs.Prelude.{RepresentsAt, WhyRefused}
 
 pub returns-in-Err : goal.returns-in-Err
 returns-in-Err g c = record {

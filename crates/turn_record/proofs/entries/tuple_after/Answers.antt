@@ -1,7 +1,6 @@
-use Rattle.std.proofs.Common.{◌-◌, length, sym}
-use Rattle.std.specs.Prelude.{slice_get}
+use Rattle.std.proofs.Common.{◌-◌, length, sym, slice_get}
 use Rattle.std.specs.FinMap as fin
-use Rattle.turn_types.specs.FiveTuple.{tuple_cmp}
+use Rattle.turn_types.specs.Prelude.{tuple_cmp}
 use Rattle.turn_record.proofs.Onward.{less_last}
 use Rattle.turn_record.proofs.entries.tuple_after.Goals as goal
 

@@ -1,8 +1,7 @@
-use Rattle.std.proofs.Common.{◌≡◌, ℕ, List, true, arith}
-use Rattle.std.specs.Ordering.{nat_cmp}
+use Rattle.std.proofs.Common.{◌≡◌, ℕ, List, true, arith, nat_cmp}
 use Rattle.std.specs.FinMap as fin
 use Rattle.turn_history.specs.declared.channel.Channel.{Channel}
-use Rattle.turn_record.specs.Snapshots.{channel_list_at}
+use Rattle.turn_record.specs.Prelude.{channel_list_at}
 use Rattle.turn_record.proofs.Batches.{found}
 use Rattle.turn_record.proofs.Tables.{codec_channel_list, sorted_list}
 use Rattle.turn_record.proofs.lists.channels_of.Goals as goal

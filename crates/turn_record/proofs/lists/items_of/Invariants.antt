@@ -1,5 +1,5 @@
 use Rattle.std.proofs.Common.{◌≡◌, ◌-◌, []}
-use Rattle.turn_record.specs.Reading.{many}
+use Rattle.turn_record.specs.Prelude.{many}
 use Rattle.turn_record.proofs.lists.items_of.Given as goal
 
 abbrev pub invariant-loop : goal.invariant-loop

@@ -1,5 +1,5 @@
 use Rattle.std.proofs.Common.{rules}
-use Rattle.turn_record.specs.Snapshots.{other_peer_at}
+use Rattle.turn_record.specs.Prelude.{other_peer_at}
 use Rattle.turn_record.proofs.lists.other_peer_of.Goals as goal
 
 pub returns : goal.returns

@@ -1,7 +1,6 @@
-use Rattle.std.proofs.Common.{◌≡◌, ℕ, List, true, arith}
-use Rattle.std.specs.Ordering.{nat_cmp}
+use Rattle.std.proofs.Common.{◌≡◌, ℕ, List, true, arith, nat_cmp}
 use Rattle.std.specs.FinMap as fin
-use Rattle.turn_record.specs.Snapshots.{permission_list_at}
+use Rattle.turn_record.specs.Prelude.{permission_list_at}
 use Rattle.turn_record.proofs.Batches.{found}
 use Rattle.turn_record.proofs.Tables.{codec_permission_list, sorted_list}
 use Rattle.turn_record.proofs.lists.permissions_of.Goals as goal

@@ -1,6 +1,6 @@
 use Rattle.std.proofs.Common.{[]}
 use Rattle.std.proofs.lemmas.Result.{err_from_is_err_and}
-use Rattle.turn_record.specs.Reading.{many, address_at}
+use Rattle.turn_record.specs.Prelude.{many, address_at}
 use Rattle.turn_record.proofs.Many.{goes_on, ends, is_done}
 use Rattle.turn_record.proofs.read.addresses_of.Goals as goal
 

@@ -1,5 +1,5 @@
 use Rattle.std.proofs.Common.{◌≡◌, ◌-◌, []}
-use Rattle.turn_record.specs.Reading.{many, address_at}
+use Rattle.turn_record.specs.Prelude.{many, address_at}
 use Rattle.turn_record.proofs.read.addresses_of.Given as goal
 
 abbrev pub invariant-loop : goal.invariant-loop

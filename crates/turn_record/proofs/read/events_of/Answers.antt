@@ -1,9 +1,8 @@
 use Rattle.std.proofs.Common.{◌≡◌, ◌++◌, ◌∷◌, []}
 use Rattle.std.proofs.lemmas.Result.{err_from_is_err_and}
 use Rattle.std.proofs.lemmas.List.{map_push}
-use Rattle.turn_history.specs.Act.{event_of}
-use Rattle.turn_record.specs.Views.{events_of}
-use Rattle.turn_record.specs.Reading.{many, event_at}
+use Rattle.turn_history.specs.Prelude.{event_of}
+use Rattle.turn_record.specs.Prelude.{events_of, many, event_at}
 use Rattle.turn_record.proofs.Many.{goes_on, ends, is_done}
 use Rattle.turn_record.proofs.read.events_of.Goals as goal
 

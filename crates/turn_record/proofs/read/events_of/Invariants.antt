@@ -1,6 +1,5 @@
 use Rattle.std.proofs.Common.{◌≡◌, ◌-◌, []}
-use Rattle.turn_record.specs.Views.{events_of}
-use Rattle.turn_record.specs.Reading.{many, event_at}
+use Rattle.turn_record.specs.Prelude.{events_of, many, event_at}
 use Rattle.turn_record.proofs.read.events_of.Given as goal
 
 abbrev pub invariant-loop : goal.invariant-loop

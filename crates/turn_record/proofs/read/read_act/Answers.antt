@@ -1,10 +1,9 @@
 use Rattle.std.proofs.Common.{subst, arith}
-use Rattle.turn_history.specs.Act.{event_of}
+use Rattle.turn_history.specs.Prelude.{event_of}
 use Rattle.turn_history.specs.History as histories
 use Rattle.turn_record.proofs.Batches.{act_again, act_found, found}
 use Rattle.turn_record.proofs.read.read_act.Goals as goal
-use Rattle.turn_record.specs.Reading.{Gives, act_in}
-use Rattle.turn_record.specs.Records.{EncodesAct}
+use Rattle.turn_record.specs.Prelude.{Gives, act_in, EncodesAct}
 
 pub returns-clause-encoded : goal.returns-clause-encoded
 returns-clause-encoded g c =

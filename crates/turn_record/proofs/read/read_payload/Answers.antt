@@ -2,9 +2,7 @@ use Rattle.std.proofs.Common.{List, subst, arith}
 use Rattle.turn_history.specs.History as histories
 use Rattle.turn_record.proofs.Batches.{found, payload_again, payload_found}
 use Rattle.turn_record.proofs.read.read_payload.Goals as goal
-use Rattle.turn_record.specs.Reading.{Gives, payload_in}
-use Rattle.turn_record.specs.Records.{EncodesPayload}
-use Rattle.turn_record.specs.Views.{events_of}
+use Rattle.turn_record.specs.Prelude.{Gives, payload_in, EncodesPayload, events_of}
 
 pub returns-clause-encoded : goal.returns-clause-encoded
 returns-clause-encoded g c =

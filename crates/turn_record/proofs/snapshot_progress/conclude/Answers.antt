@@ -1,5 +1,5 @@
 use Rattle.std.proofs.Common.{◌≡◌, true, false, ap, subst, sym}
-use Rattle.turn_record.specs.Places.{HasRoom, Place, is_done}
+use Rattle.turn_record.specs.Prelude.{HasRoom, Place, is_done}
 use Rattle.turn_record.proofs.Onward.{given_all, given_none, given_short}
 use Rattle.turn_record.proofs.snapshot_progress.conclude.Goals as goal
 

@@ -1,5 +1,5 @@
 use Rattle.std.proofs.Common.{◌≡◌, true, false, subst, sym}
-use Rattle.turn_record.specs.Places.{HasRoom, Place, is_done}
+use Rattle.turn_record.specs.Prelude.{HasRoom, Place, is_done}
 use Rattle.turn_record.proofs.Onward.{empty_waits, goes_on_at, is_some, still_waits, trailing}
 use Rattle.turn_record.proofs.snapshot_progress.go_on.Goals as goal
 use Rattle.turn_record.proofs.snapshot_progress.go_on.Goals.{else-is_done, then-is_done+else-not-is_empty}

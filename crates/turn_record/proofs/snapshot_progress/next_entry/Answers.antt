@@ -1,9 +1,9 @@
 use Rattle.std.specs.FinMap as fin
-use Rattle.turn_history.specs.Fitting.{PortIsFree}
-use Rattle.turn_record.specs.Snapshots.{entry_at}
+use Rattle.turn_history.specs.Prelude.{PortIsFree}
+use Rattle.turn_record.specs.Prelude.{entry_at}
 use Rattle.turn_record.proofs.Onward.{front_entry, next_of, whole_keeps}
 use Rattle.turn_record.proofs.snapshot_progress.next_entry.Goals as goal
-use Rattle.turn_table.specs.Table.{IsAbove}
+use Rattle.turn_table.specs.Prelude.{IsAbove}
 
 pub returns-clause-next : goal.returns-clause-next
 returns-clause-next g c =

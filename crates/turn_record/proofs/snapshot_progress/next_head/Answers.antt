@@ -1,5 +1,5 @@
 use Rattle.std.proofs.Common.{sym}
-use Rattle.turn_record.specs.Snapshots.{head_at}
+use Rattle.turn_record.specs.Prelude.{head_at}
 use Rattle.turn_record.proofs.Onward.{front_head, next_ok, next_err}
 use Rattle.turn_record.proofs.snapshot_progress.next_head.Goals as goal
 

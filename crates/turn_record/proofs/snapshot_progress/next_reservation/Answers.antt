@@ -1,9 +1,9 @@
 use Rattle.std.specs.FinMap as fin
-use Rattle.turn_history.specs.Fitting.{PortIsFree}
-use Rattle.turn_record.specs.Snapshots.{reservation_at}
+use Rattle.turn_history.specs.Prelude.{PortIsFree}
+use Rattle.turn_record.specs.Prelude.{reservation_at}
 use Rattle.turn_record.proofs.Onward.{front_reservation, next_of, whole_keeps}
 use Rattle.turn_record.proofs.snapshot_progress.next_reservation.Goals as goal
-use Rattle.turn_table.specs.Table.{IsAboveReserved}
+use Rattle.turn_table.specs.Prelude.{IsAboveReserved}
 
 pub returns-clause-next : goal.returns-clause-next
 returns-clause-next g c =

@@ -1,4 +1,4 @@
-use Rattle.turn_record.specs.Snapshots.{total_at}
+use Rattle.turn_record.specs.Prelude.{total_at}
 use Rattle.turn_record.proofs.Onward.{front_total, next_of}
 use Rattle.turn_record.proofs.snapshot_progress.next_total.Goals as goal
 

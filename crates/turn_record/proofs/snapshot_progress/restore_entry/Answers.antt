@@ -1,10 +1,10 @@
 use Rattle.std.proofs.Common.{◌++◌, ◌∙◌, ap, subst, arith}
 use Rattle.std.proofs.lemmas.Result.{err_from_is_err_and}
-use Rattle.turn_record.specs.Places.{HasRoom, Place}
+use Rattle.turn_record.specs.Prelude.{HasRoom, Place}
 use Rattle.turn_record.proofs.Snapshots.{none_at}
 use Rattle.turn_record.proofs.Onward.{entry_room, refused_entry, took_entry}
 use Rattle.turn_record.proofs.snapshot_progress.restore_entry.Goals as goal
-use Rattle.turn_table.specs.State.{State}
+use Rattle.turn_table.specs.Prelude.{State}
 use Rattle.turn_types.specs.declared.limits.Bounds.{Bounds}
 
 pub invariant_of-restored-2 : goal.invariant_of-restored-2

@@ -1,5 +1,5 @@
 use Rattle.std.proofs.Common.{◌≡◌, ◌++◌, List, ℕ}
-use Rattle.turn_record.specs.Places.{more_at, most_items}
+use Rattle.turn_record.specs.Prelude.{more_at, most_items}
 use Rattle.turn_record.proofs.snapshot_progress.restore_items.Given as goal
 
 abbrev pub invariant-loop-alloc : goal.invariant-loop-alloc

@@ -1,10 +1,10 @@
 use Rattle.std.proofs.Common.{◌++◌, ◌∙◌, ap, subst, arith}
 use Rattle.std.specs.FinMap as fin
 use Rattle.std.proofs.lemmas.Result.{err_from_is_err_and}
-use Rattle.turn_record.specs.Places.{HasRoom, Place}
+use Rattle.turn_record.specs.Prelude.{HasRoom, Place}
 use Rattle.turn_record.proofs.Onward.{refused_reserved, reserved_room, took_reserved}
 use Rattle.turn_record.proofs.snapshot_progress.restore_reserved.Goals as goal
-use Rattle.turn_table.specs.State.{State}
+use Rattle.turn_table.specs.Prelude.{State}
 
 pub invariant_of-restored-2 : goal.invariant_of-restored-2
 invariant_of-restored-2 g c =

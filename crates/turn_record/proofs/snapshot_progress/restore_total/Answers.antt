@@ -1,6 +1,6 @@
 use Rattle.std.proofs.Common.{◌++◌, ◌∙◌, [], ap, subst, arith}
 use Rattle.std.proofs.lemmas.Result.{err_from_is_err_and}
-use Rattle.turn_record.specs.Places.{HasRoom, Place}
+use Rattle.turn_record.specs.Prelude.{HasRoom, Place}
 use Rattle.turn_record.proofs.Onward.{refused_total, took_total, total_room}
 use Rattle.turn_record.proofs.Tables.{total_passes}
 use Rattle.turn_record.proofs.snapshot_progress.restore_total.Goals as goal

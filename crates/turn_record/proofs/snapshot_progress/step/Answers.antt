@@ -1,7 +1,6 @@
 use Rattle.std.proofs.Common.{◌≡◌, ◌∙◌, List, ℕ, ap, append_assoc, subst, sym}
 use Rattle.std.proofs.lemmas.Result.{err_from_is_err_and}
-use Rattle.turn_record.specs.Places.{gives}
-use Rattle.turn_record.specs.Reading.{Fails}
+use Rattle.turn_record.specs.Prelude.{gives, Fails}
 use Rattle.turn_record.proofs.snapshot_progress.step.Goals as goal
 
 pub returns-in_err-restored-clause-goes : goal.returns-in_err-restored-clause-goes

@@ -1,11 +1,9 @@
 use Rattle.std.proofs.Common.{ℕ, subst, arith}
-use Rattle.turn_history.specs.Table.{Contents}
+use Rattle.turn_history.specs.Prelude.{Contents}
 use Rattle.turn_record.proofs.Batches.{found}
 use Rattle.turn_record.proofs.Snapshots.{snapshot_again, snapshot_found}
 use Rattle.turn_record.proofs.snapshot_reader.read_snapshot.Goals as goal
-use Rattle.turn_record.specs.Reading.{Gives}
-use Rattle.turn_record.specs.Records.{EncodesSnapshot}
-use Rattle.turn_record.specs.Snapshots.{snapshot_in}
+use Rattle.turn_record.specs.Prelude.{Gives, EncodesSnapshot, snapshot_in}
 
 pub returns-clause-encoded : goal.returns-clause-encoded
 returns-clause-encoded g c =

@@ -1,7 +1,6 @@
-use Rattle.std.proofs.Common.{length, ap, arith}
-use Rattle.std.specs.Prelude.{Option}
+use Rattle.std.proofs.Common.{length, ap, arith, Option}
 use Rattle.std.specs.FinMap.{len-entries}
-use Rattle.turn_record.specs.Bytes.{mark}
+use Rattle.turn_record.specs.Prelude.{mark}
 use Rattle.turn_record.proofs.SnapshotSizes.{size_entry}
 use Rattle.turn_record.proofs.snapshot_writer.entry_size.Goals as goal
 use Rattle.turn_types.specs.declared.message.Token.{Token}

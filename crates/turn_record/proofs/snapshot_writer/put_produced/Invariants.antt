@@ -1,5 +1,5 @@
 use Rattle.std.proofs.Common.{◌≡◌, ◌+◌, ◌≤◌, ◌++◌, length, vec_capacity}
-use Rattle.turn_record.specs.Records.{max_entry_bytes}
+use Rattle.turn_record.specs.Prelude.{max_entry_bytes}
 use Rattle.turn_record.proofs.snapshot_writer.put_produced.Given as goal
 
 abbrev pub invariant-pieces : goal.invariant-pieces

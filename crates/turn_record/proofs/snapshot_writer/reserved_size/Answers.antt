@@ -1,6 +1,6 @@
 use Rattle.std.proofs.Common.{length, ap, refl, arith}
 use Rattle.std.specs.FinMap.{len-entries}
-use Rattle.turn_record.specs.Bytes.{reserved}
+use Rattle.turn_record.specs.Prelude.{reserved}
 use Rattle.turn_record.proofs.SnapshotSizes.{size_reserved}
 use Rattle.turn_record.proofs.snapshot_writer.reserved_size.Goals as goal
 

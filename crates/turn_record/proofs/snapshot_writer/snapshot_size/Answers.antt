@@ -1,11 +1,9 @@
 use Rattle.std.proofs.Common.{◌≡◌, ◌∷◌, List, length, subst, sym, ap, ◌∙◌, arith, length-append}
 use Rattle.std.specs.FinMap as fin
-use Rattle.turn_history.specs.Table.{Entry}
-use Rattle.turn_record.specs.Bytes.{each, entry}
-use Rattle.turn_record.specs.Written.{AreShort}
+use Rattle.turn_history.specs.Prelude.{Entry, FiveTuple}
+use Rattle.turn_record.specs.Prelude.{each, entry, AreShort}
 use Rattle.turn_record.proofs.SnapshotSizes.{are_short, size_snapshot, snapshot_small}
 use Rattle.turn_record.proofs.snapshot_writer.snapshot_size.Goals as goal
-use Rattle.turn_types.specs.declared.address.FiveTuple.{FiveTuple}
 
 pub loop-kept-init : goal.loop-kept-init
 loop-kept-init g c =

@@ -1,6 +1,5 @@
 use Rattle.std.proofs.Common.{◌≡◌, ◌+◌, length}
-use Rattle.turn_record.specs.Bytes.{each, entry, snapshot}
-use Rattle.turn_record.specs.Written.{AreShort}
+use Rattle.turn_record.specs.Prelude.{each, entry, snapshot, AreShort}
 use Rattle.turn_record.proofs.snapshot_writer.snapshot_size.Given as goal
 
 abbrev pub invariant-loop-kept : goal.invariant-loop-kept

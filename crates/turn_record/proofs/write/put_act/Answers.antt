@@ -1,7 +1,7 @@
 use Rattle.std.proofs.Common.{◌∷◌, []}
 use Rattle.std.specs.Int.{w64, to_be_bytes}
-use Rattle.turn_history.specs.Act.{act_of}
-use Rattle.turn_record.specs.Bytes.{tag, five_tuple, body}
+use Rattle.turn_history.specs.Prelude.{act_of}
+use Rattle.turn_record.specs.Prelude.{tag, five_tuple, body}
 use Rattle.turn_record.proofs.Appended.{appended, no_more}
 use Rattle.turn_record.proofs.write.put_act.Goals as goal
 

@@ -1,7 +1,6 @@
 use Rattle.std.proofs.Common.{◌≡◌, ◌+◌, ◌++◌, length, sym, subst, ap, ◌∙◌, arith, length-append}
-use Rattle.turn_history.specs.Act.{act_of, event_of}
-use Rattle.turn_record.specs.Bytes.{act_entry}
-use Rattle.turn_record.specs.Records.{HasShortParts}
+use Rattle.turn_history.specs.Prelude.{act_of, event_of}
+use Rattle.turn_record.specs.Prelude.{act_entry, HasShortParts}
 use Rattle.turn_record.proofs.Appended.{one_more_of, size_left_of}
 use Rattle.turn_record.proofs.write.put_all.Goals as goal
 

@@ -1,6 +1,5 @@
 use Rattle.std.proofs.Common.{◌≡◌, ◌+◌, ◌≤◌, ◌++◌, drop, length, vec_capacity}
-use Rattle.turn_record.specs.Bytes.{act_entry, each}
-use Rattle.turn_record.specs.Views.{events_of}
+use Rattle.turn_record.specs.Prelude.{act_entry, each, events_of}
 use Rattle.turn_record.proofs.write.put_all.Given as goal
 
 abbrev pub invariant-loop-event : goal.invariant-loop-event

@@ -1,6 +1,6 @@
 use Rattle.std.proofs.Common.{◌≡◌, ◌+◌, ◌≤◌, ◌++◌, drop, length, vec_capacity}
 use Rattle.std.specs.Int.{to_be_bytes, w32}
-use Rattle.turn_record.specs.Bytes.{each}
+use Rattle.turn_record.specs.Prelude.{each}
 use Rattle.turn_record.proofs.write.put_each.Given as goal
 
 abbrev pub invariant-loop-ip : goal.invariant-loop-ip

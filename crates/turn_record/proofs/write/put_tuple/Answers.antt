@@ -1,5 +1,5 @@
 use Rattle.std.proofs.Common.{[], ◌∷◌, ap, arith, length, length-append}
-use Rattle.turn_record.specs.Bytes.{endpoint}
+use Rattle.turn_record.specs.Prelude.{endpoint}
 use Rattle.turn_record.proofs.Appended.{appended, no_more}
 use Rattle.turn_record.proofs.write.put_tuple.Goals as goal
 

@@ -1,5 +1,5 @@
 use Rattle.std.proofs.Common.{arith}
-use Rattle.turn_history.specs.Act.{act_of}
+use Rattle.turn_history.specs.Prelude.{act_of}
 use Rattle.turn_record.proofs.Sizes.{act_at_most}
 use Rattle.turn_record.proofs.write.write_act.Goals as goal
 

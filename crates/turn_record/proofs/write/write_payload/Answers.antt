@@ -1,7 +1,6 @@
 use Rattle.std.proofs.Common.{◌≡◌, ◌+◌, ℕ, ◌*◌, ◌∙◌, List, [], ◌∷◌, ◌++◌, ap, length, arith, append_assoc, length-append}
-use Rattle.turn_history.specs.Act.{event_of}
-use Rattle.turn_record.specs.Bytes.{act_entry, each}
-use Rattle.turn_record.specs.Views.{events_of}
+use Rattle.turn_history.specs.Prelude.{event_of}
+use Rattle.turn_record.specs.Prelude.{act_entry, each, events_of}
 use Rattle.turn_record.proofs.Last.{length-map}
 use Rattle.turn_record.proofs.Sizes.{all_short, acts_at_most, batch_at_most, product_at_most}
 use Rattle.turn_record.proofs.write.write_payload.Goals as goal

@@ -1,4 +1,4 @@
-use Rattle.turn_history.specs.Table.{table}
+use Rattle.turn_history.specs.Prelude.{table}
 use Rattle.turn_history.proofs.Channels.{peers-apart}
 use Rattle.turn_history.proofs.Histories.{ports-apart}
 use Rattle.turn_relay.proofs.Holders.{one_way}

@@ -1,10 +1,7 @@
 use Rattle.std.proofs.Common.{◌≡◌, ℕ, ap, sym, ◌∙◌}
 use Rattle.std.specs.FinMap as fin
 use Rattle.turn_history.proofs.Histories.{ports-apart, table-events_of}
-use Rattle.turn_types.specs.declared.address.FiveTuple.{FiveTuple}
-use Rattle.turn_history.specs.History.{History}
-use Rattle.turn_history.specs.Laws.{events_of}
-use Rattle.turn_history.specs.Table.{table}
+use Rattle.turn_history.specs.Prelude.{FiveTuple, History, events_of, table}
 use Rattle.turn_relay.proofs.Datagrams.{same_entry}
 use Rattle.turn_relay.proofs.Holders.{same_holder}
 use Rattle.turn_relay.proofs.laws.sends_by_own_events.Goals as goal

@@ -1,5 +1,4 @@
-use Rattle.std.proofs.Common.{◌<◌, ℕ, take, refl, sym, subst, arith}
-use Rattle.std.specs.Prelude.{fold}
+use Rattle.std.proofs.Common.{◌<◌, ℕ, take, refl, sym, subst, arith, fold}
 use Rattle.turn_requests.specs.Sending.{with_one}
 use Rattle.turn_requests.proofs.Sizes.{long_front}
 use Rattle.turn_requests.proofs.request.size_with.Goals as goal

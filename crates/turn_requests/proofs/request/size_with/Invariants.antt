@@ -1,6 +1,5 @@
-use Rattle.std.proofs.Common.{◌≡◌, ◌≤◌, take}
-use Rattle.std.specs.Prelude.{fold}
-use Rattle.turn_codec.specs.Grammar.{Content, body_size}
+use Rattle.std.proofs.Common.{◌≡◌, ◌≤◌, take, fold}
+use Rattle.turn_codec.specs.Prelude.{Content, body_size}
 use Rattle.turn_requests.specs.Sending.{with_one}
 use Rattle.turn_requests.proofs.request.size_with.Given as goal
 

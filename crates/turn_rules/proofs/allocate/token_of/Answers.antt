@@ -1,12 +1,10 @@
-use Rattle.std.proofs.Common.{◌≡◌, ◌+◌, ◌%◌, ◌^◌, ℕ, arith, List, ◌++◌, take, ap, ◌∙◌, Some, None}
-use Rattle.std.specs.Prelude.{if◌then◌else◌}
+use Rattle.std.proofs.Common.{◌≡◌, ◌+◌, ◌%◌, ◌^◌, ℕ, arith, List, ◌++◌, take, ap, ◌∙◌, Some, None, if◌then◌else◌}
 use Rattle.std.specs.Int.{to_be_bytes, w16}
 use Rattle.sha2.specs.Sha256.{sha256}
 use Rattle.turn_mac.specs.Hmac.{hmac}
 use Rattle.turn_types.specs.declared.address.FiveTuple.{FiveTuple}
 use Rattle.turn_types.specs.declared.message.Token.{Token}
-use Rattle.turn_rules.specs.Allocate.{token_of}
-use Rattle.turn_rules.specs.Token.{token_for, token_input}
+use Rattle.turn_rules.specs.Prelude.{token_of, token_for, token_input}
 use Rattle.turn_rules.proofs.allocate.token_of.Goals as goal
 
 -- the port after the last one is 0

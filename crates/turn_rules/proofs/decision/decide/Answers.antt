@@ -1,13 +1,8 @@
 use Rattle.std.proofs.Common.{◌≡◌, ℕ, List, IfSome, false, sym, subst, ◌∙◌, ap, Option}
-use Rattle.turn_codec.specs.Grammar.{Content}
-use Rattle.turn_history.specs.Fitting.{Fits, IsActInRange}
-use Rattle.turn_history.specs.History.{PlainAct}
-use Rattle.turn_history.specs.Laws.{ReservesNone}
+use Rattle.turn_codec.specs.Prelude.{Content}
+use Rattle.turn_history.specs.Prelude.{Fits, IsActInRange, PlainAct, ReservesNone}
 use Rattle.turn_rules.specs.declared.outcome.Outcome.{Outcome}
-use Rattle.turn_rules.specs.Answer.{outcome_of, user_of, decision}
-use Rattle.turn_rules.specs.Decided.{verdict_in}
-use Rattle.turn_rules.specs.Laws.{IsPicked}
-use Rattle.turn_rules.specs.Outcome.{act_by}
+use Rattle.turn_rules.specs.Prelude.{outcome_of, user_of, decision, verdict_in, IsPicked, act_by}
 use Rattle.turn_rules.proofs.Acts.{decided_fits, decided_in_range, none_reserved}
 use Rattle.turn_rules.proofs.decision.decide.Goals as goal
 

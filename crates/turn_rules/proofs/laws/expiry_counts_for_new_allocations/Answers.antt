@@ -2,7 +2,7 @@ use Rattle.std.proofs.Common.{refl}
 use Rattle.std.specs.FinMap as fin
 use Rattle.std.proofs.Math.Bool.{and-false}
 use Rattle.std.proofs.lemmas.Bool.{lt-leb}
-use Rattle.turn_cred.specs.Credential.{has_expired}
+use Rattle.turn_cred.specs.Prelude.{has_expired}
 use Rattle.turn_history.proofs.Live.{some_is}
 use Rattle.turn_rules.proofs.Repeats.{in_time}
 use Rattle.turn_rules.proofs.laws.expiry_counts_for_new_allocations.Goals as goal

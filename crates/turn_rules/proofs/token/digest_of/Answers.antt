@@ -2,9 +2,9 @@ use Rattle.std.proofs.Common.{◌≡◌, ◌++◌, List, [], ℕ, append-nil, re
 use Rattle.std.specs.Int.{to_be_bytes, w64}
 use Rattle.sha2.specs.Sha256.{sha256}
 use Rattle.turn_mac.specs.Hmac.{hmac}
-use Rattle.turn_types.specs.FiveTuple.{endpoint_bytes, tuple_bytes}
+use Rattle.turn_types.specs.Prelude.{endpoint_bytes, tuple_bytes}
 use Rattle.turn_types.specs.declared.address.FiveTuple.{FiveTuple}
-use Rattle.turn_rules.specs.Token.{token_input}
+use Rattle.turn_rules.specs.Prelude.{token_input}
 use Rattle.turn_rules.proofs.token.digest_of.Goals as goal
 
 -- the pieces, joined

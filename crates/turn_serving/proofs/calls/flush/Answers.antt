@@ -1,7 +1,7 @@
 use Rattle.std.proofs.Common.{[], append-nil, refl, sym, List, map, subst}
 use Rattle.turn_serving.proofs.Turns.{committed}
 use Rattle.turn_serving.proofs.Wire.{flushes}
-use Rattle.turn_step.specs.Views.{sent_of}
+use Rattle.turn_step.specs.Prelude.{sent_of}
 use Rattle.turn_step.specs.declared.arrival.Outgoing.{Outgoing}
 use Rattle.turn_serving.specs.Wire.{SendsEach, addresses_of}
 use Rattle.turn_serving.proofs.calls.flush.Goals as goal

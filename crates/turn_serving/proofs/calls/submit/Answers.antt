@@ -1,5 +1,5 @@
 use Rattle.std.proofs.Common.{ap, refl, rules}
-use Rattle.turn_engine.specs.State.{ServerState}
+use Rattle.turn_engine.specs.Prelude.{ServerState}
 use Rattle.turn_serving.proofs.Moments.{reached}
 use Rattle.turn_serving.proofs.Order.{has_room, once, submitted_again}
 use Rattle.turn_serving.proofs.Turns.{in_row, none, submitted}

@@ -1,5 +1,5 @@
 use Rattle.std.proofs.Common.{ap, sym, ◌≡◌}
-use Rattle.turn_codec.specs.Grammar.{Datagram}
+use Rattle.turn_codec.specs.Prelude.{Datagram}
 use Rattle.turn_serving.proofs.Others.{by_message}
 use Rattle.turn_serving.proofs.requests.may_change.Goals as goal
 

@@ -1,6 +1,6 @@
 use Rattle.std.proofs.Common.{[], append-nil, inr, refl, subst, sym}
 use Rattle.turn_sockets.specs.Own.{IsListening}
-use Rattle.turn_step.specs.Views.{sent_of}
+use Rattle.turn_step.specs.Prelude.{sent_of}
 use Rattle.turn_step.specs.declared.arrival.Outgoing.{Outgoing}
 use Rattle.turn_serving.specs.Wire.{SendsOne, addresses_of}
 use Rattle.turn_serving.proofs.sending.send.Goals as goal

@@ -1,6 +1,6 @@
 use Rattle.std.proofs.Common.{[], ◌++◌, append_assoc, append-nil, ap, map, refl, subst, sym, ◌∙◌, arith}
 use Rattle.std.proofs.lemmas.List.{drop_all, drop_more}
-use Rattle.turn_step.specs.Views.{sent_of}
+use Rattle.turn_step.specs.Prelude.{sent_of}
 use Rattle.turn_step.specs.declared.arrival.Outgoing.{Outgoing}
 use Rattle.turn_serving.specs.Wire.{SendsEach, SendsOne, addresses_of}
 use Rattle.turn_serving.proofs.sending.send_all.Goals as goal

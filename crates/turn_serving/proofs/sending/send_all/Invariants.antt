@@ -1,6 +1,6 @@
 use Rattle.std.proofs.Common.{◌≡◌, ◌++◌, List, drop, map}
 use Rattle.turn_sockets.specs.Wire.{Passed}
-use Rattle.turn_step.specs.Views.{sent_of}
+use Rattle.turn_step.specs.Prelude.{sent_of}
 use Rattle.turn_serving.specs.Wire.{SendsEach, addresses_of}
 use Rattle.turn_serving.proofs.sending.send_all.Given as goal
 

@@ -1,7 +1,6 @@
 use Rattle.std.proofs.Common.{◌==◌, ℕ, List, subst}
 use Rattle.std.specs.FinMap as fin
-use Rattle.turn_history.specs.Table.{Entry}
-use Rattle.turn_types.specs.declared.address.FiveTuple.{FiveTuple}
+use Rattle.turn_history.specs.Prelude.{Entry, FiveTuple}
 use Rattle.turn_serving.proofs.Held.{IsBinding, bound_all, bound_one_more}
 use Rattle.turn_serving.specs.Starts.{AreBoundToo}
 use Rattle.turn_serving.proofs.start.bind_allocated.Goals as goal

@@ -1,9 +1,9 @@
 use Rattle.std.proofs.Common.{◌≡◌, ap, subst, sym, ◌∙◌, option_map}
-use Rattle.turn_codec.specs.Grammar.{Content, Datagram, Encodes}
+use Rattle.turn_codec.specs.Prelude.{Content, Datagram, Encodes}
 use Rattle.turn_relay.specs.FromClient.{SendsToPeer}
 use Rattle.turn_relay.specs.Views.{peer_data}
 use Rattle.turn_relay.proofs.Datagrams.{not_both, of_neither}
-use Rattle.turn_rules.specs.Answer.{is_request}
+use Rattle.turn_rules.specs.Prelude.{is_request}
 use Rattle.turn_step.proofs.client.read.Goals as goal
 
 pub returns-in-Some : goal.returns-in-Some

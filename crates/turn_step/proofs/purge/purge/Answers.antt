@@ -1,7 +1,6 @@
 use Rattle.std.proofs.Common.{ap, subst, sym, ◌∙◌}
-use Rattle.turn_history.specs.Fitting.{is_taken}
-use Rattle.turn_history.specs.Laws.{PortsApart, ReservedApart}
-use Rattle.turn_table.specs.State.{State}
+use Rattle.turn_history.specs.Prelude.{is_taken, PortsApart, ReservedApart}
+use Rattle.turn_table.specs.Prelude.{State}
 use Rattle.turn_step.proofs.Holding.{expired_gone, purged_ports}
 use Rattle.turn_step.proofs.purge.purge.Given.{Over}
 use Rattle.turn_step.proofs.purge.purge.Goals as goal

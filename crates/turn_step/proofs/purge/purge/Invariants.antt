@@ -1,8 +1,6 @@
 use Rattle.std.proofs.Common.{◌≡◌, ◌+◌}
 use Rattle.std.specs.FinMap as fin
-use Rattle.turn_history.specs.Fitting.{is_taken}
-use Rattle.turn_history.specs.Laws.{PortsApart, ReservedApart}
-use Rattle.turn_history.specs.Table.{purged}
+use Rattle.turn_history.specs.Prelude.{is_taken, PortsApart, ReservedApart, purged}
 use Rattle.turn_step.proofs.purge.purge.Given as goal
 
 abbrev pub decreases-loop-port : goal.decreases-loop-port

@@ -1,19 +1,10 @@
 use Rattle.std.proofs.Common.{◌≡◌, ℕ, ◌||◌, arith, IfSome, Option, Some, None, option_map, refl, subst, sym, ap, ◌∙◌}
 use Rattle.std.proofs.lemmas.Option.{same_Some}
-use Rattle.turn_history.specs.Act.{act_of}
-use Rattle.turn_types.specs.declared.address.FiveTuple.{FiveTuple}
-use Rattle.turn_history.specs.Fitting.{IsTuple, is_taken}
-use Rattle.turn_history.specs.Laws.{ReservesNone}
-use Rattle.turn_history.specs.History.{PlainAct}
-use Rattle.turn_rules.specs.Answer.{Decided}
-use Rattle.turn_rules.specs.Decided.{decided_of, verdict_in}
-use Rattle.turn_rules.specs.Taking.{is_picked, takes_if_any}
+use Rattle.turn_history.specs.Prelude.{act_of, FiveTuple, IsTuple, is_taken, ReservesNone, PlainAct}
+use Rattle.turn_rules.specs.Prelude.{Decided, decided_of, verdict_in, is_picked, takes_if_any}
 use Rattle.turn_rules.proofs.Taking.{decision_takes}
-use Rattle.turn_table.specs.Table.{room_for}
-use Rattle.turn_step.specs.Holding.{ports_with, takes_in}
-use Rattle.turn_step.specs.Outcome.{StepOutcome, change_of, decided_for}
-use Rattle.turn_step.specs.State.{MayBeNext}
-use Rattle.turn_step.specs.Views.{sent_of}
+use Rattle.turn_table.specs.Prelude.{room_for}
+use Rattle.turn_step.specs.Prelude.{ports_with, takes_in, StepOutcome, change_of, decided_for, MayBeNext, sent_of}
 use Rattle.turn_step.proofs.Machines.{may_be_next}
 use Rattle.turn_step.proofs.request.settle.Given.{Over}
 use Rattle.turn_step.proofs.request.settle.Goals as goal

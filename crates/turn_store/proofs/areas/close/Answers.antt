@@ -2,7 +2,7 @@ use Rattle.std.proofs.Common.{refl, rules}
 use Rattle.turn_disk.proofs.Passing.{passes_none}
 use Rattle.turn_disk.proofs.Since.{since_same, since_weaken}
 use Rattle.turn_store.proofs.Rows.{row_close, closed_after, closed_there, recovers_image}
-use Rattle.turn_store.specs.Areas.{Holds}
+use Rattle.turn_store.specs.Prelude.{Holds}
 use Rattle.turn_store.proofs.areas.close.Goals as goal
 
 pub returns-in_err-write_through-clause-stop : goal.returns-in_err-write_through-clause-stop

@@ -1,8 +1,8 @@
 use Rattle.std.proofs.Common.{◌+◌, length, arith, rules}
-use Rattle.turn_disk.specs.Disk.{ChangesOnly}
+use Rattle.turn_disk.specs.Prelude.{ChangesOnly}
 use Rattle.turn_disk.proofs.Since.{since_weaken}
 use Rattle.turn_store.proofs.Rows.{row_fill, filled_after}
-use Rattle.turn_store.specs.Areas.{Holds}
+use Rattle.turn_store.specs.Prelude.{Holds}
 use Rattle.turn_store.proofs.areas.fill.Goals as goal
 
 pub returns-in_err-write_produced-clause-stop : goal.returns-in_err-write_produced-clause-stop

@@ -1,7 +1,7 @@
 use Rattle.std.proofs.Common.{◌⊎◌, ◌∷◌, []}
 use Rattle.turn_disk.proofs.Since.{since_weaken, through_once}
 use Rattle.turn_store.proofs.Rows.{row_switch, after_switch}
-use Rattle.turn_store.specs.Areas.{Holds}
+use Rattle.turn_store.specs.Prelude.{Holds}
 use Rattle.turn_store.proofs.areas.switch.Goals as goal
 
 pub returns-in_err-write_through-clause-stop : goal.returns-in_err-write_through-clause-stop

@@ -2,7 +2,7 @@ use Rattle.std.proofs.Common.{⊎_elim, arith, inl, inr, refl, rules, ◌≤◌}
 use Rattle.std.proofs.lemmas.Result.{err_from_is_err_and}
 use Rattle.turn_disk.proofs.Device.{uses_as, uses_then}
 use Rattle.turn_disk.proofs.Since.{since_join}
-use Rattle.turn_store.specs.Superblock.{least_area}
+use Rattle.turn_store.specs.Prelude.{least_area}
 use Rattle.turn_store.proofs.Formats.{represents_nothing}
 use Rattle.turn_store.proofs.Ordered.{format_failed, in_order, wiped_since}
 use Rattle.turn_store.proofs.formatting.format_as.Goals as goal

@@ -1,5 +1,5 @@
 use Rattle.std.proofs.Common.{◌≡◌, ◌+◌, ◌-◌, ◌∷◌, [], ℕ, ◌∙◌, sym, subst, arith}
-use Rattle.turn_disk.specs.Disk.{ChangesOnly, StandsAt}
+use Rattle.turn_disk.specs.Prelude.{ChangesOnly, StandsAt}
 use Rattle.turn_store.proofs.Formats.{laid_state}
 use Rattle.turn_store.proofs.Ordered.{areas_since, second_since}
 use Rattle.turn_store.proofs.formatting.lay_areas.Goals as goal

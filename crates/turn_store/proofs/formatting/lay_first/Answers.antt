@@ -1,10 +1,6 @@
-use Rattle.std.proofs.Common.{◌∷◌, ◌++◌, [], List, ℕ, sym, subst}
-use Rattle.std.specs.Prelude.{OnOk}
-use Rattle.turn_disk.specs.Disk.{ThroughOutcome, WritesThrough}
-use Rattle.turn_record.specs.declared.version.Version.{Version}
-use Rattle.turn_record.specs.declared.version.Version.TheVariants.{V1, V2}
-use Rattle.turn_store.specs.Areas.{area_front}
-use Rattle.turn_store.specs.Format.{fresh}
+use Rattle.std.proofs.Common.{◌∷◌, ◌++◌, [], List, ℕ, sym, subst, OnOk}
+use Rattle.turn_disk.specs.Prelude.{ThroughOutcome, WritesThrough}
+use Rattle.turn_store.specs.Prelude.{Version, V1, V2, area_front, fresh}
 use Rattle.turn_store.proofs.Formats.{fresh_is}
 use Rattle.turn_store.proofs.formatting.lay_first.Goals as goal
 

@@ -1,5 +1,5 @@
 use Rattle.std.proofs.Common.{List, ℕ, subst}
-use Rattle.turn_disk.specs.Disk.{WritesThrough}
+use Rattle.turn_disk.specs.Prelude.{WritesThrough}
 use Rattle.turn_store.proofs.Formats.{formatted}
 use Rattle.turn_store.proofs.Ordered.{named_since, opened_since}
 use Rattle.turn_store.proofs.formatting.open_first.Goals as goal

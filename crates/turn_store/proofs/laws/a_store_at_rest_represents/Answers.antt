@@ -1,5 +1,5 @@
 use Rattle.turn_store.proofs.Rows.{recovers_image}
-use Rattle.turn_store.specs.State.{form_of}
+use Rattle.turn_store.specs.Prelude.{form_of}
 use Rattle.turn_store.proofs.Versions.{shown_in}
 use Rattle.turn_store.proofs.laws.a_store_at_rest_represents.Goals as goal
 

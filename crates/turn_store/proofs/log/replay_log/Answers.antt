@@ -1,11 +1,10 @@
 use Rattle.std.proofs.Common.{◌≡◌, ◌+◌, ℕ, ap, refl, sym, ◌∙◌, subst, arith, length}
 use Rattle.std.proofs.lemmas.Result.{err_from_is_err_and}
-use Rattle.turn_disk.specs.Disk.{Trace, StandsAt}
+use Rattle.turn_disk.specs.Prelude.{Trace, StandsAt}
 use Rattle.turn_journal.specs.Area.{end_of, limit_of}
 use Rattle.turn_journal.specs.Frames.{IsClosed, IsFrame, IsOpen}
 use Rattle.turn_journal.specs.Scan.{HasLength, IsBadFrame, IsFound}
-use Rattle.turn_store.specs.Refused.{FaultWith, ReadsBad, ReadsOn}
-use Rattle.turn_store.specs.Tables.{snapshot_of}
+use Rattle.turn_store.specs.Prelude.{FaultWith, ReadsBad, ReadsOn, snapshot_of}
 use Rattle.turn_store.proofs.Logs.{SoFar, none_yet, one_more, all_read, frame_is, broken_frame, broken_payload, faults_weaken}
 use Rattle.turn_store.proofs.log.replay_log.Goals as goal
 

@@ -1,6 +1,6 @@
 use Rattle.std.proofs.Common.{◌≡◌, ◌≤◌, ◌<◌, ◌+◌, ◌-◌, length}
-use Rattle.turn_record.specs.Records.{IsSnapshot}
-use Rattle.turn_store.specs.Tables.{snapshot_of}
+use Rattle.turn_record.specs.Prelude.{IsSnapshot}
+use Rattle.turn_store.specs.Prelude.{snapshot_of}
 use Rattle.turn_store.proofs.Logs.{SoFar}
 use Rattle.turn_store.proofs.log.replay_log.Given as goal
 

@@ -1,10 +1,8 @@
 use Rattle.std.proofs.Common.{◌∙◌, ℕ, refl, sym, subst, nat_lt}
 use Rattle.std.proofs.lemmas.Result.{err_from_is_err_and}
 use Rattle.turn_disk.proofs.Device.{reads_as, reads_then}
-use Rattle.turn_disk.specs.Disk.{Trace}
-use Rattle.turn_store.specs.Opened.{AreaIsRead, IsChosen}
-use Rattle.turn_store.specs.Refused.{AreaIsBad, FaultWith, StoreIsBad}
-use Rattle.turn_store.specs.Tables.{snapshot_of}
+use Rattle.turn_disk.specs.Prelude.{Trace}
+use Rattle.turn_store.specs.Prelude.{AreaIsRead, IsChosen, AreaIsBad, FaultWith, StoreIsBad, snapshot_of}
 use Rattle.turn_store.proofs.Choices.{bad_store, chosen_is, found, read_both}
 use Rattle.turn_store.proofs.Logs.{faults_weaken}
 use Rattle.turn_store.proofs.open.choose.Goals as goal

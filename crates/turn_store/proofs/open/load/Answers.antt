@@ -1,12 +1,9 @@
 use Rattle.std.proofs.Common.{◌≡◌, ◌+◌, ◌*◌, ℕ, List, length, sym, ◌∙◌, ap, subst}
 use Rattle.std.proofs.lemmas.Result.{err_from_is_err_and}
 use Rattle.turn_disk.proofs.Device.{uses_as, uses_of, uses_then}
-use Rattle.turn_disk.specs.Disk.{EachImageSince, IsImage, IsSettled, Trace}
+use Rattle.turn_disk.specs.Prelude.{EachImageSince, IsImage, IsSettled, Trace}
 use Rattle.turn_disk.proofs.Since.{since_join, since_same}
-use Rattle.turn_store.specs.Opened.{IsChosen}
-use Rattle.turn_store.specs.Refused.{FaultWith, StoreIsBad, WhyRefused}
-use Rattle.turn_store.specs.Superblock.{HasSuperblock}
-use Rattle.turn_store.specs.Tables.{snapshot_of}
+use Rattle.turn_store.specs.Prelude.{IsChosen, FaultWith, StoreIsBad, WhyRefused, HasSuperblock, snapshot_of}
 use Rattle.turn_store.proofs.Choices.{why_of_bad}
 use Rattle.turn_store.proofs.NeverRefused.{plain_of}
 use Rattle.turn_store.proofs.open.load.Goals as goal

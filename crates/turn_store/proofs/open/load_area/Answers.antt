@@ -1,12 +1,10 @@
 use Rattle.std.proofs.Common.{◌≡◌, ◌+◌, ℕ, inl, inr, refl, ap, sym, subst, arith}
 use Rattle.std.proofs.lemmas.Result.{err_from_is_err_and}
 use Rattle.turn_disk.proofs.Device.{reads_as, reads_then}
-use Rattle.turn_disk.specs.Disk.{Trace}
+use Rattle.turn_disk.specs.Prelude.{Trace}
 use Rattle.turn_journal.specs.Area.{end_of, limit_of}
 use Rattle.turn_journal.specs.declared.area.Area.{Area}
-use Rattle.turn_store.specs.Opened.{AreaIsRead, LogIsRead}
-use Rattle.turn_store.specs.Refused.{BreaksAt}
-use Rattle.turn_store.specs.Tables.{snapshot_of}
+use Rattle.turn_store.specs.Prelude.{AreaIsRead, LogIsRead, BreaksAt, snapshot_of}
 use Rattle.turn_store.proofs.Logs.{faults_weaken}
 use Rattle.turn_store.proofs.Choices.{area_is_read}
 use Rattle.turn_store.proofs.open.load_area.Goals as goal

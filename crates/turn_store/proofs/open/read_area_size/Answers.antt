@@ -1,7 +1,7 @@
 use Rattle.std.proofs.Common.{inl, inr, refl, sym, ◌∙◌, subst, arith}
 use Rattle.turn_store.proofs.Sizes.{each_small}
 use Rattle.turn_store.proofs.Sound.{not_both}
-use Rattle.turn_store.specs.Superblock.{HasSuperblock}
+use Rattle.turn_store.specs.Prelude.{HasSuperblock}
 use Rattle.turn_types.specs.declared.limits.Bounds.{Bounds}
 use Rattle.turn_store.proofs.open.read_area_size.Goals as goal
 

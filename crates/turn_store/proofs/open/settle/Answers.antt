@@ -1,5 +1,5 @@
 use Rattle.std.proofs.Common.{◌≡◌, inl, inr, rules}
-use Rattle.turn_disk.specs.Disk.{EachImageSince, IsImage, Syncs, Trace}
+use Rattle.turn_disk.specs.Prelude.{EachImageSince, IsImage, Syncs, Trace}
 use Rattle.turn_disk.proofs.Since.{since_sync}
 use Rattle.turn_store.proofs.open.settle.Goals as goal
 

@@ -1,6 +1,6 @@
 use Rattle.std.proofs.Common.{◌≡◌, ◌+◌}
 use Rattle.std.specs.FinMap as fin
-use Rattle.turn_history.specs.Table.{purged}
+use Rattle.turn_history.specs.Prelude.{purged}
 use Rattle.turn_store.proofs.replay.advance.Given as goal
 
 abbrev pub decreases-loop-moment : goal.decreases-loop-moment

@@ -1,13 +1,9 @@
-use Rattle.std.proofs.Common.{◌≡◌, ◌<◌, ◌↔◌, List, [], ◌∷◌, ◌∙◌, length, refl, sym, subst, ap, arith, rules, slice_index_or}
+use Rattle.std.proofs.Common.{◌≡◌, ◌<◌, ◌↔◌, List, [], ◌∷◌, ◌∙◌, length, refl, sym, subst, ap, arith, rules, slice_index_or, remove}
 use Rattle.std.proofs.lemmas.Result.{err_from_is_err_and}
-use Rattle.std.specs.List.{remove}
-use Rattle.turn_history.specs.Act.{event_of}
-use Rattle.turn_history.specs.History.{Event}
-use Rattle.turn_record.specs.Views.{events_of}
-use Rattle.turn_store.specs.Replay.{Snapshot, IsNext, GoOn, after, after_all}
-use Rattle.turn_store.specs.Tables.{snapshot_of}
+use Rattle.turn_history.specs.Prelude.{event_of, Event, Bounds}
+use Rattle.turn_record.specs.Prelude.{events_of}
+use Rattle.turn_store.specs.Prelude.{Snapshot, IsNext, GoOn, after, after_all, snapshot_of}
 use Rattle.turn_store.proofs.replay.apply_all.Goals as goal
-use Rattle.turn_types.specs.declared.limits.Bounds.{Bounds}
 
 first_and_rest : {A : Type 0} (xs rest : List A) (x : A) → 0 < length xs → x ≡ slice_index_or xs 0 x → rest ≡ remove xs 0 → xs ≡ x ∷ rest
 first_and_rest [] rest x some is cut = absurd (omega (arith, some))

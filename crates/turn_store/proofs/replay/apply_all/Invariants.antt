@@ -1,7 +1,6 @@
 use Rattle.std.proofs.Common.{◌≡◌, ◌↔◌, length}
-use Rattle.turn_record.specs.Views.{events_of}
-use Rattle.turn_store.specs.Replay.{GoOn, after_all}
-use Rattle.turn_store.specs.Tables.{snapshot_of}
+use Rattle.turn_record.specs.Prelude.{events_of}
+use Rattle.turn_store.specs.Prelude.{GoOn, after_all, snapshot_of}
 use Rattle.turn_store.proofs.replay.apply_all.Given as goal
 
 abbrev pub decreases-loop-events : goal.decreases-loop-events

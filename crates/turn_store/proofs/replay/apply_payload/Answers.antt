@@ -1,9 +1,8 @@
 use Rattle.std.proofs.Common.{List, sym, subst}
 use Rattle.std.proofs.lemmas.Result.{err_from_is_err_and}
 use Rattle.turn_history.specs.History as histories
-use Rattle.turn_store.specs.Replay.{GoOn}
-use Rattle.turn_store.specs.Tables.{snapshot_of}
-use Rattle.turn_types.specs.declared.limits.Bounds.{Bounds}
+use Rattle.turn_store.specs.Prelude.{GoOn, snapshot_of}
+use Rattle.turn_history.specs.Prelude.{Bounds}
 use Rattle.turn_store.proofs.replay.apply_payload.Goals as goal
 
 pub returns-in_err-apply_all-clause-bad : goal.returns-in_err-apply_all-clause-bad

@@ -1,6 +1,6 @@
 use Rattle.std.proofs.Common.{ℕ, ◌++◌, List, subst}
-use Rattle.turn_record.specs.Pieces.{WasFed}
-use Rattle.turn_store.specs.Bytes.{AreBytes}
+use Rattle.turn_record.specs.Prelude.{WasFed}
+use Rattle.turn_store.specs.Prelude.{AreBytes}
 use Rattle.turn_store.proofs.Fed.{bytes_join}
 use Rattle.turn_store.proofs.snapshots.feed_piece.Goals as goal
 

@@ -1,13 +1,9 @@
 use Rattle.std.proofs.Common.{◌≡◌, [], ◌+◌, ◌≤◌, ◌++◌, ◌∙◌, ℕ, length, take, drop, refl, sym, subst, arith}
-use Rattle.turn_disk.specs.Disk.{Trace}
-use Rattle.turn_record.specs.Pieces.{WasFed}
-use Rattle.turn_record.specs.Reading.{Fails}
-use Rattle.turn_record.specs.Snapshots.{snapshot_in}
-use Rattle.turn_record.specs.declared.error.ReadError.{ReadError}
-use Rattle.turn_store.specs.Bytes.{AreBytes}
-use Rattle.turn_store.specs.Tables.{snapshot_of}
+use Rattle.turn_disk.specs.Prelude.{Trace}
+use Rattle.turn_record.specs.Prelude.{WasFed, Fails, snapshot_in}
+use Rattle.turn_store.specs.Prelude.{ReadError, AreBytes, snapshot_of}
 use Rattle.turn_store.proofs.Fed.{piece_more, bytes_join, fed_snapshot, good_snapshot, bad_snapshot}
-use Rattle.turn_types.specs.Limits.{AreInRange}
+use Rattle.turn_types.specs.Prelude.{AreInRange}
 use Rattle.turn_store.proofs.snapshots.read_snapshot.Goals as goal
 
 pub loop-done-init : goal.loop-done-init

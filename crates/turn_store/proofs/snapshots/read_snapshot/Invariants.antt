@@ -1,6 +1,6 @@
 use Rattle.std.proofs.Common.{◌≡◌, ℕ, List, ◌≤◌, ◌-◌, take, drop}
-use Rattle.turn_record.specs.Pieces.{WasFed}
-use Rattle.turn_store.specs.Bytes.{AreBytes}
+use Rattle.turn_record.specs.Prelude.{WasFed}
+use Rattle.turn_store.specs.Prelude.{AreBytes}
 use Rattle.turn_store.proofs.snapshots.read_snapshot.Given as goal
 
 abbrev pub invariant-loop-done : goal.invariant-loop-done

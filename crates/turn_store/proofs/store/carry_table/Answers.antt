@@ -1,11 +1,7 @@
 use Rattle.std.proofs.Common.{◌≡◌, ℕ, ◌∙◌, [], ap, refl, sym, subst}
 use Rattle.turn_disk.proofs.Device.{uses_as}
-use Rattle.turn_disk.specs.Device.{Uses}
-use Rattle.turn_disk.specs.Disk.{EachImageSince}
-use Rattle.turn_store.specs.Images.{IsInVersionOr2, RepresentsBy}
-use Rattle.turn_store.specs.Opened.{OpensTo}
-use Rattle.turn_store.specs.State.{Shows, carried, carried_area, form_of}
-use Rattle.turn_store.specs.Tables.{snapshot_of}
+use Rattle.turn_disk.specs.Prelude.{Uses, EachImageSince}
+use Rattle.turn_store.specs.Prelude.{IsInVersionOr2, RepresentsBy, OpensTo, Shows, carried, carried_area, form_of, snapshot_of}
 use Rattle.turn_store.specs.declared.error.OpenError.TheVariants.{Device}
 use Rattle.turn_store.proofs.Carried.{next, over_rests, over_since, stays_since}
 use Rattle.turn_store.proofs.Versions.{rest_in_or_2, stages_over}

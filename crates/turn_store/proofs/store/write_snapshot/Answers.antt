@@ -1,7 +1,6 @@
-use Rattle.std.proofs.Common.{◌+◌, ◌∙◌, ◌++◌, ◌∷◌, [], ℕ, true, ap, arith, subst, sym}
-use Rattle.std.specs.Prelude.{OnOk}
+use Rattle.std.proofs.Common.{◌+◌, ◌∙◌, ◌++◌, ◌∷◌, [], ℕ, true, ap, arith, subst, sym, OnOk}
 use Rattle.turn_record.specs.Bytes as bytes
-use Rattle.turn_store.specs.Areas.{RecoversToParts, area_front}
+use Rattle.turn_store.specs.Prelude.{RecoversToParts, area_front}
 use Rattle.turn_store.proofs.Steps.{front_is, length-front}
 use Rattle.turn_store.proofs.store.write_snapshot.Goals as goal
 

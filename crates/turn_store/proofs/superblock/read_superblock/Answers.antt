@@ -1,5 +1,5 @@
 use Rattle.std.proofs.Common.{refl, ℕ, List, subst, arith}
-use Rattle.turn_disk.specs.Disk.{StandsAt}
+use Rattle.turn_disk.specs.Prelude.{StandsAt}
 use Rattle.turn_store.proofs.Superblocks.{read_is}
 use Rattle.turn_store.proofs.superblock.read_superblock.Goals as goal
 

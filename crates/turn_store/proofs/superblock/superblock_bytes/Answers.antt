@@ -1,5 +1,5 @@
 use Rattle.std.proofs.Common.{ap, ◌∙◌}
-use Rattle.turn_store.specs.Superblock.{superblock}
+use Rattle.turn_store.specs.Prelude.{superblock}
 use Rattle.turn_store.proofs.Superblocks.{laid}
 use Rattle.turn_store.proofs.superblock.superblock_bytes.Goals as goal
 

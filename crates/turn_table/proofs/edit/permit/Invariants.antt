@@ -1,5 +1,5 @@
 use Rattle.std.proofs.Common.{◌≡◌, ◌≤◌, length, drop}
-use Rattle.turn_history.specs.Table.{permitting}
+use Rattle.turn_history.specs.Prelude.{permitting}
 use Rattle.turn_table.proofs.edit.permit.Given as goal
 
 -- the later addresses are installed, and there is room for the others

@@ -1,7 +1,7 @@
 use Rattle.std.proofs.Common.{◌<◌, ◌≤◌, length, ◌∙◌, arith}
 use Rattle.std.proofs.lemmas.List.{length-map}
 use Rattle.indexmap.proofs.CallerLemmas.{index_map_len-with_value_at}
-use Rattle.turn_table.specs.State.{pair_of, pairs}
+use Rattle.turn_table.specs.Prelude.{pair_of, pairs}
 use Rattle.turn_table.proofs.Purged.{purged_end, purged_more}
 use Rattle.turn_table.proofs.edit.purge_entries.Goals as goal
 

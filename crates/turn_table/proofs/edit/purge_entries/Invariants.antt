@@ -1,7 +1,6 @@
 use Rattle.std.proofs.Common.{◌≡◌, ◌++◌, map, take, drop}
 use Rattle.indexmap.specs.IndexMap.{index_map_len}
-use Rattle.turn_table.specs.Kept.{still_pair}
-use Rattle.turn_table.specs.State.{pairs}
+use Rattle.turn_table.specs.Prelude.{still_pair, pairs}
 use Rattle.turn_table.proofs.edit.purge_entries.Given as goal
 
 -- the entries before are purged

@@ -1,6 +1,5 @@
-use Rattle.std.proofs.Common.{ap, ◌∙◌}
-use Rattle.std.specs.Ordering.{nat_cmp}
-use Rattle.turn_table.specs.Kept.{map_in, still_entry}
+use Rattle.std.proofs.Common.{ap, ◌∙◌, nat_cmp}
+use Rattle.turn_table.specs.Prelude.{map_in, still_entry}
 use Rattle.turn_table.proofs.Purging.{still-permissions, still-channels}
 use Rattle.turn_table.proofs.edit.purge_entry.Goals as goal
 

@@ -1,7 +1,7 @@
 use Rattle.std.proofs.Common.{◌≡◌, ◌≤◌, ap, sym, ◌∙◌, subst}
 use Rattle.std.specs.List.{list_all}
 use Rattle.std.specs.FinMap as fin
-use Rattle.turn_history.specs.Fitting.{goes_with}
+use Rattle.turn_history.specs.Prelude.{goes_with}
 use Rattle.turn_history.proofs.Tests.{together, all_together}
 use Rattle.turn_table.proofs.fits.fits_channel.Goals as goal
 use Rattle.turn_table.proofs.fits.fits_channel.Goals.{After-go_together}

@@ -1,13 +1,11 @@
-use Rattle.std.proofs.Common.{◌≡◌, ℕ, ◌+◌, ◌-◌, ◌<◌, Bool, true, false, cond, ◌||◌, not, is_some, arith, List, ◌∷◌, drop, length, refl, sym, ap, ◌∙◌, Option, Some, None, get_or, drop-cons, add-one}
-use Rattle.std.specs.Prelude.{nat_eq}
+use Rattle.std.proofs.Common.{◌≡◌, ℕ, ◌+◌, ◌-◌, ◌<◌, Bool, true, false, cond, ◌||◌, not, is_some, arith, List, ◌∷◌, drop, length, refl, sym, ap, ◌∙◌, Option, Some, None, get_or, drop-cons, add-one, nat_eq, nat_cmp}
 use Rattle.std.proofs.lemmas.Bool.{not-false, not-true}
 use Rattle.std.specs.List.{list_any}
-use Rattle.std.specs.Ordering.{nat_cmp}
 use Rattle.std.proofs.lemmas.Cmp.{nat_cmp_total}
 use Rattle.std.specs.FinMap as fin
 use Rattle.std.specs.FinMap.{FinMap, len-insert}
 use Rattle.turn_history.proofs.Steps.{get-install}
-use Rattle.turn_history.specs.Table.{install}
+use Rattle.turn_history.specs.Prelude.{install}
 use Rattle.turn_table.proofs.Places.{all_taken}
 use Rattle.turn_table.proofs.fits.new_addresses.Goals as goal
 

@@ -1,6 +1,6 @@
 use Rattle.std.proofs.Common.{◌≡◌, ◌+◌, ◌≤◌, length, drop}
 use Rattle.std.specs.FinMap as fin
-use Rattle.turn_history.specs.Table.{install}
+use Rattle.turn_history.specs.Prelude.{install}
 use Rattle.turn_table.proofs.fits.new_addresses.Given as goal
 
 -- the later addresses are counted

@@ -1,5 +1,5 @@
 use Rattle.std.proofs.Common.{arith}
-use Rattle.turn_table.specs.Live.{IsQuiet}
+use Rattle.turn_table.specs.Prelude.{IsQuiet}
 use Rattle.turn_table.proofs.Places.{all_next, all_of}
 use Rattle.turn_table.proofs.Ready.{min_below, quiet_before}
 use Rattle.turn_table.proofs.search.earliest_of.Goals as goal

@@ -1,6 +1,6 @@
 use Rattle.std.proofs.Common.{take}
 use Rattle.std.specs.List.{AllByRecursion}
-use Rattle.turn_table.specs.Live.{IsQuiet}
+use Rattle.turn_table.specs.Prelude.{IsQuiet}
 use Rattle.turn_table.proofs.search.earliest_of.Given as goal
 
 -- nothing of the entries before expires earlier

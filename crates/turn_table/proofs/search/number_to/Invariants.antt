@@ -1,6 +1,6 @@
 use Rattle.std.proofs.Common.{◌≡◌, drop}
 use Rattle.std.specs.List.{position_from}
-use Rattle.turn_history.specs.Fitting.{is_peer}
+use Rattle.turn_history.specs.Prelude.{is_peer}
 use Rattle.turn_table.proofs.search.number_to.Given as goal
 
 -- what is left gives the place

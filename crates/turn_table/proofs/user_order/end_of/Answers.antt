@@ -1,9 +1,8 @@
-use Rattle.std.proofs.Common.{rules}
-use Rattle.std.specs.Ordering.{is_le}
+use Rattle.std.proofs.Common.{rules, is_le}
 use Rattle.std.proofs.lemmas.List.Sorted.{IsPartitionPoint-from_clause}
 use Rattle.turn_table.proofs.ByUser.{parted, le_is}
 use Rattle.turn_table.proofs.user_order.end_of.Goals as goal
-use Rattle.turn_table.specs.ByUser.{name_cmp, names_in}
+use Rattle.turn_table.specs.Prelude.{name_cmp, names_in}
 
 pub returns : goal.returns
 returns g c =

@@ -2,8 +2,7 @@ use Rattle.std.proofs.Common.{◌≡◌, List, [], Option, Some, None, sym, ap, 
 use Rattle.std.specs.Map.{lookup}
 use Rattle.std.specs.Option.{option_map_or}
 use Rattle.turn_types.specs.declared.address.FiveTuple.{FiveTuple}
-use Rattle.turn_table.specs.ByUser.{names_in, user_of}
-use Rattle.turn_table.specs.State.{Held}
+use Rattle.turn_table.specs.Prelude.{names_in, user_of, Held}
 use Rattle.turn_table.proofs.Held.{get-held_in}
 use Rattle.turn_table.proofs.Tuples.{tuple_eq}
 use Rattle.turn_table.proofs.user_order.name_at.Goals as goal

@@ -1,11 +1,10 @@
-use Rattle.std.proofs.Common.{arith, ◌≡◌, ◌<◌, false, true, ap, ◌∙◌, sym, length, Some}
-use Rattle.std.specs.Ordering.{is_lt}
+use Rattle.std.proofs.Common.{arith, ◌≡◌, ◌<◌, false, true, ap, ◌∙◌, sym, length, Some, is_lt}
 use Rattle.std.proofs.lemmas.Bool.{not-false}
 use Rattle.std.proofs.lemmas.Cmp.{nat_list_cmp_total, tied_itself}
 use Rattle.std.proofs.lemmas.Option.{slice_get-get_or}
-use Rattle.turn_table.specs.ByUser.{name_cmp, names_in}
+use Rattle.turn_table.specs.Prelude.{name_cmp, names_in}
 use Rattle.turn_history.proofs.Maps.{tuple_exact, from_eq}
-use Rattle.turn_types.specs.FiveTuple.{tuple_cmp}
+use Rattle.turn_types.specs.Prelude.{tuple_cmp}
 use Rattle.turn_table.proofs.Tuples.{tuple_same}
 use Rattle.turn_table.proofs.user_order.place_in.Goals as goal
 

@@ -1,11 +1,7 @@
-use Rattle.std.proofs.Common.{◌≡◌, ◌∙◌, true, refl, sym, subst, Option, Some, None, IfSome, option_map}
-use Rattle.std.specs.declared.cmp.Ordering.{Ordering}
-use Rattle.std.specs.declared.cmp.Ordering.TheVariants.{Less, Equal, Greater}
-use Rattle.std.specs.Ordering.{is_lt}
+use Rattle.std.proofs.Common.{◌≡◌, ◌∙◌, true, refl, sym, subst, Option, Some, None, IfSome, option_map, Ordering, Less, Equal, Greater, is_lt}
 use Rattle.std.proofs.lemmas.Option.{same_Some}
-use Rattle.turn_history.specs.Table.{Entry}
-use Rattle.turn_types.specs.FiveTuple.{tuple_cmp}
-use Rattle.turn_types.specs.declared.address.FiveTuple.{FiveTuple}
+use Rattle.turn_history.specs.Prelude.{Entry, FiveTuple}
+use Rattle.turn_types.specs.Prelude.{tuple_cmp}
 use Rattle.rule_tests.proofs.tests.tables.comes_last.Goals as goal
 
 less : (r : Ordering) → is_lt r ≡ true → r ≡ Less

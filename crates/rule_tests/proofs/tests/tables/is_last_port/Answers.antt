@@ -1,6 +1,4 @@
-use Rattle.std.proofs.Common.{ℕ, ◌≡◌, ◌<◌, ◌-◌, length, subst, List, Option, Some, None, IfSome}
-use Rattle.std.proofs.lemmas.Bool.{ltb-true}
-use Rattle.std.specs.List.{slice_get}
+use Rattle.std.proofs.Common.{ℕ, ◌≡◌, ◌<◌, ◌-◌, length, subst, List, Option, Some, None, IfSome, ltb-true, slice_get}
 use Rattle.turn_history.specs.declared.reservation.Reservation.{Reservation}
 use Rattle.rule_tests.proofs.tests.tables.is_last_port.Goals as goal
 

@@ -1,7 +1,6 @@
 use Rattle.std.proofs.Common.{◌≡◌, [], ap, subst}
 use Rattle.std.specs.Result.{result_unwrap_or}
-use Rattle.turn_codec.specs.AttributeTypes.{fingerprint}
-use Rattle.turn_codec.specs.Grammar.{Datagram, from}
+use Rattle.turn_codec.specs.Prelude.{fingerprint, Datagram, from}
 use Rattle.texts.proofs.questions.messages.add_fingerprint.Goals as goal
 
 pub append_fingerprint-requires : goal.append_fingerprint-requires

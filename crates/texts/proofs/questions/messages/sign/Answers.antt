@@ -1,7 +1,6 @@
 use Rattle.std.proofs.Common.{◌≡◌, [], ap, subst}
 use Rattle.std.specs.Result.{result_unwrap_or}
-use Rattle.turn_codec.specs.AttributeTypes.{message_integrity}
-use Rattle.turn_codec.specs.Grammar.{Datagram, from}
+use Rattle.turn_codec.specs.Prelude.{message_integrity, Datagram, from}
 use Rattle.texts.proofs.questions.messages.sign.Goals as goal
 
 pub append_integrity-requires : goal.append_integrity-requires

@@ -1,5 +1,4 @@
-use Rattle.std.proofs.Common.{◌∙◌, ap}
-use Rattle.std.specs.Prelude.{length}
+use Rattle.std.proofs.Common.{◌∙◌, ap, length}
 use Rattle.turn_codec.proofs.Building.{sized}
 use Rattle.turn_codec.proofs.builder.Builder.as_bytes.Goals as goal
 

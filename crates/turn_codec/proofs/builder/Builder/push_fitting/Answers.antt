@@ -1,5 +1,5 @@
 use Rattle.std.proofs.Common.{arith}
-use Rattle.turn_codec.specs.Grammar.{Attribute}
+use Rattle.turn_codec.specs.Prelude.{Attribute}
 use Rattle.turn_codec.proofs.Building.{pushed, with_size}
 use Rattle.turn_codec.proofs.builder.Builder.push_fitting.Goals as goal
 

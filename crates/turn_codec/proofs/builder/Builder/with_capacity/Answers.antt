@@ -1,5 +1,5 @@
 use Rattle.std.proofs.Common.{List, ℕ, [], ◌++◌, ap, ◌∙◌, refl, arith}
-use Rattle.turn_codec.specs.Grammar.{Content}
+use Rattle.turn_codec.specs.Prelude.{Content}
 use Rattle.turn_codec.proofs.Building.{canonical_says}
 use Rattle.turn_codec.proofs.builder.Builder.with_capacity.Goals as goal
 

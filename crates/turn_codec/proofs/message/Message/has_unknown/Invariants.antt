@@ -1,6 +1,6 @@
 use Rattle.std.proofs.Common.{◌≡◌}
 use Rattle.std.specs.List.{list_any}
-use Rattle.turn_codec.specs.AttributeTypes.{is_unknown}
+use Rattle.turn_codec.specs.Prelude.{is_unknown}
 use Rattle.turn_codec.proofs.message.Message.has_unknown.Given as goal
 
 abbrev pub invariant-loop-kind : goal.invariant-loop-kind

@@ -1,6 +1,5 @@
 use Rattle.std.proofs.Common.{ap, sym, ◌∙◌, ◌+◌, take}
-use Rattle.turn_codec.specs.Grammar.{Datagram}
-use Rattle.turn_codec.specs.Reading.{datagram_of}
+use Rattle.turn_codec.specs.Prelude.{Datagram, datagram_of}
 use Rattle.turn_codec.proofs.Views.{located_view, none_view}
 use Rattle.turn_codec.proofs.Finding.{value_of-some, value_of-none}
 use Rattle.turn_codec.proofs.message.Message.locate.Goals as goal

@@ -1,5 +1,5 @@
 use Rattle.std.proofs.Common.{rules}
-use Rattle.turn_codec.specs.Seen.{seen_value}
+use Rattle.turn_codec.specs.Prelude.{seen_value}
 use Rattle.turn_codec.proofs.message.Message.seen_value.Goals as goal
 
 pub returns : goal.returns

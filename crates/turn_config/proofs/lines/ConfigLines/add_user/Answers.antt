@@ -1,6 +1,5 @@
-use Rattle.std.proofs.Common.{◌≡◌, None, ap, sym, ◌∙◌}
+use Rattle.std.proofs.Common.{◌≡◌, None, ap, sym, ◌∙◌, is_some, option_map}
 use Rattle.std.specs.FinMap as map
-use Rattle.std.specs.Prelude.{is_some, option_map}
 use Rattle.turn_config.specs.Lines.{Lines, passwords_of}
 use Rattle.turn_config.proofs.Passwords.{has_password, is_new, adds_password}
 use Rattle.turn_config.proofs.Words.{user_words, name_of_line}

@@ -1,5 +1,4 @@
-use Rattle.std.proofs.Common.{ap, length, ◌∙◌}
-use Rattle.std.specs.Prelude.{nat_le}
+use Rattle.std.proofs.Common.{ap, length, ◌∙◌, nat_le}
 use Rattle.turn_config.specs.Lines.{is_shared}
 use Rattle.turn_config.proofs.Passwords.{both_tests, first_fails, has_password}
 use Rattle.turn_config.proofs.lines.Configured.is_shared.Goals as goal

@@ -1,9 +1,6 @@
-use Rattle.std.proofs.Common.{◌≡◌, List, ℕ, ap, ◌∙◌, arith, reverse, take, sym, subst}
-use Rattle.std.proofs.lemmas.List.{take_all}
+use Rattle.std.proofs.Common.{◌≡◌, List, ℕ, ap, ◌∙◌, arith, reverse, take, sym, subst, take_all}
 use Rattle.turn_disk.specs.declared.call.Call.{Call}
-use Rattle.turn_disk.specs.Disk.{Trace, IsImage}
-use Rattle.turn_disk.specs.Crash.{left_by}
-use Rattle.turn_disk.specs.Record.{trace_of}
+use Rattle.turn_disk.specs.Prelude.{Trace, IsImage, left_by, trace_of}
 use Rattle.turn_disk.proofs.Crashes.{left_image}
 use Rattle.turn_disk.proofs.memory.Memory.crash.Goals as goal
 

@@ -1,6 +1,5 @@
 use Rattle.std.proofs.Common.{◌≡◌, ◌+◌, ◌-◌, ◌≤◌, ℕ, List, arith, take, drop, length, ap, ◌∙◌, subst}
-use Rattle.turn_disk.specs.Disk.{Trace, Writes}
-use Rattle.turn_disk.specs.Record.{trace_of}
+use Rattle.turn_disk.specs.Prelude.{Trace, Writes, trace_of}
 use Rattle.turn_disk.proofs.Recorded.{noted}
 use Rattle.turn_disk.proofs.memory.Memory.write.Goals as goal
 

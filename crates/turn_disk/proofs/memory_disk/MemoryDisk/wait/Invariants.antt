@@ -1,4 +1,4 @@
-use Rattle.turn_disk.specs.Meanwhile.{Passes}
+use Rattle.turn_disk.specs.Prelude.{Passes}
 use Rattle.turn_disk.proofs.memory_disk.MemoryDisk.wait.Given as goal
 
 abbrev pub invariant-loop : goal.invariant-loop

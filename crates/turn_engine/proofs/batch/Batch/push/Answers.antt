@@ -1,6 +1,5 @@
-use Rattle.turn_history.specs.Act.{act_of}
-use Rattle.turn_history.specs.History.{Event}
-use Rattle.turn_record.specs.Bytes.{act_entry}
+use Rattle.turn_history.specs.Prelude.{act_of, Event}
+use Rattle.turn_record.specs.Prelude.{act_entry}
 use Rattle.turn_record.proofs.Sizes.{act_at_most}
 use Rattle.turn_engine.proofs.Batches.{pushed-sound, pushed-payload}
 use Rattle.turn_engine.proofs.batch.Batch.push.Goals as goal

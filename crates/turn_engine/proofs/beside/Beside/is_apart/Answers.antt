@@ -1,6 +1,6 @@
 use Rattle.std.proofs.Common.{subst}
-use Rattle.turn_step.specs.Views.{arrival_of}
-use Rattle.turn_engine.specs.Relaying.{IsBehind, is_staged}
+use Rattle.turn_step.specs.Prelude.{arrival_of}
+use Rattle.turn_engine.specs.Prelude.{IsBehind, is_staged}
 use Rattle.turn_engine.proofs.Besides.{not_false}
 use Rattle.turn_engine.proofs.beside.Beside.is_apart.Goals as goal
 

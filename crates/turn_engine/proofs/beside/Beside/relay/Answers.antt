@@ -1,10 +1,7 @@
-use Rattle.std.proofs.Common.{None, option_map, false, subst}
-use Rattle.std.specs.Prelude.{IfSome}
-use Rattle.turn_history.specs.History.{History}
-use Rattle.turn_step.specs.Answer.{AnswersArrival}
-use Rattle.turn_step.specs.State.{IsAfter, setting_of}
-use Rattle.turn_step.specs.Views.{arrival_of, data_outcome, sent_of}
-use Rattle.turn_engine.specs.Relaying.{is_behind, is_later}
+use Rattle.std.proofs.Common.{None, option_map, false, subst, IfSome}
+use Rattle.turn_history.specs.Prelude.{History}
+use Rattle.turn_step.specs.Prelude.{AnswersArrival, IsAfter, setting_of, arrival_of, data_outcome, sent_of}
+use Rattle.turn_engine.specs.Prelude.{is_behind, is_later}
 use Rattle.turn_engine.proofs.Besides.{data_is_no_request, not_both, relays_beside}
 use Rattle.turn_engine.proofs.beside.Beside.relay.Goals as goal
 use Rattle.turn_engine.proofs.beside.Beside.relay.Goals.{then-not-is_at_clock-via-then-not-is_at_clock, then-not-is_at_clock-via-else-not-is_at_clock+then-not-is_apart}

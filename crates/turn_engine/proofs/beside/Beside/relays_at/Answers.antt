@@ -1,5 +1,5 @@
 use Rattle.std.proofs.Common.{subst}
-use Rattle.turn_history.specs.Laws.{PortsApart}
+use Rattle.turn_history.specs.Prelude.{PortsApart}
 use Rattle.turn_engine.proofs.Besides.{needs_no_wait}
 use Rattle.turn_engine.proofs.beside.Beside.relays_at.Goals as goal
 

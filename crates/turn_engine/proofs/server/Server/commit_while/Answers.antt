@@ -1,10 +1,8 @@
 use Rattle.std.proofs.Common.{List, Ok, Result, map, sym, ap, ◌∙◌, subst}
-use Rattle.turn_step.specs.Outcome.{Sent}
-use Rattle.turn_step.specs.Views.{sent_of}
+use Rattle.turn_step.specs.Prelude.{Sent, sent_of}
 use Rattle.std.specs.Result.{result_map_both}
 use Rattle.turn_store.specs.declared.error.StoreError.{StoreError}
-use Rattle.turn_engine.specs.Calls.{Commits, committed}
-use Rattle.turn_engine.specs.State.{emptied}
+use Rattle.turn_engine.specs.Prelude.{Commits, committed, emptied}
 use Rattle.turn_engine.proofs.server.Server.commit_while.Goals as goal
 
 pub returns-in-Ok-clause-call : goal.returns-in-Ok-clause-call

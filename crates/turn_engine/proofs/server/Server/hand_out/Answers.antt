@@ -1,5 +1,5 @@
 use Rattle.std.proofs.Common.{rules, Vec, map, ap, ◌∙◌}
-use Rattle.turn_step.specs.Views.{sent_of}
+use Rattle.turn_step.specs.Prelude.{sent_of}
 use Rattle.turn_engine.proofs.server.Server.hand_out.Goals as goal
 
 pub invariant_of-self : goal.invariant_of-self

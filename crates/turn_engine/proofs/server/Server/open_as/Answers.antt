@@ -1,8 +1,8 @@
 use Rattle.std.proofs.Common.{Err, Ok, sym, ap, ◌∙◌, subst}
 use Rattle.turn_store.specs.Opening as stores
-use Rattle.turn_types.specs.Config.{Config}
+use Rattle.turn_types.specs.Prelude.{Config}
 use Rattle.turn_types.specs.declared.limits.Bounds.{Bounds}
-use Rattle.turn_engine.specs.Calls.{Opening}
+use Rattle.turn_engine.specs.Prelude.{Opening}
 use Rattle.turn_engine.proofs.Opened.{of_made, refused}
 use Rattle.turn_engine.proofs.server.Server.open_as.Goals as goal
 

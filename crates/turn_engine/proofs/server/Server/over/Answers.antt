@@ -1,10 +1,7 @@
 use Rattle.std.proofs.Common.{◌∷◌, [], ℕ, Bool, List, map, ap, ◌∙◌}
-use Rattle.turn_step.specs.Outcome.{Sent}
-use Rattle.turn_step.specs.State.{MachineState}
-use Rattle.turn_step.specs.Views.{is_reserved, sent_of}
+use Rattle.turn_step.specs.Prelude.{Sent, MachineState, is_reserved, sent_of}
 use Rattle.turn_store.specs.declared.error.OpenError.TheVariants.{Memory}
-use Rattle.turn_engine.specs.Staged.{Staged}
-use Rattle.turn_engine.specs.State.{ServerState, has_pairs}
+use Rattle.turn_engine.specs.Prelude.{Staged, ServerState, has_pairs}
 use Rattle.turn_engine.proofs.Opened.{fresh_sound, made, spent}
 use Rattle.turn_engine.proofs.server.Server.over.Goals as goal
 

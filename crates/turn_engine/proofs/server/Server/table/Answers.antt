@@ -1,5 +1,5 @@
 use Rattle.std.proofs.Common.{subst}
-use Rattle.turn_step.specs.State.{HasPortsApart}
+use Rattle.turn_step.specs.Prelude.{HasPortsApart}
 use Rattle.turn_engine.proofs.Held.{apart_in}
 use Rattle.turn_engine.proofs.server.Server.table.Goals as goal
 

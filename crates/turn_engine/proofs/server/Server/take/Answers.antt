@@ -1,20 +1,14 @@
-use Rattle.std.proofs.Common.{◌≡◌, ◌≤◌, ◌+◌, ◌++◌, ℕ, List, None, length, map, option_map, sym, ap, ◌∙◌, subst, arith}
-use Rattle.std.specs.Option.{option_to_list}
-use Rattle.std.specs.Prelude.{IfSome}
-use Rattle.turn_record.specs.Records.{Writes}
+use Rattle.std.proofs.Common.{◌≡◌, ◌≤◌, ◌+◌, ◌++◌, ℕ, List, None, length, map, option_map, sym, ap, ◌∙◌, subst, arith, option_to_list, IfSome}
+use Rattle.turn_record.specs.Prelude.{Writes}
 use Rattle.turn_ports.specs.Ports.{has_failed}
-use Rattle.turn_step.specs.Answer.{AnswersArrival}
-use Rattle.turn_step.specs.Outcome.{Sent, added}
-use Rattle.turn_step.specs.State.{CountsOne, HoldsPorts, IsAfter, IsPurged, KeepsSetting, setting_of}
-use Rattle.turn_step.specs.Views.{arrival_of, sent_of}
-use Rattle.turn_types.specs.Config.{Config}
-use Rattle.turn_table.specs.State.{State}
+use Rattle.turn_step.specs.Prelude.{AnswersArrival, Sent, added, CountsOne, HoldsPorts, IsAfter, IsPurged, KeepsSetting, setting_of, arrival_of, sent_of}
+use Rattle.turn_types.specs.Prelude.{Config}
+use Rattle.turn_table.specs.Prelude.{State}
 use Rattle.turn_engine.proofs.Held.{apart_in}
 use Rattle.turn_engine.proofs.Lists.{on_err, room_for_one, when_ok}
-use Rattle.turn_engine.specs.Recovering.{tuples_of}
+use Rattle.turn_engine.specs.Prelude.{tuples_of, ServerState, limits_of, now_of}
 use Rattle.turn_engine.proofs.Taken.{after_same, first_late, old_late, counts_same, keeps_both, moment_changed, recovers_later, recovers_taken, sound_changed, sound_later, written_by}
 use Rattle.turn_types.specs.declared.limits.Bounds.{Bounds}
-use Rattle.turn_engine.specs.State.{ServerState, limits_of, now_of}
 use Rattle.turn_engine.proofs.server.Server.take.Goals as goal
 
 pub invariant_of-self : goal.invariant_of-self

@@ -1,16 +1,14 @@
 use Rattle.std.proofs.Common.{◌≡◌, rules, arith, sym, ap, ◌∙◌, subst, refl}
 use Rattle.turn_disk.proofs.Device.{uses_as}
 use Rattle.turn_disk.proofs.Passing.{passes_none}
-use Rattle.turn_record.specs.Records.{IsSnapshot}
-use Rattle.turn_record.specs.declared.version.Version.{Version}
-use Rattle.turn_store.specs.Areas.{Form}
+use Rattle.turn_record.specs.Prelude.{IsSnapshot}
+use Rattle.turn_store.specs.Prelude.{Version, Form}
 use Rattle.turn_store.proofs.Sound.{not_both}
 use Rattle.turn_types.specs.declared.limits.Bounds.{Bounds}
-use Rattle.turn_engine.specs.State.{ServerState, has_pairs}
+use Rattle.turn_engine.specs.Prelude.{ServerState, has_pairs, beside}
 use Rattle.turn_engine.proofs.Written.{batch_stages, batch_stop, batch_stored, done_at, done_never, failed_at, fault_as, few_acts, form_kept, none_staged, not_none, not_written, not_written_in, runs_on, some_acts, stages_none, version_kept}
 use Rattle.turn_engine.proofs.Besides.{lent_by}
-use Rattle.turn_engine.specs.Relaying.{beside}
-use Rattle.turn_disk.specs.Meanwhile.{Passes}
+use Rattle.turn_disk.specs.Prelude.{Passes}
 use Rattle.turn_engine.proofs.server.Server.write.Goals as goal
 use Rattle.turn_engine.proofs.server.Server.write.Goals.{in-Ok, in-Err}
 

@@ -1,5 +1,5 @@
 use Rattle.std.proofs.Common.{List, ℕ, ◌++◌, append-nil, false, refl, ap, sym, subst, ◌∙◌, arith}
-use Rattle.turn_disk.specs.Meanwhile.{Passes}
+use Rattle.turn_disk.specs.Prelude.{Passes}
 use Rattle.turn_disk.proofs.Passing.{passes_join, passes_none, passes_one}
 use Rattle.turn_nbd.specs.Wire.{received}
 use Rattle.turn_nbd.proofs.Passing.{pass_more}

@@ -1,5 +1,5 @@
 use Rattle.std.proofs.Common.{length, take, ◌++◌, ◌≡◌, ◌≤◌}
-use Rattle.turn_disk.specs.Meanwhile.{Passes}
+use Rattle.turn_disk.specs.Prelude.{Passes}
 use Rattle.turn_nbd.specs.Wire.{received}
 use Rattle.turn_nbd.proofs.wire.Wire.receive_while.Given as goal
 

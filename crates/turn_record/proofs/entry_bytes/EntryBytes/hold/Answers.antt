@@ -1,16 +1,12 @@
-use Rattle.std.proofs.Common.{◌≡◌, ℕ, ◌+◌, ◌∷◌, [], ◌++◌, List, length, refl, ap, ◌∙◌, arith}
+use Rattle.std.proofs.Common.{◌≡◌, ℕ, ◌+◌, ◌∷◌, [], ◌++◌, List, length, refl, ap, ◌∙◌, arith, Option}
 use Rattle.std.specs.FinMap.{len-entries}
 use Rattle.std.specs.Int.{w64, to_be_bytes}
-use Rattle.turn_history.specs.Laws.{allocation_of}
-use Rattle.turn_history.specs.Table.{Entry}
+use Rattle.turn_history.specs.Prelude.{allocation_of, Entry, FiveTuple, Token}
 use Rattle.turn_history.specs.declared.channel.Channel.{Channel}
-use Rattle.turn_record.specs.Bytes.{each, five_tuple, allocation, mark, permission, permissions, channel, channels, entry}
+use Rattle.turn_record.specs.Prelude.{each, five_tuple, allocation, mark, permission, permissions, channel, channels, entry}
 use Rattle.turn_record.proofs.Appended.{appended, no_more}
 use Rattle.turn_record.proofs.SnapshotSizes.{entry_size_most, grown, mark_at_most, permissions_are, channels_are, size_allocation, size_permission_list}
-use Rattle.std.specs.Prelude.{Option}
 use Rattle.turn_record.specs.declared.version.Version.{Version}
-use Rattle.turn_types.specs.declared.address.FiveTuple.{FiveTuple}
-use Rattle.turn_types.specs.declared.message.Token.{Token}
 use Rattle.turn_record.proofs.entry_bytes.EntryBytes.hold.Goals as goal
 
 -- the mark of the token that an entry has
@@ -33,7 +29,7 @@ pub put_permissions-requires-clause-room : goal.put_permissions-requires-clause-
 put_permissions-requires-clause-room g c =
     let e = c.args.kept.now.entry in
     let held = before_permissions c.args.version c.args.tuple e _ c.put_tuple.new.self c.put_allocation.new.self c.put_mark.new.self c.put.new.self _ _ c.clear.ensures c.put_tuple.ensures c.put_allocation.ensures c.put_mark.ensures c.token.ensures
-        c.put.ensures (ap length c.to_be_bytes.ensures) c.requires.tx in
+    c.put.ensures (ap length c.to_be_bytes.ensures) c.requires.tx in
     omega (arith, held, mark_at_most c.args.version e.token c.requires.token, entry_size_most c.args.version, ap length c.permissions.ensures, len-entries e.permissions, c.requires.permissions, c.requires.user)
 
 pub put_channels-requires-clause-few : goal.put_channels-requires-clause-few
@@ -43,7 +39,7 @@ pub put_channels-requires-clause-room : goal.put_channels-requires-clause-room
 put_channels-requires-clause-room g c =
     let e = c.args.kept.now.entry in
     let held = before_permissions c.args.version c.args.tuple e _ c.put_tuple.new.self c.put_allocation.new.self c.put_mark.new.self c.put.new.self _ _ c.clear.ensures c.put_tuple.ensures c.put_allocation.ensures c.put_mark.ensures c.token.ensures
-        c.put.ensures (ap length c.to_be_bytes.ensures) c.requires.tx in
+    c.put.ensures (ap length c.to_be_bytes.ensures) c.requires.tx in
     let next = grown _ c.put_permissions.new.self _ _ _ c.put_permissions.ensures held (size_permission_list c.permissions.result.now) in
     omega (arith, next, mark_at_most c.args.version e.token c.requires.token, entry_size_most c.args.version, ap length c.permissions.ensures, len-entries e.permissions, c.requires.permissions, c.requires.user, ap length c.channels.ensures, len-entries e.channels, c.requires.channels)
 

@@ -1,6 +1,6 @@
 use Rattle.std.proofs.Common.{◌∷◌, []}
 use Rattle.std.specs.Int.{w16, w64, to_be_bytes}
-use Rattle.turn_record.specs.Bytes.{endpoint}
+use Rattle.turn_record.specs.Prelude.{endpoint}
 use Rattle.turn_record.proofs.Appended.{appended, no_more}
 use Rattle.turn_record.proofs.entry_bytes.EntryBytes.put_channel.Goals as goal
 

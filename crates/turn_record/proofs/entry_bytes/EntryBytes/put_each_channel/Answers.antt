@@ -1,5 +1,5 @@
 use Rattle.std.proofs.Common.{◌≡◌, ◌+◌, ◌++◌, length, get_or, ap, arith, length-append, ◌∙◌}
-use Rattle.turn_record.specs.Bytes.{channel}
+use Rattle.turn_record.specs.Prelude.{channel}
 use Rattle.turn_record.proofs.Appended.{one_more}
 use Rattle.turn_record.proofs.entry_bytes.EntryBytes.put_each_channel.Goals as goal
 

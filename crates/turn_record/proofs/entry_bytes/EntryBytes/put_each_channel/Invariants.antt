@@ -1,6 +1,5 @@
 use Rattle.std.proofs.Common.{◌≡◌, ◌+◌, ◌-◌, ◌*◌, ◌≤◌, ◌++◌, drop, length}
-use Rattle.turn_record.specs.Bytes.{each, channel}
-use Rattle.turn_record.specs.Records.{max_entry_bytes}
+use Rattle.turn_record.specs.Prelude.{each, channel, max_entry_bytes}
 use Rattle.turn_record.proofs.entry_bytes.EntryBytes.put_each_channel.Given as goal
 
 abbrev pub invariant-loop-number : goal.invariant-loop-number

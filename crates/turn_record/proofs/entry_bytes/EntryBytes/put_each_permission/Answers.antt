@@ -1,5 +1,5 @@
 use Rattle.std.proofs.Common.{◌≡◌, ℕ, ◌+◌, ◌++◌, length, get_or, ap, arith, length-append, ◌∙◌}
-use Rattle.turn_record.specs.Bytes.{permission}
+use Rattle.turn_record.specs.Prelude.{permission}
 use Rattle.turn_record.proofs.Appended.{one_more}
 use Rattle.turn_record.proofs.entry_bytes.EntryBytes.put_each_permission.Goals as goal
 

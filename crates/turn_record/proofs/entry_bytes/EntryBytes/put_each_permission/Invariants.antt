@@ -1,6 +1,5 @@
 use Rattle.std.proofs.Common.{◌≡◌, ◌+◌, ◌-◌, ◌*◌, ◌≤◌, ◌++◌, drop, length}
-use Rattle.turn_record.specs.Bytes.{each, permission}
-use Rattle.turn_record.specs.Records.{max_entry_bytes}
+use Rattle.turn_record.specs.Prelude.{each, permission, max_entry_bytes}
 use Rattle.turn_record.proofs.entry_bytes.EntryBytes.put_each_permission.Given as goal
 
 abbrev pub invariant-loop-ip : goal.invariant-loop-ip

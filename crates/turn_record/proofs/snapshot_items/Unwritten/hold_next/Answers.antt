@@ -1,5 +1,5 @@
 use Rattle.std.proofs.Common.{length, ap, arith}
-use Rattle.turn_record.specs.Bytes.{entry}
+use Rattle.turn_record.specs.Prelude.{entry}
 use Rattle.turn_record.proofs.Appended.{first_taken}
 use Rattle.turn_record.proofs.SnapshotSizes.{some_bytes}
 use Rattle.turn_record.proofs.snapshot_items.Unwritten.hold_next.Goals as goal

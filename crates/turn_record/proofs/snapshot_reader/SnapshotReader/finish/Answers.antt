@@ -1,7 +1,6 @@
 use Rattle.turn_record.proofs.Onward.{expected_end, refused_end}
 use Rattle.std.proofs.Common.{subst, sym}
-use Rattle.turn_record.specs.Places.{IsWaiting, gives}
-use Rattle.turn_record.specs.Reading.{Gives}
+use Rattle.turn_record.specs.Prelude.{IsWaiting, gives, Gives}
 use Rattle.turn_record.specs.declared.version.Version.{Version}
 use Rattle.turn_record.proofs.snapshot_reader.SnapshotReader.finish.Goals as goal
 

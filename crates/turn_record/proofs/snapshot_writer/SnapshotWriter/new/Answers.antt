@@ -1,7 +1,7 @@
 use Rattle.std.proofs.Common.{◌≡◌, ℕ, ◌∷◌, [], ◌++◌, List, ap, ◌∙◌, arith}
 use Rattle.std.specs.FinMap as fin
 use Rattle.std.specs.Int.{w32, w64, to_be_bytes}
-use Rattle.turn_record.specs.Bytes.{head, snapshot}
+use Rattle.turn_record.specs.Prelude.{head, snapshot}
 use Rattle.turn_record.proofs.Appended.{appended, no_more}
 use Rattle.turn_record.proofs.SnapshotSizes.{are_short}
 use Rattle.turn_record.proofs.snapshot_writer.SnapshotWriter.new.Goals as goal

@@ -1,4 +1,4 @@
-use Rattle.turn_codec.specs.AttributeTypes.{message_integrity}
+use Rattle.turn_codec.specs.Prelude.{message_integrity}
 use Rattle.turn_requests.proofs.Added.{none_after}
 use Rattle.turn_requests.proofs.request.Unsigned.push.Goals as goal
 

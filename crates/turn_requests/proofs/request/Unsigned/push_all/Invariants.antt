@@ -1,5 +1,4 @@
-use Rattle.std.proofs.Common.{◌≡◌, take}
-use Rattle.std.specs.Prelude.{fold}
+use Rattle.std.proofs.Common.{◌≡◌, take, fold}
 use Rattle.turn_requests.specs.Sending.{with_one}
 use Rattle.turn_requests.proofs.request.Unsigned.push_all.Given as goal
 

@@ -1,8 +1,8 @@
 use Rattle.std.proofs.Common.{[], ◌≡◌, ◌++◌, ℕ, List, ap, append-nil, false, map, refl, subst, sym, ◌∙◌}
-use Rattle.turn_engine.specs.State.{now_of}
+use Rattle.turn_engine.specs.Prelude.{now_of}
 use Rattle.turn_sockets.specs.Moments.{IsMoment}
 use Rattle.turn_sockets.specs.Wire.{Passed}
-use Rattle.turn_step.specs.Views.{sent_of}
+use Rattle.turn_step.specs.Prelude.{sent_of}
 use Rattle.turn_step.specs.declared.arrival.Outgoing.{Outgoing}
 use Rattle.turn_serving.specs.Serving.{ServingState, wire_of}
 use Rattle.turn_serving.specs.Wire.{Addresses, SendsEach, addresses_of, on_wire}

@@ -1,5 +1,5 @@
 use Rattle.std.proofs.Common.{◌≡◌, ◌≤◌, false}
-use Rattle.turn_engine.specs.State.{emptied, now_of}
+use Rattle.turn_engine.specs.Prelude.{emptied, now_of}
 use Rattle.turn_sockets.specs.Moments.{IsMoment}
 use Rattle.turn_serving.specs.declared.manner.Commits.TheVariants.{Paced}
 use Rattle.turn_serving.specs.Manner.{reads_of}

@@ -1,9 +1,9 @@
 use Rattle.std.proofs.Common.{true, Err, Ok, sym, ap, ◌∙◌, refl, subst}
-use Rattle.turn_record.specs.Records.{IsSnapshot}
-use Rattle.turn_store.specs.Carrying.{Carries}
-use Rattle.turn_types.specs.Config.{Config}
+use Rattle.turn_record.specs.Prelude.{IsSnapshot}
+use Rattle.turn_store.specs.Prelude.{Carries}
+use Rattle.turn_types.specs.Prelude.{Config}
 use Rattle.turn_types.specs.declared.limits.Bounds.{Bounds}
-use Rattle.turn_engine.specs.Calls.{Opening}
+use Rattle.turn_engine.specs.Prelude.{Opening}
 use Rattle.turn_serving.specs.Starts.{IsRefusedFor, KeepsImages}
 use Rattle.turn_serving.proofs.Held.{all_pass}
 use Rattle.turn_serving.proofs.Starts.{not_carried, refused_for, refused_images, started, started_as, store_images, store_refused, told_by_sockets}

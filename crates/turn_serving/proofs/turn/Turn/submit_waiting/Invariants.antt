@@ -1,5 +1,5 @@
 use Rattle.std.proofs.Common.{◌≤◌}
-use Rattle.turn_engine.specs.State.{now_of}
+use Rattle.turn_engine.specs.Prelude.{now_of}
 use Rattle.turn_serving.specs.Turns.{At, KeepsOrder, Served}
 use Rattle.turn_serving.specs.Wire.{Passes, addresses_of, on_wire}
 use Rattle.turn_serving.proofs.turn.Turn.submit_waiting.Given as goal

@@ -1,5 +1,5 @@
 use Rattle.std.proofs.Common.{◌+◌, ◌≤◌, List, length}
-use Rattle.turn_engine.specs.State.{now_of}
+use Rattle.turn_engine.specs.Prelude.{now_of}
 use Rattle.turn_sockets.specs.Fairness.{AreVisits, Visit}
 use Rattle.turn_serving.specs.Manner.{reads_of}
 use Rattle.turn_serving.specs.Turns.{At, KeepsOrder, Served}

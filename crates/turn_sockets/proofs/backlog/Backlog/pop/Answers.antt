@@ -1,5 +1,4 @@
-use Rattle.std.proofs.Common.{List, ap, arith, false, length, subst, sym, ℕ, ◌<◌, ◌≡◌, ◌∙◌}
-use Rattle.std.proofs.lemmas.List.{length-set}
+use Rattle.std.proofs.Common.{List, ap, arith, false, length, subst, sym, ℕ, ◌<◌, ◌≡◌, ◌∙◌, length-set}
 use Rattle.std.proofs.Math.Seq.{map-set_same}
 use Rattle.turn_sockets.specs.Backlog.{BacklogState, IsNext, QueueState, has_some}
 use Rattle.turn_sockets.proofs.Waiting.{popped, popped_apart, some_there, turns}

@@ -1,5 +1,4 @@
-use Rattle.std.proofs.Common.{[], ap, subst, sym, ℕ, ◌++◌, ◌∷◌, ◌≤◌, ◌∙◌}
-use Rattle.std.proofs.lemmas.List.{length-set}
+use Rattle.std.proofs.Common.{[], ap, subst, sym, ℕ, ◌++◌, ◌∷◌, ◌≤◌, ◌∙◌, length-set}
 use Rattle.std.proofs.lemmas.Bool.{both_ways}
 use Rattle.std.proofs.Math.Seq.{map-set_same}
 use Rattle.turn_sockets.specs.Backlog.{BacklogState, QueueState, has_queue}

@@ -1,6 +1,5 @@
-use Rattle.std.proofs.Common.{ap, sym, ◌∙◌}
+use Rattle.std.proofs.Common.{ap, sym, ◌∙◌, eq-eqb, eqb-true}
 use Rattle.std.specs.List.{list_any}
-use Rattle.std.proofs.lemmas.Bool.{eq-eqb, eqb-true}
 use Rattle.turn_sockets.proofs.Listened.{any_from_test, test_from_any}
 use Rattle.turn_sockets.proofs.own.OwnAddresses.has_listening_ip.Goals as goal
 

@@ -1,5 +1,4 @@
-use Rattle.std.proofs.Common.{false, refl, sym, true}
-use Rattle.std.proofs.lemmas.Bool.{le-ltb, lt-ltb}
+use Rattle.std.proofs.Common.{false, refl, sym, true, le-ltb, lt-ltb}
 use Rattle.turn_sockets.proofs.Listing.{can_list_is, ready_at}
 use Rattle.turn_sockets.proofs.schedule.Schedule.add.Goals as goal
 use Rattle.turn_sockets.proofs.schedule.Schedule.add.Goals.{then-token-lt-LISTENING+in_ok-push_back, else-token-lt-LISTENING+in_ok-push_front}

@@ -1,7 +1,6 @@
 use Rattle.std.proofs.Common.{◌≡◌, Some, None, subst, sym}
-use Rattle.turn_history.specs.Fitting.{AreReservationsInRange, is_taken}
-use Rattle.turn_history.specs.History.{Allocates}
-use Rattle.turn_step.specs.Outcome.{Change, change_of}
+use Rattle.turn_history.specs.Prelude.{AreReservationsInRange, is_taken, Allocates}
+use Rattle.turn_step.specs.Prelude.{Change, change_of}
 use Rattle.turn_step.proofs.Holding.{alone_released, change_by, even_picked, held_change, next_change}
 use Rattle.turn_step.proofs.machine.Machine.abandon.Goals as goal
 

@@ -1,12 +1,9 @@
 use Rattle.std.proofs.Common.{◌≡◌, ◌≤◌, false, None, ap, subst, sym, ◌∙◌, option_map}
-use Rattle.turn_history.specs.History.{clock}
+use Rattle.turn_history.specs.Prelude.{clock}
 use Rattle.turn_relay.specs.FromClient.{SendsToPeer}
 use Rattle.turn_relay.specs.Views.{peer_data}
-use Rattle.turn_table.specs.Table.{Agrees}
-use Rattle.turn_step.specs.Answer.{AnswersArrival, AnswersPeer}
-use Rattle.turn_step.specs.Outcome.{StepOutcome}
-use Rattle.turn_step.specs.State.{setting_of}
-use Rattle.turn_step.specs.Views.{arrival_of, sent_of}
+use Rattle.turn_table.specs.Prelude.{Agrees}
+use Rattle.turn_step.specs.Prelude.{AnswersArrival, AnswersPeer, StepOutcome, setting_of, arrival_of, sent_of}
 use Rattle.turn_step.proofs.Exclusion.{no_request, of_sent}
 use Rattle.turn_step.proofs.machine.Machine.answer_data.Goals as goal
 

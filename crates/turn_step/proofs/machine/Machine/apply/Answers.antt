@@ -1,10 +1,7 @@
 use Rattle.std.proofs.Common.{◌++◌, ◌∷◌, [], refl, ap, subst, sym, ◌∙◌, option_map}
-use Rattle.turn_history.specs.Act.{act_of}
-use Rattle.turn_history.specs.Fitting.{Follows, is_taken}
-use Rattle.turn_history.specs.Laws.{PortsApart, ReservedApart}
-use Rattle.turn_table.specs.State.{State}
-use Rattle.turn_table.specs.Table.{Agrees}
-use Rattle.turn_step.specs.Outcome.{Change, StepOutcome, change_of, event_at}
+use Rattle.turn_history.specs.Prelude.{act_of, Follows, is_taken, PortsApart, ReservedApart}
+use Rattle.turn_table.specs.Prelude.{State, Agrees}
+use Rattle.turn_step.specs.Prelude.{Change, StepOutcome, change_of, event_at}
 use Rattle.turn_step.proofs.Holding.{applied_holds, change_by, held_change, next_change}
 use Rattle.turn_step.proofs.Machines.{after_change}
 use Rattle.turn_step.proofs.machine.Machine.apply.Goals as goal

@@ -1,7 +1,7 @@
 use Rattle.std.proofs.Common.{◌<◌, arith, ap, subst, refl, ◌∙◌, option_map}
 use Rattle.std.proofs.lemmas.List.Elements.{All-from_get_or}
 use Rattle.std.proofs.lemmas.Result.{IfOk-weaker}
-use Rattle.turn_history.specs.Table.{table}
+use Rattle.turn_history.specs.Prelude.{table}
 use Rattle.turn_relay.specs.FromClient.{SendsToPeer}
 use Rattle.turn_relay.specs.Views.{peer_data}
 use Rattle.turn_step.proofs.Exclusion.{made_of_bytes, no_request, of_request, of_sent}

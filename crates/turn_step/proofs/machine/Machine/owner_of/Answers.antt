@@ -1,8 +1,6 @@
 use Rattle.std.proofs.Common.{ap, subst, sym}
-use Rattle.turn_history.specs.Fitting.{PortIsFree}
-use Rattle.turn_step.specs.Data.{IsOwner}
-use Rattle.turn_step.specs.Outcome.Arrives.{FromPeer}
-use Rattle.turn_step.specs.Views.{arrival_of}
+use Rattle.turn_history.specs.Prelude.{PortIsFree}
+use Rattle.turn_step.specs.Prelude.{IsOwner, FromPeer, arrival_of}
 use Rattle.turn_step.proofs.machine.Machine.owner_of.Goals as goal
 
 pub returns-in_err-five_tuple-in-Peer-clause-none :

@@ -1,11 +1,7 @@
-use Rattle.std.proofs.Common.{◌≤◌, ap, subst, sym, ◌∙◌}
-use Rattle.std.specs.Prelude.{IfOk}
-use Rattle.turn_history.specs.History.{clock}
+use Rattle.std.proofs.Common.{◌≤◌, ap, subst, sym, ◌∙◌, IfOk}
+use Rattle.turn_history.specs.Prelude.{clock}
 use Rattle.turn_ports.specs.Ports.{has_failed}
-use Rattle.turn_step.specs.Answer.{AnswersArrival}
-use Rattle.turn_step.specs.Holding.{ports_with}
-use Rattle.turn_step.specs.State.{IsPurged, setting_of}
-use Rattle.turn_step.specs.Views.{arrival_of}
+use Rattle.turn_step.specs.Prelude.{AnswersArrival, ports_with, IsPurged, setting_of, arrival_of}
 use Rattle.turn_step.proofs.Machines.{after_later, agrees_later, answers_along, follows_outcome, purged_same, setting_is}
 use Rattle.turn_step.proofs.Holding.{apart_later, held_later, nothing_taken, on_err}
 use Rattle.turn_step.proofs.machine.Machine.prepare.Goals as goal

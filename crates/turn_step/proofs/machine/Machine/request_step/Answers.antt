@@ -1,15 +1,10 @@
 use Rattle.std.proofs.Common.{◌||◌, ap, subst, sym, ◌∙◌, option_map}
-use Rattle.turn_cred.specs.Found.{verdict_of}
+use Rattle.turn_cred.specs.Prelude.{verdict_of}
 use Rattle.turn_ports.specs.Ports.{has_failed}
-use Rattle.turn_table.specs.Table.{Agrees}
-use Rattle.turn_history.specs.Fitting.{is_taken}
-use Rattle.turn_rules.specs.Taking.{is_picked}
-use Rattle.turn_step.specs.Answer.{IsDecided, Setting}
-use Rattle.turn_step.specs.Holding.{ports_with}
-use Rattle.turn_step.specs.State.{setting_of}
-use Rattle.turn_table.specs.State.{State}
-use Rattle.turn_rules.specs.Assessed.{IsAssessed}
-use Rattle.turn_rules.specs.Laws.{NamesInRange}
+use Rattle.turn_table.specs.Prelude.{Agrees, State}
+use Rattle.turn_history.specs.Prelude.{is_taken}
+use Rattle.turn_rules.specs.Prelude.{is_picked, IsAssessed, NamesInRange}
+use Rattle.turn_step.specs.Prelude.{IsDecided, Setting, ports_with, setting_of}
 use Rattle.turn_step.proofs.Exclusion.{decided_as_checked, checked_in_range}
 use Rattle.turn_step.proofs.Holding.{picked_beside, picked_is_free}
 use Rattle.turn_step.proofs.machine.Machine.request_step.Goals as goal

@@ -1,14 +1,10 @@
 use Rattle.std.proofs.Common.{true, ◌∙◌, ap, refl, sym, subst}
 use Rattle.turn_disk.proofs.Device.{uses_then}
-use Rattle.turn_disk.specs.Disk.{IsSettled}
-use Rattle.turn_record.specs.Records.{IsSnapshot}
-use Rattle.turn_record.specs.declared.version.Version.{Version}
-use Rattle.turn_record.specs.declared.version.Version.TheVariants.{V2}
+use Rattle.turn_disk.specs.Prelude.{IsSettled}
+use Rattle.turn_record.specs.Prelude.{IsSnapshot}
+use Rattle.turn_store.specs.Prelude.{Version, V2, Carries, IsOpened, snapshot_of}
 use Rattle.turn_types.specs.declared.limits.Bounds.{Bounds}
 use Rattle.turn_record.proofs.Kept.{snapshot-carried}
-use Rattle.turn_store.specs.Carrying.{Carries}
-use Rattle.turn_store.specs.Opened.{IsOpened}
-use Rattle.turn_store.specs.Tables.{snapshot_of}
 use Rattle.turn_store.proofs.Carried.{all_ok, and_err, and_ok, at_err, at_ok, carried_since, is_active_as, kept_carries, on_err, on_ok, opened_anew, over_carries, plain_why, same_bounds}
 use Rattle.turn_store.proofs.Sound.{not_both}
 use Rattle.turn_store.proofs.Versions.{opened_in}

@@ -1,8 +1,5 @@
 use Rattle.std.proofs.Common.{◌+◌, ◌^◌, ◌<◌, ◌≤◌, ◌≡◌, ap, arith, refl, subst, sym}
-use Rattle.turn_record.specs.declared.version.Version.TheVariants.{V2}
-use Rattle.turn_store.specs.Superblock.{least_area}
-use Rattle.turn_store.specs.State.{carried_area}
-use Rattle.turn_store.specs.Tables.{snapshot_of}
+use Rattle.turn_store.specs.Prelude.{V2, least_area, carried_area, snapshot_of}
 use Rattle.turn_store.proofs.Carried.{carry_shown}
 use Rattle.turn_store.proofs.store.Store.carry.Goals as goal
 

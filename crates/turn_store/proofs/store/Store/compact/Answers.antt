@@ -1,8 +1,8 @@
 use Rattle.std.proofs.Common.{◌≡◌, ◌∙◌, [], ◌++◌, sym, ap, subst, append-nil}
 use Rattle.turn_disk.proofs.Passing.{passes_none}
-use Rattle.turn_history.specs.History.{History}
+use Rattle.turn_history.specs.Prelude.{History}
 use Rattle.turn_history.specs.Table as tables
-use Rattle.turn_store.specs.State.{RecoversToAt}
+use Rattle.turn_store.specs.Prelude.{RecoversToAt}
 use Rattle.turn_store.proofs.Appends.{alone_stages, rest_stages, snapshot_stages, snapshot_done}
 use Rattle.turn_store.proofs.Versions.{rest_in, stages_in}
 use Rattle.turn_store.proofs.store.Store.compact.Goals as goal

@@ -1,5 +1,5 @@
 use Rattle.std.proofs.Common.{◌≡◌, ◌∙◌, ap, arith, sym}
-use Rattle.turn_record.specs.Records.{max_snapshot}
+use Rattle.turn_record.specs.Prelude.{max_snapshot}
 use Rattle.turn_record.proofs.SnapshotSizes.{snapshot_at_most}
 use Rattle.turn_store.proofs.store.Store.next_size.Goals as goal
 

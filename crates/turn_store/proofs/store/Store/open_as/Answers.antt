@@ -1,6 +1,6 @@
 use Rattle.std.proofs.Common.{◌∙◌, Bool, Ok, refl, sym, subst}
 use Rattle.std.proofs.lemmas.Result.{err_from_is_err_and}
-use Rattle.turn_record.specs.Records.{IsSnapshot}
+use Rattle.turn_record.specs.Prelude.{IsSnapshot}
 use Rattle.turn_types.specs.declared.limits.Bounds.{Bounds}
 use Rattle.turn_store.specs.Opening.{Opening}
 use Rattle.turn_store.proofs.store.Store.open_as.Goals as goal

@@ -1,9 +1,6 @@
 use Rattle.std.proofs.Common.{◌∙◌, ℕ, List, Err, false, ap, refl, sym, subst}
 use Rattle.turn_disk.proofs.Device.{uses_as}
-use Rattle.turn_store.specs.Images.{RepresentsAt}
-use Rattle.turn_store.specs.Opened.{IsChosen}
-use Rattle.turn_store.specs.Superblock.{HasSuperblock}
-use Rattle.turn_store.specs.Tables.{snapshot_of}
+use Rattle.turn_store.specs.Prelude.{RepresentsAt, IsChosen, HasSuperblock, snapshot_of}
 use Rattle.turn_store.proofs.Carried.{is_active_as, kept_carries, kept_since}
 use Rattle.turn_store.proofs.Opens.{opened, opens_to}
 use Rattle.turn_store.proofs.Versions.{kept_in}

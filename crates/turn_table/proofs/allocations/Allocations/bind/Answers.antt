@@ -1,8 +1,7 @@
-use Rattle.std.proofs.Common.{sym, ap, ◌∙◌, None}
-use Rattle.std.proofs.Common.{◌≤◌, Some}
+use Rattle.std.proofs.Common.{sym, ap, ◌∙◌, None, ◌≤◌, Some}
 use Rattle.std.specs.FinMap as fin
 use Rattle.std.specs.Option.{option_copied_mut}
-use Rattle.turn_history.specs.Table.{binding}
+use Rattle.turn_history.specs.Prelude.{binding}
 use Rattle.turn_table.proofs.Changing.{changes, get-view, lists_changed}
 use Rattle.turn_table.proofs.Options.{is_some_none, some_at, some_is}
 use Rattle.turn_table.proofs.allocations.Allocations.bind.Goals as goal

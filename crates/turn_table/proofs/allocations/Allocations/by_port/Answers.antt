@@ -1,5 +1,4 @@
-use Rattle.std.proofs.Common.{sym, ap, ◌∙◌, Some}
-use Rattle.std.specs.Option.{option_copied}
+use Rattle.std.proofs.Common.{sym, ap, ◌∙◌, Some, option_copied}
 use Rattle.turn_table.proofs.Changing.{get-view}
 use Rattle.turn_table.proofs.Options.{some_none}
 use Rattle.turn_table.proofs.Held.{get-held_in}

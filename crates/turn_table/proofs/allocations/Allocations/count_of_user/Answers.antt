@@ -1,8 +1,6 @@
-use Rattle.std.proofs.Common.{ap, ◌∙◌}
+use Rattle.std.proofs.Common.{ap, ◌∙◌, count_by, bytes_eq}
 use Rattle.std.specs.FinMap as fin
-use Rattle.std.specs.List.{count_by}
-use Rattle.std.specs.Str.{bytes_eq}
-use Rattle.turn_table.specs.Live.{entries_of}
+use Rattle.turn_table.specs.Prelude.{entries_of}
 use Rattle.turn_table.proofs.Changing.{users_counted}
 use Rattle.turn_table.proofs.allocations.Allocations.count_of_user.Goals as goal
 

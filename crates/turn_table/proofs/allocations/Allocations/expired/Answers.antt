@@ -1,5 +1,4 @@
-use Rattle.std.proofs.Common.{◌≤◌, ◌<◌, length, ap, sym, ◌∙◌, subst, Some}
-use Rattle.std.specs.Prelude.{IsSomeAnd, nat_le}
+use Rattle.std.proofs.Common.{◌≤◌, ◌<◌, length, ap, sym, ◌∙◌, subst, Some, IsSomeAnd, nat_le}
 use Rattle.std.specs.FinMap as fin
 use Rattle.std.specs.List.{position_from}
 use Rattle.turn_table.proofs.Changing.{get-view}

@@ -1,9 +1,7 @@
-use Rattle.std.proofs.Common.{◌≡◌, sym, ap, ◌∙◌, Some, None, rules}
+use Rattle.std.proofs.Common.{◌≡◌, sym, ap, ◌∙◌, Some, None, rules, nat_cmp}
 use Rattle.std.specs.FinMap as fin
-use Rattle.std.specs.Ordering.{nat_cmp}
-use Rattle.turn_types.specs.FiveTuple.{tuple_cmp}
-use Rattle.turn_table.specs.Indexed.{held_in}
-use Rattle.turn_table.specs.Kept.{map_in}
+use Rattle.turn_types.specs.Prelude.{tuple_cmp}
+use Rattle.turn_table.specs.Prelude.{held_in, map_in}
 use Rattle.turn_table.proofs.Changing.{ok_holds, users_inserted}
 use Rattle.turn_table.proofs.Held.{Updated, held-inserted}
 use Rattle.turn_table.proofs.Index.{inserted}

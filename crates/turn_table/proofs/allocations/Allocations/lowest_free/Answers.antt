@@ -1,12 +1,9 @@
-use Rattle.std.proofs.Common.{subst}
+use Rattle.std.proofs.Common.{subst, nat_cmp}
 use Rattle.std.specs.FinMap as fin
-use Rattle.std.specs.Ordering.{nat_cmp}
-use Rattle.turn_history.specs.Fitting.{has_port}
+use Rattle.turn_history.specs.Prelude.{has_port}
 use Rattle.turn_ports.specs.Ports.{IsLowestFree}
-use Rattle.turn_types.specs.FiveTuple.{tuple_cmp}
-use Rattle.turn_table.specs.Indexed.{held_in}
-use Rattle.turn_table.specs.Kept.{map_in}
-use Rattle.turn_table.specs.Live.{entries_of}
+use Rattle.turn_types.specs.Prelude.{tuple_cmp}
+use Rattle.turn_table.specs.Prelude.{held_in, map_in, entries_of}
 use Rattle.turn_table.proofs.Index.{taken-is}
 use Rattle.turn_table.proofs.allocations.Allocations.lowest_free.Goals as goal
 

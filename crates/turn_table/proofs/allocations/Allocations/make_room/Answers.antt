@@ -2,8 +2,7 @@ use Rattle.std.proofs.Common.{sym, ap, ◌∙◌}
 use Rattle.std.proofs.lemmas.Result.{on_ok_weaker}
 use Rattle.std.specs.FinMap as fin
 use Rattle.std.specs.Option.{option_copied_mut}
-use Rattle.turn_table.specs.Indexed.{held_in}
-use Rattle.turn_table.specs.Order.{room_of}
+use Rattle.turn_table.specs.Prelude.{held_in, room_of}
 use Rattle.turn_table.proofs.Changing.{entries_unchanged, get-changed, lists_changed, on_ok_both, room_inside}
 use Rattle.turn_table.proofs.Held.{get-held_in}
 use Rattle.turn_table.proofs.Options.{match_none}

@@ -1,6 +1,6 @@
 use Rattle.std.specs.Ordering.{nat_cmp}
-use Rattle.turn_types.specs.FiveTuple.{tuple_cmp}
-use Rattle.turn_table.specs.Kept.{map_in}
+use Rattle.turn_types.specs.Prelude.{tuple_cmp}
+use Rattle.turn_table.specs.Prelude.{map_in}
 use Rattle.turn_table.proofs.Index.{indexed_empty}
 use Rattle.turn_table.proofs.Changing.{users_empty}
 use Rattle.turn_table.proofs.allocations.Allocations.new.Goals as goal

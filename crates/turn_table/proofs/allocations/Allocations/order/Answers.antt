@@ -1,9 +1,7 @@
 use Rattle.std.proofs.Common.{ap, ◌∙◌}
 use Rattle.turn_history.proofs.Maps.{tuple_total, tuple_exact}
-use Rattle.turn_types.specs.FiveTuple.{tuple_cmp}
-use Rattle.turn_table.specs.Indexed.{held_in}
-use Rattle.turn_table.specs.Kept.{map_in}
-use Rattle.turn_table.specs.Live.{placed}
+use Rattle.turn_types.specs.Prelude.{tuple_cmp}
+use Rattle.turn_table.specs.Prelude.{held_in, map_in, placed}
 use Rattle.turn_table.proofs.Sorted.{entries-values_by}
 use Rattle.turn_table.proofs.allocations.Allocations.order.Goals as goal
 

@@ -1,8 +1,7 @@
-use Rattle.std.proofs.Common.{sym, ap, ◌∙◌, None}
-use Rattle.std.proofs.Common.{◌≤◌, length, Some}
+use Rattle.std.proofs.Common.{sym, ap, ◌∙◌, None, ◌≤◌, length, Some}
 use Rattle.std.specs.FinMap as fin
 use Rattle.std.specs.Option.{option_copied_mut}
-use Rattle.turn_history.specs.Table.{permitting}
+use Rattle.turn_history.specs.Prelude.{permitting}
 use Rattle.turn_table.proofs.Changing.{changes, get-view, lists_changed}
 use Rattle.turn_table.proofs.Options.{is_some_none, some_at, some_is}
 use Rattle.turn_table.proofs.allocations.Allocations.permit.Goals as goal

@@ -1,8 +1,6 @@
-use Rattle.std.proofs.Common.{ap, ◌∙◌}
+use Rattle.std.proofs.Common.{ap, ◌∙◌, option_map}
 use Rattle.std.specs.FinMap as fin
-use Rattle.std.specs.Option.{option_map}
-use Rattle.turn_table.specs.Kept.{still_entry}
-use Rattle.turn_table.specs.Live.{entries_of}
+use Rattle.turn_table.specs.Prelude.{still_entry, entries_of}
 use Rattle.turn_table.proofs.Changing.{lists_purged}
 use Rattle.turn_table.proofs.Purged.{get-purged_entries}
 use Rattle.turn_table.proofs.allocations.Allocations.purge.Goals as goal

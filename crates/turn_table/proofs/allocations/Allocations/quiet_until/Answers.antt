@@ -1,7 +1,7 @@
 use Rattle.std.proofs.Common.{ap, ◌∙◌, subst}
 use Rattle.std.specs.FinMap as fin
 use Rattle.std.specs.List.{AllByRecursion}
-use Rattle.turn_table.specs.Live.{IsQuiet}
+use Rattle.turn_table.specs.Prelude.{IsQuiet}
 use Rattle.turn_table.proofs.Places.{all_in}
 use Rattle.turn_table.proofs.allocations.Allocations.quiet_until.Goals as goal
 

@@ -1,12 +1,9 @@
-use Rattle.std.proofs.Common.{◌≡◌, sym, ap, ◌∙◌, [], Some, None}
+use Rattle.std.proofs.Common.{◌≡◌, sym, ap, ◌∙◌, [], Some, None, nat_cmp}
 use Rattle.std.specs.FinMap as fin
 use Rattle.std.specs.Option.{option_copied, option_map_or}
-use Rattle.std.specs.Ordering.{nat_cmp}
 use Rattle.turn_history.proofs.Maps.{tuple_total, tuple_exact}
-use Rattle.turn_types.specs.FiveTuple.{tuple_cmp}
-use Rattle.turn_table.specs.ByUser.{user_of}
-use Rattle.turn_table.specs.Indexed.{held_in}
-use Rattle.turn_table.specs.Kept.{map_in}
+use Rattle.turn_types.specs.Prelude.{tuple_cmp}
+use Rattle.turn_table.specs.Prelude.{user_of, held_in, map_in}
 use Rattle.turn_table.proofs.ByUser.{listed}
 use Rattle.turn_table.proofs.Changing.{get-view, users_removed}
 use Rattle.turn_table.proofs.Held.{get-held_in, held-removed}

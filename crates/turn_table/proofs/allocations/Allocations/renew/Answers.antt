@@ -1,6 +1,6 @@
 use Rattle.std.proofs.Common.{sym, ap, ◌∙◌, None}
 use Rattle.std.specs.Option.{option_copied_mut}
-use Rattle.turn_history.specs.Table.{renewed}
+use Rattle.turn_history.specs.Prelude.{renewed}
 use Rattle.turn_table.proofs.Changing.{changes, get-view, lists_changed}
 use Rattle.turn_table.proofs.Options.{is_some_none}
 use Rattle.turn_table.proofs.allocations.Allocations.renew.Goals as goal

@@ -1,11 +1,8 @@
-use Rattle.std.proofs.Common.{◌≡◌, get_or, sym, subst, ◌∙◌, true, false}
-use Rattle.std.specs.Prelude.{IsSomeAnd}
+use Rattle.std.proofs.Common.{◌≡◌, get_or, sym, subst, ◌∙◌, true, false, IsSomeAnd, nat_cmp}
 use Rattle.std.specs.FinMap as fin
-use Rattle.std.specs.Ordering.{nat_cmp}
-use Rattle.turn_history.specs.Fitting.{is_peer}
+use Rattle.turn_history.specs.Prelude.{is_peer}
 use Rattle.turn_history.proofs.Tests.{peer_is, is_peer-same}
-use Rattle.turn_table.specs.Kept.{map_in}
-use Rattle.turn_table.specs.Table.{IsChannelTo}
+use Rattle.turn_table.specs.Prelude.{map_in, IsChannelTo}
 use Rattle.turn_table.proofs.Options.{some_then}
 use Rattle.turn_table.proofs.Places.{entry_found, no_entry}
 use Rattle.turn_table.proofs.entry.Entry.channel_to.Goals as goal

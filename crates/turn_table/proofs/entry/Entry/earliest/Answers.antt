@@ -1,5 +1,5 @@
 use Rattle.std.proofs.Common.{arith, subst}
-use Rattle.turn_table.specs.Live.{IsQuiet}
+use Rattle.turn_table.specs.Prelude.{IsQuiet}
 use Rattle.turn_table.proofs.Ready.{min_below}
 use Rattle.turn_table.proofs.entry.Entry.earliest.Goals as goal
 

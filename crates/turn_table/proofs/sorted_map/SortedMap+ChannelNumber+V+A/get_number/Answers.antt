@@ -1,11 +1,9 @@
-use Rattle.std.proofs.Common.{ap, sym, ◌∙◌}
+use Rattle.std.proofs.Common.{ap, sym, ◌∙◌, nat_cmp}
 use Rattle.std.proofs.lemmas.Cmp.{nat_cmp_total}
 use Rattle.std.specs.FinMap as fin
 use Rattle.std.specs.FinMap.{nat_cmp-IsAntisymmetric}
-use Rattle.std.specs.Ordering.{nat_cmp}
-use Rattle.turn_table.specs.Sorted.{scan}
+use Rattle.turn_table.specs.Prelude.{scan, map_in}
 use Rattle.turn_table.proofs.Sorted.{get-ok, get-err}
-use Rattle.turn_table.specs.Kept.{map_in}
 use Rattle.turn_table.proofs.sorted_map.SortedMap+ChannelNumber+V+A.get_number.Goals as goal
 
 pub returns-in-Ok : goal.returns-in-Ok

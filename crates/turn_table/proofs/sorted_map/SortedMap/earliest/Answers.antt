@@ -1,7 +1,7 @@
 use Rattle.std.proofs.Common.{◌≤◌, ap, ◌∙◌, subst}
 use Rattle.std.specs.FinMap as fin
 use Rattle.std.specs.List.{AllByRecursion}
-use Rattle.turn_table.specs.Kept.{map_in}
+use Rattle.turn_table.specs.Prelude.{map_in}
 use Rattle.turn_table.proofs.Sorted.{of_items}
 use Rattle.turn_table.proofs.sorted_map.SortedMap.earliest.Goals as goal
 

@@ -1,8 +1,7 @@
 use Rattle.std.proofs.Common.{ap, sym, ◌∙◌}
 use Rattle.std.specs.FinMap as fin
-use Rattle.turn_table.specs.Sorted.{scan}
+use Rattle.turn_table.specs.Prelude.{scan, map_in}
 use Rattle.turn_table.proofs.Sorted.{get-ok, get-err}
-use Rattle.turn_table.specs.Kept.{map_in}
 use Rattle.turn_table.proofs.sorted_map.SortedMap.get.Goals as goal
 
 pub returns-in-Ok : goal.returns-in-Ok

@@ -2,7 +2,7 @@ use Rattle.std.proofs.Common.{ap, sym, ◌∙◌, length}
 use Rattle.std.specs.FinMap as fin
 use Rattle.std.specs.FinMap.{entries-from_sorted, len-entries}
 use Rattle.turn_table.proofs.Sorted.{holds}
-use Rattle.turn_table.specs.Kept.{map_in}
+use Rattle.turn_table.specs.Prelude.{map_in}
 use Rattle.turn_table.proofs.sorted_map.SortedMap.len.Goals as goal
 
 pub returns : goal.returns

@@ -1,5 +1,5 @@
 use Rattle.std.proofs.Common.{ap, ◌∙◌}
-use Rattle.turn_table.specs.Kept.{map_in, still}
+use Rattle.turn_table.specs.Prelude.{map_in, still}
 use Rattle.turn_table.proofs.Sorted.{still_is}
 use Rattle.turn_table.proofs.sorted_map.SortedMap.purge.Goals as goal
 

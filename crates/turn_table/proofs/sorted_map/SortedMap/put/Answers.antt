@@ -1,10 +1,7 @@
-use Rattle.std.proofs.Common.{◌≡◌, ap, ◌∙◌, set, refl, arith, ◌<◌, ◌-◌}
-use Rattle.std.specs.Vec.{vec_len, vec_capacity}
-use Rattle.std.specs.List.{insert}
+use Rattle.std.proofs.Common.{◌≡◌, ap, ◌∙◌, set, refl, arith, ◌<◌, ◌-◌, vec_len, vec_capacity, insert}
 use Rattle.std.specs.FinMap as fin
-use Rattle.turn_table.specs.Sorted.{scan}
+use Rattle.turn_table.specs.Prelude.{scan, map_in}
 use Rattle.turn_table.proofs.Sorted.{inserted, on_success, written}
-use Rattle.turn_table.specs.Kept.{map_in}
 use Rattle.turn_table.proofs.sorted_map.SortedMap.put.Goals as goal
 use Rattle.turn_table.proofs.sorted_map.SortedMap.put.Goals.{After-insert}
 use Rattle.turn_table.proofs.sorted_map.SortedMap.put.Given.{Over}

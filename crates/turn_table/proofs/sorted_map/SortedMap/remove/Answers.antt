@@ -1,7 +1,6 @@
 use Rattle.std.proofs.Common.{ap, sym, ◌∙◌}
 use Rattle.std.specs.FinMap as fin
-use Rattle.turn_table.specs.Kept.{map_in}
-use Rattle.turn_table.specs.Sorted.{scan}
+use Rattle.turn_table.specs.Prelude.{map_in, scan}
 use Rattle.turn_table.proofs.Sorted.{removed, remove-absent, get-err}
 use Rattle.turn_table.proofs.sorted_map.SortedMap.remove.Goals as goal
 

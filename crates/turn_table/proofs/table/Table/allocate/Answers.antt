@@ -1,12 +1,9 @@
-use Rattle.std.proofs.Common.{◌≡◌, ◌≤◌, ◌+◌, ℕ, ap, sym, ◌∙◌, arith, rules, subst, option_map, None}
-use Rattle.std.specs.Prelude.{IfSome}
+use Rattle.std.proofs.Common.{◌≡◌, ◌≤◌, ◌+◌, ℕ, ap, sym, ◌∙◌, arith, rules, subst, option_map, None, IfSome, nat_cmp}
 use Rattle.std.specs.FinMap as fin
-use Rattle.std.specs.Ordering.{nat_cmp}
-use Rattle.turn_history.specs.Table.{Reservations, with_reservation}
+use Rattle.turn_history.specs.Prelude.{Reservations, with_reservation}
 use Rattle.turn_history.specs.declared.reservation.Reservation.{Reservation}
-use Rattle.turn_types.specs.Profile.{reservation_lifetime}
-use Rattle.turn_table.specs.Kept.{map_in}
-use Rattle.turn_table.specs.Order.{room_of}
+use Rattle.turn_types.specs.Prelude.{reservation_lifetime}
+use Rattle.turn_table.specs.Prelude.{map_in, room_of}
 use Rattle.turn_table.proofs.Options.{none_of, some_none, some_then}
 use Rattle.turn_table.proofs.Ready.{holds_allocated, holds_earlier, holds_of, min_below, quiet_before, ready_of}
 use Rattle.turn_table.proofs.States.{absent_of, port_free_of, room_for, some_weaker, with_allocation-is}

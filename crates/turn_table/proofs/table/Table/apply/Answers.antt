@@ -1,16 +1,9 @@
-use Rattle.std.proofs.Common.{◌≡◌, ◌+◌, ℕ, ◌++◌, ◌∷◌, [], true, cond, eqb, refl, sym, ap, ◌∙◌, Option, Some, None, option_map, arith, rules}
-use Rattle.std.proofs.lemmas.Bool.{eq-eqb, ne_eqb}
-use Rattle.std.specs.Prelude.{IsSomeAnd}
+use Rattle.std.proofs.Common.{◌≡◌, ◌+◌, ℕ, ◌++◌, ◌∷◌, [], true, cond, eqb, refl, sym, ap, ◌∙◌, Option, Some, None, option_map, arith, rules, eq-eqb, ne_eqb, IsSomeAnd}
 use Rattle.std.specs.FinMap as fin
 use Rattle.turn_history.proofs.Histories.{table-follows}
-use Rattle.turn_history.specs.Act.{act_of}
-use Rattle.turn_history.specs.Fitting.{Follows}
-use Rattle.turn_history.specs.History.{Allocates, PlainAct, Renews, Permits, Binds, Event, History}
-use Rattle.turn_history.specs.Table.{Entry, Reservations, applied, applied_to, renewed, permitting, binding, reserving, with_entry, table}
-use Rattle.turn_types.specs.Profile.{permission_lifetime}
-use Rattle.turn_types.specs.declared.address.FiveTuple.{FiveTuple}
-use Rattle.turn_table.specs.State.{State}
-use Rattle.turn_table.specs.Table.{Agrees, BecomesFree, freed_by, with_allocation, without_entry}
+use Rattle.turn_history.specs.Prelude.{act_of, Follows, Allocates, PlainAct, Renews, Permits, Binds, Event, History, Entry, Reservations, applied, applied_to, renewed, permitting, binding, reserving, with_entry, table, FiveTuple}
+use Rattle.turn_types.specs.Prelude.{permission_lifetime}
+use Rattle.turn_table.specs.Prelude.{State, Agrees, BecomesFree, freed_by, with_allocation, without_entry}
 use Rattle.turn_table.specs.Table as calls
 use Rattle.turn_table.proofs.Options.{some_then}
 use Rattle.turn_table.proofs.Purging.{free-remove}

@@ -1,13 +1,10 @@
 use Rattle.std.proofs.Common.{◌+◌, refl, ap, ◌∙◌, arith, option_map, subst}
-use Rattle.turn_history.specs.History.{Binds}
-use Rattle.turn_history.specs.Table.{binding}
-use Rattle.turn_table.specs.Live.{Changes}
-use Rattle.turn_table.specs.Order.{room_of}
-use Rattle.turn_table.specs.Table.{room_for}
+use Rattle.turn_history.specs.Prelude.{Binds, binding}
+use Rattle.turn_table.specs.Prelude.{Changes, room_of, room_for}
 use Rattle.turn_table.proofs.Ready.{holds_of, min_below, quiet_binding, ready_changed}
 use Rattle.turn_table.proofs.States.{changed-is, room_inside, there_of}
 use Rattle.turn_table.proofs.table.Table.bind.Goals as goal
-use Rattle.turn_types.specs.Profile.{permission_lifetime}
+use Rattle.turn_types.specs.Prelude.{permission_lifetime}
 
 pub returns : goal.returns
 returns g c =

@@ -1,11 +1,6 @@
-use Rattle.std.proofs.Common.{ap, sym, ◌∙◌, get_or}
-use Rattle.std.specs.Prelude.{find}
-use Rattle.std.specs.Option.{option_map}
+use Rattle.std.proofs.Common.{ap, sym, ◌∙◌, get_or, find, option_map, nat_cmp, bytes_eq}
 use Rattle.std.specs.FinMap as fin
-use Rattle.std.specs.Ordering.{nat_cmp}
-use Rattle.std.specs.Str.{bytes_eq}
-use Rattle.turn_table.specs.Kept.{map_in}
-use Rattle.turn_table.specs.Table.{port_of_token}
+use Rattle.turn_table.specs.Prelude.{map_in, port_of_token}
 use Rattle.turn_table.proofs.Places.{entry_found, find-none, found_is, no_port, position_none}
 use Rattle.turn_table.proofs.Ready.{holds_of}
 use Rattle.turn_table.proofs.table.Table.by_token.Goals as goal

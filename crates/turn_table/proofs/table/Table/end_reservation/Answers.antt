@@ -1,8 +1,7 @@
 use Rattle.std.proofs.Common.{ap, ◌∙◌, None}
 use Rattle.std.specs.FinMap as fin
-use Rattle.turn_history.specs.Table.{Reservations}
-use Rattle.turn_table.specs.Order.{state_of}
-use Rattle.turn_table.specs.State.{State}
+use Rattle.turn_history.specs.Prelude.{Reservations}
+use Rattle.turn_table.specs.Prelude.{state_of, State}
 use Rattle.turn_table.proofs.Ready.{holds_of, holds_released, ready_of}
 use Rattle.turn_table.proofs.table.Table.end_reservation.Goals as goal
 

@@ -1,8 +1,7 @@
-use Rattle.std.proofs.Common.{sym, ap, ◌∙◌, subst}
-use Rattle.std.specs.Prelude.{IsSome}
+use Rattle.std.proofs.Common.{sym, ap, ◌∙◌, subst, IsSome}
 use Rattle.std.specs.FinMap as fin
 use Rattle.std.specs.List.{AllByRecursion}
-use Rattle.turn_table.specs.Live.{listed}
+use Rattle.turn_table.specs.Prelude.{listed}
 use Rattle.turn_table.proofs.Held.{held-placed, listed-placed}
 use Rattle.turn_table.proofs.table.Table.entries.Goals as goal
 

@@ -1,5 +1,4 @@
-use Rattle.std.proofs.Common.{◌≤◌, ap, arith, subst}
-use Rattle.std.specs.Prelude.{IsSomeAnd}
+use Rattle.std.proofs.Common.{◌≤◌, ap, arith, subst, IsSomeAnd}
 use Rattle.std.specs.FinMap as fin
 use Rattle.turn_table.proofs.Ready.{holds_of}
 use Rattle.turn_table.proofs.States.{held_of, matched, some_of}

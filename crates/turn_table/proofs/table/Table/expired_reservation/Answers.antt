@@ -1,9 +1,6 @@
-use Rattle.std.proofs.Common.{◌≤◌, ◌<◌, ap, sym, ◌∙◌, arith, subst, get_or}
-use Rattle.std.specs.Prelude.{IsSomeAnd, nat_le}
+use Rattle.std.proofs.Common.{◌≤◌, ◌<◌, ap, sym, ◌∙◌, arith, subst, get_or, IsSomeAnd, nat_le, nat_cmp, leb-false, leb-true}
 use Rattle.std.specs.FinMap as fin
-use Rattle.std.specs.Ordering.{nat_cmp}
-use Rattle.std.proofs.lemmas.Bool.{leb-false, leb-true}
-use Rattle.turn_table.specs.Kept.{map_in}
+use Rattle.turn_table.specs.Prelude.{map_in}
 use Rattle.turn_table.proofs.Places.{entry_found, no_entry, no_port}
 use Rattle.turn_table.proofs.table.Table.expired_reservation.Goals as goal
 

@@ -1,6 +1,5 @@
 use Rattle.std.proofs.Common.{ap, sym, subst, IsTrue}
-use Rattle.turn_history.specs.Act.{act_of}
-use Rattle.turn_history.specs.Fitting.{Fits}
+use Rattle.turn_history.specs.Prelude.{act_of, Fits}
 use Rattle.turn_table.proofs.table.Table.fits.Goals as goal
 
 pub returns-then-fits_allocation : goal.returns-then-fits_allocation

@@ -1,6 +1,5 @@
-use Rattle.std.proofs.Common.{sym, ap, ◌∙◌}
+use Rattle.std.proofs.Common.{sym, ap, ◌∙◌, option_map}
 use Rattle.std.specs.FinMap as fin
-use Rattle.std.specs.Option.{option_map}
 use Rattle.turn_table.proofs.Held.{get-entries_of}
 use Rattle.turn_table.proofs.table.Table.get.Goals as goal
 

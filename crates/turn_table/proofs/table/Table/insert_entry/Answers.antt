@@ -1,5 +1,5 @@
 use Rattle.std.proofs.Common.{ap, ◌∙◌, option_map}
-use Rattle.turn_table.specs.Order.{room_of}
+use Rattle.turn_table.specs.Prelude.{room_of}
 use Rattle.turn_table.proofs.Ready.{holds_earlier, holds_inserted, holds_of, min_below, quiet_before, ready_of}
 use Rattle.turn_table.proofs.States.{absent_of, port_free_of, room_for, with_entry-is}
 use Rattle.turn_table.proofs.table.Table.insert_entry.Goals as goal

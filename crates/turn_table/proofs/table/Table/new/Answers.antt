@@ -1,6 +1,6 @@
 use Rattle.std.proofs.Common.{ap, ◌∙◌, None}
-use Rattle.turn_history.specs.Table.{no_contents}
-use Rattle.turn_table.specs.Live.{entries_of}
+use Rattle.turn_history.specs.Prelude.{no_contents}
+use Rattle.turn_table.specs.Prelude.{entries_of}
 use Rattle.turn_table.proofs.Held.{entries_of-empty}
 use Rattle.turn_table.proofs.Ready.{holds_empty, ready_of}
 use Rattle.turn_table.proofs.table.Table.new.Goals as goal

@@ -1,9 +1,7 @@
 use Rattle.std.proofs.Common.{◌≤◌, length, refl, ap, ◌∙◌, option_map}
 use Rattle.std.specs.FinMap as fin
-use Rattle.turn_history.specs.History.{Permits}
-use Rattle.turn_history.specs.Table.{permitting}
-use Rattle.turn_table.specs.Order.{room_of}
-use Rattle.turn_table.specs.Table.{room_for}
+use Rattle.turn_history.specs.Prelude.{Permits, permitting}
+use Rattle.turn_table.specs.Prelude.{room_of, room_for}
 use Rattle.turn_table.proofs.Ready.{holds_of, min_below, quiet_permitting, ready_changed}
 use Rattle.turn_table.proofs.States.{changed-is, room_inside, some_weaker, there_of}
 use Rattle.turn_table.proofs.table.Table.permit.Goals as goal

@@ -1,11 +1,8 @@
-use Rattle.std.proofs.Common.{inl, inr, ◌≡◌, ℕ, ap, sym, ◌∙◌, Option, Some, None}
-use Rattle.std.specs.Prelude.{IfNone, IfSome, MatchOption}
+use Rattle.std.proofs.Common.{inl, inr, ◌≡◌, ℕ, ap, sym, ◌∙◌, Option, Some, None, IfNone, IfSome, MatchOption}
 use Rattle.std.proofs.lemmas.Option.{IfSome_then}
 use Rattle.turn_history.proofs.Steps.{table-later}
-use Rattle.turn_history.specs.History.{History}
-use Rattle.turn_history.specs.Table.{purged, table}
-use Rattle.turn_table.specs.State.{State}
-use Rattle.turn_table.specs.Table.{Agrees, AgreesOncePurged, RemovesReservation}
+use Rattle.turn_history.specs.Prelude.{History, purged, table}
+use Rattle.turn_table.specs.Prelude.{State, Agrees, AgreesOncePurged, RemovesReservation}
 use Rattle.turn_table.proofs.Purging.{fewer_of, free_of, removes, rest_of}
 use Rattle.turn_table.proofs.table.Table.purge.Goals as goal
 

@@ -1,7 +1,6 @@
-use Rattle.std.proofs.Common.{◌≡◌, ap, sym, ◌∙◌, is_some, option_map, subst}
-use Rattle.std.specs.Prelude.{IsSomeAnd}
+use Rattle.std.proofs.Common.{◌≡◌, ap, sym, ◌∙◌, is_some, option_map, subst, IsSomeAnd}
 use Rattle.std.specs.FinMap as fin
-use Rattle.turn_table.specs.Order.{room_of}
+use Rattle.turn_table.specs.Prelude.{room_of}
 use Rattle.turn_table.proofs.Options.{is_some_then, mapped_then}
 use Rattle.turn_table.proofs.Ready.{holds_of, holds_removed, ready_of}
 use Rattle.turn_table.proofs.States.{entry_of, there_of, without_entry-is}

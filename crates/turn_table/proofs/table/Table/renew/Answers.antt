@@ -1,6 +1,6 @@
 use Rattle.std.proofs.Common.{refl, ap, option_map}
-use Rattle.turn_history.specs.Table.{renewed}
-use Rattle.turn_table.specs.Order.{room_of}
+use Rattle.turn_history.specs.Prelude.{renewed}
+use Rattle.turn_table.specs.Prelude.{room_of}
 use Rattle.turn_table.proofs.Ready.{holds_of, min_below, quiet_renewed, ready_changed}
 use Rattle.turn_table.proofs.States.{changed-is, there_of}
 use Rattle.turn_table.proofs.table.Table.renew.Goals as goal

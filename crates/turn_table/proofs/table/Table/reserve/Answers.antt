@@ -1,7 +1,5 @@
-use Rattle.std.proofs.Common.{refl, ap, option_map}
-use Rattle.std.specs.Ordering.{nat_cmp}
-use Rattle.turn_table.specs.Kept.{map_in}
-use Rattle.turn_table.specs.Order.{room_of}
+use Rattle.std.proofs.Common.{refl, ap, option_map, nat_cmp}
+use Rattle.turn_table.specs.Prelude.{map_in, room_of}
 use Rattle.turn_table.proofs.Ready.{holds_of, ready_of, ready_with}
 use Rattle.turn_table.proofs.States.{same-is}
 use Rattle.turn_table.proofs.table.Table.reserve.Goals as goal

@@ -1,6 +1,6 @@
 use Rattle.std.proofs.Common.{ap, ◌∙◌}
 use Rattle.std.specs.FinMap as fin
-use Rattle.turn_table.specs.Table.{with_entry}
+use Rattle.turn_table.specs.Prelude.{with_entry}
 use Rattle.turn_table.proofs.Ends.{entries-above}
 use Rattle.turn_table.proofs.table.Table.restore.Goals as goal
 

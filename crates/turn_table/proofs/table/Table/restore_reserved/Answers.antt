@@ -1,11 +1,7 @@
-use Rattle.std.proofs.Common.{ap, ◌∙◌, None}
+use Rattle.std.proofs.Common.{ap, ◌∙◌, None, nat_cmp}
 use Rattle.std.specs.FinMap as fin
-use Rattle.std.specs.Ordering.{nat_cmp}
-use Rattle.turn_history.specs.Table.{Reservations}
-use Rattle.turn_table.specs.Kept.{map_in}
-use Rattle.turn_table.specs.Order.{state_of}
-use Rattle.turn_table.specs.State.{State}
-use Rattle.turn_table.specs.Table.{with_reserved}
+use Rattle.turn_history.specs.Prelude.{Reservations}
+use Rattle.turn_table.specs.Prelude.{map_in, state_of, State, with_reserved}
 use Rattle.turn_table.proofs.Ends.{ports-above}
 use Rattle.turn_table.proofs.Ready.{holds_earlier, holds_of, holds_reserved, min_below, ready_of}
 use Rattle.turn_table.proofs.table.Table.restore_reserved.Goals as goal

@@ -1,10 +1,7 @@
-use Rattle.std.proofs.Common.{◌≡◌, ap, sym, ◌∙◌, arith, option_map, None}
+use Rattle.std.proofs.Common.{◌≡◌, ap, sym, ◌∙◌, arith, option_map, None, nat_cmp}
 use Rattle.std.specs.FinMap as fin
-use Rattle.std.specs.Ordering.{nat_cmp}
-use Rattle.turn_history.specs.Table.{Contents, purged}
-use Rattle.turn_table.specs.Kept.{map_in, still_entry}
-use Rattle.turn_table.specs.Live.{entries_of}
-use Rattle.turn_table.specs.State.{State}
+use Rattle.turn_history.specs.Prelude.{Contents, purged}
+use Rattle.turn_table.specs.Prelude.{map_in, still_entry, entries_of, State}
 use Rattle.turn_table.proofs.Options.{mapped_then}
 use Rattle.turn_table.proofs.Purging.{purged_ahead, purged_quiet, stays}
 use Rattle.turn_table.proofs.Held.{entry_at}

@@ -1,5 +1,5 @@
 use Rattle.std.proofs.Common.{Bool, ℕ, ◌≤◌, ◌<◌, ◌-◌, ◌^◌}
-use Rattle.turn_history.specs.Fitting.{is_taken}
+use Rattle.turn_history.specs.Prelude.{is_taken}
 use Rattle.turn_ports.specs.Ports.{IsFree}
 use Rattle.turn_table.proofs.table.TablePortSet.lowest_free.Given as goal
 

@@ -1,7 +1,5 @@
-use Rattle.std.proofs.Common.{ap, arith, ◌∙◌}
-use Rattle.std.specs.List.{count_by}
-use Rattle.std.specs.Str.{bytes_eq}
-use Rattle.turn_table.specs.ByUser.{names_in}
+use Rattle.std.proofs.Common.{ap, arith, ◌∙◌, count_by, bytes_eq}
+use Rattle.turn_table.specs.Prelude.{names_in}
 use Rattle.turn_table.proofs.ByUser.{between}
 use Rattle.turn_table.proofs.user_order.UserOrder.count_of.Goals as goal
 
