@@ -1,7 +1,7 @@
 //! What this program is made from. This file is written by packaging/digest.
 
 /// The digest of the sources.
-pub const SOURCES: &str = "a2352be30ca9e58f9399883686e27b3dafe4584a252e46f89359d5d26b8858b8";
+pub const SOURCES: &str = "30fceadcc5dce75b553b495f7912470a218fae6d41048cab867bf7524140c7e0";
 
 /// The toolchain, as it names itself.
 pub const TOOLCHAIN: &str = "rattle-kit-13f logic dac8208d650f15bf";
