@@ -1,5 +1,4 @@
 pub mod Addresses
-pub mod Among
 pub mod Fair
 pub mod Finding
 pub mod Listened

@@ -1,6 +1,6 @@
 //! Relay ports, each with a socket.
 
-ghost use Rattle.std.specs.Prelude.{◌≡◌, ◌≢◌, ◌<◌, ◌≤◌, ◌+◌, ◌^◌, ◌⊎◌, ◌↔◌, ℕ, Bool, true, [], Ok, Some, None, IfOk, IsTrue, OnErr, is_some, option_map, IfSome};
+ghost use Rattle.std.specs.Prelude.{◌≡◌, ◌≢◌, ◌<◌, ◌≤◌, ◌+◌, ◌^◌, ◌⊎◌, ℕ, Bool, true, [], Ok, Some, None, IfOk, OnErr, option_map, IfSome};
 ghost use Rattle.std.specs.BTreeMap.{IsUnchanged, Updates, get};
 ghost use Rattle.std.specs.Ordering.{nat_cmp};
 ghost use Rattle.rand_chacha.specs.ChaCha.{next_word};
@@ -183,18 +183,6 @@ impl<'a, R: Net, A: Allocator + Copy> SocketPorts<'a, R, A> {
         ensures at { IfSome result (λ s. s.now.port ≡ port) }
     {
         self.sockets.get(&port)
-    }
-
-    /// Whether each port that has a socket is in a set.
-    pub fn are_all_in<S: PortSet>(&self, ports: &S) -> bool
-        ensures { IsTrue result ↔ ((port : ℕ) → is_some (get nat_cmp self.now.sockets port) ≡ true → S.has ports.now port ≡ true) }
-    {
-        for port in self.sockets.keys() {
-            if !ports.has(*port) {
-                return false;
-            }
-        }
-        true
     }
 
     /// Whether an address is one of this machine: a socket is bound at it, at any port, and released.
