@@ -7,13 +7,15 @@ mod servers;
 use crate::mac::has_integrity;
 use crate::measured::{ROUNDS, best_of};
 use crate::requests::{HOUR, Kind, UDP, ZERO, of_client};
-use calls::{BATCH, commit, digests, prepare, purge, purge_and_permit, step, to_client, to_peer};
+use calls::{BATCH, Lasting, commit, digests, prepare, purge, step, to_client, to_peer};
 use datagrams::{CLIENT, PAIR, PEER, channel_data, client_at, request};
 use servers::{Engine, PORT, Rules, make_engine, make_rules, make_table};
+use std::alloc::AllocError;
 use std::io;
 use test_requests::{ALICE, ID};
 use turn_codec::Message;
 use turn_step::Arrival;
+use turn_types::{MAX_LIFETIME, Moment};
 
 /// Prints and returns the nanoseconds of an arrival, of which each call has so many.
 fn measure<F: FnMut() -> bool>(
@@ -82,13 +84,21 @@ fn measure_allocate(rt: &HostRuntime, rules: &mut Rules, count: usize) -> io::Re
 
 /// Measures a purge in which nothing has expired, and one in which a permission has.
 fn measure_purge(rt: &HostRuntime, allocations: u16, count: usize) -> io::Result<()> {
-    println!(rt; "a purge of nothing, at a new second")?;
-    let mut table = make_table(rt.alloc(), allocations)?;
-    measure(rt, "Table::purge", &mut || purge(&mut table), count, 1)?;
-    println!(rt; "a purge of one permission, which walks all entries, and a Permit")?;
+    println!(rt; "a purge of nothing")?;
     let alloc = rt.alloc();
     let mut table = make_table(alloc, allocations)?;
-    let call = &mut || purge_and_permit(alloc, &mut table);
+    let last = table.moment().seconds() + u64::from(MAX_LIFETIME) - 1;
+    let last = Moment::new(last).ok_or(AllocError)?;
+    measure(
+        rt,
+        "Table::purge",
+        &mut || purge(&mut table, last),
+        count,
+        1,
+    )?;
+    println!(rt; "a purge of one permission, which walks all entries, and a Permit")?;
+    let mut table = Lasting::make(alloc, allocations)?;
+    let call = &mut || table.purge_and_permit(alloc);
     measure(rt, "Table::purge and apply", call, count, 1)?;
     Ok(())
 }

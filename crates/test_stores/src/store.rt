@@ -3,7 +3,7 @@
 ghost use Rattle.std.specs.Prelude.{◌≡◌, ◌↔◌, IsTrue};
 ghost use Rattle.turn_history.specs.Act.{act_of, event_of};
 ghost use Rattle.turn_history.specs.Fitting.{Fits, IsInRange};
-ghost use Rattle.turn_record.specs.Records.{IsSnapshot, Writes};
+ghost use Rattle.turn_record.specs.Records.{Holds, Writes};
 ghost use Rattle.turn_record.specs.declared.version.Version.{Version};
 
 use std::alloc::{AllocError, Allocator, Global};
@@ -12,7 +12,7 @@ use turn_disk::{Disk, Idle, Meanwhile, Producer};
 use turn_history::Event;
 use turn_record::{
     ReadError, SnapshotWriter, Version, max_payload, read_act, read_snapshot, snapshot_size,
-    snapshots_go_on, write_snapshot,
+    write_snapshot,
 };
 use turn_store::{Info, Opened, Store, StoreError, StoreOpenError, WrittenAs};
 use turn_table::Table;
@@ -26,7 +26,7 @@ pub struct SnapshotTable<A: Allocator = Global> {
 }
 
 impl<A: Allocator> Model for SnapshotTable<A> {
-    ghost use Rattle.turn_record.specs.Records.{IsSnapshot};
+    ghost use Rattle.turn_record.specs.Records.{Holds};
     ghost use Rattle.turn_table.specs.State.{State, state_code};
 
     ghost Value = { State };
@@ -35,7 +35,7 @@ impl<A: Allocator> Model for SnapshotTable<A> {
 
     ghost view = { λ s. s.table };
 
-    ghost invariant = { λ s. IsSnapshot s.version s.table.bounds s.table.moment s.table.contents };
+    ghost invariant = { λ s. Holds s.version s.table.contents };
 }
 
 impl<A: Allocator + Copy> SnapshotTable<A> {
@@ -93,16 +93,15 @@ fn apply<A: Allocator + Copy>(
     table: &mut Table<A>,
     event: Event<A>,
 ) -> Result<(), AllocError>
-    requires snapshot { IsSnapshot version table.old.bounds table.old.moment table.old.contents }
+    requires holds { Holds version table.old.contents }
     requires writes { Writes version (act_of event.act) }
     requires range { IsInRange table.old.bounds (event_of event) }
     requires now { event.moment ≡ table.old.moment }
     requires fits { Fits table.old.bounds table.old.contents event.tuple (act_of event.act) }
-    ensures { IsSnapshot version table.new.bounds table.new.moment table.new.contents }
+    ensures { Holds version table.new.contents }
 {
-    snapshots_go_on();
     table.reserve_for(event.tuple, &event.act)?;
-    table.apply(event.moment, event.tuple, event.act);
+    table.apply(event.tuple, event.act);
     Ok(())
 }
 

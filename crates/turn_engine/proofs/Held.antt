@@ -3,16 +3,8 @@ use Rattle.std.proofs.Common.{List, [], ◌∷◌, Ok, Err, None, sym, ap, subst
 use Rattle.turn_cred.specs.declared.handler.AuthHandler as handlers
 use Rattle.turn_disk.specs.declared.disk.Disk as disks
 use Rattle.turn_ports.specs.declared.generator.RelayAddressGenerator as generators
-use Rattle.turn_record.specs.Prelude.{IsSnapshot}
-use Rattle.turn_record.specs.declared.version.Version.{Version}
-use Rattle.turn_step.specs.Prelude.{HasPortsApart, HoldsPorts, MachineState}
-use Rattle.turn_table.specs.Prelude.{State}
-use Rattle.turn_types.specs.declared.limits.Bounds.{Bounds}
+use Rattle.turn_step.specs.Prelude.{HoldsPorts, MachineState}
 use Rattle.turn_engine.specs.Prelude.{Commit, IsCall, Relay, Serves, ServerCall, Submit, after_of, last_of, ServerState}
-
--- a table of which there is a snapshot
-pub apart_in : (v : Version) (b : Bounds) (s : State) → IsSnapshot v b s.moment s.contents → HasPortsApart s
-apart_in v b s is = record { ports = is.ports; reserved = is.reserved_apart; in_range = is.reserved }
 
 module _ {D H G : Type 0} (disk : disks.Ghosts D) (handler : handlers.Ghosts H) (ports : generators.Ghosts G) where
   -- a commit leaves the machine as it is, and so does data that is answered beside what is staged

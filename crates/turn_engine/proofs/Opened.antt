@@ -9,7 +9,7 @@ use Rattle.turn_disk.proofs.Since.{since_weaken}
 use Rattle.turn_history.specs.Prelude.{IsFitting, Event, History, clock, AllFrom, Bounds}
 use Rattle.turn_history.specs.Table as tables
 use Rattle.turn_record.specs.Bytes as bytes
-use Rattle.turn_record.specs.Prelude.{IsSnapshot, Writes}
+use Rattle.turn_record.specs.Prelude.{Holds, Writes}
 use Rattle.turn_store.specs.Prelude.{Version, V2, Form, EachImage, IsInVersion, IsInVersionOr2, RepresentsBy, RepresentsAt, OpensTo, disk_of, IsPlain, Snapshot, RecoversToAt, snapshot_of}
 use Rattle.turn_store.specs.Opening as stores
 use Rattle.turn_store.specs.declared.error.OpenError.TheVariants.{Memory}
@@ -25,8 +25,8 @@ use Rattle.turn_engine.specs.declared.error.ServerOpenError.{ServerOpenError}
 use Rattle.turn_engine.proofs.Lists.{length-take-le, take_of_length-le}
 
 pub fresh_sound : (b limits store batch : Bounds) (v staged : Version) (acts : ℕ) (pairs : Bool) (table read : tables_state.State) → limits ≡ b → table ≡ read → store ≡ b → batch ≡ b → read.bounds ≡ b
-    → staged ≡ v → acts ≡ 0 → pairs ≡ has_pairs v → IsSnapshot v b read.moment read.contents → IsSound limits store batch v staged acts 0 pairs table
-fresh_sound b limits store batch v staged acts pairs table read same is store_is batch_is table_is same_version none pairs_is snapshot =
+    → staged ≡ v → acts ≡ 0 → pairs ≡ has_pairs v → Holds v read.contents → IsSound limits store batch v staged acts 0 pairs table
+fresh_sound b limits store batch v staged acts pairs table read same is store_is batch_is table_is same_version none pairs_is holds =
     subst (λ (x : Bounds). IsSound x store batch v staged acts 0 pairs table) (sym same) (subst (λ (t : tables_state.State). IsSound b store batch v staged acts 0 pairs t) (sym is) (record {
       store_is = store_is;
       batch_is = batch_is;
@@ -35,7 +35,7 @@ fresh_sound b limits store batch v staged acts pairs table read same is store_is
       capped = omega arith;
       same_version = same_version;
       pairs_is = pairs_is;
-      snapshot = snapshot;
+      holds = holds;
     }))
 
 -- what holds of a value holds of the result that it is

@@ -5,9 +5,9 @@ use Rattle.std.proofs.lemmas.List.{map-append, take-append-le, drop-append-le}
 use Rattle.std.specs.List.{AllByRecursion}
 use Rattle.turn_disk.specs.Disk as disks
 use Rattle.turn_history.specs.Prelude.{Fits, IsFitting, IsInRange, Event, History, clock, AllFrom, ReservesNone, Contents, FiveTuple, Bounds}
-use Rattle.turn_record.proofs.Kept.{snapshot-purged, snapshot-applied}
+use Rattle.turn_record.proofs.Kept.{holds-purged, holds-applied}
 use Rattle.turn_record.specs.Bytes as bytes
-use Rattle.turn_record.specs.Prelude.{IsSnapshot, Writes}
+use Rattle.turn_record.specs.Prelude.{Holds, Writes}
 use Rattle.turn_store.specs.Prelude.{Version, V1, V2, RecoversToAt}
 use Rattle.turn_step.specs.Prelude.{Change, added, event_at, CountsOne, IsAfter, IsPurged, KeepsSetting, MachineState, MayBeNext, changed}
 use Rattle.turn_table.specs.Prelude.{State, Agrees}
@@ -18,17 +18,15 @@ use Rattle.turn_engine.proofs.Lists.{all-append, added_few, added_from}
 
 -- ---- What a server keeps
 
-pub snapshot_later : (v : Version) (b : Bounds) (t : ℕ) (old new : State) → t < end_of_moments → old.moment ≤ t → IsPurged t old new → IsSnapshot v b old.moment old.contents
-    → IsSnapshot v b new.moment new.contents
-snapshot_later v b t old new range le later is = elim (eq-or-lt_of_le le) [
-  | inl e ↦ subst (λ (m : ℕ). IsSnapshot v b m new.contents) (e ∙ sym later.moment) (subst (λ (c : Contents). IsSnapshot v b old.moment c) (sym (later.same e)) is)
-  | inr lt ↦ subst (λ (m : ℕ). IsSnapshot v b m new.contents) (sym later.moment)
-      (subst (λ (c : Contents). IsSnapshot v b t c) (sym (later.later lt)) (snapshot-purged v b old.moment t old.contents le range is))
+holds_later : (v : Version) (t : ℕ) (old new : State) → old.moment ≤ t → IsPurged t old new → Holds v old.contents → Holds v new.contents
+holds_later v t old new le later is = elim (eq-or-lt_of_le le) [
+  | inl e ↦ subst (Holds v) (sym (later.same e)) is
+  | inr lt ↦ subst (Holds v) (sym (later.later lt)) (holds-purged v t old.contents is)
 ]
 
-pub sound_later : (b limits store batch : Bounds) (v staged : Version) (acts arrivals t : ℕ) (before after : Bool) (old new : State) → t < end_of_moments → old.moment ≤ t → IsPurged t old new → limits ≡ b
+pub sound_later : (b limits store batch : Bounds) (v staged : Version) (acts arrivals t : ℕ) (before after : Bool) (old new : State) → old.moment ≤ t → IsPurged t old new → limits ≡ b
     → after ≡ before → IsSound b store batch v staged acts arrivals before old → IsSound limits store batch v staged acts arrivals after new
-sound_later b limits store batch v staged acts arrivals t before after old new range le later same pairs s =
+sound_later b limits store batch v staged acts arrivals t before after old new le later same pairs s =
     subst (λ (x : Bounds). IsSound x store batch v staged acts arrivals after new) (sym same) (record {
       store_is = s.store_is;
       batch_is = s.batch_is;
@@ -37,15 +35,12 @@ sound_later b limits store batch v staged acts arrivals t before after old new r
       capped = s.capped;
       same_version = s.same_version;
       pairs_is = pairs ∙ s.pairs_is;
-      snapshot = snapshot_later v b t old new range le later s.snapshot;
+      holds = holds_later v t old new le later s.holds;
     })
 
-snapshot_changed : (v : Version) (b : Bounds) (old : State) (change : Option Change) → old.bounds ≡ b → IfSome change (MayBeNext old) → IfSome change (λ c. Writes v c.act) → IsSnapshot v b old.moment old.contents
-    → IsSnapshot v b (changed old change).moment (changed old change).contents
-snapshot_changed v b old None bounds may writes is = is
-snapshot_changed v b old (Some c) bounds may writes is =
-    snapshot-applied v b (event_at old.moment c) old.contents writes (subst (λ (x : Bounds). IsInRange x (event_at old.moment c)) bounds may.in_range)
-    (subst (λ (x : Bounds). Fits x old.contents c.tuple c.act) bounds may.fits) is
+holds_changed : (v : Version) (old : State) (change : Option Change) → IfSome change (λ c. Writes v c.act) → Holds v old.contents → Holds v (changed old change).contents
+holds_changed v old None writes is = is
+holds_changed v old (Some c) writes is = holds-applied v old.moment c.tuple c.act old.contents writes is
 
 bounds_changed : (old : State) (change : Option Change) → (changed old change).bounds ≡ old.bounds
 bounds_changed old None = refl
@@ -56,9 +51,9 @@ moment_changed old None = refl
 moment_changed old (Some c) = refl
 
 pub sound_changed : (b limits store batch larger : Bounds) (v staged after_staged : Version) (acts more arrivals t : ℕ) (before after : Bool) (old new : State) (change : Option Change) → new ≡ changed old change
-    → IfSome change (MayBeNext old) → IfSome change (λ c. Writes v c.act) → limits ≡ b → after ≡ before → larger ≡ batch → after_staged ≡ staged → more ≡ acts + length (added t change) → arrivals < b.acts
+    → IfSome change (λ c. Writes v c.act) → limits ≡ b → after ≡ before → larger ≡ batch → after_staged ≡ staged → more ≡ acts + length (added t change) → arrivals < b.acts
     → IsSound b store batch v staged acts arrivals before old → IsSound limits store larger v after_staged more (arrivals + 1) after new
-sound_changed b limits store batch larger v staged after_staged acts more arrivals t before after old new change is may writes same pairs same_batch same_staged count room s =
+sound_changed b limits store batch larger v staged after_staged acts more arrivals t before after old new change is writes same pairs same_batch same_staged count room s =
     let few = s.few in
     let one = added_few t change in
     subst (λ (x : Bounds). IsSound x store larger v after_staged more (arrivals + 1) after new) (sym same) (record {
@@ -69,7 +64,7 @@ sound_changed b limits store batch larger v staged after_staged acts more arriva
       capped = omega arith;
       same_version = same_staged ∙ s.same_version;
       pairs_is = pairs ∙ s.pairs_is;
-      snapshot = subst (λ (x : State). IsSnapshot v b x.moment x.contents) (sym is) (snapshot_changed v b old change s.table_is may writes s.snapshot);
+      holds = subst (λ (x : State). Holds v x.contents) (sym is) (holds_changed v old change writes s.holds);
     })
 
 pub counts_same : (old mid new : ℕ) → CountsOne old mid → new ≡ mid → CountsOne old new

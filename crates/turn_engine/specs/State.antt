@@ -1,6 +1,6 @@
 -- What contracts see of a server.
 use Rattle.std.specs.Prelude.{◌≡◌, ◌≤◌, ℕ, Bool, true, false, List, [], ◌∷◌}
-use Rattle.turn_record.specs.Prelude.{IsSnapshot}
+use Rattle.turn_record.specs.Prelude.{Holds}
 use Rattle.turn_store.specs.Prelude.{Version, V1, V2, StoreState}
 use Rattle.turn_step.specs.Prelude.{Sent, MachineState}
 use Rattle.turn_table.specs.Prelude.{State}
@@ -44,7 +44,7 @@ has_pairs V2 = true
 
 -- What a server keeps in any state: the store, the batch and the table have the limits of the configuration, a batch has no
 -- more arrivals than the limits allow and no more acts than arrivals, the batch is of the store's version, ports are reserved
--- where that version holds them, and the table has a snapshot of it.
+-- where that version holds them, and it can hold the table.
 pub record IsSound (b store batch : Bounds) (version staged : Version) (acts arrivals : ℕ) (pairs : Bool) (table : State) : Type 0 where
   pub store_is : store ≡ b
   pub batch_is : batch ≡ b
@@ -53,4 +53,4 @@ pub record IsSound (b store batch : Bounds) (version staged : Version) (acts arr
   pub capped : arrivals ≤ b.acts
   pub same_version : staged ≡ version
   pub pairs_is : pairs ≡ has_pairs version
-  pub snapshot : IsSnapshot version b table.moment table.contents
+  pub holds : Holds version table.contents

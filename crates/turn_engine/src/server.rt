@@ -10,9 +10,9 @@ ghost use Rattle.turn_history.specs.Fitting.{IsInRange};
 ghost use Rattle.turn_history.specs.History.{Event, History};
 ghost use Rattle.turn_ports.specs.Ports.{has_failed};
 ghost use Rattle.turn_record.specs.Bytes as bytes;
-ghost use Rattle.turn_record.specs.Records.{IsSnapshot, Writes};
+ghost use Rattle.turn_record.specs.Records.{Holds, Writes};
 ghost use Rattle.turn_step.specs.Outcome.{added, event_at};
-ghost use Rattle.turn_step.specs.State.{CountsOne, HasPortsApart, HoldsPorts, IsPurged, KeepsSetting, setting_of};
+ghost use Rattle.turn_step.specs.State.{CountsOne, HoldsPorts, IsPurged, KeepsSetting, setting_of};
 ghost use Rattle.turn_step.specs.Views.{arrival_of, is_reserved, sent_of};
 ghost use Rattle.turn_store.specs.Areas.{Form};
 ghost use Rattle.turn_store.specs.Carrying.{Carries};
@@ -161,7 +161,7 @@ impl<D: Disk, H: AuthHandler, G: RelayAddressGenerator, A: Allocator + Copy> Ser
         ports: G,
     ) -> Result<Server<D, H, G, A>, ServerOpenError<D, H, G>>
         requires bounds { (opened.store.bounds ≡ config.limits) × (opened.table.bounds ≡ config.limits) }
-        requires snapshot { IsSnapshot opened.store.version config.limits opened.table.moment opened.table.contents }
+        requires holds { Holds opened.store.version opened.table.contents }
         ensures ok { IfOk result (λ s. s ≡ record {
           store = opened.store;
           machine = record { config = config; handler = handler; ports = ports; table = opened.table; pairs = has_pairs opened.store.version };
@@ -317,8 +317,6 @@ impl<D: Disk, H: AuthHandler, G: RelayAddressGenerator, A: Allocator + Copy> Ser
         ensures memory_rests { (h : History) (k : ℕ) → RecoversTo (D.trace self.old.store.disk).now self.old h k
             → OnErr result (RecoversTo (D.trace self.old.store.disk).now self.new h k) }
     {
-        // What this ensures proves the moment's range.
-        let _ = moment.seconds();
         // Room for the whole batch, so that its list is one allocation.
         let left = self.machine.config().limits().acts() - self.arrivals;
         let step = self.machine.prepare(moment, arrival)?;
@@ -476,8 +474,7 @@ impl<D: Disk, H: AuthHandler, G: RelayAddressGenerator, A: Allocator + Copy> Ser
 
     /// The table at the clock, with what is staged.
     pub fn table(&self) -> &Table<A>
-        ensures value { result.now ≡ self.now.machine.table }
-        ensures apart { HasPortsApart self.now.machine.table }
+        ensures { result.now ≡ self.now.machine.table }
     {
         self.machine.table()
     }

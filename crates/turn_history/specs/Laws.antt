@@ -2,8 +2,8 @@
 use Rattle.std.specs.Prelude.{◌≡◌, ℕ, ◌+◌, ◌≤◌, ◌<◌, Option, Some, None, List, ◌∷◌, [], ◌++◌, IsSome, IsSomeAnd, nat_eq, true}
 use Rattle.std.specs.List.{list_any, filter, AllByRecursion}
 use Rattle.std.specs.FinMap as fin
-use Rattle.turn_types.specs.Prelude.{same_tuple, permission_lifetime, channel_lifetime, reservation_lifetime}
-use Rattle.turn_history.specs.Fitting.{PortIsFree}
+use Rattle.turn_types.specs.Prelude.{same_tuple, permission_lifetime, channel_lifetime, reservation_lifetime, end_of_moments}
+use Rattle.turn_history.specs.Fitting.{PortIsFree, IsTuple, IsEntryInRange, AreEntriesInRange, AreReservationsInRange}
 use Rattle.turn_history.specs.declared.reservation.Reservation.{Reservation}
 use Rattle.turn_types.specs.declared.message.Token.{Token}
 use Rattle.turn_history.specs.History.{PlainAct, Allocates, Renews, Permits, Binds, Event, History, Allocation, allocation_at, addresses_of, made, span, IsLive}
@@ -135,6 +135,25 @@ pub record IsWithin (b : Bounds) (c : Contents) : Type 0 where
   pub reserved : fin.len c.reserved ≤ b.allocations
   pub permissions : (f : FiveTuple) (e : Entry) → fin.get c.entries f ≡ Some e → fin.len e.permissions ≤ b.permissions
   pub channels : (f : FiveTuple) (e : Entry) → fin.get c.entries f ≡ Some e → fin.len e.channels ≤ b.channels
+
+-- what a table holds at a moment, whatever came before: all of it is ahead of the moment, in its ranges and within the
+-- limits, no two five-tuples have one port, none has a reserved one, and in no entry two channels have one peer
+pub record IsTableAt (b : Bounds) (t : ℕ) (c : Contents) : Type 0 where
+  pub moment : t < end_of_moments
+  pub values : AreEntriesInRange b t c
+  pub reserved : AreReservationsInRange t c
+  pub reserved_apart : ReservedApart c
+  pub within : IsWithin b c
+  pub ports : PortsApart c
+  pub peers : PeersApart c
+
+-- an entry of a five-tuple that a table may hold at a moment, as far as the entry alone can tell
+pub record IsEntryAt (b : Bounds) (t : ℕ) (f : FiveTuple) (e : Entry) : Type 0 where
+  pub tuple : IsTuple f
+  pub values : IsEntryInRange b t e
+  pub permissions : fin.len e.permissions ≤ b.permissions
+  pub channels : fin.len e.channels ≤ b.channels
+  pub peers : (n k : ℕ) (x y : Channel) → fin.get e.channels n ≡ Some x → fin.get e.channels k ≡ Some y → x.peer ≡ y.peer → n ≡ k
 
 -- an Alloc of the port
 abbrev pub IsAllocOf : ℕ → PlainAct → Type 0

@@ -15,14 +15,16 @@ use Rattle.turn_types.specs.Prelude.{end_of_moments}
 
 pub table_has_snapshot : (v : Version) (b : Bounds) (h : History) (t : ℕ) → IsFitting b h → clock h ≤ t → t < end_of_moments → Holds v (table h t) → IsSnapshot v b t (table h t)
 table_has_snapshot v b h t fits now moment holds = record {
-  moment = moment;
+  at = record {
+    moment = moment;
+    values = λ f e is. entry_in_range b h t f e fits now is;
+    reserved = reservations_in_range b h t fits now;
+    reserved_apart = reserved-apart b h t fits now;
+    within = tables-within b h t fits now;
+    ports = ports-apart b h t fits now;
+    peers = peers-apart b h t fits now;
+  };
   holds = holds;
-  values = λ f e is. entry_in_range b h t f e fits now is;
-  reserved = reservations_in_range b h t fits now;
-  reserved_apart = reserved-apart b h t fits now;
-  within = tables-within b h t fits now;
-  ports = ports-apart b h t fits now;
-  peers = peers-apart b h t fits now;
 }
 
 -- a version that can hold the acts can hold the table

@@ -1,10 +1,9 @@
 -- The last element, seen through a view.
-use Rattle.std.proofs.Common.{◌≡◌, ℕ, zero, suc, ◌-◌, ◌<◌, List, [], ◌∷◌, length, map, Some, None, Ok, Err, leb, true, false, ◌≤◌, refl, ap, rules, slice_get, option_map}
-use Rattle.std.proofs.lemmas.Bool.{lt-leb, le-leb}
+use Rattle.std.proofs.Common.{◌≡◌, ℕ, zero, suc, ◌-◌, List, [], ◌∷◌, length, map, Some, None, Ok, leb, true, ◌≤◌, refl, ap, slice_get, option_map}
+use Rattle.std.proofs.lemmas.Bool.{le-leb}
 use Rattle.turn_history.specs.declared.event.Event.{Event}
 use Rattle.turn_history.specs.Prelude.{event_of}
 use Rattle.turn_record.specs.Prelude.{moment_at, moment_after, events_of}
-use Rattle.turn_record.specs.declared.error.DecodeError.TheVariants.{OutOfOrder}
 
 slice_get-map : {A B : Type 0} (f : A → B) (xs : List A) (i : ℕ) → slice_get (map f xs) i ≡ option_map f (slice_get xs i)
 slice_get-map f [] i = refl
@@ -17,14 +16,6 @@ length-map f (x ∷ xs) = ap suc (length-map f xs)
 
 pub last_of_map : {A B : Type 0} (f : A → B) (xs : List A) → slice_get (map f xs) (length (map f xs) - 1) ≡ option_map f (slice_get xs (length xs - 1))
 last_of_map f xs = rw (length-map f xs) (slice_get-map f xs (length xs - 1))
-
--- a moment below the last one's
-pub falls : {A : Type 0} (before : List (Event A)) (bytes : List ℕ) (m : ℕ × List ℕ) (last : Event A) → moment_at bytes ≡ Ok m → slice_get before (length before - 1) ≡ Some last → m.0 < last.moment
-    → moment_after (events_of before) bytes ≡ Err OutOfOrder
-unfolding moment_after
-falls before bytes m last h e lt =
-    let test : leb last.moment m.0 ≡ false = search (rules, lt-leb) in
-    rw (h, last_of_map event_of before, e, test) refl
 
 -- a moment that isn't below the last one's
 pub rises : {A : Type 0} (before : List (Event A)) (bytes : List ℕ) (m : ℕ × List ℕ) (last : Event A) → moment_at bytes ≡ Ok m → slice_get before (length before - 1) ≡ Some last → last.moment ≤ m.0

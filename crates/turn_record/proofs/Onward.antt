@@ -70,10 +70,6 @@ trails read x rest more e some =
     let late : eqb (length (rest ++ more)) 0 ≡ false = ended_late _ (omega (arith, length-append rest more)) in
     rw (e, late) refl
 
-pub fails_whole : {A : Type 0} (e : ReadError) (read : Field A) → Fails e read → Fails e (whole read)
-fails_whole errors.Memory read h = tt
-fails_whole (errors.Malformed f) read h = rw h refl
-
 pub fails_same : {Y : Type 0} (e : ReadError) (r s : Result Y DecodeError) → r ≡ s → Fails e s → Fails e r
 fails_same errors.Memory r s is h = tt
 fails_same (errors.Malformed f) r s is h = is ∙ h
@@ -278,20 +274,12 @@ pub goes_on_at : (v : Version) (b : Bounds) (p q : Place) (bytes rest more : Lis
 unfolding gives
 goes_on_at v b p q bytes rest more goes = ap whole goes
 
-pub fails_at : (v : Version) (b : Bounds) (p : Place) (e : ReadError) (bytes : List ℕ) → Fails e (more_at v p bytes) → Fails e (gives v b (Some p) bytes)
-unfolding gives
-fails_at v b p e bytes h = fails_whole e (more_at v p bytes) h
-
 pub empty_waits : (v : Version) (p : Place) (bytes : List ℕ) → is_done v p.1 ≡ true → true ≡ eqb (length bytes) 0 → IsWaitingAt v p bytes
 empty_waits v p bytes done e = inl (done, nil_from_length bytes (eqb-true _ _ (sym e)))
 
 pub still_waits : (v : Version) (p : Place) (bytes : List ℕ) → is_done v p.1 ≡ false → (is_done v p.1 ≡ true) ⊎ IsWaitingAt v p bytes → IsWaitingAt v p bytes
 still_waits v p bytes more (inl done) = absurd (not_both _ done more)
 still_waits v p bytes more (inr h) = h
-
--- an item that is cut is waited for
-pub cut_waits : (v : Version) (p : Place) (bytes : List ℕ) → is_done v p.1 ≡ false → IsCut v p.0 p.1 bytes → IsWaitingAt v p bytes
-cut_waits v p bytes more cut = inr (more, cut)
 
 pub cut_entry : (v : Version) (s : State) (n : ℕ) (bytes : List ℕ) → 0 < n → entry_at v s.bounds s.moment (fin.entries s.contents.entries) bytes ≡ Err Short → IsCut v s (Entries n) bytes
 cut_entry v s zero bytes some cut = absurd (omega arith)

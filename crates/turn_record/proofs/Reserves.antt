@@ -15,12 +15,12 @@ use Rattle.turn_record.specs.declared.version.Version.{Version}
 use Rattle.turn_record.specs.declared.version.Version.TheVariants.{V1, V2}
 use Rattle.turn_record.proofs.Acts.{FitsTokenOf, and_is, and_from, not_is, not_from, codec_token}
 use Rattle.turn_record.proofs.Apart.{each_more, each_alone}
-use Rattle.turn_record.proofs.Readers.{Codec, EachAfter, at_most, chain, chain_by, codec16, codec_as, codec_judged, codec_many, in_words, made}
+use Rattle.turn_record.proofs.Readers.{Codec, EachAfter, IsBytes, at_most, chain, chain_by, codec16, codec_as, codec_judged, codec_many, in_words, made}
 use Rattle.turn_record.proofs.Rising.{Rises, all_below, sorted_rising, rising_sorted, true_of}
 use Rattle.turn_record.proofs.Tables.{IsAhead, Rising, above_is, less_is, list_rises, map_again, codec_expiry, codec_total, total_passes}
 use Rattle.turn_history.proofs.Entries.{of_entries}
 use Rattle.turn_table.specs.Prelude.{IsAboveReserved}
-use Rattle.turn_types.specs.Prelude.{tuple_cmp, AreInRange, reservation_lifetime}
+use Rattle.turn_types.specs.Prelude.{tuple_cmp, AreInRange, end_of_moments, reservation_lifetime}
 
 -- a reserved port in its range, which none of the entries has
 abbrev pub IsReserved : ℕ → List (FiveTuple × Entry) → ℕ × Reservation → Type 0
@@ -62,6 +62,10 @@ codec_reservation t room entries before =
     (λ r. refl)
     (λ r h. (h.1.0.1, (record { port = (h.1.0.0.0, h.1.0.0.1.0); token = h.1.1.0.1; expiry = h.1.1.1.0 }, h.1.0.0.1.1)))
     (λ r h. (tt, (((h.1.0.port.0, (h.1.0.port.1, h.1.1)), h.0), ((h.1.0.port.0, h.1.0.token), (h.1.0.expiry, tt)))))
+
+-- what is read so
+pub reservation_read : (t : ℕ) → t < end_of_moments → (entries : List (FiveTuple × Entry)) (before : List (ℕ × Reservation)) (bytes : List ℕ) → IsBytes bytes → (r : ℕ × Reservation) (rest : List ℕ) → reservation_at t entries before bytes ≡ Ok (r, rest) → IsReservationInRange t r.0 r.1
+reservation_read t moment entries before bytes all r rest e = (((codec_reservation {U = Unit {0}} t (λ under. omega (arith, moment)) entries before).reads tt).takes bytes r rest all e).fits.1.0
 
 -- the reserved ports of a table beside its entries, as a version can hold them
 abbrev pub FitsReservations : Version → Bounds → ℕ → List (FiveTuple × Entry) → Reservations → Type 0

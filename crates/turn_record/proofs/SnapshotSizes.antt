@@ -8,12 +8,12 @@ use Rattle.std.specs.Int.{w32, w64, to_be_bytes}
 use Rattle.std.specs.List.{AllByRecursion}
 use Rattle.turn_history.proofs.Entries.{all_entries}
 use Rattle.turn_history.proofs.Maps.{tuple_total, tuple_exact}
-use Rattle.turn_history.specs.Prelude.{AreReservationsInRange, IsTokenAfter, allocation_of, Contents, Entry, FiveTuple, Bounds, Token}
+use Rattle.turn_history.specs.Prelude.{AreReservationsInRange, IsTableAt, IsTokenAfter, allocation_of, Contents, Entry, FiveTuple, Bounds, Token}
 use Rattle.turn_history.specs.declared.channel.Channel.{Channel}
 use Rattle.turn_history.specs.declared.reservation.Reservation.{Reservation}
 use Rattle.turn_record.proofs.Apart.{all_more}
 use Rattle.turn_record.proofs.Sizes.{each_at_most, size_each}
-use Rattle.turn_record.specs.Prelude.{joined, each, five_tuple, allocation, mark, permission, permissions, channel, channels, entry, head, reservation, reserved, snapshot, IsSnapshot, entry_size, max_entry, max_reserved, max_snapshot, max_reserved_bytes, max_snapshot_bytes, IsShort, AreShort}
+use Rattle.turn_record.specs.Prelude.{joined, each, five_tuple, allocation, mark, permission, permissions, channel, channels, entry, head, reservation, reserved, snapshot, entry_size, max_entry, max_reserved, max_snapshot, max_reserved_bytes, max_snapshot_bytes, IsShort, AreShort}
 use Rattle.turn_record.specs.declared.version.Version.{Version}
 use Rattle.turn_record.specs.declared.version.Version.TheVariants.{V1, V2}
 use Rattle.turn_types.specs.Prelude.{AreInRange, max_bounds, max_allocations}
@@ -85,9 +85,9 @@ token_sized : (port : ℕ) (o : Option Token) → IfSome o (IsTokenAfter port) �
 token_sized port None h = tt
 token_sized port (Some k) h = h.1.size
 
--- the entries of what has a snapshot
-short_under : (v : Version) (b : Bounds) (t : ℕ) (c : Contents) → IsSnapshot v b t c → AllByRecursion (λ p. IsShort b p.1) (fin.entries c.entries)
-short_under v b t c s =
+-- the entries of a table
+short_under : (b : Bounds) (t : ℕ) (c : Contents) → IsTableAt b t c → AllByRecursion (λ p. IsShort b p.1) (fin.entries c.entries)
+short_under b t c s =
     all_entries tuple_total tuple_exact (λ p. IsShort b p.1) c.entries
     (λ f e is. let w = s.values f e is in record { user = w.1.made.0.1; tx = w.1.made.3.0; token = token_sized e.port e.token w.1.made.4; permissions = s.within.permissions f e is; channels = s.within.channels f e is })
 
@@ -107,7 +107,7 @@ size_reserved c t range =
     let one = size_each_of reservation (λ (r : ℕ × Reservation). length r.1.token.0 ≡ 8) 18 size_reservation (fin.entries c.reserved) all in
     omega (arith, one, len-entries c.reserved, length-append (to_be_bytes w32 (fin.len c.reserved)) (each reservation (fin.entries c.reserved)))
 
-pub reserved_at_most : (v : Version) (b : Bounds) (t : ℕ) (c : Contents) → IsSnapshot v b t c → length (reserved v c.reserved) ≤ max_reserved v b
+pub reserved_at_most : (v : Version) (b : Bounds) (t : ℕ) (c : Contents) → IsTableAt b t c → length (reserved v c.reserved) ≤ max_reserved v b
 unfolding reserved
 reserved_at_most V1 b t c s = omega arith
 reserved_at_most V2 b t c s = omega (arith, size_reserved c t s.reserved, s.within.reserved)
@@ -123,22 +123,22 @@ unfolding snapshot
 size_snapshot v t c =
     omega (arith, length-append (head t (fin.len c.entries)) (each (entry v) (fin.entries c.entries) ++ reserved v c.reserved), length-append (each (entry v) (fin.entries c.entries)) (reserved v c.reserved))
 
-pub snapshot_at_most : (v : Version) (b : Bounds) (t : ℕ) (c : Contents) → IsSnapshot v b t c → length (snapshot v t c) ≤ max_snapshot v b
+pub snapshot_at_most : (v : Version) (b : Bounds) (t : ℕ) (c : Contents) → IsTableAt b t c → length (snapshot v t c) ≤ max_snapshot v b
 snapshot_at_most v b t c s =
-    let one : length (each (entry v) (fin.entries c.entries)) ≤ length (fin.entries c.entries) * max_entry v b = each_at_most (entry v) (λ p. IsShort b p.1) (max_entry v b) (entry_at_most v b) (fin.entries c.entries) (short_under v b t c s) in
+    let one : length (each (entry v) (fin.entries c.entries)) ≤ length (fin.entries c.entries) * max_entry v b = each_at_most (entry v) (λ p. IsShort b p.1) (max_entry v b) (entry_at_most v b) (fin.entries c.entries) (short_under b t c s) in
     let few : length (fin.entries c.entries) ≤ b.allocations = omega (arith, len-entries c.entries, s.within.allocations) in
     let two : length (fin.entries c.entries) * max_entry v b ≤ b.allocations * max_entry v b = mul-le-mul_right (max_entry v b) few in
     omega (arith, one, two, size_snapshot v t c, reserved_at_most v b t c s)
 
 -- whatever the limits are
-pub snapshot_small : (v : Version) (b : Bounds) (t : ℕ) (c : Contents) → AreInRange b → IsSnapshot v b t c → length (snapshot v t c) ≤ max_snapshot_bytes
+pub snapshot_small : (v : Version) (b : Bounds) (t : ℕ) (c : Contents) → AreInRange b → IsTableAt b t c → length (snapshot v t c) ≤ max_snapshot_bytes
 snapshot_small v b t c range s =
     let one : b.allocations * max_entry v b ≤ max_allocations * max_entry v b = mul-le-mul_right (max_entry v b) range.allocations.1 in
     omega (arith, one, snapshot_at_most v b t c s, range.name_bytes.1, range.permissions.1, range.channels.1, entry_size_most v, max_reserved_small v b range)
 
 -- under the max limits too
-pub are_short : (v : Version) (b : Bounds) (t : ℕ) (c : Contents) → AreInRange b → IsSnapshot v b t c → AreShort (fin.entries c.entries)
-are_short v b t c range s =
+pub are_short : (b : Bounds) (t : ℕ) (c : Contents) → AreInRange b → IsTableAt b t c → AreShort (fin.entries c.entries)
+are_short b t c range s =
     all_more (λ (p : FiveTuple × Entry). IsShort b p.1) (λ p. IsShort max_bounds p.1)
     (λ p h. record { user = omega (arith, h.user, range.name_bytes); tx = h.tx; token = h.token; permissions = omega (arith, h.permissions, range.permissions); channels = omega (arith, h.channels, range.channels) })
-    (fin.entries c.entries) (short_under v b t c s)
+    (fin.entries c.entries) (short_under b t c s)

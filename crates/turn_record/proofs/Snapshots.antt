@@ -19,7 +19,7 @@ use Rattle.turn_record.proofs.Apart.{each_more, each_both, each_alone, alone_eac
 use Rattle.turn_record.proofs.Readers.{Codec, EachAfter, IsBytes, Reads, chain, codec_many, made, in_words, one_encoding, reads_chain, reads_in_words, whole_again, whole_takes}
 use Rattle.turn_record.proofs.Reserves.{FitsReservations, IsReserved, all_reserved, few_reserved, codec_reserved}
 use Rattle.turn_record.proofs.Rising.{rising_sorted}
-use Rattle.turn_record.proofs.Tables.{ArePermissions, AreChannels, FitsEntry, HoldsToken, IsOne, by_keys, entries_rise, tuples_rise, from_keys, codec_entry, codec_total, same_port, same_ports}
+use Rattle.turn_record.proofs.Tables.{FitsEntry, HoldsToken, IsOne, by_keys, entries_rise, tuples_rise, from_keys, codec_entry, codec_total, same_port, same_ports}
 use Rattle.turn_types.specs.Prelude.{tuple_cmp, AreInRange, max_lifetime, end_of_moments}
 
 -- ---- Maps without reserved ports
@@ -57,14 +57,16 @@ is_snapshot v b t c moment few h =
     let apart : Apart tuple_cmp same_port (fin.entries c.entries) = apart_new tuple_cmp same_port tuple_total same_ports (fin.entries c.entries) (each_more _ _ (λ before p fits. fits.1.0) [] (fin.entries c.entries) h.0) in
     let at = of_entries nat_cmp_total nat_cmp-IsAntisymmetric (IsReserved t (fin.entries c.entries)) c.reserved (all_reserved v b t (fin.entries c.entries) c.reserved h.1) in
     record {
-      moment = moment;
-      holds = holds v b t c h.1 (λ f e is. (one f e is).1.1.1.1);
-      values = λ f e is. let p = one f e is in (p.0, p.1.0);
-      reserved = λ q r is. (at q r is).0;
-      reserved_apart = λ q r is. port_is_free c q (not_is _ (at q r is).1);
-      within = record { allocations = few; reserved = few_reserved v b t (fin.entries c.entries) c.reserved h.1; permissions = λ f e is. (one f e is).1.1.0.0; channels = λ f e is. (one f e is).1.1.1.0.few };
-      ports = λ f g x y is is2 e. by_keys tuple_cmp tuple_total tuple_exact same_port c.entries apart f g x y is is2 (eq-eqb y.port x.port (sym e));
-      peers = λ f e is. (one f e is).1.1.1.0.apart;
+      at = record {
+        moment = moment;
+        values = λ f e is. let p = (one f e is).0 in (p.tuple, p.values);
+        reserved = λ q r is. (at q r is).0;
+        reserved_apart = λ q r is. port_is_free c q (not_is _ (at q r is).1);
+        within = record { allocations = few; reserved = few_reserved v b t (fin.entries c.entries) c.reserved h.1; permissions = λ f e is. (one f e is).0.permissions; channels = λ f e is. (one f e is).0.channels };
+        ports = λ f g x y is is2 e. by_keys tuple_cmp tuple_total tuple_exact same_port c.entries apart f g x y is is2 (eq-eqb y.port x.port (sym e));
+        peers = λ f e is. (one f e is).0.peers;
+      };
+      holds = holds v b t c h.1 (λ f e is. (one f e is).1);
     }
 
 holds_token : (v : Version) (c : Contents) → Holds v c → (f : FiveTuple) (e : Entry) → fin.get c.entries f ≡ Some e → HoldsToken v e.token
@@ -74,21 +76,19 @@ holds_token V2 c h f e is = tt
 reservations_are : (v : Version) (b : Bounds) (t : ℕ) (c : Contents) → IsSnapshot v b t c → FitsReservations v b t (fin.entries c.entries) c.reserved
 reservations_are V1 b t c s = no_entries c.reserved s.holds.reserved
 reservations_are V2 b t c s = (
-  s.within.reserved,
+  s.at.within.reserved,
   entries_rise _ c.reserved
       (alone_each (IsReserved t (fin.entries c.entries)) [] (fin.entries c.reserved)
-      (all_entries nat_cmp_total nat_cmp-IsAntisymmetric (IsReserved t (fin.entries c.entries)) c.reserved (λ q r is. (s.reserved q r is, not_from _ (free_port_is c q (s.reserved_apart q r is)))))),
+      (all_entries nat_cmp_total nat_cmp-IsAntisymmetric (IsReserved t (fin.entries c.entries)) c.reserved (λ q r is. (s.at.reserved q r is, not_from _ (free_port_is c q (s.at.reserved_apart q r is)))))),
 )
 
 entries_are : (v : Version) (b : Bounds) (t : ℕ) (c : Contents) → IsSnapshot v b t c → EachAfter (FitsEntry v b t) [] (fin.entries c.entries)
 entries_are v b t c s =
     let m = c.entries in
     let one : (f : FiveTuple) (e : Entry) → fin.get m f ≡ Some e → IsOne v b t (f, e) = λ f e is.
-    let w = s.values f e is in
-    let permissions : ArePermissions b t e.permissions = (s.within.permissions f e is, λ a x is2. let p = w.1.permissions a x is2 in (p.0, (p.1, p.2))) in
-    let channels : AreChannels b t e.channels = record { few = s.within.channels f e is; values = λ n k is2. let p = w.1.channels n k is2 in (p.0, (p.1, (p.2, p.3))); apart = s.peers f e is } in
-    (w.0, (w.1, (permissions, (channels, holds_token v c s.holds f e is)))) in
-    let apart = from_keys tuple_cmp tuple_total tuple_exact same_port m (λ f g x y is is2 e. s.ports f g x y is is2 (sym (eqb-true y.port x.port e))) in
+    let w = s.at.values f e is in
+    (record { tuple = w.0; values = w.1; permissions = s.at.within.permissions f e is; channels = s.at.within.channels f e is; peers = s.at.peers f e is }, holds_token v c s.holds f e is) in
+    let apart = from_keys tuple_cmp tuple_total tuple_exact same_port m (λ f g x y is is2 e. s.at.ports f g x y is is2 (sym (eqb-true y.port x.port e))) in
     let rises = rising_sorted tuple_cmp tuple_total (fin.entries m) (entries_sorted m) in
     let new = new_apart tuple_cmp same_port tuple_total same_ports (fin.entries m) (entries_sorted m) apart in
     let values = alone_each (IsOne v b t) [] (fin.entries m) (all_entries tuple_total tuple_exact (IsOne v b t) m one) in
@@ -134,7 +134,7 @@ reads_snapshot v b range =
     (λ y p. (ap (λ (k : Head). k.moment) p.0.1, ((sym (len-entries y.1.entries) ∙ ap (λ (k : Head). k.count) p.0.1, p.1.0), p.1.1)))))
     (λ y. refl)
     (λ y p. is_snapshot v b y.0 y.1 p.1.0.0 p.1.0.1 p.1.1)
-    (λ y s. (tt, ((s.moment, s.within.allocations), (entries_are v b y.0 y.1 s, reservations_are v b y.0 y.1 s))))
+    (λ y s. (tt, ((s.at.moment, s.at.within.allocations), (entries_are v b y.0 y.1 s, reservations_are v b y.0 y.1 s))))
 
 pub snapshot_found : (v : Version) (b : Bounds) → AreInRange b → (bytes : List ℕ) → IsBytes bytes → (y : ℕ × Contents) → snapshot_in v b bytes ≡ Ok y → EncodesSnapshot v b y.0 y.1 bytes
 unfolding snapshot_in

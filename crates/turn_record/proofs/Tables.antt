@@ -6,7 +6,7 @@ use Rattle.std.specs.Cmp.{IsTotalOrder}
 use Rattle.std.specs.FinMap as fin
 use Rattle.std.specs.FinMap.{FinMap, IsAntisymmetric, entries-from_sorted, entries_sorted, len-entries, nat_cmp-IsAntisymmetric, same_entries_map}
 use Rattle.std.proofs.lemmas.Cmp.{nat_cmp_total}
-use Rattle.turn_history.specs.Prelude.{IsEndpoint, IsTuple, IsEntryInRange, IsTokenAfter, is_peer, Allocation, Entry, FiveTuple, Bounds, Token}
+use Rattle.turn_history.specs.Prelude.{IsEndpoint, IsEntryAt, IsTuple, IsTokenAfter, is_peer, Allocation, Entry, FiveTuple, Bounds, Token}
 use Rattle.turn_history.specs.Fitting.{IsChannelNumber}
 use Rattle.turn_history.specs.declared.channel.Channel.{Channel}
 use Rattle.turn_history.proofs.Entries.{all_entries, of_entries}
@@ -19,7 +19,7 @@ use Rattle.turn_record.proofs.Apart.{each_more, each_both, each_alone, alone_eac
 use Rattle.turn_record.proofs.Fronts.{Passes, good_passes}
 use Rattle.turn_record.proofs.Readers.{Codec, EachAfter, IsBytes, Reads, at_most, chain, chain_by, codec32, codec64, codec_as, codec_byte, codec_counted, codec_judged, in_words, in_words_under, made, one}
 use Rattle.turn_record.proofs.Rising.{sorted_rising, rising_sorted, true_of}
-use Rattle.turn_types.specs.Prelude.{tuple_cmp, AreInRange, permission_lifetime, channel_lifetime, max_lifetime}
+use Rattle.turn_types.specs.Prelude.{tuple_cmp, AreInRange, end_of_moments, permission_lifetime, channel_lifetime, max_lifetime}
 use Rattle.turn_record.specs.declared.version.Version.{Version}
 use Rattle.turn_record.specs.declared.version.Version.TheVariants.{V1, V2}
 
@@ -320,7 +320,7 @@ holds_mark V2 port None small h after = tt
 holds_mark V2 port (Some k) small h after = (after.0, (next_small port small after.0, after.1))
 
 abbrev pub IsOne : Version → Bounds → ℕ → FiveTuple × Entry → Type 0
-IsOne v b t p = IsTuple p.0 × (IsEntryInRange b t p.1 × (ArePermissions b t p.1.permissions × (AreChannels b t p.1.channels × HoldsToken v p.1.token)))
+IsOne v b t p = IsEntryAt b t p.0 p.1 × HoldsToken v p.1.token
 
 -- they have one port
 abbrev pub same_port : FiveTuple × Entry → FiveTuple × Entry → Bool
@@ -336,14 +336,26 @@ codec_tuple_after before = codec_judged tuple_at five_tuple IsTuple (λ f. last_
 abbrev plain_of : Entry → Allocation
 plain_of e = plain e.user e.port e.granted e.tx
 
--- an entry in its range, from its fields
-in_range : (b : Bounds) (t : ℕ) (free : ℕ → Bool) (e : Entry) → FitsAllocation b free (plain_of e) → IfSome e.token (IsTokenAfter e.port) → IsAhead t max_lifetime e.expiry → ArePermissions b t e.permissions → AreChannels b t e.channels → IsEntryInRange b t e
-in_range b t free e a token x ps cs = record {
-  made = allocation_fits b free (plain_of e) e.token a token;
-  expiry = x;
-  permissions = λ k v is. let p = ps.1 k v is in (p.0, p.1.0, p.1.1);
-  channels = λ n c is. let p = cs.values n c is in (p.0, p.1.0, p.1.1.0, p.1.1.1);
+-- an entry that a table may hold, from its fields, and its lists again
+is_entry : (b : Bounds) (t : ℕ) (free : ℕ → Bool) (f : FiveTuple) (e : Entry) → IsTuple f → FitsAllocation b free (plain_of e) → IfSome e.token (IsTokenAfter e.port) → IsAhead t max_lifetime e.expiry → ArePermissions b t e.permissions → AreChannels b t e.channels → IsEntryAt b t f e
+is_entry b t free f e tuple a token x ps cs = record {
+  tuple = tuple;
+  values = record {
+    made = allocation_fits b free (plain_of e) e.token a token;
+    expiry = x;
+    permissions = λ k v is. let p = ps.1 k v is in (p.0, p.1.0, p.1.1);
+    channels = λ n c is. let p = cs.values n c is in (p.0, p.1.0, p.1.1.0, p.1.1.1);
+  };
+  permissions = ps.0;
+  channels = cs.few;
+  peers = cs.apart;
 }
+
+its_permissions : (b : Bounds) (t : ℕ) (f : FiveTuple) (e : Entry) → IsEntryAt b t f e → ArePermissions b t e.permissions
+its_permissions b t f e is = (is.permissions, λ k v at. let p = is.values.permissions k v at in (p.0, (p.1, p.2)))
+
+its_channels : (b : Bounds) (t : ℕ) (f : FiveTuple) (e : Entry) → IsEntryAt b t f e → AreChannels b t e.channels
+its_channels b t f e is = record { few = is.channels; values = λ n c at. let p = is.values.channels n c at in (p.0, (p.1, (p.2, p.3))); apart = is.peers }
 
 mark_room : (v : Version) → 42 + mark_size v ≡ entry_size v
 mark_room V1 = refl
@@ -364,11 +376,16 @@ codec_entry v b range t room before =
     (λ p. refl)
     (λ p h.
     let token = mark_after v p.1.port p.1.token h.1.1.1.0 in
-    (h.1.0.1, (not_is _ h.1.1.0.free, (h.1.0.0, (in_range b t (is_free_after before) p.1 h.1.1.0 token.1 h.1.1.1.1.0 h.1.1.1.1.1.0 h.1.1.1.1.1.1.0, (h.1.1.1.1.1.0, (h.1.1.1.1.1.1.0, token.0)))))))
+    (h.1.0.1, (not_is _ h.1.1.0.free, (is_entry b t (is_free_after before) p.0 p.1 h.1.0.0 h.1.1.0 token.1 h.1.1.1.1.0 h.1.1.1.1.1.0 h.1.1.1.1.1.1.0, token.0))))
     (λ p h.
-    let one = h.1.1 in
-    (tt, ((one.0, h.0), (fits_allocation b (is_free_after before) p.1.user p.1.port p.1.granted p.1.tx p.1.token one.1.0.made (not_from _ h.1.0), (holds_mark v p.1.port p.1.token one.1.0.made.1 one.1.1.1.1 one.1.0.made.4, (one.1.0.expiry, (one.1.1.0, (one.1.1.1.0, tt)))))))))
+    let one = h.1.1.0 in
+    let made = one.values.made in
+    (tt, ((one.tuple, h.0), (fits_allocation b (is_free_after before) p.1.user p.1.port p.1.granted p.1.tx p.1.token made (not_from _ h.1.0), (holds_mark v p.1.port p.1.token made.1 h.1.1.1 made.4, (one.values.expiry, (its_permissions b t p.0 p.1 one, (its_channels b t p.0 p.1 one, tt)))))))))
     (omega (arith, mark_room v))
+
+-- what is read so
+pub entry_read : (v : Version) (b : Bounds) → AreInRange b → (t : ℕ) → t < end_of_moments → (before : List (FiveTuple × Entry)) (bytes : List ℕ) → IsBytes bytes → (p : FiveTuple × Entry) (rest : List ℕ) → entry_at v b t before bytes ≡ Ok (p, rest) → IsEntryAt b t p.0 p.1
+entry_read v b range t moment before bytes all p rest e = (((codec_entry {U = Unit {0}} v b (λ under. range) t (λ under. omega (arith, moment)) before).reads tt).takes bytes p rest all e).fits.1.1.0
 
 pub same_ports : (p q : FiveTuple × Entry) → same_port p q ≡ same_port q p
 same_ports p q = alike _ _ (λ e. eq-eqb p.1.port q.1.port (sym (eqb-true q.1.port p.1.port e))) (λ e. eq-eqb q.1.port p.1.port (sym (eqb-true p.1.port q.1.port e)))

@@ -1,11 +1,10 @@
 -- What bytes encode. The ranges of values are those of fitting histories, so what such a history holds has an encoding.
 use Rattle.std.specs.Prelude.{◌≡◌, ℕ, ◌+◌, ◌*◌, ◌^◌, ◌<◌, ◌≤◌, List, length, max}
 use Rattle.std.specs.List.{AllByRecursion}
-use Rattle.turn_history.specs.Prelude.{IsInRange, AreEntriesInRange, AreReservationsInRange, PlainAct, Allocates, Renews, Permits, Binds, Event, HasNoTokens, NeverFall, PortsApart, ReservedApart, PeersApart, IsWithin, ReservesNone, Contents, Bounds}
+use Rattle.turn_history.specs.Prelude.{IsInRange, IsTableAt, PlainAct, Allocates, Renews, Permits, Binds, Event, HasNoTokens, NeverFall, ReservesNone, Contents, Bounds}
 use Rattle.turn_record.specs.Bytes.{act_entry, payload, snapshot}
 use Rattle.turn_record.specs.declared.version.Version.{Version}
 use Rattle.turn_record.specs.declared.version.Version.TheVariants.{V1, V2}
-use Rattle.turn_types.specs.Prelude.{end_of_moments}
 
 -- the acts that a version can hold: version 1 those that reserve no port
 abbrev pub Writes : Version → PlainAct → Type 0
@@ -43,17 +42,10 @@ pub record EncodesPayload (v : Version) (b : Bounds) (es : List Event) (bytes : 
   pub batch : IsBatch v b es
   pub is : bytes ≡ payload es
 
--- a table at a moment that a snapshot can hold: all of it is ahead of the moment, in its range and within the limits,
--- no port and no peer stands twice, and the version can hold it
+-- a table at a moment that a snapshot can hold: each that the version can hold
 pub record IsSnapshot (v : Version) (b : Bounds) (t : ℕ) (c : Contents) : Type 0 where
-  pub moment : t < end_of_moments
+  pub at : IsTableAt b t c
   pub holds : Holds v c
-  pub values : AreEntriesInRange b t c
-  pub reserved : AreReservationsInRange t c
-  pub reserved_apart : ReservedApart c
-  pub within : IsWithin b c
-  pub ports : PortsApart c
-  pub peers : PeersApart c
 
 -- bytes encode a snapshot, all of them
 pub record EncodesSnapshot (v : Version) (b : Bounds) (t : ℕ) (c : Contents) (bytes : List ℕ) : Type 0 where

@@ -4,6 +4,7 @@ ghost use Rattle.std.specs.Prelude.{◌≡◌, ◌⊎◌, ◌%◌, IfOk};
 ghost use Rattle.std.specs.FinMap as fin;
 ghost use Rattle.std.specs.Ordering.{is_lt};
 ghost use Rattle.turn_history.specs.Fitting.{PortIsFree};
+ghost use Rattle.turn_history.specs.Laws.{IsEntryAt};
 ghost use Rattle.turn_record.specs.Views.{allocation_of};
 ghost use Rattle.turn_record.specs.Reading.{Gives, allocation_at, last_passes, port_at};
 ghost use Rattle.turn_record.specs.Snapshots.{entry_at, is_free_after, mark_at, mark_byte_at, token_if_at, tuple_after};
@@ -141,6 +142,7 @@ pub(crate) fn entry_after<'a, A: Allocator + Copy>(
     bytes: &'a [u8],
 ) -> Result<(FiveTuple, Entry<A>, &'a [u8]), ReadError>
     ensures gives { Gives (λ x. ((x.0, x.1.entry), x.2.now)) result (entry_at version table.now.bounds table.now.moment (fin.entries table.now.contents.entries) bytes.now) }
+    ensures entry { IfOk result (λ x. IsEntryAt table.now.bounds table.now.moment x.0 x.1.entry) }
     ensures above { IfOk result (λ x. IsAbove table.now.contents x.0) }
     ensures free { IfOk result (λ x. PortIsFree table.now.contents x.1.entry.port) }
 {

@@ -115,6 +115,7 @@ pub(crate) fn permissions_of<'a, A: Allocator + Copy>(
     ensures gives { Gives (λ x. (x.0.items, x.1.now)) result (permission_list_at limits moment bytes.now) }
     ensures sorted { IfOk result (λ x. fin.is_sorted nat_cmp x.0.items ≡ true) }
 {
+    // For the proof: the limits and the moment are in their ranges.
     let (_bounds, _now) = (limits.bounds(), moment.seconds());
     list_of(alloc, limits.permissions(), moment, bytes)
 }
@@ -183,6 +184,7 @@ pub(crate) fn channels_of<'a, A: Allocator + Copy>(
     ensures gives { Gives (λ x. (x.0.items, x.1.now)) result (channel_list_at limits moment bytes.now) }
     ensures sorted { IfOk result (λ x. fin.is_sorted nat_cmp x.0.items ≡ true) }
 {
+    // For the proof: the limits and the moment are in their ranges.
     let (_bounds, _now) = (limits.bounds(), moment.seconds());
     list_of(alloc, limits.channels(), moment, bytes)
 }

@@ -2,7 +2,7 @@
 
 ghost use Rattle.std.specs.Prelude.{◌≡◌, IfOk, nat_lt};
 ghost use Rattle.std.specs.FinMap as fin;
-ghost use Rattle.turn_history.specs.Fitting.{PortIsFree};
+ghost use Rattle.turn_history.specs.Fitting.{IsReservationInRange, PortIsFree};
 ghost use Rattle.turn_record.specs.Reading.{Gives, last_passes};
 ghost use Rattle.turn_record.specs.Snapshots.{odd_port_at, reservation_at, reserved_port_after};
 ghost use Rattle.turn_table.specs.Table.{IsAboveReserved};
@@ -64,6 +64,7 @@ pub(crate) fn reservation_after<'a, A: Allocator + Copy>(
     bytes: &'a [u8],
 ) -> Result<(u16, Reservation, &'a [u8]), ReadError>
     ensures gives { Gives (λ x. ((x.0, x.1), x.2.now)) result (reservation_at table.now.moment (fin.entries table.now.contents.entries) (fin.entries table.now.contents.reserved) bytes.now) }
+    ensures range { IfOk result (λ x. IsReservationInRange table.now.moment x.0 x.1) }
     ensures free { IfOk result (λ x. PortIsFree table.now.contents x.0) }
     ensures above { IfOk result (λ x. IsAboveReserved table.now.contents x.0) }
 {

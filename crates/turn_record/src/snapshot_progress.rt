@@ -2,7 +2,8 @@
 
 ghost use Rattle.std.specs.Prelude.{◌≡◌, ◌≤◌, ◌<◌, ◌⊎◌, ◌++◌, List, ℕ, IfOk, IfSome, None, Some, true, false};
 ghost use Rattle.std.specs.FinMap as fin;
-ghost use Rattle.turn_history.specs.Fitting.{PortIsFree};
+ghost use Rattle.turn_history.specs.Fitting.{IsReservationInRange, PortIsFree};
+ghost use Rattle.turn_history.specs.Laws.{IsEntryAt};
 ghost use Rattle.turn_record.specs.Places.{IsWaiting, IsWaitingAt, Next, Steps, Takes, ends_with_entries, gives, if_whole, is_done, is_short, more_at};
 ghost use Rattle.turn_record.specs.Reading.{Gives};
 ghost use Rattle.turn_record.specs.Snapshots.{entry_at, head_at, reservation_at, total_at};
@@ -125,6 +126,7 @@ fn next_entry<'a, A: Allocator + Copy>(
     bytes: &'a [u8],
 ) -> Result<Option<(FiveTuple, Entry<A>, &'a [u8])>, ReadError>
     ensures next { Next (λ x. (x.0, x.1.entry)) (λ x. x.2.now) result (entry_at version table.now.bounds table.now.moment (fin.entries table.now.contents.entries)) bytes.now }
+    ensures entry { IfOk result (λ o. IfSome o (λ x. IsEntryAt table.now.bounds table.now.moment x.0 x.1.entry)) }
     ensures above { IfOk result (λ o. IfSome o (λ x. IsAbove table.now.contents x.0)) }
     ensures free { IfOk result (λ o. IfSome o (λ x. PortIsFree table.now.contents x.1.entry.port)) }
 {
@@ -144,6 +146,7 @@ fn next_reservation<'a, A: Allocator + Copy>(
     bytes: &'a [u8],
 ) -> Result<Option<(u16, Reservation, &'a [u8])>, ReadError>
     ensures next { Next (λ x. (x.0, x.1)) (λ x. x.2.now) result (reservation_at table.now.moment (fin.entries table.now.contents.entries) (fin.entries table.now.contents.reserved)) bytes.now }
+    ensures range { IfOk result (λ o. IfSome o (λ x. IsReservationInRange table.now.moment x.0 x.1)) }
     ensures free { IfOk result (λ o. IfSome o (λ x. PortIsFree table.now.contents x.0)) }
     ensures above { IfOk result (λ o. IfSome o (λ x. IsAboveReserved table.now.contents x.0)) }
 {

@@ -141,6 +141,7 @@ pub fn read_snapshot<A: Allocator + Copy>(
     ensures read { (t : ℕ) (c : Contents) → EncodesSnapshot version limits t c bytes.now → Gives {Y = ℕ × Contents} (λ x. (x.moment, x.contents)) result (Ok (t, c)) }
     ensures fault { Gives (λ t. (t.moment, t.contents)) result (snapshot_in version limits bytes.now) }
 {
+    // For the proof: the limits are in their ranges.
     let _bounds = limits.bounds();
     whole_snapshot(alloc, version, limits, bytes)
 }

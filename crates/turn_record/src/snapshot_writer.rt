@@ -2,7 +2,7 @@
 
 ghost use Rattle.std.specs.Prelude.{◌≡◌, ◌+◌, ◌≤◌, ◌<◌, ◌++◌, [], length, drop, take, vec_capacity, IsOk, OnErr, OnOk};
 ghost use Rattle.turn_record.specs.Bytes.{entry, mark, reserved, snapshot};
-ghost use Rattle.turn_record.specs.Records.{IsSnapshot, entry_size, max_reserved, max_snapshot, max_entry_bytes, max_reserved_bytes, max_snapshot_bytes};
+ghost use Rattle.turn_record.specs.Records.{Holds, IsSnapshot, entry_size, max_reserved, max_snapshot, max_entry_bytes, max_reserved_bytes, max_snapshot_bytes};
 ghost use Rattle.turn_record.specs.Written.{IsShort};
 ghost use Rattle.turn_types.specs.Limits.{max_bounds};
 ghost use Rattle.turn_types.specs.declared.address.FiveTuple.{FiveTuple};
@@ -80,11 +80,11 @@ fn entry_size<A: Allocator + Copy>(version: Version, kept: &Entry<A>) -> usize
 
 /// How many bytes the reserved ports of a snapshot have.
 fn reserved_size<A: Allocator + Copy>(version: Version, table: &Table<A>) -> usize
-    requires { IsSnapshot version table.now.bounds table.now.moment table.now.contents }
     ensures size { result ≡ length (reserved version table.now.contents.reserved) }
     ensures small { result ≤ max_reserved_bytes }
 {
-    let _bounds = table.limits().bounds();
+    // For the proof: a table is within its limits, which are in their ranges.
+    let (_moment, _limits) = (table.moment(), table.limits());
     match version {
         Version::V1 => 0,
         Version::V2 => 4 + 18 * table.reserved_ports().len(),
@@ -93,10 +93,13 @@ fn reserved_size<A: Allocator + Copy>(version: Version, table: &Table<A>) -> usi
 
 /// How many bytes the snapshot of a table has. It takes no memory.
 pub fn snapshot_size<A: Allocator + Copy>(version: Version, table: &Table<A>) -> usize
-    requires { IsSnapshot version table.now.bounds table.now.moment table.now.contents }
-    ensures { result ≡ length (snapshot version table.now.moment table.now.contents) }
+    requires { Holds version table.now.contents }
+    ensures size { result ≡ length (snapshot version table.now.moment table.now.contents) }
+    ensures most { result ≤ max_snapshot version table.now.bounds }
+    ensures snapshot { IsSnapshot version table.now.bounds table.now.moment table.now.contents }
 {
-    let _bounds = table.limits().bounds();
+    // For the proof: a table is within its limits, which are in their ranges.
+    let (_moment, _limits) = (table.moment(), table.limits());
     let mut size = HEAD_BYTES + reserved_size(version, table);
     for (_, kept) in table.entries() {
         size += entry_size(version, kept);
@@ -159,10 +162,11 @@ impl<'a, A: Allocator + Copy> Model for SnapshotWriter<'a, A> {
 impl<'a, A: Allocator + Copy> SnapshotWriter<'a, A> {
     /// Of the table's snapshot in the version.
     pub fn new(version: Version, table: &'a Table<A>) -> SnapshotWriter<'a, A>
-        requires { IsSnapshot version table.now.bounds table.now.moment table.now.contents }
+        requires { Holds version table.now.contents }
         ensures { result ≡ snapshot version table.now.moment table.now.contents }
     {
-        let _bounds = table.limits().bounds();
+        // For the proof: the limits are in their ranges.
+        let _limits = table.limits();
         let mut held = EntryBytes::new();
         held.put(&table.moment().seconds().to_be_bytes());
         held.put(&(table.len() as u32).to_be_bytes());
@@ -210,7 +214,7 @@ pub fn write_snapshot<A: Allocator, B: Allocator + Copy>(
     version: Version,
     table: &Table<B>,
 ) -> Result<(), AllocError>
-    requires { IsSnapshot version table.now.bounds table.now.moment table.now.contents }
+    requires { Holds version table.now.contents }
     ensures ok { OnOk result (out.new.items ≡ out.old.items ++ snapshot version table.now.moment table.now.contents) }
     ensures err { OnErr result (out.new.items ≡ out.old.items) }
     ensures room { length out.old.items + length (snapshot version table.now.moment table.now.contents) ≤ vec_capacity out.old → IsOk result }

@@ -199,7 +199,6 @@ pub fn write_act<A: Allocator, B: Allocator>(
     ensures room { length out.old.items + max_act version limits ≤ vec_capacity out.old → IsOk result }
     ensures capacity { vec_capacity out.old ≤ vec_capacity out.new }
 {
-    let _bounds = limits.bounds();
     out.reserve(max_act(version, limits))?;
     put_act(out, moment, five_tuple, act);
     Ok(())
@@ -230,6 +229,7 @@ pub fn write_payload<A: Allocator, B: Allocator>(
     ensures room { length out.old.items + (1 + length events.now * max_act version limits) ≤ vec_capacity out.old → IsOk result }
     ensures capacity { vec_capacity out.old ≤ vec_capacity out.new }
 {
+    // For the proof: the limits are in their ranges.
     let _bounds = limits.bounds();
     out.reserve(1 + events.len() * max_act(version, limits))?;
     put(out, &[events.len() as u8]);

@@ -15,7 +15,7 @@ use std::alloc::Allocator;
 use turn_codec::{AttributeType, ChannelData, Message, read_xor_address};
 use turn_mac::has_wrong_fingerprint;
 use turn_table::{Entry, Table};
-use turn_types::{Addr, Class, Endpoint, FiveTuple, Method, Moment};
+use turn_types::{Addr, Class, Endpoint, FiveTuple, Method};
 
 /// A datagram for a peer. It is a part of the client's datagram.
 #[derive(Clone, Copy, Debug)]
@@ -107,62 +107,56 @@ fn by_channel_data<'a, A: Allocator + Copy>(
 }
 
 /// What the channel data of a client sends to a peer: the payload, over a channel that is bound (RFC 8656, section 12.6),
-/// unless it has more than 65,507 bytes. The table was purged at the moment of the arrival.
+/// unless it has more than 65,507 bytes. What lives at the table's moment counts.
 pub fn from_channel_data<'a, A: Allocator + Copy>(
     table: &Table<A>,
     five_tuple: FiveTuple,
     channel_data: &ChannelData<'a>,
-    moment: Moment,
 ) -> Option<ToPeer<'a>>
-    requires purged { table.now.moment ≡ moment }
     ensures sends { (bytes : List ℕ) → EncodesChannelData bytes channel_data.now.number channel_data.now.payload.now →
         SendsToPeer table.now.contents five_tuple bytes (option_map peer_data result) }
     ensures history { (h : History) (bytes : List ℕ) → Agrees table.now h → EncodesChannelData bytes channel_data.now.number channel_data.now.payload.now →
-        SendsToPeer (tables.table h moment) five_tuple bytes (option_map peer_data result) }
+        SendsToPeer (tables.table h table.now.moment) five_tuple bytes (option_map peer_data result) }
     ensures size { IfSome result (λ x. length x.bytes.now ≤ max_payload) }
 {
     by_channel_data(table, five_tuple, channel_data.number, channel_data.payload)
 }
 
 /// What a message of a client sends to a peer: the DATA of a Send indication to a peer whose address has a permission (RFC
-/// 8656, section 11.2), unless it has more than 65,507 bytes. The table was purged at the moment of the arrival.
+/// 8656, section 11.2), unless it has more than 65,507 bytes. What lives at the table's moment counts.
 pub fn from_message<'a, A: Allocator + Copy>(
     table: &Table<A>,
     five_tuple: FiveTuple,
     message: &Message<'a>,
-    moment: Moment,
 ) -> Option<ToPeer<'a>>
-    requires purged { table.now.moment ≡ moment }
     ensures sends { SendsToPeer table.now.contents five_tuple message.now.bytes (option_map peer_data result) }
     ensures history { (h : History) → Agrees table.now h →
-        SendsToPeer (tables.table h moment) five_tuple message.now.bytes (option_map peer_data result) }
+        SendsToPeer (tables.table h table.now.moment) five_tuple message.now.bytes (option_map peer_data result) }
     ensures size { IfSome result (λ x. length x.bytes.now ≤ max_payload) }
 {
+    // For the proof: the bytes of a message are few.
     let _bytes = message.as_bytes();
     by_message(table, five_tuple, message)
 }
 
 /// What a client's datagram sends to a peer: the payload of ChannelData on a channel that is bound (RFC 8656,
 /// section 12.6), or the DATA of a Send indication to a peer whose address has a permission (section 11.2). All
-/// other datagrams send nothing, and so do payloads of more than 65,507 bytes. The table was purged at the moment of
-/// the arrival.
+/// other datagrams send nothing, and so do payloads of more than 65,507 bytes. What lives at the table's moment counts.
 pub fn from_client<'a, A: Allocator + Copy>(
     table: &Table<A>,
     five_tuple: FiveTuple,
     datagram: &'a [u8],
-    moment: Moment,
 ) -> Option<ToPeer<'a>>
-    requires purged { table.now.moment ≡ moment }
     ensures sends { SendsToPeer table.now.contents five_tuple datagram.now (option_map peer_data result) }
     ensures history { (h : History) → Agrees table.now h →
-        SendsToPeer (tables.table h moment) five_tuple datagram.now (option_map peer_data result) }
+        SendsToPeer (tables.table h table.now.moment) five_tuple datagram.now (option_map peer_data result) }
     ensures size { IfSome result (λ x. length x.bytes.now ≤ max_payload) }
 {
     if let Some(data) = ChannelData::parse(datagram) {
-        return from_channel_data(table, five_tuple, &data, moment);
+        return from_channel_data(table, five_tuple, &data);
     }
     match Message::parse(datagram) {
-        Ok(message) => from_message(table, five_tuple, &message, moment),
+        Ok(message) => from_message(table, five_tuple, &message),
         Err(_) => None,
     }
 }

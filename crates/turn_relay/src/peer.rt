@@ -14,7 +14,7 @@ use std::alloc::{AllocError, Allocator};
 use turn_codec::{AttributeType, Builder, ChannelData, xor_address};
 use turn_history::ChannelNumber;
 use turn_table::Table;
-use turn_types::{Class, Endpoint, FiveTuple, Method, Moment, TxId};
+use turn_types::{Class, Endpoint, FiveTuple, Method, TxId};
 
 /// The max payload of ChannelData over UDP, after a header of 4 bytes.
 const MAX_OVER_A_CHANNEL: usize = MAX_PAYLOAD - 4;
@@ -96,19 +96,17 @@ fn fits_client(channel: &Option<ChannelNumber>, size: usize) -> bool
 
 /// What a peer's datagram at a relayed port sends to the client of the port's allocation, if the peer's address has a
 /// permission: the datagram, over the channel that is bound to the peer's address and port, if one is (RFC 8656,
-/// sections 11.3 and 12.7). It sends nothing if the client's datagram would have more than 65,507 bytes. The table
-/// was purged at the moment of the arrival.
+/// sections 11.3 and 12.7). It sends nothing if the client's datagram would have more than 65,507 bytes. What lives at
+/// the table's moment counts.
 pub fn from_peer<'a, A: Allocator + Copy>(
     table: &Table<A>,
     port: u16,
     from: Endpoint,
     datagram: &'a [u8],
-    moment: Moment,
 ) -> Option<ToClient<'a>>
-    requires purged { table.now.moment ≡ moment }
     ensures sends { SendsToClient table.now.contents port from datagram.now (option_map client_data result) }
     ensures history { (h : History) → Agrees table.now h →
-        SendsToClient (tables.table h moment) port from datagram.now (option_map client_data result) }
+        SendsToClient (tables.table h table.now.moment) port from datagram.now (option_map client_data result) }
     // What is returned can be written.
     ensures size { IfSome result (λ x. size_for_client x.channel (length x.bytes.now) ≤ max_payload) }
 {

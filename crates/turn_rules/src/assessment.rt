@@ -162,20 +162,18 @@ fn stage_of<C: Allocator, T: Allocator + Copy>(
     }
 }
 
-/// Assesses a client's message at a moment, up to the port that is picked for it. `pairs` says whether ports may be reserved:
+/// Assesses a client's message at the table's moment, up to the port that is picked for it. `pairs` says whether ports may be reserved:
 /// then EVEN-PORT with the R bit needs a pair. It takes no memory.
 pub fn assess<C: Allocator, T: Allocator + Copy>(
     table: &Table<T>,
     config: &ServerConfig<C>,
     request: &ClientMessage<'_>,
-    moment: Moment,
     pairs: bool,
 ) -> Assessment
-    requires purged { table.now.moment ≡ moment }
-    ensures assessed { IsAssessed pairs config.now table.now.contents request.now moment result }
-    ensures history { (h : History) → Agrees table.now h → IsAssessed pairs config.now (tables.table h moment) request.now moment result }
+    ensures assessed { IsAssessed pairs config.now table.now.contents request.now table.now.moment result }
+    ensures history { (h : History) → Agrees table.now h → IsAssessed pairs config.now (tables.table h table.now.moment) request.now table.now.moment result }
 {
     Assessment {
-        stage: stage_of(config, table, request, moment, pairs),
+        stage: stage_of(config, table, request, table.moment(), pairs),
     }
 }

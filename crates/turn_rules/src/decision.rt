@@ -17,8 +17,8 @@ use std::alloc::{AllocError, Allocator, Global};
 use turn_codec::Message;
 use turn_cred::Verdict;
 use turn_history::Act;
-use turn_table::{Table, reserved_ports_are_apart};
-use turn_types::{FiveTuple, Moment, ServerConfig};
+use turn_table::Table;
+use turn_types::{FiveTuple, ServerConfig};
 
 /// A message from a client.
 #[derive(Drop)]
@@ -63,7 +63,7 @@ fn key_of(request: &ClientMessage<'_>) -> Option<[u8; 16]>
     }
 }
 
-/// The answer to a client's message at a moment, by what it was assessed to come to at that moment and over that table, and
+/// The answer to a client's message at the table's moment, by what it was assessed to come to over that table, and
 /// with the port that was picked for it, if one was: where one is needed, none means 508, and where none is needed it
 /// doesn't count. Of a pair it is the even port. It takes the memory of the reply and of the act, and no other.
 #[tactic(auto, unfolding(crate::specs::Answer::decision))]
@@ -72,30 +72,28 @@ pub fn decide<A: Allocator + Copy, C: Allocator, T: Allocator + Copy>(
     table: &Table<T>,
     config: &ServerConfig<C>,
     request: &ClientMessage<'_>,
-    moment: Moment,
     assessment: Assessment,
     port: Option<u16>,
 ) -> Result<Decision<A>, AllocError>
-    requires purged { table.now.moment ≡ moment }
-    ensures value { (pairs : Bool) → IsAssessed pairs config.now table.now.contents request.now moment assessment →
-        IfOk result (λ d. decided_of d ≡ decision pairs config.now table.now.contents request.now.five_tuple moment request.now.message (verdict_in request.now) port) }
+    ensures value { (pairs : Bool) → IsAssessed pairs config.now table.now.contents request.now table.now.moment assessment →
+        IfOk result (λ d. decided_of d ≡ decision pairs config.now table.now.contents request.now.five_tuple table.now.moment request.now.message (verdict_in request.now) port) }
     // After every history with which the table agrees it is an answer, if the port is one that may be picked.
-    ensures answers { (pairs : Bool) (h : History) (range : ℕ × ℕ) (failed : Bool) → IsAssessed pairs config.now table.now.contents request.now moment assessment →
+    ensures answers { (pairs : Bool) (h : History) (range : ℕ × ℕ) (failed : Bool) → IsAssessed pairs config.now table.now.contents request.now table.now.moment assessment →
         Agrees table.now h → MayHavePicked range failed table.now.contents (needed_by assessment) port →
-        IfOk result (λ d. MayAnswer pairs config.now range h moment failed request.now.five_tuple request.now.message (verdict_in request.now) (decided_of d)) }
+        IfOk result (λ d. MayAnswer pairs config.now range h table.now.moment failed request.now.five_tuple request.now.message (verdict_in request.now) (decided_of d)) }
     // What is done fits the table, if what was picked is free for what is needed.
-    ensures fits { (pairs : Bool) → IsAssessed pairs config.now table.now.contents request.now moment assessment →
+    ensures fits { (pairs : Bool) → IsAssessed pairs config.now table.now.contents request.now table.now.moment assessment →
         table.now.bounds ≡ config.now.limits → IsPicked table.now.contents (needed_by assessment) port →
         IfOk result (λ d. IfSome (decided_of d).act (Fits table.now.bounds table.now.contents request.now.five_tuple)) }
     // What is done is in range, if the message's values are bytes and the user's name is in range.
-    ensures in_range { (pairs : Bool) → IsAssessed pairs config.now table.now.contents request.now moment assessment →
+    ensures in_range { (pairs : Bool) → IsAssessed pairs config.now table.now.contents request.now table.now.moment assessment →
         IsMadeOfBytes request.now.message.content → NamesInRange config.now.limits (verdict_in request.now) →
         IsPicked table.now.contents (needed_by assessment) port →
         IfOk result (λ d. IfSome (decided_of d).act (IsActInRange config.now.limits)) }
     // Without pairs no port is reserved.
-    ensures no_pairs { IsAssessed false config.now table.now.contents request.now moment assessment → IfOk result (λ d. IfSome (decided_of d).act ReservesNone) }
+    ensures no_pairs { IsAssessed false config.now table.now.contents request.now table.now.moment assessment → IfOk result (λ d. IfSome (decided_of d).act ReservesNone) }
 {
-    reserved_ports_are_apart(table);
+    let moment = table.moment();
     let outcome = assessment.outcome(config, request, moment, port);
     Ok(Decision {
         reply: write(alloc, config, request, moment, &outcome, key_of(request))?,

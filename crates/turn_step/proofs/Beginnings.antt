@@ -1,6 +1,6 @@
 -- What an answer needs of a history: the events of one five-tuple, for an Allocate what others have, and for data a beginning, after
 -- which there are no events of its five-tuple.
-use Rattle.std.proofs.Common.{◌≡◌, ◌≤◌, ℕ, Bool, true, false, List, [], ◌∷◌, ◌++◌, Some, take, drop, map, refl, sym, ap, subst, ◌∙◌, arith, ◌↔◌, ◌≢◌, append-nil, take-append-drop}
+use Rattle.std.proofs.Common.{◌≡◌, ◌≤◌, ℕ, Bool, List, [], ◌∷◌, ◌++◌, Some, take, drop, map, refl, sym, ap, subst, ◌∙◌, arith, ◌↔◌, ◌≢◌, append-nil, take-append-drop}
 use Rattle.std.specs.FinMap as fin
 use Rattle.std.specs.List.{AllByRecursion}
 use Rattle.std.proofs.lemmas.Bool.{cond_both}

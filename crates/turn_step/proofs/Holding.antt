@@ -1,32 +1,29 @@
 -- Which ports a table has, as it changes, and which a generator holds then.
-use Rattle.std.proofs.Common.{◌≡◌, ◌⊎◌, ◌≤◌, ◌<◌, ℕ, ◌+◌, Bool, true, false, cond, refl, sym, ap, subst, ◌∙◌, lt-ltb, Option, Some, None, is_some, List, Result, Ok, Err, inl, inr, Box, ◌%◌, ◌==◌, ◌&&◌, ◌||◌, not, IfOk, IfSome, IsSome, MatchOption, OnErr, option_and_then, option_map}
+use Rattle.std.proofs.Common.{◌≡◌, ◌⊎◌, ◌<◌, ℕ, ◌+◌, Bool, true, false, cond, refl, sym, ap, subst, ◌∙◌, lt-ltb, Option, Some, None, is_some, List, Result, Ok, Err, inl, inr, Box, ◌==◌, ◌&&◌, ◌||◌, not, IfOk, IfSome, IsSome, MatchOption, OnErr, option_and_then, option_map}
 use Rattle.std.specs.Ordering.{eq_by_cmp, nat_cmp}
 use Rattle.std.specs.FinMap as fin
 use Rattle.std.specs.FinMap.{get-remove}
 use Rattle.std.proofs.Math.Bool.{or-false, or-true}
-use Rattle.std.proofs.Math.Nat.{eq-or-lt_of_le}
 use Rattle.std.proofs.lemmas.Bool.{cases_Bool, cond_both, eq-eqb, eqb-false, eqb-true, false_from_ne_true, or_left, or_right, true_from_ne_false}
 use Rattle.std.proofs.lemmas.Cmp.{nat_cmp_total}
 use Rattle.std.proofs.lemmas.Result.{IfOk-weaker}
 use Rattle.std.proofs.lemmas.Option.{none-some, same_Some}
 use Rattle.turn_types.specs.Prelude.{same_tuple, tuple_cmp, permission_lifetime, reservation_lifetime}
-use Rattle.turn_history.specs.Prelude.{FiveTuple, Bounds, Token, TxId, act_of, AreReservationsInRange, Fits, IsActInRange, IsFitting, PortIsFree, has_port, is_taken, History, PlainAct, clock, Allocates, Renews, Permits, Binds, PortsApart, ReservedApart, Contents, Entry, applied, applied_to, binding, kept, permitting, purged, renewed, table}
-use Rattle.turn_history.proofs.Histories.{ports-apart, ports-purged}
+use Rattle.turn_history.specs.Prelude.{FiveTuple, Bounds, Token, TxId, act_of, AreReservationsInRange, Fits, IsActInRange, PortIsFree, has_port, is_taken, PlainAct, Allocates, Renews, Permits, Binds, PortsApart, ReservedApart, Contents, Entry, applied, applied_to, binding, kept, permitting, purged, renewed}
 use Rattle.turn_history.proofs.Live.{some_is}
 use Rattle.turn_history.proofs.Maps.{from_eq, tuple_exact, tuple_total}
 use Rattle.turn_history.proofs.Reading.{applied-reserved, at_alloc, get-applied, get-purged, get-purged_reserved, get-with_reservation, left, nat_same}
-use Rattle.turn_history.proofs.Reserved.{reservations-purged, reservations_in_range, reserved-apart, reserved-purged}
 use Rattle.turn_history.proofs.Tests.{free_port_is, port_is_free, port_is_untaken, untaken_port_is}
 use Rattle.turn_history.specs.declared.act.Act.{Act}
 use Rattle.turn_history.specs.declared.reservation.Reservation.{Reservation}
 use Rattle.turn_table.proofs.Purging.{stays}
 use Rattle.turn_table.proofs.Tuples.{itself}
-use Rattle.turn_table.specs.Prelude.{State, Agrees, RemovesExpired, freed_by}
+use Rattle.turn_table.specs.Prelude.{RemovesExpired, freed_by}
 use Rattle.turn_ports.specs.Ports.{with_pair, with_port, without_port}
 use Rattle.turn_rules.specs.Prelude.{IsFreeFor, IsPicked, MayHavePicked, MayPickFor, is_picked, picks, takes}
 use Rattle.turn_rules.specs.declared.need.Need.{Need}
 use Rattle.turn_rules.specs.declared.need.Need.TheVariants.{Any, Even, Pair}
-use Rattle.turn_step.specs.Prelude.{ArePicked, Change, StepOutcome, Sent, change_of, HasPortsApart, HoldsPorts, IsPurged, MachineState, MayBeNext}
+use Rattle.turn_step.specs.Prelude.{ArePicked, Change, StepOutcome, Sent, change_of, HoldsPorts, MachineState, MayBeNext}
 
 -- ---- Tests
 
@@ -351,23 +348,6 @@ even_picked b t c f user port granted tx token odd fits in_range = record {
 
 -- ---- Machines
 
-apart_of : (s : State) (t : ℕ) (c : Contents) → s.moment ≡ t → s.contents ≡ c → PortsApart c → ReservedApart c → AreReservationsInRange t c → HasPortsApart s
-apart_of s t c moment contents ports reserved in_range = record { ports = rw contents ports; reserved = rw contents reserved; in_range = rw (moment, contents) in_range }
-
--- a table that agrees with a history
-pub apart_after : (b : Bounds) (s : State) (h : History) → IsFitting b h → clock h ≤ s.moment → Agrees s h → HasPortsApart s
-apart_after b s h fitting late agrees =
-    apart_of s s.moment (table h s.moment) refl agrees (ports-apart b h s.moment fitting late) (reserved-apart b h s.moment fitting late) (reservations_in_range b h s.moment fitting late)
-
--- a table that was brought to a moment
-pub apart_later : (t : ℕ) (old new : State) → old.moment ≤ t → IsPurged t old new → HasPortsApart old → HasPortsApart new
-apart_later t old new le later apart = elim (eq-or-lt_of_le le) [
-  | inl e ↦ apart_of new old.moment old.contents (later.moment ∙ sym e) (later.same e) apart.ports apart.reserved apart.in_range
-  | inr lt ↦
-      apart_of new t (purged t old.contents) later.moment (later.later lt) (ports-purged t old.contents apart.ports) (reserved-purged t old.contents apart.reserved)
-      (reservations-purged old.moment t old.contents le apart.in_range)
-]
-
 -- the change of a step that was taken apart
 pub change_by : {A : Type 0} (o : StepOutcome) (sent : Option Sent) (act : Option (Box (FiveTuple × Act A) A)) (b : Box (FiveTuple × Act A) A) (p : FiveTuple × Act A) (a : Act A)
     → o ≡ record { change = option_map (λ x. change_of x.value.0 (act_of x.value.1)) act; sent = sent } → act ≡ Some b → p ≡ b.value → p.1 ≡ a → o.change ≡ Some (change_of p.0 (act_of a))
@@ -381,14 +361,6 @@ module _ {H G : Type 0} (m n : MachineState H G) (o : Option Change) (c : Change
 
   pub held_change : (holds : G → (ℕ → Bool) → Type 0) → HoldsPorts holds m o → HoldsPorts holds n (Some c)
   held_change holds held = subst (HoldsPorts holds n) is (subst (λ x. HoldsPorts holds x o) (sym same) held)
-
--- what is held once a table was brought to a moment
-pub held_later : {H G : Type 0} (holds : G → (ℕ → Bool) → Type 0) (m n : MachineState H G) (new : G) (later : Contents) → n ≡ m → HasPortsApart m.table
-    → (PortsApart n.table.contents → ReservedApart n.table.contents → holds n.ports (is_taken n.table.contents) → holds new (is_taken later))
-    → HoldsPorts holds m None → holds new (is_taken later)
-held_later holds m n new later same apart advances held =
-    advances (subst (λ x. PortsApart x.table.contents) (sym same) apart.ports) (subst (λ x. ReservedApart x.table.contents) (sym same) apart.reserved)
-    (subst (λ x. HoldsPorts holds x None) (sym same) held)
 
 pub nothing_taken : {E : Type 0} (P : Option Change → Type 0) (r : Result StepOutcome E) → IfOk r (λ o. o.change ≡ None) → P None → IfOk r (λ o. P o.change)
 nothing_taken P (Ok o) none p = subst P (sym none) p

@@ -1,5 +1,5 @@
 -- Machines after histories.
-use Rattle.std.proofs.Common.{◌≡◌, ◌≤◌, ◌<◌, ◌-◌, ◌^◌, ◌++◌, ◌∷◌, [], ℕ, Bool, Option, option_map, Some, None, Result, Ok, Err, refl, sym, ap, subst, ◌∙◌, inl, inr, arith, IfOk, IfSome}
+use Rattle.std.proofs.Common.{◌≡◌, ◌≤◌, ◌<◌, ◌++◌, ◌∷◌, [], ℕ, Bool, Option, option_map, Some, None, Result, refl, sym, ap, subst, ◌∙◌, inl, inr, arith, IfOk, IfSome}
 use Rattle.std.proofs.Math.Nat.{eq-or-lt_of_le}
 use Rattle.std.proofs.lemmas.Option.{IfSome_then}
 use Rattle.std.proofs.lemmas.Result.{IfOk-weaker}
@@ -70,9 +70,9 @@ pub setting_is : {H G : Type 0} (keys : H → Keys) (range : G → ℕ × ℕ) (
 setting_is keys range m config handler ports pairs same_config same_handler same_range same_pairs =
     λ j. record { config = same_config j; keys = keys (same_handler j); range = same_range j; pairs = same_pairs j }
 
-pub answers_along : {E : Type 0} (s z : Setting) (h : History) (t x y n : ℕ) (a b : Arrives) (r : Result StepOutcome E) → s ≡ z → x ≡ y → a ≡ b
-    → IfOk r (AnswersArrival s h t (has_failed x n) a) → IfOk r (AnswersArrival z h t (has_failed y n) b)
-answers_along s z h t x y n a b r same_s same_x same_a answers = rw (← same_s, ← same_x, ← same_a) answers
+pub answers_along : {E : Type 0} (s z : Setting) (h : History) (t u x y n : ℕ) (a b : Arrives) (r : Result StepOutcome E) → s ≡ z → t ≡ u → x ≡ y → a ≡ b
+    → IfOk r (AnswersArrival s h t (has_failed x n) a) → IfOk r (AnswersArrival z h u (has_failed y n) b)
+answers_along s z h t u x y n a b r same_s same_t same_x same_a answers = rw (← same_s, ← same_t, ← same_x, ← same_a) answers
 
 -- a change for which a table was made ready
 pub may_be_next : (b : Bounds) (s new : State) (f : FiveTuple) (act : Option PlainAct) → s.bounds ≡ b → s.moment < end_of_moments → IfSome act (Fits s.bounds s.contents f) → IfSome act (IsActInRange b) → ((a : PlainAct) → act ≡ Some a → (new ≡ record s { room = Some (room_for f a) }) × IsTuple f) → IfSome (option_map (change_of f) act) (MayBeNext new)

@@ -6,5 +6,5 @@ pub use Rattle.turn_step.specs.Laws.{EncodesNoAllocate, HasNoReply, SameForAlloc
 pub use Rattle.turn_step.specs.Outcome.{Arrives, Change, Sent, StepOutcome, added, change_of, decided_for, event_at, nothing}
 pub use Rattle.turn_step.specs.Outcome.Arrives.{FromClient, FromPeer}
 pub use Rattle.turn_step.specs.Outcome.Sent.{ToClient, ToPeer}
-pub use Rattle.turn_step.specs.State.{Answered, CountsOne, HasPortsApart, HoldsPorts, IsAfter, IsPurged, IsReady, IsSameTable, KeepsSetting, MachineState, MayBeNext, changed, setting_of}
+pub use Rattle.turn_step.specs.State.{Answered, CountsOne, HoldsPorts, IsAfter, IsPurged, IsReady, IsSameTable, KeepsSetting, MachineState, MayBeNext, changed, setting_of}
 pub use Rattle.turn_step.specs.Views.{arrival_of, data_outcome, is_reserved, sent_of}

@@ -1,7 +1,7 @@
 -- What contracts see of a machine.
 use Rattle.std.specs.Prelude.{◌≡◌, ◌⊎◌, ◌≤◌, ◌<◌, ℕ, Bool, false, Option, Some, None, IfSome, ◌++◌}
 use Rattle.turn_types.specs.Prelude.{Config}
-use Rattle.turn_history.specs.Prelude.{AreReservationsInRange, Fits, IsFitting, IsInRange, History, clock, PortsApart, ReservedApart, ReservesNone, applied, purged}
+use Rattle.turn_history.specs.Prelude.{Fits, IsFitting, IsInRange, History, clock, ReservesNone, applied, purged}
 use Rattle.turn_cred.specs.Prelude.{Keys}
 use Rattle.turn_ports.specs.Ports.{Failed}
 use Rattle.turn_table.specs.Prelude.{State, Agrees, room_for}
@@ -30,12 +30,6 @@ pub record IsAfter {H G : Type 0} (m : MachineState H G) (h : History) : Type 0 
   pub fitting : IsFitting m.config.limits h
   pub late : clock h ≤ m.table.moment
   pub agrees : Agrees m.table h
-
--- each port of a table is that of one allocation, or of one reservation and of no allocation, and reserved ports are in their range
-pub record HasPortsApart (s : State) : Type 0 where
-  pub ports : PortsApart s.contents
-  pub reserved : ReservedApart s.contents
-  pub in_range : AreReservationsInRange s.moment s.contents
 
 -- the generator holds something for each port that the table has or a change takes, and for no other
 abbrev pub HoldsPorts : {H G : Type 0} → (G → (ℕ → Bool) → Type 0) → MachineState H G → Option Change → Type 0

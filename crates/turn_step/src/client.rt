@@ -13,7 +13,7 @@ use std::alloc::{AllocError, Allocator};
 use turn_codec::{ChannelData, Message};
 use turn_relay::{ToPeer, from_channel_data, from_message};
 use turn_table::Table;
-use turn_types::{Class, FiveTuple, Moment};
+use turn_types::{Class, FiveTuple};
 
 /// A client's datagram, as it is read.
 #[derive(Drop)]
@@ -35,13 +35,11 @@ pub(crate) fn read<'a, A: Allocator + Copy>(
     table: &Table<A>,
     five_tuple: FiveTuple,
     bytes: &'a [u8],
-    moment: Moment,
 ) -> ClientDatagram<'a>
-    requires { table.now.moment ≡ moment }
     ensures { IsReadAs table.now.contents five_tuple bytes.now result }
 {
     if let Some(data) = ChannelData::parse(bytes) {
-        let payload = from_channel_data(table, five_tuple, &data, moment);
+        let payload = from_channel_data(table, five_tuple, &data);
         return ClientDatagram::Data(payload);
     }
     let Ok(message) = Message::parse(bytes) else {
@@ -50,7 +48,7 @@ pub(crate) fn read<'a, A: Allocator + Copy>(
     if is_request(&message) {
         return ClientDatagram::Request(message);
     }
-    let payload = from_message(table, five_tuple, &message, moment);
+    let payload = from_message(table, five_tuple, &message);
     ClientDatagram::Data(payload)
 }
 

@@ -16,9 +16,6 @@ ghost use Rattle.turn_step.specs.Laws.{HasNoReply, EncodesNoAllocate, SameForAll
 ghost use Rattle.turn_step.specs.Outcome.{Arrives, StepOutcome, nothing};
 ghost use Rattle.turn_step.specs.Outcome.Arrives.{FromClient, FromPeer};
 ghost use Rattle.turn_step.specs.Outcome.Sent.{ToPeer};
-ghost use Rattle.turn_step.specs.State.{HasPortsApart};
-ghost use Rattle.turn_table.specs.State.{State};
-ghost use Rattle.turn_table.specs.Table.{Agrees};
 ghost use Rattle.turn_types.specs.declared.address.Endpoint.{Endpoint};
 ghost use Rattle.turn_types.specs.declared.address.FiveTuple.{FiveTuple};
 ghost use Rattle.turn_types.specs.declared.limits.Bounds.{Bounds};
@@ -60,10 +57,4 @@ pub fn data_stands_alone()
     ensures { (s : Setting) (b : Bounds) (h : History) (k t : ℕ) (failed : Bool) (a : Arrives) (f : FiveTuple) (o : StepOutcome) →
         IsFitting b h → clock h ≤ t → ¬ IsRequestOf a → IsOwner (table h t) a f → AllByRecursion (λ g. g ≢ f) (map (λ (e : Event). e.tuple) (drop k h)) →
         (AnswersArrival s h t failed a o ↔ AnswersArrival s (take k h) t failed a o) }
-{}
-
-/// After every history each port of the table is that of one allocation or of one reservation. So a machine that is after one keeps that
-/// the ports are held, by the clauses `held` of its methods.
-pub fn histories_keep_ports_apart()
-    ensures { (b : Bounds) (s : State) (h : History) → IsFitting b h → clock h ≤ s.moment → Agrees s h → HasPortsApart s }
 {}

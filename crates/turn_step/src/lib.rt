@@ -17,9 +17,7 @@ mod step;
 pub use arrival::{Arrival, Outgoing};
 pub use data::DataAnswer;
 pub use error::MachineError;
-pub use laws::{
-    clients_stand_alone, data_stands_alone, histories_keep_ports_apart, replies_answer_requests,
-};
+pub use laws::{clients_stand_alone, data_stands_alone, replies_answer_requests};
 pub use machine::Machine;
 pub use pairs::Pairs;
 pub use step::Step;

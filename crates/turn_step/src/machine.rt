@@ -4,12 +4,13 @@ ghost use Rattle.std.specs.Prelude.{◌≡◌, ◌≤◌, ◌↔◌, ◌++◌, f
 ghost use Rattle.turn_codec.specs.Grammar.{Datagram};
 ghost use Rattle.turn_history.specs.Fitting.{Follows};
 ghost use Rattle.turn_history.specs.History.{History};
+ghost use Rattle.turn_history.specs.Laws.{IsTableAt};
 ghost use Rattle.turn_ports.specs.Ports.{has_failed};
 ghost use Rattle.turn_rules.specs.Laws.{IsMadeOfBytes};
 ghost use Rattle.turn_step.specs.Answer.{AnswersArrival, AnswersClient, IsDecided};
 ghost use Rattle.turn_step.specs.Data.{IsOwner, IsRequestOf};
 ghost use Rattle.turn_step.specs.Outcome.{added, event_at};
-ghost use Rattle.turn_step.specs.State.{Answered, CountsOne, HasPortsApart, HoldsPorts, IsAfter, IsPurged, IsReady, IsSameTable, KeepsSetting, changed, setting_of};
+ghost use Rattle.turn_step.specs.State.{Answered, CountsOne, HoldsPorts, IsAfter, IsPurged, IsReady, IsSameTable, KeepsSetting, changed, setting_of};
 ghost use Rattle.turn_step.specs.Views.{arrival_of, data_outcome, is_reserved, sent_of};
 ghost use Rattle.turn_table.specs.Table.{Agrees};
 
@@ -125,7 +126,10 @@ impl<H: AuthHandler, G: RelayAddressGenerator, A: Allocator + Copy> Machine<H, G
     pub fn table(&self) -> &Table<A>
         ensures value { result.now ≡ self.now.table }
         ensures limits { result.now.bounds ≡ self.now.config.limits }
+        ensures at { IsTableAt self.now.table.bounds self.now.table.moment self.now.table.contents }
     {
+        // For the proof: it is a table at its moment.
+        let _moment = self.table.moment();
         &self.table
     }
 
@@ -162,14 +166,12 @@ impl<H: AuthHandler, G: RelayAddressGenerator, A: Allocator + Copy> Machine<H, G
     /// The step of a request.
     fn request_step(
         &mut self,
-        moment: Moment,
         five_tuple: FiveTuple,
         message: Message<'_>,
     ) -> Result<Step<A>, AllocError>
-        requires now { self.old.table.moment ≡ moment }
-        requires bytes { IsMadeOfBytes message.content }
+        requires { IsMadeOfBytes message.content }
         ensures answers { (h : History) (d : Datagram) → Agrees self.old.table h → message.entry ≡ d →
-            IfOk result (IsDecided (setting_of H.key_of G.range self.old) h moment (has_failed (G.failures self.old.ports) (G.failures self.new.ports)) five_tuple d) }
+            IfOk result (IsDecided (setting_of H.key_of G.range self.old) h self.old.table.moment (has_failed (G.failures self.old.ports) (G.failures self.new.ports)) five_tuple d) }
         ensures ready { IfOk result (IsReady self.new) }
         ensures table { IsSameTable self.old.table self.new.table }
         ensures setting { KeepsSetting G.range self.old self.new }
@@ -177,13 +179,14 @@ impl<H: AuthHandler, G: RelayAddressGenerator, A: Allocator + Copy> Machine<H, G
         ensures held { HoldsPorts G.holds self.old None → IfOk result (λ s. HoldsPorts G.holds self.new s.change) }
         ensures held_err { HoldsPorts G.holds self.old None → OnErr result (HoldsPorts G.holds self.new None) }
     {
+        let moment = self.table.moment();
         let verdict = check_credentials(&mut self.checker, &message, five_tuple.client, moment);
         let request = ClientMessage {
             message,
             five_tuple,
             verdict,
         };
-        let assessment = assess(&self.table, &self.config, &request, moment, self.pairs);
+        let assessment = assess(&self.table, &self.config, &request, self.pairs);
         let need = assessment.needs_port();
         let port = pick(&mut self.ports, &self.table, need)?;
         let settled = settle(
@@ -191,7 +194,6 @@ impl<H: AuthHandler, G: RelayAddressGenerator, A: Allocator + Copy> Machine<H, G
             &mut self.table,
             &self.config,
             &request,
-            moment,
             assessment,
             port,
         );
@@ -203,15 +205,9 @@ impl<H: AuthHandler, G: RelayAddressGenerator, A: Allocator + Copy> Machine<H, G
     }
 
     /// The step of a client's datagram: data to a peer, or a request, or nothing.
-    fn client_step(
-        &mut self,
-        moment: Moment,
-        five_tuple: FiveTuple,
-        bytes: &[u8],
-    ) -> Result<Step<A>, AllocError>
-        requires { self.old.table.moment ≡ moment }
+    fn client_step(&mut self, five_tuple: FiveTuple, bytes: &[u8]) -> Result<Step<A>, AllocError>
         ensures answers { (h : History) → Agrees self.old.table h →
-            IfOk result (AnswersClient (setting_of H.key_of G.range self.old) h moment (has_failed (G.failures self.old.ports) (G.failures self.new.ports)) five_tuple bytes.now) }
+            IfOk result (AnswersClient (setting_of H.key_of G.range self.old) h self.old.table.moment (has_failed (G.failures self.old.ports) (G.failures self.new.ports)) five_tuple bytes.now) }
         ensures ready { IfOk result (IsReady self.new) }
         ensures table { IsSameTable self.old.table self.new.table }
         ensures setting { KeepsSetting G.range self.old self.new }
@@ -219,8 +215,8 @@ impl<H: AuthHandler, G: RelayAddressGenerator, A: Allocator + Copy> Machine<H, G
         ensures held { HoldsPorts G.holds self.old None → IfOk result (λ s. HoldsPorts G.holds self.new s.change) }
         ensures held_err { HoldsPorts G.holds self.old None → OnErr result (HoldsPorts G.holds self.new None) }
     {
-        match read(&self.table, five_tuple, bytes, moment) {
-            ClientDatagram::Request(message) => self.request_step(moment, five_tuple, message),
+        match read(&self.table, five_tuple, bytes) {
+            ClientDatagram::Request(message) => self.request_step(five_tuple, message),
             ClientDatagram::Data(payload) => data_step(self.alloc, payload),
         }
     }
@@ -231,10 +227,9 @@ impl<H: AuthHandler, G: RelayAddressGenerator, A: Allocator + Copy> Machine<H, G
         ensures answers { (h : History) → IsAfter self.now h →
             IfOk result (λ x. IfSome (data_outcome x) (AnswersArrival (setting_of H.key_of G.range self.now) h self.now.table.moment false (arrival_of arrival.now))) }
     {
-        let moment = self.table.moment();
         match *arrival {
             Arrival::Client { five_tuple, bytes } => {
-                match read(&self.table, five_tuple, bytes, moment) {
+                match read(&self.table, five_tuple, bytes) {
                     ClientDatagram::Request(_) => Ok(DataAnswer::Request),
                     ClientDatagram::Data(payload) => {
                         Ok(DataAnswer::Data(to_peer(self.alloc, payload)?))
@@ -247,7 +242,7 @@ impl<H: AuthHandler, G: RelayAddressGenerator, A: Allocator + Copy> Machine<H, G
                 bytes,
                 id,
             } => {
-                let sent = to_client(self.alloc, &self.table, port, from, bytes, id, moment)?;
+                let sent = to_client(self.alloc, &self.table, port, from, bytes, id)?;
                 Ok(DataAnswer::Data(sent))
             }
         }
@@ -285,20 +280,19 @@ impl<H: AuthHandler, G: RelayAddressGenerator, A: Allocator + Copy> Machine<H, G
         ensures after { (h : History) → IsAfter self.old h → IsAfter self.new h }
         ensures setting { KeepsSetting G.range self.old self.new }
         ensures count { CountsOne (G.failures self.old.ports) (G.failures self.new.ports) }
-        ensures apart { HasPortsApart self.old.table → HasPortsApart self.new.table }
         // The ports of the table are held, and those that were picked for the act; after an `Err` those of the table. No other is.
-        ensures held { HasPortsApart self.old.table → HoldsPorts G.holds self.old None → IfOk result (λ s. HoldsPorts G.holds self.new s.change) }
-        ensures held_err { HasPortsApart self.old.table → HoldsPorts G.holds self.old None → OnErr result (HoldsPorts G.holds self.new None) }
+        ensures held { HoldsPorts G.holds self.old None → IfOk result (λ s. HoldsPorts G.holds self.new s.change) }
+        ensures held_err { HoldsPorts G.holds self.old None → OnErr result (HoldsPorts G.holds self.new None) }
     {
         advance(&mut self.table, &mut self.ports, moment);
         match *arrival {
-            Arrival::Client { five_tuple, bytes } => self.client_step(moment, five_tuple, bytes),
+            Arrival::Client { five_tuple, bytes } => self.client_step(five_tuple, bytes),
             Arrival::Peer {
                 port,
                 from,
                 bytes,
                 id,
-            } => peer_step(self.alloc, &self.table, port, from, bytes, id, moment),
+            } => peer_step(self.alloc, &self.table, port, from, bytes, id),
         }
     }
 
@@ -311,13 +305,14 @@ impl<H: AuthHandler, G: RelayAddressGenerator, A: Allocator + Copy> Machine<H, G
         ensures after { (h : History) → IsAfter self.old h → IsAfter self.new (h ++ added self.old.table.moment step.change) }
         ensures setting { KeepsSetting G.range self.old self.new }
         ensures count { G.failures self.new.ports ≡ G.failures self.old.ports }
-        ensures held { HasPortsApart self.old.table → HoldsPorts G.holds self.old step.change → HoldsPorts G.holds self.new None }
+        ensures held { HoldsPorts G.holds self.old step.change → HoldsPorts G.holds self.new None }
     {
         let (act, outgoing) = step.into_parts();
         if let Some(change) = act {
             let (five_tuple, act) = Box::into_inner(change);
-            let moment = self.table.moment();
-            let freed = self.table.apply(moment, five_tuple, act);
+            // For the proof: no two allocations have one port, and none has a reserved one.
+            let _ = self.table.moment();
+            let freed = self.table.apply(five_tuple, act);
             release(&mut self.ports, freed);
         }
         outgoing
@@ -329,7 +324,7 @@ impl<H: AuthHandler, G: RelayAddressGenerator, A: Allocator + Copy> Machine<H, G
         ensures table { self.new.table ≡ self.old.table }
         ensures setting { KeepsSetting G.range self.old self.new }
         ensures count { G.failures self.new.ports ≡ G.failures self.old.ports }
-        ensures held { HasPortsApart self.old.table → IsReady self.old step → HoldsPorts G.holds self.old step.change → HoldsPorts G.holds self.new None }
+        ensures held { IsReady self.old step → HoldsPorts G.holds self.old step.change → HoldsPorts G.holds self.new None }
     {
         let (act, _) = step.into_parts();
         let Some(change) = act else {
@@ -341,11 +336,11 @@ impl<H: AuthHandler, G: RelayAddressGenerator, A: Allocator + Copy> Machine<H, G
                     release(&mut self.ports, Some(port));
                 }
             }
-            Act::AllocEven { port, .. } => release_for(
-                &mut self.ports,
-                Some(Need::Pair),
-                Some(port),
-            ),
+            Act::AllocEven { port, .. } => {
+                // For the proof: reserved ports are odd, and this one is even.
+                let _ = self.table.moment();
+                release_for(&mut self.ports, Some(Need::Pair), Some(port));
+            }
             _ => {}
         }
     }
@@ -371,7 +366,7 @@ impl<H: AuthHandler, G: RelayAddressGenerator, A: Allocator + Copy> Machine<H, G
         ensures moment { self.new.table.moment ≡ moment }
         ensures setting { KeepsSetting G.range self.old self.new }
         ensures count { CountsOne (G.failures self.old.ports) (G.failures self.new.ports) }
-        ensures held { HasPortsApart self.old.table → HoldsPorts G.holds self.old None → HoldsPorts G.holds self.new None }
+        ensures held { HoldsPorts G.holds self.old None → HoldsPorts G.holds self.new None }
     {
         let step = self.prepare(moment, arrival)?;
         Ok(self.apply(step))

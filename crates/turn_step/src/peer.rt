@@ -13,7 +13,7 @@ use crate::step::Step;
 use std::alloc::{AllocError, Allocator};
 use turn_relay::from_peer;
 use turn_table::Table;
-use turn_types::{Endpoint, Moment, TxId};
+use turn_types::{Endpoint, TxId};
 
 /// The datagram to a client that a peer's datagram at a relayed port sends, if it sends one.
 pub(crate) fn to_client<A: Allocator + Copy>(
@@ -23,13 +23,11 @@ pub(crate) fn to_client<A: Allocator + Copy>(
     from: Endpoint,
     bytes: &[u8],
     id: TxId,
-    moment: Moment,
 ) -> Result<Option<Outgoing<A>>, AllocError>
-    requires { table.now.moment ≡ moment }
-    ensures { (b : Bounds) (h : History) → IsFitting b h → clock h ≤ moment → Agrees table.now h →
-        IfOk result (λ o. AnswersPeer h moment port from bytes.now id.0 (record { change = None; sent = option_map sent_of o })) }
+    ensures { (b : Bounds) (h : History) → IsFitting b h → clock h ≤ table.now.moment → Agrees table.now h →
+        IfOk result (λ o. AnswersPeer h table.now.moment port from bytes.now id.0 (record { change = None; sent = option_map sent_of o })) }
 {
-    let Some(data) = from_peer(table, port, from, bytes, moment) else {
+    let Some(data) = from_peer(table, port, from, bytes) else {
         return Ok(None);
     };
     Ok(Some(Outgoing::ToClient {
@@ -46,13 +44,11 @@ pub(crate) fn peer_step<A: Allocator + Copy>(
     from: Endpoint,
     bytes: &[u8],
     id: TxId,
-    moment: Moment,
 ) -> Result<Step<A>, AllocError>
-    requires { table.now.moment ≡ moment }
-    ensures answers { (b : Bounds) (h : History) → IsFitting b h → clock h ≤ moment → Agrees table.now h →
-        IfOk result (AnswersPeer h moment port from bytes.now id.0) }
+    ensures answers { (b : Bounds) (h : History) → IsFitting b h → clock h ≤ table.now.moment → Agrees table.now h →
+        IfOk result (AnswersPeer h table.now.moment port from bytes.now id.0) }
     ensures nothing_done { IfOk result (λ s. s.change ≡ None) }
 {
-    let outgoing = to_client(alloc, table, port, from, bytes, id, moment)?;
+    let outgoing = to_client(alloc, table, port, from, bytes, id)?;
     Ok(Step::new(None, outgoing))
 }

@@ -75,8 +75,7 @@ pub(crate) fn advance<G: RelayAddressGenerator, A: Allocator + Copy>(
     ensures table { IsPurged moment table.old table.new }
     ensures range { G.range ports.new ≡ G.range ports.old }
     ensures failures { G.failures ports.new ≡ G.failures ports.old }
-    ensures held { PortsApart table.old.contents → ReservedApart table.old.contents →
-        G.holds ports.old (is_taken table.old.contents) → G.holds ports.new (is_taken table.new.contents) }
+    ensures held { G.holds ports.old (is_taken table.old.contents) → G.holds ports.new (is_taken table.new.contents) }
 {
     if table.moment() < moment {
         purge(table, ports, moment);

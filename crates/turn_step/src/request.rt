@@ -87,26 +87,25 @@ pub(crate) fn settle<A: Allocator + Copy>(
     table: &mut Table<A>,
     config: &ServerConfig<A>,
     request: &ClientMessage<'_>,
-    moment: Moment,
     assessment: Assessment,
     port: Option<u16>,
 ) -> Result<Step<A>, AllocError>
-    requires { table.old.moment ≡ moment }
-    ensures answers { (pairs : Bool) (h : History) (range : ℕ × ℕ) (failed : Bool) → IsAssessed pairs config.now table.old.contents request.now moment assessment →
+    ensures answers { (pairs : Bool) (h : History) (range : ℕ × ℕ) (failed : Bool) → IsAssessed pairs config.now table.old.contents request.now table.old.moment assessment →
         Agrees table.old h → MayHavePicked range failed table.old.contents (needed_by assessment) port →
-        IfOk result (λ s. (d : Decided) × MayAnswer pairs config.now range h moment failed request.now.five_tuple request.now.message (verdict_in request.now) d
+        IfOk result (λ s. (d : Decided) × MayAnswer pairs config.now range h table.old.moment failed request.now.five_tuple request.now.message (verdict_in request.now) d
         × (s ≡ decided_for request.now.five_tuple d)) }
-    ensures ready { (pairs : Bool) → IsAssessed pairs config.now table.old.contents request.now moment assessment →
+    ensures ready { (pairs : Bool) → IsAssessed pairs config.now table.old.contents request.now table.old.moment assessment →
         table.old.bounds ≡ config.now.limits → IsMadeOfBytes request.now.message.content → NamesInRange config.now.limits (verdict_in request.now) →
         IsPicked table.old.contents (needed_by assessment) port → IfOk result (λ s. IfSome s.change (MayBeNext table.new)) }
-    ensures no_pairs { IsAssessed false config.now table.old.contents request.now moment assessment → IfOk result (λ s. IfSome s.change (λ c. ReservesNone c.act)) }
+    ensures no_pairs { IsAssessed false config.now table.old.contents request.now table.old.moment assessment → IfOk result (λ s. IfSome s.change (λ c. ReservesNone c.act)) }
     ensures table { table.new ≡ record table.old { room = table.new.room } }
     // The act takes the ports that were picked, and no other but such as are taken already.
-    ensures takes { (pairs : Bool) → IsAssessed pairs config.now table.old.contents request.now moment assessment → (needed_by assessment ≡ None → port ≡ None) →
+    ensures takes { (pairs : Bool) → IsAssessed pairs config.now table.old.contents request.now table.old.moment assessment → (needed_by assessment ≡ None → port ≡ None) →
         IfOk result (λ s. (q : ℕ) → ports_with table.old.contents s.change q ≡ is_picked (needed_by assessment) port q || is_taken table.old.contents q) }
 {
-    let _ = moment.seconds();
-    let decision = decide(alloc, table, config, request, moment, assessment, port)?;
+    // For the proof: the table's moment is in range.
+    let _ = table.moment();
+    let decision = decide(alloc, table, config, request, assessment, port)?;
     let Decision { reply, act } = decision;
     let act = match act {
         Some(act) => {

@@ -16,7 +16,7 @@ front_is v b h c bytes payloads s = record { fits = table_has_snapshot v b s.bef
 pub front_short : (v : Version) (b : Bounds) (h : History) (c : ℕ) (bytes : List ℕ) (payloads : List (List ℕ)) → Encodes v b h c bytes payloads → length bytes ≤ max_snapshot v b
 front_short v b h c bytes payloads s =
     let front = front_is v b h c bytes payloads s in
-    subst (λ (l : List ℕ). length l ≤ max_snapshot v b) (sym front.is) (snapshot_at_most v b s.moment (table s.before s.moment) front.fits)
+    subst (λ (l : List ℕ). length l ≤ max_snapshot v b) (sym front.is) (snapshot_at_most v b s.moment (table s.before s.moment) front.fits.at)
 
 -- bytes encode one table at one moment
 pub encoded_once : (v : Version) (b : Bounds) → AreInRange b → (s t : Snapshot) (bytes : List ℕ) → EncodesSnapshot v b s.moment s.contents bytes → EncodesSnapshot v b t.moment t.contents bytes → s ≡ t

@@ -1,20 +1,17 @@
--- A table that a snapshot can hold stays one as events go on.
+-- What a version can hold it goes on holding as events go on.
 use Rattle.std.proofs.Common.{ℕ, List, [], ◌∷◌, sym, subst}
 use Rattle.std.specs.List.{AllByRecursion}
-use Rattle.turn_history.specs.Prelude.{IsInRange, Event, purged, Bounds}
-use Rattle.turn_record.specs.Prelude.{IsSnapshot, Writes}
-use Rattle.turn_record.proofs.Kept.{snapshot-purged, snapshot-applied}
-use Rattle.turn_store.specs.Prelude.{Version, Snapshot, IsNext, GoOn, GoesOn, after, after_all}
+use Rattle.turn_history.specs.Prelude.{Event, purged, Bounds}
+use Rattle.turn_record.specs.Prelude.{Holds, Writes}
+use Rattle.turn_record.proofs.Kept.{holds-purged, holds-applied}
+use Rattle.turn_store.specs.Prelude.{Version, Snapshot, GoesOn, after, after_all}
 
-abbrev CanBeHeld : Version → Bounds → Snapshot → Type 0
-CanBeHeld v b s = IsSnapshot v b s.moment s.contents
+next_kept : (v : Version) (s : Snapshot) (e : Event) → Writes v e.act → Holds v s.contents → Holds v (after s e).contents
+next_kept v s e writes is = holds-applied v e.moment e.tuple e.act (purged e.moment s.contents) writes (holds-purged v e.moment s.contents is)
 
-next_kept : (v : Version) (b : Bounds) (s : Snapshot) (e : Event) → IsInRange b e → Writes v e.act → IsNext b s e → CanBeHeld v b s → CanBeHeld v b (after s e)
-next_kept v b s e range none next is = snapshot-applied v b e (purged e.moment s.contents) none range next.fits (snapshot-purged v b s.moment e.moment s.contents next.later range.moment is)
+all_kept : (v : Version) (s : Snapshot) (es : List Event) → AllByRecursion (λ e. Writes v e.act) es → Holds v s.contents → Holds v (after_all s es).contents
+all_kept v s [] writes is = is
+all_kept v s (e ∷ es) writes is = all_kept v (after s e) es writes.1 (next_kept v s e writes.0 is)
 
-all_kept : (v : Version) (b : Bounds) (s : Snapshot) (es : List Event) → AllByRecursion (IsInRange b) es → AllByRecursion (λ e. Writes v e.act) es → GoOn b s es → CanBeHeld v b s → CanBeHeld v b (after_all s es)
-all_kept v b s [] ranges writes goes is = is
-all_kept v b s (e ∷ es) ranges writes goes is = all_kept v b (after s e) es ranges.1 writes.1 goes.1 (next_kept v b s e ranges.0 writes.0 goes.0 is)
-
-pub goes_kept : (v : Version) (b : Bounds) (s t : Snapshot) (p : List ℕ) → GoesOn v b s p t → CanBeHeld v b s → CanBeHeld v b t
-goes_kept v b s t p goes is = subst (CanBeHeld v b) (sym goes.ends) (all_kept v b s goes.events goes.encodes.batch.in_range goes.encodes.batch.writes goes.goes is)
+pub goes_kept : (v : Version) (b : Bounds) (s t : Snapshot) (p : List ℕ) → GoesOn v b s p t → Holds v s.contents → Holds v t.contents
+goes_kept v b s t p goes is = subst (λ (x : Snapshot). Holds v x.contents) (sym goes.ends) (all_kept v s goes.events goes.encodes.batch.writes is)

@@ -3,7 +3,7 @@ use Rattle.std.specs.Prelude.{◌≡◌, ◌≢◌, ◌⊎◌, ℕ, Bool, false,
 use Rattle.turn_disk.specs.Prelude.{Uses, EachImageSince, IsImage, IsSettled}
 use Rattle.turn_disk.specs.declared.disk.Disk as disks
 use Rattle.turn_history.specs.Prelude.{History, Bounds}
-use Rattle.turn_record.specs.Prelude.{IsSnapshot}
+use Rattle.turn_record.specs.Prelude.{Holds}
 use Rattle.turn_record.specs.declared.version.Version.{Version}
 use Rattle.turn_store.specs.Areas.{Form}
 use Rattle.turn_store.specs.Carrying.{Carries}
@@ -24,10 +24,10 @@ disk_of (Err refused) = refused.disk
 pub record Opening {D A : Type 0} (disk : disks.Ghosts D) (old : D) (limits : Bounds) (carry : Bool) (result : Result (Opened D A) (StoreOpenError D)) : Type 0 where
   -- Device comes with one failed call
   pub uses : Uses disk old (disk_of result) (IsErrAnd result (λ r. r.fault ≡ Device))
-  -- store and table have the limits, the store runs, and the table is one that a snapshot of its version can hold
+  -- store and table have the limits, the store runs, and its version can hold the table
   pub bounds : IfOk result (λ o. (o.store.bounds ≡ limits) × (o.table.bounds ≡ limits))
   pub runs : IfOk result (λ o. o.store.stopped ≡ false)
-  pub snapshot : IfOk result (λ o. IsSnapshot o.store.version limits o.table.moment o.table.contents)
+  pub holds : IfOk result (λ o. Holds o.store.version o.table.contents)
   -- a stop at any moment leaves what it might have left before, or an image that represents the same history
   pub stop : disk.follows_crash_model (disk_of result) → (form : Form) (h : History) (clock : ℕ) → RepresentsAt form h clock (disk.trace old).now.bytes
       → EachImageSince (disk.trace old) (disk.trace (disk_of result)) (λ image. IsImage (disk.trace old).now image ⊎ RepresentsBy form h clock image)

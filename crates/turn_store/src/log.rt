@@ -4,7 +4,7 @@ ghost use Rattle.std.specs.Prelude.{◌≡◌, ◌≢◌, ◌+◌, ◌≤◌, �
 ghost use Rattle.turn_disk.specs.Device.{Reads};
 ghost use Rattle.turn_journal.specs.Area.{end_of, limit_of};
 ghost use Rattle.turn_journal.specs.Scan.{IsAdmitted, IsFound, IsBadFrame};
-ghost use Rattle.turn_record.specs.Records.{IsSnapshot, max_payload};
+ghost use Rattle.turn_record.specs.Records.{Holds, max_payload};
 ghost use Rattle.turn_store.specs.Opened.{LogIsRead};
 ghost use Rattle.turn_store.specs.Refused.{BreaksAt, FaultWith};
 ghost use Rattle.turn_store.specs.Tables.{snapshot_of};
@@ -71,8 +71,7 @@ pub fn replay_log<D: Disk, A: Allocator + Copy>(
     requires bounds { table.old.bounds ≡ limits }
     ensures reads { Reads D.Disk disk.old disk.new (result ≡ Err OpenError.Device) }
     ensures bounds { table.new.bounds ≡ table.old.bounds }
-    ensures snapshot { IsSnapshot version limits table.old.moment table.old.contents
-        → OnOk result (IsSnapshot version limits table.new.moment table.new.contents) }
+    ensures holds { Holds version table.old.contents → OnOk result (Holds version table.new.contents) }
     ensures within { IfOk result (λ r. r.0 < journal.now.size) }
     ensures few { IfOk result (λ r. r.1 ≤ r.0) }
     ensures log { D.follows_crash_model disk.new → IfOk result (λ r.

@@ -3,7 +3,7 @@
 ghost use Rattle.std.specs.Prelude.{◌≡◌, ◌≢◌, ◌+◌, ◌*◌, ◌≤◌, ◌<◌, ◌^◌, ◌↔◌, ℕ, IfOk, IfErr, IfSome, IsNone, IsTrue, IsErr, OnOk, Err};
 ghost use Rattle.turn_disk.specs.Device.{Reads, Uses};
 ghost use Rattle.turn_disk.specs.Disk.{EachImageSince, IsImage, IsSettled};
-ghost use Rattle.turn_record.specs.Records.{IsSnapshot, max_payload, max_snapshot};
+ghost use Rattle.turn_record.specs.Records.{Holds, max_payload, max_snapshot};
 ghost use Rattle.turn_record.specs.declared.version.Version.{Version};
 ghost use Rattle.turn_record.specs.declared.version.Version.TheVariants.{V1};
 ghost use Rattle.turn_history.specs.History.{History};
@@ -77,7 +77,7 @@ fn load_area<D: Disk, A: Allocator + Copy>(
     ensures area { IfOk result (λ l. (l.journal.start ≡ start) × (l.journal.size ≡ size) × (l.journal.max_payload ≡ max_payload l.version limits)) }
     ensures room { IfOk result (λ l. least_area l.version limits ≤ size) }
     ensures bounds { IfOk result (λ l. l.table.bounds ≡ limits) }
-    ensures snapshot { IfOk result (λ l. IsSnapshot l.version limits l.table.moment l.table.contents) }
+    ensures holds { IfOk result (λ l. Holds l.version l.table.contents) }
     ensures few { IfOk result (λ l. l.frames ≤ l.journal.end) }
     ensures read { D.follows_crash_model disk.new → IfOk result (λ l.
         AreaIsRead l.version limits start size head l.journal.end l.frames (snapshot_of l.table) (D.trace disk.old).now.bytes) }
@@ -143,7 +143,7 @@ fn choose<D: Disk, A: Allocator + Copy>(
     ensures room { IfOk result (λ r. least_area r.loaded.version limits ≤ size) }
     ensures places { IfOk result (λ r. (r.loaded.journal.start ≤ second_area size) × (r.other ≤ second_area size)) }
     ensures bounds { IfOk result (λ r. r.loaded.table.bounds ≡ limits) }
-    ensures snapshot { IfOk result (λ r. IsSnapshot r.loaded.version limits r.loaded.table.moment r.loaded.table.contents) }
+    ensures holds { IfOk result (λ r. Holds r.loaded.version r.loaded.table.contents) }
     ensures few { IfOk result (λ r. r.loaded.frames ≤ r.loaded.journal.end) }
     ensures chosen { D.follows_crash_model disk.new → IfOk result (λ r.
         IsChosen r.loaded.version limits size r.loaded.journal.start r.other r.generation r.loaded.journal.end r.loaded.frames r.other_is_below
@@ -199,6 +199,7 @@ fn read_area_size<D: Disk>(disk: &mut D, limits: Limits) -> Result<usize, OpenEr
     ensures why { D.follows_crash_model disk.new → IfErr result (WhyRefused limits (D.trace disk.old).now.bytes) }
 {
     let needed = least_area_of(Version::V1, limits);
+    // For the proof: an area of each version is small enough.
     let _max = least_area(limits);
     let size = disk.size();
     let found = match read_superblock(disk) {
@@ -251,7 +252,7 @@ pub fn load<D: Disk, A: Allocator + Copy>(
     ensures small { OnOk result ((v : Version) → least_area v limits < 2 ^ 32) }
     ensures places { IfOk result (λ r. (r.loaded.journal.start ≤ second_area r.loaded.journal.size) × (r.other ≤ second_area r.loaded.journal.size)) }
     ensures bounds { IfOk result (λ r. r.loaded.table.bounds ≡ limits) }
-    ensures snapshot { IfOk result (λ r. IsSnapshot r.loaded.version limits r.loaded.table.moment r.loaded.table.contents) }
+    ensures holds { IfOk result (λ r. Holds r.loaded.version r.loaded.table.contents) }
     ensures few { IfOk result (λ r. r.loaded.frames ≤ r.loaded.journal.end) }
     ensures superblock { D.follows_crash_model disk.new
         → IfOk result (λ r. HasSuperblock r.loaded.journal.size limits (D.trace disk.old).now.bytes) }

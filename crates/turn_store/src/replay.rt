@@ -3,10 +3,12 @@
 ghost use Rattle.std.specs.Prelude.{◌≡◌, ◌≢◌, ◌+◌, ◌^◌, ◌<◌, ◌≤◌, List, None, OnOk, IfOk, IfErr, length, Err};
 ghost use Rattle.turn_disk.specs.Device.{Reads};
 ghost use Rattle.turn_disk.specs.Disk.{StandsAt};
+ghost use Rattle.std.specs.List.{AllByRecursion};
 ghost use Rattle.turn_history.specs.Act.{event_of};
+ghost use Rattle.turn_history.specs.Fitting.{IsInRange};
 ghost use Rattle.turn_history.specs.History as histories;
 ghost use Rattle.turn_history.specs.Table.{purged};
-ghost use Rattle.turn_record.specs.Records.{IsSnapshot, EncodesPayload};
+ghost use Rattle.turn_record.specs.Records.{Holds, EncodesPayload};
 ghost use Rattle.turn_record.specs.Views.{events_of};
 ghost use Rattle.turn_store.specs.Refused.{ReadsBad, ReadsOn};
 ghost use Rattle.turn_store.specs.Replay.{IsNext, GoOn, GoesOn, after, after_all};
@@ -57,6 +59,7 @@ fn advance<A: Allocator + Copy>(table: &mut Table<A>, moment: Moment)
 
 // Applies an event that may be the next.
 fn apply_next<A: Allocator + Copy>(table: &mut Table<A>, event: Event<A>) -> Result<(), FrameError>
+    requires { IsInRange table.old.bounds (event_of event) }
     ensures bounds { table.new.bounds ≡ table.old.bounds }
     ensures no_device { IfErr result (λ fault. fault ≢ FrameError.Device) }
     ensures ok { OnOk result (IsNext table.old.bounds (snapshot_of table.old) (event_of event)) }
@@ -72,7 +75,7 @@ fn apply_next<A: Allocator + Copy>(table: &mut Table<A>, event: Event<A>) -> Res
         return Err(FrameError::Bad);
     }
     table.reserve_for(event.tuple, &event.act)?;
-    let _ = table.apply(event.moment, event.tuple, event.act);
+    let _ = table.apply(event.tuple, event.act);
     Ok(())
 }
 
@@ -81,6 +84,7 @@ fn apply_all<A: Allocator + Copy>(
     table: &mut Table<A>,
     events: Vec<Event<A>, A>,
 ) -> Result<(), FrameError>
+    requires { AllByRecursion (IsInRange table.old.bounds) (events_of events.items) }
     ensures bounds { table.new.bounds ≡ table.old.bounds }
     ensures no_device { IfErr result (λ fault. fault ≢ FrameError.Device) }
     ensures ok { OnOk result (GoOn table.old.bounds (snapshot_of table.old) (events_of events.items)) }
@@ -182,8 +186,7 @@ pub fn replay_frame<D: Disk, A: Allocator + Copy>(
     ensures reads { Reads D.Disk disk.old disk.new (result ≡ Err FrameError.Device) }
     ensures len { length buffer.new ≡ length buffer.old }
     ensures bounds { table.new.bounds ≡ table.old.bounds }
-    ensures snapshot { IsSnapshot version limits table.old.moment table.old.contents
-        → OnOk result (IsSnapshot version limits table.new.moment table.new.contents) }
+    ensures holds { Holds version table.old.contents → OnOk result (Holds version table.new.contents) }
     ensures goes { D.follows_crash_model disk.new → OnOk result
         (ReadsOn version limits (snapshot_of table.old) at count (snapshot_of table.new) (D.trace disk.old).now.bytes) }
     ensures bad { D.follows_crash_model disk.new → IfErr result (λ fault. fault ≡ FrameError.Bad

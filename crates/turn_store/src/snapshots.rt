@@ -3,7 +3,7 @@
 ghost use Rattle.std.specs.Prelude.{◌≡◌, ◌≢◌, ◌+◌, ◌++◌, ◌≤◌, ◌<◌, ◌^◌, ℕ, List, IfOk, IfErr, OnOk, drop, length, take, IsErr, Err};
 ghost use Rattle.turn_disk.specs.Device.{Reads};
 ghost use Rattle.turn_record.specs.Pieces.{WasFed};
-ghost use Rattle.turn_record.specs.Records.{IsSnapshot};
+ghost use Rattle.turn_record.specs.Records.{Holds};
 ghost use Rattle.turn_record.specs.declared.version.Version.{Version};
 ghost use Rattle.turn_store.specs.Refused.{FaultWith, IsBadSnapshot, IsGoodSnapshot};
 ghost use Rattle.turn_store.specs.Bytes.{AreBytes};
@@ -78,12 +78,13 @@ pub fn read_snapshot<D: Disk, A: Allocator + Copy>(
     requires addressable { at + count < 2 ^ 64 }
     ensures reads { Reads D.Disk disk.old disk.new (result ≡ Err OpenError.Device) }
     ensures bounds { IfOk result (λ table. table.bounds ≡ limits) }
-    ensures snapshot { IfOk result (λ table. IsSnapshot version limits table.moment table.contents) }
+    ensures holds { IfOk result (λ table. Holds version table.contents) }
     ensures read { D.follows_crash_model disk.new → IfOk result (λ table.
         IsGoodSnapshot version limits at count (snapshot_of table) (D.trace disk.old).now.bytes) }
     ensures faults { D.follows_crash_model disk.new → IfErr result (FaultWith (λ place. (place ≡ at)
         × IsBadSnapshot version limits at count (D.trace disk.old).now.bytes)) }
 {
+    // For the proof: the limits are in their ranges.
     let _bounds = limits.bounds();
     let mut reader = SnapshotReader::new(alloc, version, limits);
     let mut done = 0;

@@ -5,6 +5,7 @@ ghost use Rattle.turn_disk.specs.Device.{Uses};
 ghost use Rattle.turn_history.specs.History.{Event, History};
 ghost use Rattle.turn_history.specs.Table as tables;
 ghost use Rattle.turn_record.specs.Bytes as bytes;
+ghost use Rattle.turn_record.specs.Records as records;
 ghost use Rattle.turn_record.specs.Records.{IsSnapshot, max_payload};
 ghost use Rattle.turn_record.specs.declared.version.Version.{Version};
 ghost use Rattle.turn_record.specs.declared.version.Version.TheVariants.{V1, V2};
@@ -57,7 +58,7 @@ fn write_snapshot<D: Disk, A: Allocator + Copy, M: Meanwhile>(
     table: &Table<A>,
     other: &mut M,
 ) -> Result<(), DeviceError>
-    requires snapshot { IsSnapshot next.version table.now.bounds table.now.moment table.now.contents }
+    requires holds { records.Holds next.version table.now.contents }
     requires value { next.size ≡ length (bytes.snapshot next.version table.now.moment table.now.contents) }
     requires small { next.size < 2 ^ 32 }
     requires place { gate + (head_size + gate_size) + next.size ≤ D.capacity disk.old }
@@ -272,13 +273,15 @@ impl<D: Disk, A: Allocator + Copy> Store<D, A> {
     fn next_size(&self, version: Version, table: &Table<A>) -> usize
         requires limits { table.now.bounds ≡ self.now.bounds }
         requires area { least_area version self.now.bounds ≤ self.now.area.size }
-        requires snapshot { IsSnapshot version table.now.bounds table.now.moment table.now.contents }
+        requires holds { records.Holds version table.now.contents }
         ensures value { result ≡ length (bytes.snapshot version table.now.moment table.now.contents) }
+        ensures snapshot { IsSnapshot version table.now.bounds table.now.moment table.now.contents }
         ensures small { result < 2 ^ 32 }
         ensures room { head_size + result < self.now.area.size }
         ensures within { self.now.other + (head_size + gate_size) + result ≤ D.capacity self.now.disk }
         ensures addressable { D.capacity self.now.disk < 2 ^ 64 }
     {
+        // For the proof: the areas are within the disk.
         let _area = self.journal.size();
         snapshot_size(version, table)
     }
@@ -300,7 +303,7 @@ impl<D: Disk, A: Allocator + Copy> Store<D, A> {
         requires runs { self.old.stopped ≡ false }
         requires generation { self.old.generation < 2 ^ 64 - 1 }
         requires limits { table.now.bounds ≡ self.old.bounds }
-        requires snapshot { IsSnapshot self.old.version table.now.bounds table.now.moment table.now.contents }
+        requires holds { records.Holds self.old.version table.now.contents }
 
         ensures uses { Uses D.Disk self.old.disk self.new.disk (IsErr result) }
         ensures ok { OnOk result (self.new
@@ -361,7 +364,7 @@ impl<D: Disk, A: Allocator + Copy> Store<D, A> {
     ) -> Result<WrittenAs, StoreError>
         requires short { length payload.now ≤ max_payload self.old.version self.old.bounds }
         requires limits { table.now.bounds ≡ self.old.bounds }
-        requires snapshot { IsSnapshot self.old.version table.now.bounds table.now.moment table.now.contents }
+        requires holds { records.Holds self.old.version table.now.contents }
 
         ensures framed { result ≡ Ok WrittenAs.Frame → self.new ≡ framed self.old (length payload.now) self.new.disk }
         ensures compacted { result ≡ Ok WrittenAs.Snapshot → self.new
@@ -427,7 +430,7 @@ impl<D: Disk, A: Allocator + Copy> Store<D, A> {
         other: &mut M,
     ) -> Result<(), StoreError>
         requires limits { table.now.bounds ≡ self.old.bounds }
-        requires snapshot { IsSnapshot self.old.version table.now.bounds table.now.moment table.now.contents }
+        requires holds { records.Holds self.old.version table.now.contents }
 
         ensures compacted { OnOk result (self.new
             ≡ swapped self.old (length (bytes.snapshot self.old.version table.now.moment table.now.contents)) self.new.disk) }
@@ -526,7 +529,6 @@ impl<D: Disk, A: Allocator + Copy> Store<D, A> {
         requires runs { self.old.stopped ≡ false }
         requires generation { self.old.generation < 2 ^ 64 - 1 }
         requires area { least_area V2 self.old.bounds ≤ self.old.area.size }
-        requires snapshot { IsSnapshot V2 table.now.bounds table.now.moment table.now.contents }
         requires value { size ≡ length (bytes.snapshot V2 table.now.moment table.now.contents) }
         requires small { size < 2 ^ 32 }
         requires room { head_size + size < self.old.area.size }
@@ -585,7 +587,6 @@ fn carry_table<D: Disk, A: Allocator + Copy>(
     opened: Opened<D, A>,
 ) -> Result<Opened<D, A>, StoreOpenError<D>>
     requires limits { opened.table.bounds ≡ opened.store.bounds }
-    requires snapshot { IsSnapshot V2 opened.table.bounds opened.table.moment opened.table.contents }
     requires runs { opened.store.stopped ≡ false }
     requires generation { opened.store.generation < 2 ^ 64 - 1 }
     requires area { least_area V2 opened.store.bounds ≤ opened.store.area.size }
@@ -593,6 +594,7 @@ fn carry_table<D: Disk, A: Allocator + Copy>(
     ensures uses { Uses D.Disk opened.store.disk (disk_of result) (IsErrAnd result (λ r. r.fault ≡ OpenError.Device)) }
     ensures plain { IfErr result (λ r. IsPlain r.fault) }
     ensures untouched { IfErr result (λ r. r.fault ≢ OpenError.Device → r.disk ≡ opened.store.disk) }
+    ensures snapshot { IsSnapshot V2 opened.table.bounds opened.table.moment opened.table.contents }
     ensures table { IfOk result (λ o. o.table ≡ opened.table) }
     ensures store { IfOk result (λ o. o.store ≡ carried opened.store
         (carried_area opened.store (length (bytes.snapshot V2 opened.table.moment opened.table.contents))) o.store.disk) }
@@ -634,7 +636,7 @@ impl<D: Disk, A: Allocator + Copy> Opened<D, A> {
     /// which then is active, if the areas are large enough and the store isn't worn. A refusal returns the disk, which can be opened again.
     pub fn carry_over(self, alloc: A) -> Result<Opened<D, A>, StoreOpenError<D>>
         requires limits { self.table.bounds ≡ self.store.bounds }
-        requires snapshot { IsSnapshot self.store.version self.store.bounds self.table.moment self.table.contents }
+        requires holds { records.Holds self.store.version self.table.contents }
         requires runs { self.store.stopped ≡ false }
 
         // Of an opening that leaves the content it makes one that carries over.

@@ -76,9 +76,9 @@ module _ (b : Bounds) (t : ℕ) (m : Holdings) {q : Reservations} (r : Option Ro
   without_entry-is n f is =
       state_after n q (λ c. record c { entries = fin.remove c.entries f }) (λ j. record { entries = (ap entries_of is ∙ entries_of-remove m f) j; reserved = q })
 
-  pub with_allocation-is : (moment : ℕ) (n : Holdings) (f : FiveTuple) (h : Held) → n ≡ fin.insert m f h → (p : Reservations) → p ≡ with_reservation moment h.entry.port h.entry.token (fin.remove q h.entry.port) → state_of b t n p None ≡ with_allocation moment old f h.entry
-  with_allocation-is moment n f h is p reserved =
-      state_after n p (λ c. record { entries = fin.insert c.entries f h.entry; reserved = with_reservation moment h.entry.port h.entry.token (fin.remove c.reserved h.entry.port) })
+  pub with_allocation-is : (n : Holdings) (f : FiveTuple) (h : Held) → n ≡ fin.insert m f h → (p : Reservations) → p ≡ with_reservation old.moment h.entry.port h.entry.token (fin.remove q h.entry.port) → state_of b t n p None ≡ with_allocation old f h.entry
+  with_allocation-is n f h is p reserved =
+      state_after n p (λ c. record { entries = fin.insert c.entries f h.entry; reserved = with_reservation old.moment h.entry.port h.entry.token (fin.remove c.reserved h.entry.port) })
       (λ j. record { entries = (ap entries_of is ∙ entries_of-insert m f h) j; reserved = reserved j })
 
   pub changed-is : (n : Holdings) (f : FiveTuple) (change : Entry → Entry) → Changes f change m n → IsSomeAnd (fin.get old.contents.entries f) (λ e. state_of b t n q None ≡ with_entry old f (change e))

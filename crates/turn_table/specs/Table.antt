@@ -45,10 +45,10 @@ abbrev pub with_reserved : State → ℕ → Reservation → State
 with_reserved s q r = record s { contents = record s.contents { reserved = fin.insert s.contents.reserved q r }; room = None }
 
 -- the table with the entry of a new allocation, which ends the reservation of its port and makes one of the next if it has a token
-abbrev pub with_allocation : ℕ → State → FiveTuple → Entry → State
-with_allocation t s f e =
+abbrev pub with_allocation : State → FiveTuple → Entry → State
+with_allocation s f e =
     record s {
-      contents = record { entries = fin.insert s.contents.entries f e; reserved = with_reservation t e.port e.token (fin.remove s.contents.reserved e.port) };
+      contents = record { entries = fin.insert s.contents.entries f e; reserved = with_reservation s.moment e.port e.token (fin.remove s.contents.reserved e.port) };
       room = None;
     }
 

@@ -14,4 +14,4 @@ mod user_order;
 
 pub use entry::{Entry, EntryParts};
 pub use laws::{above_the_last, above_the_last_reserved};
-pub use table::{Entries, Table, reserved_ports_are_apart};
+pub use table::{Entries, Table};

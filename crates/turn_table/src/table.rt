@@ -11,13 +11,14 @@ ghost use Rattle.turn_table.specs.Order.{room_of};
 ghost use Rattle.turn_table.specs.State.{State};
 ghost use Rattle.turn_table.specs.Table.{Agrees, AgreesOncePurged, BecomesFree, IsAbove, IsAboveReserved, RemovesExpired, RemovesReservation, freed_by, port_of_token, room_for, with_allocation, with_entry, with_reserved, without_entry};
 ghost use Rattle.turn_history.specs.Act.{act_of};
-ghost use Rattle.turn_history.specs.Fitting.{Fits, FitsReservation, Follows, IsUnreserved, PortIsFree, has_port, is_taken};
+ghost use Rattle.turn_history.specs.Fitting.{Fits, FitsReservation, Follows, IsInRange, IsReservationInRange, IsUnreserved, PortIsFree, has_port, is_taken};
 ghost use Rattle.turn_history.specs.declared.reservation.Reservation.{Reservation};
 ghost use Rattle.turn_types.specs.declared.message.Token.{Token};
 ghost use Rattle.turn_history.specs.History.{History, Event, Permits, Binds};
-ghost use Rattle.turn_history.specs.Laws.{HasChannel, HasPermission, ReservedApart};
+ghost use Rattle.turn_history.specs.Laws.{HasChannel, HasPermission, IsEntryAt, IsTableAt};
 ghost use Rattle.turn_history.specs.Table.{table, applied, purged, renewed, permitting, binding, no_contents};
 ghost use Rattle.turn_history.specs.Table as tables;
+ghost use Rattle.turn_types.specs.Limits.{AreInRange};
 ghost use Rattle.turn_types.specs.declared.address.FiveTuple.{FiveTuple};
 
 use crate::allocations::Allocations;
@@ -58,7 +59,7 @@ impl<A: Allocator> Model for Table<A> {
 
     ghost view = { λ t. state_of t.limits t.moment t.allocations.held (map_in nat_cmp t.reserved) (option_map room_of t.room) };
 
-    ghost invariant = { λ t. IsReady t.quiet_until t.allocations (map_in nat_cmp t.reserved) t.reserved.1 (option_map room_of t.room) };
+    ghost invariant = { λ t. IsReady t.limits t.moment t.quiet_until t.allocations (map_in nat_cmp t.reserved) t.reserved.1 (option_map room_of t.room) };
 }
 
 // By hand: a derived drop is one step for each field in the proof of each caller.
@@ -130,10 +131,12 @@ impl<A: Allocator + Copy> Table<A> {
     pub fn new(alloc: A, limits: Limits, moment: Moment) -> Table<A>
         ensures { result ≡ record { bounds = limits; moment = moment; contents = no_contents; room = None } }
     {
+        // For the proof: limits are in their ranges.
+        let _bounds = limits.bounds();
         Table {
             limits,
             moment,
-            quiet_until: u64::MAX,
+            quiet_until: moment.seconds(),
             allocations: Allocations::new(alloc),
             reserved: SortedMap::new(alloc),
             room: None,
@@ -142,14 +145,16 @@ impl<A: Allocator + Copy> Table<A> {
 
     /// The most that the table may hold.
     pub fn limits(&self) -> Limits
-        ensures { result ≡ self.now.bounds }
+        ensures value { result ≡ self.now.bounds }
+        ensures range { AreInRange self.now.bounds }
     {
         self.limits
     }
 
     /// The moment at which the entries are those that live.
     pub fn moment(&self) -> Moment
-        ensures { result ≡ self.now.moment }
+        ensures value { result ≡ self.now.moment }
+        ensures at { IsTableAt self.now.bounds self.now.moment self.now.contents }
     {
         self.moment
     }
@@ -379,6 +384,7 @@ impl<A: Allocator + Copy> Table<A> {
     /// entries. After an `Err` the limits, the moment and the entries are as before. There is room for no act
     /// afterwards.
     pub fn restore(&mut self, tuple: FiveTuple, entry: Entry<A>) -> Result<(), AllocError>
+        requires entry { IsEntryAt self.old.bounds self.old.moment tuple entry.entry }
         requires above { IsAbove self.old.contents tuple }
         requires free { PortIsFree self.old.contents entry.entry.port }
         requires unreserved { IsUnreserved self.old.contents entry.entry.port }
@@ -396,8 +402,10 @@ impl<A: Allocator + Copy> Table<A> {
     fn insert_entry(&mut self, tuple: FiveTuple, entry: Entry<A>)
         requires room { IsSomeAnd self.old.room (λ r. r.tuple ≡ tuple) }
         requires absent { fin.get self.old.contents.entries tuple ≡ None }
+        requires entry { IsEntryAt self.old.bounds self.old.moment tuple entry.entry }
         requires free { PortIsFree self.old.contents entry.entry.port }
         requires unreserved { IsUnreserved self.old.contents entry.entry.port }
+        requires few { fin.len self.old.contents.entries < self.old.bounds.allocations }
         ensures { self.new ≡ with_entry self.old tuple entry.entry }
     {
         self.room = None;
@@ -413,6 +421,7 @@ impl<A: Allocator + Copy> Table<A> {
         port: u16,
         reservation: Reservation,
     ) -> Result<(), AllocError>
+        requires range { IsReservationInRange self.old.moment port reservation }
         requires above { IsAboveReserved self.old.contents port }
         requires free { PortIsFree self.old.contents port }
         requires few { fin.len self.old.contents.reserved < self.old.bounds.allocations }
@@ -429,12 +438,13 @@ impl<A: Allocator + Copy> Table<A> {
 
     /// Adds the entry of a new allocation. It ends the reservation of its port, and makes one of the next port if it has
     /// a token.
-    fn allocate(&mut self, tuple: FiveTuple, entry: Entry<A>, moment: Moment)
+    fn allocate(&mut self, tuple: FiveTuple, entry: Entry<A>)
         requires room { IsSomeAnd self.old.room (λ r. (r.tuple ≡ tuple) × IfSome entry.entry.token (λ _. 1 ≤ r.ports)) }
         requires absent { fin.get self.old.contents.entries tuple ≡ None }
         requires free { PortIsFree self.old.contents entry.entry.port }
         requires next { FitsReservation self.old.bounds self.old.contents entry.entry.port entry.entry.token }
-        ensures { self.new ≡ with_allocation moment self.old tuple entry.entry }
+        requires at { IsTableAt self.old.bounds self.old.moment (with_allocation self.old tuple entry.entry).contents }
+        ensures { self.new ≡ with_allocation self.old tuple entry.entry }
     {
         let (port, token) = (entry.port(), entry.token());
         self.room = None;
@@ -442,7 +452,7 @@ impl<A: Allocator + Copy> Table<A> {
         self.allocations.insert(tuple, entry);
         self.reserved.remove(port);
         if let Some(token) = token {
-            let expiry = moment.seconds() + RESERVATION_LIFETIME;
+            let expiry = self.moment.seconds() + RESERVATION_LIFETIME;
             self.quiet_until = self.quiet_until.min(expiry);
             self.reserved.put(port + 1, Reservation { token, expiry });
         }
@@ -468,7 +478,7 @@ impl<A: Allocator + Copy> Table<A> {
 
     /// Sets the expiry time of an entry, in seconds.
     fn renew(&mut self, tuple: FiveTuple, expiry: u64)
-        requires { IsSome (fin.get self.old.contents.entries tuple) }
+        requires { IsSomeAnd (fin.get self.old.contents.entries tuple) (λ e. IsTableAt self.old.bounds self.old.moment (with_entry self.old tuple (renewed expiry e)).contents) }
         ensures { IsSomeAnd (fin.get self.old.contents.entries tuple) (λ e. self.new ≡ with_entry self.old tuple (renewed expiry e)) }
     {
         self.room = None;
@@ -478,7 +488,7 @@ impl<A: Allocator + Copy> Table<A> {
 
     /// Installs permissions in an entry.
     fn permit(&mut self, tuple: FiveTuple, addresses: &[u32], expiry: u64)
-        requires there { IsSome (fin.get self.old.contents.entries tuple) }
+        requires at { IsSomeAnd (fin.get self.old.contents.entries tuple) (λ e. IsTableAt self.old.bounds self.old.moment (with_entry self.old tuple (permitting expiry addresses.now e)).contents) }
         requires room { self.old.room ≡ Some (room_for tuple (Permits addresses.now)) }
         ensures { IsSomeAnd (fin.get self.old.contents.entries tuple) (λ e. self.new ≡ with_entry self.old tuple (permitting expiry addresses.now e)) }
     {
@@ -488,30 +498,32 @@ impl<A: Allocator + Copy> Table<A> {
     }
 
     /// Binds a channel of an entry.
-    fn bind(&mut self, tuple: FiveTuple, number: ChannelNumber, peer: Endpoint, moment: Moment)
-        requires there { IsSome (fin.get self.old.contents.entries tuple) }
+    fn bind(&mut self, tuple: FiveTuple, number: ChannelNumber, peer: Endpoint)
+        requires at { IsSomeAnd (fin.get self.old.contents.entries tuple) (λ e. IsTableAt self.old.bounds self.old.moment (with_entry self.old tuple (binding self.old.moment number peer e)).contents) }
         requires room { self.old.room ≡ Some (room_for tuple (Binds number peer)) }
-        ensures { IsSomeAnd (fin.get self.old.contents.entries tuple) (λ e. self.new ≡ with_entry self.old tuple (binding moment number peer e)) }
+        ensures { IsSomeAnd (fin.get self.old.contents.entries tuple) (λ e. self.new ≡ with_entry self.old tuple (binding self.old.moment number peer e)) }
     {
         self.room = None;
-        self.quiet_until = self.quiet_until.min(moment.seconds() + PERMISSION_LIFETIME);
-        self.allocations.bind(tuple, number, peer, moment.seconds());
+        let seconds = self.moment.seconds();
+        self.quiet_until = self.quiet_until.min(seconds + PERMISSION_LIFETIME);
+        self.allocations.bind(tuple, number, peer, seconds);
     }
 
     /// Applies an act of a five-tuple at the table's moment, in the room that was made for it. Returns the port that
     /// became free, which a Renew of 0 has.
-    pub fn apply(&mut self, moment: Moment, tuple: FiveTuple, act: Act<A>) -> Option<u16>
-        requires purged { self.old.moment ≡ moment }
+    pub fn apply(&mut self, tuple: FiveTuple, act: Act<A>) -> Option<u16>
         requires reserved { self.old.room ≡ Some (room_for tuple (act_of act)) }
         requires fits { Fits self.old.bounds self.old.contents tuple (act_of act) }
-        ensures state { self.new ≡ record self.old { contents = applied moment tuple (act_of act) self.old.contents; room = None } }
+        requires range { IsInRange self.old.bounds (record { moment = self.old.moment; tuple = tuple; act = act_of act }) }
+        ensures state { self.new ≡ record self.old { contents = applied self.old.moment tuple (act_of act) self.old.contents; room = None } }
         ensures freed { result ≡ freed_by (act_of act) (fin.get self.old.contents.entries tuple) }
         ensures free { IfSome result (BecomesFree self.old.contents self.new.contents) }
         ensures agrees { (h : History) →
-            let e : Event = record { moment = moment; tuple = tuple; act = act_of act } in
+            let e : Event = record { moment = self.old.moment; tuple = tuple; act = act_of act } in
             Follows self.old.bounds h e → Agrees self.old h → Agrees self.new (h ++ e ∷ []) }
     {
         let alloc = self.allocations.allocator();
+        let moment = self.moment;
         match act {
             Act::Alloc {
                 user,
@@ -520,7 +532,7 @@ impl<A: Allocator + Copy> Table<A> {
                 tx,
             } => {
                 let entry = Entry::allocated(alloc, moment, user, port, granted, tx, None);
-                self.allocate(tuple, entry, moment);
+                self.allocate(tuple, entry);
                 None
             }
             Act::AllocEven {
@@ -531,7 +543,7 @@ impl<A: Allocator + Copy> Table<A> {
                 token,
             } => {
                 let entry = Entry::allocated(alloc, moment, user, port, granted, tx, Some(token));
-                self.allocate(tuple, entry, moment);
+                self.allocate(tuple, entry);
                 None
             }
             Act::Renew { granted } => {
@@ -550,7 +562,7 @@ impl<A: Allocator + Copy> Table<A> {
                 None
             }
             Act::Bind { number, peer } => {
-                self.bind(tuple, number, peer, moment);
+                self.bind(tuple, number, peer);
                 None
             }
         }
@@ -582,7 +594,8 @@ impl<A: Allocator + Copy> Table<A> {
 
     /// The same of reservations, where no entry has expired.
     fn purge_reserved(&mut self, moment: Moment) -> Option<u16>
-        requires { (f : FiveTuple) (e : tables.Entry) → fin.get self.old.contents.entries f ≡ Some e → moment < e.expiry }
+        requires late { self.old.moment ≤ moment }
+        requires entries { (f : FiveTuple) (e : tables.Entry) → fin.get self.old.contents.entries f ≡ Some e → moment < e.expiry }
         ensures one { IfSome result (RemovesReservation moment self.old.contents self.new.contents) }
         ensures others { OnSome result (self.new ≡ record self.old { contents = self.new.contents; room = None }) }
         ensures all { IfNone result (self.new ≡ record self.old { moment = moment; contents = purged moment self.old.contents; room = None }) }
@@ -628,6 +641,7 @@ impl<A: Allocator + Copy> Table<A> {
 
     /// Moves a table without expired entries and reservations to a moment.
     fn settle(&mut self, moment: Moment)
+        requires late { self.old.moment ≤ moment }
         requires reserved { (port : ℕ) (r : Reservation) → fin.get self.old.contents.reserved port ≡ Some r → moment < r.expiry }
         requires entries { (f : FiveTuple) (e : tables.Entry) → fin.get self.old.contents.entries f ≡ Some e → moment < e.expiry }
         ensures { self.new ≡ record self.old { moment = moment; contents = purged moment self.old.contents; room = None } }
@@ -670,12 +684,4 @@ impl<A: Allocator + Copy> PortSet for Table<A> {
             from = port + 1;
         }
     }
-}
-
-/// No entry has a reserved port, and reserved ports are ports, whichever history a table agrees with.
-pub fn reserved_ports_are_apart<A: Allocator + Copy>(table: &Table<A>)
-    ensures apart { ReservedApart table.now.contents }
-    ensures ports { (port : ℕ) → IsSome (fin.get table.now.contents.reserved port) → port < 2 ^ 16 }
-{
-    let _ports = table.reserved.items();
 }

@@ -13,7 +13,7 @@ pub struct Kept {
 }
 
 impl Model for Kept {
-    ghost use Rattle.turn_record.specs.Records.{IsSnapshot};
+    ghost use Rattle.turn_record.specs.Records.{Holds};
     ghost use Rattle.turn_record.specs.declared.version.Version.TheVariants.{V1};
     ghost use Rattle.turn_table.specs.State.{State, state_code};
 
@@ -23,7 +23,7 @@ impl Model for Kept {
 
     ghost view = { λ k. k.table };
 
-    ghost invariant = { λ k. IsSnapshot V1 k.table.bounds k.table.moment k.table.contents };
+    ghost invariant = { λ k. Holds V1 k.table.contents };
 }
 
 impl Kept {

@@ -1,5 +1,8 @@
 //! The servers whose calls are measured.
 
+ghost use Rattle.turn_history.specs.Act.{act_of};
+ghost use Rattle.turn_history.specs.Fitting.{IsActInRange};
+
 use super::datagrams::{CHANNEL, CLIENT, PAIR, PEER, SECRET, client_at, moment, request};
 use crate::requests::{HOUR, Kind, LOWEST, UDP, of_client};
 use std::alloc::{AllocError, Global};
@@ -13,7 +16,7 @@ use turn_requests::Attribute;
 use turn_step::{Machine, Pairs};
 use turn_store::format;
 use turn_table::Table;
-use turn_types::{Endpoint, FiveTuple, Limits, Moment, ServerConfig, Settings};
+use turn_types::{Endpoint, FiveTuple, Limits, MAX_LIFETIME, Moment, ServerConfig, Settings};
 
 /// A server over a store in memory.
 pub type Engine = Server<MemoryDisk, Users, PortRange>;
@@ -153,25 +156,32 @@ pub fn make_rules(alloc: Global, allocations: u16, pairs: u16) -> Result<Rules, 
 }
 
 /// Applies an act that fits.
-pub fn apply(table: &mut Table, five_tuple: FiveTuple, act: Act) -> Result<(), AllocError> {
-    let moment = table.moment();
+pub fn apply(table: &mut Table, five_tuple: FiveTuple, act: Act) -> Result<(), AllocError>
+    requires { IsActInRange table.old.bounds (act_of act) }
+{
     if !table.fits(five_tuple, &act) {
         return Err(AllocError);
     }
     table.reserve_for(five_tuple, &act)?;
-    table.apply(moment, five_tuple, act);
+    // For the proof: the table's moment is in range.
+    let _ = table.moment();
+    table.apply(five_tuple, act);
     Ok(())
 }
 
-/// A table of so many allocations, none of which expires while it is purged.
+/// A table of so many allocations, each of which lives for an hour.
 pub fn make_table(alloc: Global, allocations: u16) -> Result<Table, AllocError> {
     let mut table = Table::new(alloc, Limits::MAX, moment()?);
+    let name = ALICE.name();
     for place in 0..allocations.min(1024) {
+        if name.is_empty() || usize::from(table.limits().name_bytes()) < name.len() {
+            return Err(AllocError);
+        }
         let five_tuple = five_tuple(client_at(place));
         let act = Act::Alloc {
-            user: UserName::from(Vec::from_slice(alloc, ALICE.name())?),
+            user: UserName::from(Vec::from_slice(alloc, name)?),
             port: PORT + place,
-            granted: u32::MAX,
+            granted: MAX_LIFETIME,
             tx: ID,
         };
         apply(&mut table, five_tuple, act)?;

@@ -22,7 +22,7 @@ pub struct Stored {
 
 impl Model for Stored {
     ghost use Rattle.std.specs.Prelude.{◌≡◌};
-    ghost use Rattle.turn_record.specs.Records.{IsSnapshot};
+    ghost use Rattle.turn_record.specs.Records.{Holds};
     ghost use Rattle.turn_table.specs.State.{State, state_code};
 
     ghost Value = { State };
@@ -32,7 +32,7 @@ impl Model for Stored {
     ghost view = { λ s. s.table };
 
     ghost invariant = { λ s. (s.table.bounds ≡ s.store.bounds)
-        × IsSnapshot s.store.version s.table.bounds s.table.moment s.table.contents };
+        × Holds s.store.version s.table.contents };
 }
 
 impl Stored {

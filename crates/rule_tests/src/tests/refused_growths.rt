@@ -43,16 +43,15 @@ fn decided(
     request: &ClientMessage<'_>,
     port: Option<u16>,
 ) -> Option<(bool, bool)> {
-    let moment = table.moment();
-    let assess = || assess(table, config, request, moment, true);
-    match decide(refusing, table, config, request, moment, assess(), port) {
+    let assess = || assess(table, config, request, true);
+    match decide(refusing, table, config, request, assess(), port) {
         Ok(decided) => {
             assert!(rt; refusing.left() == 0);
             Some(found(rt, &decided))
         }
         Err(_) => {
             assert!(rt; refusing.has_refused());
-            let again = decide(refusing, table, config, request, moment, assess(), port);
+            let again = decide(refusing, table, config, request, assess(), port);
             assert!(rt; again.expect(rt, "memory").reply.is_some());
             None
         }
@@ -233,12 +232,11 @@ fn write_at_once(
     table: &Table<&FailingAlloc<Global>>,
     wanted: &[u8],
 ) {
-    let moment = table.moment();
     refusing.arm(0);
-    let Some(out) = from_peer(table, 50000, PEER_ENDPOINT, b"hello", moment) else {
+    let Some(out) = from_peer(table, 50000, PEER_ENDPOINT, b"hello") else {
         panic!(rt; "no datagram");
     };
-    let sent = from_client(table, five_tuple(FIRST), SEND, moment).expect(rt, "a payload");
+    let sent = from_client(table, five_tuple(FIRST), SEND).expect(rt, "a payload");
     assert!(rt; refusing.left() == 0 && sent.bytes == b"hello".as_slice());
     assert!(rt; written(rt, refusing, &out).is_none() && refusing.has_refused());
     refusing.arm(1);

@@ -11,10 +11,9 @@ returns-in-V1-clause-size g c = rw c.in-V1.is refl
 pub returns-in-V2-clause-size : goal.returns-in-V2-clause-size
 returns-in-V2-clause-size g c =
     let s = c.args.table.now in
-    rw c.in-V2.is (omega (arith, size_reserved s.contents s.moment c.requires.reserved, ap length c.reserved_ports.ensures, len-entries s.contents.reserved))
+    rw c.in-V2.is (omega (arith, size_reserved s.contents s.moment c.moment-moment.ensures.at.reserved, ap length c.reserved_ports.ensures, len-entries s.contents.reserved))
 
 pub returns-in-V2-clause-small : goal.returns-in-V2-clause-small
 returns-in-V2-clause-small g c =
     let s = c.args.table.now in
-    let range = rw (c.bounds-bounds.ensures.value, c.limits.ensures) at c.bounds-bounds.ensures.range in
-    omega (arith, ap length c.reserved_ports.ensures, len-entries s.contents.reserved, c.requires.within.reserved, range.allocations.1)
+    omega (arith, ap length c.reserved_ports.ensures, len-entries s.contents.reserved, c.moment-moment.ensures.at.within.reserved, c.limits-limits.ensures.range.allocations.1)

@@ -1,5 +1,4 @@
-use Rattle.std.proofs.Common.{ap, subst, ◌∙◌, option_map}
-use Rattle.turn_history.specs.Table as tables
+use Rattle.std.proofs.Common.{subst, option_map}
 use Rattle.turn_relay.specs.FromClient.{SendsToPeer}
 use Rattle.turn_relay.specs.Views.{peer_data}
 use Rattle.turn_relay.proofs.Datagrams.{of_channel_data}
@@ -12,4 +11,4 @@ returns-clause-sends g c = λ bytes found.
 pub returns-clause-history : goal.returns-clause-history
 returns-clause-history g c = λ h bytes agrees found.
     subst (λ x. SendsToPeer x c.args.five_tuple bytes (option_map peer_data c.by_channel_data.result))
-    (agrees ∙ ap (tables.table h) c.requires.purged) (returns-clause-sends g c bytes found)
+    agrees (returns-clause-sends g c bytes found)

@@ -1,4 +1,4 @@
-use Rattle.std.proofs.Common.{None, ap, subst, ◌∙◌, option_map}
+use Rattle.std.proofs.Common.{None, subst, option_map}
 use Rattle.turn_history.specs.Table as tables
 use Rattle.turn_relay.specs.FromClient.{SendsToPeer}
 use Rattle.turn_relay.specs.Views.{peer_data}
@@ -17,7 +17,7 @@ returns-in-Ok-clause-sends g c =
 
 pub returns-in-Ok-clause-history : goal.returns-in-Ok-clause-history
 returns-in-Ok-clause-history g c h agrees =
-    subst (λ x. SendsToPeer (tables.table h c.args.moment) c.args.five_tuple x (option_map peer_data c.from_message.result)) c.in-Ok.ensures.found.0 (c.from_message.ensures.history h agrees)
+    subst (λ x. SendsToPeer (tables.table h c.args.table.now.moment) c.args.five_tuple x (option_map peer_data c.from_message.result)) c.in-Ok.ensures.found.0 (c.from_message.ensures.history h agrees)
 
 pub returns-in-Err-clause-sends : goal.returns-in-Err-clause-sends
 returns-in-Err-clause-sends g c =
@@ -27,4 +27,4 @@ returns-in-Err-clause-sends g c =
 
 pub returns-in-Err-clause-history : goal.returns-in-Err-clause-history
 returns-in-Err-clause-history g c h agrees =
-    subst (λ x. SendsToPeer x c.args.five_tuple c.args.datagram.now None) (agrees ∙ ap (tables.table h) c.requires.purged) (returns-in-Err-clause-sends g c)
+    subst (λ x. SendsToPeer x c.args.five_tuple c.args.datagram.now None) agrees (returns-in-Err-clause-sends g c)

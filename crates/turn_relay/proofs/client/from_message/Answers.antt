@@ -1,5 +1,4 @@
-use Rattle.std.proofs.Common.{ap, subst, ◌∙◌, option_map}
-use Rattle.turn_history.specs.Table as tables
+use Rattle.std.proofs.Common.{subst, option_map}
 use Rattle.turn_relay.specs.FromClient.{SendsToPeer}
 use Rattle.turn_relay.specs.Views.{peer_data}
 use Rattle.turn_relay.proofs.Datagrams.{of_message}
@@ -12,4 +11,4 @@ returns-clause-sends g c =
 pub returns-clause-history : goal.returns-clause-history
 returns-clause-history g c = λ h agrees.
     subst (λ x. SendsToPeer x c.args.five_tuple c.args.message.now.bytes (option_map peer_data c.by_message.result))
-    (agrees ∙ ap (tables.table h) c.requires.purged) (returns-clause-sends g c)
+    agrees (returns-clause-sends g c)

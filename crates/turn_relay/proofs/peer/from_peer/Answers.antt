@@ -1,5 +1,4 @@
-use Rattle.std.proofs.Common.{Some, None, refl, ap, subst, ◌∙◌}
-use Rattle.turn_history.specs.Table as tables
+use Rattle.std.proofs.Common.{Some, None, refl, subst}
 use Rattle.turn_relay.specs.FromPeer.{SendsToClient}
 use Rattle.turn_relay.proofs.Holders.{channel_for, not_too_long, too_long}
 use Rattle.turn_relay.proofs.peer.from_peer.Goals as goal
@@ -10,7 +9,7 @@ returns-then-not-is_permitted-clause-sends g c =
 
 pub returns-then-not-is_permitted-clause-history : goal.returns-then-not-is_permitted-clause-history
 returns-then-not-is_permitted-clause-history g c h agrees =
-    subst (λ x. SendsToClient x c.args.port c.args.from c.args.datagram.now None) (agrees ∙ ap (tables.table h) c.requires.purged)
+    subst (λ x. SendsToClient x c.args.port c.args.from c.args.datagram.now None) agrees
     (returns-then-not-is_permitted-clause-sends g c)
 
 pub returns-then-not-fits_client-clause-sends : goal.returns-then-not-fits_client-clause-sends
@@ -21,7 +20,7 @@ returns-then-not-fits_client-clause-sends g c =
 
 pub returns-then-not-fits_client-clause-history : goal.returns-then-not-fits_client-clause-history
 returns-then-not-fits_client-clause-history g c h agrees =
-    subst (λ x. SendsToClient x c.args.port c.args.from c.args.datagram.now None) (agrees ∙ ap (tables.table h) c.requires.purged)
+    subst (λ x. SendsToClient x c.args.port c.args.from c.args.datagram.now None) agrees
     (returns-then-not-fits_client-clause-sends g c)
 
 pub returns-clause-sends : goal.returns-clause-sends
@@ -33,5 +32,5 @@ returns-clause-sends g c =
 pub returns-clause-history : goal.returns-clause-history
 returns-clause-history g c h agrees =
     subst (λ x. SendsToClient x c.args.port c.args.from c.args.datagram.now
-    (Some (record { five_tuple = c.in_ok-five_tuple.five_tuple; channel = c.channel_to-channel.result; peer = c.args.from; payload = c.args.datagram.now }))) (agrees ∙ ap (tables.table h) c.requires.purged)
+    (Some (record { five_tuple = c.in_ok-five_tuple.five_tuple; channel = c.channel_to-channel.result; peer = c.args.from; payload = c.args.datagram.now }))) agrees
     (returns-clause-sends g c)

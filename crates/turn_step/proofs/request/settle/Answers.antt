@@ -1,4 +1,4 @@
-use Rattle.std.proofs.Common.{◌≡◌, ℕ, ◌||◌, arith, IfSome, Option, Some, None, option_map, refl, subst, sym, ap, ◌∙◌}
+use Rattle.std.proofs.Common.{◌≡◌, ℕ, ◌||◌, IfSome, Option, Some, None, option_map, refl, subst, sym, ap, ◌∙◌}
 use Rattle.std.proofs.lemmas.Option.{same_Some}
 use Rattle.turn_history.specs.Prelude.{act_of, FiveTuple, IsTuple, is_taken, ReservesNone, PlainAct}
 use Rattle.turn_rules.specs.Prelude.{Decided, decided_of, verdict_in, is_picked, takes_if_any}
@@ -41,7 +41,7 @@ returns-clause-ready g c = λ pairs assessed bounds bytes names picked.
           absurd cc
     ] in
     subst (λ s. IfSome s.change (MayBeNext c.match-act.table)) (sym (step_is g c))
-    (may_be_next c.args.config.now.limits c.args.table.now c.match-act.table c.args.request.now.five_tuple (decided_of d).act bounds (omega (arith, c.seconds.ensures.range)) fits act_in_range made)
+    (may_be_next c.args.config.now.limits c.args.table.now c.match-act.table c.args.request.now.five_tuple (decided_of d).act bounds c.moment.ensures.at.moment fits act_in_range made)
 
 pub returns-clause-no_pairs : goal.returns-clause-no_pairs
 returns-clause-no_pairs g c = λ without.
@@ -59,7 +59,7 @@ returns-clause-takes g c pairs assessed only = λ q.
     ap (λ (o : StepOutcome). ports_with t o.change q) (step_is g c)
     ∙ ap (λ b. b || is_taken t q) (change_takes r.five_tuple (decided_of c.in_ok-decision.decision).act q)
     ∙ ap (λ (d : Decided). takes_if_any d.act q || is_taken t q) (c.in_ok-decision.ensures.value pairs assessed)
-    ∙ decision_takes pairs c.args.config.now t r.five_tuple c.args.moment r.message (verdict_in r) c.args.port (λ none. only (assessed.need ∙ none)) q
+    ∙ decision_takes pairs c.args.config.now t r.five_tuple c.args.table.now.moment r.message (verdict_in r) c.args.port (λ none. only (assessed.need ∙ none)) q
     ∙ ap (λ n. is_picked n c.args.port q || is_taken t q) (sym assessed.need)
   where
     change_takes : (f : FiveTuple) (act : Option PlainAct) (q : ℕ) → takes_in (option_map (change_of f) act) q ≡ takes_if_any act q

@@ -18,7 +18,7 @@ frames-init g c = record {
   same = λ h. refl;
   buffer = refl;
   bounds = refl;
-  snapshot = λ is. is;
+  holds = λ is. is;
   so_far = λ h.
       let j = c.args.journal.now in
       let s = snapshot_of c.args.table.now in
@@ -89,7 +89,7 @@ frames-preserved g c =
           c.replay_frame.ensures.reads.same h ∙ (c.found_at.ensures.reads.same still ∙ inv.same (c.found_at.ensures.reads.crash_model still));
       buffer = c.replay_frame.ensures.len ∙ inv.buffer;
       bounds = c.replay_frame.ensures.bounds ∙ inv.bounds;
-      snapshot = λ is. c.in-Ok.ensures.snapshot (inv.snapshot is);
+      holds = λ is. c.in-Ok.ensures.holds (inv.holds is);
       so_far = λ h.
           let still = c.replay_frame.ensures.reads.crash_model h in
           let here = c.found_at.ensures.reads.crash_model still in

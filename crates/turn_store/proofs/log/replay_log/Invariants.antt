@@ -1,5 +1,5 @@
 use Rattle.std.proofs.Common.{◌≡◌, ◌≤◌, ◌<◌, ◌+◌, ◌-◌, length}
-use Rattle.turn_record.specs.Prelude.{IsSnapshot}
+use Rattle.turn_record.specs.Prelude.{Holds}
 use Rattle.turn_store.specs.Prelude.{snapshot_of}
 use Rattle.turn_store.proofs.Logs.{SoFar}
 use Rattle.turn_store.proofs.log.replay_log.Given as goal
@@ -14,7 +14,7 @@ invariant-frames g l = record {
   same : g.D.Disk.follows_crash_model l.disk → g.D.Disk.trace l.disk ≡ g.D.Disk.trace l.initial.disk;
   buffer : length l.payload ≡ length l.initial.payload;
   bounds : l.table.bounds ≡ l.initial.table.bounds;
-  snapshot : IsSnapshot l.version l.limits l.initial.table.moment l.initial.table.contents → IsSnapshot l.version l.limits l.table.moment l.table.contents;
+  holds : Holds l.version l.initial.table.contents → Holds l.version l.table.contents;
   so_far : g.D.Disk.follows_crash_model l.disk → SoFar l.version l.limits (l.journal.start + l.journal.end) (snapshot_of l.initial.table) (l.journal.start + l.end) l.frames (snapshot_of l.table) (g.D.Disk.trace l.initial.disk).now.bytes;
 }
 

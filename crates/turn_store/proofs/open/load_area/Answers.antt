@@ -56,5 +56,5 @@ returns-in_err-end-clause-reads g c =
 pub returns-clause-reads : goal.returns-clause-reads
 returns-clause-reads g c = reads_as (λ e. cc) (λ e. cc) (reads_then c.in_ok-table.ensures.reads (λ e. cc) c.in_ok-end.ensures.reads)
 
-pub returns-clause-snapshot : goal.returns-clause-snapshot
-returns-clause-snapshot g c = c.in_ok-end.ensures.snapshot c.in_ok-table.ensures.snapshot
+pub returns-clause-holds : goal.returns-clause-holds
+returns-clause-holds g c = c.in_ok-end.ensures.holds c.in_ok-table.ensures.holds

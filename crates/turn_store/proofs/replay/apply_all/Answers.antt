@@ -1,6 +1,7 @@
 use Rattle.std.proofs.Common.{◌≡◌, ◌<◌, ◌↔◌, List, [], ◌∷◌, ◌∙◌, length, refl, sym, subst, ap, arith, rules, slice_index_or, remove}
 use Rattle.std.proofs.lemmas.Result.{err_from_is_err_and}
-use Rattle.turn_history.specs.Prelude.{event_of, Event, Bounds}
+use Rattle.std.specs.List.{AllByRecursion}
+use Rattle.turn_history.specs.Prelude.{event_of, Event, Bounds, IsInRange}
 use Rattle.turn_record.specs.Prelude.{events_of}
 use Rattle.turn_store.specs.Prelude.{Snapshot, IsNext, GoOn, after, after_all, snapshot_of}
 use Rattle.turn_store.proofs.replay.apply_all.Goals as goal
@@ -14,6 +15,12 @@ one_on : (b : Bounds) (s t : Snapshot) (e : Event) (es all : List Event) → all
 one_on b s t e es all is next there =
     rw is (rw there (((λ goes. goes.1), (λ goes. (next, goes))), refl))
 
+pub apply_next-requires : goal.apply_next-requires
+apply_next-requires g c =
+    let inv = c.loop-events.invariant in
+    let split = ap events_of (first_and_rest c.loop-events.events.items c.remove-event.new.self.items c.remove-event.result (search rules) c.remove-event.ensures.value c.remove-event.ensures.items) in
+    subst (λ (b : Bounds). IsInRange b (event_of c.remove-event.result)) (sym inv.bounds) (subst (AllByRecursion (IsInRange c.args.table.now.bounds)) split inv.range).0
+
 pub loop-events-preserved : goal.loop-events-preserved
 loop-events-preserved g c =
     let inv = c.loop-events.invariant in
@@ -25,6 +32,7 @@ loop-events-preserved g c =
     let more = one_on start (snapshot_of c.loop-events.table) (snapshot_of c.apply_next.new.table) e left (events_of c.loop-events.events.items) split (subst (λ (b : Bounds). IsNext b (snapshot_of c.loop-events.table) e) inv.bounds next.ok) next.after in
     record {
       bounds = next.bounds ∙ inv.bounds;
+      range = (subst (AllByRecursion (IsInRange start)) split inv.range).1;
       goes = ((λ goes. more.0.0 (inv.goes.0 goes)), (λ goes. inv.goes.1 (more.0.1 goes)));
       ends = inv.ends ∙ more.1;
     }

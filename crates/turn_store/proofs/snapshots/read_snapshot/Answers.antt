@@ -67,11 +67,11 @@ returns-in-Err-Malformed-clause-faults g c = λ h.
 pub returns-in-Ok-clause-bounds : goal.returns-in-Ok-clause-bounds
 returns-in-Ok-clause-bounds g c = let inv = c.loop-done.invariant in c.in-Ok.ensures.limits c.args.version c.args.limits inv.some.0 inv.some.2
 
-pub returns-in-Ok-clause-snapshot : goal.returns-in-Ok-clause-snapshot
-returns-in-Ok-clause-snapshot g c =
+pub returns-in-Ok-clause-holds : goal.returns-in-Ok-clause-holds
+returns-in-Ok-clause-holds g c =
     let some = c.loop-done.invariant.some in
     let range : AreInRange c.args.limits = subst AreInRange c.bounds-bounds.ensures.value c.bounds-bounds.ensures.range in
-    fed_snapshot c.args.version c.args.limits range some.0 some.1 (snapshot_of c.in-Ok.table) (c.in-Ok.ensures.gives c.args.version c.args.limits some.0 some.2)
+    (fed_snapshot c.args.version c.args.limits range some.0 some.1 (snapshot_of c.in-Ok.table) (c.in-Ok.ensures.gives c.args.version c.args.limits some.0 some.2)).holds
 
 pub returns-in-Ok-clause-reads : goal.returns-in-Ok-clause-reads
 returns-in-Ok-clause-reads g c =

@@ -14,7 +14,7 @@ returns-in-Ok-carry-clause-store g c =
 
 pub returns-in-Ok-carry-clause-stop : goal.returns-in-Ok-carry-clause-stop
 returns-in-Ok-carry-clause-stop g c = λ crash_model form h clock o.
-    over_since c.args.opened.store (snapshot_of c.args.opened.table) _ form h clock o c.requires.snapshot.moment _ _ _ (c.carry.ensures.stages crash_model o.recovers.snapshot o.recovers.payloads o.recovers.shows)
+    over_since c.args.opened.store (snapshot_of c.args.opened.table) _ form h clock o c.next_size-size.ensures.snapshot.at.moment _ _ _ (c.carry.ensures.stages crash_model o.recovers.snapshot o.recovers.payloads o.recovers.shows)
 
 pub returns-in-Ok-carry-clause-recovers : goal.returns-in-Ok-carry-clause-recovers
 returns-in-Ok-carry-clause-recovers g c = λ crash_model form h clock o.
@@ -22,20 +22,20 @@ returns-in-Ok-carry-clause-recovers g c = λ crash_model form h clock o.
     let t = snapshot_of c.args.opened.table in
     let same = returns-in-Ok-carry-clause-store g c in
     subst (λ st. OpensTo form h clock st (g.D.Disk.trace c.carry.new.self.disk).now t) (sym same)
-    (over_rests old t _ form h clock o c.requires.snapshot.moment c.carry.new.self.disk _
+    (over_rests old t _ form h clock o c.next_size-size.ensures.snapshot.at.moment c.carry.new.self.disk _
     (subst (λ st. Shows st (g.D.Disk.trace c.carry.new.self.disk).now (next old t) []) same (c.in-Ok-carry.ensures.shown crash_model o.recovers.snapshot o.recovers.payloads o.recovers.shows)))
 
 pub returns-in-Err-clause-stop : goal.returns-in-Err-clause-stop
 returns-in-Err-clause-stop g c = λ crash_model form h clock o.
     let old = c.args.opened.store in
     subst (λ d. EachImageSince (g.D.Disk.trace old.disk) (g.D.Disk.trace d) (RepresentsBy form h clock)) (sym c.into_disk-in-Err.ensures)
-    (over_since old (snapshot_of c.args.opened.table) _ form h clock o c.requires.snapshot.moment _ _ _ (c.carry.ensures.stages (subst (λ d. g.D.Disk.follows_crash_model d) c.into_disk-in-Err.ensures crash_model) o.recovers.snapshot o.recovers.payloads o.recovers.shows))
+    (over_since old (snapshot_of c.args.opened.table) _ form h clock o c.next_size-size.ensures.snapshot.at.moment _ _ _ (c.carry.ensures.stages (subst (λ d. g.D.Disk.follows_crash_model d) c.into_disk-in-Err.ensures crash_model) o.recovers.snapshot o.recovers.payloads o.recovers.shows))
 
 pub returns-in_default-clause-stop : goal.returns-in_default-clause-stop
 returns-in_default-clause-stop g c = λ crash_model form h clock o.
     let old = c.args.opened.store in
     subst (λ d. EachImageSince (g.D.Disk.trace old.disk) (g.D.Disk.trace d) (RepresentsBy form h clock)) (sym c.into_disk.ensures)
-    (stays_since form h clock old (g.D.Disk.trace old.disk) (snapshot_of c.args.opened.table) o c.requires.snapshot.moment)
+    (stays_since form h clock old (g.D.Disk.trace old.disk) (snapshot_of c.args.opened.table) o c.next_size-size.ensures.snapshot.at.moment)
 
 pub returns-in_default-clause-uses : goal.returns-in_default-clause-uses
 returns-in_default-clause-uses g c =

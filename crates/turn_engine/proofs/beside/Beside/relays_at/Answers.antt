@@ -5,4 +5,4 @@ use Rattle.turn_engine.proofs.beside.Beside.relays_at.Goals as goal
 
 pub returns-then-is_at_clock : goal.returns-then-is_at_clock
 returns-then-is_at_clock g c = λ yes from bytes id.
-    needs_no_wait c.args.self.now c.args.port from _ bytes id _ _ (subst (λ v. PortsApart v.machine.table.contents) c.self.view_is c.self.invariant) (c.is_at_clock.ensures.0 c.if-is_at_clock.true) (c.is_apart.ensures.apart yes)
+    needs_no_wait c.args.self.now c.args.port from _ bytes id _ _ (subst (λ v. PortsApart v.machine.table.contents) c.self.view_is c.table-table.ensures.at.ports) (c.is_at_clock.ensures.0 c.if-is_at_clock.true) (c.is_apart.ensures.apart yes)

@@ -9,7 +9,7 @@ pub invariant_of-result : goal.invariant_of-result
 invariant_of-result g c =
     fresh_sound c.args.config.limits _ _ _ _ _ _ _ c.in-Ok-new.machine.table c.args.opened.table (ap (λ m. m.config.limits) c.in-Ok-new.ensures.ok) (ap (λ m. m.table) c.in-Ok-new.ensures.ok)
     c.requires.bounds.0 (ap (λ b. b.bounds) c.in-Ok.ensures ∙ c.limits.ensures.value) c.requires.bounds.1 (ap (λ b. b.version) c.in-Ok.ensures ∙ c.info-version.ensures.version) (ap (λ b. b.acts) c.in-Ok.ensures)
-    (ap (λ m. m.pairs) c.in-Ok-new.ensures.ok ∙ c.pairs_of.ensures ∙ ap has_pairs c.info-version.ensures.version) c.requires.snapshot
+    (ap (λ m. m.pairs) c.in-Ok-new.ensures.ok ∙ c.pairs_of.ensures ∙ ap has_pairs c.info-version.ensures.version) c.requires.holds
 
 pub returns-in-Ok-new-clause-ok : goal.returns-in-Ok-new-clause-ok
 returns-in-Ok-new-clause-ok g c =
@@ -35,7 +35,7 @@ returns-in-Ok-new-clause-ok g c =
     ∙ ap (λ (b : Staged). made (with (is_reserved c.pairs_of.result)) (map sent_of c.new-in-Ok-new.result.items) b c.moment-since.result) c.in-Ok.ensures
     ∙ ap (λ (l : List _). made (with (is_reserved c.pairs_of.result)) (map sent_of l) empty c.moment-since.result) c.new-in-Ok-new.ensures.items
     ∙ ap (λ (pairs : Bool). made (with pairs) [] empty c.moment-since.result) (c.pairs_of.ensures ∙ ap has_pairs c.info-version.ensures.version)
-    ∙ ap (λ (t : ℕ). made (with (has_pairs c.args.opened.store.version)) [] empty t) c.moment-since.ensures
+    ∙ ap (λ (t : ℕ). made (with (has_pairs c.args.opened.store.version)) [] empty t) c.moment-since.ensures.value
 
 pub returns-in-Ok-new-clause-call : goal.returns-in-Ok-new-clause-call
 returns-in-Ok-new-clause-call g c old carry is = made g.D.Disk old c.args.config c.args.handler c.args.ports carry c.args.opened is _ (returns-in-Ok-new-clause-ok g c)

@@ -4,7 +4,6 @@ use Rattle.turn_ports.specs.Ports.{has_failed}
 use Rattle.turn_step.specs.Prelude.{AnswersArrival, Sent, added, CountsOne, HoldsPorts, IsAfter, IsPurged, KeepsSetting, setting_of, arrival_of, sent_of}
 use Rattle.turn_types.specs.Prelude.{Config}
 use Rattle.turn_table.specs.Prelude.{State}
-use Rattle.turn_engine.proofs.Held.{apart_in}
 use Rattle.turn_engine.proofs.Lists.{on_err, room_for_one, when_ok}
 use Rattle.turn_engine.specs.Prelude.{tuples_of, ServerState, limits_of, now_of}
 use Rattle.turn_engine.proofs.Taken.{after_same, first_late, old_late, counts_same, keeps_both, moment_changed, recovers_later, recovers_taken, sound_changed, sound_later, written_by}
@@ -14,7 +13,7 @@ use Rattle.turn_engine.proofs.server.Server.take.Goals as goal
 pub invariant_of-self : goal.invariant_of-self
 invariant_of-self g c =
     let le = subst (λ s. now_of s ≤ c.args.moment) (sym c.self.view_is) c.requires.clock in
-    sound_later _ _ _ _ _ _ _ _ c.args.moment _ _ c.self.inside.machine.table c.prepare.new.self.table c.seconds.ensures.range le c.prepare.ensures.table
+    sound_later _ _ _ _ _ _ _ _ c.args.moment _ _ c.self.inside.machine.table c.prepare.new.self.table le c.prepare.ensures.table
     (ap (λ (x : Config). x.limits) c.prepare.ensures.setting.config) c.prepare.ensures.setting.pairs c.self.invariant
 
 pub returns-in_err-step-clause-store : goal.returns-in_err-step-clause-store
@@ -33,7 +32,7 @@ returns-in_err-step-clause-count g c =
 
 pub returns-in_err-step-clause-held : goal.returns-in_err-step-clause-held
 returns-in_err-step-clause-held g c held =
-    c.in_err-step.ensures.held_err (apart_in _ _ c.self.inside.machine.table c.self.invariant.snapshot)
+    c.in_err-step.ensures.held_err
     (subst (λ v. HoldsPorts g.G.RelayAddressGenerator.holds v.machine None) (sym c.self.view_is) held)
 
 pub returns-in_err-step-clause-memory : goal.returns-in_err-step-clause-memory
@@ -51,7 +50,7 @@ returns-in_err-step-clause-memory_rests g c = λ h k recovers.
 pub invariant_of-self-then-is_err : goal.invariant_of-self-then-is_err
 invariant_of-self-then-is_err g c =
     let le = subst (λ s. now_of s ≤ c.args.moment) (sym c.self.view_is) c.requires.clock in
-    rw c.abandon.ensures.table (sound_later _ _ _ _ _ _ _ _ c.args.moment _ _ c.self.inside.machine.table c.prepare.new.self.table c.seconds.ensures.range le c.prepare.ensures.table
+    rw c.abandon.ensures.table (sound_later _ _ _ _ _ _ _ _ c.args.moment _ _ c.self.inside.machine.table c.prepare.new.self.table le c.prepare.ensures.table
     (ap (λ (x : Config). x.limits) (c.abandon.ensures.setting.config ∙ c.prepare.ensures.setting.config)) (c.abandon.ensures.setting.pairs ∙ c.prepare.ensures.setting.pairs) c.self.invariant)
 
 pub returns-then-is_err-clause-store : goal.returns-then-is_err-clause-store
@@ -72,9 +71,8 @@ returns-then-is_err-clause-count g c =
 
 pub returns-then-is_err-clause-held : goal.returns-then-is_err-clause-held
 returns-then-is_err-clause-held g c held =
-    let apart = apart_in _ _ c.self.inside.machine.table c.self.invariant.snapshot in
-    c.abandon.ensures.held (c.prepare.ensures.apart apart) c.in_ok-step.ensures.ready
-    (c.in_ok-step.ensures.held apart (subst (λ v. HoldsPorts g.G.RelayAddressGenerator.holds v.machine None) (sym c.self.view_is) held))
+    c.abandon.ensures.held c.in_ok-step.ensures.ready
+    (c.in_ok-step.ensures.held (subst (λ v. HoldsPorts g.G.RelayAddressGenerator.holds v.machine None) (sym c.self.view_is) held))
 
 pub returns-then-is_err-clause-memory : goal.returns-then-is_err-clause-memory
 returns-then-is_err-clause-memory g c =
@@ -119,9 +117,9 @@ invariant_of-self-2 g c =
     let le = subst (λ s. now_of s ≤ c.args.moment) (sym c.self.view_is) c.requires.clock in
     let room = rw (← c.self.view_is) at c.requires.room in
     let same = ap (λ (x : Config). x.limits.acts) c.prepare.ensures.setting.config in
-    let later = sound_later _ _ _ _ _ _ _ _ c.args.moment _ _ c.self.inside.machine.table c.prepare.new.self.table c.seconds.ensures.range le c.prepare.ensures.table
+    let later = sound_later _ _ _ _ _ _ _ _ c.args.moment _ _ c.self.inside.machine.table c.prepare.new.self.table le c.prepare.ensures.table
     (ap (λ (x : Config). x.limits) c.prepare.ensures.setting.config) c.prepare.ensures.setting.pairs c.self.invariant in
-    sound_changed _ _ _ _ _ _ _ _ _ _ _ c.args.moment _ _ c.prepare.new.self.table c.apply-datagram.new.self.table c.in_ok-step.step.change c.apply-datagram.ensures.table c.in_ok-step.ensures.ready.next
+    sound_changed _ _ _ _ _ _ _ _ _ _ _ c.args.moment _ _ c.prepare.new.self.table c.apply-datagram.new.self.table c.in_ok-step.step.change c.apply-datagram.ensures.table
     (written_by c.self.inside.store.version _ c.in_ok-step.step.change (c.prepare.ensures.setting.pairs ∙ c.self.invariant.pairs_is) c.in_ok-step.ensures.ready.no_pairs)
     (ap (λ (x : Config). x.limits) c.apply-datagram.ensures.setting.config) c.apply-datagram.ensures.setting.pairs c.stage_act.ensures.bounds c.stage_act.ensures.version c.stage_act.ensures.acts (omega (arith, room, same)) later
 
@@ -144,9 +142,8 @@ returns-clause-count g c =
 
 pub returns-clause-held : goal.returns-clause-held
 returns-clause-held g c held =
-    let apart = apart_in _ _ c.self.inside.machine.table c.self.invariant.snapshot in
-    c.apply-datagram.ensures.held (c.prepare.ensures.apart apart)
-    (c.in_ok-step.ensures.held apart (subst (λ v. HoldsPorts g.G.RelayAddressGenerator.holds v.machine None) (sym c.self.view_is) held))
+    c.apply-datagram.ensures.held
+    (c.in_ok-step.ensures.held (subst (λ v. HoldsPorts g.G.RelayAddressGenerator.holds v.machine None) (sym c.self.view_is) held))
 
 pub returns-clause-arrivals : goal.returns-clause-arrivals
 returns-clause-arrivals g c = ap (λ s. s.arrivals + 1) c.self.view_is

@@ -1,7 +1,7 @@
 use Rattle.std.proofs.Common.{◌≡◌, rules, arith, sym, ap, ◌∙◌, subst, refl}
 use Rattle.turn_disk.proofs.Device.{uses_as}
 use Rattle.turn_disk.proofs.Passing.{passes_none}
-use Rattle.turn_record.specs.Prelude.{IsSnapshot}
+use Rattle.turn_record.specs.Prelude.{Holds}
 use Rattle.turn_store.specs.Prelude.{Version, Form}
 use Rattle.turn_store.proofs.Sound.{not_both}
 use Rattle.turn_types.specs.declared.limits.Bounds.{Bounds}
@@ -73,7 +73,7 @@ invariant_of-self g c =
       capped = s.capped;
       same_version = s.same_version ∙ sym same;
       pairs_is = s.pairs_is ∙ ap has_pairs (sym same);
-      snapshot = subst (λ (v : Version). IsSnapshot v c.self.inside.machine.config.limits table.moment table.contents) (sym same) s.snapshot;
+      holds = subst (λ (v : Version). Holds v table.contents) (sym same) s.holds;
     }
 
 pub returns-clause-rest : goal.returns-clause-rest
@@ -98,7 +98,7 @@ returns-clause-call g c =
     let some = some_acts c.acts.result _ c.acts.ensures.value c.if-acts-eq0.false in
     let few = few_acts _ _ _ _ c.self.invariant.few c.self.invariant.capped (ap (λ (b : Bounds). b.acts) c.self.invariant.store_is) in
     let same = c.self.invariant.store_is in
-    let range = c.self.invariant.snapshot.moment in
+    let range = c.table.ensures.at.moment in
     let kept = form_kept c.self.inside.store c.append-appended.new.self _ _ c.append-appended.result c.append-appended.ensures.framed c.append-appended.ensures.compacted c.append-appended.ensures.stops in
     let same_version = version_kept c.self.inside.store c.append-appended.new.self _ _ c.append-appended.result c.append-appended.ensures.framed c.append-appended.ensures.compacted c.append-appended.ensures.stops in
     let stages = rw (c.table.ensures.value, c.payload.ensures.value) at c.append-appended.ensures.stages in

@@ -9,8 +9,8 @@ use Rattle.turn_record.proofs.snapshot_writer.SnapshotWriter.new.Goals as goal
 pub of-requires : goal.of-requires
 of-requires g c =
     let s = c.args.table.now in
-    let range = rw (c.bounds-bounds.ensures.value, c.limits.ensures) at c.bounds-bounds.ensures.range in
-    record { short = are_short c.args.version s.bounds s.moment s.contents range c.requires; few = omega (arith, c.requires.within.reserved, range.allocations.1) }
+    let range = c.limits-limits.ensures.range in
+    record { short = are_short s.bounds s.moment s.contents range c.moment.ensures.at; few = omega (arith, c.moment.ensures.at.within.reserved, range.allocations.1) }
 
 pub returns : goal.returns
 unfolding snapshot
@@ -18,7 +18,7 @@ returns g c =
     let s = c.args.table.now in
     let moment = to_be_bytes w64 s.moment in
     let count = to_be_bytes w32 (fin.len s.contents.entries) in
-    let at : c.to_be_bytes.result ≡ moment = c.to_be_bytes.ensures ∙ ap (to_be_bytes w64) (c.seconds.ensures.value ∙ c.moment.ensures) in
+    let at : c.to_be_bytes.result ≡ moment = c.to_be_bytes.ensures ∙ ap (to_be_bytes w64) (c.seconds.ensures.value ∙ c.moment.ensures.value) in
     let many : c.to_be_bytes-2.result ≡ count = c.to_be_bytes-2.ensures ∙ ap (to_be_bytes w32) c.len.ensures in
     let put =
     appended c.new-held.result c.put.new.self c.put-2.new.self moment (count ∷ []) (c.put.ensures ∙ ap (λ (u : List ℕ). c.new-held.result ++ u) at)

@@ -1,5 +1,4 @@
 use Rattle.std.proofs.Common.{true, Err, Ok, sym, ap, ◌∙◌, refl, subst}
-use Rattle.turn_record.specs.Prelude.{IsSnapshot}
 use Rattle.turn_store.specs.Prelude.{Carries}
 use Rattle.turn_types.specs.Prelude.{Config}
 use Rattle.turn_types.specs.declared.limits.Bounds.{Bounds}
@@ -24,11 +23,6 @@ returns-in-Err-bind_beside-clause-refused g c = told_by_sockets _ _ c.from.ensur
 pub carry_over-requires-clause-limits : goal.carry_over-requires-clause-limits
 carry_over-requires-clause-limits g c = c.in-Ok.ensures.opens.bounds.1 ∙ sym c.in-Ok.ensures.opens.bounds.0
 
-pub carry_over-requires-clause-snapshot : goal.carry_over-requires-clause-snapshot
-carry_over-requires-clause-snapshot g c =
-    let o = c.in-Ok.opened.0 in
-    subst (λ (b : Bounds). IsSnapshot o.store.version b o.table.moment o.table.contents) (sym c.in-Ok.ensures.opens.bounds.0) c.in-Ok.ensures.opens.snapshot
-
 pub returns-in-Err-carry_over-clause-stop_err : goal.returns-in-Err-carry_over-clause-stop_err
 returns-in-Err-carry_over-clause-stop_err g c = store_images g.D.Disk (c.in-Err-carry_over.ensures.opens c.args.disk _ c.in-Ok.ensures.opens)
 
@@ -42,8 +36,8 @@ returns-in-Err-carry_over-clause-refused g c = store_refused g.D.Disk (c.in-Err-
 pub over-requires-clause-bounds : goal.over-requires-clause-bounds
 over-requires-clause-bounds g c = rw c.in-Ok.ensures.config (c.in-Ok-carry_over.ensures.opens c.args.disk _ c.in-Ok.ensures.opens).bounds
 
-pub over-requires-clause-snapshot : goal.over-requires-clause-snapshot
-over-requires-clause-snapshot g c = rw c.in-Ok.ensures.config (c.in-Ok-carry_over.ensures.opens c.args.disk _ c.in-Ok.ensures.opens).snapshot
+pub over-requires-clause-holds : goal.over-requires-clause-holds
+over-requires-clause-holds g c = (c.in-Ok-carry_over.ensures.opens c.args.disk _ c.in-Ok.ensures.opens).holds
 
 pub returns-in-Err-over-clause-stop_err : goal.returns-in-Err-over-clause-stop_err
 returns-in-Err-over-clause-stop_err g c =

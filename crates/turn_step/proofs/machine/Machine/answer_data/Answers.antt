@@ -1,4 +1,4 @@
-use Rattle.std.proofs.Common.{◌≡◌, ◌≤◌, false, None, ap, subst, sym, ◌∙◌, option_map}
+use Rattle.std.proofs.Common.{◌≤◌, false, None, ap, subst, sym, ◌∙◌, option_map}
 use Rattle.turn_history.specs.Prelude.{clock}
 use Rattle.turn_relay.specs.FromClient.{SendsToPeer}
 use Rattle.turn_relay.specs.Views.{peer_data}
@@ -24,8 +24,6 @@ pub returns-in_ok-sent-in-Peer-clause-answers : goal.returns-in_ok-sent-in-Peer-
 returns-in_ok-sent-in-Peer-clause-answers g c h after =
     let s = setting_of g.H.AuthHandler.key_of g.G.RelayAddressGenerator.range c.args.self.now in
     let o : StepOutcome = record { change = None; sent = option_map sent_of c.in_ok-sent-in-Peer.sent } in
-    let here : c.moment-moment.result ≡ c.args.self.now.table.moment = c.moment-moment.ensures ∙ ap (λ m. m.table.moment) c.self.view_is in
     subst (λ a. AnswersArrival s h c.args.self.now.table.moment false a o) (sym (ap arrival_of c.in-Peer.is))
-    (subst (λ t. AnswersPeer h t c.in-Peer.port c.in-Peer.from c.in-Peer.bytes.now c.in-Peer.id.0 o) here
-    (c.in_ok-sent-in-Peer.ensures c.args.self.now.config.limits h after.fitting (subst (λ t. clock h ≤ t) (sym here) after.late)
-    (subst (λ m. Agrees m.table h) (sym c.self.view_is) after.agrees)))
+    (subst (λ m. clock h ≤ m.table.moment → Agrees m.table h → AnswersPeer h m.table.moment c.in-Peer.port c.in-Peer.from c.in-Peer.bytes.now c.in-Peer.id.0 o) c.self.view_is
+    (c.in_ok-sent-in-Peer.ensures c.args.self.now.config.limits h after.fitting) after.late after.agrees)

@@ -1,5 +1,5 @@
 use Rattle.std.proofs.Common.{◌++◌, ◌∷◌, [], refl, ap, subst, sym, ◌∙◌, option_map}
-use Rattle.turn_history.specs.Prelude.{act_of, Follows, is_taken, PortsApart, ReservedApart}
+use Rattle.turn_history.specs.Prelude.{act_of, Follows, is_taken}
 use Rattle.turn_table.specs.Prelude.{State, Agrees}
 use Rattle.turn_step.specs.Prelude.{Change, StepOutcome, change_of, event_at}
 use Rattle.turn_step.proofs.Holding.{applied_holds, change_by, held_change, next_change}
@@ -17,21 +17,18 @@ returns-in-Some-clause-after g c h after =
     (ap (λ m. m.config) c.self.view_is)
     (ap (λ (s : State). s.moment) c.apply-freed.ensures.state ∙ ap (λ m. m.table.moment) c.self.view_is)
     (subst (λ (s : State). Follows s.bounds h (event_at s.moment change) → Agrees s h → Agrees new (h ++ event_at s.moment change ∷ [])) (ap (λ m. m.table) c.self.view_is)
-    (subst (λ t. Follows c.self.inside.table.bounds h (event_at t change) → Agrees c.self.inside.table h → Agrees new (h ++ event_at t change ∷ [])) c.moment-moment.ensures
-    (subst (λ p. Follows c.self.inside.table.bounds h (event_at c.moment-moment.result (change_of p.0 (act_of p.1))) → Agrees c.self.inside.table h → Agrees new (h ++ event_at c.moment-moment.result (change_of p.0 (act_of p.1)) ∷ [])) c.into_inner-act.ensures
-    (c.apply-freed.ensures.agrees h))))
+    (subst (λ p. Follows c.self.inside.table.bounds h (event_at c.self.inside.table.moment (change_of p.0 (act_of p.1))) → Agrees c.self.inside.table h → Agrees new (h ++ event_at c.self.inside.table.moment (change_of p.0 (act_of p.1)) ∷ [])) c.into_inner-act.ensures
+    (c.apply-freed.ensures.agrees h)))
     after
 
 pub returns-in-Some-clause-held : goal.returns-in-Some-clause-held
-returns-in-Some-clause-held g c alone held =
+returns-in-Some-clause-held g c held =
     let holds = g.G.RelayAddressGenerator.holds in
     let s = c.self.inside.table in
     let p = c.into_inner-act.result in
     let change : Change = change_of p.0 (act_of p.1) in
     let is = change_by c.args.step _ c.into_parts-act.result.0 c.in-Some.change p p.1 c.into_parts-act.ensures c.in-Some.is c.into_inner-act.ensures refl in
     let next = next_change c.args.self.now _ c.args.step.change change c.self.view_is is c.requires.next in
-    let apart : PortsApart s.contents = subst (λ m. PortsApart m.table.contents) (sym c.self.view_is) alone.ports in
-    let reserved : ReservedApart s.contents = subst (λ m. ReservedApart m.table.contents) (sym c.self.view_is) alone.reserved in
     subst (λ (x : State). holds c.release.new.ports (is_taken x.contents)) (sym c.apply-freed.ensures.state)
-    (applied_holds s.bounds c.moment-moment.result p.0 s.contents apart reserved (holds c.self.inside.ports) (holds c.release.new.ports) (act_of p.1) c.apply-freed.result
+    (applied_holds s.bounds s.moment p.0 s.contents c.moment.ensures.at.ports c.moment.ensures.at.reserved_apart (holds c.self.inside.ports) (holds c.release.new.ports) (act_of p.1) c.apply-freed.result
     next.fits c.apply-freed.ensures.freed c.release.ensures.held (held_change c.args.self.now _ c.args.step.change change c.self.view_is is holds held))

@@ -1,9 +1,7 @@
-use Rattle.std.proofs.Common.{◌≤◌, ap, subst, sym, ◌∙◌, IfOk}
-use Rattle.turn_history.specs.Prelude.{clock}
-use Rattle.turn_ports.specs.Ports.{has_failed}
-use Rattle.turn_step.specs.Prelude.{AnswersArrival, ports_with, IsPurged, setting_of, arrival_of}
+use Rattle.std.proofs.Common.{None, refl, ap, subst, sym, ◌∙◌}
+use Rattle.turn_step.specs.Prelude.{HoldsPorts, ports_with, IsPurged, setting_of, arrival_of}
 use Rattle.turn_step.proofs.Machines.{after_later, agrees_later, answers_along, follows_outcome, purged_same, setting_is}
-use Rattle.turn_step.proofs.Holding.{apart_later, held_later, nothing_taken, on_err}
+use Rattle.turn_step.proofs.Holding.{nothing_taken, on_err}
 use Rattle.turn_step.proofs.machine.Machine.prepare.Goals as goal
 use Rattle.turn_step.proofs.machine.Machine.prepare.Given.{Over}
 
@@ -28,9 +26,10 @@ returns-in-Client-clause-follows g c h after =
 pub returns-in-Client-clause-answers : goal.returns-in-Client-clause-answers
 returns-in-Client-clause-answers g c h after =
     let range = g.G.RelayAddressGenerator.range in
-    answers_along _ _ h c.args.moment _ _ _ _ _ c.client_step.result
+    answers_along _ _ h _ _ _ _ _ _ _ c.client_step.result
     (setting_is g.H.AuthHandler.key_of range c.args.self.now c.self.inside.config c.self.inside.checker.handler c.advance.new.ports c.self.inside.pairs
     (ap (λ m. m.config) c.self.view_is) (ap (λ m. m.handler) c.self.view_is) (c.advance.ensures.range ∙ ap (λ m. range m.ports) c.self.view_is) (ap (λ m. m.pairs) c.self.view_is))
+    c.advance.ensures.table.moment
     (c.advance.ensures.failures ∙ ap (λ m. g.G.RelayAddressGenerator.failures m.ports) c.self.view_is)
     (sym (ap arrival_of c.in-Client.is))
     (c.client_step.ensures.answers h (agrees_later c.args.self.now.table c.advance.new.table h c.args.moment c.requires (advanced g c) after.agrees))
@@ -47,33 +46,23 @@ returns-in-Peer-clause-answers g c h after =
     let now = returns-in-Peer-clause-after g c h after in
     let s = setting_of g.H.AuthHandler.key_of g.G.RelayAddressGenerator.range c.args.self.now in
     let failures = g.G.RelayAddressGenerator.failures in
-    subst (λ a. IfOk c.peer_step.result (AnswersArrival s h c.args.moment (has_failed (failures c.args.self.now.ports) (failures c.advance.new.ports)) a)) (sym (ap arrival_of c.in-Peer.is))
-    (c.peer_step.ensures.answers c.self.inside.config.limits h now.fitting (subst (λ t. clock h ≤ t) c.advance.ensures.table.moment now.late) now.agrees)
+    answers_along s s h _ _ _ _ (failures c.advance.new.ports) _ _ c.peer_step.result refl c.advance.ensures.table.moment (ap (λ m. failures m.ports) c.self.view_is) (sym (ap arrival_of c.in-Peer.is))
+    (c.peer_step.ensures.answers c.self.inside.config.limits h now.fitting now.late now.agrees)
 
 -- ---- The ports that are held
 
-pub returns-in-Client-clause-apart : goal.returns-in-Client-clause-apart
-returns-in-Client-clause-apart g c apart = apart_later c.args.moment c.args.self.now.table c.client_step.new.self.table c.requires (later g c) apart
-
-pub returns-in-Peer-clause-apart : goal.returns-in-Peer-clause-apart
-returns-in-Peer-clause-apart g c apart =
-    apart_later c.args.moment c.args.self.now.table c.advance.new.table c.requires
-    (subst (λ s. IsPurged c.args.moment s c.advance.new.table) (ap (λ m. m.table) c.self.view_is) c.advance.ensures.table) apart
-
 pub returns-in-Client-clause-held : goal.returns-in-Client-clause-held
-returns-in-Client-clause-held g c apart held =
-    c.client_step.ensures.held (held_later g.G.RelayAddressGenerator.holds c.args.self.now _ c.advance.new.ports c.advance.new.table.contents c.self.view_is apart c.advance.ensures.held held)
+returns-in-Client-clause-held g c held = c.client_step.ensures.held (c.advance.ensures.held (subst (λ m. HoldsPorts g.G.RelayAddressGenerator.holds m None) (sym c.self.view_is) held))
 
 pub returns-in-Client-clause-held_err : goal.returns-in-Client-clause-held_err
-returns-in-Client-clause-held_err g c apart held =
-    c.client_step.ensures.held_err (held_later g.G.RelayAddressGenerator.holds c.args.self.now _ c.advance.new.ports c.advance.new.table.contents c.self.view_is apart c.advance.ensures.held held)
+returns-in-Client-clause-held_err g c held = c.client_step.ensures.held_err (c.advance.ensures.held (subst (λ m. HoldsPorts g.G.RelayAddressGenerator.holds m None) (sym c.self.view_is) held))
 
 pub returns-in-Peer-clause-held : goal.returns-in-Peer-clause-held
-returns-in-Peer-clause-held g c apart held =
+returns-in-Peer-clause-held g c held =
     let holds = g.G.RelayAddressGenerator.holds in
     nothing_taken (λ o. holds c.advance.new.ports (ports_with c.advance.new.table.contents o)) c.peer_step.result c.peer_step.ensures.nothing_done
-    (held_later holds c.args.self.now _ c.advance.new.ports c.advance.new.table.contents c.self.view_is apart c.advance.ensures.held held)
+    (c.advance.ensures.held (subst (λ m. HoldsPorts holds m None) (sym c.self.view_is) held))
 
 pub returns-in-Peer-clause-held_err : goal.returns-in-Peer-clause-held_err
-returns-in-Peer-clause-held_err g c apart held =
-    on_err c.peer_step.result (held_later g.G.RelayAddressGenerator.holds c.args.self.now _ c.advance.new.ports c.advance.new.table.contents c.self.view_is apart c.advance.ensures.held held)
+returns-in-Peer-clause-held_err g c held =
+    on_err c.peer_step.result (c.advance.ensures.held (subst (λ m. HoldsPorts g.G.RelayAddressGenerator.holds m None) (sym c.self.view_is) held))

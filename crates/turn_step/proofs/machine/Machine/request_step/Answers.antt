@@ -3,7 +3,7 @@ use Rattle.turn_cred.specs.Prelude.{verdict_of}
 use Rattle.turn_ports.specs.Ports.{has_failed}
 use Rattle.turn_table.specs.Prelude.{Agrees, State}
 use Rattle.turn_history.specs.Prelude.{is_taken}
-use Rattle.turn_rules.specs.Prelude.{is_picked, IsAssessed, NamesInRange}
+use Rattle.turn_rules.specs.Prelude.{credential_outcome, is_picked, IsAssessed, NamesInRange}
 use Rattle.turn_step.specs.Prelude.{IsDecided, Setting, ports_with, setting_of}
 use Rattle.turn_step.proofs.Exclusion.{decided_as_checked, checked_in_range}
 use Rattle.turn_step.proofs.Holding.{picked_beside, picked_is_free}
@@ -20,10 +20,10 @@ returns-clause-answers g c h d agrees is =
       pairs = c.self.inside.pairs;
     } in
     let here : Agrees c.self.inside.table h = subst (λ x. Agrees x h) (sym (ap (λ m. m.table) c.self.view_is)) agrees in
-    subst (λ x. IsDecided (setting_of g.H.AuthHandler.key_of g.G.RelayAddressGenerator.range c.args.self.now) h c.args.moment (has_failed (failures c.args.self.now.ports) (failures c.pick.new.ports)) c.args.five_tuple x c.in-Ok.step) is
-    (subst (λ m. IsDecided (setting_of g.H.AuthHandler.key_of g.G.RelayAddressGenerator.range m) h c.args.moment (has_failed (failures m.ports) (failures c.pick.new.ports)) c.args.five_tuple c.args.message c.in-Ok.step) c.self.view_is
-    (decided_as_checked s h c.args.moment failed c.args.five_tuple c.args.message (option_map verdict_of c.check_credentials-verdict.result) c.in-Ok.step
-    (c.check_credentials-verdict.ensures.value c.self.inside.config c.self.invariant.0)
+    subst (λ x. IsDecided (setting_of g.H.AuthHandler.key_of g.G.RelayAddressGenerator.range c.args.self.now) h c.args.self.now.table.moment (has_failed (failures c.args.self.now.ports) (failures c.pick.new.ports)) c.args.five_tuple x c.in-Ok.step) is
+    (subst (λ m. IsDecided (setting_of g.H.AuthHandler.key_of g.G.RelayAddressGenerator.range m) h m.table.moment (has_failed (failures m.ports) (failures c.pick.new.ports)) c.args.five_tuple c.args.message c.in-Ok.step) c.self.view_is
+    (decided_as_checked s h c.self.inside.table.moment failed c.args.five_tuple c.args.message (option_map verdict_of c.check_credentials-verdict.result) c.in-Ok.step
+    (c.check_credentials-verdict.ensures.value c.self.inside.config c.self.invariant.0 ∙ ap (λ t. credential_outcome s.config s.keys c.args.five_tuple.client t c.args.message) c.moment-moment.ensures.value)
     (c.in-Ok.ensures.answers c.self.inside.pairs h (g.G.RelayAddressGenerator.range c.self.inside.ports) failed c.assess-assessment.ensures.assessed here (rw c.needs_port-need.ensures at c.in_ok-port.ensures.picked))))
 
 pub returns-clause-ready : goal.returns-clause-ready
@@ -31,10 +31,10 @@ returns-clause-ready g c =
     let s = c.self.inside.config in
     let checked = c.check_credentials-verdict.ensures.value s c.self.invariant.0 in
     record {
-      next = c.in-Ok.ensures.ready c.self.inside.pairs c.assess-assessment.ensures.assessed c.self.invariant.1 c.requires.bytes
-          (subst (NamesInRange s.limits) (sym checked) (checked_in_range s (g.H.AuthHandler.key_of c.self.inside.checker.handler) c.args.five_tuple.client c.args.moment c.args.message c.requires.bytes))
+      next = c.in-Ok.ensures.ready c.self.inside.pairs c.assess-assessment.ensures.assessed c.self.invariant.1 c.requires
+          (subst (NamesInRange s.limits) (sym checked) (checked_in_range s (g.H.AuthHandler.key_of c.self.inside.checker.handler) c.args.five_tuple.client c.moment-moment.result c.args.message c.requires))
           (picked_is_free c.self.inside.table.contents _ _ _ c.in_ok-port.port (rw c.needs_port-need.ensures at c.in_ok-port.ensures.picked));
-      no_pairs = λ without. c.in-Ok.ensures.no_pairs (subst (λ b. IsAssessed b s c.self.inside.table.contents (record { message = c.args.message; five_tuple = c.args.five_tuple; verdict = c.check_credentials-verdict.result }) c.args.moment c.assess-assessment.result) without c.assess-assessment.ensures.assessed);
+      no_pairs = λ without. c.in-Ok.ensures.no_pairs (subst (λ b. IsAssessed b s c.self.inside.table.contents (record { message = c.args.message; five_tuple = c.args.five_tuple; verdict = c.check_credentials-verdict.result }) c.self.inside.table.moment c.assess-assessment.result) without c.assess-assessment.ensures.assessed);
     }
 
 -- ---- The ports that are held

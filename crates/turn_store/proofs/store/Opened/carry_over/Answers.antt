@@ -1,10 +1,9 @@
 use Rattle.std.proofs.Common.{true, ◌∙◌, ap, refl, sym, subst}
 use Rattle.turn_disk.proofs.Device.{uses_then}
 use Rattle.turn_disk.specs.Prelude.{IsSettled}
-use Rattle.turn_record.specs.Prelude.{IsSnapshot}
+use Rattle.turn_record.specs.Prelude.{Holds, IsSnapshot}
 use Rattle.turn_store.specs.Prelude.{Version, V2, Carries, IsOpened, snapshot_of}
 use Rattle.turn_types.specs.declared.limits.Bounds.{Bounds}
-use Rattle.turn_record.proofs.Kept.{snapshot-carried}
 use Rattle.turn_store.proofs.Carried.{all_ok, and_err, and_ok, at_err, at_ok, carried_since, is_active_as, kept_carries, on_err, on_ok, opened_anew, over_carries, plain_why, same_bounds}
 use Rattle.turn_store.proofs.Sound.{not_both}
 use Rattle.turn_store.proofs.Versions.{opened_in}
@@ -15,7 +14,7 @@ returns-then-not-can_be_carried-clause-opens g c old limits is = record {
   uses = is.uses;
   bounds = is.bounds;
   runs = is.runs;
-  snapshot = is.snapshot;
+  holds = is.holds;
   stop = is.stop;
   version = is.version;
   same = λ no. is.same refl;
@@ -27,14 +26,6 @@ returns-then-not-can_be_carried-clause-opens g c old limits is = record {
   recovers = is.recovers;
   sound = tt;
 }
-
-pub carry_table-requires-clause-snapshot : goal.carry_table-requires-clause-snapshot
-carry_table-requires-clause-snapshot g c =
-    let t = c.args.self.table in
-    let is = c.can_be_carried.ensures.0 c.if-not-can_be_carried.false in
-    snapshot-carried t.bounds t.moment t.contents
-    (subst (λ (v : Version). IsSnapshot v t.bounds t.moment t.contents) is.old
-    (subst (λ (b : Bounds). IsSnapshot c.args.self.store.version b t.moment t.contents) (sym c.requires.limits) c.requires.snapshot))
 
 pub carry_table-requires-clause-generation : goal.carry_table-requires-clause-generation
 carry_table-requires-clause-generation g c = (c.can_be_carried.ensures.0 c.if-not-can_be_carried.false).next
@@ -50,17 +41,16 @@ returns-clause-opens g c old limits is =
     let store = c.args.self.store in
     let t = c.args.self.table in
     let asked = c.can_be_carried.ensures.0 c.if-not-can_be_carried.false in
-    let can : IsSnapshot V2 limits t.moment t.contents = snapshot-carried limits t.moment t.contents (subst (λ (v : Version). IsSnapshot v limits t.moment t.contents) asked.old is.snapshot) in
     let result = c.carry_table.result in
     let carried = c.carry_table.ensures in
+    let can : IsSnapshot V2 limits t.moment t.contents = subst (λ (b : Bounds). IsSnapshot V2 b t.moment t.contents) is.bounds.1 carried.snapshot in
     let earlier = at_ok (λ d. g.D.Disk.follows_crash_model d → g.D.Disk.follows_crash_model store.disk) result carried.uses.crash_model in
     record {
       uses = uses_then is.uses (λ never. never) carried.uses;
       bounds = on_ok _ _ result (λ o both. (ap (λ st. st.bounds) both.0 ∙ is.bounds.0, ap (λ table. table.bounds) both.1 ∙ is.bounds.1))
           (and_ok _ _ result carried.store carried.table);
       runs = on_ok _ _ result (λ o same. ap (λ st. st.stopped) same ∙ is.runs) carried.store;
-      snapshot = on_ok _ _ result (λ o both. subst (λ (v : Version). IsSnapshot v limits o.table.moment o.table.contents) (sym (ap (λ st. st.version) both.0)) (subst (λ table. IsSnapshot V2 limits table.moment table.contents) (sym both.1) can))
-          (and_ok _ _ result carried.store carried.table);
+      holds = on_ok _ _ result (λ o same. subst (λ (v : Version). Holds v o.table.contents) (sym (ap (λ st. st.version) same)) tt) carried.store;
       stop = λ crash_model form h clock stands.
           let before = carried.uses.crash_model crash_model in
           let same = same_bounds store _ _ form h clock limits _ (is.opened before) (is.same refl before) is.bounds.0 stands in

@@ -18,11 +18,11 @@ returns-in_ok-add_frame-in-Frame-clause-stages g c = λ crash_model at h es reco
 
 pub returns-in_err-replace_snapshot-in-Snapshot-clause-stages : goal.returns-in_err-replace_snapshot-in-Snapshot-clause-stages
 returns-in_err-replace_snapshot-in-Snapshot-clause-stages g c = λ crash_model at h es recovers follows size is contents.
-    (_, snapshot_stages _ _ at h es _ recovers follows c.args.self.now.version c.args.table.now.contents contents c.requires.snapshot.holds _ _ _ (c.replace_snapshot.ensures.stages crash_model recovers.snapshot recovers.payloads recovers.shows))
+    (_, snapshot_stages _ _ at h es _ recovers follows c.args.self.now.version c.args.table.now.contents contents c.requires.holds _ _ _ (c.replace_snapshot.ensures.stages crash_model recovers.snapshot recovers.payloads recovers.shows))
 
 pub returns-in_ok-replace_snapshot-in-Snapshot-clause-stages : goal.returns-in_ok-replace_snapshot-in-Snapshot-clause-stages
 returns-in_ok-replace_snapshot-in-Snapshot-clause-stages g c = λ crash_model at h es recovers follows size is contents.
-    (_, snapshot_stages _ _ at h es _ recovers follows c.args.self.now.version c.args.table.now.contents contents c.requires.snapshot.holds _ _ _ (c.replace_snapshot.ensures.stages crash_model recovers.snapshot recovers.payloads recovers.shows))
+    (_, snapshot_stages _ _ at h es _ recovers follows c.args.self.now.version c.args.table.now.contents contents c.requires.holds _ _ _ (c.replace_snapshot.ensures.stages crash_model recovers.snapshot recovers.payloads recovers.shows))
 
 pub returns-in_ok-add_frame-in-Frame-clause-done : goal.returns-in_ok-add_frame-in-Frame-clause-done
 returns-in_ok-add_frame-in-Frame-clause-done g c = λ crash_model at h es recovers follows size is contents.
@@ -35,7 +35,7 @@ returns-in_ok-replace_snapshot-in-Snapshot-clause-done g c = λ crash_model at h
     let after = c.in_ok-replace_snapshot-in-Snapshot.ensures.ok in (
       c.args.table.now.moment,
       omega arith,
-      snapshot_done _ _ at h es _ recovers follows c.args.self.now.version c.args.table.now.contents contents c.requires.snapshot.holds _ _ (ap (λ st. st.version) after) (ap (λ st. st.bounds) after) (ap (λ st. st.stopped) after ∙ recovers.runs)
+      snapshot_done _ _ at h es _ recovers follows c.args.self.now.version c.args.table.now.contents contents c.requires.holds _ _ (ap (λ st. st.version) after) (ap (λ st. st.bounds) after) (ap (λ st. st.stopped) after ∙ recovers.runs)
           (c.in_ok-replace_snapshot-in-Snapshot.ensures.shown crash_model recovers.snapshot recovers.payloads recovers.shows),
     )
 

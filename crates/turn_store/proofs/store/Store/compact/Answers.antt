@@ -15,13 +15,13 @@ pub returns-in_err-replace_snapshot-clause-stages : goal.returns-in_err-replace_
 returns-in_err-replace_snapshot-clause-stages g c = λ crash_model at h recovers follows contents.
     let t = c.args.table.now in
     let there : t.contents ≡ tables.table (h ++ []) t.moment = contents ∙ ap (λ (l : History). tables.table l t.moment) (sym (append-nil h)) in
-    alone_stages _ _ at h _ _ _ (snapshot_stages _ _ at h [] _ recovers follows c.args.self.now.version t.contents there c.requires.snapshot.holds _ _ _ (c.replace_snapshot.ensures.stages crash_model recovers.snapshot recovers.payloads recovers.shows))
+    alone_stages _ _ at h _ _ _ (snapshot_stages _ _ at h [] _ recovers follows c.args.self.now.version t.contents there c.requires.holds _ _ _ (c.replace_snapshot.ensures.stages crash_model recovers.snapshot recovers.payloads recovers.shows))
 
 pub returns-clause-stages : goal.returns-clause-stages
 returns-clause-stages g c = λ crash_model at h recovers follows contents.
     let t = c.args.table.now in
     let there : t.contents ≡ tables.table (h ++ []) t.moment = contents ∙ ap (λ (l : History). tables.table l t.moment) (sym (append-nil h)) in
-    alone_stages _ _ at h _ _ _ (snapshot_stages _ _ at h [] _ recovers follows c.args.self.now.version t.contents there c.requires.snapshot.holds _ _ _ (c.replace_snapshot.ensures.stages crash_model recovers.snapshot recovers.payloads recovers.shows))
+    alone_stages _ _ at h _ _ _ (snapshot_stages _ _ at h [] _ recovers follows c.args.self.now.version t.contents there c.requires.holds _ _ _ (c.replace_snapshot.ensures.stages crash_model recovers.snapshot recovers.payloads recovers.shows))
 
 pub returns-clause-done : goal.returns-clause-done
 returns-clause-done g c = λ crash_model at h recovers follows contents.
@@ -29,7 +29,7 @@ returns-clause-done g c = λ crash_model at h recovers follows contents.
     let there : t.contents ≡ tables.table (h ++ []) t.moment = contents ∙ ap (λ (l : History). tables.table l t.moment) (sym (append-nil h)) in
     let after = c.in_ok-replace_snapshot.ensures.ok in
     subst (λ (l : History). RecoversToAt c.replace_snapshot.new.self (g.D.Disk.trace c.replace_snapshot.new.self.disk).now t.moment l) (append-nil h)
-    (snapshot_done _ _ at h [] _ recovers follows c.args.self.now.version t.contents there c.requires.snapshot.holds _ _ (ap (λ st. st.version) after) (ap (λ st. st.bounds) after) (ap (λ st. st.stopped) after ∙ recovers.runs)
+    (snapshot_done _ _ at h [] _ recovers follows c.args.self.now.version t.contents there c.requires.holds _ _ (ap (λ st. st.version) after) (ap (λ st. st.bounds) after) (ap (λ st. st.stopped) after ∙ recovers.runs)
     (c.in_ok-replace_snapshot.ensures.shown crash_model recovers.snapshot recovers.payloads recovers.shows))
 
 pub returns-in-Some-clause-version : goal.returns-in-Some-clause-version

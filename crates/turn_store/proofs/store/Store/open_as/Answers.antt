@@ -1,7 +1,5 @@
 use Rattle.std.proofs.Common.{◌∙◌, Bool, Ok, refl, sym, subst}
 use Rattle.std.proofs.lemmas.Result.{err_from_is_err_and}
-use Rattle.turn_record.specs.Prelude.{IsSnapshot}
-use Rattle.turn_types.specs.declared.limits.Bounds.{Bounds}
 use Rattle.turn_store.specs.Opening.{Opening}
 use Rattle.turn_store.proofs.store.Store.open_as.Goals as goal
 
@@ -10,7 +8,7 @@ returns-in_err-opened g c = let is = c.in_err-opened.ensures in let p = err_from
   uses = is.uses;
   bounds = tt;
   runs = tt;
-  snapshot = tt;
+  holds = tt;
   stop = is.stop;
   version = is.version;
   same = λ no. is.same refl;
@@ -28,11 +26,6 @@ returns-then-not-carry g c = subst (λ (b : Bool). Opening g.D.Disk c.args.disk 
 
 pub carry_over-requires-clause-limits : goal.carry_over-requires-clause-limits
 carry_over-requires-clause-limits g c = c.in_ok-opened.ensures.bounds.1 ∙ sym c.in_ok-opened.ensures.bounds.0
-
-pub carry_over-requires-clause-snapshot : goal.carry_over-requires-clause-snapshot
-carry_over-requires-clause-snapshot g c =
-    let o = c.in_ok-opened.opened in
-    subst (λ (b : Bounds). IsSnapshot o.store.version b o.table.moment o.table.contents) (sym c.in_ok-opened.ensures.bounds.0) c.in_ok-opened.ensures.snapshot
 
 pub returns : goal.returns
 returns g c = subst (λ (b : Bool). Opening g.D.Disk c.args.disk c.args.limits b c.carry_over.result) (sym c.if-not-carry.false) (c.carry_over.ensures.opens c.args.disk c.args.limits c.in_ok-opened.ensures)

@@ -36,15 +36,15 @@ returns-in_default g c =
     let removed : map_in nat_cmp c.remove.new.self ≡ fin.remove old c.args.entry.entry.port = c.remove.ensures.map ∙ ap (fin.remove old) (search rules) in
     let none : c.args.entry.entry.token ≡ None = sym c.token-token.ensures ∙ none_of c.token-token.result c.in_default.not-Some in
     with_allocation-is c.self.inside.limits c.self.inside.moment c.self.inside.allocations.held (option_map room_of c.self.inside.room) c.args.self.now c.self.view_is
-    c.args.moment c.insert.new.self.held c.args.tuple c.args.entry c.insert.ensures (map_in nat_cmp c.remove.new.self)
-    (removed ∙ ap (λ t. with_reservation c.args.moment c.args.entry.entry.port t (fin.remove old c.args.entry.entry.port)) (sym none))
+    c.insert.new.self.held c.args.tuple c.args.entry c.insert.ensures (map_in nat_cmp c.remove.new.self)
+    (removed ∙ ap (λ t. with_reservation c.args.self.now.moment c.args.entry.entry.port t (fin.remove old c.args.entry.entry.port)) (sym none))
 
 pub invariant_of-self-in_default : goal.invariant_of-self-in_default
 invariant_of-self-in_default g c =
     let least = min_below c.self.inside.quiet_until c.earliest.result c.min-self-inside.result c.min-self-inside.ensures in
-    ready_of (returns-in_default g c)
-    (holds_allocated (holds_earlier (holds_of c.self.view_is c.self.invariant) least.0) c.args.moment c.args.tuple c.args.entry.entry c.args.self.now.bounds
-    (quiet_before _ c.earliest.result c.args.entry.entry least.1 c.earliest.ensures) c.requires.next
+    ready_of (returns-in_default g c) c.self.invariant.range c.requires.at
+    (holds_allocated (holds_earlier (holds_of c.self.view_is c.self.invariant) least.0) c.args.self.now.moment c.args.tuple c.args.entry.entry
+    (quiet_before _ c.earliest.result c.args.entry.entry least.1 c.earliest.ensures)
     (λ k some. absurd (some_none some (sym c.token-token.ensures ∙ none_of c.token-token.result c.in_default.not-Some))))
 
 -- ---- With a token
@@ -59,13 +59,14 @@ returns-in-Some g c =
     c.put.ensures.map ∙ ap (λ m. fin.insert m (c.port-port.result + 1) r) removed ∙ ap (λ p. fin.insert (fin.remove old port) (p + 1) r) c.port-port.ensures in
     let with_expiry : ℕ → Reservations = λ t. fin.insert (fin.remove old port) (port + 1) (record { token = c.in-Some.token; expiry = t + reservation_lifetime }) in
     with_allocation-is c.self.inside.limits c.self.inside.moment c.self.inside.allocations.held (option_map room_of c.self.inside.room) c.args.self.now c.self.view_is
-    c.args.moment c.insert.new.self.held c.args.tuple c.args.entry c.insert.ensures (map_in nat_cmp c.put.new.self)
-    (put ∙ ap with_expiry c.seconds-expiry.ensures.value ∙ ap (λ t. with_reservation c.args.moment port t (fin.remove old port)) c.in-Some.ensures)
+    c.insert.new.self.held c.args.tuple c.args.entry c.insert.ensures (map_in nat_cmp c.put.new.self)
+    (put ∙ ap with_expiry (c.seconds-expiry.ensures.value ∙ ap (λ s. s.moment) c.self.view_is) ∙ ap (λ t. with_reservation c.args.self.now.moment port t (fin.remove old port)) c.in-Some.ensures)
 
 pub invariant_of-self : goal.invariant_of-self
 invariant_of-self g c =
+    let moment = c.seconds-expiry.ensures.value ∙ ap (λ s. s.moment) c.self.view_is in
     let least = min_below c.self.inside.quiet_until c.earliest.result c.min-self-inside.result c.min-self-inside.ensures in
     let less = min_below c.min-self-inside.result (c.seconds-expiry.result + reservation_lifetime) c.min-self-inside-in-Some.result c.min-self-inside-in-Some.ensures in
-    ready_of (returns-in-Some g c)
-    (holds_allocated (holds_earlier (holds_of c.self.view_is c.self.invariant) (omega (arith, less.0, least.0))) c.args.moment c.args.tuple c.args.entry.entry c.args.self.now.bounds
-    (quiet_before _ c.earliest.result c.args.entry.entry (omega (arith, less.0, least.1)) c.earliest.ensures) c.requires.next (λ k some. omega (arith, less.1, c.seconds-expiry.ensures.value)))
+    ready_of (returns-in-Some g c) c.self.invariant.range c.requires.at
+    (holds_allocated (holds_earlier (holds_of c.self.view_is c.self.invariant) (omega (arith, less.0, least.0))) c.args.self.now.moment c.args.tuple c.args.entry.entry
+    (quiet_before _ c.earliest.result c.args.entry.entry (omega (arith, less.0, least.1)) c.earliest.ensures) (λ k some. omega (arith, less.1, moment)))

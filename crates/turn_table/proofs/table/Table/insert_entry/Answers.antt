@@ -1,6 +1,7 @@
 use Rattle.std.proofs.Common.{ap, ◌∙◌, option_map}
+use Rattle.turn_history.proofs.TableAt.{at-inserted}
 use Rattle.turn_table.specs.Prelude.{room_of}
-use Rattle.turn_table.proofs.Ready.{holds_earlier, holds_inserted, holds_of, min_below, quiet_before, ready_of}
+use Rattle.turn_table.proofs.Ready.{at_of, holds_earlier, holds_inserted, holds_of, min_below, quiet_before, ready_of}
 use Rattle.turn_table.proofs.States.{absent_of, port_free_of, room_for, with_entry-is}
 use Rattle.turn_table.proofs.table.Table.insert_entry.Goals as goal
 
@@ -23,6 +24,7 @@ returns g c =
 pub invariant_of-self : goal.invariant_of-self
 invariant_of-self g c =
     let least = min_below c.self.inside.quiet_until c.earliest.result c.min-self-inside.result c.min-self-inside.ensures in
-    ready_of (returns g c)
+    ready_of (returns g c) c.self.invariant.range
+    (at-inserted _ _ c.args.self.now.contents (at_of c.self.view_is c.self.invariant) c.args.tuple c.args.entry.entry c.requires.entry c.requires.free c.requires.unreserved c.requires.few)
     (holds_inserted (holds_earlier (holds_of c.self.view_is c.self.invariant) least.0) c.args.tuple c.args.entry.entry
-    (quiet_before _ c.earliest.result c.args.entry.entry least.1 c.earliest.ensures) c.requires.unreserved)
+    (quiet_before _ c.earliest.result c.args.entry.entry least.1 c.earliest.ensures))

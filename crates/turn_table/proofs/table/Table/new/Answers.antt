@@ -1,4 +1,6 @@
-use Rattle.std.proofs.Common.{ap, ◌∙◌, None}
+use Rattle.std.proofs.Common.{ap, ◌∙◌, None, subst}
+use Rattle.turn_types.specs.Prelude.{AreInRange}
+use Rattle.turn_history.proofs.TableAt.{at-nothing}
 use Rattle.turn_history.specs.Prelude.{no_contents}
 use Rattle.turn_table.specs.Prelude.{entries_of}
 use Rattle.turn_table.proofs.Held.{entries_of-empty}
@@ -16,4 +18,4 @@ returns g c = λ i. record {
 
 pub invariant_of-result : goal.invariant_of-result
 unfolding no_contents
-invariant_of-result g c = ready_of (returns g c) (holds_empty 18446744073709551615)
+invariant_of-result g c = ready_of (returns g c) (subst AreInRange c.bounds-bounds.ensures.value c.bounds-bounds.ensures.range) (at-nothing c.args.limits c.args.moment c.seconds.ensures.range) (holds_empty c.seconds.result)

@@ -1,8 +1,9 @@
 use Rattle.std.proofs.Common.{◌≡◌, ap, sym, ◌∙◌, is_some, option_map, subst, IsSomeAnd}
 use Rattle.std.specs.FinMap as fin
+use Rattle.turn_history.proofs.TableAt.{at-removed}
 use Rattle.turn_table.specs.Prelude.{room_of}
 use Rattle.turn_table.proofs.Options.{is_some_then, mapped_then}
-use Rattle.turn_table.proofs.Ready.{holds_of, holds_removed, ready_of}
+use Rattle.turn_table.proofs.Ready.{at_of, holds_of, holds_removed, ready_of}
 use Rattle.turn_table.proofs.States.{entry_of, there_of, without_entry-is}
 use Rattle.turn_table.proofs.table.Table.remove_entry.Goals as goal
 
@@ -17,7 +18,9 @@ returns-clause-state g c =
     c.remove.new.self.held c.args.tuple c.remove.ensures.held
 
 pub invariant_of-self : goal.invariant_of-self
-invariant_of-self g c = ready_of (returns-clause-state g c) (holds_removed (holds_of c.self.view_is c.self.invariant) c.args.tuple)
+invariant_of-self g c =
+    ready_of (returns-clause-state g c) c.self.invariant.range (at-removed _ _ c.args.self.now.contents (at_of c.self.view_is c.self.invariant) c.args.tuple)
+    (holds_removed (holds_of c.self.view_is c.self.invariant) c.args.tuple)
 
 pub returns-clause-port : goal.returns-clause-port
 returns-clause-port g c =

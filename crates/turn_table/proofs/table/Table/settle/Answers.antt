@@ -1,11 +1,10 @@
-use Rattle.std.proofs.Common.{◌≡◌, ap, sym, ◌∙◌, arith, option_map, None, nat_cmp}
+use Rattle.std.proofs.Common.{◌≡◌, ap, sym, ◌∙◌, subst, arith, option_map, None, nat_cmp}
 use Rattle.std.specs.FinMap as fin
+use Rattle.turn_history.proofs.TableAt.{at-purged}
 use Rattle.turn_history.specs.Prelude.{Contents, purged}
 use Rattle.turn_table.specs.Prelude.{map_in, still_entry, entries_of, State}
-use Rattle.turn_table.proofs.Options.{mapped_then}
 use Rattle.turn_table.proofs.Purging.{purged_ahead, purged_quiet, stays}
-use Rattle.turn_table.proofs.Held.{entry_at}
-use Rattle.turn_table.proofs.Ready.{holds_of, min_below, quiet_before}
+use Rattle.turn_table.proofs.Ready.{IsAt, at_of, holds_of, min_below, quiet_before}
 use Rattle.turn_table.proofs.table.Table.settle.Goals as goal
 
 pub returns-then-self-seconds : goal.returns-then-self-seconds
@@ -29,20 +28,18 @@ pub invariant_of-self : goal.invariant_of-self
 invariant_of-self g c =
     let least = min_below c.quiet_until.result c.earliest.result c.min-self-inside.result c.min-self-inside.ensures in
     record {
+      range = c.self.invariant.range;
+      at = subst IsAt (sym (returns-then-self-seconds g c)) (at-purged _ _ c.args.moment c.args.self.now.contents c.requires.late c.seconds.ensures.range (at_of c.self.view_is c.self.invariant));
       quiet = λ f h is. quiet_before c.min-self-inside.result c.quiet_until.result h.entry least.0 (c.quiet_until.ensures f h is);
       reserved_quiet = λ port r is. let later = c.earliest.ensures port r is in omega (arith, later, least.1);
       spare = λ r is. cc;
-      apart = λ port r is. (
-        (c.self.invariant.apart port r is).0,
-        λ f h at same. mapped_then (still_entry c.seconds-then-self-seconds.result) (fin.get (entries_of c.self.inside.allocations.held) f) h.entry (sym (c.purge.ensures f) ∙ entry_at c.purge.new.self.held f h at)
-            (λ e was left. ((holds_of c.self.view_is c.self.invariant).apart port r (ap (λ s. fin.get s.contents.reserved port) (sym c.self.view_is) ∙ is)).1 f e (ap (λ s. fin.get s.contents.entries f) (sym c.self.view_is) ∙ was) (ap (λ x. x.port) left ∙ same)),
-      );
     }
 
 pub invariant_of-self-else-self-seconds : goal.invariant_of-self-else-self-seconds
 invariant_of-self-else-self-seconds g c = record {
+  range = c.self.invariant.range;
+  at = subst IsAt (sym (returns-else-self-seconds g c)) (at-purged _ _ c.args.moment c.args.self.now.contents c.requires.late c.seconds.ensures.range (at_of c.self.view_is c.self.invariant));
   quiet = c.self.invariant.quiet;
   reserved_quiet = c.self.invariant.reserved_quiet;
   spare = λ r is. cc;
-  apart = c.self.invariant.apart;
 }
