@@ -1,5 +1,5 @@
 -- The commands, by the texts of their values.
-use Rattle.std.specs.Prelude.{ℕ, ◌≡◌, ◌≢◌, ◌≤◌, ◌<◌, ◌+◌, ◌-◌, ◌^◌, ⊤, ◌&&◌, Bool, not, nat_eq, nat_le, List, length, Ok, IsErr, Option, Some, None, option_map}
+use Rattle.std.specs.Prelude.{ℕ, ◌≡◌, ◌≢◌, ◌≤◌, ◌<◌, ◌+◌, ◌^◌, ⊤, ◌&&◌, Bool, not, nat_eq, nat_le, List, length, Ok, IsErr, Option, Some, None, option_map}
 use Rattle.hex.specs.Hex.{decode_of}
 use Rattle.turn_types.specs.declared.address.Endpoint.{Endpoint}
 use Rattle.turn_cli.specs.declared.command.Command.{Command}

@@ -1,1 +1,3 @@
 pub mod Command
+pub mod Table
+pub mod Read

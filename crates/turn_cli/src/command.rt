@@ -1,9 +1,12 @@
 //! The words of a command line as a command with its values.
 
-ghost use Rattle.std.specs.Prelude.{◌≡◌, ◌≢◌, ◌↔◌, IfOk};
+ghost use Rattle.std.specs.Prelude.{◌≡◌, ◌≢◌, ◌↔◌, IfOk, map};
 ghost use Rattle.clap.specs.Values.{kind_of};
+ghost use Rattle.clap.specs.Words.{HasMatchesOf};
 ghost use Rattle.clap.specs.declared.error.ErrorKind.TheVariants.{OutOfMemory};
 ghost use Rattle.turn_cli.specs.Command.{IsInRange};
+ghost use Rattle.turn_cli.specs.Read.{IsCalled, IsRead};
+ghost use Rattle.turn_cli.specs.Table.{told};
 ghost use Rattle.turn_cli.specs.declared.error.CliError.TheVariants as faults;
 
 mod answer;
@@ -11,35 +14,43 @@ mod check;
 mod credential;
 mod end;
 mod format;
+mod found;
 mod help;
 mod inspect;
+mod line;
 mod listen;
 mod probe;
 mod replay;
 mod serve;
 mod status;
+mod table;
 mod words;
 
 use crate::error::CliError;
-use answer::{answer_command, answer_of};
-use check::{check_command, check_of};
+use answer::answer_of;
+use check::check_of;
+use clap::ArgMatches;
 use clap::error::ErrorKind;
-use credential::{credential_command, credential_of};
+use credential::credential_of;
 pub use end::Ended;
-use end::{end_command, end_of};
-use format::{format_command, format_of};
-pub use help::{SYNOPSES, Synopsis};
-use help::{help_command, help_of};
+use end::end_of;
+use format::format_of;
+use found::{Found, found_in};
+use help::help_of;
+use inspect::inspect_of;
 pub use inspect::shown_at;
-use inspect::{inspect_command, inspect_of};
+pub use line::line_of;
 pub use probe::Asker;
-use probe::{probe_command, probe_of};
-use replay::{replay_command, replay_of};
-use serve::{serve_command, serve_of};
-use status::{status_command, status_of};
-use std::alloc::{AllocError, Global};
+use probe::probe_of;
+use replay::replay_of;
+use serve::serve_of;
+use status::status_of;
+use std::alloc::Global;
 use std::convert::AsStr;
+use table::Subcommand;
+pub use table::{SYNOPSES, Synopsis};
 use turn_types::{Endpoint, Moment};
+use words::table_command;
 
 /// What a command line asks for.
 #[derive(Drop)]
@@ -161,25 +172,6 @@ pub enum Command {
     },
 }
 
-fn turn_command<'a>(alloc: Global) -> Result<clap::Command<'a>, AllocError> {
-    clap::Command::new(alloc, "turn")
-        .subcommand_required(true)
-        .disable_help_subcommand(true)
-        .subcommand(answer_command(alloc)?)?
-        .subcommand(replay_command(alloc)?)?
-        .subcommand(credential_command(alloc)?)?
-        .subcommand(format_command(alloc)?)?
-        .subcommand(inspect_command(alloc)?)?
-        .subcommand(check_command(alloc)?)?
-        .subcommand(serve_command(alloc)?)?
-        .subcommand(end_command(alloc)?)?
-        .subcommand(probe_command(alloc)?)?
-        .subcommand(status_command(alloc)?)?
-        .subcommand(clap::Command::new(alloc, "demo"))?
-        .subcommand(clap::Command::new(alloc, "version"))?
-        .subcommand(help_command(alloc)?)
-}
-
 /// A refusal of the words, `--help` included, is a usage fault.
 fn fault_of(error: clap::Error) -> CliError
     ensures memory { (result ≡ faults.Memory) ↔ (kind_of error ≡ OutOfMemory) }
@@ -191,26 +183,60 @@ fn fault_of(error: clap::Error) -> CliError
     }
 }
 
+/// The command of a row with the values that its words were given.
+fn read(alloc: Global, found: &Found<'_, '_>) -> Result<Command, CliError>
+    ensures range { IfOk result (λ command. IsInRange command) }
+    ensures read { IfOk result (λ command. IsRead found.now command) }
+{
+    match found.synopsis.subcommand {
+        Subcommand::Format => format_of(alloc, found),
+        Subcommand::Serve => serve_of(alloc, found),
+        Subcommand::Check => check_of(alloc, found),
+        Subcommand::Inspect => inspect_of(alloc, found),
+        Subcommand::Status => status_of(alloc, found),
+        Subcommand::End => end_of(alloc, found),
+        Subcommand::Probe => probe_of(alloc, found),
+        Subcommand::Credential => credential_of(alloc, found),
+        Subcommand::Demo => Ok(Command::Demo),
+        Subcommand::Version => Ok(Command::Version),
+        Subcommand::Help => help_of(found),
+        Subcommand::Answer => answer_of(alloc, found),
+        Subcommand::Replay => replay_of(alloc, found),
+    }
+}
+
+/// What `clap` finds in the words.
+#[tactic(auto, unfolding(crate::specs::Table::told))]
+fn matches_of<'a, S: AsStr>(
+    program: clap::Command<'a>,
+    words: &'a [S],
+) -> Result<ArgMatches<'a>, CliError>
+    ensures { IfOk result (HasMatchesOf (told program.entry) (map S.text words.entry.now)) }
+{
+    match program.try_get_matches_from(words) {
+        Ok(matches) => Ok(matches),
+        Err(error) => Err(fault_of(error)),
+    }
+}
+
+/// The command that the words make, by the rows of a table.
+fn called<S: AsStr>(
+    alloc: Global,
+    synopses: &'static [Synopsis],
+    words: &[S],
+) -> Result<Command, CliError>
+    ensures range { IfOk result (λ command. IsInRange command) }
+    ensures called { IfOk result (λ command. IsCalled synopses.entry.now (map S.text words.entry.now) command) }
+{
+    let program = table_command(alloc, synopses)?;
+    let matches = matches_of(program, words)?;
+    let found = found_in(synopses, &matches)?;
+    read(alloc, &found)
+}
+
 /// The command that the words make, the program's name first.
 pub fn command_of<S: AsStr>(alloc: Global, words: &[S]) -> Result<Command, CliError>
     ensures { IfOk result (λ command. IsInRange command) }
 {
-    let command = turn_command(alloc)?;
-    let matches = command.try_get_matches_from(words).map_err(fault_of)?;
-    match matches.subcommand() {
-        Some(("answer", found)) => answer_of(alloc, found),
-        Some(("replay", found)) => replay_of(alloc, found),
-        Some(("credential", found)) => credential_of(alloc, found),
-        Some(("format", found)) => format_of(alloc, found),
-        Some(("inspect", found)) => inspect_of(alloc, found),
-        Some(("check", found)) => check_of(alloc, found),
-        Some(("serve", found)) => serve_of(alloc, found),
-        Some(("end", found)) => end_of(alloc, found),
-        Some(("probe", found)) => probe_of(alloc, found),
-        Some(("status", found)) => status_of(alloc, found),
-        Some(("demo", _)) => Ok(Command::Demo),
-        Some(("version", _)) => Ok(Command::Version),
-        Some(("help", found)) => help_of(found),
-        _ => Err(CliError::Usage),
-    }
+    called(alloc, &SYNOPSES, words)
 }

@@ -4,5 +4,5 @@
 mod command;
 mod error;
 
-pub use command::{Asker, Command, Ended, SYNOPSES, Synopsis, command_of, shown_at};
+pub use command::{Asker, Command, Ended, SYNOPSES, Synopsis, command_of, line_of, shown_at};
 pub use error::CliError;

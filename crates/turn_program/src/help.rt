@@ -4,12 +4,7 @@ use crate::error::ProgramError;
 use crate::print::{print_line, print_lines};
 use std::alloc::{AllocError, Global};
 use std::io::Write;
-use turn_cli::{SYNOPSES, Synopsis};
-
-fn line_of(alloc: Global, synopsis: &Synopsis) -> Result<String, AllocError> {
-    let (name, words) = (synopsis.name, synopsis.words);
-    format!(in alloc; "turn {name}{words}")
-}
+use turn_cli::{SYNOPSES, Synopsis, line_of};
 
 fn lines_of(alloc: Global, synopses: &[Synopsis]) -> Result<Vec<String>, AllocError> {
     let mut lines = Vec::new(alloc);

@@ -3,22 +3,15 @@
 ghost use Rattle.std.specs.Prelude.{IfOk, IfErr, SomeIff};
 ghost use Rattle.std.specs.Option.{option_copied};
 ghost use Rattle.turn_cli.specs.Command.{IsAnswer, IsAnswerError, IsMomentWord, IsInRange, seconds_at};
+ghost use Rattle.turn_cli.specs.Read.{IsRead};
 
 use super::Command;
-use super::words::{option, value};
+use super::found::Found;
+use super::table::Kind;
 use crate::error::CliError;
-use clap::ArgMatches;
-use std::alloc::{AllocError, Global};
+use std::alloc::Global;
 use turn_config::values::{bytes, endpoint, moment};
 use turn_types::Moment;
-
-/// The words of `answer`: `--from`, `--at` and a datagram.
-pub fn answer_command<'a>(alloc: Global) -> Result<clap::Command<'a>, AllocError> {
-    clap::Command::new(alloc, "answer")
-        .arg(option(alloc, "from").required(true))?
-        .arg(option(alloc, "at"))?
-        .arg(value(alloc, "HEX").required(true))
-}
 
 /// The moment of `--at`, 0 if there is no such option.
 fn moment_at(text: Option<&[u8]>) -> Option<Moment>
@@ -48,11 +41,12 @@ fn answer(alloc: Global, from: &[u8], at: Option<&[u8]>, hex: &[u8]) -> Result<C
 }
 
 /// The values of `answer`. `Usage` where one is malformed or out of range, `BadDatagram` for the datagram.
-pub fn answer_of(alloc: Global, found: &ArgMatches<'_>) -> Result<Command, CliError>
-    ensures { IfOk result (λ command. IsInRange command) }
+pub fn answer_of(alloc: Global, found: &Found<'_, '_>) -> Result<Command, CliError>
+    ensures range { IfOk result (λ command. IsInRange command) }
+    ensures read { IfOk result (λ command. IsRead found.now command) }
 {
-    let from = found.get_str("from").ok_or(CliError::Usage)?;
-    let at = found.get_str("at").map(|text| text.as_bytes());
-    let hex = found.get_str("HEX").ok_or(CliError::Usage)?;
-    answer(alloc, from.as_bytes(), at, hex.as_bytes())
+    let from = found.bytes("from", Kind::Endpoint).ok_or(CliError::Usage)?;
+    let at = found.bytes("at", Kind::Moment);
+    let hex = found.bytes("HEX", Kind::Hex).ok_or(CliError::Usage)?;
+    answer(alloc, from, at, hex)
 }

@@ -2,27 +2,18 @@
 
 ghost use Rattle.std.specs.Prelude.{◌≡◌, ◌+◌, ◌≤◌, IfOk, IfSome, SomeIff};
 ghost use Rattle.std.specs.List.{list_all};
+ghost use Rattle.std.specs.Option.{option_copied};
 ghost use Rattle.turn_config.specs.Values.{number_of};
 ghost use Rattle.turn_cli.specs.Command.{AreTimes, IsInRange, is_shown};
+ghost use Rattle.turn_cli.specs.Read.{IsRead, IsTextIfGiven};
 
 use super::Command;
-use super::check::owned;
-use super::words::{flag, option};
+use super::found::{Found, owned};
+use super::table::Kind;
 use crate::error::CliError;
-use clap::ArgMatches;
-use std::alloc::{AllocError, Global};
+use std::alloc::Global;
 use turn_config::values::{moment, number};
 use turn_types::Moment;
-
-/// The words of `credential`: `--config`, `--name`, `--at`, `--life` and `--log`.
-pub fn credential_command<'a>(alloc: Global) -> Result<clap::Command<'a>, AllocError> {
-    clap::Command::new(alloc, "credential")
-        .arg(option(alloc, "config").required(true))?
-        .arg(option(alloc, "name"))?
-        .arg(option(alloc, "at").required(true))?
-        .arg(option(alloc, "life").required(true))?
-        .arg(flag(alloc, "log"))
-}
 
 /// The moment so many seconds after another one. 0 is no end of a name.
 fn expiry(at: &[u8], life: &[u8]) -> Option<Moment>
@@ -50,7 +41,9 @@ fn has_control(text: &str) -> bool {
 }
 
 /// The name of `--name`, if it is there.
-fn name_in(alloc: Global, text: Option<&str>) -> Result<Option<String>, CliError> {
+fn name_in(alloc: Global, text: Option<&str>) -> Result<Option<String>, CliError>
+    ensures { IfOk result (λ name. IsTextIfGiven (option_copied text.entry) name) }
+{
     match text {
         Some(name) if !is_shown(name.as_bytes()) || has_control(name) => Err(CliError::Usage),
         _ => Ok(owned(alloc, text)?),
@@ -58,16 +51,16 @@ fn name_in(alloc: Global, text: Option<&str>) -> Result<Option<String>, CliError
 }
 
 /// The values of `credential`. `Usage` where one is malformed or out of range.
-pub fn credential_of(alloc: Global, found: &ArgMatches<'_>) -> Result<Command, CliError>
-    ensures { IfOk result (λ command. IsInRange command) }
+pub fn credential_of(alloc: Global, found: &Found<'_, '_>) -> Result<Command, CliError>
+    ensures range { IfOk result (λ command. IsInRange command) }
+    ensures read { IfOk result (λ command. IsRead found.now command) }
 {
-    let config = found.get_str("config").ok_or(CliError::Usage)?;
-    let at = found.get_str("at").ok_or(CliError::Usage)?;
-    let life = found.get_str("life").ok_or(CliError::Usage)?;
+    let at = found.bytes("at", Kind::Moment).ok_or(CliError::Usage)?;
+    let life = found.bytes("life", Kind::Number).ok_or(CliError::Usage)?;
     Ok(Command::Credential {
-        expiry: expiry(at.as_bytes(), life.as_bytes()).ok_or(CliError::Usage)?,
-        name: name_in(alloc, found.get_str("name"))?,
-        log: found.get_flag("log"),
-        config: String::from_str(alloc, config)?,
+        expiry: expiry(at, life).ok_or(CliError::Usage)?,
+        name: name_in(alloc, found.text("name", Kind::ShownName))?,
+        log: found.flag("log"),
+        config: found.owned(alloc, "config", Kind::File)?,
     })
 }

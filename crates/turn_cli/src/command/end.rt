@@ -1,13 +1,15 @@
 //! The words of `turn end`.
 
 ghost use Rattle.std.specs.Prelude.{IfOk};
+ghost use Rattle.std.specs.Option.{option_copied};
 ghost use Rattle.turn_cli.specs.Command.{IsInRange};
+ghost use Rattle.turn_cli.specs.Read.{IsEnded, IsRead};
 
 use super::Command;
-use super::words::{flag, option};
+use super::found::Found;
+use super::table::Kind;
 use crate::error::CliError;
-use clap::ArgMatches;
-use std::alloc::{AllocError, Global};
+use std::alloc::Global;
 use turn_config::values::endpoint;
 use turn_types::Endpoint;
 
@@ -20,18 +22,10 @@ pub enum Ended {
     Client(Endpoint),
 }
 
-/// The words of `end`: `--config`, `--store`, `--user` or `--client`, and `--log`.
-pub fn end_command<'a>(alloc: Global) -> Result<clap::Command<'a>, AllocError> {
-    clap::Command::new(alloc, "end")
-        .arg(option(alloc, "config").required(true))?
-        .arg(option(alloc, "store").required(true))?
-        .arg(option(alloc, "user"))?
-        .arg(option(alloc, "client"))?
-        .arg(flag(alloc, "log"))
-}
-
 /// Whose allocations end. `Usage` where neither is given or both are, or the address is malformed.
-fn ended_of(alloc: Global, user: Option<&str>, client: Option<&str>) -> Result<Ended, CliError> {
+fn ended_of(alloc: Global, user: Option<&str>, client: Option<&str>) -> Result<Ended, CliError>
+    ensures { IfOk result (λ ended. IsEnded (option_copied user.entry) (option_copied client.entry) ended) }
+{
     match (user, client) {
         (Some(user), None) => Ok(Ended::User(String::from_str(alloc, user)?)),
         (None, Some(client)) => {
@@ -43,15 +37,16 @@ fn ended_of(alloc: Global, user: Option<&str>, client: Option<&str>) -> Result<E
 }
 
 /// The values of `end`.
-pub fn end_of(alloc: Global, found: &ArgMatches<'_>) -> Result<Command, CliError>
-    ensures { IfOk result (λ command. IsInRange command) }
+pub fn end_of(alloc: Global, found: &Found<'_, '_>) -> Result<Command, CliError>
+    ensures range { IfOk result (λ command. IsInRange command) }
+    ensures read { IfOk result (λ command. IsRead found.now command) }
 {
-    let config = found.get_str("config").ok_or(CliError::Usage)?;
-    let store = found.get_str("store").ok_or(CliError::Usage)?;
+    let user = found.text("user", Kind::Name);
+    let client = found.text("client", Kind::Endpoint);
     Ok(Command::End {
-        ended: ended_of(alloc, found.get_str("user"), found.get_str("client"))?,
-        log: found.get_flag("log"),
-        config: String::from_str(alloc, config)?,
-        store: String::from_str(alloc, store)?,
+        ended: ended_of(alloc, user, client)?,
+        log: found.flag("log"),
+        config: found.owned(alloc, "config", Kind::File)?,
+        store: found.owned(alloc, "store", Kind::Store)?,
     })
 }

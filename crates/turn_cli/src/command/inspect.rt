@@ -3,22 +3,15 @@
 ghost use Rattle.std.specs.Prelude.{◌≡◌, IfOk, SomeIff, max};
 ghost use Rattle.std.specs.Option.{option_copied, option_map_or};
 ghost use Rattle.turn_cli.specs.Command.{IsMomentWord, IsInRange, number_if_given};
+ghost use Rattle.turn_cli.specs.Read.{IsRead};
 
 use super::Command;
-use super::words::{flag, option};
+use super::found::Found;
+use super::table::Kind;
 use crate::error::CliError;
-use clap::ArgMatches;
-use std::alloc::{AllocError, Global};
+use std::alloc::Global;
 use turn_config::values::moment;
 use turn_types::Moment;
-
-/// The words of `inspect`: `--store`, `--at` and `--log`.
-pub fn inspect_command<'a>(alloc: Global) -> Result<clap::Command<'a>, AllocError> {
-    clap::Command::new(alloc, "inspect")
-        .arg(option(alloc, "store").required(true))?
-        .arg(option(alloc, "at"))?
-        .arg(flag(alloc, "log"))
-}
 
 /// The moment of `--at`, if there is such an option.
 fn moment_in(text: Option<&[u8]>) -> Option<Option<Moment>>
@@ -41,14 +34,14 @@ pub fn shown_at(at: Option<Moment>, clock: Moment) -> Moment
 }
 
 /// The values of `inspect`. `Usage` where the moment is malformed or out of range.
-pub fn inspect_of(alloc: Global, found: &ArgMatches<'_>) -> Result<Command, CliError>
-    ensures { IfOk result (λ command. IsInRange command) }
+pub fn inspect_of(alloc: Global, found: &Found<'_, '_>) -> Result<Command, CliError>
+    ensures range { IfOk result (λ command. IsInRange command) }
+    ensures read { IfOk result (λ command. IsRead found.now command) }
 {
-    let store = found.get_str("store").ok_or(CliError::Usage)?;
-    let at = found.get_str("at").map(|text| text.as_bytes());
+    let at = found.bytes("at", Kind::Moment);
     Ok(Command::Inspect {
         at: moment_in(at).ok_or(CliError::Usage)?,
-        log: found.get_flag("log"),
-        store: String::from_str(alloc, store)?,
+        log: found.flag("log"),
+        store: found.owned(alloc, "store", Kind::Store)?,
     })
 }

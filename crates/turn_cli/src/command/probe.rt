@@ -1,13 +1,15 @@
 //! The words of `turn probe`.
 
 ghost use Rattle.std.specs.Prelude.{IfOk};
+ghost use Rattle.std.specs.Option.{option_copied};
 ghost use Rattle.turn_cli.specs.Command.{IsInRange};
+ghost use Rattle.turn_cli.specs.Read.{IsAsker, IsRead, IsServer};
 
 use super::Command;
-use super::words::{flag, option, value};
+use super::found::Found;
+use super::table::Kind;
 use crate::error::CliError;
-use clap::ArgMatches;
-use std::alloc::{AllocError, Global};
+use std::alloc::Global;
 use turn_config::values::endpoint;
 use turn_types::Endpoint;
 
@@ -30,23 +32,15 @@ pub enum Asker {
     },
 }
 
-/// The words of `probe`: an address, `--user`, `--password`, `--config` and `--binding`.
-pub fn probe_command<'a>(alloc: Global) -> Result<clap::Command<'a>, AllocError> {
-    clap::Command::new(alloc, "probe")
-        .arg(option(alloc, "user"))?
-        .arg(option(alloc, "password"))?
-        .arg(option(alloc, "config"))?
-        .arg(flag(alloc, "binding"))?
-        .arg(value(alloc, "ADDRESS"))
-}
-
 /// Who asks: a name and a password, or a configuration, or nobody. `Usage` where one of them is missing, or both are there.
 fn asker_of(
     alloc: Global,
     user: Option<&str>,
     password: Option<&str>,
     config: Option<&str>,
-) -> Result<Asker, CliError> {
+) -> Result<Asker, CliError>
+    ensures { IfOk result (λ asker. IsAsker (option_copied user.entry) (option_copied password.entry) (option_copied config.entry) asker) }
+{
     match (user, password, config) {
         (None, None, None) => Ok(Asker::Nobody),
         (Some(name), Some(password), None) => Ok(Asker::User {
@@ -61,7 +55,9 @@ fn asker_of(
 }
 
 /// The address that is asked. Where none is given it is that of a configuration.
-fn server_of(address: Option<&str>, config: Option<&str>) -> Result<Option<Endpoint>, CliError> {
+fn server_of(address: Option<&str>, config: Option<&str>) -> Result<Option<Endpoint>, CliError>
+    ensures { IfOk result (λ server. IsServer (option_copied address.entry) (option_copied config.entry) server) }
+{
     match (address, config) {
         (Some(address), _) => Ok(Some(endpoint(address.as_bytes()).ok_or(CliError::Usage)?)),
         (None, Some(_)) => Ok(None),
@@ -70,19 +66,16 @@ fn server_of(address: Option<&str>, config: Option<&str>) -> Result<Option<Endpo
 }
 
 /// The values of `probe`. `Usage` where the address is malformed, or there is none and no configuration.
-pub fn probe_of(alloc: Global, found: &ArgMatches<'_>) -> Result<Command, CliError>
-    ensures { IfOk result (λ command. IsInRange command) }
+pub fn probe_of(alloc: Global, found: &Found<'_, '_>) -> Result<Command, CliError>
+    ensures range { IfOk result (λ command. IsInRange command) }
+    ensures read { IfOk result (λ command. IsRead found.now command) }
 {
-    let server = server_of(found.get_str("ADDRESS"), found.get_str("config"))?;
-    let asker = asker_of(
-        alloc,
-        found.get_str("user"),
-        found.get_str("password"),
-        found.get_str("config"),
-    )?;
+    let user = found.text("user", Kind::Name);
+    let password = found.text("password", Kind::Password);
+    let config = found.text("config", Kind::File);
     Ok(Command::Probe {
-        server,
-        asker,
-        only_binding: found.get_flag("binding"),
+        server: server_of(found.text("IP:PORT", Kind::Endpoint), config)?,
+        asker: asker_of(alloc, user, password, config)?,
+        only_binding: found.flag("binding"),
     })
 }

@@ -3,31 +3,18 @@
 ghost use Rattle.std.specs.Prelude.{◌≡◌, ◌^◌, ℕ, ◌≤◌, Option, Some, IfOk, IfSome, SomeIff};
 ghost use Rattle.std.specs.Option.{option_copied};
 ghost use Rattle.turn_cli.specs.Command.{IsBelowIfGiven, IsBind, IsBurst, IsInRange, burst_of, number_if_given};
+ghost use Rattle.turn_cli.specs.Read.{IsRead};
 
 use super::Command;
+use super::found::Found;
 use super::listen::listen_of;
-use super::words::{flag, option, options};
+use super::table::Kind;
 use crate::error::CliError;
-use clap::ArgMatches;
-use std::alloc::{AllocError, Global};
+use std::alloc::Global;
 use turn_config::values::{ip, number};
 
 /// How many datagrams of a socket may be taken in a turn.
 const MAX_BURST: u64 = 64;
-
-/// The words of `serve`: `--config`, `--store`, `--turns`, `--burst`, `--relay-bind`, any number of `--listen`, `--held`
-/// and `--log`.
-pub fn serve_command<'a>(alloc: Global) -> Result<clap::Command<'a>, AllocError> {
-    clap::Command::new(alloc, "serve")
-        .arg(option(alloc, "config").required(true))?
-        .arg(option(alloc, "store").required(true))?
-        .arg(option(alloc, "turns"))?
-        .arg(option(alloc, "burst"))?
-        .arg(option(alloc, "relay-bind"))?
-        .arg(options(alloc, "listen"))?
-        .arg(flag(alloc, "held"))?
-        .arg(flag(alloc, "log"))
-}
 
 /// How many turns a server makes, if there is such an option.
 fn turns_in(text: Option<&[u8]>) -> Option<Option<u64>>
@@ -69,26 +56,22 @@ fn bind_in(text: Option<&[u8]>) -> Option<Option<u32>>
     }
 }
 
-/// The text of an option, if it is there.
-fn text_of<'a>(found: &ArgMatches<'a>, name: &str) -> Option<&'a [u8]> {
-    found.get_str(name).map(|text| text.as_bytes())
-}
-
 /// The values of `serve`. `Usage` where one is malformed or out of range.
-pub fn serve_of(alloc: Global, found: &ArgMatches<'_>) -> Result<Command, CliError>
-    ensures { IfOk result (λ command. IsInRange command) }
+pub fn serve_of(alloc: Global, found: &Found<'_, '_>) -> Result<Command, CliError>
+    ensures range { IfOk result (λ command. IsInRange command) }
+    ensures read { IfOk result (λ command. IsRead found.now command) }
 {
-    let config = found.get_str("config").ok_or(CliError::Usage)?;
-    let store = found.get_str("store").ok_or(CliError::Usage)?;
-    let turns = turns_in(text_of(found, "turns")).ok_or(CliError::Usage)?;
+    let turns = turns_in(found.bytes("turns", Kind::Number)).ok_or(CliError::Usage)?;
+    let burst = found.bytes("burst", Kind::Burst);
+    let bind = found.bytes("relay-bind", Kind::Ip);
     Ok(Command::Serve {
         turns,
-        burst: burst_in(text_of(found, "burst"), turns).ok_or(CliError::Usage)?,
-        relay_bind: bind_in(text_of(found, "relay-bind")).ok_or(CliError::Usage)?,
+        burst: burst_in(burst, turns).ok_or(CliError::Usage)?,
+        relay_bind: bind_in(bind).ok_or(CliError::Usage)?,
         listen: listen_of(alloc, found)?,
-        held: found.get_flag("held"),
-        log: found.get_flag("log"),
-        config: String::from_str(alloc, config)?,
-        store: String::from_str(alloc, store)?,
+        held: found.flag("held"),
+        log: found.flag("log"),
+        config: found.owned(alloc, "config", Kind::File)?,
+        store: found.owned(alloc, "store", Kind::Store)?,
     })
 }
