@@ -1,7 +1,8 @@
 //! `turn demo`.
 
-use crate::error::ProgramError;
-use crate::print::print_line;
+ghost use Rattle.std.specs.Prelude.{◌≡◌};
+ghost use Rattle.turn_program.specs.Faults.{of_client};
+
 use std::alloc::Global;
 use std::fs::File;
 use std::io::Write;
@@ -9,7 +10,9 @@ use std::net::Net;
 use std::rt::{Clock, Files};
 use turn_client::{Allocated, ClientError, Conversation, Loopback, limits};
 use turn_disk::{CrashOutcome, Disk, MemoryDisk};
+use turn_faults::{ProgramError, print_line};
 use turn_ports::PortRange;
+use turn_service::{fault_of_start, fault_of_turn};
 use turn_serving::Commits;
 use turn_store::{format, least_area};
 
@@ -17,6 +20,18 @@ use turn_store::{format, least_area};
 const FIRST_PORT: u16 = 61_000;
 
 const LAST_PORT: u16 = 61_999;
+
+/// The fault of the demonstration. In it an answer that doesn't come, or another one, is a fault of the sockets.
+fn fault_of_client(fault: ClientError) -> ProgramError
+    ensures { result ≡ of_client fault }
+{
+    match fault {
+        ClientError::Start(fault) => fault_of_start(fault),
+        ClientError::Turn(fault) => fault_of_turn(fault),
+        ClientError::Memory => ProgramError::Memory,
+        _ => ProgramError::Socket,
+    }
+}
 
 /// A disk in memory with a store that holds nothing.
 fn make_disk(alloc: Global) -> Result<MemoryDisk, ProgramError> {
@@ -28,66 +43,68 @@ fn make_disk(alloc: Global) -> Result<MemoryDisk, ProgramError> {
 
 fn make_loopback<R: Net + Drop>(alloc: Global, net: &R) -> Result<Loopback<'_, R>, ProgramError> {
     let ports = PortRange::new(FIRST_PORT, LAST_PORT).ok_or(ProgramError::Socket)?;
-    Ok(Loopback::new(alloc, net, ports, 1, Commits::EachTurn)?)
+    Loopback::new(alloc, net, ports, 1, Commits::EachTurn).map_err(fault_of_client)
 }
 
-/// A step of the demonstration, after the Allocate.
-#[derive(Clone, Copy)]
-enum Step {
-    Permit,
-    Send,
-    Receive,
-    Repeat,
-    Delete,
-}
-
-/// What a step prints.
-fn line_of<D: Disk + Drop, R: Net + Drop, C: Clock>(
-    alloc: Global,
+/// A permission for the peer.
+fn permit<D: Disk + Drop, R: Net + Drop, C: Clock, W: Write>(
     talk: &mut Conversation<'_, D, R>,
     clock: &C,
-    allocated: &Allocated,
-    step: Step,
-) -> Result<String, ClientError> {
-    match step {
-        Step::Permit => {
-            talk.permit(clock)?;
-            Ok(String::from_str(alloc, "permission ok")?)
-        }
-        Step::Send => {
-            let bytes = talk.send(clock, allocated.port, b"hello")?;
-            let text = hex::encode(alloc, &bytes)?;
-            Ok(format!(in alloc; "to peer {text}")?)
-        }
-        Step::Receive => {
-            let bytes = talk.receive(clock, allocated.port, b"world")?;
-            let text = hex::encode(alloc, &bytes)?;
-            Ok(format!(in alloc; "from peer {text}")?)
-        }
-        Step::Repeat => {
-            let is_same = talk.repeat(clock, allocated)?;
-            let word = if is_same { "same" } else { "differs" };
-            Ok(format!(in alloc; "repeat {word}")?)
-        }
-        Step::Delete => {
-            let granted = talk.refresh(clock, 0)?;
-            Ok(format!(in alloc; "refresh {granted}")?)
-        }
-    }
-}
-
-fn take_steps<D: Disk + Drop, R: Net + Drop, C: Clock, W: Write>(
-    alloc: Global,
-    talk: &mut Conversation<'_, D, R>,
-    clock: &C,
-    allocated: &Allocated,
-    steps: &[Step],
     out: &mut W,
 ) -> Result<(), ProgramError> {
-    for step in steps {
-        print_line(&line_of(alloc, talk, clock, allocated, *step)?, out)?;
-    }
-    Ok(())
+    talk.permit(clock).map_err(fault_of_client)?;
+    print_line("permission ok", out)
+}
+
+/// Prints bytes in hex.
+fn print_bytes<W: Write>(
+    alloc: Global,
+    from_or_to: &str,
+    bytes: &[u8],
+    out: &mut W,
+) -> Result<(), ProgramError> {
+    let text = hex::encode(alloc, bytes)?;
+    print_line(&format!(in alloc; "{from_or_to} peer {text}")?, out)
+}
+
+/// Data to the peer, and data back.
+fn send_both_ways<D: Disk + Drop, R: Net + Drop, C: Clock, W: Write>(
+    alloc: Global,
+    talk: &mut Conversation<'_, D, R>,
+    clock: &C,
+    port: u16,
+    out: &mut W,
+) -> Result<(), ProgramError> {
+    let bytes = talk.send(clock, port, b"hello").map_err(fault_of_client)?;
+    print_bytes(alloc, "to", &bytes, out)?;
+    let bytes = talk
+        .receive(clock, port, b"world")
+        .map_err(fault_of_client)?;
+    print_bytes(alloc, "from", &bytes, out)
+}
+
+/// The Allocate once more.
+fn repeat<D: Disk + Drop, R: Net + Drop, C: Clock, W: Write>(
+    alloc: Global,
+    talk: &mut Conversation<'_, D, R>,
+    clock: &C,
+    allocated: &Allocated,
+    out: &mut W,
+) -> Result<(), ProgramError> {
+    let is_same = talk.repeat(clock, allocated).map_err(fault_of_client)?;
+    let word = if is_same { "same" } else { "differs" };
+    print_line(&format!(in alloc; "repeat {word}")?, out)
+}
+
+/// The end of the allocation.
+fn delete<D: Disk + Drop, R: Net + Drop, C: Clock, W: Write>(
+    alloc: Global,
+    talk: &mut Conversation<'_, D, R>,
+    clock: &C,
+    out: &mut W,
+) -> Result<(), ProgramError> {
+    let granted = talk.refresh(clock, 0).map_err(fault_of_client)?;
+    print_line(&format!(in alloc; "refresh {granted}")?, out)
 }
 
 /// An Allocate without credentials, and one with them.
@@ -97,9 +114,9 @@ fn allocate<D: Disk + Drop, R: Net + Drop, C: Clock, W: Write>(
     clock: &C,
     out: &mut W,
 ) -> Result<Allocated, ProgramError> {
-    let code = talk.challenge(clock)?;
+    let code = talk.challenge(clock).map_err(fault_of_client)?;
     print_line(&format!(in alloc; "challenge {code}")?, out)?;
-    let allocated = talk.allocate(clock)?;
+    let allocated = talk.allocate(clock).map_err(fault_of_client)?;
     print_line(&format!(in alloc; "allocate {}", allocated.lifetime)?, out)?;
     Ok(allocated)
 }
@@ -122,8 +139,8 @@ fn say_first<D: Disk + Drop, R: Net + Drop, C: Clock, W: Write>(
     out: &mut W,
 ) -> Result<Allocated, ProgramError> {
     let allocated = allocate(alloc, talk, clock, out)?;
-    let steps = [Step::Permit, Step::Send, Step::Receive];
-    take_steps(alloc, talk, clock, &allocated, &steps, out)?;
+    permit(talk, clock, out)?;
+    send_both_ways(alloc, talk, clock, allocated.port, out)?;
     Ok(allocated)
 }
 
@@ -137,8 +154,8 @@ fn say_last<D: Disk + Drop, R: Net + Drop, C: Clock, W: Write>(
 ) -> Result<(), ProgramError> {
     let allocated = first?;
     print_line("restart", out)?;
-    let steps = [Step::Repeat, Step::Delete];
-    take_steps(alloc, talk, clock, &allocated, &steps, out)
+    repeat(alloc, talk, clock, &allocated, out)?;
+    delete(alloc, talk, clock, out)
 }
 
 /// Shows a server over sockets of the loopback and a disk in memory.
@@ -149,9 +166,11 @@ pub fn run_demo<R: Files<File = File> + Net + Drop + AllocGlobal, C: Clock, W: W
 ) -> Result<(), ProgramError> {
     let alloc = rt.alloc();
     let disk = make_disk(alloc)?;
-    let mut talk = make_loopback(alloc, rt)?.serve(clock, disk)?;
+    let mut talk = make_loopback(alloc, rt)?
+        .serve(clock, disk)
+        .map_err(fault_of_client)?;
     let first = say_first(alloc, &mut talk, clock, out);
-    let mut talk = restart(talk, clock)?;
+    let mut talk = restart(talk, clock).map_err(fault_of_client)?;
     let last = say_last(alloc, &mut talk, clock, first, out);
     talk.end();
     last

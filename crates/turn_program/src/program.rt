@@ -1,23 +1,13 @@
 //! A whole run of the program, over its words and two writers.
 
 ghost use Rattle.std.specs.Prelude.{◌≡◌};
-ghost use Rattle.turn_program.specs.Status.{status_of, IsStatus};
+ghost use Rattle.turn_faults.specs.Status.{status_of, IsStatus};
+ghost use Rattle.turn_program.specs.Faults.{of_words};
 
-use crate::answer::run_answer;
-use crate::check::run_check;
-use crate::credential::run_credential;
 use crate::demo::run_demo;
-use crate::end::run_end;
-use crate::error::ProgramError;
-use crate::format::run_format;
 use crate::help::run_help;
-use crate::inspect::run_inspect;
-use crate::log::Log;
 use crate::place::check_place;
 use crate::probe::run_probe;
-use crate::replay::run_replay;
-use crate::serve::{Service, run_service};
-use crate::status::run_status;
 use crate::version::{Release, run_version};
 use std::convert::AsStr;
 use std::env::Env;
@@ -26,7 +16,14 @@ use std::io::Write;
 use std::net::Net;
 use std::random::RandomSource;
 use std::rt::{Clock, Files};
-use turn_cli::{Command, command_of};
+use turn_cli::{CliError, Command, Ended, command_of};
+use turn_commands::{
+    run_answer, run_check, run_credential, run_end, run_format, run_inspect, run_replay, run_status,
+};
+use turn_ending::Whose;
+use turn_faults::ProgramError;
+use turn_log::Log;
+use turn_service::{Service, run_service};
 
 /// Whether words ask for a log.
 fn is_logged(command: &Command) -> bool {
@@ -39,6 +36,13 @@ fn is_logged(command: &Command) -> bool {
         | Command::End { log, .. }
         | Command::Serve { log, .. } => *log,
         _ => false,
+    }
+}
+
+fn whose_of(ended: &Ended) -> Whose<'_> {
+    match ended {
+        Ended::User(name) => Whose::User(name.as_bytes()),
+        Ended::Client(client) => Whose::Client(*client),
     }
 }
 
@@ -107,7 +111,7 @@ fn run_command<
             store,
             ended,
             ..
-        } => run_end(rt, clock, &log, config, store, ended, out),
+        } => run_end(rt, clock, &log, config, store, whose_of(ended), out),
         Command::Probe {
             server,
             asker,
@@ -117,6 +121,17 @@ fn run_command<
         Command::Demo => run_demo(rt, clock, out),
         Command::Version => run_version(rt.alloc(), release, out),
         Command::Help { synopsis } => run_help(rt.alloc(), *synopsis, out),
+    }
+}
+
+/// The fault of words.
+fn fault_of_words(fault: CliError) -> ProgramError
+    ensures { result ≡ of_words fault }
+{
+    match fault {
+        CliError::Usage => ProgramError::Usage,
+        CliError::BadDatagram => ProgramError::BadDatagram,
+        CliError::Memory => ProgramError::Memory,
     }
 }
 
@@ -134,7 +149,7 @@ fn try_words<
     out: &mut W,
     log: L,
 ) -> Result<(), ProgramError> {
-    let command = command_of(rt.alloc(), words)?;
+    let command = command_of(rt.alloc(), words).map_err(fault_of_words)?;
     check_place(&command)?;
     run_command(rt, clock, release, &command, out, log)
 }

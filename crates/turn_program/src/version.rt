@@ -1,9 +1,8 @@
 //! `turn version`.
 
-use crate::error::ProgramError;
-use crate::print::print_lines;
 use std::alloc::{AllocError, Global};
 use std::io::Write;
+use turn_faults::{ProgramError, print_lines};
 
 /// What a program is made from.
 #[derive(Clone, Copy)]

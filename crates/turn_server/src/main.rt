@@ -2,7 +2,7 @@
 #![tactic(auto)]
 
 ghost use Rattle.std.specs.Prelude.{◌≡◌, ◌⊎◌, IfErr};
-ghost use Rattle.turn_program.specs.declared.error.ProgramError.TheVariants as faults;
+ghost use Rattle.turn_faults.specs.declared.error.ProgramError.TheVariants as faults;
 
 mod sources;
 

@@ -1,0 +1,2 @@
+pub mod NoUsers
+pub mod StoreErrors

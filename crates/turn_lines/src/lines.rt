@@ -1,0 +1,590 @@
+//! The lines of a log, and what decides which there are.
+
+ghost use Rattle.std.specs.Prelude.{◌≡◌, ◌↔◌, IfNone, IfSome, IsSome, IsTrue, None, Some, max};
+ghost use Rattle.std.specs.Option.{option_map_or};
+ghost use Rattle.turn_log.specs.declared.counts.About.TheVariants as matters;
+ghost use Rattle.turn_log.specs.declared.limit.Line.TheVariants as lines;
+
+use crate::asked::Asked;
+use crate::fields::{
+    Answer, Known, asked_text, at_text, name_text, peers_text, port_text, reason_text,
+    response_text,
+};
+use crate::usage::{Usage, Usages};
+use std::alloc::{AllocError, Allocator, Global};
+use std::io::Write;
+use std::marker::Model;
+use std::time::Duration;
+use std::{fmt, mem};
+use turn_codec::{AttributeType, Message};
+use turn_config::{ShownEndpoint, ShownIp};
+use turn_log::{
+    About, Challenged, Counted, DroppedCount, Line, LineLimit, Log, NOBODY, Response, Room,
+    ShownName, Subject, is_slow, response_of,
+};
+use turn_step::{Arrival, Outgoing};
+use turn_table::Table;
+use turn_types::{Endpoint, FiveTuple, Method, Moment};
+
+/// What is said of an allocation that expired.
+fn expired_text(
+    alloc: Global,
+    five_tuple: FiveTuple,
+    port: u16,
+    usage: Option<&Usage>,
+    second: u64,
+) -> Result<String, AllocError> {
+    let client = ShownEndpoint(five_tuple.client);
+    let end = end_text(alloc, usage, second)?;
+    format!(in alloc; "client {client} expired port={port}{end}")
+}
+
+fn end_text(alloc: Global, usage: Option<&Usage>, second: u64) -> Result<String, AllocError> {
+    match usage {
+        Some(usage) => usage.text(alloc, second),
+        None => Ok(String::new(alloc)),
+    }
+}
+
+/// What lines are about, in their counts.
+#[derive(Clone, Copy)]
+struct ShownAbout(About);
+
+impl fmt::Display for ShownAbout {
+    fn fmt<W: fmt::Write>(&self, f: &mut fmt::Formatter<W>) -> fmt::Result {
+        match self.0 {
+            About::Commit => write!(f, "slow commit"),
+            About::Repeat => write!(f, "repeated allocate"),
+            About::Error(code) => write!(f, "{code}"),
+        }
+    }
+}
+
+/// How often something came in a second that had one line.
+fn repeated_text(alloc: Global, counted: &Counted) -> Result<String, AllocError> {
+    let (count, Subject { ip, about, cause }) = (counted.count, counted.subject);
+    let (about, from) = (ShownAbout(about), ShownIp(ip));
+    match cause {
+        Some(cause) => {
+            let word = cause.word();
+            format!(in alloc; "{count} x {about} {word} from {from}")
+        }
+        None if ip == 0 => format!(in alloc; "{count} x {about}"),
+        None => format!(in alloc; "{count} x {about} from {from}"),
+    }
+}
+
+/// How many lines a second lacks, by their codes.
+fn left_out_text(alloc: Global, ended: &LineLimit) -> Result<Option<String>, AllocError> {
+    let mut total = ended.lost();
+    let mut kinds = String::new(alloc);
+    for counted in ended.left_out() {
+        let (count, about) = (counted.count, ShownAbout(counted.subject.about));
+        total = total.saturating_add(count);
+        kinds.push_str(format!(in alloc; " {count} x {about}")?.as_str())?;
+    }
+    if total == 0 {
+        return Ok(None);
+    }
+    if ended.lost() > 0 {
+        let lost = ended.lost();
+        kinds.push_str(format!(in alloc; " {lost} not written")?.as_str())?;
+    }
+    Ok(Some(format!(in alloc; "left out {total}:{kinds}")?))
+}
+
+/// What the line of a success is, of a client with this address. An Allocate of a client that had its allocation before is a repeat:
+/// nothing is written for it, so there may be any number.
+fn line_of_success(client: u32, is_allocate: bool, port_before: Option<u16>) -> Line
+    ensures of_user { (result ≡ lines.OfUser) ↔ ¬ (IsTrue is_allocate × IsSome port_before) }
+    ensures repeat { IsTrue is_allocate → IsSome port_before
+        → result ≡ lines.Of (record { ip = client; about = matters.Repeat; cause = None }) }
+{
+    if is_allocate && port_before.is_some() {
+        return Line::Of(Subject {
+            ip: client,
+            about: About::Repeat,
+            cause: None,
+        });
+    }
+    Line::OfUser
+}
+
+/// Whether a response is to an Allocate.
+fn is_of_allocate<A: Allocator + Copy>(answer: Answer<'_, A>) -> bool {
+    match answer.message() {
+        Some(message) => message.method() == Method::ALLOCATE,
+        None => false,
+    }
+}
+
+/// The lines of a server's log.
+#[derive(Drop)]
+pub struct Lines<'l, L: Write + Drop> {
+    alloc: Global,
+    log: &'l Log<L>,
+    limit: LineLimit,
+    dropped: DroppedCount,
+    challenged: Challenged,
+    // The moment up to which expired allocations are told.
+    looked: Option<Moment>,
+    known: Option<Known>,
+    usages: Usages,
+    // The requests since something was sent last.
+    asked: Vec<Asked>,
+}
+
+// Clauses see the moment up to which expired allocations are told, and nothing else.
+impl<'l, L: Write + Drop> Model for Lines<'l, L> {
+    ghost use Rattle.std.specs.Prelude.{Option, ℕ};
+
+    ghost Value = { Option ℕ };
+
+    ghost view = { λ l. l.looked };
+}
+
+impl<'l, L: Write + Drop> Lines<'l, L> {
+    /// The lines of a server of which nothing is known yet.
+    pub fn new(alloc: Global, log: &'l Log<L>) -> Lines<'l, L>
+        ensures { result ≡ None }
+    {
+        Lines {
+            alloc,
+            log,
+            limit: LineLimit::new(0),
+            dropped: DroppedCount::new(),
+            challenged: Challenged::new(),
+            looked: None,
+            known: None,
+            usages: Usages::none(alloc),
+            asked: Vec::new(alloc),
+        }
+    }
+
+    /// Learns what it says of a server. From this second on it counts what is relayed by ports of the range.
+    pub fn know(&mut self, known: Known, ports: (u16, u16), second: u64) -> Result<(), AllocError>
+        ensures { self.new ≡ self.old }
+    {
+        self.usages = Usages::new(self.alloc, ports, second)?;
+        self.known = Some(known);
+        Ok(())
+    }
+
+    /// Writes a line. If that can't be done it is counted.
+    fn put(&mut self, second: u64, user: ShownName<'_>, text: Result<String, AllocError>)
+        ensures { self.new ≡ self.old }
+    {
+        let done = match text {
+            Ok(text) => self.log.write(second, user, text.as_str()),
+            Err(_) => false,
+        };
+        if !done {
+            self.limit.lose(1);
+        }
+    }
+
+    // Says how often that came of which a second had one line.
+    fn tell_repeats(&mut self, second: u64, ended: &LineLimit)
+        ensures { self.new ≡ self.old }
+    {
+        for counted in ended.repeats() {
+            if counted.count > 1 {
+                let text = repeated_text(self.alloc, counted);
+                self.put(second, NOBODY, text);
+            }
+        }
+    }
+
+    fn tell_left_out(&mut self, second: u64, ended: &LineLimit)
+        ensures { self.new ≡ self.old }
+    {
+        match left_out_text(self.alloc, ended) {
+            Ok(None) => {}
+            Ok(Some(text)) => {
+                if !self.log.write(second, NOBODY, text.as_str()) {
+                    self.limit.lose(ended.lost().saturating_add(1));
+                }
+            }
+            Err(_) => self.limit.lose(ended.lost().saturating_add(1)),
+        }
+    }
+
+    fn tell_dropped(&mut self, second: u64)
+        ensures { self.new ≡ self.old }
+    {
+        let dropped = self.dropped.begin(second);
+        if dropped == 0 {
+            return;
+        }
+        let text = format!(in self.alloc; "dropped {dropped} requests: too many wait for the disk");
+        let done = match text {
+            Ok(text) => self.log.write(second, NOBODY, text.as_str()),
+            Err(_) => false,
+        };
+        if !done {
+            self.dropped.add(dropped);
+        }
+    }
+
+    // Begins a second, and says what was repeated, left out and dropped in the one before.
+    fn begin(&mut self, second: u64)
+        ensures { self.new ≡ self.old }
+    {
+        if let Some(ended) = self.limit.begin(second) {
+            self.tell_repeats(second, &ended);
+            self.tell_left_out(second, &ended);
+        }
+        self.tell_dropped(second);
+    }
+
+    // What a line of an error is about. None where it has no line: of a 401 by which a client gets the realm and a nonce.
+    fn subject<A: Allocator + Copy>(&mut self, answer: Answer<'_, A>, code: u16) -> Option<Subject>
+        // Only a 401 may have no line.
+        ensures none { IfNone result (code ≡ 401) }
+        ensures some { IfSome result (λ s. (s.ip ≡ answer.entry.five_tuple.client.ip) × (s.about ≡ matters.Error code)) }
+        ensures same { self.new ≡ self.old }
+    {
+        let cause = match (&self.known, answer.message()) {
+            (Some(known), Some(message)) if code == 401 => known.cause(&message),
+            _ => None,
+        };
+        if code == 401 && cause.is_none() && !self.challenged.note(answer.five_tuple) {
+            return None;
+        }
+        Some(Subject {
+            ip: answer.five_tuple.client.ip,
+            about: About::Error(code),
+            cause,
+        })
+    }
+
+    fn success_text<A: Allocator + Copy>(
+        &self,
+        second: u64,
+        answer: Answer<'_, A>,
+        message: &Message<'_>,
+    ) -> Result<String, AllocError> {
+        match (answer.entry(), answer.asked) {
+            (None, Some(asked)) => {
+                let usage = match asked.port() {
+                    Some(port) => self.usages.get(port),
+                    None => None,
+                };
+                end_text(self.alloc, usage, second)
+            }
+            _ => asked_text(self.alloc, message, answer.bytes),
+        }
+    }
+
+    fn text<A: Allocator + Copy>(
+        &self,
+        second: u64,
+        answer: Answer<'_, A>,
+        response: Response,
+    ) -> Result<String, AllocError> {
+        let alloc = self.alloc;
+        let front = response_text(alloc, answer.five_tuple, answer.bytes)?;
+        let (Some(known), Some(message)) = (&self.known, answer.message()) else {
+            return Ok(front);
+        };
+        let at = at_text(alloc, known, answer.five_tuple)?;
+        let is_in_response = response == Response::Success && message.method() == Method::ALLOCATE;
+        let port = port_text(alloc, answer, is_in_response)?;
+        let peers = peers_text(alloc, &message)?;
+        let rest = match response {
+            Response::Success => self.success_text(second, answer, &message)?,
+            Response::Error(code) => {
+                let name = name_text(alloc, answer, &message)?;
+                let reason = reason_text(alloc, known, answer, &message, code)?;
+                format!(in alloc; "{name}{reason}")?
+            }
+        };
+        format!(in alloc; "{front}{at}{port}{peers}{rest}")
+    }
+
+    // Begins to count for an allocation that was made, and anew where one ended.
+    fn recount<A: Allocator + Copy>(&mut self, second: u64, answer: Answer<'_, A>)
+        ensures { self.new ≡ self.old }
+    {
+        let Some(asked) = answer.asked else {
+            return;
+        };
+        match (asked.port(), answer.entry()) {
+            (None, Some(entry)) => self.usages.begin(entry.port(), second),
+            (Some(port), None) => self.usages.begin(port, second),
+            _ => {}
+        }
+    }
+
+    fn put_answer<A: Allocator + Copy>(
+        &mut self,
+        second: u64,
+        answer: Answer<'_, A>,
+        response: Response,
+    )
+        ensures { self.new ≡ self.old }
+    {
+        let text = self.text(second, answer, response);
+        let message = answer.message();
+        let user = match (answer.entry(), &message) {
+            (Some(entry), _) => ShownName(entry.user()),
+            (None, Some(message)) if response == Response::Success => ShownName(
+                message
+                    .seen_value(AttributeType::USERNAME)
+                    .unwrap_or_default(),
+            ),
+            _ => NOBODY,
+        };
+        self.put(second, user, text);
+    }
+
+    // Says what a client got, if that is logged.
+    fn respond<A: Allocator + Copy>(
+        &mut self,
+        second: u64,
+        answer: Answer<'_, A>,
+        response: Response,
+    )
+        ensures { self.new ≡ self.old }
+    {
+        let line = match response {
+            Response::Success => {
+                self.challenged.forget(answer.five_tuple);
+                line_of_success(
+                    answer.five_tuple.client.ip,
+                    is_of_allocate(answer),
+                    answer.port_before(),
+                )
+            }
+            Response::Error(code) => match self.subject(answer, code) {
+                Some(subject) => Line::Of(subject),
+                None => return,
+            },
+        };
+        if self.limit.take(line) == Room::Written {
+            self.put_answer(second, answer, response);
+        }
+        if response == Response::Success {
+            self.recount(second, answer);
+        }
+    }
+
+    // The second of what is sent: that of its moment, or of a later one at which a table was looked at since, so that the log's seconds
+    // never go back.
+    fn second_of(&self, moment: Moment) -> u64
+        ensures { result ≡ option_map_or (λ looked. max looked moment) self.now moment }
+    {
+        match self.looked {
+            Some(looked) if moment < looked => looked.seconds(),
+            _ => moment.seconds(),
+        }
+    }
+
+    // Counts data that was relayed to a client.
+    fn count_to_client<A: Allocator + Copy>(
+        &mut self,
+        table: &Table<A>,
+        five_tuple: FiveTuple,
+        bytes: usize,
+    )
+        ensures { self.new ≡ self.old }
+    {
+        if let Some(entry) = table.get(five_tuple) {
+            self.usages.count_to_client(entry.port(), bytes);
+        }
+    }
+
+    // Sees a datagram to a client: a response to one of these requests, or data. Returns how many of them come before the next response.
+    fn see_to_client<A: Allocator + Copy>(
+        &mut self,
+        second: u64,
+        answer: Answer<'_, A>,
+        asked: &[Asked],
+    ) -> usize
+        ensures { self.new ≡ self.old }
+    {
+        let Answer {
+            table,
+            five_tuple,
+            bytes,
+            ..
+        } = answer;
+        let Some(response) = response_of(bytes) else {
+            self.count_to_client(table, five_tuple, bytes.len());
+            return 0;
+        };
+        self.begin(second);
+        match asked
+            .iter()
+            .position(|a| a.is_answered_by(five_tuple, bytes))
+        {
+            Some(place) => {
+                let asked = asked.get(place);
+                self.respond(second, Answer { asked, ..answer }, response);
+                place.saturating_add(1)
+            }
+            None => {
+                self.respond(second, answer, response);
+                0
+            }
+        }
+    }
+
+    fn see_each<'t, A: Allocator + Copy>(
+        &mut self,
+        second: u64,
+        table: &'t Table<A>,
+        outgoing: &'t [Outgoing<A>],
+        asked: &[Asked],
+    )
+        ensures { self.new ≡ self.old }
+    {
+        let mut rest = asked;
+        for datagram in outgoing {
+            match datagram {
+                Outgoing::ToClient { five_tuple, bytes } => {
+                    let answer = Answer {
+                        table,
+                        five_tuple: *five_tuple,
+                        bytes: bytes.as_slice(),
+                        asked: None,
+                    };
+                    let passed = self.see_to_client(second, answer, rest);
+                    rest = rest.get(passed..).unwrap_or_default();
+                }
+                Outgoing::ToPeer { port, bytes, .. } => {
+                    self.usages.count_to_peer(*port, bytes.len());
+                }
+            }
+        }
+    }
+
+    /// Sees what was sent.
+    pub fn see<A: Allocator + Copy>(
+        &mut self,
+        moment: Moment,
+        table: &Table<A>,
+        outgoing: &[Outgoing<A>],
+    )
+        ensures { self.new ≡ self.old }
+    {
+        let second = self.second_of(moment);
+        let mut asked = mem::replace(&mut self.asked, Vec::new(self.alloc));
+        self.see_each(second, table, outgoing, asked.as_slice());
+        asked.clear();
+        self.asked = asked;
+    }
+
+    /// Counts data that was answered while a commit waited for its disk. What is remembered of requests stays.
+    pub fn count_relayed<A: Allocator + Copy>(&mut self, table: &Table<A>, outgoing: &Outgoing<A>)
+        ensures { self.new ≡ self.old }
+    {
+        match outgoing {
+            Outgoing::ToClient { five_tuple, bytes } => {
+                self.count_to_client(table, *five_tuple, bytes.len());
+            }
+            Outgoing::ToPeer { port, bytes, .. } => self.usages.count_to_peer(*port, bytes.len()),
+        }
+    }
+
+    /// Remembers a request. One for which memory lacks has a line with less.
+    fn remember<A: Allocator + Copy>(
+        &mut self,
+        table: &Table<A>,
+        five_tuple: FiveTuple,
+        bytes: &[u8],
+    )
+        ensures { self.new ≡ self.old }
+    {
+        if let Ok(Some(asked)) = Asked::new(self.alloc, table, five_tuple, bytes) {
+            let _ = self.asked.push(asked);
+        }
+    }
+
+    // Says that a peer's data is dropped, if that is for want of a permission under a channel.
+    fn hear<A: Allocator + Copy>(&mut self, table: &Table<A>, port: u16, from: Endpoint)
+        ensures { self.new ≡ self.old }
+    {
+        if !self.usages.may_be_cut_off(port) {
+            return;
+        }
+        let (Some(looked), Some((five_tuple, entry))) = (self.looked, table.by_port(port)) else {
+            return;
+        };
+        let second = looked.seconds();
+        if self.usages.is_cut_off(entry, from, second) {
+            let (client, peer) = (ShownEndpoint(five_tuple.client), ShownEndpoint(from));
+            let text = format!(in self.alloc;
+                "client {client} drops data port={port} peer={peer}: its permission has expired"
+            );
+            self.put(second, ShownName(entry.user()), text);
+        }
+    }
+
+    /// Sees what is submitted next.
+    pub fn arrive<A: Allocator + Copy>(&mut self, table: &Table<A>, arrival: &Arrival<'_>)
+        ensures { self.new ≡ self.old }
+    {
+        match arrival {
+            Arrival::Client { five_tuple, bytes } => self.remember(table, *five_tuple, bytes),
+            Arrival::Peer { port, from, .. } => self.hear(table, *port, *from),
+        }
+    }
+
+    /// Counts a request that was dropped. A line of a later second has how many were.
+    pub fn count_dropped(&mut self, moment: Moment)
+        ensures { self.new ≡ self.old }
+    {
+        let second = self.second_of(moment);
+        self.begin(second);
+        self.dropped.add(1);
+    }
+
+    /// Says how long a commit took, if that is logged.
+    pub fn note_commit(&mut self, moment: Moment, took: Duration)
+        ensures { self.new ≡ self.old }
+    {
+        let second = self.second_of(moment);
+        self.begin(second);
+        if is_slow(took) && self.limit.take(Line::Of(Subject::default())) == Room::Written {
+            let millis = took.as_millis();
+            let text = format!(in self.alloc; "commit took {millis} ms");
+            self.put(second, NOBODY, text);
+        }
+    }
+
+    // Says which allocations of a table expired after a second, up to another one.
+    fn tell_expired<A: Allocator + Copy>(&mut self, after: u64, second: u64, table: &Table<A>)
+        ensures { self.new ≡ self.old }
+    {
+        for (five_tuple, entry) in table.entries() {
+            let (expiry, port) = (entry.expiry(), entry.port());
+            if after < expiry && expiry <= second {
+                let text = expired_text(
+                    self.alloc,
+                    five_tuple,
+                    port,
+                    self.usages.get(port),
+                    second,
+                );
+                self.put(second, ShownName(entry.user()), text);
+                self.usages.begin(port, second);
+            }
+        }
+    }
+
+    /// Looks at a table before what comes at a moment changes it. An allocation that has expired by then ends: nothing that comes can
+    /// refresh it.
+    pub fn look<A: Allocator + Copy>(&mut self, moment: Moment, table: &Table<A>)
+        ensures { self.new ≡ Some moment }
+    {
+        let looked = self.looked.unwrap_or(table.moment());
+        if looked < moment {
+            let second = moment.seconds();
+            self.begin(second);
+            self.tell_expired(looked.seconds(), second, table);
+            self.usages.look(table, second);
+        }
+        self.looked = Some(moment);
+    }
+}

@@ -1,3 +1,0 @@
-pub mod NoUsers
-pub mod StoreErrors
-pub mod Serves

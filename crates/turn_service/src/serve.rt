@@ -1,0 +1,553 @@
+//! `turn serve`.
+
+ghost use Rattle.std.specs.Prelude.{◌≡◌, IfErr, IfNone, IfOk, IfSome, IsErr};
+ghost use Rattle.turn_faults.specs.Places.{IsConnected};
+ghost use Rattle.turn_sockets.specs.Moments.{IsMoment};
+ghost use Rattle.turn_serving.specs.Starts.{KeepsImages};
+ghost use Rattle.turn_serving.specs.Turns.{Served};
+ghost use Rattle.turn_service.specs.Serving.{AnySecond, IsOpened, Serves, ServesOpened, StartedOver, commits_of, just_opened};
+
+use crate::about::{ShownAddresses, tell_held, tell_sockets};
+use crate::fault::{fault_of_start, fault_of_turn};
+use crate::held::sockets_of;
+use crate::started::{Started, live_at, tell_notes, tell_started};
+use crate::watch::StoreWatch;
+use std::alloc::Global;
+use std::env::Env;
+use std::fs::File;
+use std::io::Write;
+use std::net::Net;
+use std::os::fd::RawFd;
+use std::random::RandomSource;
+use std::rt::{Clock, Files};
+use std::thread;
+use std::time::Duration;
+use turn_config::{Configured, ShownEndpoint, read_config};
+use turn_cred::{AuthHandler, Credentials};
+use turn_disk::{Disk, FileDisk, FileError, Start, Unknown};
+use turn_faults::{
+    NamedExport, Prepared, ProgramError, StorePlace, open_export_to_serve, prepare, print_line,
+    read_whole, second_now, tell_export, tell_prepared, tell_store,
+};
+use turn_lines::Known;
+use turn_log::Log;
+use turn_nbd::{NbdDisk, Socket, is_uri};
+use turn_notes::Noted;
+use turn_ports::RelayAddressGenerator;
+use turn_serving::{
+    Commits, ListeningSockets, Setup, SetupError, SocketServing, StartError, TurnError,
+};
+use turn_sockets::SocketPorts;
+use turn_types::Endpoint;
+
+/// What the words of `turn serve` say.
+#[derive(Clone, Copy)]
+pub struct Service<'a> {
+    /// The program's version, which a log begins with.
+    pub version: &'a str,
+    /// The path of the configuration.
+    pub config: &'a str,
+    /// The path of the store, or the URI of its export.
+    pub store: &'a str,
+    /// After how many turns the server ends, if it does.
+    pub turns: Option<u64>,
+    /// How many datagrams a turn takes of each socket.
+    pub burst: u8,
+    /// The address on which relay sockets are bound, if it isn't that of the configuration.
+    pub relay_bind: Option<u32>,
+    /// The addresses that clients send to, beside the configuration's.
+    pub listen: &'a [Endpoint],
+    /// Whether a supervisor hands the listening sockets over.
+    pub is_held: bool,
+}
+
+/// Requests wait for each other unless turns are counted.
+fn commits_of(turns: Option<u64>) -> Commits
+    ensures { result ≡ commits_of turns }
+{
+    match turns {
+        Some(_) => Commits::EachTurn,
+        None => Commits::Paced,
+    }
+}
+
+/// Random bytes of the system.
+fn random_bytes<R: RandomSource>(rt: &R) -> Result<[u8; 32], ProgramError>
+    ensures { IfErr result (λ fault. fault ≡ ProgramError.Device) }
+{
+    let mut bytes = [0u8; 32];
+    rt.fill_bytes(&mut bytes).map_err(|_| ProgramError::Device)?;
+    Ok(bytes)
+}
+
+/// A server over the store on a disk, which a log watches.
+type DiskServing<'a, 'w, 'l, D, R, L> = SocketServing<
+    'a,
+    D,
+    Credentials,
+    R,
+    Global,
+    &'w StoreWatch<'l, R, L>,
+>;
+
+/// How often a store that is in use is tried again: a server that ends may have it for a moment yet.
+const AGAIN: u32 = 40;
+
+/// The milliseconds before each of these.
+const PAUSE: u64 = 50;
+
+/// Opens the disk of a store, whose lock it has from then on. If the store is in use it waits, at most two seconds.
+fn open_disk<R: Files<File = File>, C: Clock>(
+    rt: &R,
+    clock: &C,
+    store: &str,
+) -> Result<FileDisk<File>, ProgramError>
+    ensures { IfOk result (λ disk. disk ≡ just_opened disk.size) }
+{
+    for _ in 0..AGAIN {
+        match FileDisk::open(rt, store) {
+            Ok(disk) => return Ok(disk),
+            Err(FileError::InUse) => thread::sleep(clock, Duration::from_millis(PAUSE)),
+            Err(refused) => return Err(ProgramError::from(refused)),
+        }
+    }
+    Ok(FileDisk::open(rt, store)?)
+}
+
+/// What a start takes before its store.
+#[derive(Drop)]
+struct Taken {
+    began: Option<Duration>,
+    seed: [u8; 32],
+    prepared: Prepared,
+    sockets: ListeningSockets,
+    // At which the answers of the store's export come, if it is in one.
+    awaited: Option<RawFd>,
+}
+
+/// Takes the configuration, and the sockets that are handed over. At a fault the log says what it is about.
+fn take_first<R: Files<File = File> + RandomSource + Env + AllocGlobal, C: Clock, L: Write + Drop>(
+    rt: &R,
+    clock: &C,
+    service: Service<'_>,
+    log: &Log<L>,
+) -> Result<Taken, ProgramError> {
+    let began = clock.monotonic().ok();
+    let seed = random_bytes(rt)?;
+    let prepared = prepare(rt, service.config, service.listen).inspect_err(|fault| tell_prepared(
+        rt,
+        clock,
+        log,
+        service.config,
+        *fault,
+    ))?;
+    let listen = prepared.listen.as_slice();
+    let sockets = sockets_of(rt, service.is_held, listen).inspect_err(|_| tell_held(clock, log))?;
+    Ok(Taken {
+        began,
+        seed,
+        prepared,
+        sockets,
+        awaited: None,
+    })
+}
+
+/// Takes these and the store in a file. At a fault the log says what it is about.
+fn take_file<R: Files<File = File> + RandomSource + Env + AllocGlobal, C: Clock, L: Write + Drop>(
+    rt: &R,
+    clock: &C,
+    service: Service<'_>,
+    log: &Log<L>,
+) -> Result<(Taken, FileDisk<File>), ProgramError>
+    ensures { IfOk result (λ taken. taken.1 ≡ just_opened taken.1.size) }
+{
+    let taken = take_first(rt, clock, service, log)?;
+    let disk = open_disk(rt, clock, service.store).inspect_err(|_| tell_store(
+        rt,
+        clock,
+        log,
+        service.store,
+    ))?;
+    Ok((taken, disk))
+}
+
+/// Takes these and the store in an export. At a fault the log says what it is about.
+fn take_export<
+    R: Files<File = File> + Net + RandomSource + Env + AllocGlobal,
+    C: Clock,
+    L: Write + Drop,
+>(
+    rt: &R,
+    clock: &C,
+    service: Service<'_>,
+    named: NamedExport<'_>,
+    log: &Log<L>,
+) -> Result<(Taken, NbdDisk), ProgramError>
+    ensures { IfOk result (λ taken. IsConnected taken.1) }
+{
+    let mut taken = take_first(rt, clock, service, log)?;
+    let disk = open_export_to_serve(rt, clock, log, named)?;
+    taken.awaited = Some(disk.descriptor());
+    Ok((taken, disk))
+}
+
+/// Says which store is at fault, and why its file can't be opened if it can't.
+fn tell_place<R: Files<File = File> + AllocGlobal, C: Clock, L: Write + Drop>(
+    rt: &R,
+    clock: &C,
+    log: &Log<L>,
+    store: &str,
+) {
+    if is_uri(store) {
+        tell_export(rt.alloc(), clock, log, store, None);
+    } else {
+        tell_store(rt, clock, log, store);
+    }
+}
+
+/// Says what the fault of a start is about.
+fn tell_start<R: Files<File = File> + Net + AllocGlobal, C: Clock, L: Write + Drop>(
+    rt: &R,
+    clock: &C,
+    log: &Log<L>,
+    store: &str,
+    addresses: &ShownAddresses<'_>,
+    fault: StartError,
+) {
+    match fault {
+        StartError::Store(_) | StartError::Carry(_) => { tell_place(rt, clock, log, store) }
+        StartError::Socket => tell_sockets(rt, clock, log, addresses),
+        StartError::Memory => {}
+    }
+}
+
+/// How long it is since a time, if the system says.
+fn since<C: Clock>(clock: &C, began: Option<Duration>) -> Option<Duration> {
+    let now = clock.monotonic().ok()?;
+    Some(now.saturating_sub(began?))
+}
+
+/// How a service ended, and the disk of its store, if that was opened.
+#[derive(Drop)]
+pub struct Ended<D: Disk + Drop> {
+    /// The first fault, if there was one.
+    pub told: Result<(), ProgramError>,
+    /// The disk as it was left.
+    pub disk: Option<D>,
+}
+
+impl<D: Disk + Drop> From<ProgramError> for Ended<D> {
+    ghost use Rattle.std.specs.Prelude.{Err, None};
+
+    ghost from_gives = { λ fault ended. (ended.told ≡ Err fault) × (ended.disk ≡ None) };
+
+    fn from(fault: ProgramError) -> Ended<D> {
+        Ended {
+            told: Err(fault),
+            disk: None,
+        }
+    }
+}
+
+/// Starts a server over a disk. At a fault the log says which store or address it is about.
+fn start<
+    'a,
+    'w,
+    'l,
+    D: Disk + Drop,
+    R: Files<File = File> + Net + RandomSource + Env + Drop + AllocGlobal,
+    C: Clock,
+    L: Write + Drop,
+>(
+    rt: &'a R,
+    clock: &C,
+    service: Service<'_>,
+    watch: &'w StoreWatch<'l, R, L>,
+    taken: Taken,
+    disk: D,
+) -> Result<DiskServing<'a, 'w, 'l, D, R, L>, Ended<D>>
+    ensures started { IfOk result (λ serving. StartedOver D.Disk ⟦<Credentials as AuthHandler>⟧
+        ⟦<SocketPorts<'a, R, Global> as RelayAddressGenerator>⟧ disk serving.server) }
+    ensures kept { IfErr result (λ ended. IfSome ended.disk (KeepsImages D.Disk disk)) }
+    ensures told { IfErr result (λ ended. IsErr ended.told) }
+{
+    let log = watch.log();
+    let Taken {
+        began: _,
+        seed,
+        prepared,
+        sockets,
+        awaited,
+    } = taken;
+    let Prepared {
+        config,
+        credentials,
+        listen,
+        ports,
+        relay_bind,
+    } = prepared;
+    let relay_bind = service.relay_bind.or(relay_bind);
+    let setup = Setup {
+        config: &config,
+        listen: &listen,
+        ports,
+        relay_bind,
+        burst: service.burst,
+        commits: commits_of(service.turns),
+        seed,
+        awaited,
+    };
+    match setup.start(rt.alloc(), rt, clock, disk, credentials, sockets, watch) {
+        Ok(serving) => Ok(serving),
+        Err(SetupError { fault, disk }) => {
+            let addresses = ShownAddresses {
+                listen: listen.as_slice(),
+                relay: relay_bind.unwrap_or(config.relay()),
+                ports,
+            };
+            tell_start(rt, clock, log, service.store, &addresses, fault);
+            Err(Ended {
+                told: Err(fault_of_start(fault)),
+                disk: Some(disk),
+            })
+        }
+    }
+}
+
+/// Takes turns. At a fault of the store the log says which one it is.
+fn take_turns<
+    'a,
+    D: Disk + Drop,
+    R: Files<File = File> + Net + Drop + AllocGlobal,
+    C: Clock,
+    L: Write + Drop,
+>(
+    rt: &R,
+    serving: &mut DiskServing<'a, '_, '_, D, R, L>,
+    clock: &C,
+    service: Service<'_>,
+    log: &Log<L>,
+) -> Result<(), ProgramError>
+    ensures { Served D.Disk ⟦<Credentials as AuthHandler>⟧ ⟦<SocketPorts<'a, R, Global> as RelayAddressGenerator>⟧
+        (IsMoment AnySecond) serving.old.server serving.new.server }
+{
+    // 2^64 turns of which each takes a microsecond are 580,000 years.
+    match serving.turns(&clock, service.turns.unwrap_or(u64::MAX)) {
+        Ok(()) => Ok(()),
+        Err(fault) => {
+            if let TurnError::Commit(_) = fault {
+                tell_place(rt, clock, log, service.store);
+            }
+            Err(fault_of_turn(fault))
+        }
+    }
+}
+
+/// Prints a line for each address that clients send to.
+fn print_addresses<W: Write>(
+    alloc: Global,
+    addresses: &[Endpoint],
+    out: &mut W,
+) -> Result<(), ProgramError> {
+    for address in addresses {
+        let shown = ShownEndpoint(*address);
+        print_line(&format!(in alloc; "listening {shown}")?, out)?;
+    }
+    Ok(())
+}
+
+/// Says where the server listens, takes the turns, and says how many there were.
+fn tell<
+    'a,
+    D: Disk + Drop,
+    R: Files<File = File> + Net + Drop + AllocGlobal,
+    C: Clock,
+    W: Write,
+    L: Write + Drop,
+>(
+    rt: &R,
+    serving: &mut DiskServing<'a, '_, '_, D, R, L>,
+    clock: &C,
+    service: Service<'_>,
+    log: &Log<L>,
+    out: &mut W,
+) -> Result<(), ProgramError>
+    ensures { Served D.Disk ⟦<Credentials as AuthHandler>⟧ ⟦<SocketPorts<'a, R, Global> as RelayAddressGenerator>⟧
+        (IsMoment AnySecond) serving.old.server serving.new.server }
+{
+    print_addresses(rt.alloc(), serving.locals().as_slice(), out)?;
+    take_turns(rt, serving, clock, service, log)?;
+    match service.turns {
+        Some(turns) => print_line(&format!(in rt.alloc(); "served {turns} turns")?, out),
+        None => Ok(()),
+    }
+}
+
+/// Lets a log know the server: its configuration, which is read once more, and its ports. Without that its lines say less.
+fn inform<R: Files<File = File> + AllocGlobal, L: Write + Drop>(
+    rt: &R,
+    service: Service<'_>,
+    watch: &StoreWatch<'_, R, L>,
+    started: &Started<'_>,
+    second: u64,
+) -> Result<(), ProgramError> {
+    if !watch.log().is_kept() {
+        return Ok(());
+    }
+    let text = read_whole(rt, rt.alloc(), service.config)?;
+    let Configured {
+        config,
+        credentials,
+        ..
+    } = read_config(rt.alloc(), &text)?;
+    let known = Known {
+        config,
+        credentials,
+        has_several: started.listen.len() > 1,
+    };
+    watch.know(known, started.ports, second)?;
+    Ok(())
+}
+
+/// Says what was started. At a file the log looks from then on whether its path still leads to it.
+fn tell_begun<
+    'a,
+    D: Disk + Drop,
+    R: Files<File = File> + Net + Drop + AllocGlobal,
+    C: Clock,
+    L: Write + Drop,
+>(
+    rt: &R,
+    clock: &C,
+    service: Service<'_>,
+    watch: &StoreWatch<'_, R, L>,
+    serving: &DiskServing<'a, '_, '_, D, R, L>,
+    began: Option<Duration>,
+) {
+    let (second, log) = (second_now(clock), watch.log());
+    let started = Started {
+        version: service.version,
+        listen: serving.locals().as_slice(),
+        ports: serving.server().ports().range(),
+        store: service.store,
+        generation: serving.server().info().generation,
+        live: live_at(serving.server().table(), second),
+        took: since(clock, began),
+    };
+    if !is_uri(service.store) {
+        watch.begin();
+    }
+    tell_started(rt.alloc(), clock, log, &started);
+    let noted = Noted {
+        ports: started.ports,
+        allocations: serving.server().table().limits().allocations(),
+        clock: Some(serving.server().table().moment()),
+    };
+    tell_notes(rt, clock, log, noted);
+    let _ = inform(rt, service, watch, &started, second);
+}
+
+/// Serves over a disk for so many turns, or until the process is ended. The disk is returned as it was left.
+fn serve_over<
+    'a,
+    D: Disk + Drop,
+    R: Files<File = File> + Net + RandomSource + Env + Drop + AllocGlobal,
+    C: Clock,
+    W: Write,
+    L: Write + Drop,
+>(
+    rt: &'a R,
+    clock: &C,
+    service: Service<'_>,
+    taken: Taken,
+    disk: D,
+    log: &Log<L>,
+    out: &mut W,
+) -> Ended<D>
+    ensures serves { IfSome result.disk (Serves D.Disk ⟦<Credentials as AuthHandler>⟧
+        ⟦<SocketPorts<'a, R, Global> as RelayAddressGenerator>⟧ disk) }
+    ensures told { IfNone result.disk (IsErr result.told) }
+{
+    let watch = StoreWatch::new(rt.alloc(), rt, service.store, log);
+    let began = taken.began;
+    let mut serving = match start(rt, clock, service, &watch, taken, disk) {
+        Ok(serving) => serving,
+        Err(ended) => return ended,
+    };
+    tell_begun(rt, clock, service, &watch, &serving, began);
+    let told = tell(rt, &mut serving, clock, service, log, out);
+    let (disk, _) = serving.close();
+    Ended {
+        told,
+        disk: Some(disk),
+    }
+}
+
+/// Serves over the store in a file, for so many turns, or until the process is ended. `S` stands for the state in
+/// which the store's file was found, whatever that is. The disk is returned as it was left, if it was opened.
+pub fn run_serve<
+    'a,
+    S: Start,
+    R: Files<File = File> + Net + RandomSource + Env + Drop + AllocGlobal,
+    C: Clock,
+    W: Write,
+    L: Write + Drop,
+>(rt: &'a R, clock: &C, service: Service<'_>, log: &Log<L>, out: &mut W) -> Ended<FileDisk<File, S>>
+    ensures serves { IfSome result.disk (ServesOpened ⟦<FileDisk<File, S> as Disk>⟧ ⟦<Credentials as AuthHandler>⟧
+        ⟦<SocketPorts<'a, R, Global> as RelayAddressGenerator>⟧ IsOpened) }
+    // Without a store nothing was served.
+    ensures told { IfNone result.disk (IsErr result.told) }
+{
+    match take_file(rt, clock, service, log) {
+        Ok((taken, disk)) => {
+            serve_over(rt, clock, service, taken, disk.holding::<S>(), log, out)
+        }
+        Err(fault) => Ended::from(fault),
+    }
+}
+
+/// Serves over the store in an export, as `run_serve` over one in a file. `S` stands for the state in which the export was found.
+pub fn serve_export<
+    'a,
+    S: Start,
+    R: Files<File = File> + Net + RandomSource + Env + Drop + AllocGlobal,
+    C: Clock,
+    W: Write,
+    L: Write + Drop,
+>(
+    rt: &'a R,
+    clock: &C,
+    service: Service<'_>,
+    named: NamedExport<'_>,
+    log: &Log<L>,
+    out: &mut W,
+) -> Ended<NbdDisk<Socket, S>>
+    ensures serves { IfSome result.disk (ServesOpened ⟦<NbdDisk<Socket, S> as Disk>⟧ ⟦<Credentials as AuthHandler>⟧
+        ⟦<SocketPorts<'a, R, Global> as RelayAddressGenerator>⟧ IsConnected) }
+    // Without a store nothing was served.
+    ensures told { IfNone result.disk (IsErr result.told) }
+{
+    match take_export(rt, clock, service, named, log) {
+        Ok((taken, disk)) => {
+            serve_over(rt, clock, service, taken, disk.holding::<S>(), log, out)
+        }
+        Err(fault) => Ended::from(fault),
+    }
+}
+
+/// Serves over a store in a file or in an export, for so many turns, or until the process is ended.
+pub fn run_service<
+    R: Files<File = File> + Net + RandomSource + Env + Drop + AllocGlobal,
+    C: Clock,
+    W: Write,
+    L: Write + Drop,
+>(rt: &R, clock: &C, service: Service<'_>, log: &Log<L>, out: &mut W) -> Result<(), ProgramError> {
+    match StorePlace::of(service.store)? {
+        StorePlace::File(_) => {
+            run_serve::<Unknown, R, C, W, L>(rt, clock, service, log, out).told
+        }
+        StorePlace::Export(named) => {
+            serve_export::<Unknown, R, C, W, L>(rt, clock, service, named, log, out).told
+        }
+    }
+}
