@@ -276,30 +276,53 @@ impl<'l, L: Write + Drop> Lines<'l, L> {
         }
     }
 
+    // What a line has of the request, behind the response.
+    fn rest_text<A: Allocator + Copy>(
+        &self,
+        second: u64,
+        known: &Known,
+        answer: Answer<'_, A>,
+        message: &Message<'_>,
+        response: Response,
+    ) -> Result<String, AllocError> {
+        match response {
+            Response::Success => self.success_text(second, answer, message),
+            Response::Error(code) => {
+                let name = name_text(self.alloc, answer, message)?;
+                let reason = reason_text(self.alloc, known, answer, message, code)?;
+                format!(in self.alloc; "{name}{reason}")
+            }
+        }
+    }
+
+    // The address, the port and the peers of a request.
+    fn place_text<A: Allocator + Copy>(
+        &self,
+        known: &Known,
+        answer: Answer<'_, A>,
+        message: &Message<'_>,
+        response: Response,
+    ) -> Result<String, AllocError> {
+        let is_in_response = response == Response::Success && message.method() == Method::ALLOCATE;
+        let at = at_text(self.alloc, known, answer.five_tuple)?;
+        let port = port_text(self.alloc, answer, is_in_response)?;
+        let peers = peers_text(self.alloc, message)?;
+        format!(in self.alloc; "{at}{port}{peers}")
+    }
+
     fn text<A: Allocator + Copy>(
         &self,
         second: u64,
         answer: Answer<'_, A>,
         response: Response,
     ) -> Result<String, AllocError> {
-        let alloc = self.alloc;
-        let front = response_text(alloc, answer.five_tuple, answer.bytes)?;
+        let front = response_text(self.alloc, answer.five_tuple, answer.bytes)?;
         let (Some(known), Some(message)) = (&self.known, answer.message()) else {
             return Ok(front);
         };
-        let at = at_text(alloc, known, answer.five_tuple)?;
-        let is_in_response = response == Response::Success && message.method() == Method::ALLOCATE;
-        let port = port_text(alloc, answer, is_in_response)?;
-        let peers = peers_text(alloc, &message)?;
-        let rest = match response {
-            Response::Success => self.success_text(second, answer, &message)?,
-            Response::Error(code) => {
-                let name = name_text(alloc, answer, &message)?;
-                let reason = reason_text(alloc, known, answer, &message, code)?;
-                format!(in alloc; "{name}{reason}")?
-            }
-        };
-        format!(in alloc; "{front}{at}{port}{peers}{rest}")
+        let place = self.place_text(known, answer, &message, response)?;
+        let rest = self.rest_text(second, known, answer, &message, response)?;
+        format!(in self.alloc; "{front}{place}{rest}")
     }
 
     // Begins to count for an allocation that was made, and anew where one ended.

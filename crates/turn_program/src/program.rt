@@ -59,31 +59,49 @@ fn run_command<
     out: &mut W,
     log: L,
 ) -> Result<(), ProgramError> {
+    check_place(command)?;
     let log = Log::new(rt.alloc(), log, is_logged(command));
+    run_logged(rt, clock, release, command, out, &log)
+}
+
+/// Runs a command with its log.
+fn run_logged<
+    R: Files<File = File> + Net + RandomSource + Env + Drop + AllocGlobal,
+    C: Clock,
+    W: Write,
+    L: Write + Drop,
+>(
+    rt: &R,
+    clock: &C,
+    release: Release<'_>,
+    command: &Command,
+    out: &mut W,
+    log: &Log<L>,
+) -> Result<(), ProgramError> {
     match command {
         Command::Answer { from, at, datagram } => {
             run_answer(rt.alloc(), *from, *at, datagram, out)
         }
-        Command::Replay { file, .. } => run_replay(rt, clock, &log, file, out),
+        Command::Replay { file, .. } => run_replay(rt, clock, log, file, out),
         Command::Credential {
             config,
             name,
             expiry,
             ..
-        } => run_credential(rt, clock, &log, config, name.as_deref(), *expiry, out),
+        } => run_credential(rt, clock, log, config, name.as_deref(), *expiry, out),
         Command::Format {
             config,
             store,
             area,
             ..
-        } => run_format(rt, clock, &log, config, store, *area, out),
-        Command::Inspect { store, at, .. } => run_inspect(rt, clock, &log, store, *at, out),
+        } => run_format(rt, clock, log, config, store, *area, out),
+        Command::Inspect { store, at, .. } => run_inspect(rt, clock, log, store, *at, out),
         Command::Check {
             config,
             store,
             listen,
             ..
-        } => run_check(rt, clock, &log, config, store.as_deref(), listen, out),
+        } => run_check(rt, clock, log, config, store.as_deref(), listen, out),
         Command::Serve {
             config,
             store,
@@ -104,14 +122,14 @@ fn run_command<
                 listen,
                 is_held: *held,
             };
-            run_service(rt, clock, service, &log, out)
+            run_service(rt, clock, service, log, out)
         }
         Command::End {
             config,
             store,
             ended,
             ..
-        } => run_end(rt, clock, &log, config, store, whose_of(ended), out),
+        } => run_end(rt, clock, log, config, store, whose_of(ended), out),
         Command::Probe {
             server,
             asker,
@@ -150,7 +168,6 @@ fn try_words<
     log: L,
 ) -> Result<(), ProgramError> {
     let command = command_of(rt.alloc(), words).map_err(fault_of_words)?;
-    check_place(&command)?;
     run_command(rt, clock, release, &command, out, log)
 }
 

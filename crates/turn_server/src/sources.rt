@@ -1,7 +1,7 @@
 //! What this program is made from. This file is written by packaging/digest.
 
 /// The digest of the sources.
-pub const SOURCES: &str = "52eb7f82078dad1630fcaebe22530a48b550803dc7c1e600b2614deb172357e7";
+pub const SOURCES: &str = "0c13e87366afe06821f16286b0aa286f50d4f66857294efec4cc301dbc569cb4";
 
 /// The toolchain, as it names itself.
 pub const TOOLCHAIN: &str = "rattle-kit-13b logic dac8208d650f15bf";
