@@ -1,4 +1,5 @@
 mod backlog;
+mod machine;
 mod ports;
 mod received;
 mod schedule;

@@ -5,7 +5,7 @@ pub use turn_disk::{
     Unknown,
 };
 pub use turn_engine::{
-    Beside, CommitError, Relayed, Server, ServerOpenError, SubmitError, WhileCommitting,
+    Beside, CommitError, Relayed, Server, ServerOpenError, SubmitError, Unanswered, WhileCommitting,
 };
 pub use turn_record::Version;
 pub use turn_store::{

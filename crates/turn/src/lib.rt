@@ -46,9 +46,10 @@
 //! again. A program that stores acts itself does so between `Machine::prepare`, which decides, and `Machine::apply`, which returns
 //! what is to be sent.
 //!
-//! Data needn't wait for a commit. `Server::beside` answers it beside what is staged, where it is of a five-tuple of which no act is
+//! Data needn't wait for a commit, nor does a request whose answer is the same for every table: a Binding, or one that is refused for its
+//! form or its credentials. `Server::beside` answers these beside what is staged, where they are of a five-tuple of which no act is
 //! staged, and what it returns may be sent at once; `Server::commit_while` lends it to a `WhileCommitting`, which is called while the
-//! disk's calls wait. Such data is answered at the clock. So once a moment is later than that, the next arrival is to be submitted.
+//! disk's calls wait. They are answered at the clock, which `Server::advance` brings to a later moment, once nothing is staged.
 //!
 //! # What a program over sockets does
 //!

@@ -8,7 +8,7 @@ use crate::socket::TimedSocket;
 use std::alloc::{AllocError, Allocator, Global};
 use std::marker::Model;
 use std::net::Net;
-use std::rt::Clock;
+use std::rt::{Clock, Files};
 use turn_codec::{ChannelData, Message};
 use turn_cred::Users;
 use turn_disk::Disk;
@@ -80,7 +80,7 @@ impl<'a, R: Net, A: Allocator + Copy> Model for Loopback<'a, R, A> {
 /// A server that runs, with a client and a peer. Each step sends one datagram, takes one turn of the server, and receives
 /// what comes of it.
 #[derive(Drop)]
-pub struct Conversation<'a, D: Disk + Drop, R: Net, A: Allocator + Copy = Global> {
+pub struct Conversation<'a, D: Disk + Drop, R: Net + Files, A: Allocator + Copy = Global> {
     plan: Plan<'a, R, A>,
     serving: SocketServing<'a, D, Users<A>, R, A>,
     client: Client<'static, A>,
@@ -88,7 +88,7 @@ pub struct Conversation<'a, D: Disk + Drop, R: Net, A: Allocator + Copy = Global
 }
 
 // Clauses see nothing of it, which keeps the proofs of callers small.
-impl<'a, D: Disk + Drop, R: Net, A: Allocator + Copy> Model for Conversation<'a, D, R, A> {
+impl<'a, D: Disk + Drop, R: Net + Files, A: Allocator + Copy> Model for Conversation<'a, D, R, A> {
     ghost Value = { Unit {0} };
 
     ghost view = { λ _. tt };
@@ -143,7 +143,7 @@ fn make_users<A: Allocator + Copy>(alloc: A) -> Result<Users<A>, AllocError> {
     Ok(users)
 }
 
-impl<'a, R: Net + Drop, A: Allocator + Copy> Loopback<'a, R, A> {
+impl<'a, R: Net + Files + Drop, A: Allocator + Copy> Loopback<'a, R, A> {
     /// A client and a peer with sockets of their own, and a server to be, with relay ports of a range, which takes up to so
     /// many datagrams of a socket in a turn, and commits so.
     pub fn new(
@@ -219,7 +219,7 @@ impl<'a, R: Net + Drop, A: Allocator + Copy> Loopback<'a, R, A> {
     }
 }
 
-impl<'a, D: Disk + Drop, R: Net + Drop, A: Allocator + Copy> Conversation<'a, D, R, A> {
+impl<'a, D: Disk + Drop, R: Net + Files + Drop, A: Allocator + Copy> Conversation<'a, D, R, A> {
     /// Ends the server, and returns its disk.
     pub fn end(self) -> (D, Loopback<'a, R, A>) {
         let Conversation {

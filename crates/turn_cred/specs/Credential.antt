@@ -44,11 +44,14 @@ pub data Verdict : Type 0 where
 abbrev pub has_integrity : Datagram → Bool
 has_integrity d = is_some (value_of message_integrity d.content.attributes)
 
+-- the realm is the policy's, and the name isn't empty and not longer than the limit
+abbrev pub may_be_known : Policy → List ℕ → List ℕ → Bool
+may_be_known p user its_realm = bytes_eq its_realm p.realm && not (length user == 0) && not (nat_lt p.name_bytes (length user))
+
 -- the key of a user name in a realm: none where the realm isn't the policy's, the name is empty or longer than the limit, or
 -- the user isn't known
 unfoldable pub user_key : Policy → Keys → List ℕ → List ℕ → Option Key
-user_key p keys user its_realm =
-    if bytes_eq its_realm p.realm && not (length user == 0) && not (nat_lt p.name_bytes (length user)) then keys user p.realm else None
+user_key p keys user its_realm = if may_be_known p user its_realm then keys user p.realm else None
 
 -- The outcome of the credential check of a request, the first that applies (RFC 8489, section 9.2.4): no MESSAGE-INTEGRITY,
 -- 401; USERNAME, REALM or NONCE not seen, 400; no known user of the realm, 401; a MESSAGE-INTEGRITY that isn't right under

@@ -1,8 +1,8 @@
 -- The names of this crate's definitions that proofs and the crates above cite, passed on from one place. Declares nothing.
 unfoldable pub use Rattle.turn_cred.specs.Credential.{user_key, verdict}
-pub use Rattle.turn_cred.specs.Credential.{Keys, Policy, Verdict, has_expired, has_integrity, no_key, policy_of}
+pub use Rattle.turn_cred.specs.Credential.{Keys, Policy, Verdict, has_expired, has_integrity, may_be_known, no_key, policy_of}
 pub use Rattle.turn_cred.specs.Credential.Verdict.{Bad400, Passed, Stale438}
-pub use Rattle.turn_cred.specs.Found.{verdict_of}
+pub use Rattle.turn_cred.specs.Found.{IsClaimOf, verdict_of}
 unfoldable pub use Rattle.turn_cred.specs.Memo.{AddsNone, AddsOne, AreKeysIn, Knows}
 pub use Rattle.turn_cred.specs.Memo.{Known, known, named}
 pub use Rattle.turn_cred.specs.Names.{HasExpiry, IsSharedKey, colon_and}

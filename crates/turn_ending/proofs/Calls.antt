@@ -4,7 +4,7 @@ use Rattle.std.specs.List.{AllByRecursion}
 use Rattle.turn_cred.specs.declared.handler.AuthHandler as handlers
 use Rattle.turn_disk.specs.declared.disk.Disk as disks
 use Rattle.turn_engine.proofs.Lists.{all-append}
-use Rattle.turn_engine.specs.Prelude.{Commits, Submits, Commit, Relay, Serves, ServerCall, Submit, after_of, last_of, ServerState}
+use Rattle.turn_engine.specs.Prelude.{Advance, Commits, Submits, Commit, Relay, Serves, ServerCall, Submit, after_of, last_of, ServerState}
 use Rattle.turn_engine.specs.declared.error.SubmitError.{SubmitError}
 use Rattle.turn_ports.specs.declared.generator.RelayAddressGenerator as generators
 use Rattle.turn_step.specs.Prelude.{Arrives, Sent}
@@ -40,6 +40,7 @@ module _ {D H G : Type 0} where
   call_of_more tuples others moment more (Submit m (Arrives.FromPeer port from bytes id) result after) end = absurd end.1
   call_of_more tuples others moment more (Commit result after) end = tt
   call_of_more tuples others moment more (Relay arrival sent after) end = absurd end
+  call_of_more tuples others moment more (Advance m after) end = absurd end
 
   all_of_more : (tuples others : List FiveTuple) (moment : ℕ) → ((f : FiveTuple) → Contains tuples f → Contains others f) → (xs : List (ServerCall D H G)) → AllByRecursion (IsEndCall tuples moment) xs → AllByRecursion (IsEndCall others moment) xs
   all_of_more tuples others moment more [] all = tt

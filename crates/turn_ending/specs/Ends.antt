@@ -5,7 +5,7 @@ use Rattle.std.specs.List.{AllByRecursion, list_all}
 use Rattle.turn_codec.specs.Prelude.{Content, Encodes}
 use Rattle.turn_cred.specs.declared.handler.AuthHandler as handlers
 use Rattle.turn_disk.specs.declared.disk.Disk as disks
-use Rattle.turn_engine.specs.Prelude.{Commit, Relay, Serves, ServerCall, Submit, last_of, ServerState}
+use Rattle.turn_engine.specs.Prelude.{Advance, Commit, Relay, Serves, ServerCall, Submit, last_of, ServerState}
 use Rattle.turn_history.specs.Prelude.{Event, Renews, Contents, FiveTuple}
 use Rattle.turn_ports.specs.declared.generator.RelayAddressGenerator as generators
 use Rattle.turn_rules.specs.Prelude.{lifetime_of}
@@ -30,6 +30,7 @@ abbrev pub IsEndCall : {D H G : Type 0} → List FiveTuple → ℕ → ServerCal
 IsEndCall tuples t (Submit moment arrival result after) = (moment ≡ t) × IsEndOf tuples arrival
 IsEndCall tuples t (Commit result after) = Unit {0}
 IsEndCall tuples t (Relay arrival sent after) = ⊥
+IsEndCall tuples t (Advance moment after) = ⊥
 
 -- calls of a server, of which each submits such a message or commits
 pub record Ends {D H G : Type 0} (disk : disks.Ghosts D) (handler : handlers.Ghosts H) (ports : generators.Ghosts G) (tuples : List FiveTuple) (moment : ℕ) (old new : ServerState D H G) : Type 0 where

@@ -70,3 +70,13 @@ begins form h first rest k m image is le at =
       rest = take (at.count - length first) rest;
       stands = subst (λ (l : History). RepresentsBy form l m image) taken at.stands;
     }
+
+-- what has at least the first part of a history at a clock has it at a later one
+pub weaken_by : (form : Form) (h : History) (k m n : ℕ) (image : List ℕ) → m ≤ n → AtLeast form h k m image → AtLeast form h k n image
+weaken_by form h k m n image le at =
+    record {
+      count = at.count;
+      no_less = at.no_less;
+      no_more = at.no_more;
+      stands = record { clock = at.stands.clock; bounded = omega (arith, at.stands.bounded); stands = at.stands.stands };
+    }

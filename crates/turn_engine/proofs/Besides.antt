@@ -1,19 +1,19 @@
--- Data that was answered beside what is staged, in a run: before what is staged, at the clock.
-use Rattle.std.proofs.Common.{◌≡◌, ◌≢◌, ◌≤◌, ◌⊎◌, ◌&&◌, ◌||◌, nat_eq, inl, inr, not, ℕ, zero, suc, Bool, true, false, List, [], ◌∷◌, ◌++◌, length, take, Option, None, Result, Ok, refl, sym, ap, ◌∙◌, subst, arith, append_assoc, append-nil}
+-- Arrivals that were answered beside what is staged, in a run: before what is staged, at the clock.
+use Rattle.std.proofs.Common.{◌≡◌, ◌≢◌, ◌≤◌, ◌⊎◌, ◌&&◌, ◌||◌, nat_eq, inl, inr, not, ℕ, Bool, true, false, List, [], ◌∷◌, ◌++◌, drop, length, take, Option, None, Result, Ok, refl, sym, ap, ◌∙◌, subst, arith, append_assoc, append-nil}
 use Rattle.std.proofs.Math.Seq.{take-length}
 use Rattle.std.proofs.lemmas.Bool.{and_from, and_parts, both_ways, eq-eqb, eqb-true}
-use Rattle.std.proofs.lemmas.List.{take-append-le}
+use Rattle.std.proofs.lemmas.List.{take-append-le, take-append-drop}
 use Rattle.std.specs.List.{AllByRecursion, list_any}
 use Rattle.turn_disk.specs.Meanwhile as meanwhile
 use Rattle.turn_disk.specs.Prelude.{Passes}
 use Rattle.turn_history.specs.Prelude.{History, PortsApart, Contents, Endpoint, FiveTuple}
 use Rattle.turn_cred.specs.Prelude.{Keys}
 use Rattle.turn_step.proofs.Beginnings.{data_same}
-use Rattle.turn_step.specs.Prelude.{AnswersArrival, Setting, IsOwner, IsRequestOf, IsAfter, setting_of, Arrives, Sent, added, FromPeer}
+use Rattle.turn_step.specs.Prelude.{AnswersArrival, Setting, IsOwner, IsRequestOf, NeedsTable, IsAfter, setting_of, Arrives, Sent, StepOutcome, added, FromPeer}
 use Rattle.turn_step.specs.declared.arrival.Outgoing.{Outgoing}
-use Rattle.turn_step.specs.declared.data.DataAnswer.{DataAnswer}
-use Rattle.turn_step.specs.declared.data.DataAnswer.TheVariants.{Data, Request}
-use Rattle.turn_engine.specs.Prelude.{BesideState, HasToWait, IsApart, IsAtClock, IsBehind, Relays, has_no_owner, is_behind, is_later, is_request, is_staged, IsAnswered, IsRun, Taken, accepted, beside_at, last_moment}
+use Rattle.turn_step.specs.declared.answer.Answer.{Answer}
+use Rattle.turn_step.specs.declared.answer.Answer.TheVariants.{Data, Reply, Request}
+use Rattle.turn_engine.specs.Prelude.{BesideState, HasToWait, IsApart, IsAtClock, IsBehind, Relays, has_no_owner, is_behind, is_later, is_of_another, is_staged, needs_table, none_is_staged, tuples_of, IsAnswered, IsRun, Taken, accepted, beside_at, last_moment}
 use Rattle.turn_engine.proofs.Answered.{accepted-append}
 use Rattle.turn_engine.proofs.Lists.{all-append, none_left}
 
@@ -134,9 +134,12 @@ not_apart p f same (g ∷ gs) some all = elim (one_of (p g) (list_any p gs) some
   | inr there ↦ not_apart p f same gs there all.1
 ]
 
--- data isn't what a request is answered by
-pub data_is_no_request : {A E : Type 0} {d : Option (Outgoing A)} (r : Result (DataAnswer A) E) (x : DataAnswer A) → r ≡ Ok Request → r ≡ Ok x → x ≡ Data d → ⊥
-data_is_no_request r x request ok data_is = cc
+-- what was answered is left to nobody
+pub data_is_answered : {A E : Type 0} {d : Option (Outgoing A)} (r : Result (Answer A) E) (x : Answer A) → r ≡ Ok Request → r ≡ Ok x → x ≡ Data d → ⊥
+data_is_answered r x request ok data_is = cc
+
+pub reply_is_answered : {A E : Type 0} {d : Option (Outgoing A)} (r : Result (Answer A) E) (x : Answer A) → r ≡ Ok Request → r ≡ Ok x → x ≡ Reply d → ⊥
+reply_is_answered r x request ok reply_is = cc
 
 pub not_both : (b : Bool) → b ≡ false → b ≡ true → ⊥
 not_both b off on = both_ways b off on
@@ -144,6 +147,10 @@ not_both b off on = both_ways b off on
 pub not_false : (b : Bool) → not b ≡ false → b ≡ true
 not_false true is = refl
 not_false false is = cc
+
+pub not_true : (b : Bool) → not b ≡ true → b ≡ false
+not_true false is = refl
+not_true true is = cc
 
 -- ---- What is done meanwhile
 
@@ -156,27 +163,63 @@ lent_by beside other passes {new = new} (meanwhile.more {mid = mid} pass rest) =
 
 -- ---- Answers
 
+-- where no act is staged, all of a history is stored
+all_stored : (h : History) (k : ℕ) → [] ≡ tuples_of (drop k h) → h ≡ take k h
+all_stored h k none = sym (take-append-drop k h) ∙ ap (λ (l : History). take k h ++ l) (no_events (drop k h) none) ∙ append-nil (take k h)
+  where
+    no_events : (h : History) → [] ≡ tuples_of h → h ≡ []
+    no_events [] none = refl
+    no_events (e ∷ h) none = cc
+
 -- data that was answered after every history is answered after the part that is stored
-pub relays_beside : {H G : Type 0} (keys : H → Keys) (range : G → ℕ × ℕ) (b : BesideState H G) (a : Arrives) (sent : Option Sent) → ¬ IsRequestOf a → IsAtClock b → IsApart b.machine.table.contents b.tuples a
+data_stored : {H G : Type 0} (s : Setting) (b : BesideState H G) (a : Arrives) (o : StepOutcome) → ¬ IsRequestOf a → IsApart b.machine.table.contents b.tuples a
+    → ((h : History) → IsAfter b.machine h → AnswersArrival s h b.machine.table.moment false a o) → (h : History) (k : ℕ) → IsAfter b.machine h → b.tuples ≡ tuples_of (drop k h)
+    → AnswersArrival s (take k h) b.machine.table.moment false a o
+data_stored s b a o other (none_is_staged none) answers h k after is =
+    subst (λ (l : History). AnswersArrival s l b.machine.table.moment false a o) (all_stored h k (sym none ∙ is)) (answers h after)
+data_stored s b a o other (is_of_another owner owns apart) answers h k after is =
+    let owned = subst (λ (c : Contents). IsOwner c a owner) after.agrees owns in
+    let others = subst (AllByRecursion (λ (g : FiveTuple). g ≢ owner)) is apart in
+    (data_same h k s b.machine.config.limits b.machine.table.moment false a owner o after.fitting after.late other owned others).0 (answers h after)
+
+pub relays_data : {H G : Type 0} (keys : H → Keys) (range : G → ℕ × ℕ) (b : BesideState H G) (a : Arrives) (sent : Option Sent) → ¬ NeedsTable (setting_of keys range b.machine) b.machine.table.moment a → IsAtClock b
+    → IsApart b.machine.table.contents b.tuples a → ¬ IsRequestOf a
     → ((h : History) → IsAfter b.machine h → AnswersArrival (setting_of keys range b.machine) h b.machine.table.moment false a (record { change = None; sent = sent })) → Relays keys range b a sent
-relays_beside keys range b a sent other at_clock apart answers = record {
-  no_request = other;
+relays_data keys range b a sent needless at_clock apart other answers = record {
+  needs_no_table = needless;
   at_clock = at_clock;
   apart = apart;
-  answers = λ h k after is.
-      let owns = subst (λ (c : Contents). IsOwner c a apart.owner) after.agrees apart.owns in
-      let others = subst (AllByRecursion (λ (g : FiveTuple). g ≢ apart.owner)) is apart.apart in
-      (data_same h k (setting_of keys range b.machine) b.machine.config.limits b.machine.table.moment false a apart.owner (record { change = None; sent = sent }) after.fitting after.late other owns others).0 (answers h after);
+  answers = data_stored (setting_of keys range b.machine) b a (record { change = None; sent = sent }) other apart answers;
+}
+
+-- the answer to a request that no table changes
+pub relays_reply : {H G : Type 0} (keys : H → Keys) (range : G → ℕ × ℕ) (b : BesideState H G) (a : Arrives) (sent : Option Sent) → ¬ NeedsTable (setting_of keys range b.machine) b.machine.table.moment a → IsAtClock b
+    → IsApart b.machine.table.contents b.tuples a
+    → ((h : History) (failed : Bool) → AnswersArrival (setting_of keys range b.machine) h b.machine.table.moment failed a (record { change = None; sent = sent })) → Relays keys range b a sent
+relays_reply keys range b a sent needless at_clock apart answers = record {
+  needs_no_table = needless;
+  at_clock = at_clock;
+  apart = apart;
+  answers = λ h k after is. answers (take k h) false;
 }
 
 -- ---- Ports
 
--- an arrival at the port of an allocation of which no act is staged needn't wait
-pub needs_no_wait : {H G : Type 0} (b : BesideState H G) (port : ℕ) (from there : Endpoint) (bytes id first other : List ℕ) → PortsApart b.machine.table.contents → IsAtClock b → IsApart b.machine.table.contents b.tuples (FromPeer port there first other)
-    → ¬ HasToWait b (FromPeer port from bytes id)
-needs_no_wait b port from there bytes id first other apart at is (is_request request) = request
-needs_no_wait b port from there bytes id first other apart at is (is_later later) = later at
-needs_no_wait b port from there bytes id first other apart at is (is_behind (has_no_owner none)) = none is.owner is.owns
-needs_no_wait b port from there bytes id first other apart at is (is_behind (is_staged owner owns staged)) =
-    let same : is.owner ≡ owner = apart is.owner owner is.owns.0 owns.0 is.owns.1 owns.1 (is.owns.2 ∙ sym owns.2) in
-    staged (subst (λ (f : FiveTuple). AllByRecursion (λ (g : FiveTuple). g ≢ f) b.tuples) same is.apart)
+-- an arrival at a port needn't wait where no act is staged, or none of the allocation of that port
+pub needs_no_wait : {H G : Type 0} (keys : H → Keys) (range : G → ℕ × ℕ) (b : BesideState H G) (port : ℕ) (from there : Endpoint) (bytes id first other : List ℕ) → PortsApart b.machine.table.contents → IsAtClock b
+    → IsApart b.machine.table.contents b.tuples (FromPeer port there first other) → ¬ HasToWait keys range b (FromPeer port from bytes id)
+needs_no_wait keys range b port from there bytes id first other apart at is (needs_table needs) = needs
+needs_no_wait keys range b port from there bytes id first other apart at is (is_later later) = later at
+needs_no_wait keys range b port from there bytes id first other apart at (none_is_staged none) (is_behind (has_no_owner some never)) = some none
+needs_no_wait keys range b port from there bytes id first other apart at (none_is_staged none) (is_behind (is_staged owner owns staged)) =
+    staged (subst (AllByRecursion (λ (g : FiveTuple). g ≢ owner)) (sym none) tt)
+needs_no_wait keys range b port from there bytes id first other apart at (is_of_another of owns others) (is_behind (has_no_owner some never)) = never of owns
+needs_no_wait keys range b port from there bytes id first other apart at (is_of_another of owns others) (is_behind (is_staged owner has staged)) =
+    let same : of ≡ owner = apart of owner owns.0 has.0 owns.1 has.1 (owns.2 ∙ sym has.2) in
+    staged (subst (λ (f : FiveTuple). AllByRecursion (λ (g : FiveTuple). g ≢ f) b.tuples) same others)
+
+-- an arrival at a port has to wait where another one has to, since an act is staged
+pub behind_at : {c : Contents} {tuples : List FiveTuple} {port : ℕ} {there : Endpoint} {first other : List ℕ} (from : Endpoint) (bytes id : List ℕ) → IsBehind c tuples (FromPeer port there first other)
+    → IsBehind c tuples (FromPeer port from bytes id)
+behind_at from bytes id (has_no_owner some never) = has_no_owner some never
+behind_at from bytes id (is_staged owner owns staged) = is_staged owner owns staged

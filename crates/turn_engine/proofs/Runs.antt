@@ -1,5 +1,5 @@
 -- Runs go on, call after call.
-use Rattle.std.proofs.Common.{rules, tests, ◌≡◌, ◌≤◌, ◌+◌, ◌⊎◌, inl, inr, ℕ, Bool, true, false, List, [], ◌∷◌, ◌++◌, length, map, take, drop, Option, None, Result, Ok, Err, refl, sym, ap, ◌∙◌, subst, arith, append_assoc, append-nil, length-append, option_to_list}
+use Rattle.std.proofs.Common.{rules, tests, ◌≡◌, ◌≤◌, ◌+◌, ◌⊎◌, inl, inr, ℕ, Bool, true, false, List, [], ◌∷◌, ◌++◌, length, map, take, Option, Result, Ok, Err, refl, sym, ap, ◌∙◌, subst, arith, append_assoc, append-nil, length-append, option_to_list}
 use Rattle.std.proofs.lemmas.List.{map-append}
 use Rattle.std.specs.List.{AllByRecursion}
 use Rattle.turn_cred.specs.Prelude.{Keys}
@@ -11,14 +11,14 @@ use Rattle.turn_history.specs.Prelude.{History}
 use Rattle.turn_ports.specs.Ports.{has_failed}
 use Rattle.turn_ports.specs.declared.generator.RelayAddressGenerator as generators
 use Rattle.turn_step.specs.Prelude.{AnswersArrival, Setting, Arrives, Sent, added, KeepsSetting, MachineState, setting_of}
-use Rattle.turn_store.specs.Prelude.{Form, form_of}
+use Rattle.turn_store.specs.Prelude.{Form, EachImage, form_of}
 use Rattle.turn_store.specs.declared.error.StoreError.{StoreError}
 use Rattle.turn_store.specs.declared.error.StoreError.TheVariants as faults
 use Rattle.turn_types.specs.Prelude.{Config}
-use Rattle.turn_engine.specs.Prelude.{Commits, Submits, AtLeast, Opens, RecoversTo, IsAtClock, beside, Asked, Commit, IsAnswered, IsAtPlace, IsCall, IsRun, IsSilent, Lasts, Leads, NeverFails, Place, Relay, Serves, ServerCall, Submit, Taken, accepted, after_of, all_asked, asked, asked_after, asked_at, beside_at, count_at, datagrams_of, handed_by, handed_out, history_at, last_moment, last_of, sent_about, start, ServerState, now_of}
+use Rattle.turn_engine.specs.Prelude.{Advance, Advances, Commits, Submits, AtLeast, Opens, RecoversTo, Asked, Commit, IsAnswered, IsAtPlace, IsCall, IsNoAdvance, IsRun, IsSilent, Lasts, Leads, NeverFails, Place, Relay, Serves, ServerCall, Submit, Taken, accepted, after_of, all_asked, asked, asked_after, asked_at, beside_at, count_at, datagrams_of, handed_by, handed_out, history_at, last_moment, last_of, sent_about, start, ServerState, now_of}
 use Rattle.turn_engine.specs.declared.error.SubmitError.{SubmitError}
 use Rattle.turn_engine.specs.declared.error.SubmitError.TheVariants.{BatchFull, Memory, Stopped}
-use Rattle.turn_engine.proofs.Answered.{accepted-append, answered_at, begins, history-cut, history-push, last_moment-push, run-push, sent_about-append}
+use Rattle.turn_engine.proofs.Answered.{accepted-append, answered_at, begins, history-cut, history-push, last_moment-push, run-push, sent_about-append, weaken_by}
 use Rattle.turn_engine.proofs.Besides.{accepted-beside, all-beside, front_in_time, last-beside, now_before, run-beside, since_late, since_taken, stored_part}
 use Rattle.turn_engine.proofs.Lists.{all-append, length-take-le}
 use Rattle.turn_engine.proofs.Written.{images_stored}
@@ -49,20 +49,38 @@ setting_kept {H = H} keys range old new kept =
     ∙ ap (λ (x : ℕ × ℕ). made old.config old.handler x new.pairs) kept.range_is ∙ ap (λ (x : Bool). made old.config old.handler (range old.ports) x) kept.pairs
 
 module _ {D H G : Type 0} (disk : disks.Ghosts D) (handler : handlers.Ghosts H) (ports : generators.Ghosts G) where
-  -- a call of a stopped server leaves it as it was, and hands nothing out
-  silent_call : (server : ServerState D H G) (x : ServerCall D H G) → server.store.stopped ≡ true → IsCall disk handler ports server x → (after_of x ≡ server) × (handed_by x ≡ [])
-  silent_call server (Submit moment a result after) stopped call = (call.unchanged (call.stopped.1 stopped), refl)
-  silent_call server (Commit result after) stopped call = (call.unchanged stopped, ap datagrams_of (call.stopped.1 stopped))
+  -- the server with the machine of another
+  abbrev with_machine : ServerState D H G → ServerState D H G → ServerState D H G
+  with_machine s v = record s { machine = v.machine }
+
+  -- a call of a stopped server leaves it as it was but for its machine, and hands nothing out
+  record IsSilentCall (server : ServerState D H G) (x : ServerCall D H G) : Type 0 where
+    none : handed_by x ≡ []
+    rest : after_of x ≡ with_machine server (after_of x)
+    same : IsNoAdvance x → after_of x ≡ server
+
+  as_it_was : (server : ServerState D H G) (x : ServerCall D H G) → handed_by x ≡ [] → after_of x ≡ server → IsSilentCall server x
+  as_it_was server x none same = record {
+    none = none;
+    rest = same ∙ sym (ap (with_machine server) same);
+    same = λ no. same;
+  }
+
+  silent_call : (server : ServerState D H G) (x : ServerCall D H G) → server.store.stopped ≡ true → IsCall disk handler ports server x → IsSilentCall server x
+  silent_call server (Submit moment a result after) stopped call = as_it_was server (Submit moment a result after) refl (call.unchanged (call.stopped.1 stopped))
+  silent_call server (Commit result after) stopped call = as_it_was server (Commit result after) (ap datagrams_of (call.stopped.1 stopped)) (call.unchanged stopped)
   silent_call server (Relay a sent after) stopped call = absurd (not_both server.store.stopped stopped call.0)
+  silent_call server (Advance moment after) stopped call = record { none = refl; rest = call.rest; same = λ no. absurd no }
 
   pub silent : (server : ServerState D H G) (steps : List (ServerCall D H G)) → server.store.stopped ≡ true → Serves disk handler ports server steps → IsSilent server steps
-  silent server [] stopped serves = record { none = refl; same = refl }
+  silent server [] stopped serves = record { none = refl; rest = refl; same = λ no. refl }
   silent server (x ∷ xs) stopped serves =
       let one = silent_call server x stopped serves.0 in
-      let rest = silent (after_of x) xs (subst (λ (v : ServerState D H G). v.store.stopped ≡ true) (sym one.0) stopped) serves.1 in
+      let after = silent (after_of x) xs (ap (λ (v : ServerState D H G). v.store.stopped) one.rest ∙ stopped) serves.1 in
       record {
-        none = ap (λ (l : List Sent). l ++ handed_out xs) one.1 ∙ rest.none;
-        same = rest.same ∙ one.0;
+        none = ap (λ (l : List Sent). l ++ handed_out xs) one.none ∙ after.none;
+        rest = after.rest ∙ ap (λ (v : ServerState D H G). with_machine v (last_of (after_of x) xs)) one.rest;
+        same = λ no. after.same no.1 ∙ one.same no.0;
       }
 
   -- a disk that follows the crash model after calls was so before them
@@ -70,6 +88,7 @@ module _ {D H G : Type 0} (disk : disks.Ghosts D) (handler : handlers.Ghosts H) 
   call_earlier server (Submit moment a result after) call crash_model = subst (λ z. disk.follows_crash_model z.disk) call.store crash_model
   call_earlier server (Commit result after) call crash_model = call.uses.crash_model crash_model
   call_earlier server (Relay a sent after) call crash_model = subst (λ (v : ServerState D H G). disk.follows_crash_model v.store.disk) call.2 crash_model
+  call_earlier server (Advance moment after) call crash_model = subst (λ (v : ServerState D H G). disk.follows_crash_model v.store.disk) call.rest crash_model
 
   pub earlier : (server : ServerState D H G) (steps : List (ServerCall D H G)) → Serves disk handler ports server steps → disk.follows_crash_model (last_of server steps).store.disk → disk.follows_crash_model server.store.disk
   earlier server [] serves crash_model = crash_model
@@ -100,7 +119,7 @@ module _ {D H G : Type 0} (disk : disks.Ghosts D) (handler : handlers.Ghosts H) 
       flags = flags;
     }
 
-    record Advances (old : ServerState D H G) (p : Place) (x : ServerCall D H G) : Type 0 where
+    record LeadsOn (old : ServerState D H G) (p : Place) (x : ServerCall D H G) : Type 0 where
       end : Place
       is_at : IsAtPlace disk handler ports s h t (after_of x) end
       more : List Taken
@@ -108,7 +127,7 @@ module _ {D H G : Type 0} (disk : disks.Ghosts D) (handler : handlers.Ghosts H) 
       sent : handed_by x ≡ sent_about more
       arrivals : asked_at end ≡ asked_after ports old (asked_at p) x
 
-    stays : (old : ServerState D H G) (p : Place) (x : ServerCall D H G) → IsAtPlace disk handler ports s h t (after_of x) p → handed_by x ≡ [] → asked_after ports old (asked_at p) x ≡ asked_at p → Advances old p x
+    stays : (old : ServerState D H G) (p : Place) (x : ServerCall D H G) → IsAtPlace disk handler ports s h t (after_of x) p → handed_by x ≡ [] → asked_after ports old (asked_at p) x ≡ asked_at p → LeadsOn old p x
     stays old p x is none no_arrival = record {
       end = p;
       is_at = is;
@@ -119,7 +138,7 @@ module _ {D H G : Type 0} (disk : disks.Ghosts D) (handler : handlers.Ghosts H) 
     }
 
     took : (old new : ServerState D H G) (p : Place) (moment : ℕ) (a : Arrives) (u : Unit) → IsAtPlace disk handler ports s h t old p → Submits disk handler ports old new moment a (Ok u)
-        → Advances old p (Submit moment a (Ok u) new)
+        → LeadsOn old p (Submit moment a (Ok u) new)
     took old new p moment a u is call =
         let runs = runs_on old new moment a (Ok u) call (ok_is_no_error u Stopped) in
         let takes = call.takes (history_at h p) (count_at h p) (is.recovers runs) in
@@ -174,7 +193,7 @@ module _ {D H G : Type 0} (disk : disks.Ghosts D) (handler : handlers.Ghosts H) 
         (subst (λ (n : ℕ). AllByRecursion (λ (x : Taken). n ≤ x.moment) p.recent) (sym (ap (λ (v : ServerState D H G). v.since) (call.memory refl))) (is.since runs)) is.flags
 
     committed : (old new : ServerState D H G) (p : Place) (outs : List Sent) → IsAtPlace disk handler ports s h t old p → Commits disk old new (Ok outs) → disk.follows_crash_model new.store.disk
-        → Advances old p (Commit (Ok outs) new)
+        → LeadsOn old p (Commit (Ok outs) new)
     committed old new p outs is call crash_model = elim (by_bool old.store.stopped) [
       | inl stopped ↦ absurd (ok_is_no_error outs faults.Stopped (call.stopped.1 stopped))
       | inr runs ↦
@@ -198,9 +217,9 @@ module _ {D H G : Type 0} (disk : disks.Ghosts D) (handler : handlers.Ghosts H) 
           }
     ]
 
-    -- data that was answered beside what is staged
+    -- an arrival that was answered beside what is staged
     relayed : (old new : ServerState D H G) (p : Place) (a : Arrives) (sent : Option Sent) → IsAtPlace disk handler ports s h t old p → IsCall disk handler ports old (Relay a sent new)
-        → Advances old p (Relay a sent new)
+        → LeadsOn old p (Relay a sent new)
     relayed old new p a sent is call =
         let runs = call.0 in
         let recovers = is.recovers runs in
@@ -232,6 +251,28 @@ module _ {D H G : Type 0} (disk : disks.Ghosts D) (handler : handlers.Ghosts H) 
           arrivals = ap (λ l. record { handed = l; recent = map asked p.recent }) (map-append asked p.handed (x ∷ []));
         }
 
+    -- the clock was brought to a moment
+    advanced : (old new : ServerState D H G) (p : Place) (moment : ℕ) → IsAtPlace disk handler ports s h t old p → Advances disk ports old new moment → IsAtPlace disk handler ports s h t new p
+    advanced old new p moment is call =
+        let in_time = is.in_time in
+        let le = call.in_time in
+        let now = call.clock in
+        let store : new.store ≡ old.store = ap (λ (v : ServerState D H G). v.store) call.rest in
+        let ran : new.store.stopped ≡ false → old.store.stopped ≡ false = λ runs. sym (ap (λ z. z.stopped) store) ∙ runs in
+        record {
+          is_run = is.is_run;
+          in_time = omega arith;
+          crash_model = subst (λ z. disk.follows_crash_model z.disk) (sym store) is.crash_model;
+          same_setting = setting_kept handler.key_of ports.range old.machine new.machine call.setting ∙ is.same_setting;
+          images = subst (λ z. EachImage (disk.trace z.disk).now (AtLeast (form_of z) (history_at h p) (count_at h p) (now_of new))) (sym store)
+              (λ image left. weaken_by (form_of old.store) (history_at h p) (count_at h p) (now_of old) (now_of new) image (omega arith) (is.images image left));
+          recovers = λ runs. subst (λ z. RecoversTo (disk.trace z.disk).now new (history_at h p) (count_at h p)) (sym store) (call.recovers (history_at h p) (count_at h p) (is.recovers (ran runs)));
+          outs = λ runs. ap (λ (v : ServerState D H G). v.outs) call.rest ∙ is.outs (ran runs);
+          arrivals = λ runs. ap (λ (v : ServerState D H G). v.arrivals) call.rest ∙ is.arrivals (ran runs);
+          since = λ runs. subst (λ (n : ℕ). AllByRecursion (λ (x : Taken). n ≤ x.moment) p.recent) (sym (ap (λ (v : ServerState D H G). v.since) call.rest)) (is.since (ran runs));
+          flags = is.flags;
+        }
+
     failed : (old new : ServerState D H G) (p : Place) (why : StoreError) → IsAtPlace disk handler ports s h t old p → Commits disk old new (Err why) → disk.follows_crash_model new.store.disk
         → IsAtPlace disk handler ports s h t new p
     failed old new p why is call crash_model = elim (by_bool old.store.stopped) [
@@ -256,13 +297,14 @@ module _ {D H G : Type 0} (disk : disks.Ghosts D) (handler : handlers.Ghosts H) 
           }
     ]
 
-    advances : (server : ServerState D H G) (p : Place) (x : ServerCall D H G) → IsAtPlace disk handler ports s h t server p → IsCall disk handler ports server x
-        → disk.follows_crash_model (after_of x).store.disk → Advances server p x
-    advances server p (Submit moment a (Ok u) after) is call crash_model = took server after p moment a u is call
-    advances server p (Submit moment a (Err why) after) is call crash_model = stays server p (Submit moment a (Err why) after) (refused server after p moment a why is call) refl refl
-    advances server p (Commit (Ok outs) after) is call crash_model = committed server after p outs is call crash_model
-    advances server p (Relay a sent after) is call crash_model = relayed server after p a sent is call
-    advances server p (Commit (Err why) after) is call crash_model = stays server p (Commit (Err why) after) (failed server after p why is call crash_model) refl refl
+    leads_on : (server : ServerState D H G) (p : Place) (x : ServerCall D H G) → IsAtPlace disk handler ports s h t server p → IsCall disk handler ports server x
+        → disk.follows_crash_model (after_of x).store.disk → LeadsOn server p x
+    leads_on server p (Submit moment a (Ok u) after) is call crash_model = took server after p moment a u is call
+    leads_on server p (Submit moment a (Err why) after) is call crash_model = stays server p (Submit moment a (Err why) after) (refused server after p moment a why is call) refl refl
+    leads_on server p (Commit (Ok outs) after) is call crash_model = committed server after p outs is call crash_model
+    leads_on server p (Relay a sent after) is call crash_model = relayed server after p a sent is call
+    leads_on server p (Advance moment after) is call crash_model = stays server p (Advance moment after) (advanced server after p moment is call) refl refl
+    leads_on server p (Commit (Err why) after) is call crash_model = stays server p (Commit (Err why) after) (failed server after p why is call crash_model) refl refl
 
     pub goes_on : (server : ServerState D H G) (p : Place) (steps : List (ServerCall D H G)) → IsAtPlace disk handler ports s h t server p → Serves disk handler ports server steps
         → disk.follows_crash_model (last_of server steps).store.disk → Leads disk handler ports s h t server p steps
@@ -275,7 +317,7 @@ module _ {D H G : Type 0} (disk : disks.Ghosts D) (handler : handlers.Ghosts H) 
       arrivals = refl;
     }
     goes_on server p (x ∷ xs) is serves crash_model =
-        let one = advances server p x is serves.0 (earlier (after_of x) xs serves.1 crash_model) in
+        let one = leads_on server p x is serves.0 (earlier (after_of x) xs serves.1 crash_model) in
         let rest = goes_on (after_of x) one.end xs one.is_at serves.1 crash_model in
         record {
           end = rest.end;
@@ -292,6 +334,7 @@ module _ {D H G : Type 0} (disk : disks.Ghosts D) (handler : handlers.Ghosts H) 
         → EachImageSince (disk.trace server.store.disk) (disk.trace (after_of x).store.disk) (AtLeast (form_of server.store) (history_at h p) (count_at h p) (now_of server))
     stops server p (Submit moment a result after) is call crash_model = since_same _ _ _ (ap (λ z. disk.trace z.disk) call.store) is.images
     stops server p (Relay a sent after) is call crash_model = since_same _ _ _ (ap (λ (v : ServerState D H G). disk.trace v.store.disk) call.2) is.images
+    stops server p (Advance moment after) is call crash_model = since_same _ _ _ (ap (λ (v : ServerState D H G). disk.trace v.store.disk) call.rest) is.images
     stops server p (Commit result after) is call crash_model = elim (by_bool server.store.stopped) [
       | inl stopped ↦ since_same _ _ _ (ap (λ (v : ServerState D H G). disk.trace v.store.disk) (call.unchanged stopped)) is.images
       | inr runs ↦ call.stop crash_model (history_at h p) (count_at h p) (is.recovers runs)

@@ -1,17 +1,17 @@
 -- What an arrival makes of what a server keeps and recovers to.
-use Rattle.std.proofs.Common.{◌≡◌, ◌≤◌, ◌<◌, ◌+◌, ◌-◌, ◌^◌, inl, inr, ℕ, zero, suc, Bool, false, List, ◌++◌, length, take, drop, Option, Some, None, refl, sym, ap, ◌∙◌, subst, arith, length-append, IfSome}
+use Rattle.std.proofs.Common.{◌≡◌, ◌≤◌, ◌<◌, ◌+◌, inl, inr, ℕ, zero, suc, Bool, false, List, ◌++◌, length, take, drop, Option, Some, None, refl, sym, ap, ◌∙◌, subst, arith, length-append, IfSome}
 use Rattle.std.proofs.Math.Nat.{eq-or-lt_of_le}
 use Rattle.std.proofs.lemmas.List.{map-append, take-append-le, drop-append-le}
 use Rattle.std.specs.List.{AllByRecursion}
 use Rattle.turn_disk.specs.Disk as disks
-use Rattle.turn_history.specs.Prelude.{Fits, IsFitting, IsInRange, Event, History, clock, AllFrom, ReservesNone, Contents, FiveTuple, Bounds}
+use Rattle.turn_history.specs.Prelude.{IsFitting, Event, History, clock, AllFrom, ReservesNone, FiveTuple, Bounds}
 use Rattle.turn_record.proofs.Kept.{holds-purged, holds-applied}
 use Rattle.turn_record.specs.Bytes as bytes
 use Rattle.turn_record.specs.Prelude.{Holds, Writes}
 use Rattle.turn_store.specs.Prelude.{Version, V1, V2, RecoversToAt}
-use Rattle.turn_step.specs.Prelude.{Change, added, event_at, CountsOne, IsAfter, IsPurged, KeepsSetting, MachineState, MayBeNext, changed}
+use Rattle.turn_step.specs.Prelude.{Change, added, CountsOne, IsAfter, IsPurged, KeepsSetting, MachineState, changed}
 use Rattle.turn_table.specs.Prelude.{State, Agrees}
-use Rattle.turn_types.specs.Prelude.{Config, end_of_moments}
+use Rattle.turn_types.specs.Prelude.{Config}
 use Rattle.turn_engine.specs.Prelude.{RecoversTo, tuples_of, ServerState, has_pairs, now_of}
 use Rattle.turn_engine.specs.State.{IsSound}
 use Rattle.turn_engine.proofs.Lists.{all-append, added_few, added_from}

@@ -1,5 +1,5 @@
 -- What a commit makes of what a server recovers to, and of its disk.
-use Rattle.std.proofs.Common.{inl, ◌≡◌, ◌≢◌, ◌≤◌, ◌<◌, ◌-◌, ⊎_elim, ℕ, true, false, List, [], ◌∷◌, ◌++◌, length, take, drop, Result, Ok, Err, refl, sym, ap, ◌∙◌, subst, arith, append-nil, take-append-drop, OnErr}
+use Rattle.std.proofs.Common.{inl, ◌≡◌, ◌≢◌, ◌≤◌, ◌<◌, ⊎_elim, ℕ, true, false, List, [], ◌∷◌, ◌++◌, length, take, drop, Result, Ok, Err, refl, sym, ap, ◌∙◌, subst, arith, append-nil, take-append-drop, OnErr}
 use Rattle.std.proofs.Math.Seq.{take-length, drop-length}
 use Rattle.std.specs.List.{AllByRecursion}
 use Rattle.turn_disk.specs.Prelude.{State, Trace, IsImage, EachImageSince}
@@ -179,7 +179,7 @@ all_stored state after old store h k recovers done =
       staged = ap (λ (l : History). length l ∷ bytes.each bytes.act_entry l) (sym none);
       counted = ap (λ (l : History). length l) (sym none);
       tuples = ap tuples_of (sym none);
-      since = omega arith;
+      since = recovers.since;
       from = subst (AllFrom done.0) (sym none) tt;
       writes = subst (AllByRecursion (λ (e : Event). Writes store.version e.act)) (sym none) tt;
     }

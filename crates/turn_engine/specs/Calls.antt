@@ -53,6 +53,21 @@ pub record Submits {D H G : Type 0} (disk : disks.Ghosts D) (handler : handlers.
       (has_failed (ports.failures old.machine.ports) (ports.failures new.machine.ports)) a)
   pub recovers : (h : History) (k : ℕ) → RecoversTo (disk.trace old.store.disk).now old h k → OnErr result (RecoversTo (disk.trace old.store.disk).now new h k)
 
+-- `advance` to a moment that isn't before the clock, whether or not the server is stopped
+pub record Advances {D H G : Type 0} (disk : disks.Ghosts D) (ports : generators.Ghosts G) (old new : ServerState D H G) (moment : ℕ) : Type 0 where
+  pub in_time : now_of old ≤ moment
+  -- nothing is written and nothing is staged: the machine alone changes
+  pub rest : new ≡ record old { machine = new.machine }
+  pub clock : now_of new ≡ moment
+  -- what has expired by the moment ends
+  pub table : IsPurged moment old.machine.table new.machine.table
+  pub setting : KeepsSetting ports.range old.machine new.machine
+  pub count : ports.failures new.machine.ports ≡ ports.failures old.machine.ports
+  -- where the generator held the ports of the table and no other, it does so afterwards
+  pub held : HoldsPorts ports.holds old.machine None → HoldsPorts ports.holds new.machine None
+  -- the server recovers to each history as before
+  pub recovers : (h : History) (k : ℕ) → RecoversTo (disk.trace old.store.disk).now old h k → RecoversTo (disk.trace old.store.disk).now new h k
+
 -- `commit`, which answers datagrams or a fault
 pub record Commits {D H G : Type 0} (disk : disks.Ghosts D) (old new : ServerState D H G) (result : Result (List Sent) StoreError) : Type 0 where
   -- what was staged is handed out, and nothing is staged any longer; a commit that fails changes the store alone

@@ -1,14 +1,14 @@
--- Data that is answered beside what is staged.
-use Rattle.std.specs.Prelude.{◌≡◌, ◌≢◌, ◌⊎◌, ℕ, List, None, Option, drop, false, take}
+-- Arrivals that are answered beside what is staged: data, and requests whose answer no table changes.
+use Rattle.std.specs.Prelude.{◌≡◌, ◌≢◌, ◌⊎◌, ℕ, List, [], None, Option, drop, false, take}
 use Rattle.std.specs.List.{AllByRecursion}
 use Rattle.turn_cred.specs.Prelude.{Keys}
 use Rattle.turn_history.specs.Prelude.{History, Contents, FiveTuple}
-use Rattle.turn_step.specs.Prelude.{AnswersArrival, IsOwner, IsRequestOf, Arrives, Sent, IsAfter, MachineState, setting_of}
+use Rattle.turn_step.specs.Prelude.{AnswersArrival, IsOwner, NeedsTable, Arrives, Sent, IsAfter, MachineState, setting_of}
 use Rattle.turn_engine.specs.Recovering.{tuples_of}
 use Rattle.turn_engine.specs.State.{ServerState}
 
--- What answers data while a commit waits for its disk: the machine, and of what is staged the five-tuples of the acts, how many arrivals
--- there are, and the moment of the first.
+-- What answers arrivals while a commit waits for its disk: the machine, and of what is staged the five-tuples of the acts, how many
+-- arrivals there are, and the moment of the first.
 pub record BesideState (H G : Type 0) : Type 0 where
   pub machine : MachineState H G
   pub tuples : List FiveTuple
@@ -23,28 +23,29 @@ beside s = record { machine = s.machine; tuples = s.tuples; arrivals = s.arrival
 abbrev pub IsAtClock : {H G : Type 0} → BesideState H G → Type 0
 IsAtClock b = (b.arrivals ≡ 0) ⊎ (b.since ≡ b.machine.table.moment)
 
--- the arrival is of the allocation of a five-tuple of which no act is staged
-pub record IsApart (c : Contents) (tuples : List FiveTuple) (a : Arrives) : Type 0 where
-  pub owner : FiveTuple
-  pub owns : IsOwner c a owner
-  pub apart : AllByRecursion (λ g. g ≢ owner) tuples
+-- no act is staged, or the arrival is of a five-tuple of which no act is staged
+pub data IsApart (c : Contents) (tuples : List FiveTuple) (a : Arrives) : Type 0 where
+  none_is_staged : tuples ≡ [] → IsApart c tuples a
+  is_of_another : (owner : FiveTuple) → IsOwner c a owner → AllByRecursion (λ g. g ≢ owner) tuples → IsApart c tuples a
 
--- it is of no allocation, or an act of its owner is staged
+-- an act is staged, and the arrival is of no allocation, or the act is of its five-tuple
 pub data IsBehind (c : Contents) (tuples : List FiveTuple) (a : Arrives) : Type 0 where
-  has_no_owner : ((f : FiveTuple) → ¬ IsOwner c a f) → IsBehind c tuples a
+  has_no_owner : tuples ≢ [] → ((f : FiveTuple) → ¬ IsOwner c a f) → IsBehind c tuples a
   is_staged : (owner : FiveTuple) → IsOwner c a owner → ¬ AllByRecursion (λ g. g ≢ owner) tuples → IsBehind c tuples a
 
 -- why an arrival has to be submitted
-pub data HasToWait {H G : Type 0} (b : BesideState H G) (a : Arrives) : Type 0 where
-  is_request : IsRequestOf a → HasToWait b a
+pub data HasToWait {H G : Type 0} (keys : H → Keys) (range : G → ℕ × ℕ) (b : BesideState H G) (a : Arrives) : Type 0 where
+  -- it is a request whose answer may depend on the table
+  needs_table : NeedsTable (setting_of keys range b.machine) b.machine.table.moment a → HasToWait keys range b a
   -- something that is staged is of an earlier moment
-  is_later : ¬ IsAtClock b → HasToWait b a
-  is_behind : IsBehind b.machine.table.contents b.tuples a → HasToWait b a
+  is_later : ¬ IsAtClock b → HasToWait keys range b a
+  is_behind : IsBehind b.machine.table.contents b.tuples a → HasToWait keys range b a
 
--- Data was answered beside what is staged: no act of its five-tuple is staged, and all that is staged is of the clock's moment. After
--- every history with which the machine agrees, it was answered after the part of it that is stored.
+-- An arrival was answered beside what is staged: it is data, or a request whose answer no table changes, no act of its five-tuple is staged,
+-- and all that is staged is of the clock's moment. After every history with which the machine agrees, it was answered after the part of it
+-- that is stored.
 pub record Relays {H G : Type 0} (keys : H → Keys) (range : G → ℕ × ℕ) (b : BesideState H G) (a : Arrives) (sent : Option Sent) : Type 0 where
-  pub no_request : ¬ IsRequestOf a
+  pub needs_no_table : ¬ NeedsTable (setting_of keys range b.machine) b.machine.table.moment a
   pub at_clock : IsAtClock b
   pub apart : IsApart b.machine.table.contents b.tuples a
   pub answers : (h : History) (k : ℕ) → IsAfter b.machine h → b.tuples ≡ tuples_of (drop k h)

@@ -10,7 +10,7 @@ use Rattle.turn_ports.specs.declared.generator.RelayAddressGenerator as generato
 use Rattle.turn_step.specs.Prelude.{AnswersArrival, Setting, Arrives, StepOutcome, Sent, added, setting_of}
 use Rattle.turn_store.specs.Prelude.{Form, EachImage, RepresentsBy, form_of}
 use Rattle.turn_store.specs.declared.error.StoreError.{StoreError}
-use Rattle.turn_engine.specs.Calls.{Submits, Commits}
+use Rattle.turn_engine.specs.Calls.{Advances, Submits, Commits}
 use Rattle.turn_engine.specs.Images.{AtLeast}
 use Rattle.turn_engine.specs.Recovering.{RecoversTo}
 use Rattle.turn_engine.specs.Relaying.{Relays, beside}
@@ -31,7 +31,7 @@ pub record Taken : Type 0 where
   pub pairs : Bool
   pub outcome : StepOutcome
 
--- data that was answered at the moment t beside what is staged
+-- an arrival that was answered at the moment t beside what is staged
 abbrev pub beside_at : ℕ → Bool → Arrives → Option Sent → Taken
 beside_at t pairs a sent = record { moment = t; arrival = a; failed = false; pairs = pairs; outcome = record { change = None; sent = sent } }
 
@@ -65,14 +65,17 @@ last_moment t (x ∷ xs) = last_moment x.moment xs
 pub data ServerCall (D H G : Type 0) : Type 0 where
   Submit : (moment : ℕ) (arrival : Arrives) (result : Result Unit SubmitError) (after : ServerState D H G) → ServerCall D H G
   Commit : (result : Result (List Sent) StoreError) (after : ServerState D H G) → ServerCall D H G
-  -- data that was answered beside what is staged, at rest or while a commit waited for its disk: then before that commit
+  -- an arrival that was answered beside what is staged, at rest or while a commit waited for its disk: then before that commit
   Relay : (arrival : Arrives) (sent : Option Sent) (after : ServerState D H G) → ServerCall D H G
+  -- the clock was brought to a moment
+  Advance : (moment : ℕ) (after : ServerState D H G) → ServerCall D H G
 
 -- the server after a call
 abbrev pub after_of : {D H G : Type 0} → ServerCall D H G → ServerState D H G
 after_of (Submit moment arrival result after) = after
 after_of (Commit result after) = after
 after_of (Relay arrival sent after) = after
+after_of (Advance moment after) = after
 
 -- the server after calls in a row, or the one before them where there are none
 abbrev pub last_of : {D H G : Type 0} → ServerState D H G → List (ServerCall D H G) → ServerState D H G
@@ -89,6 +92,7 @@ abbrev pub handed_by : {D H G : Type 0} → ServerCall D H G → List Sent
 handed_by (Submit moment arrival result after) = []
 handed_by (Commit result after) = datagrams_of result
 handed_by (Relay arrival sent after) = option_to_list sent
+handed_by (Advance moment after) = []
 
 -- what calls handed out, in order
 abbrev pub handed_out : {D H G : Type 0} → List (ServerCall D H G) → List Sent
@@ -106,7 +110,7 @@ pub record Asked : Type 0 where
   pub handed : List (ℕ × Arrives × Bool × Bool)
   pub recent : List (ℕ × Arrives × Bool × Bool)
 
--- the arrivals of a run after a call: one that was submitted is a recent one until a commit, and data that was answered beside these
+-- the arrivals of a run after a call: one that was submitted is a recent one until a commit, and one that was answered beside these
 -- comes before them
 abbrev pub asked_after : {D H G : Type 0} → generators.Ghosts G → ServerState D H G → Asked → ServerCall D H G → Asked
 asked_after ports old q (Submit moment arrival (Ok done) after) = record {
@@ -117,6 +121,7 @@ asked_after ports old q (Submit moment arrival (Err why) after) = q
 asked_after ports old q (Commit (Ok outs) after) = record { handed = q.handed ++ q.recent; recent = [] }
 asked_after ports old q (Commit (Err why) after) = q
 asked_after ports old q (Relay arrival sent after) = record { handed = q.handed ++ (now_of old, arrival, false, old.machine.pairs) ∷ []; recent = q.recent }
+asked_after ports old q (Advance moment after) = q
 
 -- the same after calls in a row
 abbrev pub all_asked : {D H G : Type 0} → generators.Ghosts G → ServerState D H G → Asked → List (ServerCall D H G) → Asked
@@ -129,6 +134,7 @@ IsCall disk handler ports old (Submit moment arrival result after) = Submits dis
 IsCall disk handler ports old (Commit result after) = Commits disk old after result
 IsCall disk handler ports old (Relay arrival sent after) =
     (old.store.stopped ≡ false) × Relays handler.key_of ports.range (beside old) arrival sent × (after ≡ old)
+IsCall disk handler ports old (Advance moment after) = Advances disk ports old after moment
 
 -- calls, each at the server that the one before left
 abbrev pub Serves : {D H G : Type 0} → disks.Ghosts D → handlers.Ghosts H → generators.Ghosts G → ServerState D H G → List (ServerCall D H G) → Type 0
@@ -137,7 +143,7 @@ Serves disk handler ports server (x ∷ xs) = IsCall disk handler ports server x
 
 -- ---- Where a run is
 
--- where a run is: the arrivals that were taken up to the last commit that answered Ok, with the data that was answered beside others
+-- where a run is: the arrivals that were taken up to the last commit that answered Ok, with those that were answered beside others
 -- since, and the others that were taken since
 pub record Place : Type 0 where
   -- up to the last commit that answered Ok, and beside what is staged
@@ -180,7 +186,7 @@ pub record IsAtPlace {D H G : Type 0} (disk : disks.Ghosts D) (handler : handler
   pub since : server.store.stopped ≡ false → AllByRecursion (λ x. server.since ≤ x.moment) p.recent
   pub flags : NeverFails ports → AllByRecursion (λ x. x.failed ≡ false) (p.handed ++ p.recent)
 
--- Calls led from one place to another. The arrivals of the run are those that the calls took, in order, but that data which was answered
+-- Calls led from one place to another. The arrivals of the run are those that the calls took, in order, but that one which was answered
 -- beside what was staged comes before that, and the generator counts as failed at one exactly where its count differs after the call.
 -- What the calls handed out is what the arrivals that were added to the handed ones were answered, in order, each once.
 pub record Leads {D H G : Type 0} (disk : disks.Ghosts D) (handler : handlers.Ghosts H) (ports : generators.Ghosts G) (s : Setting) (h : History) (t : ℕ) (server : ServerState D H G) (p : Place) (steps : List (ServerCall D H G)) : Type 0 where
@@ -192,10 +198,18 @@ pub record Leads {D H G : Type 0} (disk : disks.Ghosts D) (handler : handlers.Gh
   pub sent : handed_out steps ≡ sent_about more
   pub arrivals : asked_at end ≡ all_asked ports server (asked_at p) steps
 
--- calls that hand nothing out and leave the server as it was
+-- a call that leaves the clock to the arrivals
+abbrev pub IsNoAdvance : {D H G : Type 0} → ServerCall D H G → Type 0
+IsNoAdvance (Submit moment arrival result after) = Unit {0}
+IsNoAdvance (Commit result after) = Unit {0}
+IsNoAdvance (Relay arrival sent after) = Unit {0}
+IsNoAdvance (Advance moment after) = ⊥
+
+-- calls that hand nothing out, and leave the server as it was but for its machine, and that too where none brings the clock to a moment
 pub record IsSilent {D H G : Type 0} (server : ServerState D H G) (steps : List (ServerCall D H G)) : Type 0 where
   pub none : handed_out steps ≡ []
-  pub same : last_of server steps ≡ server
+  pub rest : last_of server steps ≡ record server { machine = (last_of server steps).machine }
+  pub same : AllByRecursion IsNoAdvance steps → last_of server steps ≡ server
 
 -- the image represents a history that begins with this one
 pub record BeginsWith (form : Form) (h : History) (moment : ℕ) (image : List ℕ) : Type 0 where

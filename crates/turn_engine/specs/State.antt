@@ -35,7 +35,7 @@ limits_of s = s.machine.config.limits
 
 -- the server with nothing staged, over this store
 abbrev pub emptied : {D H G : Type 0} → ServerState D H G → StoreState D → ServerState D H G
-emptied s store = record { store = store; machine = s.machine; payload = 0 ∷ []; acts = 0; tuples = []; outs = []; arrivals = 0; since = now_of s }
+emptied s store = record { store = store; machine = s.machine; payload = 0 ∷ []; acts = 0; tuples = []; outs = []; arrivals = 0; since = s.since }
 
 -- whether a server over a store of this version reserves ports
 abbrev pub has_pairs : Version → Bool
@@ -54,3 +54,9 @@ pub record IsSound (b store batch : Bounds) (version staged : Version) (acts arr
   pub same_version : staged ≡ version
   pub pairs_is : pairs ≡ has_pairs version
   pub holds : Holds version table.contents
+
+-- nothing is staged
+pub record IsEmpty (payload : List ℕ) (tuples : List FiveTuple) (outs : List Sent) : Type 0 where
+  pub payload_is : payload ≡ 0 ∷ []
+  pub tuples_are : tuples ≡ []
+  pub outs_are : outs ≡ []

@@ -1,6 +1,6 @@
-//! Answers to data beside what is staged.
+//! Answers beside what is staged.
 
-ghost use Rattle.std.specs.Prelude.{◌≡◌, ◌≢◌, ◌↔◌, ℕ, IsTrue, IfOk, IfSome, List, Ok, false};
+ghost use Rattle.std.specs.Prelude.{◌≡◌, ◌≢◌, ◌↔◌, ℕ, IsTrue, IfErr, IfOk, IfSome, List, Ok, false};
 ghost use Rattle.std.specs.List.{AllByRecursion};
 ghost use Rattle.turn_step.specs.Outcome.Arrives.{FromPeer};
 ghost use Rattle.turn_step.specs.Views.{arrival_of};
@@ -8,11 +8,12 @@ ghost use Rattle.turn_types.specs.declared.address.Endpoint.{Endpoint};
 ghost use Rattle.turn_engine.specs.Relaying.{HasToWait, IsApart, IsAtClock, IsBehind, Relays};
 ghost use Rattle.turn_engine.specs.Views.{relayed_of};
 
-use std::alloc::{AllocError, Allocator, Global};
+use crate::unanswered::Unanswered;
+use std::alloc::{Allocator, Global};
 use std::marker::Model;
 use turn_cred::AuthHandler;
 use turn_ports::RelayAddressGenerator;
-use turn_step::{Arrival, DataAnswer, Machine, Outgoing};
+use turn_step::{Answer, Arrival, Machine, Outgoing};
 use turn_table::Table;
 use turn_types::{Endpoint, FiveTuple, Moment, TxId};
 
@@ -25,8 +26,8 @@ pub enum Relayed<A: Allocator = Global> {
     Answered(Option<Outgoing<A>>),
 }
 
-/// What answers data beside what is staged: at rest, and while a commit waits for its disk. What is sent so rests on nothing that isn't
-/// stored.
+/// What answers arrivals beside what is staged: at rest, and while a commit waits for its disk. It answers data, and requests whose answer is
+/// the same for every table. What is sent so rests on nothing that isn't stored.
 pub struct Beside<'a, 'b, H: AuthHandler, G: RelayAddressGenerator, A: Allocator = Global> {
     machine: &'a Machine<H, G, A>,
     // Of the acts that are staged.
@@ -113,21 +114,22 @@ impl<'a, 'b, H: AuthHandler, G: RelayAddressGenerator, A: Allocator + Copy> Besi
         self.arrivals == 0 || self.since == self.machine.moment()
     }
 
-    // Whether the arrival is of an allocation of which no act is staged.
+    // Whether no act is staged, or none of the arrival's five-tuple.
     fn is_apart(&self, arrival: &Arrival<'_>) -> bool
         ensures apart { IsTrue result → IsApart self.now.machine.table.contents self.now.tuples (arrival_of arrival.now) }
         ensures behind { result ≡ false → IsBehind self.now.machine.table.contents self.now.tuples (arrival_of arrival.now) }
     {
         match self.machine.owner_of(arrival) {
             Some(owner) => !has_tuple(self.tuples, owner),
-            None => false,
+            None => self.tuples.is_empty(),
         }
     }
 
-    /// Whether data that comes to a relayed port is answered now, whatever it is: the port is that of an allocation of which no act is
-    /// staged, and nothing is staged of an earlier moment.
+    /// Whether data that comes to a relayed port is answered now, whatever it is: nothing is staged of an earlier moment, and no act is
+    /// staged, or the port is that of an allocation of which none is.
     pub fn relays_at(&self, port: u16) -> bool
-        ensures { IsTrue result → (from : Endpoint) (bytes id : List ℕ) → ¬ HasToWait self.now (FromPeer port from bytes id) }
+        ensures answers { IsTrue result → (from : Endpoint) (bytes id : List ℕ) → ¬ HasToWait H.key_of G.range self.now (FromPeer port from bytes id) }
+        ensures waits { result ≡ false → (from : Endpoint) (bytes id : List ℕ) → HasToWait H.key_of G.range self.now (FromPeer port from bytes id) }
     {
         let arrival = Arrival::Peer {
             port,
@@ -140,26 +142,32 @@ impl<'a, 'b, H: AuthHandler, G: RelayAddressGenerator, A: Allocator + Copy> Besi
         self.is_at_clock() && self.is_apart(&arrival)
     }
 
-    /// Answers data at the clock, and changes nothing: of a five-tuple of which no act is staged, while nothing is staged of an earlier
-    /// moment. Every other arrival has to be submitted.
+    /// Answers data, or a request whose answer no table changes, at the clock, and changes nothing: of a five-tuple of which no act is staged,
+    /// while nothing is staged of an earlier moment. Every other arrival has to be submitted. `Unanswered` after an allocation failure.
     ///
     /// ```rust
+    /// server.advance(moment);
     /// let send = build_send(alloc, peer, b"hello")?;
     /// let data = server.beside().relay(&Arrival::Client { five_tuple, bytes: &send })?;
     /// assert!(rt; matches!(data, Relayed::Answered(None)));
     /// let request = server.beside().relay(&Arrival::Client { five_tuple, bytes: &allocate })?;
     /// assert!(rt; matches!(request, Relayed::Waits));
     /// ```
-    pub fn relay(&self, arrival: &Arrival<'_>) -> Result<Relayed<A>, AllocError>
-        ensures waits { result ≡ Ok Relayed.Waits → HasToWait self.now (arrival_of arrival.now) }
+    pub fn relay(&self, arrival: &Arrival<'_>) -> Result<Relayed<A>, Unanswered>
+        ensures waits { result ≡ Ok Relayed.Waits → HasToWait H.key_of G.range self.now (arrival_of arrival.now) }
         ensures answers { IfOk result (λ r. IfSome (relayed_of r) (Relays H.key_of G.range self.now (arrival_of arrival.now))) }
+        ensures memory { IfErr result (λ u. u ≡ arrival_of arrival.now) }
     {
         if !self.is_at_clock() || !self.is_apart(arrival) {
             return Ok(Relayed::Waits);
         }
-        match self.machine.answer_data(arrival)? {
-            DataAnswer::Request => Ok(Relayed::Waits),
-            DataAnswer::Data(datagram) => Ok(Relayed::Answered(datagram)),
+        let Ok(answer) = self.machine.answer(arrival) else {
+            return Err(Unanswered::of(arrival));
+        };
+        match answer {
+            Answer::Request => Ok(Relayed::Waits),
+            Answer::Reply(datagram) => Ok(Relayed::Answered(datagram)),
+            Answer::Data(datagram) => Ok(Relayed::Answered(datagram)),
         }
     }
 }

@@ -8,6 +8,7 @@ mod error;
 mod laws;
 mod meanwhile;
 mod server;
+mod unanswered;
 
 pub use beside::{Beside, Relayed};
 pub use error::{ServerOpenError, SubmitError};
@@ -17,3 +18,4 @@ pub use laws::{
 pub use meanwhile::WhileCommitting;
 pub use server::Server;
 pub use turn_store::StoreError as CommitError;
+pub use unanswered::Unanswered;

@@ -11,7 +11,7 @@ use turn_ports::RelayAddressGenerator;
 
 /// What is done, a piece at a time, while a commit waits for its disk.
 pub trait WhileCommitting<H: AuthHandler, G: RelayAddressGenerator, A: Allocator> {
-    /// What one piece of it does, with what answers data then.
+    /// What one piece of it does, with what answers arrivals then.
     ghost passes: { BesideState H G → Self → Self → Type 0 };
 
     /// Does a piece of it, and returns soon: whether there may be more to do at once. A commit calls this any number of times, or
@@ -28,7 +28,7 @@ impl<H: AuthHandler, G: RelayAddressGenerator, A: Allocator> WhileCommitting<H, 
     }
 }
 
-/// What is done meanwhile, with what answers data then.
+/// What is done meanwhile, with what answers arrivals then.
 pub(crate) struct Lending<'a, 'b, W, H: AuthHandler, G: RelayAddressGenerator, A: Allocator> {
     pub other: W,
     pub beside: Beside<'a, 'b, H, G, A>,

@@ -1,6 +1,6 @@
 //! The server.
 
-ghost use Rattle.std.specs.Prelude.{◌≡◌, ◌≢◌, ◌+◌, ◌-◌, ◌^◌, ◌≤◌, ◌<◌, ◌↔◌, ◌++◌, ℕ, Bool, [], ◌∷◌, Ok, Err, Some, None, IsOk, IfOk, IfErr, IfSome, IfNone, OnOk, OnErr, true, false, length, map, take, drop, option_map, vec_len, vec_capacity, List};
+ghost use Rattle.std.specs.Prelude.{◌≡◌, ◌≢◌, ◌+◌, ◌-◌, ◌^◌, ◌≤◌, ◌<◌, ◌↔◌, ◌++◌, ℕ, Bool, [], ◌∷◌, Ok, Err, Some, None, IsOk, IfOk, IfErr, IfSome, IfNone, IsTrue, OnOk, OnErr, true, false, length, map, take, drop, option_map, vec_len, vec_capacity, List};
 ghost use Rattle.std.specs.Option.{option_to_list};
 ghost use Rattle.std.specs.Result.{result_map_both};
 ghost use Rattle.turn_disk.specs.Device.{Uses};
@@ -23,7 +23,7 @@ ghost use Rattle.turn_store.specs.Refused.{IsPlain, WhyRefused};
 ghost use Rattle.turn_store.specs.Stages.{InStages};
 ghost use Rattle.turn_store.specs.State.{form_of};
 ghost use Rattle.turn_store.specs.Tables.{snapshot_of};
-ghost use Rattle.turn_engine.specs.Calls.{Commits, Opening, Submits, committed, disk_after};
+ghost use Rattle.turn_engine.specs.Calls.{Advances, Commits, Opening, Submits, committed, disk_after};
 ghost use Rattle.turn_engine.specs.Images.{AtLeast};
 ghost use Rattle.turn_engine.specs.Recovering.{Opens, RecoversTo, Takes, tuples_of};
 ghost use Rattle.turn_engine.specs.Relaying.{beside};
@@ -83,7 +83,8 @@ impl<D: Disk, H: AuthHandler, G: RelayAddressGenerator, A: Allocator> Model for 
     ghost use Rattle.std.specs.Coded.{codes};
     ghost use Rattle.turn_step.specs.Views.{sent_of};
     ghost use Rattle.turn_table.specs.State.{state_code};
-    ghost use Rattle.turn_engine.specs.State.{ServerState, IsSound};
+    ghost use Rattle.std.specs.Prelude.{◌≡◌};
+    ghost use Rattle.turn_engine.specs.State.{IsEmpty, IsSound, ServerState};
 
     ghost Value = { ServerState D H G };
 
@@ -100,7 +101,8 @@ impl<D: Disk, H: AuthHandler, G: RelayAddressGenerator, A: Allocator> Model for 
       since = s.since;
     } };
 
-    ghost invariant = { λ s. IsSound s.machine.config.limits s.store.bounds s.batch.bounds s.store.version s.batch.version s.batch.acts s.arrivals s.machine.pairs s.machine.table };
+    ghost invariant = { λ s. IsSound s.machine.config.limits s.store.bounds s.batch.bounds s.store.version s.batch.version s.batch.acts s.arrivals s.machine.pairs s.machine.table
+        × (s.arrivals ≡ 0 → IsEmpty s.batch.payload s.batch.tuples (map sent_of s.outgoing.items)) };
 }
 
 /// Whether a server over a store of this version reserves ports.
@@ -352,7 +354,23 @@ impl<D: Disk, H: AuthHandler, G: RelayAddressGenerator, A: Allocator + Copy> Ser
         Ok(())
     }
 
-    /// What answers data beside what is staged. It answers on behalf of a server that isn't stopped.
+    /// Brings the clock to a moment that isn't before it: what has expired by then ends, and its ports are released. Nothing is staged, and
+    /// there is no device call; a stopped server does it too.
+    ///
+    /// ```rust
+    /// server.submit(moment, &Arrival::Client { five_tuple, bytes: &allocate })?;
+    /// let later = Moment::new(2000).context("later")?;
+    /// server.advance(later);
+    /// assert!(rt; server.clock() == later && server.table().is_empty());
+    /// ```
+    pub fn advance(&mut self, moment: Moment)
+        requires { now_of self.old ≤ moment }
+        ensures call { Advances D.Disk G.RelayAddressGenerator self.old self.new moment }
+    {
+        self.machine.advance(moment);
+    }
+
+    /// What answers arrivals beside what is staged. It answers on behalf of a server that isn't stopped.
     pub fn beside(&self) -> Beside<'_, '_, H, G, A>
         ensures { result ≡ beside self.now }
     {
@@ -405,12 +423,11 @@ impl<D: Disk, H: AuthHandler, G: RelayAddressGenerator, A: Allocator + Copy> Ser
     {
         self.batch.clear();
         self.arrivals = 0;
-        self.since = self.machine.moment();
         mem::replace(&mut self.outgoing, Vec::new(self.alloc))
     }
 
     /// Writes the acts that were accepted since the last commit, and returns what is to be sent, in order. While a device call waits,
-    /// `other` is done, a piece at a time, with what answers data beside what is staged; on a stopped server nothing is. It is returned
+    /// `other` is done, a piece at a time, with what answers arrivals beside what is staged; on a stopped server nothing is. It is returned
     /// in any case.
     pub fn commit_while<W: WhileCommitting<H, G, A>>(
         &mut self,
@@ -442,11 +459,26 @@ impl<D: Disk, H: AuthHandler, G: RelayAddressGenerator, A: Allocator + Copy> Ser
         outgoing
     }
 
-    /// The moment of the last arrival that was taken or refused for memory; after an opening the latest one in the store.
+    /// The moment of the last arrival that was taken or refused for memory, or the one that the clock was brought to since; after an opening
+    /// the latest one in the store.
     pub fn clock(&self) -> Moment
         ensures { result ≡ now_of self.now }
     {
         self.machine.moment()
+    }
+
+    /// How many more arrivals a batch takes before its commit.
+    pub fn room(&self) -> u16
+        ensures { result ≡ (limits_of self.now).acts - self.now.arrivals }
+    {
+        self.machine.config().limits().acts() - self.arrivals
+    }
+
+    /// Whether nothing is staged.
+    pub fn is_idle(&self) -> bool
+        ensures { IsTrue result ↔ (self.now ≡ emptied self.now self.now.store) }
+    {
+        self.arrivals == 0
     }
 
     /// Whether a commit failed. From then on each call answers `Stopped`.

@@ -417,7 +417,8 @@ impl<'l, L: Write + Drop> Lines<'l, L> {
         }
     }
 
-    // Sees a datagram to a client: a response to one of these requests, or data. Returns how many of them come before the next response.
+    // Sees a reply to a client: a response to one of these requests, or one that has no line. Returns how many of them come before the next
+    // response.
     fn see_to_client<A: Allocator + Copy>(
         &mut self,
         second: u64,
@@ -427,13 +428,11 @@ impl<'l, L: Write + Drop> Lines<'l, L> {
         ensures { self.new ≡ self.old }
     {
         let Answer {
-            table,
             five_tuple,
             bytes,
             ..
         } = answer;
         let Some(response) = response_of(bytes) else {
-            self.count_to_client(table, five_tuple, bytes.len());
             return 0;
         };
         self.begin(second);
@@ -482,7 +481,7 @@ impl<'l, L: Write + Drop> Lines<'l, L> {
         }
     }
 
-    /// Sees what was sent.
+    /// Sees what a commit handed out and was sent: replies to requests that waited, and data to peers that came after them.
     pub fn see<A: Allocator + Copy>(
         &mut self,
         moment: Moment,
@@ -498,28 +497,14 @@ impl<'l, L: Write + Drop> Lines<'l, L> {
         self.asked = asked;
     }
 
-    /// Counts data that was answered while a commit waited for its disk. What is remembered of requests stays.
-    pub fn count_relayed<A: Allocator + Copy>(&mut self, table: &Table<A>, outgoing: &Outgoing<A>)
+    /// Sees what is submitted next, of which it remembers a request. One for which memory lacks has a line with less.
+    pub fn see_submitted<A: Allocator + Copy>(&mut self, table: &Table<A>, arrival: &Arrival<'_>)
         ensures { self.new ≡ self.old }
     {
-        match outgoing {
-            Outgoing::ToClient { five_tuple, bytes } => {
-                self.count_to_client(table, *five_tuple, bytes.len());
-            }
-            Outgoing::ToPeer { port, bytes, .. } => self.usages.count_to_peer(*port, bytes.len()),
-        }
-    }
-
-    /// Remembers a request. One for which memory lacks has a line with less.
-    fn remember<A: Allocator + Copy>(
-        &mut self,
-        table: &Table<A>,
-        five_tuple: FiveTuple,
-        bytes: &[u8],
-    )
-        ensures { self.new ≡ self.old }
-    {
-        if let Ok(Some(asked)) = Asked::new(self.alloc, table, five_tuple, bytes) {
+        let Arrival::Client { five_tuple, bytes } = arrival else {
+            return;
+        };
+        if let Ok(Some(asked)) = Asked::new(self.alloc, table, *five_tuple, bytes) {
             let _ = self.asked.push(asked);
         }
     }
@@ -544,13 +529,50 @@ impl<'l, L: Write + Drop> Lines<'l, L> {
         }
     }
 
-    /// Sees what is submitted next.
-    pub fn arrive<A: Allocator + Copy>(&mut self, table: &Table<A>, arrival: &Arrival<'_>)
+    // Sees the reply to a request that was answered without a commit.
+    fn see_reply<'t, A: Allocator + Copy>(
+        &mut self,
+        table: &'t Table<A>,
+        five_tuple: FiveTuple,
+        request: &[u8],
+        reply: &'t [u8],
+    )
         ensures { self.new ≡ self.old }
     {
-        match arrival {
-            Arrival::Client { five_tuple, bytes } => self.remember(table, *five_tuple, bytes),
-            Arrival::Peer { port, from, .. } => self.hear(table, *port, *from),
+        let second = self.second_of(table.moment());
+        let asked = Asked::new(self.alloc, table, five_tuple, request).unwrap_or_default();
+        let answer = Answer {
+            table,
+            five_tuple,
+            bytes: reply,
+            asked: None,
+        };
+        self.see_to_client(second, answer, asked.as_slice());
+    }
+
+    /// Sees an arrival that was answered without a commit, and the answer that was sent, if there is one. What is remembered of requests
+    /// stays.
+    pub fn see_answered<A: Allocator + Copy>(
+        &mut self,
+        table: &Table<A>,
+        arrival: &Arrival<'_>,
+        answer: Option<&Outgoing<A>>,
+    )
+        ensures { self.new ≡ self.old }
+    {
+        match (arrival, answer) {
+            (Arrival::Peer { port, from, .. }, None) => self.hear(table, *port, *from),
+            (Arrival::Client { .. }, None) => {}
+            (_, Some(Outgoing::ToPeer { port, bytes, .. })) => {
+                self.usages.count_to_peer(*port, bytes.len());
+            }
+            (Arrival::Peer { .. }, Some(Outgoing::ToClient { five_tuple, bytes })) => {
+                self.count_to_client(table, *five_tuple, bytes.len());
+            }
+            (
+                Arrival::Client { bytes: request, .. },
+                Some(Outgoing::ToClient { five_tuple, bytes }),
+            ) => self.see_reply(table, *five_tuple, request, bytes.as_slice()),
         }
     }
 

@@ -4,7 +4,7 @@ use Rattle.turn_cred.specs.declared.handler.AuthHandler as handlers
 use Rattle.turn_disk.specs.declared.disk.Disk as disks
 use Rattle.turn_engine.proofs.Runs as runs
 use Rattle.turn_engine.proofs.Stops.{left_has}
-use Rattle.turn_engine.specs.Prelude.{Submits, AtLeast, Commit, NeverFails, Relay, Serves, ServerCall, Submit, Taken, accepted, last_of, ServerState, now_of}
+use Rattle.turn_engine.specs.Prelude.{Advance, Advances, Submits, AtLeast, Commit, NeverFails, Relay, Serves, ServerCall, Submit, Taken, accepted, last_of, ServerState, now_of}
 use Rattle.turn_player.proofs.Growing.{grows_by_last, longer_by}
 use Rattle.turn_player.proofs.Lives.{behind_life, keeps, one_run_by, sent_in-append, sent_lasts}
 use Rattle.turn_player.proofs.Worlds.{calls_make_lives, commit_since, leaves}
@@ -54,6 +54,9 @@ module _ {D H G : Type 0} (disk : disks.Ghosts D) (handler : handlers.Ghosts H) 
   calls_of server (Relay arrival sent after ∷ xs) serves =
       let call = serves.0 in
       worlds.then (Serving after) (worlds.relays sent (no_later (now_of after) (now_of server) (ap now_of call.2)) call.0 call.1 call.2) (calls_of after xs serves.1)
+  calls_of server (Advance moment after ∷ xs) serves =
+      let call = serves.0 in
+      worlds.then (Serving after) (worlds.advances (subst (λ (n : ℕ). Advances disk ports server after n) (sym (later_is moment (now_of server) call.in_time)) call)) (calls_of after xs serves.1)
 
   stops_at : (form : Form) (may_fail : Bool) (p : Point) (server : ServerState D H G) (stop : Stopping D H G) → Stands disk handler ports form s (Serving server) p
       → IsStopping disk server stop → disk.follows_crash_model (last_disk server stop) → StopsAt form s may_fail p (MayLeave disk server stop)
@@ -150,6 +153,7 @@ never_front : (m : ℕ) (inputs more : List Input) → NeverFall m (inputs ++ mo
 never_front m [] more never = tt
 never_front m (lives.Arrive t a ∷ inputs) more never = (never.0, never_front t inputs more never.1)
 never_front m (lives.Relay t a ∷ inputs) more never = (never.0, never_front t inputs more never.1)
+never_front m (lives.Advance t ∷ inputs) more never = (never.0, never_front t inputs more never.1)
 never_front m (lives.Commit ∷ inputs) more never = never_front m inputs more never
 never_front m (lives.Stop ∷ inputs) more never = never_front m inputs more never
 never_front m (lives.Open ∷ inputs) more never = never_front m inputs more never

@@ -4,7 +4,7 @@ use Rattle.std.specs.List.{AllByRecursion}
 use Rattle.turn_cred.specs.declared.handler.AuthHandler as handlers
 use Rattle.turn_disk.specs.Prelude.{IsImage}
 use Rattle.turn_disk.specs.declared.disk.Disk as disks
-use Rattle.turn_engine.specs.Prelude.{Commits, Commit, Relay, ServerCall, Submit, Taken, ServerState, now_of, IsLeft}
+use Rattle.turn_engine.specs.Prelude.{Advance, Commits, Commit, Relay, ServerCall, Submit, Taken, ServerState, now_of, IsLeft}
 use Rattle.turn_player.specs.Laws.{AreOneRun, IsRunBy, Keeps}
 use Rattle.turn_player.specs.Lives as lives
 use Rattle.turn_player.specs.Lives.{Input, Lasting, Life, Opened, Point, Said, Shut, sent_by_all, sent_in}
@@ -18,12 +18,13 @@ use Rattle.turn_step.specs.Prelude.{Setting, Sent}
 use Rattle.turn_store.specs.Prelude.{Form, EachImage}
 use Rattle.turn_store.specs.declared.error.StoreError.{StoreError}
 
--- the inputs of calls; data that was answered beside what is staged is of the clock's moment
+-- the inputs of calls; an arrival that was answered beside what is staged is of the clock's moment
 abbrev pub inputs_of : {D H G : Type 0} → List (ServerCall D H G) → List Input
 inputs_of [] = []
 inputs_of (Submit moment arrival result after ∷ steps) = lives.Arrive moment arrival ∷ inputs_of steps
 inputs_of (Commit result after ∷ steps) = lives.Commit ∷ inputs_of steps
 inputs_of (Relay arrival sent after ∷ steps) = lives.Relay (now_of after) arrival ∷ inputs_of steps
+inputs_of (Advance moment after ∷ steps) = lives.Advance moment ∷ inputs_of steps
 
 -- what calls say
 abbrev pub said_of : {D H G : Type 0} → List (ServerCall D H G) → List Said
@@ -31,6 +32,7 @@ said_of [] = []
 said_of (Submit moment arrival result after ∷ steps) = said_by_submit result ++ said_of steps
 said_of (Commit result after ∷ steps) = said_by_commit result ++ said_of steps
 said_of (Relay arrival sent after ∷ steps) = lives.handing_beside sent ++ said_of steps
+said_of (Advance moment after ∷ steps) = said_of steps
 
 -- where a process is stopped: at rest, or inside a commit that would have ended so
 pub data Stopping (D H G : Type 0) : Type 0 where

@@ -10,7 +10,7 @@ use Rattle.turn_engine.proofs.Lists.{all-append}
 use Rattle.turn_history.specs.Prelude.{History}
 use Rattle.turn_player.proofs.Growing.{GrowsBy, grows_by_one, push_all, acts-found, acts-handed, all-back, all-found, all-front, at_one, last_moment-append, run-split, sent_by_all-append, sent_by_all-found, sent_by_all-handed, taken-handed}
 use Rattle.turn_player.specs.Laws.{AreOneRun, HasAct, IsInTime, IsOneRun, Keeps}
-use Rattle.turn_player.specs.Lives.{Closed, Committed, Failed, Goes, Halted, HandedOut, Input, Lasting, Life, NeverFall, NotOpened, Opened, Point, Refused, Running, Said, Sends, Shut, arrivals, arrivals_of, bound_of, commit_stops, ends, fails, formatted, found, goes_on, handing_beside, handing_out, hands_out, is_full, is_halted, is_shut, no_memory, not_opened, opens, recent_of, relays, sent_by_all, sent_in, shut, stays_halted, stays_shut, stops, sure_of, taken_of, takes, unsettled_of}
+use Rattle.turn_player.specs.Lives.{Closed, Committed, Failed, Goes, Halted, HandedOut, Input, Lasting, Life, NeverFall, NotOpened, Opened, Point, Refused, Running, Said, Sends, Shut, advances, arrivals, arrivals_of, bound_of, commit_stops, ends, fails, formatted, found, goes_on, halted_advances, handing_beside, handing_out, hands_out, is_full, is_halted, is_shut, no_memory, not_opened, opens, recent_of, relays, sent_by_all, sent_in, shut, stays_halted, stays_shut, stops, sure_of, taken_of, takes, unsettled_of}
 
 -- ---- What was handed out
 
@@ -109,7 +109,7 @@ module _ (s : Setting) (IsSuch : List Taken → Type 0) (grows : GrowsBy s IsSuc
         recent = recent_push s sure recent pairs c m (max t c) (max t m) x later answers one.recent;
       }
 
-  -- data beside what is staged
+  -- an arrival beside what is staged
   relayed : (sure : List Lasting) (recent : List Taken) (pairs : Bool) (c m t : ℕ) (a : Arrives) (o : Option Sent) → m ≤ t → t ≤ c
       → IsAnswered s (accepted (map taken_of sure)) (beside_at c pairs a o) → AllByRecursion (λ (x : Taken). x.moment ≡ c) recent
       → AreSuch s IsSuch may_fail (Running sure recent pairs c m) → AreSuch s IsSuch may_fail (Running (sure ++ HandedOut (beside_at c pairs a o) ∷ []) recent pairs c (max t m))
@@ -191,6 +191,8 @@ module _ (s : Setting) (IsSuch : List Taken → Type 0) (grows : GrowsBy s IsSuc
       taken sure recent pairs c m t (record { moment = max t c; arrival = a; failed = failed; pairs = pairs; outcome = o }) never.0 refl answers (never_failed failed flag) one
   step _ _ _ _ _ (relays {sure = sure} {recent = recent} {pairs = pairs} {c = c} {m = m} {t = t} {a = a} o early answers at) never one = relayed sure recent pairs c m t a o never.0 early answers at one
   step p q _ _ _ (no_memory room) never one = same_run p q refl refl (omega arith) (omega (arith, one.in_time)) one.recent one
+  step p q _ _ _ advances never one = same_run p q refl refl (omega arith) (omega (arith, one.in_time)) one.recent one
+  step p q _ _ _ halted_advances never one = same_run p q refl refl (omega arith) tt tt one
   step p q _ _ _ (is_full room) never one = same_run p q refl refl (omega arith) (omega (arith, one.in_time)) one.recent one
   step p q _ _ _ is_halted never one = same_run p q refl refl (omega arith) tt tt one
   step p q _ _ _ is_shut never one = same_run p q refl refl (omega arith) tt tt one
@@ -226,6 +228,8 @@ changes s f p q _ said (takes {m = m} {t = t} failed o answers flag room) = reco
 changes s f p q _ _ (relays {pairs = pairs} {c = c} {m = m} {t = t} {a = a} o early answers at) =
     record { rest = arrived m t; lasts = record { more = HandedOut (beside_at c pairs a o) ∷ []; sure = refl; sent = append-nil (option_to_list o) ∙ sym (sent_in-beside o); acts = (tt, tt) } }
 changes s f p q _ said (no_memory {m = m} {t = t} room) = record { rest = arrived m t; lasts = no_more p q said refl refl }
+changes s f p q _ said (advances {m = m} {t = t}) = record { rest = arrived m t; lasts = no_more p q said refl refl }
+changes s f p q _ said (halted_advances {m = m} {t = t}) = record { rest = arrived m t; lasts = no_more p q said refl refl }
 changes s f p q _ said (is_full {m = m} {t = t} room) = record { rest = arrived m t; lasts = no_more p q said refl refl }
 changes s f p q _ said (is_halted {m = m} {t = t}) = record { rest = arrived m t; lasts = no_more p q said refl refl }
 changes s f p q _ said (is_shut {m = m} {t = t}) = record { rest = arrived m t; lasts = no_more p q said refl refl }

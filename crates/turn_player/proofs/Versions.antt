@@ -77,6 +77,11 @@ module _ {D H G : Type 0} (disk : disks.Ghosts D) (handler : handlers.Ghosts H) 
     version = call.version ∙ r.version;
     images = (commit_in p old new result stands call crash_model r).after;
   }
+  next_reserves p _ _ _ _ (worlds.advances call) stands crash_model r = record {
+    pairs = call.setting.pairs ∙ r.pairs;
+    version = ap (λ (v : ServerState D H G). v.store.version) call.rest ∙ r.version;
+    images = subst (λ (v : ServerState D H G). EachImage (disk.trace v.store.disk).now IsSecond) (sym call.rest) r.images;
+  }
   next_reserves p _ _ _ _ (worlds.relays sent early goes call same) stands crash_model r = subst (λ (v : ServerState D H G). ReservesPorts disk form v) (sym same) r
   next_reserves p _ _ _ _ worlds.no_commit stands crash_model r = r
   next_reserves p w _ _ _ (worlds.opens result call) stands crash_model r = opened_reserves w result call crash_model r

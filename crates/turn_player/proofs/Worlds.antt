@@ -7,11 +7,11 @@ use Rattle.turn_cred.specs.declared.handler.AuthHandler as handlers
 use Rattle.turn_disk.specs.Prelude.{EachImageSince}
 use Rattle.turn_disk.specs.declared.disk.Disk as disks
 use Rattle.turn_disk.proofs.Since.{since_same, since_weaken}
-use Rattle.turn_engine.specs.Prelude.{Commits, Opening, Submits, AtLeast, Opens, RecoversTo, Relays, beside, IsAnswered, NeverFails, Taken, accepted, beside_at, sent_about, IsRun, ServerState, limits_of, now_of}
+use Rattle.turn_engine.specs.Prelude.{Advances, Commits, Opening, Submits, AtLeast, Opens, RecoversTo, Relays, beside, IsAnswered, NeverFails, Taken, accepted, beside_at, sent_about, IsRun, ServerState, limits_of, now_of}
 use Rattle.turn_engine.specs.declared.error.ServerOpenError.{ServerOpenError}
 use Rattle.turn_engine.specs.declared.error.SubmitError.{SubmitError}
 use Rattle.turn_engine.specs.declared.error.SubmitError.TheVariants.{BatchFull, Memory, Stopped}
-use Rattle.turn_engine.proofs.Answered.{accepted-append, sent_about-append, answered_at, begins, history-cut}
+use Rattle.turn_engine.proofs.Answered.{accepted-append, sent_about-append, answered_at, begins, history-cut, weaken_by}
 use Rattle.turn_engine.proofs.Besides.{accepted-beside, now_before, since_late, since_taken, stored_part}
 use Rattle.turn_engine.proofs.Lists.{all-append, length-take-le}
 use Rattle.turn_engine.proofs.Runs.{memory_is_not_stopped, none_failed, not_both, ok_is_no_error, setting_kept}
@@ -24,24 +24,13 @@ use Rattle.turn_step.specs.Prelude.{AnswersArrival, Setting, Arrives, Sent, adde
 use Rattle.turn_store.specs.Prelude.{Form, EachImage, RepresentsAt, form_of}
 use Rattle.turn_store.specs.declared.error.StoreError.{StoreError}
 use Rattle.turn_store.specs.declared.error.StoreError.TheVariants as faults
-use Rattle.turn_player.specs.Lives.{Arrive, Closed, Commit, Failed, Goes, Halted, HandedOut, Input, Lasting, Open, Opened, Point, Refused, Relay, Running, Said, Shut, Stop, arrivals, bound_of, count_of, found, handing_beside, handing_out, history_of, settled_history_of, sure_of, taken_of, unsettled_of, NeverFall, formatted, recent_of}
+use Rattle.turn_player.specs.Lives.{Advance, Arrive, Closed, Commit, Failed, Goes, Halted, HandedOut, Input, Lasting, Open, Opened, Point, Refused, Relay, Running, Said, Shut, Stop, arrivals, bound_of, count_of, found, handing_beside, handing_out, history_of, settled_history_of, sure_of, taken_of, unsettled_of, NeverFall, formatted, recent_of}
 use Rattle.turn_player.specs.Lives as lives
 use Rattle.turn_player.specs.Worlds.{Call, Calls, Down, IsDown, IsHalted, Leaves, Lives, Restarts, Runs, Serving, Stands, World, disk_of, handler_of, ports_of, said_by_commit, said_by_open, said_by_submit, world_after}
 use Rattle.turn_player.specs.Worlds as worlds
 use Rattle.turn_player.proofs.Growing.{accepted-found, taken-handed}
 use Rattle.turn_player.specs.Laws.{IsOneRun, IsWhole, LastsOnDisk}
 use Rattle.turn_player.proofs.Lives.{begins_life, keeps, one_run}
-
--- ---- Images
-
-weaken_by : (form : Form) (h : History) (k m n : ℕ) (image : List ℕ) → m ≤ n → AtLeast form h k m image → AtLeast form h k n image
-weaken_by form h k m n image le at =
-    record {
-      count = at.count;
-      no_less = at.no_less;
-      no_more = at.no_more;
-      stands = record { clock = at.stands.clock; bounded = omega (arith, at.stands.bounded); stands = at.stands.stands };
-    }
 
 -- ---- Moments
 
@@ -139,6 +128,7 @@ module _ {D H G : Type 0} (disk : disks.Ghosts D) (handler : handlers.Ghosts H) 
   call_earlier _ _ _ _ (worlds.submits result call) crash_model = subst (λ z. disk.follows_crash_model z.disk) call.store crash_model
   call_earlier _ _ _ _ worlds.no_submit crash_model = crash_model
   call_earlier _ _ _ _ (worlds.commits result call) crash_model = call.uses.crash_model crash_model
+  call_earlier _ _ _ _ (worlds.advances call) crash_model = subst (λ (v : ServerState D H G). disk.follows_crash_model v.store.disk) call.rest crash_model
   call_earlier _ _ _ _ (worlds.relays sent early runs call same) crash_model = subst (λ (v : ServerState D H G). disk.follows_crash_model v.store.disk) same crash_model
   call_earlier _ _ _ _ worlds.no_commit crash_model = crash_model
   call_earlier w _ _ _ (worlds.opens result call) crash_model = opening_earlier w result call crash_model
@@ -247,7 +237,21 @@ module _ {D H G : Type 0} (disk : disks.Ghosts D) (handler : handlers.Ghosts H) 
             (kept old sure c (max t m) refl refl refl refl refl runs.recovers runs.clock (omega arith) (omega (arith, runs.bounded)));
       }
 
-      -- data beside what is staged
+      advanced_by : (new : ServerState D H G) (t : ℕ) → Advances disk ports old new (max t (now_of old)) → Next may_fail (Running sure recent pairs c m) (Advance t) [] (Serving new)
+      advanced_by new t call =
+          let h = accepted (map taken_of sure ++ recent) in
+          let k = length (accepted (map taken_of sure)) in
+          let same_store : new.store ≡ old.store = ap (λ (v : ServerState D H G). v.store) call.rest in
+          record {
+            end = Running sure recent pairs (max t c) (max t m);
+            goes = lives.advances;
+            stands = kept new sure (max t c) (max t m) same_store (setting_kept handler.key_of ports.range old.machine new.machine call.setting)
+                (ap (λ (v : ServerState D H G). v.outs) call.rest) (ap (λ (v : ServerState D H G). v.arrivals) call.rest) (ap (λ (v : ServerState D H G). v.since) call.rest)
+                (subst (λ z. RecoversTo (disk.trace z.disk).now new h k) (sym same_store) (call.recovers h k runs.recovers))
+                (call.clock ∙ ap (λ (n : ℕ). max t n) runs.clock) (omega arith) (omega (arith, runs.bounded));
+          }
+
+      -- an arrival beside what is staged
       relayed_by : (t : ℕ) (a : Arrives) (sent : Option Sent) → t ≤ now_of old → Relays handler.key_of ports.range (beside old) a sent
           → Next may_fail (Running sure recent pairs c m) (Relay t a) (handing_beside sent) (Serving old)
       relayed_by t a sent early call =
@@ -349,7 +353,25 @@ module _ {D H G : Type 0} (disk : disks.Ghosts D) (handler : handlers.Ghosts H) 
     }
     submitted (Shut sure recent m) old new t a result call stands = absurd stands
 
-    -- ---- Data beside what is staged
+    -- ---- The clock
+
+    advanced : (p : Point) (old new : ServerState D H G) (t : ℕ) → Advances disk ports old new (max t (now_of old)) → Stands disk handler ports form s (Serving old) p
+        → Next may_fail p (Advance t) [] (Serving new)
+    advanced (Running sure recent pairs c m) old new t call stands = advanced_by old sure recent pairs c m stands new t call
+    advanced (Halted sure recent m) old new t call stands =
+        let same_store : new.store ≡ old.store = ap (λ (v : ServerState D H G). v.store) call.rest in
+        record {
+          end = Halted sure recent (max t m);
+          goes = lives.halted_advances;
+          stands = record {
+            stopped = ap (λ z. z.stopped) same_store ∙ stands.stopped;
+            same_setting = own_pairs new.machine old.machine.pairs (setting_kept handler.key_of ports.range old.machine new.machine call.setting ∙ stands.same_setting);
+            leaves = subst (λ z. Leaves disk form z.disk sure recent (max t m)) (sym same_store) (later old.store.disk sure recent m (max t m) (omega arith) stands.leaves);
+          };
+        }
+    advanced (Shut sure recent m) old new t call stands = absurd stands
+
+    -- ---- Arrivals beside what is staged
 
     relayed : (p : Point) (old new : ServerState D H G) (t : ℕ) (a : Arrives) (sent : Option Sent) → t ≤ now_of old → old.store.stopped ≡ false → Relays handler.key_of ports.range (beside old) a sent
         → new ≡ old → Stands disk handler ports form s (Serving old) p → Next may_fail p (Relay t a) (handing_beside sent) (Serving new)
@@ -480,6 +502,7 @@ module _ {D H G : Type 0} (disk : disks.Ghosts D) (handler : handlers.Ghosts H) 
     next same p _ _ _ _ (worlds.submits {old = old} {new = new} {t = t} {a = a} result call) stands crash_model = submitted p old new t a result call stands
     next same p _ _ _ _ (worlds.no_submit {d = d} {h = h} {g = g} {t = t} {a = a}) stands crash_model = stays_down p d h g (Arrive t a) (λ sure recent m. (max t m, omega arith, lives.is_shut)) stands
     next same p _ _ _ _ (worlds.commits {old = old} {new = new} result call) stands crash_model = committed p old new result call stands crash_model
+    next same p _ _ _ _ (worlds.advances {old = old} {new = new} {t = t} call) stands crash_model = advanced p old new t call stands
     next same p _ _ _ _ (worlds.relays {old = old} {new = new} {t = t} {a = a} sent early goes call is) stands crash_model = relayed p old new t a sent early goes call is stands
     next same p _ _ _ _ (worlds.no_commit {d = d} {h = h} {g = g}) stands crash_model = stays_down p d h g Commit (λ sure recent m. (m, omega arith, lives.stays_shut)) stands
     next same p w _ _ _ (worlds.opens result call) stands crash_model = opened same p w result call stands crash_model

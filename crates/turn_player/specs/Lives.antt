@@ -41,11 +41,12 @@ found (x ∷ xs) (suc n) = if is_some x.outcome.change then Found x ∷ found xs
 
 -- ---- What is asked, and what comes of it
 
--- What is asked: an arrival at a moment, data at a moment that is answered beside what is staged, a commit, a stop, at rest or inside a
--- commit or an opening, or an opening.
+-- What is asked: an arrival at a moment, one at a moment that is answered beside what is staged, that the clock is brought to a moment, a
+-- commit, a stop, at rest or inside a commit or an opening, or an opening.
 pub data Input : Type 0 where
   Arrive : (moment : ℕ) (arrival : Arrives) → Input
   Relay : (moment : ℕ) (arrival : Arrives) → Input
+  Advance : (moment : ℕ) → Input
   Commit : Input
   Stop : Input
   Open : Input
@@ -64,7 +65,7 @@ pub data Said : Type 0 where
   -- no store is open
   Closed : Said
 
--- what is said of data that is answered with this
+-- what is said of an arrival that is answered with this beside what is staged
 abbrev pub handing_beside : Option Sent → List Said
 handing_beside sent = map Sends (option_to_list sent)
 
@@ -146,14 +147,19 @@ pub data Goes (s : Setting) (may_fail : Bool) : Point → Input → List Said �
       → length recent < s.config.limits.acts
       → Goes s may_fail (Running sure recent pairs c m) (Arrive t a) []
       (Running sure (recent ++ record { moment = max t c; arrival = a; failed = failed; pairs = pairs; outcome = o } ∷ []) pairs (max t c) (max t m))
-  -- Data whose moment isn't after the clock is answered at the clock beside what is staged, all of which is of that moment: by what lasts,
-  -- as if it had come before that. It lasts at once.
+  -- An arrival whose moment isn't after the clock is answered at the clock beside what is staged, all of which is of that moment: by what
+  -- lasts, as if it had come before that. It changes nothing, and lasts at once.
   relays : {sure : List Lasting} {recent : List Taken} {pairs : Bool} {c m t : ℕ} {a : Arrives} (sent : Option Sent) → t ≤ c
       → AnswersArrival (record s { pairs = pairs }) (accepted (map taken_of sure)) c false a (record { change = None; sent = sent }) → AllByRecursion (λ (x : Taken). x.moment ≡ c) recent
       → Goes s may_fail (Running sure recent pairs c m) (Relay t a) (handing_beside sent) (Running (sure ++ HandedOut (beside_at c pairs a sent) ∷ []) recent pairs c (max t m))
   -- an arrival is refused for memory, and the clock is brought to its moment
   no_memory : {sure : List Lasting} {recent : List Taken} {pairs : Bool} {c m t : ℕ} {a : Arrives} → length recent < s.config.limits.acts
       → Goes s may_fail (Running sure recent pairs c m) (Arrive t a) (Refused refusals.Memory ∷ []) (Running sure recent pairs (max t c) (max t m))
+  -- the clock is brought to the moment, where that is later
+  advances : {sure : List Lasting} {recent : List Taken} {pairs : Bool} {c m t : ℕ}
+      → Goes s may_fail (Running sure recent pairs c m) (Advance t) [] (Running sure recent pairs (max t c) (max t m))
+  -- so it is where the store is stopped
+  halted_advances : {sure : List Lasting} {recent : List Taken} {m t : ℕ} → Goes s may_fail (Halted sure recent m) (Advance t) [] (Halted sure recent (max t m))
   -- the batch has as many arrivals as it may have
   is_full : {sure : List Lasting} {recent : List Taken} {pairs : Bool} {c m t : ℕ} {a : Arrives} → length recent ≡ s.config.limits.acts
       → Goes s may_fail (Running sure recent pairs c m) (Arrive t a) (Refused refusals.BatchFull ∷ []) (Running sure recent pairs c (max t m))
@@ -204,6 +210,7 @@ abbrev pub NeverFall : ℕ → List Input → Type 0
 NeverFall m [] = Unit {0}
 NeverFall m (Arrive t a ∷ inputs) = (m ≤ t) × NeverFall t inputs
 NeverFall m (Relay t a ∷ inputs) = (m ≤ t) × NeverFall t inputs
+NeverFall m (Advance t ∷ inputs) = (m ≤ t) × NeverFall t inputs
 NeverFall m (Commit ∷ inputs) = NeverFall m inputs
 NeverFall m (Stop ∷ inputs) = NeverFall m inputs
 NeverFall m (Open ∷ inputs) = NeverFall m inputs

@@ -5,14 +5,14 @@ use Rattle.std.specs.List.{AllByRecursion}
 use Rattle.turn_cred.specs.declared.handler.AuthHandler as handlers
 use Rattle.turn_disk.specs.Prelude.{IsImage, IsSettled}
 use Rattle.turn_disk.specs.declared.disk.Disk as disks
-use Rattle.turn_engine.specs.Prelude.{Commits, Opening, Submits, AtLeast, RecoversTo, Relays, beside, Taken, accepted, sent_about, ServerState, now_of, IsLeft}
+use Rattle.turn_engine.specs.Prelude.{Advances, Commits, Opening, Submits, AtLeast, RecoversTo, Relays, beside, Taken, accepted, sent_about, ServerState, now_of, IsLeft}
 use Rattle.turn_engine.specs.declared.error.ServerOpenError.{ServerOpenError}
 use Rattle.turn_engine.specs.declared.error.SubmitError.{SubmitError}
 use Rattle.turn_ports.specs.declared.generator.RelayAddressGenerator as generators
 use Rattle.turn_step.specs.Prelude.{Setting, Arrives, Sent, setting_of}
 use Rattle.turn_store.specs.Prelude.{Form, EachImage, form_of}
 use Rattle.turn_store.specs.declared.error.StoreError.{StoreError}
-use Rattle.turn_player.specs.Lives.{Arrive, Closed, Commit, Failed, Halted, Input, Lasting, Life, NotOpened, Open, Opened, Point, Refused, Relay, Running, Said, Shut, Stop, arrivals, handing_beside, handing_out, taken_of}
+use Rattle.turn_player.specs.Lives.{Advance, Arrive, Closed, Commit, Failed, Halted, Input, Lasting, Life, NotOpened, Open, Opened, Point, Refused, Relay, Running, Said, Shut, Stop, arrivals, handing_beside, handing_out, taken_of}
 
 -- ---- Worlds
 
@@ -74,7 +74,8 @@ pub data Call {D H G : Type 0} (disk : disks.Ghosts D) (handler : handlers.Ghost
   no_submit : {d : D} {h : H} {g : G} {t : ℕ} {a : Arrives} → Call disk handler ports s (Down d h g) (Arrive t a) (Closed ∷ []) (Down d h g)
   commits : {old new : ServerState D H G} (result : Result (List Sent) StoreError) → Commits disk old new result
       → Call disk handler ports s (Serving old) Commit (said_by_commit result) (Serving new)
-  -- of data whose moment isn't after the clock
+  advances : {old new : ServerState D H G} {t : ℕ} → Advances disk ports old new (max t (now_of old)) → Call disk handler ports s (Serving old) (Advance t) [] (Serving new)
+  -- of an arrival whose moment isn't after the clock
   relays : {old new : ServerState D H G} {t : ℕ} {a : Arrives} (sent : Option Sent) → t ≤ now_of old → old.store.stopped ≡ false
       → Relays handler.key_of ports.range (beside old) a sent → new ≡ old
       → Call disk handler ports s (Serving old) (Relay t a) (handing_beside sent) (Serving new)

@@ -41,13 +41,16 @@ fn make_disk(alloc: Global) -> Result<MemoryDisk, ProgramError> {
     Ok(disk)
 }
 
-fn make_loopback<R: Net + Drop>(alloc: Global, net: &R) -> Result<Loopback<'_, R>, ProgramError> {
+fn make_loopback<R: Net + Files + Drop>(
+    alloc: Global,
+    net: &R,
+) -> Result<Loopback<'_, R>, ProgramError> {
     let ports = PortRange::new(FIRST_PORT, LAST_PORT).ok_or(ProgramError::Socket)?;
     Loopback::new(alloc, net, ports, 1, Commits::EachTurn).map_err(fault_of_client)
 }
 
 /// A permission for the peer.
-fn permit<D: Disk + Drop, R: Net + Drop, C: Clock, W: Write>(
+fn permit<D: Disk + Drop, R: Net + Files + Drop, C: Clock, W: Write>(
     talk: &mut Conversation<'_, D, R>,
     clock: &C,
     out: &mut W,
@@ -68,7 +71,7 @@ fn print_bytes<W: Write>(
 }
 
 /// Data to the peer, and data back.
-fn send_both_ways<D: Disk + Drop, R: Net + Drop, C: Clock, W: Write>(
+fn send_both_ways<D: Disk + Drop, R: Net + Files + Drop, C: Clock, W: Write>(
     alloc: Global,
     talk: &mut Conversation<'_, D, R>,
     clock: &C,
@@ -84,7 +87,7 @@ fn send_both_ways<D: Disk + Drop, R: Net + Drop, C: Clock, W: Write>(
 }
 
 /// The Allocate once more.
-fn repeat<D: Disk + Drop, R: Net + Drop, C: Clock, W: Write>(
+fn repeat<D: Disk + Drop, R: Net + Files + Drop, C: Clock, W: Write>(
     alloc: Global,
     talk: &mut Conversation<'_, D, R>,
     clock: &C,
@@ -97,7 +100,7 @@ fn repeat<D: Disk + Drop, R: Net + Drop, C: Clock, W: Write>(
 }
 
 /// The end of the allocation.
-fn delete<D: Disk + Drop, R: Net + Drop, C: Clock, W: Write>(
+fn delete<D: Disk + Drop, R: Net + Files + Drop, C: Clock, W: Write>(
     alloc: Global,
     talk: &mut Conversation<'_, D, R>,
     clock: &C,
@@ -108,7 +111,7 @@ fn delete<D: Disk + Drop, R: Net + Drop, C: Clock, W: Write>(
 }
 
 /// An Allocate without credentials, and one with them.
-fn allocate<D: Disk + Drop, R: Net + Drop, C: Clock, W: Write>(
+fn allocate<D: Disk + Drop, R: Net + Files + Drop, C: Clock, W: Write>(
     alloc: Global,
     talk: &mut Conversation<'_, D, R>,
     clock: &C,
@@ -122,7 +125,7 @@ fn allocate<D: Disk + Drop, R: Net + Drop, C: Clock, W: Write>(
 }
 
 /// The server crashes: what was not synced is lost.
-fn restart<'a, R: Net + Drop, C: Clock>(
+fn restart<'a, R: Net + Files + Drop, C: Clock>(
     talk: Conversation<'a, MemoryDisk, R>,
     clock: &C,
 ) -> Result<Conversation<'a, MemoryDisk, R>, ClientError> {
@@ -132,7 +135,7 @@ fn restart<'a, R: Net + Drop, C: Clock>(
 }
 
 /// What is said before the crash.
-fn say_first<D: Disk + Drop, R: Net + Drop, C: Clock, W: Write>(
+fn say_first<D: Disk + Drop, R: Net + Files + Drop, C: Clock, W: Write>(
     alloc: Global,
     talk: &mut Conversation<'_, D, R>,
     clock: &C,
@@ -145,7 +148,7 @@ fn say_first<D: Disk + Drop, R: Net + Drop, C: Clock, W: Write>(
 }
 
 /// What is said after the crash.
-fn say_last<D: Disk + Drop, R: Net + Drop, C: Clock, W: Write>(
+fn say_last<D: Disk + Drop, R: Net + Files + Drop, C: Clock, W: Write>(
     alloc: Global,
     talk: &mut Conversation<'_, D, R>,
     clock: &C,

@@ -21,6 +21,7 @@ pub use Rattle.turn_rules.specs.Permission.{permission_outcome, permission_rows}
 pub use Rattle.turn_rules.specs.Refresh.{refresh_outcome, refresh_rows, renewed_for}
 unfoldable pub use Rattle.turn_rules.specs.Response.{response, signed}
 pub use Rattle.turn_rules.specs.Response.{attribute_of, plain_response}
+pub use Rattle.turn_rules.specs.Tableless.{HasOutcome, IsOutcome, depends_on_table, is_passed, tableless_decision}
 pub use Rattle.turn_rules.specs.Taking.{is_picked, picks, takes, takes_if_any}
 unfoldable pub use Rattle.turn_rules.specs.Token.{token_for, token_input}
 unfoldable pub use Rattle.turn_rules.specs.Unknown.{unknown_types}

@@ -1,6 +1,7 @@
 //! What a client's message comes to before a port is picked.
 
-ghost use Rattle.std.specs.Prelude.{◌≡◌, ◌==◌, ℕ, Option, if◌then◌else◌, is_none};
+ghost use Rattle.std.specs.Prelude.{◌≡◌, ◌==◌, ℕ, false, Option, if◌then◌else◌, is_none};
+ghost use Rattle.turn_codec.specs.Seen.{has_unknown};
 ghost use Rattle.turn_history.specs.History.{History};
 ghost use Rattle.turn_history.specs.Table as tables;
 ghost use Rattle.turn_types.specs.Methods.{allocate};
@@ -11,14 +12,14 @@ ghost use Rattle.turn_rules.specs.Decided.{verdict_in};
 ghost use Rattle.turn_table.specs.Table.{Agrees};
 
 use crate::allocate::{allocate_stage, with_port};
-use crate::binding::binding_outcome;
 use crate::decision::ClientMessage;
 use crate::need::Need;
 use crate::outcome::Outcome;
 use crate::owner::owner_outcome;
+use crate::tableless::{TablelessOutcome, tableless_outcome};
 use std::alloc::Allocator;
 use turn_codec::Message;
-use turn_cred::{Key, Verdict};
+use turn_cred::Key;
 use turn_mac::has_wrong_fingerprint;
 use turn_table::Table;
 use turn_types::{Class, ErrorCode, Method, Moment, ServerConfig};
@@ -78,13 +79,13 @@ pub fn is_protected(method: Method) -> bool
 }
 
 /// Whether a message is dropped, whatever it asks for.
-fn is_dropped(message: &Message<'_>) -> bool
+pub(crate) fn is_dropped(message: &Message<'_>) -> bool
     ensures { result ≡ is_dropped message.now }
 {
     message.class() != Class::Request || has_wrong_fingerprint(message)
 }
 
-/// The stage of a message of a user whose credentials hold.
+/// The stage of a message of a user whose credentials hold, which has no unknown type.
 fn passed_stage<C: Allocator, T: Allocator + Copy>(
     config: &ServerConfig<C>,
     table: &Table<T>,
@@ -93,6 +94,7 @@ fn passed_stage<C: Allocator, T: Allocator + Copy>(
     moment: Moment,
     pairs: bool,
 ) -> Stage
+    requires understood { has_unknown request.now.message.content ≡ false }
     ensures need { needed_at result ≡ (if request.now.message.content.method == allocate
         then (if is_none (before_port pairs config.now table.now.contents request.now.five_tuple user.now request.now.message.content)
         then needed_for table.now.contents request.now.message.content else None) else None) }
@@ -112,11 +114,11 @@ fn is_expired<T: Allocator + Copy>(
     moment: Moment,
     key: &Key,
 ) -> bool
+    requires understood { has_unknown request.now.message.content ≡ false }
     ensures { result ≡ is_expired table.now.contents request.now.five_tuple moment request.now.message.content key.now }
 {
     key.has_expired(moment)
         && request.message.method() == Method::ALLOCATE
-        && !request.message.has_unknown()
         && table.get(request.five_tuple).is_none()
 }
 
@@ -133,26 +135,9 @@ fn stage_of<C: Allocator, T: Allocator + Copy>(
     ensures outcome { (port : Option ℕ) → outcome_at config.now request.now.five_tuple moment request.now.message.content result port
         ≡ outcome_of pairs config.now table.now.contents request.now.five_tuple moment request.now.message (verdict_in request.now) port }
 {
-    // RFC 8489, section 6.3: a wrong FINGERPRINT, or a class or a method that isn't expected: silently discarded.
-    if is_dropped(&request.message) {
-        return Stage::Settled(Outcome::Drop);
-    }
-    let method = request.message.method();
-    if method == Method::BINDING {
-        return Stage::Settled(binding_outcome(&request.message));
-    }
-    if !is_protected(method) {
-        return Stage::Settled(Outcome::Drop);
-    }
-    match request.verdict {
-        None => Stage::Settled(Outcome::Drop),
-        // RFC 8489, section 9.2.4: no or wrong credentials 401, malformed ones 400, a nonce that doesn't hold 438.
-        Some(Verdict::Challenge401) => {
-            Stage::Settled(Outcome::Challenge(ErrorCode::Unauthenticated))
-        }
-        Some(Verdict::Bad400) => Stage::Settled(Outcome::Refuse(ErrorCode::BadRequest)),
-        Some(Verdict::Stale438) => Stage::Settled(Outcome::Challenge(ErrorCode::StaleNonce)),
-        Some(Verdict::Passed { user, key }) => {
+    match tableless_outcome(request) {
+        TablelessOutcome::Same(outcome) => Stage::Settled(outcome),
+        TablelessOutcome::Depends { user, key } => {
             // An expired key makes no new allocation: 401, as an unknown user gets.
             if is_expired(table, request, moment, &key) {
                 return Stage::Settled(Outcome::Challenge(ErrorCode::Unauthenticated));

@@ -51,7 +51,7 @@ fn user_of<'a>(request: &ClientMessage<'a>) -> &'a [u8]
 }
 
 /// The key that the response is signed under, if it is: that of the user whose credentials hold.
-fn key_of(request: &ClientMessage<'_>) -> Option<[u8; 16]>
+pub(crate) fn key_of(request: &ClientMessage<'_>) -> Option<[u8; 16]>
     ensures { result ≡ key_of request.now.message.content (verdict_in request.now) }
 {
     if !is_protected(request.message.method()) {

@@ -1,7 +1,7 @@
 //! Laws over the definition of the answer.
 
 ghost use Rattle.std.specs.FinMap as fin;
-ghost use Rattle.std.specs.Prelude.{◌≡◌, ◌↔◌, ◌<◌, ◌^◌, ◌==◌, ◌||◌, if◌then◌else◌, ℕ, Bool, true, false, IfSome, IsSome, List, Option, Some, None, is_none, is_some};
+ghost use Rattle.std.specs.Prelude.{◌≡◌, ◌≢◌, ◌↔◌, ◌<◌, ◌^◌, ◌==◌, ◌||◌, if◌then◌else◌, ℕ, Bool, true, false, IfSome, IsSome, List, Option, Some, None, is_none, is_some};
 ghost use Rattle.turn_codec.specs.Grammar.{Content, Datagram};
 ghost use Rattle.turn_cred.specs.Credential.{Verdict};
 ghost use Rattle.turn_cred.specs.Credential.Verdict.{Passed};
@@ -11,9 +11,10 @@ ghost use Rattle.turn_history.specs.History.{Allocates, History};
 ghost use Rattle.turn_history.specs.Laws.{ReservedApart, ReservesNone, allocation_of, events_of};
 ghost use Rattle.turn_history.specs.Table.{Contents, Entry, table};
 ghost use Rattle.turn_rules.specs.Allocate.{before_port, named_port, needed_for, own_outcome};
-ghost use Rattle.turn_rules.specs.Answer.{Decided, MayAnswer, by_verdict, decision, is_allocate, is_expired, needed_if_passed, passed_outcome, port_needed, user_of};
+ghost use Rattle.turn_rules.specs.Answer.{Decided, MayAnswer, by_verdict, decision, is_allocate, is_expired, needed_if_passed, outcome_of, passed_outcome, port_needed, user_of};
 ghost use Rattle.turn_rules.specs.Examples.{BindingExample, UnknownExample};
 ghost use Rattle.turn_rules.specs.Laws.{AreReservedPorts, IsMadeOfBytes, IsPicked, IsPlain, NamesInRange, SameForOthers};
+ghost use Rattle.turn_rules.specs.Tableless.{depends_on_table};
 ghost use Rattle.turn_rules.specs.Taking.{is_picked, takes_if_any};
 ghost use Rattle.turn_rules.specs.Token.{token_for};
 ghost use Rattle.turn_rules.specs.declared.outcome.Outcome.TheVariants.{Challenge};
@@ -79,6 +80,25 @@ pub fn expiry_counts_for_new_allocations()
     // What is expired gets 401 and needs no port, whatever is asked for.
     ensures expired { (pairs : Bool) (s : Config) (c : Contents) (f : FiveTuple) (t : ℕ) (m : Content) (user : List ℕ) (key : Key) (port : Option ℕ) → is_expired c f t m key ≡ true →
         (by_verdict pairs s c f t m (Some (Passed user key)) port ≡ Challenge Unauthenticated) × (needed_if_passed pairs s c f t m (Some (Passed user key)) ≡ None) }
+{}
+
+/// Where the answer doesn't depend on the table, it is the same over all, and does nothing.
+pub fn answers_of_no_table()
+    ensures decision { (pairs later : Bool) (s : Config) (c k : Contents) (f : FiveTuple) (t : ℕ) (d : Datagram) (v : Option Verdict) (port other : Option ℕ) →
+        depends_on_table d v ≡ false → decision pairs s c f t d v port ≡ decision later s k f t d v other }
+    ensures no_act { (pairs : Bool) (s : Config) (c : Contents) (f : FiveTuple) (t : ℕ) (d : Datagram) (v : Option Verdict) (port : Option ℕ) →
+        depends_on_table d v ≡ false → ((decision pairs s c f t d v port).act ≡ None) × (port_needed pairs s c f t d v ≡ None) }
+    // The same may be answered after every two histories, whatever ports the generator has, and whether it failed or not.
+    ensures answers { (pairs later : Bool) (s : Config) (range other : ℕ × ℕ) (h g : History) (t : ℕ) (failed failed_then : Bool) (f : FiveTuple) (d : Datagram) (v : Option Verdict) (o : Decided) →
+        depends_on_table d v ≡ false → MayAnswer pairs s range h t failed f d v o → MayAnswer later s other g t failed_then f d v o }
+{}
+
+/// Where the answer may depend on the table, it does: a table without an allocation of the five-tuple gives another outcome than one where
+/// another user has one.
+pub fn dependent_answers_differ()
+    ensures { (pairs : Bool) (s : Config) (c k : Contents) (f : FiveTuple) (t : ℕ) (d : Datagram) (v : Option Verdict) (port : Option ℕ) (e : Entry) →
+        depends_on_table d v ≡ true → fin.get c.entries f ≡ None → fin.get k.entries f ≡ Some e → e.user ≢ user_of v →
+        outcome_of pairs s c f t d v port ≢ outcome_of pairs s k f t d v port }
 {}
 
 /// What may be answered to a request that is no Allocate, and what is done by it, is given by the events of its own

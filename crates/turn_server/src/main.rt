@@ -14,7 +14,7 @@ use turn_program::{LogStream, ProgramError, Release, fill_streams, report, run_w
 
 /// What `turn version` says.
 const RELEASE: Release<'static> = Release {
-    version: "0.13.1",
+    version: "0.14.0",
     sources: SOURCES,
     toolchain: TOOLCHAIN,
 };

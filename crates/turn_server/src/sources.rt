@@ -1,7 +1,7 @@
 //! What this program is made from. This file is written by packaging/digest.
 
 /// The digest of the sources.
-pub const SOURCES: &str = "0c13e87366afe06821f16286b0aa286f50d4f66857294efec4cc301dbc569cb4";
+pub const SOURCES: &str = "70a2997474a26db1f2235575df5245535c76a8c42254db7d6e172ef426bfc691";
 
 /// The toolchain, as it names itself.
-pub const TOOLCHAIN: &str = "rattle-kit-13b logic dac8208d650f15bf";
+pub const TOOLCHAIN: &str = "rattle-kit-13f logic dac8208d650f15bf";

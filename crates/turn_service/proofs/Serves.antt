@@ -1,5 +1,5 @@
 -- What a service makes of a disk.
-use Rattle.std.proofs.Common.{ℕ, Option, Some, None, IfSome}
+use Rattle.std.proofs.Common.{ℕ}
 use Rattle.turn_cred.specs.declared.handler.AuthHandler as handlers
 use Rattle.turn_disk.specs.declared.disk.Disk as disks
 use Rattle.turn_engine.specs.Prelude.{ServerState}
@@ -12,7 +12,6 @@ pub started_over : {D H G : Type 0} (disk : disks.Ghosts D) (handler : handlers.
     Started disk handler ports opened config users range server → StartedOver disk handler ports opened server
 started_over disk handler ports opened config users range server started = record { config = config; users = users; range = range; started = started }
 
-pub serves_opened : {D H G : Type 0} (disk : disks.Ghosts D) (handler : handlers.Ghosts H) (ports : generators.Ghosts G) (IsNew : D → Type 0) (opened : D) (last : Option D) →
-    IsNew opened → IfSome last (Serves disk handler ports opened) → IfSome last (ServesOpened disk handler ports IsNew)
-serves_opened disk handler ports IsNew opened None is_new served = tt
-serves_opened disk handler ports IsNew opened (Some last) is_new served = record { opened = opened; is_new = is_new; serves = served }
+pub serves_opened : {D H G : Type 0} (disk : disks.Ghosts D) (handler : handlers.Ghosts H) (ports : generators.Ghosts G) (IsNew : D → Type 0) (opened last : D) →
+    IsNew opened → Serves disk handler ports opened last → ServesOpened disk handler ports IsNew last
+serves_opened disk handler ports IsNew opened last is_new served = record { opened = opened; is_new = is_new; serves = served }

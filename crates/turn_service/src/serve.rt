@@ -1,6 +1,6 @@
 //! `turn serve`.
 
-ghost use Rattle.std.specs.Prelude.{◌≡◌, IfErr, IfNone, IfOk, IfSome, IsErr};
+ghost use Rattle.std.specs.Prelude.{◌≡◌, Err, IfErr, IfOk, IsErr};
 ghost use Rattle.turn_faults.specs.Places.{IsConnected};
 ghost use Rattle.turn_sockets.specs.Moments.{IsMoment};
 ghost use Rattle.turn_serving.specs.Starts.{KeepsImages};
@@ -227,26 +227,13 @@ fn since<C: Clock>(clock: &C, began: Option<Duration>) -> Option<Duration> {
     Some(now.saturating_sub(began?))
 }
 
-/// How a service ended, and the disk of its store, if that was opened.
+/// How a service over a disk ended.
 #[derive(Drop)]
 pub struct Ended<D: Disk + Drop> {
     /// The first fault, if there was one.
     pub told: Result<(), ProgramError>,
     /// The disk as it was left.
-    pub disk: Option<D>,
-}
-
-impl<D: Disk + Drop> From<ProgramError> for Ended<D> {
-    ghost use Rattle.std.specs.Prelude.{Err, None};
-
-    ghost from_gives = { λ fault ended. (ended.told ≡ Err fault) × (ended.disk ≡ None) };
-
-    fn from(fault: ProgramError) -> Ended<D> {
-        Ended {
-            told: Err(fault),
-            disk: None,
-        }
-    }
+    pub disk: D,
 }
 
 /// Starts a server over a disk. At a fault the log says which store or address it is about.
@@ -268,7 +255,7 @@ fn start<
 ) -> Result<DiskServing<'a, 'w, 'l, D, R, L>, Ended<D>>
     ensures started { IfOk result (λ serving. StartedOver D.Disk ⟦<Credentials as AuthHandler>⟧
         ⟦<SocketPorts<'a, R, Global> as RelayAddressGenerator>⟧ disk serving.server) }
-    ensures kept { IfErr result (λ ended. IfSome ended.disk (KeepsImages D.Disk disk)) }
+    ensures kept { IfErr result (λ ended. KeepsImages D.Disk disk ended.disk) }
     ensures told { IfErr result (λ ended. IsErr ended.told) }
 {
     let log = watch.log();
@@ -308,7 +295,7 @@ fn start<
             tell_start(rt, clock, log, service.store, &addresses, fault);
             Err(Ended {
                 told: Err(fault_of_start(fault)),
-                disk: Some(disk),
+                disk,
             })
         }
     }
@@ -464,9 +451,8 @@ fn serve_over<
     log: &Log<L>,
     out: &mut W,
 ) -> Ended<D>
-    ensures serves { IfSome result.disk (Serves D.Disk ⟦<Credentials as AuthHandler>⟧
-        ⟦<SocketPorts<'a, R, Global> as RelayAddressGenerator>⟧ disk) }
-    ensures told { IfNone result.disk (IsErr result.told) }
+    ensures { Serves D.Disk ⟦<Credentials as AuthHandler>⟧
+        ⟦<SocketPorts<'a, R, Global> as RelayAddressGenerator>⟧ disk result.disk }
 {
     let watch = StoreWatch::new(rt.alloc(), rt, service.store, log);
     let began = taken.began;
@@ -477,14 +463,11 @@ fn serve_over<
     tell_begun(rt, clock, service, &watch, &serving, began);
     let told = tell(rt, &mut serving, clock, service, log, out);
     let (disk, _) = serving.close();
-    Ended {
-        told,
-        disk: Some(disk),
-    }
+    Ended { told, disk }
 }
 
 /// Serves over the store in a file, for so many turns, or until the process is ended. `S` stands for the state in
-/// which the store's file was found, whatever that is. The disk is returned as it was left, if it was opened.
+/// which the store's file was found, whatever that is. An error is one before the file was opened; from then on the disk is returned.
 pub fn run_serve<
     'a,
     S: Start,
@@ -492,17 +475,22 @@ pub fn run_serve<
     C: Clock,
     W: Write,
     L: Write + Drop,
->(rt: &'a R, clock: &C, service: Service<'_>, log: &Log<L>, out: &mut W) -> Ended<FileDisk<File, S>>
-    ensures serves { IfSome result.disk (ServesOpened ⟦<FileDisk<File, S> as Disk>⟧ ⟦<Credentials as AuthHandler>⟧
-        ⟦<SocketPorts<'a, R, Global> as RelayAddressGenerator>⟧ IsOpened) }
-    // Without a store nothing was served.
-    ensures told { IfNone result.disk (IsErr result.told) }
+>(
+    rt: &'a R,
+    clock: &C,
+    service: Service<'_>,
+    log: &Log<L>,
+    out: &mut W,
+) -> Result<Ended<FileDisk<File, S>>, ProgramError>
+    ensures { IfOk result (λ ended. ServesOpened ⟦<FileDisk<File, S> as Disk>⟧ ⟦<Credentials as AuthHandler>⟧
+        ⟦<SocketPorts<'a, R, Global> as RelayAddressGenerator>⟧ IsOpened ended.disk) }
 {
     match take_file(rt, clock, service, log) {
         Ok((taken, disk)) => {
-            serve_over(rt, clock, service, taken, disk.holding::<S>(), log, out)
+            let disk = disk.holding::<S>();
+            Ok(serve_over(rt, clock, service, taken, disk, log, out))
         }
-        Err(fault) => Ended::from(fault),
+        Err(fault) => Err(fault),
     }
 }
 
@@ -521,17 +509,27 @@ pub fn serve_export<
     named: NamedExport<'_>,
     log: &Log<L>,
     out: &mut W,
-) -> Ended<NbdDisk<Socket, S>>
-    ensures serves { IfSome result.disk (ServesOpened ⟦<NbdDisk<Socket, S> as Disk>⟧ ⟦<Credentials as AuthHandler>⟧
-        ⟦<SocketPorts<'a, R, Global> as RelayAddressGenerator>⟧ IsConnected) }
-    // Without a store nothing was served.
-    ensures told { IfNone result.disk (IsErr result.told) }
+) -> Result<Ended<NbdDisk<Socket, S>>, ProgramError>
+    ensures { IfOk result (λ ended. ServesOpened ⟦<NbdDisk<Socket, S> as Disk>⟧ ⟦<Credentials as AuthHandler>⟧
+        ⟦<SocketPorts<'a, R, Global> as RelayAddressGenerator>⟧ IsConnected ended.disk) }
 {
     match take_export(rt, clock, service, named, log) {
         Ok((taken, disk)) => {
-            serve_over(rt, clock, service, taken, disk.holding::<S>(), log, out)
+            let disk = disk.holding::<S>();
+            Ok(serve_over(rt, clock, service, taken, disk, log, out))
         }
-        Err(fault) => Ended::from(fault),
+        Err(fault) => Err(fault),
+    }
+}
+
+/// The first fault of a service, if there was one.
+fn told_of<D: Disk + Drop>(ended: Result<Ended<D>, ProgramError>) -> Result<(), ProgramError>
+    ensures told { IfOk ended (λ ended. result ≡ ended.told) }
+    ensures refused { IfErr ended (λ fault. result ≡ Err fault) }
+{
+    match ended {
+        Ok(Ended { told, disk: _ }) => told,
+        Err(fault) => Err(fault),
     }
 }
 
@@ -544,10 +542,10 @@ pub fn run_service<
 >(rt: &R, clock: &C, service: Service<'_>, log: &Log<L>, out: &mut W) -> Result<(), ProgramError> {
     match StorePlace::of(service.store)? {
         StorePlace::File(_) => {
-            run_serve::<Unknown, R, C, W, L>(rt, clock, service, log, out).told
+            told_of(run_serve::<Unknown, R, C, W, L>(rt, clock, service, log, out))
         }
         StorePlace::Export(named) => {
-            serve_export::<Unknown, R, C, W, L>(rt, clock, service, named, log, out).told
+            told_of(serve_export::<Unknown, R, C, W, L>(rt, clock, service, named, log, out))
         }
     }
 }

@@ -175,10 +175,23 @@ impl<'w, 'l, R: Files<File = File>, L: Write + Drop> Watch for &'w StoreWatch<'l
         }
     }
 
-    fn arrives<A: Allocator + Copy>(&self, table: &Table<A>, arrival: &Arrival<'_>) {
+    fn answered<A: Allocator + Copy>(
+        &self,
+        table: &Table<A>,
+        arrival: &Arrival<'_>,
+        answer: Option<&Outgoing<A>>,
+    ) {
         if let Some(lines) = &self.lines {
             if let Ok(mut lines) = lines.try_borrow_mut() {
-                lines.arrive(table, arrival);
+                lines.see_answered(table, arrival, answer);
+            }
+        }
+    }
+
+    fn submitted<A: Allocator + Copy>(&self, table: &Table<A>, arrival: &Arrival<'_>) {
+        if let Some(lines) = &self.lines {
+            if let Ok(mut lines) = lines.try_borrow_mut() {
+                lines.see_submitted(table, arrival);
             }
         }
     }
@@ -192,14 +205,6 @@ impl<'w, 'l, R: Files<File = File>, L: Write + Drop> Watch for &'w StoreWatch<'l
         if let Some(lines) = &self.lines {
             if let Ok(mut lines) = lines.try_borrow_mut() {
                 lines.see(moment, table, outgoing);
-            }
-        }
-    }
-
-    fn relayed<A: Allocator + Copy>(&self, table: &Table<A>, outgoing: &Outgoing<A>) {
-        if let Some(lines) = &self.lines {
-            if let Ok(mut lines) = lines.try_borrow_mut() {
-                lines.count_relayed(table, outgoing);
             }
         }
     }

@@ -57,7 +57,7 @@ module _ (old mid : BTreeMap ℕ Endpoint) (port : ℕ) (same : mid.entries ≡ 
       by_test false other = unchanged p
 
   -- one that was bound
-  pub bound_now : (new : BTreeMap ℕ Endpoint) → IsBound mid new port → AreBoundToo old new (λ p. port == p)
+  pub bound_now : {ip : ℕ} (new : BTreeMap ℕ Endpoint) → IsBound ip mid new port → AreBoundToo old new (λ p. port == p)
   bound_now new bound p = by_test (port == p) refl
     where
       by_test : (b : Bool) → (port == p) ≡ b → is_some (get nat_cmp new p) ≡ is_some (get nat_cmp old p) || b

@@ -1,11 +1,9 @@
-pub mod Besides
+pub mod Events
 pub mod Held
 pub mod Moments
 pub mod Named
 pub mod Order
-pub mod Others
-pub mod Rounds
+pub mod Visiting
 pub mod Sockets
 pub mod Starts
 pub mod Turns
-pub mod Wire

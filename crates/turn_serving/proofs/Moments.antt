@@ -2,14 +2,12 @@
 use Rattle.std.proofs.Common.{arith, ◌≡◌, ◌<◌, ◌≤◌, ◌⊎◌, inl, inr, ℕ, Bool, true, false, List, [], ◌∷◌, Result, Ok, Err, refl, sym, ap, ◌∙◌, subst, ⊎_elim}
 use Rattle.turn_cred.specs.declared.handler.AuthHandler as handlers
 use Rattle.turn_disk.specs.declared.disk.Disk as disks
-use Rattle.turn_engine.specs.Prelude.{Submits, Commit, IsCall, Relay, Serves, ServerCall, Submit, after_of, last_of, ServerState, now_of}
+use Rattle.turn_engine.specs.Prelude.{Advance, Commit, IsCall, Relay, Serves, ServerCall, Submit, after_of, last_of, ServerState, now_of}
 use Rattle.turn_engine.specs.declared.error.SubmitError.{SubmitError}
 use Rattle.turn_engine.specs.declared.error.SubmitError.TheVariants.{BatchFull, Memory, Stopped}
 use Rattle.turn_ports.specs.declared.generator.RelayAddressGenerator as generators
 use Rattle.turn_sockets.specs.Moments.{IsMoment}
-use Rattle.turn_step.specs.Prelude.{Arrives}
-use Rattle.turn_serving.specs.Turns.{AreAt, Served}
-use Rattle.turn_serving.proofs.Turns.{still}
+use Rattle.turn_serving.specs.Turns.{AreAt, At, Served}
 use Rattle.turn_types.specs.Prelude.{end_of_moments}
 
 -- of two moments in a row the second is one by the first clock
@@ -43,17 +41,6 @@ moments_in_row {told = told} {clock = clock} {middle = middle} {moment = moment}
     by_second (inl low) = by_first low (low_or_high first.second) (search arith)
     by_second (inr high) = subst (IsMoment told clock) (sym (second.beyond high)) first
 
--- a submit that didn't find the batch full brings a server that runs to its moment
-pub reached : {D H G : Type 0} {disk : disks.Ghosts D} {handler : handlers.Ghosts H} {ports : generators.Ghosts G} {old new : ServerState D H G} {moment : ℕ} {a : Arrives} {result : Result Unit SubmitError}
-    → Submits disk handler ports old new moment a result → (result ≡ Err BatchFull → ⊥) → new.store.stopped ≡ false → now_of new ≡ moment
-reached {result = Ok done} call other runs = call.clock
-reached {result = Err Memory} call other runs = call.memory_clock refl
-reached {result = Err BatchFull} call other runs = absurd (other refl)
-reached {result = Err Stopped} call other runs = let yes = ap (λ s. s.stopped) call.store ∙ call.stopped.0 refl in absurd (cc)
-
-pub moment_from : {D H G : Type 0} {told : ℕ → Type 0} {same old : ServerState D H G} {moment : ℕ} → same ≡ old → IsMoment told (now_of same) moment → IsMoment told (now_of old) moment
-moment_from {D = D} {H = H} {G = G} {told = told} {moment = moment} same is = subst (λ (s : ServerState D H G). IsMoment told (now_of s) moment) same is
-
 module _ {D H G : Type 0} (disk : disks.Ghosts D) (handler : handlers.Ghosts H) (ports : generators.Ghosts G) (told : ℕ → Type 0) where
   -- a call leaves the clock as it is, or brings it to a moment that is one by it
   call_moves : (old : ServerState D H G) (x : ServerCall D H G) → IsCall disk handler ports old x → AreAt (IsMoment told) old (x ∷ []) → (now_of (after_of x) ≡ now_of old) ⊎ IsMoment told (now_of old) (now_of (after_of x))
@@ -64,6 +51,7 @@ module _ {D H G : Type 0} (disk : disks.Ghosts D) (handler : handlers.Ghosts H) 
   call_moves old (Commit (Ok outs) new) call at = inl (ap now_of call.ok)
   call_moves old (Commit (Err fault) new) call at = inl (ap now_of call.err)
   call_moves old (Relay a sent new) call at = inl (ap now_of call.2)
+  call_moves old (Advance moment new) call at = inr (subst (IsMoment told (now_of old)) (sym call.clock) at.0)
 
   calls_before : (old : ServerState D H G) (steps : List (ServerCall D H G)) (moment : ℕ) → Serves disk handler ports old steps → AreAt (IsMoment told) old steps → IsMoment told (now_of (last_of old steps)) moment
       → IsMoment told (now_of old) moment
@@ -75,6 +63,8 @@ module _ {D H G : Type 0} (disk : disks.Ghosts D) (handler : handlers.Ghosts H) 
       let later = calls_before new xs moment serves.1 at is in
       ⊎_elim (λ same. subst (λ (n : ℕ). IsMoment told n moment) same later) (λ moved. moments_in_row moved later) (call_moves old (Commit result new) serves.0 tt)
   calls_before old (Relay a sent new ∷ xs) moment serves at is = subst (λ (n : ℕ). IsMoment told n moment) (ap now_of serves.0.2) (calls_before new xs moment serves.1 at.1 is)
+  calls_before old (Advance m new ∷ xs) moment serves at is =
+      moments_in_row (subst (IsMoment told (now_of old)) (sym serves.0.clock) at.0) (calls_before new xs moment serves.1 at.1 is)
 
   calls_after : (clock : ℕ) (old : ServerState D H G) (steps : List (ServerCall D H G)) → Serves disk handler ports old steps → AreAt (IsMoment told) old steps → IsMoment told clock (now_of old)
       → IsMoment told clock (now_of (last_of old steps))
@@ -86,13 +76,8 @@ module _ {D H G : Type 0} (disk : disks.Ghosts D) (handler : handlers.Ghosts H) 
       calls_after clock new xs serves.1 at
       (⊎_elim (λ same. subst (IsMoment told clock) (sym same) is) (λ moved. moments_in_row is moved) (call_moves old (Commit result new) serves.0 tt))
   calls_after clock old (Relay a sent new ∷ xs) serves at is = calls_after clock new xs serves.1 at.1 (subst (IsMoment told clock) (sym (ap now_of serves.0.2)) is)
-
-module _ {D H G : Type 0} (disk : disks.Ghosts D) (handler : handlers.Ghosts H) (ports : generators.Ghosts G) where
-  stays_stopped : (old : ServerState D H G) (steps : List (ServerCall D H G)) → Serves disk handler ports old steps → old.store.stopped ≡ true → (last_of old steps).store.stopped ≡ true
-  stays_stopped old [] serves is = is
-  stays_stopped old (Submit moment a result new ∷ xs) serves is = stays_stopped new xs serves.1 (ap (λ s. s.stopped) serves.0.store ∙ is)
-  stays_stopped old (Commit result new ∷ xs) serves is = stays_stopped new xs serves.1 (ap (λ (s : ServerState D H G). s.store.stopped) (serves.0.unchanged is) ∙ is)
-  stays_stopped old (Relay a sent new ∷ xs) serves is = stays_stopped new xs serves.1 (ap (λ (s : ServerState D H G). s.store.stopped) serves.0.2 ∙ is)
+  calls_after clock old (Advance m new ∷ xs) serves at is =
+      calls_after clock new xs serves.1 at.1 (moments_in_row is (subst (IsMoment told (now_of old)) (sym serves.0.clock) at.0))
 
 module _ {D H G : Type 0} {disk : disks.Ghosts D} {handler : handlers.Ghosts H} {ports : generators.Ghosts G} {told : ℕ → Type 0} where
   -- a moment by the clock after calls is one by the clock before them
@@ -105,18 +90,24 @@ module _ {D H G : Type 0} {disk : disks.Ghosts D} {handler : handlers.Ghosts H} 
   moment_after {clock = clock} {old = old} is served =
       subst (λ (s : ServerState D H G). IsMoment told clock (now_of s)) served.last (calls_after disk handler ports told clock old served.steps served.serves served.moments is)
 
-module _ {D H G : Type 0} {disk : disks.Ghosts D} {handler : handlers.Ghosts H} {ports : generators.Ghosts G} where
-  -- a server that runs after calls ran before them
-  pub ran_before : {IsOne : ℕ → ℕ → Type 0} {old new : ServerState D H G} → Served disk handler ports IsOne old new → new.store.stopped ≡ false → old.store.stopped ≡ false
-  ran_before {old = old} served runs = by old.store.stopped refl
-    where
-      by : (r : Bool) → old.store.stopped ≡ r → old.store.stopped ≡ false
-      by false is = is
-      by true is =
-          let stopped = ap (λ (s : ServerState D H G). s.store.stopped) (sym served.last) ∙ stays_stopped disk handler ports old served.steps served.serves is in
-          let no : true ≡ false = sym stopped ∙ runs in cc
+-- at the moment itself it is still that moment
+pub still : {told : ℕ → Type 0} {clock moment : ℕ} → IsMoment told clock moment → IsMoment told moment moment
+still is = record {
+  second = is.second;
+  was_told = is.was_told;
+  in_range = λ low. let same = is.in_range low in omega (arith, same);
+  beyond = λ high. refl;
+}
 
--- a server that runs after calls is at a moment that was told, if it was before them
-pub stays_current : {D H G : Type 0} {disk : disks.Ghosts D} {handler : handlers.Ghosts H} {ports : generators.Ghosts G} {told : ℕ → Type 0} {old new : ServerState D H G} → (old.store.stopped ≡ false → IsMoment told (now_of old) (now_of old))
-    → Served disk handler ports (IsMoment told) old new → new.store.stopped ≡ false → IsMoment told (now_of new) (now_of new)
-stays_current {told = told} {old = old} {new = new} current served runs = still told (now_of old) (now_of new) (moment_after (current (ran_before served runs)) served)
+module _ {D H G : Type 0} (disk : disks.Ghosts D) (handler : handlers.Ghosts H) (ports : generators.Ghosts G) (told : ℕ → Type 0) (moment : ℕ) where
+  -- whatever calls at a moment came to, it is still that moment
+  pub calls_still : (old : ServerState D H G) (steps : List (ServerCall D H G)) → Serves disk handler ports old steps → AreAt (At moment) old steps → IsMoment told (now_of old) moment → IsMoment told (now_of (last_of old steps)) moment
+  calls_still old [] serves at is = is
+  calls_still old (Submit m a (Ok done) new ∷ xs) serves at is = calls_still new xs serves.1 at.1 (subst (λ (n : ℕ). IsMoment told n moment) (sym (serves.0.clock ∙ at.0)) (still is))
+  calls_still old (Submit m a (Err Stopped) new ∷ xs) serves at is = calls_still new xs serves.1 at.1 (subst (λ (n : ℕ). IsMoment told n moment) (sym (ap now_of (serves.0.unchanged refl))) is)
+  calls_still old (Submit m a (Err BatchFull) new ∷ xs) serves at is = calls_still new xs serves.1 at.1 (subst (λ (n : ℕ). IsMoment told n moment) (sym (ap now_of (serves.0.unchanged_full refl))) is)
+  calls_still old (Submit m a (Err Memory) new ∷ xs) serves at is = calls_still new xs serves.1 at.1 (subst (λ (n : ℕ). IsMoment told n moment) (sym (serves.0.memory_clock refl ∙ at.0)) (still is))
+  calls_still old (Commit (Ok outs) new ∷ xs) serves at is = calls_still new xs serves.1 at (subst (λ (n : ℕ). IsMoment told n moment) (sym (ap now_of serves.0.ok)) is)
+  calls_still old (Commit (Err fault) new ∷ xs) serves at is = calls_still new xs serves.1 at (subst (λ (n : ℕ). IsMoment told n moment) (sym (ap now_of serves.0.err)) is)
+  calls_still old (Relay a sent new ∷ xs) serves at is = calls_still new xs serves.1 at.1 (subst (λ (n : ℕ). IsMoment told n moment) (sym (ap now_of serves.0.2)) is)
+  calls_still old (Advance m new ∷ xs) serves at is = calls_still new xs serves.1 at.1 (subst (λ (n : ℕ). IsMoment told n moment) (sym (serves.0.clock ∙ at.0)) (still is))

@@ -6,17 +6,16 @@ use Rattle.turn_disk.specs.Prelude.{EachImageSince}
 use Rattle.turn_disk.specs.declared.disk.Disk as disks
 use Rattle.turn_engine.proofs.Answered.{accepted-append, begins}
 use Rattle.turn_engine.proofs.Runs.{earlier, goes_on, stops}
-use Rattle.turn_engine.specs.Prelude.{Commits, Submits, AtLeast, BeginsWith, Commit, IsAtPlace, IsCall, Place, Relay, Serves, ServerCall, Submit, Taken, accepted, after_of, count_at, history_at, last_of, ServerState, now_of}
+use Rattle.turn_engine.specs.Prelude.{Advance, AtLeast, BeginsWith, Commit, IsAtPlace, IsCall, Place, Relay, Serves, ServerCall, Submit, Taken, accepted, after_of, count_at, history_at, last_of, ServerState, now_of}
 use Rattle.turn_engine.proofs.Held.{stay_held}
 use Rattle.turn_engine.specs.declared.error.SubmitError.{SubmitError}
 use Rattle.turn_engine.specs.declared.error.SubmitError.TheVariants.{BatchFull, Memory, Stopped}
 use Rattle.turn_ports.specs.declared.generator.RelayAddressGenerator as generators
 use Rattle.turn_history.specs.Prelude.{History}
 use Rattle.turn_sockets.specs.Moments.{IsMoment}
-use Rattle.turn_step.specs.Prelude.{Setting, Arrives, Sent, HoldsPorts}
+use Rattle.turn_step.specs.Prelude.{Setting, HoldsPorts}
 use Rattle.turn_store.specs.Prelude.{Form, RepresentsAt, form_of}
-use Rattle.turn_store.specs.declared.error.StoreError.{StoreError}
-use Rattle.turn_serving.specs.Turns.{AreAt, At, Never, Served}
+use Rattle.turn_serving.specs.Turns.{AreAt, Served}
 
 module _ {D H G : Type 0} (disk : disks.Ghosts D) (handler : handlers.Ghosts H) (ports : generators.Ghosts G) where
   pub serves-append : (server : ServerState D H G) (first second : List (ServerCall D H G)) → Serves disk handler ports server first → Serves disk handler ports (last_of server first) second
@@ -33,6 +32,7 @@ module _ {D H G : Type 0} (disk : disks.Ghosts D) (handler : handlers.Ghosts H) 
   call_in_time old (Commit (Ok outs) new) call = let same = ap now_of call.ok in omega arith
   call_in_time old (Commit (Err fault) new) call = let same = ap now_of call.err in omega arith
   call_in_time old (Relay a sent new) call = let same = ap now_of call.2 in omega arith
+  call_in_time old (Advance moment new) call = subst (λ n. now_of old ≤ n) (sym call.clock) call.in_time
 
   calls_in_time : (old : ServerState D H G) (steps : List (ServerCall D H G)) → Serves disk handler ports old steps → now_of old ≤ now_of (last_of old steps)
   calls_in_time old [] serves = omega arith
@@ -50,57 +50,16 @@ are_at-append IsOne server [] second before after = after
 are_at-append IsOne server (Submit moment a result new ∷ xs) second before after = (before.0, are_at-append IsOne new xs second before.1 after)
 are_at-append IsOne server (Commit result new ∷ xs) second before after = are_at-append IsOne new xs second before after
 are_at-append IsOne server (Relay a sent new ∷ xs) second before after = (before.0, are_at-append IsOne new xs second before.1 after)
+are_at-append IsOne server (Advance moment new ∷ xs) second before after = (before.0, are_at-append IsOne new xs second before.1 after)
 
-pub never_at : {D H G : Type 0} (IsOne : ℕ → ℕ → Type 0) (server : ServerState D H G) (steps : List (ServerCall D H G)) → AreAt Never server steps → AreAt IsOne server steps
-never_at IsOne server [] at = tt
-never_at IsOne server (Submit moment a result new ∷ xs) at = absurd at.0
-never_at IsOne server (Commit result new ∷ xs) at = never_at IsOne new xs at
-never_at IsOne server (Relay a sent new ∷ xs) at = absurd at.0
+-- ---- What follows of calls
 
--- ---- Moments
+module _ {D H G : Type 0} {disk : disks.Ghosts D} {handler : handlers.Ghosts H} {ports : generators.Ghosts G} {IsOne : ℕ → ℕ → Type 0} where
+  pub no_call : {old new : ServerState D H G} → new ≡ old → Served disk handler ports IsOne old new
+  no_call same = record { steps = []; serves = tt; moments = tt; last = sym same }
 
--- at the moment itself it is still that moment
-pub still : (told : ℕ → Type 0) (clock moment : ℕ) → IsMoment told clock moment → IsMoment told moment moment
-still told clock moment is = record {
-  second = is.second;
-  was_told = is.was_told;
-  in_range = λ low. let same = is.in_range low in omega (arith, same);
-  beyond = λ high. refl;
-}
-
-module _ {D H G : Type 0} (disk : disks.Ghosts D) (handler : handlers.Ghosts H) (ports : generators.Ghosts G) (told : ℕ → Type 0) (moment : ℕ) where
-  -- whatever a call at the moment came to, it is still that moment
-  call_still : (old : ServerState D H G) (x : ServerCall D H G) → IsCall disk handler ports old x → AreAt (At moment) old (x ∷ []) → IsMoment told (now_of old) moment → IsMoment told (now_of (after_of x)) moment
-  call_still old (Submit m a (Ok done) new) call at is = subst (λ (n : ℕ). IsMoment told n moment) (sym (call.clock ∙ at.0)) (still told (now_of old) moment is)
-  call_still old (Submit m a (Err Stopped) new) call at is = subst (λ (n : ℕ). IsMoment told n moment) (sym (ap now_of (call.unchanged refl))) is
-  call_still old (Submit m a (Err BatchFull) new) call at is = subst (λ (n : ℕ). IsMoment told n moment) (sym (ap now_of (call.unchanged_full refl))) is
-  call_still old (Submit m a (Err Memory) new) call at is = subst (λ (n : ℕ). IsMoment told n moment) (sym (call.memory_clock refl ∙ at.0)) (still told (now_of old) moment is)
-  call_still old (Commit (Ok outs) new) call at is = subst (λ (n : ℕ). IsMoment told n moment) (sym (ap now_of call.ok)) is
-  call_still old (Commit (Err fault) new) call at is = subst (λ (n : ℕ). IsMoment told n moment) (sym (ap now_of call.err)) is
-  call_still old (Relay a sent new) call at is = subst (λ (n : ℕ). IsMoment told n moment) (sym (ap now_of call.2)) is
-
-  pub all_told : (old : ServerState D H G) (steps : List (ServerCall D H G)) → Serves disk handler ports old steps → AreAt (At moment) old steps → IsMoment told (now_of old) moment → AreAt (IsMoment told) old steps
-  all_told old [] serves at is = tt
-  all_told old (Submit m a result new ∷ xs) serves at is = (
-    subst (IsMoment told (now_of old)) (sym at.0) is,
-    all_told new xs serves.1 at.1 (call_still old (Submit m a result new) serves.0 (at.0, tt) is),
-  )
-  all_told old (Commit result new ∷ xs) serves at is = all_told new xs serves.1 at (call_still old (Commit result new) serves.0 tt is)
-  all_told old (Relay a sent new ∷ xs) serves at is = (
-    subst (IsMoment told (now_of old)) (sym at.0) is,
-    all_told new xs serves.1 at.1 (call_still old (Relay a sent new) serves.0 (at.0, tt) is),
-  )
-
-module _ {D H G : Type 0} {disk : disks.Ghosts D} {handler : handlers.Ghosts H} {ports : generators.Ghosts G} where
-  unfoldable pub no_call : {IsOne : ℕ → ℕ → Type 0} (server : ServerState D H G) → Served disk handler ports IsOne server server
-  no_call server = record { steps = []; serves = tt; moments = tt; last = refl }
-
-  pub submitted : {old new : ServerState D H G} {moment : ℕ} {a : Arrives} {result : Result Unit SubmitError} → Submits disk handler ports old new moment a result
-      → Served disk handler ports (At moment) old new
-  submitted {new = new} {moment = moment} {a = a} {result = result} call = record { steps = Submit moment a result new ∷ []; serves = (call, tt); moments = (refl, tt); last = refl }
-
-  unfoldable pub in_row : {IsOne : ℕ → ℕ → Type 0} {old middle new : ServerState D H G} → Served disk handler ports IsOne old middle → Served disk handler ports IsOne middle new → Served disk handler ports IsOne old new
-  in_row {IsOne = IsOne} {old = old} first second =
+  pub in_row : {old middle new : ServerState D H G} → Served disk handler ports IsOne old middle → Served disk handler ports IsOne middle new → Served disk handler ports IsOne old new
+  in_row {old = old} first second =
       record {
         steps = first.steps ++ second.steps;
         serves = serves-append disk handler ports old first.steps second.steps first.serves (subst (λ s. Serves disk handler ports s second.steps) (sym first.last) second.serves);
@@ -108,35 +67,13 @@ module _ {D H G : Type 0} {disk : disks.Ghosts D} {handler : handlers.Ghosts H} 
         last = last_of-append old first.steps second.steps ∙ ap (λ s. last_of s second.steps) first.last ∙ second.last;
       }
 
-  -- calls without a submit are at whatever moments
-  unfoldable pub none : {IsOne : ℕ → ℕ → Type 0} {old new : ServerState D H G} → Served disk handler ports Never old new → Served disk handler ports IsOne old new
-  none {IsOne = IsOne} {old = old} served = record { steps = served.steps; serves = served.serves; moments = never_at IsOne old served.steps served.moments; last = served.last }
-
-  -- calls at one moment, which was one by the clock before them
-  unfoldable pub at_told : {told : ℕ → Type 0} {moment : ℕ} {old new : ServerState D H G} → IsMoment told (now_of old) moment → Served disk handler ports (At moment) old new → Served disk handler ports (IsMoment told) old new
-  at_told {told = told} {moment = moment} {old = old} is served = record {
-    steps = served.steps;
-    serves = served.serves;
-    moments = all_told disk handler ports told moment old served.steps served.serves served.moments is;
-    last = served.last;
-  }
-
+module _ {D H G : Type 0} {disk : disks.Ghosts D} {handler : handlers.Ghosts H} {ports : generators.Ghosts G} where
   pub held : {IsOne : ℕ → ℕ → Type 0} {old new : ServerState D H G} → Served disk handler ports IsOne old new → HoldsPorts ports.holds old.machine None → HoldsPorts ports.holds new.machine None
   held {old = old} served holds =
       subst (λ s. HoldsPorts ports.holds s.machine None) served.last (stay_held disk handler ports old served.steps served.serves holds)
 
-  pub from : {IsOne : ℕ → ℕ → Type 0} {old same new : ServerState D H G} → same ≡ old → Served disk handler ports IsOne same new → Served disk handler ports IsOne old new
-  from {IsOne = IsOne} {new = new} is served = subst (λ s. Served disk handler ports IsOne s new) is served
-
-  pub to : {IsOne : ℕ → ℕ → Type 0} {old new same : ServerState D H G} → same ≡ new → Served disk handler ports IsOne old new → Served disk handler ports IsOne old same
-  to {IsOne = IsOne} {old = old} is served = subst (λ s. Served disk handler ports IsOne old s) (sym is) served
-
   pub in_time : {IsOne : ℕ → ℕ → Type 0} {old new : ServerState D H G} → Served disk handler ports IsOne old new → now_of old ≤ now_of new
   in_time {old = old} served = subst (λ s. now_of old ≤ now_of s) served.last (calls_in_time disk handler ports old served.steps served.serves)
-
-pub committed : {D H G : Type 0} {disk : disks.Ghosts D} {handler : handlers.Ghosts H} (ports : generators.Ghosts G) {IsOne : ℕ → ℕ → Type 0} {old new : ServerState D H G} {result : Result (List Sent) StoreError} → Commits disk old new result
-    → Served disk handler ports IsOne old new
-committed ports {new = new} {result = result} call = record { steps = Commit result new ∷ []; serves = (call, tt); moments = tt; last = refl }
 
 -- ---- Stops
 
@@ -166,6 +103,7 @@ module _ {D H G : Type 0} (disk : disks.Ghosts D) (handler : handlers.Ghosts H) 
   same_form old (Submit moment a result new) call = ap form_of call.store
   same_form old (Commit result new) call = call.form
   same_form old (Relay a sent new) call = ap (λ (x : ServerState D H G). form_of x.store) call.2
+  same_form old (Advance moment new) call = ap (λ (x : ServerState D H G). form_of x.store) call.rest
 
   calls_keep : (server : ServerState D H G) (p : Place) (steps : List (ServerCall D H G)) → IsAtPlace disk handler ports s h t server p → Serves disk handler ports server steps
       → disk.follows_crash_model (last_of server steps).store.disk

@@ -1,8 +1,9 @@
+pub mod Events
 pub mod Listening
 pub mod Manner
+pub mod Order
 pub mod Reading
-pub mod Requests
-pub mod Serving
+pub mod Sending
 pub mod Starts
 pub mod Turns
-pub mod Wire
+pub mod Visits

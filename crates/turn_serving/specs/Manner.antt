@@ -1,13 +1,8 @@
 -- How turns are taken.
-use Rattle.std.specs.Prelude.{ℕ, ◌/◌, Bool, false, max, true}
+use Rattle.std.specs.Prelude.{ℕ, ◌/◌, max}
 use Rattle.turn_serving.specs.declared.manner.Commits.{Commits}
 use Rattle.turn_serving.specs.declared.manner.Commits.TheVariants.{EachTurn, Paced}
 use Rattle.turn_serving.specs.declared.manner.Manner.{Manner}
-
--- whether requests wait for a commit of their own
-abbrev pub waits_for_commits : Commits → Bool
-waits_for_commits EachTurn = false
-waits_for_commits Paced = true
 
 -- how many datagrams are read in a visit of a socket
 abbrev pub reads_by : Commits → ℕ → ℕ

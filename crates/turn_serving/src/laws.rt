@@ -1,6 +1,6 @@
 //! What follows of the contracts of `Setup::start` and `Serving::turn`, as clauses of a function that does nothing.
 
-ghost use Rattle.std.specs.Prelude.{◌≡◌, ◌++◌, [], ℕ, None};
+ghost use Rattle.std.specs.Prelude.{◌≡◌, ◌++◌, ℕ, Bool, None, true};
 ghost use Rattle.turn_engine.specs.Images.{AtLeast};
 ghost use Rattle.turn_engine.specs.Runs.{IsAtPlace, Leads, Place};
 ghost use Rattle.turn_engine.specs.State.{ServerState};
@@ -11,12 +11,17 @@ ghost use Rattle.turn_step.specs.State.{HoldsPorts};
 ghost use Rattle.turn_store.specs.Areas.{Form};
 ghost use Rattle.turn_store.specs.Images.{EachImage};
 ghost use Rattle.turn_types.specs.Config.{Config};
-ghost use Rattle.turn_serving.specs.Requests.{OthersChangeNothing};
-ghost use Rattle.turn_serving.specs.Starts.{BeginsRun, Started};
-ghost use Rattle.turn_sockets.specs.Backlog.{BacklogState, waiting_of};
+ghost use Rattle.turn_sockets.specs.Backlog.{waiting_of};
 ghost use Rattle.turn_types.specs.declared.address.FiveTuple.{FiveTuple};
-ghost use Rattle.turn_serving.specs.Turns.{KeepsOrder, Served, datagrams_of, of_tuple, submitted_in};
+ghost use Rattle.turn_serving.specs.Events.{Does, ServingState};
+ghost use Rattle.turn_serving.specs.Manner.{reads_of};
+ghost use Rattle.turn_serving.specs.Order.{TakesRounds, answered_in, of_tuple, taken_in};
+ghost use Rattle.turn_serving.specs.Sending.{port_sockets};
+ghost use Rattle.turn_serving.specs.Starts.{BeginsRun, Started};
+ghost use Rattle.turn_serving.specs.Turns.{Served};
 
+use crate::manner::Commits;
+use crate::relay_sockets::RelaySockets;
 use turn_cred::AuthHandler;
 use turn_disk::Disk;
 use turn_ports::RelayAddressGenerator;
@@ -41,16 +46,17 @@ pub fn turns_keep_ports<D: Disk, H: AuthHandler, G: RelayAddressGenerator, T: Ti
         → HoldsPorts G.holds old.machine None → HoldsPorts G.holds new.machine None }
 {}
 
-/// A datagram that isn't a request of a method that asks for credentials changes nothing, so its commit makes no device call: data,
-/// indications and Bindings don't wait for a sync.
-pub fn others_change_nothing()
-    ensures { OthersChangeNothing }
+/// Of each five-tuple, what was answered at once or submitted, and then what waits, is in order what waited before, and then what was
+/// received, but for what was dropped: since there was no room or no memory, or since it came from a relay port of this server itself.
+pub fn five_tuples_keep_their_order<D: Disk, H: AuthHandler, G: RelaySockets, T: Time>()
+    ensures { (system : T) (least : ℕ) (done : Bool) (old new : ServingState D H G)
+        → (does : Does D.Disk H.AuthHandler G.RelayAddressGenerator (port_sockets G.has_socket G.bound) (IsMoment (T.told system)) least done old new) → (f : FiveTuple)
+        → of_tuple f (answered_in does.events) ++ waiting_of new.backlog f ≡ waiting_of old.backlog f ++ of_tuple f (taken_in does.events) }
 {}
 
-/// Where nothing waits at first, what was submitted of a five-tuple is, in order, the first part of what was received of it and not lost.
-pub fn five_tuples_keep_their_order<D: Disk, H: AuthHandler, G: RelayAddressGenerator, T: Time>()
-    ensures { (system : T) (old new : ServerState D H G) (waited waits : BacklogState)
-        → (turns : KeepsOrder D.Disk H.AuthHandler G.RelayAddressGenerator (IsMoment (T.told system)) old waited new waits)
-        → (f : FiveTuple) → waiting_of waited f ≡ []
-        → of_tuple f turns.received ≡ of_tuple f (datagrams_of (submitted_in turns.served.steps)) ++ waiting_of waits f }
+/// Where requests wait for commits, turns that end well visit sockets in as many rounds at least, each time the one that is next, and at
+/// most as many datagrams a visit as the manner has: so the laws of `turn_sockets` on how long a socket waits speak of turns.
+pub fn sockets_are_visited_in_rounds<D: Disk, H: AuthHandler, G: RelaySockets, T: Time>()
+    ensures { (system : T) (least : ℕ) (old new : ServingState D H G) → Does D.Disk H.AuthHandler G.RelayAddressGenerator (port_sockets G.has_socket G.bound) (IsMoment (T.told system)) least true old new
+        → old.manner.commits ≡ Commits.Paced → TakesRounds (reads_of old.manner) least old.agenda new.agenda }
 {}

@@ -2,28 +2,25 @@
 //! and answered.
 #![tactic(auto)]
 
-mod calls;
 mod error;
 mod laws;
 mod listening;
 mod manner;
-mod reading;
+mod meanwhile;
+mod reader;
 mod relay_sockets;
-mod requests;
 mod sending;
 mod serving;
 mod start;
-mod turn;
 mod watch;
 
 pub use error::{SetupError, StartError, TurnError};
 pub use laws::{
-    five_tuples_keep_their_order, others_change_nothing, turns_keep_ports, turns_make_runs,
+    five_tuples_keep_their_order, sockets_are_visited_in_rounds, turns_keep_ports, turns_make_runs,
 };
 pub use listening::ListeningSockets;
 pub use manner::Commits;
 pub use relay_sockets::RelaySockets;
-pub use requests::may_change;
 pub use serving::{Serving, SocketServing};
 pub use start::Setup;
 pub use watch::{Silent, Watch};

@@ -1,11 +1,13 @@
 //! The sockets that clients send to, and the wait for them and for the relay sockets.
 
-ghost use Rattle.std.specs.Prelude.{◌≡◌, ◌≢◌, ◌↔◌, ℕ, All, Contains, IfNone, IfOk, IfSome, List, None, OnOk};
+ghost use Rattle.std.specs.Prelude.{◌≡◌, ◌≢◌, ◌↔◌, ◌<◌, ◌+◌, ◌⊎◌, ℕ, All, Contains, IfNone, IfOk, IfSome, List, None, OnOk, nat_eq};
+ghost use Rattle.std.specs.List.{list_any};
 ghost use Rattle.turn_sockets.specs.Own.{IsRelay};
 ghost use Rattle.turn_sockets.specs.Schedule.{with_all_ready};
-ghost use Rattle.turn_serving.specs.Listening.{HasSockets};
+ghost use Rattle.turn_serving.specs.Listening.{AreBoundFor, AreOwnAs, HasSockets, IsBoundFor};
 
 use crate::error::{BindError, TurnError};
+use crate::relay_sockets::RelaySockets;
 use crate::watch::Watch;
 use mio::unix::SourceFd;
 use mio::{Events, Interest, Poll, Token};
@@ -13,13 +15,14 @@ use std::alloc::{Allocator, Global};
 use std::io::ErrorKind;
 use std::net::Net;
 use std::os::fd::RawFd;
-use std::rt::Clock;
+use std::rt::{Clock, Files};
 use std::thread;
 use std::time::Duration;
 use turn_sockets::{
-    BoundSocket, LISTENING, ListeningAddresses, OwnAddresses, RECEIVE_BUFFER, Schedule, are_at,
+    BoundSocket, LISTENING, ListeningAddresses, MachineAddresses, OwnAddresses, RECEIVE_BUFFER,
+    Schedule, are_at,
 };
-use turn_types::{Endpoint, FiveTuple};
+use turn_types::{Endpoint, FiveTuple, Moment};
 
 /// How many sockets one wait reports; the next one reports more.
 const EVENTS: usize = 1_025;
@@ -32,6 +35,9 @@ const PAUSE_MILLIS: u64 = 50;
 
 /// The token of the disk's answers, which is none of a socket.
 const ANSWERS: Token = Token(usize::MAX);
+
+/// How many seconds pass before the machine's addresses are read again.
+const REFRESH_SECONDS: u64 = 60;
 
 /// How long a look beside a commit waits at most.
 const BESIDE_MILLIS: u64 = 100;
@@ -51,6 +57,17 @@ pub(crate) struct Listening<W: Watch + Drop, A: Allocator = Global> {
     pub(crate) sockets: Vec<BoundSocket, A>,
     pub(crate) own: OwnAddresses,
     pub(crate) watch: W,
+    // The addresses of this machine, once they could be read, and the second from which on they are read again. They count only where
+    // the server listens at 0.0.0.0.
+    pub(crate) machine: Option<MachineAddresses<A>>,
+    due: u64,
+}
+
+/// Whether one of these is 0.0.0.0, which is any address of the machine.
+fn has_any(addresses: &[Endpoint]) -> bool
+    ensures { result ≡ list_any (λ a. nat_eq a.ip 0) addresses.now }
+{
+    addresses.iter().any(|a| a.ip == 0)
 }
 
 /// Waits a moment for a port that is in use.
@@ -59,7 +76,9 @@ pub(crate) fn pause<C: Clock>(system: &C) {
 }
 
 /// Binds a socket. While the address is in use it tries again, up to two seconds.
-fn bind<R: Net, C: Clock>(net: &R, system: &C, at: Endpoint) -> Result<BoundSocket, BindError> {
+fn bind<R: Net, C: Clock>(net: &R, system: &C, at: Endpoint) -> Result<BoundSocket, BindError>
+    ensures { IfOk result (λ s. IsBoundFor at s) }
+{
     for _ in 0..ATTEMPTS {
         match BoundSocket::bind(net, at) {
             Ok(socket) => return Ok(socket),
@@ -97,7 +116,8 @@ fn bind_all<R: Net, C: Clock, A: Allocator + Copy>(
     system: &C,
     listening: &mut ListeningAddresses,
 ) -> Result<Vec<BoundSocket, A>, BindError>
-    ensures { IfOk result (λ sockets. sockets.items ≡ listening.new) }
+    ensures sockets { IfOk result (λ sockets. sockets.items ≡ listening.new) }
+    ensures bound { OnOk result (AreBoundFor listening.old listening.new) }
 {
     let count = listening.as_slice().len();
     let mut sockets = Vec::with_capacity(alloc, count)?;
@@ -128,7 +148,8 @@ fn take_all<R: Net, C: Clock, A: Allocator + Copy>(
     listening: &mut ListeningAddresses,
     sockets: ListeningSockets<A>,
 ) -> Result<Vec<BoundSocket, A>, BindError>
-    ensures { IfOk result (λ taken. HasSockets taken.items listening.new) }
+    ensures sockets { IfOk result (λ taken. HasSockets taken.items listening.new) }
+    ensures bound { OnOk result (AreBoundFor listening.old listening.new) }
 {
     match sockets {
         ListeningSockets::Bound => {
@@ -146,8 +167,9 @@ fn take_all<R: Net, C: Clock, A: Allocator + Copy>(
 }
 
 impl<W: Watch + Drop, A: Allocator + Copy> Listening<W, A> {
-    /// A socket or more for each listening address of these.
-    pub(crate) fn open<R: Net, C: Clock>(
+    /// A socket or more for each listening address of these. The machine's addresses are read if one of these is 0.0.0.0; that they can't
+    /// be read is no fault.
+    pub(crate) fn open<R: Net + Files, C: Clock>(
         alloc: A,
         net: &R,
         system: &C,
@@ -157,15 +179,42 @@ impl<W: Watch + Drop, A: Allocator + Copy> Listening<W, A> {
         watch: W,
     ) -> Result<Listening<W, A>, BindError>
         // The server's own addresses are those of all sockets.
-        ensures { IfOk result (λ l. HasSockets l.sockets.items l.own.listening) }
+        ensures sockets { IfOk result (λ l. HasSockets l.sockets.items l.own.listening) }
+        ensures own { IfOk result (λ l. AreOwnAs own l.own) }
     {
         let mut sockets = take_all(alloc, net, system, &mut own.listening, sockets)?;
         watch_all(poll, &mut sockets)?;
+        let machine = if has_any(own.listening.as_slice()) {
+            MachineAddresses::read(alloc, net).ok()
+        } else {
+            None
+        };
         Ok(Listening {
             sockets,
             own,
             watch,
+            machine,
+            due: 0,
         })
+    }
+
+    /// Reads the machine's addresses again, once a minute by the server's clock, where the server listens at 0.0.0.0. If they can't be
+    /// read they are what they were.
+    pub(crate) fn refresh<G: RelaySockets>(&mut self, ports: &G, moment: Moment)
+        ensures sockets { self.new.sockets ≡ self.old.sockets }
+        ensures own { self.new.own ≡ self.old.own }
+        ensures watch { self.new.watch ≡ self.old.watch }
+        // Each minute once.
+        ensures early { moment < self.old.due → self.new ≡ self.old }
+        ensures due { (self.new.due ≡ self.old.due) ⊎ (self.new.due ≡ moment + 60) }
+    {
+        if moment.seconds() < self.due || !has_any(self.own.listening.as_slice()) {
+            return;
+        }
+        if let Some(machine) = ports.machine(*self.sockets.allocator()) {
+            self.machine = Some(machine);
+        }
+        self.due = moment.seconds() + REFRESH_SECONDS;
     }
 
     /// The five-tuple of a datagram that a socket received. `None` if it comes from a relay port of this server: it is lost.

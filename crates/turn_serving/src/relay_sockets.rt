@@ -6,38 +6,37 @@ ghost use Rattle.std.specs.Ordering.{nat_cmp};
 
 use std::alloc::Allocator;
 use std::net::Net;
+use std::rt::Files;
 use turn_ports::RelayAddressGenerator;
-use turn_sockets::{BoundSocket, SocketPorts};
+use turn_sockets::{BoundSocket, MachineAddresses, SocketPorts};
 
 /// Relay ports with sockets.
 pub trait RelaySockets: RelayAddressGenerator {
     /// Whether a port has a socket.
     ghost has_socket: { Self → ℕ → Bool };
 
-    /// It has said so of an address. What is proved of every such fact can be had by asking alone.
-    ghost has_said: { Self → ℕ → Bool → Type 0 };
+    /// The IP address at which the sockets are bound.
+    ghost bound: { Self → ℕ };
 
     /// The socket of a port.
     fn socket(&self, port: u16) -> Option<&BoundSocket>
         ensures found { is_some result ≡ has_socket self.now port }
-        ensures at { IfSome result (λ s. s.now.port ≡ port) };
+        ensures at { IfSome result (λ s. s.now ≡ record { ip = bound self.now; port = port }) };
 
-    /// Whether an address is one of this machine.
-    fn is_local(&self, ip: u32) -> bool
-        ensures { has_said self.now ip result };
+    /// Reads the addresses of this machine. `None` if the system doesn't list them.
+    fn machine<B: Allocator + Copy>(&self, alloc: B) -> Option<MachineAddresses<B>>;
 }
 
-impl<'a, R: Net, A: Allocator + Copy> RelaySockets for SocketPorts<'a, R, A> {
+impl<'a, R: Net + Files, A: Allocator + Copy> RelaySockets for SocketPorts<'a, R, A> {
     ghost has_socket = { λ ports port. is_some (get nat_cmp ports.sockets port) };
 
-    // The system says what it will.
-    ghost has_said = { λ _ _ _. Unit {0} };
+    ghost bound = { λ ports. ports.binder.ip };
 
     fn socket(&self, port: u16) -> Option<&BoundSocket> {
         self.socket(port)
     }
 
-    fn is_local(&self, ip: u32) -> bool {
-        self.is_local(ip)
+    fn machine<B: Allocator + Copy>(&self, alloc: B) -> Option<MachineAddresses<B>> {
+        self.machine(alloc).ok()
     }
 }

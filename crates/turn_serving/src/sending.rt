@@ -1,11 +1,12 @@
 //! What a server sends, by its sockets.
 
-ghost use Rattle.std.specs.Prelude.{◌≡◌, ◌≢◌, ◌↔◌, ◌++◌, All, IsTrue, List, map, option_map};
+ghost use Rattle.std.specs.Prelude.{◌≡◌, ◌≢◌, ◌↔◌, ◌++◌, All, IfNone, IfSome, IsTrue, List, map, option_map, true};
 ghost use Rattle.std.specs.Option.{option_to_list};
+ghost use Rattle.turn_sockets.specs.Machine.{is_of_machine};
 ghost use Rattle.turn_sockets.specs.Own.{IsListening, IsNamed};
 ghost use Rattle.turn_sockets.specs.Wire.{Passed};
 ghost use Rattle.turn_step.specs.Views.{sent_of};
-ghost use Rattle.turn_serving.specs.Wire.{SendsEach, SendsOne, addresses_of};
+ghost use Rattle.turn_serving.specs.Sending.{SendsEach, SendsOne, addresses_of, port_sockets};
 
 use crate::listening::Listening;
 use crate::relay_sockets::RelaySockets;
@@ -14,21 +15,38 @@ use std::alloc::Allocator;
 use turn_cred::AuthHandler;
 use turn_disk::Disk;
 use turn_engine::{Beside, Server};
-use turn_sockets::{OwnAddresses, SocketRecord};
-use turn_step::Outgoing;
+use turn_sockets::{MachineAddresses, OwnAddresses, SocketRecord};
+use turn_step::{Arrival, Outgoing};
 use turn_types::Endpoint;
+
+/// Whether an address is one of this machine. Before its addresses are known each counts as one.
+fn is_local<A: Allocator>(machine: &Option<MachineAddresses<A>>, ip: u32) -> bool
+    ensures known { IfSome machine.now (λ m. result ≡ is_of_machine m.prefixes.items ip) }
+    ensures unknown { IfNone machine.now (result ≡ true) }
+{
+    match machine {
+        Some(machine) => machine.has(ip),
+        None => true,
+    }
+}
 
 /// Whether what a relay port sends to a peer would come to a socket that clients send to. Where only one with the address 0.0.0.0
 /// may be meant, the peer's has to be one of this machine.
 #[tactic(auto, using(crate::proofs::Named::by_name, crate::proofs::Named::listens))]
-fn is_listening<G: RelaySockets>(own: &OwnAddresses, ports: &G, peer: Endpoint) -> bool
+fn is_listening<A: Allocator>(
+    own: &OwnAddresses,
+    machine: &Option<MachineAddresses<A>>,
+    peer: Endpoint,
+) -> bool
     ensures only { IsTrue result → IsListening own.now peer }
     ensures named { All (λ a. a.ip ≢ 0) own.now.listening → (IsTrue result ↔ IsListening own.now peer) }
     ensures by_name { IsNamed own.now peer → IsTrue result }
-    // Whether a peer is meant by 0.0.0.0 alone is what was said of its address.
-    ensures asked { IsListening own.now peer → ¬ IsNamed own.now peer → G.has_said ports.now peer.ip result }
+    // A peer is meant by 0.0.0.0 alone if its address is the machine's.
+    ensures any { IsListening own.now peer → ¬ IsNamed own.now peer → IfSome machine.now (λ m. result ≡ is_of_machine m.prefixes.items peer.ip) }
+    // Before these are known each address may be.
+    ensures unknown { IsListening own.now peer → IfNone machine.now (result ≡ true) }
 {
-    own.is_listening(peer) && (own.is_named(peer) || ports.is_local(peer.ip))
+    own.is_listening(peer) && (own.is_named(peer) || is_local(machine, peer.ip))
 }
 
 /// Sends a datagram, to a client by the socket that its five-tuple names. One that can't be sent is lost, as on any link; so is one
@@ -36,26 +54,26 @@ fn is_listening<G: RelaySockets>(own: &OwnAddresses, ports: &G, peer: Endpoint) 
 fn send<G: RelaySockets, A: Allocator + Copy, W: Watch + Drop>(
     listening: &Listening<W, A>,
     ports: &G,
-    wire: &mut SocketRecord,
+    record: &mut SocketRecord,
     outgoing: &Outgoing<A>,
 )
-    ensures { (out : List Passed) × (wire.new.passed ≡ wire.old.passed ++ out) × SendsOne (addresses_of listening.now.sockets.items listening.now.own)
-        (G.has_socket ports.now) (sent_of outgoing.now) out }
+    ensures { (out : List Passed) × (record.new.passed ≡ record.old.passed ++ out) × SendsOne (port_sockets G.has_socket G.bound) (addresses_of listening.now.sockets.items listening.now.own)
+        ports.now (sent_of outgoing.now) out }
 {
     match outgoing {
         Outgoing::ToClient { five_tuple, bytes } => {
             // The address that the client sent to.
             if let Some(socket) = listening.socket_of(*five_tuple) {
-                socket.send(wire, bytes.as_slice(), five_tuple.client);
+                socket.send(record, bytes.as_slice(), five_tuple.client);
             }
         }
         Outgoing::ToPeer { port, peer, bytes } => {
             let to = listening.own.sent_to(*peer);
-            if is_listening(&listening.own, ports, to) {
+            if is_listening(&listening.own, &listening.machine, to) {
                 return;
             }
             if let Some(socket) = ports.socket(*port) {
-                socket.send(wire, bytes.as_slice(), to);
+                socket.send(record, bytes.as_slice(), to);
             }
         }
     }
@@ -71,32 +89,35 @@ pub(crate) fn send_all<
 >(
     listening: &Listening<W, A>,
     server: &Server<D, H, G, A>,
-    wire: &mut SocketRecord,
+    record: &mut SocketRecord,
     outgoing: &[Outgoing<A>],
 )
-    ensures { (out : List Passed) × (wire.new.passed ≡ wire.old.passed ++ out) × SendsEach (addresses_of listening.now.sockets.items listening.now.own)
-        (G.has_socket server.now.machine.ports) (map sent_of outgoing.now) out }
+    ensures { (out : List Passed) × (record.new.passed ≡ record.old.passed ++ out) × SendsEach (port_sockets G.has_socket G.bound) (addresses_of listening.now.sockets.items listening.now.own)
+        server.now.machine.ports (map sent_of outgoing.now) out }
 {
     for datagram in outgoing {
-        send(listening, server.ports(), wire, datagram);
+        send(listening, server.ports(), record, datagram);
     }
     listening
         .watch
         .sent(server.clock(), server.table(), outgoing);
 }
 
-/// Sends the answer to data that was answered beside what is staged, if there is one. Then the watch sees it.
+/// Sends the answer to an arrival that was answered beside what is staged, if there is one. Then the watch sees it.
 pub(crate) fn send_answer<H: AuthHandler, G: RelaySockets, A: Allocator + Copy, W: Watch + Drop>(
     listening: &Listening<W, A>,
     beside: &Beside<'_, '_, H, G, A>,
-    wire: &mut SocketRecord,
+    record: &mut SocketRecord,
+    arrival: &Arrival<'_>,
     answer: &Option<Outgoing<A>>,
 )
-    ensures { (out : List Passed) × (wire.new.passed ≡ wire.old.passed ++ out) × SendsEach (addresses_of listening.now.sockets.items listening.now.own)
-        (G.has_socket beside.now.machine.ports) (option_to_list (option_map sent_of answer.now)) out }
+    ensures { (out : List Passed) × (record.new.passed ≡ record.old.passed ++ out) × SendsEach (port_sockets G.has_socket G.bound) (addresses_of listening.now.sockets.items listening.now.own)
+        beside.now.machine.ports (option_to_list (option_map sent_of answer.now)) out }
 {
     if let Some(datagram) = answer {
-        send(listening, beside.ports(), wire, datagram);
-        listening.watch.relayed(beside.table(), datagram);
+        send(listening, beside.ports(), record, datagram);
     }
+    listening
+        .watch
+        .answered(beside.table(), arrival, answer.as_ref());
 }

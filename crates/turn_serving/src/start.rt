@@ -8,21 +8,22 @@ ghost use Rattle.turn_sockets.specs.Ports.{HaveSockets, draws_of};
 ghost use Rattle.turn_step.specs.State.{HoldsPorts};
 ghost use Rattle.turn_store.specs.Opening as stores;
 ghost use Rattle.turn_types.specs.declared.address.FiveTuple.{FiveTuple};
-ghost use Rattle.turn_serving.specs.Listening.{HasSockets};
+ghost use Rattle.turn_serving.specs.Listening.{AreOwnAs, HasSockets, room_of};
 ghost use Rattle.turn_serving.specs.Starts.{AreBoundToo, IfOfStore, IsBeforeCarrying, IsKept, IsOfVersion, IsRefusedFor, KeepsImages, Started, have_ports};
 
 use crate::error::{BindError, SetupError, StartError};
 use crate::listening::{ATTEMPTS, Listening, ListeningSockets, Waiting, pause};
 use crate::manner::{Commits, Manner};
+use crate::meanwhile::Traffic;
+use crate::reader::Intake;
 use crate::relay_sockets::RelaySockets;
 use crate::serving::{Serving, SocketServing};
-use crate::turn::{Traffic, Work};
 use crate::watch::Watch;
 use mio::Poll;
 use std::alloc::{AllocError, Allocator, Global};
 use std::net::Net;
 use std::os::fd::RawFd;
-use std::rt::Clock;
+use std::rt::{Clock, Files};
 use turn_cred::AuthHandler;
 use turn_disk::Disk;
 use turn_engine::Server;
@@ -65,7 +66,8 @@ struct Beside<'a, R: Net, W: Watch + Drop, A: Allocator + Copy> {
     listening: Listening<W, A>,
     waiting: Waiting<A>,
     traffic: Traffic<A>,
-    stand_in: Traffic<A>,
+    // Where sockets are read beside commits.
+    placeholder: Option<Traffic<A>>,
 }
 
 /// How many datagrams of clients may wait for a commit, of all that were sent to the server's addresses.
@@ -78,7 +80,9 @@ const MAX_OF_ONE: usize = 64;
 const MAX_BYTES: usize = 1 << 20;
 
 /// What may wait of the datagrams that were sent to one of so many addresses: each has the same share.
-fn room_of(addresses: &[Endpoint]) -> Room {
+fn room_of(addresses: &[Endpoint]) -> Room
+    ensures { result ≡ room_of addresses.now }
+{
     let count = addresses.len().max(1);
     Room {
         datagrams: MAX_WAITING / count,
@@ -88,22 +92,24 @@ fn room_of(addresses: &[Endpoint]) -> Room {
 }
 
 /// No socket may have a datagram, and none waits of what was sent to these addresses.
-fn no_traffic<A: Allocator + Copy>(
+fn no_traffic<R: Net, A: Allocator + Copy>(
     alloc: A,
+    net: &R,
     addresses: &[Endpoint],
 ) -> Result<Traffic<A>, AllocError>
-    ensures waits { IfOk result (λ traffic. (f : FiveTuple) → waiting_of traffic.work.backlog f ≡ []) }
-    ensures passed { IfOk result (λ traffic. traffic.work.wire.passed ≡ []) }
+    ensures waits { IfOk result (λ traffic. (f : FiveTuple) → waiting_of traffic.intake.backlog f ≡ []) }
+    ensures room { IfOk result (λ traffic. traffic.intake.backlog.room ≡ room_of addresses.now) }
+    ensures passed { IfOk result (λ traffic. traffic.intake.record.passed ≡ []) }
 {
-    let work = Work {
+    let intake = Intake {
         buffer: Buffer::new(alloc)?,
         ids: DataIds::new(),
         backlog: Backlog::new(alloc, addresses, room_of(addresses))?,
-        wire: SocketRecord::new(),
+        record: SocketRecord::new(net),
     };
     Ok(Traffic {
         schedule: Schedule::new(alloc)?,
-        work,
+        intake,
     })
 }
 
@@ -113,6 +119,7 @@ fn bind<R: Net, A: Allocator + Copy, C: Clock>(
     system: &C,
     port: u16,
 ) -> Result<(), BindError>
+    ensures ip { sockets.new.binder.ip ≡ sockets.old.binder.ip }
     ensures first { sockets.new.first ≡ sockets.old.first }
     ensures last { sockets.new.last ≡ sockets.old.last }
     ensures draws { sockets.new.draws ≡ sockets.old.draws }
@@ -137,6 +144,7 @@ fn bind_allocated<R: Net, A: Allocator + Copy, C: Clock>(
     system: &C,
     table: &Table<A>,
 ) -> Result<(), BindError>
+    ensures ip { sockets.new.binder.ip ≡ sockets.old.binder.ip }
     ensures first { sockets.new.first ≡ sockets.old.first }
     ensures last { sockets.new.last ≡ sockets.old.last }
     ensures draws { sockets.new.draws ≡ sockets.old.draws }
@@ -154,6 +162,7 @@ fn bind_reserved<R: Net, A: Allocator + Copy, C: Clock>(
     system: &C,
     reserved: &[(u16, Reservation)],
 ) -> Result<(), BindError>
+    ensures ip { sockets.new.binder.ip ≡ sockets.old.binder.ip }
     ensures first { sockets.new.first ≡ sockets.old.first }
     ensures last { sockets.new.last ≡ sockets.old.last }
     ensures draws { sockets.new.draws ≡ sockets.old.draws }
@@ -223,6 +232,7 @@ impl<'c, A: Allocator + Copy> Setup<'c, A> {
     ) -> Result<SocketPorts<'a, R, A>, BindError>
         ensures range { IfOk result (λ sockets. ⟦<SocketPorts<'a, R, A> as RelayAddressGenerator>⟧.range sockets ≡ self.now.ports) }
         ensures draws { IfOk result (λ sockets. sockets.draws ≡ draws_of self.now.seed) }
+        ensures bound { IfOk result (λ sockets. sockets.binder.ip ≡ unwrap_or self.now.relay_bind self.now.config.now.relay) }
         ensures held { IfOk result (λ sockets. HaveSockets sockets.sockets (is_taken table.now.contents)) }
     {
         let registry = poll.registry().try_clone().map_err(|_| BindError::Socket)?;
@@ -237,7 +247,7 @@ impl<'c, A: Allocator + Copy> Setup<'c, A> {
     }
 
     /// All that a server needs beside its store, with a socket for each port that a table has, and for no other.
-    fn bind_beside<'a, R: Net + Drop, C: Clock, W: Watch + Drop>(
+    fn bind_beside<'a, R: Net + Files + Drop, C: Clock, W: Watch + Drop>(
         &self,
         alloc: A,
         net: &'a R,
@@ -248,23 +258,34 @@ impl<'c, A: Allocator + Copy> Setup<'c, A> {
     ) -> Result<Beside<'a, R, W, A>, BindError>
         ensures range { IfOk result (λ beside. ⟦<SocketPorts<'a, R, A> as RelayAddressGenerator>⟧.range beside.ports ≡ self.now.ports) }
         ensures draws { IfOk result (λ beside. beside.ports.draws ≡ draws_of self.now.seed) }
+        ensures bound { IfOk result (λ beside. beside.ports.binder.ip ≡ unwrap_or self.now.relay_bind self.now.config.now.relay) }
         ensures held { IfOk result (λ beside. HaveSockets beside.ports.sockets (is_taken table.now.contents)) }
-        ensures waits { IfOk result (λ beside. (f : FiveTuple) → waiting_of beside.traffic.work.backlog f ≡ []) }
-        ensures passed { IfOk result (λ beside. beside.traffic.work.wire.passed ≡ []) }
+        ensures waits { IfOk result (λ beside. (f : FiveTuple) → waiting_of beside.traffic.intake.backlog f ≡ []) }
+        ensures passed { IfOk result (λ beside. beside.traffic.intake.record.passed ≡ []) }
+        ensures room { IfOk result (λ beside. beside.traffic.intake.backlog.room ≡ room_of beside.listening.own.listening) }
         ensures own { IfOk result (λ beside. HasSockets beside.listening.sockets.items beside.listening.own.listening) }
+        ensures own_addresses { IfOk result (λ beside. AreOwnAs (record {
+          listening = self.now.listen.now;
+          relay = self.now.config.now.relay;
+          bound = unwrap_or self.now.relay_bind self.now.config.now.relay;
+          ports = self.now.ports;
+        }) beside.listening.own) }
     {
         let poll = Poll::new(net).map_err(|_| BindError::Socket)?;
         let ports = self.bind_ports(alloc, net, system, &poll, table)?;
         let listening = Listening::open(alloc, net, system, &poll, self.own(), sockets, watch)?;
         let addresses = listening.own.listening.as_slice();
-        let traffic = no_traffic(alloc, addresses)?;
-        let stand_in = no_traffic(alloc, addresses)?;
+        let traffic = no_traffic(alloc, net, addresses)?;
+        let placeholder = match self.commits {
+            Commits::EachTurn => None,
+            Commits::Paced => Some(no_traffic(alloc, net, addresses)?),
+        };
         Ok(Beside {
             ports,
             listening,
             waiting: Waiting::new(alloc, poll, self.awaited)?,
             traffic,
-            stand_in,
+            placeholder,
         })
     }
 
@@ -273,6 +294,9 @@ impl<'c, A: Allocator + Copy> Setup<'c, A> {
     /// system's clock. Then the store is carried over to version 2, if it can be, so that a start which finds a socket at fault leaves the
     /// store as it was. A refusal returns the disk.
     /// `watch` sees what the server sends.
+    ///
+    /// Where the server listens at 0.0.0.0 the machine's addresses are read of the kernel's list of routes. Until that can be read each
+    /// address counts as one of them: what a relay port sends to any peer at such a port is lost.
     ///
     /// ```rust
     /// let (relay_bind, commits, seed) = (ip(b"127.0.0.1"), Commits::EachTurn, [0; 32]);
@@ -287,7 +311,7 @@ impl<'c, A: Allocator + Copy> Setup<'c, A> {
         'a,
         D: Disk + Drop,
         H: AuthHandler + Drop,
-        R: Net + Drop,
+        R: Net + Files + Drop,
         C: Clock,
         W: Watch + Drop,
     >(
@@ -314,8 +338,20 @@ impl<'c, A: Allocator + Copy> Setup<'c, A> {
         // No socket has received or sent anything, and each listening address has one.
         ensures passed { IfOk result (λ serving. serving.passed ≡ []) }
         ensures own { IfOk result (λ serving. HasSockets serving.addresses.sockets serving.addresses.own.listening) }
+        // Its own addresses are those of the setup, and where the system was to choose a port, the one that it chose.
+        ensures own_addresses { IfOk result (λ serving. AreOwnAs (record {
+          listening = self.now.listen.now;
+          relay = self.now.config.now.relay;
+          bound = unwrap_or self.now.relay_bind self.now.config.now.relay;
+          ports = self.now.ports;
+        }) serving.addresses.own) }
+        // Relay ports are bound at the address of the configuration, if the setup has no other one.
+        ensures relay_bound { IfOk result (λ serving. ⟦<SocketPorts<'a, R, A> as RelaySockets>⟧.bound serving.server.machine.ports
+            ≡ unwrap_or self.now.relay_bind self.now.config.now.relay) }
+        // What was sent to each listening address has the same share of what may wait.
+        ensures room { IfOk result (λ serving. serving.backlog.room ≡ room_of serving.addresses.own.listening) }
         ensures manner { IfOk result (λ serving. serving.manner
-            ≡ record { commits = self.now.commits; burst = self.now.burst; batch = self.now.config.now.limits.acts }) }
+            ≡ record { commits = self.now.commits; burst = self.now.burst }) }
         // A store that isn't of version 1 keeps its content, and each one does at a refusal before it may be carried over.
         ensures same { IfOk result (λ serving. D.follows_crash_model serving.server.store.disk
             → (IsOfVersion Version.V1 (D.trace disk).now.bytes → ⊥)
@@ -356,7 +392,7 @@ impl<'c, A: Allocator + Copy> Setup<'c, A> {
             listening,
             waiting,
             traffic,
-            stand_in,
+            placeholder,
         } = beside;
         // This may write, so it comes behind all that a socket may refuse.
         let opened = match opened.carry_over(alloc) {
@@ -380,8 +416,7 @@ impl<'c, A: Allocator + Copy> Setup<'c, A> {
         let manner = Manner {
             commits: self.commits,
             burst: self.burst,
-            batch: self.config.limits().acts(),
         };
-        Ok(Serving::new(server, listening, waiting, traffic, stand_in, manner))
+        Ok(Serving::new(server, listening, waiting, traffic, placeholder, manner))
     }
 }

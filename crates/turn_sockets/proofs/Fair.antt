@@ -2,10 +2,10 @@
 use Rattle.std.proofs.Common.{arith, ◌≡◌, ◌≢◌, ℕ, zero, suc, ◌+◌, ◌-◌, ◌*◌, ◌<◌, ◌≤◌, ◌⊎◌, inl, inr, ◌==◌, ◌&&◌, not, Bool, true, false, if◌then◌else◌, nat_le, nat_lt, Some, None, List, [], ◌∷◌, ◌++◌, Contains, length, map, slice_get, sum_by, take, refl, sym, ap, ◌∙◌, subst, ⊎_elim, append-nil, mul-le-mul_left, mul-suc}
 use Rattle.std.proofs.lemmas.Bool.{and_cases, and_parts, eqb-false, eqb-true, leb-false, leb-true, ltb-false, ltb-true}
 use Rattle.std.proofs.lemmas.List.Sums.{sum_by-cons}
-use Rattle.turn_sockets.specs.Schedule.{Agenda, begun, begun_for_each, can_list, counted, is_relay, is_turn_of_clients, first_of, kept_back, next_from, next_of, source_of, with_all_ready, with_more, with_ready}
+use Rattle.turn_sockets.specs.Schedule.{Agenda, begun, begun_for_each, can_list, counted, is_relay, since_after, is_turn_of_clients, first_of, kept_back, next_from, next_of, source_of, with_all_ready, with_more, with_ready}
 use Rattle.turn_sockets.specs.declared.schedule.Source.{Source}
 use Rattle.turn_sockets.specs.declared.schedule.Source.TheVariants.{Clients, Fresh, Nothing, Peers}
-use Rattle.turn_sockets.specs.Fairness.{AreRounds, AreVisits, ComesWithin, EachIsVisited, FreshComeFirst, IsVisited, NoneStarves, Round, Visit, after_visit}
+use Rattle.turn_sockets.specs.Fairness.{AreRounds, AreVisits, ComesWithin, EachIsVisited, FreshComeFirst, IsVisited, NoneStarves, Round, Visit, after_visit, more}
 
 -- ---- What is next
 
@@ -64,25 +64,25 @@ module _ (a : Agenda) where
   why = why_at (is_turn_of_clients a) (length a.fresh == 0) (a.left == 0) (length a.peers == 0) (length a.clients == 0) refl refl refl refl refl
 
 -- a socket is the first of a list, and what is listed without it is made of the others
-record TakesFirst (list : List ℕ) (without : List ℕ → Agenda) (token : ℕ) (rest : Agenda) : Type 0 where
+record TakesFirst (list : List ℕ) (without : ℕ → List ℕ → Agenda) (token : ℕ) (rest : Agenda) : Type 0 where
   others : List ℕ
   first : list ≡ token ∷ others
-  rest_is : rest ≡ without others
+  rest_is : rest ≡ without token others
 
-first_is : {token : ℕ} {rest : Agenda} (xs : List ℕ) (f : List ℕ → Agenda) → first_of xs f ≡ Some (token, rest) → TakesFirst xs f token rest
+first_is : {token : ℕ} {rest : Agenda} (xs : List ℕ) (f : ℕ → List ℕ → Agenda) → first_of xs f ≡ Some (token, rest) → TakesFirst xs f token rest
 first_is [] f is = absurd (cc)
 first_is {token = token} {rest = rest} (x ∷ xs) f is =
-    let same : ◌≡◌ {A = ℕ × Agenda} (x, f xs) (token, rest) = cc in
-    record { others = xs; first = ap (λ (p : ℕ × Agenda). p.0 ∷ xs) same; rest_is = sym (ap (λ (p : ℕ × Agenda). p.1) same) }
+    let same : ◌≡◌ {A = ℕ × Agenda} (x, f x xs) (token, rest) = cc in
+    record { others = xs; first = ap (λ (p : ℕ × Agenda). p.0 ∷ xs) same; rest_is = sym (ap (λ (p : ℕ × Agenda). p.1) same) ∙ ap (λ (p : ℕ × Agenda). f p.0 xs) same }
 
-none_first : (xs : List ℕ) (f : List ℕ → Agenda) → first_of xs f ≡ None → xs ≡ []
+none_first : (xs : List ℕ) (f : ℕ → List ℕ → Agenda) → first_of xs f ≡ None → xs ≡ []
 none_first [] f is = refl
 none_first (x ∷ xs) f is = absurd (cc)
 
 data Takes (a : Agenda) (token : ℕ) (rest : Agenda) : Type 0 where
-  of_clients : TakesFirst a.clients (λ others. record a { clients = others; since = 0; left = a.left - 1 }) token rest → Why a Clients → Takes a token rest
-  of_fresh : TakesFirst a.fresh (λ others. record a { fresh = others; since = counted a.since }) token rest → Why a Fresh → Takes a token rest
-  of_peers : TakesFirst a.peers (λ others. record a { peers = others; since = counted a.since; left = a.left - 1 }) token rest → Why a Peers → Takes a token rest
+  of_clients : TakesFirst a.clients (λ first others. record a { clients = others; since = 0; left = a.left - 1 }) token rest → Why a Clients → Takes a token rest
+  of_fresh : TakesFirst a.fresh (λ first others. record a { fresh = others; since = since_after first a.since }) token rest → Why a Fresh → Takes a token rest
+  of_peers : TakesFirst a.peers (λ first others. record a { peers = others; since = counted a.since; left = a.left - 1 }) token rest → Why a Peers → Takes a token rest
 
 -- what is next is the first of one of the three lists
 takes : {a rest : Agenda} {token : ℕ} → next_of a ≡ Some (token, rest) → Takes a token rest
@@ -128,9 +128,10 @@ visit_extends_if true a token = extends_if (can_list a token) (is_relay token) a
 visit_extends_if false a token = same_extends a
 
 -- after a visit of the first of a list
-extends : {list : List ℕ} {without : List ℕ → Agenda} {token : ℕ} {rest : Agenda} (t : TakesFirst list without token rest) (v : Visit)
-    → Extends (without t.others) (after_visit rest v)
-extends {without = without} t v = subst (λ (b : Agenda). Extends (without t.others) (after_visit b v)) (sym t.rest_is) (visit_extends_if v.more (without t.others) v.token)
+extends : {list : List ℕ} {without : ℕ → List ℕ → Agenda} {token : ℕ} {rest : Agenda} (t : TakesFirst list without token rest) (v : Visit)
+    → Extends (without token t.others) (after_visit rest v)
+extends {without = without} {token = token} t v =
+    subst (λ (b : Agenda). Extends (without token t.others) (after_visit b v)) (sym t.rest_is) (visit_extends_if (more v) (without token t.others) v.token)
 
 -- sockets that become ready are fresh
 record AddsFresh (a b : Agenda) : Type 0 where
@@ -138,15 +139,14 @@ record AddsFresh (a b : Agenda) : Type 0 where
   clients : b.clients ≡ a.clients
   peers : b.peers ≡ a.peers
 
-adds_if : (can relay : Bool) (a : Agenda) (token : ℕ) → AddsFresh a (if can then (if relay then record a { fresh = a.fresh ++ token ∷ [] } else record a { fresh = token ∷ a.fresh }) else a)
-adds_if false relay a token = record { since = refl; clients = refl; peers = refl }
-adds_if true true a token = record { since = refl; clients = refl; peers = refl }
-adds_if true false a token = record { since = refl; clients = refl; peers = refl }
+adds_if : (can : Bool) (a : Agenda) (token : ℕ) → AddsFresh a (if can then record a { fresh = a.fresh ++ token ∷ [] } else a)
+adds_if false a token = record { since = refl; clients = refl; peers = refl }
+adds_if true a token = record { since = refl; clients = refl; peers = refl }
 
 adds_all : (a : Agenda) (tokens : List ℕ) → AddsFresh a (with_all_ready a tokens)
 adds_all a [] = record { since = refl; clients = refl; peers = refl }
 adds_all a (token ∷ tokens) =
-    let first = adds_if (can_list a token) (is_relay token) a token in
+    let first = adds_if (can_list a token) a token in
     let others = adds_all (with_ready a token) tokens in
     record { since = others.since ∙ first.since; clients = others.clients ∙ first.clients; peers = others.peers ∙ first.peers }
 
@@ -198,7 +198,7 @@ comes : (most token : ℕ) (visits : List Visit) (a end : Agenda) (place : ℕ) 
     → ComesWithin token (most * ((a.left - 2) + place)) visits
 comes most token [] a end place same over enough there = absurd (not_empty a.fresh place token there (ap (λ (b : Agenda). b.fresh) same ∙ (is_over end over).0))
 comes most token (v ∷ vs) a end place are over enough there =
-    comes_by most token a are.0 v vs are.2 (λ next_place left at. comes most token vs (after_visit are.0 v) end next_place are.3 over left at) (takes are.1) place there enough
+    comes_by most token a are.0 v vs are.2.reads (λ next_place left at. comes most token vs (after_visit are.0 v) end next_place are.3 over left at) (takes are.1) place there enough
 
 pub fresh_first : FreshComeFirst
 fresh_first most a end visits place token are over there = comes most token visits (begun a) end place are over (omega arith) there

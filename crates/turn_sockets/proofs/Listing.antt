@@ -47,9 +47,8 @@ can_list_is token tested is are same test was =
 -- ---- What comes of a socket that became ready, or has more
 
 module _ (a : Agenda) (token : ℕ) where
-  pub ready_at : (can relay : Bool) → can_list a token ≡ can → is_relay token ≡ relay
-      → with_ready a token ≡ (if can then (if relay then record a { fresh = a.fresh ++ token ∷ [] } else record a { fresh = token ∷ a.fresh }) else a)
-  ready_at can relay can_is relay_is = (λ i. if can_is i then (if relay_is i then record a { fresh = a.fresh ++ token ∷ [] } else record a { fresh = token ∷ a.fresh }) else a)
+  pub ready_at : (can : Bool) → can_list a token ≡ can → with_ready a token ≡ (if can then record a { fresh = a.fresh ++ token ∷ [] } else a)
+  ready_at can can_is = (λ i. if can_is i then record a { fresh = a.fresh ++ token ∷ [] } else a)
 
   pub more_at : (can relay : Bool) → can_list a token ≡ can → is_relay token ≡ relay
       → with_more a token ≡ (if can then (if relay then record a { peers = a.peers ++ token ∷ [] } else record a { clients = a.clients ++ token ∷ [] }) else a)

@@ -1,21 +1,40 @@
 -- How long a socket waits for its turn.
-use Rattle.std.specs.Prelude.{◌≡◌, ℕ, ◌+◌, ◌*◌, ◌<◌, ◌≤◌, ◌⊎◌, Bool, if◌then◌else◌, Some, None, List, [], ◌∷◌, ◌++◌, Contains, length, map, slice_get, sum_by, take}
+use Rattle.std.specs.Prelude.{◌≡◌, ℕ, ◌+◌, ◌*◌, ◌<◌, ◌≤◌, ◌⊎◌, Bool, false, true, if◌then◌else◌, Some, None, List, [], ◌∷◌, ◌++◌, Contains, length, map, slice_get, sum_by, take}
 use Rattle.turn_sockets.specs.Schedule.{Agenda, begun, begun_for_each, next_of, with_all_ready, with_more}
 
--- A visit of a socket: how many datagrams were read of it, and whether it may have more.
+-- How a visit ends: a read finds that no datagram waits, a read fails, or as many datagrams were read as a visit may read.
+pub data Ending : Type 0 where
+  Empty Failed Full : Ending
+
+-- A visit of a socket: how many datagrams were read of it, and how it ended.
 pub record Visit : Type 0 where
   pub token : ℕ
   pub reads : ℕ
-  pub more : Bool
+  pub ended : Ending
+
+-- whether a socket may have more after a visit
+abbrev pub may_have_more : Ending → Bool
+may_have_more Empty = false
+may_have_more Failed = true
+may_have_more Full = true
+
+-- the same of a visit
+abbrev pub more : Visit → Bool
+more v = may_have_more v.ended
+
+-- A visit may read so many datagrams.
+pub record IsVisit (most : ℕ) (v : Visit) : Type 0 where
+  pub reads : v.reads ≤ most
+  pub full : v.ended ≡ Full → v.reads ≡ most
 
 -- what is listed after a visit
 abbrev pub after_visit : Agenda → Visit → Agenda
-after_visit a v = if v.more then with_more a v.token else a
+after_visit a v = if more v then with_more a v.token else a
 
 -- Visits in a row, each of the socket that was next, of which at most so many datagrams were read. They led from one agenda to another.
 abbrev pub AreVisits : ℕ → Agenda → List Visit → Agenda → Type 0
 AreVisits most a [] end = a ≡ end
-AreVisits most a (v ∷ vs) end = (rest : Agenda) × (next_of a ≡ Some (v.token, rest)) × (v.reads ≤ most) × AreVisits most (after_visit rest v) vs end
+AreVisits most a (v ∷ vs) end = (rest : Agenda) × (next_of a ≡ Some (v.token, rest)) × IsVisit most v × AreVisits most (after_visit rest v) vs end
 
 -- Visits led from one agenda to the end of a round.
 pub record IsRound (most : ℕ) (old new : Agenda) : Type 0 where

@@ -1,6 +1,7 @@
 pub mod Addresses
 pub mod Backlog
 pub mod Fairness
+pub mod Machine
 pub mod Moments
 pub mod Own
 pub mod Pace

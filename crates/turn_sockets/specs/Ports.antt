@@ -1,5 +1,5 @@
 -- Relay ports with a socket each. A range is its first and its last port.
-use Rattle.std.specs.Prelude.{ℕ, ◌≡◌, ◌+◌, ◌-◌, ◌%◌, ◌⊎◌, ⊤, Bool, false, IsSome, is_some, List, Option, Some, None}
+use Rattle.std.specs.Prelude.{ℕ, ◌≡◌, ◌+◌, ◌-◌, ◌%◌, ◌<◌, ◌≤◌, ◌⊎◌, ⊤, Bool, false, Contains, IsSome, is_some, List, Option, Some, None}
 use Rattle.std.specs.Ordering.{nat_cmp}
 use Rattle.std.specs.BTreeMap.{BTreeMap, get, insert_entry, IsUnchanged}
 use Rattle.rand_chacha.specs.ChaCha.{ChaCha, next_word, of_seed}
@@ -13,34 +13,34 @@ use Rattle.turn_sockets.specs.declared.ports.Search.TheVariants.{Found, Nothing,
 use Rattle.turn_sockets.specs.declared.ports.Wanted.{Wanted}
 use Rattle.turn_sockets.specs.declared.ports.Wanted.TheVariants.{Port, Pair}
 
--- each port's socket is bound at it
-abbrev pub AreAtPorts : BTreeMap ℕ Endpoint → Type 0
-AreAtPorts sockets = (port : ℕ) (s : Endpoint) → get nat_cmp sockets port ≡ Some s → s.port ≡ port
+-- each port's socket is bound at it, on one IP address
+abbrev pub AreAtPorts : ℕ → BTreeMap ℕ Endpoint → Type 0
+AreAtPorts ip sockets = (port : ℕ) (s : Endpoint) → get nat_cmp sockets port ≡ Some s → s ≡ record { ip = ip; port = port }
 
--- a port has a socket, which is bound at it
-abbrev pub HasItsSocket : BTreeMap ℕ Endpoint → ℕ → Type 0
-HasItsSocket sockets port = (s : Endpoint) × (get nat_cmp sockets port ≡ Some s) × (s.port ≡ port)
+-- a port has a socket, which is bound at it, on an IP address
+abbrev pub HasItsSocket : ℕ → BTreeMap ℕ Endpoint → ℕ → Type 0
+HasItsSocket ip sockets port = (s : Endpoint) × (get nat_cmp sockets port ≡ Some s) × (s ≡ record { ip = ip; port = port })
 
--- a port of which there was no socket has one, and each other port is as before
-abbrev pub IsBound : BTreeMap ℕ Endpoint → BTreeMap ℕ Endpoint → ℕ → Type 0
-IsBound old new port = (get nat_cmp old port ≡ None) × HasItsSocket new port
+-- a port of which there was no socket has one, on an IP address, and each other port is as before
+abbrev pub IsBound : ℕ → BTreeMap ℕ Endpoint → BTreeMap ℕ Endpoint → ℕ → Type 0
+IsBound ip old new port = (get nat_cmp old port ≡ None) × HasItsSocket ip new port
     × ((other : ℕ) → ¬ (other ≡ port) → get nat_cmp new other ≡ get nat_cmp old other)
 
 -- the entries are as before, with one of a port in its place
 abbrev pub Inserts : {X : Type 0} → BTreeMap ℕ X → BTreeMap ℕ X → ℕ → Type 0
 Inserts {X} old new port = (socket : X) × (new.entries ≡ insert_entry nat_cmp old.entries port socket)
 
--- of a port and the next one there was no socket, both have one, and each other port is as before
-abbrev pub AreBound : BTreeMap ℕ Endpoint → BTreeMap ℕ Endpoint → ℕ → Type 0
-AreBound old new port = (get nat_cmp old port ≡ None) × (get nat_cmp old (port + 1) ≡ None)
-    × HasItsSocket new port × HasItsSocket new (port + 1)
+-- of a port and the next one there was no socket, both have one, on an IP address, and each other port is as before
+abbrev pub AreBound : ℕ → BTreeMap ℕ Endpoint → BTreeMap ℕ Endpoint → ℕ → Type 0
+AreBound ip old new port = (get nat_cmp old port ≡ None) × (get nat_cmp old (port + 1) ≡ None)
+    × HasItsSocket ip new port × HasItsSocket ip new (port + 1)
     × ((other : ℕ) → ¬ (other ≡ port) → ¬ (other ≡ port + 1) → get nat_cmp new other ≡ get nat_cmp old other)
 
--- what was found is bound, a port or a port and the next one; where nothing was, the sockets are as before
-abbrev pub Binds : Wanted → BTreeMap ℕ Endpoint → BTreeMap ℕ Endpoint → Option ℕ → Type 0
-Binds wanted old new None = IsUnchanged old new
-Binds (Port even) old new (Some port) = IsBound old new port
-Binds Pair old new (Some port) = AreBound old new port
+-- what was found is bound on an IP address, a port or a port and the next one; where nothing was, the sockets are as before
+abbrev pub Binds : ℕ → Wanted → BTreeMap ℕ Endpoint → BTreeMap ℕ Endpoint → Option ℕ → Type 0
+Binds ip wanted old new None = IsUnchanged old new
+Binds ip (Port even) old new (Some port) = IsBound ip old new port
+Binds ip Pair old new (Some port) = AreBound ip old new port
 
 -- these ports have a socket, and no other
 abbrev pub HaveSockets : {X : Type 0} → BTreeMap ℕ X → (ℕ → Bool) → Type 0
@@ -61,6 +61,22 @@ Tries range taken wanted port None = ¬ IsWanted range taken wanted port
 Tries range taken wanted port (Some Done) = IsWanted range taken wanted port
 Tries range taken wanted port (Some Unavailable) = ⊤
 Tries range taken wanted port (Some bound.Exhausted) = ⊤
+
+-- the ports that were asked for, in order, each with what came of it
+abbrev pub Asked : Type 0
+Asked = List (ℕ × Bound)
+
+-- a port was asked for, and can't be bound now
+abbrev pub WasRefused : Asked → ℕ → Type 0
+WasRefused asked port = Contains asked (port, Unavailable)
+
+-- a port was asked for, and the system has no socket for any
+abbrev pub IsExhausted : Asked → Type 0
+IsExhausted asked = (port : ℕ) × Contains asked (port, bound.Exhausted)
+
+-- what was noted stays noted
+abbrev pub Keeps : Asked → Asked → Type 0
+Keeps old new = (one : ℕ × Bound) → Contains old one → Contains new one
 
 -- why what is wanted at a port was left out: the port, or of a pair one of the two, has a socket or was refused
 abbrev pub IsLeftOut : {X : Type 0} → (ℕ → Type 0) → BTreeMap ℕ X → Wanted → ℕ → Type 0
@@ -93,12 +109,35 @@ Searches range taken wanted Exhausted = ⊤
 abbrev pub AreLeftOut : {X : Type 0} → (ℕ → Type 0) → BTreeMap ℕ X → ℕ × ℕ → (ℕ → Bool) → Wanted → Type 0
 AreLeftOut refuses sockets range taken wanted = (port : ℕ) → IsWanted range taken wanted port → IsLeftOut refuses sockets wanted port
 
--- why a search of a range found nothing: a search that failed came to each port of it
+-- what a search of a range passed over: all that is wanted below what it found; a search that failed came to each port
 abbrev pub LeavesOutEach : {X : Type 0} → (ℕ → Type 0) → Type 0 → BTreeMap ℕ X → ℕ × ℕ → (ℕ → Bool) → Wanted → Search → Type 0
-LeavesOutEach refuses exhausted sockets range taken wanted (Found port) = ⊤
+LeavesOutEach refuses exhausted sockets range taken wanted (Found port) =
+    (other : ℕ) → other < port → IsWanted range taken wanted other → IsLeftOut refuses sockets wanted other
 LeavesOutEach refuses exhausted sockets range taken wanted Nothing = ⊤
 LeavesOutEach refuses exhausted sockets range taken wanted Failed = AreLeftOut refuses sockets range taken wanted
 LeavesOutEach refuses exhausted sockets range taken wanted Exhausted = exhausted
+
+-- One port comes before another one in a search that begins at a place: those from it on come first, in order, and then those below it.
+abbrev pub ComesBefore : ℕ → ℕ → ℕ → Type 0
+ComesBefore from other port = ((from ≤ other) × (port < from)) ⊎ ((other < port) × ((from ≤ other) ⊎ (port < from)))
+
+-- each place where what is wanted is free, and which comes before this port, was left out
+abbrev pub IsFirstFrom : {X : Type 0} → (ℕ → Type 0) → BTreeMap ℕ X → ℕ × ℕ → ℕ → (ℕ → Bool) → Wanted → ℕ → Type 0
+IsFirstFrom refuses sockets range from taken wanted port =
+    (other : ℕ) → ComesBefore from other port → IsWanted range taken wanted other → IsLeftOut refuses sockets wanted other
+
+-- the same of a search of a range that begins at a place
+abbrev pub LeavesOutFrom : {X : Type 0} → (ℕ → Type 0) → Type 0 → BTreeMap ℕ X → ℕ × ℕ → ℕ → (ℕ → Bool) → Wanted → Search → Type 0
+LeavesOutFrom refuses exhausted sockets range from taken wanted (Found port) = IsFirstFrom refuses sockets range from taken wanted port
+LeavesOutFrom refuses exhausted sockets range from taken wanted Nothing = ⊤
+LeavesOutFrom refuses exhausted sockets range from taken wanted Failed = AreLeftOut refuses sockets range taken wanted
+LeavesOutFrom refuses exhausted sockets range from taken wanted Exhausted = exhausted
+
+-- What is found of a range is the first from a place on, but for what has a socket or was refused, as is noted. None is found only
+-- where all was left out for this, or the system has no socket for any port.
+abbrev pub IsDrawn : {X : Type 0} → Asked → BTreeMap ℕ X → ℕ × ℕ → ℕ → (ℕ → Bool) → Wanted → Option ℕ → Type 0
+IsDrawn asked sockets range from taken wanted (Some port) = IsFirstFrom (WasRefused asked) sockets range from taken wanted port
+IsDrawn asked sockets range from taken wanted None = AreLeftOut (WasRefused asked) sockets range taken wanted ⊎ IsExhausted asked
 
 -- the port that a search found, of a pair the first
 abbrev pub found_port : Search → Option ℕ

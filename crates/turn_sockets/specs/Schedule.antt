@@ -12,7 +12,7 @@ pub record Agenda : Type 0 where
   pub clients : List ℕ
   -- the relay sockets that were visited and may have more
   pub peers : List ℕ
-  -- how many others were visited since one of `clients` was, at most 4
+  -- how many relay sockets were visited since a listening one was, at most 4
   pub since : ℕ
   -- how many visits of `clients` and `peers` there may still be in this round
   pub left : ℕ
@@ -37,10 +37,9 @@ is_listed a token = list_any (nat_eq token) (a.fresh ++ (a.clients ++ a.peers))
 abbrev pub can_list : Agenda → ℕ → Bool
 can_list a token = is_token token && not (is_listed a token)
 
--- a socket became ready: a listening one comes before the other fresh ones, a relay socket after them; one that is listed stays where it is
+-- a socket became ready: it comes after the other fresh ones; one that is listed stays where it is
 abbrev pub with_ready : Agenda → ℕ → Agenda
-with_ready a token =
-    if can_list a token then (if is_relay token then record a { fresh = a.fresh ++ token ∷ [] } else record a { fresh = token ∷ a.fresh }) else a
+with_ready a token = if can_list a token then record a { fresh = a.fresh ++ token ∷ [] } else a
 
 -- sockets became ready, one after another
 abbrev pub with_all_ready : Agenda → List ℕ → Agenda
@@ -64,7 +63,7 @@ abbrev pub kept_back : List ℕ → ℕ
 kept_back [] = 0
 kept_back (x ∷ xs) = 2
 
--- one of `clients` is visited after every four others
+-- one of `clients` is visited where four relay sockets were since a listening one was
 abbrev pub is_turn_of_clients : Agenda → Bool
 is_turn_of_clients a = not (length a.clients == 0) && (nat_le 4 a.since && nat_lt (kept_back a.fresh) a.left)
 
@@ -78,20 +77,24 @@ source_of a =
     else (if not (length a.clients == 0) then Clients
     else Nothing))))
 
--- the first of a list, with what is made of the rest
-abbrev pub first_of : {X : Type 0} → List ℕ → (List ℕ → X) → Option (ℕ × X)
+-- the first of a list, with what is made of it and the rest
+abbrev pub first_of : {X : Type 0} → List ℕ → (ℕ → List ℕ → X) → Option (ℕ × X)
 first_of [] f = None
-first_of (x ∷ xs) f = Some (x, f xs)
+first_of (x ∷ xs) f = Some (x, f x xs)
 
--- the count of others since one of `clients` was visited, after another one
+-- the count of relay sockets since a listening one was visited, after a relay socket
 abbrev pub counted : ℕ → ℕ
 counted since = min (since + 1) 4
 
+-- that count after a visit of any socket
+abbrev pub since_after : ℕ → ℕ → ℕ
+since_after token since = if is_relay token then counted since else 0
+
 -- the next socket of a source, and what is listed without it
 abbrev pub next_from : Source → Agenda → Option (ℕ × Agenda)
-next_from Fresh a = first_of a.fresh (λ rest. record a { fresh = rest; since = counted a.since })
-next_from Peers a = first_of a.peers (λ rest. record a { peers = rest; since = counted a.since; left = a.left - 1 })
-next_from Clients a = first_of a.clients (λ rest. record a { clients = rest; since = 0; left = a.left - 1 })
+next_from Fresh a = first_of a.fresh (λ token rest. record a { fresh = rest; since = since_after token a.since })
+next_from Peers a = first_of a.peers (λ token rest. record a { peers = rest; since = counted a.since; left = a.left - 1 })
+next_from Clients a = first_of a.clients (λ token rest. record a { clients = rest; since = 0; left = a.left - 1 })
 next_from Nothing a = None
 
 -- the socket that is visited next, and what is listed without it; none where the round is over

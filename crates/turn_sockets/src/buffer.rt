@@ -1,6 +1,6 @@
 //! Datagrams as they are received, and the ids of Data indications.
 
-ghost use Rattle.std.specs.Prelude.{◌≡◌, ◌+◌, ◌%◌, ◌^◌, ◌++◌, [], ◌↔◌};
+ghost use Rattle.std.specs.Prelude.{◌≡◌, ◌+◌, ◌%◌, ◌^◌, ◌++◌, ◌∷◌, [], ◌↔◌};
 ghost use Rattle.std.specs.Int.{to_be_bytes, w32, w64};
 ghost use Rattle.std.specs.IoError.{error_kind};
 ghost use Rattle.std.specs.declared.io.ErrorKind.TheVariants.{WouldBlock};
@@ -86,10 +86,17 @@ pub enum Received<'b> {
 /// says nothing of what waits.
 fn failure_of<'b>(error: &Error) -> Received<'b>
     ensures nothing { (result ≡ received.Nothing) ↔ (error_kind error.now ≡ WouldBlock) }
-    ensures none { (at : Endpoint) → passed_by at result ≡ [] }
 {
     match error.kind() {
         ErrorKind::WouldBlock => Received::Nothing,
+        _ => Received::Failed,
+    }
+}
+
+/// The datagram of so many bytes at the beginning of a buffer.
+fn datagram_in<'b>(buffer: &'b [u8], size: usize, from: SocketAddr) -> Received<'b> {
+    match (buffer.get(..size), endpoint_of(from)) {
+        (Some(bytes), Some(from)) => Received::Datagram { bytes, from },
         _ => Received::Failed,
     }
 }
@@ -108,24 +115,19 @@ impl<A: Allocator> Buffer<A> {
         })
     }
 
-    /// Receives a datagram of a socket, and notes it.
+    /// Receives a datagram of a socket, and notes what was found.
     pub fn receive<S: DatagramSocket>(
         &mut self,
         socket: &S,
         wire: &mut SocketRecord,
     ) -> Received<'_>
-        ensures { wire.new.passed ≡ wire.old.passed ++ passed_by (S.bound_at socket.now) result }
+        ensures { wire.new.passed ≡ wire.old.passed ++ passed_by (S.bound_at socket.now) result ∷ [] }
     {
-        let (size, from) = match socket.receive(self.bytes.as_mut_slice()) {
-            Ok(found) => found,
-            Err(error) => return failure_of(&error),
+        let found = match socket.receive(self.bytes.as_mut_slice()) {
+            Ok((size, from)) => datagram_in(self.bytes.as_slice(), size, from),
+            Err(error) => failure_of(&error),
         };
-        match (self.bytes.as_slice().get(..size), endpoint_of(from)) {
-            (Some(bytes), Some(from)) => {
-                wire.note(false, socket.at(), from, bytes);
-                Received::Datagram { bytes, from }
-            }
-            _ => Received::Failed,
-        }
+        wire.note_read(socket.at(), found);
+        found
     }
 }

@@ -4,17 +4,19 @@
 
 mod address;
 mod backlog;
+mod bind_record;
+mod binder;
 mod buffer;
 mod held;
 mod laws;
 mod listening;
+mod machine;
 mod moment;
 mod own;
 mod pace;
 mod ports;
 mod record;
 mod schedule;
-mod search;
 mod socket;
 mod socket_option;
 
@@ -24,6 +26,7 @@ pub use buffer::{Buffer, DataIds, DatagramSocket, Received};
 pub use held::{MAX_HELD, are_at, held_count, take_held};
 pub use laws::relay_ports_are_one_address;
 pub use listening::{ListeningAddresses, MAX_LISTENING};
+pub use machine::{MachineAddresses, Prefix};
 pub use moment::{Time, moment_at, moment_now};
 pub use own::OwnAddresses;
 pub use pace::Pace;

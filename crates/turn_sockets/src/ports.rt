@@ -1,25 +1,27 @@
 //! Relay ports, each with a socket.
 
-ghost use Rattle.std.specs.Prelude.{◌≡◌, ◌≢◌, ◌<◌, ◌≤◌, ◌+◌, ◌^◌, ◌⊎◌, ℕ, Bool, true, [], Ok, Some, None, IfOk, OnErr, option_map, IfSome};
+ghost use Rattle.std.specs.Prelude.{◌≡◌, ◌≢◌, ◌<◌, ◌≤◌, ◌+◌, ◌^◌, ◌⊎◌, ◌++◌, ℕ, Bool, true, [], Ok, Some, None, IfOk, OnErr, option_map, IfSome};
 ghost use Rattle.std.specs.BTreeMap.{IsUnchanged, Updates, get};
 ghost use Rattle.std.specs.Ordering.{nat_cmp};
 ghost use Rattle.rand_chacha.specs.ChaCha.{next_word};
 ghost use Rattle.turn_ports.specs.Ports.{Failed, MayPick, MayPickPair, has_failed, with_pair, with_port, without_port};
-ghost use Rattle.turn_sockets.specs.Ports.{AreAtPorts, Binds, HaveSockets, Inserts, IsBound, MayFind, drawn_place, draws_of};
+ghost use Rattle.turn_sockets.specs.Ports.{AreAtPorts, Binds, HaveSockets, IsBound, IsDrawn, MayFind, drawn_place, draws_of};
 ghost use Rattle.turn_sockets.specs.declared.ports.Bound.TheVariants as binds;
 ghost use Rattle.turn_sockets.specs.declared.ports.Wanted.TheVariants as wants;
 
-use crate::search::PortBinder;
+use crate::bind_record::BindRecord;
+use crate::binder::Binder;
+use crate::machine::MachineAddresses;
 use crate::socket::BoundSocket;
-use crate::socket_option::RECEIVE_BUFFER;
 use mio::Registry;
 use rand_chacha::ChaCha20Rng;
 use rand_core::SeedableRng;
 use rand_core::utils::NextWord;
 use std::alloc::{AllocError, Allocator, Global};
 use std::collections::BTreeMap;
-use std::io::{self, Error, ErrorKind};
+use std::io;
 use std::net::Net;
+use std::rt::Files;
 use turn_ports::{PortRange, PortSet, RelayAddressGenerator};
 use turn_types::Endpoint;
 
@@ -56,15 +58,6 @@ pub(crate) enum Search {
     Exhausted,
 }
 
-/// What opens the sockets of one address.
-#[derive(Drop)]
-pub(crate) struct Binder<'a, R: Net> {
-    net: &'a R,
-    registry: Registry,
-    // The address on which sockets are bound.
-    ip: u32,
-}
-
 /// The relay ports of one address. Each port that was picked has a socket, which `poll` watches with the port as its token.
 ///
 /// The search for a free port begins at one that is drawn at random, so that nobody can guess which port the next allocation has
@@ -77,9 +70,10 @@ pub struct SocketPorts<'a, R: Net, A: Allocator = Global> {
     draws: ChaCha20Rng,
     sockets: BTreeMap<u16, BoundSocket, A>,
     failures: u64,
+    asked: BindRecord,
     ghost ordered: { first ≤ last },
-    // Each socket is bound at its port.
-    ghost at_ports: { AreAtPorts sockets },
+    // Each socket is bound at its port, on the address of the binder.
+    ghost at_ports: { AreAtPorts binder.ip sockets },
 }
 
 // By hand: a derived drop is one step for each field in the proof of each caller.
@@ -92,60 +86,8 @@ impl<'a, R: Net, A: Allocator> Drop for SocketPorts<'a, R, A> {
             draws: _,
             sockets: _,
             failures: _,
+            asked: _,
         } = self;
-    }
-}
-
-/// Whether an error of a bind is of its port alone.
-fn is_of_port(error: &Error) -> bool {
-    matches!(
-        error.kind(),
-        ErrorKind::AddrInUse | ErrorKind::PermissionDenied
-    )
-}
-
-impl<'a, R: Net> Binder<'a, R> {
-    fn open(&self, port: u16) -> io::Result<BoundSocket>
-        ensures { port ≢ 0 → IfOk result (λ s. s.port ≡ port) }
-    {
-        let mut socket = BoundSocket::bind(self.net, Endpoint { ip: self.ip, port })?;
-        socket.watch(&self.registry, usize::from(port))?;
-        // A smaller buffer is no fault.
-        let _ = socket.set_receive_buffer(RECEIVE_BUFFER);
-        Ok(socket)
-    }
-}
-
-impl<'a, R: Net> PortBinder for Binder<'a, R> {
-    ghost use Rattle.std.specs.Prelude.{⊤};
-
-    ghost refuses = { λ _ _. ⊤ };
-
-    ghost is_exhausted = { λ _. ⊤ };
-
-    /// Port 0 isn't bound, since the system would take another one.
-    fn bind<A: Allocator + Copy>(
-        &self,
-        sockets: &mut BTreeMap<u16, BoundSocket, A>,
-        port: u16,
-    ) -> Result<Bound, AllocError>
-        requires { get nat_cmp sockets.old port ≡ None }
-        ensures bound { result ≡ Ok binds.Done → IsBound sockets.old sockets.new port }
-        ensures inserted { result ≡ Ok binds.Done → Inserts sockets.old sockets.new port }
-        ensures refused { result ≢ Ok binds.Done → IsUnchanged sockets.old sockets.new }
-        ensures never { port ≡ 0 → result ≢ Ok binds.Done }
-    {
-        if port == 0 {
-            return Ok(Bound::Unavailable);
-        }
-        match self.open(port) {
-            Ok(socket) => {
-                sockets.insert(port, socket)?;
-                Ok(Bound::Done)
-            }
-            Err(error) if is_of_port(&error) => Ok(Bound::Unavailable),
-            Err(_) => Ok(Bound::Exhausted),
-        }
     }
 }
 
@@ -160,6 +102,7 @@ impl<'a, R: Net, A: Allocator + Copy> SocketPorts<'a, R, A> {
         ports: PortRange,
         seed: [u8; 32],
     ) -> SocketPorts<'a, R, A>
+        ensures ip { result.binder.ip ≡ ip }
         ensures first { result.first ≡ ports.0 }
         ensures last { result.last ≡ ports.1 }
         ensures draws { result.draws ≡ draws_of seed }
@@ -174,50 +117,53 @@ impl<'a, R: Net, A: Allocator + Copy> SocketPorts<'a, R, A> {
             draws: ChaCha20Rng::from_seed(seed),
             sockets: BTreeMap::new(alloc),
             failures: 0,
+            asked: BindRecord::new(),
         }
     }
 
     /// The socket of a port.
     pub fn socket(&self, port: u16) -> Option<&BoundSocket>
         ensures found { option_map (λ s. s.now) result ≡ get nat_cmp self.now.sockets port }
-        ensures at { IfSome result (λ s. s.now.port ≡ port) }
+        ensures at { IfSome result (λ s. s.now ≡ record { ip = self.now.binder.ip; port = port }) }
     {
         self.sockets.get(&port)
     }
 
-    /// Whether an address is one of this machine: a socket is bound at it, at any port, and released.
-    pub fn is_local(&self, ip: u32) -> bool {
-        BoundSocket::bind(self.binder.net, Endpoint { ip, port: 0 }).is_ok()
-    }
-
-    /// Whether the address of the relay ports is one of this machine.
+    /// Whether the address of the relay ports is one of this machine: a socket is bound at it, at any port, and released.
     pub fn has_address(&self) -> bool {
-        self.is_local(self.binder.ip)
+        let at = Endpoint {
+            ip: self.binder.ip,
+            port: 0,
+        };
+        BoundSocket::bind(self.binder.net, at).is_ok()
     }
 
     /// Binds a port that has no socket yet, also outside the range. Port 0 is never bound.
     pub fn bind(&mut self, port: u16) -> Result<Bound, AllocError>
         requires { get nat_cmp self.old.sockets port ≡ None }
+        ensures ip { self.new.binder.ip ≡ self.old.binder.ip }
         ensures first { self.new.first ≡ self.old.first }
         ensures last { self.new.last ≡ self.old.last }
         ensures draws { self.new.draws ≡ self.old.draws }
         ensures count { self.new.failures ≡ self.old.failures }
-        ensures bound { result ≡ Ok binds.Done → IsBound self.old.sockets self.new.sockets port }
+        ensures bound { result ≡ Ok binds.Done → IsBound self.old.binder.ip self.old.sockets self.new.sockets port }
         ensures refused { result ≢ Ok binds.Done → IsUnchanged self.old.sockets self.new.sockets }
         ensures never { port ≡ 0 → result ≢ Ok binds.Done }
     {
-        self.binder.bind(&mut self.sockets, port)
+        self.binder.bind(&mut self.sockets, &mut self.asked, port)
     }
 
     // The port of the range at which a search begins.
     fn draw(&mut self) -> u16
         ensures place { result ≡ drawn_place (self.old.first, self.old.last) self.old.draws }
         ensures range { (self.old.first ≤ result) × (result ≤ self.old.last) }
+        ensures ip { self.new.binder.ip ≡ self.old.binder.ip }
         ensures first { self.new.first ≡ self.old.first }
         ensures last { self.new.last ≡ self.old.last }
         ensures draws { self.new.draws ≡ (next_word 10 self.old.draws).1 }
         ensures count { self.new.failures ≡ self.old.failures }
         ensures sockets { self.new.sockets ≡ self.old.sockets }
+        ensures asked { self.new.asked ≡ self.old.asked }
     {
         let ports = u32::from(self.last - self.first) + 1;
         self.first + (self.draws.next_word() % ports) as u16
@@ -227,18 +173,27 @@ impl<'a, R: Net, A: Allocator + Copy> SocketPorts<'a, R, A> {
     fn find<S: PortSet>(&mut self, taken: &S, wanted: Wanted) -> Result<Option<u16>, AllocError>
         ensures answer { IfOk result (MayFind (self.old.first, self.old.last) (S.has taken.now) wanted (has_failed self.old.failures self.new.failures)) }
         ensures count { (self.new.failures ≡ self.old.failures) ⊎ ((result ≡ Ok None) × Failed self.old.failures self.new.failures) }
+        ensures ip { self.new.binder.ip ≡ self.old.binder.ip }
         ensures first { self.new.first ≡ self.old.first }
         ensures last { self.new.last ≡ self.old.last }
         ensures draws { self.new.draws ≡ (next_word 10 self.old.draws).1 }
         ensures never { result ≢ Ok (Some 0) }
-        ensures bound { IfOk result (Binds wanted self.old.sockets self.new.sockets) }
+        ensures bound { IfOk result (Binds self.old.binder.ip wanted self.old.sockets self.new.sockets) }
+        ensures drawn { IfOk result (IsDrawn self.new.asked.latest self.old.sockets (self.old.first, self.old.last) (drawn_place (self.old.first, self.old.last) self.old.draws) (S.has taken.now) wanted) }
+        ensures asked { self.new.asked.earlier ≡ self.old.asked.earlier ++ self.old.asked.latest }
         ensures err { OnErr result (IsUnchanged self.old.sockets self.new.sockets) }
     {
         let range = (self.first, self.last);
         let from = self.draw();
-        let search = self
-            .binder
-            .search_around(&mut self.sockets, range, from, taken, wanted)?;
+        self.asked.begin();
+        let search = self.binder.search_around(
+            &mut self.sockets,
+            &mut self.asked,
+            range,
+            from,
+            taken,
+            wanted,
+        )?;
         match search {
             Search::Found(port) => Ok(Some(port)),
             Search::Nothing => Ok(None),
@@ -247,6 +202,13 @@ impl<'a, R: Net, A: Allocator + Copy> SocketPorts<'a, R, A> {
                 Ok(None)
             }
         }
+    }
+}
+
+impl<'a, R: Net + Files, A: Allocator> SocketPorts<'a, R, A> {
+    /// Reads the addresses of this machine.
+    pub fn machine<B: Allocator + Copy>(&self, alloc: B) -> io::Result<MachineAddresses<B>> {
+        MachineAddresses::read(alloc, self.binder.net)
     }
 }
 
@@ -265,11 +227,14 @@ impl<'a, R: Net, A: Allocator + Copy> RelayAddressGenerator for SocketPorts<'a, 
     fn pick<S: PortSet>(&mut self, taken: &S, even: bool) -> Result<Option<u16>, AllocError>
         ensures answer { IfOk result (MayPick (self.old.first, self.old.last) (S.has taken.now) even (has_failed self.old.failures self.new.failures)) }
         ensures count { (self.new.failures ≡ self.old.failures) ⊎ ((result ≡ Ok None) × Failed self.old.failures self.new.failures) }
+        ensures ip { self.new.binder.ip ≡ self.old.binder.ip }
         ensures first { self.new.first ≡ self.old.first }
         ensures last { self.new.last ≡ self.old.last }
         ensures draws { self.new.draws ≡ (next_word 10 self.old.draws).1 }
         ensures never { result ≢ Ok (Some 0) }
-        ensures bound { IfOk result (Binds (wants.Port even) self.old.sockets self.new.sockets) }
+        ensures bound { IfOk result (Binds self.old.binder.ip (wants.Port even) self.old.sockets self.new.sockets) }
+        ensures drawn { IfOk result (IsDrawn self.new.asked.latest self.old.sockets (self.old.first, self.old.last) (drawn_place (self.old.first, self.old.last) self.old.draws) (S.has taken.now) (wants.Port even)) }
+        ensures asked { self.new.asked.earlier ≡ self.old.asked.earlier ++ self.old.asked.latest }
         ensures unbound { OnErr result (IsUnchanged self.old.sockets self.new.sockets) }
         ensures picked { (held : ℕ → Bool) → HaveSockets self.old.sockets held → IfOk result (λ port. HaveSockets self.new.sockets (with_port held port)) }
         ensures err { (held : ℕ → Bool) → HaveSockets self.old.sockets held → OnErr result (HaveSockets self.new.sockets held) }
@@ -282,11 +247,14 @@ impl<'a, R: Net, A: Allocator + Copy> RelayAddressGenerator for SocketPorts<'a, 
     fn pick_pair<S: PortSet>(&mut self, taken: &S) -> Result<Option<u16>, AllocError>
         ensures answer { IfOk result (MayPickPair (self.old.first, self.old.last) (S.has taken.now) (has_failed self.old.failures self.new.failures)) }
         ensures count { (self.new.failures ≡ self.old.failures) ⊎ ((result ≡ Ok None) × Failed self.old.failures self.new.failures) }
+        ensures ip { self.new.binder.ip ≡ self.old.binder.ip }
         ensures first { self.new.first ≡ self.old.first }
         ensures last { self.new.last ≡ self.old.last }
         ensures draws { self.new.draws ≡ (next_word 10 self.old.draws).1 }
         ensures never { result ≢ Ok (Some 0) }
-        ensures bound { IfOk result (Binds wants.Pair self.old.sockets self.new.sockets) }
+        ensures bound { IfOk result (Binds self.old.binder.ip wants.Pair self.old.sockets self.new.sockets) }
+        ensures drawn { IfOk result (IsDrawn self.new.asked.latest self.old.sockets (self.old.first, self.old.last) (drawn_place (self.old.first, self.old.last) self.old.draws) (S.has taken.now) wants.Pair) }
+        ensures asked { self.new.asked.earlier ≡ self.old.asked.earlier ++ self.old.asked.latest }
         ensures unbound { OnErr result (IsUnchanged self.old.sockets self.new.sockets) }
         ensures picked { (held : ℕ → Bool) → HaveSockets self.old.sockets held → IfOk result (λ port. HaveSockets self.new.sockets (with_pair held port)) }
         ensures err { (held : ℕ → Bool) → HaveSockets self.old.sockets held → OnErr result (HaveSockets self.new.sockets held) }
@@ -296,6 +264,7 @@ impl<'a, R: Net, A: Allocator + Copy> RelayAddressGenerator for SocketPorts<'a, 
 
     /// Closes the socket of a port.
     fn release(&mut self, port: u16)
+        ensures ip { self.new.binder.ip ≡ self.old.binder.ip }
         ensures first { self.new.first ≡ self.old.first }
         ensures last { self.new.last ≡ self.old.last }
         ensures draws { self.new.draws ≡ self.old.draws }

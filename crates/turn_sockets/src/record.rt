@@ -1,12 +1,16 @@
 //! What sockets received and sent, which clauses alone read.
 
 ghost use Rattle.std.specs.Prelude.{◌≡◌, ◌++◌, ◌∷◌, []};
+ghost use Rattle.turn_sockets.specs.Received.{passed_by};
+ghost use Rattle.turn_sockets.specs.Wire.{Sent};
 
+use crate::buffer::Received;
 use std::marker::Model;
+use std::net::Net;
 use turn_ghost::{Ghost, Shows};
 use turn_types::Endpoint;
 
-/// No datagram. In a `Ghost` it stands for any number of them.
+/// Nothing passed. In a `Ghost` it stands for any number of datagrams and reads.
 #[derive(Drop)]
 struct Datagrams;
 
@@ -23,21 +27,33 @@ impl Shows<Datagrams> for Datagrams {
     ghost shown = { λ none. none };
 }
 
-/// A datagram, and what passed before it.
+/// What a read of a socket found, and what passed before it.
 #[derive(Drop)]
-struct Noted<'a> {
+struct Read<'a> {
     before: &'a Ghost<Datagrams>,
-    is_sent: bool,
     at: Endpoint,
-    other: Endpoint,
+    found: Received<'a>,
+}
+
+impl Shows<Datagrams> for Read<'_> {
+    ghost shown = { λ read. read.before.now ++ passed_by read.at read.found ∷ [] };
+}
+
+/// A datagram that a socket sent, and what passed before it.
+#[derive(Drop)]
+struct Sending<'a> {
+    before: &'a Ghost<Datagrams>,
+    at: Endpoint,
+    to: Endpoint,
     bytes: &'a [u8],
 }
 
-impl Shows<Datagrams> for Noted<'_> {
-    ghost shown = { λ noted. noted.before.now ++ record { is_sent = noted.is_sent; at = noted.at; other = noted.other; bytes = noted.bytes.now } ∷ [] };
+impl Shows<Datagrams> for Sending<'_> {
+    ghost shown = { λ sending. sending.before.now ++ Sent sending.at sending.to sending.bytes.now ∷ [] };
 }
 
-/// The datagrams that sockets received and sent so far, in order. It takes no memory: it exists in proofs alone.
+/// What passed at sockets so far, in order: what each read found, and each datagram that was sent. It takes no memory: it exists in
+/// proofs alone.
 #[derive(Drop)]
 pub struct SocketRecord {
     /// In order.
@@ -45,8 +61,9 @@ pub struct SocketRecord {
 }
 
 impl SocketRecord {
-    /// Of sockets that have neither received nor sent anything.
-    pub fn new() -> SocketRecord
+    /// Of sockets that have neither been read nor sent anything. Who has no handle of the network can make no second record, so a
+    /// function without one receives and sends by the record that it is given.
+    pub fn new<R: Net>(_net: &R) -> SocketRecord
         ensures { result.passed ≡ [] }
     {
         SocketRecord {
@@ -54,15 +71,25 @@ impl SocketRecord {
         }
     }
 
-    /// Notes a datagram: whether it was sent, the address of the socket, the one at the other end, and its bytes.
-    pub(crate) fn note(&mut self, is_sent: bool, at: Endpoint, other: Endpoint, bytes: &[u8])
-        ensures { self.new.passed ≡ self.old.passed ++ record { is_sent = is_sent; at = at; other = other; bytes = bytes.now } ∷ [] }
+    /// Notes what a read of the socket at this address found.
+    pub(crate) fn note_read(&mut self, at: Endpoint, found: Received<'_>)
+        ensures { self.new.passed ≡ self.old.passed ++ passed_by at found.entry ∷ [] }
     {
-        self.passed = Ghost::of(&Noted {
+        self.passed = Ghost::of(&Read {
             before: &self.passed,
-            is_sent,
             at,
-            other,
+            found,
+        });
+    }
+
+    /// Notes a datagram that the socket at this address sent.
+    pub(crate) fn note_sent(&mut self, at: Endpoint, to: Endpoint, bytes: &[u8])
+        ensures { self.new.passed ≡ self.old.passed ++ Sent at to bytes.now ∷ [] }
+    {
+        self.passed = Ghost::of(&Sending {
+            before: &self.passed,
+            at,
+            to,
             bytes,
         });
     }

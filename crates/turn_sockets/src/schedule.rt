@@ -4,7 +4,7 @@ ghost use Rattle.std.specs.Prelude.{◌≡◌, ◌+◌, ◌==◌, ◌&&◌, min,
 ghost use Rattle.mio.specs.Event.{event_token};
 ghost use Rattle.mio.specs.Events.{items};
 ghost use Rattle.turn_sockets.specs.Fairness.{EachIsVisited, FreshComeFirst, NoneStarves};
-ghost use Rattle.turn_sockets.specs.Schedule.{begun, begun_for_each, can_list, counted, is_turn_of_clients, next_of, nothing_ready, source_of, with_all_ready, with_more, with_ready};
+ghost use Rattle.turn_sockets.specs.Schedule.{begun, begun_for_each, can_list, counted, is_turn_of_clients, next_of, nothing_ready, since_after, source_of, with_all_ready, with_more, with_ready};
 
 use crate::held::MAX_HELD;
 use mio::Events;
@@ -19,7 +19,7 @@ pub const LISTENING: usize = 65_536;
 /// How many tokens there are: one for each port, and those of the listening sockets.
 const TOKENS: usize = LISTENING + MAX_HELD;
 
-/// How many other sockets are visited in a row while a listening one has more.
+/// How many relay sockets are visited between two visits of listening ones that have more.
 const FEW: u8 = 4;
 
 /// How many visits of sockets that were visited before there are in a round.
@@ -46,10 +46,10 @@ pub(crate) enum Source {
 /// `mio` reports a socket once when it gets a datagram, and not again before it was read until nothing was left. So a socket that
 /// was reported is listed until a read of it finds nothing.
 ///
-/// Sockets are visited in rounds, each after a look at which became ready. Those that did are visited first, each once, the listening
-/// ones before the others. A socket that has more after a visit waits behind the others that have more. These are visited in turn,
-/// eight visits a round, of the listening ones one after every four others. So a socket that gets a datagram now and then doesn't
-/// wait for those that always have some. It is the idea of fq_codel (RFC 8290), of sockets.
+/// Sockets are visited in rounds, each after a look at which became ready. Those that did are visited first, each once, in the order of
+/// the report. A socket that has more after a visit comes after the others that have more. These are visited in turn, eight visits a
+/// round, and a listening one wherever four relay sockets were visited since a listening one was. So a socket that gets a datagram
+/// now and then doesn't wait for those that always have some. It is the idea of fq_codel (RFC 8290), of sockets.
 #[derive(Drop)]
 pub struct Schedule<A: Allocator = Global> {
     // By token, whether the socket is on one of the three lists.
@@ -57,7 +57,7 @@ pub struct Schedule<A: Allocator = Global> {
     fresh: VecDeque<usize, A>,
     clients: VecDeque<usize, A>,
     peers: VecDeque<usize, A>,
-    // How many others were visited since one of `clients` was, at most four.
+    // How many relay sockets were visited since a listening one was, at most four.
     since: u8,
     // How many visits of `clients` and `peers` there may still be in this round.
     left: u8,
@@ -99,11 +99,18 @@ fn is_unlisted(flags: &[bool], token: usize) -> bool
     }
 }
 
-// The count of other sockets since a listening one, after another one.
+// The count of relay sockets since a listening one, after a relay socket.
 fn counted(since: u8) -> u8
     ensures { result ≡ counted since }
 {
     if since < FEW { since + 1 } else { FEW }
+}
+
+// That count after a visit of any socket.
+fn since_after(token: usize, since: u8) -> u8
+    ensures { result ≡ since_after token since }
+{
+    if token < LISTENING { counted(since) } else { 0 }
 }
 
 impl<A: Allocator> Schedule<A> {
@@ -122,11 +129,7 @@ impl<A: Allocator> Schedule<A> {
         if !is_unlisted(&self.flags, token) {
             return Ok(());
         }
-        if token < LISTENING {
-            self.fresh.push_back(token)?;
-        } else {
-            self.fresh.push_front(token)?;
-        }
+        self.fresh.push_back(token)?;
         self.flags[token] = true;
         Ok(())
     }
@@ -195,7 +198,7 @@ impl<A: Allocator> Schedule<A> {
         let token = match self.source() {
             Source::Fresh => {
                 let token = self.fresh.pop_front()?;
-                self.since = counted(self.since);
+                self.since = since_after(token, self.since);
                 token
             }
             Source::Peers => {

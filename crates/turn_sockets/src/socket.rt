@@ -1,7 +1,7 @@
 //! Sockets that are bound.
 
 ghost use Rattle.std.specs.Prelude.{◌≡◌, ◌⊎◌, ◌++◌, ◌∷◌, [], IfOk};
-ghost use Rattle.turn_sockets.specs.Wire.{sent};
+ghost use Rattle.turn_sockets.specs.Wire.{Sent};
 
 use crate::address::{address_of, endpoint_of};
 use crate::record::SocketRecord;
@@ -78,9 +78,9 @@ impl BoundSocket {
 
     /// Sends a datagram, and notes it. One that the system refuses is lost, as on any link.
     pub fn send(&self, wire: &mut SocketRecord, bytes: &[u8], to: Endpoint)
-        ensures { wire.new.passed ≡ wire.old.passed ++ sent self.now to bytes.now ∷ [] }
+        ensures { wire.new.passed ≡ wire.old.passed ++ Sent self.now to bytes.now ∷ [] }
     {
-        wire.note(true, self.at, to, bytes);
+        wire.note_sent(self.at, to, bytes);
         let _ = self.socket.send_to(bytes, address_of(to));
     }
 

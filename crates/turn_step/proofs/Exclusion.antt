@@ -62,7 +62,7 @@ pub no_request : (f : FiveTuple) (bytes : List ℕ) → ¬ IsRequestOf (FromClie
 no_request f bytes other m encodes = false_from_ne_true (is_request m.class) (λ asks. other (m, encodes, asks))
 
 -- the bytes encode no other message
-one_datagram : (bytes : List ℕ) (d : Datagram) → d.bytes ≡ bytes → Encodes bytes d.content → (m : Content) → Encodes bytes m → d ≡ record { bytes = bytes; content = m }
+pub one_datagram : (bytes : List ℕ) (d : Datagram) → d.bytes ≡ bytes → Encodes bytes d.content → (m : Content) → Encodes bytes m → d ≡ record { bytes = bytes; content = m }
 one_datagram bytes d same found m encodes = λ j. record { bytes = same j; content = (one_message bytes bytes [] [] d.content m found encodes refl).1 j }
 
 module _ (s : Setting) (h : History) (t : ℕ) (failed : Bool) (f : FiveTuple) where

@@ -2,3 +2,4 @@ pub mod Exclusion
 pub mod Beginnings
 pub mod Holding
 pub mod Machines
+pub mod NoTable

@@ -1,13 +1,14 @@
--- Data, which is what arrives and is no request, and whose it is.
+-- Data, which is what arrives and is no request, and whose it is; and the requests that need the table.
 use Rattle.std.specs.Prelude.{◌≡◌, ℕ, true, Some, option_map, List}
 use Rattle.std.specs.FinMap as fin
 use Rattle.turn_history.specs.Prelude.{FiveTuple, Contents, Entry}
 use Rattle.turn_codec.specs.Prelude.{Content, Encodes}
 use Rattle.turn_relay.specs.FromClient.{SendsToPeer}
 use Rattle.turn_relay.specs.Views.{peer_data}
-use Rattle.turn_rules.specs.Prelude.{is_request}
+use Rattle.turn_rules.specs.Prelude.{credential_outcome, depends_on_table, is_request}
 use Rattle.turn_step.specs.declared.client.ClientDatagram.{ClientDatagram}
 use Rattle.turn_step.specs.declared.client.ClientDatagram.TheVariants.{Request, Data}
+use Rattle.turn_step.specs.Answer.{Setting}
 use Rattle.turn_step.specs.Outcome.{Arrives}
 use Rattle.turn_step.specs.Outcome.Arrives.{FromClient, FromPeer}
 
@@ -15,6 +16,12 @@ use Rattle.turn_step.specs.Outcome.Arrives.{FromClient, FromPeer}
 abbrev pub IsRequestOf : Arrives → Type 0
 IsRequestOf (FromClient f bytes) = (m : Content) × Encodes bytes m × (is_request m.class ≡ true)
 IsRequestOf (FromPeer port from bytes id) = ⊥
+
+-- a client's datagram is a request whose answer may depend on the table, at the moment t
+abbrev pub NeedsTable : Setting → ℕ → Arrives → Type 0
+NeedsTable s t (FromClient f bytes) =
+    (m : Content) × Encodes bytes m × (depends_on_table (record { bytes = bytes; content = m }) (credential_outcome s.config s.keys f.client t (record { bytes = bytes; content = m })) ≡ true)
+NeedsTable s t (FromPeer port from bytes id) = ⊥
 
 -- the arrival is a client's, or a peer's at the relayed port of its allocation
 abbrev pub IsOwner : Contents → Arrives → FiveTuple → Type 0

@@ -11,7 +11,7 @@ ghost use Rattle.turn_history.specs.Laws.{events_of};
 ghost use Rattle.turn_history.specs.Table.{Entry, table};
 ghost use Rattle.turn_rules.specs.Answer.{is_request};
 ghost use Rattle.turn_step.specs.Answer.{AnswersArrival, AnswersClient, Setting};
-ghost use Rattle.turn_step.specs.Data.{IsOwner, IsRequestOf};
+ghost use Rattle.turn_step.specs.Data.{IsOwner, IsRequestOf, NeedsTable};
 ghost use Rattle.turn_step.specs.Laws.{HasNoReply, EncodesNoAllocate, SameForAllocates};
 ghost use Rattle.turn_step.specs.Outcome.{Arrives, StepOutcome, nothing};
 ghost use Rattle.turn_step.specs.Outcome.Arrives.{FromClient, FromPeer};
@@ -49,6 +49,17 @@ pub fn clients_stand_alone()
     ensures peer { (s : Setting) (b : Bounds) (h g : History) (t : ℕ) (failed : Bool) (f : FiveTuple) (e : Entry) (from : Endpoint) (bytes id : List ℕ) (o : StepOutcome) →
         IsFitting b h → IsFitting b g → clock h ≤ t → clock g ≤ t → events_of f h ≡ events_of f g → fin.get (table h t).entries f ≡ Some e →
         (AnswersArrival s h t failed (FromPeer e.port from bytes id) o ↔ AnswersArrival s g t failed (FromPeer e.port from bytes id) o) }
+{}
+
+/// What may be answered to a request whose answer doesn't depend on the table is the same after every two histories, whether the
+/// generator failed or not, and changes nothing. So the answer may be sent while other acts are being stored.
+pub fn answers_of_no_table()
+    ensures answers { (s : Setting) (h g : History) (t : ℕ) (failed failed_then : Bool) (a : Arrives) (o : StepOutcome) →
+        IsRequestOf a → ¬ NeedsTable s t a → AnswersArrival s h t failed a o → AnswersArrival s g t failed_then a o }
+    ensures no_change { (s : Setting) (h : History) (t : ℕ) (failed : Bool) (a : Arrives) (o : StepOutcome) →
+        IsRequestOf a → ¬ NeedsTable s t a → AnswersArrival s h t failed a o → o.change ≡ None }
+    // What needs the table is a request.
+    ensures needs { (s : Setting) (t : ℕ) (a : Arrives) → NeedsTable s t a → IsRequestOf a }
 {}
 
 /// What may be answered to data is the same after a beginning of a history, where no later event is of the owner of the data. So the

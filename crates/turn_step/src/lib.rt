@@ -2,9 +2,9 @@
 //! table (RFC 8656).
 #![tactic(auto)]
 
+mod answer;
 mod arrival;
 mod client;
-mod data;
 mod error;
 mod laws;
 mod machine;
@@ -14,10 +14,12 @@ mod purge;
 mod request;
 mod step;
 
+pub use answer::Answer;
 pub use arrival::{Arrival, Outgoing};
-pub use data::DataAnswer;
 pub use error::MachineError;
-pub use laws::{clients_stand_alone, data_stands_alone, replies_answer_requests};
+pub use laws::{
+    answers_of_no_table, clients_stand_alone, data_stands_alone, replies_answer_requests,
+};
 pub use machine::Machine;
 pub use pairs::Pairs;
 pub use step::Step;

@@ -1,27 +1,29 @@
 //! The rules of a server.
 
-ghost use Rattle.std.specs.Prelude.{◌≡◌, ◌≤◌, ◌↔◌, ◌++◌, false, None, IfOk, IfErr, IfSome, OnErr, option_map};
+ghost use Rattle.std.specs.Prelude.{◌≡◌, ◌≤◌, ◌↔◌, ◌++◌, Bool, true, false, None, IfOk, IfErr, IfSome, OnErr, option_map};
 ghost use Rattle.turn_codec.specs.Grammar.{Datagram};
 ghost use Rattle.turn_history.specs.Fitting.{Follows};
 ghost use Rattle.turn_history.specs.History.{History};
 ghost use Rattle.turn_history.specs.Laws.{IsTableAt};
 ghost use Rattle.turn_ports.specs.Ports.{has_failed};
+ghost use Rattle.turn_rules.specs.Answer.{credential_outcome};
 ghost use Rattle.turn_rules.specs.Laws.{IsMadeOfBytes};
+ghost use Rattle.turn_rules.specs.Tableless.{depends_on_table};
 ghost use Rattle.turn_step.specs.Answer.{AnswersArrival, AnswersClient, IsDecided};
-ghost use Rattle.turn_step.specs.Data.{IsOwner, IsRequestOf};
+ghost use Rattle.turn_step.specs.Data.{IsOwner, IsRequestOf, NeedsTable};
 ghost use Rattle.turn_step.specs.Outcome.{added, event_at};
 ghost use Rattle.turn_step.specs.State.{Answered, CountsOne, HoldsPorts, IsAfter, IsPurged, IsReady, IsSameTable, KeepsSetting, changed, setting_of};
-ghost use Rattle.turn_step.specs.Views.{arrival_of, data_outcome, is_reserved, sent_of};
+ghost use Rattle.turn_step.specs.Views.{arrival_of, data_outcome, is_reserved, reply_outcome, sent_of};
 ghost use Rattle.turn_table.specs.Table.{Agrees};
 
+use crate::answer::Answer;
 use crate::arrival::{Arrival, Outgoing};
 use crate::client::{ClientDatagram, data_step, read, to_peer};
-use crate::data::DataAnswer;
 use crate::error::MachineError;
 use crate::pairs::Pairs;
 use crate::peer::{peer_step, to_client};
 use crate::purge::{advance, release, release_for};
-use crate::request::{check_credentials, pick, settle};
+use crate::request::{check_credentials, peek_credentials, pick, reply_to, settle};
 use crate::step::Step;
 use std::alloc::{AllocError, AllocFailed, Allocator, Global};
 use std::marker::Model;
@@ -29,7 +31,7 @@ use turn_codec::Message;
 use turn_cred::{AuthHandler, Checker};
 use turn_history::Act;
 use turn_ports::RelayAddressGenerator;
-use turn_rules::{ClientMessage, Need, assess};
+use turn_rules::{ClientMessage, Need, Tableless, assess, reply_without_table};
 use turn_table::Table;
 use turn_types::{FiveTuple, Moment, ServerConfig};
 
@@ -221,18 +223,45 @@ impl<H: AuthHandler, G: RelayAddressGenerator, A: Allocator + Copy> Machine<H, G
         }
     }
 
-    /// Answers data at the moment of the table, and changes nothing. A request is left to `prepare`.
-    pub fn answer_data(&self, arrival: &Arrival<'_>) -> Result<DataAnswer<A>, AllocError>
-        ensures requests { (result ≡ Ok DataAnswer.Request) ↔ IsRequestOf (arrival_of arrival.now) }
-        ensures answers { (h : History) → IsAfter self.now h →
-            IfOk result (λ x. IfSome (data_outcome x) (AnswersArrival (setting_of H.key_of G.range self.now) h self.now.table.moment false (arrival_of arrival.now))) }
+    /// The answer to a request, if it is the same for every table.
+    fn answer_request(
+        &self,
+        five_tuple: FiveTuple,
+        message: Message<'_>,
+    ) -> Result<Answer<A>, AllocError>
+        ensures requests { (result ≡ Ok Answer.Request) ↔ (depends_on_table message.entry (credential_outcome self.now.config (H.key_of self.now.handler) five_tuple.client self.now.table.moment message.entry) ≡ true) }
+        ensures reply { IfOk result (λ x. IfSome (reply_outcome x) (λ o. (h : History) (failed : Bool) →
+            IsDecided (setting_of H.key_of G.range self.now) h self.now.table.moment failed five_tuple message.entry o)) }
+        ensures no_data { IfOk result (λ x. data_outcome x ≡ None) }
+    {
+        let moment = self.table.moment();
+        let verdict = peek_credentials(&self.checker, &message, five_tuple.client, moment);
+        let request = ClientMessage {
+            message,
+            five_tuple,
+            verdict,
+        };
+        match reply_without_table(self.alloc, &self.config, &request, moment)? {
+            Tableless::Depends => Ok(Answer::Request),
+            Tableless::Reply(reply) => Ok(Answer::Reply(reply_to(five_tuple, reply))),
+        }
+    }
+
+    /// Answers, at the moment of the table, what needs no act, and changes nothing: data, and a request whose answer is
+    /// the same for every table. Any other request is left to `prepare`.
+    pub fn answer(&self, arrival: &Arrival<'_>) -> Result<Answer<A>, AllocError>
+        ensures requests { (result ≡ Ok Answer.Request) ↔ NeedsTable (setting_of H.key_of G.range self.now) self.now.table.moment (arrival_of arrival.now) }
+        ensures reply { IfOk result (λ x. IfSome (reply_outcome x) (λ o. IsRequestOf (arrival_of arrival.now)
+            × ((h : History) (failed : Bool) → AnswersArrival (setting_of H.key_of G.range self.now) h self.now.table.moment failed (arrival_of arrival.now) o))) }
+        ensures data { IfOk result (λ x. IfSome (data_outcome x) (λ o. (¬ IsRequestOf (arrival_of arrival.now))
+            × ((h : History) → IsAfter self.now h → AnswersArrival (setting_of H.key_of G.range self.now) h self.now.table.moment false (arrival_of arrival.now) o))) }
     {
         match *arrival {
             Arrival::Client { five_tuple, bytes } => {
                 match read(&self.table, five_tuple, bytes) {
-                    ClientDatagram::Request(_) => Ok(DataAnswer::Request),
+                    ClientDatagram::Request(message) => self.answer_request(five_tuple, message),
                     ClientDatagram::Data(payload) => {
-                        Ok(DataAnswer::Data(to_peer(self.alloc, payload)?))
+                        Ok(Answer::Data(to_peer(self.alloc, payload)?))
                     }
                 }
             }
@@ -243,7 +272,7 @@ impl<H: AuthHandler, G: RelayAddressGenerator, A: Allocator + Copy> Machine<H, G
                 id,
             } => {
                 let sent = to_client(self.alloc, &self.table, port, from, bytes, id)?;
-                Ok(DataAnswer::Data(sent))
+                Ok(Answer::Data(sent))
             }
         }
     }
@@ -261,6 +290,19 @@ impl<H: AuthHandler, G: RelayAddressGenerator, A: Allocator + Copy> Machine<H, G
                 Some(five_tuple)
             }
         }
+    }
+
+    /// Brings the table to a moment that isn't before it: what has expired by then ends, and its ports are released.
+    pub fn advance(&mut self, moment: Moment)
+        requires { self.old.table.moment ≤ moment }
+        ensures table { IsPurged moment self.old.table self.new.table }
+        ensures after { (h : History) → IsAfter self.old h → IsAfter self.new h }
+        ensures limits { self.new.table.bounds ≡ self.new.config.limits }
+        ensures setting { KeepsSetting G.range self.old self.new }
+        ensures count { G.failures self.new.ports ≡ G.failures self.old.ports }
+        ensures held { HoldsPorts G.holds self.old None → HoldsPorts G.holds self.new None }
+    {
+        advance(&mut self.table, &mut self.ports, moment);
     }
 
     /// The first half of a step, at a moment that isn't before the table's: removes what has expired, decides, and makes
@@ -284,7 +326,7 @@ impl<H: AuthHandler, G: RelayAddressGenerator, A: Allocator + Copy> Machine<H, G
         ensures held { HoldsPorts G.holds self.old None → IfOk result (λ s. HoldsPorts G.holds self.new s.change) }
         ensures held_err { HoldsPorts G.holds self.old None → OnErr result (HoldsPorts G.holds self.new None) }
     {
-        advance(&mut self.table, &mut self.ports, moment);
+        self.advance(moment);
         match *arrival {
             Arrival::Client { five_tuple, bytes } => self.client_step(five_tuple, bytes),
             Arrival::Peer {

@@ -48,6 +48,23 @@ pub(crate) fn check_credentials<'a, H: AuthHandler, A: Allocator + Copy>(
     Some(checker.check(message, client, moment))
 }
 
+/// The same outcome, and no key is remembered.
+#[tactic(auto, unfolding(turn_rules::specs::Answer::credential_outcome))]
+pub(crate) fn peek_credentials<'a, H: AuthHandler, A: Allocator + Copy>(
+    checker: &Checker<H, A>,
+    message: &Message<'a>,
+    client: Endpoint,
+    moment: Moment,
+) -> Option<Verdict<'a>>
+    ensures { (s : Config) → checker.now.policy ≡ policy_of s →
+        option_map verdict_of result ≡ credential_outcome s (H.key_of checker.now.handler) client moment message.now }
+{
+    if !is_protected(message.method()) {
+        return None;
+    }
+    Some(checker.peek(message, client, moment))
+}
+
 /// What is needed of the generator, where anything is and it is free. Of a pair it is the even port.
 pub(crate) fn pick<G: RelayAddressGenerator, A: Allocator + Copy>(
     ports: &mut G,
@@ -71,7 +88,10 @@ pub(crate) fn pick<G: RelayAddressGenerator, A: Allocator + Copy>(
 }
 
 /// A reply to a client. The clause `range` is what the five-tuple's type says of it.
-fn reply_to<A: Allocator>(five_tuple: FiveTuple, reply: Option<Vec<u8, A>>) -> Option<Outgoing<A>>
+pub(crate) fn reply_to<A: Allocator>(
+    five_tuple: FiveTuple,
+    reply: Option<Vec<u8, A>>,
+) -> Option<Outgoing<A>>
     ensures sent { option_map sent_of result ≡ option_map (Sent.ToClient five_tuple) (option_map (λ b. b.items) reply) }
     ensures range { IsTuple five_tuple }
 {

@@ -1,4 +1,4 @@
-//! Data that is answered while a commit waits for its disk.
+//! What is answered while a commit waits for its disk.
 
 use std::alloc::Global;
 use test_requests::Ports;
@@ -31,6 +31,12 @@ const LATER: &[u8] = b"ask 192.0.2.1:32853 alice 0102030405060708090a0b0c refres
 at 403
 send 192.0.2.2:40000 203.0.113.5:7000 68656c6c6f";
 
+/// A Binding request.
+const BINDING: &[u8] = b"raw 192.0.2.3:40000 000100002112a4420102030405060708090a0b0c";
+
+/// An Allocate without credentials.
+const NO_CREDENTIALS: &[u8] = b"raw 192.0.2.3:40000 000300002112a4420102030405060708090a0b0c";
+
 /// What a piece of work finds.
 #[derive(Clone, Copy, PartialEq, Eq)]
 enum Found {
@@ -44,7 +50,7 @@ use Found::{Dropped, Sent, Waits};
 
 /// What is staged, what arrives meanwhile, and what is found of it. A frame is written by four device calls, each of which waits for three
 /// pieces.
-const MEANWHILE: [(&[u8], &[u8], Found); 9] = [
+const MEANWHILE: [(&[u8], &[u8], Found); 12] = [
     (
         REFRESH,
         b"send 192.0.2.2:40000 203.0.113.5:7000 68656c6c6f",
@@ -67,6 +73,13 @@ const MEANWHILE: [(&[u8], &[u8], Found); 9] = [
     (
         REFRESH,
         b"ask 192.0.2.2:40000 bob 000000000000000000000002 refresh",
+        Waits,
+    ),
+    (REFRESH, BINDING, Sent),
+    (REFRESH, NO_CREDENTIALS, Sent),
+    (
+        REFRESH,
+        b"raw 192.0.2.1:32853 000100002112a4420102030405060708090a0b0c",
         Waits,
     ),
     (
@@ -121,7 +134,7 @@ fn found_meanwhile(alloc: Global, staged: &[u8], line: &[u8]) -> Option<(Found, 
 }
 
 #[test]
-fn data_apart_from_what_is_staged_is_answered_while_a_commit_waits(rt: HostRuntime) {
+fn what_is_apart_from_what_is_staged_is_answered_while_a_commit_waits(rt: HostRuntime) {
     for (staged, line, found) in MEANWHILE {
         assert!(rt; found_meanwhile(rt.alloc(), staged, line) == Some((found, 12)));
     }

@@ -3,7 +3,7 @@
 use super::started::start;
 use super::talks::{ALICE, ANY, BINDING, HOME, new_disk, tell};
 use std::alloc::{Allocator, Global};
-use std::cell::Cell;
+use std::cell::{Cell, RefCell};
 use std::test::Fail;
 use std::time::Duration;
 use turn_client::{Client, TimedSocket};
@@ -14,7 +14,7 @@ use turn_requests::{Attribute, ServerMessage, read_message};
 use turn_serving::{Commits, SocketServing, Watch};
 use turn_step::{Arrival, Outgoing};
 use turn_table::Table;
-use turn_types::{FiveTuple, Method, Moment};
+use turn_types::{Endpoint, FiveTuple, Method, Moment};
 
 const CONFIG: &[u8] = b"realm example.org
 user alice wonder
@@ -28,44 +28,44 @@ limits 20 1 1 1 8
 /// How many allocations there are.
 const CLIENTS: usize = 17;
 
-/// What was sent to clients since it was last asked: Binding successes, data, and data to a client that had got some before it in the
-/// same turn.
+/// What was sent to clients since it was last asked: Binding successes, data, and data to a client that had got some before it.
 #[derive(Drop)]
 struct Counts {
     bindings: Cell<u8>,
     data: Cell<u8>,
     repeated: Cell<u8>,
+    // The clients that got data.
+    clients: RefCell<Vec<FiveTuple>>,
 }
 
 fn count(cell: &Cell<u8>) {
     cell.set(cell.get().saturating_add(1));
 }
 
-/// Whether one of these is data to a client.
-fn has_data<A: Allocator>(outgoing: &[Outgoing<A>], to: FiveTuple) -> bool {
-    outgoing.iter().any(|datagram| match datagram {
-        Outgoing::ToClient { five_tuple, bytes } => {
-            *five_tuple == to && matches!(bytes.as_slice(), [0, 0x17, ..])
-        }
-        Outgoing::ToPeer { .. } => false,
-    })
-}
-
 impl Counts {
-    fn see<A: Allocator>(&self, before: &[Outgoing<A>], to: FiveTuple, bytes: &[u8]) {
-        match bytes {
-            [1, 1, ..] => count(&self.bindings),
-            [0, 0x17, ..] => {
-                count(&self.data);
-                if has_data(before, to) {
-                    count(&self.repeated);
-                }
+    fn new(alloc: Global) -> Counts {
+        Counts {
+            bindings: Cell::new(0),
+            data: Cell::new(0),
+            repeated: Cell::new(0),
+            clients: RefCell::new(Vec::new(alloc)),
+        }
+    }
+
+    fn see_data(&self, to: FiveTuple) {
+        count(&self.data);
+        if let Ok(mut clients) = self.clients.try_borrow_mut() {
+            if clients.contains(&to) {
+                count(&self.repeated);
             }
-            _ => {}
+            let _ = clients.push(to);
         }
     }
 
     fn take(&self) -> (u8, u8, u8) {
+        if let Ok(mut clients) = self.clients.try_borrow_mut() {
+            clients.clear();
+        }
         (
             self.bindings.replace(0),
             self.data.replace(0),
@@ -77,22 +77,30 @@ impl Counts {
 impl<'c> Watch for &'c Counts {
     fn taking<A: Allocator + Copy>(&self, _moment: Moment, _table: &Table<A>) {}
 
-    fn arrives<A: Allocator + Copy>(&self, _table: &Table<A>, _arrival: &Arrival<'_>) {}
+    fn answered<A: Allocator + Copy>(
+        &self,
+        _table: &Table<A>,
+        _arrival: &Arrival<'_>,
+        answer: Option<&Outgoing<A>>,
+    ) {
+        let Some(Outgoing::ToClient { five_tuple, bytes }) = answer else {
+            return;
+        };
+        match bytes.as_slice() {
+            [1, 1, ..] => count(&self.bindings),
+            [0, 0x17, ..] => self.see_data(*five_tuple),
+            _ => {}
+        }
+    }
+
+    fn submitted<A: Allocator + Copy>(&self, _table: &Table<A>, _arrival: &Arrival<'_>) {}
 
     fn sent<A: Allocator + Copy>(
         &self,
         _moment: Moment,
         _table: &Table<A>,
-        outgoing: &[Outgoing<A>],
-    ) {
-        for place in 0..outgoing.len() {
-            if let Outgoing::ToClient { five_tuple, bytes } = &outgoing[place] {
-                self.see(&outgoing[..place], *five_tuple, bytes);
-            }
-        }
-    }
-
-    fn relayed<A: Allocator + Copy>(&self, _table: &Table<A>, _outgoing: &Outgoing<A>) {}
+        _outgoing: &[Outgoing<A>],
+    ) {}
 
     fn shed(&self, _moment: Moment) {}
 
@@ -115,21 +123,39 @@ fn ask<W: Watch + Drop>(
     Ok(())
 }
 
+/// A client is challenged and gets an allocation. Returns its relayed port.
+fn allocate_of<W: Watch + Drop>(
+    rt: &HostRuntime,
+    serving: &mut Serving<'_, W>,
+    client: &mut Client<'static>,
+) -> Result<u16, Fail> {
+    let first = client.plain_request(Method::ALLOCATE)?;
+    client.send(&first)?;
+    serving.turns(&rt, 1)?;
+    client.take_challenge()?;
+    ask(rt, serving, client, Method::ALLOCATE, &[])?;
+    match read_message(&client.receive_message()?) {
+        Some(ServerMessage::Allocated { port, .. }) => Ok(port),
+        _ => Err(Fail::new("no allocation")),
+    }
+}
+
+/// A client gets an allocation, without a permission. Returns its relayed port.
+pub fn allocate_only<W: Watch + Drop>(
+    rt: &HostRuntime,
+    serving: &mut Serving<'_, W>,
+) -> Result<u16, Fail> {
+    let mut client = Client::open(rt.alloc(), rt, ANY, serving.local(), ALICE)?;
+    allocate_of(rt, serving, &mut client)
+}
+
 /// A client gets an allocation with a permission for peers at 127.0.0.1. Returns its relayed port.
 pub fn allocate<W: Watch + Drop>(
     rt: &HostRuntime,
     serving: &mut Serving<'_, W>,
 ) -> Result<u16, Fail> {
     let mut client = Client::open(rt.alloc(), rt, ANY, serving.local(), ALICE)?;
-    let first = client.plain_request(Method::ALLOCATE)?;
-    client.send(&first)?;
-    serving.turns(&rt, 1)?;
-    client.take_challenge()?;
-    ask(rt, serving, &mut client, Method::ALLOCATE, &[])?;
-    let port = match read_message(&client.receive_message()?) {
-        Some(ServerMessage::Allocated { port, .. }) => port,
-        _ => return Err(Fail::new("no allocation")),
-    };
+    let port = allocate_of(rt, serving, &mut client)?;
     let peer = [Attribute::Peer(ANY)];
     ask(rt, serving, &mut client, Method::CREATE_PERMISSION, &peer)?;
     Ok(port)
@@ -142,13 +168,14 @@ const READY: [u8; 5] = [0, 4, 5, 9, 17];
 fn is_one_of_each(
     rt: &HostRuntime,
     serving: &mut Serving<'_, &Counts>,
+    server: Endpoint,
     counts: &Counts,
     ports: &[u16],
     ready: u8,
 ) -> Result<bool, Fail> {
     let caller = TimedSocket::open(rt.alloc(), rt, ANY)?;
     for _ in 0..3u8 {
-        caller.send(serving.local(), BINDING)?;
+        caller.send(server, BINDING)?;
     }
     for port in ports.iter().take(usize::from(ready)) {
         tell(rt, HOME, *port, 3, 2)?;
@@ -163,13 +190,14 @@ fn is_one_of_each(
 }
 
 fn play(rt: &HostRuntime, serving: &mut Serving<'_, &Counts>, counts: &Counts) -> Result<(), Fail> {
+    let server = serving.local();
     let mut ports = Vec::new(rt.alloc());
     for _ in 0..CLIENTS {
         ports.push(allocate(rt, serving)?)?;
     }
     counts.take();
     for ready in READY {
-        if !is_one_of_each(rt, serving, counts, &ports, ready)? {
+        if !is_one_of_each(rt, serving, server, counts, &ports, ready)? {
             return Err(Fail::new(ready));
         }
     }
@@ -178,11 +206,7 @@ fn play(rt: &HostRuntime, serving: &mut Serving<'_, &Counts>, counts: &Counts) -
 
 #[test]
 fn a_counted_turn_takes_one_datagram_of_each_socket(rt: HostRuntime) -> Result<(), Fail> {
-    let counts = Counts {
-        bindings: Cell::new(0),
-        data: Cell::new(0),
-        repeated: Cell::new(0),
-    };
+    let counts = Counts::new(rt.alloc());
     let configured = read_config(rt.alloc(), CONFIG)?;
     let disk = new_disk(rt.alloc(), configured.config.limits())?;
     let mut serving = start(&rt, configured, Commits::EachTurn, &rt, disk, &counts)?;

@@ -44,11 +44,6 @@ const FIRST_AREA: &[u8] = b"\xA5\x01\x00\x00\x00\x00\x00\x00\x00\x01\x00\x00\x00
 /// A hundred seconds after the last request: 1,795,748,234.
 const LATER: Still = Still(Some(1_795_748_334));
 
-const SERVER: Endpoint = Endpoint {
-    ip: HOME,
-    port: 63_081,
-};
-
 /// Where alice sends from, and her relayed address.
 const CLIENT: Endpoint = Endpoint {
     ip: HOME,
@@ -72,12 +67,6 @@ fn make_disk(alloc: Global) -> Result<MemoryDisk, Fail> {
     put(&mut content, 0, SUPERBLOCK);
     put(&mut content, 64, FIRST_AREA);
     Ok(MemoryDisk::new(alloc, content))
-}
-
-fn begin(rt: &HostRuntime) -> Result<Serving<'_>, Fail> {
-    let configured = read_config(rt.alloc(), CONFIG).map_err(|_| "a configuration")?;
-    let disk = make_disk(rt.alloc())?;
-    Ok(start(rt, configured, Commits::EachTurn, &LATER, disk, Silent)?)
 }
 
 /// Data goes both ways over the channel, without any request.
@@ -124,11 +113,12 @@ fn ask(
 
 /// The allocation is renewed, and another client gets a pair of ports.
 fn goes_on(rt: &HostRuntime, serving: &mut Serving<'_>) -> Result<bool, Fail> {
-    let mut client = Client::open(rt.alloc(), rt, CLIENT, SERVER, ALICE)?;
+    let server = serving.local();
+    let mut client = Client::open(rt.alloc(), rt, CLIENT, server, ALICE)?;
     let is_relayed = relays(rt, serving, &mut client)?;
     let lifetime = [Attribute::Lifetime(900)];
     let renewed = ask(serving, &mut client, Method::REFRESH, &lifetime)?;
-    let mut other = Client::open(rt.alloc(), rt, ANY, SERVER, ALICE)?;
+    let mut other = Client::open(rt.alloc(), rt, ANY, server, ALICE)?;
     let pair = [Attribute::EvenPort { reserves: true }];
     let allocated = ask(serving, &mut other, Method::ALLOCATE, &pair)?;
     Ok(is_relayed && renewed == Some((900, false)) && allocated == Some((600, true)))
@@ -143,7 +133,9 @@ fn is_carried(disk: &MemoryDisk) -> bool {
 
 #[test]
 fn the_calls_of_a_store_from_before_version_2_go_on(rt: HostRuntime) -> Result<(), Fail> {
-    let mut serving = begin(&rt)?;
+    let configured = read_config(rt.alloc(), CONFIG).map_err(|_| "a configuration")?;
+    let disk = make_disk(rt.alloc())?;
+    let mut serving = start(&rt, configured, Commits::EachTurn, &LATER, disk, Silent)?;
     let went_on = goes_on(&rt, &mut serving);
     let (disk, _) = serving.close();
     if went_on? && is_carried(&disk) {

@@ -106,10 +106,10 @@ const COUNTED: Row = Row {
     ..ENDS
 };
 
-/// A round takes up to 72 datagrams of a socket. Of 70 requests of a client that may change something 64 wait, and 6 are dropped. A
-/// Binding waits for nothing, nor does an Allocate without MESSAGE-INTEGRITY: of 70 the first 401 has no line, and the others have one. A
-/// commit of 100 ms has no line.
-const UP_TO_A_FAULT: [Row; 5] = [
+/// A round takes up to 72 datagrams of a socket. Of 70 requests of a client that need the table 64 wait, and 6 are dropped. What needs
+/// none waits for nothing: a Binding, an Allocate without credentials, of which the first 401 of 70 has no line and the others have one,
+/// and one that is a bad request. A commit of 100 ms has no line.
+const UP_TO_A_FAULT: [Row; 6] = [
     Row { ..ENDS },
     Row {
         datagram: PLAIN,
@@ -118,13 +118,18 @@ const UP_TO_A_FAULT: [Row; 5] = [
     },
     Row {
         datagram: SIGNED,
-        readings: 134,
-        answers: 64,
-        log: "1001 - 64 x 400 from 127.0.0.1\n1001 - dropped 6 requests: too many wait for the disk\n",
+        log: "1001 - 70 x 400 from 127.0.0.1\n",
         ..ENDS
     },
     Row {
-        datagram: SIGNED,
+        datagram: ALLOCATE,
+        readings: 134,
+        answers: 64,
+        log: "1001 - 63 x repeated allocate from 127.0.0.1\n1001 - dropped 6 requests: too many wait for the disk\n",
+        ..ENDS
+    },
+    Row {
+        datagram: ALLOCATE,
         count: 1,
         tick: 100,
         readings: 8,
@@ -132,7 +137,7 @@ const UP_TO_A_FAULT: [Row; 5] = [
         ..ENDS
     },
     Row {
-        datagram: SIGNED,
+        datagram: ALLOCATE,
         count: 1,
         tick: 101,
         readings: 8,

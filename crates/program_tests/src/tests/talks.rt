@@ -32,11 +32,11 @@ pub const ALICE: ClientCredentials<'static> = ClientCredentials {
 pub const BINDING: &[u8] =
     b"\x00\x01\x00\x00\x21\x12\xA4\x42\x01\x02\x03\x04\x05\x06\x07\x08\x09\x0A\x0B\x0C";
 
-/// An Allocate without attributes. It can change nothing, and is answered at once.
+/// An Allocate without attributes. Its answer, a challenge, is the same for every table, so it is answered at once.
 pub const PLAIN: &[u8] =
     b"\x00\x03\x00\x00\x21\x12\xA4\x42\x01\x02\x03\x04\x05\x06\x07\x08\x09\x0A\x0B\x0C";
 
-/// An Allocate with MESSAGE-INTEGRITY alone. It waits for a commit, and then its answer is an error.
+/// An Allocate with MESSAGE-INTEGRITY alone. It is answered at once too, with a 400.
 pub const SIGNED: &[u8] =
     b"\x00\x03\x00\x18\x21\x12\xA4\x42\x01\x02\x03\x04\x05\x06\x07\x08\x09\x0A\x0B\x0C\x00\x08\x00\x14\x00\x00\x00\x00\x00\x00\x00\x00\x00\x00\x00\x00\x00\x00\x00\x00\x00\x00\x00\x00";
 

@@ -1,21 +1,23 @@
 //! What a watch sees of a server whose clock goes on within a turn.
 
+use super::counted::Serving;
 use super::started::start;
-use super::talks::{ANY, PLAIN, SIGNED, new_disk};
+use super::talks::{ALICE, ANY, new_disk};
 use std::alloc::Allocator;
 use std::cell::Cell;
 use std::io;
 use std::rt::Clock;
 use std::test::Fail;
 use std::time::Duration;
-use turn_client::TimedSocket;
+use turn_client::Client;
 use turn_config::read_config;
 use turn_serving::{Commits, Watch};
 use turn_step::{Arrival, Outgoing};
 use turn_table::Table;
-use turn_types::Moment;
+use turn_types::{Method, Moment};
 
 const CONFIG: &[u8] = b"realm example.org
+user alice wonder
 secret 0000000000000000000000000000000000000000000000000000000000000000
 listen 127.0.0.1:0
 relay 127.0.0.1 63150 63159
@@ -53,7 +55,18 @@ impl<'s> Watch for &'s Seen {
         self.table.set(moment.seconds());
     }
 
-    fn arrives<A: Allocator + Copy>(&self, _table: &Table<A>, _arrival: &Arrival<'_>) {}
+    fn answered<A: Allocator + Copy>(
+        &self,
+        table: &Table<A>,
+        _arrival: &Arrival<'_>,
+        answer: Option<&Outgoing<A>>,
+    ) {
+        if answer.is_some() {
+            self.sent.set(table.moment().seconds());
+        }
+    }
+
+    fn submitted<A: Allocator + Copy>(&self, _table: &Table<A>, _arrival: &Arrival<'_>) {}
 
     fn sent<A: Allocator + Copy>(
         &self,
@@ -66,8 +79,6 @@ impl<'s> Watch for &'s Seen {
         }
     }
 
-    fn relayed<A: Allocator + Copy>(&self, _table: &Table<A>, _outgoing: &Outgoing<A>) {}
-
     fn shed(&self, _moment: Moment) {}
 
     fn committed(&self, _moment: Moment, _took: Duration) {
@@ -75,47 +86,57 @@ impl<'s> Watch for &'s Seen {
     }
 }
 
-/// A client's datagram, and the turn that answers it.
-fn play(rt: &HostRuntime, seen: &Seen, datagram: &[u8]) -> Result<(), Fail> {
+/// What a watch has seen: the second of the table, that of what was sent last, and how many commits there were.
+type Told = (u64, u64, u8);
+
+/// Of a challenge, which is answered at once, in the first second.
+const CHALLENGED: Told = (1_000, 1_000, 0);
+
+/// Of the Allocate after it, which waits: it is submitted when the clock is read for the second time in its turn.
+const ALLOCATED: Told = (1_002, 1_002, 1);
+
+fn expect(seen: &Seen, told: Told) -> Result<(), Fail> {
+    let (table, sent, commits) = (seen.table.get(), seen.sent.get(), seen.commits.get());
+    if (table, sent, commits) == told {
+        Ok(())
+    } else {
+        Err(Fail::new(format_args!("seen at {table}, sent at {sent}, {commits} commits")))
+    }
+}
+
+/// A client is challenged and gets an allocation, in a turn each.
+fn play(
+    serving: &mut Serving<'_, &Seen>,
+    clock: &Seconds,
+    client: &mut Client<'static>,
+    seen: &Seen,
+) -> Result<(), Fail> {
+    let first = client.plain_request(Method::ALLOCATE)?;
+    client.send(&first)?;
+    serving.turns(&clock, 1)?;
+    expect(seen, CHALLENGED)?;
+    client.take_challenge()?;
+    let second = client.request(Method::ALLOCATE, &[])?;
+    client.send(&second)?;
+    serving.turns(&clock, 1)?;
+    expect(seen, ALLOCATED)
+}
+
+#[test]
+fn the_table_is_seen_at_the_moment_of_a_request(rt: HostRuntime) -> Result<(), Fail> {
     let clock = Seconds {
         next: Cell::new(1_000),
     };
-    let configured = read_config(rt.alloc(), CONFIG)?;
-    let disk = new_disk(rt.alloc(), configured.config.limits())?;
-    let mut serving = start(rt, configured, Commits::Paced, &clock, disk, seen)?;
-    let client = TimedSocket::open(rt.alloc(), rt, ANY)?;
-    let sent = client.send(serving.local(), datagram);
-    let turned = serving.turns(&&clock, 1);
-    serving.close();
-    sent?;
-    turned?;
-    Ok(())
-}
-
-/// A datagram, the second at which it is submitted, and how many commits of requests that waited the turn has. What waits is
-/// submitted when the clock is read for the second time.
-const ROWS: [(&[u8], u64, u8); 2] = [(PLAIN, 1_000, 0), (SIGNED, 1_001, 1)];
-
-fn expect(rt: &HostRuntime, row: &(&[u8], u64, u8)) -> Result<(), Fail> {
-    let (datagram, second, commits) = *row;
     let seen = Seen {
         table: Cell::new(0),
         commits: Cell::new(0),
         sent: Cell::new(0),
     };
-    play(rt, &seen, datagram)?;
-    let (table, sent) = (seen.table.get(), seen.sent.get());
-    if table == second && sent == second && seen.commits.get() == commits {
-        Ok(())
-    } else {
-        Err(Fail::new(format_args!("seen at {table}, sent at {sent}")))
-    }
-}
-
-#[test]
-fn the_table_is_seen_at_the_moment_of_a_request(rt: HostRuntime) -> Result<(), Fail> {
-    for row in &ROWS {
-        expect(&rt, row)?;
-    }
-    Ok(())
+    let configured = read_config(rt.alloc(), CONFIG)?;
+    let disk = new_disk(rt.alloc(), configured.config.limits())?;
+    let mut serving = start(&rt, configured, Commits::Paced, &clock, disk, &seen)?;
+    let mut client = Client::open(rt.alloc(), &rt, ANY, serving.local(), ALICE)?;
+    let played = play(&mut serving, &clock, &mut client, &seen);
+    serving.close();
+    played
 }

@@ -9,7 +9,7 @@ use turn_codec::{AttributeType, Message};
 use turn_config::Configured;
 use turn_cred::Checker;
 use turn_relay::{ToClient, from_client, from_peer};
-use turn_rules::{ClientMessage, Decision, assess, decide};
+use turn_rules::{ClientMessage, Decision, Tableless, assess, decide, reply_without_table};
 use turn_table::Table;
 use turn_types::{Moment, ServerConfig};
 
@@ -193,6 +193,48 @@ fn refusal_takes_the_memory_of_the_reply(rt: HostRuntime) {
         growths(&rt, alloc, &scenario, FINGERPRINTED, None),
         (1, (false, true))
     );
+}
+
+/// A Binding, which is answered alike over every table.
+const BINDING: &[u8] =
+    b"\x00\x01\x00\x00\x21\x12\xa4\x42\x01\x02\x03\x04\x05\x06\x07\x08\x09\x0a\x0b\x0c";
+
+/// Whether there is memory for the reply to a request.
+fn is_replied(
+    rt: &impl Abort,
+    refusing: &FailingAlloc<Global>,
+    config: &ServerConfig,
+    request: &ClientMessage<'_>,
+    moment: Moment,
+) -> bool {
+    match reply_without_table(refusing, config, request, moment) {
+        Ok(Tableless::Reply(Some(_))) => true,
+        Ok(_) => panic!(rt; "no reply"),
+        Err(_) => false,
+    }
+}
+
+fn reply_with_one_growth(rt: &impl Abort, alloc: Global, scenario: &Scenario) {
+    let Configured { config, .. } = scenario.configured().expect(rt, "a configuration");
+    let moment = scenario.server().expect(rt, "a server").table().moment();
+    let message = Message::parse(BINDING).expect(rt, "a message");
+    let request = ClientMessage {
+        message,
+        five_tuple: five_tuple(FIRST),
+        verdict: None,
+    };
+    let refusing = FailingAlloc::new(alloc, 0);
+    assert!(rt; !is_replied(rt, &refusing, &config, &request, moment));
+    assert!(rt; refusing.has_refused());
+    refusing.arm(1);
+    assert!(rt; is_replied(rt, &refusing, &config, &request, moment) && refusing.left() == 0);
+}
+
+#[test]
+fn reply_without_a_table_takes_its_memory(rt: HostRuntime) {
+    let alloc = rt.alloc();
+    let scenario = Scenario::begin(alloc, alloc, OPENED).expect(&rt, "a server");
+    reply_with_one_growth(&rt, alloc, &scenario);
 }
 
 /// The text "hello" to and from 203.0.113.5:7000.

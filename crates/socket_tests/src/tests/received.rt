@@ -55,7 +55,7 @@ fn only_would_block_says_that_nothing_waits(rt: HostRuntime) -> Result<(), Fail>
     let calls = Cell::new(0);
     let socket = FailingOnce { calls: &calls };
     let mut buffer = Buffer::new(rt.alloc())?;
-    let mut wire = SocketRecord::new();
+    let mut wire = SocketRecord::new(&rt);
     assert!(rt; matches!(buffer.receive(&socket, &mut wire), Received::Failed));
     assert!(rt; matches!(buffer.receive(&socket, &mut wire), Received::Failed));
     assert!(rt; is_datagram(buffer.receive(&socket, &mut wire)));

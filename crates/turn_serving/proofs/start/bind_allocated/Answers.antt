@@ -16,6 +16,7 @@ loop-entry-preserved g c =
     record {
       can_next = search;
       is_finite = search;
+      ip = search;
       first = search;
       last = search;
       draws = search;

@@ -7,6 +7,7 @@ abbrev pub invariant-loop-entry : goal.invariant-loop-entry
 invariant-loop-entry g l = record {
   can_next : (goal.iterator-loop-entry g).can_next l.entry-iterator;
   is_finite : (goal.iterator-loop-entry g).is_finite l.entry-iterator;
+  ip : l.sockets.binder.ip ≡ l.fn.sockets.binder.ip;
   first : l.sockets.first ≡ l.fn.sockets.first;
   last : l.sockets.last ≡ l.fn.sockets.last;
   draws : l.sockets.draws ≡ l.fn.sockets.draws;

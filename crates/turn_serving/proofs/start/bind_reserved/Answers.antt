@@ -9,7 +9,7 @@ loop-port-preserved g c =
     let mid = c.loop-port.sockets.sockets in
     let new = c.bind.new.sockets.sockets in
     let binding = bound_next (λ s. s.0) old mid new c.args.reserved.now c.loop-port.port-index _ c.loop-port-test.true c.loop-port.invariant.binding c.in_ok-bind.ensures.bound in
-    record { first = search; last = search; draws = search; binding = binding }
+    record { ip = search; first = search; last = search; draws = search; binding = binding }
 
 pub returns-clause-bound : goal.returns-clause-bound
 returns-clause-bound g c =

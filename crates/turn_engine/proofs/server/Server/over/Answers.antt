@@ -6,10 +6,12 @@ use Rattle.turn_engine.proofs.Opened.{fresh_sound, made, spent}
 use Rattle.turn_engine.proofs.server.Server.over.Goals as goal
 
 pub invariant_of-result : goal.invariant_of-result
-invariant_of-result g c =
-    fresh_sound c.args.config.limits _ _ _ _ _ _ _ c.in-Ok-new.machine.table c.args.opened.table (ap (λ m. m.config.limits) c.in-Ok-new.ensures.ok) (ap (λ m. m.table) c.in-Ok-new.ensures.ok)
-    c.requires.bounds.0 (ap (λ b. b.bounds) c.in-Ok.ensures ∙ c.limits.ensures.value) c.requires.bounds.1 (ap (λ b. b.version) c.in-Ok.ensures ∙ c.info-version.ensures.version) (ap (λ b. b.acts) c.in-Ok.ensures)
-    (ap (λ m. m.pairs) c.in-Ok-new.ensures.ok ∙ c.pairs_of.ensures ∙ ap has_pairs c.info-version.ensures.version) c.requires.holds
+invariant_of-result g c = (
+  fresh_sound c.args.config.limits _ _ _ _ _ _ _ c.in-Ok-new.machine.table c.args.opened.table (ap (λ m. m.config.limits) c.in-Ok-new.ensures.ok) (ap (λ m. m.table) c.in-Ok-new.ensures.ok)
+      c.requires.bounds.0 (ap (λ b. b.bounds) c.in-Ok.ensures ∙ c.limits.ensures.value) c.requires.bounds.1 (ap (λ b. b.version) c.in-Ok.ensures ∙ c.info-version.ensures.version) (ap (λ b. b.acts) c.in-Ok.ensures)
+      (ap (λ m. m.pairs) c.in-Ok-new.ensures.ok ∙ c.pairs_of.ensures ∙ ap has_pairs c.info-version.ensures.version) c.requires.holds,
+  λ none. record { payload_is = ap (λ b. b.payload) c.in-Ok.ensures; tuples_are = ap (λ b. b.tuples) c.in-Ok.ensures; outs_are = ap (map sent_of) c.new-in-Ok-new.ensures.items },
+)
 
 pub returns-in-Ok-new-clause-ok : goal.returns-in-Ok-new-clause-ok
 returns-in-Ok-new-clause-ok g c =

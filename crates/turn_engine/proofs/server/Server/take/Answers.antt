@@ -12,9 +12,11 @@ use Rattle.turn_engine.proofs.server.Server.take.Goals as goal
 
 pub invariant_of-self : goal.invariant_of-self
 invariant_of-self g c =
-    let le = subst (λ s. now_of s ≤ c.args.moment) (sym c.self.view_is) c.requires.clock in
-    sound_later _ _ _ _ _ _ _ _ c.args.moment _ _ c.self.inside.machine.table c.prepare.new.self.table le c.prepare.ensures.table
-    (ap (λ (x : Config). x.limits) c.prepare.ensures.setting.config) c.prepare.ensures.setting.pairs c.self.invariant
+    let le = subst (λ s. now_of s ≤ c.args.moment) (sym c.self.view_is) c.requires.clock in (
+      sound_later _ _ _ _ _ _ _ _ c.args.moment _ _ c.self.inside.machine.table c.prepare.new.self.table le c.prepare.ensures.table
+          (ap (λ (x : Config). x.limits) c.prepare.ensures.setting.config) c.prepare.ensures.setting.pairs c.self.invariant.0,
+      c.self.invariant.1,
+    )
 
 pub returns-in_err-step-clause-store : goal.returns-in_err-step-clause-store
 returns-in_err-step-clause-store g c = ap (λ s. s.store) c.self.view_is
@@ -49,9 +51,11 @@ returns-in_err-step-clause-memory_rests g c = λ h k recovers.
 
 pub invariant_of-self-then-is_err : goal.invariant_of-self-then-is_err
 invariant_of-self-then-is_err g c =
-    let le = subst (λ s. now_of s ≤ c.args.moment) (sym c.self.view_is) c.requires.clock in
-    rw c.abandon.ensures.table (sound_later _ _ _ _ _ _ _ _ c.args.moment _ _ c.self.inside.machine.table c.prepare.new.self.table le c.prepare.ensures.table
-    (ap (λ (x : Config). x.limits) (c.abandon.ensures.setting.config ∙ c.prepare.ensures.setting.config)) (c.abandon.ensures.setting.pairs ∙ c.prepare.ensures.setting.pairs) c.self.invariant)
+    let le = subst (λ s. now_of s ≤ c.args.moment) (sym c.self.view_is) c.requires.clock in (
+      rw c.abandon.ensures.table (sound_later _ _ _ _ _ _ _ _ c.args.moment _ _ c.self.inside.machine.table c.prepare.new.self.table le c.prepare.ensures.table
+          (ap (λ (x : Config). x.limits) (c.abandon.ensures.setting.config ∙ c.prepare.ensures.setting.config)) (c.abandon.ensures.setting.pairs ∙ c.prepare.ensures.setting.pairs) c.self.invariant.0),
+      λ none. let empty = c.self.invariant.1 none in record { payload_is = empty.payload_is; tuples_are = empty.tuples_are; outs_are = ap (map sent_of) c.reserve.ensures.items ∙ empty.outs_are },
+    )
 
 pub returns-then-is_err-clause-store : goal.returns-then-is_err-clause-store
 returns-then-is_err-clause-store g c = ap (λ s. s.store) c.self.view_is
@@ -118,10 +122,12 @@ invariant_of-self-2 g c =
     let room = rw (← c.self.view_is) at c.requires.room in
     let same = ap (λ (x : Config). x.limits.acts) c.prepare.ensures.setting.config in
     let later = sound_later _ _ _ _ _ _ _ _ c.args.moment _ _ c.self.inside.machine.table c.prepare.new.self.table le c.prepare.ensures.table
-    (ap (λ (x : Config). x.limits) c.prepare.ensures.setting.config) c.prepare.ensures.setting.pairs c.self.invariant in
-    sound_changed _ _ _ _ _ _ _ _ _ _ _ c.args.moment _ _ c.prepare.new.self.table c.apply-datagram.new.self.table c.in_ok-step.step.change c.apply-datagram.ensures.table
-    (written_by c.self.inside.store.version _ c.in_ok-step.step.change (c.prepare.ensures.setting.pairs ∙ c.self.invariant.pairs_is) c.in_ok-step.ensures.ready.no_pairs)
-    (ap (λ (x : Config). x.limits) c.apply-datagram.ensures.setting.config) c.apply-datagram.ensures.setting.pairs c.stage_act.ensures.bounds c.stage_act.ensures.version c.stage_act.ensures.acts (omega (arith, room, same)) later
+    (ap (λ (x : Config). x.limits) c.prepare.ensures.setting.config) c.prepare.ensures.setting.pairs c.self.invariant.0 in (
+      sound_changed _ _ _ _ _ _ _ _ _ _ _ c.args.moment _ _ c.prepare.new.self.table c.apply-datagram.new.self.table c.in_ok-step.step.change c.apply-datagram.ensures.table
+          (written_by c.self.inside.store.version _ c.in_ok-step.step.change (c.prepare.ensures.setting.pairs ∙ c.self.invariant.0.pairs_is) c.in_ok-step.ensures.ready.no_pairs)
+          (ap (λ (x : Config). x.limits) c.apply-datagram.ensures.setting.config) c.apply-datagram.ensures.setting.pairs c.stage_act.ensures.bounds c.stage_act.ensures.version c.stage_act.ensures.acts (omega (arith, room, same)) later,
+      λ none. absurd (omega arith),
+    )
 
 pub returns-clause-store : goal.returns-clause-store
 returns-clause-store g c = ap (λ s. s.store) c.self.view_is
@@ -158,7 +164,7 @@ returns-clause-ok g c = λ h k recovers.
     let answers = subst (λ s. AnswersArrival (setting_of g.H.AuthHandler.key_of g.G.RelayAddressGenerator.range s.machine) h t
     (has_failed (failures s.machine.ports) (failures c.prepare.new.self.ports)) (arrival_of c.args.arrival.now) c.in_ok-step.step) c.self.view_is (c.in_ok-step.ensures.answers h after_old) in
     let after = subst (λ (u : ℕ). IsAfter c.apply-datagram.new.self (h ++ added u change)) moment (c.apply-datagram.ensures.after h (c.prepare.ensures.after h after_old)) in
-    let here = written_by c.self.inside.store.version _ change (c.prepare.ensures.setting.pairs ∙ c.self.invariant.pairs_is) c.in_ok-step.ensures.ready.no_pairs in
+    let here = written_by c.self.inside.store.version _ change (c.prepare.ensures.setting.pairs ∙ c.self.invariant.0.pairs_is) c.in_ok-step.ensures.ready.no_pairs in
     let writes = subst (λ s. IfSome change (λ x. Writes s.store.version x.act)) c.self.view_is here in
     record {
       outcome = c.in_ok-step.step;

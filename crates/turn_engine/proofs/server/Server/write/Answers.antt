@@ -1,4 +1,4 @@
-use Rattle.std.proofs.Common.{◌≡◌, rules, arith, sym, ap, ◌∙◌, subst, refl}
+use Rattle.std.proofs.Common.{rules, arith, sym, ap, ◌∙◌, subst, refl}
 use Rattle.turn_disk.proofs.Device.{uses_as}
 use Rattle.turn_disk.proofs.Passing.{passes_none}
 use Rattle.turn_record.specs.Prelude.{Holds}
@@ -64,17 +64,19 @@ invariant_of-self g c =
     let kept = form_kept c.self.inside.store c.append-appended.new.self _ _ c.append-appended.result c.append-appended.ensures.framed c.append-appended.ensures.compacted c.append-appended.ensures.stops in
     let same = version_kept c.self.inside.store c.append-appended.new.self _ _ c.append-appended.result c.append-appended.ensures.framed c.append-appended.ensures.compacted c.append-appended.ensures.stops in
     let table = c.self.inside.machine.table in
-    let s = c.self.invariant in
-    record {
-      store_is = ap (λ (f : Form). f.bounds) kept ∙ s.store_is;
-      batch_is = s.batch_is;
-      table_is = s.table_is;
-      few = s.few;
-      capped = s.capped;
-      same_version = s.same_version ∙ sym same;
-      pairs_is = s.pairs_is ∙ ap has_pairs (sym same);
-      holds = subst (λ (v : Version). Holds v table.contents) (sym same) s.holds;
-    }
+    let s = c.self.invariant.0 in (
+      record {
+        store_is = ap (λ (f : Form). f.bounds) kept ∙ s.store_is;
+        batch_is = s.batch_is;
+        table_is = s.table_is;
+        few = s.few;
+        capped = s.capped;
+        same_version = s.same_version ∙ sym same;
+        pairs_is = s.pairs_is ∙ ap has_pairs (sym same);
+        holds = subst (λ (v : Version). Holds v table.contents) (sym same) s.holds;
+      },
+      c.self.invariant.1,
+    )
 
 pub returns-clause-rest : goal.returns-clause-rest
 returns-clause-rest g c = ap (λ (s : ServerState _ _ _). record s { store = c.append-appended.new.self }) c.self.view_is
@@ -96,8 +98,8 @@ pub returns-clause-call : goal.returns-clause-call
 returns-clause-call g c =
     let runs = sym c.is_stopped.ensures ∙ c.if-is_stopped.false in
     let some = some_acts c.acts.result _ c.acts.ensures.value c.if-acts-eq0.false in
-    let few = few_acts _ _ _ _ c.self.invariant.few c.self.invariant.capped (ap (λ (b : Bounds). b.acts) c.self.invariant.store_is) in
-    let same = c.self.invariant.store_is in
+    let few = few_acts _ _ _ _ c.self.invariant.0.few c.self.invariant.0.capped (ap (λ (b : Bounds). b.acts) c.self.invariant.0.store_is) in
+    let same = c.self.invariant.0.store_is in
     let range = c.table.ensures.at.moment in
     let kept = form_kept c.self.inside.store c.append-appended.new.self _ _ c.append-appended.result c.append-appended.ensures.framed c.append-appended.ensures.compacted c.append-appended.ensures.stops in
     let same_version = version_kept c.self.inside.store c.append-appended.new.self _ _ c.append-appended.result c.append-appended.ensures.framed c.append-appended.ensures.compacted c.append-appended.ensures.stops in

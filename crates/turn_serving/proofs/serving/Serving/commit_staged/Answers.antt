@@ -1,34 +1,23 @@
-use Rattle.std.proofs.Common.{[], ◌≡◌, ◌++◌, ℕ, List, ap, append-nil, false, map, refl, subst, sym, ◌∙◌}
-use Rattle.turn_engine.specs.Prelude.{now_of}
-use Rattle.turn_sockets.specs.Moments.{IsMoment}
-use Rattle.turn_sockets.specs.Wire.{Passed}
+use Rattle.std.proofs.Common.{ap, is_none, map, refl}
+use Rattle.std.specs.Result.{result_map_both}
 use Rattle.turn_step.specs.Prelude.{sent_of}
-use Rattle.turn_step.specs.declared.arrival.Outgoing.{Outgoing}
-use Rattle.turn_serving.specs.Serving.{ServingState, wire_of}
-use Rattle.turn_serving.specs.Wire.{Addresses, SendsEach, addresses_of, on_wire}
-use Rattle.turn_serving.proofs.Besides.{committed_beside, passes_to}
-use Rattle.turn_serving.proofs.Wire.{passes_of, unfinished}
+use Rattle.turn_serving.proofs.Events.{fails_beside, sends_beside}
+use Rattle.turn_serving.proofs.Visiting.{not_ok}
 use Rattle.turn_serving.proofs.serving.Serving.commit_staged.Goals as goal
 
--- of the same server
-current : {D H G : Type 0} {told : ℕ → Type 0} {view s : ServingState D H G} → view ≡ s → (s.server.store.stopped ≡ false → IsMoment told (now_of s.server) (now_of s.server)) → view.server.store.stopped ≡ false → IsMoment told (now_of view.server) (now_of view.server)
-current {D = D} {H = H} {G = G} {told = told} is now = subst (λ (x : ServingState D H G). x.server.store.stopped ≡ false → IsMoment told (now_of x.server) (now_of x.server)) (sym is) now
+pub returns-in_err-outgoing-clause-does : goal.returns-in_err-outgoing-clause-does
+returns-in_err-outgoing-clause-does g c =
+    fails_beside c.requires.runs c.requires.current (not_ok _ c.from_residual.result c.from_residual.ensures.1) c.commit_beside-committed.ensures.reads c.commit_beside-committed.ensures.call
+    (ap (result_map_both (λ outs. map sent_of outs.items) (λ fault. fault)) c.in_err-outgoing.was) c.commit_beside-committed.ensures.rest
 
-pub returns-in_err-outgoing-clause-wire : goal.returns-in_err-outgoing-clause-wire
-returns-in_err-outgoing-clause-wire g c = unfinished (λ _. tt) (passes_of c.self.view_is (committed_beside [] c.in_err-outgoing.ensures.passes c.in_err-outgoing.ensures.idle (current c.self.view_is c.requires.current) c.in_err-outgoing.ensures.call (sym (append-nil _)) (refl, tt)))
+pub returns-in-Some-clause-does : goal.returns-in-Some-clause-does
+returns-in-Some-clause-does g c =
+    sends_beside c.requires.runs c.requires.current (λ d. absurd (cc)) c.commit_beside-committed.ensures.reads c.commit_beside-committed.ensures.call
+    (ap (result_map_both (λ outs. map sent_of outs.items) (λ fault. fault)) c.in_ok-outgoing.was) c.commit_beside-committed.ensures.rest c.self.view_is
+    (ap (map sent_of) c.deref.ensures.value) c.send_all.ensures refl c.note_commit.ensures
 
-pub returns-clause-wire : goal.returns-clause-wire
-returns-clause-wire g c =
-    let out = c.send_all.ensures.0 in
-    let has = g.G.RelaySockets.has_socket in
-    let told = map sent_of c.in_ok-outgoing.outgoing.items in
-    let inside = c.self-2.inside in
-    let here = addresses_of inside.listening.sockets.items inside.listening.own in
-    let one = subst (λ (l : List (Outgoing _)). SendsEach here (has inside.server.machine.ports) (map sent_of l) out) c.deref.ensures.value c.send_all.ensures.2 in
-    let two = subst (λ s. SendsEach here (has s.server.machine.ports) told out) c.self-2.view_is one in
-    let sends = subst (λ (a : Addresses). SendsEach a (has c.commit_beside.new.self.server.machine.ports) told out) (ap (λ s. s.addresses) c.self-2.view_is ∙ c.commit_beside.ensures.addresses) two in
-    unfinished (λ _. tt)
-    (passes_of c.self.view_is
-    (passes_to (ap wire_of c.note_commit.ensures ∙ ap (λ s. on_wire s.server s.backlog c.send_all.new.wire.passed) c.self-2.view_is)
-    (committed_beside out c.in_ok-outgoing.ensures.passes c.in_ok-outgoing.ensures.idle (current c.self.view_is c.requires.current) c.in_ok-outgoing.ensures.call
-    (c.send_all.ensures.1 ∙ ap (λ (l : List Passed). l ++ out) (ap (λ s. s.passed) c.self-2.view_is)) (sends, tt))))
+pub returns-clause-does : goal.returns-clause-does
+returns-clause-does g c =
+    sends_beside c.requires.runs c.requires.current (λ d. ap is_none c.in-None.is) c.commit_beside-committed.ensures.reads c.commit_beside-committed.ensures.call
+    (ap (result_map_both (λ outs. map sent_of outs.items) (λ fault. fault)) c.in_ok-outgoing.was) c.commit_beside-committed.ensures.rest c.self.view_is
+    (ap (map sent_of) c.deref.ensures.value) c.send_all.ensures refl c.note_commit.ensures

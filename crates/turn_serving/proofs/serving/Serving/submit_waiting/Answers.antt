@@ -1,23 +1,25 @@
-use Rattle.std.proofs.Common.{ap, subst, sym, append-nil}
-use Rattle.std.proofs.lemmas.Result.{on_ok_weaker}
-use Rattle.turn_sockets.specs.Moments.{IsMoment}
-use Rattle.turn_serving.specs.Wire.{addresses_of}
-use Rattle.turn_serving.proofs.Order.{order_from, told_order}
-use Rattle.turn_serving.proofs.Turns.{at_told, from}
-use Rattle.turn_serving.proofs.Wire.{nothing_passes, passes_of, passes_told, passes_at}
+use Rattle.std.proofs.Common.{refl, ◌∙◌}
+use Rattle.turn_serving.proofs.Events.{does_in_row, does_nothing, does_told}
 use Rattle.turn_serving.proofs.serving.Serving.submit_waiting.Goals as goal
 
-pub returns-clause-served : goal.returns-clause-served
-returns-clause-served g c = at_told (subst (IsMoment _ _) (sym c.begin-turn.ensures.at) c.in_ok-moment.ensures.is_one) (from (ap (λ s. s.server) c.self.view_is) c.submit_waiting.ensures.served)
+pub returns-in_err-moment-clause-does : goal.returns-in_err-moment-clause-does
+returns-in_err-moment-clause-does g c = does_nothing refl
 
-pub returns-clause-order : goal.returns-clause-order
-returns-clause-order g c =
-    on_ok_weaker c.submit_waiting.result
-    (λ kept. told_order (subst (IsMoment _ _) (sym c.begin-turn.ensures.at) c.in_ok-moment.ensures.is_one) (order_from (ap (λ s. s.server) c.self.view_is) (ap (λ s. s.backlog) c.self.view_is) kept))
-    c.submit_waiting.ensures.order
+pub loop-count-init : goal.loop-count-init
+loop-count-init g c = record { does = does_nothing refl; in_time = c.in_ok-moment.ensures.late; store = refl; manner = refl }
 
-pub returns-in_err-moment-clause-wire : goal.returns-in_err-moment-clause-wire
-returns-in_err-moment-clause-wire g c = nothing_passes _ _ (sym (append-nil _))
+pub loop-count-preserved : goal.loop-count-preserved
+loop-count-preserved g c =
+    let before = c.loop-count.invariant in
+    record {
+      does = does_in_row {least = 0} {more = 0} (λ d. d) before.does c.submit_next.ensures.does;
+      in_time = c.submit_next.ensures.in_time;
+      store = c.submit_next.ensures.store ∙ before.store;
+      manner = c.submit_next.ensures.manner ∙ before.manner;
+    }
 
-pub returns-clause-wire : goal.returns-clause-wire
-returns-clause-wire g c = passes_told (passes_of c.self.view_is (passes_at (ap (λ l. addresses_of l.sockets.items l.own) c.begin-turn.ensures.listening) c.submit_waiting.ensures.wire)) (subst (IsMoment _ _) (sym c.begin-turn.ensures.at) c.in_ok-moment.ensures.is_one)
+pub returns-then-not-submit_next-clause-does : goal.returns-then-not-submit_next-clause-does
+returns-then-not-submit_next-clause-does g c = does_told c.in_ok-moment.ensures.is_one (does_in_row {least = 0} {more = 0} (λ d. d) c.loop-count.invariant.does c.submit_next.ensures.does)
+
+pub returns-clause-does : goal.returns-clause-does
+returns-clause-does g c = does_told c.in_ok-moment.ensures.is_one c.loop-count.invariant.does

@@ -1,26 +1,20 @@
-use Rattle.std.proofs.Common.{ap, subst, sym, append-nil, ◌∙◌}
-use Rattle.std.proofs.lemmas.Result.{on_ok_weaker}
-use Rattle.turn_sockets.specs.Moments.{IsMoment}
-use Rattle.turn_serving.specs.Wire.{addresses_of}
-use Rattle.turn_serving.proofs.Order.{order_from, told_order}
-use Rattle.turn_serving.proofs.Turns.{at_told, from}
-use Rattle.turn_serving.proofs.Wire.{nothing_passes, passes_of, passes_told, passes_at}
+use Rattle.std.proofs.Common.{ap, refl, ◌∙◌}
+use Rattle.turn_serving.proofs.Events.{advanced_idle, always, looked, takes_round}
+use Rattle.turn_serving.proofs.Visiting.{not_ok}
 use Rattle.turn_serving.proofs.serving.Serving.take_round.Goals as goal
 
-pub returns-clause-served : goal.returns-clause-served
-returns-clause-served g c = at_told (subst (IsMoment _ _) (sym c.begin-turn.ensures.at) c.in_ok-moment.ensures.is_one) (from (ap (λ s. s.server) c.self.view_is) c.take_round.ensures.served)
+pub returns-in_err-begin_round-clause-does : goal.returns-in_err-begin_round-clause-does
+returns-in_err-begin_round-clause-does g c = looked _ (not_ok _ c.from_residual.result c.from_residual.ensures.1) c.begin_round.ensures.rest
 
-pub returns-clause-order : goal.returns-clause-order
-returns-clause-order g c =
-    on_ok_weaker c.take_round.result
-    (λ kept. told_order (subst (IsMoment _ _) (sym c.begin-turn.ensures.at) c.in_ok-moment.ensures.is_one) (order_from (ap (λ s. s.server) c.self.view_is) (ap (λ s. s.backlog) c.self.view_is) kept))
-    c.take_round.ensures.order
+pub returns-in_err-moment-clause-does : goal.returns-in_err-moment-clause-does
+returns-in_err-moment-clause-does g c = looked _ (not_ok _ c.from_residual-in_err-moment.result c.from_residual-in_err-moment.ensures.1) c.begin_round.ensures.rest
 
-pub returns-in_err-moment-clause-wire : goal.returns-in_err-moment-clause-wire
-returns-in_err-moment-clause-wire g c = nothing_passes _ _ (sym (append-nil _))
+pub returns-clause-does : goal.returns-clause-does
+returns-clause-does g c =
+    takes_round c.begin_round.ensures.rest c.in_ok-begin_round.ensures.begun.0 c.in_ok-begin_round.ensures.begun.1 c.requires.runs c.in_ok-moment.ensures.is_one (c.self.view_is ∙ c.refresh.ensures) c.advance.ensures.call c.read_round.ensures.visits
+    c.read_round.ensures.rest
 
-pub returns-clause-wire : goal.returns-clause-wire
-returns-clause-wire g c = passes_told (passes_of c.self.view_is (passes_at (ap (λ l. addresses_of l.sockets.items l.own) c.begin-turn.ensures.listening) c.take_round.ensures.wire)) (subst (IsMoment _ _) (sym c.begin-turn.ensures.at) c.in_ok-moment.ensures.is_one)
-
-pub returns-clause-current : goal.returns-clause-current
-returns-clause-current g c = on_ok_weaker c.take_round.result (λ reached runs. subst (IsMoment _ _) (sym (reached runs ∙ c.begin-turn.ensures.at)) c.in_ok-moment.ensures.is_one) c.take_round.ensures.reached
+pub returns-clause-idle : goal.returns-clause-idle
+returns-clause-idle g c idle =
+    always c.read_round.result
+    (advanced_idle (ap (λ s. s.server) (c.self.view_is ∙ c.refresh.ensures ∙ c.begin_round.ensures.rest)) c.advance.ensures.call (ap (λ s. s.server) c.read_round.ensures.rest) idle)

@@ -1,4 +1,5 @@
 use Rattle.std.proofs.Common.{true, Err, Ok, sym, ap, ◌∙◌, refl, subst}
+use Rattle.turn_sockets.specs.Backlog.{waiting_of}
 use Rattle.turn_store.specs.Prelude.{Carries}
 use Rattle.turn_types.specs.Prelude.{Config}
 use Rattle.turn_types.specs.declared.limits.Bounds.{Bounds}
@@ -75,3 +76,6 @@ returns-clause-same g c =
 pub returns-clause-stop : goal.returns-clause-stop
 returns-clause-stop g c =
     rw (c.new.ensures.server, c.in-Ok-over.ensures.ok) (store_images g.D.Disk (c.in-Ok-carry_over.ensures.opens c.args.disk _ c.in-Ok.ensures.opens))
+
+pub returns-clause-waits : goal.returns-clause-waits
+returns-clause-waits g c f = ap (λ b. waiting_of b f) c.new.ensures.backlog ∙ c.in-Ok-bind_beside.ensures.waits f
