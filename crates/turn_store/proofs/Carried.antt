@@ -1,5 +1,5 @@
 -- An opened store whose table is written as version 2 into the other area.
-use Rattle.std.proofs.Common.{◌≡◌, ℕ, ◌+◌, ◌≤◌, ◌<◌, ◌-◌, ◌++◌, Bool, true, false, List, [], length, refl, sym, ap, ◌∙◌, subst, arith, append-nil, inl, inr, ◌⊎◌, Result, Ok, Err, IfOk, IfErr}
+use Rattle.std.proofs.Common.{◌≡◌, ℕ, ◌+◌, ◌≤◌, ◌<◌, ◌++◌, Bool, true, false, List, [], length, refl, sym, ap, ◌∙◌, subst, arith, append-nil, inl, inr, ◌⊎◌, Result, Ok, Err, IfOk, IfErr}
 use Rattle.turn_disk.proofs.Since.{since_join, since_weaken}
 use Rattle.turn_disk.specs.Prelude.{State, Trace, EachImageSince, IsImage}
 use Rattle.turn_history.specs.Prelude.{IsFitting, History, clock, Bounds}
@@ -54,12 +54,12 @@ module _ {D : Type 0} (old : StoreState D) (t : Snapshot) where
   over disk = carried old (carried_area old (length next)) disk
 
   pub carry_shown : (before : State) (s : List ℕ) (ps : List (List ℕ)) → Shows old before s ps → (after : State) (disk : D) (area : Area) (start size : ℕ) → start ≡ old.area.start → size ≡ length next → area ≡ carried_area old size
-      → RecoversToParts V2 (form_of old) old.other old.area.start (old.generation + 1) (14 + size) true next [] after
+      → RecoversToParts V2 (form_of old) old.other old.area.start (old.generation + 1) (14 + length next) true next [] after
       → Shows (record old { disk = disk; version = V2; area = area; other = start; generation = old.generation + 1; frames = 0; other_is_below = true; stopped = false }) after next []
   carry_shown before s ps shows after disk area start size start_is size_is area_is done =
       subst (λ (n : ℕ). Shows (record old { disk = disk; version = V2; area = area; other = n; generation = old.generation + 1; frames = 0; other_is_below = true; stopped = false }) after next []) (sym start_is)
       (subst (λ (a : Area). Shows (record old { disk = disk; version = V2; area = a; other = old.area.start; generation = old.generation + 1; frames = 0; other_is_below = true; stopped = false }) after next []) (sym area_is)
-      (record { recovers = done; frames = refl }))
+      (record { recovers = subst (λ (n : ℕ). RecoversToParts V2 (form_of old) old.other old.area.start (old.generation + 1) (14 + n) true next [] after) (sym size_is) done; frames = refl }))
 
   module _ (before : State) (form : Form) (h : History) (c : ℕ) (o : OpensTo form h c old before t) (small : t.moment < end_of_moments) where
     pub over_rests : (disk : D) (after : State) → Shows (over disk) after next [] → OpensTo form h c (over disk) after t

@@ -1,5 +1,5 @@
 -- What snapshots and payloads encode.
-use Rattle.std.proofs.Common.{◌≡◌, ◌≤◌, ◌<◌, ◌-◌, ℕ, List, [], ◌∷◌, ◌++◌, map, max, refl, sym, ap, ◌∙◌, subst, arith, append_assoc, append-nil}
+use Rattle.std.proofs.Common.{◌≡◌, ◌≤◌, ◌<◌, ℕ, List, [], ◌∷◌, ◌++◌, map, max, refl, sym, ap, ◌∙◌, subst, arith, append_assoc, append-nil}
 use Rattle.std.specs.List.{AllByRecursion}
 use Rattle.turn_history.specs.Prelude.{IsFitting, FitsAfter, Event, History, clock, AllFrom, table, Bounds}
 use Rattle.turn_history.proofs.Histories.{clock-append, fitting-split, fits_in_range, fits_never_fall}

@@ -1,6 +1,7 @@
 pub mod Appends
 pub mod Carried
 pub mod Choices
+pub mod Commits
 pub mod Fed
 pub mod Formats
 pub mod NeverRefused

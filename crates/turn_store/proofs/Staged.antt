@@ -1,8 +1,10 @@
--- How calls in two stages go on.
-use Rattle.std.proofs.Common.{◌≡◌, ◌⊎◌, inl, ℕ, List, refl}
-use Rattle.turn_disk.specs.Prelude.{Trace, EachImageSince, IsSettled, WritesOnce}
+-- How calls go on, in what they leave of a disk.
+use Rattle.std.proofs.Common.{◌≡◌, ◌⊎◌, ◌∙◌, inl, ℕ, List, ap, refl}
+use Rattle.turn_disk.specs.Prelude.{Trace, EachImageSince, IsImage, IsSettled, Reads, WritesOnce}
+use Rattle.turn_disk.specs.declared.disk.Disk as disks
+use Rattle.turn_disk.proofs.Device.{uses_as, uses_of, uses_then}
 use Rattle.turn_disk.proofs.Since.{since_same, since_join, since_weaken}
-use Rattle.turn_store.specs.Prelude.{InStages, InStagesAt}
+use Rattle.turn_store.specs.Prelude.{InStages, InStagesAt, Settles}
 
 -- a call that never comes to its second stage
 pub stages_first_at : (gate : ℕ) (old new : Trace) (P Q : List ℕ → Type 0) → ((image : List ℕ) → P image → Q image) → EachImageSince old new P → InStagesAt gate old new P Q
@@ -38,3 +40,18 @@ stages_all_at gate old new P Q to stages = since_join old stages.mid new Q (sinc
 
 pub stages_all : (old new : Trace) (P Q : List ℕ → Type 0) → ((image : List ℕ) → P image → Q image) → InStages old new P Q → EachImageSince old new Q
 stages_all old new P Q to stages = stages_all_at stages.0 old new P Q to stages.1
+
+-- that a device call failed may be said in another way
+pub settles_as : {D : Type 0} {disk : disks.Ghosts D} {old new : D} {P Q : Type 0} → (Q → P) → (P → Q) → Settles disk old new P → Settles disk old new Q
+settles_as back on settles = record { uses = uses_as back on settles.uses; same = settles.same; stop = settles.stop; settled = λ fine. settles.settled (λ failed. fine (on failed)) }
+
+-- a sync, and nothing but reads after it
+pub settles_then : {D : Type 0} {disk : disks.Ghosts D} {old mid new : D} {P Q : Type 0} → Settles disk old mid P → (P → ⊥) → Reads disk mid new Q → Settles disk old new Q
+settles_then {disk = disk} {old = old} {mid = mid} {new = new} settles none reads = record {
+  uses = uses_then settles.uses none (uses_of reads);
+  same = λ h. ap (λ (t : Trace). t.now.bytes) (reads.same h) ∙ settles.same (reads.crash_model h);
+  stop = λ h.
+      let stop = settles.stop (reads.crash_model h) in
+      since_join (disk.trace old) (disk.trace mid) (disk.trace new) (IsImage (disk.trace old).now) stop (since_same (disk.trace mid) (disk.trace new) (IsImage (disk.trace old).now) (reads.same h) stop.after);
+  settled = λ fine h. ap (λ (t : Trace). t.now.pending) (reads.same h) ∙ settles.settled none (reads.crash_model h);
+}

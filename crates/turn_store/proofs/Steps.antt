@@ -51,11 +51,11 @@ module _ {D : Type 0} (store : StoreState D) (old : Trace) (s : List ℕ) (ps : 
 
 module _ {D : Type 0} (store : StoreState D) (old : Trace) (s : List ℕ) (ps : List (List ℕ)) (shows : Shows store old.now s ps) where
   pub swap_shown : (new : State) (disk : D) (area : Area) (start size : ℕ) (next : List ℕ) → start ≡ store.area.start → size ≡ length next → area ≡ record store.area { start = store.other; end = 14 + size }
-      → RecoversToParts store.version (form_of store) store.other store.area.start (store.generation + 1) (14 + size) true next [] new
+      → RecoversToParts store.version (form_of store) store.other store.area.start (store.generation + 1) (14 + length next) true next [] new
       → Shows (record store { disk = disk; area = area; other = start; generation = store.generation + 1; frames = 0; other_is_below = true; stopped = false }) new next []
   swap_shown new disk area start size next start_is size_is area_is done =
       let there : area ≡ record store.area { start = store.other; end = 14 + length next } = area_is ∙ ap (λ (n : ℕ). record store.area { start = store.other; end = 14 + n }) size_is in
-      let before = subst (λ (a : Area). Shows (record store { disk = disk; area = a; other = store.area.start; generation = store.generation + 1; frames = 0; other_is_below = true; stopped = false }) new next []) (sym there) (record { recovers = subst (λ (n : ℕ). RecoversToParts store.version (form_of store) store.other store.area.start (store.generation + 1) (14 + n) true next [] new) size_is done; frames = refl }) in
+      let before = subst (λ (a : Area). Shows (record store { disk = disk; area = a; other = store.area.start; generation = store.generation + 1; frames = 0; other_is_below = true; stopped = false }) new next []) (sym there) (record { recovers = done; frames = refl }) in
       subst (λ (n : ℕ). Shows (record store { disk = disk; area = area; other = n; generation = store.generation + 1; frames = 0; other_is_below = true; stopped = false }) new next []) (sym start_is) before
 
 -- the bytes after an area's gate, in their parts

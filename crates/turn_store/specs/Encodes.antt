@@ -1,5 +1,5 @@
 -- Which histories a snapshot and payloads encode.
-use Rattle.std.specs.Prelude.{◌≡◌, ◌<◌, ◌≤◌, ◌^◌, ◌-◌, ℕ, List, [], ◌∷◌, ◌++◌, length, map, max}
+use Rattle.std.specs.Prelude.{◌≡◌, ◌<◌, ◌≤◌, ℕ, List, [], ◌∷◌, ◌++◌, length, map, max}
 use Rattle.std.specs.List.{AllByRecursion}
 use Rattle.turn_history.specs.Prelude.{IsFitting, Event, History, clock, AllFrom, table, Bounds}
 use Rattle.turn_record.specs.Prelude.{payload, snapshot, Holds, Writes}

@@ -17,3 +17,4 @@ pub mod Stages
 pub mod State
 pub mod Superblock
 pub mod Tables
+pub mod Writes

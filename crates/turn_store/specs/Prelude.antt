@@ -12,11 +12,12 @@ pub use Rattle.turn_store.specs.Opened.{AreaIsRead, IsChosen, IsOpened, LogIsRea
 pub use Rattle.turn_store.specs.Opening.{disk_of}
 pub use Rattle.turn_store.specs.Refused.{AreaIsBad, BreaksAt, FaultWith, HasBytes, IsBadAt, IsBadLog, IsBadSnapshot, IsGoodSnapshot, IsPlain, ReadsBad, ReadsOn, StoreIsBad, WhyRefused}
 pub use Rattle.turn_store.specs.Replay.{GoOn, GoesOn, HasFrames, IsNext, Replays, ReplaysTo, Snapshot, after, after_all}
-pub use Rattle.turn_store.specs.Stages.{InStages, InStagesAt}
-pub use Rattle.turn_store.specs.State.{CompactsFor, MayFollow, RecoversToAt, Shows, StoreState, carried, carried_area, form_of, framed, swapped}
+pub use Rattle.turn_store.specs.Stages.{InStages, InStagesAt, Leaves, Replaces, Settles}
+pub use Rattle.turn_store.specs.State.{CompactsFor, MayFollow, RecoversToAt, Shows, StoreState, carried, carried_area, form_of, framed, stopped_over, swapped}
 unfoldable pub use Rattle.turn_store.specs.Superblock.{superblock}
 pub use Rattle.turn_store.specs.Superblock.{HasSuperblock, least_area, zeros}
-pub use Rattle.turn_store.specs.Tables.{snapshot_of}
+pub use Rattle.turn_store.specs.Tables.{IsTableIn, encoded, snapshot_of}
+pub use Rattle.turn_store.specs.Writes.{IsCommit, IsStep, IsWrite}
 pub use Rattle.turn_record.specs.declared.error.DecodeError.{DecodeError}
 pub use Rattle.turn_record.specs.declared.error.ReadError.{ReadError}
 pub use Rattle.turn_record.specs.declared.version.Version.{Version}

@@ -1,5 +1,5 @@
 -- What contracts see of a store.
-use Rattle.std.specs.Prelude.{◌≡◌, ◌≤◌, ◌<◌, ◌^◌, ◌-◌, ◌+◌, ◌++◌, ℕ, Bool, List, true, false, length}
+use Rattle.std.specs.Prelude.{◌≡◌, ◌≤◌, ◌<◌, ◌^◌, ◌+◌, ◌++◌, ℕ, Bool, List, true, false, length}
 use Rattle.turn_disk.specs.Prelude.{State}
 use Rattle.turn_history.specs.Prelude.{IsFitting, Event, History, clock, AllFrom, Bounds}
 use Rattle.turn_journal.specs.Area.{IsFullFor}
@@ -74,6 +74,10 @@ pub record IsSound (capacity : ℕ) (v : Version) (b : Bounds) (area : Area) (ot
 -- a batch with a payload of so many bytes is written as a snapshot: no frame with it fits after the last one
 abbrev pub CompactsFor : {D : Type 0} → StoreState D → ℕ → Type 0
 CompactsFor s count = IsFullFor s.area count
+
+-- the store after a call that failed, over this disk
+abbrev pub stopped_over : {D : Type 0} → StoreState D → D → StoreState D
+stopped_over s disk = record s { disk = disk; stopped = true }
 
 -- the store after a frame with a payload of so many bytes more, over this disk
 abbrev pub framed : {D : Type 0} → StoreState D → ℕ → D → StoreState D

@@ -1,16 +1,15 @@
 //! The three steps that put a snapshot into the other area, which then is active.
 
-ghost use Rattle.std.specs.Prelude.{◌≡◌, ◌⊎◌, [], ◌∷◌, ◌++◌, ◌+◌, ◌≤◌, ◌<◌, ◌^◌, ℕ, List, true, length, OnOk, IsErr};
-ghost use Rattle.turn_disk.specs.Device.{Uses};
-ghost use Rattle.turn_disk.specs.Disk.{EachImageSince, StandsAt, WritesOnce};
-ghost use Rattle.turn_disk.specs.Meanwhile.{Passes};
+ghost use Rattle.std.specs.Prelude.{◌≡◌, ◌⊎◌, [], ◌∷◌, ◌++◌, ◌+◌, ◌≤◌, ◌<◌, ◌^◌, ℕ, List, true, length};
+ghost use Rattle.turn_disk.specs.Disk.{StandsAt, WritesOnce};
 ghost use Rattle.turn_journal.specs.Frames.{IsClosed};
 ghost use Rattle.turn_journal.specs.Layout.{closed_gate, gate_size};
 ghost use Rattle.turn_record.specs.declared.version.Version.{Version};
 ghost use Rattle.turn_store.specs.Areas.{Form, area_front, Holds, HoldsAt, RecoversToParts};
 ghost use Rattle.turn_store.specs.Layout.{head_size, version_at};
-ghost use Rattle.turn_store.specs.Stages.{InStagesAt};
+ghost use Rattle.turn_store.specs.Stages.{Leaves, Replaces};
 ghost use Rattle.turn_store.specs.Superblock.{least_area};
+ghost use Rattle.turn_store.specs.Writes.{IsStep};
 
 use crate::layout::VERSION_AT;
 use turn_disk::{DeviceError, Disk, Meanwhile, Producer, write_produced, write_through};
@@ -25,20 +24,13 @@ fn close<D: Disk, M: Meanwhile>(
     other: &mut M,
 ) -> Result<(), DeviceError>
     requires { gate < D.capacity disk.old }
-    ensures uses { Uses D.Disk disk.old disk.new (IsErr result) }
 
     // A stop at any moment leaves what was there.
-    ensures stop { let old = D.trace disk.old in
-        D.follows_crash_model disk.new → (v : Version) (form : Form) (start generation end : ℕ) (snapshot : List ℕ) (payloads : List (List ℕ))
+    ensures { IsStep D.Disk M.passes disk.old disk.new other.old other.new result (λ old new.
+        (v : Version) (form : Form) (start generation end : ℕ) (snapshot : List ℕ) (payloads : List (List ℕ))
         → RecoversToParts v form start gate generation end is_below snapshot payloads old.now
-        → EachImageSince old (D.trace disk.new) (Holds v form snapshot payloads) }
-
-    ensures done { let new = (D.trace disk.new).now in
-        D.follows_crash_model disk.new → (v : Version) (form : Form) (start generation end : ℕ) (snapshot : List ℕ) (payloads : List (List ℕ))
-        → RecoversToParts v form start gate generation end is_below snapshot payloads (D.trace disk.old).now
-        → OnOk result (HoldsAt v form start gate generation snapshot payloads new × IsClosed gate new.bytes) }
-
-    ensures meanwhile { Passes M.passes other.old other.new }
+        → Leaves old new (Holds v form snapshot payloads)
+        (λ state. HoldsAt v form start gate generation snapshot payloads state × IsClosed gate state.bytes) result) }
 {
     if is_below {
         write_through(disk, gate, &[CLOSED], other)?;
@@ -55,23 +47,15 @@ fn fill<D: Disk, P: Producer, M: Meanwhile>(
 ) -> Result<(), DeviceError>
     requires place { gate + version_at + length (P.rest front.old) ≤ D.capacity disk.old }
     requires addressable { gate + version_at + length (P.rest front.old) < 2 ^ 64 }
-    ensures uses { Uses D.Disk disk.old disk.new (IsErr result) }
 
     // A stop at any moment leaves what was there, whatever is written.
-    ensures stop { let old = D.trace disk.old in
-        D.follows_crash_model disk.new → (v : Version) (form : Form) (start generation : ℕ) (snapshot : List ℕ) (payloads : List (List ℕ))
+    ensures { IsStep D.Disk M.passes disk.old disk.new other.old other.new result (λ old new.
+        (v : Version) (form : Form) (start generation : ℕ) (snapshot : List ℕ) (payloads : List (List ℕ))
         → length (P.rest front.old) < form.area
         → HoldsAt v form start gate generation snapshot payloads old.now → IsClosed gate old.now.bytes
-        → EachImageSince old (D.trace disk.new) (Holds v form snapshot payloads) }
-
-    ensures done { let old = (D.trace disk.old).now in let new = (D.trace disk.new).now in
-        D.follows_crash_model disk.new → (v : Version) (form : Form) (start generation : ℕ) (snapshot : List ℕ) (payloads : List (List ℕ))
-        → length (P.rest front.old) < form.area
-        → HoldsAt v form start gate generation snapshot payloads old → IsClosed gate old.bytes
-        → OnOk result (HoldsAt v form start gate generation snapshot payloads new × IsClosed gate new.bytes
-        × StandsAt (gate + version_at) (P.rest front.old) new.bytes) }
-
-    ensures meanwhile { Passes M.passes other.old other.new }
+        → Leaves old new (Holds v form snapshot payloads)
+        (λ state. HoldsAt v form start gate generation snapshot payloads state × IsClosed gate state.bytes
+        × StandsAt (gate + version_at) (P.rest front.old) state.bytes) result) }
 {
     write_produced(disk, gate + VERSION_AT, front, other)?;
     Ok(())
@@ -84,27 +68,18 @@ fn switch<D: Disk, M: Meanwhile>(
     other: &mut M,
 ) -> Result<(), DeviceError>
     requires { gate < D.capacity disk.old }
-    ensures uses { Uses D.Disk disk.old disk.new (IsErr result) }
 
     // A stop at any moment leaves what was there, or the new snapshot alone.
-    ensures stop { let old = D.trace disk.old in
-        D.follows_crash_model disk.new → (v w : Version) (form : Form) (start generation : ℕ) (snapshot next : List ℕ) (payloads : List (List ℕ))
+    ensures switches { IsStep D.Disk M.passes disk.old disk.new other.old other.new result (λ old new.
+        (v w : Version) (form : Form) (start generation : ℕ) (snapshot next : List ℕ) (payloads : List (List ℕ))
         → generation + 1 < 2 ^ 64 → length next < 2 ^ 32 → least_area w form.bounds ≤ form.area → head_size + length next < form.area
         → HoldsAt v form start gate generation snapshot payloads old.now
         → StandsAt (gate + version_at) (area_front w (generation + 1) next ++ closed_gate ∷ []) old.now.bytes
-        → EachImageSince old (D.trace disk.new) (λ image. Holds v form snapshot payloads image ⊎ Holds w form next [] image) }
-
-    ensures done { let old = (D.trace disk.old).now in
-        D.follows_crash_model disk.new → (v w : Version) (form : Form) (start generation : ℕ) (snapshot next : List ℕ) (payloads : List (List ℕ))
-        → generation + 1 < 2 ^ 64 → length next < 2 ^ 32 → least_area w form.bounds ≤ form.area → head_size + length next < form.area
-        → HoldsAt v form start gate generation snapshot payloads old
-        → StandsAt (gate + version_at) (area_front w (generation + 1) next ++ closed_gate ∷ []) old.bytes
-        → OnOk result (RecoversToParts w form gate start (generation + 1) (head_size + length next) true next [] (D.trace disk.new).now) }
+        → Leaves old new (λ image. Holds v form snapshot payloads image ⊎ Holds w form next [] image)
+        (RecoversToParts w form gate start (generation + 1) (head_size + length next) true next []) result) }
 
     // The gate is written at most once, and nothing else is.
     ensures once { D.follows_crash_model disk.new → WritesOnce gate gate_size (D.trace disk.old) (D.trace disk.new) }
-
-    ensures meanwhile { Passes M.passes other.old other.new }
 {
     write_through(disk, gate, &[OPEN], other)?;
     Ok(())
@@ -120,26 +95,12 @@ pub fn replace<D: Disk, P: Producer, M: Meanwhile>(
 ) -> Result<(), DeviceError>
     requires place { gate + version_at + length (P.rest front.old) ≤ D.capacity disk.old }
     requires addressable { gate + version_at + length (P.rest front.old) < 2 ^ 64 }
-    ensures uses { Uses D.Disk disk.old disk.new (IsErr result) }
-
-    // Up to some moment a stop leaves what was there; from then on what was there, or the new snapshot alone, and this gate alone
-    // is written, at most once.
-    ensures stages { let old = D.trace disk.old in
-        D.follows_crash_model disk.new → (v w : Version) (form : Form) (start generation end : ℕ) (snapshot next : List ℕ) (payloads : List (List ℕ))
+    ensures { IsStep D.Disk M.passes disk.old disk.new other.old other.new result (λ old new.
+        (v w : Version) (form : Form) (start generation end : ℕ) (snapshot next : List ℕ) (payloads : List (List ℕ))
         → generation + 1 < 2 ^ 64 → length next < 2 ^ 32 → least_area w form.bounds ≤ form.area → head_size + length next < form.area
         → P.rest front.old ≡ area_front w (generation + 1) next ++ closed_gate ∷ []
         → RecoversToParts v form start gate generation end is_below snapshot payloads old.now
-        → InStagesAt gate old (D.trace disk.new) (Holds v form snapshot payloads)
-        (λ image. Holds v form snapshot payloads image ⊎ Holds w form next [] image) }
-
-    ensures done { let old = (D.trace disk.old).now in
-        D.follows_crash_model disk.new → (v w : Version) (form : Form) (start generation end : ℕ) (snapshot next : List ℕ) (payloads : List (List ℕ))
-        → generation + 1 < 2 ^ 64 → length next < 2 ^ 32 → least_area w form.bounds ≤ form.area → head_size + length next < form.area
-        → P.rest front.old ≡ area_front w (generation + 1) next ++ closed_gate ∷ []
-        → RecoversToParts v form start gate generation end is_below snapshot payloads old
-        → OnOk result (RecoversToParts w form gate start (generation + 1) (head_size + length next) true next [] (D.trace disk.new).now) }
-
-    ensures meanwhile { Passes M.passes other.old other.new }
+        → Replaces v w form start gate generation snapshot next payloads old new result) }
 {
     close(disk, gate, is_below, other)?;
     fill(disk, gate, front, other)?;

@@ -1,9 +1,8 @@
 //! What a store holds is read: its superblock, the active area, the snapshot and the log.
 
 ghost use Rattle.std.specs.Prelude.{◌≡◌, ◌≢◌, ◌+◌, ◌*◌, ◌≤◌, ◌<◌, ◌^◌, ◌↔◌, ℕ, IfOk, IfErr, IfSome, IsNone, IsTrue, IsErr, OnOk, Err};
-ghost use Rattle.turn_disk.specs.Device.{Reads, Uses};
-ghost use Rattle.turn_disk.specs.Disk.{EachImageSince, IsImage, IsSettled};
-ghost use Rattle.turn_record.specs.Records.{Holds, max_payload, max_snapshot};
+ghost use Rattle.turn_disk.specs.Device.{Reads};
+ghost use Rattle.turn_record.specs.Records.{max_payload, max_snapshot};
 ghost use Rattle.turn_record.specs.declared.version.Version.{Version};
 ghost use Rattle.turn_record.specs.declared.version.Version.TheVariants.{V1};
 ghost use Rattle.turn_history.specs.History.{History};
@@ -12,8 +11,10 @@ ghost use Rattle.turn_store.specs.Images.{RepresentsAt};
 ghost use Rattle.turn_store.specs.Layout.{head_size, second_area, store_size};
 ghost use Rattle.turn_store.specs.Opened.{AreaIsRead, IsChosen};
 ghost use Rattle.turn_store.specs.Refused.{AreaIsBad, FaultWith, IsHeadOf, IsPlain, StoreIsBad, WhyRefused};
+ghost use Rattle.turn_store.specs.Stages.{Settles};
+ghost use Rattle.turn_store.specs.State.{IsSound};
 ghost use Rattle.turn_store.specs.Superblock.{HasSuperblock, least_area};
-ghost use Rattle.turn_store.specs.Tables.{snapshot_of};
+ghost use Rattle.turn_store.specs.Tables.{IsTableIn, snapshot_of};
 
 use crate::error::OpenError;
 use crate::front::version_of;
@@ -76,8 +77,7 @@ fn load_area<D: Disk, A: Allocator + Copy>(
     ensures reads { Reads D.Disk disk.old disk.new (result ≡ Err OpenError.Device) }
     ensures area { IfOk result (λ l. (l.journal.start ≡ start) × (l.journal.size ≡ size) × (l.journal.max_payload ≡ max_payload l.version limits)) }
     ensures room { IfOk result (λ l. least_area l.version limits ≤ size) }
-    ensures bounds { IfOk result (λ l. l.table.bounds ≡ limits) }
-    ensures holds { IfOk result (λ l. Holds l.version l.table.contents) }
+    ensures table { IfOk result (λ l. IsTableIn l.version limits l.table) }
     ensures few { IfOk result (λ l. l.frames ≤ l.journal.end) }
     ensures read { D.follows_crash_model disk.new → IfOk result (λ l.
         AreaIsRead l.version limits start size head l.journal.end l.frames (snapshot_of l.table) (D.trace disk.old).now.bytes) }
@@ -142,8 +142,7 @@ fn choose<D: Disk, A: Allocator + Copy>(
     ensures area { IfOk result (λ r. (r.loaded.journal.size ≡ size) × (r.loaded.journal.max_payload ≡ max_payload r.loaded.version limits)) }
     ensures room { IfOk result (λ r. least_area r.loaded.version limits ≤ size) }
     ensures places { IfOk result (λ r. (r.loaded.journal.start ≤ second_area size) × (r.other ≤ second_area size)) }
-    ensures bounds { IfOk result (λ r. r.loaded.table.bounds ≡ limits) }
-    ensures holds { IfOk result (λ r. Holds r.loaded.version r.loaded.table.contents) }
+    ensures table { IfOk result (λ r. IsTableIn r.loaded.version limits r.loaded.table) }
     ensures few { IfOk result (λ r. r.loaded.frames ≤ r.loaded.journal.end) }
     ensures chosen { D.follows_crash_model disk.new → IfOk result (λ r.
         IsChosen r.loaded.version limits size r.loaded.journal.start r.other r.generation r.loaded.journal.end r.loaded.frames r.other_is_below
@@ -221,13 +220,7 @@ fn read_area_size<D: Disk>(disk: &mut D, limits: Limits) -> Result<usize, OpenEr
 
 // Syncs a disk, as an earlier process may have left it with a write pending.
 fn settle<D: Disk>(disk: &mut D) -> Result<(), DeviceError>
-    ensures uses { Uses D.Disk disk.old disk.new (IsErr result) }
-    ensures same { D.follows_crash_model disk.new → (D.trace disk.new).now.bytes ≡ (D.trace disk.old).now.bytes }
-
-    // A stop at any moment leaves what it might have left before.
-    ensures stop { D.follows_crash_model disk.new
-        → EachImageSince (D.trace disk.old) (D.trace disk.new) (IsImage (D.trace disk.old).now) }
-    ensures settled { D.follows_crash_model disk.new → OnOk result (IsSettled (D.trace disk.new).now) }
+    ensures { Settles D.Disk disk.old disk.new (IsErr result) }
 {
     disk.sync(&mut Idle)?;
     Ok(())
@@ -239,21 +232,9 @@ pub fn load<D: Disk, A: Allocator + Copy>(
     disk: &mut D,
     limits: Limits,
 ) -> Result<Chosen<A>, OpenError>
-    ensures uses { Uses D.Disk disk.old disk.new (result ≡ Err OpenError.Device) }
-    ensures same { D.follows_crash_model disk.new → (D.trace disk.new).now.bytes ≡ (D.trace disk.old).now.bytes }
-    ensures stop { D.follows_crash_model disk.new
-        → EachImageSince (D.trace disk.old) (D.trace disk.new) (IsImage (D.trace disk.old).now) }
-    ensures settled { D.follows_crash_model disk.new → OnOk result (IsSettled (D.trace disk.new).now) }
-    ensures settled_err { D.follows_crash_model disk.new
-        → IfErr result (λ fault. fault ≢ OpenError.Device → IsSettled (D.trace disk.new).now) }
-    ensures place { IfOk result (λ r. store_size r.loaded.journal.size ≡ D.capacity disk.new) }
-    ensures addressable { OnOk result (D.capacity disk.new < 2 ^ 64) }
-    ensures area { IfOk result (λ r. (least_area r.loaded.version limits ≤ r.loaded.journal.size) × (r.loaded.journal.max_payload ≡ max_payload r.loaded.version limits)) }
-    ensures small { OnOk result ((v : Version) → least_area v limits < 2 ^ 32) }
-    ensures places { IfOk result (λ r. (r.loaded.journal.start ≤ second_area r.loaded.journal.size) × (r.other ≤ second_area r.loaded.journal.size)) }
-    ensures bounds { IfOk result (λ r. r.loaded.table.bounds ≡ limits) }
-    ensures holds { IfOk result (λ r. Holds r.loaded.version r.loaded.table.contents) }
-    ensures few { IfOk result (λ r. r.loaded.frames ≤ r.loaded.journal.end) }
+    ensures settles { Settles D.Disk disk.old disk.new (result ≡ Err OpenError.Device) }
+    ensures store { IfOk result (λ r. IsSound (D.capacity disk.new) r.loaded.version limits r.loaded.journal r.other r.loaded.frames) }
+    ensures table { IfOk result (λ r. IsTableIn r.loaded.version limits r.loaded.table) }
     ensures superblock { D.follows_crash_model disk.new
         → IfOk result (λ r. HasSuperblock r.loaded.journal.size limits (D.trace disk.old).now.bytes) }
     ensures chosen { D.follows_crash_model disk.new → IfOk result (λ r.

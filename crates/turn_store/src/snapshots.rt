@@ -3,11 +3,10 @@
 ghost use Rattle.std.specs.Prelude.{◌≡◌, ◌≢◌, ◌+◌, ◌++◌, ◌≤◌, ◌<◌, ◌^◌, ℕ, List, IfOk, IfErr, OnOk, drop, length, take, IsErr, Err};
 ghost use Rattle.turn_disk.specs.Device.{Reads};
 ghost use Rattle.turn_record.specs.Pieces.{WasFed};
-ghost use Rattle.turn_record.specs.Records.{Holds};
 ghost use Rattle.turn_record.specs.declared.version.Version.{Version};
 ghost use Rattle.turn_store.specs.Refused.{FaultWith, IsBadSnapshot, IsGoodSnapshot};
 ghost use Rattle.turn_store.specs.Bytes.{AreBytes};
-ghost use Rattle.turn_store.specs.Tables.{snapshot_of};
+ghost use Rattle.turn_store.specs.Tables.{IsTableIn, snapshot_of};
 ghost use Rattle.turn_types.specs.declared.limits.Bounds.{Bounds};
 
 use crate::error::OpenError;
@@ -77,8 +76,7 @@ pub fn read_snapshot<D: Disk, A: Allocator + Copy>(
     requires place { at + count ≤ D.capacity disk.old }
     requires addressable { at + count < 2 ^ 64 }
     ensures reads { Reads D.Disk disk.old disk.new (result ≡ Err OpenError.Device) }
-    ensures bounds { IfOk result (λ table. table.bounds ≡ limits) }
-    ensures holds { IfOk result (λ table. Holds version table.contents) }
+    ensures table { IfOk result (λ table. IsTableIn version limits table) }
     ensures read { D.follows_crash_model disk.new → IfOk result (λ table.
         IsGoodSnapshot version limits at count (snapshot_of table) (D.trace disk.old).now.bytes) }
     ensures faults { D.follows_crash_model disk.new → IfErr result (FaultWith (λ place. (place ≡ at)

@@ -21,10 +21,11 @@ ghost use Rattle.turn_store.specs.Opened.{OpensTo};
 ghost use Rattle.turn_store.specs.Opening.{Opening, disk_of};
 ghost use Rattle.turn_store.specs.Refused.{IsPlain, WhyRefused};
 ghost use Rattle.turn_store.specs.Encodes.{HasSize};
-ghost use Rattle.turn_store.specs.Stages.{InStages, InStagesAt};
+ghost use Rattle.turn_store.specs.Stages.{InStages, InStagesAt, Replaces};
 ghost use Rattle.turn_store.specs.State.{CompactsFor, MayFollow, RecoversToAt, Shows, carried, carried_area, form_of, framed, swapped};
 ghost use Rattle.turn_store.specs.Superblock.{least_area};
-ghost use Rattle.turn_store.specs.Tables.{snapshot_of};
+ghost use Rattle.turn_store.specs.Tables.{IsTableIn, encoded, snapshot_of};
+ghost use Rattle.turn_store.specs.Writes.{IsCommit, IsStep, IsWrite};
 ghost use Rattle.turn_types.specs.declared.limits.Bounds.{Bounds};
 
 use crate::areas::replace;
@@ -59,29 +60,16 @@ fn write_snapshot<D: Disk, A: Allocator + Copy, M: Meanwhile>(
     other: &mut M,
 ) -> Result<(), DeviceError>
     requires holds { records.Holds next.version table.now.contents }
-    requires value { next.size ≡ length (bytes.snapshot next.version table.now.moment table.now.contents) }
+    requires value { next.size ≡ length (encoded next.version table.now) }
     requires small { next.size < 2 ^ 32 }
     requires place { gate + (head_size + gate_size) + next.size ≤ D.capacity disk.old }
     requires addressable { D.capacity disk.old < 2 ^ 64 }
-    ensures uses { Uses D.Disk disk.old disk.new (IsErr result) }
-
-    // Up to some moment a stop leaves what was there; from then on that, or the new snapshot alone, and this
-    // gate alone is written, at most once.
-    ensures stages { let old = D.trace disk.old in
-        D.follows_crash_model disk.new → (v : Version) (form : Form) (start generation end : ℕ) (s : List ℕ) (ps : List (List ℕ))
+    ensures { IsStep D.Disk M.passes disk.old disk.new other.old other.new result (λ old new.
+        (v : Version) (form : Form) (start generation end : ℕ) (s : List ℕ) (ps : List (List ℕ))
         → next.generation ≡ generation + 1 → next.generation < 2 ^ 64
         → least_area next.version form.bounds ≤ form.area → head_size + next.size < form.area
         → RecoversToParts v form start gate generation end is_below s ps old.now
-        → InStagesAt gate old (D.trace disk.new) (Holds v form s ps) (λ image. Holds v form s ps image
-        ⊎ Holds next.version form (bytes.snapshot next.version table.now.moment table.now.contents) [] image) }
-    ensures done { let old = (D.trace disk.old).now in
-        D.follows_crash_model disk.new → (v : Version) (form : Form) (start generation end : ℕ) (s : List ℕ) (ps : List (List ℕ))
-        → next.generation ≡ generation + 1 → next.generation < 2 ^ 64
-        → least_area next.version form.bounds ≤ form.area → head_size + next.size < form.area
-        → RecoversToParts v form start gate generation end is_below s ps old
-        → OnOk result (RecoversToParts next.version form gate start next.generation (head_size + next.size) true
-        (bytes.snapshot next.version table.now.moment table.now.contents) [] (D.trace disk.new).now) }
-    ensures meanwhile { Passes M.passes other.old other.new }
+        → Replaces v next.version form start gate generation s (encoded next.version table.now) ps old new result) }
 {
     let head = area_head(next.version, next.generation, next.size as u32);
     let mut front = Chain {
@@ -239,23 +227,9 @@ impl<D: Disk, A: Allocator + Copy> Store<D, A> {
         requires short { length payload.now ≤ max_payload self.old.version self.old.bounds }
         requires room { self.old.area.end + frame_room + length payload.now ≤ self.old.area.size }
 
-        ensures uses { Uses D.Disk self.old.disk self.new.disk (IsErr result) }
-        ensures ok { OnOk result (self.new ≡ framed self.old (length payload.now) self.new.disk) }
-        ensures err { OnErr result (self.new ≡ record self.old { disk = self.new.disk; stopped = true }) }
-
-        // Up to some moment a stop leaves what was there; from then on that, or with the frame, and the gate at
-        // the log's end alone is written, at most once.
-        ensures stages { D.follows_crash_model self.new.disk → (s : List ℕ) (ps : List (List ℕ))
-            → Shows self.old (D.trace self.old.disk).now s ps
-            → InStagesAt (end_of self.old.area) (D.trace self.old.disk) (D.trace self.new.disk)
-            (Holds self.old.version (form_of self.old) s ps)
-            (λ image. Holds self.old.version (form_of self.old) s ps image
-            ⊎ Holds self.old.version (form_of self.old) s (ps ++ payload.now ∷ []) image) }
-
-        ensures shown { D.follows_crash_model self.new.disk → (s : List ℕ) (ps : List (List ℕ))
-            → Shows self.old (D.trace self.old.disk).now s ps
-            → OnOk result (Shows self.new (D.trace self.new.disk).now s (ps ++ payload.now ∷ [])) }
-
+        // The gate is that at the log's end.
+        ensures writes { IsWrite D.Disk (end_of self.old.area) (framed self.old (length payload.now))
+            (λ s. s) (λ ps. ps ++ payload.now ∷ []) self.old self.new result }
         ensures meanwhile { Passes M.passes other.old other.new }
     {
         self.stopped = true;
@@ -271,10 +245,9 @@ impl<D: Disk, A: Allocator + Copy> Store<D, A> {
 
     // The size of the table's snapshot in a version for which an area has room.
     fn next_size(&self, version: Version, table: &Table<A>) -> usize
-        requires limits { table.now.bounds ≡ self.now.bounds }
+        requires table { IsTableIn version self.now.bounds table.now }
         requires area { least_area version self.now.bounds ≤ self.now.area.size }
-        requires holds { records.Holds version table.now.contents }
-        ensures value { result ≡ length (bytes.snapshot version table.now.moment table.now.contents) }
+        ensures value { result ≡ length (encoded version table.now) }
         ensures snapshot { IsSnapshot version table.now.bounds table.now.moment table.now.contents }
         ensures small { result < 2 ^ 32 }
         ensures room { head_size + result < self.now.area.size }
@@ -302,28 +275,11 @@ impl<D: Disk, A: Allocator + Copy> Store<D, A> {
     ) -> Result<(), DeviceError>
         requires runs { self.old.stopped ≡ false }
         requires generation { self.old.generation < 2 ^ 64 - 1 }
-        requires limits { table.now.bounds ≡ self.old.bounds }
-        requires holds { records.Holds self.old.version table.now.contents }
+        requires table { IsTableIn self.old.version self.old.bounds table.now }
 
-        ensures uses { Uses D.Disk self.old.disk self.new.disk (IsErr result) }
-        ensures ok { OnOk result (self.new
-            ≡ swapped self.old (length (bytes.snapshot self.old.version table.now.moment table.now.contents)) self.new.disk) }
-        ensures err { OnErr result (self.new ≡ record self.old { disk = self.new.disk; stopped = true }) }
-
-        // Up to some moment a stop leaves what was there; from then on that, or the new snapshot alone, and the
-        // gate of the other area alone is written, at most once.
-        ensures stages { D.follows_crash_model self.new.disk → (s : List ℕ) (ps : List (List ℕ))
-            → Shows self.old (D.trace self.old.disk).now s ps
-            → InStagesAt self.old.other (D.trace self.old.disk) (D.trace self.new.disk)
-            (Holds self.old.version (form_of self.old) s ps)
-            (λ image. Holds self.old.version (form_of self.old) s ps image
-            ⊎ Holds self.old.version (form_of self.old) (bytes.snapshot self.old.version table.now.moment table.now.contents) [] image) }
-
-        ensures shown { D.follows_crash_model self.new.disk → (s : List ℕ) (ps : List (List ℕ))
-            → Shows self.old (D.trace self.old.disk).now s ps
-            → OnOk result (Shows self.new (D.trace self.new.disk).now
-            (bytes.snapshot self.old.version table.now.moment table.now.contents) []) }
-
+        // The gate is that of the other area.
+        ensures writes { IsWrite D.Disk self.old.other (swapped self.old (length (encoded self.old.version table.now)))
+            (λ _. encoded self.old.version table.now) (λ _. []) self.old self.new result }
         ensures meanwhile { Passes M.passes other.old other.new }
     {
         self.stopped = true;
@@ -363,23 +319,17 @@ impl<D: Disk, A: Allocator + Copy> Store<D, A> {
         other: &mut M,
     ) -> Result<WrittenAs, StoreError>
         requires short { length payload.now ≤ max_payload self.old.version self.old.bounds }
-        requires limits { table.now.bounds ≡ self.old.bounds }
-        requires holds { records.Holds self.old.version table.now.contents }
+        requires table { IsTableIn self.old.version self.old.bounds table.now }
 
         ensures framed { result ≡ Ok WrittenAs.Frame → self.new ≡ framed self.old (length payload.now) self.new.disk }
-        ensures compacted { result ≡ Ok WrittenAs.Snapshot → self.new
-            ≡ swapped self.old (length (bytes.snapshot self.old.version table.now.moment table.now.contents)) self.new.disk }
+        ensures compacted { result ≡ Ok WrittenAs.Snapshot
+            → self.new ≡ swapped self.old (length (encoded self.old.version table.now)) self.new.disk }
         ensures compacts { IfOk result (λ written. (written ≡ WrittenAs.Snapshot)
             ↔ CompactsFor self.old (length payload.now)) }
 
-        // Device comes with one failed call. Worn and Stopped come without a device call.
-        ensures uses { Uses D.Disk self.old.disk self.new.disk (result ≡ Err StoreError.Device) }
-        ensures worn { (result ≡ Err StoreError.Worn) ↔ ((self.old.stopped ≡ false) × (self.old.generation ≡ 2 ^ 64 - 1)
-            × CompactsFor self.old (length payload.now)) }
-        ensures untouched_worn { result ≡ Err StoreError.Worn → self.new.disk ≡ self.old.disk }
-        ensures stopped { (result ≡ Err StoreError.Stopped) ↔ (self.old.stopped ≡ true) }
-        ensures untouched { self.old.stopped ≡ true → self.new ≡ self.old }
-        ensures stops { OnErr result (self.new ≡ record self.old { disk = self.new.disk; stopped = true }) }
+        // It is worn where a snapshot is to be written after the last generation.
+        ensures commits { IsCommit D.Disk M.passes ((self.old.generation ≡ 2 ^ 64 - 1) × CompactsFor self.old (length payload.now))
+            self.old self.new other.old other.new result }
 
         // Up to some moment a stop leaves the history from before at its clock; from then on the history from before, or with
         // the batch, at a moment that is at most the table's, and one gate alone is written, at most once.
@@ -390,10 +340,6 @@ impl<D: Disk, A: Allocator + Copy> Store<D, A> {
             → InStages (D.trace self.old.disk) (D.trace self.new.disk)
             (RepresentsAt (form_of self.old) h c) (EitherBy (form_of self.old) h es table.now.moment) }
 
-        // And it leaves the store's version, as Ok does.
-        ensures version { D.follows_crash_model self.new.disk → (s : List ℕ) (ps : List (List ℕ))
-            → Shows self.old (D.trace self.old.disk).now s ps
-            → EachImageSince (D.trace self.old.disk) (D.trace self.new.disk) (IsInVersion self.old.version (form_of self.old)) }
         ensures done { D.follows_crash_model self.new.disk → (c : ℕ) (h : History) (es : List Event)
             → RecoversToAt self.old (D.trace self.old.disk).now c h → MayFollow self.old.bounds c h es table.now.moment
             → HasSize self.old.version self.old.bounds es → payload.now ≡ bytes.payload es
@@ -407,9 +353,7 @@ impl<D: Disk, A: Allocator + Copy> Store<D, A> {
             → Shows self.new (D.trace self.new.disk).now s (ps ++ payload.now ∷ []) }
         ensures shown_snapshot { D.follows_crash_model self.new.disk → (s : List ℕ) (ps : List (List ℕ))
             → Shows self.old (D.trace self.old.disk).now s ps → result ≡ Ok WrittenAs.Snapshot
-            → Shows self.new (D.trace self.new.disk).now (bytes.snapshot self.old.version table.now.moment table.now.contents) [] }
-
-        ensures meanwhile { Passes M.passes other.old other.new }
+            → Shows self.new (D.trace self.new.disk).now (encoded self.old.version table.now) [] }
     {
         let written = self.written_as(payload.len());
         if let Some(fault) = self.refusal(written) {
@@ -429,20 +373,11 @@ impl<D: Disk, A: Allocator + Copy> Store<D, A> {
         table: &Table<A>,
         other: &mut M,
     ) -> Result<(), StoreError>
-        requires limits { table.now.bounds ≡ self.old.bounds }
-        requires holds { records.Holds self.old.version table.now.contents }
+        requires table { IsTableIn self.old.version self.old.bounds table.now }
 
-        ensures compacted { OnOk result (self.new
-            ≡ swapped self.old (length (bytes.snapshot self.old.version table.now.moment table.now.contents)) self.new.disk) }
+        ensures compacted { OnOk result (self.new ≡ swapped self.old (length (encoded self.old.version table.now)) self.new.disk) }
 
-        // Device comes with one failed call. Worn and Stopped come without a device call.
-        ensures uses { Uses D.Disk self.old.disk self.new.disk (result ≡ Err StoreError.Device) }
-        ensures worn { (result ≡ Err StoreError.Worn)
-            ↔ ((self.old.stopped ≡ false) × (self.old.generation ≡ 2 ^ 64 - 1)) }
-        ensures untouched_worn { result ≡ Err StoreError.Worn → self.new.disk ≡ self.old.disk }
-        ensures stopped { (result ≡ Err StoreError.Stopped) ↔ (self.old.stopped ≡ true) }
-        ensures untouched { self.old.stopped ≡ true → self.new ≡ self.old }
-        ensures stops { OnErr result (self.new ≡ record self.old { disk = self.new.disk; stopped = true }) }
+        ensures commits { IsCommit D.Disk M.passes (self.old.generation ≡ 2 ^ 64 - 1) self.old self.new other.old other.new result }
 
         // Up to some moment a stop leaves the history at its clock; from then on at a moment that is at most the table's,
         // and the gate of the other area alone is written, at most once.
@@ -452,10 +387,6 @@ impl<D: Disk, A: Allocator + Copy> Store<D, A> {
             → InStagesAt self.old.other (D.trace self.old.disk) (D.trace self.new.disk)
             (RepresentsAt (form_of self.old) h c) (RepresentsBy (form_of self.old) h table.now.moment) }
 
-        // And it leaves the store's version, as Ok does.
-        ensures version { D.follows_crash_model self.new.disk → (s : List ℕ) (ps : List (List ℕ))
-            → Shows self.old (D.trace self.old.disk).now s ps
-            → EachImageSince (D.trace self.old.disk) (D.trace self.new.disk) (IsInVersion self.old.version (form_of self.old)) }
         ensures done { D.follows_crash_model self.new.disk → (c : ℕ) (h : History)
             → RecoversToAt self.old (D.trace self.old.disk).now c h → MayFollow self.old.bounds c h [] table.now.moment
             → table.now.contents ≡ tables.table h table.now.moment
@@ -463,10 +394,8 @@ impl<D: Disk, A: Allocator + Copy> Store<D, A> {
 
         // What the active area holds after Ok: the new snapshot alone.
         ensures shown { D.follows_crash_model self.new.disk → (s : List ℕ) (ps : List (List ℕ))
-            → Shows self.old (D.trace self.old.disk).now s ps → OnOk result
-            (Shows self.new (D.trace self.new.disk).now (bytes.snapshot self.old.version table.now.moment table.now.contents) []) }
-
-        ensures meanwhile { Passes M.passes other.old other.new }
+            → Shows self.old (D.trace self.old.disk).now s ps
+            → OnOk result (Shows self.new (D.trace self.new.disk).now (encoded self.old.version table.now) []) }
     {
         if let Some(fault) = self.refusal(WrittenAs::Snapshot) {
             self.stopped = true;
@@ -529,29 +458,15 @@ impl<D: Disk, A: Allocator + Copy> Store<D, A> {
         requires runs { self.old.stopped ≡ false }
         requires generation { self.old.generation < 2 ^ 64 - 1 }
         requires area { least_area V2 self.old.bounds ≤ self.old.area.size }
-        requires value { size ≡ length (bytes.snapshot V2 table.now.moment table.now.contents) }
+        requires value { size ≡ length (encoded V2 table.now) }
         requires small { size < 2 ^ 32 }
         requires room { head_size + size < self.old.area.size }
         requires within { self.old.other + (head_size + gate_size) + size ≤ D.capacity self.old.disk }
         requires journal { journal ≡ carried_area self.old size }
 
-        ensures uses { Uses D.Disk self.old.disk self.new.disk (IsErr result) }
-        ensures ok { OnOk result (self.new ≡ carried self.old (carried_area self.old size) self.new.disk) }
-        ensures err { OnErr result (self.new ≡ record self.old { disk = self.new.disk; stopped = true }) }
-
-        // Up to some moment a stop leaves what was there; from then on that, or the new snapshot alone, and the
-        // gate of the other area alone is written, at most once.
-        ensures stages { D.follows_crash_model self.new.disk → (s : List ℕ) (ps : List (List ℕ))
-            → Shows self.old (D.trace self.old.disk).now s ps
-            → InStagesAt self.old.other (D.trace self.old.disk) (D.trace self.new.disk)
-            (Holds self.old.version (form_of self.old) s ps)
-            (λ image. Holds self.old.version (form_of self.old) s ps image
-            ⊎ Holds V2 (form_of self.old) (bytes.snapshot V2 table.now.moment table.now.contents) [] image) }
-
-        ensures shown { D.follows_crash_model self.new.disk → (s : List ℕ) (ps : List (List ℕ))
-            → Shows self.old (D.trace self.old.disk).now s ps
-            → OnOk result (Shows self.new (D.trace self.new.disk).now
-            (bytes.snapshot V2 table.now.moment table.now.contents) []) }
+        // The gate is that of the other area.
+        ensures { IsWrite D.Disk self.old.other (carried self.old (carried_area self.old size))
+            (λ _. encoded V2 table.now) (λ _. []) self.old self.new result }
     {
         self.stopped = true;
         let generation = self.generation + 1;
@@ -597,10 +512,10 @@ fn carry_table<D: Disk, A: Allocator + Copy>(
     ensures snapshot { IsSnapshot V2 opened.table.bounds opened.table.moment opened.table.contents }
     ensures table { IfOk result (λ o. o.table ≡ opened.table) }
     ensures store { IfOk result (λ o. o.store ≡ carried opened.store
-        (carried_area opened.store (length (bytes.snapshot V2 opened.table.moment opened.table.contents))) o.store.disk) }
+        (carried_area opened.store (length (encoded V2 opened.table))) o.store.disk) }
     ensures shown { IfOk result (λ o. D.follows_crash_model o.store.disk → (s : List ℕ) (ps : List (List ℕ))
         → Shows opened.store (D.trace opened.store.disk).now s ps
-        → Shows o.store (D.trace o.store.disk).now (bytes.snapshot V2 opened.table.moment opened.table.contents) []) }
+        → Shows o.store (D.trace o.store.disk).now (encoded V2 opened.table) []) }
 
     // A stop at any moment leaves the history that was opened.
     ensures stop { D.follows_crash_model (disk_of result) → (form : Form) (h : History) (clock : ℕ)

@@ -1,4 +1,4 @@
-use Rattle.std.proofs.Common.{◌≡◌, ◌+◌, ℕ, inl, inr, refl, ap, sym, subst, arith}
+use Rattle.std.proofs.Common.{◌≡◌, ◌∙◌, ◌+◌, ℕ, inl, inr, refl, ap, sym, subst, arith}
 use Rattle.std.proofs.lemmas.Result.{err_from_is_err_and}
 use Rattle.turn_disk.proofs.Device.{reads_as, reads_then}
 use Rattle.turn_disk.specs.Prelude.{Trace}
@@ -56,5 +56,5 @@ returns-in_err-end-clause-reads g c =
 pub returns-clause-reads : goal.returns-clause-reads
 returns-clause-reads g c = reads_as (λ e. cc) (λ e. cc) (reads_then c.in_ok-table.ensures.reads (λ e. cc) c.in_ok-end.ensures.reads)
 
-pub returns-clause-holds : goal.returns-clause-holds
-returns-clause-holds g c = c.in_ok-end.ensures.holds c.in_ok-table.ensures.holds
+pub returns-clause-table : goal.returns-clause-table
+returns-clause-table g c = (c.replay_log.ensures.bounds ∙ c.in_ok-table.ensures.table.0, c.in_ok-end.ensures.holds c.in_ok-table.ensures.table.1)

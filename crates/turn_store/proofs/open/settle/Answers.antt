@@ -9,5 +9,8 @@ synced_since old new syncs = since_sync old new (IsImage old.now) (inl syncs) (�
 rested_since : (old new : Trace) → new ≡ old → EachImageSince old new (IsImage old.now)
 rested_since old new same = since_sync old new (IsImage old.now) (inr same) (λ image is. is)
 
-pub returns-clause-stop : goal.returns-clause-stop
-returns-clause-stop g c = search (rules, synced_since, rested_since)
+pub returns-in_err-sync : goal.returns-in_err-sync
+returns-in_err-sync g c = search (rules, synced_since, rested_since)
+
+pub returns : goal.returns
+returns g c = search (rules, synced_since, rested_since)

@@ -64,14 +64,11 @@ returns-in-Err-Malformed-clause-faults g c = λ h.
     let fed = subst (λ (n : ℕ). WasFed c.args.version c.args.limits c.loop-done.reader (take n (drop c.args.at content))) all (inv.fed h) in
     (refl, bad_snapshot c.args.version c.args.limits range c.args.at c.args.count content _ (omega (arith, c.requires.place, g.met.D.Disk.sized c.args.disk.now (inv.crash_model h))) (subst (λ (e : ReadError). Fails e (snapshot_in c.args.version c.args.limits (take c.args.count (drop c.args.at content)))) c.in-Err-Malformed.field-0-is (c.in-Err-Malformed.ensures.gives c.args.version c.args.limits _ fed)))
 
-pub returns-in-Ok-clause-bounds : goal.returns-in-Ok-clause-bounds
-returns-in-Ok-clause-bounds g c = let inv = c.loop-done.invariant in c.in-Ok.ensures.limits c.args.version c.args.limits inv.some.0 inv.some.2
-
-pub returns-in-Ok-clause-holds : goal.returns-in-Ok-clause-holds
-returns-in-Ok-clause-holds g c =
+pub returns-in-Ok-clause-table : goal.returns-in-Ok-clause-table
+returns-in-Ok-clause-table g c =
     let some = c.loop-done.invariant.some in
     let range : AreInRange c.args.limits = subst AreInRange c.bounds-bounds.ensures.value c.bounds-bounds.ensures.range in
-    (fed_snapshot c.args.version c.args.limits range some.0 some.1 (snapshot_of c.in-Ok.table) (c.in-Ok.ensures.gives c.args.version c.args.limits some.0 some.2)).holds
+    (c.in-Ok.ensures.limits c.args.version c.args.limits some.0 some.2, (fed_snapshot c.args.version c.args.limits range some.0 some.1 (snapshot_of c.in-Ok.table) (c.in-Ok.ensures.gives c.args.version c.args.limits some.0 some.2)).holds)
 
 pub returns-in-Ok-clause-reads : goal.returns-in-Ok-clause-reads
 returns-in-Ok-clause-reads g c =

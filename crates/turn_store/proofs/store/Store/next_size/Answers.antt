@@ -7,14 +7,14 @@ returns-clause-small g c =
     let t = c.args.table.now in
     let v = c.args.version in
     let inv = c.self.invariant in
-    let same : max_snapshot v t.bounds ≡ max_snapshot v c.self.inside.limits = ap (max_snapshot v) (c.requires.limits ∙ sym (ap (λ st. st.bounds) c.self.view_is)) in
+    let same : max_snapshot v t.bounds ≡ max_snapshot v c.self.inside.limits = ap (max_snapshot v) (c.requires.table.0 ∙ sym (ap (λ st. st.bounds) c.self.view_is)) in
     omega (arith, c.snapshot_size.ensures.most, same, inv.small v)
 
 pub returns-clause-room : goal.returns-clause-room
 returns-clause-room g c =
     let t = c.args.table.now in
     let v = c.args.version in
-    let same : max_snapshot v t.bounds ≡ max_snapshot v c.args.self.now.bounds = ap (max_snapshot v) c.requires.limits in
+    let same : max_snapshot v t.bounds ≡ max_snapshot v c.args.self.now.bounds = ap (max_snapshot v) c.requires.table.0 in
     omega (arith, c.snapshot_size.ensures.most, same, c.requires.area)
 
 pub returns-clause-within : goal.returns-clause-within
@@ -22,7 +22,7 @@ returns-clause-within g c =
     let t = c.args.table.now in
     let v = c.args.version in
     let inv = c.self.invariant in
-    let same : max_snapshot v t.bounds ≡ max_snapshot v c.args.self.now.bounds = ap (max_snapshot v) c.requires.limits in
+    let same : max_snapshot v t.bounds ≡ max_snapshot v c.args.self.now.bounds = ap (max_snapshot v) c.requires.table.0 in
     let area = ap (λ st. st.area.size) c.self.view_is in
     let room = c.requires.area in
     rw (← c.self.view_is) (omega (arith, c.snapshot_size.ensures.most, same, inv.whole, area, room, inv.other_within))

@@ -12,26 +12,26 @@ returns-in-Ok g c =
     let is = c.in-Ok.ensures in
     let opened_now = λ (crash_model : g.D.Disk.follows_crash_model c.load.new.disk).
     let state = (g.D.Disk.trace c.load.new.disk).now in
-    let same = is.same crash_model in
+    let same = is.settles.same crash_model in
     let has = subst (λ (l : List ℕ). HasSuperblock r.loaded.journal.size c.args.limits l) (sym same) (is.superblock crash_model) in
     let chosen = subst (λ (l : List ℕ). IsChosen r.loaded.version c.args.limits r.loaded.journal.size r.loaded.journal.start r.other r.generation r.loaded.journal.end r.loaded.frames r.other_is_below (snapshot_of r.loaded.table) l)
     (sym same) (is.chosen crash_model) in
-    opened _ state (snapshot_of r.loaded.table) (is.settled crash_model) has is.area.0 (g.met.D.Disk.sized c.load.new.disk crash_model ∙ sym is.place) (rw is.place is.addressable) chosen in
+    opened _ state (snapshot_of r.loaded.table) (is.settles.settled (λ e. cc) crash_model) has is.store.room (g.met.D.Disk.sized c.load.new.disk crash_model ∙ sym is.store.whole) (rw is.store.whole is.store.addressable) chosen in
     record {
-      uses = uses_as (λ never. absurd never) (λ e. cc) is.uses;
-      bounds = (refl, is.bounds);
+      uses = uses_as (λ never. absurd never) (λ e. cc) is.settles.uses;
+      bounds = (refl, is.table.0);
       runs = refl;
-      holds = is.holds;
-      stop = λ crash_model form h clock stands. kept_since form h clock _ _ (is.stop crash_model);
-      version = λ crash_model v form in_version. kept_in v form _ _ (is.stop crash_model);
-      same = λ no crash_model. is.same crash_model;
-      stop_kept = λ no crash_model. is.stop crash_model;
+      holds = is.table.1;
+      stop = λ crash_model form h clock stands. kept_since form h clock _ _ (is.settles.stop crash_model);
+      version = λ crash_model v form in_version. kept_in v form _ _ (is.settles.stop crash_model);
+      same = λ no crash_model. is.settles.same crash_model;
+      stop_kept = λ no crash_model. is.settles.stop crash_model;
       settled = tt;
       opened = opened_now;
       why = tt;
-      carried = λ crash_model. kept_carries false _ _ (is_active_as _ _ _ _ (opened_now crash_model) (is.same crash_model)) (λ over. let asked = over.asked in cc);
+      carried = λ crash_model. kept_carries false _ _ (is_active_as _ _ _ _ (opened_now crash_model) (is.settles.same crash_model)) (λ over. let asked = over.asked in cc);
       recovers = λ crash_model form h clock same stands.
-          opens_to form h clock _ _ (snapshot_of r.loaded.table) (opened_now crash_model) (sym same) refl (subst (λ (l : List ℕ). RepresentsAt form h clock l) (sym (is.same crash_model)) stands);
+          opens_to form h clock _ _ (snapshot_of r.loaded.table) (opened_now crash_model) (sym same) refl (subst (λ (l : List ℕ). RepresentsAt form h clock l) (sym (is.settles.same crash_model)) stands);
       sound = tt;
     }
 
@@ -39,15 +39,15 @@ pub returns-in-Err : goal.returns-in-Err
 returns-in-Err g c =
     let is = c.in-Err.ensures in
     record {
-      uses = uses_as (λ same. ap Err same) (λ e. cc) is.uses;
+      uses = uses_as (λ same. ap Err same) (λ e. cc) is.settles.uses;
       bounds = tt;
       runs = tt;
       holds = tt;
-      stop = λ crash_model form h clock stands. kept_since form h clock _ _ (is.stop crash_model);
-      version = λ crash_model v form in_version. kept_in v form _ _ (is.stop crash_model);
-      same = λ no crash_model. is.same crash_model;
-      stop_kept = λ no crash_model. is.stop crash_model;
-      settled = is.settled_err;
+      stop = λ crash_model form h clock stands. kept_since form h clock _ _ (is.settles.stop crash_model);
+      version = λ crash_model v form in_version. kept_in v form _ _ (is.settles.stop crash_model);
+      same = λ no crash_model. is.settles.same crash_model;
+      stop_kept = λ no crash_model. is.settles.stop crash_model;
+      settled = λ crash_model other. is.settles.settled (λ e. other (cc)) crash_model;
       opened = tt;
       why = is.why;
       carried = tt;
