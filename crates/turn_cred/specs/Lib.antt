@@ -6,5 +6,6 @@ pub mod Names
 pub mod Nonce
 pub mod Passed
 pub mod Prelude
+pub mod Remembered
 pub mod Shared
 pub mod Users

@@ -9,6 +9,7 @@ pub use Rattle.turn_cred.specs.Names.{HasExpiry, IsSharedKey, colon_and}
 unfoldable pub use Rattle.turn_cred.specs.Nonce.{is_fresh, nonce_input, nonce_of, second_text, some_below}
 pub use Rattle.turn_cred.specs.Nonce.{Holds}
 pub use Rattle.turn_cred.specs.Passed.{IsSentBy, NonceHolds}
+pub use Rattle.turn_cred.specs.Remembered.{AreSigned, IsIssued}
 unfoldable pub use Rattle.turn_cred.specs.Shared.{expiry_of, key_in, moment_from, password_of, shared_key}
 pub use Rattle.turn_cred.specs.Shared.{Sources, as_moment, expiring_key, lasting}
 pub use Rattle.turn_cred.specs.Users.{KeyMap, key_map}

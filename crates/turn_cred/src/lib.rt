@@ -7,6 +7,7 @@ mod key;
 mod laws;
 mod memo;
 mod nonce;
+mod passed;
 mod shared;
 mod users;
 

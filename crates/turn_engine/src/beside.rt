@@ -119,9 +119,12 @@ impl<'a, 'b, H: AuthHandler, G: RelayAddressGenerator, A: Allocator + Copy> Besi
         ensures apart { IsTrue result → IsApart self.now.machine.table.contents self.now.tuples (arrival_of arrival.now) }
         ensures behind { result ≡ false → IsBehind self.now.machine.table.contents self.now.tuples (arrival_of arrival.now) }
     {
+        if self.tuples.is_empty() {
+            return true;
+        }
         match self.machine.owner_of(arrival) {
             Some(owner) => !has_tuple(self.tuples, owner),
-            None => self.tuples.is_empty(),
+            None => false,
         }
     }
 

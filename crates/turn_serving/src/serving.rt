@@ -1,6 +1,6 @@
 //! A server over sockets that serves.
 
-ghost use Rattle.std.specs.Prelude.{◌≡◌, ◌≤◌, ◌++◌, ℕ, IfOk, List, OnOk, false, is_none, is_ok, map, true};
+ghost use Rattle.std.specs.Prelude.{◌≡◌, ◌≤◌, ◌++◌, ℕ, IfOk, List, OnOk, false, is_none, is_ok, map, slice_index_or, true};
 ghost use Rattle.std.specs.Result.{result_map_both};
 ghost use Rattle.turn_disk.specs.Disk.{EachImageSince};
 ghost use Rattle.turn_engine.specs.Calls as calls;
@@ -152,12 +152,16 @@ impl<
     }
 
     /// The first address that clients send to, with the port that the system chose if it was to choose one.
-    pub fn local(&self) -> Endpoint {
+    pub fn local(&self) -> Endpoint
+        ensures { result ≡ slice_index_or self.now.addresses.own.listening 0 result }
+    {
         self.listening.own.listening.first()
     }
 
     /// The addresses that clients send to, likewise.
-    pub fn locals(&self) -> &ListeningAddresses {
+    pub fn locals(&self) -> &ListeningAddresses
+        ensures { result.now ≡ self.now.addresses.own.listening }
+    {
         &self.listening.own.listening
     }
 
