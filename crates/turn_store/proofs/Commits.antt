@@ -59,27 +59,9 @@ module _ {D M : Type 0} (disk : disks.Ghosts D) (passes : M → M → Type 0) (i
     -- a write in which a device call failed
     pub failed : {A B E : Type 0} {gate : ℕ} {next : D → StoreState D} {snapshot : List ℕ → List ℕ} {payloads : List (List ℕ) → List (List ℕ)} (e : E) → IsWrite {A = B} disk gate next snapshot payloads old new (Err e)
         → (next new.disk).version ≡ old.version → IsCommit {A = A} disk passes is_worn old new other done (Err Device)
-    failed e write same = record {
-      uses = uses_as (λ _. refl) (λ _. refl) write.uses;
-      worn = (λ is. cc, λ is. absurd (never is.1));
-      untouched_worn = λ is. cc;
-      stopped = (λ is. cc, λ is. let no = runs in cc);
-      untouched = λ is. let no = runs in cc;
-      stops = write.err;
-      version = write_in disk old new _ _ _ _ _ write same;
-      meanwhile = passed;
-    }
+    failed e write same = record { uses = uses_as (λ _. refl) (λ _. refl) write.uses; worn = (λ is. cc, λ is. absurd (never is.1)); untouched_worn = λ is. cc; stopped = (λ is. cc, λ is. let no = runs in cc); untouched = λ is. let no = runs in cc; stops = write.err; version = write_in disk old new _ _ _ _ _ write same; meanwhile = passed }
 
     -- and one in which none did
     pub written : {A B E : Type 0} {gate : ℕ} {next : D → StoreState D} {snapshot : List ℕ → List ℕ} {payloads : List (List ℕ) → List (List ℕ)} (x : A) (y : B) → IsWrite {E = E} disk gate next snapshot payloads old new (Ok y)
         → (next new.disk).version ≡ old.version → IsCommit disk passes is_worn old new other done (Ok x)
-    written x y write same = record {
-      uses = uses_as (λ is. cc) (λ is. cc) write.uses;
-      worn = (λ is. cc, λ is. absurd (never is.1));
-      untouched_worn = λ is. cc;
-      stopped = (λ is. cc, λ is. let no = runs in cc);
-      untouched = λ is. let no = runs in cc;
-      stops = tt;
-      version = write_in disk old new _ _ _ _ _ write same;
-      meanwhile = passed;
-    }
+    written x y write same = record { uses = uses_as (λ is. cc) (λ is. cc) write.uses; worn = (λ is. cc, λ is. absurd (never is.1)); untouched_worn = λ is. cc; stopped = (λ is. cc, λ is. let no = runs in cc); untouched = λ is. let no = runs in cc; stops = tt; version = write_in disk old new _ _ _ _ _ write same; meanwhile = passed }

@@ -1,3 +1,4 @@
+pub mod Applied
 pub mod Areas
 pub mod Bytes
 pub mod Carrying

@@ -1,6 +1,6 @@
 -- What a call leaves of a disk, and what a stop leaves.
 use Rattle.std.specs.Prelude.{◌≡◌, ◌⊎◌, ◌+◌, [], ℕ, List, Result, true, length, OnOk}
-use Rattle.turn_disk.specs.Prelude.{State, Trace, EachImageSince, IsImage, IsSettled, Uses, WritesOnce}
+use Rattle.turn_disk.specs.Prelude.{State, Trace, EachImageSince, IsImage, IsSettled, Reads, Uses, WritesOnce}
 use Rattle.turn_disk.specs.declared.disk.Disk as disks
 use Rattle.turn_record.specs.declared.version.Version.{Version}
 use Rattle.turn_store.specs.Areas.{Form, Holds, RecoversToParts}
@@ -10,6 +10,12 @@ use Rattle.turn_store.specs.Layout.{head_size}
 pub record Leaves {A E : Type 0} (old new : Trace) (P : List ℕ → Type 0) (Q : State → Type 0) (result : Result A E) : Type 0 where
   pub stop : EachImageSince old new P
   pub done : OnOk result (Q new.now)
+
+-- A call that only reads, in which a device call failed where `failed` holds. Of a disk that follows the crash model it says `finds` of
+-- the content.
+pub record IsRead {D : Type 0} (disk : disks.Ghosts D) (old new : D) (failed : Type 0) (finds : List ℕ → Type 0) : Type 0 where
+  pub reads : Reads disk old new failed
+  pub found : disk.follows_crash_model new → finds (disk.trace old).now.bytes
 
 -- A sync, and reads after it: the content stays, a stop at any moment leaves what it might have left before, and nothing is pending if no
 -- device call failed.

@@ -2,10 +2,10 @@
 
 ghost use Rattle.std.specs.Prelude.{◌≡◌, ◌⊎◌, ◌+◌, ◌≤◌, ◌<◌, ◌^◌, IfOk, IfSome, IsNone, slice_index, IsErr};
 ghost use Rattle.std.specs.Int.{to_be_bytes, w32, w64};
-ghost use Rattle.turn_disk.specs.Device.{Reads};
 ghost use Rattle.turn_disk.specs.Disk.{StandsAt};
 ghost use Rattle.turn_store.specs.Head.{IsHead, Beats, NoneIsActive};
 ghost use Rattle.turn_store.specs.Layout.{head_size};
+ghost use Rattle.turn_store.specs.Stages.{IsRead};
 
 use crate::layout::{GENERATION_AT, LENGTH_AT, VERSION_AT};
 use turn_disk::{DeviceError, Disk, read_array};
@@ -27,8 +27,7 @@ pub struct Head {
 // Reads one byte.
 fn read_byte<D: Disk>(disk: &mut D, at: usize) -> Result<u8, DeviceError>
     requires { at + 1 ≤ D.capacity disk.old }
-    ensures reads { Reads D.Disk disk.old disk.new (IsErr result) }
-    ensures value { D.follows_crash_model disk.new → IfOk result (λ b. slice_index (D.trace disk.old).now.bytes at ≡ b) }
+    ensures { IsRead D.Disk disk.old disk.new (IsErr result) (λ content. IfOk result (λ b. slice_index content at ≡ b)) }
 {
     let bytes: [u8; 1] = read_array(disk, at)?;
     Ok(bytes[0])
@@ -37,9 +36,7 @@ fn read_byte<D: Disk>(disk: &mut D, at: usize) -> Result<u8, DeviceError>
 // Reads a number of four bytes.
 fn read_u32<D: Disk>(disk: &mut D, at: usize) -> Result<u32, DeviceError>
     requires { at + 4 ≤ D.capacity disk.old }
-    ensures reads { Reads D.Disk disk.old disk.new (IsErr result) }
-    ensures value { D.follows_crash_model disk.new
-        → IfOk result (λ n. StandsAt at (to_be_bytes w32 n) (D.trace disk.old).now.bytes) }
+    ensures { IsRead D.Disk disk.old disk.new (IsErr result) (λ content. IfOk result (λ n. StandsAt at (to_be_bytes w32 n) content)) }
 {
     let bytes = read_array(disk, at)?;
     Ok(u32::from_be_bytes(bytes))
@@ -48,9 +45,7 @@ fn read_u32<D: Disk>(disk: &mut D, at: usize) -> Result<u32, DeviceError>
 // Reads a number of eight bytes.
 fn read_u64<D: Disk>(disk: &mut D, at: usize) -> Result<u64, DeviceError>
     requires { at + 8 ≤ D.capacity disk.old }
-    ensures reads { Reads D.Disk disk.old disk.new (IsErr result) }
-    ensures value { D.follows_crash_model disk.new
-        → IfOk result (λ n. StandsAt at (to_be_bytes w64 n) (D.trace disk.old).now.bytes) }
+    ensures { IsRead D.Disk disk.old disk.new (IsErr result) (λ content. IfOk result (λ n. StandsAt at (to_be_bytes w64 n) content)) }
 {
     let bytes = read_array(disk, at)?;
     Ok(u64::from_be_bytes(bytes))
@@ -60,10 +55,9 @@ fn read_u64<D: Disk>(disk: &mut D, at: usize) -> Result<u64, DeviceError>
 pub fn read_head<D: Disk>(disk: &mut D, at: usize) -> Result<Head, DeviceError>
     requires place { at + head_size ≤ D.capacity disk.old }
     requires addressable { at + head_size < 2 ^ 64 }
-    ensures reads { Reads D.Disk disk.old disk.new (IsErr result) }
+    ensures head { IsRead D.Disk disk.old disk.new (IsErr result) (λ content. IfOk result (λ head. IsHead at head content)) }
     ensures generation { IfOk result (λ head. head.generation < 2 ^ 64) }
     ensures snapshot { IfOk result (λ head. head.snapshot < 2 ^ 32) }
-    ensures head { D.follows_crash_model disk.new → IfOk result (λ head. IsHead at head (D.trace disk.old).now.bytes) }
 {
     let gate = read_byte(disk, at)?;
     let version = read_byte(disk, at + VERSION_AT)?;

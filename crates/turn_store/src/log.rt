@@ -1,12 +1,12 @@
 //! The log of an area, replayed.
 
 ghost use Rattle.std.specs.Prelude.{◌≡◌, ◌≢◌, ◌+◌, ◌≤◌, ◌<◌, ◌↔◌, IfOk, IfErr, OnOk, length, Err};
-ghost use Rattle.turn_disk.specs.Device.{Reads};
 ghost use Rattle.turn_journal.specs.Area.{end_of, limit_of};
 ghost use Rattle.turn_journal.specs.Scan.{IsAdmitted, IsFound, IsBadFrame};
 ghost use Rattle.turn_record.specs.Records.{Holds, max_payload};
 ghost use Rattle.turn_store.specs.Opened.{LogIsRead};
 ghost use Rattle.turn_store.specs.Refused.{BreaksAt, FaultWith};
+ghost use Rattle.turn_store.specs.Stages.{IsRead};
 ghost use Rattle.turn_store.specs.Tables.{snapshot_of};
 
 use crate::error::OpenError;
@@ -26,13 +26,12 @@ fn found_at<D: Disk, A: Allocator>(
 ) -> Result<Found, OpenError>
     requires place { journal.now.start + journal.now.size ≤ D.capacity disk.old }
     requires gate { at < journal.now.size }
-    ensures reads { Reads D.Disk disk.old disk.new (result ≡ Err OpenError.Device) }
     ensures admitted { IfOk result (λ found. (n : _) → found ≡ Found.Frame n
         → IsAdmitted at journal.now.size journal.now.max_payload n) }
-    ensures found { D.follows_crash_model disk.new → IfOk result
-        (IsFound (journal.now.start + at) (limit_of journal.now) journal.now.max_payload (D.trace disk.old).now.bytes) }
-    ensures faults { D.follows_crash_model disk.new → IfErr result (FaultWith (λ place. (place ≡ journal.now.start + at)
-        × IsBadFrame place (limit_of journal.now) journal.now.max_payload (D.trace disk.old).now.bytes)) }
+    ensures found { IsRead D.Disk disk.old disk.new (result ≡ Err OpenError.Device) (λ content.
+        IfOk result (IsFound (journal.now.start + at) (limit_of journal.now) journal.now.max_payload content)
+        × IfErr result (FaultWith (λ place. (place ≡ journal.now.start + at)
+        × IsBadFrame place (limit_of journal.now) journal.now.max_payload content))) }
 {
     let gate = journal.start() + at;
     match journal.scan(disk, at) {
@@ -69,18 +68,16 @@ pub fn replay_log<D: Disk, A: Allocator + Copy>(
     requires payload { journal.now.max_payload ≡ max_payload version limits }
     requires buffer { length payload.old ≡ max_payload version limits }
     requires bounds { table.old.bounds ≡ limits }
-    ensures reads { Reads D.Disk disk.old disk.new (result ≡ Err OpenError.Device) }
     ensures bounds { table.new.bounds ≡ table.old.bounds }
     ensures holds { Holds version table.old.contents → OnOk result (Holds version table.new.contents) }
     ensures within { IfOk result (λ r. r.0 < journal.now.size) }
     ensures few { IfOk result (λ r. r.1 ≤ r.0) }
-    ensures log { D.follows_crash_model disk.new → IfOk result (λ r.
-        LogIsRead version limits (end_of journal.now) (snapshot_of table.old) (journal.now.start + r.0) (limit_of journal.now) r.1
-        (snapshot_of table.new) (D.trace disk.old).now.bytes) }
 
-    // The fault is at the first gate whose frame is bad.
-    ensures faults { D.follows_crash_model disk.new → IfErr result (FaultWith
-        (BreaksAt version limits (end_of journal.now) (limit_of journal.now) (snapshot_of table.old) (D.trace disk.old).now.bytes)) }
+    // A fault is at the first gate whose frame is bad.
+    ensures read { IsRead D.Disk disk.old disk.new (result ≡ Err OpenError.Device) (λ content.
+        IfOk result (λ r. LogIsRead version limits (end_of journal.now) (snapshot_of table.old) (journal.now.start + r.0) (limit_of journal.now) r.1
+        (snapshot_of table.new) content)
+        × IfErr result (FaultWith (BreaksAt version limits (end_of journal.now) (limit_of journal.now) (snapshot_of table.old) content))) }
 {
     let start = journal.start();
     let mut end = journal.end();

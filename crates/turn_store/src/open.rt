@@ -1,7 +1,6 @@
 //! What a store holds is read: its superblock, the active area, the snapshot and the log.
 
 ghost use Rattle.std.specs.Prelude.{◌≡◌, ◌≢◌, ◌+◌, ◌*◌, ◌≤◌, ◌<◌, ◌^◌, ◌↔◌, ℕ, IfOk, IfErr, IfSome, IsNone, IsTrue, IsErr, OnOk, Err};
-ghost use Rattle.turn_disk.specs.Device.{Reads};
 ghost use Rattle.turn_record.specs.Records.{max_payload, max_snapshot};
 ghost use Rattle.turn_record.specs.declared.version.Version.{Version};
 ghost use Rattle.turn_record.specs.declared.version.Version.TheVariants.{V1};
@@ -11,7 +10,7 @@ ghost use Rattle.turn_store.specs.Images.{RepresentsAt};
 ghost use Rattle.turn_store.specs.Layout.{head_size, second_area, store_size};
 ghost use Rattle.turn_store.specs.Opened.{AreaIsRead, IsChosen};
 ghost use Rattle.turn_store.specs.Refused.{AreaIsBad, FaultWith, IsHeadOf, IsPlain, StoreIsBad, WhyRefused};
-ghost use Rattle.turn_store.specs.Stages.{Settles};
+ghost use Rattle.turn_store.specs.Stages.{IsRead, Settles};
 ghost use Rattle.turn_store.specs.State.{IsSound};
 ghost use Rattle.turn_store.specs.Superblock.{HasSuperblock, least_area};
 ghost use Rattle.turn_store.specs.Tables.{IsTableIn, snapshot_of};
@@ -74,15 +73,13 @@ fn load_area<D: Disk, A: Allocator + Copy>(
     requires addressable { start + size < 2 ^ 64 }
     requires generation { head.generation < 2 ^ 64 }
     requires snapshot { head.snapshot < 2 ^ 32 }
-    ensures reads { Reads D.Disk disk.old disk.new (result ≡ Err OpenError.Device) }
     ensures area { IfOk result (λ l. (l.journal.start ≡ start) × (l.journal.size ≡ size) × (l.journal.max_payload ≡ max_payload l.version limits)) }
     ensures room { IfOk result (λ l. least_area l.version limits ≤ size) }
     ensures table { IfOk result (λ l. IsTableIn l.version limits l.table) }
     ensures few { IfOk result (λ l. l.frames ≤ l.journal.end) }
-    ensures read { D.follows_crash_model disk.new → IfOk result (λ l.
-        AreaIsRead l.version limits start size head l.journal.end l.frames (snapshot_of l.table) (D.trace disk.old).now.bytes) }
-    ensures faults { D.follows_crash_model disk.new
-        → IfErr result (FaultWith (AreaIsBad limits start size head (D.trace disk.old).now.bytes)) }
+    ensures read { IsRead D.Disk disk.old disk.new (result ≡ Err OpenError.Device) (λ content.
+        IfOk result (λ l. AreaIsRead l.version limits start size head l.journal.end l.frames (snapshot_of l.table) content)
+        × IfErr result (FaultWith (AreaIsBad limits start size head content))) }
 {
     let Some(version) = version_in(limits, size, head) else {
         return Err(OpenError::Damaged(start));
@@ -138,17 +135,15 @@ fn choose<D: Disk, A: Allocator + Copy>(
     requires place { store_size size ≡ D.capacity disk.old }
     requires addressable { store_size size < 2 ^ 64 }
     requires room { head_size ≤ size }
-    ensures reads { Reads D.Disk disk.old disk.new (result ≡ Err OpenError.Device) }
     ensures area { IfOk result (λ r. (r.loaded.journal.size ≡ size) × (r.loaded.journal.max_payload ≡ max_payload r.loaded.version limits)) }
     ensures room { IfOk result (λ r. least_area r.loaded.version limits ≤ size) }
     ensures places { IfOk result (λ r. (r.loaded.journal.start ≤ second_area size) × (r.other ≤ second_area size)) }
     ensures table { IfOk result (λ r. IsTableIn r.loaded.version limits r.loaded.table) }
     ensures few { IfOk result (λ r. r.loaded.frames ≤ r.loaded.journal.end) }
-    ensures chosen { D.follows_crash_model disk.new → IfOk result (λ r.
-        IsChosen r.loaded.version limits size r.loaded.journal.start r.other r.generation r.loaded.journal.end r.loaded.frames r.other_is_below
-        (snapshot_of r.loaded.table) (D.trace disk.old).now.bytes) }
-    ensures faults { D.follows_crash_model disk.new
-        → IfErr result (FaultWith (StoreIsBad limits size (D.trace disk.old).now.bytes)) }
+    ensures chosen { IsRead D.Disk disk.old disk.new (result ≡ Err OpenError.Device) (λ content.
+        IfOk result (λ r. IsChosen r.loaded.version limits size r.loaded.journal.start r.other r.generation r.loaded.journal.end r.loaded.frames
+        r.other_is_below (snapshot_of r.loaded.table) content)
+        × IfErr result (FaultWith (StoreIsBad limits size content))) }
 {
     let second_start = FIRST_AREA + size;
     let first_head = read_head(disk, FIRST_AREA)?;
@@ -189,13 +184,12 @@ fn are_same(first: Limits, second: Limits) -> bool
 
 // The size of an area, by the superblock, which has to have these limits.
 fn read_area_size<D: Disk>(disk: &mut D, limits: Limits) -> Result<usize, OpenError>
-    ensures reads { Reads D.Disk disk.old disk.new (result ≡ Err OpenError.Device) }
     ensures place { IfOk result (λ area. store_size area ≡ D.capacity disk.old) }
     ensures addressable { D.capacity disk.old < 2 ^ 64 }
     ensures room { IfOk result (λ area. least_area V1 limits ≤ area) }
     ensures small { OnOk result ((v : Version) → least_area v limits < 2 ^ 32) }
-    ensures superblock { D.follows_crash_model disk.new → IfOk result (λ area. HasSuperblock area limits (D.trace disk.old).now.bytes) }
-    ensures why { D.follows_crash_model disk.new → IfErr result (WhyRefused limits (D.trace disk.old).now.bytes) }
+    ensures read { IsRead D.Disk disk.old disk.new (result ≡ Err OpenError.Device) (λ content.
+        IfOk result (λ area. HasSuperblock area limits content) × IfErr result (WhyRefused limits content)) }
 {
     let needed = least_area_of(Version::V1, limits);
     // For the proof: an area of each version is small enough.

@@ -1,7 +1,6 @@
 //! The events of a log, applied to the table of the snapshot before it.
 
 ghost use Rattle.std.specs.Prelude.{◌≡◌, ◌≢◌, ◌+◌, ◌^◌, ◌<◌, ◌≤◌, List, None, OnOk, IfOk, IfErr, length, Err};
-ghost use Rattle.turn_disk.specs.Device.{Reads};
 ghost use Rattle.turn_disk.specs.Disk.{StandsAt};
 ghost use Rattle.std.specs.List.{AllByRecursion};
 ghost use Rattle.turn_history.specs.Act.{event_of};
@@ -11,7 +10,9 @@ ghost use Rattle.turn_history.specs.Table.{purged};
 ghost use Rattle.turn_record.specs.Records.{Holds, EncodesPayload};
 ghost use Rattle.turn_record.specs.Views.{events_of};
 ghost use Rattle.turn_store.specs.Refused.{ReadsBad, ReadsOn};
+ghost use Rattle.turn_store.specs.Applied.{Applies};
 ghost use Rattle.turn_store.specs.Replay.{IsNext, GoOn, GoesOn, after, after_all};
+ghost use Rattle.turn_store.specs.Stages.{IsRead};
 ghost use Rattle.turn_store.specs.Tables.{snapshot_of};
 ghost use Rattle.turn_store.specs.declared.replay.FrameError.TheVariants.{Device, Memory};
 
@@ -60,12 +61,8 @@ fn advance<A: Allocator + Copy>(table: &mut Table<A>, moment: Moment)
 // Applies an event that may be the next.
 fn apply_next<A: Allocator + Copy>(table: &mut Table<A>, event: Event<A>) -> Result<(), FrameError>
     requires { IsInRange table.old.bounds (event_of event) }
-    ensures bounds { table.new.bounds ≡ table.old.bounds }
-    ensures no_device { IfErr result (λ fault. fault ≢ FrameError.Device) }
-    ensures ok { OnOk result (IsNext table.old.bounds (snapshot_of table.old) (event_of event)) }
-    ensures after { OnOk result (snapshot_of table.new ≡ after (snapshot_of table.old) (event_of event)) }
-    ensures bad { IfErr result (λ fault. fault ≡ FrameError.Bad
-        → IsNext table.old.bounds (snapshot_of table.old) (event_of event) → ⊥) }
+    ensures { Applies table.old table.new (IsNext table.old.bounds (snapshot_of table.old) (event_of event))
+        (snapshot_of table.new ≡ after (snapshot_of table.old) (event_of event)) result }
 {
     if event.moment < table.moment() {
         return Err(FrameError::Bad);
@@ -85,12 +82,8 @@ fn apply_all<A: Allocator + Copy>(
     events: Vec<Event<A>, A>,
 ) -> Result<(), FrameError>
     requires { AllByRecursion (IsInRange table.old.bounds) (events_of events.items) }
-    ensures bounds { table.new.bounds ≡ table.old.bounds }
-    ensures no_device { IfErr result (λ fault. fault ≢ FrameError.Device) }
-    ensures ok { OnOk result (GoOn table.old.bounds (snapshot_of table.old) (events_of events.items)) }
-    ensures after { OnOk result (snapshot_of table.new ≡ after_all (snapshot_of table.old) (events_of events.items)) }
-    ensures bad { IfErr result (λ fault. fault ≡ FrameError.Bad
-        → GoOn table.old.bounds (snapshot_of table.old) (events_of events.items) → ⊥) }
+    ensures { Applies table.old table.new (GoOn table.old.bounds (snapshot_of table.old) (events_of events.items))
+        (snapshot_of table.new ≡ after_all (snapshot_of table.old) (events_of events.items)) result }
 {
     let mut events = events;
     while !events.is_empty() {
@@ -153,12 +146,10 @@ fn replay_payload<D: Disk, A: Allocator + Copy>(
     requires bounds { table.old.bounds ≡ limits }
     requires place { at + length buffer.old ≤ D.capacity disk.old }
     requires addressable { at + length buffer.old < 2 ^ 64 }
-    ensures reads { Reads D.Disk disk.old disk.new (result ≡ Err FrameError.Device) }
     ensures len { length buffer.new ≡ length buffer.old }
     ensures bounds { table.new.bounds ≡ table.old.bounds }
-    ensures stands { D.follows_crash_model disk.new → IfErr result (λ fault. fault ≢ FrameError.Device
-        → StandsAt at buffer.new (D.trace disk.old).now.bytes) }
-    ensures stands_ok { D.follows_crash_model disk.new → OnOk result (StandsAt at buffer.new (D.trace disk.old).now.bytes) }
+    ensures stands { IsRead D.Disk disk.old disk.new (result ≡ Err FrameError.Device) (λ content. OnOk result (StandsAt at buffer.new content)
+        × IfErr result (λ fault. fault ≢ FrameError.Device → StandsAt at buffer.new content)) }
     ensures goes { OnOk result (GoesOn version limits (snapshot_of table.old) buffer.new (snapshot_of table.new)) }
     ensures bad { IfErr result (λ fault. fault ≡ FrameError.Bad
         → (es : List histories.Event) → EncodesPayload version limits es buffer.new → GoOn limits (snapshot_of table.old) es → ⊥) }
@@ -183,14 +174,12 @@ pub fn replay_frame<D: Disk, A: Allocator + Copy>(
     requires room { count ≤ length buffer.old }
     requires place { at + count ≤ D.capacity disk.old }
     requires addressable { at + count < 2 ^ 64 }
-    ensures reads { Reads D.Disk disk.old disk.new (result ≡ Err FrameError.Device) }
     ensures len { length buffer.new ≡ length buffer.old }
     ensures bounds { table.new.bounds ≡ table.old.bounds }
     ensures holds { Holds version table.old.contents → OnOk result (Holds version table.new.contents) }
-    ensures goes { D.follows_crash_model disk.new → OnOk result
-        (ReadsOn version limits (snapshot_of table.old) at count (snapshot_of table.new) (D.trace disk.old).now.bytes) }
-    ensures bad { D.follows_crash_model disk.new → IfErr result (λ fault. fault ≡ FrameError.Bad
-        → ReadsBad version limits (snapshot_of table.old) at count (D.trace disk.old).now.bytes) }
+    ensures read { IsRead D.Disk disk.old disk.new (result ≡ Err FrameError.Device) (λ content.
+        OnOk result (ReadsOn version limits (snapshot_of table.old) at count (snapshot_of table.new) content)
+        × IfErr result (λ fault. fault ≡ FrameError.Bad → ReadsBad version limits (snapshot_of table.old) at count content)) }
 {
     let payload = &mut buffer[..count];
     replay_payload(alloc, disk, at, payload, table, version, limits)?;

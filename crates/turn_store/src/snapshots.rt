@@ -1,11 +1,11 @@
 //! A snapshot, read in pieces.
 
 ghost use Rattle.std.specs.Prelude.{◌≡◌, ◌≢◌, ◌+◌, ◌++◌, ◌≤◌, ◌<◌, ◌^◌, ℕ, List, IfOk, IfErr, OnOk, drop, length, take, IsErr, Err};
-ghost use Rattle.turn_disk.specs.Device.{Reads};
 ghost use Rattle.turn_record.specs.Pieces.{WasFed};
 ghost use Rattle.turn_record.specs.declared.version.Version.{Version};
 ghost use Rattle.turn_store.specs.Refused.{FaultWith, IsBadSnapshot, IsGoodSnapshot};
 ghost use Rattle.turn_store.specs.Bytes.{AreBytes};
+ghost use Rattle.turn_store.specs.Stages.{IsRead};
 ghost use Rattle.turn_store.specs.Tables.{IsTableIn, snapshot_of};
 ghost use Rattle.turn_types.specs.declared.limits.Bounds.{Bounds};
 
@@ -25,10 +25,8 @@ fn read_front<D: Disk>(
 ) -> Result<(), DeviceError>
     requires fits { size ≤ 4096 }
     requires place { at + size ≤ D.capacity disk.old }
-    ensures reads { Reads D.Disk disk.old disk.new (IsErr result) }
     ensures len { length piece.new ≡ 4096 }
-    ensures value { D.follows_crash_model disk.new
-        → OnOk result (take size piece.new ≡ take size (drop at (D.trace disk.old).now.bytes)) }
+    ensures value { IsRead D.Disk disk.old disk.new (IsErr result) (λ content. OnOk result (take size piece.new ≡ take size (drop at content))) }
 {
     disk.read_at(at, &mut piece[..size])?;
     Ok(())
@@ -51,12 +49,10 @@ fn feed_piece<D: Disk, A: Allocator + Copy>(
 ) -> Result<(), DeviceError>
     requires fits { size ≤ 4096 }
     requires place { at + size ≤ D.capacity disk.old }
-    ensures reads { Reads D.Disk disk.old disk.new (IsErr result) }
-    ensures bytes { D.follows_crash_model disk.new → OnOk result (AreBytes (take size (drop at (D.trace disk.old).now.bytes))) }
     ensures fed_some { OnOk result ((v : Version) (b : Bounds) (fed : List ℕ) → AreBytes fed
         → WasFed v b reader.old fed → (more : List ℕ) × AreBytes more × WasFed v b reader.new more) }
-    ensures fed { D.follows_crash_model disk.new → OnOk result ((v : Version) (b : Bounds) (fed : List ℕ)
-        → WasFed v b reader.old fed → WasFed v b reader.new (fed ++ take size (drop at (D.trace disk.old).now.bytes))) }
+    ensures fed { IsRead D.Disk disk.old disk.new (IsErr result) (λ content. OnOk result (AreBytes (take size (drop at content))
+        × ((v : Version) (b : Bounds) (fed : List ℕ) → WasFed v b reader.old fed → WasFed v b reader.new (fed ++ take size (drop at content))))) }
 {
     let mut piece = [0u8; PIECE];
     read_front(disk, at, &mut piece, size)?;
@@ -75,12 +71,10 @@ pub fn read_snapshot<D: Disk, A: Allocator + Copy>(
 ) -> Result<Table<A>, OpenError>
     requires place { at + count ≤ D.capacity disk.old }
     requires addressable { at + count < 2 ^ 64 }
-    ensures reads { Reads D.Disk disk.old disk.new (result ≡ Err OpenError.Device) }
     ensures table { IfOk result (λ table. IsTableIn version limits table) }
-    ensures read { D.follows_crash_model disk.new → IfOk result (λ table.
-        IsGoodSnapshot version limits at count (snapshot_of table) (D.trace disk.old).now.bytes) }
-    ensures faults { D.follows_crash_model disk.new → IfErr result (FaultWith (λ place. (place ≡ at)
-        × IsBadSnapshot version limits at count (D.trace disk.old).now.bytes)) }
+    ensures read { IsRead D.Disk disk.old disk.new (result ≡ Err OpenError.Device) (λ content.
+        IfOk result (λ table. IsGoodSnapshot version limits at count (snapshot_of table) content)
+        × IfErr result (FaultWith (λ place. (place ≡ at) × IsBadSnapshot version limits at count content))) }
 {
     // For the proof: the limits are in their ranges.
     let _bounds = limits.bounds();

@@ -1,9 +1,9 @@
 //! The first bytes of a store: the size of an area, and the limits.
 
 ghost use Rattle.std.specs.Prelude.{◌≡◌, ◌≢◌, ◌+◌, ◌<◌, ◌^◌, ℕ, IfSome, IsNone, IfOk, IfErr, OnOk, length, Err};
-ghost use Rattle.turn_disk.specs.Device.{Reads};
 ghost use Rattle.turn_record.specs.declared.version.Version.TheVariants.{V2};
 ghost use Rattle.turn_store.specs.Layout.{superblock_size};
+ghost use Rattle.turn_store.specs.Stages.{IsRead};
 ghost use Rattle.turn_store.specs.Superblock.{HasSuperblock, least_area, superblock};
 ghost use Rattle.turn_store.specs.declared.superblock.LimitsError.TheVariants.{Device};
 ghost use Rattle.turn_types.specs.Limits.{AreInRange};
@@ -117,11 +117,8 @@ fn superblock_in(bytes: &[u8; SUPERBLOCK_SIZE]) -> Option<Superblock>
 
 /// Reads the superblock, in at most one device call.
 pub fn read_superblock<D: Disk>(disk: &mut D) -> Result<Superblock, LimitsError>
-    ensures reads { Reads D.Disk disk.old disk.new (result ≡ Err LimitsError.Device) }
-    ensures found { D.follows_crash_model disk.new
-        → IfOk result (λ s. HasSuperblock s.area s.limits (D.trace disk.old).now.bytes) }
-    ensures none { D.follows_crash_model disk.new → IfErr result (λ refused. refused ≡ LimitsError.NotAStore
-        → (area : ℕ) (b : Bounds) → HasSuperblock area b (D.trace disk.old).now.bytes → ⊥) }
+    ensures { IsRead D.Disk disk.old disk.new (result ≡ Err LimitsError.Device) (λ content. IfOk result (λ s. HasSuperblock s.area s.limits content)
+        × IfErr result (λ refused. refused ≡ LimitsError.NotAStore → (area : ℕ) (b : Bounds) → HasSuperblock area b content → ⊥)) }
 {
     if disk.size() < SUPERBLOCK_SIZE {
         return Err(LimitsError::NotAStore);
@@ -140,13 +137,10 @@ pub fn read_superblock<D: Disk>(disk: &mut D) -> Result<Superblock, LimitsError>
 /// assert!(rt; limits == Limits::MAX);
 /// ```
 pub fn limits<D: Disk>(disk: &mut D) -> Result<Limits, LimitsError>
-    ensures reads { Reads D.Disk disk.old disk.new (result ≡ Err LimitsError.Device) }
-
     // The limits are those of the superblock, and a disk without one is refused.
-    ensures found { D.follows_crash_model disk.new
-        → IfOk result (λ limits. (area : ℕ) × HasSuperblock area limits (D.trace disk.old).now.bytes) }
-    ensures none { D.follows_crash_model disk.new → IfErr result (λ refused. refused ≡ LimitsError.NotAStore
-        → (area : ℕ) (b : Bounds) → HasSuperblock area b (D.trace disk.old).now.bytes → ⊥) }
+    ensures { IsRead D.Disk disk.old disk.new (result ≡ Err LimitsError.Device) (λ content.
+        IfOk result (λ limits. (area : ℕ) × HasSuperblock area limits content)
+        × IfErr result (λ refused. refused ≡ LimitsError.NotAStore → (area : ℕ) (b : Bounds) → HasSuperblock area b content → ⊥)) }
 {
     let found = read_superblock(disk)?;
     Ok(found.limits)

@@ -12,11 +12,7 @@ returns-in_err-write_produced g c = let p = err_from_is_err_and c.from_residual.
   meanwhile = c.write_produced.ensures.meanwhile;
   does = λ crash_model v form start generation snapshot payloads fits holds closed.
       let count = length (g.P.Producer.rest c.args.front.now) in
-      record {
-        stop = since_weaken _ _ (ChangesOnly (c.args.gate + 1) count (g.D.Disk.trace c.args.disk.now).now.bytes) (Holds v form snapshot payloads)
-            (λ image changes. row_fill v form start c.args.gate generation snapshot payloads _ holds count image changes (omega arith) closed) (search (rules, holds.settled));
-        done = tt;
-      };
+      record { stop = since_weaken _ _ (ChangesOnly (c.args.gate + 1) count (g.D.Disk.trace c.args.disk.now).now.bytes) (Holds v form snapshot payloads) (λ image changes. row_fill v form start c.args.gate generation snapshot payloads _ holds count image changes (omega arith) closed) (search (rules, holds.settled)); done = tt };
 })
 
 pub returns : goal.returns

@@ -6,13 +6,7 @@ use Rattle.turn_store.proofs.store.Store.replace_snapshot.Goals as goal
 pub returns-in_err-write_snapshot-clause-writes : goal.returns-in_err-write_snapshot-clause-writes
 returns-in_err-write_snapshot-clause-writes g c = rw (← c.self.view_is, ← c.next_area-area.ensures) (
     let last : c.self.inside.generation + 1 < 2 ^ 64 = omega (arith, c.requires.generation, ap (λ st. st.generation) c.self.view_is) in
-    record {
-      uses = search rules;
-      ok = search rules;
-      err = search rules;
-      stages = λ crash_model s ps shows. (c.write_snapshot.ensures.does crash_model _ _ _ _ _ s ps refl last c.self.invariant.room c.next_size-size.ensures.room shows.recovers).stages;
-      shown = search rules;
-    })
+    record { uses = search rules; ok = search rules; err = search rules; stages = λ crash_model s ps shows. (c.write_snapshot.ensures.does crash_model _ _ _ _ _ s ps refl last c.self.invariant.room c.next_size-size.ensures.room shows.recovers).stages; shown = search rules })
 
 pub returns-clause-writes : goal.returns-clause-writes
 returns-clause-writes g c = rw (← c.self.view_is, ← c.next_area-area.ensures) (
