@@ -61,8 +61,8 @@ returns-then-acts-eq0-clause-call g c =
 
 pub invariant_of-self : goal.invariant_of-self
 invariant_of-self g c =
-    let kept = form_kept c.self.inside.store c.append-appended.new.self _ _ c.append-appended.result c.append-appended.ensures.framed c.append-appended.ensures.compacted c.append-appended.ensures.stops in
-    let same = version_kept c.self.inside.store c.append-appended.new.self _ _ c.append-appended.result c.append-appended.ensures.framed c.append-appended.ensures.compacted c.append-appended.ensures.stops in
+    let kept = form_kept c.self.inside.store c.append-appended.new.self _ _ c.append-appended.result c.append-appended.ensures.framed c.append-appended.ensures.compacted c.append-appended.ensures.commits.stops in
+    let same = version_kept c.self.inside.store c.append-appended.new.self _ _ c.append-appended.result c.append-appended.ensures.framed c.append-appended.ensures.compacted c.append-appended.ensures.commits.stops in
     let table = c.self.inside.machine.table in
     let s = c.self.invariant.0 in (
       record {
@@ -92,7 +92,7 @@ returns-clause-meanwhile g c =
     let inside = c.self.inside in
     let is = c.new.ensures ∙ ap (λ l. record { machine = inside.machine; tuples = l; arrivals = inside.arrivals; since = inside.since }) c.tuples.ensures ∙ ap beside c.self.view_is in
     subst (λ b. Passes (g.W.WhileCommitting.passes b) c.args.other c.append-appended.new.other.other) is
-    (lent_by (λ l. l.beside) (λ l. l.other) g.W.WhileCommitting.passes c.append-appended.ensures.meanwhile)
+    (lent_by (λ l. l.beside) (λ l. l.other) g.W.WhileCommitting.passes c.append-appended.ensures.commits.meanwhile)
 
 pub returns-clause-call : goal.returns-clause-call
 returns-clause-call g c =
@@ -101,12 +101,12 @@ returns-clause-call g c =
     let few = few_acts _ _ _ _ c.self.invariant.0.few c.self.invariant.0.capped (ap (λ (b : Bounds). b.acts) c.self.invariant.0.store_is) in
     let same = c.self.invariant.0.store_is in
     let range = c.table.ensures.at.moment in
-    let kept = form_kept c.self.inside.store c.append-appended.new.self _ _ c.append-appended.result c.append-appended.ensures.framed c.append-appended.ensures.compacted c.append-appended.ensures.stops in
-    let same_version = version_kept c.self.inside.store c.append-appended.new.self _ _ c.append-appended.result c.append-appended.ensures.framed c.append-appended.ensures.compacted c.append-appended.ensures.stops in
+    let kept = form_kept c.self.inside.store c.append-appended.new.self _ _ c.append-appended.result c.append-appended.ensures.framed c.append-appended.ensures.compacted c.append-appended.ensures.commits.stops in
+    let same_version = version_kept c.self.inside.store c.append-appended.new.self _ _ c.append-appended.result c.append-appended.ensures.framed c.append-appended.ensures.compacted c.append-appended.ensures.commits.stops in
     let stages = rw (c.table.ensures.value, c.payload.ensures.value) at c.append-appended.ensures.stages in
     elim c.match-appended.branch [
       | in-Ok w ↦
-          let worn = rw c.payload.ensures.value at w.in-Ok.ensures.worn in
+          let worn = rw c.payload.ensures.value at w.in-Ok.ensures.commits.worn in
           let done = rw (c.table.ensures.value, c.payload.ensures.value) at w.in-Ok.ensures.done in
           rw w.written-is (done_at c.self.view_is (record {
             handed = refl;
@@ -117,35 +117,35 @@ returns-clause-call g c =
             stopped = (λ e. absurd (done_never e), λ is. absurd (not_both _ is runs));
             unchanged = λ is. absurd (not_both _ is runs);
             nothing = λ _ none. absurd (not_none _ some none);
-            uses = uses_as (λ e. absurd (done_never e)) (λ e. absurd (done_never e)) w.in-Ok.ensures.uses;
+            uses = uses_as (λ e. absurd (done_never e)) (λ e. absurd (done_never e)) w.in-Ok.ensures.commits.uses;
             form = kept;
             version = same_version;
-            worn = (λ e. absurd (done_never e), λ facts. absurd (done_never (worn.1 (facts.0, facts.2, facts.3))));
+            worn = (λ e. absurd (done_never e), λ facts. absurd (done_never (worn.1 (facts.0, (facts.2, facts.3)))));
             untouched_worn = λ e. absurd (done_never e);
             stages = λ crash_model. batch_stages g.D.Disk _ c.append-appended.new.self same range some few (stages crash_model);
             stop = λ crash_model. batch_stop g.D.Disk _ c.append-appended.new.self same range some few (stages crash_model);
-            stop_version = λ crash_model h k recovers. c.append-appended.ensures.version crash_model recovers.stored.snapshot recovers.stored.payloads recovers.stored.shows;
+            stop_version = λ crash_model h k recovers. c.append-appended.ensures.commits.version crash_model recovers.stored.snapshot recovers.stored.payloads recovers.stored.shows;
             recovers = λ crash_model. batch_stored g.D.Disk _ c.append-appended.new.self same range some few (done crash_model);
           }))
       | in-Err w ↦
-          let worn = rw c.payload.ensures.value at w.in-Err.ensures.worn in
+          let worn = rw c.payload.ensures.value at w.in-Err.ensures.commits.worn in
           rw w.written-is (failed_at c.self.view_is (record {
             handed = tt;
             ok = tt;
             err = refl;
             runs = tt;
-            stops = ap (λ s. s.stopped) w.in-Err.ensures.stops;
-            stopped = (λ e. w.in-Err.ensures.stopped.0 (fault_as e), λ is. absurd (not_both _ is runs));
+            stops = ap (λ s. s.stopped) w.in-Err.ensures.commits.stops;
+            stopped = (λ e. w.in-Err.ensures.commits.stopped.0 (fault_as e), λ is. absurd (not_both _ is runs));
             unchanged = λ is. absurd (not_both _ is runs);
             nothing = λ _ none. absurd (not_none _ some none);
-            uses = uses_as fault_as fault_as w.in-Err.ensures.uses;
+            uses = uses_as fault_as fault_as w.in-Err.ensures.commits.uses;
             form = kept;
             version = same_version;
-            worn = (λ e. let is = worn.0 (fault_as e) in (is.0, some, is.1, is.2), λ facts. fault_as (worn.1 (facts.0, facts.2, facts.3)));
-            untouched_worn = λ e. w.in-Err.ensures.untouched_worn (fault_as e);
+            worn = (λ e. let is = worn.0 (fault_as e) in (is.0, some, is.1.0, is.1.1), λ facts. fault_as (worn.1 (facts.0, (facts.2, facts.3))));
+            untouched_worn = λ e. w.in-Err.ensures.commits.untouched_worn (fault_as e);
             stages = λ crash_model. batch_stages g.D.Disk _ c.append-appended.new.self same range some few (stages crash_model);
             stop = λ crash_model. batch_stop g.D.Disk _ c.append-appended.new.self same range some few (stages crash_model);
-            stop_version = λ crash_model h k recovers. c.append-appended.ensures.version crash_model recovers.stored.snapshot recovers.stored.payloads recovers.stored.shows;
+            stop_version = λ crash_model h k recovers. c.append-appended.ensures.commits.version crash_model recovers.stored.snapshot recovers.stored.payloads recovers.stored.shows;
             recovers = λ crash_model h k recovers. tt;
           }))
     ]
