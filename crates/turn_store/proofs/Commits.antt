@@ -38,16 +38,8 @@ module _ {D M : Type 0} (disk : disks.Ghosts D) (passes : M → M → Type 0) (i
   -- a commit that is refused before it reaches the disk
   pub refused : {A : Type 0} (fault : StoreError) → new ≡ stopped_over old old.disk → ((Some fault ≡ Some Stopped) ↔ (old.stopped ≡ true)) → ((Some fault ≡ Some Worn) ↔ ((old.stopped ≡ false) × is_worn))
       → Some fault ≢ Some Device → IsCommit {A = A} disk passes is_worn old new other other (Err fault)
-  refused fault same stopped worn device = rw same (record {
-    uses = record { size = refl; device = λ e. absurd (device (cc)); count = λ _. refl; crash_model = λ h. h };
-    worn = (λ e. worn.0 (cc), λ is. let e = worn.1 is in cc);
-    untouched_worn = λ e. refl;
-    stopped = (λ e. stopped.0 (cc), λ is. let e = stopped.1 is in cc);
-    untouched = λ is. ap (λ (b : Bool). record old { stopped = b }) (sym is);
-    stops = refl;
-    version = λ crash_model s ps shows. rest_in old (disk.trace old.disk) s ps shows;
-    meanwhile = passes_none;
-  })
+  refused fault same stopped worn device =
+      rw same (record { uses = record { size = refl; device = λ e. absurd (device (cc)); count = λ _. refl; crash_model = λ h. h }; worn = (λ e. worn.0 (cc), λ is. let e = worn.1 is in cc); untouched_worn = λ e. refl; stopped = (λ e. stopped.0 (cc), λ is. let e = stopped.1 is in cc); untouched = λ is. ap (λ (b : Bool). record old { stopped = b }) (sym is); stops = refl; version = λ crash_model s ps shows. rest_in old (disk.trace old.disk) s ps shows; meanwhile = passes_none })
 
   module _ (done : M) (passed : Passes passes other done) (stopped : (no_fault ≡ Some Stopped) ↔ (old.stopped ≡ true)) (worn : (no_fault ≡ Some Worn) ↔ ((old.stopped ≡ false) × is_worn)) where
     runs : old.stopped ≡ false

@@ -1,10 +1,10 @@
 -- How calls go on, in what they leave of a disk.
-use Rattle.std.proofs.Common.{◌≡◌, ◌⊎◌, ◌∙◌, inl, ℕ, List, ap, refl}
-use Rattle.turn_disk.specs.Prelude.{Trace, EachImageSince, IsImage, IsSettled, Reads, WritesOnce}
+use Rattle.std.proofs.Common.{◌≡◌, ◌⊎◌, ◌∙◌, inl, ℕ, List, Result, ap, refl, OnOk, IsErr}
+use Rattle.turn_disk.specs.Prelude.{Trace, EachImageSince, IsImage, IsSettled, Passes, Reads, State, Uses, WritesOnce}
 use Rattle.turn_disk.specs.declared.disk.Disk as disks
 use Rattle.turn_disk.proofs.Device.{uses_as, uses_of, uses_then}
 use Rattle.turn_disk.proofs.Since.{since_same, since_join, since_weaken}
-use Rattle.turn_store.specs.Prelude.{InStages, InStagesAt, Settles}
+use Rattle.turn_store.specs.Prelude.{InStages, InStagesAt, IsRead, IsStep, Leaves, Settles}
 
 -- a call that never comes to its second stage
 pub stages_first_at : (gate : ℕ) (old new : Trace) (P Q : List ℕ → Type 0) → ((image : List ℕ) → P image → Q image) → EachImageSince old new P → InStagesAt gate old new P Q
@@ -40,6 +40,17 @@ stages_all_at gate old new P Q to stages = since_join old stages.mid new Q (sinc
 
 pub stages_all : (old new : Trace) (P Q : List ℕ → Type 0) → ((image : List ℕ) → P image → Q image) → InStages old new P Q → EachImageSince old new Q
 stages_all old new P Q to stages = stages_all_at stages.0 old new P Q to stages.1
+
+-- the relations that calls share, from their parts
+pub read_of : {D : Type 0} {disk : disks.Ghosts D} {old new : D} {failed : Type 0} {finds : List ℕ → Type 0} → Reads disk old new failed → (disk.follows_crash_model new → finds (disk.trace old).now.bytes) → IsRead disk old new failed finds
+read_of reads found = record { reads = reads; found = found }
+
+pub leaves_of : {A E : Type 0} {old new : Trace} {P : List ℕ → Type 0} {Q : State → Type 0} {r : Result A E} → EachImageSince old new P → OnOk r (Q new.now) → Leaves old new P Q r
+leaves_of stop done = record { stop = stop; done = done }
+
+pub step_of : {D M A E : Type 0} {disk : disks.Ghosts D} {passes : M → M → Type 0} {old new : D} {other done : M} {r : Result A E} {change : Trace → Trace → Type 0}
+    → (disk.follows_crash_model new → change (disk.trace old) (disk.trace new)) → Uses disk old new (IsErr r) → Passes passes other done → IsStep disk passes old new other done r change
+step_of does uses meanwhile = record { uses = uses; meanwhile = meanwhile; does = does }
 
 -- that a device call failed may be said in another way
 pub settles_as : {D : Type 0} {disk : disks.Ghosts D} {old new : D} {P Q : Type 0} → (Q → P) → (P → Q) → Settles disk old new P → Settles disk old new Q

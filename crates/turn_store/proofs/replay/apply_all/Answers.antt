@@ -43,12 +43,4 @@ returns-in_err-apply_next g c =
     let inv = c.loop-events.invariant in
     let is = c.in_err-apply_next.ensures in
     let split = ap events_of (first_and_rest c.loop-events.events.items c.remove-event.new.self.items c.remove-event.result (search rules) c.remove-event.ensures.value c.remove-event.ensures.items) in
-    rw (p.1, p.2) (record {
-      bounds = is.bounds ∙ inv.bounds;
-      no_device = is.no_device;
-      ok = tt;
-      after = tt;
-      bad = λ bad goes.
-          let next = subst (GoOn c.args.table.now.bounds (snapshot_of c.loop-events.table)) split (inv.goes.0 goes) in
-          is.bad bad (subst (λ (b : Bounds). IsNext b (snapshot_of c.loop-events.table) (event_of c.remove-event.result)) (sym inv.bounds) next.0);
-    })
+    rw (p.1, p.2) (record { bounds = is.bounds ∙ inv.bounds; no_device = is.no_device; ok = tt; after = tt; bad = λ bad goes. is.bad bad (subst (λ (b : Bounds). IsNext b (snapshot_of c.loop-events.table) (event_of c.remove-event.result)) (sym inv.bounds) (subst (GoOn c.args.table.now.bounds (snapshot_of c.loop-events.table)) split (inv.goes.0 goes)).0) })

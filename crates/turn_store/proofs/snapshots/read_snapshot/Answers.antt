@@ -4,6 +4,7 @@ use Rattle.turn_record.specs.Prelude.{WasFed, Fails, snapshot_in}
 use Rattle.turn_store.specs.Prelude.{ReadError, AreBytes, snapshot_of}
 use Rattle.turn_store.proofs.Fed.{piece_more, bytes_join, fed_snapshot, good_snapshot, bad_snapshot}
 use Rattle.turn_types.specs.Prelude.{AreInRange}
+use Rattle.turn_store.proofs.Staged.{read_of}
 use Rattle.turn_store.proofs.snapshots.read_snapshot.Goals as goal
 
 pub loop-done-init : goal.loop-done-init
@@ -48,32 +49,26 @@ loop-done-preserved g c =
 pub returns-in-Ok-clause-read : goal.returns-in-Ok-clause-read
 returns-in-Ok-clause-read g c =
     let inv = c.loop-done.invariant in
-    record {
-      reads = record { size = inv.size; device = λ e. cc; count = λ none. inv.count; crash_model = inv.crash_model; same = inv.same };
-      found = λ h.
-          let content = (g.D.Disk.trace c.args.disk.now).now.bytes in
-          let range : AreInRange c.args.limits = subst AreInRange c.bounds-bounds.ensures.value c.bounds-bounds.ensures.range in
-          let all : c.loop-done.done ≡ c.args.count = omega (arith, inv.within, c.loop-done-test.false) in
-          let fed = subst (λ (n : ℕ). WasFed c.args.version c.args.limits c.loop-done.reader (take n (drop c.args.at content))) all (inv.fed h) in
-          let bytes = subst (λ (n : ℕ). AreBytes (take n (drop c.args.at content))) all (inv.bytes h) in
-          let fits : c.args.at + c.args.count ≤ length content = omega (arith, c.requires.place, g.met.D.Disk.sized c.args.disk.now (inv.crash_model h)) in
-          (good_snapshot c.args.version c.args.limits range c.args.at c.args.count content (snapshot_of c.in-Ok.table) fits bytes (c.in-Ok.ensures.gives c.args.version c.args.limits _ fed), tt);
-    }
+    read_of (record { size = inv.size; device = λ e. cc; count = λ none. inv.count; crash_model = inv.crash_model; same = inv.same }) (λ h.
+    let content = (g.D.Disk.trace c.args.disk.now).now.bytes in
+    let range : AreInRange c.args.limits = subst AreInRange c.bounds-bounds.ensures.value c.bounds-bounds.ensures.range in
+    let all : c.loop-done.done ≡ c.args.count = omega (arith, inv.within, c.loop-done-test.false) in
+    let fed = subst (λ (n : ℕ). WasFed c.args.version c.args.limits c.loop-done.reader (take n (drop c.args.at content))) all (inv.fed h) in
+    let bytes = subst (λ (n : ℕ). AreBytes (take n (drop c.args.at content))) all (inv.bytes h) in
+    let fits : c.args.at + c.args.count ≤ length content = omega (arith, c.requires.place, g.met.D.Disk.sized c.args.disk.now (inv.crash_model h)) in
+    (good_snapshot c.args.version c.args.limits range c.args.at c.args.count content (snapshot_of c.in-Ok.table) fits bytes (c.in-Ok.ensures.gives c.args.version c.args.limits _ fed), tt))
 
 pub returns-in-Err-Malformed-clause-read : goal.returns-in-Err-Malformed-clause-read
 returns-in-Err-Malformed-clause-read g c =
     let inv = c.loop-done.invariant in
-    record {
-      reads = record { size = inv.size; device = λ e. cc; count = λ none. inv.count; crash_model = inv.crash_model; same = inv.same };
-      found = λ h.
-          let content = (g.D.Disk.trace c.args.disk.now).now.bytes in
-          let range : AreInRange c.args.limits = subst AreInRange c.bounds-bounds.ensures.value c.bounds-bounds.ensures.range in
-          let all : c.loop-done.done ≡ c.args.count = omega (arith, inv.within, c.loop-done-test.false) in
-          let fed = subst (λ (n : ℕ). WasFed c.args.version c.args.limits c.loop-done.reader (take n (drop c.args.at content))) all (inv.fed h) in
-          let fits : c.args.at + c.args.count ≤ length content = omega (arith, c.requires.place, g.met.D.Disk.sized c.args.disk.now (inv.crash_model h)) in
-          let fails = subst (λ (e : ReadError). Fails e (snapshot_in c.args.version c.args.limits (take c.args.count (drop c.args.at content)))) c.in-Err-Malformed.field-0-is (c.in-Err-Malformed.ensures.gives c.args.version c.args.limits _ fed) in
-          (tt, (refl, bad_snapshot c.args.version c.args.limits range c.args.at c.args.count content _ fits fails));
-    }
+    read_of (record { size = inv.size; device = λ e. cc; count = λ none. inv.count; crash_model = inv.crash_model; same = inv.same }) (λ h.
+    let content = (g.D.Disk.trace c.args.disk.now).now.bytes in
+    let range : AreInRange c.args.limits = subst AreInRange c.bounds-bounds.ensures.value c.bounds-bounds.ensures.range in
+    let all : c.loop-done.done ≡ c.args.count = omega (arith, inv.within, c.loop-done-test.false) in
+    let fed = subst (λ (n : ℕ). WasFed c.args.version c.args.limits c.loop-done.reader (take n (drop c.args.at content))) all (inv.fed h) in
+    let fits : c.args.at + c.args.count ≤ length content = omega (arith, c.requires.place, g.met.D.Disk.sized c.args.disk.now (inv.crash_model h)) in
+    let fails = subst (λ (e : ReadError). Fails e (snapshot_in c.args.version c.args.limits (take c.args.count (drop c.args.at content)))) c.in-Err-Malformed.field-0-is (c.in-Err-Malformed.ensures.gives c.args.version c.args.limits _ fed) in
+    (tt, (refl, bad_snapshot c.args.version c.args.limits range c.args.at c.args.count content _ fits fails)))
 
 pub returns-in-Ok-clause-table : goal.returns-in-Ok-clause-table
 returns-in-Ok-clause-table g c =

@@ -7,14 +7,7 @@ pub returns-in_err-write_snapshot : goal.returns-in_err-write_snapshot
 returns-in_err-write_snapshot g c = rw (← c.self.view_is, ← c.next_area-area.ensures) (
     let same = c.self.view_is in
     let last : c.self.inside.generation + 1 < 2 ^ 64 = omega (arith, c.requires.generation, ap (λ st. st.generation) same) in
-    record {
-      uses = search rules;
-      ok = search rules;
-      err = search rules;
-      stages = λ crash_model s ps shows.
-          (c.write_snapshot.ensures.does crash_model _ _ _ _ _ s ps refl last (subst (λ st. least_area V2 st.bounds ≤ st.area.size) (sym same) c.requires.area) (omega (arith, c.requires.room, ap (λ st. st.area.size) same)) shows.recovers).stages;
-      shown = search rules;
-    })
+    record { uses = search rules; ok = search rules; err = search rules; stages = λ crash_model s ps shows. (c.write_snapshot.ensures.does crash_model _ _ _ _ _ s ps refl last (subst (λ st. least_area V2 st.bounds ≤ st.area.size) (sym same) c.requires.area) (omega (arith, c.requires.room, ap (λ st. st.area.size) same)) shows.recovers).stages; shown = search rules })
 
 pub returns : goal.returns
 returns g c = rw (← c.self.view_is, ← c.next_area-area.ensures) (
