@@ -3,6 +3,7 @@ pub mod Counts
 pub mod Crash
 pub mod Device
 pub mod Disk
+pub mod Files
 pub mod Laws
 pub mod Meanwhile
 pub mod Prelude

@@ -5,17 +5,18 @@ ghost use Rattle.turn_disk.specs.Counts.{CountOutcome};
 ghost use Rattle.turn_disk.specs.Disk.{Trace, ThroughOutcome, WriteOutcome, SyncOutcome};
 ghost use Rattle.turn_disk.specs.Meanwhile.{Passes};
 
+use crate::failures::FailedCall;
 use crate::meanwhile::Meanwhile;
 use thiserror::Error;
 
-/// A device call that failed.
+/// A device call that failed. Its disk says why, by `Disk::failed_call`.
 #[derive(Clone, Copy, Debug, PartialEq, Eq, Error)]
 #[error("a device call failed")]
 pub struct DeviceError;
 
 /// A disk of fixed size. Positions are counted in bytes from its first one.
 ///
-/// `read_at`, `write_at` and `sync` are its device calls, and `write_durably` is one or two of them; `size` and `failures` are none.
+/// `read_at`, `write_at` and `sync` are its device calls, and `write_durably` is one or two of them; `size`, `failures` and `failed_call` are none.
 pub trait Disk {
     /// How many bytes it has.
     ghost capacity: { Self → ℕ };
@@ -37,6 +38,9 @@ pub trait Disk {
     /// How many device calls have failed, modulo 2^64.
     fn failures(&self) -> u64
         ensures { result ≡ failed self.now };
+
+    /// The first device call that failed, and why.
+    fn failed_call(&self) -> Option<FailedCall>;
 
     /// Fills the buffer with the bytes from this position on. After a failure the buffer may hold anything.
     fn read_at(&mut self, at: usize, buffer: &mut [u8]) -> Result<(), DeviceError>

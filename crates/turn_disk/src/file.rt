@@ -2,19 +2,24 @@
 
 ghost use Rattle.std.specs.Prelude.{◌≡◌, [], IfErr, IfOk, length};
 ghost use Rattle.turn_disk.specs.Calls.{FollowCrashModel, replay};
+ghost use Rattle.turn_disk.specs.Files.{IsOfDevice};
 
 use crate::disk::{DeviceError, Disk};
-use crate::failures::raise;
+use crate::failures::{DeviceCall, FailedCall, Failures};
 use crate::meanwhile::Meanwhile;
 use crate::opened::{FileError, is_link, lock, open_apart};
 use crate::record::{CallRecord, READ, SYNC, WRITE};
 use crate::start::{Start, Unknown};
 use std::fs::{File, Files, OpenFile, OpenOptions};
+use std::io;
 use std::marker::{Model, PhantomData};
 use std::os::unix::fs::{FileExt, OpenOptionsExt};
 
 /// The permissions of a new file: its owner reads and writes it.
 const OWNER_ALONE: u32 = 0o600;
+
+/// Why no file is made where a symbolic link has the name.
+const LINK: &str = "a symbolic link";
 
 /// A disk over a file, as large as the file is when it is opened.
 ///
@@ -26,7 +31,7 @@ const OWNER_ALONE: u32 = 0o600;
 pub struct FileDisk<F: FileExt + OpenFile = File, S: Start = Unknown> {
     file: F,
     size: usize,
-    failures: u64,
+    failures: Failures,
     calls: CallRecord,
     start: PhantomData<S>,
 }
@@ -47,7 +52,7 @@ impl<F: FileExt + OpenFile> FileDisk<F> {
         FileDisk {
             file,
             size,
-            failures: 0,
+            failures: Failures::none(),
             calls: CallRecord::new(),
             start: PhantomData,
         }
@@ -100,7 +105,7 @@ impl FileDisk<File> {
             .create(true)
             .mode(OWNER_ALONE);
         if is_link(files, path) {
-            return Err(FileError::Device);
+            return Err(FileError::Device(io::Error::other(LINK)));
         }
         let file = open_apart(files, path, &options)?;
         lock(&file)?;
@@ -128,7 +133,7 @@ impl FileDisk<File> {
     ) -> Result<FileDisk<File>, FileError>
         ensures failures { IfOk result (λ disk. disk.failures ≡ 0) }
         ensures events { IfOk result (λ disk. disk.events ≡ []) }
-        ensures unlocked { IfErr result (λ refused. refused ≡ FileError.Device) }
+        ensures unlocked { IfErr result IsOfDevice }
     {
         let mut options = OpenOptions::new();
         options.read(true);
@@ -140,7 +145,7 @@ impl FileDisk<File> {
     fn whole(file: File) -> Result<FileDisk<File>, FileError>
         ensures failures { IfOk result (λ disk. disk.failures ≡ 0) }
         ensures events { IfOk result (λ disk. disk.events ≡ []) }
-        ensures device { IfErr result (λ refused. refused ≡ FileError.Device) }
+        ensures device { IfErr result IsOfDevice }
     {
         let len = file.metadata()?.len();
         Ok(FileDisk::new(file, len as usize))
@@ -166,7 +171,11 @@ impl<F: FileExt + OpenFile, S: Start> Disk for FileDisk<F, S> {
     }
 
     fn failures(&self) -> u64 {
-        self.failures
+        self.failures.count()
+    }
+
+    fn failed_call(&self) -> Option<FailedCall> {
+        self.failures.first()
     }
 
     fn read_at(&mut self, at: usize, buffer: &mut [u8]) -> Result<(), DeviceError> {
@@ -175,7 +184,7 @@ impl<F: FileExt + OpenFile, S: Start> Disk for FileDisk<F, S> {
                 self.calls.note(READ, at, true, buffer);
                 Ok(())
             }
-            Err(_) => Err(raise(&mut self.failures)),
+            Err(reason) => Err(self.failures.raise(DeviceCall::Read, reason)),
         }
     }
 
@@ -191,9 +200,9 @@ impl<F: FileExt + OpenFile, S: Start> Disk for FileDisk<F, S> {
                 self.calls.note(WRITE, at, true, bytes);
                 Ok(())
             }
-            Err(_) => {
+            Err(reason) => {
                 self.calls.note(WRITE, at, false, bytes);
-                Err(raise(&mut self.failures))
+                Err(self.failures.raise(DeviceCall::Write, reason))
             }
         }
     }
@@ -205,7 +214,7 @@ impl<F: FileExt + OpenFile, S: Start> Disk for FileDisk<F, S> {
                 self.calls.note(SYNC, 0, true, &[]);
                 Ok(())
             }
-            Err(_) => Err(raise(&mut self.failures)),
+            Err(reason) => Err(self.failures.raise(DeviceCall::Sync, reason)),
         }
     }
 }

@@ -24,7 +24,7 @@ mod start;
 mod writes;
 
 pub use disk::{DeviceError, Disk};
-pub use failures::raise;
+pub use failures::{DeviceCall, FailedCall, Failures};
 pub use file::FileDisk;
 pub use laws::{a_risen_count_differs, a_settled_disk_has_one_image};
 pub use meanwhile::{Idle, Meanwhile};

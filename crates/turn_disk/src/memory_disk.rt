@@ -6,14 +6,25 @@ ghost use Rattle.turn_disk.specs.Disk.{IsImage};
 ghost use Rattle.turn_disk.specs.Meanwhile.{Passes};
 
 use crate::disk::{DeviceError, Disk};
-use crate::failures::raise;
+use crate::failures::{DeviceCall, FailedCall, Failures};
 use crate::faults::Faults;
 use crate::meanwhile::Meanwhile;
 use crate::memory::Memory;
 use crate::outcome::CrashOutcome;
 use std::alloc::{AllocError, Allocator, Global};
 use std::cell::Cell;
+use std::io::{self, ErrorKind};
 use std::marker::Model;
+
+/// Why a call fails that `fail_call` or `stop_at` names.
+fn asked_for() -> io::Error {
+    io::Error::other("a fault that was asked for")
+}
+
+/// Why a call fails whose record finds no memory.
+fn no_memory() -> io::Error {
+    io::Error::from(ErrorKind::OutOfMemory)
+}
 
 /// A disk in memory.
 ///
@@ -22,7 +33,7 @@ use std::marker::Model;
 pub struct MemoryDisk<A: Allocator = Global> {
     memory: Memory<A>,
     faults: Faults,
-    failures: u64,
+    failures: Failures,
     // How many pieces each write and each sync lets be done before it answers. No contract speaks of it.
     pieces: Cell<u32>,
 }
@@ -56,7 +67,7 @@ impl<A: Allocator + Copy> MemoryDisk<A> {
         MemoryDisk {
             memory: Memory::new(alloc, content),
             faults: Faults::none(),
-            failures: 0,
+            failures: Failures::none(),
             pieces: Cell::new(0),
         }
     }
@@ -146,12 +157,16 @@ impl<A: Allocator> Disk for MemoryDisk<A> {
     }
 
     fn failures(&self) -> u64 {
-        self.failures
+        self.failures.count()
+    }
+
+    fn failed_call(&self) -> Option<FailedCall> {
+        self.failures.first()
     }
 
     fn read_at(&mut self, at: usize, buffer: &mut [u8]) -> Result<(), DeviceError> {
         if self.faults.next_call_fails() {
-            return Err(raise(&mut self.failures));
+            return Err(self.failures.raise(DeviceCall::Read, asked_for()));
         }
         self.memory.read(at, buffer);
         Ok(())
@@ -166,10 +181,10 @@ impl<A: Allocator> Disk for MemoryDisk<A> {
         self.wait(other);
         let fails = self.faults.next_call_fails();
         let Ok(()) = self.memory.write(at, bytes) else {
-            return Err(raise(&mut self.failures));
+            return Err(self.failures.raise(DeviceCall::Write, no_memory()));
         };
         if fails {
-            return Err(raise(&mut self.failures));
+            return Err(self.failures.raise(DeviceCall::Write, asked_for()));
         }
         Ok(())
     }
@@ -177,10 +192,10 @@ impl<A: Allocator> Disk for MemoryDisk<A> {
     fn sync<M: Meanwhile>(&mut self, other: &mut M) -> Result<(), DeviceError> {
         self.wait(other);
         if self.faults.next_call_fails() {
-            return Err(raise(&mut self.failures));
+            return Err(self.failures.raise(DeviceCall::Sync, asked_for()));
         }
         let Ok(()) = self.memory.sync() else {
-            return Err(raise(&mut self.failures));
+            return Err(self.failures.raise(DeviceCall::Sync, no_memory()));
         };
         Ok(())
     }

@@ -2,6 +2,7 @@
 
 ghost use Rattle.std.specs.Fd.{file_raw_fd};
 ghost use Rattle.std.specs.Prelude.{◌≡◌, ◌≤ℤ◌, ◌↔◌, pos, IfErr, IfOk, IsTrue};
+ghost use Rattle.turn_disk.specs.Files.{IsOfDevice};
 ghost use Rattle.turn_disk.specs.declared.opened.FileError.TheVariants.{Device};
 
 use std::fs::{self, File, Files, OpenOptions, TryLockError};
@@ -9,22 +10,29 @@ use std::io::{self, ErrorKind};
 use std::os::fd::{AsRawFd, RawFd};
 use thiserror::Error;
 
+/// What stands in place of the system's number where something else than a regular file has the name.
+const NOT_REGULAR: &str = "not a regular file";
+
+/// The same where the file would have the descriptor of a standard stream.
+const STANDARD_STREAM: &str = "it would be a standard stream";
+
 /// Why a file isn't opened as a disk.
-#[derive(Clone, Copy, Debug, PartialEq, Eq, Error)]
+#[derive(Clone, Copy, Debug, Error)]
 pub enum FileError {
     /// The file's lock is held by whoever has it open as a disk to write to.
     #[error("the file is in use")]
     InUse,
-    /// The file can't be made or opened, isn't a regular file, or would have the descriptor of a standard stream.
-    #[error("the file can't be opened")]
-    Device,
+    /// The file can't be made, opened or locked, isn't a regular file, or would have the descriptor of a standard stream: the system's
+    /// reason, or one in words.
+    #[error("{0}")]
+    Device(io::Error),
 }
 
 impl From<io::Error> for FileError {
-    ghost from_gives = { λ _ refused. refused ≡ Device };
+    ghost from_gives = { λ reason refused. refused ≡ Device reason };
 
-    fn from(_error: io::Error) -> FileError {
-        FileError::Device
+    fn from(reason: io::Error) -> FileError {
+        FileError::Device(reason)
     }
 }
 
@@ -33,7 +41,7 @@ impl From<FileError> for io::Error {
     fn from(refused: FileError) -> io::Error {
         match refused {
             FileError::InUse => io::Error::from(ErrorKind::WouldBlock),
-            FileError::Device => io::Error::from(ErrorKind::Other),
+            FileError::Device(reason) => reason,
         }
     }
 }
@@ -50,7 +58,7 @@ pub fn is_apart(descriptor: RawFd) -> bool
 /// have no end.
 pub fn open_regular<R: Files>(files: &R, path: &str, options: &OpenOptions) -> io::Result<R::File> {
     match fs::metadata(files, path) {
-        Ok(there) if !there.is_file() => Err(io::Error::from(ErrorKind::InvalidInput)),
+        Ok(there) if !there.is_file() => Err(io::Error::new(ErrorKind::InvalidInput, NOT_REGULAR)),
         _ => options.open(files, path),
     }
 }
@@ -67,11 +75,11 @@ pub fn open_apart<R: Files<File = File>>(
     options: &OpenOptions,
 ) -> Result<File, FileError>
     ensures apart { IfOk result (λ file. pos 3 ≤ℤ file_raw_fd file) }
-    ensures device { IfErr result (λ refused. refused ≡ FileError.Device) }
+    ensures device { IfErr result IsOfDevice }
 {
     let file = open_regular(files, path, options)?;
     if !is_apart(file.as_raw_fd()) {
-        return Err(FileError::Device);
+        return Err(FileError::from(io::Error::other(STANDARD_STREAM)));
     }
     Ok(file)
 }
@@ -81,6 +89,6 @@ pub fn lock(file: &File) -> Result<(), FileError> {
     match file.try_lock() {
         Ok(()) => Ok(()),
         Err(TryLockError::WouldBlock) => Err(FileError::InUse),
-        Err(TryLockError::Error(_)) => Err(FileError::Device),
+        Err(TryLockError::Error(reason)) => Err(FileError::Device(reason)),
     }
 }

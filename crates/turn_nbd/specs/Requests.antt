@@ -3,7 +3,7 @@ use Rattle.std.specs.Prelude.{ℕ, ◌≡◌, ◌≢◌, ◌+◌, ◌%◌, ◌^�
 use Rattle.std.specs.Int.{w16, w32, w64, to_be_bytes}
 use Rattle.turn_nbd.specs.Wire.{sent, received}
 use Rattle.turn_nbd.specs.declared.error.NbdError.{NbdError}
-use Rattle.turn_nbd.specs.declared.error.NbdError.TheVariants.{Reply, Cookie, Failed}
+use Rattle.turn_nbd.specs.declared.error.NbdError.TheVariants.{Reply, Structured, Cookie, Failed}
 use Rattle.turn_nbd.specs.declared.request.Kind.{Kind}
 use Rattle.turn_nbd.specs.declared.request.Kind.TheVariants.{Read, Write, DurableWrite, Disconnect, Flush}
 
@@ -35,6 +35,10 @@ request kind cookie at count =
 abbrev pub reply_magic : List ℕ
 reply_magic = 0x67 ∷ 0x44 ∷ 0x66 ∷ 0x98 ∷ []
 
+-- what a structured reply begins with, which a client gets that agreed to such ones
+abbrev pub structured_magic : List ℕ
+structured_magic = 0x66 ∷ 0x8E ∷ 0x33 ∷ 0xEF ∷ []
+
 -- the error code of a request that succeeded
 abbrev pub no_error : List ℕ
 no_error = 0 ∷ 0 ∷ 0 ∷ 0 ∷ []
@@ -43,11 +47,18 @@ no_error = 0 ∷ 0 ∷ 0 ∷ 0 ∷ []
 unfoldable pub success : ℕ → List ℕ
 success cookie = reply_magic ++ no_error ++ to_be_bytes w64 cookie
 
+-- what a reply is that begins with other bytes than one does
+abbrev pub IsOtherReply : NbdError → List ℕ → Type 0
+IsOtherReply Reply magic = (magic ≢ reply_magic) × (magic ≢ structured_magic)
+IsOtherReply Structured magic = magic ≡ structured_magic
+IsOtherReply _ magic = ⊥
+
 -- why a reply to the request of this cookie isn't one of success
 abbrev pub IsNoSuccess : NbdError → ℕ → List ℕ → Type 0
-IsNoSuccess Reply cookie bytes = take 4 bytes ≢ reply_magic
+IsNoSuccess Reply cookie bytes = IsOtherReply Reply (take 4 bytes)
+IsNoSuccess Structured cookie bytes = IsOtherReply Structured (take 4 bytes)
 IsNoSuccess Cookie cookie bytes = (take 4 bytes ≡ reply_magic) × (take 8 (drop 8 bytes) ≢ to_be_bytes w64 cookie)
-IsNoSuccess Failed cookie bytes =
+IsNoSuccess (Failed reason) cookie bytes =
     (take 4 bytes ≡ reply_magic) × (take 8 (drop 8 bytes) ≡ to_be_bytes w64 cookie) × (take 4 (drop 4 bytes) ≢ no_error)
 IsNoSuccess _ cookie bytes = ⊥
 

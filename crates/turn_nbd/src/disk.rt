@@ -2,7 +2,7 @@
 
 ghost use Rattle.std.specs.Prelude.{◌≡◌, ◌⊎◌, ◌&&◌, ◌+◌, ◌++◌, ◌∷◌, ◌≤◌, [], ℕ, List, IfOk, OnOk, MatchResult, true, false, length};
 ghost use Rattle.turn_disk.specs.Calls.{FollowCrashModel, replay};
-ghost use Rattle.turn_disk.specs.Counts.{CountOutcome};
+ghost use Rattle.turn_disk.specs.Counts.{CountOutcome, Rises};
 ghost use Rattle.turn_disk.specs.Meanwhile.{Passes};
 ghost use Rattle.turn_nbd.specs.Requests.{exchange, joined, reads, writes};
 ghost use Rattle.turn_nbd.specs.declared.request.Kind.TheVariants.{Flush};
@@ -15,9 +15,11 @@ use crate::pieces::{read_from, write_from};
 use crate::socket::Socket;
 use crate::stream::Stream;
 use crate::wire::Wire;
+use std::io;
 use std::marker::{Model, PhantomData};
 use turn_disk::{
-    CallRecord, DeviceError, Disk, Meanwhile, READ, SYNC, Start, Unknown, WRITE, raise,
+    CallRecord, DeviceCall, DeviceError, Disk, FailedCall, Failures, Meanwhile, READ, SYNC, Start,
+    Unknown, WRITE,
 };
 
 /// A disk over an export, as large as the export is when it is opened.
@@ -36,7 +38,7 @@ pub struct NbdDisk<T: Stream = Socket, S: Start = Unknown> {
     // Whether the newest call that changed something was a sync.
     is_settled: bool,
     size: usize,
-    failures: u64,
+    failures: Failures,
     calls: CallRecord,
     start: PhantomData<S>,
 }
@@ -71,7 +73,7 @@ impl<T: Stream> NbdDisk<T> {
             has_fua: has_fua(found),
             is_settled: false,
             size,
-            failures: 0,
+            failures: Failures::none(),
             calls: CallRecord::new(),
             start: PhantomData,
         })
@@ -117,6 +119,23 @@ impl<T: Stream, S: Start> NbdDisk<T, S> {
         self.can_write && self.connection.is_open()
     }
 
+    // Counts a call that failed.
+    fn fail(&mut self, call: DeviceCall, why: NbdError) -> DeviceError
+        ensures count { Rises self.old.failures self.new.failures }
+        ensures rest { self.new ≡ record self.old { failures = self.new.failures } }
+    {
+        self.failures.raise(call, io::Error::from(why))
+    }
+
+    // Why a write or a sync isn't tried.
+    fn untried(&self) -> NbdError {
+        if self.can_write {
+            NbdError::Closed
+        } else {
+            NbdError::ReadOnly
+        }
+    }
+
     // Reads by requests, and notes the call if it succeeds: one that fails changes nothing.
     fn ask_read(&mut self, at: usize, buffer: &mut [u8]) -> Result<(), DeviceError>
         requires { at + length buffer.old ≤ self.old.size }
@@ -133,7 +152,7 @@ impl<T: Stream, S: Start> NbdDisk<T, S> {
                 self.calls.note(READ, at, true, buffer);
                 Ok(())
             }
-            Err(_) => Err(raise(&mut self.failures)),
+            Err(why) => Err(self.fail(DeviceCall::Read, why)),
         }
     }
 
@@ -160,7 +179,8 @@ impl<T: Stream, S: Start> NbdDisk<T, S> {
         // Its size is one of a disk.
         let _size = self.size;
         if !self.may_write() {
-            return Err(raise(&mut self.failures));
+            let why = self.untried();
+            return Err(self.fail(DeviceCall::Write, why));
         }
         self.is_settled = false;
         match write_from(&mut self.connection, at, bytes, 0, is_durable, other) {
@@ -168,9 +188,9 @@ impl<T: Stream, S: Start> NbdDisk<T, S> {
                 self.calls.note(WRITE, at, true, bytes);
                 Ok(())
             }
-            Err(_) => {
+            Err(why) => {
                 self.calls.note(WRITE, at, false, bytes);
-                Err(raise(&mut self.failures))
+                Err(self.fail(DeviceCall::Write, why))
             }
         }
     }
@@ -214,7 +234,8 @@ impl<T: Stream, S: Start> NbdDisk<T, S> {
         ensures meanwhile { Passes M.passes other.old other.new }
     {
         if !self.may_write() {
-            return Err(raise(&mut self.failures));
+            let why = self.untried();
+            return Err(self.fail(DeviceCall::Sync, why));
         }
         match self.connection.flush(other) {
             Ok(()) => {
@@ -222,7 +243,7 @@ impl<T: Stream, S: Start> NbdDisk<T, S> {
                 self.is_settled = true;
                 Ok(())
             }
-            Err(_) => Err(raise(&mut self.failures)),
+            Err(why) => Err(self.fail(DeviceCall::Sync, why)),
         }
     }
 }
@@ -245,7 +266,11 @@ impl<T: Stream, S: Start> Disk for NbdDisk<T, S> {
     }
 
     fn failures(&self) -> u64 {
-        self.failures
+        self.failures.count()
+    }
+
+    fn failed_call(&self) -> Option<FailedCall> {
+        self.failures.first()
     }
 
     fn read_at(&mut self, at: usize, buffer: &mut [u8]) -> Result<(), DeviceError> {

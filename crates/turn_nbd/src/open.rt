@@ -4,7 +4,7 @@ ghost use Rattle.std.specs.Prelude.{◌≡◌, [], IfOk, true, false};
 
 use crate::disk::NbdDisk;
 use crate::error::NbdError;
-use crate::socket::Socket;
+use crate::socket::{Socket, end_of, left_until};
 use crate::uri::{Export, Place};
 use std::alloc::Allocator;
 use std::net::Net;
@@ -16,10 +16,14 @@ use std::time::Duration;
 /// The pause between two attempts to connect, in milliseconds.
 const PAUSE_MILLIS: u64 = 100;
 
-/// How many attempts a second has.
-const ATTEMPTS: u64 = 10;
+/// How often it is tried at most, however little the clock goes on.
+const ATTEMPTS: u64 = 1 << 20;
 
-/// Connects to a server at a place. While no server accepts a connection it tries again every 0.1 s, up to so many seconds.
+/// How long an attempt over TCP waits at least and at most, in milliseconds.
+const ATTEMPT_MILLIS: (u64, u64) = (1_000, 5_000);
+
+/// Connects to a server at a place. While no server accepts a connection it tries again, in pauses of 0.1 s, until so many seconds have
+/// passed. The last attempt may take a second more.
 fn connect<R: Net, C: Clock, A: Allocator + Copy>(
     alloc: A,
     net: &R,
@@ -27,14 +31,17 @@ fn connect<R: Net, C: Clock, A: Allocator + Copy>(
     place: Place<'_>,
     wait: u64,
 ) -> Result<Socket<A>, NbdError> {
-    for _ in 0..wait.saturating_mul(ATTEMPTS) {
-        match Socket::connect(alloc, net, place) {
-            Err(NbdError::Refused) => {}
+    let (least, most) = ATTEMPT_MILLIS;
+    let end = end_of(wait.saturating_mul(1_000));
+    for _ in 0..ATTEMPTS {
+        let left = left_until(end);
+        match Socket::connect(alloc, net, place, left.clamp(least, most)) {
+            Err(NbdError::Refused(_)) if 0 < left => {}
             connected => return connected,
         }
         thread::sleep(system, Duration::from_millis(PAUSE_MILLIS));
     }
-    Socket::connect(alloc, net, place)
+    Socket::connect(alloc, net, place, least)
 }
 
 impl<A: Allocator> NbdDisk<Socket<A>> {
@@ -45,7 +52,8 @@ impl<A: Allocator> NbdDisk<Socket<A>> {
 }
 
 impl<A: Allocator + Copy> NbdDisk<Socket<A>> {
-    /// Opens an export to be read and written. While no server accepts a connection it tries again every 0.1 s, up to so many seconds.
+    /// Opens an export to be read and written. While no server accepts a connection it tries again, until so many seconds have
+    /// passed, and a second at most for the last attempt.
     pub fn open<R: Net, C: Clock>(
         alloc: A,
         net: &R,

@@ -19,9 +19,6 @@ use turn_types::Endpoint;
 /// How long the waits of one request are together, in milliseconds.
 const REQUEST_MILLIS: u64 = 30_000;
 
-/// How long a wait for a connection over TCP is, in milliseconds.
-const CONNECT_MILLIS: u64 = 5_000;
-
 /// How long a wait of `try_read` is, in milliseconds.
 const PAUSE_MILLIS: u64 = 1;
 
@@ -67,11 +64,24 @@ fn millis() -> Option<u64> {
 }
 
 /// When a wait of so many milliseconds ends that begins now. It has ended if the clock fails.
-fn end_of(count: u64) -> u64 {
+pub(crate) fn end_of(count: u64) -> u64 {
     match millis() {
         Some(now) => now.saturating_add(count),
         None => 0,
     }
+}
+
+/// How many milliseconds there are until then. None if the clock fails.
+pub(crate) fn left_until(end: u64) -> u64 {
+    match millis() {
+        Some(now) => end.saturating_sub(now),
+        None => 0,
+    }
+}
+
+/// An attempt to connect that the system refuses.
+fn refused(reason: io::Error) -> NbdError {
+    NbdError::Refused(reason)
 }
 
 impl Link {
@@ -95,7 +105,7 @@ impl Link {
         };
         match stream.take_error() {
             Ok(None) => Ok(stream.peer_addr().is_ok()),
-            _ => Err(NbdError::Refused),
+            Ok(Some(reason)) | Err(reason) => Err(NbdError::Refused(reason)),
         }
     }
 
@@ -132,30 +142,34 @@ impl Link {
 }
 
 impl<A: Allocator + Copy> Socket<A> {
-    /// Connects to a server at a place.
-    pub fn connect<R: Net>(alloc: A, net: &R, place: Place<'_>) -> Result<Socket<A>, NbdError> {
-        let Ok(mut link) = Link::connect(net, place) else {
-            return Err(NbdError::Refused);
-        };
-        let Ok(poll) = Poll::new(net) else {
-            return Err(NbdError::Refused);
-        };
-        if !link.is_apart() || link.watch(&poll).is_err() {
-            return Err(NbdError::Refused);
+    /// Connects to a server at a place, over TCP in at most so many milliseconds. It has 30 s for its handshake then.
+    pub fn connect<R: Net>(
+        alloc: A,
+        net: &R,
+        place: Place<'_>,
+        most: u64,
+    ) -> Result<Socket<A>, NbdError> {
+        let mut link = Link::connect(net, place).map_err(refused)?;
+        let poll = Poll::new(net).map_err(refused)?;
+        if !link.is_apart() {
+            return Err(refused(io::Error::other("it would be a standard stream")));
         }
+        link.watch(&poll).map_err(refused)?;
         let mut socket = Socket {
             link,
             poll,
             events: Events::with_capacity(alloc, EVENTS)?,
-            until: end_of(CONNECT_MILLIS),
+            until: end_of(most),
         };
         for _ in 0..TRIES {
             if socket.link.is_connected()? {
                 return Ok(socket);
             }
-            socket.wait(CONNECT_MILLIS)?;
+            if socket.wait(most).is_err() {
+                return Err(refused(io::Error::from(ErrorKind::TimedOut)));
+            }
         }
-        Err(NbdError::Refused)
+        Err(refused(io::Error::from(ErrorKind::TimedOut)))
     }
 }
 
