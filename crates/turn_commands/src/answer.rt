@@ -3,7 +3,7 @@
 use crate::reply::reply_to;
 use std::alloc::Global;
 use std::io::Write;
-use turn_faults::{ProgramError, print_line};
+use turn_faults::{Fault, print_line};
 use turn_types::{Endpoint, FiveTuple, Moment};
 
 /// The server that `turn answer` answers as: 192.0.2.100:3478.
@@ -19,7 +19,7 @@ pub fn run_answer<W: Write>(
     at: Moment,
     datagram: &[u8],
     out: &mut W,
-) -> Result<(), ProgramError> {
+) -> Result<(), Fault> {
     let five_tuple = FiveTuple {
         client: from,
         server: SERVER,

@@ -2,10 +2,8 @@
 
 use std::alloc::{AllocError, Global};
 use std::io::Write;
-use std::rt::{Clock, Files};
-use turn_config::{Configured, ShownEndpoint, read_config};
-use turn_faults::{ProgramError, print_lines, read_whole, second_now, tell_config};
-use turn_log::Log;
+use turn_config::{Configured, ShownEndpoint};
+use turn_faults::{Fault, Host, Named, ProgramError, configure, print_lines, read_whole};
 use turn_types::{Endpoint, Moment};
 
 /// A user's name that expires at a moment: its seconds and, after a colon, the name given, if there is one and it isn't empty.
@@ -57,56 +55,35 @@ fn lines_of(
     Ok(lines)
 }
 
+/// What a log says where a server would not take the name.
+const NO_PASSWORD: &str = "name: no password for it under this configuration";
+
 /// The lines of a user's name that expires at a moment, and of its password under the secret of a configuration.
 fn lines_under(
     alloc: Global,
     configured: &Configured<'_>,
     name: Option<&str>,
     expiry: Moment,
-) -> Result<Vec<String>, ProgramError> {
+) -> Result<Vec<String>, Fault> {
     let username = username_of(alloc, name, expiry)?;
-    let password = configured
-        .shared_password(username.as_bytes())
-        .ok_or(ProgramError::Usage)?;
+    let Some(password) = configured.shared_password(username.as_bytes()) else {
+        return Err(Fault::about(alloc, ProgramError::Usage, &NO_PASSWORD));
+    };
     let password = text_of(alloc, &password)?;
     Ok(lines_of(alloc, configured.listen, &username, &password)?)
 }
 
-/// These lines under the configuration in a file.
-fn credential_lines<R: Files + AllocGlobal>(
+/// Prints a user's name that expires at a moment, and its password under the secret of a configuration.
+pub fn run_credential<R: Host, W: Write>(
     rt: &R,
-    config: &str,
-    name: Option<&str>,
-    expiry: Moment,
-) -> Result<Vec<String>, ProgramError> {
-    let alloc = rt.alloc();
-    let text = read_whole(rt, alloc, config)?;
-    let configured = read_config(alloc, &text)?;
-    lines_under(alloc, &configured, name, expiry)
-}
-
-/// What a log says where a server would not take the name.
-const NO_PASSWORD: &str = "name: no password for it under this configuration";
-
-/// Prints a user's name that expires at a moment, and its password under the secret of a configuration. At a fault the log says what
-/// it is about.
-pub fn run_credential<R: Files + AllocGlobal, C: Clock, W: Write, L: Write + Drop>(
-    rt: &R,
-    clock: &C,
-    log: &Log<L>,
     config: &str,
     name: Option<&str>,
     expiry: Moment,
     out: &mut W,
-) -> Result<(), ProgramError> {
-    match credential_lines(rt, config, name, expiry) {
-        Ok(lines) => print_lines(rt.alloc(), &lines, out),
-        Err(fault) => {
-            match fault {
-                ProgramError::Usage => log.say(second_now(clock), NO_PASSWORD),
-                _ => tell_config(rt, clock, log, config, fault),
-            }
-            Err(fault)
-        }
-    }
+) -> Result<(), Fault> {
+    let alloc = rt.alloc();
+    let text = read_whole(rt, Named::config(config))?;
+    let configured = configure(alloc, config, &text)?;
+    let lines = lines_under(alloc, &configured, name, expiry)?;
+    print_lines(alloc, &lines, out)
 }

@@ -2,21 +2,20 @@
 
 use crate::fault::fault_of_end;
 use std::alloc::{AllocError, Global};
-use std::fs::File;
 use std::io::Write;
-use std::net::Net;
-use std::rt::{Clock, Files};
+use std::rt::Clock;
 use turn_config::ShownEndpoint;
 use turn_disk::{Disk, FileDisk};
 use turn_ending::{Chosen, Operator, Whose, chosen_of, end_all};
 use turn_engine::Server;
 use turn_faults::{
-    PATIENCE, Prepared, ProgramError, StorePlace, open_export, prepare, print_lines, tell_export,
-    tell_prepared, tell_store,
+    Fault, Host, Named, PATIENCE, Prepared, ProgramError, StorePlace, open_export, prepare,
+    print_lines,
 };
-use turn_log::{Log, ShownName};
-use turn_ports::RelayAddressGenerator;
+use turn_log::ShownName;
+use turn_ports::PortRange;
 use turn_sockets::moment_now;
+use turn_types::ServerConfig;
 
 /// A line for each allocation that ended.
 fn lines_of(alloc: Global, ended: &[Chosen]) -> Result<Vec<String>, AllocError> {
@@ -32,85 +31,82 @@ fn lines_of(alloc: Global, ended: &[Chosen]) -> Result<Vec<String>, AllocError> 
     Ok(lines)
 }
 
+/// Ends allocations in the store of a server.
+fn end_over<D: Disk + Drop, C: Clock>(
+    alloc: Global,
+    clock: &C,
+    config: &ServerConfig,
+    server: &mut Server<D, Operator, PortRange>,
+    whose: Whose<'_>,
+) -> Result<Vec<Chosen>, ProgramError> {
+    let moment = moment_now(&clock, server.clock()).ok_or(ProgramError::Device)?;
+    let chosen = chosen_of(alloc, server.table(), whose, moment)?;
+    end_all(alloc, server, config, &chosen, moment).map_err(fault_of_end)?;
+    Ok(chosen)
+}
+
 /// Ends allocations in the store on a disk.
 fn end_on<D: Disk + Drop, C: Clock>(
     alloc: Global,
     clock: &C,
     prepared: &Prepared,
+    store: Named<'_>,
     disk: D,
     whose: Whose<'_>,
-) -> Result<Vec<Chosen>, ProgramError> {
+) -> Result<Vec<Chosen>, Fault> {
     let config = &prepared.config;
     // The store keeps its version: a start carries it over.
-    let mut server = Server::open_as(alloc, disk, config, Operator, prepared.ports, false).map_err(
-        |refused| refused.fault,
-    )?;
-    let moment = moment_now(&clock, server.clock()).ok_or(ProgramError::Device)?;
-    let chosen = chosen_of(alloc, server.table(), whose, moment)?;
-    end_all(alloc, &mut server, config, &chosen, moment).map_err(fault_of_end)?;
-    Ok(chosen)
+    let mut server = match Server::open_as(alloc, disk, config, Operator, prepared.ports, false) {
+        Ok(server) => server,
+        Err(refused) => {
+            let kind = ProgramError::from(refused.fault);
+            return Err(Fault::of_disk(alloc, store, kind, &refused.disk));
+        }
+    };
+    match end_over(alloc, clock, config, &mut server, whose) {
+        Ok(chosen) => Ok(chosen),
+        Err(kind) => {
+            let (disk, _) = server.close();
+            Err(Fault::of_disk(alloc, store, kind, &disk))
+        }
+    }
 }
 
-/// Ends allocations in the store in a file.
-fn end_in<R: Files<File = File> + AllocGlobal, C: Clock>(
+/// Ends allocations in a store.
+fn end_at<R: Host, C: Clock>(
     rt: &R,
     clock: &C,
-    prepared: &Prepared,
-    path: &str,
-    whose: Whose<'_>,
-) -> Result<Vec<Chosen>, ProgramError> {
-    end_on(
-        rt.alloc(),
-        clock,
-        prepared,
-        FileDisk::open(rt, path)?,
-        whose,
-    )
-}
-
-/// Ends allocations in a store. At a fault the log says which one it is.
-fn end_at<R: Files<File = File> + Net + AllocGlobal, C: Clock, L: Write + Drop>(
-    rt: &R,
-    clock: &C,
-    log: &Log<L>,
     prepared: &Prepared,
     store: &str,
     whose: Whose<'_>,
-) -> Result<Vec<Chosen>, ProgramError> {
+) -> Result<Vec<Chosen>, Fault> {
+    let (alloc, named) = (rt.alloc(), Named::store(store));
     match StorePlace::of(store)? {
         StorePlace::File(path) => {
-            end_in(rt, clock, prepared, path, whose).inspect_err(|_| tell_store(
-                rt, clock, log, path,
-            ))
+            let disk = FileDisk::open(rt, path).map_err(|refused| Fault::of_file(
+                alloc, named, refused,
+            ))?;
+            end_on(alloc, clock, prepared, named, disk, whose)
         }
-        StorePlace::Export(named) => {
-            let disk = open_export(rt, clock, log, named, PATIENCE)?;
-            end_on(rt.alloc(), clock, prepared, disk, whose).inspect_err(|_| tell_export(
-                rt.alloc(),
-                clock,
-                log,
-                store,
-                None,
-            ))
+        StorePlace::Export(export) => {
+            let disk = open_export(rt, clock, export, PATIENCE)?;
+            end_on(alloc, clock, prepared, named, disk, whose)
         }
     }
 }
 
 /// Ends the allocations of a user or of a client's address in a store that no server holds, and prints a line for each. Nothing else of
-/// the store changes, but that it is opened. At a fault the log says which file it is about.
-pub fn run_end<R: Files<File = File> + Net + AllocGlobal, C: Clock, W: Write, L: Write + Drop>(
+/// the store changes, but that it is opened.
+pub fn run_end<R: Host, C: Clock, W: Write>(
     rt: &R,
     clock: &C,
-    log: &Log<L>,
     config: &str,
     store: &str,
     whose: Whose<'_>,
     out: &mut W,
-) -> Result<(), ProgramError> {
-    let prepared = prepare(rt, config, &[]).inspect_err(|fault| tell_prepared(
-        rt, clock, log, config, *fault,
-    ))?;
-    let chosen = end_at(rt, clock, log, &prepared, store, whose)?;
+) -> Result<(), Fault> {
+    let prepared = prepare(rt, config, &[])?;
+    let chosen = end_at(rt, clock, &prepared, store, whose)?;
     let lines = lines_of(rt.alloc(), &chosen)?;
     print_lines(rt.alloc(), &lines, out)
 }

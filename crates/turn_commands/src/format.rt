@@ -9,17 +9,14 @@ ghost use Rattle.turn_store.specs.Images.{EachImage, RepresentsAt};
 ghost use Rattle.turn_store.specs.Superblock.{least_area};
 
 use std::alloc::Global;
-use std::fs::File;
-use std::io::Write;
-use std::net::Net;
-use std::rt::{Clock, Files};
-use turn_config::read_config;
+use std::fs::{self, File};
+use std::io::{ErrorKind, Write};
+use std::rt::Clock;
 use turn_disk::{DeviceError, Disk, FileDisk, Idle};
 use turn_faults::{
-    NamedExport, PATIENCE, ProgramError, StorePlace, open_export, print_line, read_whole,
-    second_now, tell_config, tell_export, tell_made_store,
+    Fault, Host, Named, NamedExport, PATIENCE, ProgramError, StorePlace, configure, open_export,
+    print_line, read_whole,
 };
-use turn_log::{Log, ShownName};
 use turn_store::{format, least_area};
 use turn_types::Limits;
 
@@ -80,9 +77,9 @@ pub fn format_disk<D: Disk>(
 }
 
 /// The limits of the configuration in a file.
-fn limits_in<R: Files + AllocGlobal>(rt: &R, config: &str) -> Result<Limits, ProgramError> {
-    let text = read_whole(rt, rt.alloc(), config)?;
-    let configured = read_config(rt.alloc(), &text)?;
+fn limits_in<R: Host>(rt: &R, config: &str) -> Result<Limits, Fault> {
+    let text = read_whole(rt, Named::config(config))?;
+    let configured = configure(rt.alloc(), config, &text)?;
     Ok(configured.config.limits())
 }
 
@@ -99,18 +96,49 @@ fn check_area(limits: Limits, area: usize) -> Result<(), ProgramError>
     Ok(())
 }
 
+/// Whether nothing has a name yet.
+fn is_free<R: Host>(rt: &R, path: &str) -> bool {
+    match fs::symlink_metadata(rt, path) {
+        Ok(_) => false,
+        Err(reason) => matches!(reason.kind(), ErrorKind::NotFound),
+    }
+}
+
 /// Makes a file a store. It isn't touched if it is in use.
-fn make_store<R: Files<File = File> + AllocGlobal>(
+fn make_store<R: Host>(
     rt: &R,
-    store: &str,
+    path: &str,
     limits: Limits,
     area: usize,
-) -> Result<FileDisk<File>, ProgramError>
+) -> Result<FileDisk<File>, Fault>
     requires { area < 2 ^ 32 }
 {
-    let mut disk = FileDisk::create(rt, store, 64 + 2 * area)?;
-    format_disk(rt.alloc(), &mut disk, limits, area)?;
-    Ok(disk)
+    let (alloc, named) = (rt.alloc(), Named::store(path));
+    let mut disk = FileDisk::create(rt, path, 64 + 2 * area).map_err(|refused| Fault::of_file(
+        alloc, named, refused,
+    ))?;
+    match format_disk(alloc, &mut disk, limits, area) {
+        Ok(()) => Ok(disk),
+        Err(kind) => Err(Fault::of_disk(alloc, named, kind, &disk)),
+    }
+}
+
+/// Makes a file a store, and returns it with its lock. A file that was made for it is removed again at a fault; one that was there
+/// stays, whatever it holds then.
+fn make_file<R: Host>(
+    rt: &R,
+    path: &str,
+    limits: Limits,
+    area: usize,
+) -> Result<FileDisk<File>, Fault>
+    requires { area < 2 ^ 32 }
+{
+    let is_free = is_free(rt, path);
+    let made = make_store(rt, path, limits, area);
+    if is_free && made.is_err() {
+        let _ = fs::remove_file(rt, path);
+    }
+    made
 }
 
 /// The size of the two areas that fill a disk of so many bytes, if each has no fewer than so many.
@@ -127,87 +155,66 @@ fn area_in(size: usize, least: usize) -> Option<usize>
     Some(area)
 }
 
-/// Says that an export has not a size that a store may have.
-fn tell_size<C: Clock, L: Write + Drop>(
-    alloc: Global,
-    clock: &C,
-    log: &Log<L>,
-    word: &str,
-    size: usize,
-) {
-    let name = ShownName(word.as_bytes());
-    if let Ok(text) = format!(in alloc;
-        "store {name}: an export of {size} bytes, not of 64 and two areas"
-    ) {
-        log.say(second_now(clock), text.as_str());
-    }
+/// That an export has not a size that a store may have.
+fn unfit(alloc: Global, store: Named<'_>, size: usize) -> Fault {
+    Fault::saying(
+        ProgramError::Device,
+        format!(in alloc; "{store}: an export of {size} bytes, not of 64 and two areas"),
+    )
 }
 
 /// Makes an export a store, whose areas have no fewer bytes than so many. The store is as large as the export.
-fn fill_export<R: Net + AllocGlobal, C: Clock, L: Write + Drop>(
+fn fill_export<R: Host, C: Clock>(
     rt: &R,
     clock: &C,
-    log: &Log<L>,
     named: NamedExport<'_>,
     limits: Limits,
     least: usize,
-) -> Result<(), ProgramError> {
-    let mut disk = open_export(rt, clock, log, named, PATIENCE)?;
+) -> Result<(), Fault> {
+    let (alloc, store) = (rt.alloc(), Named::store(named.word));
+    let mut disk = open_export(rt, clock, named, PATIENCE)?;
     let size = disk.size();
     let Some(area) = area_in(size, least) else {
-        tell_size(rt.alloc(), clock, log, named.word, size);
-        return Err(ProgramError::Device);
+        return Err(unfit(alloc, store, size));
     };
-    format_disk(rt.alloc(), &mut disk, limits, area).inspect_err(|_| tell_export(
-        rt.alloc(),
-        clock,
-        log,
-        named.word,
-        None,
-    ))
+    match format_disk(alloc, &mut disk, limits, area) {
+        Ok(()) => Ok(()),
+        Err(kind) => Err(Fault::of_disk(alloc, store, kind, &disk)),
+    }
 }
 
-/// Makes a file or an export a store, and returns the file, which has its lock. At a fault the log says which one it is about.
-fn make_at<R: Files<File = File> + Net + AllocGlobal, C: Clock, L: Write + Drop>(
+/// Makes a file or an export a store, and returns the file, which has its lock.
+fn make_at<R: Host, C: Clock>(
     rt: &R,
     clock: &C,
-    log: &Log<L>,
     store: &str,
     limits: Limits,
     area: usize,
-) -> Result<Option<FileDisk<File>>, ProgramError>
+) -> Result<Option<FileDisk<File>>, Fault>
     requires { area < 2 ^ 32 }
 {
     match StorePlace::of(store)? {
-        StorePlace::File(path) => {
-            let disk = make_store(rt, path, limits, area).inspect_err(|_| tell_made_store(
-                rt, clock, log, path,
-            ))?;
-            Ok(Some(disk))
-        }
+        StorePlace::File(path) => Ok(Some(make_file(rt, path, limits, area)?)),
         StorePlace::Export(named) => {
-            fill_export(rt, clock, log, named, limits, area)?;
+            fill_export(rt, clock, named, limits, area)?;
             Ok(None)
         }
     }
 }
 
 /// Makes a file a store with the limits of a configuration, or an export. The file is not touched before the area was checked, nor if it is
-/// in use, and is locked until it has printed. At a fault the log says which file it is about.
-pub fn run_format<R: Files<File = File> + Net + AllocGlobal, C: Clock, W: Write, L: Write + Drop>(
+/// in use, and is locked until it has printed.
+pub fn run_format<R: Host, C: Clock, W: Write>(
     rt: &R,
     clock: &C,
-    log: &Log<L>,
     config: &str,
     store: &str,
     area: u32,
     out: &mut W,
-) -> Result<(), ProgramError> {
-    let limits = limits_in(rt, config).inspect_err(|fault| tell_config(
-        rt, clock, log, config, *fault,
-    ))?;
+) -> Result<(), Fault> {
+    let limits = limits_in(rt, config)?;
     let area = area as usize;
     check_area(limits, area)?;
-    let _disk = make_at(rt, clock, log, store, limits, area)?;
+    let _disk = make_at(rt, clock, store, limits, area)?;
     print_line("formatted", out)
 }

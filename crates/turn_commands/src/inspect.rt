@@ -1,16 +1,13 @@
 //! `turn inspect`.
 
 use std::alloc::{AllocError, Global};
-use std::fs::File;
 use std::io::Write;
-use std::net::Net;
-use std::rt::{Clock, Files};
+use std::rt::Clock;
 use turn_cli::shown_at;
 use turn_disk::{Disk, FileDisk};
 use turn_faults::{
-    PATIENCE, ProgramError, StorePlace, open_export, print_lines, tell_export, tell_read_store,
+    Fault, Host, Named, PATIENCE, ProgramError, StorePlace, open_export, print_lines,
 };
-use turn_log::Log;
 use turn_reading::{Reading, read_store};
 use turn_scenario::put_table;
 use turn_store::Info;
@@ -39,57 +36,47 @@ fn lines_of(
 fn lines_on<D: Disk + Drop, C: Clock>(
     alloc: Global,
     clock: &C,
+    store: Named<'_>,
     disk: D,
     at: Option<Moment>,
-) -> Result<Vec<String>, ProgramError> {
-    let (_, read) = read_store(alloc, clock, disk, None);
-    Ok(lines_of(alloc, &read?, at)?)
+) -> Result<Vec<String>, Fault> {
+    let (disk, read) = read_store(alloc, clock, disk, None);
+    match read {
+        Ok(reading) => Ok(lines_of(alloc, &reading, at)?),
+        Err(why) => Err(Fault::of_disk(alloc, store, ProgramError::from(why), &disk)),
+    }
 }
 
-/// The lines of the store in a file.
-fn lines_in<R: Files<File = File> + AllocGlobal, C: Clock>(
+/// The lines of a store.
+fn store_lines<R: Host, C: Clock>(
     rt: &R,
     clock: &C,
-    path: &str,
-    at: Option<Moment>,
-) -> Result<Vec<String>, ProgramError> {
-    lines_on(rt.alloc(), clock, FileDisk::open_to_read(rt, path)?, at)
-}
-
-/// The lines of a store. At a fault the log says why it can't be opened if it can't.
-fn store_lines<R: Files<File = File> + Net + AllocGlobal, C: Clock, L: Write + Drop>(
-    rt: &R,
-    clock: &C,
-    log: &Log<L>,
     store: &str,
     at: Option<Moment>,
-) -> Result<Vec<String>, ProgramError> {
+) -> Result<Vec<String>, Fault> {
+    let (alloc, named) = (rt.alloc(), Named::store(store));
     match StorePlace::of(store)? {
-        StorePlace::File(path) => lines_in(rt, clock, path, at).inspect_err(|_| tell_read_store(
-            rt, clock, log, path,
-        )),
-        StorePlace::Export(named) => {
-            let disk = open_export(rt, clock, log, named, PATIENCE)?;
-            lines_on(rt.alloc(), clock, disk, at).inspect_err(|_| tell_export(
-                rt.alloc(),
-                clock,
-                log,
-                store,
-                None,
-            ))
+        StorePlace::File(path) => {
+            let disk = FileDisk::open_to_read(rt, path).map_err(|refused| Fault::of_file(
+                alloc, named, refused,
+            ))?;
+            lines_on(alloc, clock, named, disk, at)
+        }
+        StorePlace::Export(export) => {
+            let disk = open_export(rt, clock, export, PATIENCE)?;
+            lines_on(alloc, clock, named, disk, at)
         }
     }
 }
 
 /// Prints what a store holds that is live at a moment.
-pub fn run_inspect<R: Files<File = File> + Net + AllocGlobal, C: Clock, W: Write, L: Write + Drop>(
+pub fn run_inspect<R: Host, C: Clock, W: Write>(
     rt: &R,
     clock: &C,
-    log: &Log<L>,
     store: &str,
     at: Option<Moment>,
     out: &mut W,
-) -> Result<(), ProgramError> {
-    let lines = store_lines(rt, clock, log, store, at)?;
+) -> Result<(), Fault> {
+    let lines = store_lines(rt, clock, store, at)?;
     print_lines(rt.alloc(), &lines, out)
 }

@@ -1,9 +1,9 @@
 //! Which server a probe asks, and under which name.
 
 use std::alloc::{AllocError, Global};
-use std::rt::{Clock, Files};
-use turn_config::{Configured, is_skipped, read_config};
-use turn_faults::{ProgramError, read_whole};
+use std::rt::Clock;
+use turn_config::{Configured, is_skipped};
+use turn_faults::{Fault, Host, Named, ProgramError, configure, read_whole};
 use turn_sockets::moment_now;
 use turn_types::{Endpoint, Moment};
 
@@ -67,9 +67,9 @@ fn shared_user<C: Clock>(
 }
 
 /// The address of a configuration, which is asked. One that means any of the machine's is asked on the loopback.
-pub fn server_in<R: Files + AllocGlobal>(rt: &R, config: &str) -> Result<Endpoint, ProgramError> {
-    let text = read_whole(rt, rt.alloc(), config)?;
-    let listen = read_config(rt.alloc(), &text)?.listen;
+pub fn server_in<R: Host>(rt: &R, config: &str) -> Result<Endpoint, Fault> {
+    let text = read_whole(rt, Named::config(config))?;
+    let listen = configure(rt.alloc(), config, &text)?.listen;
     if listen.ip == 0 {
         return Ok(Endpoint {
             ip: LOOPBACK,
@@ -94,13 +94,8 @@ fn login_under<C: Clock>(
 }
 
 /// Who asks, by the configuration: a name under its secret, or else its first user.
-pub fn login_of<R: Files + AllocGlobal, C: Clock>(
-    rt: &R,
-    clock: &C,
-    config: &str,
-) -> Result<Login, ProgramError> {
-    let alloc = rt.alloc();
-    let text = read_whole(rt, alloc, config)?;
-    let configured = read_config(alloc, &text)?;
-    login_under(alloc, clock, &configured, &text)
+pub fn login_of<R: Host, C: Clock>(rt: &R, clock: &C, config: &str) -> Result<Login, Fault> {
+    let text = read_whole(rt, Named::config(config))?;
+    let configured = configure(rt.alloc(), config, &text)?;
+    Ok(login_under(rt.alloc(), clock, &configured, &text)?)
 }

@@ -3,13 +3,13 @@
 use std::alloc::{AllocError, Global};
 use std::fs::File;
 use std::io::Write;
-use std::net::Net;
 use std::rt::{Clock, Files};
 use turn_config::ShownEndpoint;
 use turn_disk::{Disk, FileDisk, FileError};
-use turn_faults::{PATIENCE, ProgramError, StorePlace, prepare, print_lines};
+use turn_faults::{
+    Fault, Host, Named, PATIENCE, ProgramError, StorePlace, open_export, prepare, print_lines,
+};
 use turn_log::ShownName;
-use turn_nbd::NbdDisk;
 use turn_reading::{Reading, read_store};
 use turn_sockets::moment_now;
 use turn_table::{Entry, Table};
@@ -135,62 +135,61 @@ fn lines_of(
     Ok(lines)
 }
 
-/// Reads a store under these limits.
+/// Reads the store on a disk under these limits.
 fn read_on<D: Disk + Drop, C: Clock>(
     alloc: Global,
     clock: &C,
+    store: Named<'_>,
     disk: D,
     limits: Limits,
-) -> Result<Reading, ProgramError> {
-    let (_, read) = read_store(alloc, clock, disk, Some(limits));
-    Ok(read?)
+) -> Result<Reading, Fault> {
+    let (disk, read) = read_store(alloc, clock, disk, Some(limits));
+    read.map_err(|why| Fault::of_disk(alloc, store, ProgramError::from(why), &disk))
 }
 
 /// Reads a store, and sees whether a server holds it.
-fn read_at<R: Files<File = File> + Net + AllocGlobal, C: Clock>(
+fn read_at<R: Host, C: Clock>(
     rt: &R,
     clock: &C,
     store: &str,
     limits: Limits,
-) -> Result<(Reading, Holder), ProgramError> {
+) -> Result<(Reading, Holder), Fault> {
+    let (alloc, named) = (rt.alloc(), Named::store(store));
     match StorePlace::of(store)? {
         StorePlace::File(path) => {
-            let disk = FileDisk::open_to_read(rt, path)?;
-            let reading = read_on(rt.alloc(), clock, disk, limits)?;
+            let disk = FileDisk::open_to_read(rt, path).map_err(|refused| Fault::of_file(
+                alloc, named, refused,
+            ))?;
+            let reading = read_on(alloc, clock, named, disk, limits)?;
             Ok((reading, holder_of(rt, path)))
         }
-        StorePlace::Export(named) => {
-            let disk = NbdDisk::open(rt.alloc(), rt, clock, &named.export, PATIENCE)?;
-            let reading = read_on(rt.alloc(), clock, disk, limits)?;
+        StorePlace::Export(export) => {
+            let disk = open_export(rt, clock, export, PATIENCE)?;
+            let reading = read_on(alloc, clock, named, disk, limits)?;
             Ok((reading, Holder::Unknown))
         }
     }
 }
 
-/// The limits and the quota of the configuration in a file.
-fn limits_in<R: Files + AllocGlobal>(rt: &R, config: &str) -> Result<(Limits, u32), ProgramError> {
-    let prepared = prepare(rt, config, &[])?;
-    Ok((prepared.config.limits(), prepared.config.quota()))
-}
-
 /// The system's second.
-fn second_now<C: Clock>(clock: &C) -> Result<u64, ProgramError> {
+fn second_of<C: Clock>(clock: &C) -> Result<u64, ProgramError> {
     let first = Moment::new(0).ok_or(ProgramError::Device)?;
     let now = moment_now(&clock, first).ok_or(ProgramError::Device)?;
     Ok(now.seconds())
 }
 
 /// Prints whether a server holds a store, how many allocations there are, and what each user has, with names as a log has them.
-pub fn run_status<R: Files<File = File> + Net + AllocGlobal, C: Clock, W: Write>(
+pub fn run_status<R: Host, C: Clock, W: Write>(
     rt: &R,
     clock: &C,
     config: &str,
     store: &str,
     out: &mut W,
-) -> Result<(), ProgramError> {
+) -> Result<(), Fault> {
     let alloc = rt.alloc();
-    let (limits, quota) = limits_in(rt, config)?;
+    let prepared = prepare(rt, config, &[])?;
+    let (limits, quota) = (prepared.config.limits(), prepared.config.quota());
     let (reading, holder) = read_at(rt, clock, store, limits)?;
-    let lines = lines_of(alloc, &reading, limits, quota, second_now(clock)?, holder)?;
+    let lines = lines_of(alloc, &reading, limits, quota, second_of(clock)?, holder)?;
     print_lines(alloc, &lines, out)
 }

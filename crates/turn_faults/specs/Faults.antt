@@ -17,7 +17,7 @@ use Rattle.turn_store.specs.declared.formatting.FormatError.TheVariants as forma
 -- the fault of a store's file
 abbrev pub of_file : FileError → ProgramError
 of_file file_faults.InUse = StoreInUse
-of_file file_faults.Device = Device
+of_file (file_faults.Device reason) = Device
 
 -- the fault of a configuration
 abbrev pub of_config : ConfigTextError → ProgramError

@@ -83,7 +83,7 @@ impl From<FileError> for ProgramError {
     fn from(refused: FileError) -> ProgramError {
         match refused {
             FileError::InUse => ProgramError::StoreInUse,
-            FileError::Device => ProgramError::Device,
+            FileError::Device(_) => ProgramError::Device,
         }
     }
 }

@@ -3,60 +3,70 @@
 ghost use Rattle.std.specs.Prelude.{◌≡◌, ◌⊎◌, ◌≤◌, ◌^◌, IfErr, IfOk, vec_len};
 
 use crate::error::ProgramError;
-use std::alloc::Global;
+use crate::fault::{Fault, Named};
+use std::alloc::{AllocGlobal, Global};
 use std::fs::{File, OpenOptions};
-use std::io::{ErrorKind, Read};
+use std::io::{self, ErrorKind, Read};
 use std::rt::Files;
 use turn_disk::open_regular;
 
 /// How many bytes a file of lines may have.
 const MAX_FILE: u64 = 16_777_216;
 
+/// What is said of a file that has more.
+const TOO_LONG: &str = "more than 16777216 bytes";
+
 /// The name of standard input, of which a scenario may be read whatever it is.
 const STANDARD_INPUT: &str = "/dev/stdin";
 
+/// Why a file isn't read.
+fn unread(alloc: Global, file: Named<'_>, reason: io::Error) -> Fault
+    ensures { (result.kind ≡ ProgramError.Device) ⊎ (result.kind ≡ ProgramError.Memory) }
+{
+    match reason.kind() {
+        ErrorKind::OutOfMemory => Fault::from(ProgramError::Memory),
+        _ => Fault::of(alloc, ProgramError::Device, &file, &reason),
+    }
+}
+
 /// What is left to be read of a file, at most 16,777,216 bytes.
-fn read_rest<F: Read + Drop>(alloc: Global, file: F) -> Result<Vec<u8>, ProgramError>
+fn read_rest<F: Read + Drop>(alloc: Global, named: Named<'_>, file: F) -> Result<Vec<u8>, Fault>
     ensures bytes { IfOk result (λ bytes. vec_len bytes ≤ 2 ^ 24) }
-    ensures fault { IfErr result (λ fault. (fault ≡ ProgramError.Device) ⊎ (fault ≡ ProgramError.Memory)) }
+    ensures fault { IfErr result (λ fault. (fault.kind ≡ ProgramError.Device) ⊎ (fault.kind ≡ ProgramError.Memory)) }
 {
     let mut bytes = Vec::new(alloc);
-    match file.take(MAX_FILE + 1).read_to_end(&mut bytes) {
-        Ok(_) => {}
-        Err(error) if matches!(error.kind(), ErrorKind::OutOfMemory) => return Err(
-            ProgramError::Memory,
-        ),
-        Err(_) => return Err(ProgramError::Device),
+    if let Err(reason) = file.take(MAX_FILE + 1).read_to_end(&mut bytes) {
+        return Err(unread(alloc, named, reason));
     }
     if bytes.len() as u64 > MAX_FILE {
-        return Err(ProgramError::Device);
+        return Err(unread(alloc, named, io::Error::other(TOO_LONG)));
     }
     Ok(bytes)
 }
 
 /// The bytes of a regular file. One that can't be opened or read, isn't regular, or has more than 16,777,216 bytes, is a
 /// device fault.
-pub fn read_whole<R: Files>(files: &R, alloc: Global, path: &str) -> Result<Vec<u8>, ProgramError>
+pub fn read_whole<R: Files + AllocGlobal>(rt: &R, named: Named<'_>) -> Result<Vec<u8>, Fault>
     ensures bytes { IfOk result (λ bytes. vec_len bytes ≤ 2 ^ 24) }
-    ensures fault { IfErr result (λ fault. (fault ≡ ProgramError.Device) ⊎ (fault ≡ ProgramError.Memory)) }
+    ensures fault { IfErr result (λ fault. (fault.kind ≡ ProgramError.Device) ⊎ (fault.kind ≡ ProgramError.Memory)) }
 {
     let mut options = OpenOptions::new();
     options.read(true);
-    let file = open_regular(files, path, &options).map_err(|_| ProgramError::Device)?;
-    read_rest(alloc, file)
+    match open_regular(rt, named.word, &options) {
+        Ok(file) => read_rest(rt.alloc(), named, file),
+        Err(reason) => Err(unread(rt.alloc(), named, reason)),
+    }
 }
 
 /// The bytes of a scenario: those of a regular file, or of standard input.
-pub fn read_scenario<R: Files>(
-    files: &R,
-    alloc: Global,
-    path: &str,
-) -> Result<Vec<u8>, ProgramError>
+pub fn read_scenario<R: Files + AllocGlobal>(rt: &R, named: Named<'_>) -> Result<Vec<u8>, Fault>
     ensures { IfOk result (λ bytes. vec_len bytes ≤ 2 ^ 24) }
 {
-    if path != STANDARD_INPUT {
-        return read_whole(files, alloc, path);
+    if named.word != STANDARD_INPUT {
+        return read_whole(rt, named);
     }
-    let file = File::open(files, path).map_err(|_| ProgramError::Device)?;
-    read_rest(alloc, file)
+    match File::open(rt, named.word) {
+        Ok(file) => read_rest(rt.alloc(), named, file),
+        Err(reason) => Err(unread(rt.alloc(), named, reason)),
+    }
 }

@@ -2,24 +2,23 @@
 //! faults come of.
 #![tactic(auto)]
 
-mod about;
 mod bad_line;
+mod clock;
 mod error;
+mod fault;
 mod files;
+mod host;
 mod place;
 mod prepared;
 mod print;
 mod probe;
 
-pub use about::{
-    second_now, tell, tell_config, tell_made_store, tell_prepared, tell_read_store, tell_scenario,
-    tell_store,
-};
+pub use clock::second_now;
 pub use error::ProgramError;
+pub use fault::{Fault, Named, Said};
 pub use files::{read_scenario, read_whole};
-pub use place::{
-    NamedExport, PATIENCE, StorePlace, open_export, open_export_to_serve, tell_export,
-};
-pub use prepared::{Prepared, prepare};
+pub use host::Host;
+pub use place::{NamedExport, PATIENCE, StorePlace, open_export, open_export_to_serve};
+pub use prepared::{Prepared, configure, prepare};
 pub use print::{print_line, print_lines};
 pub use probe::{ProbeFault, ProbeReason, ProbeStep};

@@ -2,16 +2,15 @@
 
 ghost use Rattle.std.specs.Prelude.{◌≡◌, IfErr, IfOk};
 ghost use Rattle.turn_faults.specs.Places.{IsConnected};
+ghost use Rattle.turn_faults.specs.declared.error.ProgramError.TheVariants as faults;
 
-use crate::about::second_now;
 use crate::error::ProgramError;
-use std::alloc::{AllocError, Global};
-use std::io::Write;
+use crate::fault::{Fault, Named};
+use std::alloc::{AllocGlobal, Global};
 use std::net::Net;
 use std::rt::Clock;
-use std::thread;
 use std::time::Duration;
-use turn_log::{Log, ShownName};
+use std::{fmt, thread};
 use turn_nbd::{Export, NbdDisk, NbdError, is_uri};
 
 /// An export that the words of a command name.
@@ -48,85 +47,90 @@ impl<'a> StorePlace<'a> {
     }
 }
 
-/// How many seconds a command waits for the socket of an export.
+/// How many seconds a command waits for a server that accepts a connection to an export.
 pub const PATIENCE: u64 = 2;
 
 /// How many seconds a server waits for it: what serves the export may have been started at the same time.
 const PATIENCE_OF_SERVER: u64 = 15;
 
-fn text_of(alloc: Global, word: &str, reason: Option<NbdError>) -> Result<String, AllocError> {
-    let name = ShownName(word.as_bytes());
-    match reason {
-        Some(reason) => format!(in alloc; "store {name}: {reason}"),
-        None => format!(in alloc; "store {name}"),
-    }
-}
+/// How many seconds a server waits for an export whose own server takes no further client: a server that ends may be one for a moment
+/// yet.
+const PATIENCE_WITH_CLIENT: Duration = Duration::from_secs(2);
 
-/// Says that an export is at fault, and why if it could not be opened.
-pub fn tell_export<C: Clock, L: Write + Drop>(
-    alloc: Global,
-    clock: &C,
-    log: &Log<L>,
-    word: &str,
-    reason: Option<NbdError>,
-) {
-    if !log.is_kept() {
-        return;
-    }
-    if let Ok(text) = text_of(alloc, word, reason) {
-        log.say(second_now(clock), text.as_str());
-    }
-}
-
-/// Says why an export could not be opened. Returns the fault.
-fn refuse<C: Clock, L: Write + Drop>(
-    alloc: Global,
-    clock: &C,
-    log: &Log<L>,
-    named: NamedExport<'_>,
-    reason: NbdError,
-) -> ProgramError {
-    tell_export(alloc, clock, log, named.word, Some(reason));
-    ProgramError::from(reason)
-}
-
-/// Opens an export as a disk. At a fault the log says why.
-pub fn open_export<R: Net + AllocGlobal, C: Clock, L: Write + Drop>(
-    rt: &R,
-    clock: &C,
-    log: &Log<L>,
-    named: NamedExport<'_>,
-    seconds: u64,
-) -> Result<NbdDisk, ProgramError>
-    ensures { IfOk result (λ disk. IsConnected disk) }
-{
-    match NbdDisk::open(rt.alloc(), rt, clock, &named.export, seconds) {
-        Ok(disk) => Ok(disk),
-        Err(reason) => Err(refuse(rt.alloc(), clock, log, named, reason)),
-    }
-}
-
-/// How often an export whose server takes no further client is tried again: a server that ends may be one for a moment yet.
+/// How often it is tried again meanwhile, at most.
 const AGAIN: u32 = 40;
 
 /// The milliseconds before each of these.
 const PAUSE: u64 = 50;
 
-/// Opens the export of a server. If its own server takes no further client it waits, at most two seconds. At a fault the log says why.
-pub fn open_export_to_serve<R: Net + AllocGlobal, C: Clock, L: Write + Drop>(
+/// The system's number for an address family that a process may not use.
+const NO_FAMILY: i32 = 97;
+
+/// Why an export isn't opened, with what systemd calls the cause where a unit leaves an address family out.
+#[derive(Clone, Copy)]
+struct Why(NbdError);
+
+impl fmt::Display for Why {
+    fn fmt<W: fmt::Write>(&self, f: &mut fmt::Formatter<W>) -> fmt::Result {
+        let why = self.0;
+        match why {
+            NbdError::Refused(reason) if reason.raw_os_error() == Some(NO_FAMILY) => {
+                write!(f, "{why}, by RestrictAddressFamilies=")
+            }
+            _ => write!(f, "{why}"),
+        }
+    }
+}
+
+/// That an export isn't opened.
+fn refused(alloc: Global, named: NamedExport<'_>, why: NbdError) -> Fault
+    ensures { result.kind ≡ faults.Device }
+{
+    let kind = ProgramError::from(why);
+    Fault::of(alloc, kind, &Named::store(named.word), &Why(why))
+}
+
+/// Opens an export as a disk. While no server accepts a connection it tries again, up to so many seconds and one more.
+pub fn open_export<R: Net + AllocGlobal, C: Clock>(
     rt: &R,
     clock: &C,
-    log: &Log<L>,
     named: NamedExport<'_>,
-) -> Result<NbdDisk, ProgramError>
-    ensures { IfOk result (λ disk. IsConnected disk) }
+    seconds: u64,
+) -> Result<NbdDisk, Fault>
+    ensures connected { IfOk result (λ disk. IsConnected disk) }
+    ensures fault { IfErr result (λ fault. fault.kind ≡ faults.Device) }
 {
+    match NbdDisk::open(rt.alloc(), rt, clock, &named.export, seconds) {
+        Ok(disk) => Ok(disk),
+        Err(why) => Err(refused(rt.alloc(), named, why)),
+    }
+}
+
+/// Whether so long has passed since a time, or the system doesn't say.
+fn has_passed<C: Clock>(clock: &C, began: Option<Duration>, limit: Duration) -> bool {
+    match (began, clock.monotonic()) {
+        (Some(began), Ok(now)) => limit < now.saturating_sub(began),
+        _ => true,
+    }
+}
+
+/// Opens the export of a server. If its own server takes no further client it tries again for two seconds.
+pub fn open_export_to_serve<R: Net + AllocGlobal, C: Clock>(
+    rt: &R,
+    clock: &C,
+    named: NamedExport<'_>,
+) -> Result<NbdDisk, Fault>
+    ensures connected { IfOk result (λ disk. IsConnected disk) }
+    ensures fault { IfErr result (λ fault. fault.kind ≡ faults.Device) }
+{
+    let began = clock.monotonic().ok();
     for _ in 0..AGAIN {
         match NbdDisk::open(rt.alloc(), rt, clock, &named.export, PATIENCE_OF_SERVER) {
             Ok(disk) => return Ok(disk),
-            Err(NbdError::Closed) => thread::sleep(clock, Duration::from_millis(PAUSE)),
-            Err(reason) => return Err(refuse(rt.alloc(), clock, log, named, reason)),
+            Err(NbdError::Closed) if !has_passed(clock, began, PATIENCE_WITH_CLIENT) => {}
+            Err(why) => return Err(refused(rt.alloc(), named, why)),
         }
+        thread::sleep(clock, Duration::from_millis(PAUSE));
     }
-    open_export(rt, clock, log, named, PATIENCE_OF_SERVER)
+    open_export(rt, clock, named, PATIENCE_OF_SERVER)
 }

@@ -29,7 +29,7 @@ refused_images disk call = record { crash_model = call.uses.crash_model; stop = 
 
 -- a start without its sockets was not refused by its store
 not_of_store : (fault : BindError) (P : OpenError → Type 0) → IfOfStore (of_bind fault) P
-not_of_store binds.Socket P = tt
+not_of_store (binds.Socket missing) P = tt
 not_of_store binds.Memory P = tt
 
 pub told_by_sockets : {fault : StartError} (why : BindError) (P : OpenError → Type 0) → fault ≡ of_bind why → IfOfStore fault P

@@ -45,20 +45,20 @@ pub record IsOfVersion (v : Version) (content : List ℕ) : Type 0 where
 -- a start with this fault didn't come to where it carries its store over
 abbrev pub IsBeforeCarrying : StartError → Type 0
 IsBeforeCarrying (faults.Store fault) = Unit {0}
-IsBeforeCarrying faults.Socket = Unit {0}
+IsBeforeCarrying (faults.Socket missing) = Unit {0}
 IsBeforeCarrying faults.Memory = Unit {0}
 IsBeforeCarrying (faults.Carry fault) = ⊥
 
 -- what a start tells where it has not its sockets
 abbrev pub of_bind : BindError → StartError
-of_bind binds.Socket = faults.Socket
+of_bind (binds.Socket missing) = faults.Socket missing
 of_bind binds.Memory = faults.Memory
 
 -- a start was refused by its store, for a fault that has P
 abbrev pub IfOfStore : StartError → (OpenError → Type 0) → Type 0
 IfOfStore (faults.Store fault) P = P fault
 IfOfStore (faults.Carry fault) P = P fault
-IfOfStore faults.Socket P = Unit {0}
+IfOfStore (faults.Socket missing) P = Unit {0}
 IfOfStore faults.Memory P = Unit {0}
 
 -- An opening was refused for this fault. It is the first reason that applies to the content; where each image represents the first events

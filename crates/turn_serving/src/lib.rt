@@ -14,7 +14,7 @@ mod serving;
 mod start;
 mod watch;
 
-pub use error::{SetupError, StartError, TurnError};
+pub use error::{Needed, SetupError, SocketFault, StartError, TurnError};
 pub use laws::{
     five_tuples_keep_their_order, sockets_are_visited_in_rounds, turns_keep_ports, turns_make_runs,
 };

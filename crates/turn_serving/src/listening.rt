@@ -6,7 +6,7 @@ ghost use Rattle.turn_sockets.specs.Own.{IsRelay};
 ghost use Rattle.turn_sockets.specs.Schedule.{with_all_ready};
 ghost use Rattle.turn_serving.specs.Listening.{AreBoundFor, AreOwnAs, HasSockets, IsBoundFor};
 
-use crate::error::{BindError, TurnError};
+use crate::error::{BindError, Needed, SocketFault, TurnError};
 use crate::relay_sockets::RelaySockets;
 use crate::watch::Watch;
 use mio::unix::SourceFd;
@@ -81,13 +81,12 @@ fn bind<R: Net, C: Clock>(net: &R, system: &C, at: Endpoint) -> Result<BoundSock
 {
     for _ in 0..ATTEMPTS {
         match BoundSocket::bind(net, at) {
-            Ok(socket) => return Ok(socket),
-            Err(error) if error.kind() == ErrorKind::AddrInUse => {}
-            Err(_) => return Err(BindError::Socket),
+            Err(reason) if reason.kind() == ErrorKind::AddrInUse => {}
+            bound => return bound.map_err(|reason| BindError::of(Needed::Listening(at), reason)),
         }
         pause(system);
     }
-    Err(BindError::Socket)
+    BoundSocket::bind(net, at).map_err(|reason| BindError::of(Needed::Listening(at), reason))
 }
 
 /// Has a wait report the datagrams of a socket by this token.
@@ -96,7 +95,7 @@ fn watch(poll: &Poll, socket: &mut BoundSocket, token: usize) -> Result<(), Bind
 {
     socket
         .watch(poll.registry(), token)
-        .map_err(|_| BindError::Socket)?;
+        .map_err(|reason| BindError::of(Needed::Wait, reason))?;
     // A smaller buffer is no fault.
     let _ = socket.set_receive_buffer(RECEIVE_BUFFER);
     Ok(())
@@ -106,7 +105,7 @@ fn watch(poll: &Poll, socket: &mut BoundSocket, token: usize) -> Result<(), Bind
 fn watch_answers(poll: &Poll, descriptor: RawFd) -> Result<(), BindError> {
     poll.registry()
         .register(&mut SourceFd(&descriptor), ANSWERS, Interest::READABLE)
-        .map_err(|_| BindError::Socket)
+        .map_err(|reason| BindError::of(Needed::Wait, reason))
 }
 
 /// Binds a socket at each of these addresses, in whose place it puts the one that was bound. Port 0 is any free one.
@@ -160,7 +159,10 @@ fn take_all<R: Net, C: Clock, A: Allocator + Copy>(
             if are_at(&sockets, listening.as_slice()) {
                 Ok(sockets)
             } else {
-                Err(BindError::Socket)
+                Err(BindError::Socket(SocketFault {
+                    needed: Needed::Held,
+                    number: None,
+                }))
             }
         }
     }
@@ -282,8 +284,8 @@ impl<A: Allocator> Waiting<A> {
     ) -> Result<(), TurnError>
         ensures { OnOk result ((ready : List ℕ) × (schedule.new ≡ with_all_ready schedule.old ready)) }
     {
-        if self.poll.poll(&mut self.events, Some(timeout)).is_err() {
-            return Err(TurnError::Socket);
+        if let Err(reason) = self.poll.poll(&mut self.events, Some(timeout)) {
+            return Err(TurnError::Socket(reason.raw_os_error()));
         }
         schedule.add_all(&self.events)?;
         Ok(())

@@ -11,7 +11,7 @@ ghost use Rattle.turn_types.specs.declared.address.FiveTuple.{FiveTuple};
 ghost use Rattle.turn_serving.specs.Listening.{AreOwnAs, HasSockets, room_of};
 ghost use Rattle.turn_serving.specs.Starts.{AreBoundToo, IfOfStore, IsBeforeCarrying, IsKept, IsOfVersion, IsRefusedFor, KeepsImages, Started, have_ports};
 
-use crate::error::{BindError, SetupError, StartError};
+use crate::error::{BindError, Needed, SetupError, SocketFault, StartError};
 use crate::listening::{ATTEMPTS, Listening, ListeningSockets, Waiting, pause};
 use crate::manner::{Commits, Manner};
 use crate::meanwhile::Traffic;
@@ -132,10 +132,13 @@ fn bind<R: Net, A: Allocator + Copy, C: Clock>(
         match sockets.bind(port)? {
             Bound::Done => return Ok(()),
             Bound::Unavailable => pause(system),
-            Bound::Exhausted => return Err(BindError::Socket),
+            Bound::Exhausted => break,
         }
     }
-    Err(BindError::Socket)
+    Err(BindError::Socket(SocketFault {
+        needed: Needed::RelayPort(port),
+        number: sockets.refusal(),
+    }))
 }
 
 /// Binds the port of each allocation of a table.
@@ -235,12 +238,15 @@ impl<'c, A: Allocator + Copy> Setup<'c, A> {
         ensures bound { IfOk result (λ sockets. sockets.binder.ip ≡ unwrap_or self.now.relay_bind self.now.config.now.relay) }
         ensures held { IfOk result (λ sockets. HaveSockets sockets.sockets (is_taken table.now.contents)) }
     {
-        let registry = poll.registry().try_clone().map_err(|_| BindError::Socket)?;
+        let registry = poll
+            .registry()
+            .try_clone()
+            .map_err(|reason| BindError::of(Needed::Wait, reason))?;
         let ip = self.bound();
         let mut sockets = SocketPorts::new(alloc, net, registry, ip, self.ports, self.seed);
-        if !sockets.has_address() {
-            return Err(BindError::Socket);
-        }
+        sockets
+            .check_address()
+            .map_err(|reason| BindError::of(Needed::Relay(ip), reason))?;
         bind_allocated(&mut sockets, system, table)?;
         bind_reserved(&mut sockets, system, table.reserved_ports())?;
         Ok(sockets)
@@ -271,7 +277,7 @@ impl<'c, A: Allocator + Copy> Setup<'c, A> {
           ports = self.now.ports;
         }) beside.listening.own) }
     {
-        let poll = Poll::new(net).map_err(|_| BindError::Socket)?;
+        let poll = Poll::new(net).map_err(|reason| BindError::of(Needed::Wait, reason))?;
         let ports = self.bind_ports(alloc, net, system, &poll, table)?;
         let listening = Listening::open(alloc, net, system, &poll, self.own(), sockets, watch)?;
         let addresses = listening.own.listening.as_slice();

@@ -13,6 +13,7 @@ use crate::socket::BoundSocket;
 use crate::socket_option::RECEIVE_BUFFER;
 use mio::Registry;
 use std::alloc::{AllocError, Allocator};
+use std::cell::Cell;
 use std::collections::BTreeMap;
 use std::io::{self, Error, ErrorKind};
 use std::net::Net;
@@ -26,6 +27,8 @@ pub(crate) struct Binder<'a, R: Net> {
     pub(crate) registry: Registry,
     // The address on which sockets are bound.
     pub(crate) ip: u32,
+    // The number of the system's newest refusal. No contract speaks of it.
+    pub(crate) refusal: Cell<Option<i32>>,
 }
 
 /// Whether an error of a bind is of its port alone.
@@ -62,13 +65,18 @@ impl<'a, R: Net> Binder<'a, R> {
         if port == 0 {
             return Ok(Bound::Unavailable);
         }
-        match self.open(port) {
+        let error = match self.open(port) {
             Ok(socket) => {
                 sockets.insert(port, socket)?;
-                Ok(Bound::Done)
+                return Ok(Bound::Done);
             }
-            Err(error) if is_of_port(&error) => Ok(Bound::Unavailable),
-            Err(_) => Ok(Bound::Exhausted),
+            Err(error) => error,
+        };
+        self.refusal.set(error.raw_os_error());
+        if is_of_port(&error) {
+            Ok(Bound::Unavailable)
+        } else {
+            Ok(Bound::Exhausted)
         }
     }
 

@@ -18,6 +18,7 @@ use rand_chacha::ChaCha20Rng;
 use rand_core::SeedableRng;
 use rand_core::utils::NextWord;
 use std::alloc::{AllocError, Allocator, Global};
+use std::cell::Cell;
 use std::collections::BTreeMap;
 use std::io;
 use std::net::Net;
@@ -111,7 +112,12 @@ impl<'a, R: Net, A: Allocator + Copy> SocketPorts<'a, R, A> {
     {
         let (first, last) = ports.range();
         SocketPorts {
-            binder: Binder { net, registry, ip },
+            binder: Binder {
+                net,
+                registry,
+                ip,
+                refusal: Cell::new(None),
+            },
             first,
             last,
             draws: ChaCha20Rng::from_seed(seed),
@@ -129,13 +135,20 @@ impl<'a, R: Net, A: Allocator + Copy> SocketPorts<'a, R, A> {
         self.sockets.get(&port)
     }
 
-    /// Whether the address of the relay ports is one of this machine: a socket is bound at it, at any port, and released.
-    pub fn has_address(&self) -> bool {
+    /// Whether the address of the relay ports is one of this machine: a socket is bound at it, at any port, and released. The system's
+    /// reason where it isn't.
+    pub fn check_address(&self) -> io::Result<()> {
         let at = Endpoint {
             ip: self.binder.ip,
             port: 0,
         };
-        BoundSocket::bind(self.binder.net, at).is_ok()
+        BoundSocket::bind(self.binder.net, at)?;
+        Ok(())
+    }
+
+    /// The number of the system's newest refusal to bind a port, if it gave one.
+    pub fn refusal(&self) -> Option<i32> {
+        self.binder.refusal.get()
     }
 
     /// Binds a port that has no socket yet, also outside the range. Port 0 is never bound.
