@@ -1,8 +1,10 @@
 pub mod Addresses
 pub mod Backlog
 pub mod Fairness
+pub mod Held
 pub mod Machine
 pub mod Moments
+pub mod Notify
 pub mod Own
 pub mod Pace
 pub mod Ports

@@ -68,3 +68,10 @@ fn is_stream(descriptor: RawFd) -> bool {
 pub(crate) fn is_datagram_socket(descriptor: RawFd) -> bool {
     has_buffer(descriptor) && !is_stream(descriptor)
 }
+
+/// Whether a socket is connected.
+pub(crate) fn is_connected(descriptor: RawFd) -> bool {
+    let mut address = [0u8; c::_SS_SIZE];
+    let mut size = c::_SS_SIZE as u32;
+    unsafe { c::getpeername(descriptor, &mut address, &mut size) == 0 }
+}
